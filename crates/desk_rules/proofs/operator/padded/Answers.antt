@@ -1,0 +1,6 @@
+use Rattle.std.proofs.Common.{◌++◌, ap, ◌∙◌, ℕ, length, replicate}
+use Rattle.std.proofs.lemmas.List.{drop-replicate}
+use Rattle.desk_rules.proofs.operator.padded.Goals as goal
+
+pub returns : goal.returns
+returns c = rw (c.copy_from_slice.ensures.after, drop-replicate {X = ℕ} (length c.args.name.now) 32 0)

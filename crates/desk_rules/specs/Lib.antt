@@ -1,0 +1,10 @@
+pub mod Name
+pub mod Limits
+pub mod Extent
+pub mod Point
+pub mod Shape
+pub mod Footprint
+pub mod Volume
+pub mod Level
+pub mod Slab
+pub mod Meeting

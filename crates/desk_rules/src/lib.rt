@@ -1,0 +1,13 @@
+//! The rules of the planning desk, apart from any store: plans and their words, windows, areas,
+//! meetings of areas, the state table and the order of refusals.
+#![tactic(auto)]
+
+pub mod area;
+pub mod meeting;
+pub mod operator;
+pub mod plan;
+pub mod plan_id;
+pub mod slab;
+pub mod volume;
+pub mod window;
+pub mod words;

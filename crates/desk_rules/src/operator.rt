@@ -1,0 +1,88 @@
+//! The names of operators.
+
+ghost use Rattle.std.specs.Prelude.{◌≡◌, ◌-◌, ◌≤◌, ◌++◌, Some, None, if◌then◌else◌, length, replicate};
+ghost use Rattle.std.specs.List.{list_all};
+ghost use Rattle.desk_rules.specs.Name as spec;
+ghost use Rattle.desk_rules.specs.Name.{is_operator_name};
+
+use std::marker::Model;
+
+/// An operator's name: 1 to 32 bytes of `a-z`, `0-9` and `-`, kept in place.
+#[derive(Clone, Copy, Debug)]
+pub struct Operator {
+    bytes: [u8; 32],
+    len: usize,
+}
+
+impl Model for Operator {
+    ghost use Rattle.std.specs.Prelude.{◌≡◌, ℕ, ◌-◌, ◌≤◌, ◌++◌, List, length, take, replicate, IsTrue};
+    ghost use Rattle.std.proofs.Common.{arith, sym, length-take-le};
+    ghost use Rattle.desk_rules.specs.Name.{is_operator_name};
+
+    ghost Value = { List ℕ };
+
+    ghost view = { λ o. take o.len o.bytes };
+
+    ghost invariant = { λ o. (length o.bytes ≡ 32) × (o.len ≤ 32) × IsTrue (is_operator_name (take o.len o.bytes))
+      × (o.bytes ≡ take o.len o.bytes ++ replicate (32 - o.len) 0) };
+
+    ghost inverse = { λ name. record { bytes = name ++ replicate (32 - length name) 0; len = length name } };
+}
+
+impl Operator {
+    /// The operator of a name, or None.
+    pub fn try_new(name: &[u8]) -> Option<Operator>
+        ensures { result ≡ (if is_operator_name name.now then Some name.now else None) }
+    {
+        if is_name(name) {
+            Some(Operator {
+                bytes: padded(name),
+                len: name.len(),
+            })
+        } else {
+            None
+        }
+    }
+
+    /// The bytes of the name.
+    pub fn as_bytes(&self) -> &[u8]
+        ensures { result.now ≡ self.now }
+    {
+        &self.bytes[..self.len]
+    }
+}
+
+// Whether bytes are a name.
+fn is_name(name: &[u8]) -> bool
+    ensures { result ≡ is_operator_name name.now }
+{
+    if name.is_empty() {
+        return false;
+    }
+    if name.len() > 32 {
+        return false;
+    }
+    are_name_bytes(name)
+}
+
+fn are_name_bytes(bytes: &[u8]) -> bool
+    ensures { result ≡ list_all spec.is_name_byte bytes.now }
+{
+    bytes.iter().all(|byte| is_name_byte(*byte))
+}
+
+// The name, and zeros after it.
+fn padded(name: &[u8]) -> [u8; 32]
+    requires { length name.now ≤ 32 }
+    ensures { result ≡ name.now ++ replicate (32 - length name.now) 0 }
+{
+    let mut bytes = [0u8; 32];
+    bytes[..name.len()].copy_from_slice(name);
+    bytes
+}
+
+fn is_name_byte(byte: u8) -> bool
+    ensures { result ≡ spec.is_name_byte byte }
+{
+    matches!(byte, b'a'..=b'z' | b'0'..=b'9' | b'-')
+}

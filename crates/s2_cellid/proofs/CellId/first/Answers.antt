@@ -1,0 +1,9 @@
+use Rattle.s2_cellid.proofs.Blocks.{first_is_leaf, leaves_between}
+use Rattle.s2_cellid.proofs.CellId.first.Goals as goal
+
+pub returns-clause-leaf : goal.returns-clause-leaf
+returns-clause-leaf c =
+    rw c.first_leaf_id.ensures.value (first_is_leaf c.args.self.now c.first_leaf_id.ensures.valid)
+
+pub returns-clause-leaves : goal.returns-clause-leaves
+returns-clause-leaves c = leaves_between c.args.self.now c.first_leaf_id.ensures.valid

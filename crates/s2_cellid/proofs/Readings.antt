@@ -1,0 +1,46 @@
+-- What a text reads as, by the first of its faults.
+use Rattle.std.proofs.Common.{◌≡◌, ℕ, ◌<◌, ◌≤◌, List, [], ◌∷◌, length, refl, ◌∙◌, ap, arith}
+use Rattle.std.specs.Prelude.{Bool, true, false, not, ◌==◌, nat_lt, IsTrue, Ok, Err}
+use Rattle.std.proofs.lemmas.Bool.Decides.{nat_tests}
+use Rattle.s2_cellid.specs.Cell.{is_cell_id, IsCellId}
+use Rattle.s2_cellid.specs.Digits.{is_hex}
+use Rattle.s2_cellid.specs.Token.{filled_value, IsSpelling, first_fault, unless, read_token}
+use Rattle.s2_cellid.specs.declared.tokens.TokenFault.TheVariants.{Empty, TooLong, NotHex, NotACell}
+
+-- whether a text is empty, too long, hex, a cell
+some_text : (text : List ℕ) → 0 < length text → (length text == 0) ≡ false
+some_text text some = grind (arith, nat_tests)
+
+short_text : (text : List ℕ) → length text ≤ 16 → nat_lt 16 (length text) ≡ false
+short_text text within = grind (arith, nat_tests)
+
+pub reads_empty : (text : List ℕ) → (length text == 0) ≡ true → read_token text ≡ Err Empty
+unfolding read_token
+reads_empty text empty = rw empty refl
+
+pub reads_too_long : (text : List ℕ) → 16 < length text → read_token text ≡ Err TooLong
+unfolding read_token
+reads_too_long text long =
+    let not_empty : (length text == 0) ≡ false = some_text text (omega arith) in
+    let too_long : nat_lt 16 (length text) ≡ true = grind (arith, nat_tests) in
+    rw (not_empty, too_long) refl
+
+pub reads_not_hex : (text : List ℕ) → 0 < length text → length text ≤ 16 → is_hex text ≡ false → read_token text ≡ Err NotHex
+unfolding read_token
+reads_not_hex text some within other = rw (some_text text some, short_text text within, other) refl
+
+by_cell : (text : List ℕ) → 0 < length text → length text ≤ 16 → is_hex text ≡ true → (valid : Bool) → is_cell_id (filled_value text) ≡ valid
+  → read_token text ≡ unless (first_fault ((not valid, NotACell) ∷ [])) (filled_value text)
+unfolding read_token
+by_cell text some within hex valid is = rw (some_text text some, short_text text within, hex) (ap (λ b. unless (first_fault ((not b, NotACell) ∷ [])) (filled_value text)) is)
+
+pub reads_no_cell : (text : List ℕ) → 0 < length text → length text ≤ 16 → is_hex text ≡ true → is_cell_id (filled_value text) ≡ false → read_token text ≡ Err NotACell
+reads_no_cell text some within hex other = by_cell text some within hex false other
+
+pub reads_cell : (text : List ℕ) → 0 < length text → length text ≤ 16 → is_hex text ≡ true → is_cell_id (filled_value text) ≡ true → read_token text ≡ Ok (filled_value text)
+reads_cell text some within hex valid = by_cell text some within hex true valid
+
+-- a spelling of a valid id reads as that id
+pub reads_spelling : (text : List ℕ) (id : ℕ) → IsSpelling text id → IsCellId id → read_token text ≡ Ok id
+reads_spelling text id spelling valid =
+    reads_cell text spelling.some spelling.at_most spelling.hex (ap is_cell_id spelling.value ∙ valid) ∙ ap Ok spelling.value

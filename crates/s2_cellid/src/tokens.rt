@@ -1,0 +1,167 @@
+//! Tokens: the texts of cell ids (S2's `ToToken` and `FromToken`).
+
+ghost use Rattle.std.specs.Prelude.{◌≡◌, ◌-◌, ◌<◌, ◌≤◌, ◌↔◌, ℕ, length, IsTrue, List, Ok, Some};
+ghost use Rattle.std.specs.Char.{digit_char};
+ghost use Rattle.std.specs.List.{suffix_len};
+ghost use Rattle.std.specs.Option.{SomeIff};
+ghost use Rattle.s2_cellid.specs.Cell.{IsCellId};
+ghost use Rattle.s2_cellid.specs.Digits.{is_hex};
+ghost use Rattle.s2_cellid.specs.Token.{filled_value, IsSpelling, IsPrinted, hex_digits, is_zero, token_text, read_token};
+
+use std::char;
+use std::fmt;
+use std::marker::Model;
+use std::str;
+
+use crate::CellId;
+
+/// The greatest number of digits in a token.
+const DIGITS: usize = 16;
+
+/// Why a text is no token of a cell, in the order in which it is looked for.
+#[derive(Clone, Copy, Debug, PartialEq, Eq)]
+pub enum TokenFault {
+    /// The text is empty.
+    Empty,
+    /// The text has more than 16 bytes.
+    TooLong,
+    /// Some byte is no hex digit.
+    NotHex,
+    /// The digits, filled up with zeros, are no valid id.
+    NotACell,
+}
+
+/// The printed token of a cell: 1 to 16 lower-case hex digits, kept in place.
+#[derive(Clone, Copy, Debug, PartialEq, Eq)]
+pub struct Token {
+    // all digits of the id, the zeros at their end among them
+    digits: [u8; DIGITS],
+    // how many of them are printed
+    printed: usize,
+}
+
+impl Model for Token {
+    ghost use Rattle.std.specs.Prelude.{ℕ, ◌-◌, ◌++◌, List, length, take, replicate};
+
+    ghost Value = { List ℕ };
+
+    ghost use Rattle.s2_cellid.specs.Digits.{filled, HoldsToken, refilled};
+
+    ghost view = { λ token. take token.printed token.digits };
+
+    ghost invariant = { λ token. HoldsToken token.digits token.printed };
+
+    ghost inverse = { λ text. record { digits = filled text; printed = length text } };
+
+    ghost inverse_ok = { λ token holds. let same = refilled token.digits token.printed holds in
+        λ i. record { digits = same.0 i; printed = same.1 i } };
+}
+
+impl Token {
+    /// The token's text.
+    pub fn as_str(&self) -> &str
+        ensures { result.now ≡ self.now }
+    {
+        str::from_utf8(&self.digits[..self.printed]).unwrap_or("")
+    }
+}
+
+impl fmt::Display for Token {
+    ghost output = { λ token. Some token };
+
+    fn fmt<W: fmt::Write>(&self, f: &mut fmt::Formatter<W>) -> fmt::Result {
+        f.pad(self.as_str())
+    }
+}
+
+impl fmt::Display for CellId {
+    ghost output = { λ id. Some (token_text id) };
+
+    fn fmt<W: fmt::Write>(&self, f: &mut fmt::Formatter<W>) -> fmt::Result {
+        f.pad(self.token().as_str())
+    }
+}
+
+impl CellId {
+    /// The token of the cell: its id in base 16 without the zeros at the end.
+    pub fn token(&self) -> Token
+        ensures value { result ≡ token_text self.now }
+        ensures spelling { IsSpelling result self.now }
+        ensures printed { IsPrinted result }
+        ensures only { (text : List ℕ) → IsSpelling text self.now → IsPrinted text → text ≡ result }
+        ensures read_back { read_token result ≡ Ok self.now }
+    {
+        let digits = hex_digits(self.raw());
+        let printed = stripped_length(&digits);
+        Token { digits, printed }
+    }
+
+    /// The cell of a token: 1 to 16 hex digits of either case, filled up with zeros on the right.
+    ///
+    /// # Errors
+    ///
+    /// The first fault that applies, in the order of `TokenFault`.
+    pub fn from_token(token: &[u8]) -> Result<CellId, TokenFault>
+        ensures value { result ≡ read_token token.now }
+        ensures spelling { (id : ℕ) → (result ≡ Ok id) ↔ (IsSpelling token.now id × IsCellId id) }
+    {
+        if token.is_empty() {
+            return Err(TokenFault::Empty);
+        }
+        if token.len() > DIGITS {
+            return Err(TokenFault::TooLong);
+        }
+        let Some(id) = filled_value(token) else {
+            return Err(TokenFault::NotHex);
+        };
+        CellId::from_raw(id).ok_or(TokenFault::NotACell)
+    }
+}
+
+// The 16 digits of an id.
+fn hex_digits(id: u64) -> [u8; DIGITS]
+    ensures { result ≡ hex_digits 16 id }
+{
+    let mut digits = [b'0'; DIGITS];
+    for (place, digit) in digits.iter_mut().enumerate() {
+        *digit = hex_digit((id >> (60 - 4 * place)) % 16);
+    }
+    digits
+}
+
+fn hex_digit(value: u64) -> u8
+    requires { value < 16 }
+    ensures { result ≡ digit_char value }
+{
+    if value < 10 {
+        b'0' + value as u8
+    } else {
+        b'a' + (value - 10) as u8
+    }
+}
+
+// How many digits are left without the zeros at the end.
+fn stripped_length(digits: &[u8]) -> usize
+    ensures { result ≡ length digits.now - suffix_len is_zero digits.now }
+{
+    let zeros = digits
+        .iter()
+        .rev()
+        .take_while(|digit| **digit == b'0')
+        .count();
+    digits.len() - zeros
+}
+
+// The number that the hex digits write, filled up with zeros on the right to 16 digits.
+fn filled_value(token: &[u8]) -> Option<u64>
+    requires some { 0 < length token.now }
+    requires at_most { length token.now ≤ 16 }
+    ensures { SomeIff result (IsTrue (is_hex token.now)) (filled_value token.now) }
+{
+    let mut value = 0;
+    for byte in token {
+        let digit = char::from(*byte).to_digit(16)?;
+        value = value * 16 + u64::from(digit);
+    }
+    Some(value << (64 - 4 * token.len()))
+}
