@@ -8,3 +8,7 @@ pub mod Volume
 pub mod Level
 pub mod Slab
 pub mod Meeting
+pub mod Shared
+pub mod Plan
+pub mod States
+pub mod Outcome

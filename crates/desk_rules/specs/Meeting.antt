@@ -18,3 +18,8 @@ pub record IsFirstSpot (passes : Point → Bool) (levels : Point → Option ℕ)
 abbrev pub IsFirst : (Point → Bool) → (Point → Option ℕ) → Option Spot → Type 0
 IsFirst passes levels None = (x : Point) → passes x ≡ false
 IsFirst passes levels (Some spot) = IsFirstSpot passes levels spot
+
+-- the first point that passes, or none
+abbrev pub IsFirstPoint : (Point → Bool) → Option Point → Type 0
+IsFirstPoint passes None = (x : Point) → passes x ≡ false
+IsFirstPoint passes (Some p) = (passes p ≡ true) × ((x : Point) → point_cmp x p ≡ Less → passes x ≡ false)

@@ -19,7 +19,7 @@ abbrev pub block_has : Block → Point → Bool
 block_has v x = shape_has v.footprint x.leaf && extent_has v.window x
 
 -- an area has a point where one of its volumes has it
-unfoldable pub area_has : List Block → Point → Bool
+abbrev pub area_has : List Block → Point → Bool
 area_has area x = list_any (λ v. block_has v x) area
 
 -- a cell list has 1 to 64 cells

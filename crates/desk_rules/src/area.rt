@@ -1,9 +1,13 @@
 //! Areas: the volumes of a plan.
 
-ghost use Rattle.std.specs.Prelude.{◌≡◌, ◌&&◌, Some, None, if◌then◌else◌, IsTrue, nat_le};
-ghost use Rattle.desk_rules.specs.Volume.{is_area};
+ghost use Rattle.std.specs.Prelude.{◌≡◌, ◌&&◌, ◌||◌, Some, None, if◌then◌else◌, IsTrue, IfOk, OnOk, nat_le};
+ghost use Rattle.desk_rules.specs.Point.{Point};
+ghost use Rattle.desk_rules.specs.Slab.{slabs_have};
+ghost use Rattle.desk_rules.specs.Volume.{is_area, area_has};
 
+use crate::slab::Slab;
 use crate::volume::Volume;
+use std::alloc::{AllocError, Global};
 use std::marker::Model;
 
 /// The volumes of a plan, 1 to 8 by its type.
@@ -42,6 +46,46 @@ impl Area {
     {
         &self.volumes
     }
+
+    /// Slabs that have exactly the points of the area, in any order.
+    pub fn slabs(&self, alloc: Global) -> Result<Vec<Slab>, AllocError>
+        ensures { IfOk result (λ slabs. (x : Point) → slabs_have slabs.items x ≡ area_has self.now x) }
+    {
+        let mut slabs = Vec::new(alloc);
+        push_volumes(&mut slabs, &self.volumes)?;
+        Ok(slabs)
+    }
+
+    /// An equal area.
+    pub fn copy(&self) -> Result<Area, AllocError>
+        ensures { IfOk result (λ copy. copy ≡ self.now) }
+    {
+        Ok(Area {
+            volumes: copies(&self.volumes)?,
+        })
+    }
+}
+
+// Appends slabs that have exactly the points of the volumes.
+fn push_volumes(slabs: &mut Vec<Slab>, volumes: &[Volume]) -> Result<(), AllocError>
+    ensures { OnOk result ((x : Point) →
+        slabs_have slabs.new.items x ≡ (slabs_have slabs.old.items x || area_has volumes.now x)) }
+{
+    for volume in volumes {
+        volume.push_slabs(slabs)?;
+    }
+    Ok(())
+}
+
+// Equal volumes.
+fn copies(volumes: &Vec<Volume>) -> Result<Vec<Volume>, AllocError>
+    ensures { IfOk result (λ copies. copies.items ≡ volumes.now.items) }
+{
+    let mut copies = Vec::new(*volumes.allocator());
+    for volume in volumes {
+        copies.push(volume.copy()?)?;
+    }
+    Ok(copies)
 }
 
 fn is_count(count: usize) -> bool

@@ -3,11 +3,13 @@
 #![tactic(auto)]
 
 pub mod area;
+pub mod decide;
 pub mod meeting;
 pub mod operator;
 pub mod plan;
 pub mod plan_id;
 pub mod slab;
+pub mod transition;
 pub mod volume;
 pub mod window;
 pub mod words;

@@ -1,8 +1,11 @@
 //! Stored plans, and the requests to plan.
 
+ghost use Rattle.std.specs.Prelude.{◌≡◌, IfOk};
+
 use crate::area::Area;
 use crate::plan_id::PlanId;
 use crate::words::{Aircraft, Style, Usage};
+use std::alloc::AllocError;
 
 /// A stored plan of an operator.
 #[derive(Debug, Drop)]
@@ -24,4 +27,35 @@ pub struct PutCall {
     pub aircraft: Aircraft,
     pub priority: u32,
     pub area: Area,
+}
+
+impl PlanRow {
+    /// An equal row.
+    pub fn copy(&self) -> Result<PlanRow, AllocError>
+        ensures { IfOk result (λ copy. copy ≡ self.now) }
+    {
+        Ok(PlanRow {
+            id: self.id,
+            priority: self.priority,
+            usage: self.usage,
+            aircraft: self.aircraft,
+            area: self.area.copy()?,
+        })
+    }
+}
+
+impl PutCall {
+    /// An equal request.
+    pub fn copy(&self) -> Result<PutCall, AllocError>
+        ensures { IfOk result (λ copy. copy ≡ self.now) }
+    {
+        Ok(PutCall {
+            id: self.id,
+            style: self.style,
+            usage: self.usage,
+            aircraft: self.aircraft,
+            priority: self.priority,
+            area: self.area.copy()?,
+        })
+    }
 }

@@ -1,12 +1,19 @@
 //! Footprints and volumes.
 
-ghost use Rattle.std.specs.Prelude.{◌≡◌, ◌&&◌, Ok, Err, if◌then◌else◌, IsTrue, nat_le};
+ghost use Rattle.std.specs.Prelude.{◌≡◌, ◌&&◌, ◌||◌, Ok, Err, if◌then◌else◌, IsTrue, IfOk, OnOk, nat_le};
+ghost use Rattle.s2_cellid.specs.Cell.{cell_has};
+ghost use Rattle.desk_rules.specs.Point.{Point};
+ghost use Rattle.desk_rules.specs.Shape as shapes;
+ghost use Rattle.desk_rules.specs.Shape.{shape_has};
+ghost use Rattle.desk_rules.specs.Slab.{slab_has, slabs_have};
 ghost use Rattle.desk_rules.specs.Footprint.{shape_of};
-ghost use Rattle.desk_rules.specs.Volume.{is_footprint};
+ghost use Rattle.desk_rules.specs.Volume.{is_footprint, extent_has, block_has};
 ghost use Rattle.desk_rules.specs.declared.volume.VolumeFault.TheVariants as faults;
 
+use crate::slab::Slab;
 use crate::window::Window;
 use s2_cellid::CellId;
+use std::alloc::{AllocError, Global};
 use std::marker::Model;
 
 /// The ground that a volume covers.
@@ -71,6 +78,71 @@ impl Volume {
         ensures { result ≡ self.now.window }
     {
         self.window
+    }
+
+    /// Slabs that have exactly the points of the volume, in any order.
+    pub fn slabs(&self, alloc: Global) -> Result<Vec<Slab>, AllocError>
+        ensures { IfOk result (λ slabs. (x : Point) → slabs_have slabs.items x ≡ block_has self.now x) }
+    {
+        let mut slabs = Vec::new(alloc);
+        self.push_slabs(&mut slabs)?;
+        Ok(slabs)
+    }
+
+    /// Appends slabs that have exactly the points of the volume.
+    pub(crate) fn push_slabs(&self, slabs: &mut Vec<Slab>) -> Result<(), AllocError>
+        ensures { OnOk result ((x : Point) →
+            slabs_have slabs.new.items x ≡ (slabs_have slabs.old.items x || block_has self.now x)) }
+    {
+        match &self.footprint {
+            Footprint::Cells(cells) => push_cells(slabs, cells, self.window),
+        }
+    }
+
+    /// An equal volume.
+    pub fn copy(&self) -> Result<Volume, AllocError>
+        ensures { IfOk result (λ copy. copy ≡ self.now) }
+    {
+        Ok(Volume {
+            footprint: self.footprint.copy()?,
+            window: self.window,
+        })
+    }
+}
+
+impl Footprint {
+    /// An equal footprint.
+    pub fn copy(&self) -> Result<Footprint, AllocError>
+        ensures { IfOk result (λ copy. shape_of copy ≡ shape_of self.now) }
+    {
+        match self {
+            Footprint::Cells(cells) => Ok(Footprint::Cells(cells.clone()?)),
+        }
+    }
+}
+
+// Appends a slab for each cell.
+fn push_cells(slabs: &mut Vec<Slab>, cells: &[CellId], window: Window) -> Result<(), AllocError>
+    ensures { OnOk result ((x : Point) → slabs_have slabs.new.items x
+        ≡ (slabs_have slabs.old.items x || (shape_has (shapes.cells cells.now) x.leaf && extent_has window x))) }
+{
+    for cell in cells {
+        slabs.push(slab_of(cell, window))?;
+    }
+    Ok(())
+}
+
+// The slab of a cell.
+fn slab_of(cell: &CellId, window: Window) -> Slab
+    ensures { (x : Point) → slab_has result x ≡ (cell_has cell.now x.leaf && extent_has window x) }
+{
+    Slab {
+        first: cell.first(),
+        last: cell.last(),
+        lower: window.lower(),
+        upper: window.upper(),
+        start: window.start(),
+        end: window.end(),
     }
 }
 

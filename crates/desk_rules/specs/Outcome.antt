@@ -1,0 +1,136 @@
+-- What comes of a request to plan: the order of refusals at this desk, a list of conditions of which the first counts.
+use Rattle.std.specs.Prelude.{ℕ, ℤ, pos, ◌+ℤ◌, int_le, int_lt, nat_le, nat_lt, List, [], ◌∷◌, Bool, true, false, cond, not, ◌&&◌, ◌||◌, Option, Some, None, is_some, is_none}
+use Rattle.std.specs.List.{list_any}
+use Rattle.desk_rules.specs.declared.plan.PlanRow.{PlanRow}
+use Rattle.desk_rules.specs.declared.plan.PutCall.{PutCall}
+use Rattle.desk_rules.specs.declared.words.Style.{Style}
+use Rattle.desk_rules.specs.declared.words.Style.TheVariants as style
+use Rattle.desk_rules.specs.declared.words.PlanStatus.{PlanStatus}
+use Rattle.desk_rules.specs.declared.words.PlanStatus.TheVariants as status
+use Rattle.desk_rules.specs.declared.words.PlanResult.{PlanResult}
+use Rattle.desk_rules.specs.declared.words.PlanResult.TheVariants as result
+use Rattle.desk_rules.specs.declared.words.Note.{Note}
+use Rattle.desk_rules.specs.declared.words.Note.TheVariants as note
+use Rattle.desk_rules.specs.declared.transition.Step.{Step}
+use Rattle.desk_rules.specs.declared.transition.Step.TheVariants.{Refuse, Check, Report, Shut, Keep}
+use Rattle.desk_rules.specs.declared.decide.Verdict.{Verdict}
+use Rattle.desk_rules.specs.declared.decide.Effect.{Effect}
+use Rattle.desk_rules.specs.declared.decide.Effect.TheVariants as effect
+use Rattle.desk_rules.specs.Volume.{Block}
+use Rattle.desk_rules.specs.Meeting.{Spot}
+use Rattle.desk_rules.specs.States.{status_of, is_offered, step_of}
+
+-- some volume's end is at or before the moment
+unfoldable pub has_ended : List Block → ℤ → Bool
+has_ended area moment = list_any (λ v. int_le v.window.stop moment) area
+
+-- some volume's start is more than 2,592,000 s, thirty days, after the moment
+unfoldable pub is_beyond_horizon : List Block → ℤ → Bool
+is_beyond_horizon area moment = list_any (λ v. int_lt (moment +ℤ pos 2592000) v.window.start) area
+
+-- the greatest number of plans that an operator may have, closed ones too
+abbrev pub max_plans : ℕ
+max_plans = 200
+
+-- the table's note, where it refuses
+abbrev pub refusal_of : Step → Option Note
+refusal_of (Refuse n) = Some n
+refusal_of (Check s) = None
+refusal_of (Report s) = None
+refusal_of Shut = None
+refusal_of Keep = None
+
+-- what the later places look at: a check at all of them, a report at the ceiling and the number of plans, closing at none
+abbrev pub is_check : Step → Bool
+is_check (Refuse n) = false
+is_check (Check s) = true
+is_check (Report s) = false
+is_check Shut = false
+is_check Keep = false
+
+abbrev pub is_stored : Step → Bool
+is_stored (Refuse n) = false
+is_stored (Check s) = true
+is_stored (Report s) = true
+is_stored Shut = false
+is_stored Keep = false
+
+-- the first note that is there
+abbrev pub first_note : List (Option Note) → Option Note
+first_note [] = None
+first_note (None ∷ notes) = first_note notes
+first_note (Some n ∷ notes) = Some n
+
+abbrev pub note_where : Bool → Note → Option Note
+note_where true n = Some n
+note_where false n = None
+
+-- the order of refusals
+unfoldable pub note_of : PutCall → ℤ → Option PlanRow → ℕ → ℕ → Bool → Option Note
+note_of call moment stored own_rows ceiling blocked =
+    let step = step_of stored call in
+    first_note (note_where (not (is_offered call.style call.usage call.aircraft)) note.Style
+      ∷ refusal_of step
+      ∷ note_where (is_check step && has_ended call.area moment) note.Ended
+      ∷ note_where (is_check step && is_beyond_horizon call.area moment) note.Horizon
+      ∷ note_where (is_stored step && nat_lt ceiling call.priority) note.Priority
+      ∷ note_where (is_stored step && (is_none stored && nat_le max_plans own_rows)) note.PlansLimit
+      ∷ note_where (is_check step && blocked) note.Conflict
+      ∷ [])
+
+-- a refusal's result: only an unsupported style is not a rejection
+abbrev pub refused_result : Note → PlanResult
+refused_result note.Style = result.NotSupported
+refused_result note.State = result.Rejected
+refused_result note.Closed = result.Rejected
+refused_result note.NotPlanned = result.Rejected
+refused_result note.Ended = result.Rejected
+refused_result note.Horizon = result.Rejected
+refused_result note.Priority = result.Rejected
+refused_result note.PlansLimit = result.Rejected
+refused_result note.Conflict = result.Rejected
+
+-- the conflict stands beside its note alone
+abbrev pub shown_conflict : Note → Option Spot → Option Spot
+shown_conflict note.Style conflict = None
+shown_conflict note.State conflict = None
+shown_conflict note.Closed conflict = None
+shown_conflict note.NotPlanned conflict = None
+shown_conflict note.Ended conflict = None
+shown_conflict note.Horizon conflict = None
+shown_conflict note.Priority conflict = None
+shown_conflict note.PlansLimit conflict = None
+shown_conflict note.Conflict conflict = conflict
+
+-- the status and the effect of a step that nothing refuses
+abbrev pub step_status : Step → PlanStatus
+step_status (Refuse n) = status.NotPlanned
+step_status (Check s) = s
+step_status (Report s) = s
+step_status Shut = status.Closed
+step_status Keep = status.Closed
+
+abbrev pub step_effect : Step → Effect
+step_effect (Refuse n) = effect.Nothing
+step_effect (Check s) = effect.Save
+step_effect (Report s) = effect.Save
+step_effect Shut = effect.Shut
+step_effect Keep = effect.Nothing
+
+-- a hypothetical request has no effect
+abbrev pub styled_effect : Style → Effect → Effect
+styled_effect style.Hypothetical e = effect.Nothing
+styled_effect style.IfAllowed e = e
+styled_effect style.InReality e = e
+
+-- a refusal keeps the stored plan and tells its status
+abbrev pub verdict_by : PutCall → Option PlanRow → Option Spot → Option Note → Verdict
+verdict_by call stored conflict (Some n) =
+    record { result = refused_result n; status = status_of stored; note = Some n; meeting = shown_conflict n conflict; effect = effect.Nothing }
+verdict_by call stored conflict None =
+    record { result = result.Completed; status = step_status (step_of stored call); note = None; meeting = None; effect = styled_effect call.style (step_effect (step_of stored call)) }
+
+-- the outcome of a request at a moment, beside the stored plan of its id, the number of the operator's plans, the
+-- operator's ceiling and the conflict of the area asked
+unfoldable pub outcome : PutCall → ℤ → Option PlanRow → ℕ → ℕ → Option Spot → Verdict
+outcome call moment stored own_rows ceiling conflict = verdict_by call stored conflict (note_of call moment stored own_rows ceiling (is_some conflict))

@@ -1,0 +1,23 @@
+-- Stored plans, and the points that they hold.
+use Rattle.std.specs.Prelude.{ℕ, List, Bool, true, false, ◌&&◌, Option, Some, None, map}
+use Rattle.std.specs.List.{filter}
+use Rattle.desk_rules.specs.declared.plan.PlanRow.{PlanRow}
+use Rattle.desk_rules.specs.declared.words.Usage.{Usage}
+use Rattle.desk_rules.specs.declared.words.Usage.TheVariants as usage
+use Rattle.desk_rules.specs.Point.{Point}
+use Rattle.desk_rules.specs.Volume.{area_has}
+use Rattle.desk_rules.specs.Level.{greatest}
+
+-- a plan is live while it is planned or in use
+abbrev pub is_live : Usage → Bool
+is_live usage.Planned = true
+is_live usage.InUse = true
+is_live usage.Closed = false
+
+-- a live plan holds the points of its area
+unfoldable pub row_holds : PlanRow → Point → Bool
+row_holds row x = is_live row.usage && area_has row.area x
+
+-- the greatest priority of the plans that hold the point, or none
+unfoldable pub top_priority : List PlanRow → Point → Option ℕ
+top_priority rows x = greatest (map (λ r. r.priority) (filter (λ r. row_holds r x) rows))

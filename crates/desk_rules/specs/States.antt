@@ -1,0 +1,95 @@
+-- The states of a plan: those of InterUSS flight_planning v1 (usage_state, uas_state, flight_plan_status), and which
+-- may follow which at this desk.
+use Rattle.std.specs.Prelude.{Bool, true, false, Option, Some, None}
+use Rattle.desk_rules.specs.declared.plan.PlanRow.{PlanRow}
+use Rattle.desk_rules.specs.declared.plan.PutCall.{PutCall}
+use Rattle.desk_rules.specs.declared.words.Usage.{Usage}
+use Rattle.desk_rules.specs.declared.words.Usage.TheVariants as usage
+use Rattle.desk_rules.specs.declared.words.Aircraft.{Aircraft}
+use Rattle.desk_rules.specs.declared.words.Aircraft.TheVariants as aircraft
+use Rattle.desk_rules.specs.declared.words.Style.{Style}
+use Rattle.desk_rules.specs.declared.words.Style.TheVariants as style
+use Rattle.desk_rules.specs.declared.words.PlanStatus.{PlanStatus}
+use Rattle.desk_rules.specs.declared.words.PlanStatus.TheVariants as status
+use Rattle.desk_rules.specs.declared.words.Note.TheVariants as note
+use Rattle.desk_rules.specs.declared.transition.Step.{Step}
+use Rattle.desk_rules.specs.declared.transition.Step.TheVariants.{Refuse, Check, Report, Shut, Keep}
+
+-- the status of a plan in use
+abbrev pub status_in_use : Aircraft → PlanStatus
+status_in_use aircraft.Nominal = status.OkToFly
+status_in_use aircraft.OffNominal = status.OffNominal
+status_in_use aircraft.Contingent = status.OffNominal
+
+abbrev pub status_of_states : Usage → Aircraft → PlanStatus
+status_of_states usage.Planned craft = status.Planned
+status_of_states usage.InUse craft = status_in_use craft
+status_of_states usage.Closed craft = status.Closed
+
+-- the status of a stored plan, or of none
+abbrev pub status_of : Option PlanRow → PlanStatus
+status_of None = status.NotPlanned
+status_of (Some row) = status_of_states row.usage row.aircraft
+
+-- a style is offered for the states asked: reports from reality are for an aircraft off its plan and for closing
+abbrev pub is_offered : Style → Usage → Aircraft → Bool
+is_offered style.Hypothetical want craft = true
+is_offered style.IfAllowed want craft = true
+is_offered style.InReality usage.Planned craft = false
+is_offered style.InReality usage.InUse aircraft.Nominal = false
+is_offered style.InReality usage.InUse aircraft.OffNominal = true
+is_offered style.InReality usage.InUse aircraft.Contingent = true
+is_offered style.InReality usage.Closed craft = true
+
+-- The state table, a row for each state of the stored plan; the states asked are the columns.
+
+-- where no plan is stored
+abbrev pub step_from_none : Usage → Aircraft → Step
+step_from_none usage.Planned aircraft.Nominal = Check status.Planned
+step_from_none usage.Planned aircraft.OffNominal = Refuse note.State
+step_from_none usage.Planned aircraft.Contingent = Refuse note.State
+step_from_none usage.InUse aircraft.Nominal = Check status.OkToFly
+step_from_none usage.InUse aircraft.OffNominal = Refuse note.State
+step_from_none usage.InUse aircraft.Contingent = Refuse note.State
+step_from_none usage.Closed craft = Refuse note.NotPlanned
+
+abbrev pub step_from_planned : Usage → Aircraft → Step
+step_from_planned usage.Planned aircraft.Nominal = Check status.Planned
+step_from_planned usage.Planned aircraft.OffNominal = Refuse note.State
+step_from_planned usage.Planned aircraft.Contingent = Refuse note.State
+step_from_planned usage.InUse aircraft.Nominal = Check status.OkToFly
+step_from_planned usage.InUse aircraft.OffNominal = Report status.OffNominal
+step_from_planned usage.InUse aircraft.Contingent = Report status.OffNominal
+step_from_planned usage.Closed craft = Shut
+
+-- the same for the aircraft states Nominal and OffNominal of the stored plan
+abbrev pub step_from_use : Usage → Aircraft → Step
+step_from_use usage.Planned craft = Refuse note.State
+step_from_use usage.InUse aircraft.Nominal = Check status.OkToFly
+step_from_use usage.InUse aircraft.OffNominal = Report status.OffNominal
+step_from_use usage.InUse aircraft.Contingent = Report status.OffNominal
+step_from_use usage.Closed craft = Shut
+
+-- a contingency is left by closing alone
+abbrev pub step_from_contingency : Usage → Aircraft → Step
+step_from_contingency usage.Planned craft = Refuse note.State
+step_from_contingency usage.InUse aircraft.Nominal = Refuse note.State
+step_from_contingency usage.InUse aircraft.OffNominal = Refuse note.State
+step_from_contingency usage.InUse aircraft.Contingent = Report status.OffNominal
+step_from_contingency usage.Closed craft = Shut
+
+abbrev pub step_from_closed : Usage → Step
+step_from_closed usage.Planned = Refuse note.Closed
+step_from_closed usage.InUse = Refuse note.Closed
+step_from_closed usage.Closed = Keep
+
+abbrev pub step_from_states : Usage → Aircraft → Usage → Aircraft → Step
+step_from_states usage.Planned stored want craft = step_from_planned want craft
+step_from_states usage.InUse aircraft.Nominal want craft = step_from_use want craft
+step_from_states usage.InUse aircraft.OffNominal want craft = step_from_use want craft
+step_from_states usage.InUse aircraft.Contingent want craft = step_from_contingency want craft
+step_from_states usage.Closed stored want craft = step_from_closed want
+
+abbrev pub step_of : Option PlanRow → PutCall → Step
+step_of None call = step_from_none call.usage call.aircraft
+step_of (Some row) call = step_from_states row.usage row.aircraft call.usage call.aircraft

@@ -1,0 +1,97 @@
+//! The state table: which states may follow which.
+
+ghost use Rattle.std.specs.Prelude.{◌≡◌};
+ghost use Rattle.std.specs.Option.{option_copied};
+ghost use Rattle.desk_rules.specs.States.{step_of, step_from_none, step_from_planned, step_from_use, step_from_contingency, step_from_closed, step_from_states};
+
+use crate::plan::{PlanRow, PutCall};
+use crate::words::{Aircraft, Note, PlanStatus, Usage};
+
+/// Where the state table leads for a request.
+#[derive(Clone, Copy, Debug, PartialEq, Eq)]
+pub enum Step {
+    /// The table refuses the request.
+    Refuse(Note),
+    /// The request is checked and, if nothing refuses it, stored with this status.
+    Check(PlanStatus),
+    /// The request reports what happens, and is stored with this status.
+    Report(PlanStatus),
+    /// The stored plan is closed.
+    Shut,
+    /// The stored plan is closed already, and stays as it is.
+    Keep,
+}
+
+/// The step from the stored plan of the request's id, or from none, to the states asked.
+pub fn transition(stored: Option<&PlanRow>, call: &PutCall) -> Step
+    ensures { result ≡ step_of (option_copied stored.entry) call.now }
+{
+    match stored {
+        None => from_none(call.usage, call.aircraft),
+        Some(row) => from_states(row.usage, row.aircraft, call.usage, call.aircraft),
+    }
+}
+
+fn from_states(stored: Usage, craft: Aircraft, usage: Usage, aircraft: Aircraft) -> Step
+    ensures { result ≡ step_from_states stored craft usage aircraft }
+{
+    match (stored, craft) {
+        (Usage::Planned, _) => from_planned(usage, aircraft),
+        (Usage::InUse, Aircraft::Contingent) => from_contingency(usage, aircraft),
+        (Usage::InUse, _) => from_use(usage, aircraft),
+        (Usage::Closed, _) => from_closed(usage),
+    }
+}
+
+fn from_none(usage: Usage, aircraft: Aircraft) -> Step
+    ensures { result ≡ step_from_none usage aircraft }
+{
+    match (usage, aircraft) {
+        (Usage::Closed, _) => Step::Refuse(Note::NotPlanned),
+        (Usage::Planned, Aircraft::Nominal) => Step::Check(PlanStatus::Planned),
+        (Usage::InUse, Aircraft::Nominal) => Step::Check(PlanStatus::OkToFly),
+        (_, _) => Step::Refuse(Note::State),
+    }
+}
+
+fn from_planned(usage: Usage, aircraft: Aircraft) -> Step
+    ensures { result ≡ step_from_planned usage aircraft }
+{
+    match (usage, aircraft) {
+        (Usage::Closed, _) => Step::Shut,
+        (Usage::Planned, Aircraft::Nominal) => Step::Check(PlanStatus::Planned),
+        (Usage::Planned, _) => Step::Refuse(Note::State),
+        (Usage::InUse, Aircraft::Nominal) => Step::Check(PlanStatus::OkToFly),
+        (Usage::InUse, _) => Step::Report(PlanStatus::OffNominal),
+    }
+}
+
+fn from_use(usage: Usage, aircraft: Aircraft) -> Step
+    ensures { result ≡ step_from_use usage aircraft }
+{
+    match (usage, aircraft) {
+        (Usage::Closed, _) => Step::Shut,
+        (Usage::Planned, _) => Step::Refuse(Note::State),
+        (Usage::InUse, Aircraft::Nominal) => Step::Check(PlanStatus::OkToFly),
+        (Usage::InUse, _) => Step::Report(PlanStatus::OffNominal),
+    }
+}
+
+fn from_contingency(usage: Usage, aircraft: Aircraft) -> Step
+    ensures { result ≡ step_from_contingency usage aircraft }
+{
+    match (usage, aircraft) {
+        (Usage::Closed, _) => Step::Shut,
+        (Usage::InUse, Aircraft::Contingent) => Step::Report(PlanStatus::OffNominal),
+        (_, _) => Step::Refuse(Note::State),
+    }
+}
+
+fn from_closed(usage: Usage) -> Step
+    ensures { result ≡ step_from_closed usage }
+{
+    match usage {
+        Usage::Closed => Step::Keep,
+        _ => Step::Refuse(Note::Closed),
+    }
+}
