@@ -5,3 +5,6 @@ pub mod SlabLemmas
 pub mod Corners
 pub mod LevelLemmas
 pub mod FirstPoints
+pub mod SearchLemmas
+pub mod Reach
+pub mod ConflictLemmas

@@ -12,3 +12,6 @@ pub mod Shared
 pub mod Plan
 pub mod States
 pub mod Outcome
+pub mod Search
+pub mod Conflict
+pub mod Bridge

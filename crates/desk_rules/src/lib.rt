@@ -3,7 +3,9 @@
 #![tactic(auto)]
 
 pub mod area;
+pub mod conflict;
 pub mod decide;
+pub mod laws;
 pub mod meeting;
 pub mod operator;
 pub mod plan;

@@ -1,0 +1,86 @@
+-- The points of an area are in the reach of its search, and the search's order is that of points.
+use Rattle.std.proofs.Common.{◌≡◌, ℕ, ◌+◌, ◌*◌, ◌<◌, ◌≤◌, ℤ, pos, negsuc, neg_ℤ, ◌≤ℤ◌, ◌<ℤ◌, Bool, true, false, ◌&&◌, ◌||◌, ◌⊎◌, leb, List, [], ◌∷◌, refl, sym, ap, ◌∙◌, inl, inr, arith, Less, Equal, Greater}
+use Rattle.std.specs.Prelude.{int_le, int_lt, unsigned_abs}
+use Rattle.std.specs.List.{list_any, sum_by}
+use Rattle.std.specs.declared.cmp.Ordering.{Ordering}
+use Rattle.std.specs.Ordering.{ordering_then, nat_cmp, int_cmp}
+use Rattle.std.proofs.lemmas.Int.{ints}
+use Rattle.std.proofs.lemmas.Bool.Decides.{nat_tests}
+use Rattle.std.proofs.lemmas.List.Sums.{sum_by-cons}
+use Rattle.s2_cellid.specs.Cell.{cell_has, leaf_id_at, first_leaf_id, last_leaf_id}
+use Rattle.desk_rules.specs.Point.{Point, point_cmp}
+use Rattle.desk_rules.specs.Shape.{Shape, cells, shape_has}
+use Rattle.desk_rules.specs.Volume.{Block, extent_has, block_has, area_has}
+use Rattle.desk_rules.specs.Conflict.{leaf_reach, altitude_reach, second_reach}
+use Rattle.desk_rules.proofs.Corners.{both}
+use Rattle.desk_rules.proofs.SearchLemmas.{IsBelow, IsLess, IsWithinInt, IsLessInt, InBoth, BeforePair}
+
+-- a number that is at most one element's is at most the sum
+any_sum : {A : Type 0} (p : A → Bool) (f : A → ℕ) (n : ℕ) → ((a : A) → p a ≡ true → n ≤ f a) → (xs : List A) → list_any p xs ≡ true → n ≤ sum_by f xs
+any_sum p f n h [] e = cc
+any_sum {A} p f n h (x ∷ xs) e = by_test (any_sum p f n h xs) (p x) refl e where
+  by_test : (list_any p xs ≡ true → n ≤ sum_by f xs) → (b : Bool) → p x ≡ b → (b || list_any p xs) ≡ true → n ≤ sum_by f (x ∷ xs)
+  by_test rest true t k = let here : n ≤ f x = h x t in omega (arith, sum_by-cons f x xs)
+  by_test rest false t k = let there : n ≤ sum_by f xs = rest k in omega (arith, sum_by-cons f x xs)
+
+leaf_below : (id leaf : ℕ) → cell_has id leaf ≡ true → leaf + 1 ≤ last_leaf_id id + 1
+leaf_below id leaf h = upto _ (both (leb (first_leaf_id id) (leaf_id_at leaf)) _ h).1 where
+  upto : (last : ℕ) → leb (leaf_id_at leaf) last ≡ true → leaf + 1 ≤ last + 1
+  upto last e = grind (arith, nat_tests)
+
+shape_below : (s : Shape) (leaf : ℕ) → shape_has s leaf ≡ true → leaf + 1 ≤ leaf_reach s
+shape_below (cells ids) leaf h = any_sum (λ id. cell_has id leaf) (λ id. last_leaf_id id + 1) (leaf + 1) (λ id e. leaf_below id leaf e) ids h
+
+abs_between : (l a u : ℤ) → int_le l a ≡ true → int_lt a u ≡ true → unsigned_abs a ≤ unsigned_abs l + unsigned_abs u
+abs_between (pos l) (pos a) (pos u) p q = grind (arith, nat_tests)
+abs_between (pos l) (pos a) (negsuc u) p q = cc
+abs_between (pos l) (negsuc a) u p q = cc
+abs_between (negsuc l) (pos a) (pos u) p q = grind (arith, nat_tests)
+abs_between (negsuc l) (pos a) (negsuc u) p q = cc
+abs_between (negsuc l) (negsuc a) u p q = grind (arith, nat_tests)
+
+within_abs : (a : ℤ) (n : ℕ) → unsigned_abs a ≤ n → IsWithinInt n a
+within_abs (pos a) n h = (omega (arith, ints), omega (arith, ints))
+within_abs (negsuc a) n h = (omega (arith, ints), omega (arith, ints))
+
+abbrev pub leaf_total : List Block → ℕ
+leaf_total area = sum_by (λ v. leaf_reach v.footprint) area
+
+abbrev pub altitude_total : List Block → ℕ
+altitude_total area = sum_by altitude_reach area
+
+abbrev pub second_total : List Block → ℕ
+second_total area = sum_by second_reach area
+
+pub area_reach : (area : List Block) (x : Point) → area_has area x ≡ true → InBoth (IsBelow (leaf_total area)) (InBoth (IsWithinInt (altitude_total area)) (IsWithinInt (second_total area))) (x.leaf, (x.altitude, x.second))
+area_reach area x h =
+    let leaf : x.leaf + 1 ≤ leaf_total area = any_sum (λ v. block_has v x) _ (x.leaf + 1) (λ v e. shape_below v.footprint x.leaf (both (shape_has v.footprint x.leaf) _ e).0) area h in
+    let altitude : unsigned_abs x.altitude ≤ altitude_total area = any_sum (λ v. block_has v x) _ (unsigned_abs x.altitude) (λ v e. let w = (both _ (int_le v.window.start x.second && int_lt x.second v.window.stop) (both (shape_has v.footprint x.leaf) _ e).1).0 in let ends = both (int_le v.window.lower x.altitude) _ w in abs_between v.window.lower x.altitude v.window.upper ends.0 ends.1) area h in
+    let second : unsigned_abs x.second ≤ second_total area = any_sum (λ v. block_has v x) _ (unsigned_abs x.second) (λ v e. let w = (both (int_le v.window.lower x.altitude && int_lt x.altitude v.window.upper) _ (both (shape_has v.footprint x.leaf) _ e).1).1 in let ends = both (int_le v.window.start x.second) _ w in abs_between v.window.start x.second v.window.stop ends.0 ends.1) area h in
+    (omega arith, (within_abs x.altitude _ altitude, within_abs x.second _ second))
+
+then_cases : (o p : Ordering) → ordering_then o p ≡ Less → (o ≡ Less) ⊎ ((o ≡ Equal) × (p ≡ Less))
+then_cases Less p e = inl refl
+then_cases Equal p e = inr (refl, e)
+then_cases Greater p e = cc
+
+less_leaf : (a b : ℕ) → nat_cmp (leaf_id_at a) (leaf_id_at b) ≡ Less → a < b
+less_leaf a b e = grind (arith, nat_tests)
+
+pub same_leaf : (a b : ℕ) → nat_cmp (leaf_id_at a) (leaf_id_at b) ≡ Equal → a ≡ b
+same_leaf a b e = grind (arith, nat_tests)
+
+less_int : (a b : ℤ) → int_cmp a b ≡ Less → a <ℤ b
+less_int a b e = grind (arith, ints)
+
+pub same_int : (a b : ℤ) → int_cmp a b ≡ Equal → a ≡ b
+same_int a b e = grind (arith, ints)
+
+pub before_pair : (y x : Point) → point_cmp y x ≡ Less → BeforePair IsLess (BeforePair IsLessInt IsLessInt) (y.leaf, (y.altitude, y.second)) (x.leaf, (x.altitude, x.second))
+before_pair y x e = elim (then_cases (nat_cmp (leaf_id_at y.leaf) (leaf_id_at x.leaf)) _ e) [
+  | inl l ↦ inl (less_leaf y.leaf x.leaf l)
+  | inr r ↦ inr (same_leaf y.leaf x.leaf r.0, elim (then_cases (int_cmp y.altitude x.altitude) _ r.1) [
+    | inl l ↦ inl (less_int y.altitude x.altitude l)
+    | inr s ↦ inr (same_int y.altitude x.altitude s.0, less_int y.second x.second s.1)
+  ])
+]

@@ -1,0 +1,16 @@
+-- Slabs that stand for areas and for what others hold.
+use Rattle.std.specs.Prelude.{◌≡◌, ℕ, List, true, Option}
+use Rattle.desk_rules.specs.declared.slab.Slab.{Slab}
+use Rattle.desk_rules.specs.declared.slab.Held.{Held}
+use Rattle.desk_rules.specs.Point.{Point}
+use Rattle.desk_rules.specs.Volume.{Block, area_has}
+use Rattle.desk_rules.specs.Slab.{slabs_have, top_held}
+use Rattle.desk_rules.specs.Conflict.{at_least}
+
+-- the slabs have exactly the area's points
+abbrev pub AreSlabsOf : List Slab → List Block → Type 0
+AreSlabsOf slabs area = (x : Point) → slabs_have slabs x ≡ area_has area x
+
+-- at each point of the area the greatest priority held is the level there, where that is at least the priority
+abbrev pub HoldLevels : List Held → List Block → (Point → Option ℕ) → ℕ → Type 0
+HoldLevels helds area levels priority = (x : Point) → area_has area x ≡ true → top_held helds x ≡ at_least priority (levels x)
