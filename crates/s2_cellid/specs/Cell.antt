@@ -1,8 +1,8 @@
 -- The cells of the S2 geometry library (class S2CellId) and the leaves that each of them has.
--- An id is 64 bits: from the top three bits of face, then two bits of place along the face's curve for each level
--- down, then one set bit, and zeros below it.
-use Rattle.std.specs.Prelude.{ℕ, ◌+◌, ◌-◌, ◌*◌, ◌/◌, ◌%◌, ◌^◌, Bool, ◌&&◌, ◌==◌, nat_lt, nat_le, ◌≤◌, IsTrue}
-use Rattle.std.specs.Int.{w64, trailing_zeros}
+-- An id is 64 bits: from the top three bits of face, then two bits of place along the face's curve
+-- for each level down, then one set bit, and zeros below it.
+use Rattle.std.specs.Prelude.{ℕ, ◌+◌, ◌-◌, ◌*◌, ◌/◌, ◌%◌, ◌^◌, Bool, ◌&&◌, ◌==◌, nat_lt, nat_le, IsTrue}
+use Rattle.std.specs.Int.{w64, trailing_zeros, is_in_range}
 
 -- the place of the lowest set bit, counted from 0; 64 where no bit is set
 abbrev pub lowest_place : ℕ → ℕ
@@ -47,9 +47,4 @@ last_leaf id = last_leaf_id id / 2
 
 -- whether the leaf at the position belongs to the cell: its id lies in the cell's closed range
 abbrev pub cell_has : ℕ → ℕ → Bool
-cell_has id position =
-    nat_le (first_leaf_id id) (leaf_id_at position) && nat_le (leaf_id_at position) (last_leaf_id id)
-
--- a number from `first` to `last`, both included
-abbrev pub IsBetween : ℕ → ℕ → ℕ → Type 0
-IsBetween first n last = (first ≤ n) × (n ≤ last)
+cell_has id position = is_in_range (first_leaf_id id) (last_leaf_id id) (leaf_id_at position)

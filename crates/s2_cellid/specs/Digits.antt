@@ -22,8 +22,10 @@ pub record HoldsToken (digits : List ℕ) (printed : ℕ) : Type 0 where
 
 -- what is kept follows from what is printed
 pub refilled : (digits : List ℕ) (printed : ℕ) → HoldsToken digits printed
-  → (filled (take printed digits) ≡ digits) × (length (take printed digits) ≡ printed)
+    → (filled (take printed digits) ≡ digits) × (length (take printed digits) ≡ printed)
 refilled digits printed holds =
-    let length_is : length (take printed digits) ≡ printed = omega (arith, length-take printed digits, holds) in
-    let zeros : replicate (16 - length (take printed digits)) 48 ≡ drop printed digits = rw (length_is, holds.zeros) in
+    let length_is : length (take printed digits) ≡ printed =
+    omega (arith, length-take printed digits, holds) in
+    let zeros : replicate (16 - length (take printed digits)) 48 ≡ drop printed digits =
+    rw (length_is, holds.zeros) in
     (ap (λ rest. take printed digits ++ rest) zeros ∙ take-append-drop printed digits, length_is)

@@ -1,6 +1,6 @@
 -- The tokens of cell ids, as the S2 geometry library reads and prints them (S2CellId::FromToken and
 -- S2CellId::ToToken): an id in base 16, without the zeros at its end.
-use Rattle.std.specs.Prelude.{◌≡◌, ◌≢◌, ℕ, zero, suc, ◌+◌, ◌-◌, ◌/◌, ◌%◌, ◌^◌, ◌<◌, ◌≤◌, Bool, not, if◌then◌else◌, ◌==◌, nat_lt, IsTrue, Option, Some, None, Result, Ok, Err, List, [], ◌∷◌, ◌++◌, length, take, drop, replicate, slice_index}
+use Rattle.std.specs.Prelude.{◌≡◌, ◌≢◌, ℕ, zero, suc, ◌-◌, ◌/◌, ◌%◌, ◌^◌, ◌<◌, ◌≤◌, Bool, not, if◌then◌else◌, ◌==◌, nat_lt, IsTrue, Option, Some, None, Result, Ok, Err, List, [], ◌∷◌, length, take, slice_index, codes}
 use Rattle.std.specs.Char.{digit_char, is_ascii_uppercase}
 use Rattle.std.specs.List.{list_all, suffix_len}
 use Rattle.std.specs.Str.Parse.{digits_value}
@@ -13,7 +13,8 @@ use Rattle.s2_cellid.specs.declared.tokens.TokenFault.TheVariants.{Empty, TooLon
 unfoldable pub filled_value : List ℕ → ℕ
 filled_value text = digits_value 16 (filled text)
 
--- the text spells the id: 1 to 16 hex digits which, filled up with zeros on the right, write it in base 16
+-- the text spells the id: 1 to 16 hex digits which, filled up with zeros on the right, write it in
+-- base 16
 pub record IsSpelling (text : List ℕ) (id : ℕ) : Type 0 where
   pub some : 0 < length text
   pub at_most : length text ≤ 16
@@ -60,3 +61,10 @@ unless (Some fault) id = Err fault
 -- what a text reads as
 unfoldable pub read_token : List ℕ → Result ℕ TokenFault
 read_token text = unless (first_fault (faults text)) (filled_value text)
+
+-- what a fault prints
+abbrev pub fault_text : TokenFault → List ℕ
+fault_text Empty = codes "the token is empty"
+fault_text TooLong = codes "the token has more than 16 digits"
+fault_text NotHex = codes "the token has a byte that is no hex digit"
+fault_text NotACell = codes "the token is not that of a valid cell"

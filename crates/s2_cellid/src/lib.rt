@@ -1,17 +1,20 @@
-//! Cell ids of the S2 geometry library and their tokens.
+//! Cells of the S2 geometry library (class S2CellId): their 64-bit ids, the leaves that they have,
+//! and their tokens.
 #![tactic(auto)]
 
 ghost use Rattle.std.specs.Prelude.{◌≡◌, ◌↔◌, ◌≤◌, ◌<◌, ◌*◌, ◌^◌, ℕ, IsTrue};
+ghost use Rattle.std.specs.Int.{IsInRange};
 ghost use Rattle.std.specs.Option.{SomeIff};
-ghost use Rattle.s2_cellid.specs.Cell.{IsCellId, face_of, level_of, first_leaf_id, last_leaf_id, first_leaf, last_leaf, IsBetween, leaf_id_at, cell_has, lowest_bit};
+ghost use Rattle.s2_cellid.specs.Cell.{IsCellId, face_of, level_of, lowest_bit};
+ghost use Rattle.s2_cellid.specs.Cell.{first_leaf_id, last_leaf_id, leaf_id_at};
+ghost use Rattle.s2_cellid.specs.Cell.{first_leaf, last_leaf, cell_has};
 
 mod tokens;
 
+use std::marker::Model;
 pub use tokens::{Token, TokenFault};
 
-use std::marker::Model;
-
-/// A valid id of an S2 cell, ordered as an unsigned number.
+/// A cell, by its valid 64-bit id. Cells are ordered as their ids are, as unsigned numbers.
 #[derive(Clone, Copy, Debug, PartialEq, Eq, PartialOrd, Ord, Hash)]
 pub struct CellId {
     id: u64,
@@ -27,11 +30,11 @@ impl Model for CellId {
 
     ghost invariant = { λ cell. IsCellId cell.id };
 
-    ghost inverse = { λ n. record { id = n } };
+    ghost inverse = { λ id. record { id = id } };
 }
 
 impl CellId {
-    /// The cell of a raw 64-bit id; `None` where the id is not valid.
+    /// The cell of an id; `None` where the id is not valid (S2's `is_valid`).
     pub fn from_raw(id: u64) -> Option<CellId>
         ensures { SomeIff result (IsCellId id) id }
     {
@@ -43,7 +46,7 @@ impl CellId {
         }
     }
 
-    /// The raw 64-bit id.
+    /// The id, which is valid.
     pub fn raw(&self) -> u64
         ensures value { result ≡ self.now }
         ensures valid { IsCellId self.now }
@@ -51,7 +54,7 @@ impl CellId {
         self.id
     }
 
-    /// The face, 0 to 5.
+    /// The face of the cube, 0 to 5.
     pub fn face(&self) -> u8
         ensures value { result ≡ face_of self.now }
         ensures below { result < 6 }
@@ -67,22 +70,25 @@ impl CellId {
         (30 - self.id.trailing_zeros() / 2) as u8
     }
 
-    /// The position, among all leaves, of the cell's first leaf: the leaf whose id is
-    /// `2 * position + 1` is the one with the cell's least leaf id (S2's `range_min`).
+    /// The position of the cell's first leaf among all leaves, counted from 0 in the order of
+    /// their ids. The id of the leaf at a position is `2 * position + 1`; that of the first leaf
+    /// is S2's `range_min`.
     pub fn first(&self) -> u64
         ensures value { result ≡ first_leaf self.now }
         ensures leaf { leaf_id_at result ≡ first_leaf_id self.now }
-        ensures leaves { (p : ℕ) → IsTrue (cell_has self.now p) ↔ IsBetween (first_leaf self.now) p (last_leaf self.now) }
+        ensures leaves { (p : ℕ) → IsTrue (cell_has self.now p)
+            ↔ IsInRange (first_leaf self.now) (last_leaf self.now) p }
         ensures below { result < 6 * 2 ^ 60 }
     {
         self.first_leaf_id() / 2
     }
 
-    /// The position, among all leaves, of the cell's last leaf (S2's `range_max`).
+    /// The position of the cell's last leaf, counted as for `first`. Its id is S2's `range_max`.
     pub fn last(&self) -> u64
         ensures value { result ≡ last_leaf self.now }
         ensures leaf { leaf_id_at result ≡ last_leaf_id self.now }
-        ensures leaves { (p : ℕ) → IsTrue (cell_has self.now p) ↔ IsBetween (first_leaf self.now) p (last_leaf self.now) }
+        ensures leaves { (p : ℕ) → IsTrue (cell_has self.now p)
+            ↔ IsInRange (first_leaf self.now) (last_leaf self.now) p }
         ensures order { first_leaf self.now ≤ result }
         ensures below { result < 6 * 2 ^ 60 }
     {
@@ -91,15 +97,18 @@ impl CellId {
 
     /// Whether each leaf of the other cell is a leaf of this one.
     pub fn contains(&self, other: &CellId) -> bool
-        ensures range { IsTrue result ↔ IsBetween (first_leaf_id self.now) other.now (last_leaf_id self.now) }
-        ensures leaves { IsTrue result ↔ ((p : ℕ) → IsTrue (cell_has other.now p) → IsTrue (cell_has self.now p)) }
+        ensures range { IsTrue result
+            ↔ IsInRange (first_leaf_id self.now) (last_leaf_id self.now) other.now }
+        ensures leaves { IsTrue result
+            ↔ ((p : ℕ) → IsTrue (cell_has other.now p) → IsTrue (cell_has self.now p)) }
     {
         self.has_id(other.id)
     }
 
     /// Whether some leaf belongs to both cells.
     pub fn intersects(&self, other: &CellId) -> bool
-        ensures { IsTrue result ↔ ((p : ℕ) × (IsTrue (cell_has self.now p) × IsTrue (cell_has other.now p))) }
+        ensures { IsTrue result
+            ↔ ((p : ℕ) × (IsTrue (cell_has self.now p) × IsTrue (cell_has other.now p))) }
     {
         self.first_leaf_id() <= other.last_leaf_id() && other.first_leaf_id() <= self.last_leaf_id()
     }
@@ -126,10 +135,83 @@ impl CellId {
         self.id + (self.lowest_bit() - 1)
     }
 
+    // Whether an id lies in the closed range of the cell's leaf ids.
     fn has_id(&self, id: u64) -> bool
-        ensures range { IsTrue result ↔ IsBetween (first_leaf_id self.now) id (last_leaf_id self.now) }
+        ensures range { IsTrue result
+            ↔ IsInRange (first_leaf_id self.now) (last_leaf_id self.now) id }
         ensures valid { IsCellId self.now }
     {
         self.first_leaf_id() <= id && id <= self.last_leaf_id()
+    }
+}
+
+#[cfg(test)]
+mod tests {
+    use super::*;
+    use std::test::Fail;
+
+    fn cell(id: u64) -> Result<CellId, Fail> {
+        Ok(CellId::from_raw(id).ok_or("no cell")?)
+    }
+
+    #[test]
+    fn reads_a_face(rt: HostRuntime) -> Result<(), Fail> {
+        let face = CellId::from_token(b"B")?;
+        assert_eq!(rt; face.face(), 5);
+        assert_eq!(rt; face.level(), 0);
+        assert_eq!(rt; 2 * face.first() + 1, 0xa000_0000_0000_0001);
+        assert_eq!(rt; 2 * face.last() + 1, 0xbfff_ffff_ffff_ffff);
+        assert_eq!(rt; face.token().as_str(), "b");
+        Ok(())
+    }
+
+    #[test]
+    fn prints_tokens(rt: HostRuntime) -> Result<(), Fail> {
+        let whole = CellId::from_token(b"1000000000000000")?;
+        let first_leaf = cell(1)?;
+        let text = format!(in rt.alloc();
+            "{whole} {} {first_leaf}",
+            cell(0x0400_0000_0000_0000)?.token()
+        )?;
+        assert_eq!(rt; text.as_str(), "1 04 0000000000000001");
+        Ok(())
+    }
+
+    #[test]
+    fn refuses_other_texts(rt: HostRuntime) {
+        assert_eq!(rt; CellId::from_token(b""), Err(TokenFault::Empty));
+        assert_eq!(rt;
+            CellId::from_token(b"00000000000000001"),
+            Err(TokenFault::TooLong)
+        );
+        assert_eq!(rt; CellId::from_token(b"X"), Err(TokenFault::NotHex));
+        assert_eq!(rt; CellId::from_token(b"2"), Err(TokenFault::NotACell));
+        assert_eq!(rt; CellId::from_token(b"d"), Err(TokenFault::NotACell));
+        assert_eq!(rt; CellId::from_token(b"0"), Err(TokenFault::NotACell));
+    }
+
+    #[test]
+    fn knows_the_faces(rt: HostRuntime) -> Result<(), Fail> {
+        let tokens = [b"1", b"3", b"5", b"7", b"9", b"b"];
+        for (face, token) in tokens.iter().enumerate() {
+            let cell = CellId::from_token(*token)?;
+            assert_eq!(rt; usize::from(cell.face()), face);
+            assert_eq!(rt; cell.level(), 0);
+        }
+        Ok(())
+    }
+
+    #[test]
+    fn compares_cells(rt: HostRuntime) -> Result<(), Fail> {
+        let face = CellId::from_token(b"1")?;
+        let quarter = CellId::from_token(b"04")?;
+        let leaf = CellId::from_token(b"1fffffffffffffff")?;
+        assert_eq!(rt; (quarter.face(), quarter.level()), (0, 1));
+        assert_eq!(rt; leaf.level(), 30);
+        assert_eq!(rt; CellId::from_token(b"1555555555555555")?.level(), 30);
+        assert!(rt; face.contains(&quarter) && face.contains(&leaf));
+        assert!(rt; quarter.intersects(&face) && !quarter.contains(&face));
+        assert!(rt; !quarter.intersects(&leaf) && quarter < leaf);
+        Ok(())
     }
 }

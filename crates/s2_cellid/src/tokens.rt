@@ -6,14 +6,13 @@ ghost use Rattle.std.specs.List.{suffix_len};
 ghost use Rattle.std.specs.Option.{SomeIff};
 ghost use Rattle.s2_cellid.specs.Cell.{IsCellId};
 ghost use Rattle.s2_cellid.specs.Digits.{is_hex};
-ghost use Rattle.s2_cellid.specs.Token.{filled_value, IsSpelling, IsPrinted, hex_digits, is_zero, token_text, read_token};
-
-use std::char;
-use std::fmt;
-use std::marker::Model;
-use std::str;
+ghost use Rattle.s2_cellid.specs.Token.{filled_value, IsSpelling, IsPrinted, read_token};
+ghost use Rattle.s2_cellid.specs.Token.{hex_digits, is_zero, token_text};
 
 use crate::CellId;
+use std::error::Error;
+use std::marker::Model;
+use std::{char, fmt, str};
 
 /// The greatest number of digits in a token.
 const DIGITS: usize = 16;
@@ -30,6 +29,23 @@ pub enum TokenFault {
     /// The digits, filled up with zeros, are no valid id.
     NotACell,
 }
+
+impl fmt::Display for TokenFault {
+    ghost use Rattle.s2_cellid.specs.Token.{fault_text};
+
+    ghost output = { λ fault. Some (fault_text fault) };
+
+    fn fmt<W: fmt::Write>(&self, f: &mut fmt::Formatter<W>) -> fmt::Result {
+        f.pad(match self {
+            TokenFault::Empty => "the token is empty",
+            TokenFault::TooLong => "the token has more than 16 digits",
+            TokenFault::NotHex => "the token has a byte that is no hex digit",
+            TokenFault::NotACell => "the token is not that of a valid cell",
+        })
+    }
+}
+
+impl Error for TokenFault {}
 
 /// The printed token of a cell: 1 to 16 lower-case hex digits, kept in place.
 #[derive(Clone, Copy, Debug, PartialEq, Eq)]
@@ -62,7 +78,7 @@ impl Token {
     pub fn as_str(&self) -> &str
         ensures { result.now ≡ self.now }
     {
-        str::from_utf8(&self.digits[..self.printed]).unwrap_or("")
+        str::from_utf8(&self.digits[..self.printed]).unwrap()
     }
 }
 
@@ -144,12 +160,11 @@ fn hex_digit(value: u64) -> u8
 fn stripped_length(digits: &[u8]) -> usize
     ensures { result ≡ length digits.now - suffix_len is_zero digits.now }
 {
-    let zeros = digits
-        .iter()
-        .rev()
-        .take_while(|digit| **digit == b'0')
-        .count();
-    digits.len() - zeros
+    let mut length = digits.len();
+    while length > 0 && digits[length - 1] == b'0' {
+        length -= 1;
+    }
+    length
 }
 
 // The number that the hex digits write, filled up with zeros on the right to 16 digits.

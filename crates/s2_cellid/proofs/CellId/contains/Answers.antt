@@ -4,5 +4,7 @@ use Rattle.s2_cellid.proofs.CellId.contains.Goals as goal
 pub returns-clause-leaves : goal.returns-clause-leaves
 returns-clause-leaves c =
     let range = rw c.other.view_is at c.has_id.ensures.range in
-    let leaves = range_by_leaves c.args.self.now c.args.other.now c.has_id.ensures.valid (rw c.other.view_is at c.other.invariant) in
-      (λ holds. leaves.0 (range.0 holds), λ all. range.1 (leaves.1 all))
+    let leaves =
+    range_by_leaves c.args.self.now c.args.other.now c.has_id.ensures.valid
+    (rw c.other.view_is at c.other.invariant) in
+    (λ holds. leaves.0 (range.0 holds), λ all. range.1 (leaves.1 all))

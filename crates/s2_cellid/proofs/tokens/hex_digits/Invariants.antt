@@ -4,4 +4,5 @@ use Rattle.s2_cellid.proofs.tokens.hex_digits.Given as goal
 
 -- the digits so far are in their places
 abbrev pub invariant-loop-place : goal.invariant-loop-place
-invariant-loop-place l = (k : ℕ) → k < l.place → get_or l.digit-items k 0 ≡ get_or (hex_digits 16 l.id) k 0
+invariant-loop-place l =
+    (k : ℕ) → k < l.place → get_or l.digit-items k 0 ≡ get_or (hex_digits 16 l.id) k 0
