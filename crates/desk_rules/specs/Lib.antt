@@ -15,3 +15,4 @@ pub mod Outcome
 pub mod Search
 pub mod Conflict
 pub mod Bridge
+pub mod LevelLaws

@@ -1,6 +1,7 @@
 use Rattle.std.proofs.Common.{sym, ◌∙◌, ap}
 use Rattle.desk_rules.specs.Level.{greater}
-use Rattle.desk_rules.proofs.LevelLemmas.{top_held_none, top_step, level_where, greater_none}
+use Rattle.desk_rules.specs.LevelLaws.{level_where, greater_none}
+use Rattle.desk_rules.proofs.LevelLemmas.{top_held_none, top_step}
 use Rattle.desk_rules.proofs.meeting.top_at.Goals as goal
 use Rattle.desk_rules.proofs.meeting.top_at.Goals.{then-has, else-has}
 
