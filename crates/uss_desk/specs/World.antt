@@ -1,0 +1,79 @@
+-- Worlds: what a desk knows of its operators and of their plans. What one operator owns, and what others hold.
+use Rattle.std.specs.Prelude.{◌≡◌, ℕ, List, Bool, not, ◌&&◌, Option, Some, None, map, length, ◌≤◌}
+use Rattle.std.specs.Option.{option_map}
+use Rattle.std.specs.List.{filter, find}
+use Rattle.std.specs.declared.cmp.Ordering.{Ordering}
+use Rattle.std.specs.Ordering.{is_eq, is_lt, is_gt, nat_cmp, match_ordering}
+use Rattle.std.specs.Cmp.Lexicographic.{slice_cmp}
+use Rattle.desk_rules.specs.declared.plan.PlanRow.{PlanRow}
+use Rattle.desk_rules.specs.Point.{Point}
+use Rattle.desk_rules.specs.Level.{greater}
+use Rattle.desk_rules.specs.Plan.{row_holds, top_priority}
+
+-- a plan, with its operator's name
+pub record Filed : Type 0 where
+  pub operator : List ℕ
+  pub row : PlanRow
+
+-- an operator's name, and its ceiling
+pub record Listed : Type 0 where
+  pub name : List ℕ
+  pub ceiling : ℕ
+
+-- the operators, ascending by name; the plans, ascending by operator and id
+pub record World : Type 0 where
+  pub operators : List Listed
+  pub plans : List Filed
+
+-- names, and ids, byte by byte
+abbrev pub text_cmp : List ℕ → List ℕ → Ordering
+text_cmp = slice_cmp nat_cmp
+
+abbrev pub is_by : List ℕ → Filed → Bool
+is_by operator p = is_eq (text_cmp operator p.operator)
+
+abbrev pub has_id : List ℕ → PlanRow → Bool
+has_id id row = is_eq (text_cmp id row.id)
+
+-- the operator's ceiling, or none where it is not listed
+unfoldable pub ceiling_of : List ℕ → World → Option ℕ
+ceiling_of operator w = option_map (λ l. l.ceiling) (find (λ l. is_eq (text_cmp operator l.name)) w.operators)
+
+-- the rows of an operator in a list of plans
+abbrev pub rows_by : List ℕ → List Filed → List PlanRow
+rows_by operator ps = map (λ p. p.row) (filter (is_by operator) ps)
+
+-- the operator's plans
+abbrev pub plans_of : List ℕ → World → List PlanRow
+plans_of operator w = rows_by operator w.plans
+
+-- the others' plans
+unfoldable pub others_of : List ℕ → World → List PlanRow
+others_of operator w = map (λ p. p.row) (filter (λ p. not (is_by operator p)) w.plans)
+
+-- what an operator has of a world
+pub record Own : Type 0 where
+  pub ceiling : Option ℕ
+  pub plans : List PlanRow
+
+unfoldable pub own : World → List ℕ → Own
+own w operator = record { ceiling = ceiling_of operator w; plans = plans_of operator w }
+
+-- the greatest priority that others hold at a point
+unfoldable pub held : World → List ℕ → Point → Option ℕ
+held w operator x = top_priority (others_of operator w) x
+
+-- the stored plan of an id
+unfoldable pub stored_of : List ℕ → List PlanRow → Option PlanRow
+stored_of id rows = find (has_id id) rows
+
+-- the greatest priority held at a point by plans other than the operator's own of the id: the others', and its own
+unfoldable pub held_at : List PlanRow → (Point → Option ℕ) → List ℕ → Point → Option ℕ
+held_at rows others id x = greater (others x) (top_priority (filter (λ r. not (has_id id r)) rows) x)
+
+-- no operator has more than 200 plans
+abbrev pub max_rows : ℕ
+max_rows = 200
+
+abbrev pub IsWorld : World → Type 0
+IsWorld w = (operator : List ℕ) → length (plans_of operator w) ≤ max_rows

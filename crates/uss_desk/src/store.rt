@@ -1,0 +1,91 @@
+//! Stores of plans.
+
+ghost use Rattle.std.specs.Prelude.{◌≡◌, ℕ, length, IfOk, OnOk, OnErr};
+ghost use Rattle.desk_rules.specs.Point.{Point};
+ghost use Rattle.desk_rules.specs.Slab.{top_held};
+ghost use Rattle.desk_rules.specs.Conflict.{at_least};
+ghost use Rattle.uss_desk.specs.World.{World, ceiling_of, plans_of, stored_of, held, held_at};
+
+use desk_rules::operator::Operator;
+use desk_rules::plan::PlanRow;
+use desk_rules::plan_id::PlanId;
+use desk_rules::slab::Held;
+use std::alloc::{AllocError, AllocFailed};
+
+pub mod list;
+
+/// Why a store did not do what it was asked. Its content is what it was.
+#[derive(Clone, Copy, Debug, PartialEq, Eq)]
+pub enum StoreFault {
+    /// A growth was refused.
+    OutOfMemory,
+}
+
+impl From<AllocError> for StoreFault {
+    ghost use Rattle.std.specs.Prelude.{◌≡◌};
+    ghost use Rattle.uss_desk.specs.declared.store.StoreFault.TheVariants.{OutOfMemory};
+
+    ghost from_gives = { λ _ e. e ≡ OutOfMemory };
+
+    fn from(_e: AllocError) -> StoreFault {
+        StoreFault::OutOfMemory
+    }
+}
+
+impl<T: Drop> From<AllocFailed<T>> for StoreFault {
+    ghost use Rattle.std.specs.Prelude.{◌≡◌};
+    ghost use Rattle.uss_desk.specs.declared.store.StoreFault.TheVariants.{OutOfMemory};
+
+    ghost from_gives = { λ _ e. e ≡ OutOfMemory };
+
+    fn from(_e: AllocFailed<T>) -> StoreFault {
+        StoreFault::OutOfMemory
+    }
+}
+
+/// A change of a store's content.
+#[derive(Debug, Drop)]
+pub enum Change {
+    /// The operator is listed under this ceiling; its plans stay.
+    Enrol { operator: Operator, ceiling: u32 },
+    /// The row is stored for its id, in place of the one stored before.
+    Put { operator: Operator, row: PlanRow },
+}
+
+/// Where a desk keeps its operators and plans. A fault leaves the content as it was.
+pub trait PlanStore {
+    ghost use Rattle.uss_desk.specs.StoreChange.{changed_by, IsFitting};
+
+    /// The operators and plans that the store holds.
+    ghost content: { Self → World };
+
+    /// The operator's ceiling, or none where it is not enrolled.
+    fn ceiling(&mut self, operator: &Operator) -> Result<Option<u32>, StoreFault>
+        ensures value { IfOk result (λ ceiling. ceiling ≡ ceiling_of operator.now (content self.old)) }
+        ensures same { content self.new ≡ content self.old };
+
+    /// The operator's plan of the id.
+    fn plan(&mut self, operator: &Operator, id: &PlanId) -> Result<Option<PlanRow>, StoreFault>
+        ensures value { IfOk result (λ row.
+            row ≡ stored_of id.now (plans_of operator.now (content self.old))) }
+        ensures same { content self.new ≡ content self.old };
+
+    /// How many plans the operator has, closed ones too.
+    fn own_count(&mut self, operator: &Operator) -> Result<u32, StoreFault>
+        ensures value { IfOk result (λ count. count ≡ length (plans_of operator.now (content self.old))) }
+        ensures same { content self.new ≡ content self.old };
+
+    /// Slabs held by all live plans but the operator's own of the id: at each point the greatest
+    /// priority among the slabs is the greatest that these plans hold there, where that is at least
+    /// `least`, and there is none otherwise.
+    fn rivals(&mut self, operator: &Operator, id: &PlanId, least: u32) -> Result<Vec<Held>, StoreFault>
+        ensures value { IfOk result (λ helds. (x : Point) → top_held helds.items x
+            ≡ at_least least (held_at (plans_of operator.now (content self.old)) (held (content self.old) operator.now) id.now x)) }
+        ensures same { content self.new ≡ content self.old };
+
+    /// Makes the change, whole.
+    fn apply(&mut self, change: Change) -> Result<(), StoreFault>
+        requires { IsFitting change (content self.old) }
+        ensures ok { OnOk result (content self.new ≡ changed_by change (content self.old)) }
+        ensures err { OnErr result (content self.new ≡ content self.old) };
+}

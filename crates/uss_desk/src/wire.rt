@@ -1,0 +1,18 @@
+//! The wire: requests and answers as bytes.
+
+pub mod address;
+pub mod answer;
+pub mod desk;
+
+pub mod fault;
+pub mod fields;
+pub mod framing;
+pub mod head;
+pub mod json_in;
+pub mod json_out;
+pub mod message;
+pub mod put_in;
+pub mod request;
+pub mod routes;
+pub mod times;
+pub mod volume_in;
