@@ -148,7 +148,7 @@ power_share low high within =
     let whole : high ≡ high - low + low = omega arith in ap (λ n. 2 ^ n) whole
     ∙ pow-add 2 (high - low) low
 
-power_double : (low high : ℕ) → low < high → 2 ^ high ≡ 2 ^ (high - low - 1) * (2 * 2 ^ low)
+pub power_double : (low high : ℕ) → low < high → 2 ^ high ≡ 2 ^ (high - low - 1) * (2 * 2 ^ low)
 power_double low high within =
     let whole : high ≡ (high - low - 1) + (low + 1) = omega arith in
     let twice : 2 ^ (low + 1) ≡ 2 * 2 ^ low = pow-add 2 low 1 ∙ omega arith in

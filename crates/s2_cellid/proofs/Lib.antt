@@ -1,3 +1,4 @@
 pub mod Blocks
 pub mod Spellings
 pub mod Readings
+pub mod CellSquares

@@ -1,3 +1,4 @@
 pub mod Cell
+pub mod Family
 pub mod Digits
 pub mod Token

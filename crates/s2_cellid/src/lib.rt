@@ -5,10 +5,13 @@
 ghost use Rattle.std.specs.Prelude.{◌≡◌, ◌↔◌, ◌≤◌, ◌<◌, ◌*◌, ◌^◌, ℕ, IsTrue};
 ghost use Rattle.std.specs.Int.{IsInRange};
 ghost use Rattle.std.specs.Option.{SomeIff};
+ghost use Rattle.s2_hilbert.specs.Grid.{GridLeaf, IsLeaf, ShareSquare};
 ghost use Rattle.s2_cellid.specs.Cell.{IsCellId, face_of, level_of, lowest_bit};
 ghost use Rattle.s2_cellid.specs.Cell.{first_leaf_id, last_leaf_id, leaf_id_at};
 ghost use Rattle.s2_cellid.specs.Cell.{first_leaf, last_leaf, cell_has};
+ghost use Rattle.s2_cellid.specs.Family.{cell_has_leaf};
 
+mod family;
 mod tokens;
 
 use std::marker::Model;
@@ -58,6 +61,8 @@ impl CellId {
     pub fn face(&self) -> u8
         ensures value { result ≡ face_of self.now }
         ensures below { result < 6 }
+        ensures leaves { (leaf : GridLeaf) → IsLeaf leaf →
+            IsTrue (cell_has_leaf self.now leaf) → leaf.face ≡ result }
     {
         (self.id >> 61) as u8
     }
@@ -66,6 +71,11 @@ impl CellId {
     pub fn level(&self) -> u8
         ensures value { result ≡ level_of self.now }
         ensures at_most { result ≤ 30 }
+
+        // The leaves are exactly the square of this level round any of them.
+        ensures leaves { (inner leaf : GridLeaf) → IsLeaf inner → IsLeaf leaf →
+            IsTrue (cell_has_leaf self.now inner) →
+            IsTrue (cell_has_leaf self.now leaf) ↔ ShareSquare result inner leaf }
     {
         (30 - self.id.trailing_zeros() / 2) as u8
     }
@@ -76,7 +86,7 @@ impl CellId {
     pub fn first(&self) -> u64
         ensures value { result ≡ first_leaf self.now }
         ensures leaf { leaf_id_at result ≡ first_leaf_id self.now }
-        ensures leaves { (p : ℕ) → IsTrue (cell_has self.now p)
+        ensures positions { (p : ℕ) → IsTrue (cell_has self.now p)
             ↔ IsInRange (first_leaf self.now) (last_leaf self.now) p }
         ensures below { result < 6 * 2 ^ 60 }
     {
@@ -87,7 +97,7 @@ impl CellId {
     pub fn last(&self) -> u64
         ensures value { result ≡ last_leaf self.now }
         ensures leaf { leaf_id_at result ≡ last_leaf_id self.now }
-        ensures leaves { (p : ℕ) → IsTrue (cell_has self.now p)
+        ensures positions { (p : ℕ) → IsTrue (cell_has self.now p)
             ↔ IsInRange (first_leaf self.now) (last_leaf self.now) p }
         ensures order { first_leaf self.now ≤ result }
         ensures below { result < 6 * 2 ^ 60 }
@@ -99,16 +109,20 @@ impl CellId {
     pub fn contains(&self, other: &CellId) -> bool
         ensures range { IsTrue result
             ↔ IsInRange (first_leaf_id self.now) (last_leaf_id self.now) other.now }
-        ensures leaves { IsTrue result
+        ensures positions { IsTrue result
             ↔ ((p : ℕ) → IsTrue (cell_has other.now p) → IsTrue (cell_has self.now p)) }
+        ensures leaves { IsTrue result ↔ ((leaf : GridLeaf) → IsLeaf leaf →
+            IsTrue (cell_has_leaf other.now leaf) → IsTrue (cell_has_leaf self.now leaf)) }
     {
         self.has_id(other.id)
     }
 
     /// Whether some leaf belongs to both cells.
     pub fn intersects(&self, other: &CellId) -> bool
-        ensures { IsTrue result
+        ensures positions { IsTrue result
             ↔ ((p : ℕ) × (IsTrue (cell_has self.now p) × IsTrue (cell_has other.now p))) }
+        ensures leaves { IsTrue result ↔ ((leaf : GridLeaf) × (IsLeaf leaf
+            × IsTrue (cell_has_leaf self.now leaf) × IsTrue (cell_has_leaf other.now leaf))) }
     {
         self.first_leaf_id() <= other.last_leaf_id() && other.first_leaf_id() <= self.last_leaf_id()
     }

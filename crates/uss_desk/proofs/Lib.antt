@@ -16,3 +16,4 @@ pub mod EachLemmas
 pub mod AreaLemmas
 pub mod LeafLemmas
 pub mod BytesLemmas
+pub mod MomentLemmas

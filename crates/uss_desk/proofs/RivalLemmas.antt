@@ -49,6 +49,7 @@ unfolding rivals_top rival_level
 rivals_top-cons o id p ps x = by_test (not (is_own o id p)) where
   others : List PlanRow
   others = map (λ q. q.row) (filter (λ q. not (is_own o id q)) ps)
+
   by_test : (b : Bool) → top_priority (map (λ q. q.row) (cond b (p ∷ filter (λ q. not (is_own o id q)) ps) (filter (λ q. not (is_own o id q)) ps))) x ≡ greater (level_where (b && row_holds p.row x) p.row.priority) (top_priority others x)
   by_test true = top_priority-cons p.row others x
   by_test false = refl
@@ -72,11 +73,14 @@ split o id x [] = rivals_top-nil o id x ∙ sym (ap (λ a. greater a (top_priori
 split o id x (p ∷ ps) = rivals_top-cons o id p ps x ∙ ap (greater (rival_level o id p x)) (split o id x ps) ∙ by_operator (is_by o p) where
   mine : List PlanRow
   mine = rows_by o ps
+
   theirs : List PlanRow
   theirs = map (λ q. q.row) (filter (λ q. not (is_by o q)) ps)
+
   by_id : (c : Bool) → greater (level_where (not c && row_holds p.row x) p.row.priority) (greater (top_priority theirs x) (top_priority (filter (λ r. not (has_id id r)) mine) x)) ≡ greater (top_priority theirs x) (top_priority (cond (not c) (p.row ∷ filter (λ r. not (has_id id r)) mine) (filter (λ r. not (has_id id r)) mine)) x)
   by_id true = refl
   by_id false = swap_greater (level_where (row_holds p.row x) p.row.priority) (top_priority theirs x) _ ∙ ap (greater (top_priority theirs x)) (sym (top_priority-cons p.row (filter (λ r. not (has_id id r)) mine) x))
+
   by_operator : (b : Bool) → greater (level_where (not (b && has_id id p.row) && row_holds p.row x) p.row.priority) (greater (top_priority theirs x) (top_priority (filter (λ r. not (has_id id r)) mine) x)) ≡ greater (top_priority (map (λ q. q.row) (cond (not b) (p ∷ filter (λ q. not (is_by o q)) ps) (filter (λ q. not (is_by o q)) ps))) x) (top_priority (filter (λ r. not (has_id id r)) (map (λ q. q.row) (cond b (p ∷ filter (is_by o) ps) (filter (is_by o) ps)))) x)
   by_operator true = by_id (has_id id p.row)
   by_operator false = sym (greater_assoc (level_where (row_holds p.row x) p.row.priority) (top_priority theirs x) _) ∙ ap (λ a. greater a (top_priority (filter (λ r. not (has_id id r)) mine) x)) (sym (top_priority-cons p.row theirs x))
@@ -112,6 +116,7 @@ low_adds_none n o id p x level e = sym (ap (greater level) (by_tests (not (is_ow
   too_low : nat_le n p.row.priority ≡ false → (a : Bool) → at_least n (level_where a p.row.priority) ≡ None
   too_low f true = ap (λ b. cond b (Some p.row.priority) None) f
   too_low f false = refl
+
   by_tests : (b l a : Bool) → (l && nat_le n p.row.priority) ≡ false → at_least n (level_where (b && (l && a)) p.row.priority) ≡ None
   by_tests false l a f = refl
   by_tests true false a f = refl
@@ -132,8 +137,8 @@ slab_adds helds slabs i s priority x before h is so_far =
     top_held-push helds (record { slab = s; priority = priority }) x ∙ ap (λ l. greater l (level_where (slab_has s x) priority)) so_far
     ∙ greater_assoc before (level_where (slabs_have (take i slabs) x) priority) (level_where (slab_has s x) priority)
     ∙ ap (greater before) (either (slabs_have (take i slabs) x) (slab_has s x)
-      ∙ ap (λ b. level_where b priority) (sym (list_any_more (λ t. slab_has t x) slabs i s h ∙ ap (λ t. slabs_have (take i slabs) x || slab_has t x) (sym is)))) where
-  either : (a b : Bool) → greater (level_where a priority) (level_where b priority) ≡ level_where (a || b) priority
-  either true true = ap Some (max_itself priority)
-  either true false = refl
-  either false b = refl
+    ∙ ap (λ b. level_where b priority) (sym (list_any_more (λ t. slab_has t x) slabs i s h ∙ ap (λ t. slabs_have (take i slabs) x || slab_has t x) (sym is)))) where
+      either : (a b : Bool) → greater (level_where a priority) (level_where b priority) ≡ level_where (a || b) priority
+      either true true = ap Some (max_itself priority)
+      either true false = refl
+      either false b = refl

@@ -49,10 +49,10 @@ within_limit asked moment stored own_rows ceiling blocked e =
     let next = step_of stored asked in
     not_noted (is_stored next && (is_none stored && nat_le max_plans own_rows)) note.PlansLimit
     (sixth (note_where (not (is_offered asked.style asked.usage asked.aircraft)) note.Style) (refusal_of next)
-      (note_where (is_check next && has_ended asked.area moment) note.Ended) (note_where (is_check next && is_beyond_horizon asked.area moment) note.Horizon)
-      (note_where (is_stored next && nat_lt ceiling asked.priority) note.Priority)
-      (note_where (is_stored next && (is_none stored && nat_le max_plans own_rows)) note.PlansLimit)
-      (note_where (is_check next && blocked) note.Conflict) e)
+    (note_where (is_check next && has_ended asked.area moment) note.Ended) (note_where (is_check next && is_beyond_horizon asked.area moment) note.Horizon)
+    (note_where (is_stored next && nat_lt ceiling asked.priority) note.Priority)
+    (note_where (is_stored next && (is_none stored && nat_le max_plans own_rows)) note.PlansLimit)
+    (note_where (is_check next && blocked) note.Conflict) e)
 
 saves_stored : (s : Style) (t : Step) → styled_effect s (step_effect t) ≡ effect.Save → is_stored t ≡ true
 saves_stored style.Hypothetical t e = cc
@@ -104,6 +104,7 @@ row_has_room w operator asked moment ceiling spot = by_effect (outcome asked mom
   by_stored : (r : Option PlanRow) → stored_of asked.id (plans_of operator w) ≡ r → HasRoomFor w operator (option_map row_closed r)
   by_stored None f = tt
   by_stored (Some row) f = inl (ap is_some (ap (λ id. stored_of id (plans_of operator w)) (sym (same_id asked.id (plans_of operator w) row f)) ∙ f))
+
   by_effect : (e : Effect) → (outcome asked moment (stored_of asked.id (plans_of operator w)) (length (plans_of operator w)) ceiling spot).effect ≡ e → HasRoomFor w operator (row_after e asked (stored_of asked.id (plans_of operator w)))
   by_effect effect.Nothing f = tt
   by_effect effect.Save f = room_by w operator asked.id (saved_within asked moment (stored_of asked.id (plans_of operator w)) (length (plans_of operator w)) ceiling spot f)

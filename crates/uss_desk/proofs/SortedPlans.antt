@@ -81,8 +81,10 @@ parts o [] s = refl
 parts o (e ∷ es) s = by_order (parts o es s.1) (text_cmp o e.0.0) refl where
   first : Filed
   first = filed_of e
+
   rest : List Filed
   rest = filed_all es
+
   by_order : rest ≡ replaced o (rows_by o rest) rest → (n : Ordering) → text_cmp o e.0.0 ≡ n → first ∷ rest ≡ replaced o (rows_by o (first ∷ rest)) (first ∷ rest)
   by_order ih Less l = let all : AllAfter o (first ∷ rest) = (l, all_after o e.0.0 e.0.1 es l s.0) in sym (replaced_front o (rows_by o (first ∷ rest)) (first ∷ rest) all ∙ ap (λ rows. map (filed_by o) rows ++ (first ∷ rest)) (rows_none o (first ∷ rest) all))
   by_order ih Equal l =
@@ -98,10 +100,13 @@ inserted o i v [] s = refl
 inserted o i v (e ∷ es) s = by_order (inserted o i v es s.1) (text_cmp o e.0.0) refl where
   first : Filed
   first = filed_of e
+
   rest : List Filed
   rest = filed_all es
+
   new : PlanRow
   new = row_of i v
+
   by_id : NoneBefore o rest → first ≡ filed_by o first.row → rest ≡ map (filed_by o) (rows_by o rest) ++ filter (is_after o) rest → filed_all (insert_entry key_cmp es (o, i) v) ≡ map (filed_by o) (put_row new (rows_by o rest)) ++ filter (is_after o) rest → (n : Ordering) → text_cmp i e.0.1 ≡ n → filed_all (match_ordering n (((o, i), v) ∷ e ∷ es) ((e.0, v) ∷ es) (e ∷ insert_entry key_cmp es (o, i) v)) ≡ map (filed_by o) (match_ordering n (new ∷ first.row ∷ rows_by o rest) (new ∷ rows_by o rest) (first.row ∷ put_row new (rows_by o rest))) ++ filter (is_after o) rest
   by_id none same tail ih Less l = ap (λ qs. filed_by o new ∷ qs) (ap (λ q. q ∷ rest) same ∙ ap (λ qs. filed_by o first.row ∷ qs) tail)
   by_id none same tail ih Equal l =
@@ -110,6 +115,7 @@ inserted o i v (e ∷ es) s = by_order (inserted o i v es s.1) (text_cmp o e.0.0
       let put : filed_of (e.0, v) ≡ filed_by o new = λ k. record { operator = op k; row = row_of (id k) v } in
       ap (λ q. q ∷ rest) put ∙ ap (λ qs. filed_by o new ∷ qs) tail
   by_id none same tail ih Greater l = ap (λ q. q ∷ filed_all (insert_entry key_cmp es (o, i) v)) same ∙ ap (λ qs. filed_by o first.row ∷ qs) ih
+
   by_order : filed_all (insert_entry key_cmp es (o, i) v) ≡ replaced o (put_row new (rows_by o rest)) rest → (n : Ordering) → text_cmp o e.0.0 ≡ n → filed_all (match_ordering (ordering_then n (text_cmp i e.0.1)) (((o, i), v) ∷ e ∷ es) ((e.0, v) ∷ es) (e ∷ insert_entry key_cmp es (o, i) v)) ≡ replaced o (put_row new (rows_by o (first ∷ rest))) (first ∷ rest)
   by_order ih Less l =
       let all : AllAfter o (first ∷ rest) = (l, all_after o e.0.0 e.0.1 es l s.0) in
@@ -122,5 +128,5 @@ inserted o i v (e ∷ es) s = by_order (inserted o i v es s.1) (text_cmp o e.0.0
       let whole = rw b at (parts o es s.1) in
       let more = rw b at ih in
       rw (l, b) (by_id none same whole more (text_cmp i e.0.1) refl
-        ∙ ap (λ c. map (filed_by o) (match_ordering c (new ∷ first.row ∷ rows_by o rest) (new ∷ rows_by o rest) (first.row ∷ put_row new (rows_by o rest))) ++ filter (is_after o) rest) ids)
+      ∙ ap (λ c. map (filed_by o) (match_ordering c (new ∷ first.row ∷ rows_by o rest) (new ∷ rows_by o rest) (first.row ∷ put_row new (rows_by o rest))) ++ filter (is_after o) rest) ids)
   by_order ih Greater l = rw l (ap (λ qs. first ∷ qs) ih)

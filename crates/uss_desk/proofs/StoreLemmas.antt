@@ -40,10 +40,12 @@ plan_found o id [] = refl
 plan_found o id (e ∷ es) = by_operator (text_cmp o e.0.0) (plan_found o id es) where
   rest : List PlanRow
   rest = rows_by o (filed_all es)
+
   by_id : (i : Ordering) → text_cmp id e.0.1 ≡ i → option_map (row_of id) (lookup (is_at (key_cmp (o, id))) es) ≡ find (has_id id) rest → option_map (row_of id) (cond (is_eq i) (Some e.1) (lookup (is_at (key_cmp (o, id))) es)) ≡ cond (is_eq i) (Some (row_of e.0.1 e.1)) (find (has_id id) rest)
   by_id Less l ih = ih
   by_id Equal l ih = λ k. Some (row_of (exact_bytes id e.0.1 l k) e.1)
   by_id Greater l ih = ih
+
   by_operator : (n : Ordering) → option_map (row_of id) (lookup (is_at (key_cmp (o, id))) es) ≡ find (has_id id) rest → option_map (row_of id) (cond (is_eq (ordering_then n (text_cmp id e.0.1))) (Some e.1) (lookup (is_at (key_cmp (o, id))) es)) ≡ find (has_id id) (map (λ p. p.row) (cond (is_eq n) (filed_of e ∷ filter (λ p. is_eq (text_cmp o p.operator)) (filed_all es)) (filter (λ p. is_eq (text_cmp o p.operator)) (filed_all es))))
   by_operator Less ih = ih
   by_operator Equal ih = by_id (text_cmp id e.0.1) refl ih
@@ -55,8 +57,10 @@ operator_inserted o ceiling [] = refl
 operator_inserted o ceiling (e ∷ es) = by_order (text_cmp o e.0) refl (operator_inserted o ceiling es) where
   rest : List Listed
   rest = map listed_of es
+
   new : Listed
   new = record { name = o; ceiling = ceiling }
+
   by_order : (n : Ordering) → text_cmp o e.0 ≡ n → map listed_of (insert_entry text_cmp es o ceiling) ≡ list_operator o ceiling rest → map listed_of (match_ordering n ((o, ceiling) ∷ e ∷ es) ((e.0, ceiling) ∷ es) (e ∷ insert_entry text_cmp es o ceiling)) ≡ match_ordering n (new ∷ listed_of e ∷ rest) (new ∷ rest) (listed_of e ∷ list_operator o ceiling rest)
   by_order Less l ih = refl
   by_order Equal l ih = λ k. record { name = sym (exact_bytes o e.0 l) k; ceiling = ceiling } ∷ rest
@@ -67,8 +71,8 @@ pub enrolled : (old : World) (ops more : List (List ℕ × ℕ)) (plans : List (
 unfolding with_operator
 enrolled old ops more plans o ceiling is e =
     ap (λ es. world_of es plans) e ∙ (λ k. record { operators = operator_inserted o ceiling ops k; plans = filed_all plans }) ∙ ap listed is where
-  listed : World → World
-  listed w = record w { operators = list_operator o ceiling w.operators }
+      listed : World → World
+      listed w = record w { operators = list_operator o ceiling w.operators }
 
 -- storing is putting the row among the operator's
 pub stored : (old : World) (ops : List (List ℕ × ℕ)) (plans more : List (Key × Plan)) (o id : List ℕ) (plan : Plan) → world_of ops plans ≡ old → IsStrictlySortedBy key_cmp (keys_of plans) → more ≡ insert_entry key_cmp plans (o, id) plan → world_of ops more ≡ with_plans old o (put_row (row_of id plan) (plans_of o old))
@@ -76,8 +80,8 @@ unfolding with_plans
 stored old ops plans more o id plan is sorted e =
     ap (world_of ops) e ∙ (λ k. record { operators = map listed_of ops; plans = inserted o id plan plans sorted k })
     ∙ ap put is where
-  put : World → World
-  put w = record w { plans = replaced o (put_row (row_of id plan) (plans_of o w)) w.plans }
+      put : World → World
+      put w = record w { plans = replaced o (put_row (row_of id plan) (plans_of o w)) w.plans }
 
 -- how many plans an operator has by the keys alone
 length_by_keys : (o : List ℕ) (es : List (Key × Plan)) → length (rows_by o (filed_all es)) ≡ length (filter (λ k. is_eq (text_cmp o k.0)) (keys_of es))

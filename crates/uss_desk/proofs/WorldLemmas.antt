@@ -37,6 +37,7 @@ rows_by-filter o keeps [] = cond_nil (keeps o)
 rows_by-filter o keeps (p ∷ ps) = by_test (keeps p.operator) (is_by o p) (rows_by-filter o keeps ps) (λ f. sym (ap keeps (name_of o p f))) refl where
   kept : List Filed
   kept = filter (λ q. keeps q.operator) ps
+
   by_test : (t : Bool) (n : Bool) → rows_by o kept ≡ cond (keeps o) (rows_by o ps) [] → (n ≡ true → t ≡ keeps o) → is_by o p ≡ n → rows_by o (cond t (p ∷ kept) kept) ≡ cond (keeps o) (map (λ q. q.row) (cond n (p ∷ filter (is_by o) ps) (filter (is_by o) ps))) []
   by_test true true ih same e = let k = same refl in rw (e, ← k) (ap (λ rs. p.row ∷ rs) (rw (← k) at ih))
   by_test false true ih same e = let k = same refl in rw (← k) (rw (← k) at ih)
@@ -55,8 +56,8 @@ rows_of_parts o q rows ps =
     rows_by-append o (filter (is_before q) ps) _
     ∙ ap (λ xs. xs ++ rows_by o (map (filed_by q) rows ++ filter (is_after q) ps)) (rows_by-filter o (λ n. is_gt (text_cmp q n)) ps)
     ∙ ap (λ xs. cond (is_gt (text_cmp q o)) (rows_by o ps) [] ++ xs)
-      (rows_by-append o (map (filed_by q) rows) _ ∙ ap (λ xs. xs ++ rows_by o (filter (is_after q) ps)) (rows_by-filed o q rows)
-        ∙ ap (λ xs. cond (is_eq (text_cmp o q)) rows [] ++ xs) (rows_by-filter o (λ n. is_lt (text_cmp q n)) ps))
+    (rows_by-append o (map (filed_by q) rows) _ ∙ ap (λ xs. xs ++ rows_by o (filter (is_after q) ps)) (rows_by-filed o q rows)
+    ∙ ap (λ xs. cond (is_eq (text_cmp o q)) rows [] ++ xs) (rows_by-filter o (λ n. is_lt (text_cmp q n)) ps))
 
 append_none : (xs : List PlanRow) → xs ++ [] ≡ xs
 append_none [] = refl
@@ -94,6 +95,7 @@ pub room_kept : (o : List ℕ) (row : PlanRow) (w : World) → IsWorld w → len
 room_kept o row w h room q = by_name (is_eq (text_cmp q o)) refl where
   same : is_eq (text_cmp q o) ≡ true → o ≡ q
   same e = sym (exact_bytes q o (is_equal (text_cmp q o) e))
+
   by_name : (b : Bool) → is_eq (text_cmp q o) ≡ b → length (plans_of q (with_plans w o (put_row row (plans_of o w)))) ≤ max_rows
   by_name true e = subst (λ n. length (plans_of n (with_plans w o (put_row row (plans_of o w)))) ≤ max_rows) (same e) (rw (own_replaced o (put_row row (plans_of o w)) w) (omega (arith, length-put_row row (plans_of o w))))
   by_name false e = rw (others_kept q o (put_row row (plans_of o w)) w e) (h q)

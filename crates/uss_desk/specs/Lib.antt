@@ -22,3 +22,4 @@ pub mod PlanWords
 pub mod PlanBody
 pub mod Refusals
 pub mod Bytes
+pub mod Moments

@@ -1,7 +1,8 @@
 //! The desk: calls answered over a store.
 
-ghost use Rattle.std.specs.Prelude.{◌≡◌, ◌≢◌, ◌<◌, ◌↔◌, pos, ◌≤ℤ◌, Err, IfOk, IfErr, OnOk, OnErr};
+ghost use Rattle.std.specs.Prelude.{◌≡◌, ◌≢◌, ◌<◌, ◌↔◌, Err, IfOk, IfErr, OnOk, OnErr};
 ghost use Rattle.uss_desk.specs.Calls.{Prepares, HasRoomFor, committed};
+ghost use Rattle.uss_desk.specs.Moments.{IsMoment};
 
 use crate::store::{Change, PlanStore, StoreFault};
 use desk_rules::decide::Verdict;
@@ -118,6 +119,13 @@ impl<S: PlanStore> Desk<S> {
         Desk { store }
     }
 
+    /// The store, with the desk's content.
+    pub fn into_store(self) -> S
+        ensures { S.content result ≡ self }
+    {
+        self.store
+    }
+
     /// Lists the operator under a ceiling of at most 1,000; its plans stay.
     pub fn enrol(&mut self, operator: &Operator, ceiling: u32) -> Result<(), DeskFault>
         ensures ok { OnOk result (self.new ≡ with_operator self.old operator.now ceiling) }
@@ -136,8 +144,13 @@ impl<S: PlanStore> Desk<S> {
     }
 
     /// Gets a reply ready at a moment (a Unix second from 0 to 253,370,764,800), and changes nothing.
-    pub fn prepare(&mut self, alloc: Global, moment: i64, asked: &Asked) -> Result<Pending, DeskFault>
-        requires { (pos 0 ≤ℤ moment) × (moment ≤ℤ pos 253370764800) }
+    pub fn prepare(
+        &mut self,
+        alloc: Global,
+        moment: i64,
+        asked: &Asked,
+    ) -> Result<Pending, DeskFault>
+        requires { IsMoment moment }
         ensures value { Prepares self.old moment asked.now result }
         ensures same { self.new ≡ self.old }
     {
@@ -157,7 +170,7 @@ impl<S: PlanStore> Desk<S> {
 
     /// Answers a call at a moment, and makes its change.
     pub fn call(&mut self, alloc: Global, moment: i64, asked: &Asked) -> Result<Reply, DeskFault>
-        requires { (pos 0 ≤ℤ moment) × (moment ≤ℤ pos 253370764800) }
+        requires { IsMoment moment }
         ensures told { Tells result (answer_to self.old asked.now.operator moment asked.now.call) }
         ensures ok { OnOk result (self.new ≡ step self.old asked.now.operator moment asked.now.call) }
         ensures err { OnErr result (self.new ≡ self.old) }
@@ -174,7 +187,7 @@ fn prepare_over<S: PlanStore>(
     moment: i64,
     asked: &Asked,
 ) -> Result<Pending, DeskFault>
-    requires moment_range { (pos 0 ≤ℤ moment) × (moment ≤ℤ pos 253370764800) }
+    requires moment_range { IsMoment moment }
     ensures value { Prepares (S.content store.old) moment asked.now result }
     ensures same { S.content store.new ≡ S.content store.old }
 {
@@ -200,8 +213,12 @@ fn put_of(call: &Call) -> &PutCall
 }
 
 fn reply_of(verdict: &Verdict) -> PutReply
-    ensures { result ≡ record { result = verdict.now.result; status = verdict.now.status;
-        note = verdict.now.note; meeting = verdict.now.meeting } }
+    ensures { result ≡ record {
+      result = verdict.now.result;
+      status = verdict.now.status;
+      note = verdict.now.note;
+      meeting = verdict.now.meeting;
+    } }
 {
     PutReply {
         result: verdict.result,

@@ -78,7 +78,12 @@ pub trait PlanStore {
     /// Slabs held by all live plans but the operator's own of the id: at each point the greatest
     /// priority among the slabs is the greatest that these plans hold there, where that is at least
     /// `least`, and there is none otherwise.
-    fn rivals(&mut self, operator: &Operator, id: &PlanId, least: u32) -> Result<Vec<Held>, StoreFault>
+    fn rivals(
+        &mut self,
+        operator: &Operator,
+        id: &PlanId,
+        least: u32,
+    ) -> Result<Vec<Held>, StoreFault>
         ensures value { IfOk result (λ helds. (x : Point) → top_held helds.items x
             ≡ at_least least (held_at (plans_of operator.now (content self.old)) (held (content self.old) operator.now) id.now x)) }
         ensures same { content self.new ≡ content self.old };

@@ -1,10 +1,11 @@
 //! Requests to plan, decided over a store.
 
-ghost use Rattle.std.specs.Prelude.{◌≡◌, ◌≤ℤ◌, pos, IfOk};
+ghost use Rattle.std.specs.Prelude.{◌≡◌, IfOk};
 ghost use Rattle.std.specs.Option.{option_copied};
 ghost use Rattle.desk_rules.specs.Conflict.{conflict};
 ghost use Rattle.uss_desk.specs.World.{own, plans_of, stored_of, held, held_at};
 ghost use Rattle.uss_desk.specs.Verdicts.{put_verdict, row_asked, row_closed, row_after};
+ghost use Rattle.uss_desk.specs.Moments.{IsMoment};
 
 use crate::store::{PlanStore, StoreFault};
 use desk_rules::conflict::first_conflict;
@@ -24,7 +25,7 @@ pub fn verdict_on<S: PlanStore>(
     put: &PutCall,
     ceiling: u32,
 ) -> Result<(Verdict, Option<PlanRow>), StoreFault>
-    requires moment_range { (pos 0 ≤ℤ moment) × (moment ≤ℤ pos 253370764800) }
+    requires moment_range { IsMoment moment }
     ensures verdict { IfOk result (λ v. v.0 ≡ put_verdict (own (S.content store.old) operator.now)
         (held (S.content store.old) operator.now) ceiling moment put.now) }
     ensures row { IfOk result (λ v. v.1 ≡ row_after v.0.effect put.now
@@ -57,7 +58,11 @@ fn conflict_of<S: PlanStore>(
 }
 
 // The row that an effect stores.
-fn row_for(effect: Effect, put: &PutCall, stored: Option<PlanRow>) -> Result<Option<PlanRow>, AllocError>
+fn row_for(
+    effect: Effect,
+    put: &PutCall,
+    stored: Option<PlanRow>,
+) -> Result<Option<PlanRow>, AllocError>
     ensures { IfOk result (λ row. row ≡ row_after effect put.now stored) }
 {
     match effect {

@@ -86,7 +86,12 @@ impl PlanStore for ListStore {
         Ok(count_of(&self.plans, operator))
     }
 
-    fn rivals(&mut self, operator: &Operator, id: &PlanId, least: u32) -> Result<Vec<Held>, StoreFault> {
+    fn rivals(
+        &mut self,
+        operator: &Operator,
+        id: &PlanId,
+        least: u32,
+    ) -> Result<Vec<Held>, StoreFault> {
         Ok(rivals_of(self.alloc, &self.plans, operator, id, least)?)
     }
 

@@ -1,10 +1,11 @@
 //! Requests answered at a desk, from bytes to bytes.
 
-ghost use Rattle.std.specs.Prelude.{◌≡◌, pos, ◌≤ℤ◌, IfOk, OnOk, OnErr, Ok};
+ghost use Rattle.std.specs.Prelude.{◌≡◌, IfOk, OnOk, OnErr, Ok};
 ghost use Rattle.uss_desk.specs.Bytes.{IsAnswered, IsDone, text as told_text};
 ghost use Rattle.uss_desk.specs.Calls.{HasRoomFor, committed};
 ghost use Rattle.uss_desk.specs.Requests.{asked};
 ghost use Rattle.uss_desk.specs.Verdicts.{replied};
+ghost use Rattle.uss_desk.specs.Moments.{IsMoment};
 
 use super::answer::{Refusal, out_of_memory_answer, put_answer, refusal_answer};
 use super::fault::ReadError;
@@ -29,7 +30,7 @@ pub fn answer<S: PlanStore>(
     moment: i64,
     text: &[u8],
 ) -> Result<Vec<u8>, AllocError>
-    requires { (pos 0 ≤ℤ moment) × (moment ≤ℤ pos 253370764800) }
+    requires { IsMoment moment }
     ensures bytes { IfOk result (λ bytes. IsAnswered desk.old moment text.now bytes.items desk.new) }
     ensures err { OnErr result (desk.new ≡ desk.old) }
 {
@@ -50,7 +51,7 @@ fn answer_text<S: PlanStore>(
     moment: i64,
     text: &[u8],
 ) -> Result<Vec<u8>, AllocError>
-    requires { (pos 0 ≤ℤ moment) × (moment ≤ℤ pos 253370764800) }
+    requires { IsMoment moment }
     ensures bytes { IfOk result (λ bytes. IsDone desk.old moment (asked text.now) bytes.items desk.new) }
     ensures err { OnErr result (desk.new ≡ desk.old) }
 {
@@ -68,7 +69,7 @@ fn answer_call<S: PlanStore>(
     moment: i64,
     asked: &Asked,
 ) -> Result<Vec<u8>, AllocError>
-    requires { (pos 0 ≤ℤ moment) × (moment ≤ℤ pos 253370764800) }
+    requires { IsMoment moment }
     ensures bytes { IfOk result (λ bytes. IsDone desk.old moment (Ok asked.now) bytes.items desk.new) }
     ensures err { OnErr result (desk.new ≡ desk.old) }
 {

@@ -22,7 +22,7 @@ pub fn head_length(text: &[u8]) -> Option<usize>
 }
 
 /// Whether a head ends where `text` does.
-fn is_ended(text: &[u8]) -> bool
+pub fn is_ended(text: &[u8]) -> bool
     ensures { result ≡ ends_head text.now }
 {
     text.ends_with(b"\n\n") || text.ends_with(b"\n\r\n")

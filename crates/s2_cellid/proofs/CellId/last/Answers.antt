@@ -5,8 +5,8 @@ pub returns-clause-leaf : goal.returns-clause-leaf
 returns-clause-leaf c =
     rw c.last_leaf_id.ensures.value (last_is_leaf c.args.self.now c.last_leaf_id.ensures.valid)
 
-pub returns-clause-leaves : goal.returns-clause-leaves
-returns-clause-leaves c = leaves_between c.args.self.now c.last_leaf_id.ensures.valid
+pub returns-clause-positions : goal.returns-clause-positions
+returns-clause-positions c = leaves_between c.args.self.now c.last_leaf_id.ensures.valid
 
 pub returns-clause-below : goal.returns-clause-below
 returns-clause-below c =

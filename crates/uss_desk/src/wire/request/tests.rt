@@ -1,25 +1,31 @@
 //! Requests written by hand, and what each says.
 
 use super::super::fault::{ReadError, WireFault};
-use super::read_envelope;
+use super::read_request;
+use crate::run::Call;
+use desk_rules::plan_id::PlanId;
 use std::alloc::{AllocError, Global};
 use std::test::Fail;
 
 /// A path of a flight plan.
 const PLAN: &[u8] = b"/flight_plans/11111111-1111-4111-8111-111111111111";
 
-/// The bytes of its id.
-const PLAN_BYTES: [u8; 16] = [
-    0x11, 0x11, 0x11, 0x11, 0x11, 0x11, 0x41, 0x11, 0x81, 0x11, 0x11, 0x11, 0x11, 0x11, 0x11, 0x11,
-];
+/// Its id.
+const ID: &str = "11111111-1111-4111-8111-111111111111";
 
-/// A PUT whose body is `{}`, by the operator `alfa`.
-const SMALL_PUT: &[u8] = b"PUT /flight_plans/11111111-1111-4111-8111-111111111111 HTTP/1.1\r\n\
-host: desk\r\nx-operator: alfa\r\ncontent-length: 2\r\n\r\n{}";
+/// A whole request by the operator `alfa`.
+const FIRST_PUT: &[u8] = b"PUT /flight_plans/11111111-1111-4111-8111-111111111111 HTTP/1.1\r\n\
+host: desk\r\nx-operator: alfa\r\ncontent-length: 371\r\n\r\n\
+{\"execution_style\":\"IfAllowed\",\"flight_plan\":{\"astm_f3548_21\":{\"priority\":10},\
+\"basic_information\":{\"area\":[{\"time_end\":{\"format\":\"RFC3339\",\
+\"value\":\"2026-06-01T13:00:00Z\"},\"time_start\":{\"format\":\"RFC3339\",\
+\"value\":\"2026-06-01T12:00:00Z\"},\"volume\":{\"altitude_lower\":0,\
+\"altitude_upper\":1000,\"cells\":[\"04\"]}}],\"uas_state\":\"Nominal\",\
+\"usage_state\":\"Planned\"}},\"request_id\":\"r1\"}";
 
-/// Why a request can't be read, if it can't.
+/// Why a request can't be read, if it can't. One with an empty body, if nothing else, is no JSON.
 fn fault_of(alloc: Global, text: &[u8]) -> Option<ReadError> {
-    match read_envelope(alloc, text) {
+    match read_request(alloc, text) {
         Ok(_) => None,
         Err(error) => Some(error),
     }
@@ -46,10 +52,12 @@ fn fault_of_put(
 
 #[test]
 fn reads_a_put(rt: HostRuntime) -> Result<(), Fail> {
-    let envelope = read_envelope(rt.alloc(), SMALL_PUT)?;
-    assert_eq!(rt; envelope.address.operator, b"alfa".as_slice());
-    assert_eq!(rt; envelope.address.plan_id.as_slice(), PLAN_BYTES.as_slice());
-    assert_eq!(rt; envelope.body, b"{}".as_slice());
+    let asked = read_request(rt.alloc(), FIRST_PUT)?;
+    assert_eq!(rt; asked.operator.as_bytes(), b"alfa".as_slice());
+    let Call::Put(put) = asked.call;
+    assert_eq!(rt; put.id, PlanId::try_parse(ID).ok_or("an id")?);
+    assert_eq!(rt; put.priority, 10);
+    assert_eq!(rt; put.area.volumes().len(), 1);
     Ok(())
 }
 
@@ -59,8 +67,12 @@ fn reads_other_spellings(rt: HostRuntime) -> Result<(), Fail> {
     let lower_ends =
         b"\nPUT /flight_plans/urn:uuid:11111111-1111-4111-8111-111111111111?a=/b HTTP/1.0\n\
 X-Operator:\t alfa \nContent-LENGTH: 0000000000000000000\n\n";
-    assert_eq!(rt; fault_of(alloc, lower_ends.as_slice()), None);
-    assert_eq!(rt; fault_of_put(alloc, PLAN, b"x-operator: alfa\r\n")?, None);
+    assert_eq!(rt;
+        fault_of(alloc, lower_ends.as_slice()),
+        refused(WireFault::BadJson)
+    );
+    let plain = fault_of_put(alloc, PLAN, b"x-operator: alfa\r\n")?;
+    assert_eq!(rt; plain, refused(WireFault::BadJson));
     Ok(())
 }
 
@@ -85,7 +97,10 @@ fn counts_fields(rt: HostRuntime) -> Result<(), Fail> {
     for _ in 0..63 {
         lines.extend_from_slice(b"a: b\r\n")?;
     }
-    assert_eq!(rt; fault_of_put(alloc, PLAN, &lines)?, None);
+    assert_eq!(rt;
+        fault_of_put(alloc, PLAN, &lines)?,
+        refused(WireFault::BadJson)
+    );
     lines.extend_from_slice(b"a: b\r\n")?;
     assert_eq!(rt;
         fault_of_put(alloc, PLAN, &lines)?,

@@ -16,7 +16,7 @@ returns-in-Ok-clause-bytes g c =
 pub returns-in-Err-UnknownOperator-clause-bytes : goal.returns-in-Err-UnknownOperator-clause-bytes
 returns-in-Err-UnknownOperator-clause-bytes g c =
     let fault : Prepares c.args.desk.now c.args.moment c.args.asked.now (Err c.in-Err-UnknownOperator.field-0) =
-      subst (λ m. Prepares c.args.desk.now m c.args.asked.now (Err c.in-Err-UnknownOperator.field-0)) (to_z-of_z w64 c.args.moment c.ranges.moment) c.in-Err-UnknownOperator.ensures.value in
+    subst (λ m. Prepares c.args.desk.now m c.args.asked.now (Err c.in-Err-UnknownOperator.field-0)) (to_z-of_z w64 c.args.moment c.ranges.moment) c.in-Err-UnknownOperator.ensures.value in
     IfOk-weaker c.refusal_answer.result _ _ (λ v told.
-      done_unknown c.args.desk.now c.prepare.new.self c.args.moment c.args.asked.now v.items
-      (rw c.in-Err-UnknownOperator.field-0-is at fault) told c.prepare.ensures.same) c.refusal_answer.ensures
+    done_unknown c.args.desk.now c.prepare.new.self c.args.moment c.args.asked.now v.items
+    (rw c.in-Err-UnknownOperator.field-0-is at fault) told c.prepare.ensures.same) c.refusal_answer.ensures

@@ -1,0 +1,6 @@
+use Rattle.s2_cellid.proofs.CellSquares.{face_square}
+use Rattle.s2_cellid.proofs.CellId.face.Goals as goal
+
+pub returns-clause-leaves : goal.returns-clause-leaves
+returns-clause-leaves c =
+    rw (← c.self.view_is) (λ leaf is has. face_square c.self.inside.id leaf c.self.invariant is has)

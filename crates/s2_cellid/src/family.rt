@@ -1,0 +1,87 @@
+//! The cells of leaves and squares, and the cells above and below a cell.
+
+ghost use Rattle.std.specs.Prelude.{◌≡◌, ◌↔◌, ◌+◌, ◌-◌, ◌/◌, ◌<◌, ◌≤◌, IsTrue};
+ghost use Rattle.s2_hilbert.specs.Grid.{GridLeaf, IsLeaf, IsWithin, ShareSquare};
+ghost use Rattle.s2_hilbert.specs.Curve.{position_of, leaf_count};
+ghost use Rattle.s2_cellid.specs.Cell.{IsCellId, level_of, first_leaf};
+ghost use Rattle.s2_cellid.specs.Family.{leaf_id, cell_has_leaf, square_id, parent_id, child_id};
+
+#[cfg(test)]
+mod tests;
+
+use crate::CellId;
+use s2_hilbert::{Leaf, Square, position};
+
+impl CellId {
+    /// The cell of one leaf.
+    pub fn of_leaf(leaf: Leaf) -> CellId
+        ensures value { result ≡ leaf_id leaf }
+        ensures valid { IsCellId result }
+        ensures level { level_of result ≡ 30 }
+        ensures leaves { (other : GridLeaf) → IsLeaf other →
+            IsTrue (cell_has_leaf result other) ↔ (other ≡ leaf) }
+    {
+        CellId {
+            id: 2 * position(leaf) + 1,
+        }
+    }
+
+    /// The cell with the leaves of a square.
+    pub fn of_square(square: &Square) -> CellId
+        ensures value { result ≡ square_id square.now }
+        ensures valid { IsCellId result }
+        ensures level { level_of result ≡ square.now.level }
+        ensures leaves { (leaf : GridLeaf) → IsLeaf leaf →
+            IsTrue (cell_has_leaf result leaf) ↔ IsWithin leaf square.now }
+    {
+        CellId {
+            id: 2 * square.first() + lowest_bit_for(square.level),
+        }
+    }
+
+    /// The cell of a level that has the leaves of this one; at its own level, this cell.
+    pub fn parent(&self, level: u8) -> CellId
+        requires { level ≤ level_of self.now }
+        ensures value { result ≡ parent_id level self.now }
+        ensures valid { IsCellId result }
+        ensures level { level_of result ≡ level }
+
+        // Its leaves are exactly the square of the level round any leaf of this cell.
+        ensures leaves { (inner leaf : GridLeaf) → IsLeaf inner → IsLeaf leaf →
+            IsTrue (cell_has_leaf self.now inner) →
+            IsTrue (cell_has_leaf result leaf) ↔ ShareSquare level inner leaf }
+    {
+        let lowest_bit = lowest_bit_for(level);
+        let unit = 2 * lowest_bit;
+        CellId {
+            id: self.id / unit * unit + lowest_bit,
+        }
+    }
+
+    /// The child at a place of the curve, 0 to 3.
+    pub fn child(&self, k: u8) -> CellId
+        requires k { k < 4 }
+        requires level { level_of self.now < 30 }
+        ensures value { result ≡ child_id k self.now }
+        ensures valid { IsCellId result }
+        ensures level { level_of result ≡ level_of self.now + 1 }
+
+        // Its leaves are this cell's whose positions are in the quarter k of its positions.
+        ensures leaves { (leaf : GridLeaf) → IsLeaf leaf → IsTrue (cell_has_leaf result leaf)
+            ↔ (IsTrue (cell_has_leaf self.now leaf)
+            × ((position_of leaf - first_leaf self.now) / leaf_count (level_of result) ≡ k)) }
+    {
+        let lowest_bit = self.lowest_bit();
+        CellId {
+            id: self.id - lowest_bit + (2 * u64::from(k) + 1) * (lowest_bit / 4),
+        }
+    }
+}
+
+// The lowest set bit of the ids of a level (S2's `lsb_for_level`).
+fn lowest_bit_for(level: u8) -> u64
+    requires { level ≤ 30 }
+    ensures { result ≡ leaf_count level }
+{
+    1 << (2 * (30 - level))
+}

@@ -1,0 +1,5 @@
+pub mod TableFacts
+pub mod Places
+pub mod Positions
+pub mod Steps
+pub mod SquareFacts

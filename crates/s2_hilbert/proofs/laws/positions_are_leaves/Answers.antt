@@ -1,0 +1,14 @@
+use Rattle.s2_hilbert.proofs.Positions.{leaf_is, position_undone, position_below, leaf_undone}
+use Rattle.s2_hilbert.proofs.laws.positions_are_leaves.Goals as goal
+
+pub returns-clause-leaf : goal.returns-clause-leaf
+returns-clause-leaf c = leaf_is
+
+pub returns-clause-position : goal.returns-clause-position
+returns-clause-position c = λ position below. position_undone position
+
+pub returns-clause-below : goal.returns-clause-below
+returns-clause-below c = position_below
+
+pub returns-clause-undone : goal.returns-clause-undone
+returns-clause-undone c = leaf_undone

@@ -1,0 +1,84 @@
+-- The Hilbert curve of the S2 geometry library over the leaves of the six faces, one level at a step.
+-- A square is parted into four quadrants. The quadrant `2 * x + y` lies in the half x of the square
+-- along i and in the half y along j, each 0 or 1. An orientation has a swap bit 1 and an invert bit 2.
+-- The table of quadrants stands in src/quadrants.rt: the code reads the same data.
+use Rattle.std.specs.Prelude.{ℕ, zero, suc, ◌+◌, ◌-◌, ◌*◌, ◌/◌, ◌%◌, ◌^◌, ◌==◌, bit_xor, List, [], slice_index, slice_index_or}
+use Rattle.std.specs.List.{position_or_len}
+use Rattle.s2_hilbert.specs.Grid.{GridLeaf, GridSquare}
+use Rattle.s2_hilbert.specs.declared.quadrants.TheConstants.{QUADRANTS, CHANGES}
+
+-- the quadrants in curve order, where the square has the orientation
+abbrev pub quadrants_of : ℕ → List ℕ
+quadrants_of turn = slice_index_or QUADRANTS turn []
+
+-- the quadrant at a place of the curve
+unfoldable pub quadrant_at : ℕ → ℕ → ℕ
+quadrant_at turn place = slice_index (quadrants_of turn) place
+
+-- the place of a quadrant along the curve
+unfoldable pub place_of : ℕ → ℕ → ℕ
+place_of turn quadrant = position_or_len (λ q. q == quadrant) (quadrants_of turn)
+
+-- the orientation of the quadrant at a place
+unfoldable pub turned : ℕ → ℕ → ℕ
+turned turn place = bit_xor turn (slice_index CHANGES place)
+
+-- the quadrant of a point in a square of 2^(n+1) points along a side
+abbrev pub quadrant_of : ℕ → ℕ → ℕ → ℕ
+quadrant_of n i j = 2 * (i / 2 ^ n % 2) + j / 2 ^ n % 2
+
+-- the place of a point along the curve through a square of 2^n points along a side
+unfoldable pub place : ℕ → ℕ → ℕ → ℕ → ℕ
+place zero turn i j = 0
+place (suc n) turn i j =
+    let p = place_of turn (quadrant_of n i j) in
+    p * 4 ^ n + place n (turned turn p) (i % 2 ^ n) (j % 2 ^ n)
+
+-- the orientation of the curve at that point
+unfoldable pub turn_at : ℕ → ℕ → ℕ → ℕ → ℕ
+turn_at zero turn i j = turn
+turn_at (suc n) turn i j =
+    let p = place_of turn (quadrant_of n i j) in
+    turn_at n (turned turn p) (i % 2 ^ n) (j % 2 ^ n)
+
+-- the position of a leaf among all leaves; a face begins with the orientation `face % 2`
+unfoldable pub position_of : GridLeaf → ℕ
+position_of leaf = leaf.face * 2 ^ 60 + place 30 (leaf.face % 2) leaf.i leaf.j
+
+-- the coordinates of the point at a place along the curve
+unfoldable pub i_at : ℕ → ℕ → ℕ → ℕ
+i_at zero turn along = 0
+i_at (suc n) turn along =
+    let p = along / 4 ^ n in
+    quadrant_at turn p / 2 * 2 ^ n + i_at n (turned turn p) (along % 4 ^ n)
+
+unfoldable pub j_at : ℕ → ℕ → ℕ → ℕ
+j_at zero turn along = 0
+j_at (suc n) turn along =
+    let p = along / 4 ^ n in
+    quadrant_at turn p % 2 * 2 ^ n + j_at n (turned turn p) (along % 4 ^ n)
+
+-- the leaf at a position
+unfoldable pub grid_leaf_at : ℕ → GridLeaf
+grid_leaf_at position =
+    let face = position / 2 ^ 60 in
+    let along = position % 2 ^ 60 in
+    record { face = face; i = i_at 30 (face % 2) along; j = j_at 30 (face % 2) along }
+
+-- how many leaves a square of the level has
+abbrev pub leaf_count : ℕ → ℕ
+leaf_count level = 4 ^ (30 - level)
+
+-- the orientation of a square
+unfoldable pub turn_of : GridSquare → ℕ
+turn_of square = turn_at square.level (square.face % 2) square.a square.b
+
+-- the position of a square's first leaf: the squares of a level, too, stand in the order of the curve
+unfoldable pub first_position : GridSquare → ℕ
+first_position square =
+    square.face * 2 ^ 60
+    + place square.level (square.face % 2) square.a square.b * leaf_count square.level
+
+-- the position of a square's last leaf
+abbrev pub last_position : GridSquare → ℕ
+last_position square = first_position square + (leaf_count square.level - 1)

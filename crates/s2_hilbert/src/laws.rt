@@ -1,0 +1,34 @@
+//! Laws of the definitions. Each is the contract of a function that does nothing.
+
+ghost use Rattle.std.specs.Prelude.{◌≡◌, ◌↔◌, ℕ, ◌*◌, ◌/◌, ◌^◌, ◌<◌, ◌≤◌};
+ghost use Rattle.std.specs.Int.{IsInRange};
+ghost use Rattle.s2_hilbert.specs.Grid.{GridLeaf, IsLeaf, GridSquare, IsSquare, IsWithin, ShareSquare};
+ghost use Rattle.s2_hilbert.specs.Curve.{position_of, grid_leaf_at, leaf_count};
+ghost use Rattle.s2_hilbert.specs.Curve.{first_position, last_position};
+
+/// Each position has one leaf, and each leaf one position.
+pub fn positions_are_leaves()
+    ensures leaf { (position : ℕ) → position < 6 * 2 ^ 60 → IsLeaf (grid_leaf_at position) }
+    ensures position { (position : ℕ) → position < 6 * 2 ^ 60
+        → position_of (grid_leaf_at position) ≡ position }
+    ensures below { (leaf : GridLeaf) → IsLeaf leaf → position_of leaf < 6 * 2 ^ 60 }
+    ensures undone { (leaf : GridLeaf) → IsLeaf leaf → grid_leaf_at (position_of leaf) ≡ leaf }
+{}
+
+/// The positions of a square are exactly those of its leaves, which are the leaves that lie in one
+/// square of its level with any of them.
+pub fn squares_are_ranges()
+    ensures range { (leaf : GridLeaf) (square : GridSquare) → IsLeaf leaf → IsSquare square →
+        IsWithin leaf square
+        ↔ IsInRange (first_position square) (last_position square) (position_of leaf) }
+    ensures share { (one other : GridLeaf) (square : GridSquare) → IsWithin one square →
+        IsWithin other square ↔ ShareSquare square.level one other }
+{}
+
+/// Two leaves lie in one square of a level exactly where their positions, divided by the number of
+/// leaves of such a square, agree.
+pub fn squares_are_quotients()
+    ensures { (level : ℕ) (one other : GridLeaf) → level ≤ 30 → IsLeaf one → IsLeaf other →
+        ShareSquare level one other
+        ↔ (position_of one / leaf_count level ≡ position_of other / leaf_count level) }
+{}

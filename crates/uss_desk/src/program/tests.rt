@@ -1,0 +1,73 @@
+//! Lines carried out over streams in memory: the exit status, and what is printed.
+
+ghost use Rattle.uss_desk.specs.Moments.{HasMoment};
+
+use super::with_desk;
+use crate::line::{Line, read_words};
+use crate::run::Desk;
+use crate::store::list::ListStore;
+use std::alloc::Global;
+use std::test::Fail;
+
+/// What a line came to.
+#[derive(Drop)]
+struct Done {
+    status: u8,
+    output: Vec<u8>,
+    errors: Vec<u8>,
+}
+
+/// What `play --at 0 alfa=100` comes to on these bytes.
+fn play(alloc: Global, bytes: &[u8]) -> Result<Done, Fail> {
+    let mut words = Vec::new(alloc);
+    for word in ["uss_desk", "play", "--at", "0", "alfa=100"] {
+        words.push(String::from_str(alloc, word)?)?;
+    }
+    let Ok(line) = read_words(alloc, &words) else {
+        return Err(Fail::from("no line"));
+    };
+    carry_out(alloc, &line, bytes)
+}
+
+fn carry_out(alloc: Global, line: &Line, bytes: &[u8]) -> Result<Done, Fail>
+    requires { HasMoment line.now }
+{
+    let mut desk = Desk::new(ListStore::new(alloc));
+    let mut input = bytes;
+    let mut output = Vec::new(alloc);
+    let mut errors = Vec::new(alloc);
+    let status = with_desk(alloc, line, &mut desk, &mut input, &mut output, &mut errors);
+    Ok(Done {
+        status,
+        output,
+        errors,
+    })
+}
+
+#[test]
+fn plays_to_the_end(rt: HostRuntime) -> Result<(), Fail> {
+    let route = b"GET /status HTTP/1.1\r\n\r\n".as_slice();
+    let done = play(rt.alloc(), route)?;
+    let text = b"HTTP/1.1 404 Not Found\r\ncontent-type: application/json\r\n\
+        content-length: 20\r\nconnection: close\r\n\r\n{\"error\":\"no_route\"}"
+        .as_slice();
+    assert_eq!(rt; done.status, 0);
+    assert_eq!(rt; done.output.as_slice(), text);
+    assert!(rt; done.errors.is_empty());
+    Ok(())
+}
+
+#[test]
+fn says_why_it_ended(rt: HostRuntime) -> Result<(), Fail> {
+    let alloc = rt.alloc();
+    let cut = play(alloc, b"GET /status".as_slice())?;
+    assert_eq!(rt; cut.status, 3);
+    assert_eq!(rt; cut.errors.as_slice(), b"uss_desk: cut_short\n".as_slice());
+    let unframed = play(alloc, b"GET\r\n\r\n".as_slice())?;
+    assert_eq!(rt; unframed.status, 3);
+    assert_eq!(rt;
+        unframed.errors.as_slice(),
+        b"uss_desk: unframed\n".as_slice()
+    );
+    Ok(())
+}
