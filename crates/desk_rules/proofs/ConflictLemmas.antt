@@ -1,5 +1,5 @@
 -- Conflicts: the search meets what a conflict is, and a conflict is unique.
-use Rattle.std.proofs.Common.{◌≡◌, ℕ, ◌+◌, ◌<◌, ℤ, Bool, true, false, ◌&&◌, cond, ◌⊎◌, List, Option, Some, None, refl, sym, ap, ◌∙◌, inl, inr, arith, Less, Equal, Greater}
+use Rattle.std.proofs.Common.{◌≡◌, ℕ, ℤ, Bool, true, false, ◌&&◌, cond, ◌⊎◌, List, Option, Some, None, refl, sym, ap, ◌∙◌, inl, inr, Less, Equal, Greater}
 use Rattle.std.proofs.Math.Path.{fun_ext}
 use Rattle.std.specs.Prelude.{is_some}
 use Rattle.std.specs.Option.{option_map, option_and_then}
@@ -7,21 +7,24 @@ use Rattle.std.specs.declared.cmp.Ordering.{Ordering}
 use Rattle.std.specs.Ordering.{ordering_then, ordering_reverse, nat_cmp, int_cmp}
 use Rattle.std.specs.Cmp.{IsTotalOrder}
 use Rattle.std.proofs.lemmas.Cmp.{nat_cmp_total, int_cmp_total, on_total, then_total}
-use Rattle.s2_cellid.specs.Cell.{leaf_id_at}
-use Rattle.desk_rules.specs.Point.{Point, point_cmp}
+use Rattle.s2_hilbert.specs.Curve.{position_of}
+use Rattle.s2_hilbert.proofs.Positions.{same_leaf}
+use Rattle.s2_cellid.specs.Family.{leaf_id}
+use Rattle.desk_rules.specs.Point.{Point, is_leaf, point_cmp}
 use Rattle.desk_rules.specs.Volume.{Block, area_has}
 use Rattle.desk_rules.specs.Level.{reaches}
 use Rattle.desk_rules.specs.declared.slab.Slab.{Slab}
 use Rattle.desk_rules.specs.declared.slab.Held.{Held}
-use Rattle.desk_rules.specs.Slab.{slabs_have, top_held}
+use Rattle.desk_rules.specs.Slab.{top_held}
 use Rattle.desk_rules.specs.Shared.{is_shared}
 use Rattle.desk_rules.specs.Meeting.{Spot, IsFirst, IsFirstPoint, IsFirstSpot}
 use Rattle.desk_rules.specs.Bridge.{AreSlabsOf, HoldLevels}
-use Rattle.desk_rules.specs.Search.{first_below, first_within, first_pair}
-use Rattle.desk_rules.specs.Conflict.{is_blocked, IsConflict, first_point, point_of, conflict, at_least, leaf_reach, altitude_reach, second_reach}
+use Rattle.desk_rules.specs.Search.{first_pair}
+use Rattle.desk_rules.specs.Conflict.{is_blocked, IsConflict, first_point, point_of, conflict, at_least}
+use Rattle.desk_rules.proofs.LeafTests.{leaf_test, point_by_position}
 use Rattle.desk_rules.proofs.Corners.{both, refuted}
-use Rattle.desk_rules.proofs.SearchLemmas.{IsFound, FindsFirst, InBoth, BeforePair, IsBelow, IsLess, IsWithinInt, IsLessInt, below_finds, within_finds, pair_finds}
-use Rattle.desk_rules.proofs.Reach.{same_leaf, same_int, area_reach, before_pair, leaf_total, altitude_total, second_total}
+use Rattle.desk_rules.proofs.SearchLemmas.{IsFound, InBoth, BeforePair, IsBelow, IsLess, IsWithinInt, IsLessInt, below_finds, within_finds, pair_finds}
+use Rattle.desk_rules.proofs.Reach.{same_position, same_int, area_leaf, area_reach, before_pair, leaf_total, altitude_total, second_total}
 
 -- the search finds the first point of the area that passes, where only the area's points pass
 pub first_point_is : (area : List Block) (passes : Point → Bool) → ((x : Point) → passes x ≡ true → area_has area x ≡ true) → IsFirstPoint passes (first_point area passes)
@@ -29,11 +32,19 @@ unfolding first_point
 first_point_is area passes inside = step (first_pair _ _ (λ p. passes (point_of p))) (pair_finds (IsBelow (leaf_total area)) IsLess (InBoth (IsWithinInt (altitude_total area)) (IsWithinInt (second_total area))) (BeforePair IsLessInt IsLessInt) _ _ (below_finds (leaf_total area)) (pair_finds (IsWithinInt (altitude_total area)) IsLessInt (IsWithinInt (second_total area)) IsLessInt _ _ (within_finds (altitude_total area)) (within_finds (second_total area))) (λ p. passes (point_of p))) where
   Reach : ℕ × (ℤ × ℤ) → Type 0
   Reach = InBoth (IsBelow (leaf_total area)) (InBoth (IsWithinInt (altitude_total area)) (IsWithinInt (second_total area)))
+
   Before : ℕ × (ℤ × ℤ) → ℕ × (ℤ × ℤ) → Type 0
   Before = BeforePair IsLess (BeforePair IsLessInt IsLessInt)
+
+  place_of : Point → ℕ × (ℤ × ℤ)
+  place_of x = (position_of x.leaf, (x.altitude, x.second))
+
+  passes_there : (x : Point) → passes x ≡ true → passes (point_of (place_of x)) ≡ true
+  passes_there x e = ap passes (point_by_position x (area_leaf area x (inside x e))) ∙ e
+
   step : (o : Option (ℕ × (ℤ × ℤ))) → IsFound Reach Before (λ p. passes (point_of p)) o → IsFirstPoint passes (option_map point_of o)
-  step None h = λ x. refuted _ (λ e. let no = h (x.leaf, (x.altitude, x.second)) (area_reach area x (inside x e)) in cc)
-  step (Some p) h = (h.1, λ x l. refuted _ (λ e. let no = h.2 (x.leaf, (x.altitude, x.second)) (area_reach area x (inside x e)) (before_pair x (point_of p) l) in cc))
+  step None h = λ x. refuted _ (λ e. let no = h (place_of x) (area_reach area x (inside x e)) in let yes = passes_there x e in cc)
+  step (Some p) h = (h.1, λ x l. refuted _ (λ e. let no = h.2 (place_of x) (area_reach area x (inside x e)) (before_pair x p l) in let yes = passes_there x e in cc))
 
 only_inside : (area : List Block) (levels : Point → Option ℕ) (priority : ℕ) (x : Point) → is_blocked area levels priority x ≡ true → area_has area x ≡ true
 unfolding is_blocked
@@ -66,17 +77,17 @@ then_equal Less p e = cc
 then_equal Equal p e = (refl, e)
 then_equal Greater p e = cc
 
-same_point : (x y : Point) → point_cmp x y ≡ Equal → x ≡ y
-same_point x y e =
-    let leaf = then_equal (nat_cmp (leaf_id_at x.leaf) (leaf_id_at y.leaf)) _ e in
+same_point : (x y : Point) → is_leaf x.leaf ≡ true → is_leaf y.leaf ≡ true → point_cmp x y ≡ Equal → x ≡ y
+same_point x y x_is y_is e =
+    let leaf = then_equal (nat_cmp (leaf_id x.leaf) (leaf_id y.leaf)) _ e in
     let rest = then_equal (int_cmp x.altitude y.altitude) _ leaf.1 in
-    let l = same_leaf x.leaf y.leaf leaf.0 in
+    let l = same_leaf x.leaf y.leaf ((leaf_test x.leaf).0 x_is) ((leaf_test y.leaf).0 y_is) (same_position (position_of x.leaf) (position_of y.leaf) leaf.0) in
     let a = same_int x.altitude y.altitude rest.0 in
     let s = same_int x.second y.second rest.1 in
     λ i. record { leaf = l i; altitude = a i; second = s i }
 
 points_total : IsTotalOrder point_cmp
-points_total = then_total (on_total (λ x. leaf_id_at x.leaf) nat_cmp_total) (then_total (on_total (λ x. x.altitude) int_cmp_total) (on_total (λ x. x.second) int_cmp_total))
+points_total = then_total (on_total (λ x. leaf_id x.leaf) nat_cmp_total) (then_total (on_total (λ x. x.altitude) int_cmp_total) (on_total (λ x. x.second) int_cmp_total))
 
 less_or_after : (x y : Point) → (point_cmp x y ≡ Less) ⊎ ((point_cmp x y ≡ Equal) ⊎ (point_cmp y x ≡ Less))
 less_or_after x y = by_answer (point_cmp x y) refl where
@@ -85,23 +96,29 @@ less_or_after x y = by_answer (point_cmp x y) refl where
   by_answer Equal e = inr (inl e)
   by_answer Greater e = inr (inr (points_total.antisymm y x ∙ ap ordering_reverse e))
 
--- a first spot is the only one
-one_spot : (passes : Point → Bool) (levels : Point → Option ℕ) (a b : Spot) → IsFirstSpot passes levels a → IsFirstSpot passes levels b → a ≡ b
-one_spot passes levels a b p q = by_order (less_or_after a.point b.point) where
+-- where only leaves pass, a first spot is the only one
+abbrev pub OnLeaves : (Point → Bool) → Type 0
+OnLeaves passes = (x : Point) → passes x ≡ true → is_leaf x.leaf ≡ true
+
+one_spot : (passes : Point → Bool) (levels : Point → Option ℕ) (a b : Spot) → OnLeaves passes → IsFirstSpot passes levels a → IsFirstSpot passes levels b → a ≡ b
+one_spot passes levels a b leaves p q = by_order (less_or_after a.point b.point) where
   by_order : (point_cmp a.point b.point ≡ Less) ⊎ ((point_cmp a.point b.point ≡ Equal) ⊎ (point_cmp b.point a.point ≡ Less)) → a ≡ b
   by_order (inl l) = let no = q.first a.point l in let yes = p.here in cc
   by_order (inr (inr l)) = let no = p.first b.point l in let yes = q.here in cc
   by_order (inr (inl e)) =
-      let same = same_point a.point b.point e in
+      let same = same_point a.point b.point (leaves a.point p.here) (leaves b.point q.here) e in
       let level : Some a.priority ≡ Some b.priority = sym p.level ∙ ap levels same ∙ q.level in
       let priorities : a.priority ≡ b.priority = cc in
       λ i. record { point = same i; priority = priorities i }
 
-pub one_first : (passes : Point → Bool) (levels : Point → Option ℕ) (a b : Option Spot) → IsFirst passes levels a → IsFirst passes levels b → a ≡ b
-one_first passes levels None None p q = refl
-one_first passes levels None (Some b) p q = let no = p b.point in let yes = q.here in cc
-one_first passes levels (Some a) None p q = let no = q a.point in let yes = p.here in cc
-one_first passes levels (Some a) (Some b) p q = ap Some (one_spot passes levels a b p q)
+pub one_first : (passes : Point → Bool) (levels : Point → Option ℕ) (a b : Option Spot) → OnLeaves passes → IsFirst passes levels a → IsFirst passes levels b → a ≡ b
+one_first passes levels None None leaves p q = refl
+one_first passes levels None (Some b) leaves p q = let no = p b.point in let yes = q.here in cc
+one_first passes levels (Some a) None leaves p q = let no = q a.point in let yes = p.here in cc
+one_first passes levels (Some a) (Some b) leaves p q = ap Some (one_spot passes levels a b leaves p q)
+
+pub blocked_leaves : (area : List Block) (levels : Point → Option ℕ) (priority : ℕ) → OnLeaves (is_blocked area levels priority)
+blocked_leaves area levels priority x e = area_leaf area x (only_inside area levels priority x e)
 
 is_some_at_least : (o : Option ℕ) (priority : ℕ) → is_some (at_least priority o) ≡ reaches o priority
 is_some_at_least None priority = refl
@@ -120,21 +137,22 @@ shared_is_blocked : (area : List Block) (levels : Point → Option ℕ) (priorit
 unfolding is_shared is_blocked
 shared_is_blocked area levels priority mine theirs slabs helds x =
     ap (λ b. b && is_some (top_held theirs x)) (slabs x) ∙ by_test (area_has area x) (helds x) where
-  by_test : (b : Bool) → (b ≡ true → top_held theirs x ≡ at_least priority (levels x)) → (b && is_some (top_held theirs x)) ≡ (b && reaches (levels x) priority)
-  by_test true h = ap is_some (h refl) ∙ is_some_at_least (levels x) priority
-  by_test false h = refl
+      by_test : (b : Bool) → (b ≡ true → top_held theirs x ≡ at_least priority (levels x)) → (b && is_some (top_held theirs x)) ≡ (b && reaches (levels x) priority)
+      by_test true h = ap is_some (h refl) ∙ is_some_at_least (levels x) priority
+      by_test false h = refl
 
 -- the first meeting of an area's slabs with what others hold is the area's conflict
 pub conflict_by_meeting : (area : List Block) (levels : Point → Option ℕ) (priority : ℕ) (mine : List Slab) (theirs : List Held) → AreSlabsOf mine area → HoldLevels theirs area levels priority → (m : Option Spot) → IsFirst (is_shared mine theirs) (top_held theirs) m → m ≡ conflict area levels priority
 conflict_by_meeting area levels priority mine theirs slabs helds m h =
-    one_first (is_blocked area levels priority) levels m (conflict area levels priority) (kept m h) (conflict_is area levels priority) where
-  same : (x : Point) → is_shared mine theirs x ≡ is_blocked area levels priority x
-  same = shared_is_blocked area levels priority mine theirs slabs helds
-  kept : (o : Option Spot) → IsFirst (is_shared mine theirs) (top_held theirs) o → IsFirst (is_blocked area levels priority) levels o
-  kept None h = λ x. sym (same x) ∙ h x
-  kept (Some s) h =
-      let here = sym (same s.point) ∙ h.here in
-      record { here = here; level = level_at_least (levels s.point) priority s.priority (sym (helds s.point (only_inside area levels priority s.point here)) ∙ h.level); first = λ x l. sym (same x) ∙ h.first x l }
+    one_first (is_blocked area levels priority) levels m (conflict area levels priority) (blocked_leaves area levels priority) (kept m h) (conflict_is area levels priority) where
+      same : (x : Point) → is_shared mine theirs x ≡ is_blocked area levels priority x
+      same = shared_is_blocked area levels priority mine theirs slabs helds
+
+      kept : (o : Option Spot) → IsFirst (is_shared mine theirs) (top_held theirs) o → IsFirst (is_blocked area levels priority) levels o
+      kept None h = λ x. sym (same x) ∙ h x
+      kept (Some s) h =
+          let here = sym (same s.point) ∙ h.here in
+          record { here = here; level = level_at_least (levels s.point) priority s.priority (sym (helds s.point (only_inside area levels priority s.point here)) ∙ h.level); first = λ x l. sym (same x) ∙ h.first x l }
 
 -- equal levels have equal conflicts
 pub conflict_same_levels : (area : List Block) (f g : Point → Option ℕ) (priority : ℕ) → ((x : Point) → f x ≡ g x) → conflict area f priority ≡ conflict area g priority

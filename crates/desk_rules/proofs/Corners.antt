@@ -1,17 +1,21 @@
 -- The first point that two slabs share.
-use Rattle.std.proofs.Common.{◌≡◌, ℕ, ◌+◌, ◌*◌, ◌<◌, ◌≤◌, ℤ, ◌≤ℤ◌, ◌<ℤ◌, Bool, true, false, ◌&&◌, ◌||◌, cond, leb, ltb, eqb, max, List, [], ◌∷◌, refl, sym, ap, ◌∙◌, arith, Less, Equal, Greater}
+use Rattle.std.proofs.Common.{◌≡◌, ℕ, ◌*◌, ◌^◌, ◌<◌, ℤ, Bool, true, false, ◌&&◌, ◌||◌, leb, ltb, max, List, [], ◌∷◌, refl, sym, ap, ◌∙◌, arith, Less, Equal, Greater}
 use Rattle.std.specs.Prelude.{int_le, int_lt}
 use Rattle.std.specs.declared.cmp.Ordering.{Ordering}
-use Rattle.std.specs.Ordering.{ordering_then, nat_cmp, int_cmp}
+use Rattle.std.specs.Ordering.{ordering_then, is_lt, nat_cmp, int_cmp}
 use Rattle.std.specs.Int.{int_max}
 use Rattle.std.proofs.lemmas.Int.{ints}
 use Rattle.std.proofs.lemmas.Bool.Decides.{nat_tests}
+use Rattle.s2_hilbert.specs.Curve.{position_of, grid_leaf_at}
+use Rattle.s2_hilbert.proofs.Positions.{position_undone}
 use Rattle.s2_cellid.specs.Cell.{leaf_id_at}
+use Rattle.s2_cellid.specs.Family.{leaf_id}
 use Rattle.desk_rules.specs.declared.slab.Slab.{Slab}
-use Rattle.desk_rules.specs.Point.{Point, point_cmp}
+use Rattle.desk_rules.specs.Point.{Point, is_leaf, point_cmp}
 use Rattle.std.specs.List.{list_any}
-use Rattle.desk_rules.specs.Slab.{slab_has, slabs_have}
+use Rattle.desk_rules.specs.Slab.{slab_has_leaf, slab_has, slabs_have}
 use Rattle.desk_rules.specs.Shared.{corner_of, share}
+use Rattle.desk_rules.proofs.LeafTests.{leaf_at_passes}
 
 -- both of two tests
 pub both : (a b : Bool) → (a && b) ≡ true → (a ≡ true) × (b ≡ true)
@@ -50,16 +54,17 @@ nat_le_max_right a b m e = grind (arith, nat_tests)
 nat_below : (m x u : ℕ) → leb m x ≡ true → leb x u ≡ true → leb m u ≡ true
 nat_below m x u p q = grind (arith, nat_tests)
 
--- a point not above another in any coordinate
+-- a point not above another in any coordinate, leaves by their positions
 record IsUpTo (m x : Point) : Type 0 where
-  leaf : leb m.leaf x.leaf ≡ true
+  leaf : leb (position_of m.leaf) (position_of x.leaf) ≡ true
   altitude : int_le m.altitude x.altitude ≡ true
   second : int_le m.second x.second ≡ true
 
 -- within a slab
 record IsWithin (s : Slab) (x : Point) : Type 0 where
-  first : leb s.first x.leaf ≡ true
-  last : leb x.leaf s.last ≡ true
+  is : is_leaf x.leaf ≡ true
+  first : leb s.first (position_of x.leaf) ≡ true
+  last : leb (position_of x.leaf) s.last ≡ true
   lower : int_le s.lower x.altitude ≡ true
   upper : int_lt x.altitude s.upper ≡ true
   start : int_le s.start x.second ≡ true
@@ -68,28 +73,39 @@ record IsWithin (s : Slab) (x : Point) : Type 0 where
 IsWithin-from_has : (s : Slab) (x : Point) → slab_has s x ≡ true → IsWithin s x
 IsWithin-from_has s x h =
     let parts = both _ (int_le s.start x.second && int_lt x.second s.end) h in
-    let ground_part = both (leb s.first x.leaf && leb x.leaf s.last) _ parts.0 in
-    let leaves = both (leb s.first x.leaf) _ ground_part.0 in
+    let ground_part = both (slab_has_leaf s x.leaf) _ parts.0 in
+    let leaf_part = both (is_leaf x.leaf) _ ground_part.0 in
+    let leaves = both (leb s.first (position_of x.leaf)) _ leaf_part.1 in
     let altitudes = both (int_le s.lower x.altitude) _ ground_part.1 in
     let seconds = both (int_le s.start x.second) _ parts.1 in
-    record { first = leaves.0; last = leaves.1; lower = altitudes.0; upper = altitudes.1; start = seconds.0; end = seconds.1 }
+    record { is = leaf_part.0; first = leaves.0; last = leaves.1; lower = altitudes.0; upper = altitudes.1; start = seconds.0; end = seconds.1 }
 
 has-from_IsWithin : (s : Slab) (x : Point) → IsWithin s x → slab_has s x ≡ true
 has-from_IsWithin s x w =
-    and_true _ _ (and_true _ _ (and_true _ _ w.first w.last) (and_true _ _ w.lower w.upper)) (and_true _ _ w.start w.end)
+    and_true _ _ (and_true _ _ (and_true _ _ w.is (and_true _ _ w.first w.last)) (and_true _ _ w.lower w.upper)) (and_true _ _ w.start w.end)
+
+abbrev pub corner_position : Slab → Slab → ℕ
+corner_position a b = position_of (corner_of a b).leaf
+
+corner_position_is : (a b : Slab) → corner_position a b ≡ max a.first b.first
+corner_position_is a b = position_undone (max a.first b.first)
+
+corner_is_leaf : (a b : Slab) → is_leaf (corner_of a b).leaf ≡ true
+corner_is_leaf a b = leaf_at_passes (max a.first b.first) (omega (arith, a.first_is_leaf, b.first_is_leaf))
 
 -- the corner of two slabs that have a point is not above it, and both have it
 corner_up_to : (a b : Slab) (x : Point) → IsWithin a x → IsWithin b x → IsUpTo (corner_of a b) x
 corner_up_to a b x p q = record {
-  leaf = nat_max_le a.first b.first _ x.leaf refl p.first q.first;
+  leaf = nat_max_le a.first b.first (corner_position a b) (position_of x.leaf) (corner_position_is a b) p.first q.first;
   altitude = int_max_le a.lower b.lower _ x.altitude refl p.lower q.lower;
   second = int_max_le a.start b.start _ x.second refl p.start q.start;
 }
 
 corner_left : (a b : Slab) (x : Point) → IsWithin a x → IsWithin b x → IsWithin a (corner_of a b)
 corner_left a b x p q = let u = corner_up_to a b x p q in record {
-  first = nat_le_max_left a.first b.first _ refl;
-  last = nat_below _ x.leaf _ u.leaf p.last;
+  is = corner_is_leaf a b;
+  first = nat_le_max_left a.first b.first (corner_position a b) (corner_position_is a b);
+  last = nat_below (corner_position a b) (position_of x.leaf) _ u.leaf p.last;
   lower = int_le_max_left a.lower b.lower _ refl;
   upper = int_below _ x.altitude _ u.altitude p.upper;
   start = int_le_max_left a.start b.start _ refl;
@@ -98,8 +114,9 @@ corner_left a b x p q = let u = corner_up_to a b x p q in record {
 
 corner_right : (a b : Slab) (x : Point) → IsWithin a x → IsWithin b x → IsWithin b (corner_of a b)
 corner_right a b x p q = let u = corner_up_to a b x p q in record {
-  first = nat_le_max_right a.first b.first _ refl;
-  last = nat_below _ x.leaf _ u.leaf q.last;
+  is = corner_is_leaf a b;
+  first = nat_le_max_right a.first b.first (corner_position a b) (corner_position_is a b);
+  last = nat_below (corner_position a b) (position_of x.leaf) _ u.leaf q.last;
   lower = int_le_max_right a.lower b.lower _ refl;
   upper = int_below _ x.altitude _ u.altitude q.upper;
   start = int_le_max_right a.start b.start _ refl;
@@ -120,7 +137,19 @@ then_less Greater p e h = cc
 -- what is not below in any coordinate does not come before
 not_before : (m x : Point) → IsUpTo m x → point_cmp x m ≡ Less → ⊥
 not_before m x u e =
-    not_less_int m.second x.second u.second (then_less _ _ (then_less _ _ e (not_less_leaf m.leaf x.leaf u.leaf)) (not_less_int m.altitude x.altitude u.altitude))
+    not_less_int m.second x.second u.second (then_less _ _ (then_less _ _ e (not_less_leaf (position_of m.leaf) (position_of x.leaf) u.leaf)) (not_less_int m.altitude x.altitude u.altitude))
+
+-- a slab has the leaf at each of its positions
+pub slab_has_position : (s : Slab) (p : ℕ) → p < 6 * 2 ^ 60 → slab_has_leaf s (grid_leaf_at p) ≡ (leb s.first p && leb p s.last)
+slab_has_position s p below = rw (leaf_at_passes p below, position_undone p) refl
+
+-- leaves at two positions stand in the order of the positions
+pub less_position : (p q : ℕ) (rest : Ordering) → (p ≡ q → ⊥) → ltb p q ≡ is_lt (ordering_then (nat_cmp (leaf_id (grid_leaf_at p)) (leaf_id (grid_leaf_at q))) rest)
+less_position p q rest differ = rw (position_undone p, position_undone q) (by_ids (nat_cmp (leaf_id_at p) (leaf_id_at q)) refl) where
+  by_ids : (o : Ordering) → nat_cmp (leaf_id_at p) (leaf_id_at q) ≡ o → ltb p q ≡ is_lt (ordering_then o rest)
+  by_ids Less e = grind (arith, nat_tests)
+  by_ids Equal e = grind (arith, nat_tests)
+  by_ids Greater e = grind (arith, nat_tests)
 
 -- no point that two slabs share comes before their corner
 pub none_before : (a b : Slab) (m : Point) → m ≡ corner_of a b → (x : Point) → point_cmp x m ≡ Less → (slab_has a x && slab_has b x) ≡ false
@@ -172,6 +201,7 @@ meet_is mine theirs r e = (found, shown) where
       let x = corner_of a.0 b.0 in
       let parts = both (slab_has a.0 x) (slab_has b.0 x) b.1.0 in
       (x, a.1.1 (λ s. slab_has s x) parts.0, b.1.1 (λ t. slab_has t x) parts.1)
+
   shown : ((x : Point) × (slabs_have mine x ≡ true) × (slabs_have theirs x ≡ true)) → r ≡ true
   shown (x, p, q) =
       let a = any_witness (λ s. slab_has s x) mine p in

@@ -1,5 +1,5 @@
 -- Extents and their faults.
-use Rattle.std.proofs.Common.{◌≡◌, ℤ, Bool, true, false, cond, Result, Ok, Err, refl, ap, ◌∙◌}
+use Rattle.std.proofs.Common.{◌≡◌, Bool, true, false, cond, Ok, Err, refl, ap, ◌∙◌}
 use Rattle.desk_rules.specs.Limits.{within_altitudes, within_times, within_length}
 use Rattle.desk_rules.specs.Extent.{Extent, checked_extent}
 

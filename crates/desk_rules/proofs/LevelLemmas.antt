@@ -1,12 +1,11 @@
 -- The greatest of levels.
-use Rattle.std.proofs.Common.{◌≡◌, ℕ, ◌+◌, ◌<◌, Bool, true, false, cond, ◌||◌, max, List, [], ◌∷◌, ◌++◌, length, get_or, take, map, Option, Some, None, refl, sym, ap, ◌∙◌, arith}
+use Rattle.std.proofs.Common.{◌≡◌, ℕ, ◌+◌, ◌<◌, Bool, List, [], ◌∷◌, ◌++◌, length, get_or, take, Option, None, refl, sym, ap, ◌∙◌}
 use Rattle.std.specs.Prelude.{is_some}
-use Rattle.std.specs.List.{filter, list_any}
 use Rattle.std.proofs.lemmas.List.{take_more}
 use Rattle.desk_rules.specs.declared.slab.Held.{Held}
 use Rattle.desk_rules.specs.Point.{Point}
 use Rattle.desk_rules.specs.Slab.{slab_has, helds_have, top_held}
-use Rattle.desk_rules.specs.Level.{greater, greatest}
+use Rattle.desk_rules.specs.Level.{greater}
 use Rattle.desk_rules.specs.LevelLaws.{greater_none, level_where, top_by, top_by-cons, top_by-append, is_some_top}
 
 -- the top of one more

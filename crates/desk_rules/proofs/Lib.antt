@@ -1,6 +1,7 @@
 pub mod Options
-pub mod Padding
+pub mod NameTexts
 pub mod Extents
+pub mod LeafTests
 pub mod SlabLemmas
 pub mod Corners
 pub mod LevelLemmas

@@ -1,10 +1,9 @@
 -- Searches find the first.
-use Rattle.std.proofs.Common.{◌≡◌, ℕ, zero, suc, ◌+◌, ◌-◌, ◌<◌, ◌≤◌, ℤ, pos, negsuc, ◌-ℤ◌, ◌≤ℤ◌, ◌<ℤ◌, neg_ℤ, Bool, true, false, cond, ◌⊎◌, Option, Some, None, refl, sym, ap, ◌∙◌, subst, inl, inr, arith}
+use Rattle.std.proofs.Common.{◌≡◌, ℕ, zero, suc, ◌+◌, ◌-◌, ◌<◌, ℤ, pos, negsuc, ◌-ℤ◌, ◌≤ℤ◌, ◌<ℤ◌, neg_ℤ, Bool, true, false, cond, ◌⊎◌, Option, Some, None, refl, sym, ap, ◌∙◌, inl, inr, arith}
 use Rattle.std.specs.Prelude.{is_some}
 use Rattle.std.specs.Option.{option_map, option_and_then}
 use Rattle.std.proofs.lemmas.Int.{ints}
 use Rattle.desk_rules.specs.Search.{Finder, earlier_of, first_below, first_within, first_pair}
-use Rattle.desk_rules.proofs.Corners.{refuted}
 
 -- what a search finds is in reach and passes, and nothing in reach before it does; where it finds nothing, nothing in
 -- reach passes
@@ -27,6 +26,7 @@ below_finds zero passes = λ y h. absurd (omega arith)
 below_finds (suc n) passes = step (first_below n passes) (below_finds n passes) (passes n) refl where
   upto : (y : ℕ) → y < suc n → (y < n) ⊎ (y ≡ n)
   upto y h = grind arith
+
   step : (o : Option ℕ) → IsFound (IsBelow n) IsLess passes o → (b : Bool) → passes n ≡ b → IsFound (IsBelow (suc n)) IsLess passes (earlier_of o (cond b (Some n) None))
   step None h true e = (omega arith, e, λ y l k. h y k)
   step None h false e = λ y l. elim (upto y l) [ inl k ↦ h y k | inr k ↦ rw k e ]
@@ -48,12 +48,17 @@ unfolding first_within
 within_finds n passes = step (first_below (n + n + 1) test) (below_finds (n + n + 1) test) where
   test : ℕ → Bool
   test k = passes (pos k -ℤ pos n)
+
   step : (o : Option ℕ) → IsFound (IsBelow (n + n + 1)) IsLess (λ k. passes (pos k -ℤ pos n)) o → IsFound (IsWithinInt n) IsLessInt passes (option_map (λ k. pos k -ℤ pos n) o)
   step None h = λ z r. let k = offset n z r in sym (ap passes k.1.1) ∙ h k.0 k.1.0
-  step (Some x) h = ((omega (arith, ints, h.0), omega (arith, ints, h.0)), h.1, λ z r l.
-    let k = offset n z r in
-    let e : pos k.0 -ℤ pos n ≡ z = k.1.1 in
-    sym (ap passes e) ∙ h.2 k.0 k.1.0 (omega (arith, ints)))
+  step (Some x) h = (
+    (omega (arith, ints, h.0), omega (arith, ints, h.0)),
+    h.1,
+    λ z r l.
+        let k = offset n z r in
+        let e : pos k.0 -ℤ pos n ≡ z = k.1.1 in
+        sym (ap passes e) ∙ h.2 k.0 k.1.0 (omega (arith, ints)),
+  )
 
 abbrev pub InBoth : {A B : Type 0} → (A → Type 0) → (B → Type 0) → A × B → Type 0
 InBoth ReachA ReachB p = ReachA p.0 × ReachB p.1
@@ -72,10 +77,15 @@ module _ {A B : Type 0} (ReachA : A → Type 0) (BeforeA : A → A → Type 0) (
   pair_finds f g in_a in_b passes = outer (f (λ a. is_some (g (λ b. passes (a, b))))) (in_a (λ a. is_some (g (λ b. passes (a, b))))) where
     inner : (a : A) → ReachA a → ((y : A) → ReachA y → BeforeA y a → is_some (g (λ b. passes (y, b))) ≡ false) → (o : Option B) → IsFound ReachB BeforeB (λ b. passes (a, b)) o → is_some o ≡ true → IsFound (InBoth ReachA ReachB) (BeforePair BeforeA BeforeB) passes (option_map (λ b. (a, b)) o)
     inner a ra first None h e = cc
-    inner a ra first (Some b) h e = ((ra, h.0), h.1, λ p r k. elim k [
-      | inl l ↦ not_there (λ c. passes (p.0, c)) (g (λ c. passes (p.0, c))) (in_b (λ c. passes (p.0, c))) (first p.0 r.0 l) p.1 r.1
-      | inr l ↦ ap (λ c. passes (c, p.1)) l.0 ∙ h.2 p.1 r.1 l.1
-    ])
+    inner a ra first (Some b) h e = (
+      (ra, h.0),
+      h.1,
+      λ p r k. elim k [
+        | inl l ↦ not_there (λ c. passes (p.0, c)) (g (λ c. passes (p.0, c))) (in_b (λ c. passes (p.0, c))) (first p.0 r.0 l) p.1 r.1
+        | inr l ↦ ap (λ c. passes (c, p.1)) l.0 ∙ h.2 p.1 r.1 l.1
+      ],
+    )
+
     outer : (o : Option A) → IsFound ReachA BeforeA (λ a. is_some (g (λ b. passes (a, b)))) o → IsFound (InBoth ReachA ReachB) (BeforePair BeforeA BeforeB) passes (option_and_then (λ a. option_map (λ b. (a, b)) (g (λ b. passes (a, b)))) o)
     outer None h = λ p r. not_there (λ c. passes (p.0, c)) (g (λ c. passes (p.0, c))) (in_b (λ c. passes (p.0, c))) (h p.0 r.0) p.1 r.1
     outer (Some a) h = inner a h.0 h.2 (g (λ b. passes (a, b))) (in_b (λ b. passes (a, b))) h.1

@@ -11,6 +11,8 @@ use Rattle.desk_rules.specs.Conflict.{at_least}
 abbrev pub AreSlabsOf : List Slab → List Block → Type 0
 AreSlabsOf slabs area = (x : Point) → slabs_have slabs x ≡ area_has area x
 
--- at each point of the area the greatest priority held is the level there, where that is at least the priority
+-- at each point of the area the greatest priority held is the level there, where that is at least
+-- the priority
 abbrev pub HoldLevels : List Held → List Block → (Point → Option ℕ) → ℕ → Type 0
-HoldLevels helds area levels priority = (x : Point) → area_has area x ≡ true → top_held helds x ≡ at_least priority (levels x)
+HoldLevels helds area levels priority =
+    (x : Point) → area_has area x ≡ true → top_held helds x ≡ at_least priority (levels x)

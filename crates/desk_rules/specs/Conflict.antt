@@ -1,8 +1,10 @@
--- The conflict of a plan: strategic conflict detection of ASTM F3548-21, where a plan may lie over a lower priority and not
--- over a higher one; equal priorities, which the standard leaves to the regulator, block.
-use Rattle.std.specs.Prelude.{ℕ, ◌+◌, ℤ, unsigned_abs, List, Bool, ◌&&◌, cond, Option, Some, None}
+-- The conflict of a plan: strategic conflict detection of ASTM F3548-21, where a plan may lie over
+-- a lower priority and not over a higher one; equal priorities, which the standard leaves to the
+-- regulator, block.
+use Rattle.std.specs.Prelude.{ℕ, ◌+◌, ℤ, unsigned_abs, List, Bool, ◌&&◌, cond, Option, None}
 use Rattle.std.specs.Option.{option_map, option_and_then}
 use Rattle.std.specs.List.{sum_by}
+use Rattle.s2_hilbert.specs.Curve.{grid_leaf_at}
 use Rattle.s2_cellid.specs.Cell.{last_leaf_id}
 use Rattle.desk_rules.specs.Point.{Point}
 use Rattle.desk_rules.specs.Shape.{Shape, cells}
@@ -11,16 +13,18 @@ use Rattle.desk_rules.specs.Level.{reaches}
 use Rattle.desk_rules.specs.Meeting.{Spot, IsFirst}
 use Rattle.desk_rules.specs.Search.{first_below, first_within, first_pair}
 
--- a point of an area is blocked where the greatest priority that others hold there is at least the plan's own
+-- a point of an area is blocked where the greatest priority that others hold there is at least the
+-- plan's own
 unfoldable pub is_blocked : List Block → (Point → Option ℕ) → ℕ → Point → Bool
 is_blocked area levels priority x = area_has area x && reaches (levels x) priority
 
--- what a conflict is: none where no point is blocked, else the blocked point that is least by leaf id, altitude and second,
--- with the greatest priority that others hold there
+-- what a conflict is: none where no point is blocked, else the blocked point that is least by leaf
+-- id, altitude and second, with the greatest priority that others hold there
 abbrev pub IsConflict : List Block → (Point → Option ℕ) → ℕ → Option Spot → Type 0
 IsConflict area levels priority spot = IsFirst (is_blocked area levels priority) levels spot
 
--- Numbers that no point of an area goes beyond: the search below ends there.
+-- Numbers that no point of an area goes beyond, a leaf by its position along the curve: the search
+-- below ends there.
 abbrev pub leaf_reach : Shape → ℕ
 leaf_reach (cells ids) = sum_by (λ id. last_leaf_id id + 1) ids
 
@@ -30,21 +34,23 @@ altitude_reach v = unsigned_abs v.window.lower + unsigned_abs v.window.upper
 abbrev pub second_reach : Block → ℕ
 second_reach v = unsigned_abs v.window.start + unsigned_abs v.window.stop
 
+-- the point of a position along the curve, an altitude and a second
 abbrev pub point_of : ℕ × (ℤ × ℤ) → Point
-point_of p = record { leaf = p.0; altitude = p.1.0; second = p.1.1 }
+point_of p = record { leaf = grid_leaf_at p.0; altitude = p.1.0; second = p.1.1 }
 
 -- the first point of an area that passes
 unfoldable pub first_point : List Block → (Point → Bool) → Option Point
 first_point area passes =
     option_map point_of
     (first_pair (first_below (sum_by (λ v. leaf_reach v.footprint) area))
-      (first_pair (first_within (sum_by altitude_reach area)) (first_within (sum_by second_reach area)))
-      (λ p. passes (point_of p)))
+    (first_pair (first_within (sum_by altitude_reach area)) (first_within (sum_by second_reach area)))
+    (λ p. passes (point_of p)))
 
 -- the conflict, as a function: the first blocked point, with the level there
 unfoldable pub conflict : List Block → (Point → Option ℕ) → ℕ → Option Spot
 conflict area levels priority =
-    option_and_then (λ x. option_map (λ level. record { point = x; priority = level }) (levels x)) (first_point area (is_blocked area levels priority))
+    option_and_then (λ x. option_map (λ level. record { point = x; priority = level }) (levels x))
+    (first_point area (is_blocked area levels priority))
 
 -- a level, where it is at least a priority
 abbrev pub at_least : ℕ → Option ℕ → Option ℕ

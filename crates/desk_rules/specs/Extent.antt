@@ -13,4 +13,9 @@ pub record Extent : Type 0 where
 
 -- an extent, or the first of its faults
 abbrev pub checked_extent : Extent → Result Extent WindowFault
-checked_extent e = if within_altitudes e.lower e.upper then (if within_times e.start e.stop then (if within_length e.start e.stop then Ok e else Err TooLong) else Err Time) else Err Altitude
+checked_extent e =
+    if within_altitudes e.lower e.upper
+    then (if within_times e.start e.stop
+    then (if within_length e.start e.stop then Ok e else Err TooLong)
+    else Err Time)
+    else Err Altitude

@@ -1,5 +1,5 @@
 -- Priorities that are held at a point: the greatest of some, or none.
-use Rattle.std.specs.Prelude.{ℕ, List, [], ◌∷◌, Bool, true, false, max, nat_le, Option, Some, None}
+use Rattle.std.specs.Prelude.{ℕ, List, [], ◌∷◌, Bool, false, max, nat_le, Option, Some, None}
 
 -- the greater of two, either of which may be none
 abbrev pub greater : Option ℕ → Option ℕ → Option ℕ

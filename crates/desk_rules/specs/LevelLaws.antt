@@ -66,10 +66,9 @@ pub is_some_top : {A : Type 0} (p : A → Bool) (f : A → ℕ) (xs : List A) �
 is_some_top p f [] = refl
 is_some_top p f (x ∷ xs) =
     ap is_some (top_by-cons p f x xs) ∙ is_some_greater (level_where (p x) (f x)) (top_by p f xs) ∙ by_test (p x) (is_some_top p f xs) where
-  by_test : (b : Bool) → is_some (top_by p f xs) ≡ list_any p xs → (is_some (level_where b (f x)) || is_some (top_by p f xs)) ≡ (b || list_any p xs)
-  by_test true e = refl
-  by_test false e = e
-
+      by_test : (b : Bool) → is_some (top_by p f xs) ≡ list_any p xs → (is_some (level_where b (f x)) || is_some (top_by p f xs)) ≡ (b || list_any p xs)
+      by_test true e = refl
+      by_test false e = e
 
 -- the greatest priority of one more plan
 pub top_priority-cons : (row : PlanRow) (rows : List PlanRow) (x : Point) → top_priority (row ∷ rows) x ≡ greater (level_where (row_holds row x) row.priority) (top_priority rows x)

@@ -3,11 +3,13 @@ use Rattle.std.specs.Prelude.{ℤ, pos, neg_ℤ, ◌-ℤ◌, Bool, ◌&&◌, int
 
 -- altitudes lower <= a < upper, from -10,000 to 200,000
 abbrev pub within_altitudes : ℤ → ℤ → Bool
-within_altitudes lower upper = int_le (neg_ℤ (pos 10000)) lower && int_lt lower upper && int_le upper (pos 200000)
+within_altitudes lower upper =
+    int_le (neg_ℤ (pos 10000)) lower && int_lt lower upper && int_le upper (pos 200000)
 
 -- seconds start <= t < stop, from 1970 to the end of the year 9998
 abbrev pub within_times : ℤ → ℤ → Bool
-within_times start stop = int_le (pos 0) start && int_lt start stop && int_le stop (pos 253370764800)
+within_times start stop =
+    int_le (pos 0) start && int_lt start stop && int_le stop (pos 253370764800)
 
 -- at most a day
 abbrev pub within_length : ℤ → ℤ → Bool

@@ -1,5 +1,5 @@
 -- The first point of a kind, and the priority held there.
-use Rattle.std.specs.Prelude.{◌≡◌, ℕ, List, Bool, true, false, ◌&&◌, Option, Some, None, is_some}
+use Rattle.std.specs.Prelude.{◌≡◌, ℕ, Bool, true, false, Option, Some, None}
 use Rattle.std.specs.declared.cmp.Ordering.TheVariants.{Less}
 use Rattle.desk_rules.specs.Point.{Point, point_cmp}
 
@@ -14,7 +14,8 @@ pub record IsFirstSpot (passes : Point → Bool) (levels : Point → Option ℕ)
   pub level : levels spot.point ≡ Some spot.priority
   pub first : (x : Point) → point_cmp x spot.point ≡ Less → passes x ≡ false
 
--- none where no point passes, else the first that passes, by leaf id, altitude and second, with the level there
+-- none where no point passes, else the first that passes, by leaf id, altitude and second, with
+-- the level there
 abbrev pub IsFirst : (Point → Bool) → (Point → Option ℕ) → Option Spot → Type 0
 IsFirst passes levels None = (x : Point) → passes x ≡ false
 IsFirst passes levels (Some spot) = IsFirstSpot passes levels spot
@@ -22,4 +23,5 @@ IsFirst passes levels (Some spot) = IsFirstSpot passes levels spot
 -- the first point that passes, or none
 abbrev pub IsFirstPoint : (Point → Bool) → Option Point → Type 0
 IsFirstPoint passes None = (x : Point) → passes x ≡ false
-IsFirstPoint passes (Some p) = (passes p ≡ true) × ((x : Point) → point_cmp x p ≡ Less → passes x ≡ false)
+IsFirstPoint passes (Some p) =
+    (passes p ≡ true) × ((x : Point) → point_cmp x p ≡ Less → passes x ≡ false)

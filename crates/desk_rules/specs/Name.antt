@@ -12,4 +12,5 @@ max_name_length = 32
 
 -- 1 to 32 such bytes
 abbrev pub is_operator_name : List ℕ → Bool
-is_operator_name name = nat_le 1 (length name) && nat_le (length name) max_name_length && list_all is_name_byte name
+is_operator_name name =
+    nat_le 1 (length name) && nat_le (length name) max_name_length && list_all is_name_byte name

@@ -1,5 +1,6 @@
--- What comes of a request to plan: the order of refusals at this desk, a list of conditions of which the first counts.
-use Rattle.std.specs.Prelude.{ℕ, ℤ, pos, ◌+ℤ◌, int_le, int_lt, nat_le, nat_lt, List, [], ◌∷◌, Bool, true, false, cond, not, ◌&&◌, ◌||◌, Option, Some, None, is_some, is_none}
+-- What comes of a request to plan: the order of refusals at this desk, a list of conditions of
+-- which the first counts.
+use Rattle.std.specs.Prelude.{ℕ, ℤ, pos, ◌+ℤ◌, int_le, int_lt, nat_le, nat_lt, List, [], ◌∷◌, Bool, true, false, not, ◌&&◌, Option, Some, None, is_some, is_none}
 use Rattle.std.specs.List.{list_any}
 use Rattle.desk_rules.specs.declared.plan.PlanRow.{PlanRow}
 use Rattle.desk_rules.specs.declared.plan.PutCall.{PutCall}
@@ -40,7 +41,8 @@ refusal_of (Report s) = None
 refusal_of Shut = None
 refusal_of Keep = None
 
--- what the later places look at: a check at all of them, a report at the ceiling and the number of plans, closing at none
+-- what the later places look at: a check at all of them, a report at the ceiling and the number of
+-- plans, closing at none
 abbrev pub is_check : Step → Bool
 is_check (Refuse n) = false
 is_check (Check s) = true
@@ -70,13 +72,13 @@ unfoldable pub note_of : PutCall → ℤ → Option PlanRow → ℕ → ℕ → 
 note_of call moment stored own_rows ceiling blocked =
     let step = step_of stored call in
     first_note (note_where (not (is_offered call.style call.usage call.aircraft)) note.Style
-      ∷ refusal_of step
-      ∷ note_where (is_check step && has_ended call.area moment) note.Ended
-      ∷ note_where (is_check step && is_beyond_horizon call.area moment) note.Horizon
-      ∷ note_where (is_stored step && nat_lt ceiling call.priority) note.Priority
-      ∷ note_where (is_stored step && (is_none stored && nat_le max_plans own_rows)) note.PlansLimit
-      ∷ note_where (is_check step && blocked) note.Conflict
-      ∷ [])
+    ∷ refusal_of step
+    ∷ note_where (is_check step && has_ended call.area moment) note.Ended
+    ∷ note_where (is_check step && is_beyond_horizon call.area moment) note.Horizon
+    ∷ note_where (is_stored step && nat_lt ceiling call.priority) note.Priority
+    ∷ note_where (is_stored step && (is_none stored && nat_le max_plans own_rows)) note.PlansLimit
+    ∷ note_where (is_check step && blocked) note.Conflict
+    ∷ [])
 
 -- a refusal's result: only an unsupported style is not a rejection
 abbrev pub refused_result : Note → PlanResult
@@ -126,11 +128,25 @@ styled_effect style.InReality e = e
 -- a refusal keeps the stored plan and tells its status
 abbrev pub verdict_by : PutCall → Option PlanRow → Option Spot → Option Note → Verdict
 verdict_by call stored conflict (Some n) =
-    record { result = refused_result n; status = status_of stored; note = Some n; meeting = shown_conflict n conflict; effect = effect.Nothing }
+    record {
+      result = refused_result n;
+      status = status_of stored;
+      note = Some n;
+      meeting = shown_conflict n conflict;
+      effect = effect.Nothing;
+    }
 verdict_by call stored conflict None =
-    record { result = result.Completed; status = step_status (step_of stored call); note = None; meeting = None; effect = styled_effect call.style (step_effect (step_of stored call)) }
+    record {
+      result = result.Completed;
+      status = step_status (step_of stored call);
+      note = None;
+      meeting = None;
+      effect = styled_effect call.style (step_effect (step_of stored call));
+    }
 
--- the outcome of a request at a moment, beside the stored plan of its id, the number of the operator's plans, the
--- operator's ceiling and the conflict of the area asked
+-- the outcome of a request at a moment, beside the stored plan of its id, the number of the
+-- operator's plans, the operator's ceiling and the conflict of the area asked
 unfoldable pub outcome : PutCall → ℤ → Option PlanRow → ℕ → ℕ → Option Spot → Verdict
-outcome call moment stored own_rows ceiling conflict = verdict_by call stored conflict (note_of call moment stored own_rows ceiling (is_some conflict))
+outcome call moment stored own_rows ceiling conflict =
+    verdict_by call stored conflict
+    (note_of call moment stored own_rows ceiling (is_some conflict))

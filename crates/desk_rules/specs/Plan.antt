@@ -1,5 +1,5 @@
 -- Stored plans, and the points that they hold.
-use Rattle.std.specs.Prelude.{ℕ, List, Bool, true, false, ◌&&◌, Option, Some, None, map}
+use Rattle.std.specs.Prelude.{ℕ, List, Bool, true, false, ◌&&◌, Option, map}
 use Rattle.std.specs.List.{filter}
 use Rattle.desk_rules.specs.declared.plan.PlanRow.{PlanRow}
 use Rattle.desk_rules.specs.declared.words.Usage.{Usage}

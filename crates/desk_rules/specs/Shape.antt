@@ -1,12 +1,14 @@
 -- What a footprint is, apart from memory.
-use Rattle.std.specs.Prelude.{ℕ, List, Bool}
+use Rattle.std.specs.Prelude.{ℕ, List, Bool, ◌&&◌}
 use Rattle.std.specs.List.{list_any}
-use Rattle.s2_cellid.specs.Cell.{cell_has}
+use Rattle.s2_hilbert.specs.Grid.{GridLeaf}
+use Rattle.s2_cellid.specs.Family.{cell_has_leaf}
+use Rattle.desk_rules.specs.Point.{is_leaf}
 
 -- S2 cells by their ids, in the order asked
 pub data Shape : Type 0 where
   cells : List ℕ → Shape
 
 -- the leaves of a cell list are those of any of its cells
-abbrev pub shape_has : Shape → ℕ → Bool
-shape_has (cells ids) leaf = list_any (λ id. cell_has id leaf) ids
+abbrev pub shape_has : Shape → GridLeaf → Bool
+shape_has (cells ids) leaf = is_leaf leaf && list_any (λ id. cell_has_leaf id leaf) ids

@@ -1,14 +1,24 @@
--- Slabs: boxes of leaf positions, altitudes and seconds.
+-- Slabs: runs of leaves along the S2 curve, with altitudes and seconds.
 use Rattle.std.specs.Prelude.{ℕ, List, Bool, ◌&&◌, nat_le, int_le, int_lt, map, Option}
 use Rattle.std.specs.List.{list_any, filter}
 use Rattle.desk_rules.specs.declared.slab.Slab.{Slab}
 use Rattle.desk_rules.specs.declared.slab.Held.{Held}
-use Rattle.desk_rules.specs.Point.{Point}
+use Rattle.s2_hilbert.specs.Grid.{GridLeaf}
+use Rattle.s2_hilbert.specs.Curve.{position_of}
+use Rattle.desk_rules.specs.Point.{Point, is_leaf}
 use Rattle.desk_rules.specs.Level.{greatest}
 
--- the leaf positions first to last, both included; altitudes and seconds half open
+-- the leaves from the position first along the curve to the position last, both included
+abbrev pub slab_has_leaf : Slab → GridLeaf → Bool
+slab_has_leaf s leaf =
+    is_leaf leaf && (nat_le s.first (position_of leaf) && nat_le (position_of leaf) s.last)
+
+-- those leaves; altitudes and seconds half open
 abbrev pub slab_has : Slab → Point → Bool
-slab_has s x = (nat_le s.first x.leaf && nat_le x.leaf s.last) && (int_le s.lower x.altitude && int_lt x.altitude s.upper) && (int_le s.start x.second && int_lt x.second s.end)
+slab_has s x =
+    slab_has_leaf s x.leaf
+    && (int_le s.lower x.altitude && int_lt x.altitude s.upper)
+    && (int_le s.start x.second && int_lt x.second s.end)
 
 -- one of the slabs has the point
 abbrev pub slabs_have : List Slab → Point → Bool

@@ -1,5 +1,5 @@
--- The states of a plan: those of InterUSS flight_planning v1 (usage_state, uas_state, flight_plan_status), and which
--- may follow which at this desk.
+-- The states of a plan: those of InterUSS flight_planning v1 (usage_state, uas_state,
+-- flight_plan_status), and which may follow which at this desk.
 use Rattle.std.specs.Prelude.{Bool, true, false, Option, Some, None}
 use Rattle.desk_rules.specs.declared.plan.PlanRow.{PlanRow}
 use Rattle.desk_rules.specs.declared.plan.PutCall.{PutCall}
@@ -21,6 +21,7 @@ status_in_use aircraft.Nominal = status.OkToFly
 status_in_use aircraft.OffNominal = status.OffNominal
 status_in_use aircraft.Contingent = status.OffNominal
 
+-- the status of a plan in these states
 abbrev pub status_of_states : Usage → Aircraft → PlanStatus
 status_of_states usage.Planned craft = status.Planned
 status_of_states usage.InUse craft = status_in_use craft
@@ -31,7 +32,8 @@ abbrev pub status_of : Option PlanRow → PlanStatus
 status_of None = status.NotPlanned
 status_of (Some row) = status_of_states row.usage row.aircraft
 
--- a style is offered for the states asked: reports from reality are for an aircraft off its plan and for closing
+-- a style is offered for the states asked: reports from reality are for an aircraft off its plan and
+-- for closing
 abbrev pub is_offered : Style → Usage → Aircraft → Bool
 is_offered style.Hypothetical want craft = true
 is_offered style.IfAllowed want craft = true
@@ -53,6 +55,7 @@ step_from_none usage.InUse aircraft.OffNominal = Refuse note.State
 step_from_none usage.InUse aircraft.Contingent = Refuse note.State
 step_from_none usage.Closed craft = Refuse note.NotPlanned
 
+-- where it is planned
 abbrev pub step_from_planned : Usage → Aircraft → Step
 step_from_planned usage.Planned aircraft.Nominal = Check status.Planned
 step_from_planned usage.Planned aircraft.OffNominal = Refuse note.State
@@ -62,7 +65,7 @@ step_from_planned usage.InUse aircraft.OffNominal = Report status.OffNominal
 step_from_planned usage.InUse aircraft.Contingent = Report status.OffNominal
 step_from_planned usage.Closed craft = Shut
 
--- the same for the aircraft states Nominal and OffNominal of the stored plan
+-- where it is in use, the same for the aircraft states Nominal and OffNominal of the stored plan
 abbrev pub step_from_use : Usage → Aircraft → Step
 step_from_use usage.Planned craft = Refuse note.State
 step_from_use usage.InUse aircraft.Nominal = Check status.OkToFly
@@ -70,7 +73,7 @@ step_from_use usage.InUse aircraft.OffNominal = Report status.OffNominal
 step_from_use usage.InUse aircraft.Contingent = Report status.OffNominal
 step_from_use usage.Closed craft = Shut
 
--- a contingency is left by closing alone
+-- where it is in use with a contingency, which is left by closing alone
 abbrev pub step_from_contingency : Usage → Aircraft → Step
 step_from_contingency usage.Planned craft = Refuse note.State
 step_from_contingency usage.InUse aircraft.Nominal = Refuse note.State
@@ -78,11 +81,13 @@ step_from_contingency usage.InUse aircraft.OffNominal = Refuse note.State
 step_from_contingency usage.InUse aircraft.Contingent = Report status.OffNominal
 step_from_contingency usage.Closed craft = Shut
 
+-- where it is closed
 abbrev pub step_from_closed : Usage → Step
 step_from_closed usage.Planned = Refuse note.Closed
 step_from_closed usage.InUse = Refuse note.Closed
 step_from_closed usage.Closed = Keep
 
+-- from the states of a stored plan to those asked
 abbrev pub step_from_states : Usage → Aircraft → Usage → Aircraft → Step
 step_from_states usage.Planned stored want craft = step_from_planned want craft
 step_from_states usage.InUse aircraft.Nominal want craft = step_from_use want craft
@@ -90,6 +95,7 @@ step_from_states usage.InUse aircraft.OffNominal want craft = step_from_use want
 step_from_states usage.InUse aircraft.Contingent want craft = step_from_contingency want craft
 step_from_states usage.Closed stored want craft = step_from_closed want
 
+-- from a stored plan, or none, for a request
 abbrev pub step_of : Option PlanRow → PutCall → Step
 step_of None call = step_from_none call.usage call.aircraft
 step_of (Some row) call = step_from_states row.usage row.aircraft call.usage call.aircraft

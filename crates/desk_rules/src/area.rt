@@ -10,7 +10,8 @@ use crate::volume::Volume;
 use std::alloc::{AllocError, Global};
 use std::marker::Model;
 
-/// The volumes of a plan, 1 to 8 by its type.
+/// The volumes of a plan (`Volume4D` of ASTM F3548-21), 1 to 8 by its type: it has the points of
+/// any of them.
 #[derive(Debug, Drop)]
 pub struct Area {
     volumes: Vec<Volume>,
@@ -48,8 +49,13 @@ impl Area {
     }
 
     /// Slabs that have exactly the points of the area, in any order.
+    ///
+    /// # Errors
+    ///
+    /// `AllocError` for want of memory.
     pub fn slabs(&self, alloc: Global) -> Result<Vec<Slab>, AllocError>
-        ensures { IfOk result (λ slabs. (x : Point) → slabs_have slabs.items x ≡ area_has self.now x) }
+        ensures { IfOk result (λ slabs. (x : Point) →
+            slabs_have slabs.items x ≡ area_has self.now x) }
     {
         let mut slabs = Vec::new(alloc);
         push_volumes(&mut slabs, &self.volumes)?;
@@ -57,6 +63,10 @@ impl Area {
     }
 
     /// An equal area.
+    ///
+    /// # Errors
+    ///
+    /// `AllocError` for want of memory.
     pub fn copy(&self) -> Result<Area, AllocError>
         ensures { IfOk result (λ copy. copy ≡ self.now) }
     {

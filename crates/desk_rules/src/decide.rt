@@ -24,9 +24,11 @@ pub enum Effect {
     Shut,
 }
 
-/// What comes of a request.
+/// What comes of a request, `planning_result` and `flight_plan_status` of InterUSS
+/// flight_planning v1 with the desk's own reasons.
 #[derive(Clone, Copy, Debug, PartialEq, Eq)]
 pub struct Verdict {
+    /// What came of the request.
     pub result: PlanResult,
     /// The status of the plan after the request.
     pub status: PlanStatus,
@@ -34,18 +36,23 @@ pub struct Verdict {
     pub note: Option<Note>,
     /// The first point that is blocked, beside the note `Conflict` alone.
     pub meeting: Option<Meeting>,
+    /// What the request does to the stored plan.
     pub effect: Effect,
 }
 
-/// How long before its start a plan may be asked, in seconds.
+/// How long before its start a plan may be asked, in seconds: thirty days.
 pub const HORIZON: i64 = 2_592_000;
 
 /// How many plans an operator may have, closed ones too.
 pub const MAX_PLANS: u32 = 200;
 
-/// The verdict on a request at a moment (a Unix second of the desk's range), beside the stored plan of its id, the number of
-/// the operator's plans, the operator's ceiling, and the conflict of the area asked: the first point of it
-/// that is blocked.
+/// The verdict on a request: the first refusal that applies, in the order of `Note`, and where none
+/// does, that the request is carried out.
+///
+/// `moment` is the Unix second of the request, 0 to 253,370,764,800, `stored` the plan of the same
+/// operator and id, `own_rows` the number of the operator's plans, closed ones too, `ceiling` the
+/// greatest priority that the operator may ask, and `meeting` the conflict of the area asked: the
+/// first point of it that is blocked.
 #[tactic(auto, unfolding(crate::specs::Outcome::outcome))]
 pub fn decide(
     call: &PutCall,
@@ -56,7 +63,8 @@ pub fn decide(
     meeting: Option<Meeting>,
 ) -> Verdict
     requires moment_range { (pos 0 ≤ℤ moment) × (moment ≤ℤ pos 253370764800) }
-    ensures { result ≡ outcome call.now moment (option_copied stored.entry) own_rows ceiling meeting }
+    ensures { result ≡
+        outcome call.now moment (option_copied stored.entry) own_rows ceiling meeting }
 {
     match note_for(call, moment, stored, own_rows, ceiling, meeting.is_some()) {
         Some(note) => Verdict {
@@ -72,8 +80,13 @@ pub fn decide(
 
 // The verdict on a request that nothing refuses.
 fn completed(style: Style, step: Step) -> Verdict
-    ensures { result ≡ record { result = results.Completed; status = step_status step; note = None;
-        meeting = None; effect = styled_effect style (step_effect step) } }
+    ensures { result ≡ record {
+      result = results.Completed;
+      status = step_status step;
+      note = None;
+      meeting = None;
+      effect = styled_effect style (step_effect step);
+    } }
 {
     Verdict {
         result: PlanResult::Completed,
@@ -95,7 +108,8 @@ fn note_for(
     blocked: bool,
 ) -> Option<Note>
     requires moment_range { (pos 0 ≤ℤ moment) × (moment ≤ℤ pos 253370764800) }
-    ensures { result ≡ note_of call.now moment (option_copied stored.entry) own_rows ceiling blocked }
+    ensures { result ≡
+        note_of call.now moment (option_copied stored.entry) own_rows ceiling blocked }
 {
     if !offers(call.style, call.usage, call.aircraft) {
         return Some(Note::Style);
@@ -193,7 +207,7 @@ fn result_for(note: Note) -> PlanResult
     }
 }
 
-/// The status of a stored plan, or of none.
+/// The status of a stored plan, or of none: `flight_plan_status` of flight_planning v1.
 pub fn status_of(stored: Option<&PlanRow>) -> PlanStatus
     ensures { result ≡ spec.status_of (option_copied stored.entry) }
 {

@@ -10,21 +10,19 @@ ghost use Rattle.desk_rules.specs.Conflict.{IsConflict, conflict};
 pub fn one_conflict()
     ensures { (area : List Block) (levels : Point → Option ℕ) (priority : ℕ) (a b : Option Spot) →
         IsConflict area levels priority a → IsConflict area levels priority b → a ≡ b }
-{
-}
+{}
 
 /// The search for the conflict finds it.
 pub fn conflict_is_found()
     ensures { (area : List Block) (levels : Point → Option ℕ) (priority : ℕ) →
         IsConflict area levels priority (conflict area levels priority) }
-{
-}
+{}
 
 /// Where others hold the same at each point, the conflict is the same.
 pub fn same_levels_same_conflict()
     ensures found { (area : List Block) (f g : Point → Option ℕ) (priority : ℕ) →
         ((x : Point) → f x ≡ g x) → conflict area f priority ≡ conflict area g priority }
-    ensures kept { (area : List Block) (f g : Point → Option ℕ) (priority : ℕ) (spot : Option Spot) →
-        ((x : Point) → f x ≡ g x) → IsConflict area f priority spot → IsConflict area g priority spot }
-{
-}
+    ensures kept { (area : List Block) (f g : Point → Option ℕ) (priority : ℕ) (spot : Option Spot)
+        → ((x : Point) → f x ≡ g x) → IsConflict area f priority spot
+        → IsConflict area g priority spot }
+{}

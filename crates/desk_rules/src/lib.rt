@@ -11,6 +11,8 @@ pub mod operator;
 pub mod plan;
 pub mod plan_id;
 pub mod slab;
+#[cfg(test)]
+mod tests;
 pub mod transition;
 pub mod volume;
 pub mod window;

@@ -5,7 +5,7 @@ ghost use Rattle.std.specs.Ordering.{is_lt};
 ghost use Rattle.std.specs.List.{list_any};
 ghost use Rattle.std.specs.Option.{option_map};
 ghost use Rattle.desk_rules.specs.Point.{Point, point_cmp};
-ghost use Rattle.desk_rules.specs.Slab.{slab_has, slabs_have, helds_have, top_held};
+ghost use Rattle.desk_rules.specs.Slab.{slab_has_leaf, slab_has, slabs_have, helds_have, top_held};
 ghost use Rattle.desk_rules.specs.Level.{greater};
 ghost use Rattle.desk_rules.specs.Meeting.{IsFirst, IsFirstPoint};
 ghost use Rattle.desk_rules.specs.Shared as spec;
@@ -16,8 +16,9 @@ use std::marker::Model;
 
 /// A point that is shared, and the greatest priority of those that hold it.
 #[derive(Clone, Copy, Debug, PartialEq, Eq)]
+#[tactic(auto, using(s2_hilbert::proofs::Positions::position_undone))]
 pub struct Meeting {
-    /// The leaf's position among all leaves, below `6 * 2^60`.
+    /// The leaf's position among all leaves along the S2 curve, below `6 * 2^60`.
     pub pos: u64,
     /// The altitude in decimetres above the WGS84 ellipsoid.
     pub altitude: i32,
@@ -29,15 +30,36 @@ pub struct Meeting {
 
 impl Model for Meeting {
     ghost use Rattle.std.specs.Prelude.{◌<◌, ◌*◌, ◌^◌};
+    ghost use Rattle.s2_hilbert.specs.Curve.{position_of, grid_leaf_at};
+    ghost use Rattle.s2_hilbert.proofs.Positions.{position_undone};
     ghost use Rattle.desk_rules.specs.Meeting.{Spot};
 
     ghost Value = { Spot };
 
-    ghost view = { λ m. record { point = record { leaf = m.pos; altitude = m.altitude; second = m.second }; priority = m.priority } };
+    ghost view = { λ m. record {
+      point = record {
+        leaf = grid_leaf_at m.pos;
+        altitude = m.altitude;
+        second = m.second;
+      };
+      priority = m.priority;
+    } };
 
     ghost invariant = { λ m. m.pos < 6 * 2 ^ 60 };
 
-    ghost inverse = { λ s. record { pos = s.point.leaf; altitude = s.point.altitude; second = s.point.second; priority = s.priority } };
+    ghost inverse = { λ s. record {
+      pos = position_of s.point.leaf;
+      altitude = s.point.altitude;
+      second = s.point.second;
+      priority = s.priority;
+    } };
+
+    ghost inverse_ok = { λ m _. λ i. record {
+      pos = position_undone m.pos i;
+      altitude = m.altitude;
+      second = m.second;
+      priority = m.priority;
+    } };
 }
 
 // A point: the least corner of a box.
@@ -50,26 +72,43 @@ struct Corner {
 
 impl Model for Corner {
     ghost use Rattle.std.specs.Prelude.{◌<◌, ◌*◌, ◌^◌};
+    ghost use Rattle.s2_hilbert.specs.Curve.{position_of, grid_leaf_at};
+    ghost use Rattle.s2_hilbert.proofs.Positions.{position_undone};
     ghost use Rattle.desk_rules.specs.Point.{Point};
 
     ghost Value = { Point };
 
-    ghost view = { λ c. record { leaf = c.pos; altitude = c.altitude; second = c.second } };
+    ghost view = { λ c. record {
+      leaf = grid_leaf_at c.pos;
+      altitude = c.altitude;
+      second = c.second;
+    } };
 
     ghost invariant = { λ c. c.pos < 6 * 2 ^ 60 };
 
-    ghost inverse = { λ x. record { pos = x.leaf; altitude = x.altitude; second = x.second } };
+    ghost inverse = { λ x. record {
+      pos = position_of x.leaf;
+      altitude = x.altitude;
+      second = x.second;
+    } };
+
+    ghost inverse_ok = { λ c _. λ i. record {
+      pos = position_undone c.pos i;
+      altitude = c.altitude;
+      second = c.second;
+    } };
 }
 
 /// Whether two lists of slabs share a point.
 pub fn meet(mine: &[Slab], theirs: &[Slab]) -> bool
-    ensures { IsTrue result ↔ ((x : Point) × (slabs_have mine.now x ≡ true) × (slabs_have theirs.now x ≡ true)) }
+    ensures { IsTrue result
+        ↔ ((x : Point) × (slabs_have mine.now x ≡ true) × (slabs_have theirs.now x ≡ true)) }
 {
     any_meets(mine, theirs)
 }
 
-/// The first point, by leaf, altitude and second, that slabs share with held ones, with the greatest
-/// priority of those that have it; none only where no point is shared.
+/// The first point, by leaf, altitude and second, that slabs share with held ones, with the
+/// greatest priority of those that have it; none only where no point is shared.
 pub fn first_meeting(mine: &[Slab], theirs: &[Held]) -> Option<Meeting>
     ensures { IsFirst (is_shared mine.now theirs.now) (top_held theirs.now) result }
 {
@@ -81,7 +120,8 @@ pub fn first_meeting(mine: &[Slab], theirs: &[Held]) -> Option<Meeting>
 
 // The meeting at a point that is held.
 fn meeting_at(corner: Corner, theirs: &[Held]) -> Option<Meeting>
-    ensures { result ≡ option_map (λ priority. record { point = corner; priority = priority }) (top_held theirs.now corner) }
+    ensures { result ≡ option_map (λ priority. record { point = corner; priority = priority })
+        (top_held theirs.now corner) }
 {
     match top_at(theirs, &corner) {
         Some(priority) => Some(Meeting {
@@ -146,13 +186,14 @@ fn corner_of(mine: &Slab, theirs: &Slab) -> Corner
 fn has(slab: &Slab, x: &Corner) -> bool
     ensures { result ≡ slab_has slab.now x.now }
 {
-    has_leaf(slab, x.pos) && has_altitude(slab, x.altitude) && has_second(slab, x.second)
+    has_leaf(slab, x) && has_altitude(slab, x.altitude) && has_second(slab, x.second)
 }
 
-fn has_leaf(slab: &Slab, pos: u64) -> bool
-    ensures { result ≡ (nat_le slab.now.first pos && nat_le pos slab.now.last) }
+#[tactic(auto, using(crate::proofs::Corners::slab_has_position))]
+fn has_leaf(slab: &Slab, x: &Corner) -> bool
+    ensures { result ≡ slab_has_leaf slab.now x.now.leaf }
 {
-    slab.first <= pos && pos <= slab.last
+    slab.first <= x.pos && x.pos <= slab.last
 }
 
 fn has_altitude(slab: &Slab, altitude: i32) -> bool
@@ -169,18 +210,13 @@ fn has_second(slab: &Slab, second: i64) -> bool
 
 // The earlier of two points, either of which may be none.
 fn earlier(a: Option<Corner>, b: Option<Corner>) -> Option<Corner>
-    ensures { (f g : Point → Bool) → IsFirstPoint f a → IsFirstPoint g b → IsFirstPoint (λ x. f x || g x) result }
+    ensures { (f g : Point → Bool) → IsFirstPoint f a → IsFirstPoint g b
+        → IsFirstPoint (λ x. f x || g x) result }
 {
     match (a, b) {
         (None, _) => b,
         (Some(_), None) => a,
-        (Some(x), Some(y)) => {
-            if precedes(&y, &x) {
-                b
-            } else {
-                a
-            }
-        }
+        (Some(x), Some(y)) => { if precedes(&y, &x) { b } else { a } }
     }
 }
 
@@ -229,5 +265,7 @@ fn any_meets(mine: &[Slab], theirs: &[Slab]) -> bool
 fn meets_any(slab: &Slab, theirs: &[Slab]) -> bool
     ensures { result ≡ list_any (λ other. share slab.now other) theirs.now }
 {
-    theirs.iter().any(|other| least_corner(slab, other).is_some())
+    theirs
+        .iter()
+        .any(|other| least_corner(slab, other).is_some())
 }

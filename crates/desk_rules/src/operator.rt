@@ -7,6 +7,7 @@ ghost use Rattle.desk_rules.specs.Name.{is_operator_name};
 
 use std::cmp::Ordering;
 use std::marker::Model;
+use std::{fmt, str};
 
 /// An operator's name: 1 to 32 bytes of `a-z`, `0-9` and `-`, kept in place.
 #[derive(Clone, Copy, Debug)]
@@ -24,10 +25,14 @@ impl Model for Operator {
 
     ghost view = { λ o. take o.len o.bytes };
 
-    ghost invariant = { λ o. (length o.bytes ≡ 32) × (o.len ≤ 32) × IsTrue (is_operator_name (take o.len o.bytes))
-      × (o.bytes ≡ take o.len o.bytes ++ replicate (32 - o.len) 0) };
+    ghost invariant = { λ o. (length o.bytes ≡ 32) × (o.len ≤ 32)
+        × IsTrue (is_operator_name (take o.len o.bytes))
+        × (o.bytes ≡ take o.len o.bytes ++ replicate (32 - o.len) 0) };
 
-    ghost inverse = { λ name. record { bytes = name ++ replicate (32 - length name) 0; len = length name } };
+    ghost inverse = { λ name. record {
+      bytes = name ++ replicate (32 - length name) 0;
+      len = length name;
+    } };
 }
 
 impl Operator {
@@ -50,6 +55,23 @@ impl Operator {
         ensures { result.now ≡ self.now }
     {
         &self.bytes[..self.len]
+    }
+
+    /// The name as text.
+    pub fn as_str(&self) -> &str
+        ensures { result.now ≡ self.now }
+    {
+        str::from_utf8(&self.bytes[..self.len]).unwrap()
+    }
+}
+
+impl fmt::Display for Operator {
+    ghost use Rattle.std.specs.Prelude.{Some};
+
+    ghost output = { λ name. Some name };
+
+    fn fmt<W: fmt::Write>(&self, f: &mut fmt::Formatter<W>) -> fmt::Result {
+        f.pad(self.as_str())
     }
 }
 

@@ -1,8 +1,8 @@
 //! Footprints and volumes.
 
 ghost use Rattle.std.specs.Prelude.{◌≡◌, ◌&&◌, ◌||◌, Ok, Err, if◌then◌else◌, IsTrue, IfOk, OnOk, nat_le};
-ghost use Rattle.s2_cellid.specs.Cell.{cell_has};
-ghost use Rattle.desk_rules.specs.Point.{Point};
+ghost use Rattle.s2_cellid.specs.Family.{cell_has_leaf};
+ghost use Rattle.desk_rules.specs.Point.{Point, is_leaf};
 ghost use Rattle.desk_rules.specs.Shape as shapes;
 ghost use Rattle.desk_rules.specs.Shape.{shape_has};
 ghost use Rattle.desk_rules.specs.Slab.{slab_has, slabs_have};
@@ -23,7 +23,8 @@ pub enum Footprint {
     Cells(Vec<CellId>),
 }
 
-/// A footprint with altitudes and seconds, within the desk's limits by its type.
+/// A footprint with altitudes and seconds (`Volume4D` of ASTM F3548-21), within the desk's limits
+/// by its type.
 #[derive(Debug, Drop)]
 pub struct Volume {
     footprint: Footprint,
@@ -54,9 +55,14 @@ impl Volume {
     ghost use Rattle.desk_rules.specs.Footprint.{shape_of};
 
     /// A volume of a footprint of 1 to 64 cells; another footprint is dropped.
+    ///
+    /// # Errors
+    ///
+    /// `Cells` where the footprint has no cell or more than 64.
     pub fn try_new(footprint: Footprint, window: Window) -> Result<Volume, VolumeFault>
         ensures { result ≡ (if is_footprint (shape_of footprint)
-            then Ok (record { footprint = shape_of footprint; window = window }) else Err faults.Cells) }
+            then Ok (record { footprint = shape_of footprint; window = window })
+            else Err faults.Cells) }
     {
         if has_cells(&footprint) {
             Ok(Volume { footprint, window })
@@ -81,8 +87,13 @@ impl Volume {
     }
 
     /// Slabs that have exactly the points of the volume, in any order.
+    ///
+    /// # Errors
+    ///
+    /// `AllocError` for want of memory.
     pub fn slabs(&self, alloc: Global) -> Result<Vec<Slab>, AllocError>
-        ensures { IfOk result (λ slabs. (x : Point) → slabs_have slabs.items x ≡ block_has self.now x) }
+        ensures { IfOk result (λ slabs. (x : Point) →
+            slabs_have slabs.items x ≡ block_has self.now x) }
     {
         let mut slabs = Vec::new(alloc);
         self.push_slabs(&mut slabs)?;
@@ -100,6 +111,10 @@ impl Volume {
     }
 
     /// An equal volume.
+    ///
+    /// # Errors
+    ///
+    /// `AllocError` for want of memory.
     pub fn copy(&self) -> Result<Volume, AllocError>
         ensures { IfOk result (λ copy. copy ≡ self.now) }
     {
@@ -112,6 +127,10 @@ impl Volume {
 
 impl Footprint {
     /// An equal footprint.
+    ///
+    /// # Errors
+    ///
+    /// `AllocError` for want of memory.
     pub fn copy(&self) -> Result<Footprint, AllocError>
         ensures { IfOk result (λ copy. shape_of copy ≡ shape_of self.now) }
     {
@@ -124,7 +143,8 @@ impl Footprint {
 // Appends a slab for each cell.
 fn push_cells(slabs: &mut Vec<Slab>, cells: &[CellId], window: Window) -> Result<(), AllocError>
     ensures { OnOk result ((x : Point) → slabs_have slabs.new.items x
-        ≡ (slabs_have slabs.old.items x || (shape_has (shapes.cells cells.now) x.leaf && extent_has window x))) }
+        ≡ (slabs_have slabs.old.items x
+        || (shape_has (shapes.cells cells.now) x.leaf && extent_has window x))) }
 {
     for cell in cells {
         slabs.push(slab_of(cell, window))?;
@@ -134,7 +154,8 @@ fn push_cells(slabs: &mut Vec<Slab>, cells: &[CellId], window: Window) -> Result
 
 // The slab of a cell.
 fn slab_of(cell: &CellId, window: Window) -> Slab
-    ensures { (x : Point) → slab_has result x ≡ (cell_has cell.now x.leaf && extent_has window x) }
+    ensures { (x : Point) → slab_has result x
+        ≡ ((is_leaf x.leaf && cell_has_leaf cell.now x.leaf) && extent_has window x) }
 {
     Slab {
         first: cell.first(),

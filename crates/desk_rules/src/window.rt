@@ -6,8 +6,8 @@ ghost use Rattle.desk_rules.specs.Extent.{checked_extent};
 
 use std::marker::Model;
 
-/// The altitudes `lower <= a < upper`, in decimetres above the WGS84 ellipsoid, and the Unix seconds
-/// `start <= t < end` of a volume: within the desk's limits by its type.
+/// The altitudes `lower <= a < upper`, in decimetres above the WGS84 ellipsoid, and the Unix
+/// seconds `start <= t < end` of a volume: within the desk's limits by its type.
 #[derive(Clone, Copy, Debug, PartialEq, Eq)]
 pub struct Window {
     lower: i32,
@@ -32,56 +32,42 @@ impl Model for Window {
 
     ghost Value = { Extent };
 
-    ghost view = { λ w. record { lower = w.lower; upper = w.upper; start = w.start; stop = w.end } };
+    ghost view = { λ w. record {
+      lower = w.lower;
+      upper = w.upper;
+      start = w.start;
+      stop = w.end;
+    } };
 
-    ghost inverse = { λ e. record { lower = e.lower; upper = e.upper; start = e.start; end = e.stop } };
+    ghost inverse = { λ e. record {
+      lower = e.lower;
+      upper = e.upper;
+      start = e.start;
+      end = e.stop;
+    } };
 }
 
+// The least altitude, in decimetres.
 const LOWEST: i32 = -10_000;
+
+// The greatest bound above altitudes, in decimetres.
 const HIGHEST: i32 = 200_000;
+
+// The greatest bound after seconds, the end of the year 9998.
 const LAST: i64 = 253_370_764_800;
+
+// A day, in seconds.
 const LONGEST: i64 = 86_400;
 
-// Whether a least altitude and one above the greatest are in order and within the limits.
-fn are_altitudes(lower: i32, upper: i32) -> bool
-    ensures value { result ≡ within_altitudes lower upper }
-{
-    if lower < LOWEST {
-        return false;
-    }
-    if lower >= upper {
-        return false;
-    }
-    upper <= HIGHEST
-}
-
-// Whether a first second and one after the last are in order and within the limits.
-fn are_times(start: i64, end: i64) -> bool
-    ensures value { result ≡ within_times start end }
-    ensures bounds { IsTrue result → (pos 0 ≤ℤ start) × (start <ℤ end) }
-{
-    if start < 0 {
-        return false;
-    }
-    if start >= end {
-        return false;
-    }
-    end <= LAST
-}
-
-// Whether the seconds are at most a day.
-fn is_length(start: i64, end: i64) -> bool
-    requires low { pos 0 ≤ℤ start }
-    requires order { start <ℤ end }
-    ensures { result ≡ within_length start end }
-{
-    end - start <= LONGEST
-}
-
 impl Window {
-    /// The window of four numbers, or the first of their faults: `Altitude`, `Time`, `TooLong`.
+    /// The window of altitudes in decimetres and Unix seconds.
+    ///
+    /// # Errors
+    ///
+    /// The first fault that applies, in the order of `WindowFault`.
     pub fn try_new(lower: i32, upper: i32, start: i64, end: i64) -> Result<Window, WindowFault>
-        ensures { result ≡ checked_extent (record { lower = lower; upper = upper; start = start; stop = end }) }
+        ensures { result ≡ checked_extent
+            (record { lower = lower; upper = upper; start = start; stop = end }) }
     {
         if !are_altitudes(lower, upper) {
             return Err(WindowFault::Altitude);
@@ -127,4 +113,40 @@ impl Window {
     {
         self.end
     }
+}
+
+// Whether a least altitude and one above the greatest are in order and within the limits.
+fn are_altitudes(lower: i32, upper: i32) -> bool
+    ensures value { result ≡ within_altitudes lower upper }
+{
+    if lower < LOWEST {
+        return false;
+    }
+    if lower >= upper {
+        return false;
+    }
+    upper <= HIGHEST
+}
+
+// Whether a first second and one after the last are in order and within the limits.
+fn are_times(start: i64, end: i64) -> bool
+    ensures value { result ≡ within_times start end }
+    ensures bounds { IsTrue result → (pos 0 ≤ℤ start) × (start <ℤ end) }
+{
+    if start < 0 {
+        return false;
+    }
+    if start >= end {
+        return false;
+    }
+    end <= LAST
+}
+
+// Whether the seconds are at most a day.
+fn is_length(start: i64, end: i64) -> bool
+    requires low { pos 0 ≤ℤ start }
+    requires order { start <ℤ end }
+    ensures { result ≡ within_length start end }
+{
+    end - start <= LONGEST
 }

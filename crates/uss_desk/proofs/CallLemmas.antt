@@ -15,7 +15,7 @@ use Rattle.uss_desk.specs.declared.run.PutReply.{PutReply}
 use Rattle.uss_desk.specs.declared.run.Pending.{Pending}
 use Rattle.uss_desk.specs.World.{World, own, held, held_at, ceiling_of, plans_of, stored_of}
 use Rattle.uss_desk.specs.Changes.{put_row}
-use Rattle.uss_desk.specs.Verdicts.{Told, replied, unknown_operator, put_verdict, row_after, answer_put, told_of, reply_to, row_put, row_stored, plans_after, changed, answer_to, step}
+use Rattle.uss_desk.specs.Verdicts.{replied, unknown_operator, put_verdict, row_after, answer_put, told_of, reply_to, row_put, row_stored, plans_after, changed, answer_to, step}
 use Rattle.uss_desk.specs.Calls.{IsPending, HasRoomFor, committed}
 use Rattle.uss_desk.proofs.RunLemmas.{row_has_room}
 

@@ -14,6 +14,6 @@ pub mod JsonLemmas
 pub mod WindowLemmas
 pub mod EachLemmas
 pub mod AreaLemmas
-pub mod LeafLemmas
 pub mod BytesLemmas
 pub mod MomentLemmas
+pub mod StepLemmas

@@ -1,5 +1,5 @@
 -- Moments: they fit 64 bits.
-use Rattle.std.proofs.Common.{SFits, ◌≡◌, ℤ, pos, negsuc, ◌≤ℤ◌, List, All, arith, sym, subst, w64, to_z, of_z, get_or, length, ◌<◌, ◌≤◌, ℕ}
+use Rattle.std.proofs.Common.{SFits, ◌≡◌, ℤ, List, All, arith, sym, subst, w64, to_z, of_z, get_or, length, ◌<◌, ℕ}
 use Rattle.std.proofs.lemmas.Int.{to_z-of_z, ints}
 use Rattle.std.proofs.lemmas.List.Elements.{All-get_or}
 use Rattle.uss_desk.specs.Moments.{IsMoment}

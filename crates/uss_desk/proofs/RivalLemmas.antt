@@ -1,9 +1,8 @@
 -- What others hold, plan by plan.
-use Rattle.std.proofs.Common.{◌≡◌, ℕ, ◌+◌, ◌<◌, ◌≤◌, Bool, true, false, ◌&&◌, ◌||◌, cond, not, List, [], ◌∷◌, ◌++◌, length, get_or, take, map, Option, Some, None, refl, sym, ap, ◌∙◌, arith}
+use Rattle.std.proofs.Common.{◌≡◌, ℕ, ◌+◌, ◌<◌, Bool, true, false, ◌&&◌, ◌||◌, cond, not, List, [], ◌∷◌, ◌++◌, length, get_or, take, map, Option, Some, None, refl, sym, ap, ◌∙◌, arith}
 use Rattle.std.specs.Prelude.{nat_le, max}
-use Rattle.std.specs.List.{filter, find, list_any}
+use Rattle.std.specs.List.{filter}
 use Rattle.std.proofs.lemmas.Bool.Decides.{nat_tests}
-use Rattle.std.proofs.lemmas.List.{take_more}
 use Rattle.std.proofs.lemmas.List.Folds.{list_any_more}
 use Rattle.desk_rules.specs.declared.plan.PlanRow.{PlanRow}
 use Rattle.desk_rules.specs.declared.slab.Slab.{Slab}
@@ -11,14 +10,12 @@ use Rattle.desk_rules.specs.declared.slab.Held.{Held}
 use Rattle.desk_rules.specs.Point.{Point}
 use Rattle.desk_rules.specs.Volume.{area_has}
 use Rattle.desk_rules.specs.Slab.{slab_has, slabs_have, top_held}
-use Rattle.desk_rules.specs.Level.{greater, reaches}
+use Rattle.desk_rules.specs.Level.{greater}
 use Rattle.desk_rules.specs.LevelLaws.{greater_none, greater_assoc, greater_comm, level_where, top_priority-cons, top_priority-nil, top_held-push, top_held-nil}
 use Rattle.desk_rules.specs.Plan.{is_live, row_holds, top_priority}
 use Rattle.desk_rules.specs.Conflict.{at_least}
-use Rattle.uss_desk.specs.declared.store.list.Plan.{Plan}
 use Rattle.uss_desk.specs.World.{Filed, World, rows_by, is_by, has_id, others_of, held, held_at}
 use Rattle.uss_desk.specs.Rows.{is_own, rival_level, rivals_top}
-use Rattle.uss_desk.specs.Listing.{row_of, filed_of, filed_all}
 
 max_reaches : (n a b : ℕ) → (nat_le n a || nat_le n b) ≡ nat_le n (max a b)
 max_reaches n a b = grind (arith, nat_tests)

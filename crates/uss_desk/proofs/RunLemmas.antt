@@ -1,6 +1,6 @@
 -- Requests to plan: what a verdict stores has room.
-use Rattle.std.proofs.Common.{◌≡◌, ℕ, ℤ, ◌<◌, Bool, true, false, ◌&&◌, cond, not, ◌⊎◌, List, [], ◌∷◌, length, Option, Some, None, refl, sym, ap, ◌∙◌, inl, inr, arith, Less, Equal, Greater}
-use Rattle.std.specs.Prelude.{nat_le, nat_lt, is_some, is_none, IsSome}
+use Rattle.std.proofs.Common.{◌≡◌, ℕ, ℤ, ◌<◌, Bool, true, false, ◌&&◌, cond, not, List, [], ◌∷◌, length, Option, Some, None, refl, sym, ap, ◌∙◌, inl, inr, arith, Less, Equal, Greater}
+use Rattle.std.specs.Prelude.{nat_le, nat_lt, is_some, is_none}
 use Rattle.std.specs.List.{find}
 use Rattle.std.specs.Option.{option_map}
 use Rattle.std.proofs.lemmas.Bool.Decides.{nat_tests}

@@ -1,16 +1,15 @@
 -- Entries that ascend by operator and id are the operators' plans one after the other.
-use Rattle.std.proofs.Common.{◌≡◌, ℕ, Bool, true, false, cond, not, List, [], ◌∷◌, ◌++◌, map, Option, Some, None, refl, sym, ap, ◌∙◌, arith, Less, Equal, Greater}
-use Rattle.std.specs.List.{filter, find, AllByRecursion}
+use Rattle.std.proofs.Common.{◌≡◌, ℕ, false, List, [], ◌∷◌, ◌++◌, map, refl, sym, ap, ◌∙◌, Less, Equal, Greater}
+use Rattle.std.specs.List.{filter, AllByRecursion}
 use Rattle.std.specs.declared.cmp.Ordering.{Ordering}
-use Rattle.std.specs.Ordering.{ordering_then, ordering_reverse, is_eq, is_lt, is_gt, match_ordering}
+use Rattle.std.specs.Ordering.{ordering_then, is_gt, match_ordering}
 use Rattle.std.specs.List.Sorted.{IsStrictlySortedBy}
 use Rattle.std.specs.BTreeMap.{insert_entry}
 use Rattle.std.specs.Map.{keys_of}
-use Rattle.std.specs.Cmp.{IsTotalOrder}
-use Rattle.std.specs.Cmp.Lexicographic.{slice_cmp, nat_list_cmp_total}
+use Rattle.std.specs.Cmp.Lexicographic.{nat_list_cmp_total}
 use Rattle.std.proofs.lemmas.Map.Lookups.{exact_bytes}
 use Rattle.desk_rules.specs.declared.plan.PlanRow.{PlanRow}
-use Rattle.uss_desk.specs.World.{Filed, World, rows_by, text_cmp, is_by, has_id}
+use Rattle.uss_desk.specs.World.{Filed, rows_by, text_cmp}
 use Rattle.uss_desk.specs.declared.store.list.Plan.{Plan}
 use Rattle.uss_desk.specs.Listing.{row_of, filed_of, filed_all}
 use Rattle.uss_desk.specs.Changes.{put_row, filed_by, is_before, is_after}

@@ -1,6 +1,6 @@
 -- What the lists of a store in memory say of its world.
-use Rattle.std.proofs.Common.{◌≡◌, ℕ, suc, ◌+◌, ◌<◌, ◌≤◌, Bool, true, false, ◌&&◌, cond, not, ◌⊎◌, List, [], ◌∷◌, ◌++◌, length, get_or, take, map, Option, Some, None, refl, sym, ap, subst, ◌∙◌, inl, inr, arith, Less, Equal, Greater}
-use Rattle.std.specs.List.{filter, find, list_any}
+use Rattle.std.proofs.Common.{◌≡◌, ℕ, suc, ◌<◌, Bool, true, false, cond, List, [], ◌∷◌, length, map, Option, Some, None, refl, sym, ap, subst, ◌∙◌, inl, inr, arith, Less, Equal, Greater}
+use Rattle.std.specs.List.{filter, find}
 use Rattle.std.specs.Option.{option_map}
 use Rattle.std.specs.declared.cmp.Ordering.{Ordering}
 use Rattle.std.specs.Ordering.{ordering_then, is_eq, match_ordering}
@@ -8,11 +8,10 @@ use Rattle.std.specs.BTreeMap.{insert_entry, is_at}
 use Rattle.std.specs.Map.{lookup, keys_of}
 use Rattle.std.specs.List.Sorted.{IsStrictlySortedBy}
 use Rattle.std.specs.Prelude.{IsSome, is_some}
-use Rattle.std.proofs.lemmas.List.{take_more}
 use Rattle.std.proofs.lemmas.Map.Lookups.{exact_bytes}
 use Rattle.desk_rules.specs.declared.plan.PlanRow.{PlanRow}
 use Rattle.uss_desk.specs.declared.store.list.Plan.{Plan}
-use Rattle.uss_desk.specs.World.{Listed, Filed, World, text_cmp, rows_by, plans_of, is_by, ceiling_of, stored_of, has_id, max_rows, IsWorld}
+use Rattle.uss_desk.specs.World.{Listed, World, text_cmp, rows_by, plans_of, is_by, stored_of, has_id, max_rows, IsWorld}
 use Rattle.uss_desk.specs.Changes.{list_operator, put_row, with_operator, with_plans, HasRoom}
 use Rattle.uss_desk.specs.Listing.{row_of, listed_of, filed_of, filed_all, world_of}
 use Rattle.uss_desk.proofs.SortedPlans.{Key, key_cmp, replaced, inserted}

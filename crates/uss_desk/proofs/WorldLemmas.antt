@@ -1,16 +1,14 @@
 -- What a change of one operator's plans does to what each operator owns.
-use Rattle.std.proofs.Common.{◌≡◌, ℕ, ◌+◌, ◌<◌, ◌≤◌, Bool, true, false, cond, not, ◌⊎◌, List, [], ◌∷◌, ◌++◌, length, map, Option, Some, None, refl, sym, ap, subst, ◌∙◌, inl, inr, arith, Less, Equal, Greater, append_assoc}
-use Rattle.std.specs.Prelude.{IsSome, is_some}
-use Rattle.std.specs.List.{filter, find}
+use Rattle.std.proofs.Common.{◌≡◌, ℕ, ◌+◌, ◌<◌, ◌≤◌, Bool, true, false, cond, List, [], ◌∷◌, ◌++◌, length, map, refl, sym, ap, subst, ◌∙◌, arith, Less, Equal, Greater}
+use Rattle.std.specs.List.{filter}
 use Rattle.std.specs.declared.cmp.Ordering.{Ordering}
 use Rattle.std.specs.Ordering.{ordering_reverse, is_eq, is_lt, is_gt, match_ordering}
-use Rattle.std.specs.Cmp.{IsTotalOrder}
 use Rattle.std.proofs.lemmas.Cmp.{tied_itself}
-use Rattle.std.specs.Cmp.Lexicographic.{slice_cmp, nat_list_cmp_total}
+use Rattle.std.specs.Cmp.Lexicographic.{nat_list_cmp_total}
 use Rattle.std.proofs.lemmas.Map.Lookups.{exact_bytes}
 use Rattle.desk_rules.specs.declared.plan.PlanRow.{PlanRow}
-use Rattle.uss_desk.specs.World.{Filed, World, text_cmp, rows_by, plans_of, stored_of, is_by, has_id, max_rows, IsWorld}
-use Rattle.uss_desk.specs.Changes.{put_row, filed_by, is_before, is_after, with_plans, HasRoom}
+use Rattle.uss_desk.specs.World.{Filed, World, text_cmp, rows_by, plans_of, is_by, max_rows, IsWorld}
+use Rattle.uss_desk.specs.Changes.{put_row, filed_by, is_before, is_after, with_plans}
 
 rows_by-append : (o : List ℕ) (ps qs : List Filed) → rows_by o (ps ++ qs) ≡ rows_by o ps ++ rows_by o qs
 rows_by-append o [] qs = refl

@@ -2,7 +2,6 @@
 use Rattle.std.specs.Prelude.{◌≡◌, ℤ, List, ℕ, ⊤, Option, Some, None, Result, Ok, Err}
 use Rattle.std.specs.Option.{option_map}
 use Rattle.desk_rules.specs.declared.plan.PlanRow.{PlanRow}
-use Rattle.uss_desk.specs.declared.run.Call.{Call}
 use Rattle.uss_desk.specs.declared.run.Asked.{Asked}
 use Rattle.uss_desk.specs.declared.run.Reply.{Reply}
 use Rattle.uss_desk.specs.declared.run.Pending.{Pending}

@@ -1,5 +1,5 @@
 -- How worlds change.
-use Rattle.std.specs.Prelude.{ℕ, List, [], ◌∷◌, ◌++◌, Bool, map, ◌≤◌, ◌<◌, ◌⊎◌, length, IsSome}
+use Rattle.std.specs.Prelude.{ℕ, List, [], ◌∷◌, ◌++◌, Bool, map, ◌<◌, ◌⊎◌, length, IsSome}
 use Rattle.std.specs.List.{filter}
 use Rattle.std.specs.Ordering.{is_lt, is_gt, match_ordering}
 use Rattle.desk_rules.specs.declared.plan.PlanRow.{PlanRow}

@@ -1,6 +1,6 @@
 -- The bodies of answers to a request for a plan: JSON (RFC 8259) with the members in byte order.
 use Rattle.std.specs.Prelude.{ℕ, List, codes, Option, Some, None}
-use Rattle.s2_cellid.specs.Cell.{leaf_id_at}
+use Rattle.s2_cellid.specs.Family.{leaf_id}
 use Rattle.s2_cellid.specs.Token.{token_text}
 use Rattle.serde_json.specs.Data.{Data, Members, number, unsigned, string, object, member, no_members}
 use Rattle.serde_json.specs.Find.{of_integer}
@@ -15,7 +15,7 @@ use Rattle.uss_desk.specs.PlanWords.{status_word, result_word, notes_text}
 abbrev pub conflict_data : Spot → Data
 conflict_data spot = object (
     member (codes "altitude") (number (of_integer spot.point.altitude)) (
-    member (codes "cell") (string (token_text (leaf_id_at spot.point.leaf))) (
+    member (codes "cell") (string (token_text (leaf_id spot.point.leaf))) (
     member (codes "priority") (number (unsigned spot.priority)) (
     member (codes "second") (number (of_integer spot.point.second)) no_members))))
 

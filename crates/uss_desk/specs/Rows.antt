@@ -1,7 +1,6 @@
 -- Rows of a list of plans.
 use Rattle.std.specs.Prelude.{ℕ, List, Bool, not, ◌&&◌, Option, map}
 use Rattle.std.specs.List.{filter}
-use Rattle.desk_rules.specs.declared.plan.PlanRow.{PlanRow}
 use Rattle.desk_rules.specs.Point.{Point}
 use Rattle.desk_rules.specs.LevelLaws.{level_where}
 use Rattle.desk_rules.specs.Plan.{row_holds, top_priority}

@@ -1,6 +1,6 @@
 -- Verdicts: what a desk answers to a call, and what it leaves, by what the operator owns and what others hold.
-use Rattle.std.specs.Prelude.{ℕ, ℤ, length, List, Option, Some, None, cond}
-use Rattle.std.specs.Option.{option_map, option_and_then}
+use Rattle.std.specs.Prelude.{ℕ, ℤ, length, List, Option, Some, None}
+use Rattle.std.specs.Option.{option_map, unwrap_or}
 use Rattle.desk_rules.specs.declared.plan.PlanRow.{PlanRow}
 use Rattle.desk_rules.specs.declared.plan.PutCall.{PutCall}
 use Rattle.desk_rules.specs.declared.words.Usage.TheVariants as usage
@@ -14,7 +14,6 @@ use Rattle.uss_desk.specs.declared.run.Call.{Call}
 use Rattle.uss_desk.specs.declared.run.Call.TheVariants as call
 use Rattle.uss_desk.specs.declared.run.Reply.{Reply}
 use Rattle.uss_desk.specs.declared.run.Reply.TheVariants as reply
-use Rattle.uss_desk.specs.declared.run.PutReply.{PutReply}
 use Rattle.uss_desk.specs.World.{World, Own, own, held, held_at, stored_of}
 use Rattle.uss_desk.specs.Changes.{put_row, with_plans}
 
@@ -64,6 +63,10 @@ row_stored mine others moment (call.Put asked) = row_put mine others moment aske
 -- the operator's plans after a call, or none where they stay as they were
 unfoldable pub plans_after : Own → (Point → Option ℕ) → ℤ → Call → Option (List PlanRow)
 plans_after mine others moment asked = option_map (λ row. put_row row mine.plans) (row_stored mine others moment asked)
+
+-- what the operator owns after a call
+unfoldable pub own_left : Own → (Point → Option ℕ) → ℤ → Call → Own
+own_left mine others moment asked = record mine { plans = unwrap_or (plans_after mine others moment asked) mine.plans }
 
 -- the world with an operator's plans replaced, where they changed
 abbrev pub changed : World → List ℕ → Option (List PlanRow) → World

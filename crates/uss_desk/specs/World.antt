@@ -1,14 +1,14 @@
 -- Worlds: what a desk knows of its operators and of their plans. What one operator owns, and what others hold.
-use Rattle.std.specs.Prelude.{◌≡◌, ℕ, List, Bool, not, ◌&&◌, Option, Some, None, map, length, ◌≤◌}
+use Rattle.std.specs.Prelude.{ℕ, List, Bool, not, Option, map, length, ◌≤◌}
 use Rattle.std.specs.Option.{option_map}
 use Rattle.std.specs.List.{filter, find}
 use Rattle.std.specs.declared.cmp.Ordering.{Ordering}
-use Rattle.std.specs.Ordering.{is_eq, is_lt, is_gt, nat_cmp, match_ordering}
+use Rattle.std.specs.Ordering.{is_eq, nat_cmp}
 use Rattle.std.specs.Cmp.Lexicographic.{slice_cmp}
 use Rattle.desk_rules.specs.declared.plan.PlanRow.{PlanRow}
 use Rattle.desk_rules.specs.Point.{Point}
 use Rattle.desk_rules.specs.Level.{greater}
-use Rattle.desk_rules.specs.Plan.{row_holds, top_priority}
+use Rattle.desk_rules.specs.Plan.{top_priority}
 
 -- a plan, with its operator's name
 pub record Filed : Type 0 where

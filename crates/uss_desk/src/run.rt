@@ -14,6 +14,7 @@ use put::verdict_on;
 use std::alloc::Global;
 use std::marker::Model;
 
+pub mod laws;
 mod put;
 
 /// The greatest ceiling.

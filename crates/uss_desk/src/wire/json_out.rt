@@ -1,6 +1,6 @@
 //! The bodies of answers, as JSON.
 ghost use Rattle.std.specs.Prelude.{◌≡◌, IfOk, codes, false};
-ghost use Rattle.s2_cellid.specs.Cell.{leaf_id_at};
+ghost use Rattle.s2_cellid.specs.Family.{leaf_id};
 ghost use Rattle.serde_json.specs.Data.{object, member};
 ghost use Rattle.serde_json.specs.View.{view};
 ghost use Rattle.serde_json.specs.Written.{has_float};
@@ -10,6 +10,7 @@ ghost use Rattle.uss_desk.specs.PlanBody.{conflict_data, outcome_members, put_da
 use desk_rules::meeting::Meeting;
 use desk_rules::words::{Note, PlanResult, PlanStatus};
 use s2_cellid::CellId;
+use s2_hilbert::leaf_at;
 use serde_json::{Value, json};
 use std::alloc::{AllocError, Global};
 
@@ -128,9 +129,8 @@ fn conflict_value(alloc: Global, meeting: Meeting) -> Result<Value, AllocError>
 }
 
 // The leaf cell where two plans meet.
-#[tactic(auto, using(crate::proofs::LeafLemmas::leaf_is_cell))]
 fn leaf_of(meeting: Meeting) -> CellId
-    ensures { result ≡ leaf_id_at meeting.point.leaf }
+    ensures { result ≡ leaf_id meeting.point.leaf }
 {
-    CellId::from_raw(2 * meeting.pos + 1).unwrap()
+    CellId::of_leaf(leaf_at(meeting.pos))
 }

@@ -1,4 +1,4 @@
-use Rattle.std.proofs.Common.{◌++◌, ap, ◌∙◌, ℕ, length, replicate}
+use Rattle.std.proofs.Common.{ℕ, length}
 use Rattle.std.proofs.lemmas.List.{drop-replicate}
 use Rattle.desk_rules.proofs.operator.padded.Goals as goal
 

@@ -1,4 +1,3 @@
-use Rattle.std.proofs.Common.{rules}
 use Rattle.desk_rules.proofs.Options.{none_by}
 use Rattle.desk_rules.proofs.plan_id.PlanId.try_parse.Goals as goal
 

@@ -1,4 +1,4 @@
-use Rattle.std.proofs.Common.{refl, ◌∙◌, ap, arith}
+use Rattle.std.proofs.Common.{◌∙◌, ap, arith}
 use Rattle.std.proofs.lemmas.Result.{err_from_is_err_and}
 use Rattle.uss_desk.specs.Changes.{with_operator}
 use Rattle.uss_desk.specs.StoreChange.{changed_by, IsFitting}

@@ -1,4 +1,4 @@
-use Rattle.std.proofs.Common.{◌∙◌, ap, sym, Some}
+use Rattle.std.proofs.Common.{◌∙◌, ap, Some}
 use Rattle.std.specs.Option.{option_map}
 use Rattle.uss_desk.specs.Listing.{row_of}
 use Rattle.uss_desk.proofs.StoreLemmas.{plan_found}

@@ -1,7 +1,6 @@
-use Rattle.std.proofs.Common.{◌≡◌, Err, ◌∙◌, ap, subst, w64}
+use Rattle.std.proofs.Common.{Err, ◌∙◌, ap, subst, w64}
 use Rattle.std.proofs.lemmas.Int.{to_z-of_z}
 use Rattle.std.proofs.lemmas.Result.{IfOk-weaker, on_ok_weaker}
-use Rattle.uss_desk.specs.declared.run.DeskFault.{DeskFault}
 use Rattle.uss_desk.specs.Calls.{IsPending, Prepares, committed}
 use Rattle.uss_desk.proofs.BytesLemmas.{done_if_ok, done_unknown}
 use Rattle.uss_desk.proofs.wire.desk.answer_call.Goals as goal

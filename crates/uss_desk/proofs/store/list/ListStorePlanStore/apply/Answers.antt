@@ -1,4 +1,3 @@
-use Rattle.std.proofs.Common.{rules}
 use Rattle.uss_desk.specs.StoreChange.{changed_by, IsFitting}
 use Rattle.uss_desk.proofs.store.list.ListStorePlanStore.apply.Goals as goal
 

@@ -1,6 +1,6 @@
 use Rattle.std.proofs.Common.{◌∙◌, ap}
 use Rattle.desk_rules.specs.Conflict.{at_least}
-use Rattle.uss_desk.specs.World.{World, plans_of, held, held_at}
+use Rattle.uss_desk.specs.World.{plans_of, held, held_at}
 use Rattle.uss_desk.specs.Listing.{world_of}
 use Rattle.uss_desk.proofs.RivalLemmas.{held_by_rivals}
 use Rattle.uss_desk.proofs.store.list.ListStorePlanStore.rivals.Goals as goal

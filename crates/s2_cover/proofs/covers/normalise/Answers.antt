@@ -1,0 +1,42 @@
+use Rattle.std.proofs.Common.{sym, ◌∙◌, rules}
+use Rattle.std.proofs.lemmas.List.Sorted.{IsNonDecreasingBy-from_sort_by_key}
+use Rattle.s2_cellid.specs.Cell.{first_leaf}
+use Rattle.s2_cover.specs.Leaves.{leaves_of}
+use Rattle.s2_cover.specs.Runs.{spans_have}
+use Rattle.s2_cover.proofs.Laid.{canonical_same}
+use Rattle.s2_cover.proofs.Merging.{given_leaves}
+use Rattle.s2_cover.proofs.covers.normalise.Goals as goal
+
+pub of_sorted-requires : goal.of_sorted-requires
+of_sorted-requires c =
+    rw c.deref.ensures.value
+    (IsNonDecreasingBy-from_sort_by_key first_leaf _ c.sort_unstable_by_key.ensures.sorted
+    (λ a r q k. search rules))
+
+pub invariant_of-result : goal.invariant_of-result
+invariant_of-result c =
+    let told = c.in_ok-cells.ensures in
+    let ids = c.in_ok-cells.cells.items in
+    canonical_same (spans_have c.spans.result.now) (leaves_of ids) ids (λ p. sym (told.leaves p))
+    told.canonical
+
+pub returns-clause-canonical : goal.returns-clause-canonical
+returns-clause-canonical c =
+    let told = c.in_ok-cells.ensures in
+    let given =
+    given_leaves c.args.cells.now c.in_ok-sorted.sorted.items
+    c.sort_unstable_by_key.new.self.items c.deref.result.now c.spans.result.now
+    c.in_ok-ranges.ranges c.in_ok-sorted.ensures.items c.sort_unstable_by_key.ensures.permutation
+    c.deref.ensures.value c.in_ok-ranges.ensures c.spans.ensures.value in
+    canonical_same (spans_have c.spans.result.now) (leaves_of c.args.cells.now)
+    c.in_ok-cells.cells.items given told.canonical
+
+pub returns-clause-leaves : goal.returns-clause-leaves
+returns-clause-leaves c p =
+    let told = c.in_ok-cells.ensures in
+    let given =
+    given_leaves c.args.cells.now c.in_ok-sorted.sorted.items
+    c.sort_unstable_by_key.new.self.items c.deref.result.now c.spans.result.now
+    c.in_ok-ranges.ranges c.in_ok-sorted.ensures.items c.sort_unstable_by_key.ensures.permutation
+    c.deref.ensures.value c.in_ok-ranges.ensures c.spans.ensures.value in
+    told.leaves p ∙ given p

@@ -1,0 +1,27 @@
+-- The normal form of the S2 geometry library (S2CellUnion::Normalize): the largest cells that lie
+-- in a set of leaves, in the order of their ids.
+use Rattle.std.specs.Prelude.{◌≡◌, ◌↔◌, ◌⊎◌, ℕ, ◌+◌, ◌*◌, ◌/◌, Bool, false, IsTrue, List, Contains}
+use Rattle.std.specs.List.Sorted.{IsStrictlyIncreasing}
+use Rattle.s2_cellid.specs.Cell.{lowest_bit, level_of, IsCellId, cell_has}
+
+-- the cell of one level less that has the cell's leaves (S2CellId::parent): the lowest set bit
+-- moves up by two places, and the bits below it go
+abbrev pub parent_of : ℕ → ℕ
+parent_of id = let bit = 4 * lowest_bit id in id / (2 * bit) * (2 * bit) + bit
+
+-- a valid cell in the set, which is a whole face or has a parent with a leaf outside the set
+pub record IsLargest (set : ℕ → Bool) (id : ℕ) : Type 0 where
+  pub valid : IsCellId id
+  pub inside : (p : ℕ) → IsTrue (cell_has id p) → IsTrue (set p)
+  pub outside :
+      (level_of id ≡ 0) ⊎ ((p : ℕ) × (IsTrue (cell_has (parent_of id) p) × (set p ≡ false)))
+
+-- the ids of all such cells of the set, ascending
+pub record IsCanonical (set : ℕ → Bool) (ids : List ℕ) : Type 0 where
+  pub ascending : IsStrictlyIncreasing ids
+  pub members : (id : ℕ) → Contains ids id ↔ IsLargest set id
+
+-- what a cover is seen as: the ids of its cells, and how many squares were looked at to find them
+pub record CoverParts : Type 0 where
+  pub ids : List ℕ
+  pub looked : ℕ

@@ -1,0 +1,32 @@
+-- How far a canonical list has come, from the first leaf position on.
+use Rattle.std.specs.Prelude.{◌≡◌, ℕ, ◌+◌, ◌<◌, ◌≤◌, Bool, false, IsTrue, List, Contains, AllPairs}
+use Rattle.s2_cellid.specs.Cell.{lowest_place, IsCellId, first_leaf, last_leaf}
+use Rattle.s2_cover.specs.Leaves.{leaves_of}
+use Rattle.s2_cover.specs.Canonical.{IsLargest}
+use Rattle.s2_cover.specs.Runs.{IsSpan, span_has}
+use Rattle.s2_cover.specs.declared.spans.Span.{Span}
+
+-- a longest run of positions of the set
+pub record IsRun (set : ℕ → Bool) (span : Span) : Type 0 where
+  pub is : IsSpan span
+  pub inside : (p : ℕ) → IsTrue (span_has span p) → IsTrue (set p)
+  pub before : (p : ℕ) → p + 1 ≡ span.first → set p ≡ false
+  pub after : set (span.last + 1) ≡ false
+
+-- the largest cells that have the set's positions below `upto`, and none from there on
+pub record IsLaid (set : ℕ → Bool) (ids : List ℕ) (upto : ℕ) : Type 0 where
+  pub ascending : AllPairs ◌<◌ ids
+  pub largest : (id : ℕ) → Contains ids id → IsLargest set id
+  pub ended : (id : ℕ) → Contains ids id → last_leaf id < upto
+  pub covered : (p : ℕ) → p < upto → IsTrue (set p) → IsTrue (leaves_of ids p)
+
+-- a cell with this first leaf and no leaf after `last`
+pub record BeginsAt (first last id : ℕ) : Type 0 where
+  pub valid : IsCellId id
+  pub begins : first_leaf id ≡ first
+  pub ends : last_leaf id ≤ last
+
+-- the largest of these
+pub record IsLargestFrom (first last id : ℕ) : Type 0 where
+  pub is : BeginsAt first last id
+  pub largest : (other : ℕ) → BeginsAt first last other → lowest_place other ≤ lowest_place id

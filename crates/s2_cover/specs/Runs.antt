@@ -1,0 +1,29 @@
+-- Sets of leaf positions as ranges.
+use Rattle.std.specs.Prelude.{◌≡◌, ℕ, ◌+◌, ◌*◌, ◌^◌, ◌<◌, ◌≤◌, Bool, List, All, AllPairs}
+use Rattle.std.specs.Int.{is_in_range}
+use Rattle.std.specs.List.{list_any}
+use Rattle.s2_cover.specs.declared.spans.Span.{Span}
+
+-- whether a position lies in a span
+abbrev pub span_has : Span → ℕ → Bool
+span_has span position = is_in_range span.first span.last position
+
+-- the positions of a list of spans: each that lies in some span
+abbrev pub spans_have : List Span → ℕ → Bool
+spans_have spans position = list_any (λ span. span_has span position) spans
+
+-- the ends of a span are leaf positions, in order
+pub record IsSpan (span : Span) : Type 0 where
+  pub ordered : span.first ≤ span.last
+  pub below : span.last < 6 * 2 ^ 60
+
+-- one span wholly before another, with a position between them that neither has
+abbrev pub IsApart : Span → Span → Type 0
+IsApart left right = left.last + 1 < right.first
+
+-- ascending spans, no two of which share a position or touch, and which have exactly the set's
+-- positions
+pub record IsRanges (set : ℕ → Bool) (spans : List Span) : Type 0 where
+  pub each : All IsSpan spans
+  pub apart : AllPairs IsApart spans
+  pub positions : (p : ℕ) → spans_have spans p ≡ set p

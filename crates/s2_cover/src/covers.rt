@@ -1,0 +1,147 @@
+//! Canonical covers.
+
+ghost use Rattle.std.specs.Prelude.{◌≡◌, ◌≢◌, ℕ, ◌+◌, ◌*◌, ◌^◌, ◌<◌, ◌≤◌, Bool};
+ghost use Rattle.std.specs.Prelude.{IfOk, OnOk, IfSome, IfNone};
+ghost use Rattle.s2_cellid.specs.Cell.{lowest_place};
+ghost use Rattle.s2_cover.specs.Leaves.{leaves_of};
+ghost use Rattle.s2_cover.specs.Canonical.{IsCanonical};
+ghost use Rattle.s2_cover.specs.Runs.{IsRanges};
+ghost use Rattle.s2_cover.specs.Laying.{IsRun, IsLaid, BeginsAt, IsLargestFrom};
+
+use crate::spans::{Ranges, Span};
+use s2_cellid::CellId;
+use std::alloc::{AllocError, Global};
+use std::marker::Model;
+
+/// The canonical list of the cells of a set of leaves: the normal form of the S2 geometry library
+/// (`S2CellUnion`), with no cell inside another and no four cells that are a cell's children.
+#[derive(Debug, Drop)]
+pub struct Cover {
+    cells: Vec<CellId>,
+    looked: u64,
+}
+
+impl Model for Cover {
+    ghost use Rattle.s2_cover.specs.Canonical.{CoverParts, IsCanonical};
+    ghost use Rattle.s2_cover.specs.Leaves.{leaves_of};
+
+    ghost Value = { CoverParts };
+
+    ghost view = { λ cover. record { ids = cover.cells.items; looked = cover.looked } };
+
+    ghost invariant = { λ cover. IsCanonical (leaves_of cover.cells.items) cover.cells.items };
+}
+
+impl Cover {
+    /// The cells, ascending by their ids.
+    pub fn cells(&self) -> &[CellId]
+        ensures value { result.now ≡ self.now.ids }
+        ensures canonical { IsCanonical (leaves_of self.now.ids) self.now.ids }
+    {
+        self.cells.as_slice()
+    }
+
+    /// How many squares were looked at to find the cells; 0 for a normal form.
+    pub fn looked(&self) -> u64
+        ensures { result ≡ self.now.looked }
+    {
+        self.looked
+    }
+
+    /// The ranges of the positions of the cover's leaves, in one pass over the cells. Fails only
+    /// where memory is refused.
+    pub fn ranges(&self) -> Result<Ranges, AllocError>
+        ensures { IfOk result (IsRanges (leaves_of self.now.ids)) }
+    {
+        Ranges::of_sorted(*self.cells.allocator(), &self.cells)
+    }
+
+    /// An equal value. Fails only where memory is refused.
+    pub fn copy(&self) -> Result<Cover, AllocError>
+        ensures { IfOk result (λ cover. cover ≡ self.now) }
+    {
+        let cells = Vec::from_slice(*self.cells.allocator(), &self.cells)?;
+        Ok(Cover {
+            cells,
+            looked: self.looked,
+        })
+    }
+}
+
+/// The canonical cover of all leaves of the cells, which may be in any order, overlap and repeat;
+/// of no cells the cover with none (`S2CellUnion::Normalize`). The cells are sorted once; after
+/// that each of them, and each cell of the cover, takes a bounded number of steps. Fails only where
+/// memory is refused.
+pub fn normalise(alloc: Global, cells: &[CellId]) -> Result<Cover, AllocError>
+    ensures canonical { IfOk result (λ cover. IsCanonical (leaves_of cells.now) cover.ids) }
+    ensures leaves { IfOk result (λ cover.
+        (p : ℕ) → leaves_of cover.ids p ≡ leaves_of cells.now p) }
+    ensures looked { IfOk result (λ cover. cover.looked ≡ 0) }
+{
+    let mut sorted = Vec::from_slice(alloc, cells)?;
+    sorted.sort_unstable_by_key(|cell| cell.first());
+    let ranges = Ranges::of_sorted(alloc, &sorted)?;
+    let cells = largest_cells(alloc, ranges.spans())?;
+    Ok(Cover { cells, looked: 0 })
+}
+
+// The largest cells in the set of positions of the spans, ascending.
+fn largest_cells(alloc: Global, spans: &[Span]) -> Result<Vec<CellId>, AllocError>
+    ghost set: { ℕ → Bool }
+    requires { IsRanges set spans.now }
+    ensures canonical { IfOk result (λ cells. IsCanonical set cells.items) }
+    ensures leaves { IfOk result (λ cells. (p : ℕ) → leaves_of cells.items p ≡ set p) }
+{
+    let mut cells = Vec::new(alloc);
+    for span in spans {
+        push_cells(&mut cells, span)?;
+    }
+    Ok(cells)
+}
+
+// Appends the largest cells in the span.
+fn push_cells(cells: &mut Vec<CellId>, span: &Span) -> Result<(), AllocError>
+    ghost set: { ℕ → Bool }
+    requires run { IsRun set span.now }
+    requires laid { IsLaid set cells.old.items span.now.first }
+    ensures { OnOk result (IsLaid set cells.new.items (span.now.last + 1)) }
+{
+    let mut position = span.first;
+    while position <= span.last {
+        let cell = largest_from(position, span.last);
+        cells.push(cell)?;
+        position = cell.last() + 1;
+    }
+    Ok(())
+}
+
+// The largest cell that begins at a position and ends no later than another.
+fn largest_from(first: u64, last: u64) -> CellId
+    requires ordered { first ≤ last }
+    requires below { last < 6 * 2 ^ 60 }
+    ensures { IsLargestFrom first last result }
+{
+    for level in 0..30u64 {
+        if let Some(cell) = cell_within(first, last, 60 - 2 * level) {
+            return cell;
+        }
+    }
+    CellId::from_raw(2 * first + 1).unwrap()
+}
+
+// The cell with this first leaf and its lowest bit at this place, unless there is none or it ends
+// after `last`.
+fn cell_within(first: u64, last: u64, place: u64) -> Option<CellId>
+    requires below { first < 6 * 2 ^ 60 }
+    requires at_most { place ≤ 60 }
+    ensures found { IfSome result (λ cell. BeginsAt first last cell × (lowest_place cell ≡ place)) }
+    ensures none { IfNone result (
+        (id : ℕ) → BeginsAt first last id → lowest_place id ≢ place) }
+{
+    let cell = CellId::from_raw(2 * first + (1 << place))?;
+    if cell.first() == first && cell.last() <= last {
+        Some(cell)
+    } else {
+        None
+    }
+}

@@ -1,0 +1,94 @@
+//! Ranges of leaf positions.
+
+ghost use Rattle.std.specs.Prelude.{◌≡◌, ℕ, IfOk};
+ghost use Rattle.std.specs.List.Sorted.{IsNonDecreasingBy};
+ghost use Rattle.s2_cellid.specs.Cell.{first_leaf, cell_has};
+ghost use Rattle.s2_cover.specs.Leaves.{leaves_of};
+ghost use Rattle.s2_cover.specs.Runs.{IsSpan, IsRanges, span_has, spans_have};
+
+use s2_cellid::CellId;
+use std::alloc::{AllocError, Global};
+use std::marker::Model;
+
+/// The leaf positions from `first` to `last`, both of which belong to it. A leaf's position counts
+/// the leaves of all six faces from 0 in the order of their ids; its id is `2 * position + 1`.
+#[derive(Clone, Copy, Debug, PartialEq, Eq, PartialOrd, Ord, Hash)]
+pub struct Span {
+    /// The least position.
+    pub first: u64,
+    /// The greatest position.
+    pub last: u64,
+}
+
+/// A set of leaf positions, as spans: ascending, and no two of them share a position or touch, also
+/// where one face ends and the next begins.
+#[derive(Debug, Drop)]
+pub struct Ranges {
+    spans: Vec<Span>,
+}
+
+impl Model for Ranges {
+    ghost use Rattle.std.specs.Prelude.{List};
+    ghost use Rattle.s2_cover.specs.declared.spans.Span.{Span};
+    ghost use Rattle.s2_cover.specs.Runs.{IsRanges, spans_have};
+
+    ghost Value = { List Span };
+
+    ghost view = { λ ranges. ranges.spans.items };
+
+    ghost invariant = { λ ranges. IsRanges (spans_have ranges.spans.items) ranges.spans.items };
+}
+
+impl Ranges {
+    /// The spans, ascending. Each has its first position at or before its last, which is below
+    /// `6 * 2^60`.
+    pub fn spans(&self) -> &[Span]
+        ensures value { result.now ≡ self.now }
+        ensures ranges { IsRanges (spans_have self.now) self.now }
+    {
+        self.spans.as_slice()
+    }
+
+    /// An equal value. Fails only where memory is refused.
+    pub fn copy(&self) -> Result<Ranges, AllocError>
+        ensures { IfOk result (λ ranges. ranges ≡ self.now) }
+    {
+        let spans = Vec::from_slice(*self.spans.allocator(), &self.spans)?;
+        Ok(Ranges { spans })
+    }
+
+    /// The ranges of the leaves of cells whose first leaves ascend.
+    pub(crate) fn of_sorted(alloc: Global, cells: &[CellId]) -> Result<Ranges, AllocError>
+        requires { IsNonDecreasingBy first_leaf cells.now }
+        ensures { IfOk result (IsRanges (leaves_of cells.now)) }
+    {
+        let mut spans = Vec::new(alloc);
+        let Some((first, rest)) = cells.split_first() else {
+            return Ok(Ranges { spans });
+        };
+        let mut current = span_of(first);
+        for cell in rest {
+            let span = span_of(cell);
+            if span.first <= current.last + 1 {
+                current.last = current.last.max(span.last);
+            } else {
+                spans.push(current)?;
+                current = span;
+            }
+        }
+        spans.push(current)?;
+        Ok(Ranges { spans })
+    }
+}
+
+// The positions of a cell's leaves.
+fn span_of(cell: &CellId) -> Span
+    ensures is { IsSpan result }
+    ensures first { result.first ≡ first_leaf cell.now }
+    ensures leaves { (p : ℕ) → span_has result p ≡ cell_has cell.now p }
+{
+    Span {
+        first: cell.first(),
+        last: cell.last(),
+    }
+}
