@@ -4,6 +4,9 @@ ghost use Rattle.std.specs.Prelude.{◌≡◌, ◌≢◌, ◌<◌, ◌↔◌, Er
 ghost use Rattle.uss_desk.specs.Calls.{Prepares, HasRoomFor, committed};
 ghost use Rattle.uss_desk.specs.Moments.{IsMoment};
 
+#[cfg(test)]
+mod tests;
+
 use crate::store::{Change, PlanStore, StoreFault};
 use desk_rules::decide::Verdict;
 use desk_rules::meeting::Meeting;
