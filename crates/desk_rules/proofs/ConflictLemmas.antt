@@ -10,19 +10,20 @@ use Rattle.std.proofs.lemmas.Cmp.{nat_cmp_total, int_cmp_total, on_total, then_t
 use Rattle.s2_hilbert.specs.Curve.{position_of}
 use Rattle.s2_hilbert.proofs.Positions.{same_leaf}
 use Rattle.s2_cellid.specs.Family.{leaf_id}
-use Rattle.desk_rules.specs.Point.{Point, is_leaf, point_cmp}
-use Rattle.desk_rules.specs.Volume.{Block, area_has}
+use Rattle.volume4d.specs.Point.{Point, is_leaf, point_cmp}
+use Rattle.volume4d.specs.Volume.{Block, area_has}
 use Rattle.desk_rules.specs.Level.{reaches}
-use Rattle.desk_rules.specs.declared.slab.Slab.{Slab}
-use Rattle.desk_rules.specs.declared.slab.Held.{Held}
-use Rattle.desk_rules.specs.Slab.{top_held}
-use Rattle.desk_rules.specs.Shared.{is_shared}
-use Rattle.desk_rules.specs.Meeting.{Spot, IsFirst, IsFirstPoint, IsFirstSpot}
+use Rattle.volume4d.specs.declared.slab.Slab.{Slab}
+use Rattle.volume4d.specs.declared.slab.Held.{Held}
+use Rattle.volume4d.specs.Slab.{top_held}
+use Rattle.volume4d.specs.Shared.{is_shared}
+use Rattle.volume4d.specs.Meeting.{Spot, IsFirst, IsFirstPoint, IsFirstSpot}
 use Rattle.desk_rules.specs.Bridge.{AreSlabsOf, HoldLevels}
 use Rattle.desk_rules.specs.Search.{first_pair}
 use Rattle.desk_rules.specs.Conflict.{is_blocked, IsConflict, first_point, point_of, conflict, at_least}
-use Rattle.desk_rules.proofs.LeafTests.{leaf_test, point_by_position}
-use Rattle.desk_rules.proofs.Corners.{both, refuted}
+use Rattle.volume4d.specs.PointLaws.{leaf_test}
+use Rattle.desk_rules.proofs.PointTests.{point_by_position}
+use Rattle.std.proofs.lemmas.Bool.{and_parts, false_from_ne_true}
 use Rattle.desk_rules.proofs.SearchLemmas.{IsFound, InBoth, BeforePair, IsBelow, IsLess, IsWithinInt, IsLessInt, below_finds, within_finds, pair_finds}
 use Rattle.desk_rules.proofs.Reach.{same_position, same_int, area_leaf, area_reach, before_pair, leaf_total, altitude_total, second_total}
 
@@ -43,12 +44,12 @@ first_point_is area passes inside = step (first_pair _ _ (λ p. passes (point_of
   passes_there x e = ap passes (point_by_position x (area_leaf area x (inside x e))) ∙ e
 
   step : (o : Option (ℕ × (ℤ × ℤ))) → IsFound Reach Before (λ p. passes (point_of p)) o → IsFirstPoint passes (option_map point_of o)
-  step None h = λ x. refuted _ (λ e. let no = h (place_of x) (area_reach area x (inside x e)) in let yes = passes_there x e in cc)
-  step (Some p) h = (h.1, λ x l. refuted _ (λ e. let no = h.2 (place_of x) (area_reach area x (inside x e)) (before_pair x p l) in let yes = passes_there x e in cc))
+  step None h = λ x. false_from_ne_true _ (λ e. let no = h (place_of x) (area_reach area x (inside x e)) in let yes = passes_there x e in cc)
+  step (Some p) h = (h.1, λ x l. false_from_ne_true _ (λ e. let no = h.2 (place_of x) (area_reach area x (inside x e)) (before_pair x p l) in let yes = passes_there x e in cc))
 
 only_inside : (area : List Block) (levels : Point → Option ℕ) (priority : ℕ) (x : Point) → is_blocked area levels priority x ≡ true → area_has area x ≡ true
 unfolding is_blocked
-only_inside area levels priority x e = (both (area_has area x) _ e).0
+only_inside area levels priority x e = (and_parts (area_has area x) _ e).0
 
 has_level : (o : Option ℕ) (priority : ℕ) → reaches o priority ≡ true → (n : ℕ) × (o ≡ Some n)
 has_level None priority e = cc
@@ -56,7 +57,7 @@ has_level (Some n) priority e = (n, refl)
 
 blocked_level : (area : List Block) (levels : Point → Option ℕ) (priority : ℕ) (x : Point) → is_blocked area levels priority x ≡ true → (n : ℕ) × (levels x ≡ Some n)
 unfolding is_blocked
-blocked_level area levels priority x e = has_level (levels x) priority (both (area_has area x) _ e).1
+blocked_level area levels priority x e = has_level (levels x) priority (and_parts (area_has area x) _ e).1
 
 -- the first passing point and its level are the first spot
 pub first_spot : (passes : Point → Bool) (levels : Point → Option ℕ) → ((x : Point) → passes x ≡ true → (n : ℕ) × (levels x ≡ Some n)) → (o : Option Point) → IsFirstPoint passes o → IsFirst passes levels (option_and_then (λ x. option_map (λ level. record { point = x; priority = level }) (levels x)) o)

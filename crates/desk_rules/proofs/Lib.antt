@@ -1,11 +1,6 @@
 pub mod Options
 pub mod NameTexts
-pub mod Extents
-pub mod LeafTests
-pub mod SlabLemmas
-pub mod Corners
-pub mod LevelLemmas
-pub mod FirstPoints
+pub mod PointTests
 pub mod SearchLemmas
 pub mod Reach
 pub mod ConflictLemmas

@@ -12,11 +12,11 @@ use Rattle.s2_hilbert.specs.Curve.{position_of}
 use Rattle.s2_hilbert.proofs.Positions.{position_undone}
 use Rattle.s2_cellid.specs.Cell.{cell_has, leaf_id_at, first_leaf_id, last_leaf_id}
 use Rattle.s2_cellid.specs.Family.{leaf_id, cell_has_leaf}
-use Rattle.desk_rules.specs.Point.{Point, is_leaf, point_cmp}
-use Rattle.desk_rules.specs.Shape.{Shape, cells, shape_has}
-use Rattle.desk_rules.specs.Volume.{Block, block_has, area_has}
+use Rattle.volume4d.specs.Point.{Point, is_leaf, point_cmp}
+use Rattle.volume4d.specs.Shape.{Shape, cells, shape_has}
+use Rattle.volume4d.specs.Volume.{Block, block_has, area_has}
 use Rattle.desk_rules.specs.Conflict.{leaf_reach, altitude_reach, second_reach, point_of}
-use Rattle.desk_rules.proofs.Corners.{both}
+use Rattle.std.proofs.lemmas.Bool.{and_parts}
 use Rattle.desk_rules.proofs.SearchLemmas.{IsBelow, IsLess, IsWithinInt, IsLessInt, InBoth, BeforePair}
 
 -- a number that is at most one element's is at most the sum
@@ -28,22 +28,22 @@ any_sum {A} p f n h (x ∷ xs) e = by_test (any_sum p f n h xs) (p x) refl e whe
   by_test rest false t k = let there : n ≤ sum_by f xs = rest k in omega (arith, sum_by-cons f x xs)
 
 leaf_below : (id p : ℕ) → cell_has id p ≡ true → p + 1 ≤ last_leaf_id id + 1
-leaf_below id p h = upto _ (both (leb (first_leaf_id id) (leaf_id_at p)) _ h).1 where
+leaf_below id p h = upto _ (and_parts (leb (first_leaf_id id) (leaf_id_at p)) _ h).1 where
   upto : (last : ℕ) → leb (leaf_id_at p) last ≡ true → p + 1 ≤ last + 1
   upto last e = grind (arith, nat_tests)
 
 shape_below : (s : Shape) (leaf : GridLeaf) → shape_has s leaf ≡ true → position_of leaf + 1 ≤ leaf_reach s
-shape_below (cells ids) leaf h = any_sum (λ id. cell_has_leaf id leaf) (λ id. last_leaf_id id + 1) (position_of leaf + 1) (λ id e. leaf_below id (position_of leaf) e) ids (both (is_leaf leaf) _ h).1
+shape_below (cells ids) leaf h = any_sum (λ id. cell_has_leaf id leaf) (λ id. last_leaf_id id + 1) (position_of leaf + 1) (λ id e. leaf_below id (position_of leaf) e) ids (and_parts (is_leaf leaf) _ h).1
 
 shape_leaf : (s : Shape) (leaf : GridLeaf) → shape_has s leaf ≡ true → is_leaf leaf ≡ true
-shape_leaf (cells ids) leaf h = (both (is_leaf leaf) _ h).0
+shape_leaf (cells ids) leaf h = (and_parts (is_leaf leaf) _ h).0
 
 -- the points of an area have leaves
 pub area_leaf : (area : List Block) (x : Point) → area_has area x ≡ true → is_leaf x.leaf ≡ true
 area_leaf [] x e = cc
 area_leaf (v ∷ vs) x e = by_test (area_leaf vs x) (block_has v x) refl e where
   by_test : (area_has vs x ≡ true → is_leaf x.leaf ≡ true) → (b : Bool) → block_has v x ≡ b → (b || area_has vs x) ≡ true → is_leaf x.leaf ≡ true
-  by_test rest true t k = shape_leaf v.footprint x.leaf (both (shape_has v.footprint x.leaf) _ t).0
+  by_test rest true t k = shape_leaf v.footprint x.leaf (and_parts (shape_has v.footprint x.leaf) _ t).0
   by_test rest false t k = rest k
 
 abs_between : (l a u : ℤ) → int_le l a ≡ true → int_lt a u ≡ true → unsigned_abs a ≤ unsigned_abs l + unsigned_abs u
@@ -69,9 +69,9 @@ second_total area = sum_by second_reach area
 
 pub area_reach : (area : List Block) (x : Point) → area_has area x ≡ true → InBoth (IsBelow (leaf_total area)) (InBoth (IsWithinInt (altitude_total area)) (IsWithinInt (second_total area))) (position_of x.leaf, (x.altitude, x.second))
 area_reach area x h =
-    let leaf : position_of x.leaf + 1 ≤ leaf_total area = any_sum (λ v. block_has v x) _ (position_of x.leaf + 1) (λ v e. shape_below v.footprint x.leaf (both (shape_has v.footprint x.leaf) _ e).0) area h in
-    let altitude : unsigned_abs x.altitude ≤ altitude_total area = any_sum (λ v. block_has v x) _ (unsigned_abs x.altitude) (λ v e. let w = (both _ (int_le v.window.start x.second && int_lt x.second v.window.stop) (both (shape_has v.footprint x.leaf) _ e).1).0 in let ends = both (int_le v.window.lower x.altitude) _ w in abs_between v.window.lower x.altitude v.window.upper ends.0 ends.1) area h in
-    let second : unsigned_abs x.second ≤ second_total area = any_sum (λ v. block_has v x) _ (unsigned_abs x.second) (λ v e. let w = (both (int_le v.window.lower x.altitude && int_lt x.altitude v.window.upper) _ (both (shape_has v.footprint x.leaf) _ e).1).1 in let ends = both (int_le v.window.start x.second) _ w in abs_between v.window.start x.second v.window.stop ends.0 ends.1) area h in
+    let leaf : position_of x.leaf + 1 ≤ leaf_total area = any_sum (λ v. block_has v x) _ (position_of x.leaf + 1) (λ v e. shape_below v.footprint x.leaf (and_parts (shape_has v.footprint x.leaf) _ e).0) area h in
+    let altitude : unsigned_abs x.altitude ≤ altitude_total area = any_sum (λ v. block_has v x) _ (unsigned_abs x.altitude) (λ v e. let w = (and_parts _ (int_le v.window.start x.second && int_lt x.second v.window.stop) (and_parts (shape_has v.footprint x.leaf) _ e).1).0 in let ends = and_parts (int_le v.window.lower x.altitude) _ w in abs_between v.window.lower x.altitude v.window.upper ends.0 ends.1) area h in
+    let second : unsigned_abs x.second ≤ second_total area = any_sum (λ v. block_has v x) _ (unsigned_abs x.second) (λ v e. let w = (and_parts (int_le v.window.lower x.altitude && int_lt x.altitude v.window.upper) _ (and_parts (shape_has v.footprint x.leaf) _ e).1).1 in let ends = and_parts (int_le v.window.start x.second) _ w in abs_between v.window.start x.second v.window.stop ends.0 ends.1) area h in
     (omega arith, (within_abs x.altitude _ altitude, within_abs x.second _ second))
 
 then_cases : (o p : Ordering) → ordering_then o p ≡ Less → (o ≡ Less) ⊎ ((o ≡ Equal) × (p ≡ Less))

@@ -1,10 +1,10 @@
 -- Slabs that stand for areas and for what others hold.
 use Rattle.std.specs.Prelude.{◌≡◌, ℕ, List, true, Option}
-use Rattle.desk_rules.specs.declared.slab.Slab.{Slab}
-use Rattle.desk_rules.specs.declared.slab.Held.{Held}
-use Rattle.desk_rules.specs.Point.{Point}
-use Rattle.desk_rules.specs.Volume.{Block, area_has}
-use Rattle.desk_rules.specs.Slab.{slabs_have, top_held}
+use Rattle.volume4d.specs.declared.slab.Slab.{Slab}
+use Rattle.volume4d.specs.declared.slab.Held.{Held}
+use Rattle.volume4d.specs.Point.{Point}
+use Rattle.volume4d.specs.Volume.{Block, area_has}
+use Rattle.volume4d.specs.Slab.{slabs_have, top_held}
 use Rattle.desk_rules.specs.Conflict.{at_least}
 
 -- the slabs have exactly the area's points

@@ -6,11 +6,11 @@ use Rattle.std.specs.Option.{option_map, option_and_then}
 use Rattle.std.specs.List.{sum_by}
 use Rattle.s2_hilbert.specs.Curve.{grid_leaf_at}
 use Rattle.s2_cellid.specs.Cell.{last_leaf_id}
-use Rattle.desk_rules.specs.Point.{Point}
-use Rattle.desk_rules.specs.Shape.{Shape, cells}
-use Rattle.desk_rules.specs.Volume.{Block, area_has}
+use Rattle.volume4d.specs.Point.{Point}
+use Rattle.volume4d.specs.Shape.{Shape, cells}
+use Rattle.volume4d.specs.Volume.{Block, area_has}
 use Rattle.desk_rules.specs.Level.{reaches}
-use Rattle.desk_rules.specs.Meeting.{Spot, IsFirst}
+use Rattle.volume4d.specs.Meeting.{Spot, IsFirst}
 use Rattle.desk_rules.specs.Search.{first_below, first_within, first_pair}
 
 -- a point of an area is blocked where the greatest priority that others hold there is at least the

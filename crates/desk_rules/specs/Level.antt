@@ -1,16 +1,5 @@
--- Priorities that are held at a point: the greatest of some, or none.
-use Rattle.std.specs.Prelude.{ℕ, List, [], ◌∷◌, Bool, false, max, nat_le, Option, Some, None}
-
--- the greater of two, either of which may be none
-abbrev pub greater : Option ℕ → Option ℕ → Option ℕ
-greater None b = b
-greater (Some a) None = Some a
-greater (Some a) (Some b) = Some (max a b)
-
--- the greatest of a list
-abbrev pub greatest : List ℕ → Option ℕ
-greatest [] = None
-greatest (n ∷ ns) = greater (Some n) (greatest ns)
+-- Priorities against the greatest that is held at a point.
+use Rattle.std.specs.Prelude.{ℕ, Bool, false, nat_le, Option, Some, None}
 
 -- whether a level is there and at least the priority
 abbrev pub reaches : Option ℕ → ℕ → Bool

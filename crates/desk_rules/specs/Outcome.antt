@@ -17,8 +17,8 @@ use Rattle.desk_rules.specs.declared.transition.Step.TheVariants.{Refuse, Check,
 use Rattle.desk_rules.specs.declared.decide.Verdict.{Verdict}
 use Rattle.desk_rules.specs.declared.decide.Effect.{Effect}
 use Rattle.desk_rules.specs.declared.decide.Effect.TheVariants as effect
-use Rattle.desk_rules.specs.Volume.{Block}
-use Rattle.desk_rules.specs.Meeting.{Spot}
+use Rattle.volume4d.specs.Volume.{Block}
+use Rattle.volume4d.specs.Meeting.{Spot}
 use Rattle.desk_rules.specs.States.{status_of, is_offered, step_of}
 
 -- some volume's end is at or before the moment

@@ -4,9 +4,9 @@ use Rattle.std.specs.List.{filter}
 use Rattle.desk_rules.specs.declared.plan.PlanRow.{PlanRow}
 use Rattle.desk_rules.specs.declared.words.Usage.{Usage}
 use Rattle.desk_rules.specs.declared.words.Usage.TheVariants as usage
-use Rattle.desk_rules.specs.Point.{Point}
-use Rattle.desk_rules.specs.Volume.{area_has}
-use Rattle.desk_rules.specs.Level.{greatest}
+use Rattle.volume4d.specs.Point.{Point}
+use Rattle.volume4d.specs.Volume.{area_has}
+use Rattle.volume4d.specs.Level.{greatest}
 
 -- a plan is live while it is planned or in use
 abbrev pub is_live : Usage → Bool

@@ -7,11 +7,10 @@ ghost use Rattle.desk_rules.specs.Outcome.{outcome, has_ended, is_beyond_horizon
 ghost use Rattle.desk_rules.specs.States as spec;
 ghost use Rattle.desk_rules.specs.States.{status_in_use, is_offered};
 
-use crate::meeting::Meeting;
 use crate::plan::{PlanRow, PutCall};
 use crate::transition::{Step, transition};
-use crate::volume::Volume;
 use crate::words::{Aircraft, Note, PlanResult, PlanStatus, Style, Usage};
+use volume4d::{Meeting, Volume};
 
 /// What a request does to the stored plan of its id.
 #[derive(Clone, Copy, Debug, PartialEq, Eq)]

@@ -1,9 +1,9 @@
 //! Laws of the definitions. Each is the contract of a function that does nothing.
 
 ghost use Rattle.std.specs.Prelude.{◌≡◌, ℕ, List, Option};
-ghost use Rattle.desk_rules.specs.Point.{Point};
-ghost use Rattle.desk_rules.specs.Volume.{Block};
-ghost use Rattle.desk_rules.specs.Meeting.{Spot};
+ghost use Rattle.volume4d.specs.Point.{Point};
+ghost use Rattle.volume4d.specs.Volume.{Block};
+ghost use Rattle.volume4d.specs.Meeting.{Spot};
 ghost use Rattle.desk_rules.specs.Conflict.{IsConflict, conflict};
 
 /// An area has one conflict.

@@ -2,10 +2,10 @@
 
 ghost use Rattle.std.specs.Prelude.{◌≡◌, IfOk};
 
-use crate::area::Area;
 use crate::plan_id::PlanId;
 use crate::words::{Aircraft, Style, Usage};
 use std::alloc::AllocError;
+use volume4d::Area;
 
 /// A stored plan of an operator.
 #[derive(Debug, Drop)]

@@ -1,20 +1,16 @@
 //! Worked cases of the rules, each expected value found by hand.
 
-use crate::area::Area;
 use crate::conflict::first_conflict;
 use crate::decide::{Effect, Verdict, decide, status_of};
-use crate::meeting::{Meeting, first_meeting, meet};
 use crate::operator::Operator;
 use crate::plan::{PlanRow, PutCall};
 use crate::plan_id::PlanId;
-use crate::slab::Held;
 use crate::transition::{Step, transition};
-use crate::volume::{Footprint, Volume, VolumeFault};
-use crate::window::{Window, WindowFault};
 use crate::words::{Aircraft, Note, PlanResult, PlanStatus, Style, Usage};
 use s2_cellid::CellId;
 use std::alloc::Global;
 use std::test::Fail;
+use volume4d::{Area, Footprint, Held, Meeting, Volume, Window};
 
 // The id of the cell of face 0.
 const FACE_0: u64 = 0x1000_0000_0000_0000;
@@ -68,7 +64,7 @@ fn first_area(alloc: Global) -> Result<Area, Fail> {
 
 fn held(alloc: Global, area: &Area, priority: u32) -> Result<Vec<Held>, Fail> {
     let mut held = Vec::new(alloc);
-    for slab in area.slabs(alloc)?.iter() {
+    for slab in area.slabs()?.iter() {
         held.push(Held {
             slab: *slab,
             priority,
@@ -156,71 +152,11 @@ fn prints_plan_ids(rt: HostRuntime) -> Result<(), Fail> {
 }
 
 #[test]
-fn bounds_windows(rt: HostRuntime) -> Result<(), Fail> {
-    let window = Window::try_new(-10_000, 200_000, 253_370_678_400, 253_370_764_800)?;
-    assert_eq!(rt; window.lower(), -10_000);
-    assert_eq!(rt; window.upper(), 200_000);
-    assert_eq!(rt; window.start(), 253_370_678_400);
-    assert_eq!(rt; window.end(), 253_370_764_800);
-    assert_eq!(rt;
-        Window::try_new(-10_001, 0, 0, 1),
-        Err(WindowFault::Altitude)
-    );
-    assert_eq!(rt;
-        Window::try_new(5, 5, ONE, NOON),
-        Err(WindowFault::Altitude)
-    );
-    assert_eq!(rt; Window::try_new(0, 1, NOON, NOON), Err(WindowFault::Time));
-    assert_eq!(rt; Window::try_new(0, 1, 0, 86_401), Err(WindowFault::TooLong));
-    Ok(())
-}
-
-#[test]
-fn keeps_volumes_as_asked(rt: HostRuntime) -> Result<(), Fail> {
-    let alloc = rt.alloc();
-    let window = Window::try_new(0, 1_000, NOON, ONE)?;
-    let volume = volume(alloc, &[FACE_4, FIRST_QUARTER, FACE_4], window)?;
-    let copy = volume.copy()?;
-    assert_eq!(rt; copy.window(), window);
-    let Footprint::Cells(cells) = copy.footprint();
-    assert_eq!(rt; cells.len(), 3);
-    assert_eq!(rt; cells[0].raw(), FACE_4);
-    assert_eq!(rt; cells[1].raw(), FIRST_QUARTER);
-    assert_eq!(rt; copy.slabs(alloc)?.len(), 3);
-    let none = Volume::try_new(Footprint::Cells(Vec::new(alloc)), window);
-    assert!(rt; matches!(none, Err(VolumeFault::Cells)));
-    let area = Area::try_new(vec![in alloc; volume, copy]?).ok_or("no area")?;
-    assert_eq!(rt; area.copy()?.volumes().len(), 2);
-    assert!(rt; Area::try_new(Vec::new(alloc)).is_none());
-    Ok(())
-}
-
-#[test]
-fn passes_what_touches(rt: HostRuntime) -> Result<(), Fail> {
-    let alloc = rt.alloc();
-    let theirs = first_area(alloc)?.slabs(alloc)?;
-    let holders = held(alloc, &first_area(alloc)?, 10)?;
-    for (cell, lower, start, meets) in [
-        (FACE_0, 500, HALF_PAST, true),
-        (FACE_0, 1_000, HALF_PAST, false),
-        (FACE_0, 500, ONE, false),
-        (SECOND_QUARTER, 500, HALF_PAST, false),
-    ] {
-        let mine = area(alloc, &[cell], Window::try_new(lower, 2_000, start, TWO)?)?.slabs(alloc)?;
-        assert_eq!(rt; meet(&mine, &theirs), meets, "{cell} {lower} {start}");
-        assert_eq!(rt; meet(&theirs, &mine), meets, "{cell} {lower} {start}");
-        let conflict = first_conflict(&mine, &holders);
-        assert_eq!(rt; conflict.is_some(), meets, "{cell} {lower} {start}");
-    }
-    Ok(())
-}
-
-#[test]
 fn finds_the_first_blocked_point(rt: HostRuntime) -> Result<(), Fail> {
     let alloc = rt.alloc();
     let theirs = held(alloc, &first_area(alloc)?, 10)?;
     let window = Window::try_new(500, 2_000, HALF_PAST, TWO)?;
-    let mine = area(alloc, &[FACE_4, FACE_0], window)?.slabs(alloc)?;
+    let mine = area(alloc, &[FACE_4, FACE_0], window)?.slabs()?;
     let corner = Meeting {
         pos: 0,
         altitude: 500,
@@ -229,51 +165,12 @@ fn finds_the_first_blocked_point(rt: HostRuntime) -> Result<(), Fail> {
     };
     assert_eq!(rt; first_conflict(&mine, &theirs), Some(corner));
     let late = Window::try_new(500, 2_000, ONE - 1, TWO)?;
-    let mine = area(alloc, &[FACE_0], late)?.slabs(alloc)?;
+    let mine = area(alloc, &[FACE_0], late)?.slabs()?;
     let last_second = Meeting {
         second: ONE - 1,
         ..corner
     };
     assert_eq!(rt; first_conflict(&mine, &theirs), Some(last_second));
-    Ok(())
-}
-
-#[test]
-fn tells_the_greatest_priority_of_the_least_leaf(rt: HostRuntime) -> Result<(), Fail> {
-    let alloc = rt.alloc();
-    let window = Window::try_new(0, 1_000, NOON, ONE)?;
-    let face_4 = area(alloc, &[FACE_4], window)?;
-    let mut theirs = held(alloc, &face_4, 20)?;
-    for slab in face_4.slabs(alloc)?.iter() {
-        theirs.push(Held {
-            slab: *slab,
-            priority: 30,
-        })?;
-        theirs.push(Held {
-            slab: *slab,
-            priority: 10,
-        })?;
-    }
-    let mine = area(alloc, &[FACE_4, FACE_0], window)?.slabs(alloc)?;
-    let at_face_4 = Meeting {
-        pos: 0x4000_0000_0000_0000,
-        altitude: 0,
-        second: NOON,
-        priority: 30,
-    };
-    assert_eq!(rt; first_meeting(&mine, &theirs), Some(at_face_4));
-    for slab in first_area(alloc)?.slabs(alloc)?.iter() {
-        theirs.push(Held {
-            slab: *slab,
-            priority: 5,
-        })?;
-    }
-    let at_face_0 = Meeting {
-        pos: 0,
-        priority: 5,
-        ..at_face_4
-    };
-    assert_eq!(rt; first_meeting(&mine, &theirs), Some(at_face_0));
     Ok(())
 }
 
@@ -292,7 +189,7 @@ fn decides_a_first_put(rt: HostRuntime) -> Result<(), Fail> {
     let answered = completed(PlanStatus::Planned, Effect::Nothing);
     assert_eq!(rt; decide(&asked, MOMENT, None, 0, CEILING, None), answered);
     let theirs = held(alloc, &first_area(alloc)?, 10)?;
-    let mine = put.area.slabs(alloc)?;
+    let mine = put.area.slabs()?;
     let blocked = Verdict {
         meeting: Some(Meeting {
             pos: 0,

@@ -5,9 +5,9 @@ use Rattle.std.specs.Int.{is_in_range}
 use Rattle.std.specs.List.{list_any}
 use Rattle.std.specs.List.Sorted.{IsPermutation, IsNonDecreasingBy}
 use Rattle.std.proofs.Math.Bool.{or_assoc}
-use Rattle.std.proofs.lemmas.Bool.{cases_lt, or_cases}
+use Rattle.std.proofs.lemmas.Bool.{both_ways, cases_lt, or_cases}
 use Rattle.std.proofs.lemmas.List.{get_or_default, take_all}
-use Rattle.std.proofs.lemmas.List.Elements.{All-weaker, All-push}
+use Rattle.std.proofs.lemmas.List.Elements.{All-head, All-weaker, All-push}
 use Rattle.std.proofs.lemmas.List.Quantifiers.{all_pairs_push}
 use Rattle.std.proofs.lemmas.List.Folds.{list_any-append, list_any_more, Any-from_list_any, list_any_at}
 use Rattle.std.proofs.lemmas.List.Sorted.{Contains-permutation, IsPermutation-sym}
@@ -214,3 +214,15 @@ pub given_leaves : (cells copied sorted slice : List ℕ) (spans ranges : List S
 given_leaves cells copied sorted slice spans ranges copy moved whole is same p =
     ap (λ list. spans_have list p) same ∙ is.positions p ∙ ap (λ ids. leaves_of ids p) whole
     ∙ leaves_of-permutation copied sorted p moved ∙ ap (λ ids. leaves_of ids p) copy
+
+-- where there is a span, a list of cells with its leaves has a cell
+pub some_kept : (spans : List Span) (ids : List ℕ) → All IsSpan spans
+    → ((p : ℕ) → leaves_of ids p ≡ spans_have spans p) → 0 < length spans → 0 < length ids
+some_kept [] ids each same some = absurd (omega (arith, some))
+some_kept (span ∷ rest) [] each same some =
+    let is = All-head IsSpan span rest each in
+    let here : spans_have (span ∷ rest) span.first ≡ true =
+    or_left (span_has span span.first) (spans_have rest span.first)
+    (of_range span.first span.last span.first (omega arith) is.ordered) in
+    absurd (both_ways (spans_have (span ∷ rest) span.first) (sym (same span.first)) here)
+some_kept (span ∷ rest) (id ∷ ids) each same some = omega arith

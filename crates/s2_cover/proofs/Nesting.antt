@@ -1,13 +1,14 @@
 -- How the leaves of two cells lie to one another, and a cell's parent.
-use Rattle.std.proofs.Common.{◌≡◌, ℕ, ◌+◌, ◌-◌, ◌*◌, ◌/◌, ◌%◌, ◌^◌, ◌<◌, ◌≤◌, refl, sym, ◌∙◌, ap, subst, arith, inl, inr}
+use Rattle.std.proofs.Common.{◌≡◌, ℕ, ◌+◌, ◌-◌, ◌*◌, ◌/◌, ◌%◌, ◌^◌, ◌<◌, ◌≤◌, sym, ◌∙◌, ap, subst, arith, inl, inr}
 use Rattle.std.specs.Prelude.{IsTrue}
 use Rattle.std.specs.Int.{w64, bit_at, IsInRange}
-use Rattle.std.proofs.lemmas.Nat.{pow_pos, pow-add, shr_split, mod_below}
+use Rattle.std.proofs.lemmas.Nat.{pow_pos, pow-add, mul-pow, shr_split, mod_below}
 use Rattle.std.proofs.lemmas.Nat.Bits.{bit_at-trailing_zeros, bit_at-zero, bit_at_cat_low, bit_at_cat_high}
 use Rattle.std.proofs.lemmas.Bool.{cases_lt}
 use Rattle.std.proofs.lemmas.Bool.Decides.{nat_tests}
 use Rattle.std.proofs.Math.Nat.{lt_of_mul-lt-mul_right, mul-le-mul_right, mul_assoc}
-use Rattle.s2_cellid.specs.Cell.{lowest_place, lowest_bit, face_of, IsCellId, first_leaf, last_leaf, cell_has}
+use Rattle.s2_hilbert.specs.Curve.{leaf_count}
+use Rattle.s2_cellid.specs.Cell.{lowest_place, lowest_bit, face_of, level_of, IsCellId, first_leaf, last_leaf, cell_has}
 use Rattle.s2_cellid.proofs.Blocks.{block_of, number_of, ends_of, leaves_between}
 use Rattle.s2_cover.specs.Canonical.{parent_of}
 
@@ -156,17 +157,31 @@ parent_block id unit number bit q rest whole share is positive four split small 
     mul-le-mul_right (2 * bit) (omega (arith, fewer)) in
     (omega (arith, product, from), omega (arith, product, to, four), omega (arith, room, shares))
 
+four_more : (n : ℕ) → 4 ^ (n + 1) ≡ 4 * 2 ^ (n + n)
+four_more n =
+    pow-add 4 n 1 ∙ ap (λ power. power * 4) (mul-pow 2 2 n ∙ sym (pow-add 2 n n)) ∙ omega arith
+
+-- a cell of the level above has four times as many leaves
+count_above : (id : ℕ) → IsCellId id → lowest_place id < 60
+    → leaf_count (level_of id - 1) ≡ 4 * lowest_bit id
+count_above id valid inner =
+    let half = lowest_place id / 2 in
+    let levels : 30 - (level_of id - 1) ≡ half + 1 = omega (arith, inner) in
+    let even : half + half ≡ lowest_place id = omega (arith, place_of id valid) in
+    ap (λ n. 4 ^ n) levels ∙ four_more half ∙ ap (λ k. 4 * 2 ^ k) even
+
 pub parent_is : (id : ℕ) → IsCellId id → lowest_place id < 60 → IsParent id (parent_of id)
 parent_is id valid inner =
     let k = lowest_place id in
     let unit = lowest_bit id in
-    let bit = 4 * unit in
+    let bit = leaf_count (level_of id - 1) in
+    let larger_bit : bit ≡ 4 * unit = count_above id valid inner in
     let q = id / (2 * bit) in
     let place = place_of id valid in
     let block = block_of id valid in
     let leaves = has_leaves id valid in
-    let eight : 2 ^ (k + 3) ≡ 2 * bit = pow-add 2 k 3 ∙ omega arith in
-    let four : 2 ^ (k + 2) ≡ bit = pow-add 2 k 2 ∙ omega arith in
+    let eight : 2 ^ (k + 3) ≡ 2 * bit = pow-add 2 k 3 ∙ omega (arith, larger_bit) in
+    let four : 2 ^ (k + 2) ≡ bit = pow-add 2 k 2 ∙ omega (arith, larger_bit) in
     let split : q * (2 * bit) + id % (2 * bit) ≡ id =
     let P : ℕ → Type 0 = λ n. id / n * n + id % n ≡ id in subst P eight (shr_split id (k + 3)) in
     let share = 6 * 2 ^ (61 - (k + 3)) in
@@ -177,9 +192,9 @@ parent_is id valid inner =
     let below : id < 6 * 2 ^ 61 = omega (arith, leaves) in
     let room =
     parent_block id unit (number_of id) bit q (id % (2 * bit)) (6 * 2 ^ 61) share block.id_is leaves.some
-    refl split (mod_below id (2 * bit) (omega (arith, leaves.some))) whole below in
+    larger_bit split (mod_below id (2 * bit) (omega (arith, leaves.some, larger_bit))) whole below in
     let parent = parent_of id in
-    let fits : parent < 6 * 2 ^ 61 = omega (arith, room, leaves.some) in
+    let fits : parent < 6 * 2 ^ 61 = omega (arith, room, leaves.some, larger_bit) in
     let odd : parent ≡ 2 * (q * 2 ^ (k + 2)) + 2 ^ (k + 2) =
     omega arith ∙ ap (λ n. 2 * (q * n) + n) (sym four) in
     let up : lowest_place parent ≡ k + 2 = place_of-odd parent q (k + 2) odd (omega (arith, fits)) in

@@ -1,13 +1,13 @@
 -- The normal form of the S2 geometry library (S2CellUnion::Normalize): the largest cells that lie
 -- in a set of leaves, in the order of their ids.
-use Rattle.std.specs.Prelude.{◌≡◌, ◌↔◌, ◌⊎◌, ℕ, ◌+◌, ◌*◌, ◌/◌, Bool, false, IsTrue, List, Contains}
+use Rattle.std.specs.Prelude.{◌≡◌, ◌↔◌, ◌⊎◌, ℕ, ◌-◌, Bool, false, IsTrue, List, Contains}
 use Rattle.std.specs.List.Sorted.{IsStrictlyIncreasing}
-use Rattle.s2_cellid.specs.Cell.{lowest_bit, level_of, IsCellId, cell_has}
+use Rattle.s2_cellid.specs.Cell.{level_of, IsCellId, cell_has}
+use Rattle.s2_cellid.specs.Family.{parent_id}
 
--- the cell of one level less that has the cell's leaves (S2CellId::parent): the lowest set bit
--- moves up by two places, and the bits below it go
+-- the cell of one level less that has the cell's leaves (S2CellId::parent)
 abbrev pub parent_of : ℕ → ℕ
-parent_of id = let bit = 4 * lowest_bit id in id / (2 * bit) * (2 * bit) + bit
+parent_of id = parent_id (level_of id - 1) id
 
 -- a valid cell in the set, which is a whole face or has a parent with a leaf outside the set
 pub record IsLargest (set : ℕ → Bool) (id : ℕ) : Type 0 where

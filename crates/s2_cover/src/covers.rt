@@ -1,6 +1,6 @@
 //! Canonical covers.
 
-ghost use Rattle.std.specs.Prelude.{◌≡◌, ◌≢◌, ℕ, ◌+◌, ◌*◌, ◌^◌, ◌<◌, ◌≤◌, Bool};
+ghost use Rattle.std.specs.Prelude.{◌≡◌, ◌≢◌, ℕ, ◌+◌, ◌*◌, ◌^◌, ◌<◌, ◌≤◌, Bool, length};
 ghost use Rattle.std.specs.Prelude.{IfOk, OnOk, IfSome, IfNone};
 ghost use Rattle.s2_cellid.specs.Cell.{lowest_place};
 ghost use Rattle.s2_cover.specs.Leaves.{leaves_of};
@@ -48,10 +48,14 @@ impl Cover {
         self.looked
     }
 
-    /// The ranges of the positions of the cover's leaves, in one pass over the cells. Fails only
-    /// where memory is refused.
+    /// The ranges of the positions of the cover's leaves, in one pass over the cells. They are also
+    /// those of each set with the same leaves, as that of the cells that `normalise` was given.
+    /// Fails only where memory is refused.
     pub fn ranges(&self) -> Result<Ranges, AllocError>
-        ensures { IfOk result (IsRanges (leaves_of self.now.ids)) }
+        ensures ranges { IfOk result (IsRanges (leaves_of self.now.ids)) }
+        ensures same { IfOk result (λ ranges. (set : ℕ → Bool) →
+            ((p : ℕ) → leaves_of self.now.ids p ≡ set p) → IsRanges set ranges) }
+        ensures some { 0 < length self.now.ids → IfOk result (λ ranges. 0 < length ranges) }
     {
         Ranges::of_sorted(*self.cells.allocator(), &self.cells)
     }
@@ -77,6 +81,7 @@ pub fn normalise(alloc: Global, cells: &[CellId]) -> Result<Cover, AllocError>
     ensures leaves { IfOk result (λ cover.
         (p : ℕ) → leaves_of cover.ids p ≡ leaves_of cells.now p) }
     ensures looked { IfOk result (λ cover. cover.looked ≡ 0) }
+    ensures some { 0 < length cells.now → IfOk result (λ cover. 0 < length cover.ids) }
 {
     let mut sorted = Vec::from_slice(alloc, cells)?;
     sorted.sort_unstable_by_key(|cell| cell.first());

@@ -11,8 +11,20 @@ pub fn one_canonical_list()
         → IsCanonical set other → one ≡ other }
 {}
 
+/// Sets with the same leaves have the same canonical list.
+pub fn equal_sets_have_equal_covers()
+    ensures { (set other : ℕ → Bool) (ids : List ℕ) → ((p : ℕ) → set p ≡ other p)
+        → IsCanonical set ids → IsCanonical other ids }
+{}
+
 /// A set of leaf positions has one list of ranges.
 pub fn one_list_of_ranges()
     ensures { (set : ℕ → Bool) (one other : List Span) → IsRanges set one
         → IsRanges set other → one ≡ other }
+{}
+
+/// Sets with the same positions have the same ranges.
+pub fn equal_sets_have_equal_ranges()
+    ensures { (set other : ℕ → Bool) (spans : List Span) → ((p : ℕ) → set p ≡ other p)
+        → IsRanges set spans → IsRanges other spans }
 {}

@@ -1,6 +1,6 @@
 //! Ranges of leaf positions.
 
-ghost use Rattle.std.specs.Prelude.{◌≡◌, ℕ, IfOk};
+ghost use Rattle.std.specs.Prelude.{◌≡◌, ◌<◌, ℕ, IfOk, length};
 ghost use Rattle.std.specs.List.Sorted.{IsNonDecreasingBy};
 ghost use Rattle.s2_cellid.specs.Cell.{first_leaf, cell_has};
 ghost use Rattle.s2_cover.specs.Leaves.{leaves_of};
@@ -60,7 +60,8 @@ impl Ranges {
     /// The ranges of the leaves of cells whose first leaves ascend.
     pub(crate) fn of_sorted(alloc: Global, cells: &[CellId]) -> Result<Ranges, AllocError>
         requires { IsNonDecreasingBy first_leaf cells.now }
-        ensures { IfOk result (IsRanges (leaves_of cells.now)) }
+        ensures ranges { IfOk result (IsRanges (leaves_of cells.now)) }
+        ensures some { 0 < length cells.now → IfOk result (λ ranges. 0 < length ranges) }
     {
         let mut spans = Vec::new(alloc);
         let Some((first, rest)) = cells.split_first() else {

@@ -2,7 +2,7 @@
 use Rattle.std.proofs.Common.{◌≡◌, ℕ, ℤ, List, Option, Some, None, Result, Ok, Err, IfOk, OnOk, refl, sym, ap, ◌∙◌}
 use Rattle.std.specs.Option.{option_map}
 use Rattle.desk_rules.specs.declared.plan.PutCall.{PutCall}
-use Rattle.desk_rules.specs.Point.{Point}
+use Rattle.volume4d.specs.Point.{Point}
 use Rattle.uss_desk.specs.declared.run.Call.{Call}
 use Rattle.uss_desk.specs.declared.run.Call.TheVariants as call
 use Rattle.uss_desk.specs.declared.run.Asked.{Asked}

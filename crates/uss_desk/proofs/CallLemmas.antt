@@ -4,7 +4,7 @@ use Rattle.std.specs.Option.{option_map}
 use Rattle.desk_rules.specs.declared.plan.PlanRow.{PlanRow}
 use Rattle.desk_rules.specs.declared.plan.PutCall.{PutCall}
 use Rattle.desk_rules.specs.declared.decide.Verdict.{Verdict}
-use Rattle.desk_rules.specs.Meeting.{Spot}
+use Rattle.volume4d.specs.Meeting.{Spot}
 use Rattle.desk_rules.specs.Conflict.{conflict}
 use Rattle.desk_rules.specs.Outcome.{outcome}
 use Rattle.uss_desk.specs.declared.run.Call.{Call}

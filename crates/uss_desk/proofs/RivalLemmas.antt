@@ -5,13 +5,14 @@ use Rattle.std.specs.List.{filter}
 use Rattle.std.proofs.lemmas.Bool.Decides.{nat_tests}
 use Rattle.std.proofs.lemmas.List.Folds.{list_any_more}
 use Rattle.desk_rules.specs.declared.plan.PlanRow.{PlanRow}
-use Rattle.desk_rules.specs.declared.slab.Slab.{Slab}
-use Rattle.desk_rules.specs.declared.slab.Held.{Held}
-use Rattle.desk_rules.specs.Point.{Point}
-use Rattle.desk_rules.specs.Volume.{area_has}
-use Rattle.desk_rules.specs.Slab.{slab_has, slabs_have, top_held}
-use Rattle.desk_rules.specs.Level.{greater}
-use Rattle.desk_rules.specs.LevelLaws.{greater_none, greater_assoc, greater_comm, level_where, top_priority-cons, top_priority-nil, top_held-push, top_held-nil}
+use Rattle.volume4d.specs.declared.slab.Slab.{Slab}
+use Rattle.volume4d.specs.declared.slab.Held.{Held}
+use Rattle.volume4d.specs.Point.{Point}
+use Rattle.volume4d.specs.Volume.{area_has}
+use Rattle.volume4d.specs.Slab.{slab_has, slabs_have, top_held}
+use Rattle.volume4d.specs.Level.{greater}
+use Rattle.volume4d.specs.LevelLaws.{greater_none, greater_assoc, greater_comm, level_where, top_held-push, top_held-nil}
+use Rattle.desk_rules.specs.PlanLaws.{top_priority-cons, top_priority-nil}
 use Rattle.desk_rules.specs.Plan.{is_live, row_holds, top_priority}
 use Rattle.desk_rules.specs.Conflict.{at_least}
 use Rattle.uss_desk.specs.World.{Filed, World, rows_by, is_by, has_id, others_of, held, held_at}

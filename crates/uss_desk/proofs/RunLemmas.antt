@@ -17,7 +17,7 @@ use Rattle.desk_rules.specs.declared.transition.Step.{Step}
 use Rattle.desk_rules.specs.declared.transition.Step.TheVariants.{Refuse, Check, Report, Shut, Keep}
 use Rattle.desk_rules.specs.declared.decide.Effect.{Effect}
 use Rattle.desk_rules.specs.declared.decide.Effect.TheVariants as effect
-use Rattle.desk_rules.specs.Meeting.{Spot}
+use Rattle.volume4d.specs.Meeting.{Spot}
 use Rattle.desk_rules.specs.States.{step_of, is_offered}
 use Rattle.desk_rules.specs.Outcome.{outcome, note_of, first_note, note_where, refusal_of, is_check, has_ended, is_beyond_horizon, is_stored, step_effect, styled_effect, verdict_by, max_plans}
 use Rattle.uss_desk.specs.World.{World, text_cmp, stored_of, plans_of, has_id}

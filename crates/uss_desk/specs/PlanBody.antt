@@ -4,7 +4,7 @@ use Rattle.s2_cellid.specs.Family.{leaf_id}
 use Rattle.s2_cellid.specs.Token.{token_text}
 use Rattle.serde_json.specs.Data.{Data, Members, number, unsigned, string, object, member, no_members}
 use Rattle.serde_json.specs.Find.{of_integer}
-use Rattle.desk_rules.specs.Meeting.{Spot}
+use Rattle.volume4d.specs.Meeting.{Spot}
 use Rattle.desk_rules.specs.declared.words.PlanStatus.{PlanStatus}
 use Rattle.desk_rules.specs.declared.words.PlanResult.{PlanResult}
 use Rattle.desk_rules.specs.declared.words.Note.{Note}

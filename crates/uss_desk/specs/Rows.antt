@@ -1,8 +1,8 @@
 -- Rows of a list of plans.
 use Rattle.std.specs.Prelude.{ℕ, List, Bool, not, ◌&&◌, Option, map}
 use Rattle.std.specs.List.{filter}
-use Rattle.desk_rules.specs.Point.{Point}
-use Rattle.desk_rules.specs.LevelLaws.{level_where}
+use Rattle.volume4d.specs.Point.{Point}
+use Rattle.volume4d.specs.LevelLaws.{level_where}
 use Rattle.desk_rules.specs.Plan.{row_holds, top_priority}
 use Rattle.uss_desk.specs.World.{Filed, is_by, has_id}
 

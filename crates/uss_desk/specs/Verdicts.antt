@@ -7,7 +7,7 @@ use Rattle.desk_rules.specs.declared.words.Usage.TheVariants as usage
 use Rattle.desk_rules.specs.declared.decide.Verdict.{Verdict}
 use Rattle.desk_rules.specs.declared.decide.Effect.{Effect}
 use Rattle.desk_rules.specs.declared.decide.Effect.TheVariants as effect
-use Rattle.desk_rules.specs.Point.{Point}
+use Rattle.volume4d.specs.Point.{Point}
 use Rattle.desk_rules.specs.Conflict.{conflict}
 use Rattle.desk_rules.specs.Outcome.{outcome}
 use Rattle.uss_desk.specs.declared.run.Call.{Call}

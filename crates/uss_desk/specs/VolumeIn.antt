@@ -8,9 +8,9 @@ use Rattle.s2_cellid.specs.Token.{read_token}
 use Rattle.serde_json.specs.Data.{Data, Items}
 use Rattle.serde_json.specs.Events.{items_len}
 use Rattle.serde_json.specs.Find.{get, as_str}
-use Rattle.desk_rules.specs.Extent.{Extent, checked_extent}
-use Rattle.desk_rules.specs.Shape.{cells}
-use Rattle.desk_rules.specs.Volume.{Block, is_footprint}
+use Rattle.volume4d.specs.Extent.{Extent, checked_extent}
+use Rattle.volume4d.specs.Shape.{cells, is_footprint}
+use Rattle.volume4d.specs.Volume.{Block}
 use Rattle.uss_desk.specs.Faults.{Reading, guard, or_fault, or_met}
 use Rattle.uss_desk.specs.Times.{instant_of}
 use Rattle.uss_desk.specs.JsonIn.{array_at, each, present, text_at, whole_at}

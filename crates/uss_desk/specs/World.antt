@@ -6,8 +6,8 @@ use Rattle.std.specs.declared.cmp.Ordering.{Ordering}
 use Rattle.std.specs.Ordering.{is_eq, nat_cmp}
 use Rattle.std.specs.Cmp.Lexicographic.{slice_cmp}
 use Rattle.desk_rules.specs.declared.plan.PlanRow.{PlanRow}
-use Rattle.desk_rules.specs.Point.{Point}
-use Rattle.desk_rules.specs.Level.{greater}
+use Rattle.volume4d.specs.Point.{Point}
+use Rattle.volume4d.specs.Level.{greater}
 use Rattle.desk_rules.specs.Plan.{top_priority}
 
 -- a plan, with its operator's name

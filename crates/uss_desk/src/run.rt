@@ -9,13 +9,13 @@ mod tests;
 
 use crate::store::{Change, PlanStore, StoreFault};
 use desk_rules::decide::Verdict;
-use desk_rules::meeting::Meeting;
 use desk_rules::operator::Operator;
 use desk_rules::plan::{PlanRow, PutCall};
 use desk_rules::words::{Note, PlanResult, PlanStatus};
 use put::verdict_on;
 use std::alloc::Global;
 use std::marker::Model;
+use volume4d::Meeting;
 
 pub mod laws;
 mod put;

@@ -1,16 +1,16 @@
 //! Stores of plans.
 
 ghost use Rattle.std.specs.Prelude.{◌≡◌, ℕ, length, IfOk, OnOk, OnErr};
-ghost use Rattle.desk_rules.specs.Point.{Point};
-ghost use Rattle.desk_rules.specs.Slab.{top_held};
+ghost use Rattle.volume4d.specs.Point.{Point};
+ghost use Rattle.volume4d.specs.Slab.{top_held};
 ghost use Rattle.desk_rules.specs.Conflict.{at_least};
 ghost use Rattle.uss_desk.specs.World.{World, ceiling_of, plans_of, stored_of, held, held_at};
 
 use desk_rules::operator::Operator;
 use desk_rules::plan::PlanRow;
 use desk_rules::plan_id::PlanId;
-use desk_rules::slab::Held;
 use std::alloc::{AllocError, AllocFailed};
+use volume4d::Held;
 
 pub mod list;
 

@@ -10,11 +10,11 @@ ghost use Rattle.uss_desk.specs.Moments.{IsMoment};
 use crate::store::{PlanStore, StoreFault};
 use desk_rules::conflict::first_conflict;
 use desk_rules::decide::{Effect, Verdict, decide};
-use desk_rules::meeting::Meeting;
 use desk_rules::operator::Operator;
 use desk_rules::plan::{PlanRow, PutCall};
 use desk_rules::words::Usage;
 use std::alloc::{AllocError, Global};
+use volume4d::Meeting;
 
 /// The verdict on a request of an operator under a ceiling, and the row that it stores.
 pub fn verdict_on<S: PlanStore>(
@@ -52,7 +52,7 @@ fn conflict_of<S: PlanStore>(
         put.now.priority) }
     ensures same { S.content store.new ≡ S.content store.old }
 {
-    let mine = put.area.slabs(alloc)?;
+    let mine = put.area.slabs()?;
     let theirs = store.rivals(operator, &put.id, put.priority)?;
     Ok(first_conflict(&mine, &theirs))
 }

@@ -3,16 +3,14 @@
 use super::{Asked, Call, Desk, DeskFault, PutReply, Reply};
 use crate::store::PlanStore;
 use crate::store::list::ListStore;
-use desk_rules::area::Area;
 use desk_rules::operator::Operator;
 use desk_rules::plan::PutCall;
 use desk_rules::plan_id::PlanId;
-use desk_rules::volume::{Footprint, Volume};
-use desk_rules::window::Window;
 use desk_rules::words::{Aircraft, Note, PlanResult, PlanStatus, Style, Usage};
 use s2_cellid::CellId;
 use std::alloc::Global;
 use std::test::Fail;
+use volume4d::{Area, Footprint, Volume, Window};
 
 const MOMENT: i64 = 1_780_315_000;
 

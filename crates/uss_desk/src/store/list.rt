@@ -2,11 +2,11 @@
 
 ghost use Rattle.std.specs.Prelude.{◌≡◌, ◌≤◌, ◌&&◌, length, [], nat_le, IfOk, OnOk, OnErr};
 ghost use Rattle.std.specs.Ordering.{is_eq};
-ghost use Rattle.desk_rules.specs.Point.{Point};
-ghost use Rattle.desk_rules.specs.Volume.{area_has};
-ghost use Rattle.desk_rules.specs.Level.{greater};
-ghost use Rattle.desk_rules.specs.LevelLaws.{level_where};
-ghost use Rattle.desk_rules.specs.Slab.{slabs_have, top_held};
+ghost use Rattle.volume4d.specs.Point.{Point};
+ghost use Rattle.volume4d.specs.Volume.{area_has};
+ghost use Rattle.volume4d.specs.Level.{greater};
+ghost use Rattle.volume4d.specs.LevelLaws.{level_where};
+ghost use Rattle.volume4d.specs.Slab.{slabs_have, top_held};
 ghost use Rattle.desk_rules.specs.Plan as plan_spec;
 ghost use Rattle.desk_rules.specs.Plan.{is_live};
 ghost use Rattle.desk_rules.specs.Conflict.{at_least};
@@ -17,15 +17,14 @@ ghost use Rattle.uss_desk.specs.Listing as listing;
 ghost use Rattle.uss_desk.specs.Listing.{filed_all};
 
 use crate::store::{Change, PlanStore, StoreFault};
-use desk_rules::area::Area;
 use desk_rules::operator::Operator;
 use desk_rules::plan::PlanRow;
 use desk_rules::plan_id::PlanId;
-use desk_rules::slab::{Held, Slab};
 use desk_rules::words::{Aircraft, Usage};
 use std::alloc::{AllocError, Global};
 use std::collections::BTreeMap;
 use std::marker::Model;
+use volume4d::{Area, Held, Slab};
 
 /// A plan, but for its operator and its id.
 #[derive(Debug, Drop)]
@@ -247,7 +246,7 @@ fn push_area(helds: &mut Vec<Held>, plan: &Plan) -> Result<(), AllocError>
     ensures { OnOk result ((x : Point) → top_held helds.new.items x
         ≡ greater (top_held helds.old.items x) (level_where (area_has plan.now.area x) plan.now.priority)) }
 {
-    let slabs = plan.area.slabs(*helds.allocator())?;
+    let slabs = plan.area.slabs()?;
     push_slabs(helds, &slabs, plan.priority)
 }
 

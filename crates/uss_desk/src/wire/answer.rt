@@ -10,11 +10,11 @@ ghost use Rattle.uss_desk.specs.declared.wire.answer.Refusal.TheVariants.{OutOfM
 
 use crate::wire::fault::WireFault;
 use crate::wire::json_out::put_value;
-use desk_rules::meeting::Meeting;
 use desk_rules::words::{Note, PlanResult, PlanStatus};
 use http::StatusCode;
 use serde_json::{Value, json};
 use std::alloc::{AllocError, Global};
+use volume4d::Meeting;
 
 /// Why a request is refused before any rule is asked, or is given up.
 #[derive(Clone, Copy, Debug, PartialEq, Eq)]

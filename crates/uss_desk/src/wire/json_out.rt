@@ -7,12 +7,12 @@ ghost use Rattle.serde_json.specs.Written.{has_float};
 ghost use Rattle.uss_desk.specs.PlanWords as words;
 ghost use Rattle.uss_desk.specs.PlanBody.{conflict_data, outcome_members, put_data};
 
-use desk_rules::meeting::Meeting;
 use desk_rules::words::{Note, PlanResult, PlanStatus};
 use s2_cellid::CellId;
 use s2_hilbert::leaf_at;
 use serde_json::{Value, json};
 use std::alloc::{AllocError, Global};
+use volume4d::Meeting;
 
 fn status_word(status: PlanStatus) -> &'static str
     ensures { result.now ≡ words.status_word status }

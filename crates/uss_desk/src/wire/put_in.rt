@@ -128,7 +128,7 @@ fn aircraft_of(word: &str) -> Option<Aircraft>
 #[cfg(test)]
 mod tests {
     use super::*;
-    use desk_rules::volume::Footprint;
+    use volume4d::Footprint;
     use s2_cellid::CellId;
     use std::alloc::AllocError;
     use std::test::Fail;

@@ -2,7 +2,7 @@
 ghost use Rattle.std.specs.Prelude.{◌≡◌};
 ghost use Rattle.std.specs.Int.{is_in_range};
 ghost use Rattle.std.specs.Result.{result_ok};
-ghost use Rattle.desk_rules.specs.Extent.{checked_extent};
+ghost use Rattle.volume4d.specs.Extent.{checked_extent};
 ghost use Rattle.serde_json.specs.View.{view, items_view};
 ghost use Rattle.uss_desk.specs.Faults.{GivesIfRoom};
 ghost use Rattle.uss_desk.specs.JsonIn.{each};
@@ -11,12 +11,10 @@ ghost use Rattle.uss_desk.specs.VolumeIn as spec;
 use crate::wire::fault::{ReadError, WireFault};
 use crate::wire::json_in::{array_at, present, text_at, whole_at};
 use crate::wire::times::second_of;
-use desk_rules::area::Area;
-use desk_rules::volume::{Footprint, Volume};
-use desk_rules::window::Window;
 use s2_cellid::CellId;
 use serde_json::Value;
 use std::alloc::Global;
+use volume4d::{Area, Footprint, Volume, Window};
 
 /// The volumes of a plan's area.
 pub fn read_area(alloc: Global, items: &[Value]) -> Result<Area, ReadError>

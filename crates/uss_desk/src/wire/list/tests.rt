@@ -24,7 +24,7 @@ const COMPLETED: &str = "HTTP/1.1 200 OK\r\ncontent-type: application/json\r\n\
 struct Ask {
     priority: u32,
     altitudes: (i32, i32),
-    cell: &'static str,
+    cells: &'static str,
     start: &'static str,
     end: &'static str,
 }
@@ -33,7 +33,7 @@ struct Ask {
 const FIRST: Ask = Ask {
     priority: 10,
     altitudes: (0, 1_000),
-    cell: "04",
+    cells: "[\"04\"]",
     start: "2026-06-01T12:00:00Z",
     end: "2026-06-01T13:00:00Z",
 };
@@ -42,7 +42,7 @@ const FIRST: Ask = Ask {
 const SECOND: Ask = Ask {
     priority: 10,
     altitudes: (500, 2_000),
-    cell: "1",
+    cells: "[\"1\"]",
     start: "2026-06-01T12:30:00Z",
     end: "2026-06-01T14:00:00Z",
 };
@@ -51,7 +51,7 @@ fn body_of(alloc: Global, ask: Ask) -> Result<String, AllocError> {
     let Ask {
         priority,
         altitudes: (lower, upper),
-        cell,
+        cells,
         start,
         end,
     } = ask;
@@ -60,7 +60,7 @@ fn body_of(alloc: Global, ask: Ask) -> Result<String, AllocError> {
         \"astm_f3548_21\":{{\"priority\":{priority}}},\"basic_information\":{{\"area\":[{{\
         \"time_end\":{{\"format\":\"RFC3339\",\"value\":\"{end}\"}},\
         \"time_start\":{{\"format\":\"RFC3339\",\"value\":\"{start}\"}},\
-        \"volume\":{{\"altitude_lower\":{lower},\"altitude_upper\":{upper},\"cells\":[\"{cell}\"]}}}}],\
+        \"volume\":{{\"altitude_lower\":{lower},\"altitude_upper\":{upper},\"cells\":{cells}}}}}],\
         \"uas_state\":\"Nominal\",\"usage_state\":\"Planned\"}}}},\"request_id\":\"r1\"}}"
     )
 }
@@ -81,6 +81,17 @@ fn refusal_of(alloc: Global, status: &str, word: &str) -> Result<String, AllocEr
     format!(in alloc;
         "HTTP/1.1 {status}\r\ncontent-type: application/json\r\ncontent-length: {length}\r\n\
         connection: close\r\n\r\n{{\"error\":\"{word}\"}}"
+    )
+}
+
+/// The answer to a request of the first hour that is blocked at a leaf, from the ground on.
+fn conflict_at(alloc: Global, cell: &str) -> Result<String, AllocError> {
+    format!(in alloc;
+        "HTTP/1.1 200 OK\r\ncontent-type: application/json\r\n\
+        content-length: 169\r\nconnection: close\r\n\r\n\
+        {{\"conflict\":{{\"altitude\":0,\"cell\":\"{cell}\",\"priority\":10,\
+        \"second\":1780315200}},\"flight_plan_status\":\"NotPlanned\",\"notes\":\"conflict\",\
+        \"planning_result\":\"Rejected\"}}"
     )
 }
 
@@ -159,7 +170,7 @@ fn touching(rt: HostRuntime) -> Result<(), Fail> {
         ..SECOND
     };
     let beside = Ask {
-        cell: "0c",
+        cells: "[\"0c\"]",
         ..SECOND
     };
     for ask in [above, later, beside] {
@@ -196,12 +207,80 @@ fn own_version(rt: HostRuntime) -> Result<(), Fail> {
         body.as_str(),
     )?;
     let answer = last_answer(alloc, &[(MOMENT, first), (MOMENT, other)])?;
-    let text = "HTTP/1.1 200 OK\r\ncontent-type: application/json\r\n\
-        content-length: 169\r\nconnection: close\r\n\r\n\
-        {\"conflict\":{\"altitude\":0,\"cell\":\"0000000000000001\",\"priority\":10,\
-        \"second\":1780315200},\"flight_plan_status\":\"NotPlanned\",\"notes\":\"conflict\",\
-        \"planning_result\":\"Rejected\"}";
+    let text = conflict_at(alloc, "0000000000000001")?;
     assert_eq!(rt; answer.as_slice(), text.as_bytes());
+    Ok(())
+}
+
+/// Four siblings held by two plans block as their parent held by one.
+#[test]
+fn siblings(rt: HostRuntime) -> Result<(), Fail> {
+    let alloc = rt.alloc();
+    let ends = "[\"05\",\"07\"]";
+    let beginnings = "[\"01\",\"03\"]";
+    let first = put_of(alloc, "alfa", ID, body_of(alloc, FIRST)?.as_str())?;
+    let parent = put_of(alloc, "bravo", ID, body_of(alloc, FIRST)?.as_str())?;
+    let of_parent = last_answer(alloc, &[(MOMENT, parent), (MOMENT, first)])?;
+    let text = conflict_at(alloc, "0000000000000001")?;
+    assert_eq!(rt; of_parent.as_slice(), text.as_bytes());
+    let first = put_of(alloc, "alfa", ID, body_of(alloc, FIRST)?.as_str())?;
+    let of_beginnings = body_of(
+        alloc,
+        Ask {
+            cells: beginnings,
+            ..FIRST
+        },
+    )?;
+    let of_ends = body_of(
+        alloc,
+        Ask {
+            cells: ends,
+            ..FIRST
+        },
+    )?;
+    let greater = put_of(alloc, "bravo", ID, of_beginnings.as_str())?;
+    let lesser = put_of(
+        alloc,
+        "bravo",
+        "01111111-1111-4111-8111-111111111111",
+        of_ends.as_str(),
+    )?;
+    let of_siblings = last_answer(
+        alloc,
+        &[(MOMENT, greater), (MOMENT, lesser), (MOMENT, first)],
+    )?;
+    assert_eq!(rt; of_siblings.as_slice(), of_parent.as_slice());
+    Ok(())
+}
+
+/// The leaves of face 4 come after those of face 0, though their ids have the topmost bit.
+#[test]
+fn unsigned_ids(rt: HostRuntime) -> Result<(), Fail> {
+    let alloc = rt.alloc();
+    for (held, cell) in [
+        ("[\"9\",\"1\"]", "0000000000000001"),
+        ("[\"9\"]", "8000000000000001"),
+    ] {
+        let theirs = body_of(
+            alloc,
+            Ask {
+                cells: held,
+                ..FIRST
+            },
+        )?;
+        let mine = body_of(
+            alloc,
+            Ask {
+                cells: "[\"1\",\"9\"]",
+                ..FIRST
+            },
+        )?;
+        let theirs = put_of(alloc, "alfa", ID, theirs.as_str())?;
+        let mine = put_of(alloc, "bravo", ID, mine.as_str())?;
+        let answer = last_answer(alloc, &[(MOMENT, theirs), (MOMENT, mine)])?;
+        let text = conflict_at(alloc, cell)?;
+        assert_eq!(rt; answer.as_slice(), text.as_bytes());
+    }
     Ok(())
 }
 
@@ -263,7 +342,7 @@ fn refused_bodies(rt: HostRuntime) -> Result<(), Fail> {
         bad_member.as_bytes()
     );
     let bad_volume = refusal_of(alloc, "400 Bad Request", "bad_volume")?;
-    let no_cell = body_of(alloc, Ask { cell: "2", ..FIRST })?;
+    let no_cell = body_of(alloc, Ask { cells: "[\"2\"]", ..FIRST })?;
     assert_eq!(rt;
         answer_to_body(alloc, no_cell.as_str())?.as_slice(),
         bad_volume.as_bytes()

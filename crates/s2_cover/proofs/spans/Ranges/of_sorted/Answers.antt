@@ -39,5 +39,5 @@ pub invariant_of-result-2 : goal.invariant_of-result-2
 invariant_of-result-2 c =
     ranges_alone (leaves_of c.args.cells.now) c.push-2.new.self.items (all_merged c)
 
-pub returns : goal.returns
-returns c = all_merged c
+pub returns-clause-ranges : goal.returns-clause-ranges
+returns-clause-ranges c = all_merged c

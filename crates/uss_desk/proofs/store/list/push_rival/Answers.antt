@@ -1,7 +1,7 @@
 use Rattle.std.proofs.Common.{sym, ◌∙◌, ap}
 use Rattle.std.proofs.lemmas.Result.{on_ok_weaker}
-use Rattle.desk_rules.specs.Slab.{top_held}
-use Rattle.desk_rules.specs.Level.{greater}
+use Rattle.volume4d.specs.Slab.{top_held}
+use Rattle.volume4d.specs.Level.{greater}
 use Rattle.uss_desk.specs.Listing.{filed_of}
 use Rattle.uss_desk.proofs.RivalLemmas.{own_adds_none, low_adds_none, rival_adds}
 use Rattle.uss_desk.proofs.store.list.push_rival.Goals as goal

@@ -1,4 +1,4 @@
-use Rattle.desk_rules.specs.Slab.{top_held}
+use Rattle.volume4d.specs.Slab.{top_held}
 use Rattle.uss_desk.proofs.RivalLemmas.{slab_adds}
 use Rattle.uss_desk.proofs.store.list.push_slabs.Goals as goal
 

@@ -1,8 +1,8 @@
 use Rattle.std.proofs.Common.{◌≡◌, take}
-use Rattle.desk_rules.specs.Point.{Point}
-use Rattle.desk_rules.specs.Slab.{slabs_have, top_held}
-use Rattle.desk_rules.specs.Level.{greater}
-use Rattle.desk_rules.specs.LevelLaws.{level_where}
+use Rattle.volume4d.specs.Point.{Point}
+use Rattle.volume4d.specs.Slab.{slabs_have, top_held}
+use Rattle.volume4d.specs.Level.{greater}
+use Rattle.volume4d.specs.LevelLaws.{level_where}
 use Rattle.uss_desk.proofs.store.list.push_slabs.Given as goal
 
 -- the levels before, and the priority where a slab so far has the point

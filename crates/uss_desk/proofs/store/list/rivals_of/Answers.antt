@@ -1,6 +1,6 @@
 use Rattle.std.proofs.Common.{◌≡◌, ◌∷◌, ◌∙◌, ap, sym}
-use Rattle.desk_rules.specs.Slab.{top_held}
-use Rattle.desk_rules.specs.Level.{greater}
+use Rattle.volume4d.specs.Slab.{top_held}
+use Rattle.volume4d.specs.Level.{greater}
 use Rattle.desk_rules.specs.Conflict.{at_least}
 use Rattle.uss_desk.specs.Rows.{rivals_top}
 use Rattle.uss_desk.specs.Listing.{filed_of, filed_all}

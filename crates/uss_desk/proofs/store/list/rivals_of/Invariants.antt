@@ -1,7 +1,7 @@
 use Rattle.std.proofs.Common.{◌≡◌}
-use Rattle.desk_rules.specs.Point.{Point}
-use Rattle.desk_rules.specs.Slab.{top_held}
-use Rattle.desk_rules.specs.Level.{greater}
+use Rattle.volume4d.specs.Point.{Point}
+use Rattle.volume4d.specs.Slab.{top_held}
+use Rattle.volume4d.specs.Level.{greater}
 use Rattle.desk_rules.specs.Conflict.{at_least}
 use Rattle.uss_desk.specs.Rows.{rivals_top}
 use Rattle.uss_desk.specs.Listing.{filed_all}

@@ -1,7 +1,7 @@
 use Rattle.std.proofs.Common.{◌∙◌, ap, w32, w64, SFits, rules}
 use Rattle.std.specs.Result.{result_ok}
 use Rattle.std.proofs.lemmas.Int.{to_z-of_z}
-use Rattle.desk_rules.specs.Extent.{checked_extent}
+use Rattle.volume4d.specs.Extent.{checked_extent}
 use Rattle.uss_desk.proofs.WindowLemmas.{converted_is}
 use Rattle.uss_desk.proofs.wire.volume_in.checked_window.Goals as goal
 

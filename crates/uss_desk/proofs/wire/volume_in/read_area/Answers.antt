@@ -1,5 +1,5 @@
 use Rattle.std.proofs.Common.{◌∙◌, sym, Vec, Global}
-use Rattle.desk_rules.specs.declared.volume.Volume.{Volume}
+use Rattle.volume4d.specs.declared.volume.Volume.{Volume}
 use Rattle.serde_json.specs.View.{items_view}
 use Rattle.uss_desk.specs.JsonIn.{each}
 use Rattle.uss_desk.specs.VolumeIn.{volume_of}

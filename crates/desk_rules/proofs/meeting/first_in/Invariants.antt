@@ -1,8 +1,0 @@
-use Rattle.std.proofs.Common.{◌&&◌, take}
-use Rattle.desk_rules.specs.Slab.{slab_has, helds_have}
-use Rattle.desk_rules.specs.Meeting.{IsFirstPoint}
-use Rattle.desk_rules.proofs.meeting.first_in.Given as goal
-
--- the first point shared with the held slabs so far
-abbrev pub invariant-loop-held : goal.invariant-loop-held
-invariant-loop-held l = IsFirstPoint (λ x. slab_has l.slab x && helds_have (take l.held-index l.theirs) x) l.first

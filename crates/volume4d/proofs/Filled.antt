@@ -1,0 +1,72 @@
+-- The slabs of volumes each have a point.
+use Rattle.std.proofs.Common.{◌≡◌, ℕ, ◌+◌, ◌<◌, ◌≤◌, ℤ, ◌<ℤ◌, true, List, [], ◌∷◌, ◌++◌, length, get_or, take, sym, ap, ◌∙◌, subst, arith}
+use Rattle.std.specs.Prelude.{All, map, int_le, int_lt, IsTrue}
+use Rattle.std.proofs.lemmas.Int.{ints}
+use Rattle.std.proofs.lemmas.Bool.{and_parts}
+use Rattle.std.proofs.lemmas.List.{length-map, length-append, take_more, take_all}
+use Rattle.std.proofs.lemmas.List.Elements.{All-nil, All-append, All-cons, All-head, All-tail}
+use Rattle.s2_cover.specs.declared.spans.Span.{Span}
+use Rattle.s2_cover.specs.Runs.{IsSpan}
+use Rattle.volume4d.specs.declared.slab.Slab.{Slab}
+use Rattle.volume4d.specs.Limits.{within_altitudes, within_times, within_length}
+use Rattle.volume4d.specs.Extent.{Extent, is_extent}
+use Rattle.volume4d.specs.Volume.{Block}
+use Rattle.volume4d.specs.Slab.{span_of, extent_of}
+use Rattle.volume4d.specs.Slabs.{AreSlabsOn, AreVolumeSlabs, AreAreaSlabs}
+use Rattle.volume4d.specs.Bounds.{IsFilled, AreFilled}
+use Rattle.volume4d.proofs.SlabPoints.{slabs_of_push}
+
+before : (a b : ℤ) → int_lt a b ≡ true → a <ℤ b
+before a b e = grind (arith, ints)
+
+-- the least altitude of an extent stands below the other, and its first second before the other
+ordered : (e : Extent) → is_extent e ≡ true → (e.lower <ℤ e.upper) × (e.start <ℤ e.stop)
+ordered e is =
+    let parts = and_parts (within_altitudes e.lower e.upper) _ is in
+    let times = and_parts (within_times e.start e.stop) (within_length e.start e.stop) parts.1 in
+    let high = (and_parts _ (int_lt e.lower e.upper) (and_parts _ _ parts.0).0).1 in
+    let late = (and_parts _ (int_lt e.start e.stop) (and_parts _ _ times.0).0).1 in
+    (before e.lower e.upper high, before e.start e.stop late)
+
+filled_each : (e : Extent) (slabs : List Slab) → is_extent e ≡ true → All IsSpan (map span_of slabs)
+    → All (λ s. extent_of s ≡ e) slabs → All IsFilled slabs
+filled_each e [] is spans extents = All-nil IsFilled
+filled_each e (s ∷ rest) is spans extents =
+    let same = All-head (λ t. extent_of t ≡ e) s rest extents in
+    let span = All-head IsSpan (span_of s) (map span_of rest) spans in
+    let order = ordered (extent_of s) (ap is_extent same ∙ is) in
+    All-cons IsFilled s rest (record { ground = span.ordered; height = order.0; time = order.1 })
+    (filled_each e rest is (All-tail IsSpan (span_of s) (map span_of rest) spans)
+    (All-tail (λ t. extent_of t ≡ e) s rest extents))
+
+-- slabs of some spans, within the limits
+pub filled_on : (spans : List Span) (e : Extent) (slabs : List Slab) → is_extent e ≡ true
+    → 0 < length spans → All IsSpan spans → AreSlabsOn spans e slabs → AreFilled slabs
+filled_on spans e slabs is some each on = record {
+  some = subst (λ n. 0 < n) (ap length (sym on.each) ∙ length-map slabs span_of) some;
+  each = filled_each e slabs is (subst (All IsSpan) (sym on.each) each) on.extents;
+}
+
+-- the slabs of the volumes so far, each of which has a point
+pub record AreSoFar (volumes : List Block) (slabs : List Slab) : Type 0 where
+  pub slabs_of : AreAreaSlabs volumes slabs
+  pub each : All IsFilled slabs
+  pub some : 0 < length volumes → 0 < length slabs
+
+pub one_more_volume : (volumes : List Block) (count : ℕ) (volume : Block) (slabs more : List Slab)
+    → count < length volumes → volume ≡ get_or volumes count volume
+    → AreSoFar (take count volumes) slabs → AreVolumeSlabs volume more → AreFilled more
+    → AreSoFar (take (count + 1) volumes) (slabs ++ more)
+one_more_volume volumes count volume slabs more below is so_far next filled = record {
+  slabs_of =
+      subst (λ all. AreAreaSlabs all (slabs ++ more))
+      (ap (λ v. take count volumes ++ v ∷ []) is ∙ sym (take_more volumes count volume below))
+      (slabs_of_push (take count volumes) volume slabs more so_far.slabs_of next);
+  each = All-append IsFilled slabs more so_far.each filled.each;
+  some = λ any. omega (arith, length-append slabs more, filled.some);
+}
+
+pub all_volumes : (volumes : List Block) (count : ℕ) (slabs : List Slab) → length volumes ≤ count
+    → AreSoFar (take count volumes) slabs → AreSoFar volumes slabs
+all_volumes volumes count slabs end so_far =
+    subst (λ all. AreSoFar all slabs) (take_all count volumes end) so_far

@@ -1,0 +1,11 @@
+pub mod IdBytes
+pub mod Readings
+pub mod Extents
+pub mod LeafTests
+pub mod SlabPoints
+pub mod Filled
+pub mod PointsIn
+pub mod BoundLemmas
+pub mod Corners
+pub mod LevelLemmas
+pub mod FirstPoints

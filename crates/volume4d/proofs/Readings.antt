@@ -1,0 +1,85 @@
+-- Which shapes have given bytes.
+use Rattle.std.specs.Prelude.{◌≡◌, ℕ, ◌+◌, ◌*◌, ◌/◌, ◌%◌, ◌<◌, ◌≤◌, IsTrue, Bool, ◌&&◌, nat_le, List, [], ◌∷◌, length, All, refl}
+use Rattle.std.specs.Int.{w64, from_be_bytes}
+use Rattle.std.specs.Simd.{first_chunks}
+use Rattle.std.proofs.Common.{ap, sym, ◌∙◌, arith, get_or, take, ◌++◌, subst}
+use Rattle.std.proofs.lemmas.List.{length-map, get_or-map, map_more, take_all}
+use Rattle.std.proofs.lemmas.List.Elements.{All-push}
+use Rattle.s2_cellid.specs.Cell.{IsCellId}
+use Rattle.volume4d.specs.Shape.{Shape, cells}
+use Rattle.volume4d.specs.FootprintBytes.{footprint_bytes, HasCells, AreBytesOf}
+use Rattle.volume4d.proofs.IdBytes.{bytes_of, ids_of, length-bytes_of, ids_again, bytes_again}
+
+-- the ids that stand behind the first byte
+abbrev pub ids_in : List ℕ → List ℕ
+ids_in bytes = ids_of (first_chunks 8 (length bytes / 8) bytes)
+
+-- the bytes of valid ids name them
+pub ids_in-bytes_of : (ids bytes : List ℕ) → All IsCellId ids → bytes_of ids ≡ bytes → ids_in bytes ≡ ids
+ids_in-bytes_of ids bytes valid written =
+    let count : length bytes / 8 ≡ length ids = omega (arith, length-bytes_of ids, ap length written) in
+    rw (count, ← written) (ids_again ids valid)
+
+-- whether a footprint may have this many cells
+abbrev pub is_count : ℕ → Bool
+is_count count = nat_le 1 count && nat_le count 64
+
+-- a footprint's bytes are 1 to 64 eights
+pub counted : (bytes : List ℕ) (shape : Shape) → AreBytesOf (1 ∷ bytes) shape
+    → (length bytes % 8 ≡ 0) × IsTrue (is_count (length bytes / 8))
+counted bytes (cells ids) a =
+    let written : bytes_of ids ≡ bytes = cc (a.written) in
+    let many : length bytes ≡ 8 * length ids = omega (arith, length-bytes_of ids, ap length written) in
+    let count : length ids ≡ length bytes / 8 = omega arith in
+    (omega arith, subst (λ n. IsTrue (is_count n)) count a.limits)
+
+-- and each eight is a valid id
+pub valid_ids : (bytes : List ℕ) (shape : Shape) → AreBytesOf (1 ∷ bytes) shape → All IsCellId (ids_in bytes)
+valid_ids bytes (cells ids) a =
+    let written : bytes_of ids ≡ bytes = cc (a.written) in
+    rw (ids_in-bytes_of ids bytes a.valid written) a.valid
+
+-- the same, by place
+pub valid_id : (bytes : List ℕ) (shape : Shape) (eights : List (List ℕ)) (i : ℕ) → AreBytesOf (1 ∷ bytes) shape
+    → eights ≡ first_chunks 8 (length bytes / 8) bytes → i < length eights → IsCellId (from_be_bytes w64 (get_or eights i []))
+valid_id bytes shape eights i a cut within =
+    let valid : All IsCellId (ids_of eights) = rw cut (valid_ids bytes shape a) in
+    let place : i < length (ids_of eights) = rw length-map within in
+    subst IsCellId (get_or-map (λ eight. from_be_bytes w64 eight) eights i [] 0 within) (valid i 0 place)
+
+-- 1 to 64 eights that are valid ids are a footprint's bytes
+pub read : (bytes : List ℕ) → ((i : ℕ) → get_or bytes i 0 < 256) → length bytes % 8 ≡ 0 → IsTrue (is_count (length bytes / 8))
+    → All IsCellId (ids_in bytes) → AreBytesOf (1 ∷ bytes) (cells (ids_in bytes))
+read bytes small even few valid =
+    let written : bytes_of (ids_in bytes) ≡ bytes = bytes_again (length bytes / 8) bytes small (omega arith) in
+    let count : length bytes / 8 ≡ length (ids_in bytes) = omega (arith, length-bytes_of (ids_in bytes), ap length written) in
+    record {
+      limits = subst (λ n. IsTrue (is_count n)) count few;
+      valid = valid;
+      written = ap (λ rest. 1 ∷ rest) written;
+    }
+
+-- the ids read so far, and one more eight that is a valid id
+pub one_more : (eights : List (List ℕ)) (i cell : ℕ) (ids more : List ℕ) → i < length eights
+    → ids ≡ ids_of (take i eights) → All IsCellId ids → more ≡ ids ++ cell ∷ []
+    → IsCellId (from_be_bytes w64 (get_or eights i [])) × (cell ≡ from_be_bytes w64 (get_or eights i []))
+    → (more ≡ ids_of (take (i + 1) eights)) × All IsCellId more
+one_more eights i cell ids more within so_far valid pushed found =
+    let next = map_more (λ eight. from_be_bytes w64 eight) eights i [] within in
+    let cell_valid : IsCellId cell = subst IsCellId (sym found.1) found.0 in
+    (rw (pushed, so_far, found.1) (sym next), rw pushed (All-push IsCellId ids cell valid cell_valid))
+
+-- where all eights are read, the ids are a footprint's
+pub all_read : (bytes : List ℕ) (eights : List (List ℕ)) (i : ℕ) (ids : List ℕ) → ((k : ℕ) → get_or bytes k 0 < 256)
+    → length bytes % 8 ≡ 0 → IsTrue (is_count (length bytes / 8)) → eights ≡ first_chunks 8 (length bytes / 8) bytes
+    → length eights ≤ i → ids ≡ ids_of (take i eights) → All IsCellId ids → AreBytesOf (1 ∷ bytes) (cells ids)
+all_read bytes eights i ids small even few cut ended so_far valid =
+    let whole : ids ≡ ids_in bytes = so_far ∙ ap ids_of (take_all i eights ended ∙ cut) in
+    subst (λ list. AreBytesOf (1 ∷ bytes) (cells list)) (sym whole)
+    (read bytes small even few (subst (λ list. All IsCellId list) whole valid))
+
+-- shapes of valid cells with the same bytes are the same
+pub same_from_bytes : (one other : Shape) → HasCells one → HasCells other → footprint_bytes one ≡ footprint_bytes other → one ≡ other
+same_from_bytes (cells ids) (cells others) valid others_valid same =
+    let written : bytes_of ids ≡ bytes_of others = cc in
+    ap cells (sym (ids_in-bytes_of ids (bytes_of others) valid written) ∙ ids_in-bytes_of others (bytes_of others) others_valid refl)

@@ -1,0 +1,7 @@
+use Rattle.std.proofs.Common.{◌≡◌, ◌∷◌, take}
+use Rattle.volume4d.proofs.IdBytes.{bytes_of}
+use Rattle.volume4d.proofs.footprint.cell_bytes.Given as goal
+
+-- the bytes are those of the cells so far
+abbrev pub invariant-loop-cell : goal.invariant-loop-cell
+invariant-loop-cell l = l.bytes.items ≡ 1 ∷ bytes_of (take l.cell-index l.cells)

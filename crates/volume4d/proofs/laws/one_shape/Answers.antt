@@ -1,0 +1,5 @@
+use Rattle.volume4d.proofs.Readings.{same_from_bytes}
+use Rattle.volume4d.proofs.laws.one_shape.Goals as goal
+
+pub returns : goal.returns
+returns c = same_from_bytes

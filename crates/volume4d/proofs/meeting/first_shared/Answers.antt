@@ -1,0 +1,11 @@
+use Rattle.std.proofs.Common.{◌&&◌, take}
+use Rattle.volume4d.specs.Slab.{slab_has, slabs_have, helds_have}
+use Rattle.volume4d.proofs.FirstPoints.{one_more_of_mine}
+use Rattle.volume4d.proofs.meeting.first_shared.Goals as goal
+
+pub loop-slab-preserved : goal.loop-slab-preserved
+loop-slab-preserved c =
+    let theirs = c.args.theirs.now in
+    let so_far = take c.loop-slab.slab-index c.args.mine.now in
+    one_more_of_mine c.args.mine.now theirs c.loop-slab.slab-index c.slab-item.result c.earlier-first.result c.loop-slab-test.true c.slab-item.is
+    (c.earlier-first.ensures (λ x. slabs_have so_far x && helds_have theirs x) (λ x. slab_has c.slab-item.result x && helds_have theirs x) c.loop-slab.invariant c.first_in.ensures)

@@ -1,0 +1,37 @@
+use Rattle.std.proofs.Common.{◌<◌, length, subst, sym}
+use Rattle.std.specs.Prelude.{All}
+use Rattle.std.proofs.lemmas.Bool.{and_parts}
+use Rattle.std.proofs.lemmas.Result.{IfOk-weaker}
+use Rattle.s2_cover.specs.Runs.{IsSpan, IsRanges}
+use Rattle.volume4d.specs.Extent.{is_extent}
+use Rattle.volume4d.specs.Shape.{shape_positions, is_footprint}
+use Rattle.volume4d.specs.Footprint.{shape_of}
+use Rattle.volume4d.specs.Volume.{Block}
+use Rattle.volume4d.proofs.SlabPoints.{volume_points, volume_slabs}
+use Rattle.volume4d.proofs.Filled.{filled_on}
+use Rattle.volume4d.proofs.volume.Volume.slabs.Goals as goal
+
+pub returns-clause-points : goal.returns-clause-points
+returns-clause-points c =
+    let volume : Block =
+    record { footprint = shape_of c.self.inside.footprint; window = c.self.inside.window } in
+    let ranges =
+    subst (IsRanges (shape_positions volume.footprint)) (sym c.spans.ensures.value)
+    c.in_ok-ranges.ensures.ranges in
+    let spans = c.spans.result.now in
+    rw (← c.self.view_is)
+    (IfOk-weaker c.slabs_of.result _ _
+    (λ slabs on. volume_points volume slabs.items (volume_slabs volume spans slabs.items ranges on))
+    c.slabs_of.ensures)
+
+pub returns-clause-filled : goal.returns-clause-filled
+returns-clause-filled c =
+    let footprint = shape_of c.self.inside.footprint in
+    let window = c.self.inside.window in
+    let limits = and_parts (is_footprint footprint) (is_extent window) c.self.invariant in
+    let shown = sym c.spans.ensures.value in
+    let some = subst (λ spans. 0 < length spans) shown (c.in_ok-ranges.ensures.some limits.0) in
+    let each = subst (All IsSpan) shown c.spans.ensures.ranges.each in
+    IfOk-weaker c.slabs_of.result _ _
+    (λ slabs on. filled_on c.spans.result.now window slabs.items limits.1 some each on)
+    c.slabs_of.ensures

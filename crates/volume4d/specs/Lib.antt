@@ -1,0 +1,15 @@
+pub mod Limits
+pub mod Extent
+pub mod Point
+pub mod PointLaws
+pub mod Shape
+pub mod Footprint
+pub mod FootprintBytes
+pub mod Volume
+pub mod Level
+pub mod Slab
+pub mod Bounds
+pub mod Slabs
+pub mod Meeting
+pub mod Shared
+pub mod LevelLaws

@@ -1,0 +1,125 @@
+//! Areas: the volumes of a plan.
+
+ghost use Rattle.std.specs.Prelude.{◌≡◌, ◌<◌, ◌&&◌, Some, None, if◌then◌else◌, IsTrue, IfOk, length, nat_le};
+ghost use Rattle.volume4d.specs.Point.{Point};
+ghost use Rattle.volume4d.specs.Slab.{slabs_have};
+ghost use Rattle.volume4d.specs.Bounds.{AreFilled, IsBounds};
+ghost use Rattle.volume4d.specs.Slabs.{AreAreaSlabs};
+ghost use Rattle.volume4d.specs.Volume.{is_area, area_has};
+
+use crate::bounds::bounds_of;
+use crate::slab::Slab;
+use crate::volume::Volume;
+use std::alloc::{AllocError, Global};
+use std::marker::Model;
+
+/// The volumes of a plan (`Volume4D` of ASTM F3548-21), 1 to 8 by its type: it has the points of
+/// any of them.
+#[derive(Debug, Drop)]
+pub struct Area {
+    volumes: Vec<Volume>,
+}
+
+impl Model for Area {
+    ghost use Rattle.std.specs.Prelude.{List, IsTrue};
+    ghost use Rattle.volume4d.specs.Volume.{Block, is_area};
+
+    ghost Value = { List Block };
+
+    ghost view = { λ a. a.volumes.items };
+
+    ghost invariant = { λ a. IsTrue (is_area a.volumes.items) };
+}
+
+impl Area {
+    /// An area of 1 to 8 volumes; another list is dropped.
+    pub fn try_new(volumes: Vec<Volume>) -> Option<Area>
+        ensures { result ≡ (if is_area volumes.items then Some volumes.items else None) }
+    {
+        if is_count(volumes.len()) {
+            Some(Area { volumes })
+        } else {
+            None
+        }
+    }
+
+    /// The volumes, as asked.
+    pub fn volumes(&self) -> &[Volume]
+        ensures value { result.now ≡ self.now }
+        ensures limits { IsTrue (is_area self.now) }
+    {
+        &self.volumes
+    }
+
+    /// The slabs of its volumes, one volume after the other: they have exactly the points of the
+    /// area.
+    ///
+    /// # Errors
+    ///
+    /// `AllocError` for want of memory.
+    pub fn slabs(&self) -> Result<Vec<Slab>, AllocError>
+        ensures ranges { IfOk result (λ slabs. AreAreaSlabs self.now slabs.items) }
+        ensures points { IfOk result (λ slabs. (x : Point) →
+            slabs_have slabs.items x ≡ area_has self.now x) }
+        ensures filled { IfOk result (λ slabs. AreFilled slabs.items) }
+    {
+        slabs_of(*self.volumes.allocator(), &self.volumes)
+    }
+
+    /// The smallest slab that has all points of the area.
+    ///
+    /// # Errors
+    ///
+    /// `AllocError` for want of memory.
+    pub fn bounds(&self) -> Result<Slab, AllocError>
+        ensures { IfOk result (IsBounds (area_has self.now)) }
+    {
+        let slabs = self.slabs()?;
+        Ok(bounds_of(&slabs))
+    }
+
+    /// An equal area.
+    ///
+    /// # Errors
+    ///
+    /// `AllocError` for want of memory.
+    pub fn copy(&self) -> Result<Area, AllocError>
+        ensures { IfOk result (λ copy. copy ≡ self.now) }
+    {
+        Ok(Area {
+            volumes: copies(&self.volumes)?,
+        })
+    }
+}
+
+// The slabs of volumes, one volume after the other.
+fn slabs_of(alloc: Global, volumes: &[Volume]) -> Result<Vec<Slab>, AllocError>
+    ensures ranges { IfOk result (λ slabs. AreAreaSlabs volumes.now slabs.items) }
+    ensures filled { 0 < length volumes.now → IfOk result (λ slabs. AreFilled slabs.items) }
+{
+    let mut slabs = Vec::new(alloc);
+    for volume in volumes {
+        slabs.extend_from_slice(&volume.slabs()?)?;
+    }
+    Ok(slabs)
+}
+
+// Equal volumes.
+fn copies(volumes: &Vec<Volume>) -> Result<Vec<Volume>, AllocError>
+    ensures { IfOk result (λ copies. copies.items ≡ volumes.now.items) }
+{
+    let mut copies = Vec::new(*volumes.allocator());
+    for volume in volumes {
+        copies.push(volume.copy()?)?;
+    }
+    Ok(copies)
+}
+
+fn is_count(count: usize) -> bool
+    ensures { result ≡ (nat_le 1 count && nat_le count 8) }
+{
+    if count == 0 {
+        return false;
+    }
+    count <= 8
+}

@@ -1,0 +1,272 @@
+//! Meetings: the first point that two lists of slabs share.
+
+ghost use Rattle.std.specs.Prelude.{◌≡◌, ◌&&◌, ◌||◌, ◌↔◌, Bool, IsTrue, true, Some, nat_le, int_le, int_lt, is_some};
+ghost use Rattle.std.specs.Ordering.{is_lt};
+ghost use Rattle.std.specs.List.{list_any};
+ghost use Rattle.std.specs.Option.{option_map};
+ghost use Rattle.volume4d.specs.Point.{Point, point_cmp};
+ghost use Rattle.volume4d.specs.Slab.{slab_has_leaf, slab_has, slabs_have, helds_have, top_held};
+ghost use Rattle.volume4d.specs.Level.{greater};
+ghost use Rattle.volume4d.specs.Meeting.{IsFirst, IsFirstPoint};
+ghost use Rattle.volume4d.specs.Shared as spec;
+ghost use Rattle.volume4d.specs.Shared.{is_shared, share};
+
+use crate::slab::{Held, Slab};
+use std::marker::Model;
+
+/// A point that is shared, and the greatest priority of those that hold it.
+#[derive(Clone, Copy, Debug, PartialEq, Eq)]
+#[tactic(auto, using(s2_hilbert::proofs::Positions::position_undone))]
+pub struct Meeting {
+    /// The leaf's position among all leaves along the S2 curve, below `6 * 2^60`.
+    pub pos: u64,
+    /// The altitude in decimetres above the WGS84 ellipsoid.
+    pub altitude: i32,
+    /// The Unix second.
+    pub second: i64,
+    /// The greatest priority held there.
+    pub priority: u32,
+}
+
+impl Model for Meeting {
+    ghost use Rattle.std.specs.Prelude.{◌<◌, ◌*◌, ◌^◌};
+    ghost use Rattle.s2_hilbert.specs.Curve.{position_of, grid_leaf_at};
+    ghost use Rattle.s2_hilbert.proofs.Positions.{position_undone};
+    ghost use Rattle.volume4d.specs.Meeting.{Spot};
+
+    ghost Value = { Spot };
+
+    ghost view = { λ m. record {
+      point = record {
+        leaf = grid_leaf_at m.pos;
+        altitude = m.altitude;
+        second = m.second;
+      };
+      priority = m.priority;
+    } };
+
+    ghost invariant = { λ m. m.pos < 6 * 2 ^ 60 };
+
+    ghost inverse = { λ s. record {
+      pos = position_of s.point.leaf;
+      altitude = s.point.altitude;
+      second = s.point.second;
+      priority = s.priority;
+    } };
+
+    ghost inverse_ok = { λ m _. λ i. record {
+      pos = position_undone m.pos i;
+      altitude = m.altitude;
+      second = m.second;
+      priority = m.priority;
+    } };
+}
+
+// A point: the least corner of a box.
+#[derive(Clone, Copy, Debug)]
+struct Corner {
+    pos: u64,
+    altitude: i32,
+    second: i64,
+}
+
+impl Model for Corner {
+    ghost use Rattle.std.specs.Prelude.{◌<◌, ◌*◌, ◌^◌};
+    ghost use Rattle.s2_hilbert.specs.Curve.{position_of, grid_leaf_at};
+    ghost use Rattle.s2_hilbert.proofs.Positions.{position_undone};
+    ghost use Rattle.volume4d.specs.Point.{Point};
+
+    ghost Value = { Point };
+
+    ghost view = { λ c. record {
+      leaf = grid_leaf_at c.pos;
+      altitude = c.altitude;
+      second = c.second;
+    } };
+
+    ghost invariant = { λ c. c.pos < 6 * 2 ^ 60 };
+
+    ghost inverse = { λ x. record {
+      pos = position_of x.leaf;
+      altitude = x.altitude;
+      second = x.second;
+    } };
+
+    ghost inverse_ok = { λ c _. λ i. record {
+      pos = position_undone c.pos i;
+      altitude = c.altitude;
+      second = c.second;
+    } };
+}
+
+/// Whether two lists of slabs share a point.
+pub fn meet(mine: &[Slab], theirs: &[Slab]) -> bool
+    ensures { IsTrue result
+        ↔ ((x : Point) × (slabs_have mine.now x ≡ true) × (slabs_have theirs.now x ≡ true)) }
+{
+    any_meets(mine, theirs)
+}
+
+/// The first point, by leaf, altitude and second, that slabs share with held ones, with the
+/// greatest priority of those that have it; none only where no point is shared.
+pub fn first_meeting(mine: &[Slab], theirs: &[Held]) -> Option<Meeting>
+    ensures { IsFirst (is_shared mine.now theirs.now) (top_held theirs.now) result }
+{
+    match first_shared(mine, theirs) {
+        Some(corner) => meeting_at(corner, theirs),
+        None => None,
+    }
+}
+
+// The meeting at a point that is held.
+fn meeting_at(corner: Corner, theirs: &[Held]) -> Option<Meeting>
+    ensures { result ≡ option_map (λ priority. record { point = corner; priority = priority })
+        (top_held theirs.now corner) }
+{
+    match top_at(theirs, &corner) {
+        Some(priority) => Some(Meeting {
+            pos: corner.pos,
+            altitude: corner.altitude,
+            second: corner.second,
+            priority,
+        }),
+        None => None,
+    }
+}
+
+// The first point of any of the slabs that is held.
+fn first_shared(mine: &[Slab], theirs: &[Held]) -> Option<Corner>
+    ensures { IsFirstPoint (λ x. slabs_have mine.now x && helds_have theirs.now x) result }
+{
+    let mut first = None;
+    for slab in mine {
+        first = earlier(first, first_in(slab, theirs));
+    }
+    first
+}
+
+// The first point of the slab that is held.
+fn first_in(slab: &Slab, theirs: &[Held]) -> Option<Corner>
+    ensures { IsFirstPoint (λ x. slab_has slab.now x && helds_have theirs.now x) result }
+{
+    let mut first = None;
+    for held in theirs {
+        first = earlier(first, least_corner(slab, &held.slab));
+    }
+    first
+}
+
+// The first point that two slabs share.
+fn least_corner(mine: &Slab, theirs: &Slab) -> Option<Corner>
+    ensures first { IsFirstPoint (λ x. slab_has mine.now x && slab_has theirs.now x) result }
+    ensures found { is_some result ≡ share mine.now theirs.now }
+{
+    let corner = corner_of(mine, theirs);
+    if !has(mine, &corner) {
+        return None;
+    }
+    if !has(theirs, &corner) {
+        return None;
+    }
+    Some(corner)
+}
+
+// The greatest of the lower bounds of two slabs: no point that both have comes before it.
+fn corner_of(mine: &Slab, theirs: &Slab) -> Corner
+    ensures { result ≡ spec.corner_of mine.now theirs.now }
+{
+    Corner {
+        pos: mine.first.max(theirs.first),
+        altitude: mine.lower.max(theirs.lower),
+        second: mine.start.max(theirs.start),
+    }
+}
+
+// Whether a slab has a point.
+fn has(slab: &Slab, x: &Corner) -> bool
+    ensures { result ≡ slab_has slab.now x.now }
+{
+    has_leaf(slab, x) && has_altitude(slab, x.altitude) && has_second(slab, x.second)
+}
+
+#[tactic(auto, using(crate::proofs::Corners::slab_has_position))]
+fn has_leaf(slab: &Slab, x: &Corner) -> bool
+    ensures { result ≡ slab_has_leaf slab.now x.now.leaf }
+{
+    slab.first <= x.pos && x.pos <= slab.last
+}
+
+fn has_altitude(slab: &Slab, altitude: i32) -> bool
+    ensures { result ≡ (int_le slab.now.lower altitude && int_lt altitude slab.now.upper) }
+{
+    slab.lower <= altitude && altitude < slab.upper
+}
+
+fn has_second(slab: &Slab, second: i64) -> bool
+    ensures { result ≡ (int_le slab.now.start second && int_lt second slab.now.end) }
+{
+    slab.start <= second && second < slab.end
+}
+
+// The earlier of two points, either of which may be none.
+fn earlier(a: Option<Corner>, b: Option<Corner>) -> Option<Corner>
+    ensures { (f g : Point → Bool) → IsFirstPoint f a → IsFirstPoint g b
+        → IsFirstPoint (λ x. f x || g x) result }
+{
+    match (a, b) {
+        (None, _) => b,
+        (Some(_), None) => a,
+        (Some(x), Some(y)) => { if precedes(&y, &x) { b } else { a } }
+    }
+}
+
+// Whether a point comes before another, by leaf, altitude and second.
+#[tactic(auto, using(crate::proofs::Corners::less_position))]
+fn precedes(a: &Corner, b: &Corner) -> bool
+    ensures { result ≡ is_lt (point_cmp a.now b.now) }
+{
+    if a.pos != b.pos {
+        return a.pos < b.pos;
+    }
+    if a.altitude != b.altitude {
+        return a.altitude < b.altitude;
+    }
+    a.second < b.second
+}
+
+// The greatest priority of those that have the point.
+fn top_at(theirs: &[Held], x: &Corner) -> Option<u32>
+    ensures { result ≡ top_held theirs.now x.now }
+{
+    let mut top = None;
+    for held in theirs {
+        if has(&held.slab, x) {
+            top = Some(higher(top, held.priority));
+        }
+    }
+    top
+}
+
+fn higher(top: Option<u32>, priority: u32) -> u32
+    ensures { Some result ≡ greater top (Some priority) }
+{
+    match top {
+        Some(level) => level.max(priority),
+        None => priority,
+    }
+}
+
+// Whether some slab meets one of the others.
+fn any_meets(mine: &[Slab], theirs: &[Slab]) -> bool
+    ensures { result ≡ list_any (λ slab. list_any (λ other. share slab other) theirs.now) mine.now }
+{
+    mine.iter().any(|slab| meets_any(slab, theirs))
+}
+
+fn meets_any(slab: &Slab, theirs: &[Slab]) -> bool
+    ensures { result ≡ list_any (λ other. share slab.now other) theirs.now }
+{
+    theirs
+        .iter()
+        .any(|other| least_corner(slab, other).is_some())
+}

@@ -1,0 +1,145 @@
+//! Volumes.
+
+ghost use Rattle.std.specs.Prelude.{◌≡◌, Ok, Err, if◌then◌else◌, IsTrue, IfOk, All};
+ghost use Rattle.s2_cover.specs.Runs.{IsSpan};
+ghost use Rattle.volume4d.specs.Point.{Point};
+ghost use Rattle.volume4d.specs.Extent.{is_extent};
+ghost use Rattle.volume4d.specs.Footprint.{shape_of};
+ghost use Rattle.volume4d.specs.Shape.{is_footprint};
+ghost use Rattle.volume4d.specs.Volume.{block_has};
+ghost use Rattle.volume4d.specs.Slab.{slabs_have, span_of, extent_of};
+ghost use Rattle.volume4d.specs.Bounds.{AreFilled};
+ghost use Rattle.volume4d.specs.Slabs.{AreSlabsOn, AreVolumeSlabs};
+ghost use Rattle.volume4d.specs.declared.volume.VolumeFault.TheVariants as faults;
+
+use crate::footprint::Footprint;
+use crate::slab::Slab;
+use crate::window::Window;
+use s2_cover::Span;
+use std::alloc::{AllocError, Global};
+use std::marker::Model;
+
+/// A footprint with altitudes and seconds (`Volume4D` of ASTM F3548-21), within the desk's limits
+/// by its type.
+#[derive(Debug, Drop)]
+pub struct Volume {
+    footprint: Footprint,
+    window: Window,
+}
+
+/// Why a footprint makes no volume.
+#[derive(Clone, Copy, Debug, PartialEq, Eq)]
+pub enum VolumeFault {
+    /// Not 1 to 64 cells.
+    Cells,
+}
+
+impl Model for Volume {
+    ghost use Rattle.std.specs.Prelude.{IsTrue, ◌&&◌};
+    ghost use Rattle.volume4d.specs.Extent.{is_extent};
+    ghost use Rattle.volume4d.specs.Shape.{is_footprint};
+    ghost use Rattle.volume4d.specs.Volume.{Block};
+
+    ghost Value = { Block };
+
+    ghost use Rattle.volume4d.specs.Footprint.{shape_of};
+
+    ghost view = { λ v. record { footprint = shape_of v.footprint; window = v.window } };
+
+    ghost invariant = { λ v. IsTrue (is_footprint (shape_of v.footprint) && is_extent v.window) };
+}
+
+impl Volume {
+    ghost use Rattle.volume4d.specs.Footprint.{shape_of};
+
+    /// A volume of a footprint of 1 to 64 cells; another footprint is dropped.
+    ///
+    /// # Errors
+    ///
+    /// `Cells` where the footprint has no cell or more than 64.
+    pub fn try_new(footprint: Footprint, window: Window) -> Result<Volume, VolumeFault>
+        ensures { result ≡ (if is_footprint (shape_of footprint)
+            then Ok (record { footprint = shape_of footprint; window = window })
+            else Err faults.Cells) }
+    {
+        if footprint.is_within_limits() {
+            Ok(Volume { footprint, window })
+        } else {
+            Err(VolumeFault::Cells)
+        }
+    }
+
+    /// The footprint, as asked.
+    pub fn footprint(&self) -> &Footprint
+        ensures value { shape_of result.now ≡ self.now.footprint }
+        ensures limits { IsTrue (is_footprint self.now.footprint) }
+    {
+        &self.footprint
+    }
+
+    /// The altitudes and seconds.
+    pub fn window(&self) -> Window
+        ensures value { result ≡ self.now.window }
+        ensures limits { IsTrue (is_extent self.now.window) }
+    {
+        self.window
+    }
+
+    /// The slabs that have exactly the points of the volume: one for each range of its leaves
+    /// along the S2 curve, ascending, so cells that touch make one.
+    ///
+    /// # Errors
+    ///
+    /// `AllocError` for want of memory.
+    pub fn slabs(&self) -> Result<Vec<Slab>, AllocError>
+        ensures ranges { IfOk result (λ slabs. AreVolumeSlabs self.now slabs.items) }
+        ensures points { IfOk result (λ slabs. (x : Point) →
+            slabs_have slabs.items x ≡ block_has self.now x) }
+        ensures filled { IfOk result (λ slabs. AreFilled slabs.items) }
+    {
+        let ranges = self.footprint.ranges()?;
+        slabs_of(self.footprint.allocator(), ranges.spans(), self.window)
+    }
+
+    /// An equal volume.
+    ///
+    /// # Errors
+    ///
+    /// `AllocError` for want of memory.
+    pub fn copy(&self) -> Result<Volume, AllocError>
+        ensures { IfOk result (λ copy. copy ≡ self.now) }
+    {
+        Ok(Volume {
+            footprint: self.footprint.copy()?,
+            window: self.window,
+        })
+    }
+}
+
+// The slabs of spans of positions in a window, one for each.
+fn slabs_of(alloc: Global, spans: &[Span], window: Window) -> Result<Vec<Slab>, AllocError>
+    requires { All IsSpan spans.now }
+    ensures { IfOk result (λ slabs. AreSlabsOn spans.now window slabs.items) }
+{
+    let mut slabs = Vec::new(alloc);
+    for span in spans {
+        slabs.push(slab_of(span, window))?;
+    }
+    Ok(slabs)
+}
+
+// The slab of a span of positions in a window.
+fn slab_of(span: &Span, window: Window) -> Slab
+    requires { IsSpan span.now }
+    ensures span { span_of result ≡ span.now }
+    ensures window { extent_of result ≡ window }
+{
+    Slab {
+        first: span.first,
+        last: span.last,
+        lower: window.lower(),
+        upper: window.upper(),
+        start: window.start(),
+        end: window.end(),
+    }
+}
