@@ -1,7 +1,6 @@
 -- The smallest slab round slabs that each have a point.
-use Rattle.std.proofs.Common.{◌≡◌, ℕ, ◌+◌, ◌<◌, ◌≤◌, ℤ, pos, ◌-ℤ◌, ◌≤ℤ◌, ◌<ℤ◌, Bool, true, leb, List, length, get_or, take, sym, ap, ◌∙◌, subst, arith}
-use Rattle.std.specs.Prelude.{All, Contains, int_le, int_lt}
-use Rattle.std.specs.List.{list_any}
+use Rattle.std.proofs.Common.{◌≡◌, ℕ, ◌+◌, ◌<◌, ◌≤◌, ℤ, pos, ◌-ℤ◌, ◌≤ℤ◌, ◌<ℤ◌, Bool, true, leb, List, length, get_or, take, sym, ◌∙◌, subst, arith}
+use Rattle.std.specs.Prelude.{All, int_le, int_lt}
 use Rattle.std.specs.Int.{int_min, int_max}
 use Rattle.std.proofs.lemmas.Int.{ints}
 use Rattle.std.proofs.lemmas.Bool.Decides.{nat_tests}
@@ -13,9 +12,9 @@ use Rattle.s2_hilbert.proofs.Positions.{position_undone}
 use Rattle.volume4d.specs.declared.slab.Slab.{Slab}
 use Rattle.volume4d.specs.Point.{Point}
 use Rattle.volume4d.specs.Slab.{slab_has, slabs_have}
-use Rattle.volume4d.specs.Bounds.{IsFilled, AreFilled, IsWithin, IsJoin, HasAll, IsBounds}
+use Rattle.volume4d.specs.Bounds.{IsFilled, IsWithin, IsJoin, IsBounds}
 use Rattle.volume4d.proofs.LeafTests.{leaf_at_passes}
-use Rattle.volume4d.proofs.PointsIn.{IsIn, IsIn-from_has, has-from_IsIn}
+use Rattle.volume4d.proofs.PointsIn.{IsIn-from_has, has-from_IsIn}
 
 low : (a b p : ℕ) → a ≤ b → leb b p ≡ true → leb a p ≡ true
 low a b p h e = grind (arith, nat_tests)

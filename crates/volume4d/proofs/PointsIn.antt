@@ -1,5 +1,5 @@
 -- Points in slabs.
-use Rattle.std.proofs.Common.{◌≡◌, Bool, true, ◌&&◌, leb}
+use Rattle.std.proofs.Common.{◌≡◌, true, ◌&&◌, leb}
 use Rattle.std.specs.Prelude.{int_le, int_lt}
 use Rattle.std.proofs.lemmas.Bool.{and_parts, and_from}
 use Rattle.s2_hilbert.specs.Curve.{position_of}

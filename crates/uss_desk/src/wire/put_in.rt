@@ -128,10 +128,10 @@ fn aircraft_of(word: &str) -> Option<Aircraft>
 #[cfg(test)]
 mod tests {
     use super::*;
-    use volume4d::Footprint;
     use s2_cellid::CellId;
     use std::alloc::AllocError;
     use std::test::Fail;
+    use volume4d::Footprint;
 
     const ID: &str = "11111111-1111-4111-8111-111111111111";
 

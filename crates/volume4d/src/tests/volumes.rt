@@ -6,6 +6,7 @@ use crate::footprint::Footprint;
 use crate::slab::Slab;
 use crate::volume::{Volume, VolumeFault};
 use crate::window::{Window, WindowFault};
+use s2_cellid::CellId;
 use std::process::Abort;
 use std::test::Fail;
 
@@ -56,8 +57,7 @@ fn counts_cells_and_volumes(rt: HostRuntime) -> Result<(), Fail> {
     for (count, is_taken) in [(0, false), (1, true), (64, true), (65, false)] {
         let mut cells = Vec::new(alloc);
         for _ in 0..count {
-            let Footprint::Cells(cell) = footprint(alloc, "04")?;
-            cells.push(cell[0])?;
+            cells.push(CellId::from_token(b"04")?)?;
         }
         let made = Volume::try_new(Footprint::Cells(cells), first_hour()?);
         assert_eq!(rt; made.is_ok(), is_taken, "{count}");

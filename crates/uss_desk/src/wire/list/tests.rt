@@ -342,7 +342,13 @@ fn refused_bodies(rt: HostRuntime) -> Result<(), Fail> {
         bad_member.as_bytes()
     );
     let bad_volume = refusal_of(alloc, "400 Bad Request", "bad_volume")?;
-    let no_cell = body_of(alloc, Ask { cells: "[\"2\"]", ..FIRST })?;
+    let no_cell = body_of(
+        alloc,
+        Ask {
+            cells: "[\"2\"]",
+            ..FIRST
+        },
+    )?;
     assert_eq!(rt;
         answer_to_body(alloc, no_cell.as_str())?.as_slice(),
         bad_volume.as_bytes()
