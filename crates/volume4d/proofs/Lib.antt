@@ -2,6 +2,7 @@ pub mod IdBytes
 pub mod Readings
 pub mod Extents
 pub mod LeafTests
+pub mod FootprintRanges
 pub mod SlabPoints
 pub mod Filled
 pub mod PointsIn

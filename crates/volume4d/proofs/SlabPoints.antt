@@ -1,19 +1,22 @@
 -- The points of the slabs of volumes and areas.
-use Rattle.std.proofs.Common.{◌≡◌, Bool, ◌&&◌, ◌||◌, List, [], ◌∷◌, ◌++◌, refl, sym, ap, ◌∙◌, subst}
+use Rattle.std.proofs.Common.{◌≡◌, Bool, true, false, ◌&&◌, ◌||◌, List, [], ◌∷◌, ◌++◌, refl, sym, ap, ◌∙◌, subst}
 use Rattle.std.specs.Prelude.{All, map, int_le, int_lt}
 use Rattle.std.proofs.Math.Bool.{and_assoc, and-or_distrib_left, and-or_distrib_right, and-false}
 use Rattle.std.proofs.lemmas.List.{append-nil, append_assoc}
 use Rattle.std.proofs.lemmas.List.Elements.{All-head, All-tail}
 use Rattle.std.proofs.lemmas.List.Folds.{list_any-append}
 use Rattle.s2_hilbert.specs.Curve.{position_of}
+use Rattle.s2_hilbert.proofs.Positions.{leaf_undone}
 use Rattle.s2_cover.specs.declared.spans.Span.{Span}
 use Rattle.s2_cover.specs.Runs.{IsRanges, span_has, spans_have}
 use Rattle.volume4d.specs.declared.slab.Slab.{Slab}
 use Rattle.volume4d.specs.Point.{Point, is_leaf}
 use Rattle.volume4d.specs.Extent.{Extent}
-use Rattle.volume4d.specs.Shape.{Shape, cells, shape_has, shape_positions}
+use Rattle.volume4d.specs.PointLaws.{leaf_test}
+use Rattle.volume4d.specs.Shape.{shape_has, shape_positions}
 use Rattle.volume4d.specs.Volume.{Block, extent_has, block_has, area_has}
 use Rattle.volume4d.specs.Slab.{slab_has, slabs_have, span_of, extent_of}
+use Rattle.volume4d.proofs.FootprintRanges.{leaves_alone}
 use Rattle.volume4d.specs.Slabs.{AreSlabsOn, AreVolumeSlabs, AreAreaSlabs}
 
 -- a slab by its span of leaves and its extent
@@ -48,12 +51,16 @@ slabs_by_parts (s ∷ rest) extent x same =
 volume_by_parts : (v : Block) (x : Point)
     → block_has v x
     ≡ (is_leaf x.leaf && (shape_positions v.footprint (position_of x.leaf) && extent_has v.window x))
-volume_by_parts v x = by_shape v.footprint where
-  by_shape : (shape : Shape) → (shape_has shape x.leaf && extent_has v.window x)
-      ≡ (is_leaf x.leaf && (shape_positions shape (position_of x.leaf) && extent_has v.window x))
-  by_shape (cells ids) =
-      and_assoc (is_leaf x.leaf) (shape_positions (cells ids) (position_of x.leaf))
-      (extent_has v.window x)
+volume_by_parts v x = by_leaf (is_leaf x.leaf) refl where
+  within : Bool
+  within = extent_has v.window x
+
+  by_leaf : (is : Bool) → is_leaf x.leaf ≡ is → (shape_has v.footprint x.leaf && within)
+      ≡ (is && (shape_positions v.footprint (position_of x.leaf) && within))
+  by_leaf true is =
+      ap (λ leaf. shape_has v.footprint leaf && within)
+      (sym (leaf_undone x.leaf ((leaf_test x.leaf).0 is)))
+  by_leaf false outside = ap (λ b. b && within) (leaves_alone v.footprint x.leaf outside)
 
 -- slabs on the ranges of a volume's leaves
 pub volume_slabs : (v : Block) (spans : List Span) (slabs : List Slab)

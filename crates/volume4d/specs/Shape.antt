@@ -2,8 +2,8 @@
 use Rattle.std.specs.Prelude.{ℕ, List, Bool, ◌&&◌, length, nat_le}
 use Rattle.std.specs.List.{list_any}
 use Rattle.s2_hilbert.specs.Grid.{GridLeaf}
+use Rattle.s2_hilbert.specs.Curve.{grid_leaf_at}
 use Rattle.s2_cellid.specs.Family.{cell_has_leaf}
-use Rattle.s2_cover.specs.Leaves.{leaves_of}
 use Rattle.volume4d.specs.Point.{is_leaf}
 
 -- S2 cells by their ids, in the order asked
@@ -20,4 +20,4 @@ is_footprint (cells ids) = nat_le 1 (length ids) && nat_le (length ids) 64
 
 -- the positions of its leaves along the curve
 abbrev pub shape_positions : Shape → ℕ → Bool
-shape_positions (cells ids) = leaves_of ids
+shape_positions shape position = shape_has shape (grid_leaf_at position)

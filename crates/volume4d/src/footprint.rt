@@ -85,7 +85,7 @@ impl Footprint {
             IfOk result (λ ranges. 0 < length ranges) }
     {
         match self {
-            Footprint::Cells(cells) => normalise(*cells.allocator(), cells)?.ranges(),
+            Footprint::Cells(cells) => cell_ranges(*cells.allocator(), cells),
         }
     }
 
@@ -95,6 +95,14 @@ impl Footprint {
             Footprint::Cells(cells) => *cells.allocator(),
         }
     }
+}
+
+// The ranges of a cell list's leaves.
+fn cell_ranges(alloc: Global, cells: &[CellId]) -> Result<Ranges, AllocError>
+    ensures ranges { IfOk result (IsRanges (shape_positions (shapes.cells cells.now))) }
+    ensures some { 0 < length cells.now → IfOk result (λ ranges. 0 < length ranges) }
+{
+    normalise(alloc, cells)?.ranges()
 }
 
 // The bytes of a cell list.

@@ -1,0 +1,49 @@
+-- The positions of a footprint's leaves.
+use Rattle.std.proofs.Common.{◌≡◌, ℕ, ◌*◌, ◌^◌, ◌<◌, ◌≤◌, false, ◌&&◌, List, [], ◌∷◌, refl, sym, ap, ◌∙◌, arith, inl, inr}
+use Rattle.std.specs.Prelude.{All}
+use Rattle.std.proofs.lemmas.Bool.{cases_lt, and_left, and_right, lt-leb, or_from}
+use Rattle.std.proofs.lemmas.List.Elements.{All-head, All-tail}
+use Rattle.s2_hilbert.specs.Grid.{GridLeaf}
+use Rattle.s2_hilbert.specs.Curve.{position_of, grid_leaf_at}
+use Rattle.s2_hilbert.proofs.Positions.{position_undone}
+use Rattle.s2_cover.specs.declared.spans.Span.{Span}
+use Rattle.s2_cover.specs.Leaves.{leaves_of}
+use Rattle.s2_cover.specs.Runs.{IsSpan, IsRanges, span_has, spans_have}
+use Rattle.volume4d.specs.Point.{is_leaf}
+use Rattle.volume4d.specs.Shape.{Shape, cells, shape_has, shape_positions}
+use Rattle.volume4d.proofs.LeafTests.{leaf_at_passes, no_leaf_at}
+
+-- a footprint has leaves alone
+pub leaves_alone : (shape : Shape) (leaf : GridLeaf) → is_leaf leaf ≡ false
+    → shape_has shape leaf ≡ false
+leaves_alone (cells ids) leaf outside = and_left (is_leaf leaf) _ outside
+
+-- the positions of a cell list's leaves
+positions_below : (ids : List ℕ) (p : ℕ) → p < 6 * 2 ^ 60
+    → shape_positions (cells ids) p ≡ leaves_of ids p
+positions_below ids p below =
+    ap (λ b. b && leaves_of ids (position_of (grid_leaf_at p))) (leaf_at_passes p below)
+    ∙ ap (leaves_of ids) (position_undone p)
+
+none_past : (spans : List Span) (p : ℕ) → All IsSpan spans → 6 * 2 ^ 60 ≤ p
+    → spans_have spans p ≡ false
+none_past [] p each past = refl
+none_past (span ∷ rest) p each past =
+    let is = All-head IsSpan span rest each in
+    or_from (span_has span p) (spans_have rest p)
+    (and_right _ _ (lt-leb p span.last (omega (arith, is.below, past))))
+    (none_past rest p (All-tail IsSpan span rest each) past)
+
+-- the ranges of a cell list's leaves, by the leaves of the grid
+pub cell_ranges : (ids : List ℕ) (spans : List Span) → IsRanges (leaves_of ids) spans
+    → IsRanges (shape_positions (cells ids)) spans
+cell_ranges ids spans ranges = record {
+  each = ranges.each;
+  apart = ranges.apart;
+  positions = λ p. elim (cases_lt p (6 * 2 ^ 60)) [
+    | inl below ↦ ranges.positions p ∙ sym (positions_below ids p below)
+    | inr past ↦
+        none_past spans p ranges.each past
+        ∙ sym (leaves_alone (cells ids) (grid_leaf_at p) (no_leaf_at p past))
+  ];
+}
