@@ -1,15 +1,16 @@
 //! The command line of the program.
 
 ghost use Rattle.std.specs.Prelude.{IfOk};
-ghost use Rattle.uss_desk.specs.Moments.{HasMoment, IsMoment};
+ghost use Rattle.desk_run.specs.Moments.{IsMoment};
+ghost use Rattle.uss_desk.specs.Lines.{HasMoment};
 
 #[cfg(test)]
 mod tests;
 
-use crate::run::MAX_CEILING;
 use clap::error::ErrorKind;
 use clap::{Arg, ArgAction, ArgMatches, Command, value_parser};
 use desk_rules::operator::Operator;
+use desk_run::MAX_CEILING;
 use std::alloc::{AllocError, AllocFailed, Global};
 
 /// The last moment, a Unix second.

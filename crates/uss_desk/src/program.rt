@@ -1,15 +1,15 @@
 //! The program: what a command line does, its exit status, and the word that it prints.
 
-ghost use Rattle.uss_desk.specs.Moments.{HasMoment, IsMoment};
+ghost use Rattle.desk_run.specs.Moments.{IsMoment};
+ghost use Rattle.uss_desk.specs.Lines.{HasMoment};
 
 #[cfg(test)]
 mod tests;
 
 use crate::line::{Enrolment, Line, Play};
-use crate::run::{Desk, DeskFault};
-use crate::store::PlanStore;
-use crate::wire::play::{PlayEnd, play_all};
-use crate::wire::stream::{ServeFault, write_whole};
+use desk_run::{Desk, DeskFault};
+use desk_store::PlanStore;
+use desk_wire::{PlayEnd, ServeFault, play_all, write_whole};
 use std::alloc::Global;
 use std::io::{Read, Write};
 

@@ -1,11 +1,11 @@
 //! Lines carried out over streams in memory: the exit status, and what is printed.
 
-ghost use Rattle.uss_desk.specs.Moments.{HasMoment};
+ghost use Rattle.uss_desk.specs.Lines.{HasMoment};
 
 use super::with_desk;
 use crate::line::{Line, read_words};
-use crate::run::Desk;
-use crate::store::list::ListStore;
+use desk_run::Desk;
+use desk_store::ListStore;
 use std::alloc::Global;
 use std::test::Fail;
 

@@ -1,0 +1,4 @@
+pub mod Moments
+pub mod Verdicts
+pub mod Calls
+pub mod CallLaws

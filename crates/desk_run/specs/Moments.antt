@@ -1,0 +1,5 @@
+-- Moments: Unix seconds from the epoch to the beginning of the year 9999.
+use Rattle.std.specs.Prelude.{ℤ, pos, ◌≤ℤ◌}
+
+abbrev pub IsMoment : ℤ → Type 0
+IsMoment z = (pos 0 ≤ℤ z) × (z ≤ℤ pos 253370764800)

@@ -1,0 +1,21 @@
+//! Laws of the definitions. Each is the contract of a function that does nothing.
+
+ghost use Rattle.std.specs.Prelude.{◌≡◌, ℕ, ℤ, List, false};
+ghost use Rattle.std.specs.Ordering.{is_eq};
+ghost use Rattle.desk_run.specs.declared.call.Call.{Call};
+ghost use Rattle.desk_run.specs.Verdicts.{own_left, step};
+ghost use Rattle.desk_store.specs.World.{World, own, held, text_cmp};
+
+/// A request changes no other operator's plans or ceiling.
+pub fn others_are_kept()
+    ensures { (w : World) (operator other : List ℕ) (moment : ℤ) (call : Call) →
+        is_eq (text_cmp other operator) ≡ false →
+        own (step w operator moment call) other ≡ own w other }
+{}
+
+/// What a request leaves its operator is decided by what that operator owns and what others hold.
+pub fn own_is_decided()
+    ensures { (w : World) (operator : List ℕ) (moment : ℤ) (call : Call) →
+        own (step w operator moment call) operator
+        ≡ own_left (own w operator) (held w operator) moment call }
+{}

@@ -1,0 +1,18 @@
+//! The desk: calls answered over a store, each prepared before it is committed.
+#![tactic(auto)]
+
+mod call;
+mod desk;
+mod fault;
+pub mod laws;
+mod pending;
+mod put;
+mod reply;
+#[cfg(test)]
+mod tests;
+
+pub use call::{Asked, Call};
+pub use desk::{Desk, MAX_CEILING};
+pub use fault::DeskFault;
+pub use pending::Pending;
+pub use reply::{PutReply, Reply};

@@ -1,0 +1,23 @@
+//! What a desk replies.
+
+use desk_rules::words::{Note, PlanResult, PlanStatus};
+use volume4d::Meeting;
+
+/// What the desk replies.
+#[derive(Clone, Copy, Debug, PartialEq, Eq)]
+pub enum Reply {
+    /// To a request to plan.
+    Answered(PutReply),
+}
+
+/// The reply to a request to plan.
+#[derive(Clone, Copy, Debug, PartialEq, Eq)]
+pub struct PutReply {
+    pub result: PlanResult,
+    /// The status of the plan after the request.
+    pub status: PlanStatus,
+    /// Why the request was refused.
+    pub note: Option<Note>,
+    /// The first blocked point, beside the note `Conflict` alone.
+    pub meeting: Option<Meeting>,
+}

@@ -1,0 +1,4 @@
+pub mod SortedPlans
+pub mod RoomLemmas
+pub mod StoreLemmas
+pub mod RivalLemmas

@@ -1,0 +1,142 @@
+-- What others hold, plan by plan.
+use Rattle.std.proofs.Common.{◌≡◌, ℕ, ◌+◌, ◌<◌, Bool, true, false, ◌&&◌, ◌||◌, cond, not, List, [], ◌∷◌, ◌++◌, length, get_or, take, map, Option, Some, None, refl, sym, ap, ◌∙◌, arith}
+use Rattle.std.specs.Prelude.{nat_le, max}
+use Rattle.std.specs.List.{filter}
+use Rattle.std.proofs.lemmas.Bool.Decides.{nat_tests}
+use Rattle.std.proofs.lemmas.List.Folds.{list_any_more}
+use Rattle.desk_rules.specs.declared.plan.PlanRow.{PlanRow}
+use Rattle.volume4d.specs.declared.slab.Slab.{Slab}
+use Rattle.volume4d.specs.declared.slab.Held.{Held}
+use Rattle.volume4d.specs.Point.{Point}
+use Rattle.volume4d.specs.Volume.{area_has}
+use Rattle.volume4d.specs.Slab.{slab_has, slabs_have, top_held}
+use Rattle.volume4d.specs.Level.{greater}
+use Rattle.volume4d.specs.LevelLaws.{greater_none, greater_assoc, greater_comm, level_where, top_held-push, top_held-nil}
+use Rattle.desk_rules.specs.PlanLaws.{top_priority-cons, top_priority-nil}
+use Rattle.desk_rules.specs.Plan.{is_live, row_holds, top_priority}
+use Rattle.desk_rules.specs.Conflict.{at_least}
+use Rattle.desk_store.specs.World.{Filed, World, rows_by, is_by, has_id, others_of, held, held_at}
+use Rattle.desk_store.specs.Rows.{is_own, rival_level, rivals_top}
+
+max_reaches : (n a b : ℕ) → (nat_le n a || nat_le n b) ≡ nat_le n (max a b)
+max_reaches n a b = grind (arith, nat_tests)
+
+max_left : (n a b : ℕ) → nat_le n a ≡ true → nat_le n b ≡ false → max a b ≡ a
+max_left n a b p q = grind (arith, nat_tests)
+
+max_right : (n a b : ℕ) → nat_le n a ≡ false → nat_le n b ≡ true → max a b ≡ b
+max_right n a b p q = grind (arith, nat_tests)
+
+-- a level, where it is at least a priority, of the greater of two
+pub at_least_greater : (n : ℕ) (a b : Option ℕ) → at_least n (greater a b) ≡ greater (at_least n a) (at_least n b)
+at_least_greater n None b = refl
+at_least_greater n (Some a) None = sym (greater_none (at_least n (Some a)))
+at_least_greater n (Some a) (Some b) = ap (λ c. cond c (Some (max a b)) None) (sym (max_reaches n a b)) ∙ by_tests (nat_le n a) (nat_le n b) refl refl where
+  by_tests : (s t : Bool) → nat_le n a ≡ s → nat_le n b ≡ t → cond (s || t) (Some (max a b)) None ≡ greater (cond s (Some a) None) (cond t (Some b) None)
+  by_tests true true p q = refl
+  by_tests true false p q = ap Some (max_left n a b p q)
+  by_tests false true p q = ap Some (max_right n a b p q)
+  by_tests false false p q = refl
+
+max_itself : (n : ℕ) → max n n ≡ n
+max_itself n = omega arith
+
+-- one more plan
+pub rivals_top-cons : (o id : List ℕ) (p : Filed) (ps : List Filed) (x : Point) → rivals_top o id (p ∷ ps) x ≡ greater (rival_level o id p x) (rivals_top o id ps x)
+unfolding rivals_top rival_level
+rivals_top-cons o id p ps x = by_test (not (is_own o id p)) where
+  others : List PlanRow
+  others = map (λ q. q.row) (filter (λ q. not (is_own o id q)) ps)
+
+  by_test : (b : Bool) → top_priority (map (λ q. q.row) (cond b (p ∷ filter (λ q. not (is_own o id q)) ps) (filter (λ q. not (is_own o id q)) ps))) x ≡ greater (level_where (b && row_holds p.row x) p.row.priority) (top_priority others x)
+  by_test true = top_priority-cons p.row others x
+  by_test false = refl
+
+pub rivals_top-nil : (o id : List ℕ) (x : Point) → rivals_top o id [] x ≡ None
+unfolding rivals_top
+rivals_top-nil o id x = top_priority-nil x
+
+own_top : List ℕ → List ℕ → List Filed → Point → Option ℕ
+own_top o id ps x = top_priority (filter (λ r. not (has_id id r)) (rows_by o ps)) x
+
+other_top : List ℕ → List Filed → Point → Option ℕ
+other_top o ps x = top_priority (map (λ p. p.row) (filter (λ p. not (is_by o p)) ps)) x
+
+swap_greater : (a b c : Option ℕ) → greater a (greater b c) ≡ greater b (greater a c)
+swap_greater a b c = sym (greater_assoc a b c) ∙ ap (λ q. greater q c) (greater_comm a b) ∙ greater_assoc b a c
+
+split : (o id : List ℕ) (x : Point) (ps : List Filed) → rivals_top o id ps x ≡ greater (other_top o ps x) (own_top o id ps x)
+unfolding own_top other_top rival_level
+split o id x [] = rivals_top-nil o id x ∙ sym (ap (λ a. greater a (top_priority [] x)) (top_priority-nil x) ∙ top_priority-nil x)
+split o id x (p ∷ ps) = rivals_top-cons o id p ps x ∙ ap (greater (rival_level o id p x)) (split o id x ps) ∙ by_operator (is_by o p) where
+  mine : List PlanRow
+  mine = rows_by o ps
+
+  theirs : List PlanRow
+  theirs = map (λ q. q.row) (filter (λ q. not (is_by o q)) ps)
+
+  by_id : (c : Bool) → greater (level_where (not c && row_holds p.row x) p.row.priority) (greater (top_priority theirs x) (top_priority (filter (λ r. not (has_id id r)) mine) x)) ≡ greater (top_priority theirs x) (top_priority (cond (not c) (p.row ∷ filter (λ r. not (has_id id r)) mine) (filter (λ r. not (has_id id r)) mine)) x)
+  by_id true = refl
+  by_id false = swap_greater (level_where (row_holds p.row x) p.row.priority) (top_priority theirs x) _ ∙ ap (greater (top_priority theirs x)) (sym (top_priority-cons p.row (filter (λ r. not (has_id id r)) mine) x))
+
+  by_operator : (b : Bool) → greater (level_where (not (b && has_id id p.row) && row_holds p.row x) p.row.priority) (greater (top_priority theirs x) (top_priority (filter (λ r. not (has_id id r)) mine) x)) ≡ greater (top_priority (map (λ q. q.row) (cond (not b) (p ∷ filter (λ q. not (is_by o q)) ps) (filter (λ q. not (is_by o q)) ps))) x) (top_priority (filter (λ r. not (has_id id r)) (map (λ q. q.row) (cond b (p ∷ filter (is_by o) ps) (filter (is_by o) ps)))) x)
+  by_operator true = by_id (has_id id p.row)
+  by_operator false = sym (greater_assoc (level_where (row_holds p.row x) p.row.priority) (top_priority theirs x) _) ∙ ap (λ a. greater a (top_priority (filter (λ r. not (has_id id r)) mine) x)) (sym (top_priority-cons p.row theirs x))
+
+-- what others hold, and what the operator's other plans hold, are what all rivals hold
+pub held_by_rivals : (o id : List ℕ) (w : World) (x : Point) → rivals_top o id w.plans x ≡ held_at (rows_by o w.plans) (held w o) id x
+unfolding held_at held others_of own_top other_top
+held_by_rivals o id w x = split o id x w.plans
+
+-- the step of a loop over the plans
+pub rival_added : (n : ℕ) (o id : List ℕ) (p : Filed) (ps : List Filed) (x : Point) (before after all : Option ℕ) → after ≡ greater before (at_least n (rival_level o id p x)) → greater before (at_least n (rivals_top o id (p ∷ ps) x)) ≡ all → greater after (at_least n (rivals_top o id ps x)) ≡ all
+rival_added n o id p ps x before after all more e =
+    ap (λ l. greater l (at_least n (rivals_top o id ps x))) more ∙ greater_assoc before (at_least n (rival_level o id p x)) _
+    ∙ ap (greater before) (sym (ap (at_least n) (rivals_top-cons o id p ps x) ∙ at_least_greater n (rival_level o id p x) (rivals_top o id ps x))) ∙ e
+
+-- the start of the loop, and its end
+pub rivals_begin : (level : Option ℕ) (helds : List Held) (x : Point) → helds ≡ [] → greater (top_held helds x) level ≡ level
+rivals_begin level helds x e = ap (λ hs. greater (top_held hs x) level) e ∙ ap (λ l. greater l level) (top_held-nil x)
+
+pub rivals_end : (n : ℕ) (o id : List ℕ) (ps : List Filed) (x : Point) (level all : Option ℕ) → ps ≡ [] → greater level (at_least n (rivals_top o id ps x)) ≡ all → level ≡ all
+rivals_end n o id ps x level all none e =
+    sym (ap (λ qs. greater level (at_least n (rivals_top o id qs x))) none ∙ ap (λ l. greater level (at_least n l)) (rivals_top-nil o id x) ∙ greater_none level) ∙ e
+
+-- the operator's own plan of the id adds nothing
+pub own_adds_none : (n : ℕ) (o id : List ℕ) (p : Filed) (x : Point) (level : Option ℕ) → is_own o id p ≡ true → level ≡ greater level (at_least n (rival_level o id p x))
+unfolding rival_level
+own_adds_none n o id p x level e = sym (ap (λ b. greater level (at_least n (level_where (not b && row_holds p.row x) p.row.priority))) e ∙ greater_none level)
+
+-- nor does a plan that isn't live, or of a lower priority
+pub low_adds_none : (n : ℕ) (o id : List ℕ) (p : Filed) (x : Point) (level : Option ℕ) → (is_live p.row.usage && nat_le n p.row.priority) ≡ false → level ≡ greater level (at_least n (rival_level o id p x))
+unfolding rival_level row_holds
+low_adds_none n o id p x level e = sym (ap (greater level) (by_tests (not (is_own o id p)) (is_live p.row.usage) (area_has p.row.area x) e) ∙ greater_none level) where
+  too_low : nat_le n p.row.priority ≡ false → (a : Bool) → at_least n (level_where a p.row.priority) ≡ None
+  too_low f true = ap (λ b. cond b (Some p.row.priority) None) f
+  too_low f false = refl
+
+  by_tests : (b l a : Bool) → (l && nat_le n p.row.priority) ≡ false → at_least n (level_where (b && (l && a)) p.row.priority) ≡ None
+  by_tests false l a f = refl
+  by_tests true false a f = refl
+  by_tests true true a f = too_low f a
+
+-- every other plan adds its priority where its area has the point
+pub rival_adds : (n : ℕ) (o id : List ℕ) (p : Filed) (x : Point) → is_own o id p ≡ false → (is_live p.row.usage && nat_le n p.row.priority) ≡ true → level_where (area_has p.row.area x) p.row.priority ≡ at_least n (rival_level o id p x)
+unfolding rival_level row_holds
+rival_adds n o id p x own e = sym (ap (λ b. at_least n (level_where (not b && (is_live p.row.usage && area_has p.row.area x)) p.row.priority)) own ∙ by_tests (is_live p.row.usage) (area_has p.row.area x) e) where
+  by_tests : (l a : Bool) → (l && nat_le n p.row.priority) ≡ true → at_least n (level_where (true && (l && a)) p.row.priority) ≡ level_where a p.row.priority
+  by_tests false a f = cc
+  by_tests true true f = ap (λ b. cond b (Some p.row.priority) None) f
+  by_tests true false f = refl
+
+-- one more slab of a priority
+pub slab_adds : (helds : List Held) (slabs : List Slab) (i : ℕ) (s : Slab) (priority : ℕ) (x : Point) (before : Option ℕ) → i < length slabs → s ≡ get_or slabs i s → top_held helds x ≡ greater before (level_where (slabs_have (take i slabs) x) priority) → top_held (helds ++ record { slab = s; priority = priority } ∷ []) x ≡ greater before (level_where (slabs_have (take (i + 1) slabs) x) priority)
+slab_adds helds slabs i s priority x before h is so_far =
+    top_held-push helds (record { slab = s; priority = priority }) x ∙ ap (λ l. greater l (level_where (slab_has s x) priority)) so_far
+    ∙ greater_assoc before (level_where (slabs_have (take i slabs) x) priority) (level_where (slab_has s x) priority)
+    ∙ ap (greater before) (either (slabs_have (take i slabs) x) (slab_has s x)
+    ∙ ap (λ b. level_where b priority) (sym (list_any_more (λ t. slab_has t x) slabs i s h ∙ ap (λ t. slabs_have (take i slabs) x || slab_has t x) (sym is)))) where
+      either : (a b : Bool) → greater (level_where a priority) (level_where b priority) ≡ level_where (a || b) priority
+      either true true = ap Some (max_itself priority)
+      either true false = refl
+      either false b = refl

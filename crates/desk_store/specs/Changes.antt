@@ -1,0 +1,38 @@
+-- How worlds change.
+use Rattle.std.specs.Prelude.{ℕ, List, [], ◌∷◌, ◌++◌, Bool, map, ◌<◌, ◌⊎◌, length, IsSome}
+use Rattle.std.specs.List.{filter}
+use Rattle.std.specs.Ordering.{is_lt, is_gt, match_ordering}
+use Rattle.desk_rules.specs.declared.plan.PlanRow.{PlanRow}
+use Rattle.desk_store.specs.World.{Filed, Listed, World, text_cmp, plans_of, stored_of, max_rows}
+
+-- rows ascending by id, with a row in place of the one of its id, or at its place
+abbrev pub put_row : PlanRow → List PlanRow → List PlanRow
+put_row row [] = row ∷ []
+put_row row (r ∷ rs) = match_ordering (text_cmp row.id r.id) (row ∷ r ∷ rs) (row ∷ rs) (r ∷ put_row row rs)
+
+-- operators ascending by name, with a ceiling at its place
+abbrev pub list_operator : List ℕ → ℕ → List Listed → List Listed
+list_operator name ceiling [] = record { name = name; ceiling = ceiling } ∷ []
+list_operator name ceiling (l ∷ ls) = match_ordering (text_cmp name l.name) (record { name = name; ceiling = ceiling } ∷ l ∷ ls) (record { name = name; ceiling = ceiling } ∷ ls) (l ∷ list_operator name ceiling ls)
+
+abbrev pub filed_by : List ℕ → PlanRow → Filed
+filed_by operator row = record { operator = operator; row = row }
+
+abbrev pub is_before : List ℕ → Filed → Bool
+is_before operator p = is_gt (text_cmp operator p.operator)
+
+abbrev pub is_after : List ℕ → Filed → Bool
+is_after operator p = is_lt (text_cmp operator p.operator)
+
+-- the world with the operator's plans replaced
+unfoldable pub with_plans : World → List ℕ → List PlanRow → World
+with_plans w operator rows =
+    record w { plans = filter (is_before operator) w.plans ++ (map (filed_by operator) rows ++ filter (is_after operator) w.plans) }
+
+-- the world with the operator listed under a ceiling
+unfoldable pub with_operator : World → List ℕ → ℕ → World
+with_operator w name ceiling = record w { operators = list_operator name ceiling w.operators }
+
+-- there is room for a row: its id is stored, or the operator has fewer plans than it may have
+abbrev pub HasRoom : World → List ℕ → List ℕ → Type 0
+HasRoom w operator id = IsSome (stored_of id (plans_of operator w)) ⊎ (length (plans_of operator w) < max_rows)

@@ -1,0 +1,13 @@
+//! The changes that a store is asked for.
+
+use desk_rules::operator::Operator;
+use desk_rules::plan::PlanRow;
+
+/// A change of a store's content.
+#[derive(Debug, Drop)]
+pub enum Change {
+    /// The operator is listed under this ceiling; its plans stay.
+    Enrol { operator: Operator, ceiling: u32 },
+    /// The row is stored for its id, in place of the one stored before.
+    Put { operator: Operator, row: PlanRow },
+}

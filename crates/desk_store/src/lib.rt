@@ -1,0 +1,12 @@
+//! Stores of plans: where a desk keeps its operators and their plans, and a store in memory.
+#![tactic(auto)]
+
+mod change;
+mod fault;
+mod list;
+mod store;
+
+pub use change::Change;
+pub use fault::StoreFault;
+pub use list::ListStore;
+pub use store::PlanStore;

@@ -1,0 +1,21 @@
+use Rattle.std.proofs.Common.{Err, ◌∙◌, ap, subst, w64}
+use Rattle.std.proofs.lemmas.Int.{to_z-of_z}
+use Rattle.std.proofs.lemmas.Result.{IfOk-weaker, on_ok_weaker}
+use Rattle.desk_run.specs.Calls.{IsPending, Prepares, committed}
+use Rattle.desk_wire.proofs.BytesLemmas.{done_if_ok, done_unknown}
+use Rattle.desk_wire.proofs.desk.answer_call.Goals as goal
+
+pub returns-in-Ok-clause-bytes : goal.returns-in-Ok-clause-bytes
+returns-in-Ok-clause-bytes g c =
+    done_if_ok (λ v. v.items) c.answer_pending.result c.args.desk.now c.answer_pending.new.desk c.args.moment c.args.asked.now c.in-Ok.pending
+    (subst (λ m. IsPending c.args.desk.now m c.args.asked.now c.in-Ok.pending) (to_z-of_z w64 c.args.moment c.ranges.moment) c.in-Ok.ensures.value)
+    c.answer_pending.ensures.bytes
+    (on_ok_weaker c.answer_pending.result (λ e. e ∙ ap (λ w. committed w c.in-Ok.pending) c.prepare.ensures.same) c.answer_pending.ensures.ok)
+
+pub returns-in-Err-UnknownOperator-clause-bytes : goal.returns-in-Err-UnknownOperator-clause-bytes
+returns-in-Err-UnknownOperator-clause-bytes g c =
+    let fault : Prepares c.args.desk.now c.args.moment c.args.asked.now (Err c.in-Err-UnknownOperator.field-0) =
+    subst (λ m. Prepares c.args.desk.now m c.args.asked.now (Err c.in-Err-UnknownOperator.field-0)) (to_z-of_z w64 c.args.moment c.ranges.moment) c.in-Err-UnknownOperator.ensures.value in
+    IfOk-weaker c.refusal_answer.result _ _ (λ v told.
+    done_unknown c.args.desk.now c.prepare.new.self c.args.moment c.args.asked.now v.items
+    (rw c.in-Err-UnknownOperator.field-0-is at fault) told c.prepare.ensures.same) c.refusal_answer.ensures

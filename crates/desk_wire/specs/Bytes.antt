@@ -1,0 +1,40 @@
+-- Bytes: the text that a desk answers to the bytes of one request, and what the request leaves.
+use Rattle.std.specs.Prelude.{◌≡◌, ◌⊎◌, ℕ, ℤ, List, Ok, Err}
+use Rattle.desk_run.specs.declared.call.Asked.{Asked}
+use Rattle.desk_run.specs.declared.reply.Reply.TheVariants.{Answered}
+use Rattle.desk_wire.specs.declared.texts.Refusal.TheVariants.{Fault, UnknownOperator, OutOfMemory}
+use Rattle.desk_wire.specs.Faults.{Reading}
+use Rattle.desk_wire.specs.PlanBody.{put_text}
+use Rattle.desk_wire.specs.Refusals.{refusal_text}
+use Rattle.desk_wire.specs.Requests.{asked}
+use Rattle.desk_run.specs.Verdicts.{Told, replied, unknown_operator, answer_to, step}
+use Rattle.desk_store.specs.World.{World}
+
+-- the text of what a caller is told
+unfoldable pub text : Told → List ℕ
+text (replied (Answered r)) = put_text r.status r.result r.note r.meeting
+text unknown_operator = refusal_text UnknownOperator
+
+-- the answer to what is asked at a moment, or to the fault that was met
+abbrev pub text_for : World → ℤ → Reading Asked → List ℕ
+text_for w moment (Ok a) = text (answer_to w a.operator moment a.call)
+text_for w moment (Err fault) = refusal_text (Fault fault)
+
+-- what it leaves: a fault leaves all as it was
+abbrev pub world_after : World → ℤ → Reading Asked → World
+world_after w moment (Ok a) = step w a.operator moment a.call
+world_after w moment (Err fault) = w
+
+-- the answer, and what is left, are those of what is asked
+pub record IsDone (w : World) (moment : ℤ) (reading : Reading Asked) (answer : List ℕ) (after : World) : Type 0 where
+  pub told : answer ≡ text_for w moment reading
+  pub left : after ≡ world_after w moment reading
+
+-- memory ran out: the answer says so, and all is as it was
+pub record IsGivenUp (w : World) (answer : List ℕ) (after : World) : Type 0 where
+  pub told : answer ≡ refusal_text OutOfMemory
+  pub left : after ≡ w
+
+-- the answer to a request, and what it leaves
+abbrev pub IsAnswered : World → ℤ → List ℕ → List ℕ → World → Type 0
+IsAnswered w moment request answer after = IsDone w moment (asked request) answer after ⊎ IsGivenUp w answer after

@@ -1,0 +1,17 @@
+pub mod Faults
+pub mod Framing
+pub mod Fields
+pub mod Heads
+pub mod Messages
+pub mod Routes
+pub mod Addresses
+pub mod JsonIn
+pub mod Times
+pub mod VolumeIn
+pub mod PutIn
+pub mod Requests
+pub mod Answer
+pub mod PlanWords
+pub mod PlanBody
+pub mod Refusals
+pub mod Bytes

@@ -1,8 +1,0 @@
-use Rattle.std.proofs.Common.{◌∙◌, ap}
-use Rattle.uss_desk.specs.World.{ceiling_of}
-use Rattle.uss_desk.proofs.StoreLemmas.{ceiling_found}
-use Rattle.uss_desk.proofs.store.list.ListStorePlanStore.ceiling.Goals as goal
-
-pub returns-clause-value : goal.returns-clause-value
-unfolding ceiling_of
-returns-clause-value c = c.copied.ensures ∙ c.get.ensures.value ∙ ceiling_found c.args.operator.now c.self.inside.operators.entries ∙ ap (ceiling_of c.args.operator.now) c.self.view_is

@@ -1,6 +1,0 @@
-use Rattle.std.proofs.Common.{◌∙◌, ap}
-use Rattle.uss_desk.specs.World.{stored_of, plans_of}
-use Rattle.uss_desk.proofs.store.list.ListStorePlanStore.plan.Goals as goal
-
-pub returns-clause-value : goal.returns-clause-value
-returns-clause-value c = c.in_ok-find_plan.ensures ∙ ap (λ w. stored_of c.args.id.now (plans_of c.args.operator.now w)) c.self.view_is

@@ -1,9 +1,0 @@
-use Rattle.std.proofs.Common.{◌≡◌}
-use Rattle.serde_json.specs.View.{items_view}
-use Rattle.uss_desk.specs.JsonIn.{each}
-use Rattle.uss_desk.specs.VolumeIn.{volume_of}
-use Rattle.uss_desk.proofs.EachLemmas.{read_from}
-use Rattle.uss_desk.proofs.wire.volume_in.read_volumes.Given as goal
-
-abbrev pub invariant-loop-item : goal.invariant-loop-item
-invariant-loop-item l = each volume_of (items_view l.items) ≡ read_from volume_of l.volumes.items l.items l.item-index
