@@ -1,6 +1,5 @@
 -- Calls: what is prepared and committed is the verdict's.
 use Rattle.std.proofs.Common.{◌≡◌, ℕ, ℤ, List, length, Option, Some, None, refl, sym, ap, subst, ◌∙◌}
-use Rattle.std.specs.Option.{option_map}
 use Rattle.desk_rules.specs.declared.plan.PlanRow.{PlanRow}
 use Rattle.desk_rules.specs.declared.plan.PutCall.{PutCall}
 use Rattle.desk_rules.specs.declared.decide.Verdict.{Verdict}
@@ -12,7 +11,6 @@ use Rattle.desk_run.specs.declared.call.Call.TheVariants as call
 use Rattle.desk_run.specs.declared.call.Asked.{Asked}
 use Rattle.desk_run.specs.declared.reply.Reply.TheVariants as reply
 use Rattle.desk_run.specs.declared.reply.PutReply.{PutReply}
-use Rattle.desk_run.specs.declared.pending.Pending.{Pending}
 use Rattle.desk_store.specs.World.{World, own, held, held_at, ceiling_of, plans_of, stored_of}
 use Rattle.desk_run.specs.Verdicts.{replied, unknown_operator, put_verdict, row_after, answer_put, told_of, reply_to, row_put, row_stored, answer_to}
 use Rattle.desk_run.specs.Calls.{IsPending, HasRoomFor}

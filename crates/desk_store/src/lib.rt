@@ -5,6 +5,8 @@ mod change;
 mod fault;
 mod list;
 mod store;
+#[cfg(test)]
+mod tests;
 
 pub use change::Change;
 pub use fault::StoreFault;
