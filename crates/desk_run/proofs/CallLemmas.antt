@@ -1,41 +1,111 @@
 -- Calls: what is prepared and committed is the verdict's.
-use Rattle.std.proofs.Common.{◌≡◌, ℕ, ℤ, List, length, Option, Some, None, refl, sym, ap, subst, ◌∙◌}
+use Rattle.std.proofs.Common.{◌≡◌, ◌≤◌, ℕ, ℤ, List, length, Option, Some, None, Result, Ok, Err, true, refl, sym, ap, subst, ◌∙◌}
+use Rattle.std.specs.Prelude.{IsSome, is_some}
 use Rattle.desk_rules.specs.declared.plan.PlanRow.{PlanRow}
 use Rattle.desk_rules.specs.declared.plan.PutCall.{PutCall}
+use Rattle.desk_rules.specs.declared.words.PlanResult.TheVariants as result
+use Rattle.desk_rules.specs.declared.words.PlanStatus.TheVariants as status
 use Rattle.desk_rules.specs.declared.decide.Verdict.{Verdict}
+use Rattle.desk_rules.specs.declared.decide.Effect.{Effect}
+use Rattle.desk_rules.specs.declared.decide.Effect.TheVariants as effect
 use Rattle.volume4d.specs.Meeting.{Spot}
 use Rattle.desk_rules.specs.Conflict.{conflict}
 use Rattle.desk_rules.specs.Outcome.{outcome}
-use Rattle.desk_run.specs.declared.call.Call.{Call}
+use Rattle.desk_store.specs.declared.change.Change.{Change}
+use Rattle.desk_store.specs.declared.change.Change.TheVariants as change
+use Rattle.desk_store.specs.StoreChange.{changed_by, IsFitting}
+use Rattle.desk_store.specs.World.{World, own, held, held_at, ceiling_of, plans_of, stored_of}
 use Rattle.desk_run.specs.declared.call.Call.TheVariants as call
 use Rattle.desk_run.specs.declared.call.Asked.{Asked}
+use Rattle.desk_run.specs.declared.fault.DeskFault.{DeskFault}
+use Rattle.desk_run.specs.declared.fault.DeskFault.TheVariants.{OutOfMemory, UnknownOperator, NoSuchPlan, Ceiling}
 use Rattle.desk_run.specs.declared.reply.Reply.TheVariants as reply
 use Rattle.desk_run.specs.declared.reply.PutReply.{PutReply}
-use Rattle.desk_store.specs.World.{World, own, held, held_at, ceiling_of, plans_of, stored_of}
-use Rattle.desk_run.specs.Verdicts.{replied, unknown_operator, put_verdict, row_after, answer_put, told_of, reply_to, row_put, row_stored, answer_to}
-use Rattle.desk_run.specs.Calls.{IsPending, HasRoomFor}
-use Rattle.desk_run.proofs.RunLemmas.{row_has_room}
+use Rattle.desk_run.specs.declared.pending.Pending.{Pending}
+use Rattle.desk_run.specs.Verdicts.{Told, replied, unknown_operator, no_such_plan, Answer, only, put_verdict, answer_of, plans_left, answer_delete, listed_answer, answer_under, verdict, changed, answer_to, step}
+use Rattle.desk_run.specs.Calls.{IsUnanswered, IsReady, Readies, IsPending, Prepares, change_after, world_with, committed}
+use Rattle.desk_run.proofs.PutLemmas.{change_fits}
 
 -- a verdict by the stored plan, the number of plans and the conflict
 pub verdict_is : (w : World) (o : List ℕ) (put : PutCall) (given moment : ℤ) (ceiling : ℕ) (stored : Option PlanRow) (count : ℕ) (meeting : Option Spot) (v : Verdict) → v ≡ outcome put given stored count ceiling meeting → given ≡ moment → stored ≡ stored_of put.id (plans_of o w) → count ≡ length (plans_of o w) → meeting ≡ conflict put.area (held_at (plans_of o w) (held w o) put.id) put.priority → v ≡ put_verdict (own w o) (held w o) ceiling moment put
 unfolding put_verdict own
 verdict_is w o put given moment ceiling stored count meeting v e m s n c = e ∙ (λ i. outcome put (m i) (s i) (n i) ceiling (c i))
 
--- an operator that is not listed
-pub unlisted_is : (w : World) (o : List ℕ) (moment : ℤ) (asked : Call) → ceiling_of o w ≡ None → answer_to w o moment asked ≡ unknown_operator
-unfolding answer_to reply_to own
-unlisted_is w o moment (call.Put put) e = ap (answer_put (own w o) (held w o) moment put) e
+-- a call to which an answer says no more than a word
+unanswered_by : (w : World) (moment : ℤ) (asked : Asked) (reason : Told) → verdict (own w asked.operator) (held w asked.operator) moment asked.call ≡ only reason → IsUnanswered w moment asked reason
+unfolding answer_to step
+unanswered_by w moment asked reason e = record { told = ap (λ a. a.told) e; left = ap (λ a. changed w asked.operator a.plans) e }
 
--- what is ready is pending
-pub pending_is : (w : World) (moment : ℤ) (asked : Asked) (put : PutCall) (ceiling : ℕ) (v : Verdict) (r : PutReply) (row : Option PlanRow) → asked.call ≡ call.Put put → ceiling_of asked.operator w ≡ Some ceiling → v ≡ put_verdict (own w asked.operator) (held w asked.operator) ceiling moment put → row ≡ row_after v.effect put (stored_of put.id (plans_of asked.operator w)) → r ≡ record { result = v.result; status = v.status; note = v.note; meeting = v.meeting } → IsPending w moment asked (record { operator = asked.operator; reply = reply.Answered r; row = row })
-unfolding answer_to reply_to row_stored own put_verdict
-pending_is w moment asked put ceiling v r row is listed verdict stored replies =
-    let o = asked.operator in
-    let mine = plans_of o w in
-    let row_is : row ≡ row_after (put_verdict (own w o) (held w o) ceiling moment put).effect put (stored_of put.id mine) = stored ∙ ap (λ u. row_after u.effect put (stored_of put.id mine)) verdict in
+-- an operator that is not listed
+pub unlisted_is : (w : World) (moment : ℤ) (asked : Asked) → ceiling_of asked.operator w ≡ None → IsUnanswered w moment asked unknown_operator
+unfolding verdict own
+unlisted_is w moment asked e = unanswered_by w moment asked unknown_operator (ap (λ c. answer_under c (own w asked.operator) (held w asked.operator) moment asked.call) e)
+
+-- the change of an effect leaves the plans that the effect leaves
+change_made : (w : World) (o : List ℕ) (put : PutCall) (e : Effect) → world_with w (change_after e o put) ≡ changed w o (plans_left e put (plans_of o w))
+unfolding changed_by
+change_made w o put effect.Nothing = refl
+change_made w o put effect.Save = refl
+change_made w o put effect.Shut = refl
+
+-- the reply to a request to plan, and its change, are ready
+pub put_ready : (w : World) (o : List ℕ) (put : PutCall) (given moment : ℤ) (ceiling : ℕ) (v : Verdict) (r : PutReply) (c : Option Change) → ceiling_of o w ≡ Some ceiling → ceiling ≤ 1000 → v ≡ put_verdict (own w o) (held w o) ceiling given put → given ≡ moment → c ≡ change_after v.effect o put → r ≡ record { result = v.result; status = v.status; note = v.note; meeting = v.meeting } → IsReady w o (answer_of (put_verdict (own w o) (held w o) ceiling moment put) put (plans_of o w)) (record { reply = reply.Answered r; change = c })
+unfolding put_verdict own committed
+put_ready w o put given moment ceiling v r c listed low is m change reply_is =
+    let u = put_verdict (own w o) (held w o) ceiling moment put in
+    let v_is : v ≡ u = is ∙ ap (λ t. put_verdict (own w o) (held w o) ceiling t put) m in
+    let c_is : c ≡ change_after u.effect o put = change ∙ ap (λ x. change_after x.effect o put) v_is in
     record {
-      reply = ap (reply_to (own w o) (held w o) moment) is ∙ ap (answer_put (own w o) (held w o) moment put) listed ∙ ap told_of (sym verdict) ∙ ap (λ q. replied (reply.Answered q)) (sym replies);
-      operator = refl;
-      row = row_is ∙ sym (ap (row_put (own w o) (held w o) moment put) listed) ∙ sym (ap (row_stored (own w o) (held w o) moment) is);
-      room = subst (HasRoomFor w o) (sym row_is) (row_has_room w o put moment ceiling (conflict put.area (held_at mine (held w o) put.id) put.priority));
+      told = ap (λ x. (answer_of x put (plans_of o w)).told) (sym v_is) ∙ ap (λ q. replied (reply.Answered q)) (sym reply_is);
+      left = ap (world_with w) c_is ∙ change_made w o put u.effect;
+      fits = rw c_is (change_fits w o put moment ceiling (conflict put.area (held_at (plans_of o w) (held w o) put.id) put.priority) listed low);
     }
+
+-- what is ready for an operator under a ceiling is pending
+pending_from : (w : World) (moment : ℤ) (asked : Asked) (ceiling : ℕ) (p : Pending) → ceiling_of asked.operator w ≡ Some ceiling → IsReady w asked.operator (listed_answer (own w asked.operator) (held w asked.operator) ceiling moment asked.call) p → IsPending w moment asked p
+unfolding answer_to step verdict own
+pending_from w moment asked ceiling p listed h =
+    let o = asked.operator in
+    record {
+      told = ap (λ c. (answer_under c (own w o) (held w o) moment asked.call).told) listed ∙ h.told;
+      left = h.left ∙ sym (ap (λ c. changed w o (answer_under c (own w o) (held w o) moment asked.call).plans) listed);
+      fits = h.fits;
+    }
+
+pub prepares_from : (w : World) (moment : ℤ) (asked : Asked) (ceiling : ℕ) (r : Result Pending DeskFault) → ceiling_of asked.operator w ≡ Some ceiling → Readies w asked.operator (listed_answer (own w asked.operator) (held w asked.operator) ceiling moment asked.call) r → Prepares w moment asked r
+unfolding verdict own
+prepares_from w moment asked ceiling (Ok p) listed h = pending_from w moment asked ceiling p listed h
+prepares_from w moment asked ceiling (Err NoSuchPlan) listed h = unanswered_by w moment asked no_such_plan (ap (λ c. answer_under c (own w asked.operator) (held w asked.operator) moment asked.call) listed ∙ h)
+prepares_from w moment asked ceiling (Err OutOfMemory) listed h = tt
+prepares_from w moment asked ceiling (Err UnknownOperator) listed h = absurd h
+prepares_from w moment asked ceiling (Err Ceiling) listed h = absurd h
+
+-- that the desk is ready
+pub status_ready : (w : World) (moment : ℤ) (asked : Asked) (ceiling : ℕ) → ceiling_of asked.operator w ≡ Some ceiling → asked.call ≡ call.Status → IsPending w moment asked (record { reply = reply.Ready; change = None })
+unfolding listed_answer committed
+status_ready w moment asked ceiling listed is =
+    pending_from w moment asked ceiling (record { reply = reply.Ready; change = None }) listed
+    (subst (λ c. IsReady w asked.operator (listed_answer (own w asked.operator) (held w asked.operator) ceiling moment c) (record { reply = reply.Ready; change = None })) (sym is)
+    (record { told = refl; left = refl; fits = tt }))
+
+-- the closing of a stored plan is ready
+pub delete_ready : (w : World) (o id : List ℕ) (found : Option PlanRow) → found ≡ stored_of id (plans_of o w) → is_some found ≡ true → IsSome (ceiling_of o w) → IsReady w o (answer_delete (plans_of o w) id (stored_of id (plans_of o w))) (record { reply = reply.Answered (record { result = result.Completed; status = status.Closed; note = None; meeting = None }); change = Some (change.Close o id) })
+unfolding committed changed_by IsFitting
+delete_ready w o id None e s listed = cc
+delete_ready w o id (Some row) e s listed =
+    subst (λ r. IsReady w o (answer_delete (plans_of o w) id r) (record { reply = reply.Answered (record { result = result.Completed; status = status.Closed; note = None; meeting = None }); change = Some (change.Close o id) })) e
+    (record { told = refl; left = refl; fits = (listed, ap is_some (sym e)) })
+
+-- the answers to a request to plan, and to close, are those to the call
+pub put_readies : (w before : World) (given moment : ℤ) (asked : Asked) (put : PutCall) (ceiling : ℕ) (r : Result Pending DeskFault) → w ≡ before → given ≡ moment → asked.call ≡ call.Put put → Readies w asked.operator (answer_of (put_verdict (own w asked.operator) (held w asked.operator) ceiling given put) put (plans_of asked.operator w)) r → Readies before asked.operator (listed_answer (own before asked.operator) (held before asked.operator) ceiling moment asked.call) r
+unfolding listed_answer own
+put_readies w before given moment asked put ceiling r same m is h =
+    subst (λ v. Readies v asked.operator (listed_answer (own v asked.operator) (held v asked.operator) ceiling moment asked.call) r) same
+    (subst (λ t. Readies w asked.operator (listed_answer (own w asked.operator) (held w asked.operator) ceiling t asked.call) r) m
+    (subst (λ c. Readies w asked.operator (listed_answer (own w asked.operator) (held w asked.operator) ceiling given c) r) (sym is) h))
+
+pub delete_readies : (w before : World) (moment : ℤ) (asked : Asked) (id : List ℕ) (ceiling : ℕ) (r : Result Pending DeskFault) → w ≡ before → asked.call ≡ call.Delete id → Readies w asked.operator (answer_delete (plans_of asked.operator w) id (stored_of id (plans_of asked.operator w))) r → Readies before asked.operator (listed_answer (own before asked.operator) (held before asked.operator) ceiling moment asked.call) r
+unfolding listed_answer own
+delete_readies w before moment asked id ceiling r same is h =
+    subst (λ v. Readies v asked.operator (listed_answer (own v asked.operator) (held v asked.operator) ceiling moment asked.call) r) same
+    (subst (λ c. Readies w asked.operator (listed_answer (own w asked.operator) (held w asked.operator) ceiling moment c) r) (sym is) h)

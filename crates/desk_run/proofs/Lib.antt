@@ -1,3 +1,4 @@
-pub mod RunLemmas
+pub mod PutLemmas
 pub mod CallLemmas
 pub mod StepLemmas
+pub mod RunLemmas

@@ -1,49 +1,84 @@
 -- What the calls of a desk give, by the verdict.
-use Rattle.std.specs.Prelude.{◌≡◌, ℤ, List, ℕ, ⊤, Option, Some, None, Result, Ok, Err}
-use Rattle.std.specs.Option.{option_map}
-use Rattle.desk_rules.specs.declared.plan.PlanRow.{PlanRow}
+use Rattle.std.specs.Prelude.{◌≡◌, ℕ, ℤ, ⊤, List, Option, Some, None, Result, Ok, Err}
+use Rattle.desk_rules.specs.declared.decide.Effect.{Effect}
+use Rattle.desk_rules.specs.declared.decide.Effect.TheVariants as effect
+use Rattle.desk_rules.specs.declared.plan.PutCall.{PutCall}
+use Rattle.desk_store.specs.declared.change.Change.{Change}
+use Rattle.desk_store.specs.declared.change.Change.TheVariants as change
+use Rattle.desk_store.specs.StoreChange.{changed_by, IsFitting}
+use Rattle.desk_store.specs.World.{World}
 use Rattle.desk_run.specs.declared.call.Asked.{Asked}
 use Rattle.desk_run.specs.declared.reply.Reply.{Reply}
 use Rattle.desk_run.specs.declared.pending.Pending.{Pending}
 use Rattle.desk_run.specs.declared.fault.DeskFault.{DeskFault}
-use Rattle.desk_run.specs.declared.fault.DeskFault.TheVariants.{OutOfMemory, UnknownOperator, Ceiling}
-use Rattle.desk_store.specs.World.{World, own, held, plans_of}
-use Rattle.desk_store.specs.Changes.{put_row, HasRoom}
-use Rattle.desk_run.specs.Verdicts.{Told, replied, unknown_operator, answer_to, row_stored, changed}
+use Rattle.desk_run.specs.declared.fault.DeskFault.TheVariants.{OutOfMemory, UnknownOperator, NoSuchPlan, Ceiling}
+use Rattle.desk_run.specs.Verdicts.{Told, Answer, replied, unknown_operator, no_such_plan, row_asked, only, changed, answer_to, step}
 
--- a reply is told as it is; an unknown operator is told so; of want of memory nothing is claimed; no other fault comes
-abbrev pub Tells : Result Reply DeskFault → Told → Type 0
-Tells (Ok r) told = told ≡ replied r
-Tells (Err UnknownOperator) told = told ≡ unknown_operator
-Tells (Err OutOfMemory) told = ⊤
-Tells (Err Ceiling) told = ⊥
+-- a call without a reply: what the caller is told instead, and that the call leaves the world as it was
+pub record IsUnanswered (w : World) (moment : ℤ) (asked : Asked) (reason : Told) : Type 0 where
+  pub told : answer_to w asked.operator moment asked.call ≡ reason
+  pub left : step w asked.operator moment asked.call ≡ w
 
--- there is room for the row, if there is one
-abbrev pub HasRoomFor : World → List ℕ → Option PlanRow → Type 0
-HasRoomFor w operator None = ⊤
-HasRoomFor w operator (Some row) = HasRoom w operator row.id
+-- a reply is told as it is, and so are an unknown operator and a plan that is not there; of want of memory nothing is
+-- claimed; no other fault comes
+abbrev pub Tells : World → ℤ → Asked → Result Reply DeskFault → Type 0
+Tells w moment asked (Ok r) = answer_to w asked.operator moment asked.call ≡ replied r
+Tells w moment asked (Err UnknownOperator) = IsUnanswered w moment asked unknown_operator
+Tells w moment asked (Err NoSuchPlan) = IsUnanswered w moment asked no_such_plan
+Tells w moment asked (Err OutOfMemory) = ⊤
+Tells w moment asked (Err Ceiling) = ⊥
+
+-- a change, if there is one, is one that a store takes
+abbrev pub Fits : World → Option Change → Type 0
+Fits w None = ⊤
+Fits w (Some change) = IsFitting change w
+
+-- the world with a change made, if there is one
+abbrev pub world_with : World → Option Change → World
+world_with w None = w
+world_with w (Some change) = changed_by change w
 
 -- the reply that is ready
 abbrev pub reply_in : Pending → Reply
 reply_in p = p.reply
 
--- there is room for what is pending
+-- what is pending may be committed
 abbrev pub CanCommit : World → Pending → Type 0
-CanCommit w p = HasRoomFor w p.operator p.row
+CanCommit w p = Fits w p.change
 
--- what is pending is the reply and the row of the call at the moment, and may be committed
+-- the world with what is pending committed
+unfoldable pub committed : World → Pending → World
+committed w p = world_with w p.change
+
+-- what is pending is what an answer to an operator says
+pub record IsReady (w : World) (operator : List ℕ) (a : Answer) (p : Pending) : Type 0 where
+  pub told : a.told ≡ replied (reply_in p)
+  pub left : committed w p ≡ changed w operator a.plans
+  pub fits : CanCommit w p
+
+-- where there is one; that there is no such plan, where the answer says so
+abbrev pub Readies : World → List ℕ → Answer → Result Pending DeskFault → Type 0
+Readies w operator a (Ok p) = IsReady w operator a p
+Readies w operator a (Err NoSuchPlan) = a ≡ only no_such_plan
+Readies w operator a (Err OutOfMemory) = ⊤
+Readies w operator a (Err UnknownOperator) = ⊥
+Readies w operator a (Err Ceiling) = ⊥
+
+-- the change that an effect is
+abbrev pub change_after : Effect → List ℕ → PutCall → Option Change
+change_after effect.Nothing operator asked = None
+change_after effect.Save operator asked = Some (change.Put operator (row_asked asked))
+change_after effect.Shut operator asked = Some (change.Close operator asked.id)
+
+-- what is pending is the reply and the change of the call at the moment, and may be committed
 pub record IsPending (w : World) (moment : ℤ) (asked : Asked) (p : Pending) : Type 0 where
-  pub reply : answer_to w asked.operator moment asked.call ≡ replied p.reply
-  pub operator : p.operator ≡ asked.operator
-  pub row : p.row ≡ row_stored (own w asked.operator) (held w asked.operator) moment asked.call
-  pub room : CanCommit w p
+  pub told : answer_to w asked.operator moment asked.call ≡ replied (reply_in p)
+  pub left : committed w p ≡ step w asked.operator moment asked.call
+  pub fits : CanCommit w p
 
 abbrev pub Prepares : World → ℤ → Asked → Result Pending DeskFault → Type 0
 Prepares w moment asked (Ok p) = IsPending w moment asked p
-Prepares w moment asked (Err UnknownOperator) = answer_to w asked.operator moment asked.call ≡ unknown_operator
+Prepares w moment asked (Err UnknownOperator) = IsUnanswered w moment asked unknown_operator
+Prepares w moment asked (Err NoSuchPlan) = IsUnanswered w moment asked no_such_plan
 Prepares w moment asked (Err OutOfMemory) = ⊤
 Prepares w moment asked (Err Ceiling) = ⊥
-
--- the world with the pending row put among the operator's
-unfoldable pub committed : World → Pending → World
-committed w p = changed w p.operator (option_map (λ row. put_row row (plans_of p.operator w)) p.row)

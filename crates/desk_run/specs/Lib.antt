@@ -1,4 +1,5 @@
 pub mod Moments
+pub mod MomentLaws
 pub mod Verdicts
 pub mod Calls
-pub mod CallLaws
+pub mod Runs

@@ -2,12 +2,17 @@
 
 use desk_rules::operator::Operator;
 use desk_rules::plan::PutCall;
+use desk_rules::plan_id::PlanId;
 
 /// What is asked of the desk.
 #[derive(Debug, Drop)]
 pub enum Call {
+    /// Whether the desk is ready.
+    Status,
     /// A flight is to be planned, activated, changed or closed.
     Put(PutCall),
+    /// The plan of an id is to be closed.
+    Delete(PlanId),
 }
 
 /// A call, and the operator who makes it.

@@ -31,7 +31,7 @@ impl<S: PlanStore> Model for Desk<S> {
 
 impl<S: PlanStore> Desk<S> {
     ghost use Rattle.desk_store.specs.Changes.{with_operator};
-    ghost use Rattle.desk_run.specs.Verdicts.{answer_to, step};
+    ghost use Rattle.desk_run.specs.Verdicts.{step};
     ghost use Rattle.desk_run.specs.Calls.{Tells, Prepares, CanCommit, reply_in, committed};
 
     /// A desk over a store, with the store's content.
@@ -58,7 +58,7 @@ impl<S: PlanStore> Desk<S> {
         if ceiling > MAX_CEILING {
             return Err(DeskFault::Ceiling);
         }
-        self.store.apply(Change::Enrol {
+        self.store.apply(&Change::Enrol {
             operator: *operator,
             ceiling,
         })?;
@@ -93,7 +93,7 @@ impl<S: PlanStore> Desk<S> {
     /// Answers a call at a moment, and makes its change.
     pub fn call(&mut self, alloc: Global, moment: i64, asked: &Asked) -> Result<Reply, DeskFault>
         requires { IsMoment moment }
-        ensures told { Tells result (answer_to self.old asked.now.operator moment asked.now.call) }
+        ensures told { Tells self.old moment asked.now result }
         ensures ok { OnOk result (self.new ≡ step self.old asked.now.operator moment asked.now.call) }
         ensures err { OnErr result (self.new ≡ self.old) }
     {

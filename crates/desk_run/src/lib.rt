@@ -6,8 +6,8 @@ mod desk;
 mod fault;
 pub mod laws;
 mod pending;
-mod put;
 mod reply;
+mod run;
 #[cfg(test)]
 mod tests;
 
@@ -16,3 +16,4 @@ pub use desk::{Desk, MAX_CEILING};
 pub use fault::DeskFault;
 pub use pending::Pending;
 pub use reply::{PutReply, Reply};
+pub use run::{Outcome, Ran};

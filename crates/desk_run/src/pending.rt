@@ -1,25 +1,25 @@
 //! Replies that are ready, and the changes that go with them.
 
-ghost use Rattle.std.specs.Prelude.{◌≡◌, IfOk, IfErr, OnOk, OnErr};
+ghost use Rattle.std.specs.Prelude.{◌≡◌, Some, IfOk, IfErr, OnOk, OnErr};
 ghost use Rattle.desk_run.specs.Calls.{Prepares, CanCommit, reply_in, committed};
 ghost use Rattle.desk_run.specs.Moments.{IsMoment};
 
 use crate::call::{Asked, Call};
 use crate::fault::DeskFault;
-use crate::put::verdict_on;
-use crate::reply::{PutReply, Reply};
-use desk_rules::decide::Verdict;
-use desk_rules::operator::Operator;
-use desk_rules::plan::{PlanRow, PutCall};
+use crate::reply::Reply;
+use delete::ready_delete;
 use desk_store::{Change, PlanStore};
+use put::ready_put;
 use std::alloc::Global;
+
+mod delete;
+mod put;
 
 /// A reply that is ready, and the change that goes with it.
 #[derive(Debug, Drop)]
 pub struct Pending {
-    operator: Operator,
     reply: Reply,
-    row: Option<PlanRow>,
+    change: Option<Change>,
 }
 
 impl Pending {
@@ -42,40 +42,17 @@ pub fn prepare_over<S: PlanStore>(
     ensures value { Prepares (S.content store.old) moment asked.now result }
     ensures same { S.content store.new ≡ S.content store.old }
 {
-    let Some(ceiling) = store.ceiling(&asked.operator)? else {
+    let operator = &asked.operator;
+    let Some(ceiling) = store.ceiling(operator)? else {
         return Err(DeskFault::UnknownOperator);
     };
-    let put = put_of(&asked.call);
-    let (verdict, row) = verdict_on(alloc, store, moment, &asked.operator, put, ceiling)?;
-    Ok(Pending {
-        operator: asked.operator,
-        reply: Reply::Answered(reply_of(&verdict)),
-        row,
-    })
-}
-
-// The request to plan, the only kind of call.
-fn put_of(call: &Call) -> &PutCall
-    ensures { call.now ≡ Call.Put result.now }
-{
-    match call {
-        Call::Put(put) => put,
-    }
-}
-
-fn reply_of(verdict: &Verdict) -> PutReply
-    ensures { result ≡ record {
-      result = verdict.now.result;
-      status = verdict.now.status;
-      note = verdict.now.note;
-      meeting = verdict.now.meeting;
-    } }
-{
-    PutReply {
-        result: verdict.result,
-        status: verdict.status,
-        note: verdict.note,
-        meeting: verdict.meeting,
+    match &asked.call {
+        Call::Status => Ok(Pending {
+            reply: Reply::Ready,
+            change: None,
+        }),
+        Call::Put(put) => ready_put(alloc, store, moment, operator, put, ceiling),
+        Call::Delete(id) => ready_delete(store, operator, id),
     }
 }
 
@@ -87,14 +64,10 @@ pub fn commit_over<S: PlanStore>(store: &mut S, pending: Pending) -> Result<Repl
     ensures err { OnErr result (S.content store.new ≡ S.content store.old) }
     ensures fault { IfErr result (λ e. e ≡ DeskFault.OutOfMemory) }
 {
-    let Pending {
-        operator,
-        reply,
-        row,
-    } = pending;
-    match row {
-        Some(row) => {
-            store.apply(Change::Put { operator, row })?;
+    let Pending { reply, change } = pending;
+    match change {
+        Some(change) => {
+            store.apply(&change)?;
             Ok(reply)
         }
         None => Ok(reply),

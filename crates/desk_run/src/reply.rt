@@ -6,11 +6,13 @@ use volume4d::Meeting;
 /// What the desk replies.
 #[derive(Clone, Copy, Debug, PartialEq, Eq)]
 pub enum Reply {
-    /// To a request to plan.
+    /// The desk is ready.
+    Ready,
+    /// To a request to plan, or to close.
     Answered(PutReply),
 }
 
-/// The reply to a request to plan.
+/// The reply to a request to plan, or to close.
 #[derive(Clone, Copy, Debug, PartialEq, Eq)]
 pub struct PutReply {
     pub result: PlanResult,

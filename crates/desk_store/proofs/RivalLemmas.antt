@@ -140,3 +140,12 @@ slab_adds helds slabs i s priority x before h is so_far =
       either true true = ap Some (max_itself priority)
       either true false = refl
       either false b = refl
+
+-- a slab that has no point of an extent adds nothing there
+pub slab_outside : (slabs : List Slab) (i : ℕ) (s : Slab) (priority : ℕ) (x : Point) (meets : Bool) (level before : Option ℕ) → i < length slabs → s ≡ get_or slabs i s → meets ≡ false → (slab_has s x ≡ true → meets ≡ true) → level ≡ greater before (level_where (slabs_have (take i slabs) x) priority) → level ≡ greater before (level_where (slabs_have (take (i + 1) slabs) x) priority)
+slab_outside slabs i s priority x meets level before h is apart shared so_far =
+    so_far ∙ ap (λ b. greater before (level_where b priority)) (sym (list_any_more (λ t. slab_has t x) slabs i s h ∙ ap (λ t. slabs_have (take i slabs) x || slab_has t x) (sym is) ∙ no_more (slabs_have (take i slabs) x) (slab_has s x) shared)) where
+      no_more : (a b : Bool) → (b ≡ true → meets ≡ true) → (a || b) ≡ a
+      no_more true b h = refl
+      no_more false true h = sym (h refl) ∙ apart
+      no_more false false h = refl

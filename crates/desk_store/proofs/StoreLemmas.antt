@@ -1,21 +1,22 @@
 -- What the lists of a store in memory say of its world.
-use Rattle.std.proofs.Common.{◌≡◌, ℕ, suc, ◌<◌, Bool, true, false, cond, List, [], ◌∷◌, length, map, Option, Some, None, refl, sym, ap, subst, ◌∙◌, inl, inr, arith, Less, Equal, Greater}
-use Rattle.std.specs.List.{filter, find}
+use Rattle.std.proofs.Common.{◌≡◌, ℕ, suc, ◌<◌, Bool, true, false, cond, List, [], ◌∷◌, ◌++◌, length, map, Option, Some, None, refl, sym, ap, subst, ◌∙◌, inl, inr, arith, Less, Equal, Greater}
+use Rattle.std.specs.List.{filter, find, list_all}
 use Rattle.std.specs.Option.{option_map}
 use Rattle.std.specs.declared.cmp.Ordering.{Ordering}
 use Rattle.std.specs.Ordering.{ordering_then, is_eq, match_ordering}
 use Rattle.std.specs.BTreeMap.{insert_entry, is_at}
 use Rattle.std.specs.Map.{lookup, keys_of}
 use Rattle.std.specs.List.Sorted.{IsStrictlySortedBy}
-use Rattle.std.specs.Prelude.{IsSome, is_some}
+use Rattle.std.specs.Prelude.{◌≤◌, nat_le, IsSome, is_some}
+use Rattle.std.proofs.lemmas.List.{append_assoc}
 use Rattle.std.proofs.lemmas.Map.Lookups.{exact_bytes}
 use Rattle.desk_rules.specs.declared.plan.PlanRow.{PlanRow}
 use Rattle.desk_store.specs.declared.list.Plan.{Plan}
-use Rattle.desk_store.specs.World.{Listed, World, text_cmp, rows_by, plans_of, is_by, stored_of, has_id, max_rows, IsWorld}
+use Rattle.desk_store.specs.World.{Filed, Listed, World, text_cmp, rows_by, plans_of, is_by, stored_of, has_id, max_rows, max_priority, IsWorld}
 use Rattle.desk_store.specs.Changes.{list_operator, put_row, with_operator, with_plans, HasRoom}
 use Rattle.desk_store.specs.Listing.{row_of, listed_of, filed_of, filed_all, world_of}
 use Rattle.desk_store.proofs.SortedPlans.{Key, key_cmp, replaced, inserted}
-use Rattle.desk_store.proofs.RoomLemmas.{room_kept}
+use Rattle.desk_store.proofs.RoomLemmas.{room_kept, ceiling_kept}
 
 -- the ceiling that a look-up finds
 pub ceiling_found : (o : List ℕ) (es : List (List ℕ × ℕ)) → lookup (is_at (text_cmp o)) es ≡ option_map (λ l. l.ceiling) (find (λ l. is_eq (text_cmp o l.name)) (map listed_of es))
@@ -82,6 +83,15 @@ stored old ops plans more o id plan is sorted e =
       put : World → World
       put w = record w { plans = replaced o (put_row (row_of id plan) (plans_of o w)) w.plans }
 
+-- the step of a loop that lists an operator's rows: its own is added, another's is not
+pub row_added : (o : List ℕ) (p : Filed) (ps : List Filed) (rows more all : List PlanRow) → is_by o p ≡ true → more ≡ rows ++ p.row ∷ [] → rows ++ rows_by o (p ∷ ps) ≡ all → more ++ rows_by o ps ≡ all
+row_added o p ps rows more all mine e so_far =
+    ap (λ rs. rs ++ rows_by o ps) e ∙ append_assoc rows (p.row ∷ []) (rows_by o ps)
+    ∙ sym (ap (λ b. rows ++ map (λ q. q.row) (cond b (p ∷ filter (is_by o) ps) (filter (is_by o) ps))) mine) ∙ so_far
+
+pub row_passed : (o : List ℕ) (p : Filed) (ps : List Filed) (rows all : List PlanRow) → is_by o p ≡ false → rows ++ rows_by o (p ∷ ps) ≡ all → rows ++ rows_by o ps ≡ all
+row_passed o p ps rows all theirs so_far = sym (ap (λ b. rows ++ map (λ q. q.row) (cond b (p ∷ filter (is_by o) ps) (filter (is_by o) ps))) theirs) ∙ so_far
+
 -- how many plans an operator has by the keys alone
 length_by_keys : (o : List ℕ) (es : List (Key × Plan)) → length (rows_by o (filed_all es)) ≡ length (filter (λ k. is_eq (text_cmp o k.0)) (keys_of es))
 length_by_keys o [] = refl
@@ -101,8 +111,15 @@ has_less old o id none (inr less) = less
 pub limit_kept : (old : World) (ops : List (List ℕ × ℕ)) (plans more : List (Key × Plan)) (o id : List ℕ) (plan : Plan) (found : Option Plan) → world_of ops plans ≡ old → IsStrictlySortedBy key_cmp (keys_of plans) → more ≡ insert_entry key_cmp plans (o, id) plan → found ≡ lookup (is_at (key_cmp (o, id))) plans → (IsSome found → keys_of more ≡ keys_of plans) → IsWorld (world_of ops plans) → HasRoom old o id → IsWorld (world_of ops more)
 limit_kept old ops plans more o id plan found is sorted e f keys h room = by_found found refl where
   by_found : (r : Option Plan) → found ≡ r → IsWorld (world_of ops more)
-  by_found (Some p) q = λ n. omega (arith, length_by_keys n more ∙ ap (λ ks. length (filter (λ k. is_eq (text_cmp n k.0)) ks)) (keys (ap is_some q)) ∙ sym (length_by_keys n plans), h n)
+  by_found (Some p) q = record { rows = λ n. omega (arith, length_by_keys n more ∙ ap (λ ks. length (filter (λ k. is_eq (text_cmp n k.0)) ks)) (keys (ap is_some q)) ∙ sym (length_by_keys n plans), h.rows n); ceilings = h.ceilings }
   by_found None q =
       let none : stored_of id (plans_of o old) ≡ None = ap (λ w. stored_of id (plans_of o w)) (sym is) ∙ sym (plan_found o id plans) ∙ ap (option_map (row_of id)) (sym f ∙ q) in
       let below : length (plans_of o old) < max_rows = has_less old o id none room in
       subst IsWorld (sym (stored old ops plans more o id plan is sorted e)) (room_kept o (row_of id plan) old (subst IsWorld is h) below)
+
+-- enrolling keeps the limits
+pub enrolled_kept : (ops more : List (List ℕ × ℕ)) (plans : List (Key × Plan)) (o : List ℕ) (ceiling : ℕ) → more ≡ insert_entry text_cmp ops o ceiling → ceiling ≤ max_priority → IsWorld (world_of ops plans) → IsWorld (world_of more plans)
+enrolled_kept ops more plans o ceiling e low h = record {
+  rows = h.rows;
+  ceilings = subst (λ ls. list_all (λ l. nat_le l.ceiling max_priority) ls ≡ true) (sym (ap (map listed_of) e ∙ operator_inserted o ceiling ops)) (ceiling_kept o ceiling (map listed_of ops) low h.ceilings);
+}

@@ -1,14 +1,31 @@
 -- How worlds change.
-use Rattle.std.specs.Prelude.{ℕ, List, [], ◌∷◌, ◌++◌, Bool, map, ◌<◌, ◌⊎◌, length, IsSome}
-use Rattle.std.specs.List.{filter}
-use Rattle.std.specs.Ordering.{is_lt, is_gt, match_ordering}
+use Rattle.std.specs.Prelude.{ℕ, List, [], ◌∷◌, ◌++◌, Bool, not, cond, map, ◌<◌, ◌⊎◌, length, IsSome}
+use Rattle.std.specs.List.{filter, list_any, All, IsDistinct}
+use Rattle.std.specs.Ordering.{is_eq, is_lt, is_gt, match_ordering}
 use Rattle.desk_rules.specs.declared.plan.PlanRow.{PlanRow}
-use Rattle.desk_store.specs.World.{Filed, Listed, World, text_cmp, plans_of, stored_of, max_rows}
+use Rattle.desk_rules.specs.declared.words.Usage.TheVariants as usage
+use Rattle.desk_store.specs.World.{Filed, Listed, World, text_cmp, plans_of, has_id, stored_of, max_rows}
 
 -- rows ascending by id, with a row in place of the one of its id, or at its place
 abbrev pub put_row : PlanRow → List PlanRow → List PlanRow
 put_row row [] = row ∷ []
 put_row row (r ∷ rs) = match_ordering (text_cmp row.id r.id) (row ∷ r ∷ rs) (row ∷ rs) (r ∷ put_row row rs)
+
+-- a row with the usage Closed
+abbrev pub closed : PlanRow → PlanRow
+closed row = record row { usage = usage.Closed }
+
+-- rows with that of an id closed
+abbrev pub close_row : List ℕ → List PlanRow → List PlanRow
+close_row id rows = map (λ r. cond (has_id id r) (closed r) r) rows
+
+-- the row's id is one of the ids
+abbrev pub is_named : List (List ℕ) → PlanRow → Bool
+is_named ids row = list_any (λ id. has_id id row) ids
+
+-- rows but those of the ids
+abbrev pub clear_rows : List (List ℕ) → List PlanRow → List PlanRow
+clear_rows ids rows = filter (λ r. not (is_named ids r)) rows
 
 -- operators ascending by name, with a ceiling at its place
 abbrev pub list_operator : List ℕ → ℕ → List Listed → List Listed
@@ -36,3 +53,11 @@ with_operator w name ceiling = record w { operators = list_operator name ceiling
 -- there is room for a row: its id is stored, or the operator has fewer plans than it may have
 abbrev pub HasRoom : World → List ℕ → List ℕ → Type 0
 HasRoom w operator id = IsSome (stored_of id (plans_of operator w)) ⊎ (length (plans_of operator w) < max_rows)
+
+-- each of the ids is that of a row
+abbrev pub AreStored : List (List ℕ) → List PlanRow → Type 0
+AreStored ids rows = All (λ id. IsSome (stored_of id rows)) ids
+
+-- no id is there twice
+abbrev pub AreDistinct : List (List ℕ) → Type 0
+AreDistinct ids = IsDistinct (λ a b. is_eq (text_cmp a b)) ids

@@ -1,7 +1,7 @@
 -- Worlds: what a desk knows of its operators and of their plans. What one operator owns, and what others hold.
-use Rattle.std.specs.Prelude.{ℕ, List, Bool, not, Option, map, length, ◌≤◌}
+use Rattle.std.specs.Prelude.{◌≡◌, ℕ, List, Bool, true, not, nat_le, Option, map, length, ◌≤◌}
 use Rattle.std.specs.Option.{option_map}
-use Rattle.std.specs.List.{filter, find}
+use Rattle.std.specs.List.{filter, find, list_all}
 use Rattle.std.specs.declared.cmp.Ordering.{Ordering}
 use Rattle.std.specs.Ordering.{is_eq, nat_cmp}
 use Rattle.std.specs.Cmp.Lexicographic.{slice_cmp}
@@ -75,5 +75,11 @@ held_at rows others id x = greater (others x) (top_priority (filter (λ r. not (
 abbrev pub max_rows : ℕ
 max_rows = 200
 
-abbrev pub IsWorld : World → Type 0
-IsWorld w = (operator : List ℕ) → length (plans_of operator w) ≤ max_rows
+-- ceilings and priorities go up to 1,000
+abbrev pub max_priority : ℕ
+max_priority = 1000
+
+-- both limits are kept
+pub record IsWorld (w : World) : Type 0 where
+  pub rows : (operator : List ℕ) → length (plans_of operator w) ≤ max_rows
+  pub ceilings : list_all (λ l. nat_le l.ceiling max_priority) w.operators ≡ true

@@ -1,17 +1,18 @@
 //! A store in memory.
 
-ghost use Rattle.std.specs.Prelude.{◌≡◌, ◌≤◌, ◌&&◌, length, [], nat_le, IfOk, OnOk, OnErr};
+ghost use Rattle.std.specs.Prelude.{◌≡◌, ◌≤◌, ◌&&◌, ◌↔◌, true, length, [], nat_le, IsTrue, IfOk, OnOk, OnErr};
+ghost use Rattle.std.specs.List.{list_any};
 ghost use Rattle.std.specs.Ordering.{is_eq};
 ghost use Rattle.volume4d.specs.Point.{Point};
 ghost use Rattle.volume4d.specs.Volume.{area_has};
 ghost use Rattle.volume4d.specs.Level.{greater};
 ghost use Rattle.volume4d.specs.LevelLaws.{level_where};
-ghost use Rattle.volume4d.specs.Slab.{slabs_have, top_held};
+ghost use Rattle.volume4d.specs.Slab.{slab_has, slabs_have, top_held};
 ghost use Rattle.desk_rules.specs.Plan as plan_spec;
 ghost use Rattle.desk_rules.specs.Plan.{is_live};
 ghost use Rattle.desk_rules.specs.Conflict.{at_least};
-ghost use Rattle.desk_store.specs.World.{text_cmp, rows_by, plans_of, stored_of, max_rows};
-ghost use Rattle.desk_store.specs.Changes.{put_row, with_plans, with_operator, HasRoom};
+ghost use Rattle.desk_store.specs.World.{text_cmp, rows_by, plans_of, stored_of, max_rows, max_priority};
+ghost use Rattle.desk_store.specs.Changes.{put_row, close_row, clear_rows, with_plans, with_operator, HasRoom};
 ghost use Rattle.desk_store.specs.Rows.{rival_level, rivals_top};
 ghost use Rattle.desk_store.specs.Listing as listing;
 ghost use Rattle.desk_store.specs.Listing.{filed_all};
@@ -26,7 +27,8 @@ use desk_rules::words::{Aircraft, Usage};
 use std::alloc::{AllocError, Global};
 use std::collections::BTreeMap;
 use std::marker::Model;
-use volume4d::{Area, Held, Slab};
+use std::slice::from_ref;
+use volume4d::{Area, Held, Slab, meet};
 
 /// A plan, but for its operator and its id.
 #[derive(Debug, Drop)]
@@ -87,25 +89,34 @@ impl PlanStore for ListStore {
         Ok(count_of(&self.plans, operator))
     }
 
+    fn own_plans(&mut self, operator: &Operator) -> Result<Vec<PlanRow>, StoreFault> {
+        Ok(rows_of(self.alloc, &self.plans, operator)?)
+    }
+
     fn rivals(
         &mut self,
         operator: &Operator,
         id: &PlanId,
         least: u32,
+        extent: &Slab,
     ) -> Result<Vec<Held>, StoreFault> {
-        Ok(rivals_of(self.alloc, &self.plans, operator, id, least)?)
+        Ok(rivals_of(self.alloc, &self.plans, operator, id, least, extent)?)
     }
 
-    fn apply(&mut self, change: Change) -> Result<(), StoreFault> {
+    fn apply(&mut self, change: &Change) -> Result<(), StoreFault> {
         match change {
-            Change::Enrol { operator, ceiling } => self.enrol(operator, ceiling),
-            Change::Put { operator, row } => self.put(operator, row),
+            Change::Enrol { operator, ceiling } => self.enrol(*operator, *ceiling)?,
+            Change::Put { operator, row } => self.put(*operator, row.copy()?)?,
+            Change::Close { operator, id } => self.close(operator, id),
+            Change::Clear { operator, ids } => self.clear(operator, ids),
         }
+        Ok(())
     }
 }
 
 impl ListStore {
     fn enrol(&mut self, operator: Operator, ceiling: u32) -> Result<(), StoreFault>
+        requires { ceiling ≤ max_priority }
         ensures ok { OnOk result (self.new ≡ with_operator self.old operator ceiling) }
         ensures err { OnErr result (self.new ≡ self.old) }
     {
@@ -133,6 +144,20 @@ impl ListStore {
         };
         self.plans.insert((operator, id), plan)?;
         Ok(())
+    }
+
+    fn close(&mut self, operator: &Operator, id: &PlanId)
+        ensures { self.new ≡ with_plans self.old operator.now (close_row id.now (plans_of operator.now self.old)) }
+    {
+        if let Some(plan) = self.plans.get_mut(&(*operator, *id)) {
+            plan.usage = Usage::Closed;
+        }
+    }
+
+    fn clear(&mut self, operator: &Operator, ids: &[PlanId])
+        ensures { self.new ≡ with_plans self.old operator.now (clear_rows ids.now (plans_of operator.now self.old)) }
+    {
+        self.plans.retain(|key, _| !is_among(operator, ids, key));
     }
 }
 
@@ -168,41 +193,58 @@ fn count_of(plans: &Plans, operator: &Operator) -> u32
 {
     let mut count = 0;
     for (key, _) in plans {
-        if operator.cmp(&key.0).is_eq() {
+        if is_by(operator, key) {
             count += 1;
         }
     }
     count
 }
 
-// The slabs that all live plans hold but the operator's own of the id, from a priority on.
+// The operator's plans.
+fn rows_of(alloc: Global, plans: &Plans, operator: &Operator) -> Result<Vec<PlanRow>, AllocError>
+    ensures { IfOk result (λ rows. rows.items ≡ rows_by operator.now (filed_all plans.now.entries)) }
+{
+    let mut rows = Vec::new(alloc);
+    for (key, plan) in plans {
+        if is_by(operator, key) {
+            rows.push(row_of(key.1, plan)?)?;
+        }
+    }
+    Ok(rows)
+}
+
+// The slabs that all live plans hold but the operator's own of the id, from a priority on, where
+// they meet the extent.
 fn rivals_of(
     alloc: Global,
     plans: &Plans,
     operator: &Operator,
     id: &PlanId,
     least: u32,
+    extent: &Slab,
 ) -> Result<Vec<Held>, AllocError>
-    ensures { IfOk result (λ helds. (x : Point) → top_held helds.items x
+    ensures { IfOk result (λ helds. (x : Point) → slab_has extent.now x ≡ true → top_held helds.items x
         ≡ at_least least (rivals_top operator.now id.now (filed_all plans.now.entries) x)) }
 {
     let mut helds = Vec::new(alloc);
     for (key, plan) in plans {
-        push_rival(&mut helds, operator, id, least, key, plan)?;
+        push_rival(&mut helds, operator, id, least, extent, key, plan)?;
     }
     Ok(helds)
 }
 
-// Appends the slabs that a plan holds, unless it is the operator's own of the id or of a lower priority.
+// Appends the slabs that a plan holds and that meet the extent, unless it is the operator's own of
+// the id or of a lower priority.
 fn push_rival(
     helds: &mut Vec<Held>,
     operator: &Operator,
     id: &PlanId,
     least: u32,
+    extent: &Slab,
     key: &(Operator, PlanId),
     plan: &Plan,
 ) -> Result<(), AllocError>
-    ensures { OnOk result ((x : Point) → top_held helds.new.items x ≡ greater (top_held helds.old.items x)
+    ensures { OnOk result ((x : Point) → slab_has extent.now x ≡ true → top_held helds.new.items x ≡ greater (top_held helds.old.items x)
         (at_least least (rival_level operator.now id.now (listing.filed_of (key.now, plan.now)) x))) }
 {
     if is_own(operator, id, key) {
@@ -211,16 +253,30 @@ fn push_rival(
     if !is_rival(plan, least) {
         return Ok(());
     }
-    push_area(helds, plan)
+    push_area(helds, plan, extent)
+}
+
+// Whether a plan is the operator's.
+fn is_by(operator: &Operator, key: &(Operator, PlanId)) -> bool
+    ensures { result ≡ is_eq (text_cmp operator.now key.now.0) }
+{
+    operator.cmp(&key.0).is_eq()
 }
 
 fn is_own(operator: &Operator, id: &PlanId, key: &(Operator, PlanId)) -> bool
     ensures { result ≡ (is_eq (text_cmp operator.now key.now.0) && is_eq (text_cmp id.now key.now.1)) }
 {
-    if !operator.cmp(&key.0).is_eq() {
+    if !is_by(operator, key) {
         return false;
     }
     id.cmp(&key.1).is_eq()
+}
+
+// Whether a plan is one of the operator's of these ids.
+fn is_among(operator: &Operator, ids: &[PlanId], key: &(Operator, PlanId)) -> bool
+    ensures { result ≡ list_any (λ id. is_eq (text_cmp operator.now key.now.0) && is_eq (text_cmp id key.now.1)) ids.now }
+{
+    ids.iter().any(|id| is_own(operator, id, key))
 }
 
 // Whether a plan is live and of the priority at least.
@@ -243,24 +299,38 @@ fn is_live(usage: Usage) -> bool
     }
 }
 
-// Appends the slabs of a plan's area, at its priority.
-fn push_area(helds: &mut Vec<Held>, plan: &Plan) -> Result<(), AllocError>
-    ensures { OnOk result ((x : Point) → top_held helds.new.items x
+// Appends the slabs of a plan's area that meet the extent, at its priority.
+fn push_area(helds: &mut Vec<Held>, plan: &Plan, extent: &Slab) -> Result<(), AllocError>
+    ensures { OnOk result ((x : Point) → slab_has extent.now x ≡ true → top_held helds.new.items x
         ≡ greater (top_held helds.old.items x) (level_where (area_has plan.now.area x) plan.now.priority)) }
 {
     let slabs = plan.area.slabs()?;
-    push_slabs(helds, &slabs, plan.priority)
+    push_slabs(helds, &slabs, plan.priority, extent)
 }
 
-fn push_slabs(helds: &mut Vec<Held>, slabs: &[Slab], priority: u32) -> Result<(), AllocError>
-    ensures { OnOk result ((x : Point) → top_held helds.new.items x
+fn push_slabs(
+    helds: &mut Vec<Held>,
+    slabs: &[Slab],
+    priority: u32,
+    extent: &Slab,
+) -> Result<(), AllocError>
+    ensures { OnOk result ((x : Point) → slab_has extent.now x ≡ true → top_held helds.new.items x
         ≡ greater (top_held helds.old.items x) (level_where (slabs_have slabs.now x) priority)) }
 {
     for slab in slabs {
-        helds.push(Held {
-            slab: *slab,
-            priority,
-        })?;
+        if overlap(slab, extent) {
+            helds.push(Held {
+                slab: *slab,
+                priority,
+            })?;
+        }
     }
     Ok(())
+}
+
+// Whether two slabs share a point.
+fn overlap(mine: &Slab, theirs: &Slab) -> bool
+    ensures { IsTrue result ↔ ((x : Point) × (slab_has mine.now x ≡ true) × (slab_has theirs.now x ≡ true)) }
+{
+    meet(from_ref(mine), from_ref(theirs))
 }

@@ -9,4 +9,4 @@ pub mod WindowLemmas
 pub mod EachLemmas
 pub mod AreaLemmas
 pub mod BytesLemmas
-pub mod MomentLemmas
+pub mod AllLemmas

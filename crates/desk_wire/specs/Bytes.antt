@@ -1,19 +1,21 @@
 -- Bytes: the text that a desk answers to the bytes of one request, and what the request leaves.
-use Rattle.std.specs.Prelude.{◌≡◌, ◌⊎◌, ℕ, ℤ, List, Ok, Err}
+use Rattle.std.specs.Prelude.{◌≡◌, ◌⊎◌, ℕ, ℤ, Bool, true, false, List, Ok, Err}
 use Rattle.desk_run.specs.declared.call.Asked.{Asked}
-use Rattle.desk_run.specs.declared.reply.Reply.TheVariants.{Answered}
-use Rattle.desk_wire.specs.declared.texts.Refusal.TheVariants.{Fault, UnknownOperator, OutOfMemory}
+use Rattle.desk_run.specs.declared.reply.Reply.TheVariants.{Ready, Answered}
+use Rattle.desk_wire.specs.declared.texts.Refusal.TheVariants.{Fault, UnknownOperator, NoSuchPlan, OutOfMemory}
 use Rattle.desk_wire.specs.Faults.{Reading}
-use Rattle.desk_wire.specs.PlanBody.{put_text}
+use Rattle.desk_wire.specs.PlanBody.{put_text, ready_text}
 use Rattle.desk_wire.specs.Refusals.{refusal_text}
 use Rattle.desk_wire.specs.Requests.{asked}
-use Rattle.desk_run.specs.Verdicts.{Told, replied, unknown_operator, answer_to, step}
+use Rattle.desk_run.specs.Verdicts.{Told, replied, unknown_operator, no_such_plan, answer_to, step}
 use Rattle.desk_store.specs.World.{World}
 
 -- the text of what a caller is told
 unfoldable pub text : Told → List ℕ
+text (replied Ready) = ready_text
 text (replied (Answered r)) = put_text r.status r.result r.note r.meeting
 text unknown_operator = refusal_text UnknownOperator
+text no_such_plan = refusal_text NoSuchPlan
 
 -- the answer to what is asked at a moment, or to the fault that was met
 abbrev pub text_for : World → ℤ → Reading Asked → List ℕ
@@ -34,6 +36,11 @@ pub record IsDone (w : World) (moment : ℤ) (reading : Reading Asked) (answer :
 pub record IsGivenUp (w : World) (answer : List ℕ) (after : World) : Type 0 where
   pub told : answer ≡ refusal_text OutOfMemory
   pub left : after ≡ w
+
+-- the answer to a request, and what it leaves, by whether memory ran out
+abbrev pub IsAnsweredSo : Bool → World → ℤ → List ℕ → List ℕ → World → Type 0
+IsAnsweredSo false w moment request answer after = IsDone w moment (asked request) answer after
+IsAnsweredSo true w moment request answer after = IsGivenUp w answer after
 
 -- the answer to a request, and what it leaves
 abbrev pub IsAnswered : World → ℤ → List ℕ → List ℕ → World → Type 0

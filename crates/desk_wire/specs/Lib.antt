@@ -15,3 +15,4 @@ pub mod PlanWords
 pub mod PlanBody
 pub mod Refusals
 pub mod Bytes
+pub mod AllAnswers

@@ -1,4 +1,4 @@
--- The bodies of answers to a request for a plan: JSON (RFC 8259) with the members in byte order.
+-- The bodies of answers: JSON (RFC 8259) with the members in byte order.
 use Rattle.std.specs.Prelude.{ℕ, List, codes, Option, Some, None}
 use Rattle.s2_cellid.specs.Family.{leaf_id}
 use Rattle.s2_cellid.specs.Token.{token_text}
@@ -35,3 +35,10 @@ put_data status result note (Some spot) =
 -- the whole answer
 unfoldable pub put_text : PlanStatus → PlanResult → Option Note → Option Spot → List ℕ
 put_text status result note conflict = json_answer 200 (put_data status result note conflict)
+
+-- the desk is ready
+abbrev pub ready_data : Data
+ready_data = object (member (codes "status") (string (codes "Ready")) no_members)
+
+unfoldable pub ready_text : List ℕ
+ready_text = json_answer 200 ready_data

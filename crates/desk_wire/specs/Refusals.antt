@@ -5,7 +5,7 @@ use Rattle.desk_wire.specs.Answer.{json_answer}
 use Rattle.desk_wire.specs.declared.fault.WireFault.{WireFault}
 use Rattle.desk_wire.specs.declared.fault.WireFault.TheVariants.{HeadTooLarge, BadHead, TransferEncoding, ContentLength, BodyTooLarge, NoRoute, BadOperator, BadPlanId, BadJson, BadMember, BadVolume, TooManyCells}
 use Rattle.desk_wire.specs.declared.texts.Refusal.{Refusal}
-use Rattle.desk_wire.specs.declared.texts.Refusal.TheVariants.{Fault, UnknownOperator, OutOfMemory}
+use Rattle.desk_wire.specs.declared.texts.Refusal.TheVariants.{Fault, UnknownOperator, NoSuchPlan, OutOfMemory}
 
 -- the status code (RFC 9110, section 15)
 abbrev pub fault_status : WireFault → ℕ
@@ -40,11 +40,13 @@ fault_word TooManyCells = codes "too_many_cells"
 abbrev pub refusal_status : Refusal → ℕ
 refusal_status (Fault fault) = fault_status fault
 refusal_status UnknownOperator = 403
+refusal_status NoSuchPlan = 404
 refusal_status OutOfMemory = 500
 
 abbrev pub refusal_word : Refusal → List ℕ
 refusal_word (Fault fault) = fault_word fault
 refusal_word UnknownOperator = codes "unknown_operator"
+refusal_word NoSuchPlan = codes "no_such_plan"
 refusal_word OutOfMemory = codes "out_of_memory"
 
 -- `{"error":"WORD"}`

@@ -1,7 +1,7 @@
 //! Requests answered at a desk, from bytes to bytes.
 
 ghost use Rattle.std.specs.Prelude.{◌≡◌, IfOk, OnOk, OnErr, Ok};
-ghost use Rattle.desk_wire.specs.Bytes.{IsAnswered, IsDone, text as told_text};
+ghost use Rattle.desk_wire.specs.Bytes.{IsAnswered, IsAnsweredSo, IsDone, text as told_text};
 ghost use Rattle.desk_run.specs.Calls.{CanCommit, reply_in, committed};
 ghost use Rattle.desk_wire.specs.Requests.{asked};
 ghost use Rattle.desk_run.specs.Verdicts.{replied};
@@ -9,13 +9,20 @@ ghost use Rattle.desk_run.specs.Moments.{IsMoment};
 
 use crate::fault::ReadError;
 use crate::request::read_request;
-use crate::texts::{Refusal, out_of_memory_answer, put_answer, refusal_answer};
+use crate::texts::{Refusal, out_of_memory_answer, put_answer, ready_answer, refusal_answer};
 use desk_run::{Asked, Desk, DeskFault, Pending, Reply};
 use desk_store::PlanStore;
 use std::alloc::{AllocError, Global};
 
 /// The room that is reserved before a request is read, in bytes.
 const ANSWER_ROOM: usize = 512;
+
+/// An answer, and whether it says that memory ran out.
+#[derive(Debug, Drop)]
+pub struct Answered {
+    pub bytes: Vec<u8>,
+    pub is_given_up: bool,
+}
 
 /// Answers `text`, the bytes of one whole request, at a moment (a Unix second from 0 to
 /// 253,370,764,800), and makes its change.
@@ -34,12 +41,38 @@ pub fn answer<S: PlanStore>(
     ensures bytes { IfOk result (λ bytes. IsAnswered desk.old moment text.now bytes.items desk.new) }
     ensures err { OnErr result (desk.new ≡ desk.old) }
 {
+    let answered = answer_request(alloc, desk, moment, text)?;
+    Ok(answered.bytes)
+}
+
+/// The same, with whether the answer says that memory ran out.
+///
+/// # Errors
+///
+/// As `answer`.
+pub fn answer_request<S: PlanStore>(
+    alloc: Global,
+    desk: &mut Desk<S>,
+    moment: i64,
+    text: &[u8],
+) -> Result<Answered, AllocError>
+    requires { IsMoment moment }
+    ensures bytes { IfOk result (λ answered.
+        IsAnsweredSo answered.is_given_up desk.old moment text.now answered.bytes.items desk.new) }
+    ensures err { OnErr result (desk.new ≡ desk.old) }
+{
     let mut room = Vec::with_capacity(alloc, ANSWER_ROOM)?;
     match answer_text(alloc, desk, moment, text) {
-        Ok(bytes) => Ok(bytes),
+        Ok(bytes) => Ok(Answered {
+            bytes,
+            is_given_up: false,
+        }),
         Err(_) => {
             room.extend_from_slice(out_of_memory_answer())?;
-            Ok(room)
+            Ok(Answered {
+                bytes: room,
+                is_given_up: true,
+            })
         }
     }
 }
@@ -76,6 +109,7 @@ fn answer_call<S: PlanStore>(
     match desk.prepare(alloc, moment, asked) {
         Ok(pending) => answer_pending(alloc, desk, pending),
         Err(DeskFault::UnknownOperator) => refusal_answer(alloc, Refusal::UnknownOperator),
+        Err(DeskFault::NoSuchPlan) => refusal_answer(alloc, Refusal::NoSuchPlan),
         Err(DeskFault::OutOfMemory | DeskFault::Ceiling) => Err(AllocError),
     }
 }
@@ -104,6 +138,7 @@ fn reply_answer(alloc: Global, reply: &Reply) -> Result<Vec<u8>, AllocError>
     ensures { IfOk result (λ bytes. bytes.items ≡ told_text (replied reply.now)) }
 {
     match reply {
+        Reply::Ready => ready_answer(alloc),
         Reply::Answered(put) => put_answer(alloc, put.status, put.result, put.note, put.meeting),
     }
 }

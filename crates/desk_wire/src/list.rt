@@ -1,16 +1,15 @@
 //! Runs over a list: the answers to requests that are at hand.
 
-ghost use Rattle.std.specs.Prelude.{All};
+ghost use Rattle.std.specs.Prelude.{◌≡◌, All, IfOk, OnErr, map};
+ghost use Rattle.desk_wire.specs.AllAnswers.{AreAnswers};
 ghost use Rattle.desk_run.specs.Moments.{IsMoment};
 
 #[cfg(test)]
 mod tests;
 
-use crate::desk::answer;
-use crate::stream::status_of;
+use crate::desk::{Answered, answer_request};
 use desk_run::Desk;
 use desk_store::PlanStore;
-use http::StatusCode;
 use std::alloc::{AllocError, Global};
 
 /// The answers to requests, in their order.
@@ -44,21 +43,29 @@ pub fn answer_all<S: PlanStore>(
     requests: &[(i64, Vec<u8>)],
 ) -> Result<Answers, AllocError>
     requires { All (λ request. IsMoment request.0) requests.now }
+    ensures answers { IfOk result (λ a.
+        AreAnswers a.ended desk.old (map (λ r. (r.0, r.1.items)) requests.now) (map (λ v. v.items) a.answers.items) desk.new) }
+    ensures err { OnErr result (desk.new ≡ desk.old) }
 {
     let mut answers = Vec::with_capacity(alloc, requests.len())?;
     for (moment, text) in requests {
-        let Ok(bytes) = answer(alloc, desk, *moment, text) else {
-            return Ok(ended(answers, AnswersEnd::NoMemory));
+        let Ok(answered) = answer_request(alloc, desk, *moment, text) else {
+            return Ok(Answers {
+                answers,
+                ended: AnswersEnd::NoMemory,
+            });
         };
-        let status = status_of(&bytes);
-        answers.push(bytes)?;
-        if status == StatusCode::INTERNAL_SERVER_ERROR.as_u16() {
-            return Ok(ended(answers, AnswersEnd::Broken));
+        let Answered { bytes, is_given_up } = answered;
+        answers.push_reserved(bytes);
+        if is_given_up {
+            return Ok(Answers {
+                answers,
+                ended: AnswersEnd::Broken,
+            });
         }
     }
-    Ok(ended(answers, AnswersEnd::All))
-}
-
-fn ended(answers: Vec<Vec<u8>>, ended: AnswersEnd) -> Answers {
-    Answers { answers, ended }
+    Ok(Answers {
+        answers,
+        ended: AnswersEnd::All,
+    })
 }

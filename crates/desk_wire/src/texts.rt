@@ -3,7 +3,7 @@ ghost use Rattle.std.specs.Prelude.{◌≡◌, ◌≤◌, IfOk, false, length, s
 ghost use Rattle.serde_json.specs.View.{view};
 ghost use Rattle.serde_json.specs.Written.{has_float};
 ghost use Rattle.desk_wire.specs.Answer.{answer_text, json_answer};
-ghost use Rattle.desk_wire.specs.PlanBody.{put_text};
+ghost use Rattle.desk_wire.specs.PlanBody.{put_text, ready_data, ready_text};
 ghost use Rattle.desk_wire.specs.Refusals as spec;
 ghost use Rattle.desk_wire.specs.Refusals.{error_data, refusal_text};
 ghost use Rattle.desk_wire.specs.declared.texts.Refusal.TheVariants.{OutOfMemory};
@@ -23,6 +23,8 @@ pub enum Refusal {
     Fault(WireFault),
     /// The operator is not enrolled.
     UnknownOperator,
+    /// The operator has no plan of the id.
+    NoSuchPlan,
     /// Memory ran out.
     OutOfMemory,
 }
@@ -64,6 +66,21 @@ pub fn put_answer(
     json_answer(alloc, StatusCode::OK, &value)
 }
 
+/// The answer that the desk is ready.
+#[tactic(auto, unfolding(crate::specs::PlanBody::ready_text))]
+pub fn ready_answer(alloc: Global) -> Result<Vec<u8>, AllocError>
+    ensures { IfOk result (λ v. v.items ≡ ready_text) }
+{
+    let value = ready_value(alloc)?;
+    json_answer(alloc, StatusCode::OK, &value)
+}
+
+fn ready_value(alloc: Global) -> Result<Value, AllocError>
+    ensures { IfOk result (λ v. view v ≡ ready_data) }
+{
+    json!(in alloc; {"status": "Ready"})
+}
+
 /// The answer to a request that is refused so.
 #[tactic(auto, unfolding(crate::specs::Refusals::refusal_text))]
 pub fn refusal_answer(alloc: Global, refusal: Refusal) -> Result<Vec<u8>, AllocError>
@@ -94,6 +111,7 @@ fn refusal_status(refusal: Refusal) -> StatusCode
     match refusal {
         Refusal::Fault(fault) => fault_status(fault),
         Refusal::UnknownOperator => StatusCode::FORBIDDEN,
+        Refusal::NoSuchPlan => StatusCode::NOT_FOUND,
         Refusal::OutOfMemory => StatusCode::INTERNAL_SERVER_ERROR,
     }
 }
@@ -104,6 +122,7 @@ fn refusal_word(refusal: Refusal) -> &'static str
     match refusal {
         Refusal::Fault(fault) => fault_word(fault),
         Refusal::UnknownOperator => "unknown_operator",
+        Refusal::NoSuchPlan => "no_such_plan",
         Refusal::OutOfMemory => "out_of_memory",
     }
 }
@@ -189,10 +208,23 @@ mod tests {
     }
 
     #[test]
+    fn answers_that_the_desk_is_ready(rt: HostRuntime) -> Result<(), Fail> {
+        let answer = ready_answer(rt.alloc())?;
+        let text = "HTTP/1.1 200 OK\r\ncontent-type: application/json\r\n\
+            content-length: 18\r\nconnection: close\r\n\r\n{\"status\":\"Ready\"}";
+        assert_eq!(rt; answer.as_slice(), text.as_bytes());
+        Ok(())
+    }
+
+    #[test]
     fn answers_refusals(rt: HostRuntime) -> Result<(), Fail> {
         let answer = refusal_answer(rt.alloc(), Refusal::UnknownOperator)?;
         let text = "HTTP/1.1 403 Forbidden\r\ncontent-type: application/json\r\n\
             content-length: 28\r\nconnection: close\r\n\r\n{\"error\":\"unknown_operator\"}";
+        assert_eq!(rt; answer.as_slice(), text.as_bytes());
+        let answer = refusal_answer(rt.alloc(), Refusal::NoSuchPlan)?;
+        let text = "HTTP/1.1 404 Not Found\r\ncontent-type: application/json\r\n\
+            content-length: 24\r\nconnection: close\r\n\r\n{\"error\":\"no_such_plan\"}";
         assert_eq!(rt; answer.as_slice(), text.as_bytes());
         let answer = refusal_answer(rt.alloc(), Refusal::OutOfMemory)?;
         assert_eq!(rt; answer.as_slice(), out_of_memory_answer());

@@ -63,7 +63,8 @@ impl From<DeskFault> for Failure {
     fn from(fault: DeskFault) -> Failure {
         match fault {
             DeskFault::OutOfMemory => Failure::Memory,
-            DeskFault::UnknownOperator | DeskFault::Ceiling => Failure::Value,
+            DeskFault::UnknownOperator | DeskFault::NoSuchPlan | DeskFault::Ceiling =>
+                Failure::Value,
         }
     }
 }

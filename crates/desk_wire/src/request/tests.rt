@@ -54,7 +54,9 @@ fn fault_of_put(
 fn reads_a_put(rt: HostRuntime) -> Result<(), Fail> {
     let asked = read_request(rt.alloc(), FIRST_PUT)?;
     assert_eq!(rt; asked.operator.as_bytes(), b"alfa".as_slice());
-    let Call::Put(put) = asked.call;
+    let Call::Put(put) = asked.call else {
+        return Err(Fail::from("no request to plan"));
+    };
     assert_eq!(rt; put.id, PlanId::try_parse(ID).ok_or("an id")?);
     assert_eq!(rt; put.priority, 10);
     assert_eq!(rt; put.area.volumes().len(), 1);

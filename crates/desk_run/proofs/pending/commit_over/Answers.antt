@@ -1,16 +1,11 @@
 use Rattle.std.proofs.Common.{refl}
-use Rattle.desk_store.specs.StoreChange.{IsFitting, changed_by}
 use Rattle.desk_run.specs.Calls.{committed}
 use Rattle.desk_run.proofs.pending.commit_over.Goals as goal
-
-pub apply-requires : goal.apply-requires
-unfolding IsFitting
-apply-requires g c = rw c.in-Some.is at c.requires
 
 pub returns-in-None-clause-ok : goal.returns-in-None-clause-ok
 unfolding committed
 returns-in-None-clause-ok g c = rw c.in-None.is refl
 
 pub returns-in_ok-apply-in-Some-clause-ok : goal.returns-in_ok-apply-in-Some-clause-ok
-unfolding committed changed_by
+unfolding committed
 returns-in_ok-apply-in-Some-clause-ok g c = rw c.in-Some.is c.in_ok-apply-in-Some.ensures.ok

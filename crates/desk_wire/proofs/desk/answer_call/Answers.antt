@@ -2,7 +2,9 @@ use Rattle.std.proofs.Common.{Err, ◌∙◌, ap, subst, w64}
 use Rattle.std.proofs.lemmas.Int.{to_z-of_z}
 use Rattle.std.proofs.lemmas.Result.{IfOk-weaker, on_ok_weaker}
 use Rattle.desk_run.specs.Calls.{IsPending, Prepares, committed}
-use Rattle.desk_wire.proofs.BytesLemmas.{done_if_ok, done_unknown}
+use Rattle.desk_run.specs.Verdicts.{unknown_operator, no_such_plan}
+use Rattle.desk_wire.specs.Bytes.{text}
+use Rattle.desk_wire.proofs.BytesLemmas.{done_if_ok, done_unanswered}
 use Rattle.desk_wire.proofs.desk.answer_call.Goals as goal
 
 pub returns-in-Ok-clause-bytes : goal.returns-in-Ok-clause-bytes
@@ -13,9 +15,19 @@ returns-in-Ok-clause-bytes g c =
     (on_ok_weaker c.answer_pending.result (λ e. e ∙ ap (λ w. committed w c.in-Ok.pending) c.prepare.ensures.same) c.answer_pending.ensures.ok)
 
 pub returns-in-Err-UnknownOperator-clause-bytes : goal.returns-in-Err-UnknownOperator-clause-bytes
+unfolding text
 returns-in-Err-UnknownOperator-clause-bytes g c =
     let fault : Prepares c.args.desk.now c.args.moment c.args.asked.now (Err c.in-Err-UnknownOperator.field-0) =
     subst (λ m. Prepares c.args.desk.now m c.args.asked.now (Err c.in-Err-UnknownOperator.field-0)) (to_z-of_z w64 c.args.moment c.ranges.moment) c.in-Err-UnknownOperator.ensures.value in
     IfOk-weaker c.refusal_answer.result _ _ (λ v told.
-    done_unknown c.args.desk.now c.prepare.new.self c.args.moment c.args.asked.now v.items
+    done_unanswered c.args.desk.now c.prepare.new.self c.args.moment c.args.asked.now unknown_operator v.items
     (rw c.in-Err-UnknownOperator.field-0-is at fault) told c.prepare.ensures.same) c.refusal_answer.ensures
+
+pub returns-in-Err-NoSuchPlan-clause-bytes : goal.returns-in-Err-NoSuchPlan-clause-bytes
+unfolding text
+returns-in-Err-NoSuchPlan-clause-bytes g c =
+    let fault : Prepares c.args.desk.now c.args.moment c.args.asked.now (Err c.in-Err-NoSuchPlan.field-0) =
+    subst (λ m. Prepares c.args.desk.now m c.args.asked.now (Err c.in-Err-NoSuchPlan.field-0)) (to_z-of_z w64 c.args.moment c.ranges.moment) c.in-Err-NoSuchPlan.ensures.value in
+    IfOk-weaker c.refusal_answer-in-Err-NoSuchPlan.result _ _ (λ v told.
+    done_unanswered c.args.desk.now c.prepare.new.self c.args.moment c.args.asked.now no_such_plan v.items
+    (rw c.in-Err-NoSuchPlan.field-0-is at fault) told c.prepare.ensures.same) c.refusal_answer-in-Err-NoSuchPlan.ensures

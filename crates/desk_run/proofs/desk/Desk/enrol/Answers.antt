@@ -6,7 +6,7 @@ use Rattle.desk_run.proofs.desk.Desk.enrol.Goals as goal
 
 pub apply-requires : goal.apply-requires
 unfolding IsFitting
-apply-requires g c = tt
+apply-requires g c = omega arith
 
 pub returns-in_err-apply-clause-ceiling : goal.returns-in_err-apply-clause-ceiling
 returns-in_err-apply-clause-ceiling g c =

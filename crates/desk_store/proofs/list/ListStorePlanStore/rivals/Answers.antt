@@ -6,9 +6,9 @@ use Rattle.desk_store.proofs.RivalLemmas.{held_by_rivals}
 use Rattle.desk_store.proofs.list.ListStorePlanStore.rivals.Goals as goal
 
 pub returns-clause-value : goal.returns-clause-value
-returns-clause-value c = λ x.
+returns-clause-value c = λ x inside.
     let o = c.args.operator.now in
     let id = c.args.id.now in
     let before = world_of c.self.inside.operators.entries c.self.inside.plans.entries in
-    c.in_ok-rivals_of.ensures x ∙ ap (at_least c.args.least) (held_by_rivals o id before x)
+    c.in_ok-rivals_of.ensures x inside ∙ ap (at_least c.args.least) (held_by_rivals o id before x)
     ∙ ap (λ w. at_least c.args.least (held_at (plans_of o w) (held w o) id x)) c.self.view_is

@@ -1,0 +1,43 @@
+-- Runs: calls answered one after the other.
+use Rattle.std.specs.Prelude.{◌≡◌, ◌≤◌, ℤ, List, [], ◌∷◌, length, take, map, None, Result, Ok, Err}
+use Rattle.desk_store.specs.World.{World}
+use Rattle.desk_run.specs.declared.call.Asked.{Asked}
+use Rattle.desk_run.specs.declared.reply.Reply.{Reply}
+use Rattle.desk_run.specs.declared.fault.DeskFault.{DeskFault}
+use Rattle.desk_run.specs.declared.fault.DeskFault.TheVariants.{OutOfMemory, UnknownOperator, NoSuchPlan, Ceiling}
+use Rattle.desk_run.specs.declared.run.Ran.{Ran}
+use Rattle.desk_run.specs.declared.run.Outcome.{Outcome}
+use Rattle.desk_run.specs.declared.run.Outcome.TheVariants as outcome
+use Rattle.desk_run.specs.Verdicts.{Told, replied, unknown_operator, no_such_plan, answer_to, step}
+
+-- what each caller is told
+abbrev pub told_in : World → List (ℤ × Asked) → List Told
+told_in w [] = []
+told_in w (call ∷ calls) = answer_to w call.1.operator call.0 call.1.call ∷ told_in (step w call.1.operator call.0 call.1.call) calls
+
+-- the world after all calls
+abbrev pub world_after : World → List (ℤ × Asked) → World
+world_after w [] = w
+world_after w (call ∷ calls) = world_after (step w call.1.operator call.0 call.1.call) calls
+
+-- an outcome as it is told
+abbrev pub told_by : Outcome → Told
+told_by (outcome.Reply reply) = replied reply
+told_by outcome.UnknownOperator = unknown_operator
+told_by outcome.NoSuchPlan = no_such_plan
+
+-- what a call came to, or the fault that stops a run
+abbrev pub outcome_of : Result Reply DeskFault → Result Outcome DeskFault
+outcome_of (Ok reply) = Ok (outcome.Reply reply)
+outcome_of (Err UnknownOperator) = Ok outcome.UnknownOperator
+outcome_of (Err NoSuchPlan) = Ok outcome.NoSuchPlan
+outcome_of (Err OutOfMemory) = Err OutOfMemory
+outcome_of (Err Ceiling) = Err Ceiling
+
+-- the calls answered are the first of the list, all of them where nothing stopped the run; the outcomes, and what is
+-- left, are theirs
+pub record IsRun (w : World) (calls : List (ℤ × Asked)) (ran : Ran) (after : World) : Type 0 where
+  pub told : map told_by ran.outcomes.items ≡ told_in w (take (length ran.outcomes.items) calls)
+  pub left : after ≡ world_after w (take (length ran.outcomes.items) calls)
+  pub within : length ran.outcomes.items ≤ length calls
+  pub whole : ran.stopped ≡ None → length ran.outcomes.items ≡ length calls

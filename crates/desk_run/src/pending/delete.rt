@@ -1,0 +1,43 @@
+//! Plans that are to be closed.
+
+ghost use Rattle.std.specs.Prelude.{◌≡◌, IsSome};
+ghost use Rattle.desk_store.specs.World.{ceiling_of, plans_of, stored_of};
+ghost use Rattle.desk_run.specs.Calls.{Readies};
+ghost use Rattle.desk_run.specs.Verdicts.{answer_delete};
+
+use super::Pending;
+use crate::fault::DeskFault;
+use crate::reply::{PutReply, Reply};
+use desk_rules::operator::Operator;
+use desk_rules::plan_id::PlanId;
+use desk_rules::words::{PlanResult, PlanStatus};
+use desk_store::{Change, PlanStore};
+
+/// Gets the closing of an enrolled operator's plan ready.
+pub fn ready_delete<S: PlanStore>(
+    store: &mut S,
+    operator: &Operator,
+    id: &PlanId,
+) -> Result<Pending, DeskFault>
+    requires { IsSome (ceiling_of operator.now (S.content store.old)) }
+    ensures value { Readies (S.content store.old) operator.now
+        (answer_delete (plans_of operator.now (S.content store.old)) id.now
+        (stored_of id.now (plans_of operator.now (S.content store.old)))) result }
+    ensures same { S.content store.new ≡ S.content store.old }
+{
+    if store.plan(operator, id)?.is_none() {
+        return Err(DeskFault::NoSuchPlan);
+    }
+    Ok(Pending {
+        reply: Reply::Answered(PutReply {
+            result: PlanResult::Completed,
+            status: PlanStatus::Closed,
+            note: None,
+            meeting: None,
+        }),
+        change: Some(Change::Close {
+            operator: *operator,
+            id: *id,
+        }),
+    })
+}

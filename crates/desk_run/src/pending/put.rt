@@ -1,0 +1,132 @@
+//! Requests to plan, decided over a store.
+
+ghost use Rattle.std.specs.Prelude.{◌≡◌, ◌≤◌, Some, IfOk};
+ghost use Rattle.std.specs.Option.{option_copied};
+ghost use Rattle.desk_rules.specs.Conflict.{conflict};
+ghost use Rattle.desk_store.specs.World.{own, ceiling_of, plans_of, held, held_at};
+ghost use Rattle.desk_run.specs.Calls.{Readies, change_after};
+ghost use Rattle.desk_run.specs.Verdicts.{answer_of, put_verdict, row_asked};
+ghost use Rattle.desk_run.specs.Moments.{IsMoment};
+
+use super::Pending;
+use crate::fault::DeskFault;
+use crate::reply::{PutReply, Reply};
+use desk_rules::conflict::first_conflict;
+use desk_rules::decide::{Effect, Verdict, decide};
+use desk_rules::operator::Operator;
+use desk_rules::plan::{PlanRow, PutCall};
+use desk_store::{Change, PlanStore, StoreFault};
+use std::alloc::{AllocError, Global};
+use volume4d::Meeting;
+
+/// Gets the reply to a request of an operator under a ceiling ready.
+pub fn ready_put<S: PlanStore>(
+    alloc: Global,
+    store: &mut S,
+    moment: i64,
+    operator: &Operator,
+    put: &PutCall,
+    ceiling: u32,
+) -> Result<Pending, DeskFault>
+    requires moment_range { IsMoment moment }
+    requires listed { ceiling_of operator.now (S.content store.old) ≡ Some ceiling }
+    requires low { ceiling ≤ 1000 }
+    ensures value { Readies (S.content store.old) operator.now
+        (answer_of (put_verdict (own (S.content store.old) operator.now) (held (S.content store.old) operator.now) ceiling moment put.now)
+        put.now (plans_of operator.now (S.content store.old))) result }
+    ensures same { S.content store.new ≡ S.content store.old }
+{
+    let verdict = verdict_on(alloc, store, moment, operator, put, ceiling)?;
+    let change = change_for(verdict.effect, operator, put)?;
+    let reply = Reply::Answered(reply_of(&verdict));
+    Ok(Pending { reply, change })
+}
+
+fn reply_of(verdict: &Verdict) -> PutReply
+    ensures { result ≡ record {
+      result = verdict.now.result;
+      status = verdict.now.status;
+      note = verdict.now.note;
+      meeting = verdict.now.meeting;
+    } }
+{
+    PutReply {
+        result: verdict.result,
+        status: verdict.status,
+        note: verdict.note,
+        meeting: verdict.meeting,
+    }
+}
+
+// The verdict on a request of an operator under a ceiling.
+fn verdict_on<S: PlanStore>(
+    alloc: Global,
+    store: &mut S,
+    moment: i64,
+    operator: &Operator,
+    put: &PutCall,
+    ceiling: u32,
+) -> Result<Verdict, StoreFault>
+    requires moment_range { IsMoment moment }
+    ensures verdict { IfOk result (λ v. v ≡ put_verdict (own (S.content store.old) operator.now)
+        (held (S.content store.old) operator.now) ceiling moment put.now) }
+    ensures same { S.content store.new ≡ S.content store.old }
+{
+    let stored = store.plan(operator, &put.id)?;
+    let own_rows = store.own_count(operator)?;
+    let meeting = conflict_of(alloc, store, operator, put)?;
+    Ok(decide(put, moment, stored.as_ref(), own_rows, ceiling, meeting))
+}
+
+// The conflict of the area asked.
+fn conflict_of<S: PlanStore>(
+    alloc: Global,
+    store: &mut S,
+    operator: &Operator,
+    put: &PutCall,
+) -> Result<Option<Meeting>, StoreFault>
+    ensures value { IfOk result (λ meeting. meeting ≡ conflict put.now.area
+        (held_at (plans_of operator.now (S.content store.old)) (held (S.content store.old) operator.now) put.now.id)
+        put.now.priority) }
+    ensures same { S.content store.new ≡ S.content store.old }
+{
+    let mine = put.area.slabs()?;
+    let extent = put.area.bounds()?;
+    let theirs = store.rivals(operator, &put.id, put.priority, &extent)?;
+    Ok(first_conflict(&mine, &theirs))
+}
+
+// The change that an effect is.
+fn change_for(
+    effect: Effect,
+    operator: &Operator,
+    put: &PutCall,
+) -> Result<Option<Change>, AllocError>
+    ensures { IfOk result (λ change. change ≡ change_after effect operator.now put.now) }
+{
+    let operator = *operator;
+    match effect {
+        Effect::Nothing => Ok(None),
+        Effect::Save => Ok(Some(Change::Put {
+            operator,
+            row: asked_row(put)?,
+        })),
+        Effect::Shut => Ok(Some(Change::Close {
+            operator,
+            id: put.id,
+        })),
+    }
+}
+
+// The plan that a request asks for.
+fn asked_row(put: &PutCall) -> Result<PlanRow, AllocError>
+    ensures { IfOk result (λ row. row ≡ row_asked put.now) }
+{
+    Ok(PlanRow {
+        id: put.id,
+        priority: put.priority,
+        usage: put.usage,
+        aircraft: put.aircraft,
+        area: put.area.copy()?,
+    })
+}

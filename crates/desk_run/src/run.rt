@@ -1,0 +1,87 @@
+//! Runs: lists of calls, answered one after the other.
+
+ghost use Rattle.std.specs.Prelude.{◌≡◌, All, IfOk, OnErr};
+ghost use Rattle.desk_run.specs.Moments.{IsMoment};
+ghost use Rattle.desk_run.specs.Runs as spec;
+ghost use Rattle.desk_run.specs.Runs.{IsRun};
+
+use crate::call::Asked;
+use crate::desk::Desk;
+use crate::fault::DeskFault;
+use crate::reply::Reply;
+use desk_store::PlanStore;
+use std::alloc::{AllocError, Global};
+
+/// What a call of a run came to.
+#[derive(Clone, Copy, Debug, PartialEq, Eq)]
+pub enum Outcome {
+    /// It has a reply.
+    Reply(Reply),
+    /// Its operator is not enrolled.
+    UnknownOperator,
+    /// Its operator has no plan of the id.
+    NoSuchPlan,
+}
+
+/// What a run came to.
+#[derive(Debug, Drop)]
+pub struct Ran {
+    /// The outcomes of the calls answered, in their order.
+    pub outcomes: Vec<Outcome>,
+    /// The fault at which it stopped; the call that met it changed nothing.
+    pub stopped: Option<DeskFault>,
+}
+
+impl<S: PlanStore> Desk<S> {
+    /// Answers calls, each at its moment (a Unix second from 0 to 253,370,764,800), until one meets a
+    /// want of memory.
+    ///
+    /// # Errors
+    ///
+    /// `AllocError` where the room for all outcomes was refused: nothing changed.
+    pub fn run(&mut self, alloc: Global, calls: &[(i64, Asked)]) -> Result<Ran, AllocError>
+        requires { All (λ call. IsMoment call.0) calls.now }
+        ensures ran { IfOk result (λ ran. IsRun self.old calls.now ran self.new) }
+        ensures err { OnErr result (self.new ≡ self.old) }
+    {
+        run_over(alloc, self, calls)
+    }
+}
+
+// Answers calls at a desk.
+fn run_over<S: PlanStore>(
+    alloc: Global,
+    desk: &mut Desk<S>,
+    calls: &[(i64, Asked)],
+) -> Result<Ran, AllocError>
+    requires { All (λ call. IsMoment call.0) calls.now }
+    ensures ran { IfOk result (λ ran. IsRun desk.old calls.now ran desk.new) }
+    ensures err { OnErr result (desk.new ≡ desk.old) }
+{
+    let mut outcomes = Vec::with_capacity(alloc, calls.len())?;
+    for (moment, asked) in calls {
+        match outcome_of(desk.call(alloc, *moment, asked)) {
+            Ok(outcome) => outcomes.push_reserved(outcome),
+            Err(fault) => return Ok(Ran {
+                outcomes,
+                stopped: Some(fault),
+            }),
+        }
+    }
+    Ok(Ran {
+        outcomes,
+        stopped: None,
+    })
+}
+
+// The outcome of a call, or the fault that stops a run.
+fn outcome_of(answered: Result<Reply, DeskFault>) -> Result<Outcome, DeskFault>
+    ensures { result ≡ spec.outcome_of answered }
+{
+    match answered {
+        Ok(reply) => Ok(Outcome::Reply(reply)),
+        Err(DeskFault::UnknownOperator) => Ok(Outcome::UnknownOperator),
+        Err(DeskFault::NoSuchPlan) => Ok(Outcome::NoSuchPlan),
+        Err(fault) => Err(fault),
+    }
+}
