@@ -1,94 +1,221 @@
-//! Calls at a desk of two operators, and what its store then holds.
+//! Runs at a desk of `alfa` and `bravo`, whose ceilings are 100, and what its store then holds; the
+//! outcomes are written by hand.
 
-use crate::{Asked, Call, Desk, DeskFault, PutReply, Reply};
+ghost use Rattle.std.specs.Prelude.{All};
+ghost use Rattle.desk_run.specs.Moments.{IsMoment};
+
+use crate::{Asked, Call, Desk, DeskFault, Outcome, PutReply, Reply};
 use desk_rules::operator::Operator;
 use desk_rules::plan::PutCall;
 use desk_rules::plan_id::PlanId;
 use desk_rules::words::{Aircraft, Note, PlanResult, PlanStatus, Style, Usage};
-use desk_store::{ListStore, PlanStore};
+use desk_store::ListStore;
 use s2_cellid::CellId;
 use std::alloc::Global;
 use std::test::Fail;
-use volume4d::{Area, Footprint, Volume, Window};
+use volume4d::{Area, Footprint, Meeting, Volume, Window};
+
+mod cases;
+mod pending;
 
 const MOMENT: i64 = 1_780_315_000;
 
-fn operator_of(name: &[u8]) -> Result<Operator, Fail> {
-    Ok(Operator::try_new(name).ok_or("a name")?)
+const ID: &str = "11111111-1111-4111-8111-111111111111";
+
+const OTHER_ID: &str = "22222222-2222-4222-8222-222222222222";
+
+/// What is asked for a plan.
+#[derive(Clone, Copy)]
+struct Ask {
+    id: &'static str,
+    style: Style,
+    usage: Usage,
+    aircraft: Aircraft,
+    priority: u32,
+    cell: &'static str,
+    altitudes: (i32, i32),
+    seconds: (i64, i64),
 }
 
-fn plan_id() -> Result<PlanId, Fail> {
-    Ok(PlanId::try_parse("11111111-1111-4111-8111-111111111111").ok_or("an id")?)
+/// The plan of `alfa`: a quarter of face 0, 0 to 1000, 12:00 to 13:00.
+const FIRST: Ask = Ask {
+    id: ID,
+    style: Style::IfAllowed,
+    usage: Usage::Planned,
+    aircraft: Aircraft::Nominal,
+    priority: 10,
+    cell: "04",
+    altitudes: (0, 1_000),
+    seconds: (1_780_315_200, 1_780_318_800),
+};
+
+/// The plan of `bravo`, which meets it: face 0, 500 to 2000, 12:30 to 14:00.
+const SECOND: Ask = Ask {
+    id: OTHER_ID,
+    style: Style::IfAllowed,
+    usage: Usage::Planned,
+    aircraft: Aircraft::Nominal,
+    priority: 10,
+    cell: "1",
+    altitudes: (500, 2_000),
+    seconds: (1_780_317_000, 1_780_322_400),
+};
+
+fn operator_of(name: &str) -> Result<Operator, Fail> {
+    Ok(Operator::try_new(name.as_bytes()).ok_or("a name")?)
 }
 
-/// A flight over half a face, 0 to 1000, from 12:00 to 13:00.
-fn asked_by(alloc: Global, operator: Operator) -> Result<Asked, Fail> {
-    let window = Window::try_new(0, 1_000, 1_780_315_200, 1_780_318_800)
+fn id_of(text: &str) -> Result<PlanId, Fail> {
+    Ok(PlanId::try_parse(text).ok_or("an id")?)
+}
+
+fn area_of(alloc: Global, ask: Ask) -> Result<Area, Fail> {
+    let (lower, upper) = ask.altitudes;
+    let (start, end) = ask.seconds;
+    let window = Window::try_new(lower, upper, start, end)
         .ok()
         .ok_or("a window")?;
-    let cell = CellId::from_token(b"04").ok().ok_or("a cell")?;
+    let cell = CellId::from_token(ask.cell.as_bytes())
+        .ok()
+        .ok_or("a cell")?;
     let footprint = Footprint::Cells(vec![in alloc; cell]?);
     let volume = Volume::try_new(footprint, window).ok().ok_or("a volume")?;
-    let area = Area::try_new(vec![in alloc; volume]?).ok_or("an area")?;
+    Ok(Area::try_new(vec![in alloc; volume]?).ok_or("an area")?)
+}
+
+/// A request of an operator for what is asked, under an id of its own.
+fn put_under(alloc: Global, name: &str, id: PlanId, ask: Ask) -> Result<Asked, Fail> {
     let put = PutCall {
-        id: plan_id()?,
-        style: Style::IfAllowed,
-        usage: Usage::Planned,
-        aircraft: Aircraft::Nominal,
-        priority: 10,
-        area,
+        id,
+        style: ask.style,
+        usage: ask.usage,
+        aircraft: ask.aircraft,
+        priority: ask.priority,
+        area: area_of(alloc, ask)?,
     };
     Ok(Asked {
-        operator,
+        operator: operator_of(name)?,
         call: Call::Put(put),
     })
 }
 
-#[test]
-fn calls_change_the_store(rt: HostRuntime) -> Result<(), Fail> {
-    let alloc = rt.alloc();
-    let alfa = operator_of(b"alfa")?;
-    let bravo = operator_of(b"bravo")?;
-    let mut desk = Desk::new(ListStore::new(alloc));
-    assert_eq!(rt; desk.enrol(&alfa, 100), Ok(()));
-    assert_eq!(rt; desk.enrol(&alfa, 1_001), Err(DeskFault::Ceiling));
-    let completed = Reply::Answered(PutReply {
-        result: PlanResult::Completed,
-        status: PlanStatus::Planned,
-        note: None,
-        meeting: None,
-    });
-    let asked = asked_by(alloc, alfa)?;
-    assert_eq!(rt; desk.call(alloc, MOMENT, &asked), Ok(completed));
-    let unknown = asked_by(alloc, bravo)?;
-    let refused = desk.call(alloc, MOMENT, &unknown);
-    assert_eq!(rt; refused, Err(DeskFault::UnknownOperator));
-    let mut store = desk.into_store();
-    assert_eq!(rt; store.ceiling(&alfa), Ok(Some(100)));
-    assert_eq!(rt; store.ceiling(&bravo), Ok(None));
-    assert_eq!(rt; store.own_count(&alfa), Ok(1));
-    assert!(rt; store.plan(&alfa, &plan_id()?)?.is_some());
-    assert_eq!(rt; store.rivals(&alfa, &plan_id()?, 0)?.len(), 0);
-    assert_eq!(rt; store.rivals(&bravo, &plan_id()?, 10)?.len(), 1);
-    assert_eq!(rt; store.rivals(&bravo, &plan_id()?, 11)?.len(), 0);
-    Ok(())
+/// A request of an operator for what is asked.
+fn put_by(alloc: Global, name: &str, ask: Ask) -> Result<Asked, Fail> {
+    put_under(alloc, name, id_of(ask.id)?, ask)
 }
 
-#[test]
-fn what_is_prepared_waits(rt: HostRuntime) -> Result<(), Fail> {
-    let alloc = rt.alloc();
-    let alfa = operator_of(b"alfa")?;
+/// A request of an operator to close the plan of an id.
+fn delete_by(name: &str, id: &str) -> Result<Asked, Fail> {
+    Ok(Asked {
+        operator: operator_of(name)?,
+        call: Call::Delete(id_of(id)?),
+    })
+}
+
+/// A desk at which both operators are enrolled.
+fn desk_of(alloc: Global) -> Result<Desk<ListStore>, Fail> {
     let mut desk = Desk::new(ListStore::new(alloc));
-    desk.enrol(&alfa, 9)?;
-    let asked = asked_by(alloc, alfa)?;
-    let pending = desk.prepare(alloc, MOMENT, &asked)?;
-    let rejected = Reply::Answered(PutReply {
-        result: PlanResult::Rejected,
-        status: PlanStatus::NotPlanned,
-        note: Some(Note::Priority),
+    for name in ["alfa", "bravo"] {
+        desk.enrol(&operator_of(name)?, 100)?;
+    }
+    Ok(desk)
+}
+
+/// The outcomes of a run that nothing stopped.
+fn outcomes_of(
+    alloc: Global,
+    desk: &mut Desk<ListStore>,
+    calls: &[(i64, Asked)],
+) -> Result<Vec<Outcome>, Fail>
+    requires { All (λ call. IsMoment call.0) calls.now }
+{
+    let ran = desk.run(alloc, calls)?;
+    if ran.stopped.is_some() {
+        return Err(Fail::from("the run stopped"));
+    }
+    Ok(ran.outcomes)
+}
+
+/// The outcome of one call at a moment.
+fn outcome_at(
+    alloc: Global,
+    desk: &mut Desk<ListStore>,
+    moment: i64,
+    asked: Asked,
+) -> Result<Outcome, Fail>
+    requires { IsMoment moment }
+{
+    let mut outcomes = outcomes_of(alloc, desk, &[(moment, asked)])?;
+    Ok(outcomes.pop().ok_or("an outcome")?)
+}
+
+/// The outcome of one call.
+fn outcome_of(alloc: Global, desk: &mut Desk<ListStore>, asked: Asked) -> Result<Outcome, Fail> {
+    outcome_at(alloc, desk, MOMENT, asked)
+}
+
+fn answered(outcome: PlanResult, status: PlanStatus, note: Option<Note>) -> Outcome {
+    Outcome::Reply(Reply::Answered(PutReply {
+        result: outcome,
+        status,
+        note,
         meeting: None,
-    });
-    assert_eq!(rt; *pending.reply(), rejected);
-    assert_eq!(rt; desk.commit(pending)?, rejected);
-    Ok(())
+    }))
+}
+
+/// The outcome of a request that is carried out.
+fn completed(status: PlanStatus) -> Outcome {
+    answered(PlanResult::Completed, status, None)
+}
+
+/// The outcome of a request that a rule other than that of conflicts refuses.
+fn rejected(status: PlanStatus, note: Note) -> Outcome {
+    answered(PlanResult::Rejected, status, Some(note))
+}
+
+/// The outcome of a request that is blocked at the first leaf.
+fn blocked(status: PlanStatus, altitude: i32, second: i64, priority: u32) -> Outcome {
+    Outcome::Reply(Reply::Answered(PutReply {
+        result: PlanResult::Rejected,
+        status,
+        note: Some(Note::Conflict),
+        meeting: Some(Meeting {
+            pos: 0,
+            altitude,
+            second,
+            priority,
+        }),
+    }))
+}
+
+/// Asks for a plan, and fails where the outcome is another.
+fn plan(
+    alloc: Global,
+    desk: &mut Desk<ListStore>,
+    name: &str,
+    ask: Ask,
+    expected: Outcome,
+) -> Result<(), Fail> {
+    let outcome = outcome_of(alloc, desk, put_by(alloc, name, ask)?)?;
+    expect_same(outcome, expected)
+}
+
+/// Asks to close a plan, and fails where the outcome is another.
+fn close(
+    alloc: Global,
+    desk: &mut Desk<ListStore>,
+    name: &str,
+    id: &str,
+    expected: Outcome,
+) -> Result<(), Fail> {
+    let outcome = outcome_of(alloc, desk, delete_by(name, id)?)?;
+    expect_same(outcome, expected)
+}
+
+fn expect_same(outcome: Outcome, expected: Outcome) -> Result<(), Fail> {
+    if outcome == expected {
+        Ok(())
+    } else {
+        Err(Fail::from("another outcome"))
+    }
 }

@@ -34,7 +34,7 @@ fn extent_of(alloc: Global, lower: i32, upper: i32) -> Result<Slab, Fail> {
     Ok(area_of(alloc, lower, upper)?.bounds()?)
 }
 
-/// A plan over half a face, 0 to 1000, from 12:00 to 13:00.
+/// A plan over a quarter of a face, 0 to 1000, from 12:00 to 13:00.
 fn row_of(alloc: Global, id: PlanId, priority: u32, usage: Usage) -> Result<PlanRow, Fail> {
     Ok(PlanRow {
         id,

@@ -29,7 +29,7 @@ struct Ask {
     end: &'static str,
 }
 
-/// The request of `alfa`: half a face, 0 to 1000, 12:00 to 13:00.
+/// The request of `alfa`: a quarter of a face, 0 to 1000, 12:00 to 13:00.
 const FIRST: Ask = Ask {
     priority: 10,
     altitudes: (0, 1_000),
