@@ -4,25 +4,23 @@
 ghost use Rattle.std.specs.Prelude.{All};
 ghost use Rattle.desk_run.specs.Moments.{IsMoment};
 
-use crate::{Asked, Call, Desk, DeskFault, Outcome, PutReply, Reply};
+use crate::{Asked, Call, Desk, Outcome};
 use desk_rules::operator::Operator;
 use desk_rules::plan::PutCall;
 use desk_rules::plan_id::PlanId;
-use desk_rules::words::{Aircraft, Note, PlanResult, PlanStatus, Style, Usage};
+use desk_rules::words::{Aircraft, Style, Usage};
 use desk_store::ListStore;
 use s2_cellid::CellId;
 use std::alloc::Global;
 use std::test::Fail;
-use volume4d::{Area, Footprint, Meeting, Volume, Window};
+use volume4d::{Area, Footprint, Volume, Window};
 
-mod cases;
 mod pending;
+mod runs;
 
 const MOMENT: i64 = 1_780_315_000;
 
 const ID: &str = "11111111-1111-4111-8111-111111111111";
-
-const OTHER_ID: &str = "22222222-2222-4222-8222-222222222222";
 
 /// What is asked for a plan.
 #[derive(Clone, Copy)]
@@ -47,18 +45,6 @@ const FIRST: Ask = Ask {
     cell: "04",
     altitudes: (0, 1_000),
     seconds: (1_780_315_200, 1_780_318_800),
-};
-
-/// The plan of `bravo`, which meets it: face 0, 500 to 2000, 12:30 to 14:00.
-const SECOND: Ask = Ask {
-    id: OTHER_ID,
-    style: Style::IfAllowed,
-    usage: Usage::Planned,
-    aircraft: Aircraft::Nominal,
-    priority: 10,
-    cell: "1",
-    altitudes: (500, 2_000),
-    seconds: (1_780_317_000, 1_780_322_400),
 };
 
 fn operator_of(name: &str) -> Result<Operator, Fail> {
@@ -147,75 +133,4 @@ fn outcome_at(
 {
     let mut outcomes = outcomes_of(alloc, desk, &[(moment, asked)])?;
     Ok(outcomes.pop().ok_or("an outcome")?)
-}
-
-/// The outcome of one call.
-fn outcome_of(alloc: Global, desk: &mut Desk<ListStore>, asked: Asked) -> Result<Outcome, Fail> {
-    outcome_at(alloc, desk, MOMENT, asked)
-}
-
-fn answered(outcome: PlanResult, status: PlanStatus, note: Option<Note>) -> Outcome {
-    Outcome::Reply(Reply::Answered(PutReply {
-        result: outcome,
-        status,
-        note,
-        meeting: None,
-    }))
-}
-
-/// The outcome of a request that is carried out.
-fn completed(status: PlanStatus) -> Outcome {
-    answered(PlanResult::Completed, status, None)
-}
-
-/// The outcome of a request that a rule other than that of conflicts refuses.
-fn rejected(status: PlanStatus, note: Note) -> Outcome {
-    answered(PlanResult::Rejected, status, Some(note))
-}
-
-/// The outcome of a request that is blocked at the first leaf.
-fn blocked(status: PlanStatus, altitude: i32, second: i64, priority: u32) -> Outcome {
-    Outcome::Reply(Reply::Answered(PutReply {
-        result: PlanResult::Rejected,
-        status,
-        note: Some(Note::Conflict),
-        meeting: Some(Meeting {
-            pos: 0,
-            altitude,
-            second,
-            priority,
-        }),
-    }))
-}
-
-/// Asks for a plan, and fails where the outcome is another.
-fn plan(
-    alloc: Global,
-    desk: &mut Desk<ListStore>,
-    name: &str,
-    ask: Ask,
-    expected: Outcome,
-) -> Result<(), Fail> {
-    let outcome = outcome_of(alloc, desk, put_by(alloc, name, ask)?)?;
-    expect_same(outcome, expected)
-}
-
-/// Asks to close a plan, and fails where the outcome is another.
-fn close(
-    alloc: Global,
-    desk: &mut Desk<ListStore>,
-    name: &str,
-    id: &str,
-    expected: Outcome,
-) -> Result<(), Fail> {
-    let outcome = outcome_of(alloc, desk, delete_by(name, id)?)?;
-    expect_same(outcome, expected)
-}
-
-fn expect_same(outcome: Outcome, expected: Outcome) -> Result<(), Fail> {
-    if outcome == expected {
-        Ok(())
-    } else {
-        Err(Fail::from("another outcome"))
-    }
 }

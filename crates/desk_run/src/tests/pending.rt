@@ -1,6 +1,6 @@
 //! Ceilings, and replies that wait until they are committed.
 
-use super::{FIRST, MOMENT, desk_of, operator_of, put_by};
+use super::{FIRST, ID, MOMENT, delete_by, desk_of, operator_of, put_by};
 use crate::{Desk, DeskFault, PutReply, Reply};
 use desk_rules::words::{Note, PlanResult, PlanStatus};
 use desk_store::{ListStore, PlanStore};
@@ -52,5 +52,33 @@ fn what_is_refused_is_ready_too(rt: HostRuntime) -> Result<(), Fail> {
     assert_eq!(rt; *pending.reply(), rejected);
     assert_eq!(rt; desk.commit(pending)?, rejected);
     assert_eq!(rt; desk.into_store().own_count(&alfa), Ok(0));
+    Ok(())
+}
+
+#[test]
+fn a_plan_is_closed(rt: HostRuntime) -> Result<(), Fail> {
+    let alloc = rt.alloc();
+    let mut desk = desk_of(alloc)?;
+    let asked = put_by(alloc, "alfa", FIRST)?;
+    desk.call(alloc, MOMENT, &asked)?;
+    let asked = delete_by("alfa", ID)?;
+    let pending = desk.prepare(alloc, MOMENT, &asked)?;
+    let closed = Reply::Answered(PutReply {
+        result: PlanResult::Completed,
+        status: PlanStatus::Closed,
+        note: None,
+        meeting: None,
+    });
+    assert_eq!(rt; desk.commit(pending)?, closed);
+    Ok(())
+}
+
+#[test]
+fn no_plan_is_closed(rt: HostRuntime) -> Result<(), Fail> {
+    let alloc = rt.alloc();
+    let mut desk = desk_of(alloc)?;
+    let asked = delete_by("alfa", ID)?;
+    let refused = desk.call(alloc, MOMENT, &asked);
+    assert_eq!(rt; refused, Err(DeskFault::NoSuchPlan));
     Ok(())
 }
