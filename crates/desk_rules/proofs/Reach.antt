@@ -70,8 +70,8 @@ second_total area = sum_by second_reach area
 pub area_reach : (area : List Block) (x : Point) → area_has area x ≡ true → InBoth (IsBelow (leaf_total area)) (InBoth (IsWithinInt (altitude_total area)) (IsWithinInt (second_total area))) (position_of x.leaf, (x.altitude, x.second))
 area_reach area x h =
     let leaf : position_of x.leaf + 1 ≤ leaf_total area = any_sum (λ v. block_has v x) _ (position_of x.leaf + 1) (λ v e. shape_below v.footprint x.leaf (and_parts (shape_has v.footprint x.leaf) _ e).0) area h in
-    let altitude : unsigned_abs x.altitude ≤ altitude_total area = any_sum (λ v. block_has v x) _ (unsigned_abs x.altitude) (λ v e. let w = (and_parts _ (int_le v.window.start x.second && int_lt x.second v.window.stop) (and_parts (shape_has v.footprint x.leaf) _ e).1).0 in let ends = and_parts (int_le v.window.lower x.altitude) _ w in abs_between v.window.lower x.altitude v.window.upper ends.0 ends.1) area h in
-    let second : unsigned_abs x.second ≤ second_total area = any_sum (λ v. block_has v x) _ (unsigned_abs x.second) (λ v e. let w = (and_parts (int_le v.window.lower x.altitude && int_lt x.altitude v.window.upper) _ (and_parts (shape_has v.footprint x.leaf) _ e).1).1 in let ends = and_parts (int_le v.window.start x.second) _ w in abs_between v.window.start x.second v.window.stop ends.0 ends.1) area h in
+    let altitude : unsigned_abs x.altitude ≤ altitude_total area = any_sum (λ v. block_has v x) _ (unsigned_abs x.altitude) (λ v e. let w = (and_parts _ (int_le v.window.start x.second && int_lt x.second v.window.end) (and_parts (shape_has v.footprint x.leaf) _ e).1).0 in let ends = and_parts (int_le v.window.lower x.altitude) _ w in abs_between v.window.lower x.altitude v.window.upper ends.0 ends.1) area h in
+    let second : unsigned_abs x.second ≤ second_total area = any_sum (λ v. block_has v x) _ (unsigned_abs x.second) (λ v e. let w = (and_parts (int_le v.window.lower x.altitude && int_lt x.altitude v.window.upper) _ (and_parts (shape_has v.footprint x.leaf) _ e).1).1 in let ends = and_parts (int_le v.window.start x.second) _ w in abs_between v.window.start x.second v.window.end ends.0 ends.1) area h in
     (omega arith, (within_abs x.altitude _ altitude, within_abs x.second _ second))
 
 then_cases : (o p : Ordering) → ordering_then o p ≡ Less → (o ≡ Less) ⊎ ((o ≡ Equal) × (p ≡ Less))

@@ -32,7 +32,7 @@ abbrev pub altitude_reach : Block → ℕ
 altitude_reach v = unsigned_abs v.window.lower + unsigned_abs v.window.upper
 
 abbrev pub second_reach : Block → ℕ
-second_reach v = unsigned_abs v.window.start + unsigned_abs v.window.stop
+second_reach v = unsigned_abs v.window.start + unsigned_abs v.window.end
 
 -- the point of a position along the curve, an altitude and a second
 abbrev pub point_of : ℕ × (ℤ × ℤ) → Point

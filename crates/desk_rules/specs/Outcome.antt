@@ -19,19 +19,16 @@ use Rattle.desk_rules.specs.declared.decide.Effect.{Effect}
 use Rattle.desk_rules.specs.declared.decide.Effect.TheVariants as effect
 use Rattle.volume4d.specs.Volume.{Block}
 use Rattle.volume4d.specs.Meeting.{Spot}
+use Rattle.desk_rules.specs.Limits.{max_plans, max_ahead}
 use Rattle.desk_rules.specs.States.{status_of, is_offered, step_of}
 
 -- some volume's end is at or before the moment
 unfoldable pub has_ended : List Block → ℤ → Bool
-has_ended area moment = list_any (λ v. int_le v.window.stop moment) area
+has_ended area moment = list_any (λ v. int_le v.window.end moment) area
 
--- some volume's start is more than 2,592,000 s, thirty days, after the moment
+-- some volume starts too long after the moment
 unfoldable pub is_beyond_horizon : List Block → ℤ → Bool
-is_beyond_horizon area moment = list_any (λ v. int_lt (moment +ℤ pos 2592000) v.window.start) area
-
--- the greatest number of plans that an operator may have, closed ones too
-abbrev pub max_plans : ℕ
-max_plans = 200
+is_beyond_horizon area moment = list_any (λ v. int_lt (moment +ℤ pos max_ahead) v.window.start) area
 
 -- the table's note, where it refuses
 abbrev pub refusal_of : Step → Option Note

@@ -3,7 +3,8 @@
 ghost use Rattle.std.specs.Prelude.{◌≡◌, ◌&&◌, None, pos, ◌≤ℤ◌, int_le, int_lt, nat_le, is_none};
 ghost use Rattle.std.specs.Option.{option_copied};
 ghost use Rattle.desk_rules.specs.declared.words.PlanResult.TheVariants as results;
-ghost use Rattle.desk_rules.specs.Outcome.{outcome, has_ended, is_beyond_horizon, max_plans, step_status, step_effect, styled_effect, note_of, refused_result, shown_conflict};
+ghost use Rattle.desk_rules.specs.Outcome.{outcome, has_ended, is_beyond_horizon, step_status, step_effect, styled_effect, note_of, refused_result, shown_conflict};
+ghost use Rattle.desk_rules.specs.Limits.{max_plans};
 ghost use Rattle.desk_rules.specs.States as spec;
 ghost use Rattle.desk_rules.specs.States.{status_in_use, is_offered};
 
@@ -176,7 +177,7 @@ fn any_ended(volumes: &[Volume], moment: i64) -> bool
 }
 
 fn ends_by(volume: &Volume, moment: i64) -> bool
-    ensures { result ≡ int_le volume.now.window.stop moment }
+    ensures { result ≡ int_le volume.now.window.end moment }
 {
     volume.window().end() <= moment
 }

@@ -2,12 +2,14 @@
 //! conflicts and the order of refusals.
 #![tactic(auto)]
 
+pub mod call;
 pub mod conflict;
 pub mod decide;
 pub mod laws;
 pub mod operator;
 pub mod plan;
 pub mod plan_id;
+pub mod reply;
 #[cfg(test)]
 mod tests;
 pub mod transition;

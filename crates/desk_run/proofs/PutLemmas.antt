@@ -18,7 +18,8 @@ use Rattle.desk_rules.specs.declared.decide.Effect.{Effect}
 use Rattle.desk_rules.specs.declared.decide.Effect.TheVariants as effect
 use Rattle.volume4d.specs.Meeting.{Spot}
 use Rattle.desk_rules.specs.States.{step_of, step_from_none, is_offered}
-use Rattle.desk_rules.specs.Outcome.{outcome, note_of, first_note, note_where, refusal_of, is_check, has_ended, is_beyond_horizon, is_stored, step_effect, styled_effect, verdict_by, max_plans}
+use Rattle.desk_rules.specs.Outcome.{outcome, note_of, first_note, note_where, refusal_of, is_check, has_ended, is_beyond_horizon, is_stored, step_effect, styled_effect, verdict_by}
+use Rattle.desk_rules.specs.Limits.{max_plans, max_priority}
 use Rattle.desk_store.specs.World.{World, ceiling_of, stored_of, plans_of}
 use Rattle.desk_store.specs.Changes.{HasRoom}
 use Rattle.desk_store.specs.StoreChange.{IsFitting}
@@ -143,7 +144,7 @@ shut_is_stored asked moment stored own_rows ceiling spot = by_note (note_of aske
   by_note None e = stored_if_shut stored asked (shut_stored asked.style (step_of stored asked) e)
 
 -- the change of a verdict is one that a store takes
-pub change_fits : (w : World) (o : List ℕ) (asked : PutCall) (moment : ℤ) (ceiling : ℕ) (spot : Option Spot) → ceiling_of o w ≡ Some ceiling → ceiling ≤ 1000 → Fits w (change_after (outcome asked moment (stored_of asked.id (plans_of o w)) (length (plans_of o w)) ceiling spot).effect o asked)
+pub change_fits : (w : World) (o : List ℕ) (asked : PutCall) (moment : ℤ) (ceiling : ℕ) (spot : Option Spot) → ceiling_of o w ≡ Some ceiling → ceiling ≤ max_priority → Fits w (change_after (outcome asked moment (stored_of asked.id (plans_of o w)) (length (plans_of o w)) ceiling spot).effect o asked)
 unfolding IsFitting
 change_fits w o asked moment ceiling spot listed low = by_effect (outcome asked moment stored count ceiling spot).effect refl where
   stored : Option PlanRow
@@ -155,7 +156,7 @@ change_fits w o asked moment ceiling spot listed low = by_effect (outcome asked 
   is_listed : IsSome (ceiling_of o w)
   is_listed = ap is_some listed
 
-  below : (p : ℕ) → nat_lt ceiling p ≡ false → p ≤ 1000
+  below : (p : ℕ) → nat_lt ceiling p ≡ false → p ≤ max_priority
   below p e = grind (arith, nat_tests)
 
   by_effect : (e : Effect) → (outcome asked moment stored count ceiling spot).effect ≡ e → Fits w (change_after e o asked)

@@ -1,50 +1,50 @@
 -- Runs: the calls answered so far.
-use Rattle.std.proofs.Common.{◌≡◌, ℕ, ℤ, ◌+◌, ◌<◌, ◌≤◌, List, [], ◌∷◌, ◌++◌, length, take, get_or, map, Result, Ok, Err, None, OnOk, OnErr, refl, sym, ap, subst, ◌∙◌, arith}
+use Rattle.std.proofs.Common.{◌≡◌, ℕ, ℤ, ◌+◌, ◌<◌, ◌≤◌, List, [], ◌∷◌, ◌++◌, length, take, get_or, map, Result, Ok, Err, None, OnOk, OnErr, refl, sym, ap, subst, ◌∙◌}
 use Rattle.std.proofs.lemmas.List.{take_more, map-append, length-append}
 use Rattle.desk_store.specs.World.{World}
-use Rattle.desk_run.specs.declared.call.Asked.{Asked}
-use Rattle.desk_run.specs.declared.reply.Reply.{Reply}
+use Rattle.desk_rules.specs.declared.call.Asked.{Asked}
+use Rattle.desk_rules.specs.declared.reply.Reply.{Reply}
 use Rattle.desk_run.specs.declared.fault.DeskFault.{DeskFault}
 use Rattle.desk_run.specs.declared.fault.DeskFault.TheVariants.{OutOfMemory, UnknownOperator, NoSuchPlan, Ceiling}
 use Rattle.desk_run.specs.declared.run.Ran.{Ran}
 use Rattle.desk_run.specs.declared.run.Outcome.{Outcome}
-use Rattle.desk_run.specs.Verdicts.{answer_to, step}
+use Rattle.desk_run.specs.Verdicts.{told_to, step}
 use Rattle.desk_run.specs.Calls.{Tells}
-use Rattle.desk_run.specs.Runs.{told_in, world_after, told_by, outcome_of, IsRun}
+use Rattle.desk_run.specs.Runs.{told_in, world_left, told_by, outcome_of, IsRun}
 
 -- the first calls are answered
 pub record AreAnswered (w : World) (calls : List (ℤ × Asked)) (n : ℕ) (outcomes : List Outcome) (now : World) : Type 0 where
   pub told : map told_by outcomes ≡ told_in w (take n calls)
-  pub left : now ≡ world_after w (take n calls)
+  pub left : now ≡ world_left w (take n calls)
   pub count : length outcomes ≡ n
 
 pub none_answered : (w now : World) (calls : List (ℤ × Asked)) (outcomes : List Outcome) → outcomes ≡ [] → now ≡ w → AreAnswered w calls 0 outcomes now
 none_answered w now calls outcomes is same = record { told = ap (map told_by) is; left = same; count = ap length is }
 
-told_more : (w : World) (calls : List (ℤ × Asked)) (call : ℤ × Asked) → told_in w (calls ++ call ∷ []) ≡ told_in w calls ++ answer_to (world_after w calls) call.1.operator call.0 call.1.call ∷ []
+told_more : (w : World) (calls : List (ℤ × Asked)) (call : ℤ × Asked) → told_in w (calls ++ call ∷ []) ≡ told_in w calls ++ told_to (world_left w calls) call.1.operator call.0 call.1.call ∷ []
 told_more w [] call = refl
-told_more w (c ∷ calls) call = ap (λ ts. answer_to w c.1.operator c.0 c.1.call ∷ ts) (told_more (step w c.1.operator c.0 c.1.call) calls call)
+told_more w (c ∷ calls) call = ap (λ ts. told_to w c.1.operator c.0 c.1.call ∷ ts) (told_more (step w c.1.operator c.0 c.1.call) calls call)
 
-left_more : (w : World) (calls : List (ℤ × Asked)) (call : ℤ × Asked) → world_after w (calls ++ call ∷ []) ≡ step (world_after w calls) call.1.operator call.0 call.1.call
+left_more : (w : World) (calls : List (ℤ × Asked)) (call : ℤ × Asked) → world_left w (calls ++ call ∷ []) ≡ step (world_left w calls) call.1.operator call.0 call.1.call
 left_more w [] call = refl
 left_more w (c ∷ calls) call = left_more (step w c.1.operator c.0 c.1.call) calls call
 
 -- one more is
-pub one_answered : (w now after : World) (calls : List (ℤ × Asked)) (n : ℕ) (outcomes : List Outcome) (call : ℤ × Asked) (o : Outcome) → AreAnswered w calls n outcomes now → n < length calls → call ≡ get_or calls n call → answer_to now call.1.operator call.0 call.1.call ≡ told_by o → after ≡ step now call.1.operator call.0 call.1.call → AreAnswered w calls (n + 1) (outcomes ++ o ∷ []) after
+pub one_answered : (w now after : World) (calls : List (ℤ × Asked)) (n : ℕ) (outcomes : List Outcome) (call : ℤ × Asked) (o : Outcome) → AreAnswered w calls n outcomes now → n < length calls → call ≡ get_or calls n call → told_to now call.1.operator call.0 call.1.call ≡ told_by o → after ≡ step now call.1.operator call.0 call.1.call → AreAnswered w calls (n + 1) (outcomes ++ o ∷ []) after
 one_answered w now after calls n outcomes call o h below is told left =
     let first = take n calls in
     let more : take (n + 1) calls ≡ first ++ call ∷ [] = take_more calls n call below ∙ ap (λ c. first ++ c ∷ []) (sym is) in
     record {
       told =
           map-append told_by outcomes (o ∷ []) ∙ ap (λ ts. ts ++ told_by o ∷ []) h.told
-          ∙ ap (λ t. told_in w first ++ t ∷ []) (sym told ∙ ap (λ v. answer_to v call.1.operator call.0 call.1.call) h.left)
+          ∙ ap (λ t. told_in w first ++ t ∷ []) (sym told ∙ ap (λ v. told_to v call.1.operator call.0 call.1.call) h.left)
           ∙ sym (told_more w first call) ∙ ap (told_in w) (sym more);
-      left = left ∙ ap (λ v. step v call.1.operator call.0 call.1.call) h.left ∙ sym (left_more w first call) ∙ ap (world_after w) (sym more);
+      left = left ∙ ap (λ v. step v call.1.operator call.0 call.1.call) h.left ∙ sym (left_more w first call) ∙ ap (world_left w) (sym more);
       count = length-append outcomes (o ∷ []) ∙ ap (λ k. k + 1) h.count;
     }
 
 -- what was answered was told so, and its step made
-pub answered_is : (w after : World) (moment : ℤ) (asked : Asked) (r : Result Reply DeskFault) (o : Outcome) → Tells w moment asked r → OnOk r (after ≡ step w asked.operator moment asked.call) → OnErr r (after ≡ w) → outcome_of r ≡ Ok o → (answer_to w asked.operator moment asked.call ≡ told_by o) × (after ≡ step w asked.operator moment asked.call)
+pub answered_is : (w after : World) (moment : ℤ) (asked : Asked) (r : Result Reply DeskFault) (o : Outcome) → Tells w moment asked r → OnOk r (after ≡ step w asked.operator moment asked.call) → OnErr r (after ≡ w) → outcome_of r ≡ Ok o → (told_to w asked.operator moment asked.call ≡ told_by o) × (after ≡ step w asked.operator moment asked.call)
 answered_is w after moment asked (Ok reply) o told ok err is = (told ∙ outcome_told is, ok) where
   outcome_told : {p : Outcome} → ◌≡◌ {A = Result Outcome DeskFault} (Ok p) (Ok o) → told_by p ≡ told_by o
   outcome_told e = cc
@@ -62,7 +62,7 @@ stopped_is w after (Err e) fault err is = err
 pub run_is : (w after : World) (calls : List (ℤ × Asked)) (n : ℕ) (ran : Ran) → AreAnswered w calls n ran.outcomes.items after → n ≤ length calls → (ran.stopped ≡ None → n ≡ length calls) → IsRun w calls ran after
 run_is w after calls n ran h within whole = record {
   told = h.told ∙ ap (λ k. told_in w (take k calls)) (sym h.count);
-  left = h.left ∙ ap (λ k. world_after w (take k calls)) (sym h.count);
+  left = h.left ∙ ap (λ k. world_left w (take k calls)) (sym h.count);
   within = subst (λ k. k ≤ length calls) (sym h.count) within;
   whole = λ e. h.count ∙ whole e;
 }

@@ -7,22 +7,22 @@ use Rattle.desk_store.specs.declared.change.Change.{Change}
 use Rattle.desk_store.specs.declared.change.Change.TheVariants as change
 use Rattle.desk_store.specs.StoreChange.{changed_by, IsFitting}
 use Rattle.desk_store.specs.World.{World}
-use Rattle.desk_run.specs.declared.call.Asked.{Asked}
-use Rattle.desk_run.specs.declared.reply.Reply.{Reply}
+use Rattle.desk_rules.specs.declared.call.Asked.{Asked}
+use Rattle.desk_rules.specs.declared.reply.Reply.{Reply}
 use Rattle.desk_run.specs.declared.pending.Pending.{Pending}
 use Rattle.desk_run.specs.declared.fault.DeskFault.{DeskFault}
 use Rattle.desk_run.specs.declared.fault.DeskFault.TheVariants.{OutOfMemory, UnknownOperator, NoSuchPlan, Ceiling}
-use Rattle.desk_run.specs.Verdicts.{Told, Answer, replied, unknown_operator, no_such_plan, row_asked, only, changed, answer_to, step}
+use Rattle.desk_run.specs.Verdicts.{Told, Ruling, replied, unknown_operator, no_such_plan, row_asked, ruling_alone, world_with_plans, told_to, step}
 
 -- a call without a reply: what the caller is told instead, and that the call leaves the world as it was
 pub record IsUnanswered (w : World) (moment : ℤ) (asked : Asked) (reason : Told) : Type 0 where
-  pub told : answer_to w asked.operator moment asked.call ≡ reason
+  pub told : told_to w asked.operator moment asked.call ≡ reason
   pub left : step w asked.operator moment asked.call ≡ w
 
 -- a reply is told as it is, and so are an unknown operator and a plan that is not there; of want of memory nothing is
 -- claimed; no other fault comes
 abbrev pub Tells : World → ℤ → Asked → Result Reply DeskFault → Type 0
-Tells w moment asked (Ok r) = answer_to w asked.operator moment asked.call ≡ replied r
+Tells w moment asked (Ok r) = told_to w asked.operator moment asked.call ≡ replied r
 Tells w moment asked (Err UnknownOperator) = IsUnanswered w moment asked unknown_operator
 Tells w moment asked (Err NoSuchPlan) = IsUnanswered w moment asked no_such_plan
 Tells w moment asked (Err OutOfMemory) = ⊤
@@ -47,19 +47,19 @@ abbrev pub CanCommit : World → Pending → Type 0
 CanCommit w p = Fits w p.change
 
 -- the world with what is pending committed
-unfoldable pub committed : World → Pending → World
-committed w p = world_with w p.change
+unfoldable pub world_committed : World → Pending → World
+world_committed w p = world_with w p.change
 
 -- what is pending is what an answer to an operator says
-pub record IsReady (w : World) (operator : List ℕ) (a : Answer) (p : Pending) : Type 0 where
+pub record IsReady (w : World) (operator : List ℕ) (a : Ruling) (p : Pending) : Type 0 where
   pub told : a.told ≡ replied (reply_in p)
-  pub left : committed w p ≡ changed w operator a.plans
+  pub left : world_committed w p ≡ world_with_plans w operator a.plans
   pub fits : CanCommit w p
 
 -- where there is one; that there is no such plan, where the answer says so
-abbrev pub Readies : World → List ℕ → Answer → Result Pending DeskFault → Type 0
+abbrev pub Readies : World → List ℕ → Ruling → Result Pending DeskFault → Type 0
 Readies w operator a (Ok p) = IsReady w operator a p
-Readies w operator a (Err NoSuchPlan) = a ≡ only no_such_plan
+Readies w operator a (Err NoSuchPlan) = a ≡ ruling_alone no_such_plan
 Readies w operator a (Err OutOfMemory) = ⊤
 Readies w operator a (Err UnknownOperator) = ⊥
 Readies w operator a (Err Ceiling) = ⊥
@@ -72,8 +72,8 @@ change_after effect.Shut operator asked = Some (change.Close operator asked.id)
 
 -- what is pending is the reply and the change of the call at the moment, and may be committed
 pub record IsPending (w : World) (moment : ℤ) (asked : Asked) (p : Pending) : Type 0 where
-  pub told : answer_to w asked.operator moment asked.call ≡ replied (reply_in p)
-  pub left : committed w p ≡ step w asked.operator moment asked.call
+  pub told : told_to w asked.operator moment asked.call ≡ replied (reply_in p)
+  pub left : world_committed w p ≡ step w asked.operator moment asked.call
   pub fits : CanCommit w p
 
 abbrev pub Prepares : World → ℤ → Asked → Result Pending DeskFault → Type 0

@@ -1,24 +1,24 @@
 -- Runs: calls answered one after the other.
 use Rattle.std.specs.Prelude.{◌≡◌, ◌≤◌, ℤ, List, [], ◌∷◌, length, take, map, None, Result, Ok, Err}
 use Rattle.desk_store.specs.World.{World}
-use Rattle.desk_run.specs.declared.call.Asked.{Asked}
-use Rattle.desk_run.specs.declared.reply.Reply.{Reply}
+use Rattle.desk_rules.specs.declared.call.Asked.{Asked}
+use Rattle.desk_rules.specs.declared.reply.Reply.{Reply}
 use Rattle.desk_run.specs.declared.fault.DeskFault.{DeskFault}
 use Rattle.desk_run.specs.declared.fault.DeskFault.TheVariants.{OutOfMemory, UnknownOperator, NoSuchPlan, Ceiling}
 use Rattle.desk_run.specs.declared.run.Ran.{Ran}
 use Rattle.desk_run.specs.declared.run.Outcome.{Outcome}
 use Rattle.desk_run.specs.declared.run.Outcome.TheVariants as outcome
-use Rattle.desk_run.specs.Verdicts.{Told, replied, unknown_operator, no_such_plan, answer_to, step}
+use Rattle.desk_run.specs.Verdicts.{Told, replied, unknown_operator, no_such_plan, told_to, step}
 
 -- what each caller is told
 abbrev pub told_in : World → List (ℤ × Asked) → List Told
 told_in w [] = []
-told_in w (call ∷ calls) = answer_to w call.1.operator call.0 call.1.call ∷ told_in (step w call.1.operator call.0 call.1.call) calls
+told_in w (call ∷ calls) = told_to w call.1.operator call.0 call.1.call ∷ told_in (step w call.1.operator call.0 call.1.call) calls
 
 -- the world after all calls
-abbrev pub world_after : World → List (ℤ × Asked) → World
-world_after w [] = w
-world_after w (call ∷ calls) = world_after (step w call.1.operator call.0 call.1.call) calls
+abbrev pub world_left : World → List (ℤ × Asked) → World
+world_left w [] = w
+world_left w (call ∷ calls) = world_left (step w call.1.operator call.0 call.1.call) calls
 
 -- an outcome as it is told
 abbrev pub told_by : Outcome → Told
@@ -38,6 +38,6 @@ outcome_of (Err Ceiling) = Err Ceiling
 -- left, are theirs
 pub record IsRun (w : World) (calls : List (ℤ × Asked)) (ran : Ran) (after : World) : Type 0 where
   pub told : map told_by ran.outcomes.items ≡ told_in w (take (length ran.outcomes.items) calls)
-  pub left : after ≡ world_after w (take (length ran.outcomes.items) calls)
+  pub left : after ≡ world_left w (take (length ran.outcomes.items) calls)
   pub within : length ran.outcomes.items ≤ length calls
   pub whole : ran.stopped ≡ None → length ran.outcomes.items ≡ length calls

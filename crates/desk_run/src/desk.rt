@@ -1,13 +1,14 @@
 //! The desk: calls answered over a store.
 
 ghost use Rattle.std.specs.Prelude.{◌≡◌, ◌≢◌, ◌<◌, ◌↔◌, Err, IfOk, IfErr, OnOk, OnErr};
+ghost use Rattle.desk_rules.specs.Limits.{max_priority};
 ghost use Rattle.desk_run.specs.Moments.{IsMoment};
 
-use crate::call::Asked;
 use crate::fault::DeskFault;
 use crate::pending::{Pending, commit_over, prepare_over};
-use crate::reply::Reply;
+use desk_rules::call::Asked;
 use desk_rules::operator::Operator;
+use desk_rules::reply::Reply;
 use desk_store::{Change, PlanStore};
 use std::alloc::Global;
 use std::marker::Model;
@@ -32,7 +33,7 @@ impl<S: PlanStore> Model for Desk<S> {
 impl<S: PlanStore> Desk<S> {
     ghost use Rattle.desk_store.specs.Changes.{with_operator};
     ghost use Rattle.desk_run.specs.Verdicts.{step};
-    ghost use Rattle.desk_run.specs.Calls.{Tells, Prepares, CanCommit, reply_in, committed};
+    ghost use Rattle.desk_run.specs.Calls.{Tells, Prepares, CanCommit, reply_in, world_committed};
 
     /// A desk over a store, with the store's content.
     pub fn new(store: S) -> Desk<S>
@@ -52,7 +53,7 @@ impl<S: PlanStore> Desk<S> {
     pub fn enrol(&mut self, operator: &Operator, ceiling: u32) -> Result<(), DeskFault>
         ensures ok { OnOk result (self.new ≡ with_operator self.old operator.now ceiling) }
         ensures err { OnErr result (self.new ≡ self.old) }
-        ensures ceiling { (result ≡ Err DeskFault.Ceiling) ↔ (1000 < ceiling) }
+        ensures ceiling { (result ≡ Err DeskFault.Ceiling) ↔ (max_priority < ceiling) }
         ensures known { result ≢ Err DeskFault.UnknownOperator }
     {
         if ceiling > MAX_CEILING {
@@ -83,7 +84,7 @@ impl<S: PlanStore> Desk<S> {
     pub fn commit(&mut self, pending: Pending) -> Result<Reply, DeskFault>
         requires { CanCommit self.old pending }
         ensures reply { IfOk result (λ reply. reply ≡ reply_in pending) }
-        ensures ok { OnOk result (self.new ≡ committed self.old pending) }
+        ensures ok { OnOk result (self.new ≡ world_committed self.old pending) }
         ensures err { OnErr result (self.new ≡ self.old) }
         ensures fault { IfErr result (λ e. e ≡ DeskFault.OutOfMemory) }
     {

@@ -2,7 +2,7 @@
 
 ghost use Rattle.std.specs.Prelude.{◌≡◌, ℕ, ℤ, List, false};
 ghost use Rattle.std.specs.Ordering.{is_eq};
-ghost use Rattle.desk_run.specs.declared.call.Call.{Call};
+ghost use Rattle.desk_rules.specs.declared.call.Call.{Call};
 ghost use Rattle.desk_run.specs.Verdicts.{own_left, step};
 ghost use Rattle.desk_store.specs.World.{World, own, held, text_cmp};
 

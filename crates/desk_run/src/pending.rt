@@ -1,13 +1,13 @@
 //! Replies that are ready, and the changes that go with them.
 
 ghost use Rattle.std.specs.Prelude.{◌≡◌, Some, IfOk, IfErr, OnOk, OnErr};
-ghost use Rattle.desk_run.specs.Calls.{Prepares, CanCommit, reply_in, committed};
+ghost use Rattle.desk_run.specs.Calls.{Prepares, CanCommit, reply_in, world_committed};
 ghost use Rattle.desk_run.specs.Moments.{IsMoment};
 
-use crate::call::{Asked, Call};
 use crate::fault::DeskFault;
-use crate::reply::Reply;
 use delete::ready_delete;
+use desk_rules::call::{Asked, Call};
+use desk_rules::reply::Reply;
 use desk_store::{Change, PlanStore};
 use put::ready_put;
 use std::alloc::Global;
@@ -60,7 +60,7 @@ pub fn prepare_over<S: PlanStore>(
 pub fn commit_over<S: PlanStore>(store: &mut S, pending: Pending) -> Result<Reply, DeskFault>
     requires { CanCommit (S.content store.old) pending }
     ensures reply { IfOk result (λ reply. reply ≡ reply_in pending) }
-    ensures ok { OnOk result (S.content store.new ≡ committed (S.content store.old) pending) }
+    ensures ok { OnOk result (S.content store.new ≡ world_committed (S.content store.old) pending) }
     ensures err { OnErr result (S.content store.new ≡ S.content store.old) }
     ensures fault { IfErr result (λ e. e ≡ DeskFault.OutOfMemory) }
 {

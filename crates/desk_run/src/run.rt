@@ -5,10 +5,10 @@ ghost use Rattle.desk_run.specs.Moments.{IsMoment};
 ghost use Rattle.desk_run.specs.Runs as spec;
 ghost use Rattle.desk_run.specs.Runs.{IsRun};
 
-use crate::call::Asked;
 use crate::desk::Desk;
 use crate::fault::DeskFault;
-use crate::reply::Reply;
+use desk_rules::call::Asked;
+use desk_rules::reply::Reply;
 use desk_store::PlanStore;
 use std::alloc::{AllocError, Global};
 

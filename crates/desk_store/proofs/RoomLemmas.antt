@@ -9,7 +9,8 @@ use Rattle.std.specs.declared.cmp.Ordering.{Ordering}
 use Rattle.std.specs.Ordering.{is_eq, match_ordering}
 use Rattle.std.proofs.lemmas.Map.Lookups.{exact_bytes}
 use Rattle.desk_rules.specs.declared.plan.PlanRow.{PlanRow}
-use Rattle.desk_store.specs.World.{Listed, World, text_cmp, ceiling_of, plans_of, max_rows, max_priority, IsWorld}
+use Rattle.desk_store.specs.World.{Listed, World, text_cmp, ceiling_of, plans_of, IsWorld}
+use Rattle.desk_rules.specs.Limits.{max_plans, max_priority}
 use Rattle.desk_store.specs.Changes.{put_row, list_operator, with_plans}
 use Rattle.desk_store.specs.WorldLaws.{own_replaced, others_kept}
 
@@ -27,22 +28,22 @@ length-put_row row (r ∷ rs) = by_order (text_cmp row.id r.id) (length-put_row 
   by_order Equal ih = omega arith
   by_order Greater ih = omega arith
 
-rows_within : (o : List ℕ) (rows : List PlanRow) (w : World) → IsWorld w → length rows ≤ max_rows → (q : List ℕ) → length (plans_of q (with_plans w o rows)) ≤ max_rows
+rows_within : (o : List ℕ) (rows : List PlanRow) (w : World) → IsWorld w → length rows ≤ max_plans → (q : List ℕ) → length (plans_of q (with_plans w o rows)) ≤ max_plans
 rows_within o rows w h few q = by_name (is_eq (text_cmp q o)) refl where
   same : is_eq (text_cmp q o) ≡ true → o ≡ q
   same e = sym (exact_bytes q o (is_equal (text_cmp q o) e))
 
-  by_name : (b : Bool) → is_eq (text_cmp q o) ≡ b → length (plans_of q (with_plans w o rows)) ≤ max_rows
-  by_name true e = subst (λ n. length (plans_of n (with_plans w o rows)) ≤ max_rows) (same e) (rw (own_replaced o rows w) few)
+  by_name : (b : Bool) → is_eq (text_cmp q o) ≡ b → length (plans_of q (with_plans w o rows)) ≤ max_plans
+  by_name true e = subst (λ n. length (plans_of n (with_plans w o rows)) ≤ max_plans) (same e) (rw (own_replaced o rows w) few)
   by_name false e = rw (others_kept q o rows w e) (h.rows q)
 
 -- rows of an operator within the limit keep it
-pub within_kept : (o : List ℕ) (rows : List PlanRow) (w : World) → IsWorld w → length rows ≤ max_rows → IsWorld (with_plans w o rows)
+pub within_kept : (o : List ℕ) (rows : List PlanRow) (w : World) → IsWorld w → length rows ≤ max_plans → IsWorld (with_plans w o rows)
 unfolding with_plans
 within_kept o rows w h few = record { rows = rows_within o rows w h few; ceilings = h.ceilings }
 
 -- a new row, where there is room, keeps the limit
-pub room_kept : (o : List ℕ) (row : PlanRow) (w : World) → IsWorld w → length (plans_of o w) < max_rows → IsWorld (with_plans w o (put_row row (plans_of o w)))
+pub room_kept : (o : List ℕ) (row : PlanRow) (w : World) → IsWorld w → length (plans_of o w) < max_plans → IsWorld (with_plans w o (put_row row (plans_of o w)))
 room_kept o row w h room = within_kept o (put_row row (plans_of o w)) w h (omega (arith, length-put_row row (plans_of o w), room))
 
 -- rows no more than before keep the limit

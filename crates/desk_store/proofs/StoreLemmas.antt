@@ -12,7 +12,8 @@ use Rattle.std.proofs.lemmas.List.{append_assoc}
 use Rattle.std.proofs.lemmas.Map.Lookups.{exact_bytes}
 use Rattle.desk_rules.specs.declared.plan.PlanRow.{PlanRow}
 use Rattle.desk_store.specs.declared.list.Plan.{Plan}
-use Rattle.desk_store.specs.World.{Filed, Listed, World, text_cmp, rows_by, plans_of, is_by, stored_of, has_id, max_rows, max_priority, IsWorld}
+use Rattle.desk_store.specs.World.{Filed, Listed, World, text_cmp, rows_by, plans_of, is_by, stored_of, has_id, IsWorld}
+use Rattle.desk_rules.specs.Limits.{max_plans, max_priority}
 use Rattle.desk_store.specs.Changes.{list_operator, put_row, with_operator, with_plans, HasRoom}
 use Rattle.desk_store.specs.Listing.{row_of, listed_of, filed_of, filed_all, world_of}
 use Rattle.desk_store.proofs.SortedPlans.{Key, key_cmp, replaced, inserted}
@@ -100,7 +101,7 @@ length_by_keys o (e ∷ es) = by_test (is_eq (text_cmp o e.0.0)) (length_by_keys
   by_test true ih = ap suc ih
   by_test false ih = ih
 
-has_less : (old : World) (o id : List ℕ) → stored_of id (plans_of o old) ≡ None → HasRoom old o id → length (plans_of o old) < max_rows
+has_less : (old : World) (o id : List ℕ) → stored_of id (plans_of o old) ≡ None → HasRoom old o id → length (plans_of o old) < max_plans
 has_less old o id none (inl there) = absurd (no_row (stored_of id (plans_of o old)) none there) where
   no_row : (r : Option PlanRow) → r ≡ None → is_some r ≡ true → ⊥
   no_row None e f = cc
@@ -114,7 +115,7 @@ limit_kept old ops plans more o id plan found is sorted e f keys h room = by_fou
   by_found (Some p) q = record { rows = λ n. omega (arith, length_by_keys n more ∙ ap (λ ks. length (filter (λ k. is_eq (text_cmp n k.0)) ks)) (keys (ap is_some q)) ∙ sym (length_by_keys n plans), h.rows n); ceilings = h.ceilings }
   by_found None q =
       let none : stored_of id (plans_of o old) ≡ None = ap (λ w. stored_of id (plans_of o w)) (sym is) ∙ sym (plan_found o id plans) ∙ ap (option_map (row_of id)) (sym f ∙ q) in
-      let below : length (plans_of o old) < max_rows = has_less old o id none room in
+      let below : length (plans_of o old) < max_plans = has_less old o id none room in
       subst IsWorld (sym (stored old ops plans more o id plan is sorted e)) (room_kept o (row_of id plan) old (subst IsWorld is h) below)
 
 -- enrolling keeps the limits

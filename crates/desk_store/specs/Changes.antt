@@ -4,7 +4,8 @@ use Rattle.std.specs.List.{filter, list_any, All, IsDistinct}
 use Rattle.std.specs.Ordering.{is_eq, is_lt, is_gt, match_ordering}
 use Rattle.desk_rules.specs.declared.plan.PlanRow.{PlanRow}
 use Rattle.desk_rules.specs.declared.words.Usage.TheVariants as usage
-use Rattle.desk_store.specs.World.{Filed, Listed, World, text_cmp, plans_of, has_id, stored_of, max_rows}
+use Rattle.desk_store.specs.World.{Filed, Listed, World, text_cmp, plans_of, has_id, stored_of}
+use Rattle.desk_rules.specs.Limits.{max_plans}
 
 -- rows ascending by id, with a row in place of the one of its id, or at its place
 abbrev pub put_row : PlanRow → List PlanRow → List PlanRow
@@ -52,7 +53,7 @@ with_operator w name ceiling = record w { operators = list_operator name ceiling
 
 -- there is room for a row: its id is stored, or the operator has fewer plans than it may have
 abbrev pub HasRoom : World → List ℕ → List ℕ → Type 0
-HasRoom w operator id = IsSome (stored_of id (plans_of operator w)) ⊎ (length (plans_of operator w) < max_rows)
+HasRoom w operator id = IsSome (stored_of id (plans_of operator w)) ⊎ (length (plans_of operator w) < max_plans)
 
 -- each of the ids is that of a row
 abbrev pub AreStored : List (List ℕ) → List PlanRow → Type 0

@@ -2,7 +2,8 @@
 use Rattle.std.specs.Prelude.{◌≤◌, IsSome}
 use Rattle.desk_store.specs.declared.change.Change.{Change}
 use Rattle.desk_store.specs.declared.change.Change.TheVariants.{Enrol, Put, Close, Clear}
-use Rattle.desk_store.specs.World.{World, plans_of, ceiling_of, stored_of, max_priority}
+use Rattle.desk_store.specs.World.{World, plans_of, ceiling_of, stored_of}
+use Rattle.desk_rules.specs.Limits.{max_priority}
 use Rattle.desk_store.specs.Changes.{put_row, close_row, clear_rows, with_plans, with_operator, HasRoom, AreStored, AreDistinct}
 
 -- enrolling adds an operator or replaces its ceiling; a put stores a row for its id, a close closes the row of an id, and a clear takes rows out

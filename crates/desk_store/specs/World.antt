@@ -8,6 +8,7 @@ use Rattle.std.specs.Cmp.Lexicographic.{slice_cmp}
 use Rattle.desk_rules.specs.declared.plan.PlanRow.{PlanRow}
 use Rattle.volume4d.specs.Point.{Point}
 use Rattle.volume4d.specs.Level.{greater}
+use Rattle.desk_rules.specs.Limits.{max_plans, max_priority}
 use Rattle.desk_rules.specs.Plan.{top_priority}
 
 -- a plan, with its operator's name
@@ -71,15 +72,7 @@ stored_of id rows = find (has_id id) rows
 unfoldable pub held_at : List PlanRow → (Point → Option ℕ) → List ℕ → Point → Option ℕ
 held_at rows others id x = greater (others x) (top_priority (filter (λ r. not (has_id id r)) rows) x)
 
--- no operator has more than 200 plans
-abbrev pub max_rows : ℕ
-max_rows = 200
-
--- ceilings and priorities go up to 1,000
-abbrev pub max_priority : ℕ
-max_priority = 1000
-
 -- both limits are kept
 pub record IsWorld (w : World) : Type 0 where
-  pub rows : (operator : List ℕ) → length (plans_of operator w) ≤ max_rows
+  pub rows : (operator : List ℕ) → length (plans_of operator w) ≤ max_plans
   pub ceilings : list_all (λ l. nat_le l.ceiling max_priority) w.operators ≡ true

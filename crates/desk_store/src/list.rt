@@ -11,7 +11,8 @@ ghost use Rattle.volume4d.specs.Slab.{slab_has, slabs_have, top_held};
 ghost use Rattle.desk_rules.specs.Plan as plan_spec;
 ghost use Rattle.desk_rules.specs.Plan.{is_live};
 ghost use Rattle.desk_rules.specs.Conflict.{at_least};
-ghost use Rattle.desk_store.specs.World.{text_cmp, rows_by, plans_of, stored_of, max_rows, max_priority};
+ghost use Rattle.desk_store.specs.World.{text_cmp, rows_by, plans_of, stored_of};
+ghost use Rattle.desk_rules.specs.Limits.{max_plans, max_priority};
 ghost use Rattle.desk_store.specs.Changes.{put_row, close_row, clear_rows, with_plans, with_operator, HasRoom};
 ghost use Rattle.desk_store.specs.Rows.{rival_level, rivals_top};
 ghost use Rattle.desk_store.specs.Listing as listing;
@@ -188,7 +189,7 @@ fn row_of(id: PlanId, plan: &Plan) -> Result<PlanRow, AllocError>
 
 // How many plans the operator has.
 fn count_of(plans: &Plans, operator: &Operator) -> u32
-    requires { length (rows_by operator.now (filed_all plans.now.entries)) ≤ max_rows }
+    requires { length (rows_by operator.now (filed_all plans.now.entries)) ≤ max_plans }
     ensures { result ≡ length (rows_by operator.now (filed_all plans.now.entries)) }
 {
     let mut count = 0;

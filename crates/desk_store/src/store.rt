@@ -4,7 +4,8 @@ ghost use Rattle.std.specs.Prelude.{◌≡◌, ◌≤◌, ℕ, true, length, IfO
 ghost use Rattle.volume4d.specs.Point.{Point};
 ghost use Rattle.volume4d.specs.Slab.{slab_has, top_held};
 ghost use Rattle.desk_rules.specs.Conflict.{at_least};
-ghost use Rattle.desk_store.specs.World.{World, ceiling_of, plans_of, stored_of, held, held_at, max_priority};
+ghost use Rattle.desk_store.specs.World.{World, ceiling_of, plans_of, stored_of, held, held_at};
+ghost use Rattle.desk_rules.specs.Limits.{max_priority};
 
 use crate::change::Change;
 use crate::fault::StoreFault;

@@ -1,13 +1,13 @@
 -- Bytes: the text that a desk answers to the bytes of one request, and what the request leaves.
 use Rattle.std.specs.Prelude.{◌≡◌, ◌⊎◌, ℕ, ℤ, Bool, true, false, List, Ok, Err}
-use Rattle.desk_run.specs.declared.call.Asked.{Asked}
-use Rattle.desk_run.specs.declared.reply.Reply.TheVariants.{Ready, Answered}
+use Rattle.desk_rules.specs.declared.call.Asked.{Asked}
+use Rattle.desk_rules.specs.declared.reply.Reply.TheVariants.{Ready, Answered}
 use Rattle.desk_wire.specs.declared.texts.Refusal.TheVariants.{Fault, UnknownOperator, NoSuchPlan, OutOfMemory}
 use Rattle.desk_wire.specs.Faults.{Reading}
 use Rattle.desk_wire.specs.PlanBody.{put_text, ready_text}
 use Rattle.desk_wire.specs.Refusals.{refusal_text}
 use Rattle.desk_wire.specs.Requests.{asked}
-use Rattle.desk_run.specs.Verdicts.{Told, replied, unknown_operator, no_such_plan, answer_to, step}
+use Rattle.desk_run.specs.Verdicts.{Told, replied, unknown_operator, no_such_plan, told_to, step}
 use Rattle.desk_store.specs.World.{World}
 
 -- the text of what a caller is told
@@ -19,7 +19,7 @@ text no_such_plan = refusal_text NoSuchPlan
 
 -- the answer to what is asked at a moment, or to the fault that was met
 abbrev pub text_for : World → ℤ → Reading Asked → List ℕ
-text_for w moment (Ok a) = text (answer_to w a.operator moment a.call)
+text_for w moment (Ok a) = text (told_to w a.operator moment a.call)
 text_for w moment (Err fault) = refusal_text (Fault fault)
 
 -- what it leaves: a fault leaves all as it was

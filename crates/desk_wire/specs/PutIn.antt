@@ -2,6 +2,7 @@
 -- own members of areas.
 use Rattle.std.specs.Prelude.{ℕ, ℤ, pos, negsuc, List, codes, nat_le, if◌then◌else◌, Option, Some, None, option_and_then, Ok}
 use Rattle.std.specs.Str.{bytes_eq}
+use Rattle.desk_rules.specs.Limits.{max_priority}
 use Rattle.desk_rules.specs.declared.plan.PutCall.{PutCall}
 use Rattle.desk_rules.specs.declared.words.Style.{Style}
 use Rattle.desk_rules.specs.declared.words.Style.TheVariants.{IfAllowed}
@@ -38,9 +39,9 @@ usage_at d = option_and_then usage_of (text_at (codes "usage_state") d)
 abbrev pub aircraft_at : Data → Option Aircraft
 aircraft_at d = option_and_then aircraft_of (text_at (codes "uas_state") d)
 
--- a priority, 0 to 1,000
+-- a priority, from 0 to the greatest
 abbrev pub priority_number : ℤ → Option ℕ
-priority_number (pos n) = if nat_le n 1000 then Some n else None
+priority_number (pos n) = if nat_le n max_priority then Some n else None
 priority_number (negsuc n) = None
 
 -- 0 where there is none

@@ -1,7 +1,7 @@
 -- What a request asks: the call that its bytes are, and whose, or its first fault.
 use Rattle.std.specs.Prelude.{ℕ, List, Ok}
-use Rattle.desk_run.specs.declared.call.Asked.{Asked}
-use Rattle.desk_run.specs.declared.call.Call.TheVariants.{Put}
+use Rattle.desk_rules.specs.declared.call.Asked.{Asked}
+use Rattle.desk_rules.specs.declared.call.Call.TheVariants.{Put}
 use Rattle.desk_wire.specs.Addresses.{address_of}
 use Rattle.desk_wire.specs.Faults.{Reading, or_met}
 use Rattle.desk_wire.specs.Messages.{message_in}

@@ -8,7 +8,7 @@ use Rattle.s2_cellid.specs.Token.{read_token}
 use Rattle.serde_json.specs.Data.{Data, Items}
 use Rattle.serde_json.specs.Events.{items_len}
 use Rattle.serde_json.specs.Find.{get, as_str}
-use Rattle.volume4d.specs.Extent.{Extent, checked_extent}
+use Rattle.volume4d.specs.Windows.{WindowParts, window_or_fault}
 use Rattle.volume4d.specs.Shape.{cells, is_footprint}
 use Rattle.volume4d.specs.Volume.{Block}
 use Rattle.desk_wire.specs.Faults.{Reading, guard, or_fault, or_met}
@@ -31,14 +31,14 @@ abbrev pub time_at : List ℕ → Data → Option ℤ
 time_at key d = option_and_then time_of (get key d)
 
 -- the altitudes are members of the volume's `volume`, the times its own
-unfoldable pub window_of : Data → Data → Reading Extent
+unfoldable pub window_of : Data → Data → Reading WindowParts
 window_of d shape =
     or_fault (whole_at (codes "altitude_lower") shape) BadVolume λ lower.
     or_fault (whole_at (codes "altitude_upper") shape) BadVolume λ upper.
     or_fault (time_at (codes "time_start") d) BadVolume λ start.
-    or_fault (time_at (codes "time_end") d) BadVolume λ stop.
-    or_fault (result_ok (checked_extent
-    (record { lower = lower; upper = upper; start = start; stop = stop }))) BadVolume Ok
+    or_fault (time_at (codes "time_end") d) BadVolume λ end.
+    or_fault (result_ok (window_or_fault
+    (record { lower = lower; upper = upper; start = start; end = end }))) BadVolume Ok
 
 -- an S2 token, as the id of its cell
 abbrev pub token_of : Data → Reading ℕ

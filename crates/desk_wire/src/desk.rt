@@ -2,7 +2,7 @@
 
 ghost use Rattle.std.specs.Prelude.{◌≡◌, IfOk, OnOk, OnErr, Ok};
 ghost use Rattle.desk_wire.specs.Bytes.{IsAnswered, IsAnsweredSo, IsDone, text as told_text};
-ghost use Rattle.desk_run.specs.Calls.{CanCommit, reply_in, committed};
+ghost use Rattle.desk_run.specs.Calls.{CanCommit, reply_in, world_committed};
 ghost use Rattle.desk_wire.specs.Requests.{asked};
 ghost use Rattle.desk_run.specs.Verdicts.{replied};
 ghost use Rattle.desk_run.specs.Moments.{IsMoment};
@@ -122,7 +122,7 @@ fn answer_pending<S: PlanStore>(
 ) -> Result<Vec<u8>, AllocError>
     requires { CanCommit desk.old pending }
     ensures bytes { IfOk result (λ bytes. bytes.items ≡ told_text (replied (reply_in pending))) }
-    ensures ok { OnOk result (desk.new ≡ committed desk.old pending) }
+    ensures ok { OnOk result (desk.new ≡ world_committed desk.old pending) }
     ensures err { OnErr result (desk.new ≡ desk.old) }
 {
     let bytes = reply_answer(alloc, pending.reply())?;

@@ -2,7 +2,7 @@
 ghost use Rattle.std.specs.Prelude.{◌≡◌};
 ghost use Rattle.std.specs.Int.{is_in_range};
 ghost use Rattle.std.specs.Result.{result_ok};
-ghost use Rattle.volume4d.specs.Extent.{checked_extent};
+ghost use Rattle.volume4d.specs.Windows.{window_or_fault};
 ghost use Rattle.serde_json.specs.View.{view, items_view};
 ghost use Rattle.desk_wire.specs.Faults.{GivesIfRoom};
 ghost use Rattle.desk_wire.specs.JsonIn.{each};
@@ -105,7 +105,7 @@ fn window_of(value: &Value, shape: &Value) -> Result<Window, WireFault>
 // The window of whole numbers of any size.
 fn checked_window(lower: i64, upper: i64, start: i64, end: i64) -> Option<Window>
     ensures { result ≡ result_ok
-        (checked_extent (record { lower = lower; upper = upper; start = start; stop = end })) }
+        (window_or_fault (record { lower = lower; upper = upper; start = start; end = end })) }
 {
     let lower = i32::try_from(lower).ok()?;
     let upper = i32::try_from(upper).ok()?;

@@ -9,9 +9,9 @@ use Rattle.s2_cover.specs.declared.spans.Span.{Span}
 use Rattle.s2_cover.specs.Runs.{IsSpan}
 use Rattle.volume4d.specs.declared.slab.Slab.{Slab}
 use Rattle.volume4d.specs.Limits.{within_altitudes, within_times, within_length}
-use Rattle.volume4d.specs.Extent.{Extent, is_extent}
+use Rattle.volume4d.specs.Windows.{WindowParts, is_window}
 use Rattle.volume4d.specs.Volume.{Block}
-use Rattle.volume4d.specs.Slab.{span_of, extent_of}
+use Rattle.volume4d.specs.Slab.{span_of, slab_window}
 use Rattle.volume4d.specs.Slabs.{AreSlabsOn, AreVolumeSlabs, AreAreaSlabs}
 use Rattle.volume4d.specs.Bounds.{IsFilled, AreFilled}
 use Rattle.volume4d.proofs.SlabPoints.{slabs_of_push}
@@ -19,32 +19,32 @@ use Rattle.volume4d.proofs.SlabPoints.{slabs_of_push}
 before : (a b : ℤ) → int_lt a b ≡ true → a <ℤ b
 before a b e = grind (arith, ints)
 
--- the least altitude of an extent stands below the other, and its first second before the other
-ordered : (e : Extent) → is_extent e ≡ true → (e.lower <ℤ e.upper) × (e.start <ℤ e.stop)
+-- the least altitude of an window stands below the other, and its first second before the other
+ordered : (e : WindowParts) → is_window e ≡ true → (e.lower <ℤ e.upper) × (e.start <ℤ e.end)
 ordered e is =
     let parts = and_parts (within_altitudes e.lower e.upper) _ is in
-    let times = and_parts (within_times e.start e.stop) (within_length e.start e.stop) parts.1 in
+    let times = and_parts (within_times e.start e.end) (within_length e.start e.end) parts.1 in
     let high = (and_parts _ (int_lt e.lower e.upper) (and_parts _ _ parts.0).0).1 in
-    let late = (and_parts _ (int_lt e.start e.stop) (and_parts _ _ times.0).0).1 in
-    (before e.lower e.upper high, before e.start e.stop late)
+    let late = (and_parts _ (int_lt e.start e.end) (and_parts _ _ times.0).0).1 in
+    (before e.lower e.upper high, before e.start e.end late)
 
-filled_each : (e : Extent) (slabs : List Slab) → is_extent e ≡ true → All IsSpan (map span_of slabs)
-    → All (λ s. extent_of s ≡ e) slabs → All IsFilled slabs
-filled_each e [] is spans extents = All-nil IsFilled
-filled_each e (s ∷ rest) is spans extents =
-    let same = All-head (λ t. extent_of t ≡ e) s rest extents in
+filled_each : (e : WindowParts) (slabs : List Slab) → is_window e ≡ true → All IsSpan (map span_of slabs)
+    → All (λ s. slab_window s ≡ e) slabs → All IsFilled slabs
+filled_each e [] is spans windows = All-nil IsFilled
+filled_each e (s ∷ rest) is spans windows =
+    let same = All-head (λ t. slab_window t ≡ e) s rest windows in
     let span = All-head IsSpan (span_of s) (map span_of rest) spans in
-    let order = ordered (extent_of s) (ap is_extent same ∙ is) in
+    let order = ordered (slab_window s) (ap is_window same ∙ is) in
     All-cons IsFilled s rest (record { ground = span.ordered; height = order.0; time = order.1 })
     (filled_each e rest is (All-tail IsSpan (span_of s) (map span_of rest) spans)
-    (All-tail (λ t. extent_of t ≡ e) s rest extents))
+    (All-tail (λ t. slab_window t ≡ e) s rest windows))
 
 -- slabs of some spans, within the limits
-pub filled_on : (spans : List Span) (e : Extent) (slabs : List Slab) → is_extent e ≡ true
+pub filled_on : (spans : List Span) (e : WindowParts) (slabs : List Slab) → is_window e ≡ true
     → 0 < length spans → All IsSpan spans → AreSlabsOn spans e slabs → AreFilled slabs
 filled_on spans e slabs is some each on = record {
   some = subst (λ n. 0 < n) (ap length (sym on.each) ∙ length-map slabs span_of) some;
-  each = filled_each e slabs is (subst (All IsSpan) (sym on.each) each) on.extents;
+  each = filled_each e slabs is (subst (All IsSpan) (sym on.each) each) on.windows;
 }
 
 -- the slabs of the volumes so far, each of which has a point

@@ -11,49 +11,49 @@ use Rattle.s2_cover.specs.declared.spans.Span.{Span}
 use Rattle.s2_cover.specs.Runs.{IsRanges, span_has, spans_have}
 use Rattle.volume4d.specs.declared.slab.Slab.{Slab}
 use Rattle.volume4d.specs.Point.{Point, is_leaf}
-use Rattle.volume4d.specs.Extent.{Extent}
+use Rattle.volume4d.specs.Windows.{WindowParts}
 use Rattle.volume4d.specs.PointLaws.{leaf_test}
 use Rattle.volume4d.specs.Shape.{shape_has, shape_positions}
-use Rattle.volume4d.specs.Volume.{Block, extent_has, block_has, area_has}
-use Rattle.volume4d.specs.Slab.{slab_has, slabs_have, span_of, extent_of}
+use Rattle.volume4d.specs.Volume.{Block, window_has, block_has, area_has}
+use Rattle.volume4d.specs.Slab.{slab_has, slabs_have, span_of, slab_window}
 use Rattle.volume4d.proofs.FootprintRanges.{leaves_alone}
 use Rattle.volume4d.specs.Slabs.{AreSlabsOn, AreVolumeSlabs, AreAreaSlabs}
 
--- a slab by its span of leaves and its extent
-slab_by_parts : (s : Slab) (extent : Extent) (x : Point) → extent_of s ≡ extent
-    → slab_has s x ≡ (is_leaf x.leaf && (span_has (span_of s) (position_of x.leaf) && extent_has extent x))
-slab_by_parts s extent x same =
+-- a slab by its span of leaves and its window
+slab_by_parts : (s : Slab) (window : WindowParts) (x : Point) → slab_window s ≡ window
+    → slab_has s x ≡ (is_leaf x.leaf && (span_has (span_of s) (position_of x.leaf) && window_has window x))
+slab_by_parts s window x same =
     let ground = span_has (span_of s) (position_of x.leaf) in
     let high = int_le s.lower x.altitude && int_lt x.altitude s.upper in
     let late = int_le s.start x.second && int_lt x.second s.end in
     and_assoc (is_leaf x.leaf && ground) high late ∙ and_assoc (is_leaf x.leaf) ground (high && late)
-    ∙ ap (λ e. is_leaf x.leaf && (span_has (span_of s) (position_of x.leaf) && extent_has e x)) same
+    ∙ ap (λ e. is_leaf x.leaf && (span_has (span_of s) (position_of x.leaf) && window_has e x)) same
 
 both_or : (l a b e : Bool) → ((l && (a && e)) || (l && (b && e))) ≡ (l && ((a || b) && e))
 both_or l a b e =
     sym (and-or_distrib_left l (a && e) (b && e)) ∙ ap (λ t. l && t) (sym (and-or_distrib_right a b e))
 
--- slabs with one extent, by their spans
-slabs_by_parts : (slabs : List Slab) (extent : Extent) (x : Point)
-    → All (λ s. extent_of s ≡ extent) slabs
+-- slabs with one window, by their spans
+slabs_by_parts : (slabs : List Slab) (window : WindowParts) (x : Point)
+    → All (λ s. slab_window s ≡ window) slabs
     → slabs_have slabs x
-    ≡ (is_leaf x.leaf && (spans_have (map span_of slabs) (position_of x.leaf) && extent_has extent x))
-slabs_by_parts [] extent x same = sym (and-false (is_leaf x.leaf))
-slabs_by_parts (s ∷ rest) extent x same =
-    let here = slab_by_parts s extent x (All-head (λ t. extent_of t ≡ extent) s rest same) in
-    let there = slabs_by_parts rest extent x (All-tail (λ t. extent_of t ≡ extent) s rest same) in
+    ≡ (is_leaf x.leaf && (spans_have (map span_of slabs) (position_of x.leaf) && window_has window x))
+slabs_by_parts [] window x same = sym (and-false (is_leaf x.leaf))
+slabs_by_parts (s ∷ rest) window x same =
+    let here = slab_by_parts s window x (All-head (λ t. slab_window t ≡ window) s rest same) in
+    let there = slabs_by_parts rest window x (All-tail (λ t. slab_window t ≡ window) s rest same) in
     ap (λ b. b || slabs_have rest x) here
-    ∙ ap (λ b. (is_leaf x.leaf && (span_has (span_of s) (position_of x.leaf) && extent_has extent x)) || b) there
+    ∙ ap (λ b. (is_leaf x.leaf && (span_has (span_of s) (position_of x.leaf) && window_has window x)) || b) there
     ∙ both_or (is_leaf x.leaf) (span_has (span_of s) (position_of x.leaf))
-    (spans_have (map span_of rest) (position_of x.leaf)) (extent_has extent x)
+    (spans_have (map span_of rest) (position_of x.leaf)) (window_has window x)
 
 -- a volume by the positions of its leaves
 volume_by_parts : (v : Block) (x : Point)
     → block_has v x
-    ≡ (is_leaf x.leaf && (shape_positions v.footprint (position_of x.leaf) && extent_has v.window x))
+    ≡ (is_leaf x.leaf && (shape_positions v.footprint (position_of x.leaf) && window_has v.window x))
 volume_by_parts v x = by_leaf (is_leaf x.leaf) refl where
   within : Bool
-  within = extent_has v.window x
+  within = window_has v.window x
 
   by_leaf : (is : Bool) → is_leaf x.leaf ≡ is → (shape_has v.footprint x.leaf && within)
       ≡ (is && (shape_positions v.footprint (position_of x.leaf) && within))
@@ -68,7 +68,7 @@ pub volume_slabs : (v : Block) (spans : List Span) (slabs : List Slab)
     → AreVolumeSlabs v slabs
 volume_slabs v spans slabs ranges on = record {
   ranges = subst (IsRanges (shape_positions v.footprint)) (sym on.each) ranges;
-  windows = on.extents;
+  windows = on.windows;
 }
 
 -- the slabs of a volume have exactly its points
@@ -76,7 +76,7 @@ pub volume_points : (v : Block) (slabs : List Slab) → AreVolumeSlabs v slabs �
     → slabs_have slabs x ≡ block_has v x
 volume_points v slabs are x =
     slabs_by_parts slabs v.window x are.windows
-    ∙ ap (λ b. is_leaf x.leaf && (b && extent_has v.window x)) (are.ranges.positions (position_of x.leaf))
+    ∙ ap (λ b. is_leaf x.leaf && (b && window_has v.window x)) (are.ranges.positions (position_of x.leaf))
     ∙ sym (volume_by_parts v x)
 
 -- the slabs of an area have exactly its points

@@ -1,5 +1,5 @@
 pub mod Limits
-pub mod Extent
+pub mod Windows
 pub mod Point
 pub mod PointLaws
 pub mod Shape

@@ -6,11 +6,11 @@ abbrev pub within_altitudes : ℤ → ℤ → Bool
 within_altitudes lower upper =
     int_le (neg_ℤ (pos 10000)) lower && int_lt lower upper && int_le upper (pos 200000)
 
--- seconds start <= t < stop, from 1970 to the end of the year 9998
+-- seconds start <= t < end, from 1970 to the end of the year 9998
 abbrev pub within_times : ℤ → ℤ → Bool
-within_times start stop =
-    int_le (pos 0) start && int_lt start stop && int_le stop (pos 253370764800)
+within_times start end =
+    int_le (pos 0) start && int_lt start end && int_le end (pos 253370764800)
 
 -- at most a day
 abbrev pub within_length : ℤ → ℤ → Bool
-within_length start stop = int_le (stop -ℤ start) (pos 86400)
+within_length start end = int_le (end -ℤ start) (pos 86400)

@@ -7,7 +7,7 @@ use Rattle.s2_hilbert.specs.Grid.{GridLeaf}
 use Rattle.s2_hilbert.specs.Curve.{position_of}
 use Rattle.s2_cover.specs.declared.spans.Span.{Span}
 use Rattle.volume4d.specs.Point.{Point, is_leaf}
-use Rattle.volume4d.specs.Extent.{Extent}
+use Rattle.volume4d.specs.Windows.{WindowParts}
 use Rattle.volume4d.specs.Level.{greatest}
 
 -- the leaves from the position first along the curve to the position last, both included
@@ -39,5 +39,5 @@ abbrev pub span_of : Slab → Span
 span_of s = record { first = s.first; last = s.last }
 
 -- a slab's altitudes and seconds
-abbrev pub extent_of : Slab → Extent
-extent_of s = record { lower = s.lower; upper = s.upper; start = s.start; stop = s.end }
+abbrev pub slab_window : Slab → WindowParts
+slab_window s = record { lower = s.lower; upper = s.upper; start = s.start; end = s.end }

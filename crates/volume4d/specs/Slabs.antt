@@ -4,20 +4,20 @@ use Rattle.s2_cover.specs.declared.spans.Span.{Span}
 use Rattle.s2_cover.specs.Runs.{IsRanges}
 use Rattle.volume4d.specs.declared.slab.Slab.{Slab}
 use Rattle.volume4d.specs.Shape.{shape_positions}
-use Rattle.volume4d.specs.Extent.{Extent}
+use Rattle.volume4d.specs.Windows.{WindowParts}
 use Rattle.volume4d.specs.Volume.{Block}
-use Rattle.volume4d.specs.Slab.{span_of, extent_of}
+use Rattle.volume4d.specs.Slab.{span_of, slab_window}
 
 -- one slab for each span of positions, in order, each with the altitudes and seconds
-pub record AreSlabsOn (spans : List Span) (extent : Extent) (slabs : List Slab) : Type 0 where
+pub record AreSlabsOn (spans : List Span) (window : WindowParts) (slabs : List Slab) : Type 0 where
   pub each : map span_of slabs ≡ spans
-  pub extents : All (λ s. extent_of s ≡ extent) slabs
+  pub windows : All (λ s. slab_window s ≡ window) slabs
 
 -- one slab for each range of the leaves of a volume's footprint, ascending, so that cells which
 -- touch make one; each slab has the altitudes and seconds of the volume
 pub record AreVolumeSlabs (volume : Block) (slabs : List Slab) : Type 0 where
   pub ranges : IsRanges (shape_positions volume.footprint) (map span_of slabs)
-  pub windows : All (λ s. extent_of s ≡ volume.window) slabs
+  pub windows : All (λ s. slab_window s ≡ volume.window) slabs
 
 -- the slabs of each volume of an area, one volume after the other
 abbrev pub AreAreaSlabs : List Block → List Slab → Type 0

@@ -2,24 +2,24 @@
 -- of ASTM F3548-21); a plan's area is a list of volumes.
 use Rattle.std.specs.Prelude.{List, Bool, ◌&&◌, length, int_le, int_lt, nat_le}
 use Rattle.std.specs.List.{list_any}
-use Rattle.volume4d.specs.Extent.{Extent}
+use Rattle.volume4d.specs.Windows.{WindowParts}
 use Rattle.volume4d.specs.Point.{Point}
 use Rattle.volume4d.specs.Shape.{Shape, shape_has}
 
 -- a volume apart from memory
 pub record Block : Type 0 where
   pub footprint : Shape
-  pub window : Extent
+  pub window : WindowParts
 
--- lower <= altitude < upper and start <= second < stop: extents that touch share no point
-abbrev pub extent_has : Extent → Point → Bool
-extent_has e x =
+-- lower <= altitude < upper and start <= second < end: windows that touch share no point
+abbrev pub window_has : WindowParts → Point → Bool
+window_has e x =
     (int_le e.lower x.altitude && int_lt x.altitude e.upper)
-    && (int_le e.start x.second && int_lt x.second e.stop)
+    && (int_le e.start x.second && int_lt x.second e.end)
 
 -- a volume has a point where its footprint has the leaf and its window the altitude and the second
 abbrev pub block_has : Block → Point → Bool
-block_has v x = shape_has v.footprint x.leaf && extent_has v.window x
+block_has v x = shape_has v.footprint x.leaf && window_has v.window x
 
 -- an area has a point where one of its volumes has it
 abbrev pub area_has : List Block → Point → Bool

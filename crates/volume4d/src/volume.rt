@@ -3,11 +3,11 @@
 ghost use Rattle.std.specs.Prelude.{◌≡◌, Ok, Err, if◌then◌else◌, IsTrue, IfOk, All};
 ghost use Rattle.s2_cover.specs.Runs.{IsSpan};
 ghost use Rattle.volume4d.specs.Point.{Point};
-ghost use Rattle.volume4d.specs.Extent.{is_extent};
+ghost use Rattle.volume4d.specs.Windows.{is_window};
 ghost use Rattle.volume4d.specs.Footprint.{shape_of};
 ghost use Rattle.volume4d.specs.Shape.{is_footprint};
 ghost use Rattle.volume4d.specs.Volume.{block_has};
-ghost use Rattle.volume4d.specs.Slab.{slabs_have, span_of, extent_of};
+ghost use Rattle.volume4d.specs.Slab.{slabs_have, span_of, slab_window};
 ghost use Rattle.volume4d.specs.Bounds.{AreFilled};
 ghost use Rattle.volume4d.specs.Slabs.{AreSlabsOn, AreVolumeSlabs};
 ghost use Rattle.volume4d.specs.declared.volume.VolumeFault.TheVariants as faults;
@@ -36,7 +36,7 @@ pub enum VolumeFault {
 
 impl Model for Volume {
     ghost use Rattle.std.specs.Prelude.{IsTrue, ◌&&◌};
-    ghost use Rattle.volume4d.specs.Extent.{is_extent};
+    ghost use Rattle.volume4d.specs.Windows.{is_window};
     ghost use Rattle.volume4d.specs.Shape.{is_footprint};
     ghost use Rattle.volume4d.specs.Volume.{Block};
 
@@ -46,7 +46,7 @@ impl Model for Volume {
 
     ghost view = { λ v. record { footprint = shape_of v.footprint; window = v.window } };
 
-    ghost invariant = { λ v. IsTrue (is_footprint (shape_of v.footprint) && is_extent v.window) };
+    ghost invariant = { λ v. IsTrue (is_footprint (shape_of v.footprint) && is_window v.window) };
 }
 
 impl Volume {
@@ -80,7 +80,7 @@ impl Volume {
     /// The altitudes and seconds.
     pub fn window(&self) -> Window
         ensures value { result ≡ self.now.window }
-        ensures limits { IsTrue (is_extent self.now.window) }
+        ensures limits { IsTrue (is_window self.now.window) }
     {
         self.window
     }
@@ -132,7 +132,7 @@ fn slabs_of(alloc: Global, spans: &[Span], window: Window) -> Result<Vec<Slab>, 
 fn slab_of(span: &Span, window: Window) -> Slab
     requires { IsSpan span.now }
     ensures span { span_of result ≡ span.now }
-    ensures window { extent_of result ≡ window }
+    ensures window { slab_window result ≡ window }
 {
     Slab {
         first: span.first,

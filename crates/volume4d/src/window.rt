@@ -2,7 +2,7 @@
 
 ghost use Rattle.std.specs.Prelude.{◌≡◌, pos, ◌≤ℤ◌, ◌<ℤ◌, IsTrue};
 ghost use Rattle.volume4d.specs.Limits.{within_altitudes, within_times, within_length};
-ghost use Rattle.volume4d.specs.Extent.{checked_extent, is_extent};
+ghost use Rattle.volume4d.specs.Windows.{window_or_fault, is_window};
 
 use std::marker::Model;
 
@@ -29,29 +29,29 @@ pub enum WindowFault {
 
 impl Model for Window {
     ghost use Rattle.std.specs.Prelude.{IsTrue};
-    ghost use Rattle.volume4d.specs.Extent.{Extent, is_extent};
+    ghost use Rattle.volume4d.specs.Windows.{WindowParts, is_window};
 
-    ghost Value = { Extent };
+    ghost Value = { WindowParts };
 
     ghost view = { λ w. record {
       lower = w.lower;
       upper = w.upper;
       start = w.start;
-      stop = w.end;
+      end = w.end;
     } };
 
-    ghost invariant = { λ w. IsTrue (is_extent (record {
+    ghost invariant = { λ w. IsTrue (is_window (record {
       lower = w.lower;
       upper = w.upper;
       start = w.start;
-      stop = w.end;
+      end = w.end;
     })) };
 
     ghost inverse = { λ e. record {
       lower = e.lower;
       upper = e.upper;
       start = e.start;
-      end = e.stop;
+      end = e.end;
     } };
 }
 
@@ -74,8 +74,8 @@ impl Window {
     ///
     /// The first fault that applies, in the order of `WindowFault`.
     pub fn try_new(lower: i32, upper: i32, start: i64, end: i64) -> Result<Window, WindowFault>
-        ensures { result ≡ checked_extent
-            (record { lower = lower; upper = upper; start = start; stop = end }) }
+        ensures { result ≡ window_or_fault
+            (record { lower = lower; upper = upper; start = start; end = end }) }
     {
         if !are_altitudes(lower, upper) {
             return Err(WindowFault::Altitude);
@@ -97,7 +97,7 @@ impl Window {
     /// The least altitude, in decimetres.
     pub fn lower(&self) -> i32
         ensures value { result ≡ self.now.lower }
-        ensures limits { IsTrue (is_extent self.now) }
+        ensures limits { IsTrue (is_window self.now) }
     {
         self.lower
     }
@@ -118,7 +118,7 @@ impl Window {
 
     /// The second after the last.
     pub fn end(&self) -> i64
-        ensures { result ≡ self.now.stop }
+        ensures { result ≡ self.now.end }
     {
         self.end
     }

@@ -3,13 +3,13 @@
 ghost use Rattle.std.specs.Prelude.{◌≡◌, IsSome};
 ghost use Rattle.desk_store.specs.World.{ceiling_of, plans_of, stored_of};
 ghost use Rattle.desk_run.specs.Calls.{Readies};
-ghost use Rattle.desk_run.specs.Verdicts.{answer_delete};
+ghost use Rattle.desk_run.specs.Verdicts.{delete_ruling};
 
 use super::Pending;
 use crate::fault::DeskFault;
-use crate::reply::{PutReply, Reply};
 use desk_rules::operator::Operator;
 use desk_rules::plan_id::PlanId;
+use desk_rules::reply::{PutReply, Reply};
 use desk_rules::words::{PlanResult, PlanStatus};
 use desk_store::{Change, PlanStore};
 
@@ -21,7 +21,7 @@ pub fn ready_delete<S: PlanStore>(
 ) -> Result<Pending, DeskFault>
     requires { IsSome (ceiling_of operator.now (S.content store.old)) }
     ensures value { Readies (S.content store.old) operator.now
-        (answer_delete (plans_of operator.now (S.content store.old)) id.now
+        (delete_ruling (plans_of operator.now (S.content store.old)) id.now
         (stored_of id.now (plans_of operator.now (S.content store.old)))) result }
     ensures same { S.content store.new ≡ S.content store.old }
 {

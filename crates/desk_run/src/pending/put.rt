@@ -5,16 +5,16 @@ ghost use Rattle.std.specs.Option.{option_copied};
 ghost use Rattle.desk_rules.specs.Conflict.{conflict};
 ghost use Rattle.desk_store.specs.World.{own, ceiling_of, plans_of, held, held_at};
 ghost use Rattle.desk_run.specs.Calls.{Readies, change_after};
-ghost use Rattle.desk_run.specs.Verdicts.{answer_of, put_verdict, row_asked};
+ghost use Rattle.desk_run.specs.Verdicts.{put_ruling, put_outcome, row_asked};
 ghost use Rattle.desk_run.specs.Moments.{IsMoment};
 
 use super::Pending;
 use crate::fault::DeskFault;
-use crate::reply::{PutReply, Reply};
 use desk_rules::conflict::first_conflict;
 use desk_rules::decide::{Effect, Verdict, decide};
 use desk_rules::operator::Operator;
 use desk_rules::plan::{PlanRow, PutCall};
+use desk_rules::reply::{PutReply, Reply};
 use desk_store::{Change, PlanStore, StoreFault};
 use std::alloc::{AllocError, Global};
 use volume4d::Meeting;
@@ -32,7 +32,7 @@ pub fn ready_put<S: PlanStore>(
     requires listed { ceiling_of operator.now (S.content store.old) ≡ Some ceiling }
     requires low { ceiling ≤ 1000 }
     ensures value { Readies (S.content store.old) operator.now
-        (answer_of (put_verdict (own (S.content store.old) operator.now) (held (S.content store.old) operator.now) ceiling moment put.now)
+        (put_ruling (put_outcome (own (S.content store.old) operator.now) (held (S.content store.old) operator.now) ceiling moment put.now)
         put.now (plans_of operator.now (S.content store.old))) result }
     ensures same { S.content store.new ≡ S.content store.old }
 {
@@ -68,7 +68,7 @@ fn verdict_on<S: PlanStore>(
     ceiling: u32,
 ) -> Result<Verdict, StoreFault>
     requires moment_range { IsMoment moment }
-    ensures verdict { IfOk result (λ v. v ≡ put_verdict (own (S.content store.old) operator.now)
+    ensures verdict { IfOk result (λ v. v ≡ put_outcome (own (S.content store.old) operator.now)
         (held (S.content store.old) operator.now) ceiling moment put.now) }
     ensures same { S.content store.new ≡ S.content store.old }
 {

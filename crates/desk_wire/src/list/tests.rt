@@ -126,7 +126,7 @@ fn answer_after_first(alloc: Global, ask: Ask) -> Result<Vec<u8>, Fail> {
 }
 
 /// The answer to one request.
-fn answer_to(alloc: Global, text: &[u8]) -> Result<Vec<u8>, Fail> {
+fn told_to(alloc: Global, text: &[u8]) -> Result<Vec<u8>, Fail> {
     let text = Vec::from_slice(alloc, text)?;
     last_answer(alloc, &[(MOMENT, text)])
 }
@@ -134,7 +134,7 @@ fn answer_to(alloc: Global, text: &[u8]) -> Result<Vec<u8>, Fail> {
 /// The answer to `alfa`'s request with a body.
 fn answer_to_body(alloc: Global, body: &str) -> Result<Vec<u8>, Fail> {
     let text = put_of(alloc, "alfa", ID, body)?;
-    answer_to(alloc, &text)
+    told_to(alloc, &text)
 }
 
 #[test]
@@ -290,17 +290,17 @@ fn refused_heads(rt: HostRuntime) -> Result<(), Fail> {
     let alloc = rt.alloc();
     let long = vec![in alloc; b'a'; 16_384]?;
     let large = refusal_of(alloc, "413 Payload Too Large", "too_large")?;
-    assert_eq!(rt; answer_to(alloc, &long)?.as_slice(), large.as_bytes());
+    assert_eq!(rt; told_to(alloc, &long)?.as_slice(), large.as_bytes());
     let coded = b"PUT /x HTTP/1.1\r\ntransfer-encoding: chunked\r\n\r\n".as_slice();
     let refused = refusal_of(alloc, "501 Not Implemented", "transfer_encoding")?;
-    assert_eq!(rt; answer_to(alloc, coded)?.as_slice(), refused.as_bytes());
+    assert_eq!(rt; told_to(alloc, coded)?.as_slice(), refused.as_bytes());
     let heavy = b"PUT /x HTTP/1.1\r\ncontent-length: 131073\r\n\r\n".as_slice();
-    assert_eq!(rt; answer_to(alloc, heavy)?.as_slice(), large.as_bytes());
+    assert_eq!(rt; told_to(alloc, heavy)?.as_slice(), large.as_bytes());
     let bad_head = refusal_of(alloc, "400 Bad Request", "bad_head")?;
     let broken = b"PUT /x HTTP/1.1\r\nhost\r\n\r\n".as_slice();
-    assert_eq!(rt; answer_to(alloc, broken)?.as_slice(), bad_head.as_bytes());
+    assert_eq!(rt; told_to(alloc, broken)?.as_slice(), bad_head.as_bytes());
     let twice = b"PUT /x HTTP/1.1\r\ncontent-length: 0\r\ncontent-length: 0\r\n\r\n".as_slice();
-    assert_eq!(rt; answer_to(alloc, twice)?.as_slice(), bad_head.as_bytes());
+    assert_eq!(rt; told_to(alloc, twice)?.as_slice(), bad_head.as_bytes());
     Ok(())
 }
 
@@ -309,24 +309,18 @@ fn refused_addresses(rt: HostRuntime) -> Result<(), Fail> {
     let alloc = rt.alloc();
     let no_route = refusal_of(alloc, "404 Not Found", "no_route")?;
     let elsewhere = b"PUT /plans HTTP/1.1\r\nx-operator: alfa\r\n\r\n".as_slice();
-    assert_eq!(rt;
-        answer_to(alloc, elsewhere)?.as_slice(),
-        no_route.as_bytes()
-    );
+    assert_eq!(rt; told_to(alloc, elsewhere)?.as_slice(), no_route.as_bytes());
     let other = b"DELETE /flight_plans/x HTTP/1.1\r\nx-operator: alfa\r\n\r\n".as_slice();
-    assert_eq!(rt; answer_to(alloc, other)?.as_slice(), no_route.as_bytes());
+    assert_eq!(rt; told_to(alloc, other)?.as_slice(), no_route.as_bytes());
     let bad_operator = refusal_of(alloc, "400 Bad Request", "bad_operator")?;
     let nobody = put_of(alloc, "Alfa", ID, "")?;
     assert_eq!(rt;
-        answer_to(alloc, &nobody)?.as_slice(),
+        told_to(alloc, &nobody)?.as_slice(),
         bad_operator.as_bytes()
     );
     let bad_plan_id = refusal_of(alloc, "400 Bad Request", "bad_plan_id")?;
     let short = put_of(alloc, "alfa", "x", "")?;
-    assert_eq!(rt;
-        answer_to(alloc, &short)?.as_slice(),
-        bad_plan_id.as_bytes()
-    );
+    assert_eq!(rt; told_to(alloc, &short)?.as_slice(), bad_plan_id.as_bytes());
     Ok(())
 }
 
@@ -356,7 +350,7 @@ fn refused_bodies(rt: HostRuntime) -> Result<(), Fail> {
     let unknown = refusal_of(alloc, "403 Forbidden", "unknown_operator")?;
     let body = body_of(alloc, FIRST)?;
     let carol = put_of(alloc, "carol", ID, body.as_str())?;
-    assert_eq!(rt; answer_to(alloc, &carol)?.as_slice(), unknown.as_bytes());
+    assert_eq!(rt; told_to(alloc, &carol)?.as_slice(), unknown.as_bytes());
     Ok(())
 }
 

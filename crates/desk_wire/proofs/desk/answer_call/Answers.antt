@@ -1,7 +1,7 @@
 use Rattle.std.proofs.Common.{Err, ◌∙◌, ap, subst, w64}
 use Rattle.std.proofs.lemmas.Int.{to_z-of_z}
 use Rattle.std.proofs.lemmas.Result.{IfOk-weaker, on_ok_weaker}
-use Rattle.desk_run.specs.Calls.{IsPending, Prepares, committed}
+use Rattle.desk_run.specs.Calls.{IsPending, Prepares, world_committed}
 use Rattle.desk_run.specs.Verdicts.{unknown_operator, no_such_plan}
 use Rattle.desk_wire.specs.Bytes.{text}
 use Rattle.desk_wire.proofs.BytesLemmas.{done_if_ok, done_unanswered}
@@ -12,7 +12,7 @@ returns-in-Ok-clause-bytes g c =
     done_if_ok (λ v. v.items) c.answer_pending.result c.args.desk.now c.answer_pending.new.desk c.args.moment c.args.asked.now c.in-Ok.pending
     (subst (λ m. IsPending c.args.desk.now m c.args.asked.now c.in-Ok.pending) (to_z-of_z w64 c.args.moment c.ranges.moment) c.in-Ok.ensures.value)
     c.answer_pending.ensures.bytes
-    (on_ok_weaker c.answer_pending.result (λ e. e ∙ ap (λ w. committed w c.in-Ok.pending) c.prepare.ensures.same) c.answer_pending.ensures.ok)
+    (on_ok_weaker c.answer_pending.result (λ e. e ∙ ap (λ w. world_committed w c.in-Ok.pending) c.prepare.ensures.same) c.answer_pending.ensures.ok)
 
 pub returns-in-Err-UnknownOperator-clause-bytes : goal.returns-in-Err-UnknownOperator-clause-bytes
 unfolding text

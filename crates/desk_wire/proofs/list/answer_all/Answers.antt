@@ -1,4 +1,4 @@
-use Rattle.std.proofs.Common.{◌≤◌, ◌+◌, ◌++◌, ◌∷◌, [], map, sym, subst, length}
+use Rattle.std.proofs.Common.{◌≤◌, ◌+◌, map, sym, subst, length}
 use Rattle.desk_run.specs.MomentLaws.{moment_at, is_moment_at, same_moment}
 use Rattle.desk_wire.specs.AllAnswers.{AreBroken}
 use Rattle.desk_wire.proofs.AllLemmas.{HaveAnswers, one_answered, cut_answered, broken_answered, all_answered, done_so, given_so}

@@ -1,5 +1,6 @@
 use Rattle.std.proofs.Common.{◌≤◌, ◌∙◌, IfSome, ap, sym, subst}
-use Rattle.desk_store.specs.World.{ceiling_of, max_priority}
+use Rattle.desk_store.specs.World.{ceiling_of}
+use Rattle.desk_rules.specs.Limits.{max_priority}
 use Rattle.desk_store.specs.Listing.{world_of}
 use Rattle.desk_store.proofs.RoomLemmas.{ceiling_within}
 use Rattle.desk_store.proofs.StoreLemmas.{ceiling_found}

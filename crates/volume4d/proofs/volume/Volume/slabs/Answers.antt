@@ -3,7 +3,7 @@ use Rattle.std.specs.Prelude.{All}
 use Rattle.std.proofs.lemmas.Bool.{and_parts}
 use Rattle.std.proofs.lemmas.Result.{IfOk-weaker}
 use Rattle.s2_cover.specs.Runs.{IsSpan, IsRanges}
-use Rattle.volume4d.specs.Extent.{is_extent}
+use Rattle.volume4d.specs.Windows.{is_window}
 use Rattle.volume4d.specs.Shape.{shape_positions, is_footprint}
 use Rattle.volume4d.specs.Footprint.{shape_of}
 use Rattle.volume4d.specs.Volume.{Block}
@@ -28,7 +28,7 @@ pub returns-clause-filled : goal.returns-clause-filled
 returns-clause-filled c =
     let footprint = shape_of c.self.inside.footprint in
     let window = c.self.inside.window in
-    let limits = and_parts (is_footprint footprint) (is_extent window) c.self.invariant in
+    let limits = and_parts (is_footprint footprint) (is_window window) c.self.invariant in
     let shown = sym c.spans.ensures.value in
     let some = subst (λ spans. 0 < length spans) shown (c.in_ok-ranges.ensures.some limits.0) in
     let each = subst (All IsSpan) shown c.spans.ensures.ranges.each in

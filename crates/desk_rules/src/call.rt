@@ -1,8 +1,8 @@
 //! What is asked of a desk.
 
-use desk_rules::operator::Operator;
-use desk_rules::plan::PutCall;
-use desk_rules::plan_id::PlanId;
+use crate::operator::Operator;
+use crate::plan::PutCall;
+use crate::plan_id::PlanId;
 
 /// What is asked of the desk.
 #[derive(Debug, Drop)]

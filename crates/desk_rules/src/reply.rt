@@ -1,6 +1,6 @@
 //! What a desk replies.
 
-use desk_rules::words::{Note, PlanResult, PlanStatus};
+use crate::words::{Note, PlanResult, PlanStatus};
 use volume4d::Meeting;
 
 /// What the desk replies.
