@@ -1,0 +1,89 @@
+//! Requests for plans that are far apart: each takes pseudo-random cells of level 16, all in one hour and
+//! between the same altitudes.
+
+use anyhow::Context;
+use rand_core::{Rng, SeedableRng};
+use rand_pcg::Pcg64;
+use s2_cellid::CellId;
+use std::alloc::{AllocError, Global};
+
+/// How many plans an operator gets: as many as it may have.
+const PLANS_EACH: u32 = 200;
+
+/// How many of the last requests are sent again.
+const AGAIN: usize = 1_000;
+
+/// Requests, one for each plan.
+#[derive(Drop)]
+pub struct Requests {
+    texts: Vec<Vec<u8>>,
+    operators: u32,
+}
+
+impl Requests {
+    /// Requests for so many plans, each of so many cells.
+    pub fn make(alloc: Global, plans: u32, cells: u32) -> anyhow::Result<Requests> {
+        let mut generator = Pcg64::seed_from_u64(1);
+        let mut texts = Vec::new(alloc);
+        for plan in 0..plans {
+            let tokens = random_tokens(alloc, &mut generator, cells)?;
+            texts.push(request_for(alloc, plan, &tokens)?)?;
+        }
+        Ok(Requests {
+            texts,
+            operators: plans / PLANS_EACH + 1,
+        })
+    }
+
+    /// The bytes of all requests.
+    pub fn texts(&self) -> &[Vec<u8>] {
+        &self.texts
+    }
+
+    /// Those of the last ones.
+    pub fn last_texts(&self) -> &[Vec<u8>] {
+        &self.texts[self.texts.len().saturating_sub(AGAIN)..]
+    }
+
+    /// How many operators send them.
+    pub fn operators(&self) -> u32 {
+        self.operators
+    }
+}
+
+/// The name of the operator of a number.
+pub fn operator_name(alloc: Global, number: u32) -> Result<String, AllocError> {
+    format!(in alloc; "op{number}")
+}
+
+// Tokens of random cells of level 16, in quotation marks with commas between.
+fn random_tokens(alloc: Global, generator: &mut Pcg64, cells: u32) -> anyhow::Result<String> {
+    let mut tokens = Vec::new(alloc);
+    for _ in 0..cells {
+        let bits = generator.next_u64();
+        let face = bits % 6;
+        let place = bits >> 32;
+        let cell = CellId::from_raw(face << 61 | place << 29 | 1 << 28).context("no cell")?;
+        tokens.push(format!(in alloc; "\"{}\"", cell.token())?)?;
+    }
+    Ok(tokens.join(alloc, ",")?)
+}
+
+// The bytes of the request for a plan.
+fn request_for(alloc: Global, plan: u32, tokens: &str) -> Result<Vec<u8>, AllocError> {
+    let operator = operator_name(alloc, plan / PLANS_EACH)?;
+    let body = format!(in alloc;
+        "{{\"execution_style\":\"IfAllowed\",\"flight_plan\":{{\
+        \"astm_f3548_21\":{{\"priority\":10}},\"basic_information\":{{\"area\":[{{\
+        \"time_end\":{{\"format\":\"RFC3339\",\"value\":\"2026-06-01T13:00:00Z\"}},\
+        \"time_start\":{{\"format\":\"RFC3339\",\"value\":\"2026-06-01T12:00:00Z\"}},\
+        \"volume\":{{\"altitude_lower\":0,\"altitude_upper\":1000,\"cells\":[{tokens}]}}}}],\
+        \"uas_state\":\"Nominal\",\"usage_state\":\"Planned\"}}}},\"request_id\":\"r1\"}}"
+    )?;
+    let length = body.len();
+    let text = format!(in alloc;
+        "PUT /flight_plans/00000000-0000-4000-8000-{plan:012} HTTP/1.1\r\nhost: desk\r\n\
+        x-operator: {operator}\r\ncontent-length: {length}\r\n\r\n{body}"
+    )?;
+    Ok(text.into_bytes())
+}

@@ -1,0 +1,105 @@
+//! How outcomes of calls and stored plans are printed.
+
+use desk_rules::plan::PlanRow;
+use desk_rules::reply::{PutReply, Reply};
+use desk_run::{Outcome, Ran};
+use std::fmt;
+use volume4d::{Footprint, Meeting};
+
+/// What a run of one call came to, as a line.
+#[derive(Clone, Copy)]
+pub struct ShownRun<'r>(pub &'r Ran);
+
+impl fmt::Display for ShownRun<'_> {
+    fn fmt<W: fmt::Write>(&self, f: &mut fmt::Formatter<W>) -> fmt::Result {
+        for outcome in self.0.outcomes.iter() {
+            match outcome {
+                Outcome::Reply(reply) => show_reply(f, reply)?,
+                Outcome::UnknownOperator => write!(f, "unknown operator")?,
+                Outcome::NoSuchPlan => write!(f, "no such plan")?,
+            }
+        }
+        match self.0.stopped {
+            Some(fault) => write!(f, "stopped: {fault:?}"),
+            None => Ok(()),
+        }
+    }
+}
+
+// A reply.
+fn show_reply<W: fmt::Write>(f: &mut fmt::Formatter<W>, reply: &Reply) -> fmt::Result {
+    match reply {
+        Reply::Ready => write!(f, "ready"),
+        Reply::Answered(put) => show_put(f, put),
+    }
+}
+
+// The reply to a request to plan or to close: result, status, note and conflict.
+fn show_put<W: fmt::Write>(f: &mut fmt::Formatter<W>, put: &PutReply) -> fmt::Result {
+    write!(f, "{:?} {:?}", put.result, put.status)?;
+    if let Some(note) = put.note {
+        write!(f, " {note:?}")?;
+    }
+    match &put.meeting {
+        Some(meeting) => show_meeting(f, meeting),
+        None => Ok(()),
+    }
+}
+
+// A meeting: its leaf by its S2 id, altitude, second and priority.
+fn show_meeting<W: fmt::Write>(f: &mut fmt::Formatter<W>, meeting: &Meeting) -> fmt::Result {
+    let leaf = meeting.pos.wrapping_mul(2).wrapping_add(1);
+    write!(
+        f,
+        " at {leaf:016x} {} {} priority {}",
+        meeting.altitude,
+        meeting.second,
+        meeting.priority
+    )
+}
+
+/// A stored plan, as a line.
+#[derive(Clone, Copy)]
+pub struct ShownPlan<'r>(pub &'r PlanRow);
+
+impl fmt::Display for ShownPlan<'_> {
+    fn fmt<W: fmt::Write>(&self, f: &mut fmt::Formatter<W>) -> fmt::Result {
+        let row = self.0;
+        write!(
+            f,
+            "{} {:?} {:?} priority {}",
+            row.id,
+            row.usage,
+            row.aircraft,
+            row.priority
+        )?;
+        for volume in row.area.volumes() {
+            let window = volume.window();
+            write!(
+                f,
+                " over {}..{} {}..{}",
+                window.lower(),
+                window.upper(),
+                window.start(),
+                window.end()
+            )?;
+            show_footprint(f, volume.footprint())?;
+        }
+        Ok(())
+    }
+}
+
+// The cells of a footprint, by their tokens.
+fn show_footprint<W: fmt::Write>(
+    f: &mut fmt::Formatter<W>,
+    footprint: &Footprint,
+) -> fmt::Result {
+    match footprint {
+        Footprint::Cells(cells) => {
+            for cell in cells.iter() {
+                write!(f, " {}", cell.token())?;
+            }
+            Ok(())
+        }
+    }
+}

@@ -1,0 +1,210 @@
+//! Where cases are played: a desk, its moment, and what their steps do.
+
+ghost use Rattle.desk_run.specs.Moments.{IsMoment};
+
+use crate::ask::Ask;
+use crate::shown::{ShownPlan, ShownRun};
+use crate::step::Step;
+use anyhow::{Context, bail};
+use desk_rules::call::{Asked, Call};
+use desk_rules::operator::Operator;
+use desk_rules::plan_id::PlanId;
+use desk_run::{Desk, Outcome};
+use desk_rules::reply::Reply;
+use desk_rules::words::PlanResult;
+use desk_store::{ListStore, PlanStore};
+use desk_wire::answer;
+use std::alloc::Global;
+use std::io::Write;
+
+/// The last moment, a Unix second.
+const LAST_MOMENT: i64 = 253_370_764_800;
+
+/// A Unix second in the range of moments.
+#[derive(Clone, Copy)]
+struct Moment {
+    second: i64,
+    ghost in_range: { IsMoment second },
+}
+
+impl Moment {
+    // The moment that a word is.
+    fn parse(word: &str) -> Option<Moment> {
+        let second: i64 = word.parse().ok()?;
+        if second < 0 {
+            return None;
+        }
+        if second > LAST_MOMENT {
+            return None;
+        }
+        Some(Moment { second })
+    }
+}
+
+/// A desk over a list, and its moment.
+#[derive(Drop)]
+pub struct Stage {
+    desk: Desk<ListStore>,
+    moment: Moment,
+    alloc: Global,
+}
+
+impl Stage {
+    /// An empty desk at the first moment.
+    pub fn new(alloc: Global) -> Stage {
+        Stage {
+            desk: Desk::new(ListStore::new(alloc)),
+            moment: Moment { second: 0 },
+            alloc,
+        }
+    }
+
+    /// Does what a step says, and prints what comes of it.
+    pub fn play<W: Write>(&mut self, step: &Step<'_>, output: &mut W) -> anyhow::Result<()> {
+        match step {
+            Step::Case(name) => writeln!(output, "case {name}")?,
+            Step::Desk(enrolments) => self.begin(enrolments)?,
+            Step::At(word) => self.moment = Moment::parse(word).context("no moment")?,
+            Step::Ask(ask) => self.send_ask(ask, output)?,
+            Step::Request {
+                method,
+                target,
+                operator,
+                body,
+            } => self.send_request(method, target, operator, body, output)?,
+            Step::Raw(text) => self.send_raw(text, output)?,
+            Step::Put(ask) => {
+                let asked = ask.call(self.alloc)?;
+                self.call(asked, output)?;
+            }
+            Step::Puts { count, ask } => self.put_many(count, ask, output)?,
+            Step::Delete { operator, id } => {
+                let id = PlanId::try_parse(id).context("no id")?;
+                self.call(asked_by(operator, Call::Delete(id))?, output)?;
+            }
+            Step::Status { operator } => self.call(asked_by(operator, Call::Status)?, output)?,
+            Step::Plans { operator } => self.show_plans(operator, output)?,
+        }
+        Ok(())
+    }
+
+    // A new desk with these enrolments, `NAME=CEILING ..`.
+    fn begin(&mut self, enrolments: &str) -> anyhow::Result<()> {
+        self.desk = Desk::new(ListStore::new(self.alloc));
+        for enrolment in enrolments.split_whitespace() {
+            let (name, ceiling) = enrolment.split_once('=').context("no enrolment")?;
+            let operator = Operator::try_new(name.as_bytes()).context("no name")?;
+            if self.desk.enrol(&operator, ceiling.parse()?).is_err() {
+                bail!("an enrolment was refused");
+            }
+        }
+        Ok(())
+    }
+
+    // Sends the bytes of a request, and prints the answer.
+    fn send<W: Write>(&mut self, text: &[u8], output: &mut W) -> anyhow::Result<()> {
+        let bytes = answer(self.alloc, &mut self.desk, self.moment.second, text)?;
+        output.write_all(&bytes)?;
+        writeln!(output)?;
+        Ok(())
+    }
+
+    fn send_ask<W: Write>(&mut self, ask: &Ask<'_>, output: &mut W) -> anyhow::Result<()> {
+        let body = ask.body(self.alloc)?;
+        let target = format!(in self.alloc; "/flight_plans/{}", ask.id)?;
+        self.send_request("PUT", &target, ask.operator, &body, output)
+    }
+
+    fn send_request<W: Write>(
+        &mut self,
+        method: &str,
+        target: &str,
+        operator: &str,
+        body: &str,
+        output: &mut W,
+    ) -> anyhow::Result<()> {
+        let length = body.len();
+        let text = if operator == "-" {
+            format!(in self.alloc;
+                "{method} {target} HTTP/1.1\r\nhost: desk\r\ncontent-length: {length}\r\n\r\n{body}"
+            )?
+        } else {
+            format!(in self.alloc;
+                "{method} {target} HTTP/1.1\r\nhost: desk\r\nx-operator: {operator}\r\n\
+                content-length: {length}\r\n\r\n{body}"
+            )?
+        };
+        self.send(text.as_bytes(), output)
+    }
+
+    fn send_raw<W: Write>(&mut self, text: &str, output: &mut W) -> anyhow::Result<()> {
+        let text = text.replace(self.alloc, "\\r", "\r")?;
+        let text = text.replace(self.alloc, "\\n", "\n")?;
+        self.send(text.as_bytes(), output)
+    }
+
+    // Makes a call, and prints its outcome.
+    fn call<W: Write>(&mut self, asked: Asked, output: &mut W) -> anyhow::Result<()> {
+        let calls = vec![in self.alloc; (self.moment.second, asked)]?;
+        let ran = self.desk.run(self.alloc, &calls)?;
+        writeln!(output, "{}", ShownRun(&ran))?;
+        Ok(())
+    }
+
+    // Makes many calls in one run, and prints how many of them are completed.
+    fn put_many<W: Write>(
+        &mut self,
+        count: &str,
+        ask: &Ask<'_>,
+        output: &mut W,
+    ) -> anyhow::Result<()> {
+        let count: u16 = count.parse()?;
+        let lower: i32 = ask.lower.parse()?;
+        let mut calls = Vec::new(self.alloc);
+        for number in 0..count {
+            let bottom = lower.saturating_add(10 * i32::from(number));
+            let id = format!(in self.alloc; "00000000-0000-4000-8000-{number:012}")?;
+            let bottom_word = format!(in self.alloc; "{bottom}")?;
+            let top_word = format!(in self.alloc; "{}", bottom.saturating_add(10))?;
+            let ask = Ask {
+                id: &id,
+                lower: &bottom_word,
+                upper: &top_word,
+                ..*ask
+            };
+            calls.push((self.moment.second, ask.call(self.alloc)?))?;
+        }
+        let ran = self.desk.run(self.alloc, &calls)?;
+        let completed = ran.outcomes.iter().filter(|outcome| is_completed(outcome)).count();
+        writeln!(output, "{completed} completed")?;
+        Ok(())
+    }
+
+    // Prints what the store holds of an operator.
+    fn show_plans<W: Write>(&mut self, operator: &str, output: &mut W) -> anyhow::Result<()> {
+        let operator = Operator::try_new(operator.as_bytes()).context("no name")?;
+        let empty = Desk::new(ListStore::new(self.alloc));
+        let mut store = std::mem::replace(&mut self.desk, empty).into_store();
+        let Ok(rows) = store.own_plans(&operator) else {
+            bail!("the plans can't be read");
+        };
+        self.desk = Desk::new(store);
+        writeln!(output, "{} plans", rows.len())?;
+        for row in rows.iter() {
+            writeln!(output, "{}", ShownPlan(row))?;
+        }
+        Ok(())
+    }
+}
+
+// A call of an operator.
+fn asked_by(operator: &str, call: Call) -> anyhow::Result<Asked> {
+    Ok(Asked {
+        operator: Operator::try_new(operator.as_bytes()).context("no name")?,
+        call,
+    })
+}
+
+fn is_completed(outcome: &Outcome) -> bool {
+    matches!(outcome, Outcome::Reply(Reply::Answered(put)) if put.result == PlanResult::Completed)
+}
