@@ -1,4 +1,5 @@
 pub mod TableFacts
+pub mod FourTables
 pub mod Places
 pub mod Positions
 pub mod Steps

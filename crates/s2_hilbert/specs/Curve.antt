@@ -1,15 +1,27 @@
 -- The Hilbert curve of the S2 geometry library over the leaves of the six faces, one level at a step.
 -- A square is parted into four quadrants. The quadrant `2 * x + y` lies in the half x of the square
 -- along i and in the half y along j, each 0 or 1. An orientation has a swap bit 1 and an invert bit 2.
--- The table of quadrants stands in src/quadrants.rt: the code reads the same data.
-use Rattle.std.specs.Prelude.{ℕ, zero, suc, ◌+◌, ◌-◌, ◌*◌, ◌/◌, ◌%◌, ◌^◌, ◌==◌, bit_xor, List, [], slice_index, slice_index_or}
+use Rattle.std.specs.Prelude.{ℕ, zero, suc, ◌+◌, ◌-◌, ◌*◌, ◌/◌, ◌%◌, ◌^◌, ◌==◌, bit_xor, List, [], ◌∷◌, slice_index, slice_index_or}
 use Rattle.std.specs.List.{position_or_len}
 use Rattle.s2_hilbert.specs.Grid.{GridLeaf, GridSquare}
-use Rattle.s2_hilbert.specs.declared.quadrants.TheConstants.{QUADRANTS, CHANGES}
+
+-- for each orientation, its four quadrants in curve order (kPosToIJ of S2, as s2coords.h and the page
+-- "S2 Cell Hierarchy" of its documentation have it)
+abbrev pub table_of_quadrants : List (List ℕ)
+table_of_quadrants =
+    (0 ∷ 1 ∷ 3 ∷ 2 ∷ [])
+    ∷ (0 ∷ 2 ∷ 3 ∷ 1 ∷ [])
+    ∷ (3 ∷ 2 ∷ 0 ∷ 1 ∷ [])
+    ∷ (3 ∷ 1 ∷ 0 ∷ 2 ∷ [])
+    ∷ []
+
+-- what changes in the orientation on going down to the quadrant at each place (kPosToOrientation)
+abbrev pub changes_of_turn : List ℕ
+changes_of_turn = 1 ∷ 0 ∷ 0 ∷ 3 ∷ []
 
 -- the quadrants in curve order, where the square has the orientation
 abbrev pub quadrants_of : ℕ → List ℕ
-quadrants_of turn = slice_index_or QUADRANTS turn []
+quadrants_of turn = slice_index_or table_of_quadrants turn []
 
 -- the quadrant at a place of the curve
 unfoldable pub quadrant_at : ℕ → ℕ → ℕ
@@ -21,7 +33,7 @@ place_of turn quadrant = position_or_len (λ q. q == quadrant) (quadrants_of tur
 
 -- the orientation of the quadrant at a place
 unfoldable pub turned : ℕ → ℕ → ℕ
-turned turn place = bit_xor turn (slice_index CHANGES place)
+turned turn place = bit_xor turn (slice_index changes_of_turn place)
 
 -- the quadrant of a point in a square of 2^(n+1) points along a side
 abbrev pub quadrant_of : ℕ → ℕ → ℕ → ℕ

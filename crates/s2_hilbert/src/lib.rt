@@ -6,6 +6,7 @@ pub mod laws;
 mod leaves;
 mod quadrants;
 mod squares;
+mod tables;
 mod walk;
 
 pub use leaves::{Leaf, leaf_at, position};

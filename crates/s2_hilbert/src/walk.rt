@@ -3,7 +3,7 @@
 ghost use Rattle.std.specs.Prelude.{◌≡◌, ◌*◌, ◌^◌, ◌<◌, ◌≤◌};
 ghost use Rattle.s2_hilbert.specs.Curve as curve;
 
-use crate::quadrants::{place_of, quadrant_at, turned};
+use crate::quadrants::{quadrant_at, step_to, turned};
 
 /// The level of a leaf.
 pub const LEAF_LEVEL: u8 = 30;
@@ -22,9 +22,9 @@ pub fn place_of_point(levels: u8, turn: u8, i: u32, j: u32) -> u64
     let mut place = 0;
     for step in 0..levels {
         let bit = levels - 1 - step;
-        let next = place_of(at, quadrant_of(bit, i, j));
-        place = 4 * place + u64::from(next);
-        at = turned(at, next);
+        let next = step_to(at, quadrant_of(bit, i, j));
+        place = 4 * place + u64::from(next.place);
+        at = next.turn;
     }
     place
 }
@@ -51,8 +51,8 @@ pub fn point_at(turn: u8, along: u64) -> (u32, u32)
     (i, j)
 }
 
-// The quadrant that a bit of each coordinate names.
-fn quadrant_of(bit: u8, i: u32, j: u32) -> u8
+/// The quadrant that a bit of each coordinate names.
+pub fn quadrant_of(bit: u8, i: u32, j: u32) -> u8
     requires { bit < 30 }
     ensures value { result ≡ curve.quadrant_of bit i j }
     ensures below { result < 4 }
