@@ -2,6 +2,7 @@
 //! positions, and the squares in the order of the curve.
 #![tactic(auto)]
 
+mod fours;
 pub mod laws;
 mod leaves;
 mod quadrants;

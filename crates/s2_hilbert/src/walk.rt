@@ -3,7 +3,7 @@
 ghost use Rattle.std.specs.Prelude.{◌≡◌, ◌*◌, ◌^◌, ◌<◌, ◌≤◌};
 ghost use Rattle.s2_hilbert.specs.Curve as curve;
 
-use crate::quadrants::{quadrant_at, step_to, turned};
+use crate::quadrants::step_to;
 
 /// The level of a leaf.
 pub const LEAF_LEVEL: u8 = 30;
@@ -27,28 +27,6 @@ pub fn place_of_point(levels: u8, turn: u8, i: u32, j: u32) -> u64
         at = next.turn;
     }
     place
-}
-
-/// The point at a place along the curve through a face.
-pub fn point_at(turn: u8, along: u64) -> (u32, u32)
-    requires turn { turn < 4 }
-    requires along { along < 4 ^ 30 }
-    ensures undone { curve.place 30 turn result.0 result.1 ≡ along }
-    ensures i_below { result.0 < 2 ^ 30 }
-    ensures j_below { result.1 < 2 ^ 30 }
-{
-    let mut at = turn;
-    let mut i = 0;
-    let mut j = 0;
-    for step in 0..LEAF_LEVEL {
-        let bits = 2 * (LEAF_LEVEL - 1 - step);
-        let next = (along >> bits & 3) as u8;
-        let quadrant = quadrant_at(at, next);
-        i = 2 * i + u32::from(quadrant / 2);
-        j = 2 * j + u32::from(quadrant % 2);
-        at = turned(at, next);
-    }
-    (i, j)
 }
 
 /// The quadrant that a bit of each coordinate names.
