@@ -13,16 +13,14 @@ HEAD = """//! What four levels of the curve give, for each orientation, at each 
 ghost use Rattle.std.specs.Prelude.{◌≡◌, ◌*◌, ◌/◌, ◌%◌, ◌<◌};
 ghost use Rattle.s2_hilbert.specs.Curve as curve;
 
-/// Four levels down to a point: its place, and 256 times the orientation there, which is where the
-/// table of the next four levels begins.
-#[derive(Clone, Copy)]
+/// Four levels down to a point: its place, and 256 times the orientation there, where the part of the
+/// table for the next four levels begins.
 pub struct FourPlaces {
     pub place: u8,
     pub row: u16,
 }
 
 /// Four levels down to a place: the coordinates of its point, and 256 times the orientation there.
-#[derive(Clone, Copy)]
 pub struct FourPoints {
     pub i: u8,
     pub j: u8,
@@ -30,25 +28,25 @@ pub struct FourPoints {
 }
 
 /// The place of a point, by the key `turn * 256 + i * 16 + j`.
-#[tactic(auto, using(crate::proofs::FourTables::place_entry))]
-pub fn place_of_four(key: u16) -> FourPlaces
+pub fn place_of_four(key: usize) -> &'static FourPlaces
     requires { key < 1024 }
-    ensures place { result.place ≡ curve.place 4 (key / 256) (key / 16 % 16) (key % 16) }
-    ensures row { result.row ≡ 256 * curve.turn_at 4 (key / 256) (key / 16 % 16) (key % 16) }
+    ensures place { result.now.place ≡ curve.place 4 (key / 256) (key / 16 % 16) (key % 16) }
+    ensures row { result.now.row
+        ≡ 256 * curve.turn_at 4 (key / 256) (key / 16 % 16) (key % 16) }
+    ensures below { result.now.place < 256 }
 {
-    PLACES[key as usize]
+    &PLACES[key]
 }
 
 /// The point at a place, by the key `turn * 256 + place`.
-#[tactic(auto, using(crate::proofs::FourTables::point_entry))]
-pub fn point_of_four(key: u16) -> FourPoints
+pub fn point_of_four(key: usize) -> &'static FourPoints
     requires { key < 1024 }
-    ensures place { curve.place 4 (key / 256) result.i result.j ≡ key % 256 }
-    ensures row { result.row ≡ 256 * curve.turn_at 4 (key / 256) result.i result.j }
-    ensures i { result.i < 16 }
-    ensures j { result.j < 16 }
+    ensures place { curve.place 4 (key / 256) result.now.i result.now.j ≡ key % 256 }
+    ensures row { result.now.row ≡ 256 * curve.turn_at 4 (key / 256) result.now.i result.now.j }
+    ensures i { result.now.i < 16 }
+    ensures j { result.now.j < 16 }
 {
-    POINTS[key as usize]
+    &POINTS[key]
 }
 """
 

@@ -42,8 +42,11 @@ pub even_digits_at : (i j byte : ℕ) → byte < 4
     → (16 * bit_and i even_mask + bit_and j even_mask) / 2 ^ (8 * byte) % 256
     ≡ 16 * (i / 2 ^ (8 * byte) % 16) + j / 2 ^ (8 * byte) % 16
 even_digits_at i j byte below =
-    rw (paired (bit_and i even_mask) (bit_and j even_mask) byte (has_digits i) (has_digits j) below,
-    masked_byte i byte below, masked_byte j byte below) refl
+    rw (
+      paired (bit_and i even_mask) (bit_and j even_mask) byte (has_digits i) (has_digits j) below,
+      masked_byte i byte below,
+      masked_byte j byte below,
+    ) refl
 
 -- the pairs of digits of two numbers, in the bytes of a third
 abbrev pub HasPairs : ℕ → ℕ → ℕ → Type 0

@@ -27,7 +27,7 @@ fits_at fits first key (suc n) (entry ∷ entries) default sum all below =
 unfoldable place_fits : ℕ → FourPlaces → Bool
 place_fits key entry =
     entry.place == place 4 (key / 256) (key / 16 % 16) (key % 16)
-    && entry.row == 256 * turn_at 4 (key / 256) (key / 16 % 16) (key % 16)
+    && (entry.row == 256 * turn_at 4 (key / 256) (key / 16 % 16) (key % 16) && nat_lt entry.place 256)
 
 unfoldable point_fits : ℕ → FourPoints → Bool
 point_fits key entry =
@@ -46,12 +46,14 @@ all_points_fit = refl
 pub record IsPlaceEntry (key : ℕ) (entry : FourPlaces) : Type 0 where
   pub place_is : entry.place ≡ place 4 (key / 256) (key / 16 % 16) (key % 16)
   pub row_is : entry.row ≡ 256 * turn_at 4 (key / 256) (key / 16 % 16) (key % 16)
+  pub below : entry.place < 256
 
 is_place_entry : (key : ℕ) (entry : FourPlaces) → IsTrue (place_fits key entry) → IsPlaceEntry key entry
 unfolding place_fits
 is_place_entry key entry fits = record {
   place_is = grind (arith, nat_tests);
   row_is = grind (arith, nat_tests);
+  below = grind (arith, nat_tests);
 }
 
 pub place_entry : (key : ℕ) (default : FourPlaces) → key < 1024 → IsPlaceEntry key (slice_index_or PLACES key default)

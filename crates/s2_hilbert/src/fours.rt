@@ -23,11 +23,11 @@ pub fn place_on_face(turn: u8, i: u32, j: u32) -> u64
     let second = step_to(first.turn, quadrant_of(28, i, j));
     let digits = paired_digits(i, j);
     let mut place = u64::from(4 * first.place + second.place);
-    let mut row = 256 * u16::from(second.turn);
+    let mut row = 256 * usize::from(second.turn);
     for step in 0..FOURS {
         let four = place_of_four(row + pair_at(digits, FOURS - 1 - step));
         place = 256 * place + u64::from(four.place);
-        row = four.row;
+        row = usize::from(four.row);
     }
     place
 }
@@ -47,13 +47,13 @@ pub fn point_on_face(turn: u8, along: u64) -> (u32, u32)
     let inner = quadrant_at(half, second);
     let mut i = u32::from(2 * (outer / 2) + inner / 2);
     let mut j = u32::from(2 * (outer % 2) + inner % 2);
-    let mut row = 256 * u16::from(turned(half, second));
+    let mut row = 256 * usize::from(turned(half, second));
     for step in 0..FOURS {
-        let place = (along >> (8 * (FOURS - 1 - step)) & 255) as u16;
+        let place = (along >> (8 * (FOURS - 1 - step)) & 255) as usize;
         let four = point_of_four(row + place);
         i = 16 * i + u32::from(four.i);
         j = 16 * j + u32::from(four.j);
-        row = four.row;
+        row = usize::from(four.row);
     }
     (i, j)
 }
@@ -77,10 +77,10 @@ fn even_digits(i: u32, j: u32) -> u32
 }
 
 // The pair of hex digits at a place.
-fn pair_at(digits: [u32; 2], digit: u8) -> u16
+fn pair_at(digits: [u32; 2], digit: u8) -> usize
     requires { digit < 8 }
     ensures value { result ≡ slice_index digits (digit % 2) / 2 ^ (8 * (digit / 2)) % 256 }
     ensures below { result < 256 }
 {
-    (digits[usize::from(digit % 2)] >> (8 * (digit / 2)) & 255) as u16
+    (digits[usize::from(digit % 2)] >> (8 * (digit / 2)) & 255) as usize
 }

@@ -10,7 +10,6 @@ const QUADRANTS: [[u8; 4]; 4] = [[0, 1, 3, 2], [0, 2, 3, 1], [3, 2, 0, 1], [3, 1
 const CHANGES: [u8; 4] = [1, 0, 0, 3];
 
 /// One level down to a quadrant: its place along the curve, and the orientation in it.
-#[derive(Clone, Copy)]
 pub struct Step {
     pub place: u8,
     pub turn: u8,
@@ -63,15 +62,15 @@ pub fn quadrant_at(turn: u8, place: u8) -> u8
 
 /// The step down to a quadrant.
 #[tactic(auto, unfolding(crate::specs::Curve::place_of, crate::specs::Curve::turned))]
-pub fn step_to(turn: u8, quadrant: u8) -> Step
+pub fn step_to(turn: u8, quadrant: u8) -> &'static Step
     requires turn { turn < 4 }
     requires quadrant { quadrant < 4 }
-    ensures place { result.place ≡ curve.place_of turn quadrant }
-    ensures turn { result.turn ≡ curve.turned turn result.place }
-    ensures place_below { result.place < 4 }
-    ensures turn_below { result.turn < 4 }
+    ensures place { result.now.place ≡ curve.place_of turn quadrant }
+    ensures turn { result.now.turn ≡ curve.turned turn result.now.place }
+    ensures place_below { result.now.place < 4 }
+    ensures turn_below { result.now.turn < 4 }
 {
-    STEPS[turn as usize][quadrant as usize]
+    &STEPS[turn as usize][quadrant as usize]
 }
 
 /// The orientation of the quadrant at a place.

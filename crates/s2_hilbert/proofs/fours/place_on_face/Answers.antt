@@ -5,8 +5,8 @@ use Rattle.s2_hilbert.proofs.fours.place_on_face.Goals as goal
 
 pub loop-step-init : goal.loop-step-init
 loop-step-init c =
-    let first = c.step_to-first.result in
-    let second = c.step_to-second.result in
+    let first = c.step_to-first.result.now in
+    let second = c.step_to-second.result.now in
     let first_is = c.step_to-first.ensures.place ∙ ap (λ q. place_of c.args.turn q) c.quadrant_of.ensures.value in
     let second_is = c.step_to-second.ensures.place ∙ ap (λ q. place_of first.turn q) c.quadrant_of-2.ensures.value in
     rw (c.from-place.ensures, c.from-row.ensures)
@@ -34,7 +34,7 @@ loop-step-preserved c =
     let digit = 7 - 1 - c.loop-step.step in
     let four = c.place_of_four-four in
     let pair_is = c.pair_at.ensures.value ∙ c.paired_digits-digits.ensures digit (omega arith) in
-    rw c.from.ensures
+    rw (c.from.ensures, c.from-row-in-loop-step.ensures)
     (fours_go_on c.args.turn c.args.i c.args.j c.loop-step.step c.loop-step.row c.loop-step.place digit
-    c.pair_at.result four.result.place four.result.row (omega arith) pair_is c.pair_at.ensures.below
+    c.pair_at.result four.result.now.place four.result.now.row (omega arith) pair_is c.pair_at.ensures.below
     four.ensures.place four.ensures.row c.loop-step.invariant)

@@ -50,7 +50,7 @@ loop-step-preserved c =
     let low = 7 - 1 - c.loop-step.step in
     let four = c.point_of_four-four in
     let pair = bit_and (c.args.along / 2 ^ (8 * low)) 255 in
-    rw (c.from.ensures, c.from-in-loop-step.ensures)
+    rw (c.from.ensures, c.from-in-loop-step.ensures, c.from-row-in-loop-step.ensures)
     (found_go_on c.args.turn c.args.along c.loop-step.step c.loop-step.row c.loop-step.i c.loop-step.j low pair
-    four.result.i four.result.j four.result.row (omega arith) (byte_is c.args.along low) four.ensures.place
+    four.result.now.i four.result.now.j four.result.now.row (omega arith) (byte_is c.args.along low) four.ensures.place
     four.ensures.i four.ensures.j four.ensures.row c.loop-step.invariant)
