@@ -22,7 +22,7 @@ pub fn place_on_face(turn: u8, i: u32, j: u32) -> u64
     let first = step_to(turn, quadrant_of(29, i, j));
     let second = step_to(first.turn, quadrant_of(28, i, j));
     let digits = paired_digits(i, j);
-    let mut place = u64::from(4 * first.place + second.place);
+    let mut place = 4 * u64::from(first.place) + u64::from(second.place);
     let mut row = 256 * usize::from(second.turn);
     for step in 0..FOURS {
         let four = place_of_four(row + pair_at(digits, FOURS - 1 - step));
@@ -45,8 +45,8 @@ pub fn point_on_face(turn: u8, along: u64) -> (u32, u32)
     let half = turned(turn, first);
     let outer = quadrant_at(turn, first);
     let inner = quadrant_at(half, second);
-    let mut i = u32::from(2 * (outer / 2) + inner / 2);
-    let mut j = u32::from(2 * (outer % 2) + inner % 2);
+    let mut i = 2 * u32::from(outer / 2) + u32::from(inner / 2);
+    let mut j = 2 * u32::from(outer % 2) + u32::from(inner % 2);
     let mut row = 256 * usize::from(turned(half, second));
     for step in 0..FOURS {
         let place = (along >> (8 * (FOURS - 1 - step)) & 255) as usize;
