@@ -52,9 +52,9 @@ impl CellId {
             IsTrue (cell_has_leaf result leaf) ↔ ShareSquare level inner leaf }
     {
         let lowest_bit = lowest_bit_for(level);
-        let unit = 2 * lowest_bit;
+        let above = !(2 * lowest_bit - 1);
         CellId {
-            id: self.id / unit * unit + lowest_bit,
+            id: (self.id & above) + lowest_bit,
         }
     }
 

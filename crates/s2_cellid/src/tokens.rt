@@ -78,7 +78,7 @@ impl Token {
     pub fn as_str(&self) -> &str
         ensures { result.now ≡ self.now }
     {
-        str::from_utf8(&self.digits[..self.printed]).unwrap()
+        unsafe { str::from_utf8_unchecked(&self.digits[..self.printed]) }
     }
 }
 
@@ -107,9 +107,11 @@ impl CellId {
         ensures only { (text : List ℕ) → IsSpelling text self.now → IsPrinted text → text ≡ result }
         ensures read_back { read_token result ≡ Ok self.now }
     {
-        let digits = hex_digits(self.raw());
-        let printed = stripped_length(&digits);
-        Token { digits, printed }
+        let id = self.raw();
+        Token {
+            digits: hex_digits(id),
+            printed: printed_length(id),
+        }
     }
 
     /// The cell of a token: 1 to 16 hex digits of either case, filled up with zeros on the right.
@@ -156,15 +158,12 @@ fn hex_digit(value: u64) -> u8
     }
 }
 
-// How many digits are left without the zeros at the end.
-fn stripped_length(digits: &[u8]) -> usize
-    ensures { result ≡ length digits.now - suffix_len is_zero digits.now }
+// How many digits of an id come before the zeros at their end.
+fn printed_length(id: u64) -> usize
+    requires { IsCellId id }
+    ensures { result ≡ length (hex_digits 16 id) - suffix_len is_zero (hex_digits 16 id) }
 {
-    let mut length = digits.len();
-    while length > 0 && digits[length - 1] == b'0' {
-        length -= 1;
-    }
-    length
+    DIGITS - (id.trailing_zeros() / 4) as usize
 }
 
 // The number that the hex digits write, filled up with zeros on the right to 16 digits.
