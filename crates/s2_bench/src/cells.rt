@@ -3,7 +3,7 @@
 ghost use Rattle.std.specs.Prelude.{◌≡◌, ◌*◌, ◌^◌, ◌<◌, ◌≤◌};
 ghost use Rattle.s2_cellid.specs.Cell.{level_of};
 
-use s2_cellid::{CellId, Token};
+use s2_cellid::CellId;
 use s2_hilbert::{Leaf, leaf_at};
 use std::alloc::{AllocError, Global};
 
@@ -32,7 +32,7 @@ pub struct Inputs {
     /// Cells of all levels, one round each of those leaves.
     pub cells: Vec<CellId>,
     /// The tokens of those cells.
-    pub tokens: Vec<Token>,
+    pub tokens: Vec<String>,
     /// Cells of the levels 22 to 26 that lie close to one another, many of them in others.
     pub close: Vec<CellId>,
 }
@@ -75,7 +75,7 @@ pub fn random_inputs(alloc: Global, count: u32) -> Result<Inputs, AllocError> {
         inputs.places.push(place)?;
         inputs.leaves.push(leaf)?;
         inputs.cells.push(cell)?;
-        inputs.tokens.push(cell.token())?;
+        inputs.tokens.push(format!(in alloc; "{cell}")?)?;
     }
     push_close(&mut numbers, &mut inputs)?;
     Ok(inputs)

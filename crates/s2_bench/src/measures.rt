@@ -71,7 +71,7 @@ fn sum_of_leaves(inputs: &Inputs) -> u64 {
 fn sum_of_read_tokens(inputs: &Inputs) -> u64 {
     let mut sum: u64 = 0;
     for token in &inputs.tokens {
-        if let Ok(cell) = CellId::from_token(token.as_str().as_bytes()) {
+        if let Ok(cell) = CellId::from_token(token.as_bytes()) {
             sum = sum.wrapping_add(cell.raw());
         }
     }

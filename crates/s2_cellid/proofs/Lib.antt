@@ -1,4 +1,5 @@
 pub mod Blocks
 pub mod Spellings
+pub mod HexValues
 pub mod Readings
 pub mod CellSquares
