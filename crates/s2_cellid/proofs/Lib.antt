@@ -1,5 +1,3 @@
-pub mod Blocks
 pub mod Spellings
 pub mod HexValues
 pub mod Readings
-pub mod CellSquares

@@ -5,7 +5,7 @@ use Rattle.std.proofs.Math.Nat.{pow-le-pow_right}
 use Rattle.std.proofs.lemmas.Nat.{pow_pos, pow-add}
 use Rattle.std.proofs.lemmas.Bool.{cases_lt}
 use Rattle.s2_cellid.specs.Cell.{lowest_place, lowest_bit, IsCellId, first_leaf, last_leaf, leaf_id_at}
-use Rattle.s2_cellid.proofs.Blocks.{leaf_is_cell, leaf_has_itself, first_belongs, last_belongs}
+use Rattle.s2_cellid.specs.BlockLaws.{leaf_is_cell, leaf_has_itself, first_belongs, last_belongs}
 use Rattle.s2_cover.specs.Laying.{BeginsAt}
 use Rattle.s2_cover.proofs.Nesting.{has_leaves, place_of}
 

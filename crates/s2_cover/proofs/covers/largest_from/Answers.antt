@@ -1,6 +1,6 @@
 use Rattle.std.proofs.Common.{arith, subst, sym, refl}
 use Rattle.s2_cellid.specs.Cell.{IsCellId, leaf_id_at}
-use Rattle.s2_cellid.proofs.Blocks.{leaf_is_cell}
+use Rattle.s2_cellid.specs.BlockLaws.{leaf_is_cell}
 use Rattle.s2_cover.specs.Laying.{BeginsAt}
 use Rattle.s2_cover.proofs.Beginnings.{some_when, at_some, leaf_begins}
 use Rattle.s2_cover.proofs.covers.largest_from.Goals as goal
