@@ -47,10 +47,17 @@ struct Leaf {
 
 S2CellId LeafAt(uint64_t position) { return S2CellId(2 * position + 1); }
 
+// A cell, and a level of a cell above it or its own.
+struct Climb {
+  S2CellId cell;
+  int level;
+};
+
 struct Inputs {
   std::vector<S2CellId> places;
   std::vector<Leaf> leaves;
   std::vector<S2CellId> cells;
+  std::vector<Climb> climbs;
   std::vector<std::string> tokens;
   std::vector<S2CellId> close;
 
@@ -64,6 +71,7 @@ struct Inputs {
       places.push_back(place);
       leaves.push_back(leaf);
       cells.push_back(cell);
+      climbs.push_back({cell, static_cast<int>(numbers.Next() % (cell.level() + 1))});
       tokens.push_back(cell.ToToken());
     }
     uint64_t region = numbers.Place();
@@ -105,7 +113,7 @@ uint64_t SumOfTokens(const Inputs& inputs) {
 
 uint64_t SumOfParents(const Inputs& inputs) {
   uint64_t sum = 0;
-  for (const S2CellId cell : inputs.cells) sum += cell.parent(cell.level() / 2).id();
+  for (const Climb& climb : inputs.climbs) sum += climb.cell.parent(climb.level).id();
   return sum;
 }
 

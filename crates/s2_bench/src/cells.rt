@@ -22,6 +22,14 @@ pub struct Place {
     ghost below: { position < 6 * 2 ^ 60 },
 }
 
+/// A cell, and a level of a cell above it or its own.
+#[derive(Clone, Copy)]
+pub struct Climb {
+    pub cell: CellId,
+    pub level: u8,
+    ghost above: { level ≤ level_of cell },
+}
+
 /// What the calls are given, as many of each.
 #[derive(Drop)]
 pub struct Inputs {
@@ -31,6 +39,8 @@ pub struct Inputs {
     pub leaves: Vec<Leaf>,
     /// Cells of all levels, one round each of those leaves.
     pub cells: Vec<CellId>,
+    /// The same cells, each with a level.
+    pub climbs: Vec<Climb>,
     /// The tokens of those cells.
     pub tokens: Vec<String>,
     /// Cells of the levels 22 to 26 that lie close to one another, many of them in others.
@@ -65,6 +75,7 @@ pub fn random_inputs(alloc: Global, count: u32) -> Result<Inputs, AllocError> {
         places: Vec::new(alloc),
         leaves: Vec::new(alloc),
         cells: Vec::new(alloc),
+        climbs: Vec::new(alloc),
         tokens: Vec::new(alloc),
         close: Vec::new(alloc),
     };
@@ -75,10 +86,20 @@ pub fn random_inputs(alloc: Global, count: u32) -> Result<Inputs, AllocError> {
         inputs.places.push(place)?;
         inputs.leaves.push(leaf)?;
         inputs.cells.push(cell)?;
+        inputs.climbs.push(climb_from(cell, numbers.next()))?;
         inputs.tokens.push(format!(in alloc; "{cell}")?)?;
     }
     push_close(&mut numbers, &mut inputs)?;
     Ok(inputs)
+}
+
+// The cell with one of the levels down to its own.
+fn climb_from(cell: CellId, number: u64) -> Climb {
+    let levels = u64::from(cell.level()) + 1;
+    Climb {
+        cell,
+        level: (number % levels) as u8,
+    }
 }
 
 // Fills the list of close cells up to the length of the others.

@@ -89,8 +89,8 @@ fn sum_of_tokens(inputs: &Inputs) -> u64 {
 
 fn sum_of_parents(inputs: &Inputs) -> u64 {
     let mut sum: u64 = 0;
-    for cell in &inputs.cells {
-        sum = sum.wrapping_add(cell.parent(cell.level() / 2).raw());
+    for climb in &inputs.climbs {
+        sum = sum.wrapping_add(climb.cell.parent(climb.level).raw());
     }
     sum
 }

@@ -1,3 +1,4 @@
 pub mod Spellings
 pub mod HexValues
+pub mod LowestBits
 pub mod Readings

@@ -1,6 +1,6 @@
 //! Canonical covers.
 
-ghost use Rattle.std.specs.Prelude.{◌≡◌, ◌≢◌, ℕ, ◌+◌, ◌*◌, ◌^◌, ◌<◌, ◌≤◌, Bool, length};
+ghost use Rattle.std.specs.Prelude.{◌≡◌, ◌≢◌, ℕ, ◌+◌, ◌*◌, ◌^◌, ◌<◌, ◌≤◌, Bool, [], length};
 ghost use Rattle.std.specs.Prelude.{IfOk, OnOk, IfSome, IfNone};
 ghost use Rattle.s2_cover.specs.Leaves.{leaves_of};
 ghost use Rattle.s2_cover.specs.Canonical.{IsCanonical};
@@ -85,18 +85,20 @@ pub fn normalise(alloc: Global, cells: &[CellId]) -> Result<Cover, AllocError>
     let mut sorted = Vec::from_slice(alloc, cells)?;
     sorted.sort_unstable_by_key(|cell| cell.first());
     let ranges = Ranges::of_sorted(alloc, &sorted)?;
-    let cells = largest_cells(alloc, ranges.spans())?;
+    sorted.clear();
+    let cells = largest_cells(sorted, ranges.spans())?;
     Ok(Cover { cells, looked: 0 })
 }
 
-// The largest cells in the set of positions of the spans, ascending.
-fn largest_cells(alloc: Global, spans: &[Span]) -> Result<Vec<CellId>, AllocError>
+// The largest cells in the set of positions of the spans, ascending, in the room of an empty list.
+fn largest_cells(empty: Vec<CellId>, spans: &[Span]) -> Result<Vec<CellId>, AllocError>
     ghost set: { ℕ → Bool }
-    requires { IsRanges set spans.now }
+    requires empty { empty.items ≡ [] }
+    requires ranges { IsRanges set spans.now }
     ensures canonical { IfOk result (λ cells. IsCanonical set cells.items) }
     ensures leaves { IfOk result (λ cells. (p : ℕ) → leaves_of cells.items p ≡ set p) }
 {
-    let mut cells = Vec::new(alloc);
+    let mut cells = empty;
     for span in spans {
         push_cells(&mut cells, span)?;
     }
