@@ -1,12 +1,11 @@
 -- The first and last position of a square and of its children, and its spans.
-use Rattle.std.proofs.Common.{◌≡◌, ℕ, ◌+◌, ◌-◌, ◌*◌, ◌/◌, ◌%◌, ◌^◌, ◌<◌, ◌≤◌, refl, sym, ◌∙◌, ap, subst, arith}
+use Rattle.std.proofs.Common.{◌≡◌, ℕ, ◌+◌, ◌-◌, ◌*◌, ◌/◌, ◌%◌, ◌^◌, ◌<◌, ◌≤◌, refl, sym, ◌∙◌, ap, arith}
 use Rattle.std.specs.Prelude.{◌↔◌}
-use Rattle.std.specs.Int.{IsInRange}
-use Rattle.std.proofs.lemmas.Nat.{pow_pos, pow-add, mul-le, div-mul-add, div-add-mod', mod_below}
-use Rattle.s2_hilbert.specs.Grid.{GridLeaf, IsLeaf, side_of, GridSquare, IsSquare, IsWithin, ShareSquare, grid_square}
-use Rattle.s2_hilbert.specs.Curve.{quadrant_at, turned, place, turn_at, position_of, leaf_count, turn_of, first_position, last_position}
+use Rattle.std.proofs.lemmas.Nat.{pow_pos, pow-add, mul-le}
+use Rattle.s2_hilbert.specs.Grid.{GridLeaf, IsLeaf, side_of, GridSquare, IsSquare, IsWithin, grid_square}
+use Rattle.s2_hilbert.specs.Curve.{quadrant_at, turned, place, turn_at, position_of, leaf_count, turn_of, first_position}
 use Rattle.s2_hilbert.specs.QuadrantLaws.{is_place}
-use Rattle.s2_hilbert.specs.PlaceLaws.{place_below, turn_below, four_pow_pos}
+use Rattle.s2_hilbert.specs.PlaceLaws.{turn_below, four_pow_pos}
 use Rattle.s2_hilbert.specs.CurveLaws.{square_leaves}
 use Rattle.s2_hilbert.specs.SquareLaws.{quarter_count, quotient_range}
 use Rattle.s2_hilbert.proofs.Steps.{has_last, last_quadrant}
@@ -95,4 +94,3 @@ side_positive level = pow_pos (30 - level)
 
 pub face_square : (face : ℕ) → face < 6 → IsSquare (grid_square face 0 0 0)
 face_square face below = record { face_below = below; level_at_most = omega arith; a_below = omega arith; b_below = omega arith }
-

@@ -1,6 +1,6 @@
 -- The walks down the levels, one level at a step.
 use Rattle.std.proofs.Common.{◌≡◌, ℕ, ◌+◌, ◌-◌, ◌*◌, ◌/◌, ◌%◌, ◌^◌, ◌<◌, ◌≤◌, bit_and, refl, sym, ◌∙◌, arith}
-use Rattle.std.proofs.lemmas.Nat.{pow-add, mul-pow, shr-shr, and_mask}
+use Rattle.std.proofs.lemmas.Nat.{pow-add, shr-shr, and_mask}
 use Rattle.std.proofs.Math.Nat.{pow-le-pow_right}
 use Rattle.s2_hilbert.specs.Curve.{quadrant_at, place_of, turned, quadrant_of, place, turn_at}
 use Rattle.s2_hilbert.specs.QuadrantLaws.{is_place, is_quadrant}

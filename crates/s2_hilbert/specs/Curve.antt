@@ -3,7 +3,7 @@
 -- along i and in the half y along j, each 0 or 1. An orientation has a swap bit 1 and an invert bit 2.
 use Rattle.std.specs.Prelude.{ℕ, zero, suc, ◌+◌, ◌-◌, ◌*◌, ◌/◌, ◌%◌, ◌^◌, ◌==◌, bit_xor, List, [], ◌∷◌, slice_index, slice_index_or}
 use Rattle.std.specs.List.{position_or_len}
-use Rattle.s2_hilbert.specs.Grid.{GridLeaf, GridSquare}
+use Rattle.s2_hilbert.specs.Grid.{leaf_level, GridLeaf, GridSquare}
 
 -- for each orientation, its four quadrants in curve order (kPosToIJ of S2, as s2coords.h and the page
 -- "S2 Cell Hierarchy" of its documentation have it)
@@ -53,9 +53,13 @@ turn_at (suc n) turn i j =
     let p = place_of turn (quadrant_of n i j) in
     turn_at n (turned turn p) (i % 2 ^ n) (j % 2 ^ n)
 
+-- how many leaves a square of the level has
+abbrev pub leaf_count : ℕ → ℕ
+leaf_count level = 4 ^ (leaf_level - level)
+
 -- the position of a leaf among all leaves; a face begins with the orientation `face % 2`
 unfoldable pub position_of : GridLeaf → ℕ
-position_of leaf = leaf.face * 2 ^ 60 + place 30 (leaf.face % 2) leaf.i leaf.j
+position_of leaf = leaf.face * leaf_count 0 + place leaf_level (leaf.face % 2) leaf.i leaf.j
 
 -- the coordinates of the point at a place along the curve
 unfoldable pub i_at : ℕ → ℕ → ℕ → ℕ
@@ -73,13 +77,9 @@ j_at (suc n) turn along =
 -- the leaf at a position
 unfoldable pub grid_leaf_at : ℕ → GridLeaf
 grid_leaf_at position =
-    let face = position / 2 ^ 60 in
-    let along = position % 2 ^ 60 in
-    record { face = face; i = i_at 30 (face % 2) along; j = j_at 30 (face % 2) along }
-
--- how many leaves a square of the level has
-abbrev pub leaf_count : ℕ → ℕ
-leaf_count level = 4 ^ (30 - level)
+    let face = position / leaf_count 0 in
+    let along = position % leaf_count 0 in
+    record { face = face; i = i_at leaf_level (face % 2) along; j = j_at leaf_level (face % 2) along }
 
 -- the orientation of a square
 unfoldable pub turn_of : GridSquare → ℕ
@@ -88,7 +88,7 @@ turn_of square = turn_at square.level (square.face % 2) square.a square.b
 -- the position of a square's first leaf: the squares of a level, too, stand in the order of the curve
 unfoldable pub first_position : GridSquare → ℕ
 first_position square =
-    square.face * 2 ^ 60
+    square.face * leaf_count 0
     + place square.level (square.face % 2) square.a square.b * leaf_count square.level
 
 -- the position of a square's last leaf

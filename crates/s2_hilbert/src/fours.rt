@@ -1,13 +1,14 @@
 //! The curve through a face: the two highest levels one at a step, and the others four at a step.
 
 ghost use Rattle.std.specs.Prelude.{◌≡◌, ℕ, ◌+◌, ◌*◌, ◌/◌, ◌%◌, ◌^◌, ◌<◌, slice_index};
+ghost use Rattle.s2_hilbert.specs.Grid as grid;
 ghost use Rattle.s2_hilbert.specs.Curve as curve;
 
 use crate::quadrants::{quadrant_at, step_to, turned};
 use crate::tables::{place_of_four, point_of_four};
-use crate::walk::quadrant_of;
+use crate::walk::{LEAF_LEVEL, quadrant_of};
 
-// How many steps of four levels there are.
+// How many steps of four levels there are below the two highest levels.
 const FOURS: u8 = 7;
 
 // The hex digits at even places, the lowest among them.
@@ -16,11 +17,11 @@ const EVEN_DIGITS: u32 = 0x0f0f_0f0f;
 /// The place of a point along the curve through a face.
 pub fn place_on_face(turn: u8, i: u32, j: u32) -> u64
     requires { turn < 4 }
-    ensures value { result ≡ curve.place 30 turn i j }
-    ensures below { result < 4 ^ 30 }
+    ensures value { result ≡ curve.place grid.leaf_level turn i j }
+    ensures below { result < curve.leaf_count 0 }
 {
-    let first = step_to(turn, quadrant_of(29, i, j));
-    let second = step_to(first.turn, quadrant_of(28, i, j));
+    let first = step_to(turn, quadrant_of(LEAF_LEVEL - 1, i, j));
+    let second = step_to(first.turn, quadrant_of(LEAF_LEVEL - 2, i, j));
     let digits = paired_digits(i, j);
     let mut place = 4 * u64::from(first.place) + u64::from(second.place);
     let mut row = 256 * usize::from(second.turn);
@@ -35,10 +36,10 @@ pub fn place_on_face(turn: u8, i: u32, j: u32) -> u64
 /// The point at a place along the curve through a face.
 pub fn point_on_face(turn: u8, along: u64) -> (u32, u32)
     requires turn { turn < 4 }
-    requires along { along < 4 ^ 30 }
-    ensures undone { curve.place 30 turn result.0 result.1 ≡ along }
-    ensures i_below { result.0 < 2 ^ 30 }
-    ensures j_below { result.1 < 2 ^ 30 }
+    requires along { along < curve.leaf_count 0 }
+    ensures undone { curve.place grid.leaf_level turn result.0 result.1 ≡ along }
+    ensures i_below { result.0 < grid.side_of 0 }
+    ensures j_below { result.1 < grid.side_of 0 }
 {
     let first = (along >> 58) as u8;
     let second = (along >> 56 & 3) as u8;

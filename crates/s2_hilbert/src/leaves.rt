@@ -2,17 +2,24 @@
 
 ghost use Rattle.std.specs.Prelude.{◌≡◌, ◌*◌, ◌^◌, ◌<◌};
 ghost use Rattle.std.specs.Option.{SomeIff};
-ghost use Rattle.s2_hilbert.specs.Grid.{GridLeaf, IsLeaf, grid_leaf};
+ghost use Rattle.s2_hilbert.specs.Grid.{GridLeaf, IsLeaf, grid_leaf, face_count, side_of};
 ghost use Rattle.s2_hilbert.specs.Curve.{position_of, grid_leaf_at};
 
 use crate::fours::{place_on_face, point_on_face};
 use crate::walk::{FACE_LEAVES, LEAF_LEVEL};
 use std::marker::Model;
 
-const FACES: u8 = 6;
+/// How many faces there are.
+pub const FACES: u8 = 6;
 
 // How many leaves a face has along a side.
 const FACE_SIDE: u32 = 1 << LEAF_LEVEL;
+
+// The constants are those of the definition.
+fn has_the_limits()
+    ensures faces { FACES ≡ face_count }
+    ensures side { FACE_SIDE ≡ side_of 0 }
+{}
 
 /// A leaf cell: its face, 0 to 5, and its coordinates in the grid of that face, 0 to `2^30 - 1`.
 #[derive(Clone, Copy, Debug, PartialEq, Eq, Hash)]
