@@ -8,7 +8,7 @@ use Rattle.std.specs.Ordering.{ordering_then, ordering_reverse, nat_cmp, int_cmp
 use Rattle.std.specs.Cmp.{IsTotalOrder}
 use Rattle.std.proofs.lemmas.Cmp.{nat_cmp_total, int_cmp_total, on_total, then_total}
 use Rattle.s2_hilbert.specs.Curve.{position_of}
-use Rattle.s2_hilbert.proofs.Positions.{same_leaf}
+use Rattle.s2_hilbert.specs.CurveLaws.{same_leaf}
 use Rattle.s2_cellid.specs.Family.{leaf_id}
 use Rattle.volume4d.specs.Point.{Point, is_leaf, point_cmp}
 use Rattle.volume4d.specs.Volume.{Block, area_has}

@@ -9,7 +9,7 @@ use Rattle.std.proofs.lemmas.Bool.Decides.{nat_tests}
 use Rattle.std.proofs.lemmas.List.Sums.{sum_by-cons}
 use Rattle.s2_hilbert.specs.Grid.{GridLeaf}
 use Rattle.s2_hilbert.specs.Curve.{position_of}
-use Rattle.s2_hilbert.proofs.Positions.{position_undone}
+use Rattle.s2_hilbert.specs.CurveLaws.{position_undone}
 use Rattle.s2_cellid.specs.Cell.{cell_has, leaf_id_at, first_leaf_id, last_leaf_id}
 use Rattle.s2_cellid.specs.Family.{leaf_id, cell_has_leaf}
 use Rattle.volume4d.specs.Point.{Point, is_leaf, point_cmp}

@@ -1,4 +1,4 @@
-pub mod Blocks
 pub mod Spellings
+pub mod HexValues
+pub mod LowestBits
 pub mod Readings
-pub mod CellSquares

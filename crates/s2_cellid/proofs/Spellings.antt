@@ -12,12 +12,12 @@ use Rattle.std.proofs.lemmas.List.Sums.{prefix_len_passes, prefix_len_stops, suf
 use Rattle.std.specs.Str.{IsAscii, IsUtf8}
 use Rattle.std.proofs.lemmas.Str.{IsUtf8-from_ascii}
 use Rattle.std.proofs.lemmas.Int.Digits.{digits_value-lt}
-use Rattle.std.proofs.lemmas.Nat.{pow-add, shl_whole, mod-mul-add, div-mul-add, mul-add-lt, div-add-mod', mod_below}
+use Rattle.std.proofs.lemmas.Nat.{pow-add, shl-shr, shl_whole, mod-mul-add, div-mul-add, mul-add-lt, div-add-mod', mod_below}
 use Rattle.std.proofs.lemmas.Str.{digit_value-digit_char}
-use Rattle.std.proofs.Math.Nat.{pow-succ', pow-le-pow_right, mul-le-mul_right}
+use Rattle.std.proofs.Math.Nat.{mul_assoc, pow-succ', pow-le-pow_right, mul-le-mul_right}
 use Rattle.std.proofs.Math.Seq.{take-append_seam}
-use Rattle.s2_cellid.specs.Cell.{IsCellId}
-use Rattle.s2_cellid.proofs.Blocks.{id_between}
+use Rattle.s2_cellid.specs.Cell.{lowest_place, lowest_bit, IsCellId}
+use Rattle.s2_cellid.specs.BlockLaws.{id_between, block_of, number_of}
 use Rattle.s2_cellid.specs.Digits.{is_hex, filled, HoldsToken, refilled}
 use Rattle.s2_cellid.specs.Token.{filled_value, IsSpelling, IsPrinted, hex_digits, is_zero, without_end_zeros, token_text}
 
@@ -388,3 +388,62 @@ kept_is xs n within zeros ended =
     suffix_len_is is_zero xs n 0 within (λ k from below. ap is_zero (zeros k from below))
     (λ some. other_char (get_or xs (n - 1) 0) (ended some)) in
     omega (arith, count)
+
+-- an id without its e lowest digits, which are zeros
+without_zeros : (id e : ℕ) → IsCellId id → 4 * e ≤ lowest_place id
+    → id / 16 ^ e ≡ (2 * number_of id + 1) * 2 ^ (lowest_place id - 4 * e)
+without_zeros id e valid zeros =
+    let left = lowest_place id - 4 * e in
+    let sum : lowest_place id ≡ left + 4 * e = omega arith in
+    let power : lowest_bit id ≡ 2 ^ left * 2 ^ (4 * e) = ap (λ n. 2 ^ n) sum ∙ pow-add 2 left (4 * e) in
+    let product : id ≡ ((2 * number_of id + 1) * 2 ^ left) * 2 ^ (4 * e) =
+    (block_of id valid).id_is ∙ ap (λ n. 2 * (number_of id * n) + n) power
+    ∙ odd_product (number_of id) (2 ^ left) (2 ^ (4 * e)) in
+    rw (← pow_of_16 e)
+    (ap (λ n. n / 2 ^ (4 * e)) product ∙ shl-shr ((2 * number_of id + 1) * 2 ^ left) (4 * e))
+  where
+    odd_product : (m a b : ℕ) → 2 * (m * (a * b)) + a * b ≡ ((2 * m + 1) * a) * b
+    odd_product m a b = omega arith
+
+-- a multiple of 16 ends in the digit 0
+whole_digit : (n left : ℕ) → 4 ≤ left → n * 2 ^ left % 16 ≡ 0
+whole_digit n left many =
+    let sum : left ≡ (left - 4) + 4 = omega arith in
+    let power : 2 ^ left ≡ 2 ^ (left - 4) * 16 = ap (λ k. 2 ^ k) sum ∙ pow-add 2 (left - 4) 4 in
+    let product : n * 2 ^ left ≡ (n * 2 ^ (left - 4)) * 16 =
+    ap (λ k. n * k) power ∙ sym (mul_assoc n (2 ^ (left - 4)) 16) in
+    omega (arith, product)
+
+-- an odd multiple of a lesser power of two doesn't
+other_digit : (n left : ℕ) → left < 4 → (2 * n + 1) * 2 ^ left % 16 ≡ 0 → ⊥
+other_digit n zero below none = omega arith
+other_digit n (suc zero) below none = omega arith
+other_digit n (suc (suc zero)) below none = omega arith
+other_digit n (suc (suc (suc zero))) below none = omega arith
+other_digit n (suc (suc (suc (suc left)))) below none = omega arith
+
+char_of_zero : (d : ℕ) → d < 16 → digit_char d ≡ 48 → d ≡ 0
+char_of_zero d below is = grind (arith, nat_tests)
+
+-- the zeros at the end of an id's digits, by those at the end of its bits
+pub kept_of-id : (id : ℕ) → IsCellId id → 16 - lowest_place id / 4 ≡ kept (hex_digits 16 id)
+kept_of-id id valid =
+    let place = lowest_place id in
+    let at_most : place ≤ 60 = grind (arith, nat_tests, valid) in
+    kept_is (hex_digits 16 id) (16 - place / 4) (omega (arith, length-hex_digits 16 id))
+    (λ k from below.
+    let inside : k < 16 = omega (arith, below, length-hex_digits 16 id) in
+    let e = 16 - 1 - k in
+    let digit : id / 16 ^ e % 16 ≡ 0 =
+    ap (λ n. n % 16) (without_zeros id e valid (omega arith))
+    ∙ whole_digit (2 * number_of id + 1) (place - 4 * e) (omega arith) in
+    get_or-hex_digits 16 id k inside ∙ ap digit_char digit)
+    (λ some same.
+    let k = 16 - place / 4 - 1 in
+    let inside : k < 16 = omega arith in
+    let e = 16 - 1 - k in
+    let e_is : e ≡ place / 4 = omega arith in
+    let none : id / 16 ^ e % 16 ≡ 0 =
+    char_of_zero (id / 16 ^ e % 16) (omega arith) (sym (get_or-hex_digits 16 id k inside) ∙ same) in
+    other_digit (number_of id) (place - 4 * e) (omega arith)
+    (sym (ap (λ n. n % 16) (without_zeros id e valid (omega arith))) ∙ none))

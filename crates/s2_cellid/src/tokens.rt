@@ -1,7 +1,7 @@
 //! Tokens: the texts of cell ids (S2's `ToToken` and `FromToken`).
 
 ghost use Rattle.std.specs.Prelude.{◌≡◌, ◌-◌, ◌<◌, ◌≤◌, ◌↔◌, ℕ, length, IsTrue, List, Ok, Some};
-ghost use Rattle.std.specs.Char.{digit_char};
+ghost use Rattle.std.specs.Char.{digit_char, digit_value};
 ghost use Rattle.std.specs.List.{suffix_len};
 ghost use Rattle.std.specs.Option.{SomeIff};
 ghost use Rattle.s2_cellid.specs.Cell.{IsCellId};
@@ -12,10 +12,28 @@ ghost use Rattle.s2_cellid.specs.Token.{hex_digits, is_zero, token_text};
 use crate::CellId;
 use std::error::Error;
 use std::marker::Model;
-use std::{char, fmt, str};
+use std::{fmt, str};
 
 /// The greatest number of digits in a token.
 const DIGITS: usize = 16;
+
+// Stands in `HEX_VALUES` for a byte that is no hex digit.
+const NO: u8 = 16;
+
+// The value of each byte as a hex digit of either case.
+static HEX_VALUES: [u8; 256] = [
+    NO, NO, NO, NO, NO, NO, NO, NO, NO, NO, NO, NO, NO, NO, NO, NO, NO, NO, NO, NO, NO, NO, NO, NO,
+    NO, NO, NO, NO, NO, NO, NO, NO, NO, NO, NO, NO, NO, NO, NO, NO, NO, NO, NO, NO, NO, NO, NO, NO,
+    0, 1, 2, 3, 4, 5, 6, 7, 8, 9, NO, NO, NO, NO, NO, NO, NO, 10, 11, 12, 13, 14, 15, NO, NO, NO,
+    NO, NO, NO, NO, NO, NO, NO, NO, NO, NO, NO, NO, NO, NO, NO, NO, NO, NO, NO, NO, NO, NO, NO, 10,
+    11, 12, 13, 14, 15, NO, NO, NO, NO, NO, NO, NO, NO, NO, NO, NO, NO, NO, NO, NO, NO, NO, NO, NO,
+    NO, NO, NO, NO, NO, NO, NO, NO, NO, NO, NO, NO, NO, NO, NO, NO, NO, NO, NO, NO, NO, NO, NO, NO,
+    NO, NO, NO, NO, NO, NO, NO, NO, NO, NO, NO, NO, NO, NO, NO, NO, NO, NO, NO, NO, NO, NO, NO, NO,
+    NO, NO, NO, NO, NO, NO, NO, NO, NO, NO, NO, NO, NO, NO, NO, NO, NO, NO, NO, NO, NO, NO, NO, NO,
+    NO, NO, NO, NO, NO, NO, NO, NO, NO, NO, NO, NO, NO, NO, NO, NO, NO, NO, NO, NO, NO, NO, NO, NO,
+    NO, NO, NO, NO, NO, NO, NO, NO, NO, NO, NO, NO, NO, NO, NO, NO, NO, NO, NO, NO, NO, NO, NO, NO,
+    NO, NO, NO, NO, NO, NO, NO, NO, NO, NO, NO, NO, NO, NO,
+];
 
 /// Why a text is no token of a cell, in the order in which it is looked for.
 #[derive(Clone, Copy, Debug, PartialEq, Eq)]
@@ -78,7 +96,7 @@ impl Token {
     pub fn as_str(&self) -> &str
         ensures { result.now ≡ self.now }
     {
-        str::from_utf8(&self.digits[..self.printed]).unwrap()
+        unsafe { str::from_utf8_unchecked(&self.digits[..self.printed]) }
     }
 }
 
@@ -107,9 +125,11 @@ impl CellId {
         ensures only { (text : List ℕ) → IsSpelling text self.now → IsPrinted text → text ≡ result }
         ensures read_back { read_token result ≡ Ok self.now }
     {
-        let digits = hex_digits(self.raw());
-        let printed = stripped_length(&digits);
-        Token { digits, printed }
+        let id = self.raw();
+        Token {
+            digits: hex_digits(id),
+            printed: printed_length(id),
+        }
     }
 
     /// The cell of a token: 1 to 16 hex digits of either case, filled up with zeros on the right.
@@ -156,15 +176,20 @@ fn hex_digit(value: u64) -> u8
     }
 }
 
-// How many digits are left without the zeros at the end.
-fn stripped_length(digits: &[u8]) -> usize
-    ensures { result ≡ length digits.now - suffix_len is_zero digits.now }
+// How many digits of an id come before the zeros at their end.
+fn printed_length(id: u64) -> usize
+    requires { IsCellId id }
+    ensures { result ≡ length (hex_digits 16 id) - suffix_len is_zero (hex_digits 16 id) }
 {
-    let mut length = digits.len();
-    while length > 0 && digits[length - 1] == b'0' {
-        length -= 1;
-    }
-    length
+    DIGITS - (id.trailing_zeros() / 4) as usize
+}
+
+// The value of a hex digit.
+fn hex_value(byte: u8) -> Option<u8>
+    ensures { SomeIff result (digit_value byte < 16) (digit_value byte) }
+{
+    let value = HEX_VALUES[byte as usize];
+    if value < NO { Some(value) } else { None }
 }
 
 // The number that the hex digits write, filled up with zeros on the right to 16 digits.
@@ -175,8 +200,7 @@ fn filled_value(token: &[u8]) -> Option<u64>
 {
     let mut value = 0;
     for byte in token {
-        let digit = char::from(*byte).to_digit(16)?;
-        value = value * 16 + u64::from(digit);
+        value = value * 16 + u64::from(hex_value(*byte)?);
     }
     Some(value << (64 - 4 * token.len()))
 }

@@ -1,5 +1,5 @@
 -- How far a canonical list has come, from the first leaf position on.
-use Rattle.std.specs.Prelude.{◌≡◌, ℕ, ◌+◌, ◌<◌, ◌≤◌, Bool, false, IsTrue, List, Contains, AllPairs}
+use Rattle.std.specs.Prelude.{◌≡◌, ℕ, ◌+◌, ◌%◌, ◌^◌, ◌<◌, ◌≤◌, Bool, false, IsTrue, List, Contains, AllPairs}
 use Rattle.s2_cellid.specs.Cell.{lowest_place, IsCellId, first_leaf, last_leaf}
 use Rattle.s2_cover.specs.Leaves.{leaves_of}
 use Rattle.s2_cover.specs.Canonical.{IsLargest}
@@ -19,6 +19,18 @@ pub record IsLaid (set : ℕ → Bool) (ids : List ℕ) (upto : ℕ) : Type 0 wh
   pub largest : (id : ℕ) → Contains ids id → IsLargest set id
   pub ended : (id : ℕ) → Contains ids id → last_leaf id < upto
   pub covered : (p : ℕ) → p < upto → IsTrue (set p) → IsTrue (leaves_of ids p)
+
+-- a cell with its lowest bit at the place, which begins at `first`, has no leaf after `last`
+pub record IsFitting (first last place : ℕ) : Type 0 where
+  pub even : place % 2 ≡ 0
+  pub at_most : place ≤ 60
+  pub aligned : first % 2 ^ place ≡ 0
+  pub ends : first + 2 ^ place ≤ last + 1
+
+-- the greatest place of these
+pub record IsLargestFitting (first last place : ℕ) : Type 0 where
+  pub is : IsFitting first last place
+  pub largest : (other : ℕ) → IsFitting first last other → other ≤ place
 
 -- a cell with this first leaf and no leaf after `last`
 pub record BeginsAt (first last id : ℕ) : Type 0 where

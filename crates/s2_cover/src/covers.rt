@@ -1,12 +1,11 @@
 //! Canonical covers.
 
-ghost use Rattle.std.specs.Prelude.{◌≡◌, ◌≢◌, ℕ, ◌+◌, ◌*◌, ◌^◌, ◌<◌, ◌≤◌, Bool, length};
+ghost use Rattle.std.specs.Prelude.{◌≡◌, ◌≢◌, ℕ, ◌+◌, ◌*◌, ◌^◌, ◌<◌, ◌≤◌, Bool, [], length};
 ghost use Rattle.std.specs.Prelude.{IfOk, OnOk, IfSome, IfNone};
-ghost use Rattle.s2_cellid.specs.Cell.{lowest_place};
 ghost use Rattle.s2_cover.specs.Leaves.{leaves_of};
 ghost use Rattle.s2_cover.specs.Canonical.{IsCanonical};
 ghost use Rattle.s2_cover.specs.Runs.{IsRanges};
-ghost use Rattle.s2_cover.specs.Laying.{IsRun, IsLaid, BeginsAt, IsLargestFrom};
+ghost use Rattle.s2_cover.specs.Laying.{IsRun, IsLaid, IsLargestFrom, IsLargestFitting};
 
 use crate::spans::{Ranges, Span};
 use s2_cellid::CellId;
@@ -86,18 +85,20 @@ pub fn normalise(alloc: Global, cells: &[CellId]) -> Result<Cover, AllocError>
     let mut sorted = Vec::from_slice(alloc, cells)?;
     sorted.sort_unstable_by_key(|cell| cell.first());
     let ranges = Ranges::of_sorted(alloc, &sorted)?;
-    let cells = largest_cells(alloc, ranges.spans())?;
+    sorted.clear();
+    let cells = largest_cells(sorted, ranges.spans())?;
     Ok(Cover { cells, looked: 0 })
 }
 
-// The largest cells in the set of positions of the spans, ascending.
-fn largest_cells(alloc: Global, spans: &[Span]) -> Result<Vec<CellId>, AllocError>
+// The largest cells in the set of positions of the spans, ascending, in the room of an empty list.
+fn largest_cells(empty: Vec<CellId>, spans: &[Span]) -> Result<Vec<CellId>, AllocError>
     ghost set: { ℕ → Bool }
-    requires { IsRanges set spans.now }
+    requires empty { empty.items ≡ [] }
+    requires ranges { IsRanges set spans.now }
     ensures canonical { IfOk result (λ cells. IsCanonical set cells.items) }
     ensures leaves { IfOk result (λ cells. (p : ℕ) → leaves_of cells.items p ≡ set p) }
 {
-    let mut cells = Vec::new(alloc);
+    let mut cells = empty;
     for span in spans {
         push_cells(&mut cells, span)?;
     }
@@ -126,27 +127,18 @@ fn largest_from(first: u64, last: u64) -> CellId
     requires below { last < 6 * 2 ^ 60 }
     ensures { IsLargestFrom first last result }
 {
-    for level in 0..30u64 {
-        if let Some(cell) = cell_within(first, last, 60 - 2 * level) {
-            return cell;
-        }
-    }
-    CellId::from_raw(2 * first + 1).unwrap()
+    let place = largest_place(first, last);
+    CellId::from_raw(2 * first + (1 << place)).unwrap()
 }
 
-// The cell with this first leaf and its lowest bit at this place, unless there is none or it ends
-// after `last`.
-fn cell_within(first: u64, last: u64, place: u64) -> Option<CellId>
-    requires below { first < 6 * 2 ^ 60 }
-    requires at_most { place ≤ 60 }
-    ensures found { IfSome result (λ cell. BeginsAt first last cell × (lowest_place cell ≡ place)) }
-    ensures none { IfNone result (
-        (id : ℕ) → BeginsAt first last id → lowest_place id ≢ place) }
+// The place of that cell's lowest bit. The cell has `2^place` leaves, their number divides the first
+// position, and they are no more than the positions up to `last`.
+fn largest_place(first: u64, last: u64) -> u32
+    requires ordered { first ≤ last }
+    requires below { last < 6 * 2 ^ 60 }
+    ensures { IsLargestFitting first last result }
 {
-    let cell = CellId::from_raw(2 * first + (1 << place))?;
-    if cell.first() == first && cell.last() <= last {
-        Some(cell)
-    } else {
-        None
-    }
+    let room = (last - first + 1).ilog2();
+    let place = first.trailing_zeros().min(room).min(60);
+    place - place % 2
 }

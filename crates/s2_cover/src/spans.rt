@@ -63,7 +63,7 @@ impl Ranges {
         ensures ranges { IfOk result (IsRanges (leaves_of cells.now)) }
         ensures some { 0 < length cells.now → IfOk result (λ ranges. 0 < length ranges) }
     {
-        let mut spans = Vec::new(alloc);
+        let mut spans = Vec::with_capacity(alloc, cells.len())?;
         let Some((first, rest)) = cells.split_first() else {
             return Ok(Ranges { spans });
         };

@@ -1,5 +1,5 @@
-pub mod TableFacts
-pub mod Places
-pub mod Positions
+pub mod FourTables
 pub mod Steps
+pub mod Digits
+pub mod FourSteps
 pub mod SquareFacts

@@ -1,10 +1,10 @@
 -- The walks down the levels, one level at a step.
 use Rattle.std.proofs.Common.{◌≡◌, ℕ, ◌+◌, ◌-◌, ◌*◌, ◌/◌, ◌%◌, ◌^◌, ◌<◌, ◌≤◌, bit_and, refl, sym, ◌∙◌, arith}
-use Rattle.std.proofs.lemmas.Nat.{pow-add, mul-pow, shr-shr, and_mask}
+use Rattle.std.proofs.lemmas.Nat.{pow-add, shr-shr, and_mask}
 use Rattle.std.proofs.Math.Nat.{pow-le-pow_right}
 use Rattle.s2_hilbert.specs.Curve.{quadrant_at, place_of, turned, quadrant_of, place, turn_at}
-use Rattle.s2_hilbert.proofs.TableFacts.{is_place, is_quadrant}
-use Rattle.s2_hilbert.proofs.Places.{split_at, quadrant_below}
+use Rattle.s2_hilbert.specs.QuadrantLaws.{is_place, is_quadrant}
+use Rattle.s2_hilbert.specs.PlaceLaws.{split_at, quadrant_below, power_of_four}
 
 -- the quadrant that the lowest bits name
 abbrev pub last_quadrant : ℕ → ℕ → ℕ
@@ -87,11 +87,6 @@ walk_fits levels turn i j step at along at_most inside walked =
     let within : step ≤ 29 = omega arith in
     let power : 4 ^ step ≤ 4 ^ 29 = pow-le-pow_right (omega arith) within in
     omega (arith, power, walked.place_below)
-
-pub power_of_four : (n : ℕ) → 4 ^ n ≡ 2 ^ (2 * n)
-power_of_four n =
-    let twice : 2 * n ≡ n + n = omega arith in
-    rw twice (mul-pow 2 2 n ∙ sym (pow-add 2 n n))
 
 -- the places on the level above
 quarter : (along n : ℕ) → along / 4 ^ n / 4 ≡ along / 4 ^ (n + 1)

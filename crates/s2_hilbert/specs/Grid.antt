@@ -3,6 +3,18 @@
 -- a whole face to 30 for a leaf, has 2^(30-k) leaves along each side.
 use Rattle.std.specs.Prelude.{◌≡◌, ℕ, ◌-◌, ◌/◌, ◌^◌, ◌<◌, ◌≤◌}
 
+-- how many faces there are
+abbrev pub face_count : ℕ
+face_count = 6
+
+-- the level of a leaf (S2CellId::kMaxLevel)
+abbrev pub leaf_level : ℕ
+leaf_level = 30
+
+-- how many leaves a square of the level has along a side
+abbrev pub side_of : ℕ → ℕ
+side_of level = 2 ^ (leaf_level - level)
+
 -- a leaf: its face, and its coordinates in the grid of that face
 pub record GridLeaf : Type 0 where
   pub face : ℕ
@@ -14,13 +26,9 @@ grid_leaf face i j = record { face = face; i = i; j = j }
 
 -- the three numbers are those of a leaf
 pub record IsLeaf (leaf : GridLeaf) : Type 0 where
-  pub face_below : leaf.face < 6
-  pub i_below : leaf.i < 2 ^ 30
-  pub j_below : leaf.j < 2 ^ 30
-
--- how many leaves a square of the level has along a side
-abbrev pub side_of : ℕ → ℕ
-side_of level = 2 ^ (30 - level)
+  pub face_below : leaf.face < face_count
+  pub i_below : leaf.i < side_of 0
+  pub j_below : leaf.j < side_of 0
 
 -- two leaves lie in one square of the level
 pub record ShareSquare (level : ℕ) (one other : GridLeaf) : Type 0 where
@@ -40,8 +48,8 @@ grid_square face level a b = record { face = face; level = level; a = a; b = b }
 
 -- the four numbers are those of a square
 pub record IsSquare (square : GridSquare) : Type 0 where
-  pub face_below : square.face < 6
-  pub level_at_most : square.level ≤ 30
+  pub face_below : square.face < face_count
+  pub level_at_most : square.level ≤ leaf_level
   pub a_below : square.a < 2 ^ square.level
   pub b_below : square.b < 2 ^ square.level
 

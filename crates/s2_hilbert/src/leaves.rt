@@ -2,16 +2,24 @@
 
 ghost use Rattle.std.specs.Prelude.{◌≡◌, ◌*◌, ◌^◌, ◌<◌};
 ghost use Rattle.std.specs.Option.{SomeIff};
-ghost use Rattle.s2_hilbert.specs.Grid.{GridLeaf, IsLeaf, grid_leaf};
+ghost use Rattle.s2_hilbert.specs.Grid.{GridLeaf, IsLeaf, grid_leaf, face_count, side_of};
 ghost use Rattle.s2_hilbert.specs.Curve.{position_of, grid_leaf_at};
 
-use crate::walk::{FACE_LEAVES, LEAF_LEVEL, place_of_point, point_at};
+use crate::fours::{place_on_face, point_on_face};
+use crate::walk::{FACE_LEAVES, LEAF_LEVEL};
 use std::marker::Model;
 
-const FACES: u8 = 6;
+/// How many faces there are.
+pub const FACES: u8 = 6;
 
 // How many leaves a face has along a side.
 const FACE_SIDE: u32 = 1 << LEAF_LEVEL;
+
+// The constants are those of the definition.
+fn has_the_limits()
+    ensures faces { FACES ≡ face_count }
+    ensures side { FACE_SIDE ≡ side_of 0 }
+{}
 
 /// A leaf cell: its face, 0 to 5, and its coordinates in the grid of that face, 0 to `2^30 - 1`.
 #[derive(Clone, Copy, Debug, PartialEq, Eq, Hash)]
@@ -52,7 +60,7 @@ pub fn position(leaf: Leaf) -> u64
     ensures below { result < 6 * 2 ^ 60 }
     ensures leaf { IsLeaf leaf }
 {
-    let along = place_of_point(LEAF_LEVEL, leaf.face % 2, leaf.i, leaf.j);
+    let along = place_on_face(leaf.face % 2, leaf.i, leaf.j);
     u64::from(leaf.face) * FACE_LEAVES + along
 }
 
@@ -65,6 +73,6 @@ pub fn leaf_at(position: u64) -> Leaf
     ensures only { (leaf : GridLeaf) → IsLeaf leaf → position_of leaf ≡ position → leaf ≡ result }
 {
     let face = (position / FACE_LEAVES) as u8;
-    let (i, j) = point_at(face % 2, position % FACE_LEAVES);
+    let (i, j) = point_on_face(face % 2, position % FACE_LEAVES);
     Leaf { face, i, j }
 }

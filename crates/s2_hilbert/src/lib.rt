@@ -2,18 +2,22 @@
 //! positions, and the squares in the order of the curve.
 #![tactic(auto)]
 
+mod fours;
 pub mod laws;
 mod leaves;
 mod quadrants;
 mod squares;
+mod tables;
 mod walk;
 
-pub use leaves::{Leaf, leaf_at, position};
+pub use leaves::{FACES, Leaf, leaf_at, position};
 pub use squares::Square;
+pub use walk::LEAF_LEVEL;
 
 #[cfg(test)]
 mod tests {
     use super::*;
+    use crate::tables::{place_of_four, point_of_four};
     use std::test::Fail;
 
     fn leaf(face: u8, i: u32, j: u32) -> Result<Leaf, Fail> {
@@ -39,6 +43,25 @@ mod tests {
             assert_eq!(rt; leaf_at(id / 2), leaf);
         }
         Ok(())
+    }
+
+    // Orientation, coordinates in a square of 16 by 16, place and orientation there.
+    #[test]
+    fn goes_four_levels_down(rt: HostRuntime) {
+        let known = [
+            (0, 0, 0, 0, 0),
+            (0, 15, 15, 170, 0),
+            (0, 15, 0, 255, 0),
+            (1, 0, 15, 255, 1),
+            (0, 1, 0, 1, 1),
+        ];
+        for (turn, i, j, place, after) in known {
+            let four = place_of_four((256 * turn + 16 * i + j) % 1024);
+            assert_eq!(rt; (usize::from(four.place), four.row), (place, 256 * after));
+            let point = point_of_four((256 * turn + place) % 1024);
+            assert_eq!(rt; (usize::from(point.i), usize::from(point.j)), (i, j));
+            assert_eq!(rt; point.row, 256 * after);
+        }
     }
 
     #[test]

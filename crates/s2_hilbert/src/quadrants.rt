@@ -3,12 +3,51 @@
 ghost use Rattle.std.specs.Prelude.{◌≡◌, ◌<◌};
 ghost use Rattle.s2_hilbert.specs.Curve as curve;
 
-/// For each orientation its four quadrants in curve order. The definition of the curve reads this
-/// table and `CHANGES`.
+// For each orientation its four quadrants in curve order.
 const QUADRANTS: [[u8; 4]; 4] = [[0, 1, 3, 2], [0, 2, 3, 1], [3, 2, 0, 1], [3, 1, 0, 2]];
 
-/// What changes in the orientation on going down to the quadrant at each place.
+// What changes in the orientation on going down to the quadrant at each place.
 const CHANGES: [u8; 4] = [1, 0, 0, 3];
+
+/// One level down to a quadrant: its place along the curve, and the orientation in it.
+pub struct Step {
+    pub place: u8,
+    pub turn: u8,
+}
+
+// For each orientation the steps to the quadrants 0 to 3.
+static STEPS: [[Step; 4]; 4] = [
+    [
+        Step { place: 0, turn: 1 },
+        Step { place: 1, turn: 0 },
+        Step { place: 3, turn: 3 },
+        Step { place: 2, turn: 0 },
+    ],
+    [
+        Step { place: 0, turn: 0 },
+        Step { place: 3, turn: 2 },
+        Step { place: 1, turn: 1 },
+        Step { place: 2, turn: 1 },
+    ],
+    [
+        Step { place: 2, turn: 2 },
+        Step { place: 3, turn: 1 },
+        Step { place: 1, turn: 2 },
+        Step { place: 0, turn: 3 },
+    ],
+    [
+        Step { place: 2, turn: 3 },
+        Step { place: 1, turn: 3 },
+        Step { place: 3, turn: 0 },
+        Step { place: 0, turn: 2 },
+    ],
+];
+
+// The constants are the tables of the definition.
+fn has_the_tables()
+    ensures quadrants { QUADRANTS ≡ curve.table_of_quadrants }
+    ensures changes { CHANGES ≡ curve.changes_of_turn }
+{}
 
 /// The quadrant at a place of the curve.
 #[tactic(auto, unfolding(crate::specs::Curve::quadrant_at))]
@@ -21,19 +60,17 @@ pub fn quadrant_at(turn: u8, place: u8) -> u8
     QUADRANTS[turn as usize][place as usize]
 }
 
-/// The place of a quadrant along the curve.
-#[tactic(auto, unfolding(crate::specs::Curve::place_of))]
-pub fn place_of(turn: u8, quadrant: u8) -> u8
+/// The step down to a quadrant.
+#[tactic(auto, unfolding(crate::specs::Curve::place_of, crate::specs::Curve::turned))]
+pub fn step_to(turn: u8, quadrant: u8) -> &'static Step
     requires turn { turn < 4 }
     requires quadrant { quadrant < 4 }
-    ensures value { result ≡ curve.place_of turn quadrant }
-    ensures below { result < 4 }
+    ensures place { result.now.place ≡ curve.place_of turn quadrant }
+    ensures turn { result.now.turn ≡ curve.turned turn result.now.place }
+    ensures place_below { result.now.place < 4 }
+    ensures turn_below { result.now.turn < 4 }
 {
-    let quadrants = &QUADRANTS[turn as usize];
-    quadrants
-        .iter()
-        .position(|entry| *entry == quadrant)
-        .unwrap() as u8
+    &STEPS[turn as usize][quadrant as usize]
 }
 
 /// The orientation of the quadrant at a place.

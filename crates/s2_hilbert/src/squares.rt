@@ -130,7 +130,7 @@ impl Square {
 
 // How many leaves a square of a level has.
 fn leaf_count(level: u8) -> u64
-    requires { level ≤ 30 }
+    requires { level ≤ grid.leaf_level }
     ensures { result ≡ curve.leaf_count level }
 {
     1 << (2 * (LEAF_LEVEL - level))
@@ -138,7 +138,7 @@ fn leaf_count(level: u8) -> u64
 
 // How many leaves a square of a level has along a side.
 fn side_of(level: u8) -> u32
-    requires { level ≤ 30 }
+    requires { level ≤ grid.leaf_level }
     ensures { result ≡ grid.side_of level }
 {
     1 << (LEAF_LEVEL - level)
@@ -146,10 +146,10 @@ fn side_of(level: u8) -> u32
 
 // The least and the greatest leaf coordinate of a coordinate among the squares of a level.
 fn span(level: u8, coordinate: u32) -> (u32, u32)
-    requires level { level ≤ 30 }
+    requires level { level ≤ grid.leaf_level }
     requires coordinate { coordinate < 2 ^ level }
     ensures span { (n : ℕ) → (n / grid.side_of level ≡ coordinate) ↔ IsInRange result.0 result.1 n }
-    ensures below { result.1 < 2 ^ 30 }
+    ensures below { result.1 < grid.side_of 0 }
 {
     let side = side_of(level);
     let least = coordinate * side;

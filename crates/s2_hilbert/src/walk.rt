@@ -1,9 +1,10 @@
 //! Walks down the levels of a square that is a grid of points, one level at a step.
 
 ghost use Rattle.std.specs.Prelude.{◌≡◌, ◌*◌, ◌^◌, ◌<◌, ◌≤◌};
+ghost use Rattle.s2_hilbert.specs.Grid as grid;
 ghost use Rattle.s2_hilbert.specs.Curve as curve;
 
-use crate::quadrants::{place_of, quadrant_at, turned};
+use crate::quadrants::step_to;
 
 /// The level of a leaf.
 pub const LEAF_LEVEL: u8 = 30;
@@ -11,9 +12,15 @@ pub const LEAF_LEVEL: u8 = 30;
 /// How many leaves a face has.
 pub const FACE_LEAVES: u64 = 1 << 60;
 
+// The constants are those of the definition.
+fn has_the_limits()
+    ensures level { LEAF_LEVEL ≡ grid.leaf_level }
+    ensures leaves { FACE_LEAVES ≡ curve.leaf_count 0 }
+{}
+
 /// The place of a point along the curve through a square of `levels` levels.
 pub fn place_of_point(levels: u8, turn: u8, i: u32, j: u32) -> u64
-    requires levels { levels ≤ 30 }
+    requires levels { levels ≤ grid.leaf_level }
     requires turn { turn < 4 }
     ensures value { result ≡ curve.place levels turn i j }
     ensures below { result < 4 ^ levels }
@@ -22,38 +29,16 @@ pub fn place_of_point(levels: u8, turn: u8, i: u32, j: u32) -> u64
     let mut place = 0;
     for step in 0..levels {
         let bit = levels - 1 - step;
-        let next = place_of(at, quadrant_of(bit, i, j));
-        place = 4 * place + u64::from(next);
-        at = turned(at, next);
+        let next = step_to(at, quadrant_of(bit, i, j));
+        place = 4 * place + u64::from(next.place);
+        at = next.turn;
     }
     place
 }
 
-/// The point at a place along the curve through a face.
-pub fn point_at(turn: u8, along: u64) -> (u32, u32)
-    requires turn { turn < 4 }
-    requires along { along < 4 ^ 30 }
-    ensures undone { curve.place 30 turn result.0 result.1 ≡ along }
-    ensures i_below { result.0 < 2 ^ 30 }
-    ensures j_below { result.1 < 2 ^ 30 }
-{
-    let mut at = turn;
-    let mut i = 0;
-    let mut j = 0;
-    for step in 0..LEAF_LEVEL {
-        let bits = 2 * (LEAF_LEVEL - 1 - step);
-        let next = (along >> bits & 3) as u8;
-        let quadrant = quadrant_at(at, next);
-        i = 2 * i + u32::from(quadrant / 2);
-        j = 2 * j + u32::from(quadrant % 2);
-        at = turned(at, next);
-    }
-    (i, j)
-}
-
-// The quadrant that a bit of each coordinate names.
-fn quadrant_of(bit: u8, i: u32, j: u32) -> u8
-    requires { bit < 30 }
+/// The quadrant that a bit of each coordinate names.
+pub fn quadrant_of(bit: u8, i: u32, j: u32) -> u8
+    requires { bit < grid.leaf_level }
     ensures value { result ≡ curve.quadrant_of bit i j }
     ensures below { result < 4 }
 {

@@ -2,7 +2,7 @@
 use Rattle.std.proofs.Common.{◌≡◌, ℕ, ◌*◌, ◌/◌, ◌^◌, ◌<◌, ◌≤◌, true, false, refl, arith}
 use Rattle.std.proofs.lemmas.Bool.{false_from_ne_true}
 use Rattle.s2_hilbert.specs.Curve.{grid_leaf_at}
-use Rattle.s2_hilbert.proofs.Positions.{leaf_is}
+use Rattle.s2_hilbert.specs.CurveLaws.{leaf_is}
 use Rattle.volume4d.specs.Point.{is_leaf}
 use Rattle.volume4d.specs.PointLaws.{leaf_test}
 

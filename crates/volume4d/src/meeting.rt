@@ -31,7 +31,7 @@ pub struct Meeting {
 impl Model for Meeting {
     ghost use Rattle.std.specs.Prelude.{◌<◌, ◌*◌, ◌^◌};
     ghost use Rattle.s2_hilbert.specs.Curve.{position_of, grid_leaf_at};
-    ghost use Rattle.s2_hilbert.proofs.Positions.{position_undone};
+    ghost use Rattle.s2_hilbert.specs.CurveLaws.{position_undone};
     ghost use Rattle.volume4d.specs.Meeting.{Spot};
 
     ghost Value = { Spot };
@@ -73,7 +73,7 @@ struct Corner {
 impl Model for Corner {
     ghost use Rattle.std.specs.Prelude.{◌<◌, ◌*◌, ◌^◌};
     ghost use Rattle.s2_hilbert.specs.Curve.{position_of, grid_leaf_at};
-    ghost use Rattle.s2_hilbert.proofs.Positions.{position_undone};
+    ghost use Rattle.s2_hilbert.specs.CurveLaws.{position_undone};
     ghost use Rattle.volume4d.specs.Point.{Point};
 
     ghost Value = { Point };

@@ -1,33 +1,38 @@
 use Rattle.std.proofs.Common.{◌≤◌, arith}
 use Rattle.s2_cellid.specs.Cell.{level_of}
-use Rattle.s2_cellid.proofs.CellSquares.{parent_cell, parent_cell_has, count_room}
+use Rattle.s2_cellid.specs.FamilyLaws.{parent_cell, parent_cell_has, count_room, kept_above}
 use Rattle.s2_cellid.proofs.CellId.parent.Goals as goal
 
-pub overflow_mul-unit : goal.overflow_mul-unit
-overflow_mul-unit c = rw c.lowest_bit_for-lowest_bit.ensures (omega (arith, count_room c.args.level))
+pub overflow_mul-above : goal.overflow_mul-above
+overflow_mul-above c = rw c.lowest_bit_for-lowest_bit.ensures (omega (arith, count_room c.args.level))
 
-pub nonzero_div-result : goal.nonzero_div-result
-nonzero_div-result c = rw c.lowest_bit_for-lowest_bit.ensures (omega (arith, count_room c.args.level))
+pub overflow_sub-above : goal.overflow_sub-above
+overflow_sub-above c = rw c.lowest_bit_for-lowest_bit.ensures (omega (arith, count_room c.args.level))
 
 pub overflow_add-result : goal.overflow_add-result
 overflow_add-result c =
     let cell = parent_cell c.args.level c.self.inside.id c.self.invariant (omega (arith, c.requires)) in
-    rw c.lowest_bit_for-lowest_bit.ensures (omega (arith, cell.id_is, cell.within, count_room c.args.level))
+    rw (c.lowest_bit_for-lowest_bit.ensures, kept_above c.args.level c.self.inside.id c.self.invariant)
+    (omega (arith, cell.id_is, cell.within, count_room c.args.level))
 
 pub invariant_of-result : goal.invariant_of-result
 invariant_of-result c =
-    rw c.lowest_bit_for-lowest_bit.ensures
+    rw (c.lowest_bit_for-lowest_bit.ensures, kept_above c.args.level c.self.inside.id c.self.invariant)
     (parent_cell c.args.level c.self.inside.id c.self.invariant (omega (arith, c.requires))).valid
+
+pub returns-clause-value : goal.returns-clause-value
+returns-clause-value c =
+    rw (← c.self.view_is, c.lowest_bit_for-lowest_bit.ensures, kept_above c.args.level c.self.inside.id c.self.invariant)
 
 pub returns-clause-level : goal.returns-clause-level
 returns-clause-level c =
-    rw c.lowest_bit_for-lowest_bit.ensures
+    rw (c.lowest_bit_for-lowest_bit.ensures, kept_above c.args.level c.self.inside.id c.self.invariant)
     (parent_cell c.args.level c.self.inside.id c.self.invariant (omega (arith, c.requires))).level_is
 
 pub returns-clause-leaves : goal.returns-clause-leaves
 returns-clause-leaves c =
     let below : c.args.level ≤ level_of c.self.inside.id = rw (← c.self.view_is) at c.requires in
-    rw (c.lowest_bit_for-lowest_bit.ensures, ← c.self.view_is)
+    rw (c.lowest_bit_for-lowest_bit.ensures, ← c.self.view_is, kept_above c.args.level c.self.inside.id c.self.invariant)
     (λ inner leaf inner_is leaf_is has.
     parent_cell_has c.args.level c.self.inside.id inner leaf c.self.invariant below inner_is leaf_is has)
 

@@ -1,7 +1,5 @@
-use Rattle.std.proofs.Common.{◌-◌, ◌*◌, ◌∙◌, sym, arith}
-use Rattle.std.proofs.lemmas.Nat.{one_shl}
-use Rattle.s2_hilbert.proofs.Steps.{power_of_four}
+use Rattle.s2_cellid.proofs.LowestBits.{lowest_bit_at}
 use Rattle.s2_cellid.proofs.family.lowest_bit_for.Goals as goal
 
 pub returns : goal.returns
-returns c = one_shl (2 * (30 - c.args.level)) 64 (omega arith) ∙ sym (power_of_four (30 - c.args.level))
+returns c = lowest_bit_at c.args.level _ c.requires

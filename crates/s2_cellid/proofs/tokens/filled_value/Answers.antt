@@ -20,9 +20,9 @@ overflow_add-value c =
     let so_far = take c.loop-byte.byte-index c.args.token.now in
     let short : length so_far ≤ 15 =
     omega (arith, length-take c.loop-byte.byte-index c.args.token.now) in
-    let digit : c.from-in-loop-byte.result < 16 = omega (arith, c.in_ok-digit.ensures.value) in
+    let digit : c.from.result < 16 = omega (arith, c.in_ok-hex_value.ensures) in
     let room =
-    one_more_fits so_far c.loop-byte.value c.from-in-loop-byte.result c.loop-byte.invariant.1
+    one_more_fits so_far c.loop-byte.value c.from.result c.loop-byte.invariant.1
     c.loop-byte.invariant.0 short digit in
     omega (arith, room)
 
@@ -30,12 +30,12 @@ pub loop-byte-preserved : goal.loop-byte-preserved
 loop-byte-preserved c =
     let within : c.loop-byte.byte-index < length c.args.token.now = omega arith in
     let value = digits_value_more 16 c.args.token.now c.loop-byte.byte-index within in
-    let digit : c.from-in-loop-byte.result ≡ digit_value
+    let digit : c.from.result ≡ digit_value
     (get_or c.args.token.now c.loop-byte.byte-index 0) =
-    c.from-in-loop-byte.ensures ∙ c.in_ok-digit.ensures.value.1 ∙ ap digit_value c.from.ensures in (
+    c.from.ensures ∙ c.in_ok-hex_value.ensures.1 in (
       omega (arith, value, digit, c.loop-byte.invariant.0),
       digits_more 16 c.args.token.now c.loop-byte.byte-index within c.loop-byte.invariant.1
-          (rw c.from.ensures at c.in_ok-digit.ensures.value.0),
+          c.in_ok-hex_value.ensures.0,
     )
 
 pub returns : goal.returns

@@ -8,8 +8,8 @@ pub push_cells-requires : goal.push_cells-requires
 push_cells-requires g c =
     let spans = c.args.spans.now in
     let i = c.loop-span.span-index in (
-      run_at g.set spans i c.requires c.loop-span-test.true,
-      laid_before g.set spans c.loop-span.cells.items i c.requires c.loop-span-test.true
+      run_at g.set spans i c.requires.1 c.loop-span-test.true,
+      laid_before g.set spans c.loop-span.cells.items i c.requires.1 c.loop-span-test.true
           c.loop-span.invariant,
     )
 
@@ -24,7 +24,7 @@ returns-clause-canonical g c =
     let i = c.loop-span.span-index in
     let all : length spans ≡ i = omega (arith, c.loop-span.auto, c.loop-span-test) in
     canonical_when_laid g.set c.loop-span.cells.items (end_of spans i) c.loop-span.invariant
-    (λ p has. subst (λ n. p < end_of spans n) all (all_below g.set spans p c.requires has))
+    (λ p has. subst (λ n. p < end_of spans n) all (all_below g.set spans p c.requires.1 has))
 
 pub returns-clause-leaves : goal.returns-clause-leaves
 returns-clause-leaves g c =
@@ -32,4 +32,4 @@ returns-clause-leaves g c =
     let i = c.loop-span.span-index in
     let all : length spans ≡ i = omega (arith, c.loop-span.auto, c.loop-span-test) in
     leaves_when_laid g.set c.loop-span.cells.items (end_of spans i) c.loop-span.invariant
-    (λ p has. subst (λ n. p < end_of spans n) all (all_below g.set spans p c.requires has))
+    (λ p has. subst (λ n. p < end_of spans n) all (all_below g.set spans p c.requires.1 has))

@@ -1,7 +1,7 @@
 use Rattle.std.proofs.Common.{sym, arith}
 use Rattle.s2_hilbert.specs.Grid.{grid_square}
-use Rattle.s2_hilbert.proofs.Positions.{square_leaves}
-use Rattle.s2_hilbert.proofs.SquareFacts.{first_position_is, has_positions}
+use Rattle.s2_hilbert.specs.CurveLaws.{square_leaves}
+use Rattle.s2_hilbert.specs.SquareLaws.{first_position_is, has_positions}
 use Rattle.s2_hilbert.proofs.squares.Square.first.Goals as goal
 
 pub overflow_mul-result-2 : goal.overflow_mul-result-2

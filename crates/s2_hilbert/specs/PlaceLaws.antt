@@ -1,10 +1,10 @@
 -- Places along the curve through a square of 2^n points along a side.
 use Rattle.std.proofs.Common.{◌≡◌, ℕ, zero, suc, ◌+◌, ◌*◌, ◌/◌, ◌%◌, ◌^◌, ◌<◌, ◌≤◌, refl, sym, ◌∙◌, ap, arith}
-use Rattle.std.proofs.lemmas.Nat.{pow-add, shr-shr, field_of, mod-pow-add, mul-add-lt, same_from_place, div-mul-add, mod-mul-add, mod_below, div-add-mod', div_below}
+use Rattle.std.proofs.lemmas.Nat.{pow-add, mul-pow, shr-shr, field_of, mod-pow-add, mul-add-lt, same_from_place, div-mul-add, mod-mul-add, mod_below, div-add-mod', div_below}
 use Rattle.std.proofs.Math.Pow.{mod-mod-pow}
 use Rattle.std.proofs.Math.Nat.{pow-suc, mod-mod, one-le-pow}
 use Rattle.s2_hilbert.specs.Curve.{quadrant_at, place_of, turned, quadrant_of, place, turn_at, i_at, j_at}
-use Rattle.s2_hilbert.proofs.TableFacts.{is_place, is_quadrant}
+use Rattle.s2_hilbert.specs.QuadrantLaws.{is_place, is_quadrant}
 
 pub quadrant_below : (n i j : ℕ) → quadrant_of n i j < 4
 quadrant_below n i j = omega arith
@@ -197,3 +197,9 @@ is_point (suc n) turn along turn_below below =
       j_below = rw power j.below;
       undone = rw (i.high, j.high, i.rest, j.rest, bits, step.undone, rest.undone) (div-add-mod' along (4 ^ n));
     }
+
+-- two bits of a position for each level
+pub power_of_four : (n : ℕ) → 4 ^ n ≡ 2 ^ (2 * n)
+power_of_four n =
+    let twice : 2 * n ≡ n + n = omega arith in
+    rw twice (mul-pow 2 2 n ∙ sym (pow-add 2 n n))

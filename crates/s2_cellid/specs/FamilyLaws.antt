@@ -1,22 +1,22 @@
 -- A cell is a square: its leaves' positions, divided by the number of leaves of such a square, are one
 -- number.
-use Rattle.std.proofs.Common.{◌≡◌, ℕ, ◌+◌, ◌-◌, ◌*◌, ◌/◌, ◌%◌, ◌^◌, ◌<◌, ◌≤◌, refl, sym, ◌∙◌, ap, subst, arith, inl, inr}
+use Rattle.std.proofs.Common.{◌≡◌, ℕ, ◌+◌, ◌-◌, ◌*◌, ◌/◌, ◌%◌, ◌^◌, ◌<◌, ◌≤◌, bit_and, refl, sym, ◌∙◌, ap, subst, arith, inl, inr}
 use Rattle.std.specs.Prelude.{IsTrue, ◌↔◌}
 use Rattle.std.specs.Int.{w64, bit_at}
 use Rattle.std.proofs.lemmas.Nat.{pow_pos, pow-add, shl-shr, mul-le, div_below, div-mul-add}
 use Rattle.std.proofs.Math.Nat.{div-div-eq-div-mul, pow-le-pow_right}
-use Rattle.std.proofs.lemmas.Nat.Bits.{bit_at-trailing_zeros}
+use Rattle.std.proofs.lemmas.Nat.Bits.{bit_at-trailing_zeros, and_high_mask}
 use Rattle.std.proofs.lemmas.Bool.{cases_lt}
 use Rattle.std.proofs.lemmas.Bool.Decides.{nat_tests}
 use Rattle.s2_hilbert.specs.Grid.{GridLeaf, IsLeaf, ShareSquare, GridSquare, IsSquare, IsWithin}
 use Rattle.s2_hilbert.specs.Curve.{position_of, grid_leaf_at, leaf_count}
-use Rattle.s2_hilbert.proofs.Steps.{power_of_four}
-use Rattle.s2_hilbert.proofs.Positions.{powers, position_is, place_on_face_below, position_below, position_undone, leaf_is, same_leaf, square_number, first_is}
-use Rattle.s2_hilbert.proofs.SquareFacts.{quotient_range, same_square, square_quotient, has_positions, quarter_count}
-use Rattle.s2_hilbert.proofs.Places.{four_pow_pos}
+use Rattle.s2_hilbert.specs.PlaceLaws.{power_of_four}
+use Rattle.s2_hilbert.specs.CurveLaws.{powers, position_is, place_on_face_below, position_below, position_undone, leaf_is, same_leaf, square_number, first_is}
+use Rattle.s2_hilbert.specs.SquareLaws.{quotient_range, same_square, square_quotient, has_positions, quarter_count}
+use Rattle.s2_hilbert.specs.PlaceLaws.{four_pow_pos}
 use Rattle.s2_cellid.specs.Cell.{lowest_place, lowest_bit, level_of, face_of, IsCellId, first_leaf, last_leaf, leaf_id_at, cell_has}
 use Rattle.s2_cellid.specs.Family.{leaf_id, cell_has_leaf, square_id, parent_id, child_id}
-use Rattle.s2_cellid.proofs.Blocks.{SharesLeaf, leaves_between, ends_below, leaf_has_itself, power_double, block_of, number_of}
+use Rattle.s2_cellid.specs.BlockLaws.{SharesLeaf, leaves_between, ends_below, leaf_has_itself, power_double, block_of, number_of, id_between}
 
 pub count_room : (level : ℕ) → (0 < leaf_count level) × (leaf_count level ≤ 2 ^ 60)
 count_room level =
@@ -183,6 +183,18 @@ parent_cell level id valid at_most =
     let product : (id / (2 * count) + 1) * count ≤ 6 * 4 ^ level * count =
     mul-le (id / (2 * count) + 1) count (6 * 4 ^ level) count (omega (arith, number)) (omega arith) in
     cell_of (parent_id level id) level (id / (2 * count)) at_most (omega (arith, product, whole)) (omega arith)
+
+-- the bits of a valid id above the lowest set bit of a level
+pub kept_above : (level id : ℕ) → IsCellId id
+    → bit_and id (2 ^ 64 - 1 - (2 * leaf_count level - 1)) ≡ id / (2 * leaf_count level) * (2 * leaf_count level)
+kept_above level id valid =
+    let place = 2 * (30 - level) + 1 in
+    let power : 2 * leaf_count level ≡ 2 ^ place =
+    ap (λ n. 2 * n) (power_of_four (30 - level)) ∙ omega (arith, pow-add 2 (2 * (30 - level)) 1) in
+    let room = count_room level in
+    let mask : 2 ^ 64 - 1 - (2 * leaf_count level - 1) ≡ 2 ^ 64 - 2 ^ place = omega (arith, power, room) in
+    let fits : id < 2 ^ 64 = (id_between id valid).1 in
+    rw (mask, power) (and_high_mask 64 place (omega arith) id fits)
 
 -- the number of the cell above, by the cell's and by those of its leaves
 pub parent_number : (level id p : ℕ) → IsCellId id → level ≤ level_of id → IsTrue (cell_has id p)

@@ -17,7 +17,7 @@ pub record IsBlock (id unit number : ℕ) : Type 0 where
   pub within : number * unit + unit ≤ 6 * 2 ^ 60
 
 -- a number with no bit set below place k is a multiple of 2 ^ k
-zero_low : (k n : ℕ) → ((i : ℕ) → i < k → bit_at n i ≡ 0) → n % 2 ^ k ≡ 0
+pub zero_low : (k n : ℕ) → ((i : ℕ) → i < k → bit_at n i ≡ 0) → n % 2 ^ k ≡ 0
 zero_low k n unset =
     same_from_bits_below k (n % 2 ^ k) 0 (mod_below n (2 ^ k) (pow_pos k)) (pow_pos k) (λ i below.
     sym (bit_at_cat_low (n / 2 ^ k) k (n % 2 ^ k) i below) ∙ ap (λ m. bit_at m i) (shr_split n k)

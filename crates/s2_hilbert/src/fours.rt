@@ -1,0 +1,87 @@
+//! The curve through a face: the two highest levels one at a step, and the others four at a step.
+
+ghost use Rattle.std.specs.Prelude.{◌≡◌, ℕ, ◌+◌, ◌*◌, ◌/◌, ◌%◌, ◌^◌, ◌<◌, slice_index};
+ghost use Rattle.s2_hilbert.specs.Grid as grid;
+ghost use Rattle.s2_hilbert.specs.Curve as curve;
+
+use crate::quadrants::{quadrant_at, step_to, turned};
+use crate::tables::{place_of_four, point_of_four};
+use crate::walk::{LEAF_LEVEL, quadrant_of};
+
+// How many steps of four levels there are below the two highest levels.
+const FOURS: u8 = 7;
+
+// The hex digits at even places, the lowest among them.
+const EVEN_DIGITS: u32 = 0x0f0f_0f0f;
+
+/// The place of a point along the curve through a face.
+pub fn place_on_face(turn: u8, i: u32, j: u32) -> u64
+    requires { turn < 4 }
+    ensures value { result ≡ curve.place grid.leaf_level turn i j }
+    ensures below { result < curve.leaf_count 0 }
+{
+    let first = step_to(turn, quadrant_of(LEAF_LEVEL - 1, i, j));
+    let second = step_to(first.turn, quadrant_of(LEAF_LEVEL - 2, i, j));
+    let digits = paired_digits(i, j);
+    let mut place = 4 * u64::from(first.place) + u64::from(second.place);
+    let mut row = 256 * usize::from(second.turn);
+    for step in 0..FOURS {
+        let four = place_of_four(row + pair_at(digits, FOURS - 1 - step));
+        place = 256 * place + u64::from(four.place);
+        row = usize::from(four.row);
+    }
+    place
+}
+
+/// The point at a place along the curve through a face.
+pub fn point_on_face(turn: u8, along: u64) -> (u32, u32)
+    requires turn { turn < 4 }
+    requires along { along < curve.leaf_count 0 }
+    ensures undone { curve.place grid.leaf_level turn result.0 result.1 ≡ along }
+    ensures i_below { result.0 < grid.side_of 0 }
+    ensures j_below { result.1 < grid.side_of 0 }
+{
+    let first = (along >> 58) as u8;
+    let second = (along >> 56 & 3) as u8;
+    let half = turned(turn, first);
+    let outer = quadrant_at(turn, first);
+    let inner = quadrant_at(half, second);
+    let mut i = 2 * u32::from(outer / 2) + u32::from(inner / 2);
+    let mut j = 2 * u32::from(outer % 2) + u32::from(inner % 2);
+    let mut row = 256 * usize::from(turned(half, second));
+    for step in 0..FOURS {
+        let place = (along >> (8 * (FOURS - 1 - step)) & 255) as usize;
+        let four = point_of_four(row + place);
+        i = 16 * i + u32::from(four.i);
+        j = 16 * j + u32::from(four.j);
+        row = usize::from(four.row);
+    }
+    (i, j)
+}
+
+// The hex digits of two coordinates side by side, a pair in each byte: in the first number those at
+// even places, in the second those at odd ones.
+fn paired_digits(i: u32, j: u32) -> [u32; 2]
+    ensures { (digit : ℕ) → digit < 8 →
+        slice_index result (digit % 2) / 2 ^ (8 * (digit / 2)) % 256
+        ≡ 16 * (i / 2 ^ (4 * digit) % 16) + j / 2 ^ (4 * digit) % 16 }
+{
+    [even_digits(i, j), even_digits(i >> 4, j >> 4)]
+}
+
+// The hex digits at even places, those of `i` above those of `j` in each byte.
+fn even_digits(i: u32, j: u32) -> u32
+    ensures { (byte : ℕ) → byte < 4 → result / 2 ^ (8 * byte) % 256
+        ≡ 16 * (i / 2 ^ (8 * byte) % 16) + j / 2 ^ (8 * byte) % 16 }
+{
+    16 * (i & EVEN_DIGITS) + (j & EVEN_DIGITS)
+}
+
+// The pair of hex digits at a place.
+fn pair_at(digits: [u32; 2], digit: u8) -> usize
+    requires { digit < 8 }
+    ensures value { result ≡ slice_index digits (digit % 2) / 2 ^ (8 * (digit / 2)) % 256 }
+    ensures below { result < 256 }
+{
+    (digits[usize::from(digit % 2)] >> (8 * (digit / 2)) & 255) as usize
+}
