@@ -3,7 +3,7 @@ use Rattle.std.specs.Prelude.{◌≡◌, ℕ, ◌+◌, ◌<◌, ◌≤◌, Bool,
 use Rattle.s2_cellid.specs.Cell.{lowest_place, IsCellId, first_leaf, last_leaf}
 use Rattle.s2_cover.specs.Leaves.{leaves_of}
 use Rattle.s2_cover.specs.Canonical.{IsLargest}
-use Rattle.s2_cover.specs.Runs.{IsSpan, span_has}
+use Rattle.s2_cover.specs.Ranges.{IsSpan, span_has}
 use Rattle.s2_cover.specs.declared.spans.Span.{Span}
 
 -- a longest run of positions of the set

@@ -5,7 +5,7 @@ ghost use Rattle.std.specs.Prelude.{IfOk, OnOk, IfSome, IfNone};
 ghost use Rattle.s2_cellid.specs.Cell.{lowest_place};
 ghost use Rattle.s2_cover.specs.Leaves.{leaves_of};
 ghost use Rattle.s2_cover.specs.Canonical.{IsCanonical};
-ghost use Rattle.s2_cover.specs.Runs.{IsRanges};
+ghost use Rattle.s2_cover.specs.Ranges.{IsRanges};
 ghost use Rattle.s2_cover.specs.Laying.{IsRun, IsLaid, BeginsAt, IsLargestFrom};
 
 use crate::spans::{Ranges, Span};

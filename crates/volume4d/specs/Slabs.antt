@@ -1,7 +1,7 @@
 -- The slabs of volumes and of areas.
 use Rattle.std.specs.Prelude.{◌≡◌, List, [], ◌∷◌, ◌++◌, All, map}
 use Rattle.s2_cover.specs.declared.spans.Span.{Span}
-use Rattle.s2_cover.specs.Runs.{IsRanges}
+use Rattle.s2_cover.specs.Ranges.{IsRanges}
 use Rattle.volume4d.specs.declared.slab.Slab.{Slab}
 use Rattle.volume4d.specs.Shape.{shape_positions}
 use Rattle.volume4d.specs.Windows.{WindowParts}

@@ -4,7 +4,7 @@ ghost use Rattle.std.specs.Prelude.{◌≡◌, ◌<◌, ◌&&◌, ◌∷◌, IfO
 ghost use Rattle.std.specs.Int.{w64, to_be_bytes, from_be_bytes};
 ghost use Rattle.std.specs.Option.{SomeIff};
 ghost use Rattle.s2_cellid.specs.Cell.{IsCellId};
-ghost use Rattle.s2_cover.specs.Runs.{IsRanges};
+ghost use Rattle.s2_cover.specs.Ranges.{IsRanges};
 ghost use Rattle.volume4d.specs.Shape as shapes;
 ghost use Rattle.volume4d.specs.Shape.{Shape, shape_positions, is_footprint};
 ghost use Rattle.volume4d.specs.Footprint.{shape_of};

@@ -1,7 +1,7 @@
 //! Volumes.
 
 ghost use Rattle.std.specs.Prelude.{◌≡◌, Ok, Err, if◌then◌else◌, IsTrue, IfOk, All};
-ghost use Rattle.s2_cover.specs.Runs.{IsSpan};
+ghost use Rattle.s2_cover.specs.Ranges.{IsSpan};
 ghost use Rattle.volume4d.specs.Point.{Point};
 ghost use Rattle.volume4d.specs.Windows.{is_window};
 ghost use Rattle.volume4d.specs.Footprint.{shape_of};
