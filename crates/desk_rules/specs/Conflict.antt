@@ -1,6 +1,6 @@
--- The conflict of a plan: strategic conflict detection of ASTM F3548-21, where a plan may lie over
--- a lower priority and not over a higher one; equal priorities, which the standard leaves to the
--- regulator, block.
+-- The conflict of a plan, by the strategic conflict detection of ASTM F3548-21: a plan may share
+-- points with plans of lower priority, and not with those of higher priority. The standard leaves equal
+-- priorities to the regulator; here they block.
 use Rattle.std.specs.Prelude.{ℕ, ◌+◌, ℤ, unsigned_abs, List, Bool, ◌&&◌, cond, Option, None}
 use Rattle.std.specs.Option.{option_map, option_and_then}
 use Rattle.std.specs.List.{sum_by}
@@ -13,18 +13,18 @@ use Rattle.desk_rules.specs.Level.{reaches}
 use Rattle.volume4d.specs.Meeting.{Spot, IsFirst}
 use Rattle.desk_rules.specs.Search.{first_below, first_within, first_pair}
 
--- a point of an area is blocked where the greatest priority that others hold there is at least the
+-- a point of an area is blocked if the greatest priority that others hold there is at least the
 -- plan's own
 unfoldable pub is_blocked : List Block → (Point → Option ℕ) → ℕ → Point → Bool
 is_blocked area levels priority x = area_has area x && reaches (levels x) priority
 
--- what a conflict is: none where no point is blocked, else the blocked point that is least by leaf
--- id, altitude and second, with the greatest priority that others hold there
+-- what a conflict is: None if no point is blocked, else the first blocked point, by leaf id, then
+-- altitude, then second, with the greatest priority that others hold there
 abbrev pub IsConflict : List Block → (Point → Option ℕ) → ℕ → Option Spot → Type 0
 IsConflict area levels priority spot = IsFirst (is_blocked area levels priority) levels spot
 
--- Numbers that no point of an area goes beyond, a leaf by its position along the curve: the search
--- below ends there.
+-- Bounds on the numbers of an area's points, a leaf by its position along the curve: the search below
+-- ends there.
 abbrev pub leaf_reach : Shape → ℕ
 leaf_reach (cells ids) = sum_by (λ id. last_leaf_id id + 1) ids
 
@@ -38,7 +38,7 @@ second_reach v = unsigned_abs v.window.start + unsigned_abs v.window.end
 abbrev pub point_of : ℕ × (ℤ × ℤ) → Point
 point_of p = record { leaf = grid_leaf_at p.0; altitude = p.1.0; second = p.1.1 }
 
--- the first point of an area that passes
+-- the first point of an area that passes a test
 unfoldable pub first_point : List Block → (Point → Bool) → Option Point
 first_point area passes =
     option_map point_of
@@ -52,6 +52,6 @@ conflict area levels priority =
     option_and_then (λ x. option_map (λ level. record { point = x; priority = level }) (levels x))
     (first_point area (is_blocked area levels priority))
 
--- a level, where it is at least a priority
+-- a level if it is at least the priority, and else None
 abbrev pub at_least : ℕ → Option ℕ → Option ℕ
 at_least priority level = cond (reaches level priority) level None

@@ -1,5 +1,5 @@
--- What comes of a request to plan: the order of refusals at this desk, a list of conditions of
--- which the first counts.
+-- The outcome of a request to plan: a list of reasons to refuse, this desk's own, of which the first
+-- that applies counts.
 use Rattle.std.specs.Prelude.{ℕ, ℤ, pos, ◌+ℤ◌, int_le, int_lt, nat_le, nat_lt, List, [], ◌∷◌, Bool, true, false, not, ◌&&◌, Option, Some, None, is_some, is_none}
 use Rattle.std.specs.List.{list_any}
 use Rattle.desk_rules.specs.declared.plan.PlanRow.{PlanRow}
@@ -30,7 +30,7 @@ has_ended area moment = list_any (λ v. int_le v.window.end moment) area
 unfoldable pub is_beyond_horizon : List Block → ℤ → Bool
 is_beyond_horizon area moment = list_any (λ v. int_lt (moment +ℤ pos max_ahead) v.window.start) area
 
--- the table's note, where it refuses
+-- the state table's note, if it refuses
 abbrev pub refusal_of : Step → Option Note
 refusal_of (Refuse n) = Some n
 refusal_of (Check s) = None
@@ -38,8 +38,8 @@ refusal_of (Report s) = None
 refusal_of Shut = None
 refusal_of Keep = None
 
--- what the later places look at: a check at all of them, a report at the ceiling and the number of
--- plans, closing at none
+-- which of the later refusals apply: all of them to a check, those of the ceiling and of the number of
+-- plans to a report, none to closing
 abbrev pub is_check : Step → Bool
 is_check (Refuse n) = false
 is_check (Check s) = true
@@ -54,7 +54,7 @@ is_stored (Report s) = true
 is_stored Shut = false
 is_stored Keep = false
 
--- the first note that is there
+-- the first note of the list
 abbrev pub first_note : List (Option Note) → Option Note
 first_note [] = None
 first_note (None ∷ notes) = first_note notes
@@ -77,7 +77,7 @@ note_of call moment stored own_rows ceiling blocked =
     ∷ note_where (is_check step && blocked) note.Conflict
     ∷ [])
 
--- a refusal's result: only an unsupported style is not a rejection
+-- the result of a refused request: an unsupported style is NotSupported, all else Rejected
 abbrev pub refused_result : Note → PlanResult
 refused_result note.Style = result.NotSupported
 refused_result note.State = result.Rejected
@@ -89,7 +89,7 @@ refused_result note.Priority = result.Rejected
 refused_result note.PlansLimit = result.Rejected
 refused_result note.Conflict = result.Rejected
 
--- the conflict stands beside its note alone
+-- the conflict is named only beside its own note
 abbrev pub shown_conflict : Note → Option Spot → Option Spot
 shown_conflict note.Style conflict = None
 shown_conflict note.State conflict = None
@@ -101,7 +101,7 @@ shown_conflict note.Priority conflict = None
 shown_conflict note.PlansLimit conflict = None
 shown_conflict note.Conflict conflict = conflict
 
--- the status and the effect of a step that nothing refuses
+-- the status and the effect of a step that is carried out
 abbrev pub step_status : Step → PlanStatus
 step_status (Refuse n) = status.NotPlanned
 step_status (Check s) = s
@@ -116,13 +116,13 @@ step_effect (Report s) = effect.Save
 step_effect Shut = effect.Shut
 step_effect Keep = effect.Nothing
 
--- a hypothetical request has no effect
+-- a hypothetical request changes nothing
 abbrev pub styled_effect : Style → Effect → Effect
 styled_effect style.Hypothetical e = effect.Nothing
 styled_effect style.IfAllowed e = e
 styled_effect style.InReality e = e
 
--- a refusal keeps the stored plan and tells its status
+-- a refusal leaves the stored plan and gives its status
 abbrev pub verdict_by : PutCall → Option PlanRow → Option Spot → Option Note → Verdict
 verdict_by call stored conflict (Some n) =
     record {
@@ -141,8 +141,8 @@ verdict_by call stored conflict None =
       effect = styled_effect call.style (step_effect (step_of stored call));
     }
 
--- the outcome of a request at a moment, beside the stored plan of its id, the number of the
--- operator's plans, the operator's ceiling and the conflict of the area asked
+-- the outcome of a request at a moment, given the operator's plan with its id, the number of the
+-- operator's plans, the operator's ceiling and the conflict of the requested area
 unfoldable pub outcome : PutCall → ℤ → Option PlanRow → ℕ → ℕ → Option Spot → Verdict
 outcome call moment stored own_rows ceiling conflict =
     verdict_by call stored conflict

@@ -18,6 +18,6 @@ is_live usage.Closed = false
 unfoldable pub row_holds : PlanRow → Point → Bool
 row_holds row x = is_live row.usage && area_has row.area x
 
--- the greatest priority of the plans that hold the point, or none
+-- the greatest priority of the plans that hold the point, or None
 unfoldable pub top_priority : List PlanRow → Point → Option ℕ
 top_priority rows x = greatest (map (λ r. r.priority) (filter (λ r. row_holds r x) rows))

@@ -1,4 +1,4 @@
--- The first thing of a kind that passes a test, by looking at each in turn.
+-- The first thing that passes a test, found by trying each in turn.
 use Rattle.std.specs.Prelude.{ℕ, zero, suc, ◌+◌, ℤ, pos, ◌-ℤ◌, Bool, cond, Option, Some, None, is_some}
 use Rattle.std.specs.Option.{option_map, option_and_then}
 
@@ -6,7 +6,7 @@ use Rattle.std.specs.Option.{option_map, option_and_then}
 abbrev pub Finder : Type 0 → Type 0
 Finder A = (A → Bool) → Option A
 
--- the first, unless it is none
+-- the first if there is one, else the second
 abbrev pub earlier_of : {A : Type 0} → Option A → Option A → Option A
 earlier_of None b = b
 earlier_of (Some a) b = Some a

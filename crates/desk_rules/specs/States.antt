@@ -27,13 +27,13 @@ status_of_states usage.Planned craft = status.Planned
 status_of_states usage.InUse craft = status_in_use craft
 status_of_states usage.Closed craft = status.Closed
 
--- the status of a stored plan, or of none
+-- the status of a stored plan, or of no plan
 abbrev pub status_of : Option PlanRow → PlanStatus
 status_of None = status.NotPlanned
 status_of (Some row) = status_of_states row.usage row.aircraft
 
--- a style is offered for the states asked: reports from reality are for an aircraft off its plan and
--- for closing
+-- whether a style is offered for the requested states: InReality is for an aircraft that is off its
+-- plan, and for closing
 abbrev pub is_offered : Style → Usage → Aircraft → Bool
 is_offered style.Hypothetical want craft = true
 is_offered style.IfAllowed want craft = true
@@ -43,9 +43,9 @@ is_offered style.InReality usage.InUse aircraft.OffNominal = true
 is_offered style.InReality usage.InUse aircraft.Contingent = true
 is_offered style.InReality usage.Closed craft = true
 
--- The state table, a row for each state of the stored plan; the states asked are the columns.
+-- The state table: a row for each state of the stored plan, a column for the requested states.
 
--- where no plan is stored
+-- if no plan is stored
 abbrev pub step_from_none : Usage → Aircraft → Step
 step_from_none usage.Planned aircraft.Nominal = Check status.Planned
 step_from_none usage.Planned aircraft.OffNominal = Refuse note.State
@@ -55,7 +55,7 @@ step_from_none usage.InUse aircraft.OffNominal = Refuse note.State
 step_from_none usage.InUse aircraft.Contingent = Refuse note.State
 step_from_none usage.Closed craft = Refuse note.NotPlanned
 
--- where it is planned
+-- if it is planned
 abbrev pub step_from_planned : Usage → Aircraft → Step
 step_from_planned usage.Planned aircraft.Nominal = Check status.Planned
 step_from_planned usage.Planned aircraft.OffNominal = Refuse note.State
@@ -65,7 +65,7 @@ step_from_planned usage.InUse aircraft.OffNominal = Report status.OffNominal
 step_from_planned usage.InUse aircraft.Contingent = Report status.OffNominal
 step_from_planned usage.Closed craft = Shut
 
--- where it is in use, the same for the aircraft states Nominal and OffNominal of the stored plan
+-- if it is in use, and its aircraft is Nominal or OffNominal
 abbrev pub step_from_use : Usage → Aircraft → Step
 step_from_use usage.Planned craft = Refuse note.State
 step_from_use usage.InUse aircraft.Nominal = Check status.OkToFly
@@ -73,7 +73,7 @@ step_from_use usage.InUse aircraft.OffNominal = Report status.OffNominal
 step_from_use usage.InUse aircraft.Contingent = Report status.OffNominal
 step_from_use usage.Closed craft = Shut
 
--- where it is in use with a contingency, which is left by closing alone
+-- if it is in use with a contingency, which only closing ends
 abbrev pub step_from_contingency : Usage → Aircraft → Step
 step_from_contingency usage.Planned craft = Refuse note.State
 step_from_contingency usage.InUse aircraft.Nominal = Refuse note.State
@@ -81,13 +81,13 @@ step_from_contingency usage.InUse aircraft.OffNominal = Refuse note.State
 step_from_contingency usage.InUse aircraft.Contingent = Report status.OffNominal
 step_from_contingency usage.Closed craft = Shut
 
--- where it is closed
+-- if it is closed
 abbrev pub step_from_closed : Usage → Step
 step_from_closed usage.Planned = Refuse note.Closed
 step_from_closed usage.InUse = Refuse note.Closed
 step_from_closed usage.Closed = Keep
 
--- from the states of a stored plan to those asked
+-- from the states of a stored plan to the requested ones
 abbrev pub step_from_states : Usage → Aircraft → Usage → Aircraft → Step
 step_from_states usage.Planned stored want craft = step_from_planned want craft
 step_from_states usage.InUse aircraft.Nominal want craft = step_from_use want craft
@@ -95,7 +95,7 @@ step_from_states usage.InUse aircraft.OffNominal want craft = step_from_use want
 step_from_states usage.InUse aircraft.Contingent want craft = step_from_contingency want craft
 step_from_states usage.Closed stored want craft = step_from_closed want
 
--- from a stored plan, or none, for a request
+-- from a stored plan, or from no plan, for a request
 abbrev pub step_of : Option PlanRow → PutCall → Step
 step_of None call = step_from_none call.usage call.aircraft
 step_of (Some row) call = step_from_states row.usage row.aircraft call.usage call.aircraft

@@ -1,23 +1,25 @@
-//! What is asked of a desk.
+//! Calls to the desk.
 
 use crate::operator::Operator;
 use crate::plan::PutCall;
 use crate::plan_id::PlanId;
 
-/// What is asked of the desk.
+/// A call to the desk.
 #[derive(Debug, Drop)]
 pub enum Call {
-    /// Whether the desk is ready.
+    /// Ask whether the desk is ready.
     Status,
-    /// A flight is to be planned, activated, changed or closed.
+    /// Plan, activate, change or close a flight.
     Put(PutCall),
-    /// The plan of an id is to be closed.
+    /// Close the plan with this id.
     Delete(PlanId),
 }
 
-/// A call, and the operator who makes it.
+/// A call and the operator that makes it.
 #[derive(Debug, Drop)]
 pub struct Asked {
+    /// The operator that makes the call.
     pub operator: Operator,
+    /// The call.
     pub call: Call,
 }

@@ -1,4 +1,4 @@
-//! Conflicts of areas with what others hold.
+//! Conflicts of an area with stored plans.
 
 ghost use Rattle.std.specs.Prelude.{◌≡◌, ℕ, List, Option};
 ghost use Rattle.volume4d.specs.Point.{Point};
@@ -8,8 +8,12 @@ ghost use Rattle.desk_rules.specs.Conflict.{conflict};
 
 use volume4d::{Held, Meeting, Slab, first_meeting};
 
-/// The conflict of an area of which `mine` are the slabs, where `theirs` hold at its points the
-/// others' greatest priority wherever that is at least the area's own: the first blocked point.
+/// The conflict of an area with other plans: its first blocked point, or `None` if no point is
+/// blocked.
+///
+/// `mine` are the area's slabs. `theirs` are slabs of the other plans: at each point of the area their
+/// greatest priority is the greatest of all other plans, if that is at least the area's own priority;
+/// elsewhere they hold nothing.
 pub fn first_conflict(mine: &[Slab], theirs: &[Held]) -> Option<Meeting>
     ensures { (area : List Block) (levels : Point → Option ℕ) (priority : ℕ) →
         AreSlabsOf mine.now area → HoldLevels theirs.now area levels priority →

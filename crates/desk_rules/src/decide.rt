@@ -1,10 +1,10 @@
 //! The order of refusals.
 
-ghost use Rattle.std.specs.Prelude.{◌≡◌, ◌&&◌, None, pos, ◌≤ℤ◌, int_le, int_lt, nat_le, is_none};
+ghost use Rattle.std.specs.Prelude.{◌≡◌, ◌&&◌, None, pos, ◌+ℤ◌, ◌-ℤ◌, int_le, int_lt, nat_le, is_none};
 ghost use Rattle.std.specs.Option.{option_copied};
 ghost use Rattle.desk_rules.specs.declared.words.PlanResult.TheVariants as results;
 ghost use Rattle.desk_rules.specs.Outcome.{outcome, has_ended, is_beyond_horizon, step_status, step_effect, styled_effect, note_of, refused_result, shown_conflict};
-ghost use Rattle.desk_rules.specs.Limits.{max_plans};
+ghost use Rattle.desk_rules.specs.Limits.{max_plans, max_ahead};
 ghost use Rattle.desk_rules.specs.States as spec;
 ghost use Rattle.desk_rules.specs.States.{status_in_use, is_offered};
 
@@ -13,46 +13,46 @@ use crate::transition::{Step, transition};
 use crate::words::{Aircraft, Note, PlanResult, PlanStatus, Style, Usage};
 use volume4d::{Meeting, Volume};
 
-/// What a request does to the stored plan of its id.
+/// How a request changes the stored plan with its id.
 #[derive(Clone, Copy, Debug, PartialEq, Eq)]
 pub enum Effect {
     /// Nothing changes.
     Nothing,
-    /// The request's plan is stored, in place of the one stored before.
+    /// The requested plan is stored, in place of any stored before.
     Save,
     /// The stored plan is closed.
     Shut,
 }
 
-/// What comes of a request, `planning_result` and `flight_plan_status` of InterUSS
-/// flight_planning v1 with the desk's own reasons.
+/// The outcome of a request: `planning_result` and `flight_plan_status` of InterUSS flight_planning
+/// v1, the reason for a refusal, and the change to the stored plan.
 #[derive(Clone, Copy, Debug, PartialEq, Eq)]
 pub struct Verdict {
-    /// What came of the request.
+    /// Whether the request was carried out.
     pub result: PlanResult,
     /// The status of the plan after the request.
     pub status: PlanStatus,
-    /// Why the request was refused.
+    /// Why the request was refused, or `None` if it was carried out.
     pub note: Option<Note>,
-    /// The first point that is blocked, beside the note `Conflict` alone.
+    /// The first blocked point, if the note is `Conflict`.
     pub meeting: Option<Meeting>,
-    /// What the request does to the stored plan.
+    /// How the stored plan changes.
     pub effect: Effect,
 }
 
-/// How long before its start a plan may be asked, in seconds: thirty days.
+/// The greatest time between a request and the start of its plan, in seconds: thirty days.
 pub const HORIZON: i64 = 2_592_000;
 
-/// How many plans an operator may have, closed ones too.
+/// The most plans that an operator may have, closed ones included.
 pub const MAX_PLANS: u32 = 200;
 
-/// The verdict on a request: the first refusal that applies, in the order of `Note`, and where none
-/// does, that the request is carried out.
+/// The verdict on a request: the first refusal that applies, in the order of `Note`, or `Completed`
+/// if none does.
 ///
-/// `moment` is the Unix second of the request, 0 to 253,370,764,800, `stored` the plan of the same
-/// operator and id, `own_rows` the number of the operator's plans, closed ones too, `ceiling` the
-/// greatest priority that the operator may ask, and `meeting` the conflict of the area asked: the
-/// first point of it that is blocked.
+/// `moment` is the Unix second of the request. `stored` is the operator's plan with this id, and
+/// `own_rows` the number of the operator's plans, closed ones included. `ceiling` is the greatest
+/// priority that the operator may use. `meeting` is the conflict of the requested area: its first
+/// blocked point.
 #[tactic(auto, unfolding(crate::specs::Outcome::outcome))]
 pub fn decide(
     call: &PutCall,
@@ -62,7 +62,6 @@ pub fn decide(
     ceiling: u32,
     meeting: Option<Meeting>,
 ) -> Verdict
-    requires moment_range { (pos 0 ≤ℤ moment) × (moment ≤ℤ pos 253370764800) }
     ensures { result ≡
         outcome call.now moment (option_copied stored.entry) own_rows ceiling meeting }
 {
@@ -78,7 +77,7 @@ pub fn decide(
     }
 }
 
-// The verdict on a request that nothing refuses.
+// The verdict on a request that is carried out.
 fn completed(style: Style, step: Step) -> Verdict
     ensures { result ≡ record {
       result = results.Completed;
@@ -97,7 +96,7 @@ fn completed(style: Style, step: Step) -> Verdict
     }
 }
 
-// The first of the seven places of the order of refusals whose condition holds.
+// The reason of the first refusal that applies, or `None` if none does.
 #[tactic(auto, unfolding(crate::specs::Outcome::note_of))]
 fn note_for(
     call: &PutCall,
@@ -107,7 +106,6 @@ fn note_for(
     ceiling: u32,
     blocked: bool,
 ) -> Option<Note>
-    requires moment_range { (pos 0 ≤ℤ moment) × (moment ≤ℤ pos 253370764800) }
     ensures { result ≡
         note_of call.now moment (option_copied stored.entry) own_rows ceiling blocked }
 {
@@ -148,7 +146,7 @@ fn note_for(
     }
 }
 
-// Whether a new plan would be one too many.
+// Whether the request is for a new plan and the operator has as many as it may have.
 fn is_full(stored: Option<&PlanRow>, own_rows: u32) -> bool
     ensures { result ≡ (is_none (option_copied stored.entry) && nat_le max_plans own_rows) }
 {
@@ -158,6 +156,7 @@ fn is_full(stored: Option<&PlanRow>, own_rows: u32) -> bool
     }
 }
 
+// Whether the desk supports the style for the requested states.
 fn offers(style: Style, usage: Usage, aircraft: Aircraft) -> bool
     ensures { result ≡ is_offered style usage aircraft }
 {
@@ -176,28 +175,36 @@ fn any_ended(volumes: &[Volume], moment: i64) -> bool
     volumes.iter().any(|volume| ends_by(volume, moment))
 }
 
+// Whether a volume's end is at or before the moment.
 fn ends_by(volume: &Volume, moment: i64) -> bool
     ensures { result ≡ int_le volume.now.window.end moment }
 {
     volume.window().end() <= moment
 }
 
-fn starts_after(volume: &Volume, second: i64) -> bool
-    ensures { result ≡ int_lt second volume.now.window.start }
+// Whether a volume starts more than `HORIZON` after the moment.
+fn starts_beyond(volume: &Volume, moment: i64) -> bool
+    ensures { result ≡ int_lt (moment +ℤ pos max_ahead) volume.now.window.start }
 {
-    volume.window().start() > second
+    moment < earliest_request(volume)
 }
 
-// Whether some volume's start is beyond the horizon.
+// The earliest second at which a volume may be requested.
+fn earliest_request(volume: &Volume) -> i64
+    ensures { result ≡ volume.now.window.start -ℤ pos max_ahead }
+{
+    volume.window().start() - HORIZON
+}
+
+// Whether some volume starts more than `HORIZON` after the moment.
 #[tactic(auto, unfolding(crate::specs::Outcome::is_beyond_horizon))]
 fn any_beyond(volumes: &[Volume], moment: i64) -> bool
-    requires moment_range { (pos 0 ≤ℤ moment) × (moment ≤ℤ pos 253370764800) }
     ensures { result ≡ is_beyond_horizon volumes.now moment }
 {
-    let latest = moment + HORIZON;
-    volumes.iter().any(|volume| starts_after(volume, latest))
+    volumes.iter().any(|volume| starts_beyond(volume, moment))
 }
 
+// The result of a refused request.
 fn result_for(note: Note) -> PlanResult
     ensures { result ≡ refused_result note }
 {
@@ -207,7 +214,7 @@ fn result_for(note: Note) -> PlanResult
     }
 }
 
-/// The status of a stored plan, or of none: `flight_plan_status` of flight_planning v1.
+/// The status of a stored plan, or of no plan: `flight_plan_status` of flight_planning v1.
 pub fn status_of(stored: Option<&PlanRow>) -> PlanStatus
     ensures { result ≡ spec.status_of (option_copied stored.entry) }
 {
@@ -221,6 +228,7 @@ pub fn status_of(stored: Option<&PlanRow>) -> PlanStatus
     }
 }
 
+// The status of a plan in use.
 fn in_use(aircraft: Aircraft) -> PlanStatus
     ensures { result ≡ status_in_use aircraft }
 {
@@ -230,6 +238,7 @@ fn in_use(aircraft: Aircraft) -> PlanStatus
     }
 }
 
+// The status of the plan after a step that is carried out.
 fn status_after(step: Step) -> PlanStatus
     ensures { result ≡ step_status step }
 {
@@ -242,6 +251,7 @@ fn status_after(step: Step) -> PlanStatus
     }
 }
 
+// The change to the stored plan by a step that is carried out.
 fn effect_of(style: Style, step: Step) -> Effect
     ensures { result ≡ styled_effect style (step_effect step) }
 {
@@ -257,6 +267,7 @@ fn effect_of(style: Style, step: Step) -> Effect
     }
 }
 
+// The blocked point that a refusal names, if it names one.
 fn shown(note: Note, meeting: Option<Meeting>) -> Option<Meeting>
     ensures { result ≡ shown_conflict note meeting }
 {

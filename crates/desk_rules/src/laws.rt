@@ -1,4 +1,4 @@
-//! Laws of the definitions. Each is the contract of a function that does nothing.
+//! Laws of the definition of a conflict. Each is the contract of a function that does nothing.
 
 ghost use Rattle.std.specs.Prelude.{◌≡◌, ℕ, List, Option};
 ghost use Rattle.volume4d.specs.Point.{Point};
@@ -12,13 +12,13 @@ pub fn one_conflict()
         IsConflict area levels priority a → IsConflict area levels priority b → a ≡ b }
 {}
 
-/// The search for the conflict finds it.
+/// The definition by a search gives the conflict.
 pub fn conflict_is_found()
     ensures { (area : List Block) (levels : Point → Option ℕ) (priority : ℕ) →
         IsConflict area levels priority (conflict area levels priority) }
 {}
 
-/// Where others hold the same at each point, the conflict is the same.
+/// The conflict depends only on the greatest priority that others hold at each point.
 pub fn same_levels_same_conflict()
     ensures found { (area : List Block) (f g : Point → Option ℕ) (priority : ℕ) →
         ((x : Point) → f x ≡ g x) → conflict area f priority ≡ conflict area g priority }

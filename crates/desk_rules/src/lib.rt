@@ -1,4 +1,4 @@
-//! The rules of the planning desk, apart from any store: plans and their words, the state table,
+//! The rules of the planning desk, which know of no store: plans and their words, the state table,
 //! conflicts and the order of refusals.
 #![tactic(auto)]
 

@@ -2,6 +2,7 @@
 
 ghost use Rattle.std.specs.Prelude.{◌≡◌, ◌-◌, ◌≤◌, ◌++◌, Some, None, if◌then◌else◌, length, replicate};
 ghost use Rattle.std.specs.List.{list_all};
+ghost use Rattle.desk_rules.specs.Limits.{max_name_length};
 ghost use Rattle.desk_rules.specs.Name as spec;
 ghost use Rattle.desk_rules.specs.Name.{is_operator_name};
 
@@ -9,34 +10,39 @@ use std::cmp::Ordering;
 use std::marker::Model;
 use std::{fmt, str};
 
-/// An operator's name: 1 to 32 bytes of `a-z`, `0-9` and `-`, kept in place.
+// The most bytes of a name.
+const MAX_NAME: usize = 32;
+
+/// An operator's name: 1 to 32 bytes of `a-z`, `0-9` and `-`.
 #[derive(Clone, Copy, Debug)]
 pub struct Operator {
-    bytes: [u8; 32],
+    // the name, and zeros after it
+    bytes: [u8; MAX_NAME],
     len: usize,
 }
 
 impl Model for Operator {
     ghost use Rattle.std.specs.Prelude.{◌≡◌, ℕ, ◌-◌, ◌≤◌, ◌++◌, List, length, take, replicate, IsTrue};
     ghost use Rattle.std.proofs.Common.{arith, sym, length-take-le};
+    ghost use Rattle.desk_rules.specs.Limits.{max_name_length};
     ghost use Rattle.desk_rules.specs.Name.{is_operator_name};
 
     ghost Value = { List ℕ };
 
     ghost view = { λ o. take o.len o.bytes };
 
-    ghost invariant = { λ o. (length o.bytes ≡ 32) × (o.len ≤ 32)
+    ghost invariant = { λ o. (length o.bytes ≡ max_name_length) × (o.len ≤ max_name_length)
         × IsTrue (is_operator_name (take o.len o.bytes))
-        × (o.bytes ≡ take o.len o.bytes ++ replicate (32 - o.len) 0) };
+        × (o.bytes ≡ take o.len o.bytes ++ replicate (max_name_length - o.len) 0) };
 
     ghost inverse = { λ name. record {
-      bytes = name ++ replicate (32 - length name) 0;
+      bytes = name ++ replicate (max_name_length - length name) 0;
       len = length name;
     } };
 }
 
 impl Operator {
-    /// The operator of a name, or None.
+    /// The operator with this name, or `None` if it is not a valid name.
     pub fn try_new(name: &[u8]) -> Option<Operator>
         ensures { result ≡ (if is_operator_name name.now then Some name.now else None) }
     {
@@ -128,19 +134,20 @@ impl Ord for Operator {
     }
 }
 
-// Whether bytes are a name.
+// Whether bytes are a valid name.
 fn is_name(name: &[u8]) -> bool
     ensures { result ≡ is_operator_name name.now }
 {
     if name.is_empty() {
         return false;
     }
-    if name.len() > 32 {
+    if name.len() > MAX_NAME {
         return false;
     }
     are_name_bytes(name)
 }
 
+// Whether all bytes may stand in a name.
 fn are_name_bytes(bytes: &[u8]) -> bool
     ensures { result ≡ list_all spec.is_name_byte bytes.now }
 {
@@ -148,15 +155,16 @@ fn are_name_bytes(bytes: &[u8]) -> bool
 }
 
 // The name, and zeros after it.
-fn padded(name: &[u8]) -> [u8; 32]
-    requires { length name.now ≤ 32 }
-    ensures { result ≡ name.now ++ replicate (32 - length name.now) 0 }
+fn padded(name: &[u8]) -> [u8; MAX_NAME]
+    requires { length name.now ≤ max_name_length }
+    ensures { result ≡ name.now ++ replicate (max_name_length - length name.now) 0 }
 {
-    let mut bytes = [0u8; 32];
+    let mut bytes = [0u8; MAX_NAME];
     bytes[..name.len()].copy_from_slice(name);
     bytes
 }
 
+// Whether a byte may stand in a name.
 fn is_name_byte(byte: u8) -> bool
     ensures { result ≡ spec.is_name_byte byte }
 {

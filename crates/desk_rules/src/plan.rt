@@ -1,4 +1,4 @@
-//! Stored plans, and the requests to plan.
+//! Stored plans, and requests to plan.
 
 ghost use Rattle.std.specs.Prelude.{◌≡◌, IfOk};
 
@@ -10,15 +10,16 @@ use volume4d::Area;
 /// A stored plan of an operator.
 #[derive(Debug, Drop)]
 pub struct PlanRow {
-    /// The id that its operator chose.
+    /// The id that the operator chose.
     pub id: PlanId,
-    /// 0 to 1,000; a higher one goes first (ASTM F3548-21).
+    /// The priority, 0 to 1,000; of two plans the one with the higher priority goes first
+    /// (ASTM F3548-21).
     pub priority: u32,
-    /// Whether it is planned, in use or closed.
+    /// Whether the flight is planned, in use or closed.
     pub usage: Usage,
-    /// The state of the aircraft, as last reported.
+    /// The last reported state of the aircraft.
     pub aircraft: Aircraft,
-    /// Where and when it flies.
+    /// Where and when the flight is.
     pub area: Area,
 }
 
@@ -29,13 +30,14 @@ pub struct PutCall {
     pub id: PlanId,
     /// How the request is to be carried out.
     pub style: Style,
-    /// The usage asked.
+    /// The requested usage.
     pub usage: Usage,
     /// The state of the aircraft.
     pub aircraft: Aircraft,
-    /// The priority asked; a higher one goes first (ASTM F3548-21).
+    /// The requested priority; of two plans the one with the higher priority goes first
+    /// (ASTM F3548-21).
     pub priority: u32,
-    /// Where and when the flight is to be.
+    /// Where and when the flight is.
     pub area: Area,
 }
 
@@ -44,7 +46,7 @@ impl PlanRow {
     ///
     /// # Errors
     ///
-    /// `AllocError` for want of memory.
+    /// `AllocError` if memory runs out.
     pub fn copy(&self) -> Result<PlanRow, AllocError>
         ensures { IfOk result (λ copy. copy ≡ self.now) }
     {
@@ -63,7 +65,7 @@ impl PutCall {
     ///
     /// # Errors
     ///
-    /// `AllocError` for want of memory.
+    /// `AllocError` if memory runs out.
     pub fn copy(&self) -> Result<PutCall, AllocError>
         ensures { IfOk result (λ copy. copy ≡ self.now) }
     {

@@ -7,7 +7,7 @@ use std::fmt;
 use std::marker::Model;
 use uuid::Uuid;
 
-/// The id of a plan: a UUID (RFC 9562), which its operator chooses. Ids are ordered as numbers.
+/// The id of a plan, chosen by its operator: a UUID (RFC 9562). Ids are ordered as 128-bit numbers.
 #[derive(Clone, Copy, Debug, PartialEq, Eq, PartialOrd, Ord, Hash)]
 pub struct PlanId {
     uuid: Uuid,
@@ -25,7 +25,8 @@ impl Model for PlanId {
 }
 
 impl PlanId {
-    /// The id that a text names, in one of the four forms that `uuid` reads, or None.
+    /// The id with this text, or `None` if it is none of the four texts of a UUID that `uuid` reads:
+    /// hyphenated, plain, in braces, or as a URN.
     pub fn try_parse(text: &str) -> Option<PlanId>
         ensures { result ≡ parsed text.now }
     {

@@ -1,4 +1,4 @@
-//! The state table: which states may follow which.
+//! The state table: which states of a plan may follow which.
 
 ghost use Rattle.std.specs.Prelude.{◌≡◌};
 ghost use Rattle.std.specs.Option.{option_copied};
@@ -7,22 +7,24 @@ ghost use Rattle.desk_rules.specs.States.{step_of, step_from_none, step_from_pla
 use crate::plan::{PlanRow, PutCall};
 use crate::words::{Aircraft, Note, PlanStatus, Usage};
 
-/// Where the state table leads for a request.
+/// What the state table says of a request.
 #[derive(Clone, Copy, Debug, PartialEq, Eq)]
 pub enum Step {
-    /// The table refuses the request.
+    /// The request is refused.
     Refuse(Note),
-    /// The request is checked and, if nothing refuses it, stored with this status.
+    /// The request is checked against the other rules and, if none refuses it, stored with this
+    /// status.
     Check(PlanStatus),
-    /// The request reports what happens, and is stored with this status.
+    /// The request reports what happens in the air. It is stored with this status, with no check for
+    /// conflicts.
     Report(PlanStatus),
     /// The stored plan is closed.
     Shut,
-    /// The stored plan is closed already, and stays as it is.
+    /// The stored plan is already closed, and stays as it is.
     Keep,
 }
 
-/// The step from the stored plan of the request's id, or from none, to the states asked.
+/// The step from the stored plan with the request's id, or from no plan, to the requested states.
 pub fn transition(stored: Option<&PlanRow>, call: &PutCall) -> Step
     ensures { result ≡ step_of (option_copied stored.entry) call.now }
 {
@@ -32,6 +34,7 @@ pub fn transition(stored: Option<&PlanRow>, call: &PutCall) -> Step
     }
 }
 
+// From the states of a stored plan.
 fn from_states(stored: Usage, craft: Aircraft, usage: Usage, aircraft: Aircraft) -> Step
     ensures { result ≡ step_from_states stored craft usage aircraft }
 {
@@ -43,6 +46,7 @@ fn from_states(stored: Usage, craft: Aircraft, usage: Usage, aircraft: Aircraft)
     }
 }
 
+// If no plan is stored.
 fn from_none(usage: Usage, aircraft: Aircraft) -> Step
     ensures { result ≡ step_from_none usage aircraft }
 {
@@ -54,6 +58,7 @@ fn from_none(usage: Usage, aircraft: Aircraft) -> Step
     }
 }
 
+// If the stored plan is planned.
 fn from_planned(usage: Usage, aircraft: Aircraft) -> Step
     ensures { result ≡ step_from_planned usage aircraft }
 {
@@ -66,6 +71,7 @@ fn from_planned(usage: Usage, aircraft: Aircraft) -> Step
     }
 }
 
+// If the stored plan is in use, and its aircraft needs no contingency procedure.
 fn from_use(usage: Usage, aircraft: Aircraft) -> Step
     ensures { result ≡ step_from_use usage aircraft }
 {
@@ -77,6 +83,7 @@ fn from_use(usage: Usage, aircraft: Aircraft) -> Step
     }
 }
 
+// If the stored plan is in use, and its aircraft needs a contingency procedure.
 fn from_contingency(usage: Usage, aircraft: Aircraft) -> Step
     ensures { result ≡ step_from_contingency usage aircraft }
 {
@@ -87,6 +94,7 @@ fn from_contingency(usage: Usage, aircraft: Aircraft) -> Step
     }
 }
 
+// If the stored plan is closed.
 fn from_closed(usage: Usage) -> Step
     ensures { result ≡ step_from_closed usage }
 {

@@ -1,6 +1,10 @@
-//! The words of InterUSS flight_planning v1 that the desk takes, and the desk's own notes.
+//! The words of InterUSS flight_planning v1 that the desk uses, and the desk's own reasons for
+//! refusals.
 
-/// The state that an operator asks for a plan, `usage_state` of flight_planning v1.
+ghost use Rattle.std.specs.Prelude.{◌≡◌};
+ghost use Rattle.desk_rules.specs.Plan as spec;
+
+/// The use that an operator makes of a plan, `usage_state` of flight_planning v1.
 #[derive(Clone, Copy, Debug, PartialEq, Eq)]
 pub enum Usage {
     /// The flight is planned.
@@ -9,6 +13,20 @@ pub enum Usage {
     InUse,
     /// The flight is over.
     Closed,
+}
+
+impl Usage {
+    /// Whether a plan in this state holds the points of its area: it does while it is planned or in
+    /// use.
+    pub fn is_live(&self) -> bool
+        ensures { result ≡ spec.is_live self.now }
+    {
+        match self {
+            Usage::Planned => true,
+            Usage::InUse => true,
+            Usage::Closed => false,
+        }
+    }
 }
 
 /// The state of the aircraft, `uas_state` of flight_planning v1.
@@ -25,11 +43,11 @@ pub enum Aircraft {
 /// How a request is to be carried out, `execution_style` of flight_planning v1.
 #[derive(Clone, Copy, Debug, PartialEq, Eq)]
 pub enum Style {
-    /// Only what would be answered is asked.
+    /// Nothing is stored: the answer says what `IfAllowed` would do.
     Hypothetical,
-    /// The request is carried out where the rules allow it.
+    /// The request is carried out if the rules allow it.
     IfAllowed,
-    /// The request reports what happens in reality.
+    /// The request reports what has happened.
     InReality,
 }
 
@@ -38,17 +56,17 @@ pub enum Style {
 pub enum PlanStatus {
     /// No plan is stored.
     NotPlanned,
-    /// The plan is stored and not active.
+    /// The plan is stored, and the flight has not begun.
     Planned,
-    /// The plan is active, and the flight keeps to it.
+    /// The flight is under way, and keeps to the plan.
     OkToFly,
-    /// The plan is active, and the flight is off it.
+    /// The flight is under way, and is off the plan.
     OffNominal,
     /// The plan is closed.
     Closed,
 }
 
-/// What came of a request, `planning_result` of flight_planning v1.
+/// The result of a request, `planning_result` of flight_planning v1.
 #[derive(Clone, Copy, Debug, PartialEq, Eq)]
 pub enum PlanResult {
     /// The request was carried out.
@@ -59,26 +77,26 @@ pub enum PlanResult {
     NotSupported,
 }
 
-/// Why a request was refused. The variants stand in the order in which refusals are looked for,
-/// but for `Closed` and `NotPlanned`, which stand at the place of `State`.
+/// Why a request was refused. If several reasons apply, the desk names the first in the order of the
+/// variants; at most one of `State`, `Closed` and `NotPlanned` applies.
 #[derive(Clone, Copy, Debug, PartialEq, Eq)]
 pub enum Note {
-    /// The style is not supported for the states asked.
+    /// The style is not supported for the requested states.
     Style,
-    /// The stored plan cannot go to the states asked.
+    /// The requested states may not follow those of the stored plan.
     State,
     /// The stored plan is closed.
     Closed,
     /// There is no plan to close.
     NotPlanned,
-    /// A volume ends at or before the moment of the call.
+    /// A volume ends at or before the moment of the request.
     Ended,
-    /// A volume starts more than 2,592,000 s after the moment of the call.
+    /// A volume starts more than 2,592,000 s after the moment of the request.
     Horizon,
     /// The priority is above the operator's ceiling.
     Priority,
-    /// The operator has as many plans as it may have.
+    /// The operator already has as many plans as it may have.
     PlansLimit,
-    /// A point of the plan is blocked.
+    /// Another plan blocks a point of the area.
     Conflict,
 }

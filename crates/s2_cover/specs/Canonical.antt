@@ -5,11 +5,12 @@ use Rattle.std.specs.List.Sorted.{IsStrictlyIncreasing}
 use Rattle.s2_cellid.specs.Cell.{level_of, IsCellId, cell_has}
 use Rattle.s2_cellid.specs.Family.{parent_id}
 
--- the cell of one level less that has the cell's leaves (S2CellId::parent)
+-- the cell of the next level up that the cell lies in (S2CellId::parent)
 abbrev pub parent_of : ℕ → ℕ
 parent_of id = parent_id (level_of id - 1) id
 
--- a valid cell in the set, which is a whole face or has a parent with a leaf outside the set
+-- a valid cell whose leaves all belong to the set, and which is a whole face or has a parent with a
+-- leaf outside the set
 pub record IsLargest (set : ℕ → Bool) (id : ℕ) : Type 0 where
   pub valid : IsCellId id
   pub inside : (p : ℕ) → IsTrue (cell_has id p) → IsTrue (set p)
@@ -21,7 +22,8 @@ pub record IsCanonical (set : ℕ → Bool) (ids : List ℕ) : Type 0 where
   pub ascending : IsStrictlyIncreasing ids
   pub members : (id : ℕ) → Contains ids id ↔ IsLargest set id
 
--- what a cover is seen as: the ids of its cells, and how many squares were looked at to find them
+-- a cover, apart from how the code keeps it: the ids of its cells, and how many squares were looked at
+-- to find them
 pub record CoverParts : Type 0 where
   pub ids : List ℕ
   pub looked : ℕ

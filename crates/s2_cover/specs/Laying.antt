@@ -1,9 +1,9 @@
--- How far a canonical list has come, from the first leaf position on.
+-- Parts of a canonical list, built from the first leaf position on.
 use Rattle.std.specs.Prelude.{◌≡◌, ℕ, ◌+◌, ◌%◌, ◌^◌, ◌<◌, ◌≤◌, Bool, false, IsTrue, List, Contains, AllPairs}
 use Rattle.s2_cellid.specs.Cell.{lowest_place, IsCellId, first_leaf, last_leaf}
 use Rattle.s2_cover.specs.Leaves.{leaves_of}
 use Rattle.s2_cover.specs.Canonical.{IsLargest}
-use Rattle.s2_cover.specs.Runs.{IsSpan, span_has}
+use Rattle.s2_cover.specs.Ranges.{IsSpan, span_has}
 use Rattle.s2_cover.specs.declared.spans.Span.{Span}
 
 -- a longest run of positions of the set
@@ -13,7 +13,7 @@ pub record IsRun (set : ℕ → Bool) (span : Span) : Type 0 where
   pub before : (p : ℕ) → p + 1 ≡ span.first → set p ≡ false
   pub after : set (span.last + 1) ≡ false
 
--- the largest cells that have the set's positions below `upto`, and none from there on
+-- the canonical cells of the set that end before `upto`; they have all of the set's positions below it
 pub record IsLaid (set : ℕ → Bool) (ids : List ℕ) (upto : ℕ) : Type 0 where
   pub ascending : AllPairs ◌<◌ ids
   pub largest : (id : ℕ) → Contains ids id → IsLargest set id

@@ -4,6 +4,6 @@ use Rattle.std.specs.Prelude.{ℕ, Bool, List}
 use Rattle.std.specs.List.{list_any}
 use Rattle.s2_cellid.specs.Cell.{cell_has}
 
--- the leaves of a list of cells, given by their ids: each leaf that some cell has
+-- the leaves of a list of cells, given by their ids: those of each cell
 abbrev pub leaves_of : List ℕ → ℕ → Bool
 leaves_of ids position = list_any (λ id. cell_has id position) ids

@@ -1,4 +1,4 @@
 pub mod Canonical
 pub mod Laying
 pub mod Leaves
-pub mod Runs
+pub mod Ranges

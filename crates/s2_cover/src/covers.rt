@@ -4,7 +4,7 @@ ghost use Rattle.std.specs.Prelude.{◌≡◌, ◌≢◌, ℕ, ◌+◌, ◌*◌,
 ghost use Rattle.std.specs.Prelude.{IfOk, OnOk, IfSome, IfNone};
 ghost use Rattle.s2_cover.specs.Leaves.{leaves_of};
 ghost use Rattle.s2_cover.specs.Canonical.{IsCanonical};
-ghost use Rattle.s2_cover.specs.Runs.{IsRanges};
+ghost use Rattle.s2_cover.specs.Ranges.{IsRanges};
 ghost use Rattle.s2_cover.specs.Laying.{IsRun, IsLaid, IsLargestFrom, IsLargestFitting};
 
 use crate::spans::{Ranges, Span};
@@ -12,8 +12,8 @@ use s2_cellid::CellId;
 use std::alloc::{AllocError, Global};
 use std::marker::Model;
 
-/// The canonical list of the cells of a set of leaves: the normal form of the S2 geometry library
-/// (`S2CellUnion`), with no cell inside another and no four cells that are a cell's children.
+/// The canonical list of cells of a set of leaves, which is the normal form of the S2 geometry library
+/// (`S2CellUnion`): no cell lies inside another, and four children of one cell are replaced by it.
 #[derive(Debug, Drop)]
 pub struct Cover {
     cells: Vec<CellId>,
@@ -32,7 +32,7 @@ impl Model for Cover {
 }
 
 impl Cover {
-    /// The cells, ascending by their ids.
+    /// The cells, in ascending order of their ids.
     pub fn cells(&self) -> &[CellId]
         ensures value { result.now ≡ self.now.ids }
         ensures canonical { IsCanonical (leaves_of self.now.ids) self.now.ids }
@@ -40,16 +40,19 @@ impl Cover {
         self.cells.as_slice()
     }
 
-    /// How many squares were looked at to find the cells; 0 for a normal form.
+    /// How many squares were compared with the rectangle to find the cells; 0 if they were found by
+    /// `normalise`.
     pub fn looked(&self) -> u64
         ensures { result ≡ self.now.looked }
     {
         self.looked
     }
 
-    /// The ranges of the positions of the cover's leaves, in one pass over the cells. They are also
-    /// those of each set with the same leaves, as that of the cells that `normalise` was given.
-    /// Fails only where memory is refused.
+    /// The cover's leaves as ranges of positions, found in one pass over the cells.
+    ///
+    /// # Errors
+    ///
+    /// `AllocError` if memory runs out.
     pub fn ranges(&self) -> Result<Ranges, AllocError>
         ensures ranges { IfOk result (IsRanges (leaves_of self.now.ids)) }
         ensures same { IfOk result (λ ranges. (set : ℕ → Bool) →
@@ -59,7 +62,11 @@ impl Cover {
         Ranges::of_sorted(*self.cells.allocator(), &self.cells)
     }
 
-    /// An equal value. Fails only where memory is refused.
+    /// An equal cover.
+    ///
+    /// # Errors
+    ///
+    /// `AllocError` if memory runs out.
     pub fn copy(&self) -> Result<Cover, AllocError>
         ensures { IfOk result (λ cover. cover ≡ self.now) }
     {
@@ -71,10 +78,13 @@ impl Cover {
     }
 }
 
-/// The canonical cover of all leaves of the cells, which may be in any order, overlap and repeat;
-/// of no cells the cover with none (`S2CellUnion::Normalize`). The cells are sorted once; after
-/// that each of them, and each cell of the cover, takes a bounded number of steps. Fails only where
-/// memory is refused.
+/// The canonical cover of all leaves of the cells (`S2CellUnion::Normalize`). The cells may be in any
+/// order, overlap and repeat; no cells give the cover without cells. They are sorted once; after that
+/// each of them, and each cell of the cover, takes a bounded number of steps.
+///
+/// # Errors
+///
+/// `AllocError` if memory runs out.
 pub fn normalise(alloc: Global, cells: &[CellId]) -> Result<Cover, AllocError>
     ensures canonical { IfOk result (λ cover. IsCanonical (leaves_of cells.now) cover.ids) }
     ensures leaves { IfOk result (λ cover.
@@ -90,7 +100,7 @@ pub fn normalise(alloc: Global, cells: &[CellId]) -> Result<Cover, AllocError>
     Ok(Cover { cells, looked: 0 })
 }
 
-// The largest cells in the set of positions of the spans, ascending, in the room of an empty list.
+// The largest cells that lie in the spans, ascending, in the room of an empty list.
 fn largest_cells(empty: Vec<CellId>, spans: &[Span]) -> Result<Vec<CellId>, AllocError>
     ghost set: { ℕ → Bool }
     requires empty { empty.items ≡ [] }
@@ -105,7 +115,7 @@ fn largest_cells(empty: Vec<CellId>, spans: &[Span]) -> Result<Vec<CellId>, Allo
     Ok(cells)
 }
 
-// Appends the largest cells in the span.
+// Appends the largest cells that lie in the span.
 fn push_cells(cells: &mut Vec<CellId>, span: &Span) -> Result<(), AllocError>
     ghost set: { ℕ → Bool }
     requires run { IsRun set span.now }
@@ -121,7 +131,7 @@ fn push_cells(cells: &mut Vec<CellId>, span: &Span) -> Result<(), AllocError>
     Ok(())
 }
 
-// The largest cell that begins at a position and ends no later than another.
+// The largest cell whose first leaf is at `first` and whose last is at most at `last`.
 fn largest_from(first: u64, last: u64) -> CellId
     requires ordered { first ≤ last }
     requires below { last < 6 * 2 ^ 60 }

@@ -1,11 +1,11 @@
-//! What follows from the definitions of a cover and of ranges alone.
+//! Laws of the definitions of covers and ranges. Each is the contract of a function that does nothing.
 
 ghost use Rattle.std.specs.Prelude.{◌≡◌, ℕ, Bool, List};
 ghost use Rattle.s2_cover.specs.Canonical.{IsCanonical};
-ghost use Rattle.s2_cover.specs.Runs.{IsRanges};
+ghost use Rattle.s2_cover.specs.Ranges.{IsRanges};
 ghost use Rattle.s2_cover.specs.declared.spans.Span.{Span};
 
-/// A set of leaves has one canonical list of cells.
+/// A set of leaves has at most one canonical list of cells.
 pub fn one_canonical_list()
     ensures { (set : ℕ → Bool) (one other : List ℕ) → IsCanonical set one
         → IsCanonical set other → one ≡ other }
@@ -17,7 +17,7 @@ pub fn equal_sets_have_equal_covers()
         → IsCanonical set ids → IsCanonical other ids }
 {}
 
-/// A set of leaf positions has one list of ranges.
+/// A set of leaf positions has at most one list of ranges.
 pub fn one_list_of_ranges()
     ensures { (set : ℕ → Bool) (one other : List Span) → IsRanges set one
         → IsRanges set other → one ≡ other }

@@ -4,14 +4,14 @@ ghost use Rattle.std.specs.Prelude.{◌≡◌, ◌<◌, ℕ, IfOk, length};
 ghost use Rattle.std.specs.List.Sorted.{IsNonDecreasingBy};
 ghost use Rattle.s2_cellid.specs.Cell.{first_leaf, cell_has};
 ghost use Rattle.s2_cover.specs.Leaves.{leaves_of};
-ghost use Rattle.s2_cover.specs.Runs.{IsSpan, IsRanges, span_has, spans_have};
+ghost use Rattle.s2_cover.specs.Ranges.{IsSpan, IsRanges, span_has, spans_have};
 
 use s2_cellid::CellId;
 use std::alloc::{AllocError, Global};
 use std::marker::Model;
 
-/// The leaf positions from `first` to `last`, both of which belong to it. A leaf's position counts
-/// the leaves of all six faces from 0 in the order of their ids; its id is `2 * position + 1`.
+/// The leaf positions from `first` to `last`, both included. The leaves of all six faces are counted
+/// from 0 in the order of their ids, so the leaf at a position has the id `2 * position + 1`.
 #[derive(Clone, Copy, Debug, PartialEq, Eq, PartialOrd, Ord, Hash)]
 pub struct Span {
     /// The least position.
@@ -20,8 +20,8 @@ pub struct Span {
     pub last: u64,
 }
 
-/// A set of leaf positions, as spans: ascending, and no two of them share a position or touch, also
-/// where one face ends and the next begins.
+/// A set of leaf positions as ascending spans, of which no two share a position or follow each other
+/// with no position between them, not even from one face to the next.
 #[derive(Debug, Drop)]
 pub struct Ranges {
     spans: Vec<Span>,
@@ -30,7 +30,7 @@ pub struct Ranges {
 impl Model for Ranges {
     ghost use Rattle.std.specs.Prelude.{List};
     ghost use Rattle.s2_cover.specs.declared.spans.Span.{Span};
-    ghost use Rattle.s2_cover.specs.Runs.{IsRanges, spans_have};
+    ghost use Rattle.s2_cover.specs.Ranges.{IsRanges, spans_have};
 
     ghost Value = { List Span };
 
@@ -40,8 +40,7 @@ impl Model for Ranges {
 }
 
 impl Ranges {
-    /// The spans, ascending. Each has its first position at or before its last, which is below
-    /// `6 * 2^60`.
+    /// The spans, in ascending order.
     pub fn spans(&self) -> &[Span]
         ensures value { result.now ≡ self.now }
         ensures ranges { IsRanges (spans_have self.now) self.now }
@@ -49,7 +48,11 @@ impl Ranges {
         self.spans.as_slice()
     }
 
-    /// An equal value. Fails only where memory is refused.
+    /// An equal set.
+    ///
+    /// # Errors
+    ///
+    /// `AllocError` if memory runs out.
     pub fn copy(&self) -> Result<Ranges, AllocError>
         ensures { IfOk result (λ ranges. ranges ≡ self.now) }
     {
@@ -57,7 +60,7 @@ impl Ranges {
         Ok(Ranges { spans })
     }
 
-    /// The ranges of the leaves of cells whose first leaves ascend.
+    /// The leaves of cells as ranges; the cells are in the order of their first leaves.
     pub(crate) fn of_sorted(alloc: Global, cells: &[CellId]) -> Result<Ranges, AllocError>
         requires { IsNonDecreasingBy first_leaf cells.now }
         ensures ranges { IfOk result (IsRanges (leaves_of cells.now)) }

@@ -6,7 +6,7 @@ use Rattle.std.proofs.lemmas.Bool.{and_parts}
 use Rattle.std.proofs.lemmas.List.{length-map, length-append, take_more, take_all}
 use Rattle.std.proofs.lemmas.List.Elements.{All-nil, All-append, All-cons, All-head, All-tail}
 use Rattle.s2_cover.specs.declared.spans.Span.{Span}
-use Rattle.s2_cover.specs.Runs.{IsSpan}
+use Rattle.s2_cover.specs.Ranges.{IsSpan}
 use Rattle.volume4d.specs.declared.slab.Slab.{Slab}
 use Rattle.volume4d.specs.Limits.{within_altitudes, within_times, within_length}
 use Rattle.volume4d.specs.Windows.{WindowParts, is_window}

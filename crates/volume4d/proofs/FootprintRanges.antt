@@ -8,7 +8,7 @@ use Rattle.s2_hilbert.specs.Curve.{position_of, grid_leaf_at}
 use Rattle.s2_hilbert.specs.CurveLaws.{position_undone}
 use Rattle.s2_cover.specs.declared.spans.Span.{Span}
 use Rattle.s2_cover.specs.Leaves.{leaves_of}
-use Rattle.s2_cover.specs.Runs.{IsSpan, IsRanges, span_has, spans_have}
+use Rattle.s2_cover.specs.Ranges.{IsSpan, IsRanges, span_has, spans_have}
 use Rattle.volume4d.specs.Point.{is_leaf}
 use Rattle.volume4d.specs.Shape.{Shape, cells, shape_has, shape_positions}
 use Rattle.volume4d.proofs.LeafTests.{leaf_at_passes, no_leaf_at}

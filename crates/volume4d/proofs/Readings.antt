@@ -1,11 +1,12 @@
 -- Which shapes have given bytes.
-use Rattle.std.specs.Prelude.{◌≡◌, ℕ, ◌+◌, ◌*◌, ◌/◌, ◌%◌, ◌<◌, ◌≤◌, IsTrue, Bool, ◌&&◌, nat_le, List, [], ◌∷◌, length, All, refl}
+use Rattle.std.specs.Prelude.{◌≡◌, ℕ, ◌+◌, ◌*◌, ◌/◌, ◌%◌, ◌<◌, ◌≤◌, IsTrue, List, [], ◌∷◌, length, All, refl}
 use Rattle.std.specs.Int.{w64, from_be_bytes}
 use Rattle.std.specs.Simd.{first_chunks}
 use Rattle.std.proofs.Common.{ap, sym, ◌∙◌, arith, get_or, take, ◌++◌, subst}
 use Rattle.std.proofs.lemmas.List.{length-map, get_or-map, map_more, take_all}
 use Rattle.std.proofs.lemmas.List.Elements.{All-push}
 use Rattle.s2_cellid.specs.Cell.{IsCellId}
+use Rattle.volume4d.specs.Limits.{within_cells}
 use Rattle.volume4d.specs.Shape.{Shape, cells}
 use Rattle.volume4d.specs.FootprintBytes.{footprint_bytes, HasCells, AreBytesOf}
 use Rattle.volume4d.proofs.IdBytes.{bytes_of, ids_of, length-bytes_of, ids_again, bytes_again}
@@ -20,18 +21,14 @@ ids_in-bytes_of ids bytes valid written =
     let count : length bytes / 8 ≡ length ids = omega (arith, length-bytes_of ids, ap length written) in
     rw (count, ← written) (ids_again ids valid)
 
--- whether a footprint may have this many cells
-abbrev pub is_count : ℕ → Bool
-is_count count = nat_le 1 count && nat_le count 64
-
--- a footprint's bytes are 1 to 64 eights
+-- the bytes behind the first are whole ids, as many as the limits allow
 pub counted : (bytes : List ℕ) (shape : Shape) → AreBytesOf (1 ∷ bytes) shape
-    → (length bytes % 8 ≡ 0) × IsTrue (is_count (length bytes / 8))
+    → (length bytes % 8 ≡ 0) × IsTrue (within_cells (length bytes / 8))
 counted bytes (cells ids) a =
     let written : bytes_of ids ≡ bytes = cc (a.written) in
     let many : length bytes ≡ 8 * length ids = omega (arith, length-bytes_of ids, ap length written) in
     let count : length ids ≡ length bytes / 8 = omega arith in
-    (omega arith, subst (λ n. IsTrue (is_count n)) count a.limits)
+    (omega arith, subst (λ n. IsTrue (within_cells n)) count a.limits)
 
 -- and each eight is a valid id
 pub valid_ids : (bytes : List ℕ) (shape : Shape) → AreBytesOf (1 ∷ bytes) shape → All IsCellId (ids_in bytes)
@@ -47,14 +44,14 @@ valid_id bytes shape eights i a cut within =
     let place : i < length (ids_of eights) = rw length-map within in
     subst IsCellId (get_or-map (λ eight. from_be_bytes w64 eight) eights i [] 0 within) (valid i 0 place)
 
--- 1 to 64 eights that are valid ids are a footprint's bytes
-pub read : (bytes : List ℕ) → ((i : ℕ) → get_or bytes i 0 < 256) → length bytes % 8 ≡ 0 → IsTrue (is_count (length bytes / 8))
+-- such bytes, of valid ids, are a footprint's
+pub read : (bytes : List ℕ) → ((i : ℕ) → get_or bytes i 0 < 256) → length bytes % 8 ≡ 0 → IsTrue (within_cells (length bytes / 8))
     → All IsCellId (ids_in bytes) → AreBytesOf (1 ∷ bytes) (cells (ids_in bytes))
 read bytes small even few valid =
     let written : bytes_of (ids_in bytes) ≡ bytes = bytes_again (length bytes / 8) bytes small (omega arith) in
     let count : length bytes / 8 ≡ length (ids_in bytes) = omega (arith, length-bytes_of (ids_in bytes), ap length written) in
     record {
-      limits = subst (λ n. IsTrue (is_count n)) count few;
+      limits = subst (λ n. IsTrue (within_cells n)) count few;
       valid = valid;
       written = ap (λ rest. 1 ∷ rest) written;
     }
@@ -71,7 +68,7 @@ one_more eights i cell ids more within so_far valid pushed found =
 
 -- where all eights are read, the ids are a footprint's
 pub all_read : (bytes : List ℕ) (eights : List (List ℕ)) (i : ℕ) (ids : List ℕ) → ((k : ℕ) → get_or bytes k 0 < 256)
-    → length bytes % 8 ≡ 0 → IsTrue (is_count (length bytes / 8)) → eights ≡ first_chunks 8 (length bytes / 8) bytes
+    → length bytes % 8 ≡ 0 → IsTrue (within_cells (length bytes / 8)) → eights ≡ first_chunks 8 (length bytes / 8) bytes
     → length eights ≤ i → ids ≡ ids_of (take i eights) → All IsCellId ids → AreBytesOf (1 ∷ bytes) (cells ids)
 all_read bytes eights i ids small even few cut ended so_far valid =
     let whole : ids ≡ ids_in bytes = so_far ∙ ap ids_of (take_all i eights ended ∙ cut) in

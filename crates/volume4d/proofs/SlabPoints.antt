@@ -8,7 +8,7 @@ use Rattle.std.proofs.lemmas.List.Folds.{list_any-append}
 use Rattle.s2_hilbert.specs.Curve.{position_of}
 use Rattle.s2_hilbert.specs.CurveLaws.{leaf_undone}
 use Rattle.s2_cover.specs.declared.spans.Span.{Span}
-use Rattle.s2_cover.specs.Runs.{IsRanges, span_has, spans_have}
+use Rattle.s2_cover.specs.Ranges.{IsRanges, span_has, spans_have}
 use Rattle.volume4d.specs.declared.slab.Slab.{Slab}
 use Rattle.volume4d.specs.Point.{Point, is_leaf}
 use Rattle.volume4d.specs.Windows.{WindowParts}

@@ -1,17 +1,17 @@
--- The smallest slab round a set of points.
+-- The smallest slab that has a set of points.
 use Rattle.std.specs.Prelude.{◌≡◌, ◌<◌, ◌≤◌, ◌≤ℤ◌, ◌<ℤ◌, min, max, List, All, length, Bool, true}
 use Rattle.std.specs.Int.{int_min, int_max}
 use Rattle.volume4d.specs.declared.slab.Slab.{Slab}
 use Rattle.volume4d.specs.Point.{Point}
 use Rattle.volume4d.specs.Slab.{slab_has}
 
--- a slab that has a point: each bound stands before its other
+-- a slab that has a point: each of its lower bounds is below the upper one
 pub record IsFilled (slab : Slab) : Type 0 where
   pub ground : slab.first ≤ slab.last
   pub height : slab.lower <ℤ slab.upper
   pub time : slab.start <ℤ slab.end
 
--- slabs of which there is one at least, and each has a point
+-- at least one slab, and each slab has a point
 pub record AreFilled (slabs : List Slab) : Type 0 where
   pub some : 0 < length slabs
   pub each : All IsFilled slabs
@@ -25,7 +25,7 @@ pub record IsWithin (inner outer : Slab) : Type 0 where
   pub start : outer.start ≤ℤ inner.start
   pub end : inner.end ≤ℤ outer.end
 
--- one slab round two: the lesser of the bounds below, and the greater of those above
+-- the smallest slab round two: the lesser of the lower bounds, and the greater of the upper ones
 pub record IsJoin (left right slab : Slab) : Type 0 where
   pub first : slab.first ≡ min left.first right.first
   pub last : slab.last ≡ max left.last right.last
@@ -34,11 +34,11 @@ pub record IsJoin (left right slab : Slab) : Type 0 where
   pub start : slab.start ≡ int_min left.start right.start
   pub end : slab.end ≡ int_max left.end right.end
 
--- a slab has each point that passes
+-- the slab has each point that passes the test
 abbrev pub HasAll : (Point → Bool) → Slab → Type 0
 HasAll passes slab = (x : Point) → passes x ≡ true → slab_has slab x ≡ true
 
--- the smallest slab that has each point that passes
+-- the smallest slab that has each point that passes the test
 pub record IsBounds (passes : Point → Bool) (slab : Slab) : Type 0 where
   pub has : HasAll passes slab
   pub smallest : (other : Slab) → HasAll passes other → IsWithin slab other

@@ -1,4 +1,5 @@
--- The bytes of a footprint: a first byte that names its kind, and then what the kind has.
+-- The bytes of a footprint, this desk's own form: a byte that names the kind of footprint, and then
+-- the kind's own bytes.
 use Rattle.std.specs.Prelude.{◌≡◌, ℕ, IsTrue, List, ◌∷◌, All}
 use Rattle.std.specs.List.{flat_map}
 use Rattle.std.specs.Int.{w64, to_be_bytes}
@@ -13,7 +14,7 @@ footprint_bytes (cells ids) = 1 ∷ flat_map (λ id. to_be_bytes w64 id) ids
 abbrev pub HasCells : Shape → Type 0
 HasCells (cells ids) = All IsCellId ids
 
--- the shape is a footprint's, of 1 to 64 cells, and these are its bytes
+-- the shape is a footprint's, within the limits, and these are its bytes
 pub record AreBytesOf (bytes : List ℕ) (shape : Shape) : Type 0 where
   pub limits : IsTrue (is_footprint shape)
   pub valid : HasCells shape

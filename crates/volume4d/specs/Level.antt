@@ -1,7 +1,7 @@
--- Priorities that are held at a point: the greatest of some, or none.
+-- The greatest of some priorities: a number, or None if there are none.
 use Rattle.std.specs.Prelude.{ℕ, List, [], ◌∷◌, max, Option, Some, None}
 
--- the greater of two, either of which may be none
+-- the greater of two, either of which may be missing
 abbrev pub greater : Option ℕ → Option ℕ → Option ℕ
 greater None b = b
 greater (Some a) None = Some a

@@ -1,4 +1,4 @@
--- Laws of levels.
+-- Laws of the greatest priority of a list, with their proofs.
 use Rattle.std.specs.Prelude.{◌≡◌, ℕ, Bool, true, false, cond, ◌||◌, max, List, [], ◌∷◌, ◌++◌, map, Option, Some, None, refl, is_some}
 use Rattle.std.specs.List.{filter, list_any}
 use Rattle.std.proofs.Common.{sym, ap, ◌∙◌, arith}
@@ -33,12 +33,12 @@ pub greatest-append : (xs ys : List ℕ) → greatest (xs ++ ys) ≡ greater (gr
 greatest-append [] ys = refl
 greatest-append (x ∷ xs) ys = ap (greater (Some x)) (greatest-append xs ys) ∙ sym (greater_assoc (Some x) (greatest xs) (greatest ys))
 
--- the level of one
+-- a number that counts if a test passes
 abbrev pub level_where : Bool → ℕ → Option ℕ
 level_where true n = Some n
 level_where false n = None
 
--- the greatest of the values of those that pass
+-- the greatest of the numbers of those elements that pass a test
 abbrev pub top_by : {A : Type 0} → (A → Bool) → (A → ℕ) → List A → Option ℕ
 top_by p f xs = greatest (map f (filter p xs))
 
@@ -59,7 +59,7 @@ is_some_greater None b = refl
 is_some_greater (Some a) None = refl
 is_some_greater (Some a) (Some b) = refl
 
--- there is a level just where one passes
+-- there is a greatest number exactly if an element passes
 pub is_some_top : {A : Type 0} (p : A → Bool) (f : A → ℕ) (xs : List A) → is_some (top_by p f xs) ≡ list_any p xs
 is_some_top p f [] = refl
 is_some_top p f (x ∷ xs) =
@@ -68,7 +68,7 @@ is_some_top p f (x ∷ xs) =
       by_test true e = refl
       by_test false e = e
 
--- the greatest priority of one more held slab
+-- the greatest priority with one more held slab
 pub top_held-push : (helds : List Held) (h : Held) (x : Point) → top_held (helds ++ h ∷ []) x ≡ greater (top_held helds x) (level_where (slab_has h.slab x) h.priority)
 unfolding top_held
 top_held-push helds h x =

@@ -1,5 +1,5 @@
--- Points, at which plans are compared: strategic conflict detection of ASTM F3548-21 asks whether
--- volumes of two plans intersect in space and time.
+-- Points of space and time. Strategic conflict detection (ASTM F3548-21) asks whether volumes of two
+-- plans intersect: here, whether they share a point.
 use Rattle.std.specs.Prelude.{ℤ, ◌^◌, Bool, ◌&&◌, nat_lt}
 use Rattle.std.specs.declared.cmp.Ordering.{Ordering}
 use Rattle.std.specs.Ordering.{ordering_then, nat_cmp, int_cmp}
@@ -13,11 +13,11 @@ pub record Point : Type 0 where
   pub altitude : ℤ
   pub second : ℤ
 
--- the three numbers are those of a leaf: one of six faces, and coordinates on its grid
+-- a leaf lies on one of the six faces, at coordinates of the face's grid
 unfoldable pub is_leaf : GridLeaf → Bool
 is_leaf leaf = nat_lt leaf.face 6 && nat_lt leaf.i (2 ^ 30) && nat_lt leaf.j (2 ^ 30)
 
--- by leaf id, then altitude, then second; ids as unsigned numbers
+-- the order of points: by leaf id as an unsigned number, then altitude, then second
 abbrev pub point_cmp : Point → Point → Ordering
 point_cmp x y =
     ordering_then (nat_cmp (leaf_id x.leaf) (leaf_id y.leaf))

@@ -1,4 +1,4 @@
--- The points that slabs share with held ones.
+-- The points that slabs share with held slabs.
 use Rattle.std.specs.Prelude.{List, Bool, ◌&&◌, max, is_some}
 use Rattle.std.specs.Int.{int_max}
 use Rattle.s2_hilbert.specs.Curve.{grid_leaf_at}
@@ -7,11 +7,11 @@ use Rattle.volume4d.specs.declared.slab.Held.{Held}
 use Rattle.volume4d.specs.Point.{Point}
 use Rattle.volume4d.specs.Slab.{slab_has, slabs_have, top_held}
 
--- a point of one of the slabs that is held
+-- a point of one of the slabs and of one of the held ones
 unfoldable pub is_shared : List Slab → List Held → Point → Bool
 is_shared mine theirs x = slabs_have mine x && is_some (top_held theirs x)
 
--- the greatest of the lower bounds of two slabs, leaves by their positions along the curve
+-- the greater of each of the lower bounds of two slabs, leaves by their positions along the curve
 abbrev pub corner_of : Slab → Slab → Point
 corner_of a b = record {
   leaf = grid_leaf_at (max a.first b.first);
@@ -19,6 +19,6 @@ corner_of a b = record {
   second = int_max a.start b.start;
 }
 
--- two slabs share a point just where both have that one
+-- two slabs share a point exactly if both have this one
 abbrev pub share : Slab → Slab → Bool
 share a b = slab_has a (corner_of a b) && slab_has b (corner_of a b)

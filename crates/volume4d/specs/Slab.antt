@@ -1,4 +1,4 @@
--- Slabs: runs of leaves along the S2 curve, with altitudes and seconds.
+-- Slabs: leaves that follow each other along the S2 curve, with altitudes and seconds.
 use Rattle.std.specs.Prelude.{ℕ, List, Bool, ◌&&◌, nat_le, int_le, int_lt, map, Option}
 use Rattle.std.specs.List.{list_any, filter}
 use Rattle.volume4d.specs.declared.slab.Slab.{Slab}
@@ -10,12 +10,12 @@ use Rattle.volume4d.specs.Point.{Point, is_leaf}
 use Rattle.volume4d.specs.Windows.{WindowParts}
 use Rattle.volume4d.specs.Level.{greatest}
 
--- the leaves from the position first along the curve to the position last, both included
+-- a leaf with a position from first to last along the curve, both included
 abbrev pub slab_has_leaf : Slab → GridLeaf → Bool
 slab_has_leaf s leaf =
     is_leaf leaf && (nat_le s.first (position_of leaf) && nat_le (position_of leaf) s.last)
 
--- those leaves; altitudes and seconds half open
+-- such a leaf, with lower <= altitude < upper and start <= second < end
 abbrev pub slab_has : Slab → Point → Bool
 slab_has s x =
     slab_has_leaf s x.leaf
@@ -30,7 +30,7 @@ slabs_have slabs x = list_any (λ s. slab_has s x) slabs
 abbrev pub helds_have : List Held → Point → Bool
 helds_have helds x = list_any (λ h. slab_has h.slab x) helds
 
--- the greatest priority of those that have the point
+-- the greatest priority of the held slabs that have the point, or None
 unfoldable pub top_held : List Held → Point → Option ℕ
 top_held helds x = greatest (map (λ h. h.priority) (filter (λ h. slab_has h.slab x) helds))
 

@@ -1,20 +1,20 @@
 -- The slabs of volumes and of areas.
 use Rattle.std.specs.Prelude.{◌≡◌, List, [], ◌∷◌, ◌++◌, All, map}
 use Rattle.s2_cover.specs.declared.spans.Span.{Span}
-use Rattle.s2_cover.specs.Runs.{IsRanges}
+use Rattle.s2_cover.specs.Ranges.{IsRanges}
 use Rattle.volume4d.specs.declared.slab.Slab.{Slab}
 use Rattle.volume4d.specs.Shape.{shape_positions}
 use Rattle.volume4d.specs.Windows.{WindowParts}
 use Rattle.volume4d.specs.Volume.{Block}
 use Rattle.volume4d.specs.Slab.{span_of, slab_window}
 
--- one slab for each span of positions, in order, each with the altitudes and seconds
+-- one slab for each span of positions, in order, all with the same altitudes and seconds
 pub record AreSlabsOn (spans : List Span) (window : WindowParts) (slabs : List Slab) : Type 0 where
   pub each : map span_of slabs ≡ spans
   pub windows : All (λ s. slab_window s ≡ window) slabs
 
--- one slab for each range of the leaves of a volume's footprint, ascending, so that cells which
--- touch make one; each slab has the altitudes and seconds of the volume
+-- one slab for each range of the positions of the leaves of a volume's footprint, ascending, with the
+-- altitudes and seconds of the volume
 pub record AreVolumeSlabs (volume : Block) (slabs : List Slab) : Type 0 where
   pub ranges : IsRanges (shape_positions volume.footprint) (map span_of slabs)
   pub windows : All (λ s. slab_window s ≡ volume.window) slabs

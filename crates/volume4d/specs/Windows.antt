@@ -11,7 +11,7 @@ pub record WindowParts : Type 0 where
   pub start : ℤ
   pub end : ℤ
 
--- an window, or the first of its faults
+-- the window, or the first fault that applies
 abbrev pub window_or_fault : WindowParts → Result WindowParts WindowFault
 window_or_fault e =
     if within_altitudes e.lower e.upper
@@ -20,7 +20,7 @@ window_or_fault e =
     else Err Time)
     else Err Altitude
 
--- within the desk's limits
+-- a window within the limits
 abbrev pub is_window : WindowParts → Bool
 is_window e =
     within_altitudes e.lower e.upper && (within_times e.start e.end && within_length e.start e.end)

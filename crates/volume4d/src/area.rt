@@ -1,6 +1,7 @@
 //! Areas: the volumes of a plan.
 
-ghost use Rattle.std.specs.Prelude.{◌≡◌, ◌<◌, ◌&&◌, Some, None, if◌then◌else◌, IsTrue, IfOk, length, nat_le};
+ghost use Rattle.std.specs.Prelude.{◌≡◌, ◌<◌, Some, None, if◌then◌else◌, IsTrue, IfOk, length};
+ghost use Rattle.volume4d.specs.Limits.{within_volumes};
 ghost use Rattle.volume4d.specs.Point.{Point};
 ghost use Rattle.volume4d.specs.Slab.{slabs_have};
 ghost use Rattle.volume4d.specs.Bounds.{AreFilled, IsBounds};
@@ -13,8 +14,11 @@ use crate::volume::Volume;
 use std::alloc::{AllocError, Global};
 use std::marker::Model;
 
-/// The volumes of a plan (`Volume4D` of ASTM F3548-21), 1 to 8 by its type: it has the points of
-/// any of them.
+// The most volumes of an area.
+const MAX_VOLUMES: usize = 8;
+
+/// The volumes of a plan (`Volume4D` of ASTM F3548-21), always 1 to 8 of them. A point belongs to
+/// the area if it belongs to one of the volumes.
 #[derive(Debug, Drop)]
 pub struct Area {
     volumes: Vec<Volume>,
@@ -32,7 +36,7 @@ impl Model for Area {
 }
 
 impl Area {
-    /// An area of 1 to 8 volumes; another list is dropped.
+    /// The area of these volumes, or `None` if they are not 1 to 8; they are dropped then.
     pub fn try_new(volumes: Vec<Volume>) -> Option<Area>
         ensures { result ≡ (if is_area volumes.items then Some volumes.items else None) }
     {
@@ -43,7 +47,7 @@ impl Area {
         }
     }
 
-    /// The volumes, as asked.
+    /// The volumes, in the order given to `try_new`.
     pub fn volumes(&self) -> &[Volume]
         ensures value { result.now ≡ self.now }
         ensures limits { IsTrue (is_area self.now) }
@@ -51,12 +55,12 @@ impl Area {
         &self.volumes
     }
 
-    /// The slabs of its volumes, one volume after the other: they have exactly the points of the
-    /// area.
+    /// The slabs of the volumes, one volume after the other. A point belongs to one of the slabs
+    /// exactly if it belongs to the area.
     ///
     /// # Errors
     ///
-    /// `AllocError` for want of memory.
+    /// `AllocError` if memory runs out.
     pub fn slabs(&self) -> Result<Vec<Slab>, AllocError>
         ensures ranges { IfOk result (λ slabs. AreAreaSlabs self.now slabs.items) }
         ensures points { IfOk result (λ slabs. (x : Point) →
@@ -70,7 +74,7 @@ impl Area {
     ///
     /// # Errors
     ///
-    /// `AllocError` for want of memory.
+    /// `AllocError` if memory runs out.
     pub fn bounds(&self) -> Result<Slab, AllocError>
         ensures { IfOk result (IsBounds (area_has self.now)) }
     {
@@ -82,7 +86,7 @@ impl Area {
     ///
     /// # Errors
     ///
-    /// `AllocError` for want of memory.
+    /// `AllocError` if memory runs out.
     pub fn copy(&self) -> Result<Area, AllocError>
         ensures { IfOk result (λ copy. copy ≡ self.now) }
     {
@@ -104,7 +108,7 @@ fn slabs_of(alloc: Global, volumes: &[Volume]) -> Result<Vec<Slab>, AllocError>
     Ok(slabs)
 }
 
-// Equal volumes.
+// A copy of the list.
 fn copies(volumes: &Vec<Volume>) -> Result<Vec<Volume>, AllocError>
     ensures { IfOk result (λ copies. copies.items ≡ volumes.now.items) }
 {
@@ -115,11 +119,12 @@ fn copies(volumes: &Vec<Volume>) -> Result<Vec<Volume>, AllocError>
     Ok(copies)
 }
 
+// Whether an area may have this many volumes.
 fn is_count(count: usize) -> bool
-    ensures { result ≡ (nat_le 1 count && nat_le count 8) }
+    ensures { result ≡ within_volumes count }
 {
     if count == 0 {
         return false;
     }
-    count <= 8
+    count <= MAX_VOLUMES
 }

@@ -1,4 +1,4 @@
-//! The smallest slab round others.
+//! The smallest slab that has all points of others.
 
 ghost use Rattle.std.specs.Prelude.{◌≡◌};
 ghost use Rattle.std.specs.Int.{int_min, int_max};
@@ -7,7 +7,7 @@ ghost use Rattle.volume4d.specs.Bounds.{AreFilled, IsJoin, IsBounds};
 
 use crate::slab::Slab;
 
-/// The smallest slab that has all points of some slabs, of which each has one.
+/// The smallest slab that has all points of the slabs.
 pub(crate) fn bounds_of(slabs: &[Slab]) -> Slab
     requires { AreFilled slabs.now }
     ensures { IsBounds (slabs_have slabs.now) result }
@@ -19,7 +19,7 @@ pub(crate) fn bounds_of(slabs: &[Slab]) -> Slab
     bounds
 }
 
-// One slab round two.
+// The smallest slab that has all points of two.
 fn join(left: &Slab, right: &Slab) -> Slab
     ensures { IsJoin left.now right.now result }
 {
@@ -35,7 +35,7 @@ fn join(left: &Slab, right: &Slab) -> Slab
     }
 }
 
-// The bounds round the altitudes of two slabs.
+// The lower and the upper bound of the altitudes of two slabs.
 fn altitudes(left: &Slab, right: &Slab) -> (i32, i32)
     ensures lower { result.0 ≡ int_min left.now.lower right.now.lower }
     ensures upper { result.1 ≡ int_max left.now.upper right.now.upper }
@@ -43,7 +43,7 @@ fn altitudes(left: &Slab, right: &Slab) -> (i32, i32)
     (left.lower.min(right.lower), left.upper.max(right.upper))
 }
 
-// The bounds round the seconds of two slabs.
+// The start and the end of the seconds of two slabs.
 fn seconds(left: &Slab, right: &Slab) -> (i64, i64)
     ensures start { result.0 ≡ int_min left.now.start right.now.start }
     ensures end { result.1 ≡ int_max left.now.end right.now.end }

@@ -1,10 +1,11 @@
 //! Footprints: the ground that a volume covers, and its bytes.
 
-ghost use Rattle.std.specs.Prelude.{◌≡◌, ◌<◌, ◌&&◌, ◌∷◌, IfOk, MatchOption, IsTrue, length, nat_le};
+ghost use Rattle.std.specs.Prelude.{◌≡◌, ◌<◌, ◌∷◌, IfOk, MatchOption, IsTrue, length};
 ghost use Rattle.std.specs.Int.{w64, to_be_bytes, from_be_bytes};
 ghost use Rattle.std.specs.Option.{SomeIff};
 ghost use Rattle.s2_cellid.specs.Cell.{IsCellId};
-ghost use Rattle.s2_cover.specs.Runs.{IsRanges};
+ghost use Rattle.s2_cover.specs.Ranges.{IsRanges};
+ghost use Rattle.volume4d.specs.Limits.{within_cells};
 ghost use Rattle.volume4d.specs.Shape as shapes;
 ghost use Rattle.volume4d.specs.Shape.{Shape, shape_positions, is_footprint};
 ghost use Rattle.volume4d.specs.Footprint.{shape_of};
@@ -14,23 +15,27 @@ use s2_cellid::CellId;
 use s2_cover::{Ranges, normalise};
 use std::alloc::{AllocError, Global};
 
-// The first byte of the bytes of a cell list.
+// The byte before the ids of a cell list.
 const CELLS: u8 = 1;
+
+// The most cells of a cell list.
+const MAX_CELLS: usize = 64;
 
 /// The ground that a volume covers.
 #[derive(Debug, Drop)]
 pub enum Footprint {
-    /// The leaves of any of these S2 cells. Order and doubles are kept as asked.
+    /// A list of S2 cells: the footprint has the leaves of each. The list keeps its order, and
+    /// cells that it has more than once.
     Cells(Vec<CellId>),
 }
 
 impl Footprint {
-    /// The bytes of the footprint: for cells the byte 1, and then each id as eight bytes, the most
-    /// significant first, in the order asked.
+    /// The footprint as bytes. A cell list is the byte 1, and then each cell's id as eight bytes,
+    /// the most significant first, in the order of the list.
     ///
     /// # Errors
     ///
-    /// `AllocError` for want of memory.
+    /// `AllocError` if memory runs out.
     pub fn to_bytes(&self, alloc: Global) -> Result<Vec<u8>, AllocError>
         ensures { IfOk result (λ bytes. bytes.items ≡ footprint_bytes (shape_of self.now)) }
     {
@@ -39,12 +44,12 @@ impl Footprint {
         }
     }
 
-    /// The footprint of 1 to 64 cells that has these bytes, as `to_bytes` gives them; `None` where
-    /// there is none.
+    /// The footprint of 1 to 64 cells for which `to_bytes` gives these bytes, or `None` if there is
+    /// no such footprint.
     ///
     /// # Errors
     ///
-    /// `AllocError` for want of memory.
+    /// `AllocError` if memory runs out.
     pub fn from_bytes(alloc: Global, bytes: &[u8]) -> Result<Option<Footprint>, AllocError>
         ensures { IfOk result (λ found. MatchOption found
             ((shape : Shape) → ¬ AreBytesOf bytes.now shape)
@@ -60,7 +65,7 @@ impl Footprint {
     ///
     /// # Errors
     ///
-    /// `AllocError` for want of memory.
+    /// `AllocError` if memory runs out.
     pub fn copy(&self) -> Result<Footprint, AllocError>
         ensures { IfOk result (λ copy. shape_of copy ≡ shape_of self.now) }
     {
@@ -69,7 +74,7 @@ impl Footprint {
         }
     }
 
-    /// Whether it has as many cells as a volume may have, 1 to 64.
+    /// Whether the footprint has 1 to 64 cells, as a volume requires.
     pub(crate) fn is_within_limits(&self) -> bool
         ensures { result ≡ is_footprint (shape_of self.now) }
     {
@@ -78,7 +83,7 @@ impl Footprint {
         }
     }
 
-    /// The ranges of its leaves along the S2 curve, those of its canonical cover.
+    /// The footprint's leaves as ranges of positions along the S2 curve.
     pub(crate) fn ranges(&self) -> Result<Ranges, AllocError>
         ensures ranges { IfOk result (IsRanges (shape_positions (shape_of self.now))) }
         ensures some { IsTrue (is_footprint (shape_of self.now)) →
@@ -89,7 +94,7 @@ impl Footprint {
         }
     }
 
-    /// The allocator of what is made of it.
+    /// The allocator of the footprint's memory.
     pub(crate) fn allocator(&self) -> Global {
         match self {
             Footprint::Cells(cells) => *cells.allocator(),
@@ -97,7 +102,7 @@ impl Footprint {
     }
 }
 
-// The ranges of a cell list's leaves.
+// The leaves of a cell list as ranges of positions along the S2 curve.
 fn cell_ranges(alloc: Global, cells: &[CellId]) -> Result<Ranges, AllocError>
     ensures ranges { IfOk result (IsRanges (shape_positions (shapes.cells cells.now))) }
     ensures some { 0 < length cells.now → IfOk result (λ ranges. 0 < length ranges) }
@@ -105,7 +110,7 @@ fn cell_ranges(alloc: Global, cells: &[CellId]) -> Result<Ranges, AllocError>
     normalise(alloc, cells)?.ranges()
 }
 
-// The bytes of a cell list.
+// A cell list as bytes.
 fn cell_bytes(alloc: Global, cells: &[CellId]) -> Result<Vec<u8>, AllocError>
     ensures { IfOk result (λ bytes. bytes.items ≡ footprint_bytes (shapes.cells cells.now)) }
 {
@@ -116,14 +121,15 @@ fn cell_bytes(alloc: Global, cells: &[CellId]) -> Result<Vec<u8>, AllocError>
     Ok(bytes)
 }
 
-// The eight bytes of a cell's id.
+// A cell's id as eight bytes, the most significant first.
 fn id_bytes(cell: &CellId) -> [u8; 8]
     ensures { result ≡ to_be_bytes w64 cell.now }
 {
     cell.raw().to_be_bytes()
 }
 
-// The cells whose ids the bytes behind the first are, where they are 1 to 64.
+// The cell list whose bytes these are, without the first, or `None` if they are not those of 1 to
+// 64 cells.
 fn cells_of(alloc: Global, bytes: &[u8]) -> Result<Option<Vec<CellId>>, AllocError>
     ensures { IfOk result (λ found. MatchOption found
         ((shape : Shape) → ¬ AreBytesOf (1 ∷ bytes.now) shape)
@@ -143,19 +149,19 @@ fn cells_of(alloc: Global, bytes: &[u8]) -> Result<Option<Vec<CellId>>, AllocErr
     Ok(Some(cells))
 }
 
-// The cell whose id the eight bytes are.
+// The cell with the id that the eight bytes give, if that id is valid.
 fn cell_of(id: &[u8; 8]) -> Option<CellId>
     ensures { SomeIff result (IsCellId (from_be_bytes w64 id.now)) (from_be_bytes w64 id.now) }
 {
     CellId::from_raw(u64::from_be_bytes(*id))
 }
 
-// Whether a footprint may have this many cells.
+// Whether a cell list may have this many cells.
 fn is_count(count: usize) -> bool
-    ensures { result ≡ (nat_le 1 count && nat_le count 64) }
+    ensures { result ≡ within_cells count }
 {
     if count == 0 {
         return false;
     }
-    count <= 64
+    count <= MAX_CELLS
 }

@@ -1,5 +1,5 @@
 //! Volumes of flight in four dimensions: footprints of S2 cells with altitudes and times, the slabs
-//! that have their points, and the first point in which two lists of slabs meet.
+//! that have the same points, and the first point that two lists of slabs share.
 #![tactic(auto)]
 
 mod area;

@@ -4,6 +4,7 @@ ghost use Rattle.std.specs.Prelude.{◌≡◌, ◌&&◌, ◌||◌, ◌↔◌, Bo
 ghost use Rattle.std.specs.Ordering.{is_lt};
 ghost use Rattle.std.specs.List.{list_any};
 ghost use Rattle.std.specs.Option.{option_map};
+ghost use Rattle.s2_cellid.specs.Family.{leaf_id};
 ghost use Rattle.volume4d.specs.Point.{Point, point_cmp};
 ghost use Rattle.volume4d.specs.Slab.{slab_has_leaf, slab_has, slabs_have, helds_have, top_held};
 ghost use Rattle.volume4d.specs.Level.{greater};
@@ -12,9 +13,11 @@ ghost use Rattle.volume4d.specs.Shared as spec;
 ghost use Rattle.volume4d.specs.Shared.{is_shared, share};
 
 use crate::slab::{Held, Slab};
+use s2_cellid::CellId;
+use s2_hilbert::leaf_at;
 use std::marker::Model;
 
-/// A point that is shared, and the greatest priority of those that hold it.
+/// A point that two plans share, and the greatest priority that is held there.
 #[derive(Clone, Copy, Debug, PartialEq, Eq)]
 #[tactic(auto, using(s2_hilbert::proofs::Positions::position_undone))]
 pub struct Meeting {
@@ -62,7 +65,7 @@ impl Model for Meeting {
     } };
 }
 
-// A point: the least corner of a box.
+// A point, as the least corner of a slab.
 #[derive(Clone, Copy, Debug)]
 struct Corner {
     pos: u64,
@@ -99,6 +102,15 @@ impl Model for Corner {
     } };
 }
 
+impl Meeting {
+    /// The leaf cell of the point.
+    pub fn cell(&self) -> CellId
+        ensures { result ≡ leaf_id self.now.point.leaf }
+    {
+        CellId::of_leaf(leaf_at(self.pos))
+    }
+}
+
 /// Whether two lists of slabs share a point.
 pub fn meet(mine: &[Slab], theirs: &[Slab]) -> bool
     ensures { IsTrue result
@@ -107,8 +119,8 @@ pub fn meet(mine: &[Slab], theirs: &[Slab]) -> bool
     any_meets(mine, theirs)
 }
 
-/// The first point, by leaf, altitude and second, that slabs share with held ones, with the
-/// greatest priority of those that have it; none only where no point is shared.
+/// The first point that the slabs share with held ones, and the greatest priority of those that
+/// hold it; `None` if they share no point. Points are ordered by leaf, then altitude, then second.
 pub fn first_meeting(mine: &[Slab], theirs: &[Held]) -> Option<Meeting>
     ensures { IsFirst (is_shared mine.now theirs.now) (top_held theirs.now) result }
 {
@@ -118,7 +130,7 @@ pub fn first_meeting(mine: &[Slab], theirs: &[Held]) -> Option<Meeting>
     }
 }
 
-// The meeting at a point that is held.
+// The meeting at a point, or `None` if nothing holds it.
 fn meeting_at(corner: Corner, theirs: &[Held]) -> Option<Meeting>
     ensures { result ≡ option_map (λ priority. record { point = corner; priority = priority })
         (top_held theirs.now corner) }
@@ -134,7 +146,7 @@ fn meeting_at(corner: Corner, theirs: &[Held]) -> Option<Meeting>
     }
 }
 
-// The first point of any of the slabs that is held.
+// The first point that one of the slabs shares with a held one.
 fn first_shared(mine: &[Slab], theirs: &[Held]) -> Option<Corner>
     ensures { IsFirstPoint (λ x. slabs_have mine.now x && helds_have theirs.now x) result }
 {
@@ -145,7 +157,7 @@ fn first_shared(mine: &[Slab], theirs: &[Held]) -> Option<Corner>
     first
 }
 
-// The first point of the slab that is held.
+// The first point that the slab shares with a held one.
 fn first_in(slab: &Slab, theirs: &[Held]) -> Option<Corner>
     ensures { IsFirstPoint (λ x. slab_has slab.now x && helds_have theirs.now x) result }
 {
@@ -171,7 +183,8 @@ fn least_corner(mine: &Slab, theirs: &Slab) -> Option<Corner>
     Some(corner)
 }
 
-// The greatest of the lower bounds of two slabs: no point that both have comes before it.
+// The greater of each of the lower bounds of two slabs. Two slabs that share a point share this
+// one, and it is the first that they share.
 fn corner_of(mine: &Slab, theirs: &Slab) -> Corner
     ensures { result ≡ spec.corner_of mine.now theirs.now }
 {
@@ -189,6 +202,7 @@ fn has(slab: &Slab, x: &Corner) -> bool
     has_leaf(slab, x) && has_altitude(slab, x.altitude) && has_second(slab, x.second)
 }
 
+// Whether a slab has a point's leaf.
 #[tactic(auto, using(crate::proofs::Corners::slab_has_position))]
 fn has_leaf(slab: &Slab, x: &Corner) -> bool
     ensures { result ≡ slab_has_leaf slab.now x.now.leaf }
@@ -196,19 +210,21 @@ fn has_leaf(slab: &Slab, x: &Corner) -> bool
     slab.first <= x.pos && x.pos <= slab.last
 }
 
+// Whether a slab has an altitude.
 fn has_altitude(slab: &Slab, altitude: i32) -> bool
     ensures { result ≡ (int_le slab.now.lower altitude && int_lt altitude slab.now.upper) }
 {
     slab.lower <= altitude && altitude < slab.upper
 }
 
+// Whether a slab has a second.
 fn has_second(slab: &Slab, second: i64) -> bool
     ensures { result ≡ (int_le slab.now.start second && int_lt second slab.now.end) }
 {
     slab.start <= second && second < slab.end
 }
 
-// The earlier of two points, either of which may be none.
+// The first of two points, either of which may be missing.
 fn earlier(a: Option<Corner>, b: Option<Corner>) -> Option<Corner>
     ensures { (f g : Point → Bool) → IsFirstPoint f a → IsFirstPoint g b
         → IsFirstPoint (λ x. f x || g x) result }
@@ -220,7 +236,7 @@ fn earlier(a: Option<Corner>, b: Option<Corner>) -> Option<Corner>
     }
 }
 
-// Whether a point comes before another, by leaf, altitude and second.
+// Whether a point comes before another, by leaf, then altitude, then second.
 #[tactic(auto, using(crate::proofs::Corners::less_position))]
 fn precedes(a: &Corner, b: &Corner) -> bool
     ensures { result ≡ is_lt (point_cmp a.now b.now) }
@@ -234,7 +250,7 @@ fn precedes(a: &Corner, b: &Corner) -> bool
     a.second < b.second
 }
 
-// The greatest priority of those that have the point.
+// The greatest priority held at a point, or `None` if nothing holds it.
 fn top_at(theirs: &[Held], x: &Corner) -> Option<u32>
     ensures { result ≡ top_held theirs.now x.now }
 {
@@ -247,6 +263,7 @@ fn top_at(theirs: &[Held], x: &Corner) -> Option<u32>
     top
 }
 
+// The greater of a priority and one that may be missing.
 fn higher(top: Option<u32>, priority: u32) -> u32
     ensures { Some result ≡ greater top (Some priority) }
 {
@@ -256,13 +273,14 @@ fn higher(top: Option<u32>, priority: u32) -> u32
     }
 }
 
-// Whether some slab meets one of the others.
+// Whether one of the slabs shares a point with one of the others.
 fn any_meets(mine: &[Slab], theirs: &[Slab]) -> bool
     ensures { result ≡ list_any (λ slab. list_any (λ other. share slab other) theirs.now) mine.now }
 {
     mine.iter().any(|slab| meets_any(slab, theirs))
 }
 
+// Whether a slab shares a point with one of the others.
 fn meets_any(slab: &Slab, theirs: &[Slab]) -> bool
     ensures { result ≡ list_any (λ other. share slab.now other) theirs.now }
 {

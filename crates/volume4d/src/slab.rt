@@ -1,18 +1,18 @@
-//! Slabs: runs of leaves along the S2 curve, with altitudes and seconds.
+//! Slabs: leaves that follow each other along the S2 curve, with altitudes and times.
 
 ghost use Rattle.std.specs.Prelude.{◌<◌, ◌*◌, ◌^◌};
 
-/// The leaves at the positions `first..=last` along the S2 curve, altitudes `lower <= a < upper` in
-/// decimetres and Unix seconds `start <= t < end`.
+/// The points with a leaf at a position `first..=last` along the S2 curve, an altitude
+/// `lower <= a < upper` and a Unix second `start <= t < end`.
 #[derive(Clone, Copy, Debug, PartialEq, Eq)]
 pub struct Slab {
     /// The position of the first leaf among all leaves along the curve, below `6 * 2^60`.
     pub first: u64,
     /// The position of the last leaf, below `6 * 2^60`.
     pub last: u64,
-    /// The least altitude, in decimetres above the WGS84 ellipsoid.
+    /// The lowest altitude, in decimetres above the WGS84 ellipsoid.
     pub lower: i32,
-    /// The altitude above the greatest, in decimetres.
+    /// The upper bound of the altitudes, which does not belong to them, in decimetres.
     pub upper: i32,
     /// The first Unix second.
     pub start: i64,
@@ -22,11 +22,12 @@ pub struct Slab {
     pub ghost last_is_leaf: { last < 6 * 2 ^ 60 },
 }
 
-/// A slab that a plan of a priority holds.
+/// A slab that belongs to a stored plan, with that plan's priority.
 #[derive(Clone, Copy, Debug, PartialEq, Eq)]
 pub struct Held {
-    /// Where and when it is held.
+    /// The points that the plan holds.
     pub slab: Slab,
-    /// The plan's priority, of which a higher one goes first (ASTM F3548-21).
+    /// The plan's priority; of two plans the one with the higher priority goes first
+    /// (ASTM F3548-21).
     pub priority: u32,
 }

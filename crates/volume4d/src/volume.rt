@@ -1,7 +1,7 @@
 //! Volumes.
 
 ghost use Rattle.std.specs.Prelude.{◌≡◌, Ok, Err, if◌then◌else◌, IsTrue, IfOk, All};
-ghost use Rattle.s2_cover.specs.Runs.{IsSpan};
+ghost use Rattle.s2_cover.specs.Ranges.{IsSpan};
 ghost use Rattle.volume4d.specs.Point.{Point};
 ghost use Rattle.volume4d.specs.Windows.{is_window};
 ghost use Rattle.volume4d.specs.Footprint.{shape_of};
@@ -17,22 +17,34 @@ use crate::slab::Slab;
 use crate::window::Window;
 use s2_cover::Span;
 use std::alloc::{AllocError, Global};
+use std::error::Error;
+use std::fmt;
 use std::marker::Model;
 
-/// A footprint with altitudes and seconds (`Volume4D` of ASTM F3548-21), within the desk's limits
-/// by its type.
+/// A footprint with altitudes and times (`Volume4D` of ASTM F3548-21), always within the desk's
+/// limits.
 #[derive(Debug, Drop)]
 pub struct Volume {
     footprint: Footprint,
     window: Window,
 }
 
-/// Why a footprint makes no volume.
+/// Why a volume cannot be made.
 #[derive(Clone, Copy, Debug, PartialEq, Eq)]
 pub enum VolumeFault {
-    /// Not 1 to 64 cells.
+    /// The footprint does not have 1 to 64 cells.
     Cells,
 }
+
+impl fmt::Display for VolumeFault {
+    fn fmt<W: fmt::Write>(&self, f: &mut fmt::Formatter<W>) -> fmt::Result {
+        match self {
+            VolumeFault::Cells => f.pad("a footprint has 1 to 64 cells"),
+        }
+    }
+}
+
+impl Error for VolumeFault {}
 
 impl Model for Volume {
     ghost use Rattle.std.specs.Prelude.{IsTrue, ◌&&◌};
@@ -52,11 +64,11 @@ impl Model for Volume {
 impl Volume {
     ghost use Rattle.volume4d.specs.Footprint.{shape_of};
 
-    /// A volume of a footprint of 1 to 64 cells; another footprint is dropped.
+    /// The volume over a footprint in a window. The footprint is dropped if it is refused.
     ///
     /// # Errors
     ///
-    /// `Cells` where the footprint has no cell or more than 64.
+    /// `Cells` if the footprint has no cell or more than 64.
     pub fn try_new(footprint: Footprint, window: Window) -> Result<Volume, VolumeFault>
         ensures { result ≡ (if is_footprint (shape_of footprint)
             then Ok (record { footprint = shape_of footprint; window = window })
@@ -69,7 +81,7 @@ impl Volume {
         }
     }
 
-    /// The footprint, as asked.
+    /// The footprint given to `try_new`.
     pub fn footprint(&self) -> &Footprint
         ensures value { shape_of result.now ≡ self.now.footprint }
         ensures limits { IsTrue (is_footprint self.now.footprint) }
@@ -77,7 +89,7 @@ impl Volume {
         &self.footprint
     }
 
-    /// The altitudes and seconds.
+    /// The altitudes and times.
     pub fn window(&self) -> Window
         ensures value { result ≡ self.now.window }
         ensures limits { IsTrue (is_window self.now.window) }
@@ -85,12 +97,13 @@ impl Volume {
         self.window
     }
 
-    /// The slabs that have exactly the points of the volume: one for each range of its leaves
-    /// along the S2 curve, ascending, so cells that touch make one.
+    /// The slabs of the volume, ascending: one for each range of the footprint's leaves along the
+    /// S2 curve, so cells that follow each other on the curve share one. A point belongs to one of
+    /// the slabs exactly if it belongs to the volume.
     ///
     /// # Errors
     ///
-    /// `AllocError` for want of memory.
+    /// `AllocError` if memory runs out.
     pub fn slabs(&self) -> Result<Vec<Slab>, AllocError>
         ensures ranges { IfOk result (λ slabs. AreVolumeSlabs self.now slabs.items) }
         ensures points { IfOk result (λ slabs. (x : Point) →
@@ -105,7 +118,7 @@ impl Volume {
     ///
     /// # Errors
     ///
-    /// `AllocError` for want of memory.
+    /// `AllocError` if memory runs out.
     pub fn copy(&self) -> Result<Volume, AllocError>
         ensures { IfOk result (λ copy. copy ≡ self.now) }
     {
@@ -116,7 +129,7 @@ impl Volume {
     }
 }
 
-// The slabs of spans of positions in a window, one for each.
+// One slab for each span of positions, all with the same window.
 fn slabs_of(alloc: Global, spans: &[Span], window: Window) -> Result<Vec<Slab>, AllocError>
     requires { All IsSpan spans.now }
     ensures { IfOk result (λ slabs. AreSlabsOn spans.now window slabs.items) }
@@ -128,7 +141,7 @@ fn slabs_of(alloc: Global, spans: &[Span], window: Window) -> Result<Vec<Slab>, 
     Ok(slabs)
 }
 
-// The slab of a span of positions in a window.
+// The slab of one span of positions.
 fn slab_of(span: &Span, window: Window) -> Slab
     requires { IsSpan span.now }
     ensures span { span_of result ≡ span.now }

@@ -1,13 +1,15 @@
-//! Altitudes and seconds of a volume.
+//! The altitudes and times of a volume.
 
 ghost use Rattle.std.specs.Prelude.{◌≡◌, pos, ◌≤ℤ◌, ◌<ℤ◌, IsTrue};
 ghost use Rattle.volume4d.specs.Limits.{within_altitudes, within_times, within_length};
 ghost use Rattle.volume4d.specs.Windows.{window_or_fault, is_window};
 
+use std::error::Error;
+use std::fmt;
 use std::marker::Model;
 
-/// The altitudes `lower <= a < upper`, in decimetres above the WGS84 ellipsoid, and the Unix
-/// seconds `start <= t < end` of a volume: within the desk's limits by its type.
+/// The altitudes `lower <= a < upper` of a volume, in decimetres above the WGS84 ellipsoid, and its
+/// Unix seconds `start <= t < end`. They are always within the desk's limits.
 #[derive(Clone, Copy, Debug, PartialEq, Eq)]
 pub struct Window {
     lower: i32,
@@ -16,16 +18,28 @@ pub struct Window {
     end: i64,
 }
 
-/// Why four numbers are no window.
+/// Why a window cannot be made.
 #[derive(Clone, Copy, Debug, PartialEq, Eq)]
 pub enum WindowFault {
-    /// Not `-10,000 <= lower < upper <= 200,000`.
+    /// The altitudes do not meet `-10,000 <= lower < upper <= 200,000`, in decimetres.
     Altitude,
-    /// Not `0 <= start < end <= 253,370,764,800`.
+    /// The seconds do not meet `0 <= start < end <= 253,370,764,800`.
     Time,
-    /// Longer than 86,400 s.
+    /// The time from start to end is longer than 86,400 s.
     TooLong,
 }
+
+impl fmt::Display for WindowFault {
+    fn fmt<W: fmt::Write>(&self, f: &mut fmt::Formatter<W>) -> fmt::Result {
+        f.pad(match self {
+            WindowFault::Altitude => "altitudes are -10000 <= lower < upper <= 200000 decimetres",
+            WindowFault::Time => "times are 0 <= start < end <= 253370764800 s",
+            WindowFault::TooLong => "a volume lasts at most 86400 s",
+        })
+    }
+}
+
+impl Error for WindowFault {}
 
 impl Model for Window {
     ghost use Rattle.std.specs.Prelude.{IsTrue};
@@ -55,20 +69,20 @@ impl Model for Window {
     } };
 }
 
-// The least altitude, in decimetres.
-const LOWEST: i32 = -10_000;
+// The lowest altitude, in decimetres above the WGS84 ellipsoid.
+const MIN_ALTITUDE: i32 = -10_000;
 
-// The greatest bound above altitudes, in decimetres.
-const HIGHEST: i32 = 200_000;
+// The highest upper bound of altitudes, in decimetres above the WGS84 ellipsoid.
+const MAX_ALTITUDE: i32 = 200_000;
 
-// The greatest bound after seconds, the end of the year 9998.
-const LAST: i64 = 253_370_764_800;
+// The latest end, as a Unix second: the end of the year 9998.
+const MAX_SECOND: i64 = 253_370_764_800;
 
-// A day, in seconds.
-const LONGEST: i64 = 86_400;
+// The greatest length in time, in seconds: a day.
+const MAX_LENGTH: i64 = 86_400;
 
 impl Window {
-    /// The window of altitudes in decimetres and Unix seconds.
+    /// The window of these altitudes, in decimetres above the WGS84 ellipsoid, and Unix seconds.
     ///
     /// # Errors
     ///
@@ -94,7 +108,7 @@ impl Window {
         })
     }
 
-    /// The least altitude, in decimetres.
+    /// The lowest altitude, in decimetres above the WGS84 ellipsoid.
     pub fn lower(&self) -> i32
         ensures value { result ≡ self.now.lower }
         ensures limits { IsTrue (is_window self.now) }
@@ -102,21 +116,21 @@ impl Window {
         self.lower
     }
 
-    /// The altitude above the greatest, in decimetres.
+    /// The upper bound of the altitudes, which does not belong to them, in decimetres.
     pub fn upper(&self) -> i32
         ensures { result ≡ self.now.upper }
     {
         self.upper
     }
 
-    /// The first second.
+    /// The first Unix second.
     pub fn start(&self) -> i64
         ensures { result ≡ self.now.start }
     {
         self.start
     }
 
-    /// The second after the last.
+    /// The Unix second after the last.
     pub fn end(&self) -> i64
         ensures { result ≡ self.now.end }
     {
@@ -124,20 +138,20 @@ impl Window {
     }
 }
 
-// Whether a least altitude and one above the greatest are in order and within the limits.
+// Whether altitudes are in order and within the limits.
 fn are_altitudes(lower: i32, upper: i32) -> bool
     ensures value { result ≡ within_altitudes lower upper }
 {
-    if lower < LOWEST {
+    if lower < MIN_ALTITUDE {
         return false;
     }
     if lower >= upper {
         return false;
     }
-    upper <= HIGHEST
+    upper <= MAX_ALTITUDE
 }
 
-// Whether a first second and one after the last are in order and within the limits.
+// Whether seconds are in order and within the limits.
 fn are_times(start: i64, end: i64) -> bool
     ensures value { result ≡ within_times start end }
     ensures bounds { IsTrue result → (pos 0 ≤ℤ start) × (start <ℤ end) }
@@ -148,14 +162,14 @@ fn are_times(start: i64, end: i64) -> bool
     if start >= end {
         return false;
     }
-    end <= LAST
+    end <= MAX_SECOND
 }
 
-// Whether the seconds are at most a day.
+// Whether the time from start to end is within the limit.
 fn is_length(start: i64, end: i64) -> bool
     requires low { pos 0 ≤ℤ start }
     requires order { start <ℤ end }
     ensures { result ≡ within_length start end }
 {
-    end - start <= LONGEST
+    end - start <= MAX_LENGTH
 }

@@ -1,5 +1,6 @@
 use Rattle.std.proofs.Common.{◌≡◌, ◌%◌, ◌/◌, length, arith, IsTrue}
-use Rattle.volume4d.proofs.Readings.{is_count, counted, valid_id, one_more, all_read}
+use Rattle.volume4d.specs.Limits.{within_cells}
+use Rattle.volume4d.proofs.Readings.{counted, valid_id, one_more, all_read}
 use Rattle.volume4d.proofs.footprint.cells_of.Goals as goal
 use Rattle.volume4d.proofs.footprint.cells_of.Goals.{then-not-is_empty-via-then-not-is_empty, then-not-is_empty-via-else-not-is_empty+then-not-is_count}
 
@@ -30,6 +31,6 @@ returns c =
     let rest : length c.as_chunks.result.1.now ≡ length c.args.bytes.now % 8 = c.as_chunks.ensures.back_len in
     let even : length c.args.bytes.now % 8 ≡ 0 = grind (arith, c.if-not-is_empty.ensures) in
     let many : length c.as_chunks.result.0.now ≡ length c.args.bytes.now / 8 = c.as_chunks.ensures.front_len in
-    let few : IsTrue (is_count (length c.args.bytes.now / 8)) = grind (arith, c.is_count.ensures, c.if-not-is_count.false) in
+    let few : IsTrue (within_cells (length c.args.bytes.now / 8)) = grind (arith, c.is_count.ensures, c.if-not-is_count.false) in
     all_read c.args.bytes.now c.as_chunks.result.0.now c.loop-id.id-index c.loop-id.cells.items (λ k. (c.type_inv.bytes k).fits) even few
     c.as_chunks.ensures.front c.loop-id-test.false c.loop-id.invariant.0 c.loop-id.invariant.1

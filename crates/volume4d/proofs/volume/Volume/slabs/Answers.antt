@@ -2,7 +2,7 @@ use Rattle.std.proofs.Common.{◌<◌, length, subst, sym}
 use Rattle.std.specs.Prelude.{All}
 use Rattle.std.proofs.lemmas.Bool.{and_parts}
 use Rattle.std.proofs.lemmas.Result.{IfOk-weaker}
-use Rattle.s2_cover.specs.Runs.{IsSpan, IsRanges}
+use Rattle.s2_cover.specs.Ranges.{IsSpan, IsRanges}
 use Rattle.volume4d.specs.Windows.{is_window}
 use Rattle.volume4d.specs.Shape.{shape_positions, is_footprint}
 use Rattle.volume4d.specs.Footprint.{shape_of}

@@ -8,7 +8,7 @@ use Rattle.s2_cover.specs.declared.spans.Span.{Span}
 abbrev pub span_has : Span → ℕ → Bool
 span_has span position = is_in_range span.first span.last position
 
--- the positions of a list of spans: each that lies in some span
+-- the positions of a list of spans: those of each span
 abbrev pub spans_have : List Span → ℕ → Bool
 spans_have spans position = list_any (λ span. span_has span position) spans
 
@@ -21,8 +21,7 @@ pub record IsSpan (span : Span) : Type 0 where
 abbrev pub IsApart : Span → Span → Type 0
 IsApart left right = left.last + 1 < right.first
 
--- ascending spans, no two of which share a position or touch, and which have exactly the set's
--- positions
+-- ascending spans with a gap between any two, which have exactly the set's positions
 pub record IsRanges (set : ℕ → Bool) (spans : List Span) : Type 0 where
   pub each : All IsSpan spans
   pub apart : AllPairs IsApart spans
