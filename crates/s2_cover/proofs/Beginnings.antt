@@ -8,12 +8,12 @@ use Rattle.std.specs.Option.{SomeIff}
 use Rattle.std.proofs.Math.Nat.{pow-le-pow_right}
 use Rattle.std.proofs.lemmas.Nat.{pow_pos, pow-add, shl-shr, div-add-mod', mod-mul-add}
 use Rattle.std.proofs.lemmas.Bool.{cases_lt}
-use Rattle.s2_cellid.specs.Cell.{lowest_place, first_leaf, last_leaf}
+use Rattle.s2_cellid.specs.Cell.{lowest_place, first_leaf}
 use Rattle.s2_hilbert.specs.Curve.{leaf_count}
 use Rattle.s2_hilbert.specs.PlaceLaws.{power_of_four}
 use Rattle.s2_cellid.specs.BlockLaws.{zero_low, power_double, number_of}
 use Rattle.s2_cellid.specs.FamilyLaws.{IsCellOf, cell_of}
-use Rattle.s2_cover.specs.Laying.{BeginsAt, IsLargestFrom, IsFitting, IsLargestFitting}
+use Rattle.s2_cover.specs.Laying.{IsLargestFrom, IsFitting, IsLargestFitting}
 use Rattle.s2_cover.proofs.Nesting.{has_leaves, place_of}
 
 pub some_when : {T : Type 0} (o : Option T) (P : Type 0) (v : T) → SomeIff o P v → P → o ≡ Some v
