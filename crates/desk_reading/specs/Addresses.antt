@@ -9,7 +9,7 @@ use Rattle.desk_reading.specs.Fields.{Count, absent, once, more, count_in}
 use Rattle.desk_reading.specs.Heads.{HeadParts}
 use Rattle.desk_reading.specs.Routes.{route_in}
 
--- the operator's name, where it is there once
+-- the operator's name, if it is there once
 abbrev pub operator_of : Count → Option (List ℕ)
 operator_of absent = None
 operator_of (once value) = if is_operator_name value then Some value else None

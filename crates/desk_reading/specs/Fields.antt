@@ -14,7 +14,7 @@ values_of name fields =
     map (λ (f : List ℕ × List ℕ). f.1)
     (filter (λ (f : List ℕ × List ℕ). str_eq_ignore_ascii_case f.0 name) fields)
 
--- how often a field is there, and its value where it is there once
+-- how often a field is there, and its value if it is there once
 pub data Count : Type 0 where
   absent : Count
   once : List ℕ → Count
@@ -41,7 +41,7 @@ decimal_of digits =
     if nat_lt 0 (length digits) && nat_le (length digits) digit_room && list_all is_ascii_digit digits
     then Some (digits_value 10 digits) else None
 
--- the number of the content-length field (RFC 9112, section 6.3), 0 where it is absent. None where
+-- the number of the content-length field (RFC 9112, section 6.3), 0 if it is absent. None if
 -- it is there more than once or is no number
 abbrev pub length_of : Count → Option ℕ
 length_of absent = Some 0

@@ -1,5 +1,5 @@
 -- The head that a text is, if it is one: RFC 9112, sections 2, 3 and 5, in `httparse`'s grammar.
--- The line ends, spaces and colons of a text leave one head that it can be. It is that head where
+-- The line ends, spaces and colons of a text leave one head that it can be. It is that head if
 -- each part is of its class and the head, printed, is the text.
 use Rattle.std.specs.Prelude.{ℕ, Bool, ◌&&◌, List, [], ◌∷◌, length, map, take, option_and_then, if◌then◌else◌, ◌==◌, nat_lt, nat_le, Option, Some, None, codes, bytes_eq}
 use Rattle.std.specs.List.{list_all, before_first, after_first}

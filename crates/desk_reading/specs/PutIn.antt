@@ -44,12 +44,12 @@ abbrev pub priority_number : ℤ → Option ℕ
 priority_number (pos n) = if nat_le n max_priority then Some n else None
 priority_number (negsuc n) = None
 
--- 0 where there is none
+-- 0 if there is none
 abbrev pub priority_or_zero : Option Data → Reading ℕ
 priority_or_zero None = Ok 0
 priority_or_zero (Some d) = or_fault (option_and_then priority_number (whole_of d)) BadMember Ok
 
--- the priority among the rules of ASTM F3548-21, an object where they are there
+-- the priority among the rules of ASTM F3548-21, an object if they are there
 abbrev pub priority_by : Option Data → Reading ℕ
 priority_by None = Ok 0
 priority_by (Some rules) =

@@ -9,12 +9,12 @@ abbrev pub Reading : Type 0 → Type 0
 Reading A = Result A WireFault
 
 module _ {A : Type 0} where
-  -- the fault where the test holds, and else what follows
+  -- the fault if the test holds, and else what follows
   abbrev pub guard : Bool → WireFault → Reading A → Reading A
   guard test fault next = if test then Err fault else next
 
   module _ {B : Type 0} where
-    -- what follows from the value, or the fault where there is none
+    -- what follows from the value, or the fault if there is no value
     abbrev pub or_fault : Option B → WireFault → (B → Reading A) → Reading A
     or_fault None fault next = Err fault
     or_fault (Some value) fault next = next value

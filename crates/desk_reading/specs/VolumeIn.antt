@@ -1,5 +1,5 @@
 -- A volume in a request: altitudes in whole decimetres, S2 tokens and RFC 3339 times, under the member
--- names of InterUSS flight_planning v1 where it has them.
+-- names of InterUSS flight_planning v1 if it has them.
 use Rattle.std.specs.Prelude.{ℕ, ℤ, List, codes, Bool, false, if◌then◌else◌, Option, Some, None, option_and_then, is_some, not, Ok}
 use Rattle.std.specs.Int.{is_in_range}
 use Rattle.std.specs.Result.{result_ok}
@@ -59,6 +59,6 @@ volume_of d =
     guard (not (is_footprint (cells ids))) BadVolume (
     Ok (record { footprint = cells ids; window = window }))
 
--- the volumes of a plan's area, 1 to 8
+-- the volumes of a plan's area, as many as an area may have
 unfoldable pub area_of : Items → Reading (List Block)
 area_of items = guard (not (is_in_range 1 8 (items_len items))) BadVolume (each volume_of items)

@@ -6,10 +6,10 @@ ghost use Rattle.desk_reading.specs.Fields.{count_in, count_shown, decimal_of};
 
 use httparse::spans::HeaderSpan;
 
-/// The most digits of a number: each number of as many is a `u64`.
+/// The most digits of a number: each number of so many digits is a `u64`.
 const DIGIT_ROOM: usize = 19;
 
-/// How often a field is there, with its value where it is there once.
+/// How often a field is there, with its value if it is there once.
 #[derive(Clone, Copy, Debug, PartialEq, Eq)]
 pub enum Once<'t> {
     Absent,

@@ -1,4 +1,4 @@
-//! Framing: where the head of a request ends in its bytes.
+//! Framing: the end of a request's head in its bytes.
 
 ghost use Rattle.std.specs.Prelude.{◌≡◌, ◌≤◌, length, IfSome};
 ghost use Rattle.desk_reading.specs.Framing.{ends_head, head_len};
@@ -8,7 +8,7 @@ ghost use Rattle.desk_reading.specs.WireLimits.{head_room};
 pub const HEAD_ROOM: usize = 16_384;
 
 /// The length of the head that `text` begins with: of its shortest prefix that ends in LF LF or in
-/// LF CR LF. None where no head ends within the first `HEAD_ROOM` bytes.
+/// LF CR LF. None if no head ends within the first `HEAD_ROOM` bytes.
 pub fn head_length(text: &[u8]) -> Option<usize>
     ensures value { result ≡ head_len head_room text.now }
     ensures within { IfSome result (λ n. n ≤ length text.now) }
@@ -22,7 +22,7 @@ pub fn head_length(text: &[u8]) -> Option<usize>
     None
 }
 
-/// Whether a head ends where `text` does.
+/// Whether a head ends at the end of `text`.
 pub fn is_ended(text: &[u8]) -> bool
     ensures { result ≡ ends_head text.now }
 {

@@ -12,9 +12,9 @@ use httparse::spans::{EMPTY_HEADER_SPAN, HeaderSpan, RequestSpans, parse_request
 use std::marker::Model;
 
 /// The most fields that a head may have.
-pub const FIELD_ROOM: usize = 64;
+const FIELD_ROOM: usize = 64;
 
-/// A request head, by where its parts lie in its text.
+/// A request head: its text, and the places of its parts in it.
 #[derive(Drop)]
 pub struct Head<'t> {
     text: &'t [u8],
@@ -45,7 +45,7 @@ impl<'t> Head<'t> {
         self.spans.path.of(self.text)
     }
 
-    /// How often a field of that name is there, in any case, with its value where it is there once.
+    /// How often a field of that name, in any case, is there, with its value if it is there once.
     pub fn once(&self, name: &[u8]) -> Once<'t>
         ensures { count_shown result ≡ count_in name.now self.now.fields }
     {
@@ -53,7 +53,7 @@ impl<'t> Head<'t> {
     }
 }
 
-/// The head that the whole text is. None where it is no head, or one of more than `FIELD_ROOM`
+/// The head that the whole text is. None if the text is not a head, or has more than `FIELD_ROOM`
 /// fields.
 pub fn read_head(text: &[u8]) -> Option<Head<'_>>
     ensures { result ≡ option_map parts_of (head_within field_room text.now) }

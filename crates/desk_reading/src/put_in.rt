@@ -5,6 +5,9 @@ ghost use Rattle.desk_reading.specs.Readings.{GivesIfRoom};
 ghost use Rattle.desk_reading.specs.JsonIn.{whole_of};
 ghost use Rattle.desk_reading.specs.PutIn as spec;
 
+#[cfg(test)]
+mod tests;
+
 use crate::wire_fault::{ReadError, WireFault};
 use crate::json_in::{array_at, present, read_json, text_at};
 use crate::volume_in::read_area;
@@ -122,107 +125,5 @@ fn aircraft_of(word: &str) -> Option<Aircraft>
     match word {
         "Nominal" => Some(Aircraft::Nominal),
         _ => None,
-    }
-}
-
-#[cfg(test)]
-mod tests {
-    use super::*;
-    use s2_cellid::CellId;
-    use std::alloc::AllocError;
-    use std::test::Fail;
-    use volume4d::Footprint;
-
-    const ID: &str = "11111111-1111-4111-8111-111111111111";
-
-    const RULES: &str = "\"astm_f3548_21\":{\"priority\":10},";
-
-    const NOON: &str = "2026-06-01T12:00:00Z";
-
-    const ONE: &str = "2026-06-01T13:00:00Z";
-
-    // A volume over one cell.
-    fn volume_of(alloc: Global, start: &str, end: &str) -> Result<String, AllocError> {
-        format!(in alloc;
-            "{{\"time_end\":{{\"format\":\"RFC3339\",\"value\":\"{end}\"}},\
-            \"time_start\":{{\"format\":\"RFC3339\",\"value\":\"{start}\"}},\
-            \"volume\":{{\"altitude_lower\":0,\"altitude_upper\":1000,\"cells\":[\"04\"]}}}}"
-        )
-    }
-
-    // The body of a request with these rules and volumes.
-    fn body_of(alloc: Global, rules: &str, volumes: &str) -> Result<String, AllocError> {
-        format!(in alloc;
-            "{{\"execution_style\":\"IfAllowed\",\"flight_plan\":{{{rules}\
-            \"basic_information\":{{\"area\":[{volumes}],\
-            \"uas_state\":\"Nominal\",\"usage_state\":\"Planned\"}}}},\"request_id\":\"r1\"}}"
-        )
-    }
-
-    fn read(alloc: Global, rules: &str, volumes: &str) -> Result<PutCall, ReadError> {
-        let body = body_of(alloc, rules, volumes)?;
-        match PlanId::try_parse(ID) {
-            Some(id) => read_put(alloc, id, body.as_bytes()),
-            None => Err(ReadError::Fault(WireFault::BadPlanId)),
-        }
-    }
-
-    #[test]
-    fn reads_a_whole_request(rt: HostRuntime) -> Result<(), Fail> {
-        let alloc = rt.alloc();
-        let volumes = volume_of(alloc, NOON, ONE)?;
-        assert_eq!(rt; body_of(alloc, RULES, volumes.as_str())?.len(), 371);
-        let call = read(alloc, RULES, volumes.as_str())?;
-        assert_eq!(rt;
-            (call.style, call.usage, call.aircraft),
-            (Style::IfAllowed, Usage::Planned, Aircraft::Nominal)
-        );
-        assert_eq!(rt; call.priority, 10);
-        assert_eq!(rt; call.area.volumes().len(), 1);
-        let volume = &call.area.volumes()[0];
-        let window = volume.window();
-        assert_eq!(rt; (window.lower(), window.upper()), (0, 1_000));
-        assert_eq!(rt;
-            (window.start(), window.end()),
-            (1_780_315_200, 1_780_318_800)
-        );
-        let Footprint::Cells(cells) = volume.footprint();
-        assert_eq!(rt; cells.len(), 1);
-        assert_eq!(rt; CellId::from_token(b"04"), Ok(cells[0]));
-        Ok(())
-    }
-
-    #[test]
-    fn reads_priorities(rt: HostRuntime) -> Result<(), Fail> {
-        let alloc = rt.alloc();
-        let volumes = volume_of(alloc, NOON, ONE)?;
-        let volumes = volumes.as_str();
-        let bad_member = Some(ReadError::Fault(WireFault::BadMember));
-        assert_eq!(rt; read(alloc, "", volumes)?.priority, 0);
-        assert_eq!(rt;
-            read(alloc, "\"astm_f3548_21\":null,", volumes)?.priority,
-            0
-        );
-        let null = read(alloc, "\"astm_f3548_21\":{\"priority\":null},", volumes)?;
-        assert_eq!(rt; null.priority, 0);
-        let above = read(alloc, "\"astm_f3548_21\":{\"priority\":1001},", volumes);
-        assert_eq!(rt; above.err(), bad_member);
-        let no_object = read(alloc, "\"astm_f3548_21\":10,", volumes);
-        assert_eq!(rt; no_object.err(), bad_member);
-        Ok(())
-    }
-
-    #[test]
-    fn refuses_bad_bodies(rt: HostRuntime) -> Result<(), Fail> {
-        let alloc = rt.alloc();
-        let bad_volume = Some(ReadError::Fault(WireFault::BadVolume));
-        let bad_json = Some(ReadError::Fault(WireFault::BadJson));
-        assert_eq!(rt; read(alloc, RULES, "").err(), bad_volume);
-        let no_day = volume_of(alloc, "2026-02-30T12:00:00Z", ONE)?;
-        assert_eq!(rt; read(alloc, RULES, no_day.as_str()).err(), bad_volume);
-        let no_length = volume_of(alloc, ONE, ONE)?;
-        assert_eq!(rt; read(alloc, RULES, no_length.as_str()).err(), bad_volume);
-        assert_eq!(rt; read(alloc, RULES, "}").err(), bad_json);
-        Ok(())
     }
 }

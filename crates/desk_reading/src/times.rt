@@ -89,7 +89,7 @@ fn second_at(civil: CivilTime) -> Option<i64>
     Some(instant.as_second())
 }
 
-// The date and time, where the calendar and a clock have them.
+// The date and time, if the calendar and a clock have them.
 fn shown(civil: CivilTime) -> Option<DateTime>
     requires { IsShort civil }
     ensures there { is_some result ≡ is_civil civil }
