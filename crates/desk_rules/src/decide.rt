@@ -1,10 +1,10 @@
 //! The order of refusals.
 
-ghost use Rattle.std.specs.Prelude.{◌≡◌, ◌&&◌, None, pos, ◌≤ℤ◌, int_le, int_lt, nat_le, is_none};
+ghost use Rattle.std.specs.Prelude.{◌≡◌, ◌&&◌, None, pos, ◌+ℤ◌, int_le, int_lt, nat_le, is_none};
 ghost use Rattle.std.specs.Option.{option_copied};
 ghost use Rattle.desk_rules.specs.declared.words.PlanResult.TheVariants as results;
 ghost use Rattle.desk_rules.specs.Outcome.{outcome, has_ended, is_beyond_horizon, step_status, step_effect, styled_effect, note_of, refused_result, shown_conflict};
-ghost use Rattle.desk_rules.specs.Limits.{max_plans};
+ghost use Rattle.desk_rules.specs.Limits.{max_plans, max_ahead};
 ghost use Rattle.desk_rules.specs.States as spec;
 ghost use Rattle.desk_rules.specs.States.{status_in_use, is_offered};
 
@@ -49,7 +49,7 @@ pub const MAX_PLANS: u32 = 200;
 /// The verdict on a request: the first refusal that applies, in the order of `Note`, and where none
 /// does, that the request is carried out.
 ///
-/// `moment` is the Unix second of the request, 0 to 253,370,764,800, `stored` the plan of the same
+/// `moment` is the Unix second of the request, `stored` the plan of the same
 /// operator and id, `own_rows` the number of the operator's plans, closed ones too, `ceiling` the
 /// greatest priority that the operator may ask, and `meeting` the conflict of the area asked: the
 /// first point of it that is blocked.
@@ -62,7 +62,6 @@ pub fn decide(
     ceiling: u32,
     meeting: Option<Meeting>,
 ) -> Verdict
-    requires moment_range { (pos 0 ≤ℤ moment) × (moment ≤ℤ pos 253370764800) }
     ensures { result ≡
         outcome call.now moment (option_copied stored.entry) own_rows ceiling meeting }
 {
@@ -107,7 +106,6 @@ fn note_for(
     ceiling: u32,
     blocked: bool,
 ) -> Option<Note>
-    requires moment_range { (pos 0 ≤ℤ moment) × (moment ≤ℤ pos 253370764800) }
     ensures { result ≡
         note_of call.now moment (option_copied stored.entry) own_rows ceiling blocked }
 {
@@ -182,20 +180,19 @@ fn ends_by(volume: &Volume, moment: i64) -> bool
     volume.window().end() <= moment
 }
 
-fn starts_after(volume: &Volume, second: i64) -> bool
-    ensures { result ≡ int_lt second volume.now.window.start }
+// Whether the start is beyond the horizon: compared by subtraction, which can't go out of range.
+fn starts_beyond(volume: &Volume, moment: i64) -> bool
+    ensures { result ≡ int_lt (moment +ℤ pos max_ahead) volume.now.window.start }
 {
-    volume.window().start() > second
+    volume.window().start().saturating_sub(HORIZON) > moment
 }
 
 // Whether some volume's start is beyond the horizon.
 #[tactic(auto, unfolding(crate::specs::Outcome::is_beyond_horizon))]
 fn any_beyond(volumes: &[Volume], moment: i64) -> bool
-    requires moment_range { (pos 0 ≤ℤ moment) × (moment ≤ℤ pos 253370764800) }
     ensures { result ≡ is_beyond_horizon volumes.now moment }
 {
-    let latest = moment + HORIZON;
-    volumes.iter().any(|volume| starts_after(volume, latest))
+    volumes.iter().any(|volume| starts_beyond(volume, moment))
 }
 
 fn result_for(note: Note) -> PlanResult
