@@ -1,5 +1,5 @@
 -- Bytes: what a desk answers, by what it prepared.
-use Rattle.std.proofs.Common.{◌≡◌, ℤ, List, ℕ, Result, Ok, Err, IfOk, OnOk, Option, Some, None, inl, inr, subst, refl, sym, ap, ◌∙◌}
+use Rattle.std.proofs.Common.{◌≡◌, ℤ, List, ℕ, Result, Ok, Err, IfOk, IfErr, OnOk, Option, Some, None, inl, inr, subst, refl, sym, ap, ◌∙◌}
 use Rattle.desk_rules.specs.declared.call.Asked.{Asked}
 use Rattle.desk_run.specs.declared.pending.Pending.{Pending}
 use Rattle.desk_store.specs.World.{World}
@@ -11,6 +11,7 @@ use Rattle.desk_reading.specs.Readings.{Reading, or_met}
 use Rattle.desk_reading.specs.Requests.{asked, asked_by}
 use Rattle.desk_wire.specs.Bytes.{IsAnswered, IsAnsweredSo, IsDone, status, status_for, text}
 use Rattle.desk_wire.specs.declared.response.ServerError.{ServerError}
+use Rattle.desk_wire.specs.declared.response.ServerError.TheVariants.{OutOfMemory, Store}
 
 -- the answer and the change of what was pending
 pub done_pending : (w after : World) (moment : ℤ) (asked : Asked) (p : Pending) (answer : List ℕ) → IsPending w moment asked p → answer ≡ reply_text (reply_in p) → after ≡ world_committed w p → IsDone w moment (Ok asked) answer after
@@ -49,3 +50,11 @@ asked_read text request reading is same = ap (λ r. or_met r asked_by) is ∙ ap
 pub answered_so : (w after : World) (given moment : ℤ) (text : List ℕ) (reading : Reading MessageParts) (answer : List ℕ) (e : Option ServerError) → given ≡ moment → reading ≡ message_in text → IsAnsweredSo e w given (or_met reading asked_by) answer after → IsAnswered w moment text answer after
 answered_so w after given moment text reading answer None m r h = inl (subst (λ z. IsDone w z (asked text) answer after) m (subst (λ a. IsDone w given a answer after) (asked_read text text reading r refl) h))
 answered_so w after given moment text reading answer (Some why) m r h = inr (why, h)
+
+-- want of memory is no fault of the store
+pub no_cause : {V : Type 0} (r : Result V ServerError) (P : Type 0) → IfErr r (λ e. e ≡ OutOfMemory) → IfErr r (λ e. e ≡ Store → P)
+no_cause (Ok v) P h = tt
+no_cause (Err e) P h = λ is. absurd (memory_not_store e h is)
+  where
+    memory_not_store : (e : ServerError) → e ≡ OutOfMemory → e ≡ Store → ⊥
+    memory_not_store e a b = cc

@@ -1,2 +1,3 @@
+pub mod MomentLemmas
 pub mod BytesLemmas
 pub mod AllLemmas

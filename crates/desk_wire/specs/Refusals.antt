@@ -5,7 +5,7 @@ use Rattle.desk_writing.specs.Answer.{error_text}
 use Rattle.desk_wire.specs.declared.refusal.Refusal.{Refusal}
 use Rattle.desk_wire.specs.declared.refusal.Refusal.TheVariants.{Fault, UnknownOperator, NoSuchPlan}
 use Rattle.desk_wire.specs.declared.response.ServerError.{ServerError}
-use Rattle.desk_wire.specs.declared.response.ServerError.TheVariants.{OutOfMemory}
+use Rattle.desk_wire.specs.declared.response.ServerError.TheVariants.{OutOfMemory, Store}
 
 -- the status code (RFC 9110, section 15)
 abbrev pub refusal_status : Refusal → ℕ
@@ -26,3 +26,4 @@ refusal_text refusal = error_text (refusal_status refusal) (refusal_word refusal
 -- the answer that the desk itself failed, with the status 500
 abbrev pub server_error_text : ServerError → List ℕ
 server_error_text OutOfMemory = error_text 500 (codes "out_of_memory")
+server_error_text Store = error_text 500 (codes "store")

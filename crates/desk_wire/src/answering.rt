@@ -1,13 +1,14 @@
 //! Requests answered at a desk, from bytes to bytes.
 
-ghost use Rattle.std.specs.Prelude.{◌≡◌, IfOk, OnOk, OnErr, Ok};
+ghost use Rattle.std.specs.Prelude.{◌≡◌, ◌≤◌, IfErr, IfOk, IfSome, OnOk, OnErr, Ok, Some};
 ghost use Rattle.desk_reading.specs.Messages.{message_read, message_shown};
 ghost use Rattle.desk_reading.specs.Readings.{or_met};
 ghost use Rattle.desk_reading.specs.Requests.{asked_by};
+ghost use Rattle.desk_store.specs.Faults.{IsHonest, HasRisen};
 ghost use Rattle.desk_run.specs.Calls.{CanCommit, reply_in, world_committed};
-ghost use Rattle.desk_run.specs.Moments.{IsMoment};
+ghost use Rattle.desk_wire.specs.Moments.{IsMoment};
 ghost use Rattle.desk_writing.specs.PlanBody.{reply_text};
-ghost use Rattle.desk_wire.specs.Bytes.{IsAnswered, IsAnsweredSo, IsDone, status_for, status_so};
+ghost use Rattle.desk_wire.specs.Bytes.{IsAnswered, IsAnsweredSo, IsDone, IsServerError, status_for, status_so};
 ghost use Rattle.desk_wire.specs.Refusals.{refusal_status, refusal_text};
 
 use crate::refusal::Refusal;
@@ -35,7 +36,7 @@ struct Response {
 /// # Errors
 ///
 /// `AllocError` if the room for the routes or for an answer was refused: nothing changed. If a later
-/// growth was refused, the answer says so, and nothing changed.
+/// growth was refused, or the store failed, the answer says so, and nothing changed.
 pub fn answer<S: PlanStore>(
     alloc: Global,
     desk: &mut Desk<S>,
@@ -43,8 +44,11 @@ pub fn answer<S: PlanStore>(
     text: &[u8],
 ) -> Result<Vec<u8>, AllocError>
     requires { IsMoment moment }
-    ensures bytes { IfOk result (λ bytes. IsAnswered desk.old moment text.now bytes.items desk.new) }
-    ensures err { OnErr result (desk.new ≡ desk.old) }
+    ensures bytes { IsHonest (S.doubt desk.new) → IfOk result (λ bytes.
+        IsAnswered (S.content desk.old) moment text.now bytes.items (S.content desk.new)) }
+    ensures err { OnErr result (S.content desk.new ≡ S.content desk.old) }
+    ensures doubt { S.doubt desk.old ≤ S.doubt desk.new }
+    ensures counted { S.faults desk.old ≤ S.faults desk.new }
 {
     let routes = Routes::try_new(alloc)?;
     let answer = answer_request(alloc, &routes, desk, moment, &read_message(text))?;
@@ -64,11 +68,18 @@ pub fn answer_request<S: PlanStore>(
     request: &Result<Message<'_>, WireFault>,
 ) -> Result<Answer, AllocError>
     requires { IsMoment moment }
-    ensures bytes { IfOk result (λ answer. IsAnsweredSo answer.error desk.old moment
-        (or_met (message_read request.now) asked_by) answer.bytes.items desk.new) }
-    ensures status { IfOk result (λ answer. answer.status
-        ≡ status_so answer.error desk.old moment (or_met (message_read request.now) asked_by)) }
-    ensures err { OnErr result (desk.new ≡ desk.old) }
+    ensures bytes { IsHonest (S.doubt desk.new) → IfOk result (λ answer.
+        IsAnsweredSo answer.error (S.content desk.old) moment
+        (or_met (message_read request.now) asked_by) answer.bytes.items (S.content desk.new)) }
+    ensures status { IsHonest (S.doubt desk.new) → IfOk result (λ answer. answer.status
+        ≡ status_so answer.error (S.content desk.old) moment (or_met (message_read request.now) asked_by)) }
+    ensures failed { IfOk result (λ answer. IfSome answer.error (λ why.
+        IsServerError why (S.content desk.old) answer.bytes.items (S.content desk.new))) }
+    ensures err { OnErr result (S.content desk.new ≡ S.content desk.old) }
+    ensures doubt { S.doubt desk.old ≤ S.doubt desk.new }
+    ensures counted { S.faults desk.old ≤ S.faults desk.new }
+    ensures cause { IfOk result (λ answer. answer.error ≡ Some ServerError.Store →
+        HasRisen (S.faults desk.old) (S.faults desk.new)) }
 {
     let mut room = Vec::with_capacity(alloc, ANSWER_ROOM)?;
     match respond(alloc, routes, desk, moment, request) {
@@ -97,11 +108,15 @@ fn respond<S: PlanStore>(
     request: &Result<Message<'_>, WireFault>,
 ) -> Result<Response, ServerError>
     requires { IsMoment moment }
-    ensures bytes { IfOk result (λ r.
-        IsDone desk.old moment (or_met (message_read request.now) asked_by) r.bytes.items desk.new) }
-    ensures status { IfOk result (λ r.
-        r.status ≡ status_for desk.old moment (or_met (message_read request.now) asked_by)) }
-    ensures err { OnErr result (desk.new ≡ desk.old) }
+    ensures bytes { IsHonest (S.doubt desk.new) → IfOk result (λ r. IsDone (S.content desk.old) moment
+        (or_met (message_read request.now) asked_by) r.bytes.items (S.content desk.new)) }
+    ensures status { IsHonest (S.doubt desk.new) → IfOk result (λ r. r.status
+        ≡ status_for (S.content desk.old) moment (or_met (message_read request.now) asked_by)) }
+    ensures err { OnErr result (S.content desk.new ≡ S.content desk.old) }
+    ensures doubt { S.doubt desk.old ≤ S.doubt desk.new }
+    ensures counted { S.faults desk.old ≤ S.faults desk.new }
+    ensures cause { IfErr result (λ e. e ≡ ServerError.Store →
+        HasRisen (S.faults desk.old) (S.faults desk.new)) }
 {
     match request {
         Ok(message) => answer_message(alloc, routes, desk, moment, message),
@@ -118,11 +133,15 @@ fn answer_message<S: PlanStore>(
     message: &Message<'_>,
 ) -> Result<Response, ServerError>
     requires { IsMoment moment }
-    ensures bytes { IfOk result (λ r.
-        IsDone desk.old moment (asked_by (message_shown message.now)) r.bytes.items desk.new) }
-    ensures status { IfOk result (λ r.
-        r.status ≡ status_for desk.old moment (asked_by (message_shown message.now))) }
-    ensures err { OnErr result (desk.new ≡ desk.old) }
+    ensures bytes { IsHonest (S.doubt desk.new) → IfOk result (λ r. IsDone (S.content desk.old) moment
+        (asked_by (message_shown message.now)) r.bytes.items (S.content desk.new)) }
+    ensures status { IsHonest (S.doubt desk.new) → IfOk result (λ r. r.status
+        ≡ status_for (S.content desk.old) moment (asked_by (message_shown message.now))) }
+    ensures err { OnErr result (S.content desk.new ≡ S.content desk.old) }
+    ensures doubt { S.doubt desk.old ≤ S.doubt desk.new }
+    ensures counted { S.faults desk.old ≤ S.faults desk.new }
+    ensures cause { IfErr result (λ e. e ≡ ServerError.Store →
+        HasRisen (S.faults desk.old) (S.faults desk.new)) }
 {
     match read_asked(alloc, routes, message) {
         Ok(asked) => answer_call(alloc, desk, moment, &asked),
@@ -139,14 +158,21 @@ fn answer_call<S: PlanStore>(
     asked: &Asked,
 ) -> Result<Response, ServerError>
     requires { IsMoment moment }
-    ensures bytes { IfOk result (λ r. IsDone desk.old moment (Ok asked.now) r.bytes.items desk.new) }
-    ensures status { IfOk result (λ r. r.status ≡ status_for desk.old moment (Ok asked.now)) }
-    ensures err { OnErr result (desk.new ≡ desk.old) }
+    ensures bytes { IsHonest (S.doubt desk.new) → IfOk result (λ r.
+        IsDone (S.content desk.old) moment (Ok asked.now) r.bytes.items (S.content desk.new)) }
+    ensures status { IsHonest (S.doubt desk.new) → IfOk result (λ r.
+        r.status ≡ status_for (S.content desk.old) moment (Ok asked.now)) }
+    ensures err { OnErr result (S.content desk.new ≡ S.content desk.old) }
+    ensures doubt { S.doubt desk.old ≤ S.doubt desk.new }
+    ensures counted { S.faults desk.old ≤ S.faults desk.new }
+    ensures cause { IfErr result (λ e. e ≡ ServerError.Store →
+        HasRisen (S.faults desk.old) (S.faults desk.new)) }
 {
     match desk.prepare(alloc, moment, asked) {
         Ok(pending) => answer_pending(alloc, desk, pending),
         Err(DeskFault::UnknownOperator) => refuse(alloc, Refusal::UnknownOperator),
         Err(DeskFault::NoSuchPlan) => refuse(alloc, Refusal::NoSuchPlan),
+        Err(DeskFault::Store) => Err(ServerError::Store),
         Err(DeskFault::OutOfMemory | DeskFault::Ceiling) => Err(ServerError::OutOfMemory),
     }
 }
@@ -157,11 +183,16 @@ fn answer_pending<S: PlanStore>(
     desk: &mut Desk<S>,
     pending: Pending,
 ) -> Result<Response, ServerError>
-    requires { CanCommit desk.old pending }
+    requires { IsHonest (S.doubt desk.old) → CanCommit (S.content desk.old) pending }
     ensures bytes { IfOk result (λ r. r.bytes.items ≡ reply_text (reply_in pending)) }
     ensures status { IfOk result (λ r. r.status ≡ 200) }
-    ensures ok { OnOk result (desk.new ≡ world_committed desk.old pending) }
-    ensures err { OnErr result (desk.new ≡ desk.old) }
+    ensures ok { IsHonest (S.doubt desk.new) → OnOk result
+        (S.content desk.new ≡ world_committed (S.content desk.old) pending) }
+    ensures err { OnErr result (S.content desk.new ≡ S.content desk.old) }
+    ensures doubt { S.doubt desk.old ≤ S.doubt desk.new }
+    ensures counted { S.faults desk.old ≤ S.faults desk.new }
+    ensures cause { IfErr result (λ e. e ≡ ServerError.Store →
+        HasRisen (S.faults desk.old) (S.faults desk.new)) }
 {
     let bytes = reply_answer(alloc, pending.reply())?;
     match desk.commit(pending) {
@@ -169,6 +200,7 @@ fn answer_pending<S: PlanStore>(
             status: StatusCode::OK.as_u16(),
             bytes,
         }),
+        Err(DeskFault::Store) => Err(ServerError::Store),
         Err(_) => Err(ServerError::OutOfMemory),
     }
 }
@@ -178,6 +210,7 @@ fn answer_pending<S: PlanStore>(
 fn refuse(alloc: Global, refusal: Refusal) -> Result<Response, ServerError>
     ensures bytes { IfOk result (λ r. r.bytes.items ≡ refusal_text refusal) }
     ensures status { IfOk result (λ r. r.status ≡ refusal_status refusal) }
+    ensures error { IfErr result (λ e. e ≡ ServerError.OutOfMemory) }
 {
     let bytes = error_answer(alloc, refusal.status(), refusal.word())?;
     Ok(Response {

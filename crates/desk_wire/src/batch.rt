@@ -1,8 +1,9 @@
 //! Batches: the answers to requests that are all at hand.
 
-ghost use Rattle.std.specs.Prelude.{◌≡◌, All, IfOk, OnErr, map};
+ghost use Rattle.std.specs.Prelude.{◌≡◌, ◌≤◌, All, IfOk, OnErr, map};
+ghost use Rattle.desk_store.specs.Faults.{IsHonest};
 ghost use Rattle.desk_wire.specs.AllAnswers.{AreAnswers};
-ghost use Rattle.desk_run.specs.Moments.{IsMoment};
+ghost use Rattle.desk_wire.specs.Moments.{IsMoment};
 
 #[cfg(test)]
 mod tests;
@@ -45,9 +46,12 @@ pub fn answer_all<S: PlanStore>(
     requests: &[(i64, Vec<u8>)],
 ) -> Result<Answers, AllocError>
     requires { All (λ request. IsMoment request.0) requests.now }
-    ensures answers { IfOk result (λ a. AreAnswers a.ended desk.old
-        (map (λ r. (r.0, r.1.items)) requests.now) (map (λ v. v.items) a.answers.items) desk.new) }
-    ensures err { OnErr result (desk.new ≡ desk.old) }
+    ensures answers { IsHonest (S.doubt desk.new) → IfOk result (λ a.
+        AreAnswers a.ended (S.content desk.old) (map (λ r. (r.0, r.1.items)) requests.now)
+        (map (λ v. v.items) a.answers.items) (S.content desk.new)) }
+    ensures err { OnErr result (S.content desk.new ≡ S.content desk.old) }
+    ensures doubt { S.doubt desk.old ≤ S.doubt desk.new }
+    ensures counted { S.faults desk.old ≤ S.faults desk.new }
 {
     let routes = Routes::try_new(alloc)?;
     let mut answers = Vec::with_capacity(alloc, requests.len())?;

@@ -1,6 +1,6 @@
 //! Runs over a stream: requests served one after the other.
 
-ghost use Rattle.desk_run.specs.Moments.{IsMoment};
+ghost use Rattle.desk_wire.specs.Moments.{IsMoment};
 
 #[cfg(test)]
 mod tests;

@@ -4,7 +4,7 @@ ghost use Rattle.std.specs.Prelude.{◌≡◌, ◌≤◌, length};
 ghost use Rattle.desk_wire.specs.Refusals as spec;
 ghost use Rattle.desk_wire.specs.declared.response.ServerError.TheVariants as error;
 
-use desk_writing::out_of_memory_answer;
+use desk_writing::{out_of_memory_answer, store_answer};
 use std::alloc::AllocError;
 
 /// An answer.
@@ -23,6 +23,8 @@ pub struct Answer {
 pub enum ServerError {
     /// Memory ran out.
     OutOfMemory,
+    /// The store failed.
+    Store,
 }
 
 impl ServerError {
@@ -33,6 +35,7 @@ impl ServerError {
     {
         match self {
             ServerError::OutOfMemory => out_of_memory_answer(),
+            ServerError::Store => store_answer(),
         }
     }
 }

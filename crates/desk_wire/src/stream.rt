@@ -1,7 +1,7 @@
 //! Connections: requests read from a stream, and their answers written to one.
 
 ghost use Rattle.std.specs.Prelude.{◌≡◌, ◌≤◌, length, IfOk};
-ghost use Rattle.desk_run.specs.Moments.{IsMoment};
+ghost use Rattle.desk_wire.specs.Moments.{IsMoment};
 ghost use Rattle.desk_wire.specs.declared.stream.ServeFault.TheVariants as serve_fault;
 
 use crate::answering::answer_request;

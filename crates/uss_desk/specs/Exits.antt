@@ -17,6 +17,7 @@ failure_status failure.Read = 3
 failure_status failure.Limit = 3
 failure_status failure.Broken = 4
 failure_status failure.Memory = 4
+failure_status failure.Store = 4
 failure_status failure.Write = 4
 
 abbrev pub failure_word : Failure → List ℕ
@@ -27,6 +28,7 @@ failure_word failure.Read = codes "read"
 failure_word failure.Limit = codes "limit"
 failure_word failure.Broken = codes "broken"
 failure_word failure.Memory = codes "memory"
+failure_word failure.Store = codes "store"
 failure_word failure.Write = codes "write"
 
 -- 0 if nothing failed
@@ -48,6 +50,7 @@ failure_after (play.Fault serve.OutOfMemory) = Some failure.Memory
 -- what a refused enrolment means
 abbrev pub enrolment_failure : DeskFault → Failure
 enrolment_failure desk.OutOfMemory = failure.Memory
+enrolment_failure desk.Store = failure.Store
 enrolment_failure desk.UnknownOperator = failure.Value
 enrolment_failure desk.NoSuchPlan = failure.Value
 enrolment_failure desk.Ceiling = failure.Value

@@ -1,7 +1,7 @@
 //! The program: what a command line does, its exit status, and the word that it prints.
 
 ghost use Rattle.std.specs.Prelude.{◌≡◌};
-ghost use Rattle.desk_run.specs.Moments.{IsMoment};
+ghost use Rattle.desk_wire.specs.Moments.{IsMoment};
 ghost use Rattle.uss_desk.specs.Exits as spec;
 ghost use Rattle.uss_desk.specs.Lines.{HasMoment};
 
@@ -28,8 +28,10 @@ pub enum Failure {
     Limit,
     /// The last answer has the status 500.
     Broken,
-    /// A growth was refused.
+    /// Memory ran out.
     Memory,
+    /// The store failed.
+    Store,
     /// A write failed.
     Write,
     /// An enrolment's ceiling is above 1,000.
@@ -37,14 +39,14 @@ pub enum Failure {
 }
 
 impl Failure {
-    /// The exit status: 2 for the words, 3 for the input, 4 for memory and output.
+    /// The exit status: 2 for the words, 3 for the input, 4 for memory, the store and output.
     pub fn status(self) -> u8
         ensures { result ≡ spec.failure_status self }
     {
         match self {
             Failure::Value => 2,
             Failure::Unframed | Failure::CutShort | Failure::Read | Failure::Limit => 3,
-            Failure::Broken | Failure::Memory | Failure::Write => 4,
+            Failure::Broken | Failure::Memory | Failure::Store | Failure::Write => 4,
         }
     }
 
@@ -59,6 +61,7 @@ impl Failure {
             Failure::Limit => "limit",
             Failure::Broken => "broken",
             Failure::Memory => "memory",
+            Failure::Store => "store",
             Failure::Write => "write",
             Failure::Value => "value",
         }
@@ -71,6 +74,7 @@ impl From<DeskFault> for Failure {
     fn from(fault: DeskFault) -> Failure {
         match fault {
             DeskFault::OutOfMemory => Failure::Memory,
+            DeskFault::Store => Failure::Store,
             DeskFault::UnknownOperator | DeskFault::NoSuchPlan | DeskFault::Ceiling =>
                 Failure::Value,
         }
