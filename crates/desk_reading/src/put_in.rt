@@ -8,9 +8,9 @@ ghost use Rattle.desk_reading.specs.PutIn as spec;
 #[cfg(test)]
 mod tests;
 
-use crate::wire_fault::{ReadError, WireFault};
 use crate::json_in::{array_at, present, read_json, text_at};
 use crate::volume_in::read_area;
+use crate::wire_fault::{ReadError, WireFault};
 use desk_rules::plan::PutCall;
 use desk_rules::plan_id::PlanId;
 use desk_rules::words::{Aircraft, Style, Usage};

@@ -35,11 +35,7 @@ pub fn read_request(alloc: Global, text: &[u8]) -> Result<Asked, ReadError>
 ///
 /// `OutOfMemory`, or the first fault of its address, then of its body.
 #[tactic(auto, unfolding(crate::specs::Requests::asked_by))]
-pub fn read_asked(
-    alloc: Global,
-    routes: &Routes,
-    message: &Message<'_>,
-) -> Result<Asked, ReadError>
+pub fn read_asked(alloc: Global, routes: &Routes, message: &Message<'_>) -> Result<Asked, ReadError>
     ensures { GivesIfRoom (λ asked. asked) result (asked_by (message_shown message.now)) }
 {
     let address = read_address(routes, &message.head)?;
