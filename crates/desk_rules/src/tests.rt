@@ -218,7 +218,6 @@ fn refuses_at_the_bounds(rt: HostRuntime) -> Result<(), Fail> {
         (MOMENT, 199, CEILING, None),
         (MOMENT, 200, CEILING, Some(Note::PlansLimit)),
     ] {
-        assert!(rt; 0 <= moment && moment <= TWO);
         assert_eq!(rt;
             decide(&put, moment, None, own_rows, ceiling, None).note,
             note

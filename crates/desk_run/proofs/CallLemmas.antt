@@ -19,7 +19,7 @@ use Rattle.desk_store.specs.World.{World, own, held, held_at, ceiling_of, plans_
 use Rattle.desk_rules.specs.declared.call.Call.TheVariants as call
 use Rattle.desk_rules.specs.declared.call.Asked.{Asked}
 use Rattle.desk_run.specs.declared.fault.DeskFault.{DeskFault}
-use Rattle.desk_run.specs.declared.fault.DeskFault.TheVariants.{OutOfMemory, UnknownOperator, NoSuchPlan, Ceiling}
+use Rattle.desk_run.specs.declared.fault.DeskFault.TheVariants.{OutOfMemory, Store, UnknownOperator, NoSuchPlan, Ceiling}
 use Rattle.desk_rules.specs.declared.reply.Reply.TheVariants as reply
 use Rattle.desk_rules.specs.declared.reply.PutReply.{PutReply}
 use Rattle.desk_run.specs.declared.pending.Pending.{Pending}
@@ -78,6 +78,7 @@ unfolding verdict own
 prepares_from w moment asked ceiling (Ok p) listed h = pending_from w moment asked ceiling p listed h
 prepares_from w moment asked ceiling (Err NoSuchPlan) listed h = unanswered_by w moment asked no_such_plan (ap (λ c. ruling_under c (own w asked.operator) (held w asked.operator) moment asked.call) listed ∙ h)
 prepares_from w moment asked ceiling (Err OutOfMemory) listed h = tt
+prepares_from w moment asked ceiling (Err Store) listed h = tt
 prepares_from w moment asked ceiling (Err UnknownOperator) listed h = absurd h
 prepares_from w moment asked ceiling (Err Ceiling) listed h = absurd h
 

@@ -1,3 +1,4 @@
+pub mod FaultLemmas
 pub mod PutLemmas
 pub mod CallLemmas
 pub mod StepLemmas

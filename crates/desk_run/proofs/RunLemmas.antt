@@ -1,16 +1,17 @@
 -- Runs: the calls answered so far.
-use Rattle.std.proofs.Common.{◌≡◌, ℕ, ℤ, ◌+◌, ◌<◌, ◌≤◌, List, [], ◌∷◌, ◌++◌, length, take, get_or, map, Result, Ok, Err, None, OnOk, OnErr, refl, sym, ap, subst, ◌∙◌}
+use Rattle.std.proofs.Common.{◌≡◌, ℕ, ℤ, ◌+◌, ◌<◌, ◌≤◌, List, [], ◌∷◌, ◌++◌, length, take, get_or, map, Result, Ok, Err, inl, inr, OnOk, OnErr, refl, sym, ap, subst, ◌∙◌}
 use Rattle.std.proofs.lemmas.List.{take_more, map-append, length-append}
 use Rattle.desk_store.specs.World.{World}
 use Rattle.desk_rules.specs.declared.call.Asked.{Asked}
 use Rattle.desk_rules.specs.declared.reply.Reply.{Reply}
 use Rattle.desk_run.specs.declared.fault.DeskFault.{DeskFault}
-use Rattle.desk_run.specs.declared.fault.DeskFault.TheVariants.{OutOfMemory, UnknownOperator, NoSuchPlan, Ceiling}
+use Rattle.desk_run.specs.declared.fault.DeskFault.TheVariants.{OutOfMemory, Store, UnknownOperator, NoSuchPlan, Ceiling}
 use Rattle.desk_run.specs.declared.run.Ran.{Ran}
 use Rattle.desk_run.specs.declared.run.Outcome.{Outcome}
 use Rattle.desk_run.specs.Verdicts.{told_to, step}
 use Rattle.desk_run.specs.Calls.{Tells}
-use Rattle.desk_run.specs.Runs.{told_in, world_left, told_by, outcome_of, IsRun}
+use Rattle.desk_run.specs.Runs.{told_in, world_left, told_by, outcome_of, EndsAt, IsRun}
+use Rattle.desk_run.specs.Faults.{IsBreakdown}
 
 -- the first calls are answered
 pub record AreAnswered (w : World) (calls : List (ℤ × Asked)) (n : ℕ) (outcomes : List Outcome) (now : World) : Type 0 where
@@ -51,6 +52,7 @@ answered_is w after moment asked (Ok reply) o told ok err is = (told ∙ outcome
 answered_is w after moment asked (Err UnknownOperator) o told ok err is = (told.told ∙ cc, err ∙ sym told.left)
 answered_is w after moment asked (Err NoSuchPlan) o told ok err is = (told.told ∙ cc, err ∙ sym told.left)
 answered_is w after moment asked (Err OutOfMemory) o told ok err is = cc
+answered_is w after moment asked (Err Store) o told ok err is = cc
 answered_is w after moment asked (Err Ceiling) o told ok err is = cc
 
 -- what stops a run changed nothing
@@ -58,11 +60,19 @@ pub stopped_is : (w after : World) (r : Result Reply DeskFault) (fault : DeskFau
 stopped_is w after (Ok reply) fault err is = cc
 stopped_is w after (Err e) fault err is = err
 
+-- and is a breakdown
+pub breaks_down : (w : World) (moment : ℤ) (asked : Asked) (r : Result Reply DeskFault) (fault : DeskFault) → Tells w moment asked r → outcome_of r ≡ Err fault → IsBreakdown fault
+breaks_down w moment asked (Ok reply) fault told is = cc
+breaks_down w moment asked (Err UnknownOperator) fault told is = cc
+breaks_down w moment asked (Err NoSuchPlan) fault told is = cc
+breaks_down w moment asked (Err OutOfMemory) fault told is = inl cc
+breaks_down w moment asked (Err Store) fault told is = inr cc
+breaks_down w moment asked (Err Ceiling) fault told is = absurd told
+
 -- a run of the calls answered
-pub run_is : (w after : World) (calls : List (ℤ × Asked)) (n : ℕ) (ran : Ran) → AreAnswered w calls n ran.outcomes.items after → n ≤ length calls → (ran.stopped ≡ None → n ≡ length calls) → IsRun w calls ran after
-run_is w after calls n ran h within whole = record {
+pub run_is : (w after : World) (calls : List (ℤ × Asked)) (n : ℕ) (ran : Ran) → AreAnswered w calls n ran.outcomes.items after → EndsAt ran.stopped n (length calls) → IsRun w calls ran after
+run_is w after calls n ran h ends = record {
   told = h.told ∙ ap (λ k. told_in w (take k calls)) (sym h.count);
   left = h.left ∙ ap (λ k. world_left w (take k calls)) (sym h.count);
-  within = subst (λ k. k ≤ length calls) (sym h.count) within;
-  whole = λ e. h.count ∙ whole e;
+  ends = subst (λ k. EndsAt ran.stopped k (length calls)) (sym h.count) ends;
 }

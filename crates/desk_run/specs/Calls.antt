@@ -11,7 +11,7 @@ use Rattle.desk_rules.specs.declared.call.Asked.{Asked}
 use Rattle.desk_rules.specs.declared.reply.Reply.{Reply}
 use Rattle.desk_run.specs.declared.pending.Pending.{Pending}
 use Rattle.desk_run.specs.declared.fault.DeskFault.{DeskFault}
-use Rattle.desk_run.specs.declared.fault.DeskFault.TheVariants.{OutOfMemory, UnknownOperator, NoSuchPlan, Ceiling}
+use Rattle.desk_run.specs.declared.fault.DeskFault.TheVariants.{OutOfMemory, Store, UnknownOperator, NoSuchPlan, Ceiling}
 use Rattle.desk_run.specs.Verdicts.{Told, Ruling, replied, unknown_operator, no_such_plan, row_asked, ruling_alone, world_with_plans, told_to, step}
 
 -- a call without a reply: what the caller is told instead, and that the call leaves the world as it was
@@ -19,13 +19,14 @@ pub record IsUnanswered (w : World) (moment : ℤ) (asked : Asked) (reason : Tol
   pub told : told_to w asked.operator moment asked.call ≡ reason
   pub left : step w asked.operator moment asked.call ≡ w
 
--- a reply is told as it is, and so are an unknown operator and a plan that is not there; of want of memory nothing is
--- claimed; no other fault comes
+-- a reply is told as it is, and so are an unknown operator and a plan that is not there; of want of memory, and of a
+-- store that failed, nothing is claimed; no other fault comes
 abbrev pub Tells : World → ℤ → Asked → Result Reply DeskFault → Type 0
 Tells w moment asked (Ok r) = told_to w asked.operator moment asked.call ≡ replied r
 Tells w moment asked (Err UnknownOperator) = IsUnanswered w moment asked unknown_operator
 Tells w moment asked (Err NoSuchPlan) = IsUnanswered w moment asked no_such_plan
 Tells w moment asked (Err OutOfMemory) = ⊤
+Tells w moment asked (Err Store) = ⊤
 Tells w moment asked (Err Ceiling) = ⊥
 
 -- a change, if there is one, is one that a store takes
@@ -61,6 +62,7 @@ abbrev pub Readies : World → List ℕ → Ruling → Result Pending DeskFault 
 Readies w operator a (Ok p) = IsReady w operator a p
 Readies w operator a (Err NoSuchPlan) = a ≡ ruling_alone no_such_plan
 Readies w operator a (Err OutOfMemory) = ⊤
+Readies w operator a (Err Store) = ⊤
 Readies w operator a (Err UnknownOperator) = ⊥
 Readies w operator a (Err Ceiling) = ⊥
 
@@ -81,4 +83,5 @@ Prepares w moment asked (Ok p) = IsPending w moment asked p
 Prepares w moment asked (Err UnknownOperator) = IsUnanswered w moment asked unknown_operator
 Prepares w moment asked (Err NoSuchPlan) = IsUnanswered w moment asked no_such_plan
 Prepares w moment asked (Err OutOfMemory) = ⊤
+Prepares w moment asked (Err Store) = ⊤
 Prepares w moment asked (Err Ceiling) = ⊥

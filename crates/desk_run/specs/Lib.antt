@@ -1,5 +1,4 @@
-pub mod Moments
-pub mod MomentLaws
+pub mod Faults
 pub mod Verdicts
 pub mod Calls
 pub mod Runs

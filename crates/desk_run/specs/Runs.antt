@@ -1,13 +1,14 @@
 -- Runs: calls answered one after the other.
-use Rattle.std.specs.Prelude.{◌≡◌, ◌≤◌, ℤ, List, [], ◌∷◌, length, take, map, None, Result, Ok, Err}
+use Rattle.std.specs.Prelude.{◌≡◌, ◌<◌, ℕ, ℤ, List, [], ◌∷◌, length, take, map, Option, None, Some, Result, Ok, Err}
 use Rattle.desk_store.specs.World.{World}
 use Rattle.desk_rules.specs.declared.call.Asked.{Asked}
 use Rattle.desk_rules.specs.declared.reply.Reply.{Reply}
 use Rattle.desk_run.specs.declared.fault.DeskFault.{DeskFault}
-use Rattle.desk_run.specs.declared.fault.DeskFault.TheVariants.{OutOfMemory, UnknownOperator, NoSuchPlan, Ceiling}
+use Rattle.desk_run.specs.declared.fault.DeskFault.TheVariants.{OutOfMemory, Store, UnknownOperator, NoSuchPlan, Ceiling}
 use Rattle.desk_run.specs.declared.run.Ran.{Ran}
 use Rattle.desk_run.specs.declared.run.Outcome.{Outcome}
 use Rattle.desk_run.specs.declared.run.Outcome.TheVariants as outcome
+use Rattle.desk_run.specs.Faults.{IsBreakdown}
 use Rattle.desk_run.specs.Verdicts.{Told, replied, unknown_operator, no_such_plan, told_to, step}
 
 -- what each caller is told
@@ -32,12 +33,22 @@ outcome_of (Ok reply) = Ok (outcome.Reply reply)
 outcome_of (Err UnknownOperator) = Ok outcome.UnknownOperator
 outcome_of (Err NoSuchPlan) = Ok outcome.NoSuchPlan
 outcome_of (Err OutOfMemory) = Err OutOfMemory
+outcome_of (Err Store) = Err Store
 outcome_of (Err Ceiling) = Err Ceiling
+
+-- what stops a run before its end: want of memory, or a store that failed, with a call left that has no outcome
+pub record IsCutShort (fault : DeskFault) (answered asked : ℕ) : Type 0 where
+  pub breakdown : IsBreakdown fault
+  pub left_over : answered < asked
+
+-- how far a run came: to its end, or to a breakdown
+abbrev pub EndsAt : Option DeskFault → ℕ → ℕ → Type 0
+EndsAt None answered asked = answered ≡ asked
+EndsAt (Some fault) answered asked = IsCutShort fault answered asked
 
 -- the calls answered are the first of the list, all of them where nothing stopped the run; the outcomes, and what is
 -- left, are theirs
 pub record IsRun (w : World) (calls : List (ℤ × Asked)) (ran : Ran) (after : World) : Type 0 where
   pub told : map told_by ran.outcomes.items ≡ told_in w (take (length ran.outcomes.items) calls)
   pub left : after ≡ world_left w (take (length ran.outcomes.items) calls)
-  pub within : length ran.outcomes.items ≤ length calls
-  pub whole : ran.stopped ≡ None → length ran.outcomes.items ≡ length calls
+  pub ends : EndsAt ran.stopped (length ran.outcomes.items) (length calls)

@@ -9,13 +9,14 @@ use Rattle.desk_rules.specs.declared.decide.Verdict.{Verdict}
 use Rattle.desk_rules.specs.declared.decide.Effect.{Effect}
 use Rattle.desk_rules.specs.declared.decide.Effect.TheVariants as effect
 use Rattle.volume4d.specs.Point.{Point}
+use Rattle.volume4d.specs.Meeting.{Spot}
 use Rattle.desk_rules.specs.Conflict.{conflict}
 use Rattle.desk_rules.specs.Outcome.{outcome}
 use Rattle.desk_rules.specs.declared.call.Call.{Call}
 use Rattle.desk_rules.specs.declared.call.Call.TheVariants as call
 use Rattle.desk_rules.specs.declared.reply.Reply.{Reply}
 use Rattle.desk_rules.specs.declared.reply.Reply.TheVariants as reply
-use Rattle.desk_store.specs.World.{World, Own, own, held, held_at, stored_of}
+use Rattle.desk_store.specs.World.{World, Own, own, held, held_at, plans_of, stored_of}
 use Rattle.desk_store.specs.Changes.{put_row, close_row, with_plans}
 
 -- what a caller is told: a reply, that the operator is not enrolled, or that it has no such plan
@@ -34,6 +35,13 @@ pub record Ruling : Type 0 where
 unfoldable pub put_outcome : Own → (Point → Option ℕ) → ℕ → ℤ → PutCall → Verdict
 put_outcome mine others ceiling moment asked =
     outcome asked moment (stored_of asked.id mine.plans) (length mine.plans) ceiling (conflict asked.area (held_at mine.plans others asked.id) asked.priority)
+
+-- that in a world, and the conflict of the area asked there
+abbrev pub put_outcome_in : World → List ℕ → ℕ → ℤ → PutCall → Verdict
+put_outcome_in w operator ceiling moment asked = put_outcome (own w operator) (held w operator) ceiling moment asked
+
+abbrev pub conflict_in : World → List ℕ → PutCall → Option Spot
+conflict_in w operator asked = conflict asked.area (held_at (plans_of operator w) (held w operator) asked.id) asked.priority
 
 -- the plan that a request asks for
 abbrev pub row_asked : PutCall → PlanRow

@@ -1,8 +1,7 @@
 //! The desk: calls answered over a store.
 
-ghost use Rattle.std.specs.Prelude.{◌≡◌, ◌≢◌, ◌<◌, ◌↔◌, Err, IfOk, IfErr, OnOk, OnErr};
+ghost use Rattle.std.specs.Prelude.{◌≡◌, ◌≢◌, ◌≤◌, ◌<◌, ◌↔◌, Err, IfOk, IfErr, OnOk, OnErr};
 ghost use Rattle.desk_rules.specs.Limits.{max_priority};
-ghost use Rattle.desk_run.specs.Moments.{IsMoment};
 
 use crate::fault::DeskFault;
 use crate::pending::{Pending, commit_over, prepare_over};
@@ -17,44 +16,58 @@ use std::marker::Model;
 pub const MAX_CEILING: u32 = 1_000;
 
 /// A desk over a store.
+///
+/// What a call answers, and what it changes, is claimed where the store is honest as the call ends. That
+/// a fault leaves the content as it was holds whether the store is honest or not.
 #[derive(Drop)]
 pub struct Desk<S: PlanStore> {
     store: S,
 }
 
 impl<S: PlanStore> Model for Desk<S> {
-    ghost use Rattle.desk_store.specs.World.{World};
+    ghost Value = { S };
 
-    ghost Value = { World };
+    ghost coded = { S.code };
 
-    ghost view = { λ d. S.content d.store };
+    ghost view = { λ d. d.store };
 }
 
 impl<S: PlanStore> Desk<S> {
     ghost use Rattle.desk_store.specs.Changes.{with_operator};
+    ghost use Rattle.desk_store.specs.Faults.{IsHonest, HasRisen};
+    ghost use Rattle.desk_run.specs.Faults.{IsBreakdown};
     ghost use Rattle.desk_run.specs.Verdicts.{step};
     ghost use Rattle.desk_run.specs.Calls.{Tells, Prepares, CanCommit, reply_in, world_committed};
 
-    /// A desk over a store, with the store's content.
+    /// A desk over a store.
     pub fn new(store: S) -> Desk<S>
-        ensures { result ≡ S.content store }
+        ensures { result ≡ store }
     {
         Desk { store }
     }
 
-    /// The store, with the desk's content.
+    /// The store.
     pub fn into_store(self) -> S
-        ensures { S.content result ≡ self }
+        ensures { result ≡ self }
     {
         self.store
     }
 
     /// Lists the operator under a ceiling of at most 1,000; its plans stay.
+    ///
+    /// # Errors
+    ///
+    /// `Ceiling` above 1,000, else `OutOfMemory` or `Store` where the store gave up: nothing changed.
     pub fn enrol(&mut self, operator: &Operator, ceiling: u32) -> Result<(), DeskFault>
-        ensures ok { OnOk result (self.new ≡ with_operator self.old operator.now ceiling) }
-        ensures err { OnErr result (self.new ≡ self.old) }
+        ensures ok { IsHonest (S.doubt self.new) → OnOk result
+            (S.content self.new ≡ with_operator (S.content self.old) operator.now ceiling) }
+        ensures err { OnErr result (S.content self.new ≡ S.content self.old) }
         ensures ceiling { (result ≡ Err DeskFault.Ceiling) ↔ (max_priority < ceiling) }
-        ensures known { result ≢ Err DeskFault.UnknownOperator }
+        ensures fault { IfErr result (λ e. (e ≢ DeskFault.Ceiling) → IsBreakdown e) }
+        ensures doubt { S.doubt self.old ≤ S.doubt self.new }
+        ensures counted { S.faults self.old ≤ S.faults self.new }
+        ensures cause { IfErr result (λ e. e ≡ DeskFault.Store →
+            HasRisen (S.faults self.old) (S.faults self.new)) }
     {
         if ceiling > MAX_CEILING {
             return Err(DeskFault::Ceiling);
@@ -66,37 +79,64 @@ impl<S: PlanStore> Desk<S> {
         Ok(())
     }
 
-    /// Gets a reply ready at a moment (a Unix second from 0 to 253,370,764,800), and changes nothing.
+    /// Gets a reply ready at a moment (a Unix second), and changes nothing.
+    ///
+    /// # Errors
+    ///
+    /// `UnknownOperator` and `NoSuchPlan` where the verdict on the call says so; `OutOfMemory`; `Store`
+    /// where the store failed.
     pub fn prepare(
         &mut self,
         alloc: Global,
         moment: i64,
         asked: &Asked,
     ) -> Result<Pending, DeskFault>
-        requires { IsMoment moment }
-        ensures value { Prepares self.old moment asked.now result }
-        ensures same { self.new ≡ self.old }
+        ensures value { IsHonest (S.doubt self.new) →
+            Prepares (S.content self.old) moment asked.now result }
+        ensures same { S.content self.new ≡ S.content self.old }
+        ensures doubt { S.doubt self.old ≤ S.doubt self.new }
+        ensures counted { S.faults self.old ≤ S.faults self.new }
+        ensures cause { IfErr result (λ e. e ≡ DeskFault.Store →
+            HasRisen (S.faults self.old) (S.faults self.new)) }
     {
         prepare_over(alloc, &mut self.store, moment, asked)
     }
 
     /// Makes the change that goes with a reply, and hands the reply back; a refusal drops it.
+    ///
+    /// # Errors
+    ///
+    /// `OutOfMemory`, or `Store` where the store failed: nothing changed.
     pub fn commit(&mut self, pending: Pending) -> Result<Reply, DeskFault>
-        requires { CanCommit self.old pending }
+        requires { IsHonest (S.doubt self.old) → CanCommit (S.content self.old) pending }
         ensures reply { IfOk result (λ reply. reply ≡ reply_in pending) }
-        ensures ok { OnOk result (self.new ≡ world_committed self.old pending) }
-        ensures err { OnErr result (self.new ≡ self.old) }
-        ensures fault { IfErr result (λ e. e ≡ DeskFault.OutOfMemory) }
+        ensures ok { IsHonest (S.doubt self.new) → OnOk result
+            (S.content self.new ≡ world_committed (S.content self.old) pending) }
+        ensures err { OnErr result (S.content self.new ≡ S.content self.old) }
+        ensures fault { IfErr result (λ e. IsBreakdown e) }
+        ensures doubt { S.doubt self.old ≤ S.doubt self.new }
+        ensures counted { S.faults self.old ≤ S.faults self.new }
+        ensures cause { IfErr result (λ e. e ≡ DeskFault.Store →
+            HasRisen (S.faults self.old) (S.faults self.new)) }
     {
         commit_over(&mut self.store, pending)
     }
 
-    /// Answers a call at a moment, and makes its change.
+    /// Answers a call at a moment (a Unix second), and makes its change.
+    ///
+    /// # Errors
+    ///
+    /// Those of `prepare`: nothing changed.
     pub fn call(&mut self, alloc: Global, moment: i64, asked: &Asked) -> Result<Reply, DeskFault>
-        requires { IsMoment moment }
-        ensures told { Tells self.old moment asked.now result }
-        ensures ok { OnOk result (self.new ≡ step self.old asked.now.operator moment asked.now.call) }
-        ensures err { OnErr result (self.new ≡ self.old) }
+        ensures told { IsHonest (S.doubt self.new) →
+            Tells (S.content self.old) moment asked.now result }
+        ensures ok { IsHonest (S.doubt self.new) → OnOk result
+            (S.content self.new ≡ step (S.content self.old) asked.now.operator moment asked.now.call) }
+        ensures err { OnErr result (S.content self.new ≡ S.content self.old) }
+        ensures doubt { S.doubt self.old ≤ S.doubt self.new }
+        ensures counted { S.faults self.old ≤ S.faults self.new }
+        ensures cause { IfErr result (λ e. e ≡ DeskFault.Store →
+            HasRisen (S.faults self.old) (S.faults self.new)) }
     {
         let pending = self.prepare(alloc, moment, asked)?;
         self.commit(pending)

@@ -2,12 +2,16 @@
 
 use desk_store::StoreFault;
 use std::alloc::AllocError;
+use std::error::Error;
+use std::fmt;
 
 /// Why a call has no reply. The desk's content is what it was.
 #[derive(Clone, Copy, Debug, PartialEq, Eq)]
 pub enum DeskFault {
     /// A growth was refused.
     OutOfMemory,
+    /// The store failed.
+    Store,
     /// The operator is not enrolled.
     UnknownOperator,
     /// The operator has no plan of the id.
@@ -16,15 +20,30 @@ pub enum DeskFault {
     Ceiling,
 }
 
+impl fmt::Display for DeskFault {
+    fn fmt<W: fmt::Write>(&self, f: &mut fmt::Formatter<W>) -> fmt::Result {
+        match self {
+            DeskFault::OutOfMemory => write!(f, "out of memory"),
+            DeskFault::Store => write!(f, "the store failed"),
+            DeskFault::UnknownOperator => write!(f, "the operator is not enrolled"),
+            DeskFault::NoSuchPlan => write!(f, "the operator has no plan with this id"),
+            DeskFault::Ceiling => write!(f, "the ceiling is above 1,000"),
+        }
+    }
+}
+
+impl Error for DeskFault {}
+
 impl From<StoreFault> for DeskFault {
     ghost use Rattle.std.specs.Prelude.{◌≡◌};
-    ghost use Rattle.desk_run.specs.declared.fault.DeskFault.TheVariants.{OutOfMemory};
+    ghost use Rattle.desk_run.specs.Faults.{fault_of};
 
-    ghost from_gives = { λ _ e. e ≡ OutOfMemory };
+    ghost from_gives = { λ fault e. e ≡ fault_of fault };
 
     fn from(fault: StoreFault) -> DeskFault {
         match fault {
             StoreFault::OutOfMemory => DeskFault::OutOfMemory,
+            StoreFault::Store => DeskFault::Store,
         }
     }
 }

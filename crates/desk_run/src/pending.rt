@@ -1,8 +1,9 @@
 //! Replies that are ready, and the changes that go with them.
 
-ghost use Rattle.std.specs.Prelude.{◌≡◌, Some, IfOk, IfErr, OnOk, OnErr};
+ghost use Rattle.std.specs.Prelude.{◌≡◌, ◌≤◌, Some, IfOk, IfErr, OnOk, OnErr};
+ghost use Rattle.desk_store.specs.Faults.{IsHonest, HasRisen};
+ghost use Rattle.desk_run.specs.Faults.{IsBreakdown};
 ghost use Rattle.desk_run.specs.Calls.{Prepares, CanCommit, reply_in, world_committed};
-ghost use Rattle.desk_run.specs.Moments.{IsMoment};
 
 use crate::fault::DeskFault;
 use delete::ready_delete;
@@ -31,16 +32,20 @@ impl Pending {
     }
 }
 
-/// Gets a reply ready over a store.
+// Gets a reply ready over a store.
 pub fn prepare_over<S: PlanStore>(
     alloc: Global,
     store: &mut S,
     moment: i64,
     asked: &Asked,
 ) -> Result<Pending, DeskFault>
-    requires moment_range { IsMoment moment }
-    ensures value { Prepares (S.content store.old) moment asked.now result }
+    ensures value { IsHonest (S.doubt store.new) →
+        Prepares (S.content store.old) moment asked.now result }
     ensures same { S.content store.new ≡ S.content store.old }
+    ensures doubt { S.doubt store.old ≤ S.doubt store.new }
+    ensures counted { S.faults store.old ≤ S.faults store.new }
+    ensures cause { IfErr result (λ e. e ≡ DeskFault.Store →
+        HasRisen (S.faults store.old) (S.faults store.new)) }
 {
     let operator = &asked.operator;
     let Some(ceiling) = store.ceiling(operator)? else {
@@ -56,13 +61,18 @@ pub fn prepare_over<S: PlanStore>(
     }
 }
 
-/// Makes the change of a pending reply over a store.
+// Makes the change of a pending reply over a store.
 pub fn commit_over<S: PlanStore>(store: &mut S, pending: Pending) -> Result<Reply, DeskFault>
-    requires { CanCommit (S.content store.old) pending }
+    requires { IsHonest (S.doubt store.old) → CanCommit (S.content store.old) pending }
     ensures reply { IfOk result (λ reply. reply ≡ reply_in pending) }
-    ensures ok { OnOk result (S.content store.new ≡ world_committed (S.content store.old) pending) }
+    ensures ok { IsHonest (S.doubt store.new) → OnOk result
+        (S.content store.new ≡ world_committed (S.content store.old) pending) }
     ensures err { OnErr result (S.content store.new ≡ S.content store.old) }
-    ensures fault { IfErr result (λ e. e ≡ DeskFault.OutOfMemory) }
+    ensures fault { IfErr result (λ e. IsBreakdown e) }
+    ensures doubt { S.doubt store.old ≤ S.doubt store.new }
+    ensures counted { S.faults store.old ≤ S.faults store.new }
+    ensures cause { IfErr result (λ e. e ≡ DeskFault.Store →
+        HasRisen (S.faults store.old) (S.faults store.new)) }
 {
     let Pending { reply, change } = pending;
     match change {

@@ -1,7 +1,7 @@
 //! Runs: lists of calls, answered one after the other.
 
-ghost use Rattle.std.specs.Prelude.{◌≡◌, All, IfOk, OnErr};
-ghost use Rattle.desk_run.specs.Moments.{IsMoment};
+ghost use Rattle.std.specs.Prelude.{◌≡◌, ◌≤◌, Some, IfOk, OnErr};
+ghost use Rattle.desk_store.specs.Faults.{IsHonest, HasRisen};
 ghost use Rattle.desk_run.specs.Runs as spec;
 ghost use Rattle.desk_run.specs.Runs.{IsRun};
 
@@ -33,16 +33,20 @@ pub struct Ran {
 }
 
 impl<S: PlanStore> Desk<S> {
-    /// Answers calls, each at its moment (a Unix second from 0 to 253,370,764,800), until one meets a
-    /// want of memory.
+    /// Answers calls, each at its moment (a Unix second), until one meets a
+    /// want of memory or a store that fails.
     ///
     /// # Errors
     ///
     /// `AllocError` where the room for all outcomes was refused: nothing changed.
     pub fn run(&mut self, alloc: Global, calls: &[(i64, Asked)]) -> Result<Ran, AllocError>
-        requires { All (λ call. IsMoment call.0) calls.now }
-        ensures ran { IfOk result (λ ran. IsRun self.old calls.now ran self.new) }
-        ensures err { OnErr result (self.new ≡ self.old) }
+        ensures ran { IsHonest (S.doubt self.new) → IfOk result (λ ran.
+            IsRun (S.content self.old) calls.now ran (S.content self.new)) }
+        ensures err { OnErr result (S.content self.new ≡ S.content self.old) }
+        ensures doubt { S.doubt self.old ≤ S.doubt self.new }
+        ensures counted { S.faults self.old ≤ S.faults self.new }
+        ensures cause { IfOk result (λ ran. ran.stopped ≡ Some DeskFault.Store →
+            HasRisen (S.faults self.old) (S.faults self.new)) }
     {
         run_over(alloc, self, calls)
     }
@@ -54,9 +58,13 @@ fn run_over<S: PlanStore>(
     desk: &mut Desk<S>,
     calls: &[(i64, Asked)],
 ) -> Result<Ran, AllocError>
-    requires { All (λ call. IsMoment call.0) calls.now }
-    ensures ran { IfOk result (λ ran. IsRun desk.old calls.now ran desk.new) }
-    ensures err { OnErr result (desk.new ≡ desk.old) }
+    ensures ran { IsHonest (S.doubt desk.new) → IfOk result (λ ran.
+        IsRun (S.content desk.old) calls.now ran (S.content desk.new)) }
+    ensures err { OnErr result (S.content desk.new ≡ S.content desk.old) }
+    ensures doubt { S.doubt desk.old ≤ S.doubt desk.new }
+    ensures counted { S.faults desk.old ≤ S.faults desk.new }
+    ensures cause { IfOk result (λ ran. ran.stopped ≡ Some DeskFault.Store →
+        HasRisen (S.faults desk.old) (S.faults desk.new)) }
 {
     let mut outcomes = Vec::with_capacity(alloc, calls.len())?;
     for (moment, asked) in calls {

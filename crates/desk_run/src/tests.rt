@@ -1,9 +1,6 @@
 //! Runs at a desk of `alfa` and `bravo`, whose ceilings are 100, and what its store then holds; the
 //! outcomes are written by hand.
 
-ghost use Rattle.std.specs.Prelude.{All};
-ghost use Rattle.desk_run.specs.Moments.{IsMoment};
-
 use crate::{Asked, Call, Desk, Outcome};
 use desk_rules::operator::Operator;
 use desk_rules::plan::PutCall;
@@ -112,9 +109,7 @@ fn outcomes_of(
     alloc: Global,
     desk: &mut Desk<ListStore>,
     calls: &[(i64, Asked)],
-) -> Result<Vec<Outcome>, Fail>
-    requires { All (λ call. IsMoment call.0) calls.now }
-{
+) -> Result<Vec<Outcome>, Fail> {
     let ran = desk.run(alloc, calls)?;
     if ran.stopped.is_some() {
         return Err(Fail::from("the run stopped"));
@@ -128,9 +123,7 @@ fn outcome_at(
     desk: &mut Desk<ListStore>,
     moment: i64,
     asked: Asked,
-) -> Result<Outcome, Fail>
-    requires { IsMoment moment }
-{
+) -> Result<Outcome, Fail> {
     let mut outcomes = outcomes_of(alloc, desk, &[(moment, asked)])?;
     Ok(outcomes.pop().ok_or("an outcome")?)
 }

@@ -2,5 +2,8 @@ pub mod World
 pub mod Changes
 pub mod WorldLaws
 pub mod Rows
+pub mod Rivals
 pub mod StoreChange
 pub mod Listing
+pub mod Faults
+pub mod FaultLaws

@@ -1,13 +1,28 @@
 //! Why a store did not do what it was asked.
 
 use std::alloc::{AllocError, AllocFailed};
+use std::error::Error;
+use std::fmt;
 
 /// Why a store did not do what it was asked. Its content is what it was.
 #[derive(Clone, Copy, Debug, PartialEq, Eq)]
 pub enum StoreFault {
     /// A growth was refused.
     OutOfMemory,
+    /// The place where the store keeps its content failed, or gave what no store writes there.
+    Store,
 }
+
+impl fmt::Display for StoreFault {
+    fn fmt<W: fmt::Write>(&self, f: &mut fmt::Formatter<W>) -> fmt::Result {
+        match self {
+            StoreFault::OutOfMemory => write!(f, "out of memory"),
+            StoreFault::Store => write!(f, "the store failed"),
+        }
+    }
+}
+
+impl Error for StoreFault {}
 
 impl From<AllocError> for StoreFault {
     ghost use Rattle.std.specs.Prelude.{◌≡◌};

@@ -78,6 +78,10 @@ impl PlanStore for ListStore {
 
     ghost content = { λ s. s };
 
+    ghost doubt = { λ _. 0 };
+
+    ghost faults = { λ _. 0 };
+
     fn ceiling(&mut self, operator: &Operator) -> Result<Option<u32>, StoreFault> {
         Ok(self.operators.get(operator).copied())
     }
@@ -116,7 +120,7 @@ impl PlanStore for ListStore {
 }
 
 impl ListStore {
-    fn enrol(&mut self, operator: Operator, ceiling: u32) -> Result<(), StoreFault>
+    fn enrol(&mut self, operator: Operator, ceiling: u32) -> Result<(), AllocError>
         requires { ceiling ≤ max_priority }
         ensures ok { OnOk result (self.new ≡ with_operator self.old operator ceiling) }
         ensures err { OnErr result (self.new ≡ self.old) }
@@ -125,7 +129,7 @@ impl ListStore {
         Ok(())
     }
 
-    fn put(&mut self, operator: Operator, row: PlanRow) -> Result<(), StoreFault>
+    fn put(&mut self, operator: Operator, row: PlanRow) -> Result<(), AllocError>
         requires { HasRoom self.old operator row.id }
         ensures ok { OnOk result (self.new ≡ with_plans self.old operator (put_row row (plans_of operator self.old))) }
         ensures err { OnErr result (self.new ≡ self.old) }

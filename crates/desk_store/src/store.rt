@@ -1,10 +1,8 @@
 //! Stores of plans, as a desk uses them.
 
-ghost use Rattle.std.specs.Prelude.{◌≡◌, ◌≤◌, ℕ, true, length, IfOk, IfSome, OnOk, OnErr};
-ghost use Rattle.volume4d.specs.Point.{Point};
-ghost use Rattle.volume4d.specs.Slab.{slab_has, top_held};
-ghost use Rattle.desk_rules.specs.Conflict.{at_least};
-ghost use Rattle.desk_store.specs.World.{World, ceiling_of, plans_of, stored_of, held, held_at};
+ghost use Rattle.std.specs.Prelude.{◌≡◌, ◌≤◌, ℕ, length, IfOk, IfErr, IfSome, OnOk, OnErr};
+ghost use Rattle.desk_store.specs.World.{World, ceiling_of, plans_of, stored_of};
+ghost use Rattle.desk_store.specs.Rivals.{AreRivals};
 ghost use Rattle.desk_rules.specs.Limits.{max_priority};
 
 use crate::change::Change;
@@ -14,34 +12,66 @@ use desk_rules::plan::PlanRow;
 use desk_rules::plan_id::PlanId;
 use volume4d::{Held, Slab};
 
-/// Where a desk keeps its operators and plans. A fault leaves the content as it was.
+/// Where a desk keeps its operators and plans.
+///
+/// A store may lie on a disk, which may lose or change what was written. What a call answers is
+/// claimed where the store is honest as the call ends. That a reader, or a call that answers a fault,
+/// leaves the content as it was holds whether the store is honest or not.
 pub trait PlanStore {
     ghost use Rattle.desk_store.specs.StoreChange.{changed_by, IsFitting};
+    ghost use Rattle.desk_store.specs.Faults.{IsHonest, HasRisen};
 
     /// The operators and plans that the store holds.
     ghost content: { Self → World };
 
+    /// How much the store is in doubt: 0 while it is honest. It never falls.
+    ghost doubt: { Self → ℕ };
+
+    /// How many faults of its own the store has met, in 64 bits, the last value standing for all above.
+    /// It never falls.
+    ghost faults: { Self → ℕ };
+
     /// The operator's ceiling, at most 1,000, or none where it is not enrolled.
     fn ceiling(&mut self, operator: &Operator) -> Result<Option<u32>, StoreFault>
-        ensures value { IfOk result (λ ceiling. ceiling ≡ ceiling_of operator.now (content self.old)) }
-        ensures bound { IfOk result (λ ceiling. IfSome ceiling (λ n. n ≤ max_priority)) }
-        ensures same { content self.new ≡ content self.old };
+        ensures value { IsHonest (doubt self.new) →
+            IfOk result (λ ceiling. ceiling ≡ ceiling_of operator.now (content self.old)) }
+        ensures bound { IsHonest (doubt self.new) →
+            IfOk result (λ ceiling. IfSome ceiling (λ n. n ≤ max_priority)) }
+        ensures same { content self.new ≡ content self.old }
+        ensures doubt { doubt self.old ≤ doubt self.new }
+        ensures counted { faults self.old ≤ faults self.new }
+        ensures cause { IfErr result (λ e. e ≡ StoreFault.Store →
+            HasRisen (faults self.old) (faults self.new)) };
 
     /// The operator's plan of the id.
     fn plan(&mut self, operator: &Operator, id: &PlanId) -> Result<Option<PlanRow>, StoreFault>
-        ensures value { IfOk result (λ row.
-            row ≡ stored_of id.now (plans_of operator.now (content self.old))) }
-        ensures same { content self.new ≡ content self.old };
+        ensures value { IsHonest (doubt self.new) →
+            IfOk result (λ row. row ≡ stored_of id.now (plans_of operator.now (content self.old))) }
+        ensures same { content self.new ≡ content self.old }
+        ensures doubt { doubt self.old ≤ doubt self.new }
+        ensures counted { faults self.old ≤ faults self.new }
+        ensures cause { IfErr result (λ e. e ≡ StoreFault.Store →
+            HasRisen (faults self.old) (faults self.new)) };
 
     /// How many plans the operator has, closed ones too.
     fn own_count(&mut self, operator: &Operator) -> Result<u32, StoreFault>
-        ensures value { IfOk result (λ count. count ≡ length (plans_of operator.now (content self.old))) }
-        ensures same { content self.new ≡ content self.old };
+        ensures value { IsHonest (doubt self.new) →
+            IfOk result (λ count. count ≡ length (plans_of operator.now (content self.old))) }
+        ensures same { content self.new ≡ content self.old }
+        ensures doubt { doubt self.old ≤ doubt self.new }
+        ensures counted { faults self.old ≤ faults self.new }
+        ensures cause { IfErr result (λ e. e ≡ StoreFault.Store →
+            HasRisen (faults self.old) (faults self.new)) };
 
     /// The operator's plans, ascending by id.
     fn own_plans(&mut self, operator: &Operator) -> Result<Vec<PlanRow>, StoreFault>
-        ensures value { IfOk result (λ rows. rows.items ≡ plans_of operator.now (content self.old)) }
-        ensures same { content self.new ≡ content self.old };
+        ensures value { IsHonest (doubt self.new) →
+            IfOk result (λ rows. rows.items ≡ plans_of operator.now (content self.old)) }
+        ensures same { content self.new ≡ content self.old }
+        ensures doubt { doubt self.old ≤ doubt self.new }
+        ensures counted { faults self.old ≤ faults self.new }
+        ensures cause { IfErr result (λ e. e ≡ StoreFault.Store →
+            HasRisen (faults self.old) (faults self.new)) };
 
     /// Slabs held by all live plans but the operator's own of the id: at each point of the extent the
     /// greatest priority among the slabs is the greatest that these plans hold there, where that is at
@@ -53,13 +83,23 @@ pub trait PlanStore {
         least: u32,
         extent: &Slab,
     ) -> Result<Vec<Held>, StoreFault>
-        ensures value { IfOk result (λ helds. (x : Point) → slab_has extent.now x ≡ true → top_held helds.items x
-            ≡ at_least least (held_at (plans_of operator.now (content self.old)) (held (content self.old) operator.now) id.now x)) }
-        ensures same { content self.new ≡ content self.old };
+        ensures value { IsHonest (doubt self.new) → IfOk result (λ helds.
+            AreRivals (content self.old) operator.now id.now least extent.now helds.items) }
+        ensures same { content self.new ≡ content self.old }
+        ensures doubt { doubt self.old ≤ doubt self.new }
+        ensures counted { faults self.old ≤ faults self.new }
+        ensures cause { IfErr result (λ e. e ≡ StoreFault.Store →
+            HasRisen (faults self.old) (faults self.new)) };
 
-    /// Makes the change, whole or not at all.
+    /// Makes the change, whole or not at all. The store may be asked for a change that fits its
+    /// content; a store that is not honest may be asked for any.
     fn apply(&mut self, change: &Change) -> Result<(), StoreFault>
-        requires { IsFitting change.now (content self.old) }
-        ensures ok { OnOk result (content self.new ≡ changed_by change.now (content self.old)) }
-        ensures err { OnErr result (content self.new ≡ content self.old) };
+        requires { IsHonest (doubt self.old) → IsFitting change.now (content self.old) }
+        ensures ok { IsHonest (doubt self.new) →
+            OnOk result (content self.new ≡ changed_by change.now (content self.old)) }
+        ensures err { OnErr result (content self.new ≡ content self.old) }
+        ensures doubt { doubt self.old ≤ doubt self.new }
+        ensures counted { faults self.old ≤ faults self.new }
+        ensures cause { IfErr result (λ e. e ≡ StoreFault.Store →
+            HasRisen (faults self.old) (faults self.new)) };
 }

@@ -1,6 +1,7 @@
 //! Plans that are to be closed.
 
-ghost use Rattle.std.specs.Prelude.{◌≡◌, IsSome};
+ghost use Rattle.std.specs.Prelude.{◌≡◌, ◌≤◌, IsSome, IfErr};
+ghost use Rattle.desk_store.specs.Faults.{IsHonest, HasRisen};
 ghost use Rattle.desk_store.specs.World.{ceiling_of, plans_of, stored_of};
 ghost use Rattle.desk_run.specs.Calls.{Readies};
 ghost use Rattle.desk_run.specs.Verdicts.{delete_ruling};
@@ -13,17 +14,21 @@ use desk_rules::reply::{PutReply, Reply};
 use desk_rules::words::{PlanResult, PlanStatus};
 use desk_store::{Change, PlanStore};
 
-/// Gets the closing of an enrolled operator's plan ready.
+// Gets the closing of an enrolled operator's plan ready.
 pub fn ready_delete<S: PlanStore>(
     store: &mut S,
     operator: &Operator,
     id: &PlanId,
 ) -> Result<Pending, DeskFault>
-    requires { IsSome (ceiling_of operator.now (S.content store.old)) }
-    ensures value { Readies (S.content store.old) operator.now
+    requires { IsHonest (S.doubt store.old) → IsSome (ceiling_of operator.now (S.content store.old)) }
+    ensures value { IsHonest (S.doubt store.new) → Readies (S.content store.old) operator.now
         (delete_ruling (plans_of operator.now (S.content store.old)) id.now
         (stored_of id.now (plans_of operator.now (S.content store.old)))) result }
     ensures same { S.content store.new ≡ S.content store.old }
+    ensures doubt { S.doubt store.old ≤ S.doubt store.new }
+    ensures counted { S.faults store.old ≤ S.faults store.new }
+    ensures cause { IfErr result (λ e. e ≡ DeskFault.Store →
+        HasRisen (S.faults store.old) (S.faults store.new)) }
 {
     if store.plan(operator, id)?.is_none() {
         return Err(DeskFault::NoSuchPlan);

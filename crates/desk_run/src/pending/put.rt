@@ -1,12 +1,13 @@
 //! Requests to plan, decided over a store.
 
-ghost use Rattle.std.specs.Prelude.{◌≡◌, ◌≤◌, Some, IfOk};
+ghost use Rattle.std.specs.Prelude.{◌≡◌, ◌≤◌, Some, IfOk, IfErr};
+ghost use Rattle.desk_store.specs.Faults.{IsHonest, HasRisen};
+ghost use Rattle.desk_rules.specs.Limits.{max_priority};
 ghost use Rattle.std.specs.Option.{option_copied};
 ghost use Rattle.desk_rules.specs.Conflict.{conflict};
 ghost use Rattle.desk_store.specs.World.{own, ceiling_of, plans_of, held, held_at};
 ghost use Rattle.desk_run.specs.Calls.{Readies, change_after};
-ghost use Rattle.desk_run.specs.Verdicts.{put_ruling, put_outcome, row_asked};
-ghost use Rattle.desk_run.specs.Moments.{IsMoment};
+ghost use Rattle.desk_run.specs.Verdicts.{put_ruling, put_outcome_in, conflict_in, row_asked};
 
 use super::Pending;
 use crate::fault::DeskFault;
@@ -19,7 +20,7 @@ use desk_store::{Change, PlanStore, StoreFault};
 use std::alloc::{AllocError, Global};
 use volume4d::Meeting;
 
-/// Gets the reply to a request of an operator under a ceiling ready.
+// Gets the reply to a request of an operator under a ceiling ready.
 pub fn ready_put<S: PlanStore>(
     alloc: Global,
     store: &mut S,
@@ -28,13 +29,17 @@ pub fn ready_put<S: PlanStore>(
     put: &PutCall,
     ceiling: u32,
 ) -> Result<Pending, DeskFault>
-    requires moment_range { IsMoment moment }
-    requires listed { ceiling_of operator.now (S.content store.old) ≡ Some ceiling }
-    requires low { ceiling ≤ 1000 }
-    ensures value { Readies (S.content store.old) operator.now
-        (put_ruling (put_outcome (own (S.content store.old) operator.now) (held (S.content store.old) operator.now) ceiling moment put.now)
+    requires listed { IsHonest (S.doubt store.old) →
+        ceiling_of operator.now (S.content store.old) ≡ Some ceiling }
+    requires low { IsHonest (S.doubt store.old) → ceiling ≤ max_priority }
+    ensures value { IsHonest (S.doubt store.new) → Readies (S.content store.old) operator.now
+        (put_ruling (put_outcome_in (S.content store.old) operator.now ceiling moment put.now)
         put.now (plans_of operator.now (S.content store.old))) result }
     ensures same { S.content store.new ≡ S.content store.old }
+    ensures doubt { S.doubt store.old ≤ S.doubt store.new }
+    ensures counted { S.faults store.old ≤ S.faults store.new }
+    ensures cause { IfErr result (λ e. e ≡ DeskFault.Store →
+        HasRisen (S.faults store.old) (S.faults store.new)) }
 {
     let verdict = verdict_on(alloc, store, moment, operator, put, ceiling)?;
     let change = change_for(verdict.effect, operator, put)?;
@@ -67,10 +72,13 @@ fn verdict_on<S: PlanStore>(
     put: &PutCall,
     ceiling: u32,
 ) -> Result<Verdict, StoreFault>
-    requires moment_range { IsMoment moment }
-    ensures verdict { IfOk result (λ v. v ≡ put_outcome (own (S.content store.old) operator.now)
-        (held (S.content store.old) operator.now) ceiling moment put.now) }
+    ensures verdict { IsHonest (S.doubt store.new) → IfOk result (λ v.
+        v ≡ put_outcome_in (S.content store.old) operator.now ceiling moment put.now) }
     ensures same { S.content store.new ≡ S.content store.old }
+    ensures doubt { S.doubt store.old ≤ S.doubt store.new }
+    ensures counted { S.faults store.old ≤ S.faults store.new }
+    ensures cause { IfErr result (λ e. e ≡ StoreFault.Store →
+        HasRisen (S.faults store.old) (S.faults store.new)) }
 {
     let stored = store.plan(operator, &put.id)?;
     let own_rows = store.own_count(operator)?;
@@ -85,10 +93,13 @@ fn conflict_of<S: PlanStore>(
     operator: &Operator,
     put: &PutCall,
 ) -> Result<Option<Meeting>, StoreFault>
-    ensures value { IfOk result (λ meeting. meeting ≡ conflict put.now.area
-        (held_at (plans_of operator.now (S.content store.old)) (held (S.content store.old) operator.now) put.now.id)
-        put.now.priority) }
+    ensures value { IsHonest (S.doubt store.new) → IfOk result (λ meeting.
+        meeting ≡ conflict_in (S.content store.old) operator.now put.now) }
     ensures same { S.content store.new ≡ S.content store.old }
+    ensures doubt { S.doubt store.old ≤ S.doubt store.new }
+    ensures counted { S.faults store.old ≤ S.faults store.new }
+    ensures cause { IfErr result (λ e. e ≡ StoreFault.Store →
+        HasRisen (S.faults store.old) (S.faults store.new)) }
 {
     let mine = put.area.slabs()?;
     let extent = put.area.bounds()?;

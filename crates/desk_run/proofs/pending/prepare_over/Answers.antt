@@ -1,28 +1,31 @@
 use Rattle.std.proofs.Common.{sym, ◌∙◌, w64}
 use Rattle.std.proofs.lemmas.Int.{to_z-of_z}
+use Rattle.desk_store.specs.FaultLaws.{was_honest}
 use Rattle.desk_run.proofs.CallLemmas.{unlisted_is, status_ready, prepares_from, put_readies, delete_readies}
 use Rattle.desk_run.proofs.pending.prepare_over.Goals as goal
 
 pub returns-in_default-clause-value : goal.returns-in_default-clause-value
-returns-in_default-clause-value g c =
-    unlisted_is (g.S.PlanStore.content c.args.store.now) c.args.moment c.args.asked.now (sym c.in_ok-ceiling.ensures.value ∙ c.in_default.is)
+returns-in_default-clause-value g c = λ honest.
+    unlisted_is (g.S.PlanStore.content c.args.store.now) c.args.moment c.args.asked.now (sym (c.in_ok-ceiling.ensures.value honest) ∙ c.in_default.is)
 
 pub returns-in-Status-clause-value : goal.returns-in-Status-clause-value
-returns-in-Status-clause-value g c =
-    status_ready (g.S.PlanStore.content c.args.store.now) c.args.moment c.args.asked.now c.in-Some.ceiling (sym c.in_ok-ceiling.ensures.value ∙ c.in-Some.is) c.in-Status.is
+returns-in-Status-clause-value g c = λ honest.
+    status_ready (g.S.PlanStore.content c.args.store.now) c.args.moment c.args.asked.now c.in-Some.ceiling (sym (c.in_ok-ceiling.ensures.value honest) ∙ c.in-Some.is) c.in-Status.is
 
 pub returns-in-Put-clause-value : goal.returns-in-Put-clause-value
-returns-in-Put-clause-value g c =
+returns-in-Put-clause-value g c = λ honest.
+    let listing = was_honest c.ready_put.ensures.doubt honest in
     let before = g.S.PlanStore.content c.args.store.now in
     let asked = c.args.asked.now in
-    prepares_from before c.args.moment asked c.in-Some.ceiling c.ready_put.result (sym c.in_ok-ceiling.ensures.value ∙ c.in-Some.is)
-    (put_readies (g.S.PlanStore.content c.ceiling.new.self) before _ c.args.moment asked c.in-Put.put c.in-Some.ceiling c.ready_put.result c.in_ok-ceiling.ensures.same
-    (to_z-of_z w64 c.args.moment c.ranges.moment) c.in-Put.is c.ready_put.ensures.value)
+    prepares_from before c.args.moment asked c.in-Some.ceiling c.ready_put.result (sym (c.in_ok-ceiling.ensures.value listing) ∙ c.in-Some.is)
+    (put_readies (g.S.PlanStore.content c.ceiling.new.self) before _ c.args.moment asked c.in-Put.put c.in-Some.ceiling c.ready_put.result c.ceiling.ensures.same
+    (to_z-of_z w64 c.args.moment c.ranges.moment) c.in-Put.is (c.ready_put.ensures.value honest))
 
 pub returns-in-Delete-clause-value : goal.returns-in-Delete-clause-value
-returns-in-Delete-clause-value g c =
+returns-in-Delete-clause-value g c = λ honest.
+    let listing = was_honest c.ready_delete.ensures.doubt honest in
     let before = g.S.PlanStore.content c.args.store.now in
     let asked = c.args.asked.now in
-    prepares_from before c.args.moment asked c.in-Some.ceiling c.ready_delete.result (sym c.in_ok-ceiling.ensures.value ∙ c.in-Some.is)
-    (delete_readies (g.S.PlanStore.content c.ceiling.new.self) before c.args.moment asked c.in-Delete.id c.in-Some.ceiling c.ready_delete.result c.in_ok-ceiling.ensures.same
-    c.in-Delete.is c.ready_delete.ensures.value)
+    prepares_from before c.args.moment asked c.in-Some.ceiling c.ready_delete.result (sym (c.in_ok-ceiling.ensures.value listing) ∙ c.in-Some.is)
+    (delete_readies (g.S.PlanStore.content c.ceiling.new.self) before c.args.moment asked c.in-Delete.id c.in-Some.ceiling c.ready_delete.result c.ceiling.ensures.same
+    c.in-Delete.is (c.ready_delete.ensures.value honest))

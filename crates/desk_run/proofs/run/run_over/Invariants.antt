@@ -1,4 +1,5 @@
-use Rattle.std.proofs.Common.{◌≤◌, length}
+use Rattle.std.proofs.Common.{◌≡◌, ◌≤◌, length}
+use Rattle.desk_store.specs.Faults.{IsHonest}
 use Rattle.desk_run.proofs.RunLemmas.{AreAnswered}
 use Rattle.desk_run.proofs.run.run_over.Given as goal
 
@@ -6,6 +7,10 @@ use Rattle.desk_run.proofs.run.run_over.Given as goal
 abbrev pub invariant-loop-moment : goal.invariant-loop-moment
 invariant-loop-moment g l =
     record {
-      answered : AreAnswered l.fn.desk l.calls l.moment-index l.outcomes.items l.desk;
+      answered :
+          IsHonest (g.S.PlanStore.doubt l.desk) → AreAnswered (g.S.PlanStore.content l.fn.desk) l.calls l.moment-index l.outcomes.items (g.S.PlanStore.content l.desk);
+      count : length l.outcomes.items ≡ l.moment-index;
       room : length l.calls ≤ l.outcomes.cap;
+      doubt : g.S.PlanStore.doubt l.fn.desk ≤ g.S.PlanStore.doubt l.desk;
+      counted : g.S.PlanStore.faults l.fn.desk ≤ g.S.PlanStore.faults l.desk;
     }

@@ -2,20 +2,21 @@ use Rattle.std.proofs.Common.{◌∙◌, ap, arith}
 use Rattle.std.proofs.lemmas.Result.{err_from_is_err_and}
 use Rattle.desk_store.specs.Changes.{with_operator}
 use Rattle.desk_store.specs.StoreChange.{changed_by, IsFitting}
+use Rattle.desk_run.proofs.FaultLemmas.{never_ceiling}
 use Rattle.desk_run.proofs.desk.Desk.enrol.Goals as goal
 
 pub apply-requires : goal.apply-requires
 unfolding IsFitting
-apply-requires g c = omega arith
+apply-requires g c = λ honest. omega arith
 
 pub returns-in_err-apply-clause-ceiling : goal.returns-in_err-apply-clause-ceiling
 returns-in_err-apply-clause-ceiling g c =
     let p = err_from_is_err_and c.from_residual.result c.from_residual.ensures.1 in
-    rw (p.1, p.2) (λ e. cc, λ h. absurd (omega arith))
+    rw (p.1, p.2) (λ e. absurd (never_ceiling _ e), λ h. absurd (omega arith))
 
 pub returns-clause-ok : goal.returns-clause-ok
 unfolding changed_by
-returns-clause-ok g c = c.in_ok-apply.ensures.ok ∙ ap (λ w. with_operator w c.args.operator.now c.args.ceiling) c.self.view_is
+returns-clause-ok g c = λ honest. c.in_ok-apply.ensures.ok honest ∙ ap (λ s. with_operator (g.S.PlanStore.content s) c.args.operator.now c.args.ceiling) c.self.view_is
 
 pub returns-clause-ceiling : goal.returns-clause-ceiling
 returns-clause-ceiling g c = (λ e. cc, λ h. absurd (omega arith))

@@ -8,10 +8,10 @@ use Rattle.desk_store.proofs.list.ListStorePlanStore.ceiling.Goals as goal
 
 pub returns-clause-value : goal.returns-clause-value
 unfolding ceiling_of
-returns-clause-value c = c.copied.ensures ∙ c.get.ensures.value ∙ ceiling_found c.args.operator.now c.self.inside.operators.entries ∙ ap (ceiling_of c.args.operator.now) c.self.view_is
+returns-clause-value c = λ _. c.copied.ensures ∙ c.get.ensures.value ∙ ceiling_found c.args.operator.now c.self.inside.operators.entries ∙ ap (ceiling_of c.args.operator.now) c.self.view_is
 
 pub returns-clause-bound : goal.returns-clause-bound
 unfolding ceiling_of
-returns-clause-bound c =
+returns-clause-bound c = λ _.
     subst (λ found. IfSome found (λ n. n ≤ max_priority)) (sym (c.copied.ensures ∙ c.get.ensures.value ∙ ceiling_found c.args.operator.now c.self.inside.operators.entries))
     (ceiling_within c.args.operator.now (world_of c.self.inside.operators.entries c.self.inside.plans.entries) c.self.invariant)

@@ -6,7 +6,7 @@ use Rattle.desk_store.proofs.RivalLemmas.{held_by_rivals}
 use Rattle.desk_store.proofs.list.ListStorePlanStore.rivals.Goals as goal
 
 pub returns-clause-value : goal.returns-clause-value
-returns-clause-value c = λ x inside.
+returns-clause-value c = λ _ x inside.
     let o = c.args.operator.now in
     let id = c.args.id.now in
     let before = world_of c.self.inside.operators.entries c.self.inside.plans.entries in

@@ -1,0 +1,10 @@
+-- A store's own faults, and doubt of what it answers.
+use Rattle.std.specs.Prelude.{◌≡◌, ℕ, ◌<◌, ◌-◌, ◌^◌}
+
+-- no doubt is on a store: what it answers is what its content has
+abbrev pub IsHonest : ℕ → Type 0
+IsHonest doubt = doubt ≡ 0
+
+-- a count of 64 bits rose, or had come to its last value, at which it stays
+abbrev pub HasRisen : ℕ → ℕ → Type 0
+HasRisen old new = new < 2 ^ 64 - 1 → old < new
