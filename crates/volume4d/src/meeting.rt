@@ -16,7 +16,7 @@ use std::marker::Model;
 
 /// A point that is shared, and the greatest priority of those that hold it.
 #[derive(Clone, Copy, Debug, PartialEq, Eq)]
-#[tactic(auto, using(s2_hilbert::proofs::Positions::position_undone))]
+#[tactic(auto, using(s2_hilbert::specs::CurveLaws::position_undone))]
 pub struct Meeting {
     /// The leaf's position among all leaves along the S2 curve, below `6 * 2^60`.
     pub pos: u64,
