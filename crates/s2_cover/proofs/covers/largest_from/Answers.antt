@@ -1,4 +1,4 @@
-use Rattle.std.proofs.Common.{arith, subst, sym, refl}
+use Rattle.std.proofs.Common.{subst, sym, refl}
 use Rattle.s2_cellid.specs.Cell.{IsCellId}
 use Rattle.s2_cover.specs.Laying.{IsLargestFrom}
 use Rattle.s2_cover.proofs.Beginnings.{some_when, at_some, id_from, begun, largest_of}
@@ -14,6 +14,8 @@ unwrap-requires c =
 pub returns : goal.returns
 returns c =
     let id = id_from c.args.first c.largest_place-place.result in
-    let told = at_some c.from_raw.result (IsCellId id) id c.unwrap.result c.from_raw.ensures c.unwrap.ensures in
+    let told = at_some c.from_raw.result
+    (IsCellId id) id c.unwrap.result c.from_raw.ensures c.unwrap.ensures in
     subst (IsLargestFrom c.args.first c.args.last) (sym told.1)
-    (largest_of c.args.first c.args.last c.largest_place-place.result c.requires.below c.largest_place-place.ensures)
+    (largest_of c.args.first c.args.last c.largest_place-place.result c.requires.below
+    c.largest_place-place.ensures)
