@@ -27,6 +27,20 @@ pub struct FourPoints {
     pub row: u16,
 }
 
+// Entries, each of a place and an orientation.
+macro_rules! places {
+    ($($place:literal $turn:literal),* $(,)?) => {
+        [$(FourPlaces { place: $place, row: 256 * $turn }),*]
+    };
+}
+
+// Entries, each of two coordinates and an orientation.
+macro_rules! points {
+    ($($i:literal $j:literal $turn:literal),* $(,)?) => {
+        [$(FourPoints { i: $i, j: $j, row: 256 * $turn }),*]
+    };
+}
+
 /// The place of a point, by the key `turn * 256 + i * 16 + j`.
 pub fn place_of_four(key: usize) -> &'static FourPlaces
     requires { key < 1024 }
@@ -62,23 +76,22 @@ def four_levels(turn, i, j):
     return place, turn
 
 
-def print_table(name, entry_type, entries):
-    print(f"\nstatic {name}: [{entry_type}; {len(entries)}] = [")
-    for entry in entries:
-        fields = ", ".join(f"{field}: {value}" for field, value in entry.items())
-        print(f"    {entry_type} {{ {fields} }},")
+def print_table(name, entry_type, macro, entries):
+    print(f"\nstatic {name}: [{entry_type}; {len(entries)}] = {macro}![")
+    for first in range(0, len(entries), 8):
+        print("    " + ", ".join(entries[first : first + 8]) + ",")
     print("];")
 
 
 places = []
-points = [None] * 1024
+points = [""] * 1024
 for turn in range(4):
     for i in range(16):
         for j in range(16):
             place, after = four_levels(turn, i, j)
-            places.append({"place": place, "row": 256 * after})
-            points[256 * turn + place] = {"i": i, "j": j, "row": 256 * after}
+            places.append(f"{place} {after}")
+            points[256 * turn + place] = f"{i} {j} {after}"
 
 print(HEAD, end="")
-print_table("PLACES", "FourPlaces", places)
-print_table("POINTS", "FourPoints", points)
+print_table("PLACES", "FourPlaces", "places", places)
+print_table("POINTS", "FourPoints", "points", points)

@@ -16,7 +16,8 @@ values_fit byte (value ∷ values) =
 abbrev pub value_or_16 : ℕ → ℕ
 value_or_16 byte = if nat_lt (digit_value byte) 16 then digit_value byte else 16
 
-fits_at : (first byte n : ℕ) (values : List ℕ) (default : ℕ) → byte ≡ first + n → IsTrue (values_fit first values)
+fits_at : (first byte n : ℕ) (values : List ℕ) (default : ℕ) → byte ≡ first + n → IsTrue
+    (values_fit first values)
     → n < length values → IsTrue (slice_index_or values n default == value_or_16 byte)
 unfolding values_fit
 fits_at first byte n [] default sum all below = absurd (omega arith)

@@ -27,5 +27,7 @@ all_fit : IsTrue (bits_fit 0 LOWEST_BITS)
 unfolding bits_fit
 all_fit = refl
 
-pub lowest_bit_at : (level default : ℕ) → level ≤ 30 → slice_index_or LOWEST_BITS level default ≡ leaf_count level
-lowest_bit_at level default at_most = fits_at 0 level level LOWEST_BITS default (omega arith) all_fit (omega arith)
+pub lowest_bit_at : (level default : ℕ) → level ≤ 30 → slice_index_or LOWEST_BITS level default
+    ≡ leaf_count level
+lowest_bit_at level default at_most = fits_at 0 level level LOWEST_BITS default (omega arith) all_fit
+    (omega arith)

@@ -3,6 +3,7 @@
 -- for each level down, then one set bit, and zeros below it.
 use Rattle.std.specs.Prelude.{ℕ, ◌+◌, ◌-◌, ◌*◌, ◌/◌, ◌%◌, ◌^◌, Bool, ◌&&◌, ◌==◌, nat_lt, nat_le, IsTrue}
 use Rattle.std.specs.Int.{w64, trailing_zeros, is_in_range}
+use Rattle.s2_hilbert.specs.Grid.{face_count, leaf_level}
 
 -- the place of the lowest set bit, counted from 0; 64 where no bit is set
 abbrev pub lowest_place : ℕ → ℕ
@@ -14,15 +15,16 @@ lowest_bit id = 2 ^ lowest_place id
 
 -- the top three bits (S2CellId::face)
 abbrev pub face_of : ℕ → ℕ
-face_of id = id / 2 ^ 61
+face_of id = id / 2 ^ (2 * leaf_level + 1)
 
 -- 0 for a whole face to 30 for a leaf, two bits for each level (S2CellId::level)
 abbrev pub level_of : ℕ → ℕ
-level_of id = 30 - lowest_place id / 2
+level_of id = leaf_level - lowest_place id / 2
 
 -- one of six faces, and the lowest set bit at an even place up to 60 (S2CellId::is_valid)
 abbrev pub is_cell_id : ℕ → Bool
-is_cell_id id = nat_lt (face_of id) 6 && (lowest_place id % 2 == 0 && nat_le (lowest_place id) 60)
+is_cell_id id =
+    nat_lt (face_of id) face_count && (lowest_place id % 2 == 0 && nat_le (lowest_place id) (2 * leaf_level))
 
 abbrev pub IsCellId : ℕ → Type 0
 IsCellId id = IsTrue (is_cell_id id)

@@ -79,11 +79,20 @@ has_of : (id level number : ℕ) → IsCellId id → lowest_bit id ≡ leaf_coun
 has_of id level number valid lowest is p =
     let positive = four_pow_pos (30 - level) in
     let first = first_of id level number lowest is in
-    let last : last_leaf id ≡ number * leaf_count level + (leaf_count level - 1) = omega (arith, lowest, is, positive) in
+    let last : last_leaf id ≡ number * leaf_count level + (leaf_count level - 1) = omega
+    (arith, lowest, is, positive) in
     let between = leaves_between id valid p in
     let quotient = quotient_range p (leaf_count level) number positive in (
-      λ has. let range = between.0 has in quotient.1 (omega (arith, range, first), omega (arith, range, last)),
-      λ same. let range = quotient.0 same in between.1 (omega (arith, range, first), omega (arith, range, last)),
+      λ has. let range = between.0 has in quotient.1 (
+        omega (arith, range, first),
+        omega
+            (arith, range, last),
+      ),
+      λ same. let range = quotient.0 same in between.1 (
+        omega (arith, range, first),
+        omega
+            (arith, range, last),
+      ),
     )
 
 pub cell_of : (id level number : ℕ) → level ≤ 30 → number * leaf_count level + leaf_count level ≤ 6 * 2 ^ 60
@@ -116,7 +125,8 @@ is_cell_of id valid =
     let bounded : lowest_place id ≤ 60 = grind (arith, nat_tests, valid) in
     let even : lowest_place id % 2 ≡ 0 = grind (arith, nat_tests, valid) in
     let place : lowest_place id ≡ 2 * (30 - level_of id) = omega arith in
-    let lowest : lowest_bit id ≡ leaf_count (level_of id) = ap (λ k. 2 ^ k) place ∙ sym (power_of_four (30 - level_of id)) in
+    let lowest : lowest_bit id ≡ leaf_count (level_of id) = ap (λ k. 2 ^ k) place ∙ sym (power_of_four
+    (30 - level_of id)) in
     let block = block_of id valid in
     let is : id ≡ block_id (level_of id) (number_of id) =
     subst (λ c. id ≡ 2 * (number_of id * c) + c) lowest block.id_is in
@@ -132,7 +142,8 @@ is_cell_of id valid =
     }
 
 -- the leaves of a cell are exactly the square of its level round any of them
-pub cell_square : (id level number : ℕ) (inner leaf : GridLeaf) → IsCellOf id level number → IsLeaf inner → IsLeaf leaf
+pub cell_square : (id level number : ℕ) (inner leaf : GridLeaf) → IsCellOf id level number → IsLeaf inner
+    → IsLeaf leaf
     → position_of inner / leaf_count level ≡ number
     → IsTrue (cell_has_leaf id leaf) ↔ ShareSquare level inner leaf
 cell_square id level number inner leaf cell inner_is leaf_is here =
@@ -171,7 +182,8 @@ square_cell_has leaf square is square_is =
     (λ holds. quotient.1 (has.0 holds), λ within. has.1 (quotient.0 within))
 
 -- the cell above
-pub parent_cell : (level id : ℕ) → IsCellId id → level ≤ 30 → IsCellOf (parent_id level id) level (id / (2 * leaf_count level))
+pub parent_cell : (level id : ℕ) → IsCellId id → level ≤ 30 → IsCellOf (parent_id level id) level (id /
+    (2 * leaf_count level))
 parent_cell level id valid at_most =
     let count = leaf_count level in
     let positive = four_pow_pos (30 - level) in
@@ -179,14 +191,17 @@ parent_cell level id valid at_most =
     let cell = is_cell_of id valid in
     let below : id < 12 * 2 ^ 60 = omega (arith, cell.id_is, cell.within, four_pow_pos (30 - level_of id)) in
     let range : id < 6 * 4 ^ level * (2 * count) = omega (arith, below, whole) in
-    let number : id / (2 * count) < 6 * 4 ^ level = div_below id (2 * count) (6 * 4 ^ level) (omega (arith, positive)) range in
+    let number : id / (2 * count) < 6 * 4 ^ level = div_below id (2 * count) (6 * 4 ^ level) (omega
+    (arith, positive)) range in
     let product : (id / (2 * count) + 1) * count ≤ 6 * 4 ^ level * count =
     mul-le (id / (2 * count) + 1) count (6 * 4 ^ level) count (omega (arith, number)) (omega arith) in
-    cell_of (parent_id level id) level (id / (2 * count)) at_most (omega (arith, product, whole)) (omega arith)
+    cell_of (parent_id level id) level (id / (2 * count)) at_most (omega (arith, product, whole))
+    (omega arith)
 
 -- the bits of a valid id above the lowest set bit of a level
 pub kept_above : (level id : ℕ) → IsCellId id
-    → bit_and id (2 ^ 64 - 1 - (2 * leaf_count level - 1)) ≡ id / (2 * leaf_count level) * (2 * leaf_count level)
+    → bit_and id (2 ^ 64 - 1 - (2 * leaf_count level - 1)) ≡ id / (2 * leaf_count level) *
+    (2 * leaf_count level)
 kept_above level id valid =
     let place = 2 * (30 - level) + 1 in
     let power : 2 * leaf_count level ≡ 2 ^ place =
@@ -204,19 +219,31 @@ parent_number level id p valid at_most has =
     let count = leaf_count (level_of id) in
     let share = 4 ^ (level_of id - level) in
     let sum : 30 - level ≡ 30 - level_of id + (level_of id - level) = omega (arith, cell.level_at_most) in
-    let counts : leaf_count level ≡ count * share = ap (λ n. 4 ^ n) sum ∙ pow-add 4 (30 - level_of id) (level_of id - level) in
+    let counts : leaf_count level ≡ count * share = ap (λ n. 4 ^ n) sum ∙ pow-add 4 (30 - level_of id)
+    (level_of id - level) in
     let doubles : 2 * (count * share) ≡ 2 * count * share = omega arith in
     let split : id ≡ number_of id * (2 * count) + count = omega (arith, cell.id_is) in
     let number : id / (2 * count) ≡ number_of id =
     ap (λ m. m / (2 * count)) split
     ∙ div-mul-add (number_of id) (2 * count) count (omega (arith, four_pow_pos (30 - level_of id))) in
-    rw (counts, doubles, ← div-div-eq-div-mul p count share, ← div-div-eq-div-mul id (2 * count) share, number, (cell.has p).0 has) refl
+    rw (
+      counts,
+      doubles,
+      ← div-div-eq-div-mul p count share,
+      ← div-div-eq-div-mul id
+          (2 * count) share,
+      number,
+      (cell.has p).0 has,
+    ) refl
 
-pub parent_cell_has : (level id : ℕ) (inner leaf : GridLeaf) → IsCellId id → level ≤ level_of id → IsLeaf inner → IsLeaf leaf
-    → IsTrue (cell_has_leaf id inner) → IsTrue (cell_has_leaf (parent_id level id) leaf) ↔ ShareSquare level inner leaf
+pub parent_cell_has : (level id : ℕ) (inner leaf : GridLeaf) → IsCellId id → level ≤ level_of id
+    → IsLeaf inner → IsLeaf leaf
+    → IsTrue (cell_has_leaf id inner) → IsTrue (cell_has_leaf (parent_id level id) leaf)
+    ↔ ShareSquare level inner leaf
 parent_cell_has level id inner leaf valid at_most inner_is leaf_is has =
     cell_square (parent_id level id) level (id / (2 * leaf_count level)) inner leaf
-    (parent_cell level id valid (omega arith)) inner_is leaf_is (parent_number level id (position_of inner) valid at_most has)
+    (parent_cell level id valid (omega arith)) inner_is leaf_is (parent_number level id
+    (position_of inner) valid at_most has)
 
 -- the cell below
 pub child_cell : (k id : ℕ) → IsCellId id → k < 4 → level_of id < 30
@@ -262,7 +289,8 @@ child_cell_has k id p valid k_below inside =
     let count = leaf_count (level_of id + 1) in
     let counts = quarter_count (level_of id) inside in
     let parts = quarters p (number_of id) count k (four_pow_pos (30 - (level_of id + 1))) k_below in
-    let first : first_leaf id ≡ number_of id * (4 * count) = cell.first_is ∙ ap (λ c. number_of id * c) counts in
+    let first : first_leaf id ≡ number_of id * (4 * count) = cell.first_is ∙ ap
+    (λ c. number_of id * c) counts in
     let in_cell = rw counts at (cell.has p) in
     rw (child.level_is, first) (
       λ has. let both = parts.0 ((child.has p).0 has) in (in_cell.1 both.0, both.1),
@@ -274,12 +302,15 @@ pub level_square : (id : ℕ) (inner leaf : GridLeaf) → IsCellId id → IsLeaf
     → IsTrue (cell_has_leaf id inner) → IsTrue (cell_has_leaf id leaf) ↔ ShareSquare (level_of id) inner leaf
 level_square id inner leaf valid inner_is leaf_is has =
     let cell = is_cell_of id valid in
-    cell_square id (level_of id) (number_of id) inner leaf cell inner_is leaf_is ((cell.has (position_of inner)).0 has)
+    cell_square id (level_of id) (number_of id) inner leaf cell inner_is leaf_is ((cell.has
+    (position_of inner)).0 has)
 
 -- the face of a cell is that of its leaves
-pub face_square : (id : ℕ) (leaf : GridLeaf) → IsCellId id → IsLeaf leaf → IsTrue (cell_has_leaf id leaf) → leaf.face ≡ face_of id
+pub face_square : (id : ℕ) (leaf : GridLeaf) → IsCellId id → IsLeaf leaf → IsTrue (cell_has_leaf id leaf)
+    → leaf.face ≡ face_of id
 face_square id leaf valid is has =
-    let number : position_of leaf / 2 ^ 60 ≡ id / 2 ^ 61 = parent_number 0 id (position_of leaf) valid (omega arith) has in
+    let number : position_of leaf / 2 ^ 60 ≡ id / 2 ^ 61 = parent_number 0 id (position_of leaf) valid
+    (omega arith) has in
     omega (arith, number, position_is leaf, place_on_face_below leaf)
 
 -- a position of a cell is one of a leaf
@@ -302,7 +333,8 @@ all_leaves a b valid = (
 )
 
 abbrev pub SharesGridLeaf : ℕ → ℕ → Type 0
-SharesGridLeaf a b = (leaf : GridLeaf) × (IsLeaf leaf × IsTrue (cell_has_leaf a leaf) × IsTrue (cell_has_leaf b leaf))
+SharesGridLeaf a b = (leaf : GridLeaf) × (IsLeaf leaf × IsTrue (cell_has_leaf a leaf) × IsTrue
+    (cell_has_leaf b leaf))
 
 pub some_leaf : (a b : ℕ) → IsCellId b → SharesLeaf a b ↔ SharesGridLeaf a b
 some_leaf a b valid = (

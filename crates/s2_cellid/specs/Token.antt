@@ -5,7 +5,7 @@ use Rattle.std.specs.Char.{digit_char, is_ascii_uppercase}
 use Rattle.std.specs.List.{list_all, suffix_len}
 use Rattle.std.specs.Str.Parse.{digits_value}
 use Rattle.s2_cellid.specs.Cell.{is_cell_id}
-use Rattle.s2_cellid.specs.Digits.{is_hex, filled}
+use Rattle.s2_cellid.specs.Digits.{most_digits, is_hex, filled}
 use Rattle.s2_cellid.specs.declared.tokens.TokenFault.{TokenFault}
 use Rattle.s2_cellid.specs.declared.tokens.TokenFault.TheVariants.{Empty, TooLong, NotHex, NotACell}
 
@@ -13,11 +13,11 @@ use Rattle.s2_cellid.specs.declared.tokens.TokenFault.TheVariants.{Empty, TooLon
 unfoldable pub filled_value : List ℕ → ℕ
 filled_value text = digits_value 16 (filled text)
 
--- the text spells the id: 1 to 16 hex digits which, filled up with zeros on the right, write it in
+-- the text spells the id: hex digits, one at least and no more than an id has, which, filled up with zeros on the right, write it in
 -- base 16
 pub record IsSpelling (text : List ℕ) (id : ℕ) : Type 0 where
   pub some : 0 < length text
-  pub at_most : length text ≤ 16
+  pub at_most : length text ≤ most_digits
   pub hex : IsTrue (is_hex text)
   pub value : filled_value text ≡ id
 
@@ -38,14 +38,14 @@ is_zero c = c == 48
 abbrev pub without_end_zeros : List ℕ → List ℕ
 without_end_zeros digits = take (length digits - suffix_len is_zero digits) digits
 
--- the token of an id: its 16 hex digits without the zeros at their end
+-- the token of an id: its hex digits without the zeros at their end
 abbrev pub token_text : ℕ → List ℕ
-token_text id = without_end_zeros (hex_digits 16 id)
+token_text id = without_end_zeros (hex_digits most_digits id)
 
 -- what can be wrong with a text, in the order in which it is looked for
 abbrev pub faults : List ℕ → List (Bool × TokenFault)
 faults text =
-    (length text == 0, Empty) ∷ (nat_lt 16 (length text), TooLong) ∷ (not (is_hex text), NotHex)
+    (length text == 0, Empty) ∷ (nat_lt most_digits (length text), TooLong) ∷ (not (is_hex text), NotHex)
     ∷ (not (is_cell_id (filled_value text)), NotACell) ∷ []
 
 -- the first fault whose condition holds

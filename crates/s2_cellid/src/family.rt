@@ -1,7 +1,7 @@
 //! The cells of leaves and squares, and the cells above and below a cell.
 
 ghost use Rattle.std.specs.Prelude.{◌≡◌, ◌↔◌, ◌+◌, ◌-◌, ◌/◌, ◌<◌, ◌≤◌, IsTrue};
-ghost use Rattle.s2_hilbert.specs.Grid.{GridLeaf, IsLeaf, IsWithin, ShareSquare};
+ghost use Rattle.s2_hilbert.specs.Grid.{GridLeaf, IsLeaf, IsWithin, ShareSquare, leaf_level};
 ghost use Rattle.s2_hilbert.specs.Curve.{position_of, leaf_count};
 ghost use Rattle.s2_cellid.specs.Cell.{IsCellId, level_of, first_leaf};
 ghost use Rattle.s2_cellid.specs.Family.{leaf_id, cell_has_leaf, square_id, parent_id, child_id};
@@ -115,7 +115,7 @@ static LOWEST_BITS: [u64; 31] = [
 ];
 
 fn lowest_bit_for(level: u8) -> u64
-    requires { level ≤ 30 }
+    requires { level ≤ leaf_level }
     ensures { result ≡ leaf_count level }
 {
     LOWEST_BITS[level as usize]

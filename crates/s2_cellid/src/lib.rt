@@ -2,10 +2,10 @@
 //! and their tokens.
 #![tactic(auto)]
 
-ghost use Rattle.std.specs.Prelude.{◌≡◌, ◌↔◌, ◌≤◌, ◌<◌, ◌*◌, ◌^◌, ℕ, IsTrue};
+ghost use Rattle.std.specs.Prelude.{◌≡◌, ◌↔◌, ◌≤◌, ◌<◌, ◌+◌, ◌*◌, ◌^◌, ℕ, IsTrue};
 ghost use Rattle.std.specs.Int.{IsInRange};
 ghost use Rattle.std.specs.Option.{SomeIff};
-ghost use Rattle.s2_hilbert.specs.Grid.{GridLeaf, IsLeaf, ShareSquare};
+ghost use Rattle.s2_hilbert.specs.Grid.{GridLeaf, IsLeaf, ShareSquare, leaf_level};
 ghost use Rattle.s2_cellid.specs.Cell.{IsCellId, face_of, level_of, lowest_bit};
 ghost use Rattle.s2_cellid.specs.Cell.{first_leaf_id, last_leaf_id, leaf_id_at};
 ghost use Rattle.s2_cellid.specs.Cell.{first_leaf, last_leaf, cell_has};
@@ -14,8 +14,17 @@ ghost use Rattle.s2_cellid.specs.Family.{cell_has_leaf};
 mod family;
 mod tokens;
 
+use s2_hilbert::{FACES, LEAF_LEVEL};
 use std::marker::Model;
 pub use tokens::{Token, TokenFault};
+
+// The place of the lowest of the three bits of the face in an id.
+const FACE_PLACE: u32 = 61;
+
+// The constant is that of the definition: two bits for each level lie below the face, and one more.
+fn has_the_limit()
+    ensures { FACE_PLACE ≡ 2 * leaf_level + 1 }
+{}
 
 /// A cell, by its valid 64-bit id. Cells are ordered as their ids are, as unsigned numbers.
 #[derive(Clone, Copy, Debug, PartialEq, Eq, PartialOrd, Ord, Hash)]
@@ -42,7 +51,7 @@ impl CellId {
         ensures { SomeIff result (IsCellId id) id }
     {
         let lowest_place = id.trailing_zeros();
-        if id >> 61 < 6 && lowest_place % 2 == 0 && lowest_place <= 60 {
+        if face_of(id) < FACES && lowest_place % 2 == 0 && lowest_place < FACE_PLACE {
             Some(CellId { id })
         } else {
             None
@@ -64,7 +73,7 @@ impl CellId {
         ensures leaves { (leaf : GridLeaf) → IsLeaf leaf →
             IsTrue (cell_has_leaf self.now leaf) → leaf.face ≡ result }
     {
-        (self.id >> 61) as u8
+        face_of(self.id)
     }
 
     /// The level, from 0 for a whole face to 30 for a leaf.
@@ -77,7 +86,7 @@ impl CellId {
             IsTrue (cell_has_leaf self.now inner) →
             IsTrue (cell_has_leaf self.now leaf) ↔ ShareSquare result inner leaf }
     {
-        (30 - self.id.trailing_zeros() / 2) as u8
+        LEAF_LEVEL - (self.id.trailing_zeros() / 2) as u8
     }
 
     /// The position of the cell's first leaf among all leaves, counted from 0 in the order of
@@ -157,6 +166,13 @@ impl CellId {
     {
         self.first_leaf_id() <= id && id <= self.last_leaf_id()
     }
+}
+
+// The top three bits of an id.
+fn face_of(id: u64) -> u8
+    ensures { result ≡ face_of id }
+{
+    (id >> FACE_PLACE) as u8
 }
 
 #[cfg(test)]

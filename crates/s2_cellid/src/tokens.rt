@@ -5,7 +5,7 @@ ghost use Rattle.std.specs.Char.{digit_char, digit_value};
 ghost use Rattle.std.specs.List.{suffix_len};
 ghost use Rattle.std.specs.Option.{SomeIff};
 ghost use Rattle.s2_cellid.specs.Cell.{IsCellId};
-ghost use Rattle.s2_cellid.specs.Digits.{is_hex};
+ghost use Rattle.s2_cellid.specs.Digits.{is_hex, most_digits};
 ghost use Rattle.s2_cellid.specs.Token.{filled_value, IsSpelling, IsPrinted, read_token};
 ghost use Rattle.s2_cellid.specs.Token.{hex_digits, is_zero, token_text};
 
@@ -14,8 +14,13 @@ use std::error::Error;
 use std::marker::Model;
 use std::{fmt, str};
 
-/// The greatest number of digits in a token.
+// How many hex digits an id has.
 const DIGITS: usize = 16;
+
+// The constant is that of the definition.
+fn has_the_limit()
+    ensures { DIGITS ≡ most_digits }
+{}
 
 // Stands in `HEX_VALUES` for a byte that is no hex digit.
 const NO: u8 = 16;
@@ -154,9 +159,9 @@ impl CellId {
     }
 }
 
-// The 16 digits of an id.
+// The hex digits of an id.
 fn hex_digits(id: u64) -> [u8; DIGITS]
-    ensures { result ≡ hex_digits 16 id }
+    ensures { result ≡ hex_digits most_digits id }
 {
     let mut digits = [b'0'; DIGITS];
     for (place, digit) in digits.iter_mut().enumerate() {
@@ -179,7 +184,8 @@ fn hex_digit(value: u64) -> u8
 // How many digits of an id come before the zeros at their end.
 fn printed_length(id: u64) -> usize
     requires { IsCellId id }
-    ensures { result ≡ length (hex_digits 16 id) - suffix_len is_zero (hex_digits 16 id) }
+    ensures { result ≡ length (hex_digits most_digits id)
+        - suffix_len is_zero (hex_digits most_digits id) }
 {
     DIGITS - (id.trailing_zeros() / 4) as usize
 }
@@ -195,7 +201,7 @@ fn hex_value(byte: u8) -> Option<u8>
 // The number that the hex digits write, filled up with zeros on the right to 16 digits.
 fn filled_value(token: &[u8]) -> Option<u64>
     requires some { 0 < length token.now }
-    requires at_most { length token.now ≤ 16 }
+    requires at_most { length token.now ≤ most_digits }
     ensures { SomeIff result (IsTrue (is_hex token.now)) (filled_value token.now) }
 {
     let mut value = 0;

@@ -67,7 +67,12 @@ zeros_of (suc n) place fits within aligned =
     let whole : suc n ≡ suc n / 2 ^ place * 2 ^ place = omega (arith, div-add-mod' (suc n) (2 ^ place)) in
     elim (cases_lt (trailing_zeros w64 (suc n)) place) [
       | inl below ↦
-          absurd (omega (arith, bits.1, even_bit (suc n) (suc n / 2 ^ place) place (trailing_zeros w64 (suc n)) whole below))
+          absurd (omega (
+            arith,
+            bits.1,
+            even_bit (suc n) (suc n / 2 ^ place) place (trailing_zeros w64
+                (suc n)) whole below,
+          ))
       | inr above ↦ above
     ]
 
@@ -81,7 +86,8 @@ largest_fitting first last room limit ordered below low high limit_is =
     let fits : limit ≤ room = omega arith in
     let within : limit ≤ 60 = omega arith in
     let place = limit - limit % 2 in
-    let power : 2 ^ place ≤ 2 ^ room = pow-le-pow_right {n = 2} (omega arith) {i = place} {j = room} (omega arith) in
+    let power : 2 ^ place ≤ 2 ^ room = pow-le-pow_right {n = 2} (omega arith) {i = place} {j = room}
+    (omega arith) in
     record {
       is = record {
         even = omega arith;
@@ -93,7 +99,8 @@ largest_fitting first last room limit ordered below low high limit_is =
           let by_zeros = zeros_of first other (omega arith) is.at_most is.aligned in
           let by_room : other ≤ room = elim (cases_lt room other) [
             | inl less ↦
-                let up = pow-le-pow_right {n = 2} (omega arith) {i = room + 1} {j = other} (omega (arith, less)) in
+                let up = pow-le-pow_right {n = 2} (omega arith) {i = room + 1} {j = other} (omega
+                (arith, less)) in
                 absurd (omega (arith, up, pow-add 2 room 1, is.ends))
             | inr at_most ↦ at_most
           ] in
@@ -111,8 +118,14 @@ begun first last place below is =
     let level = 30 - place / 2 in
     let bits : 2 * (30 - level) ≡ place = omega (arith, is.even, is.at_most) in
     let count : leaf_count level ≡ 2 ^ place = power_of_four (30 - level) ∙ ap (λ n. 2 ^ n) bits in
-    let whole : first ≡ first / 2 ^ place * 2 ^ place = omega (arith, div-add-mod' first (2 ^ place), is.aligned) in
-    let bounded : 2 ^ place ≤ 2 ^ 60 = pow-le-pow_right {n = 2} (omega arith) {i = place} {j = 60} is.at_most in
+    let whole : first ≡ first / 2 ^ place * 2 ^ place = omega (
+      arith,
+      div-add-mod' first
+          (2 ^ place),
+      is.aligned,
+    ) in
+    let bounded : 2 ^ place ≤ 2 ^ 60 = pow-le-pow_right {n = 2}
+    (omega arith) {i = place} {j = 60} is.at_most in
     cell_of (id_from first place) level (first / 2 ^ place) (omega arith)
     (rw count (omega (arith, whole, is.ends, below))) (rw count (omega (arith, whole, bounded)))
 
@@ -126,12 +139,22 @@ largest_of first last place below fitting =
     let level = 30 - place / 2 in
     let bits : 2 * (30 - level) ≡ place = omega (arith, is.even, is.at_most) in
     let count : leaf_count level ≡ 2 ^ place = power_of_four (30 - level) ∙ ap (λ n. 2 ^ n) bits in
-    let whole : first ≡ first / 2 ^ place * 2 ^ place = omega (arith, div-add-mod' first (2 ^ place), is.aligned) in
+    let whole : first ≡ first / 2 ^ place * 2 ^ place = omega (
+      arith,
+      div-add-mod' first
+          (2 ^ place),
+      is.aligned,
+    ) in
     let lowest : 2 ^ lowest_place id ≡ 2 ^ place = cell.lowest_is ∙ count in
     let begins : first_leaf id ≡ first = cell.first_is ∙ ap (λ n. first / 2 ^ place * n) count ∙ sym whole in
     let place_is = same_place (lowest_place id) place lowest in
     record {
-      is = record { valid = cell.valid; begins = begins; ends = omega (arith, leaves.ended, begins, lowest, is.ends) };
+      is = record {
+        valid = cell.valid;
+        begins = begins;
+        ends = omega
+            (arith, leaves.ended, begins, lowest, is.ends);
+      };
       largest = λ other there.
           let other_leaves = has_leaves other there.valid in
           let other_place = place_of other there.valid in

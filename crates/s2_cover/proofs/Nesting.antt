@@ -147,7 +147,8 @@ parent_block id unit number bit q rest whole share is positive four split small 
     let low : (8 * q) * unit < (2 * number + 2) * unit = omega (arith, product, is, split, positive) in
     let low_count : 8 * q < 2 * number + 2 = lt_of_mul-lt-mul_right unit low in
     let from : (4 * q) * unit ≤ number * unit = mul-le-mul_right unit (omega (arith, low_count)) in
-    let high : (2 * number + 1) * unit < (8 * q + 8) * unit = omega (arith, product, is, split, small, four) in
+    let high : (2 * number + 1) * unit < (8 * q + 8) * unit = omega
+    (arith, product, is, split, small, four) in
     let high_count : 2 * number + 1 < 8 * q + 8 = lt_of_mul-lt-mul_right unit high in
     let to : (number + 1) * unit ≤ (4 * q + 4) * unit =
     mul-le-mul_right unit (omega (arith, high_count)) in

@@ -8,7 +8,8 @@ use Rattle.s2_hilbert.specs.QuadrantLaws.{below_four}
 abbrev pub even_mask : ℕ
 even_mask = 0x0f0f_0f0f
 
-masked : (n bits : ℕ) → even_mask / 2 ^ bits % 256 ≡ 15 → bit_and n even_mask / 2 ^ bits % 256 ≡ n / 2 ^ bits % 16
+masked : (n bits : ℕ) → even_mask / 2 ^ bits % 256 ≡ 15 → bit_and n even_mask / 2 ^ bits % 256
+    ≡ n / 2 ^ bits % 16
 masked n bits is =
     ap (λ x. x % 256) (and_shr n even_mask bits) ∙ and_mod (n / 2 ^ bits) (even_mask / 2 ^ bits) 8
     ∙ rw is (and_mask (n / 2 ^ bits % 256) 4 ∙ mod-mod-pow (n / 2 ^ bits) 4 4)
@@ -56,7 +57,8 @@ HasPairs i j pairs = (byte : ℕ) → byte < 4
 -- the digits at odd places of a number are those at even places of its sixteenth
 odd_pair : (i j odd byte : ℕ) → HasPairs (i / 2 ^ 4) (j / 2 ^ 4) odd → byte < 4
     → odd / 2 ^ (8 * byte) % 256 ≡ 16 * (i / 2 ^ (4 + 8 * byte) % 16) + j / 2 ^ (4 + 8 * byte) % 16
-odd_pair i j odd byte odd_is below = rw (← shr-shr i 4 (8 * byte), ← shr-shr j 4 (8 * byte)) (odd_is byte below)
+odd_pair i j odd byte odd_is below = rw (← shr-shr i 4 (8 * byte), ← shr-shr j 4 (8 * byte))
+    (odd_is byte below)
 
 below_eight : (P : ℕ → Type 0) → P 0 → P 1 → P 2 → P 3 → P 4 → P 5 → P 6 → P 7 → (n : ℕ) → n < 8 → P n
 below_eight P a b c d e f g h zero below = a
@@ -66,7 +68,8 @@ below_eight P a b c d e f g h (suc (suc (suc zero))) below = d
 below_eight P a b c d e f g h (suc (suc (suc (suc n)))) below =
     below_four (λ k. P (suc (suc (suc (suc k))))) e f g h n (omega arith)
 
-pub paired_at : (i j even odd digit : ℕ) → HasPairs i j even → HasPairs (i / 2 ^ 4) (j / 2 ^ 4) odd → digit < 8
+pub paired_at : (i j even odd digit : ℕ) → HasPairs i j even → HasPairs (i / 2 ^ 4) (j / 2 ^ 4) odd
+    → digit < 8
     → slice_index (even ∷ odd ∷ []) (digit % 2) / 2 ^ (8 * (digit / 2)) % 256
     ≡ 16 * (i / 2 ^ (4 * digit) % 16) + j / 2 ^ (4 * digit) % 16
 paired_at i j even odd digit even_is odd_is below =

@@ -40,7 +40,8 @@ pub record IsKey (row pair key : ℕ) : Type 0 where
   pub low : key % 16 ≡ pair % 16
   pub pair_is : key % 256 ≡ pair
 
-pub is_key : (row pair : ℕ) → row ≡ 256 * (row / 256) → row / 256 < 4 → pair < 256 → IsKey row pair (row + pair)
+pub is_key : (row pair : ℕ) → row ≡ 256 * (row / 256) → row / 256 < 4 → pair < 256 → IsKey row pair
+    (row + pair)
 is_key row pair row_is row_below pair_below = record {
   below = omega arith;
   turn_is = omega arith;
@@ -54,7 +55,8 @@ pub fours_begin : (turn i j first half second whole : ℕ) → turn < 4
     → second ≡ place_of half (quadrant_of 28 i j) → whole ≡ turned half second
     → HasFours turn i j 0 (256 * whole) (4 * first + second)
 fours_begin turn i j first half second whole below first_is half_is second_is whole_is =
-    let one = walk_goes_on 30 turn i j 0 turn 0 29 first (omega arith) refl first_is (walk_begins 30 turn i j below) in
+    let one = walk_goes_on 30 turn i j 0 turn 0 29 first (omega arith) refl first_is
+    (walk_begins 30 turn i j below) in
     let plain : 4 * 0 + first ≡ first = omega arith in
     let one' = rw (plain, ← half_is) at one in
     let two = walk_goes_on 30 turn i j 1 half first 28 second (omega arith) refl second_is one' in
@@ -86,7 +88,8 @@ fours_go_on turn i j step row along digit pair place' row' sum pair_is pair_belo
     }
 
 -- one more step fits
-pub fours_fit : (turn i j step row along : ℕ) → step < 7 → HasFours turn i j step row along → 256 * along + 256 ≤ 2 ^ 60
+pub fours_fit : (turn i j step row along : ℕ) → step < 7 → HasFours turn i j step row along
+    → 256 * along + 256 ≤ 2 ^ 60
 fours_fit turn i j step row along inside fours =
     let within : 2 + 4 * step ≤ 26 = omega arith in
     let power : 4 ^ (2 + 4 * step) ≤ 4 ^ 26 = pow-le-pow_right (omega arith) within in
@@ -134,8 +137,10 @@ pub found_begin : (turn along first half second whole outer inner : ℕ) → tur
     → first ≡ along / 4 ^ 29 % 4 → half ≡ turned turn first → outer ≡ quadrant_at turn first
     → second ≡ along / 4 ^ 28 % 4 → whole ≡ turned half second → inner ≡ quadrant_at half second
     → HasFoundFours turn along 0 (256 * whole) (2 * (outer / 2) + inner / 2) (2 * (outer % 2) + inner % 2)
-found_begin turn along first half second whole outer inner turn_low along_low first_is half_is outer_is second_is whole_is inner_is =
-    let one = search_goes_on turn along 0 turn 0 0 first (omega arith) first_is (search_begins turn along turn_low along_low) in
+found_begin turn along first half second whole outer inner turn_low along_low first_is half_is outer_is
+    second_is whole_is inner_is =
+    let one = search_goes_on turn along 0 turn 0 0 first (omega arith) first_is
+    (search_begins turn along turn_low along_low) in
     let i : 2 * 0 + outer / 2 ≡ outer / 2 = omega arith in
     let j : 2 * 0 + outer % 2 ≡ outer % 2 = omega arith in
     let one' = rw (← outer_is, i, j, ← half_is) at one in
@@ -157,7 +162,8 @@ found_go_on turn along step row i j low pair i4 j4 row' sum pair_is place_is i4_
     let key = is_key row pair fours.row_is fours.found.turn_below pair_below in
     let place_is' = rw (key.turn_is, key.pair_is, pair_is) at place_is in
     let row_is' = rw key.turn_is at row_is in
-    let next = found_four turn along (2 + 4 * step) (row / 256) i j i4 j4 (4 * low) (omega arith) place_is' i4_below j4_below fours.found in
+    let next = found_four turn along (2 + 4 * step) (row / 256) i j i4 j4 (4 * low)
+    (omega arith) place_is' i4_below j4_below fours.found in
     let levels : 2 + 4 * (step + 1) ≡ 2 + 4 * step + 4 = omega arith in
     let turn_is : row' / 256 ≡ turn_at 4 (row / 256) i4 j4 = omega (arith, row_is') in
     record {
@@ -165,7 +171,8 @@ found_go_on turn along step row i j low pair i4 j4 row' sum pair_is place_is i4_
       found = rw (levels, turn_is) next;
     }
 
-pub found_fit : (turn along step row i j : ℕ) → step < 7 → HasFoundFours turn along step row i j → (i < 2 ^ 26) × (j < 2 ^ 26)
+pub found_fit : (turn along step row i j : ℕ) → step < 7 → HasFoundFours turn along step row i j
+    → (i < 2 ^ 26) × (j < 2 ^ 26)
 found_fit turn along step row i j inside fours =
     let within : 2 + 4 * step ≤ 26 = omega arith in
     let power : 2 ^ (2 + 4 * step) ≤ 2 ^ 26 = pow-le-pow_right (omega arith) within in

@@ -13,8 +13,10 @@ unfoldable all_fit : {X : Type 0} → (ℕ → X → Bool) → ℕ → List X �
 all_fit fits key [] = true
 all_fit fits key (entry ∷ entries) = fits key entry && all_fit fits (suc key) entries
 
-fits_at : {X : Type 0} (fits : ℕ → X → Bool) (first key n : ℕ) (entries : List X) (default : X) → key ≡ first + n
-    → IsTrue (all_fit fits first entries) → n < length entries → IsTrue (fits key (slice_index_or entries n default))
+fits_at : {X : Type 0} (fits : ℕ → X → Bool) (first key n : ℕ) (entries : List X) (default : X) → key
+    ≡ first + n
+    → IsTrue (all_fit fits first entries) → n < length entries → IsTrue (fits key
+    (slice_index_or entries n default))
 unfolding all_fit
 fits_at fits first key n [] default sum all below = absurd (omega arith)
 fits_at fits first key zero (entry ∷ entries) default sum all below =
@@ -56,7 +58,8 @@ is_place_entry key entry fits = record {
   below = grind (arith, nat_tests);
 }
 
-pub place_entry : (key : ℕ) (default : FourPlaces) → key < 1024 → IsPlaceEntry key (slice_index_or PLACES key default)
+pub place_entry : (key : ℕ) (default : FourPlaces) → key < 1024 → IsPlaceEntry key
+    (slice_index_or PLACES key default)
 place_entry key default below =
     is_place_entry key (slice_index_or PLACES key default)
     (fits_at place_fits 0 key key PLACES default (omega arith) all_places_fit below)
@@ -77,7 +80,8 @@ is_point_entry key entry fits = record {
   j_below = grind (arith, nat_tests);
 }
 
-pub point_entry : (key : ℕ) (default : FourPoints) → key < 1024 → IsPointEntry key (slice_index_or POINTS key default)
+pub point_entry : (key : ℕ) (default : FourPoints) → key < 1024 → IsPointEntry key
+    (slice_index_or POINTS key default)
 point_entry key default below =
     is_point_entry key (slice_index_or POINTS key default)
     (fits_at point_fits 0 key key POINTS default (omega arith) all_points_fit below)

@@ -24,12 +24,14 @@ pub record ChildFacts (parent child : GridSquare) (k : ℕ) : Type 0 where
   pub turn_is : turned (turn_of parent) k ≡ turn_of child
   pub first_is : first_position child ≡ first_position parent + k * leaf_count child.level
 
-quarters : (first place k count : ℕ) → first + (4 * place + k) * count ≡ first + place * (4 * count) + k * count
+quarters : (first place k count : ℕ) → first + (4 * place + k) * count ≡ first + place *
+    (4 * count) + k * count
 quarters first place k count = omega arith
 
 pub child_facts : (face level a b k quadrant : ℕ) → level < 30 → IsSquare (grid_square face level a b)
     → k < 4 → quadrant ≡ quadrant_at (turn_of (grid_square face level a b)) k
-    → ChildFacts (grid_square face level a b) (grid_square face (level + 1) (2 * a + quadrant / 2) (2 * b + quadrant % 2)) k
+    → ChildFacts (grid_square face level a b) (grid_square face (level + 1) (2 * a + quadrant / 2)
+    (2 * b + quadrant % 2)) k
 unfolding turn_of first_position
 child_facts face level a b k quadrant below is k_below quadrant_is =
     let turn = turn_at level (face % 2) a b in
@@ -62,17 +64,23 @@ child_facts face level a b k quadrant below is k_below quadrant_is =
 pub child_leaves : (parent child : GridSquare) (k : ℕ) (leaf : GridLeaf) → IsSquare parent → IsSquare child
     → IsLeaf leaf → k < 4 → parent.level < 30 → child.level ≡ parent.level + 1
     → first_position child ≡ first_position parent + k * leaf_count child.level
-    → IsWithin leaf child ↔ (IsWithin leaf parent × ((position_of leaf - first_position parent) / leaf_count child.level ≡ k))
+    → IsWithin leaf child ↔ (IsWithin leaf parent
+    × ((position_of leaf - first_position parent) / leaf_count child.level ≡ k))
 child_leaves parent child k leaf parent_is child_is leaf_is k_below inside level_is first_is =
     let count = leaf_count child.level in
     let positive : 0 < count = four_pow_pos (30 - child.level) in
-    let counts : leaf_count parent.level ≡ 4 * count = quarter_count parent.level inside ∙ ap (λ l. 4 * leaf_count l) (sym level_is) in
+    let counts : leaf_count parent.level ≡ 4 * count = quarter_count parent.level inside ∙ ap
+    (λ l. 4 * leaf_count l) (sym level_is) in
     let product : (k + 1) * count ≤ 4 * count = mul-le (k + 1) count 4 count (omega arith) (omega arith) in
     let in_child = square_leaves leaf child leaf_is child_is in
     let in_parent = square_leaves leaf parent leaf_is parent_is in
     let quarter = quotient_range (position_of leaf - first_position parent) count k positive in (
       λ within. let range = in_child.0 within in (
-        in_parent.1 (omega (arith, range, first_is), omega (arith, range, first_is, counts, product, positive)),
+        in_parent.1 (
+          omega (arith, range, first_is),
+          omega
+              (arith, range, first_is, counts, product, positive),
+        ),
         quarter.1 (omega (arith, range, first_is), omega (arith, range, first_is)),
       ),
       λ both. let range = in_parent.0 both.0 in
@@ -81,7 +89,8 @@ child_leaves parent child k leaf parent_is child_is leaf_is k_below inside level
     )
 
 -- the leaves along a side of a square lie within the face
-pub side_room : (level coordinate : ℕ) → level ≤ 30 → coordinate < 2 ^ level → coordinate * side_of level + side_of level ≤ 2 ^ 30
+pub side_room : (level coordinate : ℕ) → level ≤ 30 → coordinate < 2 ^ level
+    → coordinate * side_of level + side_of level ≤ 2 ^ 30
 side_room level coordinate at_most below =
     let sum : 30 ≡ level + (30 - level) = omega arith in
     let whole : 2 ^ 30 ≡ 2 ^ level * side_of level = ap (λ n. 2 ^ n) sum ∙ pow-add 2 level (30 - level) in
@@ -93,4 +102,9 @@ pub side_positive : (level : ℕ) → 0 < side_of level
 side_positive level = pow_pos (30 - level)
 
 pub face_square : (face : ℕ) → face < 6 → IsSquare (grid_square face 0 0 0)
-face_square face below = record { face_below = below; level_at_most = omega arith; a_below = omega arith; b_below = omega arith }
+face_square face below = record {
+  face_below = below;
+  level_at_most = omega arith;
+  a_below = omega arith;
+  b_below = omega arith;
+}

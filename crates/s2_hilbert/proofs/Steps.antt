@@ -61,8 +61,19 @@ walk_goes_on levels turn i j step at along bit next inside bit_is next_is walked
     let above : levels - step ≡ bit + 1 = omega arith in
     let here : levels - (step + 1) ≡ bit = omega arith in
     let last = has_last step turn (i / 2 ^ bit) (j / 2 ^ bit) in
-    let places = rw (half i bit (levels - step) above, half j bit (levels - step) above, ← walked.turn_is, ← walked.place_is) at last.places in
-    let turns = rw (half i bit (levels - step) above, half j bit (levels - step) above, ← walked.turn_is) at last.turns in
+    let places = rw (
+      half i bit (levels - step) above,
+      half j bit
+          (levels - step) above,
+      ← walked.turn_is,
+      ← walked.place_is,
+    ) at last.places in
+    let turns = rw (
+      half i bit (levels - step) above,
+      half j bit
+          (levels - step) above,
+      ← walked.turn_is,
+    ) at last.turns in
     let facts = is_quadrant at (quadrant_of bit i j) walked.turn_below (quadrant_below bit i j) in
     let next_below : next < 4 = omega (arith, facts.place_below) in
     let power : 4 ^ (step + 1) ≡ 4 * 4 ^ step = pow-add 4 step 1 ∙ omega arith in
@@ -73,7 +84,8 @@ walk_goes_on levels turn i j step at along bit next inside bit_is next_is walked
       place_below = rw power (omega (arith, walked.place_below));
     }
 
-pub walk_ends : (levels turn i j at along : ℕ) → HasWalked levels turn i j levels at along → along ≡ place levels turn i j
+pub walk_ends : (levels turn i j at along : ℕ) → HasWalked levels turn i j levels at along → along
+    ≡ place levels turn i j
 walk_ends levels turn i j at along walked =
     let none : levels - levels ≡ 0 = omega arith in
     let i_is : i / 2 ^ 0 ≡ i = omega arith in
@@ -105,16 +117,25 @@ pub record HasFound (turn along step at i j : ℕ) : Type 0 where
 pub search_begins : (turn along : ℕ) → turn < 4 → along < 4 ^ 30 → HasFound turn along 0 turn 0 0
 unfolding place turn_at
 search_begins turn along turn_below below =
-    record { turn_is = refl; turn_below = turn_below; place_is = omega arith; i_below = omega arith; j_below = omega arith }
+    record {
+      turn_is = refl;
+      turn_below = turn_below;
+      place_is = omega arith;
+      i_below = omega arith;
+      j_below
+          = omega arith;
+    }
 
-pub digit_is : (along bits step : ℕ) → step < 30 → bits ≡ 2 * (30 - 1 - step) → bit_and (along / 2 ^ bits) 3 ≡ along / 4 ^ (29 - step) % 4
+pub digit_is : (along bits step : ℕ) → step < 30 → bits ≡ 2 * (30 - 1 - step) → bit_and (along / 2 ^ bits) 3
+    ≡ along / 4 ^ (29 - step) % 4
 digit_is along bits step inside bits_is =
     let same : bits ≡ 2 * (29 - step) = omega arith in
     rw (same, ← power_of_four (29 - step)) (and_mask (along / 4 ^ (29 - step)) 2)
 
 pub search_goes_on : (turn along step at i j next : ℕ) → step < 30
     → next ≡ along / 4 ^ (29 - step) % 4 → HasFound turn along step at i j
-    → HasFound turn along (step + 1) (turned at next) (2 * i + quadrant_at at next / 2) (2 * j + quadrant_at at next % 2)
+    → HasFound turn along (step + 1) (turned at next) (2 * i + quadrant_at at next / 2)
+    (2 * j + quadrant_at at next % 2)
 search_goes_on turn along step at i j next inside next_is found =
     let next_below : next < 4 = omega arith in
     let facts = is_place at next found.turn_below next_below in
@@ -127,7 +148,8 @@ search_goes_on turn along step at i j next inside next_is found =
     let quadrant : last_quadrant i' j' ≡ q = omega arith in
     let last = has_last step turn i' j' in
     let turns = rw (i_half, j_half, quadrant, ← found.turn_is, facts.undone) at last.turns in
-    let places = rw (i_half, j_half, quadrant, ← found.turn_is, facts.undone, found.place_is) at last.places in
+    let places = rw (i_half, j_half, quadrant, ← found.turn_is, facts.undone, found.place_is) at last.places
+    in
     let above : 30 - step ≡ 29 - step + 1 = omega arith in
     let here : 30 - (step + 1) ≡ 29 - step = omega arith in
     let digits : 4 * (along / 4 ^ (30 - step)) + next ≡ along / 4 ^ (29 - step) =
@@ -144,7 +166,8 @@ search_goes_on turn along step at i j next inside next_is found =
 pub search_ends : (turn along at i j : ℕ) → HasFound turn along 30 at i j → place 30 turn i j ≡ along
 search_ends turn along at i j found = found.place_is ∙ omega arith
 
-pub search_fits : (turn along step at i j : ℕ) → step < 30 → HasFound turn along step at i j → (i < 2 ^ 29) × (j < 2 ^ 29)
+pub search_fits : (turn along step at i j : ℕ) → step < 30 → HasFound turn along step at i j → (i < 2 ^ 29)
+    × (j < 2 ^ 29)
 search_fits turn along step at i j inside found =
     let within : step ≤ 29 = omega arith in
     let power : 2 ^ step ≤ 2 ^ 29 = pow-le-pow_right (omega arith) within in

@@ -25,11 +25,13 @@ position_is leaf = refl
 pub position_below : (leaf : GridLeaf) → IsLeaf leaf → position_of leaf < 6 * 2 ^ 60
 position_below leaf is = omega (arith, place_on_face_below leaf, position_is leaf, is.face_below)
 
-same_leaf_by : (one other : GridLeaf) → one.face ≡ other.face → one.i ≡ other.i → one.j ≡ other.j → one ≡ other
+same_leaf_by : (one other : GridLeaf) → one.face ≡ other.face → one.i ≡ other.i → one.j ≡ other.j → one
+    ≡ other
 same_leaf_by one other face i j = λ k. record { face = face k; i = i k; j = j k }
 
 -- two leaves of one position are one leaf
-pub same_leaf : (one other : GridLeaf) → IsLeaf one → IsLeaf other → position_of one ≡ position_of other → one ≡ other
+pub same_leaf : (one other : GridLeaf) → IsLeaf one → IsLeaf other → position_of one ≡ position_of other
+    → one ≡ other
 same_leaf one other one_is other_is same =
     let sums : one.face * 2 ^ 60 + place_on_face one ≡ other.face * 2 ^ 60 + place_on_face other =
     sym (position_is one) ∙ same ∙ position_is other in
@@ -73,10 +75,12 @@ powers level below =
 pub record IsInSquare (level : ℕ) (leaf : GridLeaf) (low : ℕ) : Type 0 where
   pub low_below : low < leaf_count level
   pub position : position_of leaf
-      ≡ (leaf.face * 4 ^ level + place level (leaf.face % 2) (leaf.i / side_of level) (leaf.j / side_of level))
+      ≡ (leaf.face * 4 ^ level + place level (leaf.face % 2) (leaf.i / side_of level)
+      (leaf.j / side_of level))
       * leaf_count level + low
 
-joined : (face p low levels count : ℕ) → face * (levels * count) + (p * count + low) ≡ (face * levels + p) * count + low
+joined : (face p low levels count : ℕ) → face * (levels * count) + (p * count + low) ≡
+    (face * levels + p) * count + low
 joined face p low levels count = omega arith
 
 -- the place of a leaf within its square of a level
@@ -90,13 +94,15 @@ in_square level leaf below =
     let sum : 30 ≡ level + (30 - level) = omega arith in
     let split = split_at level (30 - level) 30 (leaf.face % 2) leaf.i leaf.j sum in
     let turn = turn_at level (leaf.face % 2) (leaf.i / side_of level) (leaf.j / side_of level) in
-    let turn_low : turn < 4 = turn_below level (leaf.face % 2) (leaf.i / side_of level) (leaf.j / side_of level) (omega arith) in
+    let turn_low : turn < 4 = turn_below level (leaf.face % 2) (leaf.i / side_of level)
+    (leaf.j / side_of level) (omega arith) in
     let above = place level (leaf.face % 2) (leaf.i / side_of level) (leaf.j / side_of level) in
     record {
       low_below = place_below (30 - level) turn (leaf.i % side_of level) (leaf.j % side_of level) turn_low;
       position = position_is leaf
           ∙ ap (λ p. leaf.face * 2 ^ 60 + p) split.places
-          ∙ ap (λ n. leaf.face * n + (above * leaf_count level + place_within level leaf)) (sym (powers level below))
+          ∙ ap (λ n. leaf.face * n + (above * leaf_count level + place_within level leaf)) (sym
+          (powers level below))
           ∙ joined leaf.face above (place_within level leaf) (4 ^ level) (leaf_count level);
     }
 
@@ -108,7 +114,8 @@ pub first_is : (square : GridSquare) → square.level ≤ 30
     → first_position square ≡ square_number square * leaf_count square.level
 unfolding first_position
 first_is square below =
-    ap (λ n. square.face * n + square_place square * leaf_count square.level) (sym (powers square.level below))
+    ap (λ n. square.face * n + square_place square * leaf_count square.level) (sym
+    (powers square.level below))
     ∙ regrouped square.face (square_place square) (4 ^ square.level) (leaf_count square.level)
   where
     regrouped : (face p levels count : ℕ) → face * (levels * count) + p * count ≡ (face * levels + p) * count
@@ -133,17 +140,21 @@ within_number : (leaf : GridLeaf) (square : GridSquare) → IsLeaf leaf → IsSq
 within_number leaf square leaf_is square_is same =
     let i = leaf.i / side_of square.level in
     let j = leaf.j / side_of square.level in
-    let parts = same_from_place leaf.face (place square.level (leaf.face % 2) i j) square.face (square_place square)
+    let parts = same_from_place leaf.face (place square.level (leaf.face % 2) i j) square.face
+    (square_place square)
     (4 ^ square.level) (place_below square.level (leaf.face % 2) i j (omega arith))
     (place_below square.level (square.face % 2) square.a square.b (omega arith)) same in
-    let places : place square.level (leaf.face % 2) i j ≡ place square.level (leaf.face % 2) square.a square.b =
+    let places : place square.level (leaf.face % 2) i j ≡ place square.level
+    (leaf.face % 2) square.a square.b =
     parts.1 ∙ ap (λ f. place square.level (f % 2) square.a square.b) (sym parts.0) in
     let point = same_point square.level (leaf.face % 2) i j square.a square.b (omega arith) places in
     record {
       on_face = parts.0;
-      i_within = sym (mod-eq_of_lt (coordinate_below leaf.i square.level square_is.level_at_most leaf_is.i_below))
+      i_within = sym (mod-eq_of_lt (coordinate_below leaf.i square.level square_is.level_at_most
+          leaf_is.i_below))
           ∙ point.0 ∙ mod-eq_of_lt square_is.a_below;
-      j_within = sym (mod-eq_of_lt (coordinate_below leaf.j square.level square_is.level_at_most leaf_is.j_below))
+      j_within = sym (mod-eq_of_lt (coordinate_below leaf.j square.level square_is.level_at_most
+          leaf_is.j_below))
           ∙ point.1 ∙ mod-eq_of_lt square_is.b_below;
     }
 
@@ -154,8 +165,10 @@ square_leaves leaf square leaf_is square_is =
     let count = leaf_count square.level in
     let first = first_is square square_is.level_at_most in
     let round = in_square square.level leaf square_is.level_at_most in (
-      λ within. let position : position_of leaf ≡ square_number square * count + place_within square.level leaf =
-          round.position ∙ ap (λ n. n * count + place_within square.level leaf) (number_within leaf square within) in
+      λ within. let position : position_of leaf
+          ≡ square_number square * count + place_within square.level leaf =
+          round.position ∙ ap (λ n. n * count + place_within square.level leaf)
+          (number_within leaf square within) in
           (omega (arith, first, position), omega (arith, first, position, round.low_below)),
       λ range. let low = position_of leaf - first_position square in
           let low_below : low < count = omega (arith, range, four_pow_pos (30 - square.level)) in
@@ -180,7 +193,8 @@ pub record IsFound (position : ℕ) (leaf : GridLeaf) : Type 0 where
   pub only : (other : GridLeaf) → IsLeaf other → position_of other ≡ position → other ≡ leaf
 
 pub found_at : (position i j : ℕ) → position < 6 * 2 ^ 60 → i < 2 ^ 30 → j < 2 ^ 30
-    → place 30 (position / 2 ^ 60 % 2) i j ≡ position % 2 ^ 60 → IsFound position (grid_leaf (position / 2 ^ 60) i j)
+    → place 30 (position / 2 ^ 60 % 2) i j ≡ position % 2 ^ 60 → IsFound position (grid_leaf
+    (position / 2 ^ 60) i j)
 found_at position i j below i_below j_below place_is =
     let leaf = grid_leaf (position / 2 ^ 60) i j in
     let is : IsLeaf leaf = record { face_below = omega arith; i_below = i_below; j_below = j_below } in
@@ -188,6 +202,7 @@ found_at position i j below i_below j_below place_is =
     record {
       is = is;
       undone = undone;
-      value = same_leaf leaf (grid_leaf_at position) is (leaf_is position below) (undone ∙ sym (position_undone position));
+      value = same_leaf leaf (grid_leaf_at position) is (leaf_is position below) (undone ∙ sym
+          (position_undone position));
       only = λ other other_is at. same_leaf other leaf other_is is (at ∙ sym undone);
     }

@@ -27,7 +27,8 @@ pub next_below : (n turn i j : ℕ) → turn < 4 → next_place n turn i j < 4
 next_below n turn i j below = (is_quadrant turn (quadrant_of n i j) below (quadrant_below n i j)).place_below
 
 pub next_turned : (n turn i j : ℕ) → turn < 4 → turned turn (next_place n turn i j) < 4
-next_turned n turn i j below = (is_place turn (next_place n turn i j) below (next_below n turn i j below)).turned_below
+next_turned n turn i j below = (is_place turn (next_place n turn i j) below
+    (next_below n turn i j below)).turned_below
 
 digit_below : (p w r : ℕ) → p < 4 → r < w → p * w + r < w * 4
 digit_below p w r p_below r_below = mul-add-lt p w r 4 p_below r_below
@@ -36,7 +37,8 @@ pub place_below : (n turn i j : ℕ) → turn < 4 → place n turn i j < 4 ^ n
 unfolding place
 place_below zero turn i j below = omega arith
 place_below (suc n) turn i j below =
-    let rest = place_below n (turned turn (next_place n turn i j)) (i % 2 ^ n) (j % 2 ^ n) (next_turned n turn i j below) in
+    let rest = place_below n (turned turn (next_place n turn i j)) (i % 2 ^ n) (j % 2 ^ n)
+    (next_turned n turn i j below) in
     let whole : 4 ^ suc n ≡ 4 ^ n * 4 = pow-suc 4 n in
     rw whole (digit_below (next_place n turn i j) (4 ^ n) _ (next_below n turn i j below) rest)
 
@@ -166,7 +168,8 @@ bit_over : (bit width low : ℕ) → bit < 2 → low < width → IsBitOver bit w
 bit_over bit width low bit_below low_below =
     let high : (bit * width + low) / width ≡ bit = div-mul-add bit width low low_below in
     record {
-      below = let sum : bit * width + low < width * 2 = mul-add-lt bit width low 2 bit_below low_below in omega (arith, sum);
+      below = let sum : bit * width + low < width * 2 = mul-add-lt bit width low 2 bit_below low_below in
+          omega (arith, sum);
       high = rw high (omega arith);
       rest = mod-mul-add bit width low low_below;
     }
@@ -179,7 +182,11 @@ pub record IsPoint (n turn along : ℕ) : Type 0 where
 
 pub is_point : (n turn along : ℕ) → turn < 4 → along < 4 ^ n → IsPoint n turn along
 unfolding place i_at j_at
-is_point zero turn along turn_below along_below = record { i_below = omega arith; j_below = omega arith; undone = omega arith }
+is_point zero turn along turn_below along_below = record {
+  i_below = omega arith;
+  j_below = omega arith;
+  undone = omega arith;
+}
 is_point (suc n) turn along turn_below below =
     let p = along / 4 ^ n in
     let p_below : p < 4 = along_below n along below in
@@ -195,7 +202,8 @@ is_point (suc n) turn along turn_below below =
     record {
       i_below = rw power i.below;
       j_below = rw power j.below;
-      undone = rw (i.high, j.high, i.rest, j.rest, bits, step.undone, rest.undone) (div-add-mod' along (4 ^ n));
+      undone = rw (i.high, j.high, i.rest, j.rest, bits, step.undone, rest.undone) (div-add-mod' along
+          (4 ^ n));
     }
 
 -- two bits of a position for each level

@@ -15,7 +15,8 @@ below_four P a b c d (suc (suc (suc (suc n)))) below = absurd (omega arith)
 -- the place has a quadrant, and that quadrant has this place
 unfoldable pub place_fits : ℕ → ℕ → Bool
 place_fits turn place =
-    nat_lt (quadrant_at turn place) 4 && (place_of turn (quadrant_at turn place) == place && nat_lt (turned turn place) 4)
+    nat_lt (quadrant_at turn place) 4 && (place_of turn (quadrant_at turn place) == place && nat_lt
+    (turned turn place) 4)
 
 -- the quadrant has a place, and that place has this quadrant
 unfoldable pub quadrant_fits : ℕ → ℕ → Bool

@@ -22,7 +22,8 @@ pub record HasPositions (square : GridSquare) : Type 0 where
 pub has_positions : (square : GridSquare) → IsSquare square → HasPositions square
 has_positions square is =
     let below = place_below square.level (square.face % 2) square.a square.b (omega arith) in
-    let products : (square_place square + 1) * leaf_count square.level ≤ 4 ^ square.level * leaf_count square.level =
+    let products : (square_place square + 1) * leaf_count square.level ≤ 4 ^ square.level * leaf_count
+    square.level =
     mul-le (square_place square + 1) (leaf_count square.level) (4 ^ square.level) (leaf_count square.level)
     (omega (arith, below)) (omega arith) in
     let room : square_place square * leaf_count square.level + leaf_count square.level ≤ 2 ^ 60 =
@@ -40,9 +41,11 @@ quarter_count level below =
     ap (λ n. 4 ^ n) sum ∙ pow-add 4 (30 - (level + 1)) 1 ∙ omega arith
 
 -- the numbers of a quotient
-pub quotient_range : (n count k : ℕ) → 0 < count → (n / count ≡ k) ↔ IsInRange (k * count) (k * count + (count - 1)) n
+pub quotient_range : (n count k : ℕ) → 0 < count → (n / count ≡ k) ↔ IsInRange (k * count) (k * count +
+    (count - 1)) n
 quotient_range n count k positive = (
-  λ is. let split : k * count + n % count ≡ n = subst (λ q. q * count + n % count ≡ n) is (div-add-mod' n count) in
+  λ is. let split : k * count + n % count ≡ n = subst (λ q. q * count + n % count ≡ n) is
+      (div-add-mod' n count) in
       let low : n % count < count = mod_below n count positive in
       (omega (arith, split), omega (arith, split, low)),
   λ range. let low = n - k * count in
@@ -71,7 +74,8 @@ share_square one other square within = (
 abbrev pub square_round : ℕ → GridLeaf → GridSquare
 square_round level leaf = grid_square leaf.face level (leaf.i / side_of level) (leaf.j / side_of level)
 
-square_round_is : (level : ℕ) (leaf : GridLeaf) → level ≤ 30 → IsLeaf leaf → IsSquare (square_round level leaf)
+square_round_is : (level : ℕ) (leaf : GridLeaf) → level ≤ 30 → IsLeaf leaf → IsSquare
+    (square_round level leaf)
 square_round_is level leaf at_most is = record {
   face_below = is.face_below;
   level_at_most = at_most;
@@ -86,14 +90,20 @@ square_quotient leaf square is square_is =
     let positive = four_pow_pos (30 - square.level) in
     let first = first_is square square_is.level_at_most in
     let range = square_leaves leaf square is square_is in
-    let quotient = quotient_range (position_of leaf) (leaf_count square.level) (square_number square) positive in (
-      λ within. let ends = range.0 within in quotient.1 (omega (arith, ends, first), omega (arith, ends, first)),
+    let quotient = quotient_range (position_of leaf) (leaf_count square.level)
+    (square_number square) positive in (
+      λ within. let ends = range.0 within in quotient.1 (
+        omega (arith, ends, first),
+        omega
+            (arith, ends, first),
+      ),
       λ same. let ends = quotient.0 same in range.1 (omega (arith, ends, first), omega (arith, ends, first)),
     )
 
 -- two leaves lie in one square of a level exactly where their positions have one quotient
 pub same_square : (level : ℕ) (one other : GridLeaf) → level ≤ 30 → IsLeaf one → IsLeaf other
-    → ShareSquare level one other ↔ (position_of one / leaf_count level ≡ position_of other / leaf_count level)
+    → ShareSquare level one other ↔ (position_of one / leaf_count level
+    ≡ position_of other / leaf_count level)
 same_square level one other at_most one_is other_is =
     let square = square_round level one in
     let square_is = square_round_is level one at_most one_is in

@@ -7,7 +7,8 @@ use Rattle.s2_cellid.proofs.CellId.child.Goals as goal
 
 pub overflow_sub-result : goal.overflow_sub-result
 overflow_sub-result c =
-    rw (c.lowest_bit-lowest_bit.ensures, ← c.self.view_is) (ends_of c.self.inside.id c.self.invariant).unit_within
+    rw (c.lowest_bit-lowest_bit.ensures, ← c.self.view_is)
+    (ends_of c.self.inside.id c.self.invariant).unit_within
 
 pub overflow_add-result-2 : goal.overflow_add-result-2
 overflow_add-result-2 c =
@@ -32,7 +33,8 @@ pub returns-clause-leaves : goal.returns-clause-leaves
 returns-clause-leaves c =
     let below : level_of c.self.inside.id < 30 = rw (← c.self.view_is) at c.requires.level in
     rw (c.lowest_bit-lowest_bit.ensures, c.from.ensures, ← c.self.view_is)
-    (λ leaf is. child_cell_has c.args.k c.self.inside.id (position_of leaf) c.self.invariant c.requires.k below)
+    (λ leaf is. child_cell_has c.args.k c.self.inside.id
+    (position_of leaf) c.self.invariant c.requires.k below)
 
 pub returns-clause-valid : goal.returns-clause-valid
 returns-clause-valid c = invariant_of-result c

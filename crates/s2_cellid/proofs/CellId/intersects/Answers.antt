@@ -4,7 +4,8 @@ use Rattle.s2_cellid.specs.BlockLaws.{shared_leaf, ranges_meet}
 use Rattle.s2_cellid.specs.FamilyLaws.{some_leaf}
 use Rattle.s2_cellid.proofs.CellId.intersects.Goals as goal
 
-pub returns-then-first_leaf_id-last_leaf_id-clause-positions : goal.returns-then-first_leaf_id-last_leaf_id-clause-positions
+pub returns-then-first_leaf_id-last_leaf_id-clause-positions :
+    goal.returns-then-first_leaf_id-last_leaf_id-clause-positions
 returns-then-first_leaf_id-last_leaf_id-clause-positions c =
     let self_valid = c.first_leaf_id.ensures.valid in
     let other_valid = c.last_leaf_id.ensures.valid in (
@@ -14,7 +15,8 @@ returns-then-first_leaf_id-last_leaf_id-clause-positions c =
           ranges_meet c.args.self.now c.args.other.now shared in grind (arith, nat_tests),
     )
 
-pub returns-then-first_leaf_id-last_leaf_id-clause-leaves : goal.returns-then-first_leaf_id-last_leaf_id-clause-leaves
+pub returns-then-first_leaf_id-last_leaf_id-clause-leaves :
+    goal.returns-then-first_leaf_id-last_leaf_id-clause-leaves
 returns-then-first_leaf_id-last_leaf_id-clause-leaves c =
     let positions = returns-then-first_leaf_id-last_leaf_id-clause-positions c in
     let leaves = some_leaf c.args.self.now c.args.other.now c.last_leaf_id.ensures.valid in

@@ -5,10 +5,12 @@ use Rattle.s2_cellid.specs.FamilyLaws.{square_cell, square_cell_has, count_room}
 use Rattle.s2_cellid.proofs.CellId.of_square.Goals as goal
 
 lowest_is : (c : goal.After-lowest_bit_for) → c.lowest_bit_for.result ≡ leaf_count c.args.square.now.level
-lowest_is c = c.lowest_bit_for.ensures ∙ ap (λ (square : GridSquare). leaf_count square.level) c.square.view_is
+lowest_is c = c.lowest_bit_for.ensures ∙ ap
+    (λ (square : GridSquare). leaf_count square.level) c.square.view_is
 
 pub overflow_add-result : goal.overflow_add-result
-overflow_add-result c = rw (lowest_is c) (omega (arith, c.first.ensures.below, count_room c.args.square.now.level))
+overflow_add-result c = rw (lowest_is c) (omega
+    (arith, c.first.ensures.below, count_room c.args.square.now.level))
 
 pub invariant_of-result : goal.invariant_of-result
 invariant_of-result c =

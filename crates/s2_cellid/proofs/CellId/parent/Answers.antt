@@ -22,7 +22,12 @@ invariant_of-result c =
 
 pub returns-clause-value : goal.returns-clause-value
 returns-clause-value c =
-    rw (← c.self.view_is, c.lowest_bit_for-lowest_bit.ensures, kept_above c.args.level c.self.inside.id c.self.invariant)
+    rw (
+      ← c.self.view_is,
+      c.lowest_bit_for-lowest_bit.ensures,
+      kept_above c.args.level c.self.inside.id
+          c.self.invariant,
+    )
 
 pub returns-clause-level : goal.returns-clause-level
 returns-clause-level c =
@@ -32,7 +37,12 @@ returns-clause-level c =
 pub returns-clause-leaves : goal.returns-clause-leaves
 returns-clause-leaves c =
     let below : c.args.level ≤ level_of c.self.inside.id = rw (← c.self.view_is) at c.requires in
-    rw (c.lowest_bit_for-lowest_bit.ensures, ← c.self.view_is, kept_above c.args.level c.self.inside.id c.self.invariant)
+    rw (
+      c.lowest_bit_for-lowest_bit.ensures,
+      ← c.self.view_is,
+      kept_above c.args.level c.self.inside.id
+          c.self.invariant,
+    )
     (λ inner leaf inner_is leaf_is has.
     parent_cell_has c.args.level c.self.inside.id inner leaf c.self.invariant below inner_is leaf_is has)
 

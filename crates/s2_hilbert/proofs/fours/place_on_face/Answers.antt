@@ -7,8 +7,10 @@ pub loop-step-init : goal.loop-step-init
 loop-step-init c =
     let first = c.step_to-first.result.now in
     let second = c.step_to-second.result.now in
-    let first_is = c.step_to-first.ensures.place ∙ ap (λ q. place_of c.args.turn q) c.quadrant_of.ensures.value in
-    let second_is = c.step_to-second.ensures.place ∙ ap (λ q. place_of first.turn q) c.quadrant_of-2.ensures.value in
+    let first_is = c.step_to-first.ensures.place ∙ ap
+    (λ q. place_of c.args.turn q) c.quadrant_of.ensures.value in
+    let second_is = c.step_to-second.ensures.place ∙ ap
+    (λ q. place_of first.turn q) c.quadrant_of-2.ensures.value in
     rw (c.from.ensures, c.from-2.ensures, c.from-row.ensures)
     (fours_begin c.args.turn c.args.i c.args.j first.place first.turn second.place second.turn c.requires
     first_is c.step_to-first.ensures.turn second_is c.step_to-second.ensures.turn)

@@ -24,8 +24,10 @@ overflow_add-place c =
 
 pub loop-step-preserved : goal.loop-step-preserved
 loop-step-preserved c =
-    let next_is = c.step_to-next.ensures.place ∙ ap (λ q. place_of c.loop-step.at q) c.quadrant_of.ensures.value in
+    let next_is = c.step_to-next.ensures.place ∙ ap
+    (λ q. place_of c.loop-step.at q) c.quadrant_of.ensures.value in
     rw (c.step_to-next.ensures.turn, c.from.ensures)
-    (walk_goes_on c.args.levels c.args.turn c.args.i c.args.j c.loop-step.step c.loop-step.at c.loop-step.place
+    (walk_goes_on c.args.levels c.args.turn c.args.i c.args.j c.loop-step.step c.loop-step.at
+    c.loop-step.place
     (c.args.levels - 1 - c.loop-step.step) c.step_to-next.result.now.place c.loop-step-test.true refl next_is
     c.loop-step.invariant)

@@ -42,5 +42,7 @@ returns-clause-leaves c =
     let facts = facts_of c in
     rw (← c.self.view_is)
     (λ leaf is. child_leaves (grid_square inside.face inside.level inside.a inside.b)
-    (grid_square inside.face (inside.level + 1) (2 * inside.a + c.from.result) (2 * inside.b + c.from-2.result))
-    c.args.k leaf c.self.invariant.0 facts.square is c.requires.k (rw (← c.self.view_is) at c.requires.level) refl facts.first_is)
+    (grid_square inside.face (inside.level + 1) (2 * inside.a + c.from.result)
+    (2 * inside.b + c.from-2.result))
+    c.args.k leaf c.self.invariant.0 facts.square is c.requires.k (rw
+    (← c.self.view_is) at c.requires.level) refl facts.first_is)

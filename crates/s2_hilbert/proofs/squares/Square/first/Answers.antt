@@ -27,12 +27,25 @@ pub returns-clause-leaves : goal.returns-clause-leaves
 returns-clause-leaves c =
     let inside = c.self.inside in
     let square = grid_square inside.face inside.level inside.a inside.b in
-    rw (← c.self.view_is, c.from.ensures, c.place_of_point-place.ensures.value, c.leaf_count.ensures, ← first_position_is square)
+    rw (
+      ← c.self.view_is,
+      c.from.ensures,
+      c.place_of_point-place.ensures.value,
+      c.leaf_count.ensures,
+      ←
+          first_position_is square,
+    )
     (λ leaf is. square_leaves leaf square is c.self.invariant.0)
 
 pub returns-clause-below : goal.returns-clause-below
 returns-clause-below c =
     let inside = c.self.inside in
     let square = grid_square inside.face inside.level inside.a inside.b in
-    rw (c.from.ensures, c.place_of_point-place.ensures.value, c.leaf_count.ensures, ← first_position_is square)
+    rw (
+      c.from.ensures,
+      c.place_of_point-place.ensures.value,
+      c.leaf_count.ensures,
+      ← first_position_is
+          square,
+    )
     (omega (arith, (has_positions square c.self.invariant.0).last_below))
