@@ -87,6 +87,10 @@ held_at rows others id x = greater (others x) (top_priority (filter (λ r. not (
 abbrev pub IsListed : World → Filed → Type 0
 IsListed w p = IsSome (ceiling_of p.operator w)
 
+-- an operator's plans ascend by id, and no two have one id
+abbrev pub AreInOrder : List PlanRow → Type 0
+AreInOrder rows = IsStrictlySortedBy row_cmp rows
+
 -- what every world of a desk is: operators ascend by name, and none is listed twice; plans ascend by operator and id, and
 -- no operator has two of one id; each plan's operator is listed; and the limits are kept
 pub record IsWorld (w : World) : Type 0 where
