@@ -1,10 +1,13 @@
 //! Laws of the definitions. Each is the contract of a function that does nothing.
 
-ghost use Rattle.std.specs.Prelude.{◌≡◌, ℕ, ℤ, List, false};
+ghost use Rattle.std.specs.Prelude.{◌≡◌, ℕ, ℤ, List, Some, false};
 ghost use Rattle.std.specs.Ordering.{is_eq};
 ghost use Rattle.desk_rules.specs.declared.call.Call.{Call};
+ghost use Rattle.desk_rules.specs.declared.call.Call.TheVariants.{Delete};
+ghost use Rattle.desk_rules.specs.declared.plan.PlanRow.{PlanRow};
+ghost use Rattle.desk_rules.specs.declared.words.Usage.TheVariants as usage;
 ghost use Rattle.desk_run.specs.Verdicts.{own_left, step};
-ghost use Rattle.desk_store.specs.World.{World, own, held, text_cmp};
+ghost use Rattle.desk_store.specs.World.{World, IsWorld, own, held, plans_of, stored_of, text_cmp};
 
 /// A request changes no other operator's plans or ceiling.
 pub fn others_are_kept()
@@ -18,4 +21,11 @@ pub fn own_is_decided()
     ensures { (w : World) (operator : List ℕ) (moment : ℤ) (call : Call) →
         own (step w operator moment call) operator
         ≡ own_left (own w operator) (held w operator) moment call }
+{}
+
+/// Closing a plan that is closed leaves an equal world.
+pub fn closing_a_closed_plan_changes_nothing()
+    ensures { (w : World) (operator id : List ℕ) (moment : ℤ) (row : PlanRow) → IsWorld w →
+        stored_of id (plans_of operator w) ≡ Some row → row.usage ≡ usage.Closed →
+        step w operator moment (Delete id) ≡ w }
 {}

@@ -12,6 +12,7 @@ use std::alloc::Global;
 use std::test::Fail;
 use volume4d::{Area, Footprint, Volume, Window};
 
+mod failing;
 mod pending;
 mod runs;
 

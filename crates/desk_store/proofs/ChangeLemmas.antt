@@ -12,14 +12,14 @@ use Rattle.std.proofs.lemmas.List.{map-append}
 use Rattle.std.proofs.lemmas.List.Elements.{filter-append}
 use Rattle.std.proofs.lemmas.Map.Lookups.{exact_bytes}
 use Rattle.desk_rules.specs.declared.plan.PlanRow.{PlanRow}
-use Rattle.desk_rules.specs.declared.words.Usage.TheVariants as usage
-use Rattle.desk_store.specs.declared.list.Plan.{Plan}
-use Rattle.desk_store.specs.World.{Filed, World, text_cmp, rows_by, plans_of, is_by, has_id, IsWorld}
-use Rattle.desk_store.specs.Changes.{filed_by, is_before, is_after, with_plans, closed, close_row, is_named, clear_rows}
+use Rattle.desk_store.specs.declared.list.Enrolment.{Enrolment}
+use Rattle.desk_store.specs.World.{Filed, World, text_cmp, filed_cmp, rows_by, plans_of, is_by, has_id}
+use Rattle.desk_store.specs.Changes.{filed_by, is_before, is_after, replaced, with_plans, closed, close_row, is_named, clear_rows}
 use Rattle.desk_store.specs.Rows.{is_own}
-use Rattle.desk_store.specs.Listing.{row_of, listed_of, filed_of, filed_all, world_of}
-use Rattle.desk_store.proofs.SortedPlans.{Key, key_cmp, replaced, parts}
-use Rattle.desk_store.proofs.RoomLemmas.{fewer_kept}
+use Rattle.desk_store.specs.OrderLaws.{parts}
+use Rattle.desk_store.specs.Parts.{PlanParts, row_of, closed_parts}
+use Rattle.desk_store.specs.Listing.{listed_of, filed_of, filed_all, world_of, is_one_of, without}
+use Rattle.desk_store.proofs.EntryLemmas.{Key, key_cmp, filed_sorted}
 
 -- what is before or after the operator's is not the operator's
 before_others : (o : List ℕ) (p : Filed) → is_before o p ≡ true → is_by o p ≡ false
@@ -39,10 +39,6 @@ after_others o p e = by_order (text_cmp o p.operator) e where
 itself : (o : List ℕ) → is_eq (text_cmp o o) ≡ true
 itself o = ap is_eq (tied_itself nat_list_cmp_total o)
 
--- the key is one of the operator's with one of the ids
-abbrev pub is_among : List ℕ → List (List ℕ) → Key → Bool
-is_among o ids k = list_any (λ id. is_eq (text_cmp o k.0) && is_eq (text_cmp id k.1)) ids
-
 abbrev stays : List ℕ → List (List ℕ) → Filed → Bool
 stays o ids p = not (list_any (λ id. is_own o id p) ids)
 
@@ -53,10 +49,10 @@ none_named (id ∷ ids) = none_named ids
 others_stay : (o : List ℕ) (ids : List (List ℕ)) (p : Filed) → is_by o p ≡ false → stays o ids p ≡ true
 others_stay o ids p e = ap (λ b. not (list_any (λ id. b && has_id id p.row) ids)) e ∙ ap not (none_named ids)
 
-filter_filed : (o : List ℕ) (ids : List (List ℕ)) (es : List (Key × Plan)) → filed_all (filter (λ e. not (is_among o ids e.0)) es) ≡ filter (stays o ids) (filed_all es)
+filter_filed : (o : List ℕ) (ids : List (List ℕ)) (es : List (Key × PlanParts)) → filed_all (filter (λ e. not (is_one_of o ids e.0)) es) ≡ filter (stays o ids) (filed_all es)
 filter_filed o ids [] = refl
 filter_filed o ids (e ∷ es) = by_test (stays o ids (filed_of e)) (filter_filed o ids es) where
-  by_test : (b : Bool) → filed_all (filter (λ d. not (is_among o ids d.0)) es) ≡ filter (stays o ids) (filed_all es) → filed_all (cond b (e ∷ filter (λ d. not (is_among o ids d.0)) es) (filter (λ d. not (is_among o ids d.0)) es)) ≡ cond b (filed_of e ∷ filter (stays o ids) (filed_all es)) (filter (stays o ids) (filed_all es))
+  by_test : (b : Bool) → filed_all (filter (λ d. not (is_one_of o ids d.0)) es) ≡ filter (stays o ids) (filed_all es) → filed_all (cond b (e ∷ filter (λ d. not (is_one_of o ids d.0)) es) (filter (λ d. not (is_one_of o ids d.0)) es)) ≡ cond b (filed_of e ∷ filter (stays o ids) (filed_all es)) (filter (stays o ids) (filed_all es))
   by_test true ih = ap (λ ps. filed_of e ∷ ps) ih
   by_test false ih = ih
 
@@ -78,8 +74,8 @@ filter_own o ids (r ∷ rs) = ap (λ b. cond (not (list_any (λ id. b && has_id 
   by_test false ih = ih
 
 -- the plans of an operator and of ids taken out
-pub cleared : (o : List ℕ) (ids : List (List ℕ)) (es kept : List (Key × Plan)) → IsStrictlySortedBy key_cmp (keys_of es) → kept ≡ filter (λ e. not (is_among o ids e.0)) es → filed_all kept ≡ replaced o (clear_rows ids (rows_by o (filed_all es))) (filed_all es)
-cleared o ids es kept sorted e = ap filed_all e ∙ filter_filed o ids es ∙ ap (filter (stays o ids)) (parts o es sorted) ∙ in_parts (rows_by o (filed_all es)) (filed_all es) where
+pub cleared : (o : List ℕ) (ids : List (List ℕ)) (es kept : List (Key × PlanParts)) → IsStrictlySortedBy filed_cmp (filed_all es) → kept ≡ without o ids es → filed_all kept ≡ replaced o (clear_rows ids (rows_by o (filed_all es))) (filed_all es)
+cleared o ids es kept sorted e = ap filed_all e ∙ filter_filed o ids es ∙ ap (filter (stays o ids)) (parts o (filed_all es) sorted) ∙ in_parts (rows_by o (filed_all es)) (filed_all es) where
   in_parts : (rows : List PlanRow) (ps : List Filed) → filter (stays o ids) (replaced o rows ps) ≡ replaced o (clear_rows ids rows) ps
   in_parts rows ps =
       filter-append (stays o ids) (filter (is_before o) ps) _ ∙ (λ k.
@@ -107,8 +103,8 @@ map_own o id (r ∷ rs) = λ k. (ap (λ b. cond (b && has_id id r) (filed_by o (
   by_test false = refl
 
 -- the plan of an operator and of an id closed
-closed_among : (o id : List ℕ) (es : List (Key × Plan)) → IsStrictlySortedBy key_cmp (keys_of es) → map (close_filed o id) (filed_all es) ≡ replaced o (close_row id (rows_by o (filed_all es))) (filed_all es)
-closed_among o id es sorted = ap (map (close_filed o id)) (parts o es sorted) ∙ in_parts (rows_by o (filed_all es)) (filed_all es) where
+closed_among : (o id : List ℕ) (es : List (Key × PlanParts)) → IsStrictlySortedBy key_cmp (keys_of es) → map (close_filed o id) (filed_all es) ≡ replaced o (close_row id (rows_by o (filed_all es))) (filed_all es)
+closed_among o id es sorted = ap (map (close_filed o id)) (parts o (filed_all es) (filed_sorted es sorted)) ∙ in_parts (rows_by o (filed_all es)) (filed_all es) where
   in_parts : (rows : List PlanRow) (ps : List Filed) → map (close_filed o id) (replaced o rows ps) ≡ replaced o (close_row id rows) ps
   in_parts rows ps =
       map-append (close_filed o id) (filter (is_before o) ps) _ ∙ (λ k.
@@ -121,7 +117,7 @@ own_at Equal m = refl
 own_at Greater m = refl
 
 -- a key that the look-up passes by is not that of the operator and the id
-passed_by : (o id : List ℕ) (e : Key × Plan) (b : Bool) → is_at (key_cmp (o, id)) e.0 ≡ b → is_own o id (filed_of e) ≡ b
+passed_by : (o id : List ℕ) (e : Key × PlanParts) (b : Bool) → is_at (key_cmp (o, id)) e.0 ≡ b → is_own o id (filed_of e) ≡ b
 passed_by o id e b h = sym (own_at (text_cmp o e.0.0) (text_cmp id e.0.1)) ∙ h
 
 less_is_not : (n : Ordering) → n ≡ Less → is_eq n ≡ false
@@ -129,7 +125,7 @@ less_is_not Less e = refl
 less_is_not Equal e = cc
 less_is_not Greater e = cc
 
-none_later : (o id : List ℕ) (es : List (Key × Plan)) → AllByRecursion (λ k. key_cmp (o, id) k ≡ Less) (keys_of es) → map (close_filed o id) (filed_all es) ≡ filed_all es
+none_later : (o id : List ℕ) (es : List (Key × PlanParts)) → AllByRecursion (λ k. key_cmp (o, id) k ≡ Less) (keys_of es) → map (close_filed o id) (filed_all es) ≡ filed_all es
 none_later o id [] h = refl
 none_later o id (e ∷ es) h =
     λ k. cond (passed_by o id e false (less_is_not (key_cmp (o, id) e.0) h.0) k) (record { operator = e.0.0; row = closed (row_of e.0.1 e.1) }) (filed_of e) ∷ none_later o id es h.1 k
@@ -143,29 +139,25 @@ key_is o id k e = by_orders (text_cmp o k.0) (text_cmp id k.1) refl refl e where
   by_orders Equal Greater p q f = cc
   by_orders Greater m p q f = cc
 
--- what is written through a look-up of the plan
-abbrev pub closed_plan : Plan → Plan
-closed_plan plan = record plan { usage = usage.Closed }
-
-written : (o id : List ℕ) (plan : Plan) (es : List (Key × Plan)) → IsStrictlySortedBy key_cmp (keys_of es) → lookup (is_at (key_cmp (o, id))) es ≡ Some plan → filed_all (set_value (is_at (key_cmp (o, id))) es (closed_plan plan)) ≡ map (close_filed o id) (filed_all es)
+written : (o id : List ℕ) (plan : PlanParts) (es : List (Key × PlanParts)) → IsStrictlySortedBy key_cmp (keys_of es) → lookup (is_at (key_cmp (o, id))) es ≡ Some plan → filed_all (set_value (is_at (key_cmp (o, id))) es (closed_parts plan)) ≡ map (close_filed o id) (filed_all es)
 unfolding IsStrictlySortedBy
 written o id plan [] s found = refl
 written o id plan (e ∷ es) s found = by_test (is_at (key_cmp (o, id)) e.0) refl found (written o id plan es s.1) where
-  left : List (Key × Plan)
-  left = set_value (is_at (key_cmp (o, id))) es (closed_plan plan)
+  left : List (Key × PlanParts)
+  left = set_value (is_at (key_cmp (o, id))) es (closed_parts plan)
 
   here : Filed
   here = record { operator = e.0.0; row = closed (row_of e.0.1 e.1) }
 
-  by_test : (b : Bool) → is_at (key_cmp (o, id)) e.0 ≡ b → cond b (Some e.1) (lookup (is_at (key_cmp (o, id))) es) ≡ Some plan → (lookup (is_at (key_cmp (o, id))) es ≡ Some plan → filed_all left ≡ map (close_filed o id) (filed_all es)) → filed_all (cond b ((e.0, closed_plan plan) ∷ es) (e ∷ left)) ≡ close_filed o id (filed_of e) ∷ map (close_filed o id) (filed_all es)
+  by_test : (b : Bool) → is_at (key_cmp (o, id)) e.0 ≡ b → cond b (Some e.1) (lookup (is_at (key_cmp (o, id))) es) ≡ Some plan → (lookup (is_at (key_cmp (o, id))) es ≡ Some plan → filed_all left ≡ map (close_filed o id) (filed_all es)) → filed_all (cond b ((e.0, closed_parts plan) ∷ es) (e ∷ left)) ≡ close_filed o id (filed_of e) ∷ map (close_filed o id) (filed_all es)
   by_test true h f ih =
       let is : plan ≡ e.1 = cc in
       let after = subst (λ k. AllByRecursion (λ j. key_cmp k j ≡ Less) (keys_of es)) (key_is o id e.0 h) s.0 in
-      ap (λ p. filed_of (e.0, closed_plan p) ∷ filed_all es) is
+      ap (λ p. filed_of (e.0, closed_parts p) ∷ filed_all es) is
       ∙ (λ k. cond (sym (passed_by o id e true h) k) here (filed_of e) ∷ sym (none_later o id es after) k)
   by_test false h f ih = λ k. cond (sym (passed_by o id e false h) k) here (filed_of e) ∷ ih f k
 
-unwritten : (o id : List ℕ) (es : List (Key × Plan)) → lookup (is_at (key_cmp (o, id))) es ≡ None → filed_all es ≡ map (close_filed o id) (filed_all es)
+unwritten : (o id : List ℕ) (es : List (Key × PlanParts)) → lookup (is_at (key_cmp (o, id))) es ≡ None → filed_all es ≡ map (close_filed o id) (filed_all es)
 unwritten o id [] none = refl
 unwritten o id (e ∷ es) none = by_test (is_at (key_cmp (o, id)) e.0) refl none (unwritten o id es) where
   here : Filed
@@ -176,35 +168,16 @@ unwritten o id (e ∷ es) none = by_test (is_at (key_cmp (o, id)) e.0) refl none
   by_test false h f ih = λ k. cond (sym (passed_by o id e false h) k) here (filed_of e) ∷ ih f k
 
 -- a plan that is found is closed
-pub found_closed : (o id : List ℕ) (plan : Plan) (es more : List (Key × Plan)) → IsStrictlySortedBy key_cmp (keys_of es) → lookup (is_at (key_cmp (o, id))) es ≡ Some plan → more ≡ set_value (is_at (key_cmp (o, id))) es (closed_plan plan) → filed_all more ≡ replaced o (close_row id (rows_by o (filed_all es))) (filed_all es)
+pub found_closed : (o id : List ℕ) (plan : PlanParts) (es more : List (Key × PlanParts)) → IsStrictlySortedBy key_cmp (keys_of es) → lookup (is_at (key_cmp (o, id))) es ≡ Some plan → more ≡ set_value (is_at (key_cmp (o, id))) es (closed_parts plan) → filed_all more ≡ replaced o (close_row id (rows_by o (filed_all es))) (filed_all es)
 found_closed o id plan es more sorted found e = ap filed_all e ∙ written o id plan es sorted found ∙ closed_among o id es sorted
 
 -- where none is found, none is to be closed
-pub none_closed : (o id : List ℕ) (es more : List (Key × Plan)) → IsStrictlySortedBy key_cmp (keys_of es) → lookup (is_at (key_cmp (o, id))) es ≡ None → more ≡ es → filed_all more ≡ replaced o (close_row id (rows_by o (filed_all es))) (filed_all es)
+pub none_closed : (o id : List ℕ) (es more : List (Key × PlanParts)) → IsStrictlySortedBy key_cmp (keys_of es) → lookup (is_at (key_cmp (o, id))) es ≡ None → more ≡ es → filed_all more ≡ replaced o (close_row id (rows_by o (filed_all es))) (filed_all es)
 none_closed o id es more sorted none e = ap filed_all e ∙ unwritten o id es none ∙ closed_among o id es sorted
 
 -- the world when an operator's plans have changed
-pub changed : (f : List PlanRow → List PlanRow) (old : World) (ops : List (List ℕ × ℕ)) (plans more : List (Key × Plan)) (o : List ℕ) → world_of ops plans ≡ old → filed_all more ≡ replaced o (f (rows_by o (filed_all plans))) (filed_all plans) → world_of ops more ≡ with_plans old o (f (plans_of o old))
+pub changed : (f : List PlanRow → List PlanRow) (old : World) (ops counted : List (List ℕ × Enrolment)) (plans more : List (Key × PlanParts)) (o : List ℕ) → world_of ops plans ≡ old → map listed_of counted ≡ map listed_of ops → filed_all more ≡ replaced o (f (rows_by o (filed_all plans))) (filed_all plans) → world_of counted more ≡ with_plans old o (f (plans_of o old))
 unfolding with_plans
-changed f old ops plans more o is e = (λ k. record { operators = map listed_of ops; plans = e k }) ∙ ap change is where
+changed f old ops counted plans more o is same e = (λ k. record { operators = same k; plans = e k }) ∙ ap change is where
   change : World → World
   change w = record w { plans = replaced o (f (plans_of o w)) w.plans }
-
-filter_less : (p : PlanRow → Bool) (rows : List PlanRow) → length (filter p rows) ≤ length rows
-filter_less p [] = omega arith
-filter_less p (r ∷ rs) = by_test (p r) (filter_less p rs) where
-  by_test : (b : Bool) → length (filter p rs) ≤ length rs → length (cond b (r ∷ filter p rs) (filter p rs)) ≤ length (r ∷ rs)
-  by_test true ih = omega (arith, ih)
-  by_test false ih = omega (arith, ih)
-
-map_same : (f : PlanRow → PlanRow) (rows : List PlanRow) → length (map f rows) ≡ length rows
-map_same f [] = refl
-map_same f (r ∷ rs) = ap suc (map_same f rs)
-
--- taking plans out keeps the limit
-pub clear_keeps_limit : (ids : List (List ℕ)) (o : List ℕ) (old w : World) → IsWorld old → w ≡ with_plans old o (clear_rows ids (plans_of o old)) → IsWorld w
-clear_keeps_limit ids o old w h e = subst IsWorld (sym e) (fewer_kept o (clear_rows ids (plans_of o old)) old h (filter_less _ (plans_of o old)))
-
--- closing a plan keeps the limit
-pub close_keeps_limit : (id o : List ℕ) (old w : World) → IsWorld old → w ≡ with_plans old o (close_row id (plans_of o old)) → IsWorld w
-close_keeps_limit id o old w h e = subst IsWorld (sym e) (fewer_kept o (close_row id (plans_of o old)) old h (omega (arith, map_same (λ r. cond (has_id id r) (closed r) r) (plans_of o old))))

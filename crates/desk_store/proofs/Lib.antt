@@ -1,5 +1,7 @@
-pub mod SortedPlans
-pub mod RoomLemmas
-pub mod ChangeLemmas
+pub mod EntryLemmas
 pub mod StoreLemmas
+pub mod ChangeLemmas
+pub mod CountLemmas
 pub mod RivalLemmas
+pub mod KeptLemmas
+pub mod PlanLemmas

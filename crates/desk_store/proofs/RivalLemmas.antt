@@ -120,6 +120,15 @@ low_adds_none n o id p x level e = sym (ap (greater level) (by_tests (not (is_ow
   by_tests true false a f = refl
   by_tests true true a f = too_low f a
 
+-- nor does a plan that has no such point
+pub absent_adds_none : (n : ℕ) (o id : List ℕ) (p : Filed) (x : Point) (level : Option ℕ) → area_has p.row.area x ≡ false → level ≡ greater level (at_least n (rival_level o id p x))
+unfolding rival_level row_holds
+absent_adds_none n o id p x level e = sym (ap (λ b. greater level (at_least n (level_where (not (is_own o id p) && (is_live p.row.usage && b)) p.row.priority))) e ∙ by_tests (not (is_own o id p)) (is_live p.row.usage)) where
+  by_tests : (b l : Bool) → greater level (at_least n (level_where (b && (l && false)) p.row.priority)) ≡ level
+  by_tests false l = greater_none level
+  by_tests true false = greater_none level
+  by_tests true true = greater_none level
+
 -- every other plan adds its priority where its area has the point
 pub rival_adds : (n : ℕ) (o id : List ℕ) (p : Filed) (x : Point) → is_own o id p ≡ false → (is_live p.row.usage && nat_le n p.row.priority) ≡ true → level_where (area_has p.row.area x) p.row.priority ≡ at_least n (rival_level o id p x)
 unfolding rival_level row_holds

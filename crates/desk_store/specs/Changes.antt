@@ -4,7 +4,7 @@ use Rattle.std.specs.List.{filter, list_any, All, IsDistinct}
 use Rattle.std.specs.Ordering.{is_eq, is_lt, is_gt, match_ordering}
 use Rattle.desk_rules.specs.declared.plan.PlanRow.{PlanRow}
 use Rattle.desk_rules.specs.declared.words.Usage.TheVariants as usage
-use Rattle.desk_store.specs.World.{Filed, Listed, World, text_cmp, plans_of, has_id, stored_of}
+use Rattle.desk_store.specs.World.{Filed, Listed, World, text_cmp, filed_cmp, plans_of, has_id, stored_of}
 use Rattle.desk_rules.specs.Limits.{max_plans}
 
 -- rows ascending by id, with a row in place of the one of its id, or at its place
@@ -42,10 +42,18 @@ is_before operator p = is_gt (text_cmp operator p.operator)
 abbrev pub is_after : List ℕ → Filed → Bool
 is_after operator p = is_lt (text_cmp operator p.operator)
 
+-- plans with an operator's replaced
+abbrev pub replaced : List ℕ → List PlanRow → List Filed → List Filed
+replaced operator rows plans = filter (is_before operator) plans ++ (map (filed_by operator) rows ++ filter (is_after operator) plans)
+
 -- the world with the operator's plans replaced
 unfoldable pub with_plans : World → List ℕ → List PlanRow → World
-with_plans w operator rows =
-    record w { plans = filter (is_before operator) w.plans ++ (map (filed_by operator) rows ++ filter (is_after operator) w.plans) }
+with_plans w operator rows = record w { plans = replaced operator rows w.plans }
+
+-- plans ascending by operator and id, with a plan in place of the one of its key, or at its place
+abbrev pub put_filed : Filed → List Filed → List Filed
+put_filed p [] = p ∷ []
+put_filed p (q ∷ qs) = match_ordering (filed_cmp p q) (p ∷ q ∷ qs) (p ∷ qs) (q ∷ put_filed p qs)
 
 -- the world with the operator listed under a ceiling
 unfoldable pub with_operator : World → List ℕ → ℕ → World

@@ -1,9 +1,11 @@
 pub mod World
 pub mod Changes
+pub mod StoreChange
+pub mod OrderLaws
 pub mod WorldLaws
 pub mod Rows
 pub mod Rivals
-pub mod StoreChange
-pub mod Listing
 pub mod Faults
 pub mod FaultLaws
+pub mod Parts
+pub mod Listing

@@ -1,20 +1,38 @@
 -- What the lists of a store in memory hold.
-use Rattle.std.specs.Prelude.{ℕ, List, map}
-use Rattle.desk_rules.specs.declared.plan.PlanRow.{PlanRow}
-use Rattle.desk_store.specs.declared.list.Plan.{Plan}
-use Rattle.desk_store.specs.World.{World, Listed, Filed}
+use Rattle.std.specs.Prelude.{◌≡◌, ℕ, Bool, ◌&&◌, not, List, map, cond, length}
+use Rattle.std.specs.List.{AllByRecursion, filter, list_any}
+use Rattle.std.specs.Ordering.{is_eq}
+use Rattle.desk_store.specs.declared.list.Enrolment.{Enrolment}
+use Rattle.desk_store.specs.World.{World, Listed, Filed, IsWorld, text_cmp, rows_by}
+use Rattle.desk_store.specs.Parts.{PlanParts, row_of}
 
-abbrev pub row_of : List ℕ → Plan → PlanRow
-row_of id plan = record { id = id; priority = plan.priority; usage = plan.usage; aircraft = plan.aircraft; area = plan.area }
+abbrev pub listed_of : List ℕ × Enrolment → Listed
+listed_of e = record { name = e.0; ceiling = e.1.ceiling }
 
-abbrev pub listed_of : List ℕ × ℕ → Listed
-listed_of e = record { name = e.0; ceiling = e.1 }
-
-abbrev pub filed_of : (List ℕ × List ℕ) × Plan → Filed
+abbrev pub filed_of : (List ℕ × List ℕ) × PlanParts → Filed
 filed_of e = record { operator = e.0.0; row = row_of e.0.1 e.1 }
 
-abbrev pub filed_all : List ((List ℕ × List ℕ) × Plan) → List Filed
+abbrev pub filed_all : List ((List ℕ × List ℕ) × PlanParts) → List Filed
 filed_all plans = map filed_of plans
 
-abbrev pub world_of : List (List ℕ × ℕ) → List ((List ℕ × List ℕ) × Plan) → World
+abbrev pub world_of : List (List ℕ × Enrolment) → List ((List ℕ × List ℕ) × PlanParts) → World
 world_of operators plans = record { operators = map listed_of operators; plans = filed_all plans }
+
+-- each operator's count is that of its plans
+abbrev pub AreCounted : List (List ℕ × Enrolment) → List Filed → Type 0
+AreCounted operators plans = AllByRecursion (λ e. e.1.plan_count ≡ length (rows_by e.0 plans)) operators
+
+-- what a store in memory always is
+abbrev pub IsStore : List (List ℕ × Enrolment) → List ((List ℕ × List ℕ) × PlanParts) → Type 0
+IsStore operators plans = IsWorld (world_of operators plans) × AreCounted operators (filed_all plans)
+
+-- the key of one of an operator's plans of some ids, and the plans but those
+abbrev pub is_one_of : List ℕ → List (List ℕ) → List ℕ × List ℕ → Bool
+is_one_of operator ids key = list_any (λ id. is_eq (text_cmp operator key.0) && is_eq (text_cmp id key.1)) ids
+
+abbrev pub without : List ℕ → List (List ℕ) → List ((List ℕ × List ℕ) × PlanParts) → List ((List ℕ × List ℕ) × PlanParts)
+without operator ids plans = filter (λ e. not (is_one_of operator ids e.0)) plans
+
+-- an operator's count replaced
+abbrev pub with_count : List ℕ → ℕ → List (List ℕ × Enrolment) → List (List ℕ × Enrolment)
+with_count operator count operators = map (λ e. cond (is_eq (text_cmp operator e.0)) (e.0, record e.1 { plan_count = count }) e) operators

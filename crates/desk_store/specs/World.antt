@@ -1,9 +1,10 @@
 -- Worlds: what a desk knows of its operators and of their plans. What one operator owns, and what others hold.
-use Rattle.std.specs.Prelude.{◌≡◌, ℕ, List, Bool, true, not, nat_le, Option, map, length, ◌≤◌}
+use Rattle.std.specs.Prelude.{ℕ, List, Bool, not, Option, IsSome, map, length, ◌≤◌}
 use Rattle.std.specs.Option.{option_map}
-use Rattle.std.specs.List.{filter, find, list_all}
+use Rattle.std.specs.List.{filter, find, AllByRecursion}
+use Rattle.std.specs.List.Sorted.{IsStrictlySortedBy}
 use Rattle.std.specs.declared.cmp.Ordering.{Ordering}
-use Rattle.std.specs.Ordering.{is_eq, nat_cmp}
+use Rattle.std.specs.Ordering.{is_eq, nat_cmp, ordering_then}
 use Rattle.std.specs.Cmp.Lexicographic.{slice_cmp}
 use Rattle.desk_rules.specs.declared.plan.PlanRow.{PlanRow}
 use Rattle.volume4d.specs.Point.{Point}
@@ -35,6 +36,16 @@ is_by operator p = is_eq (text_cmp operator p.operator)
 
 abbrev pub has_id : List ℕ → PlanRow → Bool
 has_id id row = is_eq (text_cmp id row.id)
+
+-- operators by name, rows by id, and plans by operator and then by id
+abbrev pub listed_cmp : Listed → Listed → Ordering
+listed_cmp a b = text_cmp a.name b.name
+
+abbrev pub row_cmp : PlanRow → PlanRow → Ordering
+row_cmp a b = text_cmp a.id b.id
+
+abbrev pub filed_cmp : Filed → Filed → Ordering
+filed_cmp a b = ordering_then (text_cmp a.operator b.operator) (row_cmp a.row b.row)
 
 -- the operator's ceiling, or none where it is not listed
 unfoldable pub ceiling_of : List ℕ → World → Option ℕ
@@ -72,7 +83,20 @@ stored_of id rows = find (has_id id) rows
 unfoldable pub held_at : List PlanRow → (Point → Option ℕ) → List ℕ → Point → Option ℕ
 held_at rows others id x = greater (others x) (top_priority (filter (λ r. not (has_id id r)) rows) x)
 
--- both limits are kept
+-- a plan's operator is listed
+abbrev pub IsListed : World → Filed → Type 0
+IsListed w p = IsSome (ceiling_of p.operator w)
+
+-- an operator's plans ascend by id, and no two have one id
+abbrev pub AreInOrder : List PlanRow → Type 0
+AreInOrder rows = IsStrictlySortedBy row_cmp rows
+
+-- what every world of a desk is: operators ascend by name, and none is listed twice; plans ascend by operator and id, and
+-- no operator has two of one id; each plan's operator is listed; and the limits are kept
 pub record IsWorld (w : World) : Type 0 where
+  pub operators : IsStrictlySortedBy listed_cmp w.operators
+  pub plans : IsStrictlySortedBy filed_cmp w.plans
+  pub listed : AllByRecursion (IsListed w) w.plans
   pub rows : (operator : List ℕ) → length (plans_of operator w) ≤ max_plans
-  pub ceilings : list_all (λ l. nat_le l.ceiling max_priority) w.operators ≡ true
+  pub ceilings : AllByRecursion (λ l. l.ceiling ≤ max_priority) w.operators
+  pub priorities : AllByRecursion (λ p. p.row.priority ≤ max_priority) w.plans

@@ -4,6 +4,7 @@
 mod change;
 mod fault;
 mod list;
+mod plan;
 mod store;
 #[cfg(test)]
 mod tests;

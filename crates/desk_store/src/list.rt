@@ -1,63 +1,58 @@
 //! A store in memory.
 
-ghost use Rattle.std.specs.Prelude.{◌≡◌, ◌≤◌, ◌&&◌, ◌↔◌, true, length, [], nat_le, IsTrue, IfOk, OnOk, OnErr};
-ghost use Rattle.std.specs.List.{list_any};
+ghost use Rattle.std.specs.Prelude.{◌≡◌, ◌≤◌, ◌&&◌, None, true, length, [], IfOk, OnOk, OnErr};
+ghost use Rattle.std.specs.BTreeMap.{is_at};
+ghost use Rattle.std.specs.Map.{lookup};
+ghost use Rattle.std.specs.Option.{unwrap_or, option_map};
 ghost use Rattle.std.specs.Ordering.{is_eq};
 ghost use Rattle.volume4d.specs.Point.{Point};
-ghost use Rattle.volume4d.specs.Volume.{area_has};
 ghost use Rattle.volume4d.specs.Level.{greater};
-ghost use Rattle.volume4d.specs.LevelLaws.{level_where};
-ghost use Rattle.volume4d.specs.Slab.{slab_has, slabs_have, top_held};
-ghost use Rattle.desk_rules.specs.Plan as plan_spec;
-ghost use Rattle.desk_rules.specs.Plan.{is_live};
+ghost use Rattle.volume4d.specs.Slab.{slab_has, top_held};
 ghost use Rattle.desk_rules.specs.Conflict.{at_least};
-ghost use Rattle.desk_store.specs.World.{text_cmp, rows_by, plans_of, stored_of};
-ghost use Rattle.desk_rules.specs.Limits.{max_plans, max_priority};
-ghost use Rattle.desk_store.specs.Changes.{put_row, close_row, clear_rows, with_plans, with_operator, HasRoom};
+ghost use Rattle.desk_rules.specs.Limits.{max_plans};
+ghost use Rattle.desk_store.specs.World.{text_cmp, rows_by, stored_of};
 ghost use Rattle.desk_store.specs.Rows.{rival_level, rivals_top};
-ghost use Rattle.desk_store.specs.Listing as listing;
-ghost use Rattle.desk_store.specs.Listing.{filed_all};
+ghost use Rattle.desk_store.specs.StoreChange.{changed_by, IsFitting};
+ghost use Rattle.desk_store.specs.Listing.{filed_of, filed_all, with_count, is_one_of, without};
+ghost use Rattle.desk_store.specs.declared.change.Change.TheVariants as change;
 
 use crate::change::Change;
 use crate::fault::StoreFault;
+use crate::plan::Plan;
 use crate::store::PlanStore;
 use desk_rules::operator::Operator;
 use desk_rules::plan::PlanRow;
 use desk_rules::plan_id::PlanId;
-use desk_rules::words::{Aircraft, Usage};
 use std::alloc::{AllocError, Global};
 use std::collections::BTreeMap;
 use std::marker::Model;
-use std::slice::from_ref;
-use volume4d::{Area, Held, Slab, meet};
+use volume4d::{Held, Slab};
 
-/// A plan, but for its operator and its id.
-#[derive(Debug, Drop)]
-pub struct Plan {
-    priority: u32,
-    usage: Usage,
-    aircraft: Aircraft,
-    area: Area,
+/// What a store in memory keeps of an operator.
+#[derive(Clone, Copy, Debug)]
+pub struct Enrolment {
+    ceiling: u32,
+    plan_count: u32,
 }
 
-/// Operators and plans in ordered lists in memory.
+/// Operators and plans in ordered lists in memory. It is always honest, and meets no fault of its own.
 #[derive(Drop)]
 pub struct ListStore {
-    operators: BTreeMap<Operator, u32>,
+    operators: BTreeMap<Operator, Enrolment>,
     plans: BTreeMap<(Operator, PlanId), Plan>,
     alloc: Global,
 }
 
 impl Model for ListStore {
-    ghost use Rattle.desk_store.specs.World.{World, IsWorld};
+    ghost use Rattle.desk_store.specs.World.{World};
 
     ghost Value = { World };
 
-    ghost use Rattle.desk_store.specs.Listing.{world_of};
+    ghost use Rattle.desk_store.specs.Listing.{world_of, IsStore};
 
     ghost view = { λ s. world_of s.operators.entries s.plans.entries };
 
-    ghost invariant = { λ s. IsWorld (world_of s.operators.entries s.plans.entries) };
+    ghost invariant = { λ s. IsStore s.operators.entries s.plans.entries };
 }
 
 impl ListStore {
@@ -83,7 +78,7 @@ impl PlanStore for ListStore {
     ghost faults = { λ _. 0 };
 
     fn ceiling(&mut self, operator: &Operator) -> Result<Option<u32>, StoreFault> {
-        Ok(self.operators.get(operator).copied())
+        Ok(ceiling_in(&self.operators, operator))
     }
 
     fn plan(&mut self, operator: &Operator, id: &PlanId) -> Result<Option<PlanRow>, StoreFault> {
@@ -91,7 +86,7 @@ impl PlanStore for ListStore {
     }
 
     fn own_count(&mut self, operator: &Operator) -> Result<u32, StoreFault> {
-        Ok(count_of(&self.plans, operator))
+        Ok(count_in(&self.operators, operator))
     }
 
     fn own_plans(&mut self, operator: &Operator) -> Result<Vec<PlanRow>, StoreFault> {
@@ -120,75 +115,106 @@ impl PlanStore for ListStore {
 }
 
 impl ListStore {
+    // Lists an operator under a ceiling.
     fn enrol(&mut self, operator: Operator, ceiling: u32) -> Result<(), AllocError>
-        requires { ceiling ≤ max_priority }
-        ensures ok { OnOk result (self.new ≡ with_operator self.old operator ceiling) }
+        requires { IsFitting (change.Enrol operator ceiling) self.old }
+        ensures ok { OnOk result (self.new ≡ changed_by (change.Enrol operator ceiling) self.old) }
         ensures err { OnErr result (self.new ≡ self.old) }
     {
-        self.operators.insert(operator, ceiling)?;
+        let plan_count = count_in(&self.operators, &operator);
+        self.operators.insert(operator, Enrolment {
+            ceiling,
+            plan_count,
+        })?;
         Ok(())
     }
 
+    // Stores a row of an operator.
     fn put(&mut self, operator: Operator, row: PlanRow) -> Result<(), AllocError>
-        requires { HasRoom self.old operator row.id }
-        ensures ok { OnOk result (self.new ≡ with_plans self.old operator (put_row row (plans_of operator self.old))) }
+        requires { IsFitting (change.Put operator row) self.old }
+        ensures ok { OnOk result (self.new ≡ changed_by (change.Put operator row) self.old) }
         ensures err { OnErr result (self.new ≡ self.old) }
     {
-        let PlanRow {
-            id,
-            priority,
-            usage,
-            aircraft,
-            area,
-        } = row;
-        let plan = Plan {
-            priority,
-            usage,
-            aircraft,
-            area,
-        };
-        self.plans.insert((operator, id), plan)?;
+        let id = row.id;
+        let plan = Plan::try_new(row)?;
+        let before = self.plans.insert((operator, id), plan)?;
+        if before.is_none() {
+            let count = count_in(&self.operators, &operator) + 1;
+            set_count(&mut self.operators, &operator, count);
+        }
         Ok(())
     }
 
+    // Closes an operator's plan.
     fn close(&mut self, operator: &Operator, id: &PlanId)
-        ensures { self.new ≡ with_plans self.old operator.now (close_row id.now (plans_of operator.now self.old)) }
+        requires { IsFitting (change.Close operator.now id.now) self.old }
+        ensures { self.new ≡ changed_by (change.Close operator.now id.now) self.old }
     {
         if let Some(plan) = self.plans.get_mut(&(*operator, *id)) {
-            plan.usage = Usage::Closed;
+            plan.close();
         }
     }
 
-    fn clear(&mut self, operator: &Operator, ids: &[PlanId])
-        ensures { self.new ≡ with_plans self.old operator.now (clear_rows ids.now (plans_of operator.now self.old)) }
+    // Takes out plans of an operator.
+    fn clear(&mut self, operator: &Operator, ids: &Vec<PlanId>)
+        requires { IsFitting (change.Clear operator.now ids.now) self.old }
+        ensures { self.new ≡ changed_by (change.Clear operator.now ids.now) self.old }
     {
-        self.plans.retain(|key, _| !is_among(operator, ids, key));
+        remove_all(&mut self.plans, operator, ids);
+        let count = count_of(&self.plans, operator);
+        set_count(&mut self.operators, operator, count);
     }
 }
+
+type Operators = BTreeMap<Operator, Enrolment>;
 
 type Plans = BTreeMap<(Operator, PlanId), Plan>;
 
-// The operator's plan of the id.
-fn find_plan(plans: &Plans, operator: &Operator, id: &PlanId) -> Result<Option<PlanRow>, AllocError>
-    ensures { IfOk result (λ row. row ≡ stored_of id.now (rows_by operator.now (filed_all plans.now.entries))) }
+// An operator's ceiling; none if it is not listed.
+fn ceiling_in(operators: &Operators, operator: &Operator) -> Option<u32>
+    ensures { result ≡
+        option_map (λ e. e.ceiling) (lookup (is_at (text_cmp operator.now)) operators.now.entries) }
 {
-    match plans.get(&(*operator, *id)) {
-        Some(plan) => Ok(Some(row_of(*id, plan)?)),
-        None => Ok(None),
+    let enrolment = operators.get(operator)?;
+    Some(enrolment.ceiling)
+}
+
+// How many plans an operator has by its count; none if it is not listed.
+fn count_in(operators: &Operators, operator: &Operator) -> u32
+    ensures { result ≡ unwrap_or
+        (option_map (λ e. e.plan_count) (lookup (is_at (text_cmp operator.now)) operators.now.entries)) 0 }
+{
+    match operators.get(operator) {
+        Some(enrolment) => enrolment.plan_count,
+        None => 0,
     }
 }
 
-// The row of a plan.
-fn row_of(id: PlanId, plan: &Plan) -> Result<PlanRow, AllocError>
-    ensures { IfOk result (λ row. row ≡ listing.row_of id plan.now) }
+// Replaces an operator's count.
+fn set_count(operators: &mut Operators, operator: &Operator, count: u32)
+    ensures { operators.new.entries ≡ with_count operator.now count operators.old.entries }
 {
-    Ok(PlanRow {
-        id,
-        priority: plan.priority,
-        usage: plan.usage,
-        aircraft: plan.aircraft,
-        area: plan.area.copy()?,
-    })
+    if let Some(enrolment) = operators.get_mut(operator) {
+        enrolment.plan_count = count;
+    }
+}
+
+// Takes out the operator's plans of these ids.
+fn remove_all(plans: &mut Plans, operator: &Operator, ids: &[PlanId])
+    ensures { plans.new.entries ≡ without operator.now ids.now plans.old.entries }
+{
+    plans.retain(|key, _| !is_among(operator, ids, key));
+}
+
+// The operator's plan of the id.
+fn find_plan(plans: &Plans, operator: &Operator, id: &PlanId) -> Result<Option<PlanRow>, AllocError>
+    ensures { IfOk result (λ row.
+        row ≡ stored_of id.now (rows_by operator.now (filed_all plans.now.entries))) }
+{
+    match plans.get(&(*operator, *id)) {
+        Some(plan) => Ok(Some(plan.row(*id)?)),
+        None => Ok(None),
+    }
 }
 
 // How many plans the operator has.
@@ -212,7 +238,7 @@ fn rows_of(alloc: Global, plans: &Plans, operator: &Operator) -> Result<Vec<Plan
     let mut rows = Vec::new(alloc);
     for (key, plan) in plans {
         if is_by(operator, key) {
-            rows.push(row_of(key.1, plan)?)?;
+            rows.push(plan.row(key.1)?)?;
         }
     }
     Ok(rows)
@@ -233,7 +259,9 @@ fn rivals_of(
 {
     let mut helds = Vec::new(alloc);
     for (key, plan) in plans {
-        push_rival(&mut helds, operator, id, least, extent, key, plan)?;
+        if plan.may_meet(extent) {
+            push_rival(&mut helds, operator, id, least, extent, key, plan)?;
+        }
     }
     Ok(helds)
 }
@@ -249,16 +277,17 @@ fn push_rival(
     key: &(Operator, PlanId),
     plan: &Plan,
 ) -> Result<(), AllocError>
-    ensures { OnOk result ((x : Point) → slab_has extent.now x ≡ true → top_held helds.new.items x ≡ greater (top_held helds.old.items x)
-        (at_least least (rival_level operator.now id.now (listing.filed_of (key.now, plan.now)) x))) }
+    ensures { OnOk result ((x : Point) → slab_has extent.now x ≡ true → top_held helds.new.items x
+        ≡ greater (top_held helds.old.items x)
+        (at_least least (rival_level operator.now id.now (filed_of (key.now, plan.now)) x))) }
 {
     if is_own(operator, id, key) {
         return Ok(());
     }
-    if !is_rival(plan, least) {
+    if !plan.is_rival(least) {
         return Ok(());
     }
-    push_area(helds, plan, extent)
+    plan.push_slabs(helds, extent)
 }
 
 // Whether a plan is the operator's.
@@ -268,8 +297,10 @@ fn is_by(operator: &Operator, key: &(Operator, PlanId)) -> bool
     operator.cmp(&key.0).is_eq()
 }
 
+// Whether a plan is the operator's own of the id.
 fn is_own(operator: &Operator, id: &PlanId, key: &(Operator, PlanId)) -> bool
-    ensures { result ≡ (is_eq (text_cmp operator.now key.now.0) && is_eq (text_cmp id.now key.now.1)) }
+    ensures { result ≡
+        (is_eq (text_cmp operator.now key.now.0) && is_eq (text_cmp id.now key.now.1)) }
 {
     if !is_by(operator, key) {
         return false;
@@ -279,63 +310,7 @@ fn is_own(operator: &Operator, id: &PlanId, key: &(Operator, PlanId)) -> bool
 
 // Whether a plan is one of the operator's of these ids.
 fn is_among(operator: &Operator, ids: &[PlanId], key: &(Operator, PlanId)) -> bool
-    ensures { result ≡ list_any (λ id. is_eq (text_cmp operator.now key.now.0) && is_eq (text_cmp id key.now.1)) ids.now }
+    ensures { result ≡ is_one_of operator.now ids.now key.now }
 {
     ids.iter().any(|id| is_own(operator, id, key))
-}
-
-// Whether a plan is live and of the priority at least.
-fn is_rival(plan: &Plan, least: u32) -> bool
-    ensures { result ≡ (is_live plan.now.usage && nat_le least plan.now.priority) }
-{
-    if !is_live(plan.usage) {
-        return false;
-    }
-    plan.priority >= least
-}
-
-fn is_live(usage: Usage) -> bool
-    ensures { result ≡ plan_spec.is_live usage }
-{
-    match usage {
-        Usage::Planned => true,
-        Usage::InUse => true,
-        Usage::Closed => false,
-    }
-}
-
-// Appends the slabs of a plan's area that meet the extent, at its priority.
-fn push_area(helds: &mut Vec<Held>, plan: &Plan, extent: &Slab) -> Result<(), AllocError>
-    ensures { OnOk result ((x : Point) → slab_has extent.now x ≡ true → top_held helds.new.items x
-        ≡ greater (top_held helds.old.items x) (level_where (area_has plan.now.area x) plan.now.priority)) }
-{
-    let slabs = plan.area.slabs()?;
-    push_slabs(helds, &slabs, plan.priority, extent)
-}
-
-fn push_slabs(
-    helds: &mut Vec<Held>,
-    slabs: &[Slab],
-    priority: u32,
-    extent: &Slab,
-) -> Result<(), AllocError>
-    ensures { OnOk result ((x : Point) → slab_has extent.now x ≡ true → top_held helds.new.items x
-        ≡ greater (top_held helds.old.items x) (level_where (slabs_have slabs.now x) priority)) }
-{
-    for slab in slabs {
-        if overlap(slab, extent) {
-            helds.push(Held {
-                slab: *slab,
-                priority,
-            })?;
-        }
-    }
-    Ok(())
-}
-
-// Whether two slabs share a point.
-fn overlap(mine: &Slab, theirs: &Slab) -> bool
-    ensures { IsTrue result ↔ ((x : Point) × (slab_has mine.now x ≡ true) × (slab_has theirs.now x ≡ true)) }
-{
-    meet(from_ref(mine), from_ref(theirs))
 }

@@ -1,7 +1,7 @@
 //! Stores of plans, as a desk uses them.
 
 ghost use Rattle.std.specs.Prelude.{◌≡◌, ◌≤◌, ℕ, length, IfOk, IfErr, IfSome, OnOk, OnErr};
-ghost use Rattle.desk_store.specs.World.{World, ceiling_of, plans_of, stored_of};
+ghost use Rattle.desk_store.specs.World.{World, AreInOrder, ceiling_of, plans_of, stored_of};
 ghost use Rattle.desk_store.specs.Rivals.{AreRivals};
 ghost use Rattle.desk_rules.specs.Limits.{max_priority};
 
@@ -63,10 +63,11 @@ pub trait PlanStore {
         ensures cause { IfErr result (λ e. e ≡ StoreFault.Store →
             HasRisen (faults self.old) (faults self.new)) };
 
-    /// The operator's plans, ascending by id.
+    /// The operator's plans, ascending by id, none twice.
     fn own_plans(&mut self, operator: &Operator) -> Result<Vec<PlanRow>, StoreFault>
         ensures value { IsHonest (doubt self.new) →
             IfOk result (λ rows. rows.items ≡ plans_of operator.now (content self.old)) }
+        ensures order { IsHonest (doubt self.new) → IfOk result (λ rows. AreInOrder rows.items) }
         ensures same { content self.new ≡ content self.old }
         ensures doubt { doubt self.old ≤ doubt self.new }
         ensures counted { faults self.old ≤ faults self.new }

@@ -7,8 +7,8 @@ ghost use Rattle.volume4d.specs.Bounds.{AreFilled, IsJoin, IsBounds};
 
 use crate::slab::Slab;
 
-/// The smallest slab that has all points of the slabs.
-pub(crate) fn bounds_of(slabs: &[Slab]) -> Slab
+/// The smallest slab that has all points of some slabs: one slab or more, each with a point.
+pub fn bounds_of(slabs: &[Slab]) -> Slab
     requires { AreFilled slabs.now }
     ensures { IsBounds (slabs_have slabs.now) result }
 {

@@ -14,6 +14,7 @@ mod volume;
 mod window;
 
 pub use area::Area;
+pub use bounds::bounds_of;
 pub use footprint::Footprint;
 pub use meeting::{Meeting, first_meeting, meet};
 pub use slab::{Held, Slab};

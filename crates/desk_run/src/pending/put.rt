@@ -18,7 +18,7 @@ use desk_rules::plan::{PlanRow, PutCall};
 use desk_rules::reply::{PutReply, Reply};
 use desk_store::{Change, PlanStore, StoreFault};
 use std::alloc::{AllocError, Global};
-use volume4d::Meeting;
+use volume4d::{Meeting, bounds_of};
 
 // Gets the reply to a request of an operator under a ceiling ready.
 pub fn ready_put<S: PlanStore>(
@@ -102,7 +102,7 @@ fn conflict_of<S: PlanStore>(
         HasRisen (S.faults store.old) (S.faults store.new)) }
 {
     let mine = put.area.slabs()?;
-    let extent = put.area.bounds()?;
+    let extent = bounds_of(&mine);
     let theirs = store.rivals(operator, &put.id, put.priority, &extent)?;
     Ok(first_conflict(&mine, &theirs))
 }

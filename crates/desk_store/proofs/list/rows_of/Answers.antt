@@ -16,7 +16,7 @@ loop-key-preserved-in_ok-push c =
     let rows = c.loop-key.rows.items in
     let rest = c.in-Some.ensures.steps in
     row_added o (filed_of (c.in-Some.key.now, c.in-Some.plan.now)) (filed_all c.next.new.self) rows c.push.new.self.items _ (sym c.if-is_by.ensures)
-    (c.in_ok-push.ensures.items ∙ ap (λ row. rows ++ row ∷ []) c.in_ok-row_of.ensures)
+    (c.in_ok-push.ensures.items ∙ ap (λ row. rows ++ row ∷ []) c.in_ok-row.ensures)
     (ap (λ es. rows ++ rows_by o (filed_all es)) (sym rest) ∙ c.loop-key.invariant)
 
 pub loop-key-preserved : goal.loop-key-preserved

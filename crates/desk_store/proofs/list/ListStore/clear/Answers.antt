@@ -1,22 +1,40 @@
-use Rattle.std.proofs.Common.{◌≡◌, not, rules, subst}
-use Rattle.std.specs.List.{filter}
-use Rattle.std.proofs.lemmas.Map.Made.{filter_same_pairs}
-use Rattle.desk_store.specs.World.{IsWorld}
-use Rattle.desk_store.specs.Changes.{clear_rows}
-use Rattle.desk_store.specs.Listing.{world_of}
-use Rattle.desk_store.proofs.ChangeLemmas.{is_among, cleared, changed, clear_keeps_limit}
+use Rattle.std.proofs.Common.{◌∙◌, ap, sym, refl}
+use Rattle.desk_store.specs.World.{plans_of}
+use Rattle.desk_store.specs.Changes.{clear_rows, with_plans}
+use Rattle.desk_store.specs.declared.change.Change.TheVariants.{Clear}
+use Rattle.desk_store.specs.StoreChange.{changed_by}
+use Rattle.desk_store.specs.Listing.{world_of, with_count, without}
+use Rattle.desk_store.proofs.ChangeLemmas.{cleared, changed}
+use Rattle.desk_store.proofs.CountLemmas.{listed_same}
+use Rattle.desk_store.proofs.KeptLemmas.{clear_kept, clear_within}
 use Rattle.desk_store.proofs.list.ListStore.clear.Goals as goal
 
-left : (c : goal.After-retain) → c.retain.new.self.entries ≡ filter (λ e. not (is_among c.args.operator.now c.args.ids.now e.0)) c.self.inside.plans.entries
-left c = filter_same_pairs _ _ _ (λ k v b w f' t. search rules) _ _ c.retain.ensures.filtered
+pub count_of-count-requires : goal.count_of-count-requires
+count_of-count-requires c =
+    let o = c.args.operator.now in
+    let plans = c.self.inside.plans.entries in
+    clear_within c.self.inside.operators.entries plans c.remove_all.new.plans.entries o c.args.ids.now.items c.self.invariant
+    (c.remove_all.ensures ∙ ap (λ ids. without o ids plans) c.deref.ensures.value)
 
 pub returns : goal.returns
+unfolding changed_by
 returns c =
     let o = c.args.operator.now in
-    let ids = c.args.ids.now in
+    let ids = c.args.ids.now.items in
+    let ops = c.self.inside.operators.entries in
     let plans = c.self.inside.plans.entries in
-    changed (clear_rows ids) c.args.self.now c.self.inside.operators.entries plans c.retain.new.self.entries o c.self.view_is (cleared o ids plans c.retain.new.self.entries c.retain.ensures.was_ordered (left c))
+    let more = c.remove_all.new.plans.entries in
+    let left = c.remove_all.ensures ∙ ap (λ js. without o js plans) c.deref.ensures.value in
+    ap (λ es. world_of es more) c.set_count.ensures
+    ∙ changed (clear_rows ids) c.args.self.now ops (with_count o c.count_of-count.result ops) plans more o c.self.view_is (listed_same o c.count_of-count.result ops) (cleared o ids plans more c.self.invariant.0.plans left)
 
 pub invariant_of-self : goal.invariant_of-self
+unfolding changed_by
 invariant_of-self c =
-    clear_keeps_limit c.args.ids.now c.args.operator.now c.args.self.now (world_of c.self.inside.operators.entries c.retain.new.self.entries) (subst IsWorld c.self.view_is c.self.invariant) (returns c)
+    let o = c.args.operator.now in
+    let ids = c.args.ids.now.items in
+    let ops = c.self.inside.operators.entries in
+    let plans = c.self.inside.plans.entries in
+    let more = c.remove_all.new.plans.entries in
+    rw c.set_count.ensures (clear_kept c.args.self.now ops plans more o c.count_of-count.result (clear_rows ids (plans_of o c.args.self.now)) (Clear o c.args.ids.now) refl c.self.view_is c.self.invariant c.requires
+    (ap (λ es. world_of es more) (sym c.set_count.ensures) ∙ returns c) c.count_of-count.ensures)

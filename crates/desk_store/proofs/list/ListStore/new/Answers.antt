@@ -1,5 +1,7 @@
-use Rattle.std.proofs.Common.{arith, refl}
+use Rattle.std.proofs.Common.{arith}
+use Rattle.std.specs.List.Sorted.{IsStrictlySortedBy}
 use Rattle.desk_store.proofs.list.ListStore.new.Goals as goal
 
 pub invariant_of-result : goal.invariant_of-result
-invariant_of-result c = record { rows = λ o. rw c.new-2.ensures.empty (omega arith); ceilings = rw c.new.ensures.empty refl }
+unfolding IsStrictlySortedBy
+invariant_of-result c = rw (c.new-2.ensures.empty, c.new.ensures.empty) (record { operators = tt; plans = tt; listed = tt; rows = λ o. omega arith; ceilings = tt; priorities = tt }, tt)

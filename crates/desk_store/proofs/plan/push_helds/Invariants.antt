@@ -3,7 +3,7 @@ use Rattle.volume4d.specs.Point.{Point}
 use Rattle.volume4d.specs.Slab.{slab_has, slabs_have, top_held}
 use Rattle.volume4d.specs.Level.{greater}
 use Rattle.volume4d.specs.LevelLaws.{level_where}
-use Rattle.desk_store.proofs.list.push_slabs.Given as goal
+use Rattle.desk_store.proofs.plan.push_helds.Given as goal
 
 -- at points of the extent, the levels before, and the priority where a slab so far has the point
 abbrev pub invariant-loop-slab : goal.invariant-loop-slab

@@ -1,7 +1,7 @@
 use Rattle.volume4d.specs.Slab.{top_held}
 use Rattle.desk_store.proofs.RivalLemmas.{slab_adds, slab_outside}
-use Rattle.desk_store.proofs.list.push_slabs.Goals as goal
-use Rattle.desk_store.proofs.list.push_slabs.Goals.{then-overlap+in_ok-push, else-overlap}
+use Rattle.desk_store.proofs.plan.push_helds.Goals as goal
+use Rattle.desk_store.proofs.plan.push_helds.Goals.{then-overlap+in_ok-push, else-overlap}
 
 pub loop-slab-preserved : goal.loop-slab-preserved
 loop-slab-preserved c = λ x inside.

@@ -1,0 +1,160 @@
+//! A plan as a store in memory keeps it.
+
+ghost use Rattle.std.specs.Prelude.{◌≡◌, ◌&&◌, ◌↔◌, true, false, nat_le, IsTrue, IfOk, OnOk};
+ghost use Rattle.volume4d.specs.Point.{Point};
+ghost use Rattle.volume4d.specs.Volume.{area_has};
+ghost use Rattle.volume4d.specs.Level.{greater};
+ghost use Rattle.volume4d.specs.LevelLaws.{level_where};
+ghost use Rattle.volume4d.specs.Slab.{slab_has, slabs_have, top_held};
+ghost use Rattle.desk_rules.specs.Plan as plan_spec;
+ghost use Rattle.desk_rules.specs.Plan.{is_live};
+ghost use Rattle.desk_store.specs.Parts.{parts_of, row_of, closed_parts, HasNoPoint};
+
+use desk_rules::plan::PlanRow;
+use desk_rules::plan_id::PlanId;
+use desk_rules::words::{Aircraft, Usage};
+use std::alloc::AllocError;
+use std::marker::Model;
+use std::slice::from_ref;
+use volume4d::{Area, Held, Slab, bounds_of, meet};
+
+/// A plan, but for its operator and its id, with the slabs of its area and bounds round them, which
+/// are made once.
+#[derive(Drop)]
+pub struct Plan {
+    priority: u32,
+    usage: Usage,
+    aircraft: Aircraft,
+    area: Area,
+    slabs: Vec<Slab>,
+    bounds: Slab,
+}
+
+impl Model for Plan {
+    ghost use Rattle.desk_store.specs.Parts.{PlanParts, AreSlabs};
+
+    ghost Value = { PlanParts };
+
+    ghost view = { λ p. record {
+      priority = p.priority;
+      usage = p.usage;
+      aircraft = p.aircraft;
+      area = p.area;
+    } };
+
+    ghost invariant = { λ p. AreSlabs p.area p.slabs.items p.bounds };
+}
+
+impl Plan {
+    /// The plan of a row.
+    ///
+    /// # Errors
+    ///
+    /// `AllocError` for want of memory.
+    pub fn try_new(row: PlanRow) -> Result<Plan, AllocError>
+        ensures { IfOk result (λ plan. plan ≡ parts_of row) }
+    {
+        let slabs = row.area.slabs()?;
+        let bounds = bounds_of(&slabs);
+        Ok(Plan {
+            priority: row.priority,
+            usage: row.usage,
+            aircraft: row.aircraft,
+            area: row.area,
+            slabs,
+            bounds,
+        })
+    }
+
+    /// The row of the plan with its id.
+    ///
+    /// # Errors
+    ///
+    /// `AllocError` for want of memory.
+    pub fn row(&self, id: PlanId) -> Result<PlanRow, AllocError>
+        ensures { IfOk result (λ row. row ≡ row_of id self.now) }
+    {
+        Ok(PlanRow {
+            id,
+            priority: self.priority,
+            usage: self.usage,
+            aircraft: self.aircraft,
+            area: self.area.copy()?,
+        })
+    }
+
+    /// Gives it the usage `Closed`.
+    pub fn close(&mut self)
+        ensures { self.new ≡ closed_parts self.old }
+    {
+        self.usage = Usage::Closed;
+    }
+
+    /// Whether its bounds have a point of an extent. Its area has none where they have none.
+    pub fn may_meet(&self, extent: &Slab) -> bool
+        ensures { result ≡ false → HasNoPoint self.now.area extent.now }
+    {
+        overlap(&self.bounds, extent)
+    }
+
+    /// Whether it is live and has a priority at least.
+    pub fn is_rival(&self, least: u32) -> bool
+        ensures { result ≡ (is_live self.now.usage && nat_le least self.now.priority) }
+    {
+        if !is_live(self.usage) {
+            return false;
+        }
+        self.priority >= least
+    }
+
+    /// Appends the slabs of its area that meet an extent, at its priority.
+    ///
+    /// # Errors
+    ///
+    /// `AllocError` for want of memory.
+    pub fn push_slabs(&self, helds: &mut Vec<Held>, extent: &Slab) -> Result<(), AllocError>
+        ensures { OnOk result ((x : Point) → slab_has extent.now x ≡ true → top_held helds.new.items x
+            ≡ greater (top_held helds.old.items x)
+            (level_where (area_has self.now.area x) self.now.priority)) }
+    {
+        push_helds(helds, &self.slabs, self.priority, extent)
+    }
+}
+
+fn is_live(usage: Usage) -> bool
+    ensures { result ≡ plan_spec.is_live usage }
+{
+    match usage {
+        Usage::Planned => true,
+        Usage::InUse => true,
+        Usage::Closed => false,
+    }
+}
+
+// Appends the slabs that meet an extent, at a priority.
+fn push_helds(
+    helds: &mut Vec<Held>,
+    slabs: &[Slab],
+    priority: u32,
+    extent: &Slab,
+) -> Result<(), AllocError>
+    ensures { OnOk result ((x : Point) → slab_has extent.now x ≡ true → top_held helds.new.items x
+        ≡ greater (top_held helds.old.items x) (level_where (slabs_have slabs.now x) priority)) }
+{
+    for slab in slabs {
+        if overlap(slab, extent) {
+            helds.push(Held {
+                slab: *slab,
+                priority,
+            })?;
+        }
+    }
+    Ok(())
+}
+
+// Whether two slabs share a point.
+fn overlap(mine: &Slab, theirs: &Slab) -> bool
+    ensures { IsTrue result ↔ ((x : Point) × (slab_has mine.now x ≡ true) × (slab_has theirs.now x ≡ true)) }
+{
+    meet(from_ref(mine), from_ref(theirs))
+}
