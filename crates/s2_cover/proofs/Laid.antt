@@ -23,11 +23,11 @@ pub not_in : (b : Bool) → IsTrue b → b ≡ false → ⊥
 not_in b holds fails = both_ways b fails holds
 
 -- a position in a cell, from its ends
-has_position : (id p : ℕ) → IsCellId id → first_leaf id ≤ p → p ≤ last_leaf id
+pub has_position : (id p : ℕ) → IsCellId id → first_leaf id ≤ p → p ≤ last_leaf id
     → IsTrue (cell_has id p)
 has_position id p valid low high = (leaves_between id valid p).1 (low, high)
 
-position_in : (id p : ℕ) → IsCellId id → IsTrue (cell_has id p)
+pub position_in : (id p : ℕ) → IsCellId id → IsTrue (cell_has id p)
     → IsInRange (first_leaf id) (last_leaf id) p
 position_in id p valid = (leaves_between id valid p).0
 

@@ -2,6 +2,10 @@ pub mod Beginnings
 pub mod Laid
 pub mod Merging
 pub mod Nesting
+pub mod Pigeons
 pub mod RangeTests
 pub mod Runs
+pub mod Sights
+pub mod SquareCells
 pub mod Uniqueness
+pub mod Walks

@@ -1,0 +1,93 @@
+//! Covers of rectangles.
+
+ghost use Rattle.std.specs.Prelude.{◌≡◌, ℕ, ◌+◌, ◌-◌, ◌^◌, ◌<◌, ◌≤◌, IfOk, IfErr, OnOk, length};
+ghost use Rattle.std.specs.Int.{IsInRange};
+ghost use Rattle.s2_hilbert.specs.Grid.{IsSquare};
+ghost use Rattle.s2_hilbert.specs.Curve.{first_position, last_position};
+ghost use Rattle.s2_cellid.specs.Family.{square_id};
+ghost use Rattle.s2_cover.specs.Leaves.{leaves_of};
+ghost use Rattle.s2_cover.specs.Canonical.{IsCanonical};
+ghost use Rattle.s2_cover.specs.Laying.{IsLaid};
+ghost use Rattle.s2_cover.specs.Rectangles.{rect_leaves, wide_set};
+ghost use Rattle.s2_cover.specs.Walking.{IsOpened, IsWide, HasWalked, HasStopped, IsRefused, looks_for, max_looks};
+ghost use Rattle.s2_cover.specs.declared.walk.CoverFault.TheVariants.{OutOfMemory};
+
+use crate::covers::Cover;
+use crate::rect::Rect;
+use crate::sight::{Sight, Wide, look};
+use s2_cellid::CellId;
+use s2_hilbert::Square;
+use std::alloc::{AllocFailed, Global};
+use std::error::Error;
+use std::fmt;
+
+/// Why a rectangle has no cover within a limit.
+#[derive(Clone, Copy, Debug, PartialEq, Eq)]
+pub enum CoverFault {
+    /// The canonical cover has more cells than the limit allows.
+    TooManyCells {
+        /// How many squares were compared with the rectangle until this was known.
+        looked: u64,
+    },
+    /// Memory ran out.
+    OutOfMemory,
+}
+
+impl fmt::Display for CoverFault {
+    fn fmt<W: fmt::Write>(&self, f: &mut fmt::Formatter<W>) -> fmt::Result {
+        f.pad(match self {
+            CoverFault::TooManyCells { .. } => "the cover has too many cells",
+            CoverFault::OutOfMemory => "out of memory",
+        })
+    }
+}
+
+impl Error for CoverFault {}
+
+impl<T: Drop> From<AllocFailed<T>> for CoverFault {
+    ghost from_gives = { λ _ e. e ≡ OutOfMemory };
+
+    fn from(_e: AllocFailed<T>) -> CoverFault {
+        CoverFault::OutOfMemory
+    }
+}
+
+// Appends the canonical cells of the rectangle's leaves that lie in the square.
+fn walk(
+    wide: &Wide,
+    square: &Square,
+    limit: u32,
+    cells: &mut Vec<CellId>,
+    looked: &mut u64,
+) -> Result<(), CoverFault>
+    requires wide { IsWide wide.now }
+    requires square { IsSquare square.now }
+    requires face { square.now.face ≡ wide.now.face }
+    requires level { square.now.level ≤ wide.now.level }
+    requires laid { IsLaid (wide_set wide.now) cells.old.items (first_position square.now) }
+    requires few { length cells.old.items ≤ limit }
+    requires opened { IsOpened (wide_set wide.now) (square_id square.now) }
+    requires counted { length cells.old.items ≤ looked.old }
+    requires room { looked.old
+        + looks_for (wide.now.level - square.now.level) (limit + 1 - length cells.old.items) < 2 ^ 64 }
+    ensures ok { OnOk result (HasWalked (wide_set wide.now) (wide.now.level - square.now.level) limit
+        (last_position square.now + 1) cells.old.items cells.new.items looked.old looked.new) }
+    ensures err { IfErr result (HasStopped (wide_set wide.now) limit (looked.old
+        + looks_for (wide.now.level - square.now.level) (limit + 1 - length cells.old.items))) }
+{
+    match look(wide, square, looked) {
+        Sight::Outside => {}
+        Sight::Inside => {
+            if cells.len() >= limit as usize {
+                return Err(CoverFault::TooManyCells { looked: *looked });
+            }
+            cells.push(CellId::of_square(square))?;
+        }
+        Sight::Across => {
+            for k in 0..4u8 {
+                walk(wide, &square.child(k), limit, cells, looked)?;
+            }
+        }
+    }
+    Ok(())
+}
