@@ -16,7 +16,7 @@ use Rattle.s2_cover.specs.declared.sight.Sight.TheVariants.{Outside, Inside, Acr
 use Rattle.s2_cover.proofs.RangeTests.{of_range, in_range}
 use Rattle.s2_cover.proofs.SquareCells.{last_below}
 
-div_mono : (m n side : ℕ) → 0 < side → m ≤ n → m / side ≤ n / side
+pub div_mono : (m n side : ℕ) → 0 < side → m ≤ n → m / side ≤ n / side
 div_mono m n side some order = le-div (m / side) n side some (omega (arith, order, div-mul-le_self m side))
 
 -- a number whose square comes before the least
@@ -107,7 +107,7 @@ some_span level quotient first last spans =
 abbrev both_tests : WideParts → ℕ → ℕ → Bool
 both_tests w i j = is_along (side_of w.level) w.a_min w.a_max i && is_along (side_of w.level) w.b_min w.b_max j
 
-on_face : (w : WideParts) (leaf : GridLeaf) → leaf.face ≡ w.face → (leaf.face == w.face) ≡ true
+pub on_face : (w : WideParts) (leaf : GridLeaf) → leaf.face ≡ w.face → (leaf.face == w.face) ≡ true
 on_face w leaf same = grind (arith, nat_tests)
 
 -- the leaf at a position of a square has coordinates of the square

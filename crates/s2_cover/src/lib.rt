@@ -14,4 +14,4 @@ mod walk;
 pub use covers::{Cover, normalise};
 pub use rect::{Rect, RectFault};
 pub use spans::{Ranges, Span};
-pub use walk::{CoverFault};
+pub use walk::{CoverFault, cover};

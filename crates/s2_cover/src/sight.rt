@@ -3,7 +3,7 @@
 ghost use Rattle.std.specs.Prelude.{◌≡◌, ◌≢◌, ℕ, ◌+◌, ◌/◌, ◌^◌, ◌<◌, ◌≤◌};
 ghost use Rattle.s2_hilbert.specs.Grid.{IsSquare};
 ghost use Rattle.s2_hilbert.specs.Grid as grid;
-ghost use Rattle.s2_cover.specs.Rectangles.{widened, is_along, wide_set};
+ghost use Rattle.s2_cover.specs.Rectangles.{IsRect, widened, is_along, wide_set};
 ghost use Rattle.s2_cover.specs.Walking as spec;
 ghost use Rattle.s2_cover.specs.Walking.{Saw, SawSquare, IsWide};
 ghost use Rattle.s2_cover.specs.declared.sight.Sight.TheVariants.{Across};
@@ -76,6 +76,7 @@ impl Wide {
     pub(crate) fn of_rect(rect: &Rect) -> Wide
         ensures value { result ≡ widened rect.now }
         ensures is { IsWide result }
+        ensures rect { IsRect rect.now }
     {
         let side = side_of(rect.level());
         Wide {

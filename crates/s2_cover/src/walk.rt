@@ -1,14 +1,14 @@
 //! Covers of rectangles.
 
-ghost use Rattle.std.specs.Prelude.{◌≡◌, ℕ, ◌+◌, ◌-◌, ◌^◌, ◌<◌, ◌≤◌, IfOk, IfErr, OnOk, length};
+ghost use Rattle.std.specs.Prelude.{◌≡◌, ◌↔◌, ℕ, ◌+◌, ◌-◌, ◌^◌, ◌<◌, ◌≤◌, IsTrue, IfOk, IfErr, OnOk, length};
 ghost use Rattle.std.specs.Int.{IsInRange};
-ghost use Rattle.s2_hilbert.specs.Grid.{IsSquare};
-ghost use Rattle.s2_hilbert.specs.Curve.{first_position, last_position};
+ghost use Rattle.s2_hilbert.specs.Grid.{GridLeaf, IsLeaf, IsSquare};
+ghost use Rattle.s2_hilbert.specs.Curve.{position_of, first_position, last_position};
 ghost use Rattle.s2_cellid.specs.Family.{square_id};
 ghost use Rattle.s2_cover.specs.Leaves.{leaves_of};
 ghost use Rattle.s2_cover.specs.Canonical.{IsCanonical};
 ghost use Rattle.s2_cover.specs.Laying.{IsLaid};
-ghost use Rattle.s2_cover.specs.Rectangles.{rect_leaves, wide_set};
+ghost use Rattle.s2_cover.specs.Rectangles.{IsInFootprint, rect_leaves, wide_set};
 ghost use Rattle.s2_cover.specs.Walking.{IsOpened, IsWide, HasWalked, HasStopped, IsRefused, looks_for, max_looks};
 ghost use Rattle.s2_cover.specs.declared.walk.CoverFault.TheVariants.{OutOfMemory};
 
@@ -50,6 +50,33 @@ impl<T: Drop> From<AllocFailed<T>> for CoverFault {
     fn from(_e: AllocFailed<T>) -> CoverFault {
         CoverFault::OutOfMemory
     }
+}
+
+/// The canonical cover of the leaves that a rectangle stands for, if it has at most `limit` cells.
+///
+/// The walk goes down from the face and compares one square after another with the rectangle, at most
+/// `1 + 96 * (limit + 1)` of them.
+///
+/// # Errors
+///
+/// `TooManyCells` if the canonical cover has more than `limit` cells, `OutOfMemory` if memory runs out.
+pub fn cover(alloc: Global, rect: &Rect, limit: u32) -> Result<Cover, CoverFault>
+    ensures canonical { IfOk result (λ cover. IsCanonical (rect_leaves rect.now) cover.ids) }
+    ensures leaves { IfOk result (λ cover.
+        (p : ℕ) → leaves_of cover.ids p ≡ rect_leaves rect.now p) }
+    ensures footprint { IfOk result (λ cover. (leaf : GridLeaf) → IsLeaf leaf →
+        IsTrue (leaves_of cover.ids (position_of leaf)) ↔ IsInFootprint rect.now leaf) }
+    ensures few { IfOk result (λ cover. length cover.ids ≤ limit) }
+    ensures looked { IfOk result (λ cover.
+        IsInRange (length cover.ids) (max_looks limit) cover.looked) }
+    ensures refused { IfErr result (IsRefused (rect_leaves rect.now) limit) }
+{
+    let wide = Wide::of_rect(rect);
+    let face = Square::of_face(wide.face());
+    let mut cells = Vec::new(alloc);
+    let mut looked = 0;
+    walk(&wide, &face, limit, &mut cells, &mut looked)?;
+    Ok(Cover::of_canonical(cells, looked))
 }
 
 // Appends the canonical cells of the rectangle's leaves that lie in the square.
