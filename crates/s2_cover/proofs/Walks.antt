@@ -13,7 +13,7 @@ use Rattle.s2_cellid.specs.Family.{square_id}
 use Rattle.s2_cellid.specs.Cell.{level_of, first_leaf, last_leaf, cell_has}
 use Rattle.s2_cover.specs.Canonical.{parent_of, IsLargest, IsCanonical}
 use Rattle.s2_cover.specs.Laying.{IsLaid}
-use Rattle.s2_cover.specs.Walking.{AllIn, SomeIn, IsOpened, looks_for, HasMoreCells, HasWalked, HasStopped}
+use Rattle.s2_cover.specs.Walking.{AllIn, SomeIn, IsOpened, looks_for, HasMoreCells, HasWalked, HasStopped, IsFull}
 use Rattle.s2_cover.specs.declared.walk.CoverFault.{CoverFault}
 use Rattle.s2_cover.specs.declared.walk.CoverFault.TheVariants.{TooManyCells, OutOfMemory}
 use Rattle.s2_cover.proofs.Laid.{laid_upto, laid_more, position_in, has_position}
@@ -211,6 +211,16 @@ pub stopped_later : (set : ℕ → Bool) (limit most more : ℕ) (fault : CoverF
 stopped_later set limit most more (TooManyCells looked) stopped order =
     ((stopped.0.0, omega (arith, stopped.0.1, order)), stopped.1)
 stopped_later set limit most more OutOfMemory stopped order = tt
+
+-- a fault at a cell that is to be appended
+pub stopped_full : (set : ℕ → Bool) (limit first id looks most : ℕ) (before : List ℕ) (fault : CoverFault)
+    → IsLaid set before first → IsLargest set id → first_leaf id ≡ first → length before < looks → looks ≤ most
+    → IsFull limit (length before) looks fault → HasStopped set limit most fault
+stopped_full set limit first id looks most before (TooManyCells looked) laid largest begins counted within full = (
+  (omega (arith, full, counted), omega (arith, full.0, within)),
+  stopped_inside set limit first id before laid largest begins full.1,
+)
+stopped_full set limit first id looks most before OutOfMemory laid largest begins counted within full = tt
 
 pub if_err : {T : Type 0} (r : Result T CoverFault) (fault : CoverFault) (P : CoverFault → Type 0)
     → IsErrAnd r (λ e. e ≡ fault) → P fault → IfErr r P

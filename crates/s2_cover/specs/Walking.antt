@@ -78,6 +78,11 @@ HasStopped set limit most (TooManyCells looked) =
     IsInRange (limit + 1) most looked × HasMoreCells set limit
 HasStopped set limit most OutOfMemory = Unit
 
+-- what a fault says where a cell is to be appended to some: that they are as many as the limit allows
+abbrev pub IsFull : ℕ → ℕ → ℕ → CoverFault → Type 0
+IsFull limit cells looks (TooManyCells looked) = (looked ≡ looks) × (limit ≤ cells)
+IsFull limit cells looks OutOfMemory = Unit
+
 -- the most looks at which a cover within a limit is found or refused
 abbrev pub max_looks : ℕ → ℕ
 max_looks limit = 1 + 96 * (limit + 1)

@@ -1,6 +1,6 @@
 //! Covers of rectangles.
 
-ghost use Rattle.std.specs.Prelude.{◌≡◌, ◌↔◌, ℕ, ◌+◌, ◌-◌, ◌^◌, ◌<◌, ◌≤◌, IsTrue, IfOk, IfErr, OnOk, length};
+ghost use Rattle.std.specs.Prelude.{◌≡◌, ◌↔◌, ℕ, ◌+◌, ◌-◌, ◌^◌, ◌<◌, ◌≤◌, [], ◌∷◌, ◌++◌, IsTrue, IfOk, IfErr, OnOk, length};
 ghost use Rattle.std.specs.Int.{IsInRange};
 ghost use Rattle.s2_hilbert.specs.Grid.{GridLeaf, IsLeaf, IsSquare};
 ghost use Rattle.s2_hilbert.specs.Curve.{position_of, first_position, last_position};
@@ -9,7 +9,7 @@ ghost use Rattle.s2_cover.specs.Leaves.{leaves_of};
 ghost use Rattle.s2_cover.specs.Canonical.{IsCanonical};
 ghost use Rattle.s2_cover.specs.Laying.{IsLaid};
 ghost use Rattle.s2_cover.specs.Rectangles.{IsInFootprint, rect_leaves, wide_set};
-ghost use Rattle.s2_cover.specs.Walking.{IsOpened, IsWide, HasWalked, HasStopped, IsRefused, looks_for, max_looks};
+ghost use Rattle.s2_cover.specs.Walking.{IsOpened, IsWide, HasWalked, HasStopped, IsFull, IsRefused, looks_for, max_looks};
 ghost use Rattle.s2_cover.specs.declared.walk.CoverFault.TheVariants.{OutOfMemory};
 
 use crate::covers::Cover;
@@ -104,17 +104,30 @@ fn walk(
 {
     match look(wide, square, looked) {
         Sight::Outside => {}
-        Sight::Inside => {
-            if cells.len() >= limit as usize {
-                return Err(CoverFault::TooManyCells { looked: *looked });
-            }
-            cells.push(CellId::of_square(square))?;
-        }
+        Sight::Inside => keep(square, limit, cells, *looked)?,
         Sight::Across => {
             for k in 0..4u8 {
                 walk(wide, &square.child(k), limit, cells, looked)?;
             }
         }
     }
+    Ok(())
+}
+
+// Appends the cell of a square, unless there are as many cells as the limit allows.
+fn keep(
+    square: &Square,
+    limit: u32,
+    cells: &mut Vec<CellId>,
+    looked: u64,
+) -> Result<(), CoverFault>
+    ensures kept { OnOk result (cells.new.items ≡ cells.old.items ++ square_id square.now ∷ []) }
+    ensures room { OnOk result (length cells.old.items < limit) }
+    ensures full { IfErr result (IsFull limit (length cells.old.items) looked) }
+{
+    if cells.len() >= limit as usize {
+        return Err(CoverFault::TooManyCells { looked });
+    }
+    cells.push(CellId::of_square(square))?;
     Ok(())
 }
