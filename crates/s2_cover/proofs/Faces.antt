@@ -13,12 +13,14 @@ use Rattle.s2_cover.specs.Leaves.{leaves_of}
 use Rattle.s2_cover.specs.Canonical.{IsCanonical}
 use Rattle.s2_cover.specs.Laying.{IsLaid}
 use Rattle.s2_cover.specs.Rectangles.{RectParts, IsRect, IsInFootprint, WideParts, widened, wide_has, wide_set, rect_leaves, is_along}
-use Rattle.s2_cover.specs.Walking.{IsOpened, HasWalked, HasStopped, HasMoreCells, IsRefused, looks_for, max_looks}
+use Rattle.s2_cover.specs.Walking.{IsOpened, HasWalked, HasStopped, HasMoreCells, AreCrossed, AreCrossedIn, HasLooked, IsRefused, looks_for, max_looks}
 use Rattle.s2_hilbert.specs.Grid.{side_of}
 use Rattle.s2_cover.specs.declared.walk.CoverFault.{CoverFault}
 use Rattle.s2_cover.specs.declared.walk.CoverFault.TheVariants.{TooManyCells, OutOfMemory}
-use Rattle.s2_cover.proofs.Laid.{laid_none, laid_upto, canonical_when_laid, leaves_when_laid, canonical_same}
-use Rattle.s2_cover.proofs.SquareCells.{square_block}
+use Rattle.s2_cover.proofs.Laid.{has_position, laid_none, laid_upto, canonical_when_laid, leaves_when_laid, canonical_same}
+use Rattle.s2_cover.proofs.SquareCells.{square_block, some_leaves}
+use Rattle.s2_cover.proofs.Nesting.{nested, place_of}
+use Rattle.s2_cellid.specs.Cell.{IsCellId, first_leaf, last_leaf, cell_has}
 use Rattle.s2_cover.proofs.Existence.{has_canonical}
 use Rattle.s2_cover.proofs.Footprints.{footprint_is}
 
@@ -66,6 +68,47 @@ within_face w p has = elim (cases_lt p (last_position (whole w.face) + 1)) [
       absurd (both_ways (wide_set w p) (other_face w p (λ same. omega (arith, same, after, whole_first w.face))) has)
 ]
 
+from_face : (w : WideParts) (p : ℕ) → IsTrue (wide_set w p) → first_position (whole w.face) ≤ p
+from_face w p has = elim (cases_lt p (first_position (whole w.face))) [
+  | inr from ↦ from
+  | inl before ↦
+      absurd (both_ways (wide_set w p) (other_face w p (λ same. omega (arith, same, before, whole_first w.face))) has)
+]
+
+-- a cell with a leaf of the rectangle lies on its face
+lies_on_face : (w : WideParts) (id p : ℕ) → w.face < 6 → IsCellId id → IsTrue (cell_has id p) → IsTrue (wide_set w p)
+    → (first_position (whole w.face) ≤ first_leaf id) × (last_leaf id < last_position (whole w.face) + 1)
+lies_on_face w id p face valid here has =
+    let block = square_block (whole w.face) (whole_is w.face face) in
+    let on_face : IsTrue (cell_has (square_id (whole w.face)) p) =
+    has_position (square_id (whole w.face)) p block.valid (omega (arith, block.begins, from_face w p has))
+    (omega (arith, block.ends, within_face w p has, some_leaves 0)) in
+    let lies =
+    nested id (square_id (whole w.face)) p valid block.valid here on_face
+    (omega (arith, place_of id valid, block.place)) in (
+      omega (arith, lies.first, block.begins),
+      omega (arith, lies.last, block.ends, some_leaves 0),
+    )
+
+-- all crossed cells lie on the rectangle's face
+all_crossed : (w : WideParts) (ids : List ℕ) → w.face < 6
+    → AreCrossedIn (wide_set w) 60 (first_position (whole w.face)) (last_position (whole w.face) + 1) ids
+    → AreCrossed (wide_set w) ids
+all_crossed w ids face crossed = record {
+  once = crossed.once;
+  members = λ id. (
+    λ there. ((crossed.members id).0 there).crossed,
+    λ is.
+        let range = lies_on_face w id is.inside.0 face is.valid is.inside.1.0 is.inside.1.1 in
+        (crossed.members id).1 (record {
+          crossed = is;
+          place = omega (arith, place_of id is.valid);
+          begins = range.0;
+          ends = range.1;
+        }),
+  );
+}
+
 below_leaves : (w : WideParts) (p : ℕ) → w.face < 6 → IsTrue (wide_set w p) → p < 6 * 2 ^ 60
 below_leaves w p face has = omega (arith, within_face w p has, whole_first w.face, face)
 
@@ -84,12 +127,13 @@ pub record IsCovered (set : ℕ → Bool) (limit : ℕ) (ids : List ℕ) (looked
   pub own : IsCanonical (leaves_of ids) ids
   pub few : length ids ≤ limit
   pub looks : IsInRange (length ids) (max_looks limit) looked
+  pub exact : HasLooked set looked
 
 pub covered : (w : WideParts) (square : GridSquare) (limit new : ℕ) (before ids : List ℕ) → square ≡ whole w.face
-    → before ≡ [] → w.level ≤ 24
-    → HasWalked (wide_set w) (w.level - square.level) limit (last_position square + 1) before ids 0 new
+    → before ≡ [] → w.face < 6 → w.level ≤ 24
+    → HasWalked (wide_set w) (w.level - square.level) limit (first_position square) (last_position square + 1) before ids 0 new
     → IsCovered (wide_set w) limit ids new
-covered w square limit new before ids is none level walked =
+covered w square limit new before ids is none face level walked =
     let set = wide_set w in
     let upto = last_position square + 1 in
     let within : (p : ℕ) → IsTrue (set p) → p < upto =
@@ -106,6 +150,9 @@ covered w square limit new before ids is none level walked =
       own = canonical_same set (leaves_of ids) ids (λ p. sym (leaves p)) canonical;
       few = walked.few;
       looks = (walked.counted, omega (arith, walked.looks, most));
+      exact = (walked.marked, (all_crossed w walked.marked face
+          (subst (λ s. AreCrossedIn set 60 (first_position s) (last_position s + 1) walked.marked) is walked.crossed),
+          omega (arith, walked.exact)));
     }
 
 pub refused : (w : WideParts) (limit levels left : ℕ) (fault : CoverFault) → w.face < 6 → levels ≤ 24

@@ -13,12 +13,13 @@ use Rattle.s2_cellid.specs.Family.{square_id}
 use Rattle.s2_cellid.specs.Cell.{level_of, first_leaf, last_leaf, cell_has}
 use Rattle.s2_cover.specs.Canonical.{parent_of, IsLargest, IsCanonical}
 use Rattle.s2_cover.specs.Laying.{IsLaid}
-use Rattle.s2_cover.specs.Walking.{AllIn, SomeIn, IsOpened, looks_for, HasMoreCells, HasWalked, HasStopped, IsFull}
+use Rattle.s2_cover.specs.Walking.{AllIn, SomeIn, IsOpened, looks_for, HasMoreCells, IsCrossed, AreCrossedIn, HasWalked, HasStopped, IsFull}
 use Rattle.s2_cover.specs.declared.walk.CoverFault.{CoverFault}
 use Rattle.s2_cover.specs.declared.walk.CoverFault.TheVariants.{TooManyCells, OutOfMemory}
 use Rattle.s2_cover.proofs.Laid.{laid_upto, laid_more, position_in, has_position}
 use Rattle.s2_cover.proofs.SquareCells.{IsBlock, square_block, parent_block, some_leaves, four_children}
 use Rattle.s2_cover.proofs.Pigeons.{no_longer}
+use Rattle.s2_cover.proofs.Crossings.{crossed_none, crossed_nowhere, crossings_append, crossings_whole}
 
 -- a cell whose leaves all belong to the set is a largest one, if its parent has another leaf
 pub block_largest : (set : ℕ → Bool) (id level first : ℕ) → IsBlock id level first → IsOpened set id
@@ -45,8 +46,11 @@ child_opened set id parent level first k whole below inner quarter outside =
 
 pub walked_outside : (set : ℕ → Bool) (levels limit first last old : ℕ) (before : List ℕ) → IsLaid set before first
     → first ≤ last + 1 → AllIn first last set false → length before ≤ limit → length before ≤ old
-    → HasWalked set levels limit (last + 1) before before old (old + 1)
+    → HasWalked set levels limit first (last + 1) before before old (old + 1)
 walked_outside set levels limit first last old before laid order none few counted = record {
+  marked = [];
+  crossed = crossed_none set false 60 first last (last + 1) none refl;
+  exact = omega arith;
   more = [];
   grown = sym (append-nil before);
   laid = laid_upto set before first (last + 1) laid order (λ p low high. none p low (omega (arith, high)));
@@ -56,12 +60,16 @@ walked_outside set levels limit first last old before laid order none few counte
 }
 
 pub walked_inside : (set : ℕ → Bool) (levels limit level first id old : ℕ) (before : List ℕ) → IsLaid set before first
-    → IsBlock id level first → IsLargest set id → length before < limit → length before ≤ old
-    → HasWalked set levels limit (first + (leaf_count level - 1) + 1) before (before ++ id ∷ []) old (old + 1)
-walked_inside set levels limit level first id old before laid block largest room counted =
+    → IsBlock id level first → IsLargest set id → AllIn first (first + (leaf_count level - 1)) set true
+    → length before < limit → length before ≤ old
+    → HasWalked set levels limit first (first + (leaf_count level - 1) + 1) before (before ++ id ∷ []) old (old + 1)
+walked_inside set levels limit level first id old before laid block largest all room counted =
     let long : length (before ++ id ∷ []) ≡ length before + 1 = length-append before (id ∷ []) in
     let upto : last_leaf id + 1 ≡ first + (leaf_count level - 1) + 1 = omega (arith, block.ends, some_leaves level) in
     record {
+      marked = [];
+      crossed = crossed_none set true 60 first (first + (leaf_count level - 1)) _ all refl;
+      exact = omega arith;
       more = id ∷ [];
       grown = refl;
       laid = subst (IsLaid set (before ++ id ∷ [])) upto (laid_more set before first id laid largest block.begins);
@@ -88,7 +96,10 @@ stopped_inside set limit first id before laid largest begins full ids canonical 
     omega (arith, long, most, full)
 
 -- after some of the four children of a square, whose own children are `levels` above the leaves
-pub record IsWalking (set : ℕ → Bool) (levels limit first count k : ℕ) (before cells : List ℕ) (old looked : ℕ) : Type 0 where
+pub record IsWalking (set : ℕ → Bool) (levels limit most first count k : ℕ) (before cells : List ℕ) (old looked : ℕ) : Type 0 where
+  pub marked : List ℕ
+  pub crossed : AreCrossedIn set most first (first + k * count) marked
+  pub exact : looked ≡ old + 1 + k + 4 * length marked
   pub more : List ℕ
   pub grown : cells ≡ before ++ more
   pub laid : IsLaid set cells (first + k * count)
@@ -96,10 +107,13 @@ pub record IsWalking (set : ℕ → Bool) (levels limit first count k : ℕ) (be
   pub looks : looked ≤ old + 1 + k + 4 * (levels * length more)
   pub counted : length cells ≤ looked
 
-pub walking_begins : (set : ℕ → Bool) (levels limit first count old : ℕ) (before : List ℕ) → IsLaid set before first
+pub walking_begins : (set : ℕ → Bool) (levels limit most first count old : ℕ) (before : List ℕ) → IsLaid set before first
     → length before ≤ limit → length before ≤ old
-    → IsWalking set levels limit first count 0 before before old (old + 1)
-walking_begins set levels limit first count old before laid few counted = record {
+    → IsWalking set levels limit most first count 0 before before old (old + 1)
+walking_begins set levels limit most first count old before laid few counted = record {
+  marked = [];
+  crossed = crossed_nowhere set most first (first + 0 * count) (omega arith);
+  exact = omega arith;
   more = [];
   grown = sym (append-nil before);
   laid = subst (IsLaid set before) (omega arith) laid;
@@ -111,14 +125,24 @@ walking_begins set levels limit first count old before laid few counted = record
 step_looks : (levels one two all : ℕ) → all ≡ one + two → levels * all ≡ levels * one + levels * two
 step_looks levels one two all is = ap (λ n. levels * n) is ∙ omega arith
 
-pub walking_goes_on : (set : ℕ → Bool) (levels limit first count k upto : ℕ) (before cells after : List ℕ) (old looked new : ℕ)
-    → IsWalking set levels limit first count k before cells old looked
-    → HasWalked set levels limit upto cells after looked new → upto ≡ first + (k + 1) * count
-    → IsWalking set levels limit first count (k + 1) before after old new
-walking_goes_on set levels limit first count k upto before cells after old looked new walking walked is =
+pub walking_goes_on : (set : ℕ → Bool) (levels limit level first k upto child : ℕ) (before cells after : List ℕ) (old looked new : ℕ)
+    → IsBlock child (level + 1) (first + k * leaf_count (level + 1))
+    → IsWalking set levels limit (60 - 2 * (level + 1)) first (leaf_count (level + 1)) k before cells old looked
+    → HasWalked set levels limit (first + k * leaf_count (level + 1)) upto cells after looked new
+    → upto ≡ first + (k + 1) * leaf_count (level + 1)
+    → IsWalking set levels limit (60 - 2 * (level + 1)) first (leaf_count (level + 1)) (k + 1) before after old new
+walking_goes_on set levels limit level first k upto child before cells after old looked new block walking walked is =
     let long = length-append walking.more walked.more in
     let products = step_looks levels (length walking.more) (length walked.more) (length (walking.more ++ walked.more)) long in
+    let count = leaf_count (level + 1) in
+    let most = 60 - 2 * (level + 1) in
+    let next : upto ≡ first + k * count + count = is ∙ next_place first k count in
     record {
+      marked = walking.marked ++ walked.marked;
+      crossed = subst (λ n. AreCrossedIn set most first n (walking.marked ++ walked.marked)) is
+          (crossings_append set most first (first + k * count) upto child (level + 1) walking.marked walked.marked block
+          block.place next (omega arith) walking.crossed walked.crossed);
+      exact = omega (arith, walking.exact, walked.exact, length-append walking.marked walked.marked);
       more = walking.more ++ walked.more;
       grown = walked.grown ∙ ap (λ ids. ids ++ walked.more) walking.grown
           ∙ append_assoc before walking.more walked.more;
@@ -126,7 +150,9 @@ walking_goes_on set levels limit first count k upto before cells after old looke
       few = walked.few;
       looks = omega (arith, walking.looks, walked.looks, products);
       counted = walked.counted;
-    }
+    } where
+      next_place : (first k count : ℕ) → first + (k + 1) * count ≡ first + k * count + count
+      next_place first k count = omega arith
 
 -- the looks that the children may still take are among those of their parent
 child_sum : (levels above taken left all : ℕ) → above ≡ levels + 1 → all ≡ taken + left → 0 < left
@@ -136,10 +162,10 @@ child_sum levels above taken left all up parts some =
     let more : above * all ≡ levels * all + all = ap (λ n. n * all) up ∙ omega arith in
     omega (arith, sum, more, parts, some)
 
-pub child_most : (set : ℕ → Bool) (levels above limit first count k : ℕ) (before cells : List ℕ) (old looked : ℕ)
-    → IsWalking set levels limit first count k before cells old looked → above ≡ levels + 1 → k < 4
+pub child_most : (set : ℕ → Bool) (levels above limit most first count k : ℕ) (before cells : List ℕ) (old looked : ℕ)
+    → IsWalking set levels limit most first count k before cells old looked → above ≡ levels + 1 → k < 4
     → looked + looks_for levels (limit + 1 - length cells) ≤ old + looks_for above (limit + 1 - length before)
-child_most set levels above limit first count k before cells old looked walking up below =
+child_most set levels above limit most first count k before cells old looked walking up below =
     let long : length cells ≡ length before + length walking.more =
     ap length walking.grown ∙ length-append before walking.more in
     let sum =
@@ -164,20 +190,35 @@ last_sum levels above cells up some =
     let more : above * cells ≡ levels * cells + cells = ap (λ n. n * cells) up ∙ omega arith in
     omega (arith, more, some)
 
-pub walking_ends : (set : ℕ → Bool) (levels above level limit first k : ℕ) (before cells : List ℕ) (old looked : ℕ)
-    → IsWalking set levels limit first (leaf_count (level + 1)) k before cells old looked → k ≡ 4 → level < 30
-    → above ≡ levels + 1 → IsLaid set before first → SomeIn first (first + (leaf_count level - 1)) set true
-    → HasWalked set above limit (first + (leaf_count level - 1) + 1) before cells old looked
-walking_ends set levels above level limit first k before cells old looked walking all inner up laid inside =
+pub walking_ends : (set : ℕ → Bool) (levels above level limit first k id : ℕ) (before cells : List ℕ) (old looked : ℕ)
+    → IsBlock id level first
+    → IsWalking set levels limit (60 - 2 * (level + 1)) first (leaf_count (level + 1)) k before cells old looked → k ≡ 4
+    → level < 30 → above ≡ levels + 1 → IsLaid set before first
+    → SomeIn first (first + (leaf_count level - 1)) set true → SomeIn first (first + (leaf_count level - 1)) set false
+    → HasWalked set above limit first (first + (leaf_count level - 1) + 1) before cells old looked
+walking_ends set levels above level limit first k id before cells old looked block walking all inner up laid inside outside =
     let four = four_children level inner in
     let product : k * leaf_count (level + 1) ≡ 4 * leaf_count (level + 1) = ap (λ n. n * leaf_count (level + 1)) all in
-    let upto : first + k * leaf_count (level + 1) ≡ first + (leaf_count level - 1) + 1 =
-    omega (arith, four, product, some_leaves level) in
+    let last = first + (leaf_count level - 1) + 1 in
+    let upto : first + k * leaf_count (level + 1) ≡ last = omega (arith, four, product, some_leaves level) in
     let laid_all = subst (IsLaid set cells) upto walking.laid in
     let some =
-    more_than_none set first (first + (leaf_count level - 1) + 1) inside.number before cells walking.more laid laid_all
+    more_than_none set first last inside.number before cells walking.more laid laid_all
     walking.grown inside.low (omega (arith, inside.high)) inside.is in
+    let has : (p : ℕ) → first ≤ p → p ≤ first + (leaf_count level - 1) → IsTrue (cell_has id p) = λ p low high.
+        has_position id p block.valid (omega (arith, block.begins, low)) (omega (arith, block.ends, high, some_leaves level)) in
+    let most = 60 - 2 * (level + 1) in
+    let crossed : IsCrossed set id = record {
+      valid = block.valid;
+      inside = (inside.number, (has inside.number inside.low inside.high, inside.is));
+      outside = (outside.number, (has outside.number outside.low outside.high, outside.is));
+    } in
     record {
+      marked = walking.marked ++ id ∷ [];
+      crossed = crossings_whole set most first last id level walking.marked block inner refl
+          (omega (arith, some_leaves level)) crossed
+          (subst (λ n. AreCrossedIn set most first n walking.marked) upto walking.crossed);
+      exact = omega (arith, walking.exact, all, length-append walking.marked (id ∷ []));
       more = walking.more;
       grown = walking.grown;
       laid = laid_all;

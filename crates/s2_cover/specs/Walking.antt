@@ -1,9 +1,9 @@
 -- A walk down the squares of a face that collects the canonical cells of a set, and counts its looks.
-use Rattle.std.specs.Prelude.{◌≡◌, ◌⊎◌, ℕ, ◌+◌, ◌-◌, ◌*◌, ◌<◌, ◌≤◌, Bool, true, false, IsTrue, List, ◌++◌, length}
+use Rattle.std.specs.Prelude.{◌≡◌, ◌≢◌, ◌↔◌, ◌⊎◌, ℕ, ◌+◌, ◌-◌, ◌*◌, ◌<◌, ◌≤◌, Bool, true, false, IsTrue, List, ◌++◌, length, Contains, AllPairs}
 use Rattle.std.specs.Int.{IsInRange}
 use Rattle.s2_hilbert.specs.Grid.{GridSquare}
 use Rattle.s2_hilbert.specs.Curve.{first_position, last_position}
-use Rattle.s2_cellid.specs.Cell.{level_of, cell_has}
+use Rattle.s2_cellid.specs.Cell.{lowest_place, level_of, IsCellId, first_leaf, last_leaf, cell_has}
 use Rattle.s2_cover.specs.Canonical.{parent_of, IsCanonical}
 use Rattle.s2_cover.specs.Laying.{IsLaid}
 use Rattle.s2_cover.specs.Rectangles.{WideParts}
@@ -62,8 +62,39 @@ looks_for levels cells = 1 + 4 * (levels * cells)
 abbrev pub HasMoreCells : (ℕ → Bool) → ℕ → Type 0
 HasMoreCells set limit = (ids : List ℕ) → IsCanonical set ids → limit < length ids
 
--- a walk has appended the canonical cells up to a position
-pub record HasWalked (set : ℕ → Bool) (levels limit upto : ℕ) (before after : List ℕ) (old new : ℕ) : Type 0 where
+-- a cell with a leaf of the set and a leaf outside it
+pub record IsCrossed (set : ℕ → Bool) (id : ℕ) : Type 0 where
+  pub valid : IsCellId id
+  pub inside : (p : ℕ) × (IsTrue (cell_has id p) × (set p ≡ true))
+  pub outside : (p : ℕ) × (IsTrue (cell_has id p) × (set p ≡ false))
+
+-- all such cells, each once
+pub record AreCrossed (set : ℕ → Bool) (ids : List ℕ) : Type 0 where
+  pub once : AllPairs ◌≢◌ ids
+  pub members : (id : ℕ) → Contains ids id ↔ IsCrossed set id
+
+-- a whole face is looked at, and the four children of each such cell
+abbrev pub HasLooked : (ℕ → Bool) → ℕ → Type 0
+HasLooked set looked = (ids : List ℕ) × (AreCrossed set ids × (looked ≡ 1 + 4 * length ids))
+
+-- such a cell from one position up to another, with its lowest bit no higher than a place
+pub record IsCrossedIn (set : ℕ → Bool) (most first upto id : ℕ) : Type 0 where
+  pub crossed : IsCrossed set id
+  pub place : lowest_place id ≤ most
+  pub begins : first ≤ first_leaf id
+  pub ends : last_leaf id < upto
+
+-- all of these, each once
+pub record AreCrossedIn (set : ℕ → Bool) (most first upto : ℕ) (ids : List ℕ) : Type 0 where
+  pub once : AllPairs ◌≢◌ ids
+  pub members : (id : ℕ) → Contains ids id ↔ IsCrossedIn set most first upto id
+
+-- a walk over the positions from `first` to before `upto` has appended the canonical cells there, and
+-- has looked at one square, and at the four children of each crossed cell
+pub record HasWalked (set : ℕ → Bool) (levels limit first upto : ℕ) (before after : List ℕ) (old new : ℕ) : Type 0 where
+  pub marked : List ℕ
+  pub crossed : AreCrossedIn set 60 first upto marked
+  pub exact : new ≡ old + 1 + 4 * length marked
   pub more : List ℕ
   pub grown : after ≡ before ++ more
   pub laid : IsLaid set after upto

@@ -9,7 +9,7 @@ ghost use Rattle.s2_cover.specs.Leaves.{leaves_of};
 ghost use Rattle.s2_cover.specs.Canonical.{IsCanonical};
 ghost use Rattle.s2_cover.specs.Laying.{IsLaid};
 ghost use Rattle.s2_cover.specs.Rectangles.{IsInFootprint, rect_leaves, wide_set};
-ghost use Rattle.s2_cover.specs.Walking.{IsOpened, IsWide, HasWalked, HasStopped, IsFull, IsRefused, looks_for, max_looks};
+ghost use Rattle.s2_cover.specs.Walking.{IsOpened, IsWide, HasWalked, HasStopped, IsFull, IsRefused, HasLooked, looks_for, max_looks};
 ghost use Rattle.s2_cover.specs.declared.walk.CoverFault.TheVariants.{OutOfMemory};
 
 use crate::covers::Cover;
@@ -69,6 +69,7 @@ pub fn cover(alloc: Global, rect: &Rect, limit: u32) -> Result<Cover, CoverFault
     ensures few { IfOk result (λ cover. length cover.ids ≤ limit) }
     ensures looked { IfOk result (λ cover.
         IsInRange (length cover.ids) (max_looks limit) cover.looked) }
+    ensures exact { IfOk result (λ cover. HasLooked (rect_leaves rect.now) cover.looked) }
     ensures refused { IfErr result (IsRefused (rect_leaves rect.now) limit) }
 {
     let wide = Wide::of_rect(rect);
@@ -98,7 +99,8 @@ fn walk(
     requires room { looked.old
         + looks_for (wide.now.level - square.now.level) (limit + 1 - length cells.old.items) < 2 ^ 64 }
     ensures ok { OnOk result (HasWalked (wide_set wide.now) (wide.now.level - square.now.level) limit
-        (last_position square.now + 1) cells.old.items cells.new.items looked.old looked.new) }
+        (first_position square.now) (last_position square.now + 1)
+        cells.old.items cells.new.items looked.old looked.new) }
     ensures err { IfErr result (HasStopped (wide_set wide.now) limit (looked.old
         + looks_for (wide.now.level - square.now.level) (limit + 1 - length cells.old.items))) }
 {

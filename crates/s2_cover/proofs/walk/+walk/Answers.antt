@@ -28,9 +28,10 @@ loop-k-init t c =
     let square = c.args.square.now in
     let cells = c.args.cells.now.items in
     let levels = c.args.wide.now.level - square.level - 1 in
-    subst (IsWalking (wide_set c.args.wide.now) levels c.args.limit (first_position square)
+    let most = 60 - 2 * (square.level + 1) in
+    subst (IsWalking (wide_set c.args.wide.now) levels c.args.limit most (first_position square)
     (leaf_count (square.level + 1)) 0 cells cells c.args.looked.now) (sym c.look.ensures.counted)
-    (walking_begins (wide_set c.args.wide.now) levels c.args.limit (first_position square)
+    (walking_begins (wide_set c.args.wide.now) levels c.args.limit most (first_position square)
     (leaf_count (square.level + 1)) c.args.looked.now cells c.requires.laid c.requires.few c.requires.counted)
 
 pub walk-requires : goal.walk-requires
@@ -48,7 +49,8 @@ walk-requires t c =
     let inner : square.level < 30 = omega (arith, above, c.requires.wide.level) in
     let most =
     child_most set (c.args.wide.now.level - square.level - 1) (c.args.wide.now.level - square.level) c.args.limit
-    (first_position square) (leaf_count (square.level + 1)) c.loop-k.k c.args.cells.now.items c.loop-k.cells.items
+    (60 - 2 * (square.level + 1)) (first_position square) (leaf_count (square.level + 1)) c.loop-k.k
+    c.args.cells.now.items c.loop-k.cells.items
     c.args.looked.now c.loop-k.looked walking (omega (arith, above)) c.loop-k-test.true in
     let room : c.loop-k.looked + looks_for (c.args.wide.now.level - child.level) (c.args.limit + 1 - length c.loop-k.cells.items) < 2 ^ 64 =
     subst (λ n. c.loop-k.looked + looks_for n (c.args.limit + 1 - length c.loop-k.cells.items) < 2 ^ 64) (sym levels)
@@ -76,7 +78,8 @@ returns-in_err-walk-in-Across-clause-err t c =
     omega (arith, c.child.ensures.level) in
     let most =
     child_most set (c.args.wide.now.level - square.level - 1) (c.args.wide.now.level - square.level) c.args.limit
-    (first_position square) (leaf_count (square.level + 1)) c.loop-k.k c.args.cells.now.items c.loop-k.cells.items
+    (60 - 2 * (square.level + 1)) (first_position square) (leaf_count (square.level + 1)) c.loop-k.k
+    c.args.cells.now.items c.loop-k.cells.items
     c.args.looked.now c.loop-k.looked c.loop-k.invariant (omega (arith, above)) c.loop-k-test.true in
     let fault = c.in_err-walk-in-Across.field-0.0 in
     let stopped = c.in_err-walk-in-Across.ensures.err in
@@ -94,11 +97,16 @@ loop-k-preserved t c =
     let told = c.child.ensures in
     let levels : c.args.wide.now.level - child.level ≡ c.args.wide.now.level - square.level - 1 =
     omega (arith, told.level) in
-    walking_goes_on set (c.args.wide.now.level - square.level - 1) c.args.limit (first_position square)
-    (leaf_count (square.level + 1)) c.loop-k.k (last_position child + 1) c.args.cells.now.items c.loop-k.cells.items
-    c.walk.new.cells.items c.args.looked.now c.loop-k.looked c.walk.new.looked c.loop-k.invariant
-    (subst (λ n. HasWalked set n c.args.limit (last_position child + 1) c.loop-k.cells.items c.walk.new.cells.items
-    c.loop-k.looked c.walk.new.looked) levels c.in_ok-walk-in-Across.ensures.ok)
+    let first : first_position child ≡ first_position square + c.loop-k.k * leaf_count (square.level + 1) =
+    told.first ∙ ap (λ l. first_position square + c.loop-k.k * leaf_count l) told.level in
+    let P : ℕ → ℕ → Type 0 = λ n from. HasWalked set n c.args.limit from (last_position child + 1)
+        c.loop-k.cells.items c.walk.new.cells.items c.loop-k.looked c.walk.new.looked in
+    walking_goes_on set (c.args.wide.now.level - square.level - 1) c.args.limit square.level (first_position square)
+    c.loop-k.k (last_position child + 1) (square_id child) c.args.cells.now.items c.loop-k.cells.items
+    c.walk.new.cells.items c.args.looked.now c.loop-k.looked c.walk.new.looked
+    (child_block child square c.loop-k.k told.square told.level told.first) c.loop-k.invariant
+    (subst (P (c.args.wide.now.level - square.level - 1)) first
+    (subst (λ n. P n (first_position child)) levels c.in_ok-walk-in-Across.ensures.ok))
     (child_upto child square c.loop-k.k told.level told.first)
 
 pub returns-in-Outside-clause-ok : goal.returns-in-Outside-clause-ok
@@ -107,7 +115,7 @@ returns-in-Outside-clause-ok t c =
     let square = c.args.square.now in
     let levels = c.args.wide.now.level - square.level in
     let cells = c.args.cells.now.items in
-    subst (HasWalked set levels c.args.limit (last_position square + 1) cells cells c.args.looked.now)
+    subst (HasWalked set levels c.args.limit (first_position square) (last_position square + 1) cells cells c.args.looked.now)
     (sym c.look.ensures.counted)
     (walked_outside set levels c.args.limit (first_position square) (last_position square) c.args.looked.now cells
     c.requires.laid (omega arith) c.in-Outside.ensures.saw.saw c.requires.few c.requires.counted)
@@ -124,11 +132,12 @@ returns-in_ok-keep-in-Inside-clause-ok t c =
     c.in-Inside.ensures.saw.saw in
     let told = c.in_ok-keep-in-Inside.ensures in
     let P : List ℕ → ℕ → Type 0 = λ after new.
-        HasWalked set levels c.args.limit (last_position square + 1) cells after c.args.looked.now new in
+        HasWalked set levels c.args.limit (first_position square) (last_position square + 1) cells after
+        c.args.looked.now new in
     subst (λ new. P c.keep.new.cells.items new) (sym c.look.ensures.counted)
     (subst (λ after. P after (c.args.looked.now + 1)) (sym told.kept)
     (walked_inside set levels c.args.limit square.level (first_position square) (square_id square) c.args.looked.now
-    cells c.requires.laid block largest told.room c.requires.counted))
+    cells c.requires.laid block largest c.in-Inside.ensures.saw.saw told.room c.requires.counted))
 
 pub returns-after-loop-k-clause-ok : goal.returns-after-loop-k-clause-ok
 returns-after-loop-k-clause-ok t c =
@@ -136,6 +145,8 @@ returns-after-loop-k-clause-ok t c =
     let above = c.in-Across.ensures.saw.above refl in
     walking_ends (wide_set c.args.wide.now) (c.args.wide.now.level - square.level - 1)
     (c.args.wide.now.level - square.level) square.level c.args.limit (first_position square) c.loop-k.k
-    c.args.cells.now.items c.loop-k.cells.items c.args.looked.now c.loop-k.looked c.loop-k.invariant
+    (square_id square) c.args.cells.now.items c.loop-k.cells.items c.args.looked.now c.loop-k.looked
+    (square_block square c.requires.square) c.loop-k.invariant
     (omega (arith, c.loop-k.auto, c.loop-k-test.false)) (omega (arith, above, c.requires.wide.level))
     (omega (arith, above)) c.requires.laid c.in-Across.ensures.saw.saw.0
+    c.in-Across.ensures.saw.saw.1

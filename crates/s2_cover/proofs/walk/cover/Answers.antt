@@ -5,7 +5,7 @@ use Rattle.s2_cover.specs.Leaves.{leaves_of}
 use Rattle.s2_cover.specs.Canonical.{IsCanonical}
 use Rattle.s2_cover.specs.Laying.{IsLaid}
 use Rattle.s2_cover.specs.Rectangles.{RectParts, rect_leaves, wide_set}
-use Rattle.s2_cover.specs.Walking.{IsOpened, IsRefused}
+use Rattle.s2_cover.specs.Walking.{IsOpened, IsRefused, HasLooked}
 use Rattle.s2_cover.proofs.Faces.{whole, laid_before, whole_opened, IsCovered, covered, refused, covers_footprint}
 use Rattle.s2_cover.proofs.Walks.{if_err}
 use Rattle.s2_cover.proofs.walk.cover.Goals as goal
@@ -45,7 +45,8 @@ found c =
     subst (λ w. IsCovered (wide_set w) c.args.limit c.walk.new.cells.items c.walk.new.looked)
     c.of_rect-wide.ensures.value
     (covered wide c.of_face-face.result c.args.limit c.walk.new.looked c.new-cells.result.items
-    c.walk.new.cells.items square c.new-cells.ensures.items c.of_rect-wide.ensures.is.level c.in_ok-walk.ensures.ok)
+    c.walk.new.cells.items square c.new-cells.ensures.items c.of_rect-wide.ensures.is.face
+    c.of_rect-wide.ensures.is.level c.in_ok-walk.ensures.ok)
 
 pub of_canonical-requires : goal.of_canonical-requires
 of_canonical-requires c = (found c).own
@@ -71,3 +72,7 @@ returns-clause-looked c =
     let told = (found c.before).looks in
     let long = ap length c.of_canonical.ensures.ids in
     let looks = c.of_canonical.ensures.looked in (omega (arith, told, long, looks), omega (arith, told, looks))
+
+pub returns-clause-exact : goal.returns-clause-exact
+returns-clause-exact c =
+    subst (HasLooked (rect_leaves c.args.rect.now)) (sym c.of_canonical.ensures.looked) (found c.before).exact
