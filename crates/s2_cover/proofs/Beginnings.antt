@@ -30,7 +30,7 @@ never_less a b same less =
     let up = pow-le-pow_right {n = 2} (omega arith) {i = a + 1} {j = b} (omega (arith, less)) in
     let twice = pow-add 2 a 1 in omega (arith, same, up, twice, pow_pos a)
 
-same_place : (a b : ℕ) → 2 ^ a ≡ 2 ^ b → a ≡ b
+pub same_place : (a b : ℕ) → 2 ^ a ≡ 2 ^ b → a ≡ b
 same_place a b same = elim (cases_lt a b) [
   | inl less ↦ absurd (never_less a b same less)
   | inr at_least ↦ elim (cases_lt b a) [

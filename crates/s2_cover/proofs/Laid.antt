@@ -23,20 +23,21 @@ pub not_in : (b : Bool) → IsTrue b → b ≡ false → ⊥
 not_in b holds fails = both_ways b fails holds
 
 -- a position in a cell, from its ends
-has_position : (id p : ℕ) → IsCellId id → first_leaf id ≤ p → p ≤ last_leaf id
+pub has_position : (id p : ℕ) → IsCellId id → first_leaf id ≤ p → p ≤ last_leaf id
     → IsTrue (cell_has id p)
 has_position id p valid low high = (leaves_between id valid p).1 (low, high)
 
-position_in : (id p : ℕ) → IsCellId id → IsTrue (cell_has id p)
+pub position_in : (id p : ℕ) → IsCellId id → IsTrue (cell_has id p)
     → IsInRange (first_leaf id) (last_leaf id) p
 position_in id p valid = (leaves_between id valid p).0
 
 -- no cell in the set lies round one of the largest
-none_larger : (set : ℕ → Bool) (a b p : ℕ) → IsLargest set a → IsLargest set b
+pub none_larger : (set : ℕ → Bool) (a b p : ℕ) → IsLargest set a → IsCellId b
+    → ((q : ℕ) → IsTrue (cell_has b q) → IsTrue (set q))
     → IsTrue (cell_has a p) → IsTrue (cell_has b p) → lowest_place a < lowest_place b → ⊥
-none_larger set a b p largest_a largest_b has_a has_b less =
+none_larger set a b p largest_a valid_b inside_b has_a has_b less =
     let place_a = place_of a largest_a.valid in
-    let place_b = place_of b largest_b.valid in
+    let place_b = place_of b valid_b in
     elim largest_a.outside [
       | inl whole ↦ omega (arith, whole, place_a, place_b, less)
       | inr (q, (in_parent, out)) ↦
@@ -44,10 +45,10 @@ none_larger set a b p largest_a largest_b has_a has_b less =
           let has_parent =
           leaves_inside a (parent_of a) p largest_a.valid parent.valid parent.lies has_a in
           let lies =
-          nested (parent_of a) b p parent.valid largest_b.valid has_parent has_b
+          nested (parent_of a) b p parent.valid valid_b has_parent has_b
           (omega (arith, parent.place, place_a, place_b, less)) in
-          not_in (set q) (largest_b.inside q
-          (leaves_inside (parent_of a) b q parent.valid largest_b.valid lies in_parent)) out
+          not_in (set q) (inside_b q
+          (leaves_inside (parent_of a) b q parent.valid valid_b lies in_parent)) out
     ]
 
 -- two of the largest cells of a set with a common leaf are one
@@ -55,9 +56,11 @@ pub largest_apart : (set : ℕ → Bool) (a b p : ℕ) → IsLargest set a → I
     → IsTrue (cell_has a p) → IsTrue (cell_has b p) → a ≡ b
 largest_apart set a b p largest_a largest_b has_a has_b =
     elim (cases_lt (lowest_place a) (lowest_place b)) [
-      | inl less ↦ absurd (none_larger set a b p largest_a largest_b has_a has_b less)
+      | inl less ↦
+          absurd (none_larger set a b p largest_a largest_b.valid largest_b.inside has_a has_b less)
       | inr at_least ↦ elim (cases_lt (lowest_place b) (lowest_place a)) [
-        | inl more ↦ absurd (none_larger set b a p largest_b largest_a has_b has_a more)
+        | inl more ↦
+            absurd (none_larger set b a p largest_b largest_a.valid largest_a.inside has_b has_a more)
         | inr at_most ↦
             same_cell a b p largest_a.valid largest_b.valid has_a has_b (omega (arith, at_least, at_most))
       ]

@@ -1,7 +1,16 @@
 pub mod Beginnings
+pub mod Crossings
+pub mod Existence
+pub mod Faces
+pub mod Footprints
 pub mod Laid
 pub mod Merging
 pub mod Nesting
+pub mod Pigeons
 pub mod RangeTests
 pub mod Runs
+pub mod Shortest
+pub mod Sights
+pub mod SquareCells
 pub mod Uniqueness
+pub mod Walks

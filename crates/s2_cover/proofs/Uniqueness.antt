@@ -11,22 +11,22 @@ use Rattle.s2_cover.specs.Ranges.{IsSpan, IsApart, IsRanges, span_has, spans_hav
 use Rattle.s2_cover.specs.declared.spans.Span.{Span}
 use Rattle.s2_cover.proofs.RangeTests.{in_range, of_range, or_left, or_right, same_test}
 
-contains_first : (x : ℕ) (xs : List ℕ) → Contains (x ∷ xs) x
+pub contains_first : (x : ℕ) (xs : List ℕ) → Contains (x ∷ xs) x
 contains_first x xs = (0, omega arith, refl)
 
-contains_later : (x z : ℕ) (xs : List ℕ) → Contains xs z → Contains (x ∷ xs) z
+pub contains_later : (x z : ℕ) (xs : List ℕ) → Contains xs z → Contains (x ∷ xs) z
 contains_later x z xs there = (suc there.0, omega (arith, there.1), there.2)
 
-contains_cases : (x z : ℕ) (xs : List ℕ) → Contains (x ∷ xs) z → (x ≡ z) ⊎ Contains xs z
+pub contains_cases : (x z : ℕ) (xs : List ℕ) → Contains (x ∷ xs) z → (x ≡ z) ⊎ Contains xs z
 contains_cases x z xs (zero, below, is) = inl is
 contains_cases x z xs (suc k, below, is) = inr (k, omega (arith, below), is)
 
-pairs_tail : {X : Type 0} (R : X → X → Type 0) (x : X) (xs : List X) → AllPairs R (x ∷ xs)
+pub pairs_tail : {X : Type 0} (R : X → X → Type 0) (x : X) (xs : List X) → AllPairs R (x ∷ xs)
     → AllPairs R xs
 pairs_tail R x xs pairs = λ i j d less below.
     pairs (suc i) (suc j) d (omega (arith, less)) (omega (arith, below))
 
-above_first : (x z : ℕ) (xs : List ℕ) → AllPairs ◌<◌ (x ∷ xs) → Contains xs z → x < z
+pub above_first : (x z : ℕ) (xs : List ℕ) → AllPairs ◌<◌ (x ∷ xs) → Contains xs z → x < z
 above_first x z xs pairs there =
     let less = pairs 0 (suc there.0) z (omega arith) (omega (arith, there.1)) in
     omega (arith, less, there.2)

@@ -2,3 +2,5 @@ pub mod Canonical
 pub mod Laying
 pub mod Leaves
 pub mod Ranges
+pub mod Rectangles
+pub mod Walking

@@ -62,6 +62,15 @@ impl Cover {
         Ranges::of_sorted(*self.cells.allocator(), &self.cells)
     }
 
+    /// The cover of cells that are the canonical list of their leaves.
+    pub(crate) fn of_canonical(cells: Vec<CellId>, looked: u64) -> Cover
+        requires { IsCanonical (leaves_of cells.items) cells.items }
+        ensures ids { result.ids ≡ cells.items }
+        ensures looked { result.looked ≡ looked }
+    {
+        Cover { cells, looked }
+    }
+
     /// An equal cover.
     ///
     /// # Errors

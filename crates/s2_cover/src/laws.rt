@@ -1,7 +1,11 @@
 //! Laws of the definitions of covers and ranges. Each is the contract of a function that does nothing.
 
-ghost use Rattle.std.specs.Prelude.{◌≡◌, ℕ, Bool, List};
+ghost use Rattle.std.specs.Prelude.{◌≡◌, ◌↔◌, ℕ, ◌*◌, ◌^◌, ◌<◌, ◌≤◌, Bool, IsTrue, List, Contains, length};
+ghost use Rattle.s2_hilbert.specs.Grid.{GridLeaf};
+ghost use Rattle.s2_cellid.specs.Cell.{IsCellId};
+ghost use Rattle.s2_cover.specs.Leaves.{leaves_of};
 ghost use Rattle.s2_cover.specs.Canonical.{IsCanonical};
+ghost use Rattle.s2_cover.specs.Rectangles.{RectParts, IsRect, IsInFootprint, widened, wide_has};
 ghost use Rattle.s2_cover.specs.Ranges.{IsRanges};
 ghost use Rattle.s2_cover.specs.declared.spans.Span.{Span};
 
@@ -15,6 +19,25 @@ pub fn one_canonical_list()
 pub fn equal_sets_have_equal_covers()
     ensures { (set other : ℕ → Bool) (ids : List ℕ) → ((p : ℕ) → set p ≡ other p)
         → IsCanonical set ids → IsCanonical other ids }
+{}
+
+/// Each set of leaves has a canonical list of cells, which has its leaves.
+pub fn canonical_list_exists()
+    ensures { (set : ℕ → Bool) → ((p : ℕ) → IsTrue (set p) → p < 6 * 2 ^ 60)
+        → (ids : List ℕ) × (IsCanonical set ids × ((p : ℕ) → leaves_of ids p ≡ set p)) }
+{}
+
+/// No list of cells with the leaves of a set is shorter than its canonical list.
+pub fn shortest()
+    ensures { (set : ℕ → Bool) (ids others : List ℕ) → IsCanonical set ids
+        → ((id : ℕ) → Contains others id → IsCellId id)
+        → ((p : ℕ) → leaves_of others p ≡ set p) → length ids ≤ length others }
+{}
+
+/// The test of a rectangle's leaves passes exactly for the leaves that it stands for.
+pub fn rectangles_are_squares()
+    ensures { (rect : RectParts) (leaf : GridLeaf) → IsRect rect
+        → IsTrue (wide_has (widened rect) leaf) ↔ IsInFootprint rect leaf }
 {}
 
 /// A set of leaf positions has at most one list of ranges.

@@ -1,3 +1,5 @@
+mod rectangles;
+
 use super::*;
 use s2_cellid::CellId;
 use std::alloc::Global;
@@ -78,21 +80,6 @@ fn merges_and_drops(rt: HostRuntime) -> Result<(), Fail> {
         ("03 05 07", "03 05 07 "),
     ];
     check_rows(&rt, rt.alloc(), &rows)
-}
-
-#[test]
-fn merges_leaves(rt: HostRuntime) -> Result<(), Fail> {
-    let first = (3 << 60) + 64 * 5;
-    let mut leaves = Vec::new(rt.alloc());
-    for step in 0..64u64 {
-        leaves.push(CellId::from_raw(2 * (first + step) + 1).ok_or("no leaf")?)?;
-    }
-    leaves.reverse();
-    let cover = normalise(rt.alloc(), &leaves)?;
-    assert_eq!(rt; cover.cells().len(), 1);
-    assert_eq!(rt; cover.cells()[0].raw(), 2 * first + 64);
-    assert_eq!(rt; cover.cells()[0].level(), 27);
-    Ok(())
 }
 
 #[test]

@@ -1,0 +1,126 @@
+-- A walk down the squares of a face that collects the canonical cells of a set, and counts its looks.
+use Rattle.std.specs.Prelude.{◌≡◌, ◌≢◌, ◌↔◌, ◌⊎◌, ℕ, ◌+◌, ◌-◌, ◌*◌, ◌<◌, ◌≤◌, Bool, true, false, IsTrue, List, ◌++◌, length, Contains, AllPairs}
+use Rattle.std.specs.Int.{IsInRange}
+use Rattle.s2_hilbert.specs.Grid.{GridSquare}
+use Rattle.s2_hilbert.specs.Curve.{first_position, last_position}
+use Rattle.s2_cellid.specs.Cell.{lowest_place, level_of, IsCellId, first_leaf, last_leaf, cell_has}
+use Rattle.s2_cover.specs.Canonical.{parent_of, IsCanonical}
+use Rattle.s2_cover.specs.Laying.{IsLaid}
+use Rattle.s2_cover.specs.Rectangles.{WideParts}
+use Rattle.s2_cover.specs.declared.sight.Sight.{Sight}
+use Rattle.s2_cover.specs.declared.sight.Sight.TheVariants.{Outside, Inside, Across}
+use Rattle.s2_cover.specs.declared.walk.CoverFault.{CoverFault}
+use Rattle.s2_cover.specs.declared.walk.CoverFault.TheVariants.{TooManyCells, OutOfMemory}
+
+-- each number of a range has this result of a test
+abbrev pub AllIn : ℕ → ℕ → (ℕ → Bool) → Bool → Type 0
+AllIn first last test b = (n : ℕ) → first ≤ n → n ≤ last → test n ≡ b
+
+-- some number of a range has it
+pub record SomeIn (first last : ℕ) (test : ℕ → Bool) (b : Bool) : Type 0 where
+  pub number : ℕ
+  pub low : first ≤ number
+  pub high : number ≤ last
+  pub is : test number ≡ b
+
+-- what a sight says of the numbers of a range
+abbrev pub Saw : ℕ → ℕ → (ℕ → Bool) → Sight → Type 0
+Saw first last test Outside = AllIn first last test false
+Saw first last test Inside = AllIn first last test true
+Saw first last test Across = SomeIn first last test true × SomeIn first last test false
+
+-- the sight of a square, from those of its two coordinates
+abbrev pub both : Sight → Sight → Sight
+both Outside j = Outside
+both Inside j = j
+both Across Outside = Outside
+both Across Inside = Across
+both Across Across = Across
+
+-- the parts of a rectangle in coordinates of squares
+pub record IsWide (w : WideParts) : Type 0 where
+  pub face : w.face < 6
+  pub level : w.level ≤ 24
+  pub a_order : w.a_min ≤ w.a_max
+  pub b_order : w.b_min ≤ w.b_max
+
+-- what a sight says of a square
+pub record SawSquare (set : ℕ → Bool) (level : ℕ) (square : GridSquare) (sight : Sight) : Type 0 where
+  pub saw : Saw (first_position square) (last_position square) set sight
+  pub above : sight ≡ Across → square.level < level
+
+-- the cell is a whole face, or its parent has a leaf outside the set
+abbrev pub IsOpened : (ℕ → Bool) → ℕ → Type 0
+IsOpened set id =
+    (level_of id ≡ 0) ⊎ ((p : ℕ) × (IsTrue (cell_has (parent_of id) p) × (set p ≡ false)))
+
+-- the most looks that this many cells take, so many levels down: one, and four for each level and cell
+abbrev pub looks_for : ℕ → ℕ → ℕ
+looks_for levels cells = 1 + 4 * (levels * cells)
+
+-- each canonical list of the set is longer than the limit
+abbrev pub HasMoreCells : (ℕ → Bool) → ℕ → Type 0
+HasMoreCells set limit = (ids : List ℕ) → IsCanonical set ids → limit < length ids
+
+-- a cell with a leaf of the set and a leaf outside it
+pub record IsCrossed (set : ℕ → Bool) (id : ℕ) : Type 0 where
+  pub valid : IsCellId id
+  pub inside : (p : ℕ) × (IsTrue (cell_has id p) × (set p ≡ true))
+  pub outside : (p : ℕ) × (IsTrue (cell_has id p) × (set p ≡ false))
+
+-- all such cells, each once
+pub record AreCrossed (set : ℕ → Bool) (ids : List ℕ) : Type 0 where
+  pub once : AllPairs ◌≢◌ ids
+  pub members : (id : ℕ) → Contains ids id ↔ IsCrossed set id
+
+-- a whole face is looked at, and the four children of each such cell
+abbrev pub HasLooked : (ℕ → Bool) → ℕ → Type 0
+HasLooked set looked = (ids : List ℕ) × (AreCrossed set ids × (looked ≡ 1 + 4 * length ids))
+
+-- such a cell from one position up to another, with its lowest bit no higher than a place
+pub record IsCrossedIn (set : ℕ → Bool) (most first upto id : ℕ) : Type 0 where
+  pub crossed : IsCrossed set id
+  pub place : lowest_place id ≤ most
+  pub begins : first ≤ first_leaf id
+  pub ends : last_leaf id < upto
+
+-- all of these, each once
+pub record AreCrossedIn (set : ℕ → Bool) (most first upto : ℕ) (ids : List ℕ) : Type 0 where
+  pub once : AllPairs ◌≢◌ ids
+  pub members : (id : ℕ) → Contains ids id ↔ IsCrossedIn set most first upto id
+
+-- a walk over the positions from `first` to before `upto` has appended the canonical cells there, and
+-- has looked at one square, and at the four children of each crossed cell
+pub record HasWalked (set : ℕ → Bool) (levels limit first upto : ℕ) (before after : List ℕ) (old new : ℕ) : Type 0 where
+  pub marked : List ℕ
+  pub crossed : AreCrossedIn set 60 first upto marked
+  pub exact : new ≡ old + 1 + 4 * length marked
+  pub more : List ℕ
+  pub grown : after ≡ before ++ more
+  pub laid : IsLaid set after upto
+  pub few : length after ≤ limit
+  pub looks : new ≤ old + looks_for levels (length more)
+  pub counted : length after ≤ new
+
+-- a walk has ended at a fault: if there are too many cells, after no more than the greatest number of
+-- looks
+abbrev pub HasStopped : (ℕ → Bool) → ℕ → ℕ → CoverFault → Type 0
+HasStopped set limit most (TooManyCells looked) =
+    IsInRange (limit + 1) most looked × HasMoreCells set limit
+HasStopped set limit most OutOfMemory = Unit
+
+-- what a fault says where a cell is to be appended to some: that they are as many as the limit allows
+abbrev pub IsFull : ℕ → ℕ → ℕ → CoverFault → Type 0
+IsFull limit cells looks (TooManyCells looked) = (looked ≡ looks) × (limit ≤ cells)
+IsFull limit cells looks OutOfMemory = Unit
+
+-- the most looks at which a cover within a limit is found or refused
+abbrev pub max_looks : ℕ → ℕ
+max_looks limit = 1 + 96 * (limit + 1)
+
+-- what a refusal says: the set has a canonical list, and it is longer than the limit
+abbrev pub IsRefused : (ℕ → Bool) → ℕ → CoverFault → Type 0
+IsRefused set limit (TooManyCells looked) =
+    IsInRange (limit + 1) (max_looks limit) looked
+    × ((ids : List ℕ) × (IsCanonical set ids × (limit < length ids)))
+IsRefused set limit OutOfMemory = Unit

@@ -1,0 +1,196 @@
+//! Rectangles of leaves on a face.
+
+ghost use Rattle.std.specs.Prelude.{◌≡◌, ◌&&◌, nat_le};
+ghost use Rattle.std.specs.Int.{is_in_range};
+ghost use Rattle.s2_cover.specs.Rectangles.{rect_or_fault, is_coordinate, min_level, max_level, IsRect};
+
+use std::error::Error;
+use std::fmt;
+use std::marker::Model;
+
+// How many faces there are.
+const FACES: u8 = 6;
+
+// How many leaves a face has along a side.
+const FACE_SIDE: u32 = 1 << 30;
+
+// The least level of a rectangle.
+const MIN_LEVEL: u8 = 8;
+
+// The greatest level of a rectangle.
+const MAX_LEVEL: u8 = 24;
+
+/// A rectangle of leaves on a face, with a level of squares. It stands for all leaves of the face that
+/// share a square of the level with a leaf of the rectangle.
+#[derive(Clone, Copy, Debug, PartialEq, Eq)]
+pub struct Rect {
+    face: u8,
+    i_min: u32,
+    i_max: u32,
+    j_min: u32,
+    j_max: u32,
+    level: u8,
+}
+
+/// Why a rectangle cannot be made.
+#[derive(Clone, Copy, Debug, PartialEq, Eq)]
+pub enum RectFault {
+    /// The face is above 5.
+    Face,
+    /// A coordinate is above `2^30 - 1`.
+    Coordinate,
+    /// A least coordinate is above its greatest.
+    Order,
+    /// The level is not 8 to 24.
+    Level,
+}
+
+impl fmt::Display for RectFault {
+    fn fmt<W: fmt::Write>(&self, f: &mut fmt::Formatter<W>) -> fmt::Result {
+        f.pad(match self {
+            RectFault::Face => "a face is 0 to 5",
+            RectFault::Coordinate => "a coordinate is 0 to 2^30 - 1",
+            RectFault::Order => "a least coordinate is above its greatest",
+            RectFault::Level => "a rectangle has a level of 8 to 24",
+        })
+    }
+}
+
+impl Error for RectFault {}
+
+impl Model for Rect {
+    ghost use Rattle.s2_cover.specs.Rectangles.{RectParts, IsRect};
+
+    ghost Value = { RectParts };
+
+    ghost view = { λ r. record {
+      face = r.face;
+      i_min = r.i_min;
+      i_max = r.i_max;
+      j_min = r.j_min;
+      j_max = r.j_max;
+      level = r.level;
+    } };
+
+    ghost invariant = { λ r. IsRect (record {
+      face = r.face;
+      i_min = r.i_min;
+      i_max = r.i_max;
+      j_min = r.j_min;
+      j_max = r.j_max;
+      level = r.level;
+    }) };
+
+    ghost inverse = { λ parts. record {
+      face = parts.face;
+      i_min = parts.i_min;
+      i_max = parts.i_max;
+      j_min = parts.j_min;
+      j_max = parts.j_max;
+      level = parts.level;
+    } };
+}
+
+impl Rect {
+    /// The rectangle of the leaves of a face with coordinates `i_min..=i_max` and `j_min..=j_max`, and a
+    /// level of squares from 0 for a whole face to 30 for a leaf, of which it takes 8 to 24.
+    ///
+    /// # Errors
+    ///
+    /// The first fault that applies, in the order of `RectFault`.
+    pub fn try_new(
+        face: u8,
+        i_min: u32,
+        i_max: u32,
+        j_min: u32,
+        j_max: u32,
+        level: u8,
+    ) -> Result<Rect, RectFault>
+        ensures { result ≡ rect_or_fault (record {
+            face = face; i_min = i_min; i_max = i_max; j_min = j_min; j_max = j_max; level = level }) }
+    {
+        if face >= FACES {
+            return Err(RectFault::Face);
+        }
+        if !are_coordinates(i_min, i_max) {
+            return Err(RectFault::Coordinate);
+        }
+        if !are_coordinates(j_min, j_max) {
+            return Err(RectFault::Coordinate);
+        }
+        if i_min > i_max {
+            return Err(RectFault::Order);
+        }
+        if j_min > j_max {
+            return Err(RectFault::Order);
+        }
+        if !is_level(level) {
+            return Err(RectFault::Level);
+        }
+        Ok(Rect {
+            face,
+            i_min,
+            i_max,
+            j_min,
+            j_max,
+            level,
+        })
+    }
+
+    /// The face, 0 to 5.
+    pub fn face(&self) -> u8
+        ensures { result ≡ self.now.face }
+    {
+        self.face
+    }
+
+    /// The least coordinate `i`.
+    pub fn i_min(&self) -> u32
+        ensures { result ≡ self.now.i_min }
+    {
+        self.i_min
+    }
+
+    /// The greatest coordinate `i`.
+    pub fn i_max(&self) -> u32
+        ensures { result ≡ self.now.i_max }
+    {
+        self.i_max
+    }
+
+    /// The least coordinate `j`.
+    pub fn j_min(&self) -> u32
+        ensures { result ≡ self.now.j_min }
+    {
+        self.j_min
+    }
+
+    /// The greatest coordinate `j`.
+    pub fn j_max(&self) -> u32
+        ensures { result ≡ self.now.j_max }
+    {
+        self.j_max
+    }
+
+    /// The level of the squares, 8 to 24.
+    pub fn level(&self) -> u8
+        ensures value { result ≡ self.now.level }
+        ensures limits { IsRect self.now }
+    {
+        self.level
+    }
+}
+
+// Whether two numbers are coordinates of leaves.
+fn are_coordinates(least: u32, greatest: u32) -> bool
+    ensures { result ≡ (is_coordinate least && is_coordinate greatest) }
+{
+    least < FACE_SIDE && greatest < FACE_SIDE
+}
+
+// Whether a rectangle may have this level.
+fn is_level(level: u8) -> bool
+    ensures { result ≡ is_in_range min_level max_level level }
+{
+    MIN_LEVEL <= level && level <= MAX_LEVEL
+}

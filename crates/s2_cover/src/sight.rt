@@ -1,0 +1,159 @@
+//! Looks at the squares of a face from a rectangle.
+
+ghost use Rattle.std.specs.Prelude.{◌≡◌, ◌≢◌, ℕ, ◌+◌, ◌/◌, ◌^◌, ◌<◌, ◌≤◌};
+ghost use Rattle.s2_hilbert.specs.Grid.{IsSquare};
+ghost use Rattle.s2_hilbert.specs.Grid as grid;
+ghost use Rattle.s2_cover.specs.Rectangles.{IsRect, widened, is_along, wide_set};
+ghost use Rattle.s2_cover.specs.Walking as spec;
+ghost use Rattle.s2_cover.specs.Walking.{Saw, SawSquare, IsWide};
+ghost use Rattle.s2_cover.specs.declared.sight.Sight.TheVariants.{Across};
+
+use crate::rect::Rect;
+use s2_hilbert::Square;
+use std::marker::Model;
+
+// The level of the leaves.
+const LEAF_LEVEL: u8 = 30;
+
+/// A rectangle in coordinates of the squares of its level: the whole squares that it touches.
+#[derive(Clone, Copy, Debug)]
+pub(crate) struct Wide {
+    face: u8,
+    level: u8,
+    a_min: u32,
+    a_max: u32,
+    b_min: u32,
+    b_max: u32,
+}
+
+/// How a square lies to the leaves of a rectangle.
+#[derive(Clone, Copy, Debug, PartialEq, Eq)]
+pub(crate) enum Sight {
+    /// It has none of them.
+    Outside,
+    /// It has only such leaves.
+    Inside,
+    /// It has some, and other leaves.
+    Across,
+}
+
+impl Model for Wide {
+    ghost use Rattle.s2_cover.specs.Rectangles.{WideParts};
+    ghost use Rattle.s2_cover.specs.Walking.{IsWide};
+
+    ghost Value = { WideParts };
+
+    ghost view = { λ w. record {
+      face = w.face;
+      level = w.level;
+      a_min = w.a_min;
+      a_max = w.a_max;
+      b_min = w.b_min;
+      b_max = w.b_max;
+    } };
+
+    ghost invariant = { λ w. IsWide (record {
+      face = w.face;
+      level = w.level;
+      a_min = w.a_min;
+      a_max = w.a_max;
+      b_min = w.b_min;
+      b_max = w.b_max;
+    }) };
+
+    ghost inverse = { λ parts. record {
+      face = parts.face;
+      level = parts.level;
+      a_min = parts.a_min;
+      a_max = parts.a_max;
+      b_min = parts.b_min;
+      b_max = parts.b_max;
+    } };
+}
+
+impl Wide {
+    /// The squares that a rectangle touches.
+    pub(crate) fn of_rect(rect: &Rect) -> Wide
+        ensures value { result ≡ widened rect.now }
+        ensures is { IsWide result }
+        ensures rect { IsRect rect.now }
+    {
+        let side = side_of(rect.level());
+        Wide {
+            face: rect.face(),
+            level: rect.level(),
+            a_min: rect.i_min() / side,
+            a_max: rect.i_max() / side,
+            b_min: rect.j_min() / side,
+            b_max: rect.j_max() / side,
+        }
+    }
+
+    /// The face.
+    pub(crate) fn face(&self) -> u8
+        ensures { result ≡ self.now.face }
+    {
+        self.face
+    }
+}
+
+/// A look: the comparison of a square with the rectangle, which is counted.
+pub(crate) fn look(wide: &Wide, square: &Square, looked: &mut u64) -> Sight
+    requires wide { IsWide wide.now }
+    requires square { IsSquare square.now }
+    requires face { square.now.face ≡ wide.now.face }
+    requires level { square.now.level ≤ wide.now.level }
+    requires room { looked.old + 1 < 2 ^ 64 }
+    ensures counted { looked.new ≡ looked.old + 1 }
+    ensures saw { SawSquare (wide_set wide.now) wide.now.level square.now result }
+{
+    *looked += 1;
+    let side = side_of(wide.level);
+    both(
+        along(square.i_span(), wide.a_min, wide.a_max, side),
+        along(square.j_span(), wide.b_min, wide.b_max, side),
+    )
+}
+
+// The sight of a square from those of its two coordinates.
+fn both(i_sight: Sight, j_sight: Sight) -> Sight
+    ensures { result ≡ spec.both i_sight j_sight }
+{
+    match (i_sight, j_sight) {
+        (Sight::Outside, _) => Sight::Outside,
+        (Sight::Inside, _) => j_sight,
+        (Sight::Across, Sight::Outside) => Sight::Outside,
+        (Sight::Across, _) => Sight::Across,
+    }
+}
+
+// How a range of coordinates of leaves lies to squares from a least to a greatest.
+fn along(span: (u32, u32), least: u32, greatest: u32, side: u32) -> Sight
+    requires span { span.0 ≤ span.1 }
+    requires order { least ≤ greatest }
+    requires side { 0 < side }
+    ensures saw { Saw span.0 span.1 (is_along side least greatest) result }
+    ensures apart { result ≡ Across → span.0 / side ≢ span.1 / side }
+{
+    let low = span.0 / side;
+    let high = span.1 / side;
+    if high < least {
+        return Sight::Outside;
+    }
+    if greatest < low {
+        return Sight::Outside;
+    }
+    if least <= low && high <= greatest {
+        return Sight::Inside;
+    }
+    Sight::Across
+}
+
+// How many leaves a square of a level has along a side.
+fn side_of(level: u8) -> u32
+    requires { level ≤ 30 }
+    ensures value { result ≡ grid.side_of level }
+    ensures some { 0 < result }
+{
+    1 << (LEAF_LEVEL - level)
+}

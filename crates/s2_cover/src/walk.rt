@@ -1,0 +1,135 @@
+//! Covers of rectangles.
+
+ghost use Rattle.std.specs.Prelude.{◌≡◌, ◌↔◌, ℕ, ◌+◌, ◌-◌, ◌^◌, ◌<◌, ◌≤◌, [], ◌∷◌, ◌++◌, IsTrue, IfOk, IfErr, OnOk, length};
+ghost use Rattle.std.specs.Int.{IsInRange};
+ghost use Rattle.s2_hilbert.specs.Grid.{GridLeaf, IsLeaf, IsSquare};
+ghost use Rattle.s2_hilbert.specs.Curve.{position_of, first_position, last_position};
+ghost use Rattle.s2_cellid.specs.Family.{square_id};
+ghost use Rattle.s2_cover.specs.Leaves.{leaves_of};
+ghost use Rattle.s2_cover.specs.Canonical.{IsCanonical};
+ghost use Rattle.s2_cover.specs.Laying.{IsLaid};
+ghost use Rattle.s2_cover.specs.Rectangles.{IsInFootprint, rect_leaves, wide_set};
+ghost use Rattle.s2_cover.specs.Walking.{IsOpened, IsWide, HasWalked, HasStopped, IsFull, IsRefused, HasLooked, looks_for, max_looks};
+ghost use Rattle.s2_cover.specs.declared.walk.CoverFault.TheVariants.{OutOfMemory};
+
+use crate::covers::Cover;
+use crate::rect::Rect;
+use crate::sight::{Sight, Wide, look};
+use s2_cellid::CellId;
+use s2_hilbert::Square;
+use std::alloc::{AllocFailed, Global};
+use std::error::Error;
+use std::fmt;
+
+/// Why a rectangle has no cover within a limit.
+#[derive(Clone, Copy, Debug, PartialEq, Eq)]
+pub enum CoverFault {
+    /// The canonical cover has more cells than the limit allows.
+    TooManyCells {
+        /// How many squares were compared with the rectangle until this was known.
+        looked: u64,
+    },
+    /// Memory ran out.
+    OutOfMemory,
+}
+
+impl fmt::Display for CoverFault {
+    fn fmt<W: fmt::Write>(&self, f: &mut fmt::Formatter<W>) -> fmt::Result {
+        f.pad(match self {
+            CoverFault::TooManyCells { .. } => "the cover has too many cells",
+            CoverFault::OutOfMemory => "out of memory",
+        })
+    }
+}
+
+impl Error for CoverFault {}
+
+impl<T: Drop> From<AllocFailed<T>> for CoverFault {
+    ghost from_gives = { λ _ e. e ≡ OutOfMemory };
+
+    fn from(_e: AllocFailed<T>) -> CoverFault {
+        CoverFault::OutOfMemory
+    }
+}
+
+/// The canonical cover of the leaves that a rectangle stands for, if it has at most `limit` cells.
+///
+/// The walk goes down from the face and compares one square after another with the rectangle, at most
+/// `1 + 96 * (limit + 1)` of them.
+///
+/// # Errors
+///
+/// `TooManyCells` if the canonical cover has more than `limit` cells, `OutOfMemory` if memory runs out.
+pub fn cover(alloc: Global, rect: &Rect, limit: u32) -> Result<Cover, CoverFault>
+    ensures canonical { IfOk result (λ cover. IsCanonical (rect_leaves rect.now) cover.ids) }
+    ensures leaves { IfOk result (λ cover.
+        (p : ℕ) → leaves_of cover.ids p ≡ rect_leaves rect.now p) }
+    ensures footprint { IfOk result (λ cover. (leaf : GridLeaf) → IsLeaf leaf →
+        IsTrue (leaves_of cover.ids (position_of leaf)) ↔ IsInFootprint rect.now leaf) }
+    ensures few { IfOk result (λ cover. length cover.ids ≤ limit) }
+    ensures looked { IfOk result (λ cover.
+        IsInRange (length cover.ids) (max_looks limit) cover.looked) }
+    ensures exact { IfOk result (λ cover. HasLooked (rect_leaves rect.now) cover.looked) }
+    ensures refused { IfErr result (IsRefused (rect_leaves rect.now) limit) }
+{
+    let wide = Wide::of_rect(rect);
+    let face = Square::of_face(wide.face());
+    let mut cells = Vec::new(alloc);
+    let mut looked = 0;
+    walk(&wide, &face, limit, &mut cells, &mut looked)?;
+    Ok(Cover::of_canonical(cells, looked))
+}
+
+// Appends the canonical cells of the rectangle's leaves that lie in the square.
+fn walk(
+    wide: &Wide,
+    square: &Square,
+    limit: u32,
+    cells: &mut Vec<CellId>,
+    looked: &mut u64,
+) -> Result<(), CoverFault>
+    requires wide { IsWide wide.now }
+    requires square { IsSquare square.now }
+    requires face { square.now.face ≡ wide.now.face }
+    requires level { square.now.level ≤ wide.now.level }
+    requires laid { IsLaid (wide_set wide.now) cells.old.items (first_position square.now) }
+    requires few { length cells.old.items ≤ limit }
+    requires opened { IsOpened (wide_set wide.now) (square_id square.now) }
+    requires counted { length cells.old.items ≤ looked.old }
+    requires room { looked.old
+        + looks_for (wide.now.level - square.now.level) (limit + 1 - length cells.old.items) < 2 ^ 64 }
+    ensures ok { OnOk result (HasWalked (wide_set wide.now) (wide.now.level - square.now.level) limit
+        (first_position square.now) (last_position square.now + 1)
+        cells.old.items cells.new.items looked.old looked.new) }
+    ensures err { IfErr result (HasStopped (wide_set wide.now) limit (looked.old
+        + looks_for (wide.now.level - square.now.level) (limit + 1 - length cells.old.items))) }
+{
+    match look(wide, square, looked) {
+        Sight::Outside => {}
+        Sight::Inside => keep(square, limit, cells, *looked)?,
+        Sight::Across => {
+            for k in 0..4u8 {
+                walk(wide, &square.child(k), limit, cells, looked)?;
+            }
+        }
+    }
+    Ok(())
+}
+
+// Appends the cell of a square, unless there are as many cells as the limit allows.
+fn keep(
+    square: &Square,
+    limit: u32,
+    cells: &mut Vec<CellId>,
+    looked: u64,
+) -> Result<(), CoverFault>
+    ensures kept { OnOk result (cells.new.items ≡ cells.old.items ++ square_id square.now ∷ []) }
+    ensures room { OnOk result (length cells.old.items < limit) }
+    ensures full { IfErr result (IsFull limit (length cells.old.items) looked) }
+{
+    if cells.len() >= limit as usize {
+        return Err(CoverFault::TooManyCells { looked });
+    }
+    cells.push(CellId::of_square(square))?;
+    Ok(())
+}
