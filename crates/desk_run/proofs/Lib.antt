@@ -3,3 +3,5 @@ pub mod PutLemmas
 pub mod CallLemmas
 pub mod StepLemmas
 pub mod RunLemmas
+pub mod SideLemmas
+pub mod TwoRunLemmas

@@ -4,3 +4,5 @@ pub mod MomentLaws
 pub mod Verdicts
 pub mod Calls
 pub mod Runs
+pub mod Sides
+pub mod TwoRuns
