@@ -1,6 +1,4 @@
 pub mod Faults
-pub mod Moments
-pub mod MomentLaws
 pub mod Verdicts
 pub mod Calls
 pub mod Runs

@@ -1,10 +1,15 @@
 -- Requests that were answered so far.
-use Rattle.std.proofs.Common.{◌≡◌, ℕ, ℤ, ◌+◌, ◌<◌, ◌≤◌, List, [], ◌∷◌, ◌++◌, Bool, true, false, length, take, get_or, map, refl, sym, ap, subst, ◌∙◌, arith}
+use Rattle.std.proofs.Common.{◌≡◌, ℕ, ℤ, ◌+◌, ◌<◌, ◌≤◌, List, [], ◌∷◌, ◌++◌, true, false, Option, Some, None, is_some, length, take, get_or, map, refl, sym, ap, subst, ◌∙◌, arith}
 use Rattle.std.proofs.lemmas.List.{take_more, take_all, take-map, map-append, length-append, length-map}
 use Rattle.desk_store.specs.World.{World}
 use Rattle.desk_wire.specs.AllAnswers.{Sent, answers_to, world_left, AreFirst, AreAll, AreCut, AreBroken}
-use Rattle.desk_wire.specs.Bytes.{text_for, world_after, IsDone, IsGivenUp, IsAnsweredSo}
-use Rattle.desk_wire.specs.Requests.{asked}
+use Rattle.desk_wire.proofs.BytesLemmas.{asked_read}
+use Rattle.desk_wire.specs.Bytes.{text_for, world_after, IsDone, IsServerError, IsAnsweredSo}
+use Rattle.desk_rules.specs.declared.call.Asked.{Asked}
+use Rattle.desk_reading.specs.Messages.{MessageParts, message_in}
+use Rattle.desk_reading.specs.Readings.{Reading, or_met}
+use Rattle.desk_reading.specs.Requests.{asked, asked_by}
+use Rattle.desk_wire.specs.declared.response.ServerError.{ServerError}
 
 -- the first requests are answered, as many as there are answers
 pub record HaveAnswers {R V : Type 0} (shown : R → Sent) (items : V → List ℕ) (w : World) (requests : List R) (n : ℕ) (answers : List V) (now : World) : Type 0 where
@@ -62,9 +67,10 @@ cut_answered shown items w now after requests n answers h below same =
       cut = omega (arith, count, length-map requests shown, below);
     }
 
--- the last says that memory ran out
-pub broken_answered : {R V : Type 0} (shown : R → Sent) (items : V → List ℕ) (w now after : World) (requests : List R) (n : ℕ) (answers : List V) (answer : V) → HaveAnswers shown items w requests n answers now → n < length requests → IsGivenUp now (items answer) after → AreBroken w (map shown requests) (map items (answers ++ answer ∷ [])) after
-broken_answered shown items w now after requests n answers answer h below given = record {
+-- the last says why the desk failed
+pub broken_answered : {R V : Type 0} (shown : R → Sent) (items : V → List ℕ) (w now after : World) (requests : List R) (n : ℕ) (answers : List V) (answer : V) (why : ServerError) → HaveAnswers shown items w requests n answers now → n < length requests → IsServerError why now (items answer) after → AreBroken w (map shown requests) (map items (answers ++ answer ∷ [])) after
+broken_answered shown items w now after requests n answers answer why h below given = record {
+  why = why;
   count = n;
   before = map items answers;
   first = record { told = h.first.told; left = given.left ∙ h.first.left };
@@ -72,11 +78,11 @@ broken_answered shown items w now after requests n answers answer h below given 
   cut = omega (arith, length-map requests shown, below);
 }
 
--- by whether it was given up
-pub done_so : (now after : World) (given moment : ℤ) (text request answer : List ℕ) (b : Bool) → b ≡ false → given ≡ moment → text ≡ request → IsAnsweredSo b now given text answer after → IsDone now moment (asked request) answer after
-done_so now after given moment text request answer false e m t h = subst (λ q. IsDone now moment (asked q) answer after) t (subst (λ z. IsDone now z (asked text) answer after) m h)
-done_so now after given moment text request answer true e m t h = cc
+-- by whether the desk failed
+pub done_so : (now after : World) (given moment : ℤ) (text request : List ℕ) (reading : Reading MessageParts) (answer : List ℕ) (e : Option ServerError) → is_some e ≡ false → given ≡ moment → reading ≡ message_in text → text ≡ request → IsAnsweredSo e now given (or_met reading asked_by) answer after → IsDone now moment (asked request) answer after
+done_so now after given moment text request reading answer None none m r t h = subst (λ a. IsDone now moment a answer after) (asked_read text request reading r t) (subst (λ z. IsDone now z (or_met reading asked_by) answer after) m h)
+done_so now after given moment text request reading answer (Some why) none m r t h = cc
 
-pub given_so : (now after : World) (given : ℤ) (request answer : List ℕ) (b : Bool) → b ≡ true → IsAnsweredSo b now given request answer after → IsGivenUp now answer after
-given_so now after given request answer true e h = h
-given_so now after given request answer false e h = cc
+pub failed_so : {R V : Type 0} (shown : R → Sent) (items : V → List ℕ) (w now after : World) (given : ℤ) (reading : Reading Asked) (requests : List R) (n : ℕ) (answers : List V) (answer : V) (e : Option ServerError) → is_some e ≡ true → IsAnsweredSo e now given reading (items answer) after → HaveAnswers shown items w requests n answers now → n < length requests → AreBroken w (map shown requests) (map items (answers ++ answer ∷ [])) after
+failed_so shown items w now after given reading requests n answers answer (Some why) some h have below = broken_answered shown items w now after requests n answers answer why have below h
+failed_so shown items w now after given reading requests n answers answer None some h have below = cc

@@ -1,16 +1,23 @@
 -- Bytes: what a desk answers, by what it prepared.
-use Rattle.std.proofs.Common.{◌≡◌, ℤ, List, ℕ, Result, Ok, Err, IfOk, OnOk, sym, ap, ◌∙◌}
+use Rattle.std.proofs.Common.{◌≡◌, ℤ, List, ℕ, Result, Ok, Err, IfOk, IfErr, OnOk, Option, Some, None, inl, inr, subst, refl, sym, ap, ◌∙◌}
 use Rattle.desk_rules.specs.declared.call.Asked.{Asked}
 use Rattle.desk_run.specs.declared.pending.Pending.{Pending}
 use Rattle.desk_store.specs.World.{World}
 use Rattle.desk_run.specs.Verdicts.{Told, replied}
 use Rattle.desk_run.specs.Calls.{IsPending, IsUnanswered, reply_in, world_committed}
-use Rattle.desk_wire.specs.Bytes.{IsDone, text}
+use Rattle.desk_writing.specs.PlanBody.{reply_text}
+use Rattle.desk_reading.specs.Messages.{MessageParts, message_in}
+use Rattle.desk_reading.specs.Readings.{Reading, or_met}
+use Rattle.desk_reading.specs.Requests.{asked, asked_by}
+use Rattle.desk_wire.specs.Bytes.{IsAnswered, IsAnsweredSo, IsDone, status, status_for, text}
+use Rattle.desk_wire.specs.declared.response.ServerError.{ServerError}
+use Rattle.desk_wire.specs.declared.response.ServerError.TheVariants.{OutOfMemory, Store}
 
 -- the answer and the change of what was pending
-pub done_pending : (w after : World) (moment : ℤ) (asked : Asked) (p : Pending) (answer : List ℕ) → IsPending w moment asked p → answer ≡ text (replied (reply_in p)) → after ≡ world_committed w p → IsDone w moment (Ok asked) answer after
+pub done_pending : (w after : World) (moment : ℤ) (asked : Asked) (p : Pending) (answer : List ℕ) → IsPending w moment asked p → answer ≡ reply_text (reply_in p) → after ≡ world_committed w p → IsDone w moment (Ok asked) answer after
+unfolding text
 done_pending w after moment asked p answer h told left = record {
-  told = told ∙ ap text (sym h.told);
+  told = told ∙ sym (ap text h.told);
   left = left ∙ h.left;
 }
 
@@ -22,6 +29,32 @@ done_unanswered w after moment asked reason answer h told left = record {
 }
 
 -- where the answer was made and the change committed
-pub done_if_ok : {V E : Type 0} (items : V → List ℕ) (r : Result V E) (w after : World) (moment : ℤ) (asked : Asked) (p : Pending) → IsPending w moment asked p → IfOk r (λ v. items v ≡ text (replied (reply_in p))) → OnOk r (after ≡ world_committed w p) → IfOk r (λ v. IsDone w moment (Ok asked) (items v) after)
+pub done_if_ok : {V E : Type 0} (items : V → List ℕ) (r : Result V E) (w after : World) (moment : ℤ) (asked : Asked) (p : Pending) → IsPending w moment asked p → IfOk r (λ v. items v ≡ reply_text (reply_in p)) → OnOk r (after ≡ world_committed w p) → IfOk r (λ v. IsDone w moment (Ok asked) (items v) after)
 done_if_ok items (Ok v) w after moment asked p h told left = done_pending w after moment asked p (items v) h told left
 done_if_ok items (Err e) w after moment asked p h told left = tt
+
+-- a reply has the status 200
+pub status_pending : (w : World) (moment : ℤ) (asked : Asked) (p : Pending) → IsPending w moment asked p → 200 ≡ status_for w moment (Ok asked)
+unfolding status
+status_pending w moment asked p h = sym (ap status h.told)
+
+pub status_unanswered : (w : World) (moment : ℤ) (asked : Asked) (reason : Told) → IsUnanswered w moment asked reason → status reason ≡ status_for w moment (Ok asked)
+status_unanswered w moment asked reason h = sym (ap status h.told)
+
+-- what a request asks, by how it was read
+pub asked_read : (text request : List ℕ) (reading : Reading MessageParts) → reading ≡ message_in text → text ≡ request → or_met reading asked_by ≡ asked request
+unfolding asked
+asked_read text request reading is same = ap (λ r. or_met r asked_by) is ∙ ap (λ q. or_met (message_in q) asked_by) same
+
+-- a request is answered, whether the desk failed or not
+pub answered_so : (w after : World) (given moment : ℤ) (text : List ℕ) (reading : Reading MessageParts) (answer : List ℕ) (e : Option ServerError) → given ≡ moment → reading ≡ message_in text → IsAnsweredSo e w given (or_met reading asked_by) answer after → IsAnswered w moment text answer after
+answered_so w after given moment text reading answer None m r h = inl (subst (λ z. IsDone w z (asked text) answer after) m (subst (λ a. IsDone w given a answer after) (asked_read text text reading r refl) h))
+answered_so w after given moment text reading answer (Some why) m r h = inr (why, h)
+
+-- want of memory is no fault of the store
+pub no_cause : {V : Type 0} (r : Result V ServerError) (P : Type 0) → IfErr r (λ e. e ≡ OutOfMemory) → IfErr r (λ e. e ≡ Store → P)
+no_cause (Ok v) P h = tt
+no_cause (Err e) P h = λ is. absurd (memory_not_store e h is)
+  where
+    memory_not_store : (e : ServerError) → e ≡ OutOfMemory → e ≡ Store → ⊥
+    memory_not_store e a b = cc

@@ -1,12 +1,3 @@
-pub mod FieldLemmas
-pub mod FramingLemmas
-pub mod HeadLemmas
-pub mod RouteLemmas
-pub mod DigitLemmas
-pub mod TimeLemmas
-pub mod JsonLemmas
-pub mod WindowLemmas
-pub mod EachLemmas
-pub mod AreaLemmas
+pub mod MomentLemmas
 pub mod BytesLemmas
 pub mod AllLemmas

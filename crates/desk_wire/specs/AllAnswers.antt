@@ -1,12 +1,12 @@
 -- The answers to requests, one after the other.
 use Rattle.std.specs.Prelude.{◌≡◌, ◌<◌, ℕ, ℤ, List, [], ◌∷◌, ◌++◌, length, take}
 use Rattle.desk_store.specs.World.{World}
-use Rattle.desk_wire.specs.declared.list.AnswersEnd.{AnswersEnd}
-use Rattle.desk_wire.specs.declared.list.AnswersEnd.TheVariants.{All, Broken, NoMemory}
-use Rattle.desk_wire.specs.declared.texts.Refusal.TheVariants.{OutOfMemory}
+use Rattle.desk_wire.specs.declared.batch.AnswersEnd.{AnswersEnd}
+use Rattle.desk_wire.specs.declared.batch.AnswersEnd.TheVariants.{All, Broken, NoMemory}
+use Rattle.desk_wire.specs.declared.response.ServerError.{ServerError}
 use Rattle.desk_wire.specs.Bytes.{text_for, world_after}
-use Rattle.desk_wire.specs.Refusals.{refusal_text}
-use Rattle.desk_wire.specs.Requests.{asked}
+use Rattle.desk_wire.specs.Refusals.{server_error_text}
+use Rattle.desk_reading.specs.Requests.{asked}
 
 -- the bytes of a request, with its moment
 abbrev pub Sent : Type 0
@@ -37,12 +37,13 @@ pub record AreCut (w : World) (requests : List Sent) (answers : List (List ℕ))
   pub first : AreFirst w requests (length answers) answers after
   pub cut : length answers < length requests
 
--- the last answer says that memory ran out, and its request changed nothing
+-- the last answer says why the desk failed, and its request changed nothing
 pub record AreBroken (w : World) (requests : List Sent) (answers : List (List ℕ)) (after : World) : Type 0 where
+  pub why : ServerError
   pub count : ℕ
   pub before : List (List ℕ)
   pub first : AreFirst w requests count before after
-  pub last : answers ≡ before ++ refusal_text OutOfMemory ∷ []
+  pub last : answers ≡ before ++ server_error_text why ∷ []
   pub cut : count < length requests
 
 -- by why there are no more

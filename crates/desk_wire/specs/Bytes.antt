@@ -1,26 +1,37 @@
 -- Bytes: the text that a desk answers to the bytes of one request, and what the request leaves.
-use Rattle.std.specs.Prelude.{◌≡◌, ◌⊎◌, ℕ, ℤ, Bool, true, false, List, Ok, Err}
+use Rattle.std.specs.Prelude.{◌≡◌, ◌⊎◌, ℕ, ℤ, List, Option, Some, None, Ok, Err}
 use Rattle.desk_rules.specs.declared.call.Asked.{Asked}
-use Rattle.desk_rules.specs.declared.reply.Reply.TheVariants.{Ready, Answered}
-use Rattle.desk_wire.specs.declared.texts.Refusal.TheVariants.{Fault, UnknownOperator, NoSuchPlan, OutOfMemory}
-use Rattle.desk_wire.specs.Faults.{Reading}
-use Rattle.desk_wire.specs.PlanBody.{put_text, ready_text}
-use Rattle.desk_wire.specs.Refusals.{refusal_text}
-use Rattle.desk_wire.specs.Requests.{asked}
+use Rattle.desk_reading.specs.FaultWords.{fault_status}
+use Rattle.desk_reading.specs.Readings.{Reading}
+use Rattle.desk_reading.specs.Requests.{asked}
+use Rattle.desk_writing.specs.PlanBody.{reply_text}
+use Rattle.desk_wire.specs.declared.refusal.Refusal.TheVariants.{Fault, UnknownOperator, NoSuchPlan}
+use Rattle.desk_wire.specs.declared.response.ServerError.{ServerError}
+use Rattle.desk_wire.specs.Refusals.{refusal_status, refusal_text, server_error_text}
 use Rattle.desk_run.specs.Verdicts.{Told, replied, unknown_operator, no_such_plan, told_to, step}
 use Rattle.desk_store.specs.World.{World}
 
 -- the text of what a caller is told
 unfoldable pub text : Told → List ℕ
-text (replied Ready) = ready_text
-text (replied (Answered r)) = put_text r.status r.result r.note r.meeting
+text (replied reply) = reply_text reply
 text unknown_operator = refusal_text UnknownOperator
 text no_such_plan = refusal_text NoSuchPlan
+
+-- the status code that it begins with
+unfoldable pub status : Told → ℕ
+status (replied reply) = 200
+status unknown_operator = refusal_status UnknownOperator
+status no_such_plan = refusal_status NoSuchPlan
 
 -- the answer to what is asked at a moment, or to the fault that was met
 abbrev pub text_for : World → ℤ → Reading Asked → List ℕ
 text_for w moment (Ok a) = text (told_to w a.operator moment a.call)
 text_for w moment (Err fault) = refusal_text (Fault fault)
+
+-- its status code
+abbrev pub status_for : World → ℤ → Reading Asked → ℕ
+status_for w moment (Ok a) = status (told_to w a.operator moment a.call)
+status_for w moment (Err fault) = fault_status fault
 
 -- what it leaves: a fault leaves all as it was
 abbrev pub world_after : World → ℤ → Reading Asked → World
@@ -32,16 +43,23 @@ pub record IsDone (w : World) (moment : ℤ) (reading : Reading Asked) (answer :
   pub told : answer ≡ text_for w moment reading
   pub left : after ≡ world_after w moment reading
 
--- memory ran out: the answer says so, and all is as it was
-pub record IsGivenUp (w : World) (answer : List ℕ) (after : World) : Type 0 where
-  pub told : answer ≡ refusal_text OutOfMemory
+-- the desk failed: the answer says why, and all is as it was
+pub record IsServerError (why : ServerError) (w : World) (answer : List ℕ) (after : World) : Type 0 where
+  pub told : answer ≡ server_error_text why
   pub left : after ≡ w
 
--- the answer to a request, and what it leaves, by whether memory ran out
-abbrev pub IsAnsweredSo : Bool → World → ℤ → List ℕ → List ℕ → World → Type 0
-IsAnsweredSo false w moment request answer after = IsDone w moment (asked request) answer after
-IsAnsweredSo true w moment request answer after = IsGivenUp w answer after
+-- the answer to what is asked, and what it leaves, by whether the desk failed
+abbrev pub IsAnsweredSo : Option ServerError → World → ℤ → Reading Asked → List ℕ → World → Type 0
+IsAnsweredSo None w moment reading answer after = IsDone w moment reading answer after
+IsAnsweredSo (Some why) w moment reading answer after = IsServerError why w answer after
+
+-- the status code of that answer
+abbrev pub status_so : Option ServerError → World → ℤ → Reading Asked → ℕ
+status_so None w moment reading = status_for w moment reading
+status_so (Some why) w moment reading = 500
 
 -- the answer to a request, and what it leaves
 abbrev pub IsAnswered : World → ℤ → List ℕ → List ℕ → World → Type 0
-IsAnswered w moment request answer after = IsDone w moment (asked request) answer after ⊎ IsGivenUp w answer after
+IsAnswered w moment request answer after =
+    IsDone w moment (asked request) answer after
+    ⊎ ((why : ServerError) × IsServerError why w answer after)

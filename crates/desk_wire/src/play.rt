@@ -1,15 +1,16 @@
 //! Runs over a stream: requests served one after the other.
 
-ghost use Rattle.desk_run.specs.Moments.{IsMoment};
+ghost use Rattle.desk_wire.specs.Moments.{IsMoment};
 
 #[cfg(test)]
 mod tests;
 
-use crate::stream::{ServeFault, Served, serve_one};
+use crate::stream::{ServeFault, Served, serve_next};
+use desk_reading::Routes;
 use desk_run::Desk;
 use desk_store::PlanStore;
 use http::StatusCode;
-use std::alloc::Global;
+use std::alloc::{AllocError, Global};
 use std::io::{Read, Write};
 
 /// The most requests that one run answers.
@@ -50,28 +51,59 @@ pub fn play_all<S: PlanStore, R: Read, W: Write>(
 ) -> Played
     requires { IsMoment moment }
 {
+    match Routes::try_new(alloc) {
+        Ok(routes) => play_with(alloc, &routes, desk, moment, input, output),
+        Err(AllocError) => Played {
+            answered: 0,
+            ended: PlayEnd::Fault(ServeFault::OutOfMemory),
+        },
+    }
+}
+
+// The same, with routes that are at hand.
+fn play_with<S: PlanStore, R: Read, W: Write>(
+    alloc: Global,
+    routes: &Routes,
+    desk: &mut Desk<S>,
+    moment: i64,
+    input: &mut R,
+    output: &mut W,
+) -> Played
+    requires { IsMoment moment }
+{
     for before in 0..MAX_ANSWERED {
-        let answered = before + 1;
-        match serve_one(alloc, desk, moment, input, output) {
-            Err(fault) => return ended(before, PlayEnd::Fault(fault)),
-            Ok(Served::End) => return ended(before, PlayEnd::End),
-            Ok(Served::Answered { status, .. }) if is_server_error(status) => {
-                return ended(answered, PlayEnd::Broken);
-            }
-            Ok(Served::Answered { framed, .. }) if !framed => {
-                return ended(answered, PlayEnd::Unframed);
-            }
-            Ok(Served::Answered { .. }) => {}
+        let end = match serve_next(alloc, routes, desk, moment, input, output) {
+            Err(fault) => return Played {
+                answered: before,
+                ended: PlayEnd::Fault(fault),
+            },
+            Ok(Served::End) => return Played {
+                answered: before,
+                ended: PlayEnd::End,
+            },
+            Ok(Served::Answered { status, framed }) => end_after(status, framed),
+        };
+        if let Some(ended) = end {
+            return Played {
+                answered: before + 1,
+                ended,
+            };
         }
     }
-    ended(MAX_ANSWERED, PlayEnd::Limit)
+    Played {
+        answered: MAX_ANSWERED,
+        ended: PlayEnd::Limit,
+    }
 }
 
-// Whether an answer has the status 500.
-fn is_server_error(status: u16) -> bool {
-    status == StatusCode::INTERNAL_SERVER_ERROR.as_u16()
-}
-
-fn ended(answered: u32, ended: PlayEnd) -> Played {
-    Played { answered, ended }
+// Why a run ends after an answer with this status to a request that is `framed` if the place of the
+// next request is known.
+fn end_after(status: u16, framed: bool) -> Option<PlayEnd> {
+    if status == StatusCode::INTERNAL_SERVER_ERROR.as_u16() {
+        Some(PlayEnd::Broken)
+    } else if !framed {
+        Some(PlayEnd::Unframed)
+    } else {
+        None
+    }
 }

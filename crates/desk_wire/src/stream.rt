@@ -1,16 +1,17 @@
 //! Connections: requests read from a stream, and their answers written to one.
 
-ghost use Rattle.std.specs.Prelude.{◌≤◌, length, IfOk};
-ghost use Rattle.desk_run.specs.Moments.{IsMoment};
+ghost use Rattle.std.specs.Prelude.{◌≡◌, ◌≤◌, length, IfOk};
+ghost use Rattle.desk_wire.specs.Moments.{IsMoment};
+ghost use Rattle.desk_wire.specs.declared.stream.ServeFault.TheVariants as serve_fault;
 
-use crate::desk::answer;
-use crate::framing::{HEAD_ROOM, head_length, is_ended};
-use crate::head::read_head;
-use crate::message::read_body_length;
+use crate::answering::answer_request;
+use crate::response::Answer;
+use desk_reading::{Front, HEAD_ROOM, Message, Routes, WireFault, is_ended, read_front};
 use desk_run::Desk;
 use desk_store::PlanStore;
-use http::StatusCode;
 use std::alloc::{AllocError, Global};
+use std::error::Error;
+use std::fmt;
 use std::io::{ErrorKind, Read, Write};
 
 /// The most reads that one request may take.
@@ -25,8 +26,7 @@ const CHUNK: usize = 4_096;
 /// What came of one request of a stream.
 #[derive(Clone, Copy, Debug, PartialEq, Eq)]
 pub enum Served {
-    /// It was answered with this status. It is `framed` where the place of the next request is
-    /// known.
+    /// It was answered with this status. It is `framed` if the place of the next request is known.
     Answered { status: u16, framed: bool },
     /// The input ended before any byte.
     End,
@@ -35,33 +35,45 @@ pub enum Served {
 /// Why a request of a stream has no whole answer.
 #[derive(Clone, Copy, Debug, PartialEq, Eq)]
 pub enum ServeFault {
-    /// A read failed, or the request takes more than 200,000.
+    /// A read failed, or the request takes more than 200,000 reads.
     Read,
     /// A write failed, wrote nothing, or the answer takes more writes than its length and 1,000.
     /// The bytes sent are the answer's first `sent`; the change of the request stands.
     Write { sent: usize },
     /// The input ended inside a request. Nothing was written or changed.
     CutShort,
-    /// A growth was refused. Nothing was written or changed.
+    /// Memory ran out. Nothing was written or changed.
     OutOfMemory,
 }
 
+impl fmt::Display for ServeFault {
+    fn fmt<W: fmt::Write>(&self, f: &mut fmt::Formatter<W>) -> fmt::Result {
+        match self {
+            ServeFault::Read => f.write_str("a read failed"),
+            ServeFault::Write { sent } => write!(f, "a write failed after {sent} bytes"),
+            ServeFault::CutShort => f.write_str("the input ended inside a request"),
+            ServeFault::OutOfMemory => f.write_str("out of memory"),
+        }
+    }
+}
+
+impl Error for ServeFault {}
+
 impl From<AllocError> for ServeFault {
+    ghost from_gives = { λ _ e. e ≡ serve_fault.OutOfMemory };
+
     fn from(_error: AllocError) -> ServeFault {
         ServeFault::OutOfMemory
     }
 }
 
-/// A request as it was read from a stream.
-#[derive(Drop)]
-struct Received {
-    text: Vec<u8>,
-    framed: bool,
-}
-
 /// Reads one request, the head byte by byte, and leaves the rest unread; answers it at a moment (a
 /// Unix second from 0 to 253,370,764,800), and writes the answer. Interrupted reads and writes are
 /// tried again.
+///
+/// # Errors
+///
+/// As `ServeFault` says; `OutOfMemory` too if the room for the routes was refused.
 pub fn serve_one<S: PlanStore, R: Read, W: Write>(
     alloc: Global,
     desk: &mut Desk<S>,
@@ -71,92 +83,113 @@ pub fn serve_one<S: PlanStore, R: Read, W: Write>(
 ) -> Result<Served, ServeFault>
     requires { IsMoment moment }
 {
-    let Some(received) = receive(alloc, input)? else {
+    let routes = Routes::try_new(alloc)?;
+    serve_next(alloc, &routes, desk, moment, input, output)
+}
+
+/// The same, with routes that are at hand.
+pub fn serve_next<S: PlanStore, R: Read, W: Write>(
+    alloc: Global,
+    routes: &Routes,
+    desk: &mut Desk<S>,
+    moment: i64,
+    input: &mut R,
+    output: &mut W,
+) -> Result<Served, ServeFault>
+    requires { IsMoment moment }
+{
+    let mut reads = MAX_READS;
+    let text = receive_head(alloc, input, &mut reads)?;
+    if text.is_empty() {
         return Ok(Served::End);
-    };
-    let bytes = answer(alloc, desk, moment, &received.text)?;
-    write_whole(output, &bytes)?;
+    }
+    match front_of(&text) {
+        Ok(Front { head, size }) => {
+            let body = receive_body(alloc, input, size, &mut reads)?;
+            let message = Message { head, body: &body };
+            let answer = answer_request(alloc, routes, desk, moment, &Ok(message))?;
+            write_answer(output, &answer, true)
+        }
+        Err(fault) => {
+            let answer = answer_request(alloc, routes, desk, moment, &Err(fault))?;
+            write_answer(output, &answer, false)
+        }
+    }
+}
+
+// The head that was received, and how many bytes follow it, or its first fault.
+fn front_of(text: &[u8]) -> Result<Front<'_>, WireFault> {
+    if is_ended(text) {
+        read_front(text)
+    } else {
+        Err(WireFault::HeadTooLarge)
+    }
+}
+
+// Writes an answer to a request that is `framed` if the place of the next request is known.
+fn write_answer<W: Write>(
+    output: &mut W,
+    answer: &Answer,
+    framed: bool,
+) -> Result<Served, ServeFault> {
+    write_whole(output, &answer.bytes)?;
     Ok(Served::Answered {
-        status: status_of(&bytes),
-        framed: received.framed,
+        status: answer.status,
+        framed,
     })
 }
 
-// The bytes of the next request, or none where the input ended before any. Where its head says no
-// length, they are those of its head.
-fn receive<R: Read>(alloc: Global, input: &mut R) -> Result<Option<Received>, ServeFault> {
-    let mut reads = MAX_READS;
-    let mut text = Vec::new(alloc);
-    receive_head(input, &mut text, &mut reads)?;
-    if text.is_empty() {
-        return Ok(None);
-    }
-    let framed = match body_length(&text) {
-        Some(length) => {
-            receive_body(input, length, &mut text, &mut reads)?;
-            true
-        }
-        None => false,
-    };
-    Ok(Some(Received { text, framed }))
-}
-
-// Reads a head byte by byte, as far as its end or as there is room for one. It stays empty where
-// the input has ended.
+// Reads a head byte by byte, as far as its end or as there is room for one. It is empty if the input
+// has ended.
 fn receive_head<R: Read>(
+    alloc: Global,
     input: &mut R,
-    text: &mut Vec<u8>,
     reads: &mut u32,
-) -> Result<(), ServeFault> {
+) -> Result<Vec<u8>, ServeFault> {
+    let mut text = Vec::new(alloc);
     let mut byte = [0u8];
     for _ in 0..HEAD_ROOM {
-        if is_ended(text) {
-            return Ok(());
+        if is_ended(&text) {
+            return Ok(text);
         }
         if receive_some(input, &mut byte, reads)? == 0 {
             return if text.is_empty() {
-                Ok(())
+                Ok(text)
             } else {
                 Err(ServeFault::CutShort)
             };
         }
         text.extend_from_slice(&byte)?;
     }
-    Ok(())
+    Ok(text)
 }
 
-// How many bytes follow a head. None where it is no whole head, or says no length that is taken.
-fn body_length(text: &[u8]) -> Option<u64> {
-    head_length(text)?;
-    let head = read_head(text)?;
-    read_body_length(&head).ok()
-}
-
-// Reads so many bytes of a body.
+// Reads a body of `size` bytes.
 fn receive_body<R: Read>(
+    alloc: Global,
     input: &mut R,
-    length: u64,
-    text: &mut Vec<u8>,
+    size: u64,
     reads: &mut u32,
-) -> Result<(), ServeFault> {
+) -> Result<Vec<u8>, ServeFault> {
+    let mut body = Vec::new(alloc);
     let mut chunk = [0u8; CHUNK];
-    let mut left = length;
-    for _ in 0..length {
+    let mut left = size;
+    for _ in 0..size {
         if left == 0 {
-            return Ok(());
+            return Ok(body);
         }
         let room = left.min(CHUNK as u64) as usize;
         let count = receive_some(input, &mut chunk[..room], reads)?;
         if count == 0 {
             return Err(ServeFault::CutShort);
         }
-        text.extend_from_slice(&chunk[..count])?;
+        body.extend_from_slice(&chunk[..count])?;
         left -= count as u64;
     }
-    Ok(())
+    Ok(body)
 }
 
-// Reads once, and again where that was interrupted, while reads are left.
+// Reads once, and again if that was interrupted, while reads are left.
 fn receive_some<R: Read>(
     input: &mut R,
     room: &mut [u8],
@@ -194,13 +227,4 @@ pub fn write_whole<W: Write>(output: &mut W, bytes: &[u8]) -> Result<(), ServeFa
     } else {
         Err(ServeFault::Write { sent })
     }
-}
-
-/// The status of an answer, which its first line has after its version; 500 of any other bytes.
-pub fn status_of(answer: &[u8]) -> u16 {
-    let status = match answer.get(9..12) {
-        Some(digits) => StatusCode::from_bytes(digits).unwrap_or(StatusCode::INTERNAL_SERVER_ERROR),
-        None => StatusCode::INTERNAL_SERVER_ERROR,
-    };
-    status.as_u16()
 }

@@ -1,7 +1,7 @@
 //! The command line of the program.
 
 ghost use Rattle.std.specs.Prelude.{IfOk};
-ghost use Rattle.desk_run.specs.Moments.{IsMoment};
+ghost use Rattle.desk_wire.specs.Moments.{IsMoment};
 ghost use Rattle.uss_desk.specs.Lines.{HasMoment};
 
 #[cfg(test)]

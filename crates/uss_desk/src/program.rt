@@ -1,6 +1,8 @@
 //! The program: what a command line does, its exit status, and the word that it prints.
 
-ghost use Rattle.desk_run.specs.Moments.{IsMoment};
+ghost use Rattle.std.specs.Prelude.{◌≡◌};
+ghost use Rattle.desk_wire.specs.Moments.{IsMoment};
+ghost use Rattle.uss_desk.specs.Exits as spec;
 ghost use Rattle.uss_desk.specs.Lines.{HasMoment};
 
 #[cfg(test)]
@@ -22,12 +24,14 @@ pub enum Failure {
     CutShort,
     /// A read failed.
     Read,
-    /// As many requests as a run takes were answered.
+    /// As many requests were answered as a run answers at most.
     Limit,
     /// The last answer has the status 500.
     Broken,
-    /// A growth was refused.
+    /// Memory ran out.
     Memory,
+    /// The store failed.
+    Store,
     /// A write failed.
     Write,
     /// An enrolment's ceiling is above 1,000.
@@ -35,17 +39,21 @@ pub enum Failure {
 }
 
 impl Failure {
-    /// The exit status: 2 for the words, 3 for the input, 4 for memory and output.
-    pub fn status(self) -> u8 {
+    /// The exit status: 2 for the words, 3 for the input, 4 for memory, the store and output.
+    pub fn status(self) -> u8
+        ensures { result ≡ spec.failure_status self }
+    {
         match self {
             Failure::Value => 2,
             Failure::Unframed | Failure::CutShort | Failure::Read | Failure::Limit => 3,
-            Failure::Broken | Failure::Memory | Failure::Write => 4,
+            Failure::Broken | Failure::Memory | Failure::Store | Failure::Write => 4,
         }
     }
 
     /// The word that is printed.
-    pub fn word(self) -> &'static str {
+    pub fn word(self) -> &'static str
+        ensures { result.now ≡ spec.failure_word self }
+    {
         match self {
             Failure::Unframed => "unframed",
             Failure::CutShort => "cut_short",
@@ -53,6 +61,7 @@ impl Failure {
             Failure::Limit => "limit",
             Failure::Broken => "broken",
             Failure::Memory => "memory",
+            Failure::Store => "store",
             Failure::Write => "write",
             Failure::Value => "value",
         }
@@ -60,23 +69,31 @@ impl Failure {
 }
 
 impl From<DeskFault> for Failure {
+    ghost from_gives = { λ fault failure. failure ≡ spec.enrolment_failure fault };
+
     fn from(fault: DeskFault) -> Failure {
         match fault {
             DeskFault::OutOfMemory => Failure::Memory,
+            DeskFault::Store => Failure::Store,
             DeskFault::UnknownOperator | DeskFault::NoSuchPlan | DeskFault::Ceiling =>
                 Failure::Value,
         }
     }
 }
 
-impl From<ServeFault> for Failure {
-    fn from(fault: ServeFault) -> Failure {
-        match fault {
-            ServeFault::Read => Failure::Read,
-            ServeFault::Write { .. } => Failure::Write,
-            ServeFault::CutShort => Failure::CutShort,
-            ServeFault::OutOfMemory => Failure::Memory,
-        }
+// Why a run over the input did not end with the input, by its end.
+fn failure_after(ended: PlayEnd) -> Option<Failure>
+    ensures { result ≡ spec.failure_after ended }
+{
+    match ended {
+        PlayEnd::End => None,
+        PlayEnd::Unframed => Some(Failure::Unframed),
+        PlayEnd::Broken => Some(Failure::Broken),
+        PlayEnd::Limit => Some(Failure::Limit),
+        PlayEnd::Fault(ServeFault::Read) => Some(Failure::Read),
+        PlayEnd::Fault(ServeFault::Write { .. }) => Some(Failure::Write),
+        PlayEnd::Fault(ServeFault::CutShort) => Some(Failure::CutShort),
+        PlayEnd::Fault(ServeFault::OutOfMemory) => Some(Failure::Memory),
     }
 }
 
@@ -93,7 +110,15 @@ pub fn with_desk<S: PlanStore, R: Read, W: Write, E: Write>(
     requires { HasMoment line.now }
 {
     let Line::Play(play) = line;
-    match play_line(alloc, play, desk, input, output) {
+    conclude(errors, play_line(alloc, play, desk, input, output))
+}
+
+/// The exit status of what was done; the word of a failure is printed as `uss_desk: WORD`, and a
+/// fault of the writer is passed over.
+pub fn conclude<E: Write>(errors: &mut E, done: Result<(), Failure>) -> u8
+    ensures { result ≡ spec.exit_status done }
+{
+    match done {
         Ok(()) => 0,
         Err(failure) => {
             print_failure(errors, failure);
@@ -113,12 +138,10 @@ fn play_line<S: PlanStore, R: Read, W: Write>(
     requires { IsMoment play.now.moment }
 {
     enrol_all(desk, &play.enrolments)?;
-    match play_all(alloc, desk, play.moment, input, output).ended {
-        PlayEnd::End => Ok(()),
-        PlayEnd::Unframed => Err(Failure::Unframed),
-        PlayEnd::Broken => Err(Failure::Broken),
-        PlayEnd::Limit => Err(Failure::Limit),
-        PlayEnd::Fault(fault) => Err(Failure::from(fault)),
+    let played = play_all(alloc, desk, play.moment, input, output);
+    match failure_after(played.ended) {
+        None => Ok(()),
+        Some(failure) => Err(failure),
     }
 }
 
@@ -129,8 +152,7 @@ fn enrol_all<S: PlanStore>(desk: &mut Desk<S>, enrolments: &[Enrolment]) -> Resu
     Ok(())
 }
 
-/// Prints `uss_desk: WORD`; a fault of the writer is passed over.
-pub fn print_failure<E: Write>(errors: &mut E, failure: Failure) {
+fn print_failure<E: Write>(errors: &mut E, failure: Failure) {
     for part in ["uss_desk: ", failure.word(), "\n"] {
         let _ = write_whole(errors, part.as_bytes());
     }

@@ -12,7 +12,7 @@ use std::test::Fail;
 
 const MOMENT: i64 = 1_780_315_000;
 
-/// A whole request by the operator `alfa`.
+// A whole request by the operator `alfa`.
 const FIRST_PUT: &[u8] = b"PUT /flight_plans/11111111-1111-4111-8111-111111111111 HTTP/1.1\r\n\
 host: desk\r\nx-operator: alfa\r\ncontent-length: 371\r\n\r\n\
 {\"execution_style\":\"IfAllowed\",\"flight_plan\":{\"astm_f3548_21\":{\"priority\":10},\
@@ -22,13 +22,13 @@ host: desk\r\nx-operator: alfa\r\ncontent-length: 371\r\n\r\n\
 \"altitude_upper\":1000,\"cells\":[\"04\"]}}],\"uas_state\":\"Nominal\",\
 \"usage_state\":\"Planned\"}},\"request_id\":\"r1\"}";
 
-/// Its answer.
+// Its answer.
 const COMPLETED: &[u8] = b"HTTP/1.1 200 OK\r\ncontent-type: application/json\r\n\
 content-length: 73\r\nconnection: close\r\n\r\n\
 {\"flight_plan_status\":\"Planned\",\"notes\":\"\",\"planning_result\":\"Completed\"}";
 
-/// A reader of these bytes, at most seven at a time. Each other read is interrupted, and a fault
-/// comes at their end, if one is wanted.
+// A reader of these bytes, at most seven at a time. Each other read is interrupted, and a fault
+// comes at their end, if one is wanted.
 #[derive(Drop)]
 struct Slow<'t> {
     bytes: &'t [u8],
@@ -53,7 +53,7 @@ impl<'t> Read for Slow<'t> {
     }
 }
 
-/// A writer that has room for so many bytes, and then fails.
+// A writer that has room for so many bytes, and then fails.
 #[derive(Drop)]
 struct Narrow {
     room: usize,
@@ -80,7 +80,7 @@ impl Write for Narrow {
     }
 }
 
-/// A desk at which `alfa` is enrolled.
+// A desk at which `alfa` is enrolled.
 fn desk_of(alloc: Global) -> Result<Desk<ListStore>, DeskFault> {
     let mut desk = Desk::new(ListStore::new(alloc));
     if let Some(alfa) = Operator::try_new(b"alfa") {
@@ -89,7 +89,7 @@ fn desk_of(alloc: Global) -> Result<Desk<ListStore>, DeskFault> {
     Ok(desk)
 }
 
-/// A run over these bytes at a desk of its own, and what it wrote.
+// A run over these bytes at a desk of its own, and what it wrote.
 fn played(alloc: Global, bytes: &[u8]) -> Result<(Played, Vec<u8>), Fail> {
     let mut desk = desk_of(alloc)?;
     let mut written = Vec::new(alloc);

@@ -4,7 +4,7 @@ use super::{Line, WordsFault, read_words};
 use std::alloc::{AllocError, Global};
 use std::test::Fail;
 
-/// The line of words behind the program's name.
+// The line of words behind the program's name.
 fn line_of(alloc: Global, words: &[&str]) -> Result<Result<Line, WordsFault>, AllocError> {
     let mut all = Vec::new(alloc);
     all.push(String::from_str(alloc, "uss_desk")?)?;
@@ -14,12 +14,12 @@ fn line_of(alloc: Global, words: &[&str]) -> Result<Result<Line, WordsFault>, Al
     Ok(read_words(alloc, &all))
 }
 
-/// Whether the words are no line for a bad value.
+// Whether the words are no line for a bad value.
 fn is_bad_value(alloc: Global, words: &[&str]) -> Result<bool, AllocError> {
     Ok(matches!(line_of(alloc, words)?, Err(WordsFault::Value)))
 }
 
-/// Whether the words are none of the forms.
+// Whether the words are none of the forms.
 fn is_refused(alloc: Global, words: &[&str]) -> Result<bool, AllocError> {
     Ok(matches!(line_of(alloc, words)?, Err(WordsFault::Words(_))))
 }
@@ -31,7 +31,7 @@ fn reads_play(rt: HostRuntime) -> Result<(), Fail> {
         "--at",
         "1780315000",
         "alfa=100",
-        "bravo=0",
+        "bravo=1000",
         "alfa=7",
     ];
     let Ok(Line::Play(play)) = line_of(rt.alloc(), &words)? else {
@@ -39,6 +39,7 @@ fn reads_play(rt: HostRuntime) -> Result<(), Fail> {
     };
     assert_eq!(rt; play.moment, 1_780_315_000);
     assert_eq!(rt; play.enrolments.len(), 3);
+    assert_eq!(rt; play.enrolments[1].ceiling, 1_000);
     let last = &play.enrolments[2];
     assert_eq!(rt; last.operator.as_bytes(), b"alfa".as_slice());
     assert_eq!(rt; last.ceiling, 7);
@@ -57,6 +58,7 @@ fn refuses_values(rt: HostRuntime) -> Result<(), Fail> {
         "alfa=00001",
         "alfa=+1",
         "a=b=1",
+        "a=1=2",
     ] {
         assert!(rt; is_bad_value(alloc, &["play", "--at", "0", word])?);
     }
@@ -74,7 +76,7 @@ fn refuses_words(rt: HostRuntime) -> Result<(), Fail> {
     Ok(())
 }
 
-/// The text of help is `clap`'s.
+// The text of help is `clap`'s.
 #[test]
 fn shows_help(rt: HostRuntime) -> Result<(), Fail> {
     let alloc = rt.alloc();

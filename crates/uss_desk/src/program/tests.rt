@@ -4,23 +4,25 @@ ghost use Rattle.uss_desk.specs.Lines.{HasMoment};
 
 use super::with_desk;
 use crate::line::{Line, read_words};
+use desk_rules::operator::Operator;
 use desk_run::Desk;
-use desk_store::ListStore;
+use desk_store::{ListStore, PlanStore};
 use std::alloc::Global;
 use std::test::Fail;
 
-/// What a line came to.
+// What a line came to.
 #[derive(Drop)]
 struct Done {
     status: u8,
     output: Vec<u8>,
     errors: Vec<u8>,
+    desk: Desk<ListStore>,
 }
 
-/// What `play --at 0 alfa=100` comes to on these bytes.
+// What `play --at 0` and two operators come to on these bytes.
 fn play(alloc: Global, bytes: &[u8]) -> Result<Done, Fail> {
     let mut words = Vec::new(alloc);
-    for word in ["uss_desk", "play", "--at", "0", "alfa=100"] {
+    for word in ["uss_desk", "play", "--at", "0", "alfa=1000", "bravo=7"] {
         words.push(String::from_str(alloc, word)?)?;
     }
     let Ok(line) = read_words(alloc, &words) else {
@@ -41,6 +43,7 @@ fn carry_out(alloc: Global, line: &Line, bytes: &[u8]) -> Result<Done, Fail>
         status,
         output,
         errors,
+        desk,
     })
 }
 
@@ -54,6 +57,17 @@ fn plays_to_the_end(rt: HostRuntime) -> Result<(), Fail> {
     assert_eq!(rt; done.status, 0);
     assert_eq!(rt; done.output.as_slice(), text);
     assert!(rt; done.errors.is_empty());
+    Ok(())
+}
+
+#[test]
+fn enrols_every_name(rt: HostRuntime) -> Result<(), Fail> {
+    let done = play(rt.alloc(), b"")?;
+    let mut store = done.desk.into_store();
+    let alfa = Operator::try_new(b"alfa").ok_or("a name")?;
+    let bravo = Operator::try_new(b"bravo").ok_or("a name")?;
+    assert_eq!(rt; store.ceiling(&alfa)?, Some(1_000));
+    assert_eq!(rt; store.ceiling(&bravo)?, Some(7));
     Ok(())
 }
 

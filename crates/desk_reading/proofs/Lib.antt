@@ -1,0 +1,10 @@
+pub mod FieldLemmas
+pub mod FramingLemmas
+pub mod HeadLemmas
+pub mod RouteLemmas
+pub mod DigitLemmas
+pub mod TimeLemmas
+pub mod JsonLemmas
+pub mod WindowLemmas
+pub mod EachLemmas
+pub mod AreaLemmas

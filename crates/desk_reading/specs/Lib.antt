@@ -1,0 +1,14 @@
+pub mod Readings
+pub mod WireLimits
+pub mod Framing
+pub mod Fields
+pub mod Heads
+pub mod Messages
+pub mod Routes
+pub mod Addresses
+pub mod JsonIn
+pub mod Times
+pub mod VolumeIn
+pub mod PutIn
+pub mod Requests
+pub mod FaultWords

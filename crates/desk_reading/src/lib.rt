@@ -1,0 +1,22 @@
+//! Requests from bytes: what the bytes of one whole request ask of a desk, or their first fault.
+#![tactic(auto)]
+
+mod address;
+mod fields;
+mod framing;
+mod head;
+mod json_in;
+pub mod laws;
+mod message;
+mod put_in;
+mod request;
+mod routes;
+mod times;
+mod volume_in;
+mod wire_fault;
+
+pub use framing::{HEAD_ROOM, is_ended};
+pub use message::{Front, Message, read_front, read_message};
+pub use request::{read_asked, read_request};
+pub use routes::Routes;
+pub use wire_fault::{ReadError, WireFault};

@@ -1,0 +1,132 @@
+//! The volumes of requests, from JSON.
+ghost use Rattle.std.specs.Prelude.{◌≡◌};
+ghost use Rattle.std.specs.Int.{is_in_range};
+ghost use Rattle.std.specs.Result.{result_ok};
+ghost use Rattle.volume4d.specs.Windows.{window_or_fault};
+ghost use Rattle.serde_json.specs.View.{view, items_view};
+ghost use Rattle.desk_reading.specs.Readings.{GivesIfRoom};
+ghost use Rattle.desk_reading.specs.JsonIn.{each};
+ghost use Rattle.desk_reading.specs.VolumeIn as spec;
+
+use crate::json_in::{array_at, present, text_at, whole_at};
+use crate::times::second_of;
+use crate::wire_fault::{ReadError, WireFault};
+use s2_cellid::CellId;
+use serde_json::Value;
+use std::alloc::Global;
+use volume4d::{Area, Footprint, Volume, Window};
+
+/// The volumes of a plan's area.
+pub fn read_area(alloc: Global, items: &[Value]) -> Result<Area, ReadError>
+    ensures { GivesIfRoom (λ area. area) result (spec.area_of (items_view items.now)) }
+{
+    if !is_area_count(items.len()) {
+        return Err(ReadError::Fault(WireFault::BadVolume));
+    }
+    let volumes = read_volumes(alloc, items)?;
+    Area::try_new(volumes).ok_or(ReadError::Fault(WireFault::BadVolume))
+}
+
+fn is_area_count(count: usize) -> bool
+    ensures { result ≡ is_in_range 1 8 count }
+{
+    (1..=8).contains(&count)
+}
+
+fn read_volumes(alloc: Global, items: &[Value]) -> Result<Vec<Volume>, ReadError>
+    ensures { GivesIfRoom (λ v. v.items) result (each spec.volume_of (items_view items.now)) }
+{
+    let mut volumes = Vec::new(alloc);
+    for item in items {
+        volumes.push(read_volume(alloc, item)?)?;
+    }
+    Ok(volumes)
+}
+
+// A volume.
+#[tactic(auto, unfolding(crate::specs::VolumeIn::volume_of))]
+fn read_volume(alloc: Global, value: &Value) -> Result<Volume, ReadError>
+    ensures { GivesIfRoom (λ volume. volume) result (spec.volume_of (view value.now)) }
+{
+    let shape = value.get("volume").ok_or(WireFault::BadVolume)?;
+    let window = window_of(value, shape)?;
+    let cells = read_cells(alloc, shape)?;
+    match Volume::try_new(Footprint::Cells(cells), window) {
+        Ok(volume) => Ok(volume),
+        Err(_) => Err(ReadError::Fault(WireFault::BadVolume)),
+    }
+}
+
+// The cells of a volume's `volume`.
+#[tactic(auto, unfolding(crate::specs::VolumeIn::cells_of))]
+fn read_cells(alloc: Global, shape: &Value) -> Result<Vec<CellId>, ReadError>
+    ensures { GivesIfRoom (λ v. v.items) result (spec.cells_of (view shape.now)) }
+{
+    if present(shape, "rectangle").is_some() {
+        return Err(ReadError::Fault(WireFault::BadVolume));
+    }
+    let items = array_at(shape, "cells").ok_or(WireFault::BadVolume)?;
+    read_tokens(alloc, items)
+}
+
+fn read_tokens(alloc: Global, items: &[Value]) -> Result<Vec<CellId>, ReadError>
+    ensures { GivesIfRoom (λ v. v.items) result (each spec.token_of (items_view items.now)) }
+{
+    let mut cells = Vec::new(alloc);
+    for item in items {
+        cells.push(token_of(item)?)?;
+    }
+    Ok(cells)
+}
+
+// An S2 token.
+fn token_of(value: &Value) -> Result<CellId, WireFault>
+    ensures { result ≡ spec.token_of (view value.now) }
+{
+    let text = value.as_str().ok_or(WireFault::BadVolume)?;
+    match CellId::from_token(text.as_bytes()) {
+        Ok(cell) => Ok(cell),
+        Err(_) => Err(WireFault::BadVolume),
+    }
+}
+
+// The altitudes and times of a volume.
+#[tactic(auto, unfolding(crate::specs::VolumeIn::window_of))]
+fn window_of(value: &Value, shape: &Value) -> Result<Window, WireFault>
+    ensures { result ≡ spec.window_of (view value.now) (view shape.now) }
+{
+    let lower = whole_at(shape, "altitude_lower").ok_or(WireFault::BadVolume)?;
+    let upper = whole_at(shape, "altitude_upper").ok_or(WireFault::BadVolume)?;
+    let start = time_at(value, "time_start").ok_or(WireFault::BadVolume)?;
+    let end = time_at(value, "time_end").ok_or(WireFault::BadVolume)?;
+    checked_window(lower, upper, start, end).ok_or(WireFault::BadVolume)
+}
+
+// The window of whole numbers of any size.
+fn checked_window(lower: i64, upper: i64, start: i64, end: i64) -> Option<Window>
+    ensures { result ≡ result_ok
+        (window_or_fault (record { lower = lower; upper = upper; start = start; end = end })) }
+{
+    let lower = i32::try_from(lower).ok()?;
+    let upper = i32::try_from(upper).ok()?;
+    Window::try_new(lower, upper, start, end).ok()
+}
+
+// A member that is a time.
+fn time_at(value: &Value, key: &str) -> Option<i64>
+    ensures { result ≡ spec.time_at key.now (view value.now) }
+{
+    time_of(value.get(key)?)
+}
+
+// The second of a time, whose format is `RFC3339`.
+#[tactic(auto, unfolding(crate::specs::VolumeIn::time_of))]
+fn time_of(value: &Value) -> Option<i64>
+    ensures { result ≡ spec.time_of (view value.now) }
+{
+    if text_at(value, "format")? == "RFC3339" {
+        second_of(text_at(value, "value")?.as_bytes())
+    } else {
+        None
+    }
+}

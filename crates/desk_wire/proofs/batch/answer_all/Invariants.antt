@@ -1,0 +1,15 @@
+use Rattle.std.proofs.Common.{◌≡◌, ◌≤◌, length}
+use Rattle.desk_store.specs.Faults.{IsHonest}
+use Rattle.desk_wire.proofs.AllLemmas.{HaveAnswers}
+use Rattle.desk_wire.proofs.batch.answer_all.Given as goal
+
+-- the requests so far are answered, and there is room for the answers to all
+abbrev pub invariant-loop-moment : goal.invariant-loop-moment
+invariant-loop-moment g l =
+    record {
+      answered : IsHonest (g.S.PlanStore.doubt l.desk) → HaveAnswers (λ r. (r.0, r.1.items)) (λ v. v.items) (g.S.PlanStore.content l.fn.desk) l.requests l.moment-index l.answers.items (g.S.PlanStore.content l.desk);
+      count : length l.answers.items ≡ l.moment-index;
+      room : length l.requests ≤ l.answers.cap;
+      doubt : g.S.PlanStore.doubt l.fn.desk ≤ g.S.PlanStore.doubt l.desk;
+      counted : g.S.PlanStore.faults l.fn.desk ≤ g.S.PlanStore.faults l.desk;
+    }

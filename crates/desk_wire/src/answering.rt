@@ -1,0 +1,220 @@
+//! Requests answered at a desk, from bytes to bytes.
+
+ghost use Rattle.std.specs.Prelude.{◌≡◌, ◌≤◌, IfErr, IfOk, IfSome, OnOk, OnErr, Ok, Some};
+ghost use Rattle.desk_reading.specs.Messages.{message_read, message_shown};
+ghost use Rattle.desk_reading.specs.Readings.{or_met};
+ghost use Rattle.desk_reading.specs.Requests.{asked_by};
+ghost use Rattle.desk_store.specs.Faults.{IsHonest, HasRisen};
+ghost use Rattle.desk_run.specs.Calls.{CanCommit, reply_in, world_committed};
+ghost use Rattle.desk_wire.specs.Moments.{IsMoment};
+ghost use Rattle.desk_writing.specs.PlanBody.{reply_text};
+ghost use Rattle.desk_wire.specs.Bytes.{IsAnswered, IsAnsweredSo, IsDone, IsServerError, status_for, status_so};
+ghost use Rattle.desk_wire.specs.Refusals.{refusal_status, refusal_text};
+
+use crate::refusal::Refusal;
+use crate::response::{Answer, ServerError};
+use desk_reading::{Message, ReadError, Routes, WireFault, read_asked, read_message};
+use desk_run::{Asked, Desk, DeskFault, Pending};
+use desk_store::PlanStore;
+use desk_writing::{error_answer, reply_answer};
+use http::StatusCode;
+use std::alloc::{AllocError, Global};
+
+/// The room that is reserved before a request is answered, in bytes.
+const ANSWER_ROOM: usize = 512;
+
+// An answer to a request at which the desk did not fail.
+#[derive(Drop)]
+struct Response {
+    status: u16,
+    bytes: Vec<u8>,
+}
+
+/// Answers `text`, the bytes of one whole request, at a moment (a Unix second from 0 to
+/// 253,370,764,800), and makes its change.
+///
+/// # Errors
+///
+/// `AllocError` if the room for the routes or for an answer was refused: nothing changed. If a later
+/// growth was refused, or the store failed, the answer says so, and nothing changed.
+pub fn answer<S: PlanStore>(
+    alloc: Global,
+    desk: &mut Desk<S>,
+    moment: i64,
+    text: &[u8],
+) -> Result<Vec<u8>, AllocError>
+    requires { IsMoment moment }
+    ensures bytes { IsHonest (S.doubt desk.new) → IfOk result (λ bytes.
+        IsAnswered (S.content desk.old) moment text.now bytes.items (S.content desk.new)) }
+    ensures err { OnErr result (S.content desk.new ≡ S.content desk.old) }
+    ensures doubt { S.doubt desk.old ≤ S.doubt desk.new }
+    ensures counted { S.faults desk.old ≤ S.faults desk.new }
+{
+    let routes = Routes::try_new(alloc)?;
+    let answer = answer_request(alloc, &routes, desk, moment, &read_message(text))?;
+    Ok(answer.bytes)
+}
+
+/// Answers the request that was read, or its fault, at a moment.
+///
+/// # Errors
+///
+/// `AllocError` if the room for an answer was refused: nothing changed.
+pub fn answer_request<S: PlanStore>(
+    alloc: Global,
+    routes: &Routes,
+    desk: &mut Desk<S>,
+    moment: i64,
+    request: &Result<Message<'_>, WireFault>,
+) -> Result<Answer, AllocError>
+    requires { IsMoment moment }
+    ensures bytes { IsHonest (S.doubt desk.new) → IfOk result (λ answer.
+        IsAnsweredSo answer.error (S.content desk.old) moment
+        (or_met (message_read request.now) asked_by) answer.bytes.items (S.content desk.new)) }
+    ensures status { IsHonest (S.doubt desk.new) → IfOk result (λ answer. answer.status
+        ≡ status_so answer.error (S.content desk.old) moment (or_met (message_read request.now) asked_by)) }
+    ensures failed { IfOk result (λ answer. IfSome answer.error (λ why.
+        IsServerError why (S.content desk.old) answer.bytes.items (S.content desk.new))) }
+    ensures err { OnErr result (S.content desk.new ≡ S.content desk.old) }
+    ensures doubt { S.doubt desk.old ≤ S.doubt desk.new }
+    ensures counted { S.faults desk.old ≤ S.faults desk.new }
+    ensures cause { IfOk result (λ answer. answer.error ≡ Some ServerError.Store →
+        HasRisen (S.faults desk.old) (S.faults desk.new)) }
+{
+    let mut room = Vec::with_capacity(alloc, ANSWER_ROOM)?;
+    match respond(alloc, routes, desk, moment, request) {
+        Ok(response) => Ok(Answer {
+            status: response.status,
+            bytes: response.bytes,
+            error: None,
+        }),
+        Err(error) => {
+            room.extend_from_slice(error.answer())?;
+            Ok(Answer {
+                status: StatusCode::INTERNAL_SERVER_ERROR.as_u16(),
+                bytes: room,
+                error: Some(error),
+            })
+        }
+    }
+}
+
+// Answers the request that was read, or its fault, unless the desk fails.
+fn respond<S: PlanStore>(
+    alloc: Global,
+    routes: &Routes,
+    desk: &mut Desk<S>,
+    moment: i64,
+    request: &Result<Message<'_>, WireFault>,
+) -> Result<Response, ServerError>
+    requires { IsMoment moment }
+    ensures bytes { IsHonest (S.doubt desk.new) → IfOk result (λ r. IsDone (S.content desk.old) moment
+        (or_met (message_read request.now) asked_by) r.bytes.items (S.content desk.new)) }
+    ensures status { IsHonest (S.doubt desk.new) → IfOk result (λ r. r.status
+        ≡ status_for (S.content desk.old) moment (or_met (message_read request.now) asked_by)) }
+    ensures err { OnErr result (S.content desk.new ≡ S.content desk.old) }
+    ensures doubt { S.doubt desk.old ≤ S.doubt desk.new }
+    ensures counted { S.faults desk.old ≤ S.faults desk.new }
+    ensures cause { IfErr result (λ e. e ≡ ServerError.Store →
+        HasRisen (S.faults desk.old) (S.faults desk.new)) }
+{
+    match request {
+        Ok(message) => answer_message(alloc, routes, desk, moment, message),
+        Err(fault) => refuse(alloc, Refusal::Fault(*fault)),
+    }
+}
+
+// Answers a message.
+fn answer_message<S: PlanStore>(
+    alloc: Global,
+    routes: &Routes,
+    desk: &mut Desk<S>,
+    moment: i64,
+    message: &Message<'_>,
+) -> Result<Response, ServerError>
+    requires { IsMoment moment }
+    ensures bytes { IsHonest (S.doubt desk.new) → IfOk result (λ r. IsDone (S.content desk.old) moment
+        (asked_by (message_shown message.now)) r.bytes.items (S.content desk.new)) }
+    ensures status { IsHonest (S.doubt desk.new) → IfOk result (λ r. r.status
+        ≡ status_for (S.content desk.old) moment (asked_by (message_shown message.now))) }
+    ensures err { OnErr result (S.content desk.new ≡ S.content desk.old) }
+    ensures doubt { S.doubt desk.old ≤ S.doubt desk.new }
+    ensures counted { S.faults desk.old ≤ S.faults desk.new }
+    ensures cause { IfErr result (λ e. e ≡ ServerError.Store →
+        HasRisen (S.faults desk.old) (S.faults desk.new)) }
+{
+    match read_asked(alloc, routes, message) {
+        Ok(asked) => answer_call(alloc, desk, moment, &asked),
+        Err(ReadError::Fault(fault)) => refuse(alloc, Refusal::Fault(fault)),
+        Err(ReadError::OutOfMemory) => Err(ServerError::OutOfMemory),
+    }
+}
+
+// Answers what is asked.
+fn answer_call<S: PlanStore>(
+    alloc: Global,
+    desk: &mut Desk<S>,
+    moment: i64,
+    asked: &Asked,
+) -> Result<Response, ServerError>
+    requires { IsMoment moment }
+    ensures bytes { IsHonest (S.doubt desk.new) → IfOk result (λ r.
+        IsDone (S.content desk.old) moment (Ok asked.now) r.bytes.items (S.content desk.new)) }
+    ensures status { IsHonest (S.doubt desk.new) → IfOk result (λ r.
+        r.status ≡ status_for (S.content desk.old) moment (Ok asked.now)) }
+    ensures err { OnErr result (S.content desk.new ≡ S.content desk.old) }
+    ensures doubt { S.doubt desk.old ≤ S.doubt desk.new }
+    ensures counted { S.faults desk.old ≤ S.faults desk.new }
+    ensures cause { IfErr result (λ e. e ≡ ServerError.Store →
+        HasRisen (S.faults desk.old) (S.faults desk.new)) }
+{
+    match desk.prepare(alloc, moment, asked) {
+        Ok(pending) => answer_pending(alloc, desk, pending),
+        Err(DeskFault::UnknownOperator) => refuse(alloc, Refusal::UnknownOperator),
+        Err(DeskFault::NoSuchPlan) => refuse(alloc, Refusal::NoSuchPlan),
+        Err(DeskFault::Store) => Err(ServerError::Store),
+        Err(DeskFault::OutOfMemory | DeskFault::Ceiling) => Err(ServerError::OutOfMemory),
+    }
+}
+
+// Writes the answer, and then makes the change that goes with it.
+fn answer_pending<S: PlanStore>(
+    alloc: Global,
+    desk: &mut Desk<S>,
+    pending: Pending,
+) -> Result<Response, ServerError>
+    requires { IsHonest (S.doubt desk.old) → CanCommit (S.content desk.old) pending }
+    ensures bytes { IfOk result (λ r. r.bytes.items ≡ reply_text (reply_in pending)) }
+    ensures status { IfOk result (λ r. r.status ≡ 200) }
+    ensures ok { IsHonest (S.doubt desk.new) → OnOk result
+        (S.content desk.new ≡ world_committed (S.content desk.old) pending) }
+    ensures err { OnErr result (S.content desk.new ≡ S.content desk.old) }
+    ensures doubt { S.doubt desk.old ≤ S.doubt desk.new }
+    ensures counted { S.faults desk.old ≤ S.faults desk.new }
+    ensures cause { IfErr result (λ e. e ≡ ServerError.Store →
+        HasRisen (S.faults desk.old) (S.faults desk.new)) }
+{
+    let bytes = reply_answer(alloc, pending.reply())?;
+    match desk.commit(pending) {
+        Ok(_) => Ok(Response {
+            status: StatusCode::OK.as_u16(),
+            bytes,
+        }),
+        Err(DeskFault::Store) => Err(ServerError::Store),
+        Err(_) => Err(ServerError::OutOfMemory),
+    }
+}
+
+// The answer to a request that is refused.
+#[tactic(auto, unfolding(crate::specs::Refusals::refusal_text))]
+fn refuse(alloc: Global, refusal: Refusal) -> Result<Response, ServerError>
+    ensures bytes { IfOk result (λ r. r.bytes.items ≡ refusal_text refusal) }
+    ensures status { IfOk result (λ r. r.status ≡ refusal_status refusal) }
+    ensures error { IfErr result (λ e. e ≡ ServerError.OutOfMemory) }
+{
+    let bytes = error_answer(alloc, refusal.status(), refusal.word())?;
+    Ok(Response {
+        status: refusal.status().as_u16(),
+        bytes,
+    })
+}

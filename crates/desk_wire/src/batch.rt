@@ -1,0 +1,78 @@
+//! Batches: the answers to requests that are all at hand.
+
+ghost use Rattle.std.specs.Prelude.{◌≡◌, ◌≤◌, All, IfOk, OnErr, map};
+ghost use Rattle.desk_store.specs.Faults.{IsHonest};
+ghost use Rattle.desk_wire.specs.AllAnswers.{AreAnswers};
+ghost use Rattle.desk_wire.specs.Moments.{IsMoment};
+
+#[cfg(test)]
+mod tests;
+
+use crate::answering::answer_request;
+use crate::response::Answer;
+use desk_reading::{Routes, read_message};
+use desk_run::Desk;
+use desk_store::PlanStore;
+use std::alloc::{AllocError, Global};
+
+/// The answers to requests, in their order.
+#[derive(Debug, Drop)]
+pub struct Answers {
+    pub answers: Vec<Vec<u8>>,
+    /// Why there are no more of them.
+    pub ended: AnswersEnd,
+}
+
+/// Why there are no more answers.
+#[derive(Clone, Copy, Debug, PartialEq, Eq)]
+pub enum AnswersEnd {
+    /// Each request is answered.
+    All,
+    /// The last answer has the status 500.
+    Broken,
+    /// There was no memory for the next answer; its request changed nothing.
+    NoMemory,
+}
+
+/// Answers requests, each the bytes of one whole request with its moment (a Unix second from 0 to
+/// 253,370,764,800), until an answer has the status 500.
+///
+/// # Errors
+///
+/// `AllocError` if the room for the routes or for all answers was refused: nothing changed.
+pub fn answer_all<S: PlanStore>(
+    alloc: Global,
+    desk: &mut Desk<S>,
+    requests: &[(i64, Vec<u8>)],
+) -> Result<Answers, AllocError>
+    requires { All (λ request. IsMoment request.0) requests.now }
+    ensures answers { IsHonest (S.doubt desk.new) → IfOk result (λ a.
+        AreAnswers a.ended (S.content desk.old) (map (λ r. (r.0, r.1.items)) requests.now)
+        (map (λ v. v.items) a.answers.items) (S.content desk.new)) }
+    ensures err { OnErr result (S.content desk.new ≡ S.content desk.old) }
+    ensures doubt { S.doubt desk.old ≤ S.doubt desk.new }
+    ensures counted { S.faults desk.old ≤ S.faults desk.new }
+{
+    let routes = Routes::try_new(alloc)?;
+    let mut answers = Vec::with_capacity(alloc, requests.len())?;
+    for (moment, text) in requests {
+        let answer = answer_request(alloc, &routes, desk, *moment, &read_message(text));
+        let Ok(Answer { bytes, error, .. }) = answer else {
+            return Ok(Answers {
+                answers,
+                ended: AnswersEnd::NoMemory,
+            });
+        };
+        answers.push_reserved(bytes);
+        if error.is_some() {
+            return Ok(Answers {
+                answers,
+                ended: AnswersEnd::Broken,
+            });
+        }
+    }
+    Ok(Answers {
+        answers,
+        ended: AnswersEnd::All,
+    })
+}

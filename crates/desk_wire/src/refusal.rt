@@ -1,0 +1,42 @@
+//! Why a request is refused before any rule is asked.
+
+ghost use Rattle.std.specs.Prelude.{◌≡◌};
+ghost use Rattle.desk_wire.specs.Refusals as spec;
+
+use desk_reading::WireFault;
+use http::StatusCode;
+
+/// Why a request is refused before any rule is asked.
+#[derive(Clone, Copy, Debug, PartialEq, Eq)]
+pub enum Refusal {
+    /// The bytes have this fault.
+    Fault(WireFault),
+    /// The operator is not enrolled.
+    UnknownOperator,
+    /// The operator has no plan of the id.
+    NoSuchPlan,
+}
+
+impl Refusal {
+    /// The status code of the answer (RFC 9110, section 15).
+    pub fn status(self) -> StatusCode
+        ensures { result ≡ spec.refusal_status self }
+    {
+        match self {
+            Refusal::Fault(fault) => fault.status(),
+            Refusal::UnknownOperator => StatusCode::FORBIDDEN,
+            Refusal::NoSuchPlan => StatusCode::NOT_FOUND,
+        }
+    }
+
+    /// The word that the answer has as `error`.
+    pub fn word(self) -> &'static str
+        ensures { result.now ≡ spec.refusal_word self }
+    {
+        match self {
+            Refusal::Fault(fault) => fault.word(),
+            Refusal::UnknownOperator => "unknown_operator",
+            Refusal::NoSuchPlan => "no_such_plan",
+        }
+    }
+}

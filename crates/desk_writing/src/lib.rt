@@ -1,0 +1,7 @@
+//! Answers as bytes: what a desk replies, and why it refuses, as responses of HTTP with JSON bodies.
+#![tactic(auto)]
+
+mod json_out;
+mod texts;
+
+pub use texts::{error_answer, out_of_memory_answer, reply_answer, store_answer};
