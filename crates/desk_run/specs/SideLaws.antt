@@ -1,5 +1,5 @@
--- Sides: what is said beside an operator's requests along a run is made of what the operator owned at
--- first, its requests, and what others held before each.
+-- Laws of sides, with their proofs: what is said beside an operator's requests along a run is made of what the
+-- operator owned at first, its requests, and what others held before each.
 use Rattle.std.proofs.Common.{◌≡◌, ℕ, Bool, true, false, cond, List, [], ◌∷◌, map, Option, None, refl, sym}
 use Rattle.std.proofs.Common.{ap, ◌∙◌}
 use Rattle.std.proofs.Math.Path.{fun_ext}
@@ -33,7 +33,7 @@ none_there (row ∷ rows) x off =
     ∙ none_there rows x off
 
 -- so what is the same at leaves is the same everywhere
-everywhere : (o : List ℕ) (v w : World) → HoldAlike o v w → held v o ≡ held w o
+pub everywhere : (o : List ℕ) (v w : World) → HoldAlike o v w → held v o ≡ held w o
 unfolding held
 everywhere o v w same = fun_ext (λ x. by_leaf x (is_leaf x.leaf) refl) where
   by_leaf : (x : Point) (b : Bool) → is_leaf x.leaf ≡ b → held v o x ≡ held w o x

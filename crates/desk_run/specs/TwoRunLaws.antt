@@ -1,4 +1,4 @@
--- Two runs of calls: what an operator is told, and what it owns.
+-- Laws of two runs of calls, with their proofs: what an operator is told, and what it owns.
 use Rattle.std.proofs.Common.{◌≡◌, ℕ, true, List, [], ◌∷◌, Less, Equal, Greater, refl, sym, ap, subst, ◌∙◌}
 use Rattle.std.specs.List.{AllZip}
 use Rattle.std.specs.declared.cmp.Ordering.{Ordering}
@@ -9,8 +9,8 @@ use Rattle.desk_run.specs.Verdicts.{Told, verdict, own_left, told_to, step}
 use Rattle.desk_run.specs.Runs.{told_in, world_left}
 use Rattle.desk_run.specs.Sides.{OwnAlike, HoldAlike, beside, along}
 use Rattle.desk_run.specs.TwoRuns.{Made, caller, left, calls_of, met_by, IsSameFor}
-use Rattle.desk_run.proofs.StepLemmas.{own_stays, others_stay}
-use Rattle.desk_run.proofs.SideLemmas.{Levels, IsSeenBy, IsKeptBy, after_all, same_found, same_last}
+use Rattle.desk_run.specs.StepLaws.{own_stays, others_stay}
+use Rattle.desk_run.specs.SideLaws.{everywhere, Levels, IsSeenBy, IsKeptBy, after_all, same_found, same_last}
 
 is_equal : (n : Ordering) → is_eq n ≡ true → n ≡ Equal
 is_equal Less e = cc
@@ -21,22 +21,22 @@ pub same_name : (o name : List ℕ) → is_eq (text_cmp o name) ≡ true → o �
 same_name o name e = exact_bytes o name (is_equal (text_cmp o name) e)
 
 -- what is told, and what is left to its operator, by what that operator owns and what others hold
-abbrev tell : Own → Levels → Made → Told
+abbrev pub tell : Own → Levels → Made → Told
 tell mine levels call = (verdict mine levels call.0 call.1.call).told
 
-abbrev keep : Own → Levels → Made → Own
+abbrev pub keep : Own → Levels → Made → Own
 keep mine levels call = own_left mine levels call.0 call.1.call
 
-abbrev told_at : World → Made → Told
+abbrev pub told_at : World → Made → Told
 told_at w call = told_to w call.1.operator call.0 call.1.call
 
-seen : (o : List ℕ) → IsSeenBy caller o told_at tell
+pub seen : (o : List ℕ) → IsSeenBy caller o told_at tell
 unfolding told_to
 seen o w call e =
     ap (λ name. (verdict (own w name) (held w name) call.0 call.1.call).told)
     (sym (same_name o call.1.operator e))
 
-kept : (o : List ℕ) → IsKeptBy caller o left keep
+pub kept : (o : List ℕ) → IsKeptBy caller o left keep
 kept o = record {
   mine = mine;
   others = λ w call e. others_stay w call.1.operator o call.0 call.1.call e;
@@ -46,6 +46,13 @@ kept o = record {
       subst
       (λ name. own (step w name call.0 call.1.call) o ≡ own_left (own w o) (held w o) call.0 call.1.call)
       (same_name o call.1.operator e) (own_stays w o call.0 call.1.call)
+
+-- a call of an operator to which two worlds look alike is told the same
+pub told_alike : (v w : World) (call : Made) → OwnAlike call.1.operator v w → HoldAlike call.1.operator v w
+    → told_at v call ≡ told_at w call
+unfolding told_to
+told_alike v w call own_same held_same = λ i.
+    (verdict (own_same i) (everywhere call.1.operator v w held_same i) call.0 call.1.call).told
 
 told_along : (w : World) (calls : List Made) → told_in w calls ≡ along left told_at w calls
 told_along w [] = refl
