@@ -1,5 +1,5 @@
--- Laws of sides, with their proofs: what is said beside an operator's requests along a run is made of what the
--- operator owned at first, its requests, and what others held before each.
+-- Laws of sides, with their proofs: what is said beside an operator's requests along a run is made of what
+-- the operator owned at first, its requests, and what others held before each.
 use Rattle.std.proofs.Common.{◌≡◌, ℕ, Bool, true, false, cond, List, [], ◌∷◌, map, Option, None, refl, sym}
 use Rattle.std.proofs.Common.{ap, ◌∙◌}
 use Rattle.std.proofs.Math.Path.{fun_ext}

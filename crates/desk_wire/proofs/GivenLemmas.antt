@@ -1,5 +1,6 @@
 -- The answers that a desk gave, by how they ended: those before a 500 are the answers to what is asked.
-use Rattle.std.proofs.Common.{◌≡◌, ◌<◌, ◌≤◌, ◌+◌, ◌-◌, ℕ, zero, suc, Bool, true, false, cond, List, [], ◌∷◌, ◌++◌, length, take, min, Option, Some, refl, sym, ap, subst, ◌∙◌, arith, length-append}
+use Rattle.std.proofs.Common.{◌≡◌, ◌<◌, ◌+◌, ◌-◌, ℕ, zero, suc, Bool, true, false, cond, Some, refl, sym, ap}
+use Rattle.std.proofs.Common.{List, [], ◌∷◌, length, take, ◌∙◌, arith, length-append}
 use Rattle.std.proofs.lemmas.List.{take_all, length-take-le}
 use Rattle.std.proofs.Math.Seq.{take-append_seam, take-length}
 use Rattle.std.specs.List.{slice_get}
@@ -24,7 +25,8 @@ broken_first : (w after : World) (rs : List Sent) (answers : List (List ℕ)) �
     → GivenFirst Broken w rs answers after
 broken_first w after rs answers h =
     let count : length h.before ≡ h.count =
-        ap length h.first.told ∙ one_each w (take h.count rs) ∙ length-take-le h.count rs (omega (arith, h.cut)) in
+        ap length h.first.told ∙ one_each w (take h.count rs)
+        ∙ length-take-le h.count rs (omega (arith, h.cut)) in
     let whole : length answers ≡ length h.before + 1 =
         ap length h.last ∙ length-append h.before (server_error_text h.why ∷ []) in
     let n : length answers - 1 ≡ length h.before = omega (arith, whole) in
@@ -97,4 +99,5 @@ pub given_quiet : (e : AnswersEnd) (w after : World) (rs : List Sent) (answers :
     → AreAnswers e w rs answers after → requests_of o rs ≡ [] → OwnAlike o after w
 given_quiet e w after rs answers o h none =
     let n = answered e answers in
-    ap (λ u. own u o) (first_given e w after rs answers h).left ∙ quiet o w (take n rs) (quiet_take o n rs none)
+    ap (λ u. own u o) (first_given e w after rs answers h).left
+    ∙ quiet o w (take n rs) (quiet_take o n rs none)

@@ -1,5 +1,6 @@
 -- The answer to a request by what its operator owns and what others hold, at any place of a list.
-use Rattle.std.proofs.Common.{◌≡◌, ◌≢◌, ◌+◌, ℕ, zero, suc, ℤ, Bool, true, false, List, [], ◌∷◌, length, take, Option, None, Some, Ok, Err, refl, sym, ap, ◌∙◌, arith}
+use Rattle.std.proofs.Common.{◌≡◌, ◌≢◌, ◌+◌, ℕ, zero, suc, ℤ, Bool, true, false, Option, None, Some, Ok, Err}
+use Rattle.std.proofs.Common.{List, [], ◌∷◌, length, refl, sym, ap, ◌∙◌, arith}
 use Rattle.std.specs.List.{AllZip, slice_get}
 use Rattle.std.specs.Ordering.{is_eq}
 use Rattle.desk_rules.specs.declared.call.Asked.{Asked}
@@ -7,10 +8,11 @@ use Rattle.desk_store.specs.World.{World, Own, own, held, text_cmp}
 use Rattle.desk_reading.specs.Readings.{Reading}
 use Rattle.desk_reading.specs.Requests.{asked}
 use Rattle.desk_run.specs.Sides.{OwnAlike, HoldAlike, is_from, beside, along}
-use Rattle.desk_run.specs.SideLaws.{Levels, IsSeenBy, IsKeptBy, after_all, everywhere, same_found, same_last, quiet_is}
+use Rattle.desk_run.specs.SideLaws.{Levels, IsSeenBy, IsKeptBy, after_all, everywhere}
+use Rattle.desk_run.specs.SideLaws.{same_found, same_last, quiet_is}
 use Rattle.desk_run.specs.StepLaws.{own_stays, others_stay}
 use Rattle.desk_run.specs.TwoRunLaws.{tell, keep, seen, kept, same_name, told_alike}
-use Rattle.desk_run.specs.Verdicts.{own_left, step, told_to}
+use Rattle.desk_run.specs.Verdicts.{own_left, step}
 use Rattle.desk_wire.specs.declared.refusal.Refusal.TheVariants.{Fault}
 use Rattle.desk_wire.specs.Bytes.{text, text_for, world_after}
 use Rattle.desk_wire.specs.Refusals.{refusal_text}
@@ -18,7 +20,8 @@ use Rattle.desk_wire.specs.AllAnswers.{Sent, answers_to, world_left}
 use Rattle.desk_wire.specs.Headline.{operator_in, sender, LookAlike, OwnsAlike, world_at, Headline}
 use Rattle.desk_wire.specs.TwoRuns.{left, requests_of, met_by, IsSameFor}
 
--- the answer to what is asked, and what is left to its operator, by what that operator owns and what others hold
+-- the answer to what is asked, and what is left to its operator, by what the operator owns and what others
+-- hold
 abbrev tell_by : Own → Levels → ℤ → Reading Asked → List ℕ
 tell_by mine levels moment (Ok a) = text (tell mine levels (moment, a))
 tell_by mine levels moment (Err fault) = refusal_text (Fault fault)
@@ -77,19 +80,21 @@ pub same_for : (o : List ℕ) (v w : World) (rs ss : List Sent) → OwnAlike o v
 same_for o v w rs ss mine asked held = record {
   answers =
       ap (beside sender o rs) (answers_along v rs)
-      ∙ same_found sender o left keep_sent (kept_sent o) text_at tell_sent (seen_sent o) v w rs ss mine asked held
+      ∙ same_found sender o left keep_sent kept text_at tell_sent (seen_sent o) v w rs ss mine asked held
       ∙ sym (ap (beside sender o ss) (answers_along w ss));
-  owned =
-      same_found sender o left keep_sent (kept_sent o) _ keep_sent (kept_sent o).mine v w rs ss mine asked held;
+  owned = same_found sender o left keep_sent kept _ keep_sent kept.mine v w rs ss mine asked held;
   at_end =
       ap (λ u. own u o) (left_all v rs)
-      ∙ same_last sender o left keep_sent (kept_sent o) v w rs ss mine asked held
+      ∙ same_last sender o left keep_sent kept v w rs ss mine asked held
       ∙ sym (ap (λ u. own u o) (left_all w ss));
-}
+} where
+  kept : IsKeptBy sender o left keep_sent
+  kept = kept_sent o
 
 -- an operator that sends nothing owns what it did
 pub quiet : (o : List ℕ) (w : World) (rs : List Sent) → requests_of o rs ≡ [] → OwnAlike o (world_left w rs) w
-quiet o w rs none = ap (λ u. own u o) (left_all w rs) ∙ quiet_is sender o left keep_sent (kept_sent o) w rs none
+quiet o w rs none =
+    ap (λ u. own u o) (left_all w rs) ∙ quiet_is sender o left keep_sent (kept_sent o) w rs none
 
 -- each request has an answer, that at the world before it
 pub one_each : (w : World) (rs : List Sent) → length (answers_to w rs) ≡ length rs

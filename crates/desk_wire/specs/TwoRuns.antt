@@ -1,4 +1,4 @@
--- One operator's part of the answers to requests by many, and what is the same for it in two runs.
+-- One operator's part of a run of requests by many, and what is the same for it in two runs.
 use Rattle.std.specs.Prelude.{◌≡◌, ℕ, List}
 use Rattle.desk_store.specs.World.{World, Own, own}
 use Rattle.desk_reading.specs.Requests.{asked}
@@ -27,8 +27,8 @@ met_by o w rs = beside sender o rs (along left (λ u r. u) w rs)
 abbrev pub owned_by : List ℕ → World → List Sent → List Own
 owned_by o w rs = beside sender o rs (along left (λ u r. own (left u r) o) w rs)
 
--- two runs are the same for an operator: its answers are equal byte for byte, and it owns the same after each of
--- its requests and at the end
+-- two runs are the same for an operator: its answers are equal byte for byte, and it owns the same after
+-- each of its requests and at the end
 pub record IsSameFor (o : List ℕ) (v : World) (rs : List Sent) (w : World) (ss : List Sent) : Type 0 where
   pub answers : answers_for o v rs ≡ answers_for o w ss
   pub owned : owned_by o v rs ≡ owned_by o w ss
