@@ -22,10 +22,11 @@ use Rattle.desk_rules.specs.Bridge.{AreSlabsOf, HoldLevels}
 use Rattle.desk_rules.specs.Search.{first_pair}
 use Rattle.desk_rules.specs.Conflict.{is_blocked, IsConflict, first_point, point_of, conflict, at_least}
 use Rattle.volume4d.specs.PointLaws.{leaf_test}
+use Rattle.volume4d.specs.VolumeLaws.{area_leaf}
 use Rattle.desk_rules.proofs.PointTests.{point_by_position}
 use Rattle.std.proofs.lemmas.Bool.{and_parts, false_from_ne_true}
 use Rattle.desk_rules.proofs.SearchLemmas.{IsFound, InBoth, BeforePair, IsBelow, IsLess, IsWithinInt, IsLessInt, below_finds, within_finds, pair_finds}
-use Rattle.desk_rules.proofs.Reach.{same_position, same_int, area_leaf, area_reach, before_pair, leaf_total, altitude_total, second_total}
+use Rattle.desk_rules.proofs.Reach.{same_position, same_int, area_reach, before_pair, leaf_total, altitude_total, second_total}
 
 -- the search finds the first point of the area that passes, where only the area's points pass
 pub first_point_is : (area : List Block) (passes : Point → Bool) → ((x : Point) → passes x ≡ true → area_has area x ≡ true) → IsFirstPoint passes (first_point area passes)

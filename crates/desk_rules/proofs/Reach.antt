@@ -35,17 +35,6 @@ leaf_below id p h = upto _ (and_parts (leb (first_leaf_id id) (leaf_id_at p)) _ 
 shape_below : (s : Shape) (leaf : GridLeaf) → shape_has s leaf ≡ true → position_of leaf + 1 ≤ leaf_reach s
 shape_below (cells ids) leaf h = any_sum (λ id. cell_has_leaf id leaf) (λ id. last_leaf_id id + 1) (position_of leaf + 1) (λ id e. leaf_below id (position_of leaf) e) ids (and_parts (is_leaf leaf) _ h).1
 
-shape_leaf : (s : Shape) (leaf : GridLeaf) → shape_has s leaf ≡ true → is_leaf leaf ≡ true
-shape_leaf (cells ids) leaf h = (and_parts (is_leaf leaf) _ h).0
-
--- the points of an area have leaves
-pub area_leaf : (area : List Block) (x : Point) → area_has area x ≡ true → is_leaf x.leaf ≡ true
-area_leaf [] x e = cc
-area_leaf (v ∷ vs) x e = by_test (area_leaf vs x) (block_has v x) refl e where
-  by_test : (area_has vs x ≡ true → is_leaf x.leaf ≡ true) → (b : Bool) → block_has v x ≡ b → (b || area_has vs x) ≡ true → is_leaf x.leaf ≡ true
-  by_test rest true t k = shape_leaf v.footprint x.leaf (and_parts (shape_has v.footprint x.leaf) _ t).0
-  by_test rest false t k = rest k
-
 abs_between : (l a u : ℤ) → int_le l a ≡ true → int_lt a u ≡ true → unsigned_abs a ≤ unsigned_abs l + unsigned_abs u
 abs_between (pos l) (pos a) (pos u) p q = grind (arith, nat_tests)
 abs_between (pos l) (pos a) (negsuc u) p q = cc

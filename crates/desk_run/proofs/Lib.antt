@@ -1,5 +1,4 @@
 pub mod FaultLemmas
 pub mod PutLemmas
 pub mod CallLemmas
-pub mod StepLemmas
 pub mod RunLemmas

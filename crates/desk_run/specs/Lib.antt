@@ -2,3 +2,8 @@ pub mod Faults
 pub mod Verdicts
 pub mod Calls
 pub mod Runs
+pub mod StepLaws
+pub mod Sides
+pub mod SideLaws
+pub mod TwoRuns
+pub mod TwoRunLaws

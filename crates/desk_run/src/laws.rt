@@ -1,11 +1,14 @@
 //! Laws of the definitions. Each is the contract of a function that does nothing.
 
 ghost use Rattle.std.specs.Prelude.{◌≡◌, ℕ, ℤ, List, Some, false};
+ghost use Rattle.std.specs.List.{AllZip};
 ghost use Rattle.std.specs.Ordering.{is_eq};
 ghost use Rattle.desk_rules.specs.declared.call.Call.{Call};
 ghost use Rattle.desk_rules.specs.declared.call.Call.TheVariants.{Delete};
 ghost use Rattle.desk_rules.specs.declared.plan.PlanRow.{PlanRow};
 ghost use Rattle.desk_rules.specs.declared.words.Usage.TheVariants as usage;
+ghost use Rattle.desk_run.specs.Sides.{HoldAlike, OwnAlike};
+ghost use Rattle.desk_run.specs.TwoRuns.{IsSameFor, Made, calls_of, met_by};
 ghost use Rattle.desk_run.specs.Verdicts.{own_left, step};
 ghost use Rattle.desk_store.specs.World.{World, IsWorld, own, held, plans_of, stored_of, text_cmp};
 
@@ -28,4 +31,15 @@ pub fn closing_a_closed_plan_changes_nothing()
     ensures { (w : World) (operator id : List ℕ) (moment : ℤ) (row : PlanRow) → IsWorld w →
         stored_of id (plans_of operator w) ≡ Some row → row.usage ≡ usage.Closed →
         step w operator moment (Delete id) ≡ w }
+{}
+
+/// Two runs, from worlds in which an operator owns the same, with the same calls of that operator
+/// in the same order and at the same moments. If others hold the same before each of these calls,
+/// then the operator is told the same and owns the same after each of them and at the end, whatever
+/// calls of others stand between.
+pub fn two_runs()
+    ensures { (operator : List ℕ) (v w : World) (calls others : List Made) →
+        OwnAlike operator v w → calls_of operator calls ≡ calls_of operator others →
+        AllZip (HoldAlike operator) (met_by operator v calls) (met_by operator w others) →
+        IsSameFor operator v calls w others }
 {}

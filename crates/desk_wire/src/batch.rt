@@ -1,9 +1,11 @@
 //! Batches: the answers to requests that are all at hand.
 
-ghost use Rattle.std.specs.Prelude.{◌≡◌, ◌≤◌, All, IfOk, OnErr, map};
+ghost use Rattle.std.specs.Prelude.{◌≡◌, ◌≤◌, ℕ, List, [], All, IfOk, OnErr, map};
 ghost use Rattle.desk_store.specs.Faults.{IsHonest};
+ghost use Rattle.desk_run.specs.Sides.{OwnAlike};
 ghost use Rattle.desk_wire.specs.AllAnswers.{AreAnswers};
 ghost use Rattle.desk_wire.specs.Moments.{IsMoment};
+ghost use Rattle.desk_wire.specs.TwoRuns.{requests_of};
 
 #[cfg(test)]
 mod tests;
@@ -49,6 +51,9 @@ pub fn answer_all<S: PlanStore>(
     ensures answers { IsHonest (S.doubt desk.new) → IfOk result (λ a.
         AreAnswers a.ended (S.content desk.old) (map (λ r. (r.0, r.1.items)) requests.now)
         (map (λ v. v.items) a.answers.items) (S.content desk.new)) }
+    ensures quiet { IsHonest (S.doubt desk.new) → IfOk result (λ _. (operator : List ℕ) →
+        requests_of operator (map (λ r. (r.0, r.1.items)) requests.now) ≡ [] →
+        OwnAlike operator (S.content desk.new) (S.content desk.old)) }
     ensures err { OnErr result (S.content desk.new ≡ S.content desk.old) }
     ensures doubt { S.doubt desk.old ≤ S.doubt desk.new }
     ensures counted { S.faults desk.old ≤ S.faults desk.new }

@@ -13,3 +13,4 @@ pub mod Slabs
 pub mod Meeting
 pub mod Shared
 pub mod LevelLaws
+pub mod VolumeLaws

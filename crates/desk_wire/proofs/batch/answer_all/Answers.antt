@@ -4,6 +4,8 @@ use Rattle.desk_reading.specs.Messages.{message_read}
 use Rattle.desk_store.specs.FaultLaws.{was_honest}
 use Rattle.desk_wire.specs.AllAnswers.{AreBroken}
 use Rattle.desk_wire.proofs.MomentLemmas.{moment_at, is_moment_at, same_moment}
+use Rattle.desk_wire.specs.declared.batch.AnswersEnd.TheVariants.{All, Broken, NoMemory}
+use Rattle.desk_wire.proofs.GivenLemmas.{given_quiet}
 use Rattle.desk_wire.proofs.AllLemmas.{HaveAnswers, one_answered, cut_answered, all_answered, done_so, failed_so}
 use Rattle.desk_wire.proofs.batch.answer_all.Goals as goal
 
@@ -48,3 +50,16 @@ returns-then-is_some-clause-answers g c = λ honest.
 pub returns-clause-answers : goal.returns-clause-answers
 returns-clause-answers g c = λ honest.
     all_answered (λ q. (q.0, q.1.items)) (λ v. v.items) (g.S.PlanStore.content c.args.desk.now) (g.S.PlanStore.content c.loop-moment.desk) c.args.requests.now c.loop-moment.moment-index c.loop-moment.answers.items (c.loop-moment.invariant.answered honest) c.loop-moment-test.false
+
+-- an operator that sent nothing owns what it did, by the clause of the answers
+pub returns-in_default-clause-quiet : goal.returns-in_default-clause-quiet
+returns-in_default-clause-quiet g c = λ honest o none.
+    given_quiet NoMemory _ _ _ _ o (returns-in_default-clause-answers g c honest) none
+
+pub returns-then-is_some-clause-quiet : goal.returns-then-is_some-clause-quiet
+returns-then-is_some-clause-quiet g c = λ honest o none.
+    given_quiet Broken _ _ _ _ o (returns-then-is_some-clause-answers g c honest) none
+
+pub returns-clause-quiet : goal.returns-clause-quiet
+returns-clause-quiet g c = λ honest o none.
+    given_quiet All _ _ _ _ o (returns-clause-answers g c honest) none

@@ -1,4 +1,4 @@
--- Steps: what they leave each operator.
+-- Laws of steps, with their proofs: what they leave each operator.
 use Rattle.std.proofs.Common.{◌≡◌, ℕ, ℤ, false, List, Option, Some, None, refl, ap, ◌∙◌}
 use Rattle.std.specs.Option.{unwrap_or}
 use Rattle.std.specs.Ordering.{is_eq}

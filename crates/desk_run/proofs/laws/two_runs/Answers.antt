@@ -1,0 +1,5 @@
+use Rattle.desk_run.specs.TwoRunLaws.{same_for}
+use Rattle.desk_run.proofs.laws.two_runs.Goals as goal
+
+pub returns : goal.returns
+returns c = same_for

@@ -1,0 +1,30 @@
+-- Sides: what an operator sees of a world, and its part of what is said along a list of requests by many.
+use Rattle.std.specs.Prelude.{◌≡◌, ℕ, List, [], ◌∷◌, Bool, true, false, cond, Option, None, Some}
+use Rattle.std.specs.Ordering.{is_eq}
+use Rattle.volume4d.specs.Point.{Point, is_leaf}
+use Rattle.desk_store.specs.World.{World, own, held, text_cmp}
+
+-- the operator owns the same in two worlds: its ceiling and its plans
+abbrev pub OwnAlike : List ℕ → World → World → Type 0
+OwnAlike o v w = own v o ≡ own w o
+
+-- the greatest priority that other operators hold is the same at each leaf cell, altitude and second
+abbrev pub HoldAlike : List ℕ → World → World → Type 0
+HoldAlike o v w = (x : Point) → is_leaf x.leaf ≡ true → held v o x ≡ held w o x
+
+-- whether a request is the operator's, by the name of its caller, or none
+abbrev pub is_from : List ℕ → Option (List ℕ) → Bool
+is_from o None = false
+is_from o (Some name) = is_eq (text_cmp o name)
+
+-- the items that stand beside the operator's requests
+abbrev pub beside : {R A : Type 0} → (R → Option (List ℕ)) → List ℕ → List R → List A → List A
+beside caller o [] xs = []
+beside caller o (r ∷ rs) [] = []
+beside caller o (r ∷ rs) (x ∷ xs) =
+    cond (is_from o (caller r)) (x ∷ beside caller o rs xs) (beside caller o rs xs)
+
+-- something said of each request at the world before it
+abbrev pub along : {R A : Type 0} → (World → R → World) → (World → R → A) → World → List R → List A
+along left f w [] = []
+along left f w (r ∷ rs) = f w r ∷ along left f (left w r) rs

@@ -1,0 +1,50 @@
+//! Laws of the definitions. Each is the contract of a function that does nothing.
+
+ghost use Rattle.std.specs.Prelude.{◌≡◌, ◌<◌, ℕ, List, [], Some, take};
+ghost use Rattle.std.specs.List.{AllZip, slice_get};
+ghost use Rattle.desk_store.specs.World.{World};
+ghost use Rattle.desk_run.specs.Sides.{HoldAlike, OwnAlike};
+ghost use Rattle.desk_wire.specs.declared.batch.AnswersEnd.{AnswersEnd};
+ghost use Rattle.desk_wire.specs.AllAnswers.{AreAnswers, AreFirst, Sent};
+ghost use Rattle.desk_wire.specs.Given.{answered};
+ghost use Rattle.desk_wire.specs.Headline.{Headline, LookAlike, sender, world_at};
+ghost use Rattle.desk_wire.specs.TwoRuns.{IsSameFor, met_by, requests_of};
+
+/// For every list of requests, each answer, byte for byte, is decided by that request's bytes and
+/// moment, its operator's own plans and ceiling, and the greatest priority that other operators hold
+/// at each leaf cell, altitude and second, and by nothing else; and no other operator's request
+/// changes this operator's plans. `specs/Headline.antt` says this part by part.
+pub fn headline()
+    ensures { Headline }
+{}
+
+/// Two runs, from worlds in which an operator owns the same, with the same requests of that operator
+/// in the same order and at the same moments. If others hold the same before each of these requests,
+/// then their answers are equal byte for byte, and the operator owns the same after each of them and
+/// at the end, whatever requests of others stand between.
+pub fn two_runs()
+    ensures { (operator : List ℕ) (v w : World) (requests others : List Sent) →
+        OwnAlike operator v w → requests_of operator requests ≡ requests_of operator others →
+        AllZip (HoldAlike operator) (met_by operator v requests) (met_by operator w others) →
+        IsSameFor operator v requests w others }
+{}
+
+/// The laws above, of the answers that a desk gave to a list of requests (the clause of
+/// `answer_all`). `first`: up to an answer 500 they are the answers of a run. `decided`: so one request,
+/// answered in two lists at worlds that look alike to its operator, was given equal bytes. `quiet`: an
+/// operator that sent nothing owns what it did.
+pub fn answers_given()
+    ensures first { (end : AnswersEnd) (w after : World) (requests : List Sent)
+        (answers : List (List ℕ)) → AreAnswers end w requests answers after →
+        AreFirst w requests (answered end answers) (take (answered end answers) answers) after }
+    ensures decided { (e f : AnswersEnd) (v w v_after w_after : World) (rs ss : List Sent)
+        (xs ys : List (List ℕ)) (i j : ℕ) (r : Sent) →
+        AreAnswers e v rs xs v_after → AreAnswers f w ss ys w_after →
+        i < answered e xs → j < answered f ys →
+        slice_get rs i ≡ Some r → slice_get ss j ≡ Some r →
+        LookAlike (sender r) (world_at v rs i) (world_at w ss j) →
+        slice_get xs i ≡ slice_get ys j }
+    ensures quiet { (end : AnswersEnd) (w after : World) (requests : List Sent)
+        (answers : List (List ℕ)) (operator : List ℕ) → AreAnswers end w requests answers after →
+        requests_of operator requests ≡ [] → OwnAlike operator after w }
+{}
