@@ -103,7 +103,9 @@ fn style_of(word: &str) -> Option<Style>
     ensures { result ≡ spec.style_of word.now }
 {
     match word {
+        "Hypothetical" => Some(Style::Hypothetical),
         "IfAllowed" => Some(Style::IfAllowed),
+        "InReality" => Some(Style::InReality),
         _ => None,
     }
 }
@@ -114,6 +116,8 @@ fn usage_of(word: &str) -> Option<Usage>
 {
     match word {
         "Planned" => Some(Usage::Planned),
+        "InUse" => Some(Usage::InUse),
+        "Closed" => Some(Usage::Closed),
         _ => None,
     }
 }
@@ -124,6 +128,8 @@ fn aircraft_of(word: &str) -> Option<Aircraft>
 {
     match word {
         "Nominal" => Some(Aircraft::Nominal),
+        "OffNominal" => Some(Aircraft::OffNominal),
+        "Contingent" => Some(Aircraft::Contingent),
         _ => None,
     }
 }
