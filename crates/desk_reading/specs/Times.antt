@@ -1,6 +1,17 @@
--- The second that a time text names: RFC 3339, section 5.6, `date-time`, in at most 64 bytes, with no leap
--- second. A start takes the second in which the instant lies; an end takes the first second at or after it.
-use Rattle.std.specs.Prelude.{ℕ, ◌+◌, ◌*◌, ◌<◌, ◌≤◌, ℤ, pos, ◌+ℤ◌, ◌-ℤ◌, ◌*ℤ◌, ◌≤ℤ◌, int_le, neg_ℤ, ◌≡◌, List, codes, length, drop, slice_index, slice_range, Bool, ◌&&◌, ◌||◌, ◌==◌, nat_le, nat_lt, if◌then◌else◌, Option, Some, None, option_and_then}
+-- The seconds that time texts name: RFC 3339, section 5.6, with no leap second.
+--
+--     date-time      = full-date "T" full-time
+--     full-date      = date-fullyear "-" date-month "-" date-mday
+--     full-time      = partial-time time-offset
+--     partial-time   = time-hour ":" time-minute ":" time-second [time-secfrac]
+--     time-secfrac   = "." 1*DIGIT
+--     time-offset    = "Z" / time-numoffset
+--     time-numoffset = ("+" / "-") time-hour ":" time-minute
+--
+-- The year has four digits, every other number two. `T` and `Z` may be small letters (section 5.6, first note).
+-- A text that is a start names the second in which its instant lies, one that is an end the first second at or
+-- after its instant.
+use Rattle.std.specs.Prelude.{ℕ, ◌+◌, ◌*◌, ◌<◌, ℤ, pos, ◌+ℤ◌, ◌-ℤ◌, ◌*ℤ◌, ◌≤ℤ◌, int_le, neg_ℤ, ◌≡◌, List, codes, length, take, drop, slice_index, slice_range, Bool, ◌&&◌, ◌||◌, ◌==◌, nat_le, nat_lt, if◌then◌else◌, Option, Some, None, option_and_then}
 use Rattle.std.specs.Char.{is_ascii_digit, to_ascii_uppercase}
 use Rattle.std.specs.Int.{is_in_range}
 use Rattle.std.specs.List.{list_all, list_any, prefix_len}
@@ -20,8 +31,7 @@ o >>= f = option_and_then f o
 unfoldable pub number_of : List ℕ → Option ℕ
 number_of digits = if list_all is_ascii_digit digits then Some (digits_value 10 digits) else None
 
--- the marks of `full-date "T" time-hour ":" time-minute ":" time-second`, at their places. Its `T`, and the `Z`
--- below, may be small letters (section 5.6, first note).
+-- the marks from `full-date` to `time-second` are at their places
 unfoldable pub has_marks : List ℕ → Bool
 has_marks text =
     (slice_index text 4 == byte "-") && (slice_index text 7 == byte "-")
@@ -50,34 +60,34 @@ civil_of text = do
 abbrev pub digit_count : List ℕ → ℕ
 digit_count text = prefix_len is_ascii_digit text
 
--- the bytes of `[time-secfrac]`, with which this text begins: a point and one digit or more, or nothing
+-- the length of the `[time-secfrac]` with which a text begins: 0 if there is no point
 unfoldable pub secfrac_len : List ℕ → Option ℕ
 secfrac_len text =
     if slice_index text 0 == byte "."
     then (if nat_lt 0 (digit_count (drop 1 text)) then Some (digit_count (drop 1 text) + 1) else None)
     else Some 0
 
--- whether a `time-secfrac` is more than zero: it has a digit from 1 to 9
-abbrev pub is_part : List ℕ → Bool
-is_part secfrac = list_any (is_in_range (byte "1") (byte "9")) secfrac
+-- a `time-secfrac` is above zero: it has a digit from 1 to 9
+abbrev pub is_above_zero : List ℕ → Bool
+is_above_zero secfrac = list_any (is_in_range (byte "1") (byte "9")) secfrac
 
--- `("+" / "-") time-hour ":" time-minute`, but for the digits
+-- the sign and the colon of a `time-numoffset` are at their places
 unfoldable pub has_offset_marks : List ℕ → Bool
 has_offset_marks text =
     (length text == 6) && ((slice_index text 0 == byte "+") || (slice_index text 0 == byte "-"))
     && (slice_index text 3 == byte ":")
 
--- seconds by which a clock is ahead of UTC, or behind it: section 4.2
-abbrev pub ahead_by : Bool → ℕ → ℤ
-ahead_by is_behind seconds = if is_behind then neg_ℤ (pos seconds) else pos seconds
+-- so many seconds ahead of UTC, or behind it (section 4.2)
+abbrev pub ahead_or_behind : Bool → ℕ → ℤ
+ahead_or_behind is_behind seconds = if is_behind then neg_ℤ (pos seconds) else pos seconds
 
--- an offset of hours and minutes; `-00:00` is zero too (section 4.3)
+-- an offset in seconds. `-00:00` is zero (section 4.3).
 abbrev pub offset_by : Bool → ℕ → ℕ → Option ℤ
 offset_by is_behind hour minute =
     if nat_le hour 23 && nat_le minute 59
-    then Some (ahead_by is_behind (hour * 3600 + minute * 60)) else None
+    then Some (ahead_or_behind is_behind (hour * 3600 + minute * 60)) else None
 
--- `time-numoffset`
+-- a `time-numoffset`
 unfoldable pub numoffset_of : List ℕ → Option ℤ
 numoffset_of text =
     if has_offset_marks text
@@ -85,20 +95,23 @@ numoffset_of text =
     number_of (slice_range text 4 6) >>= λ minute.
     offset_by (slice_index text 0 == byte "-") hour minute) else None
 
--- `time-offset`: `Z` is zero
+-- a `time-offset`
 unfoldable pub offset_of : List ℕ → Option ℤ
 offset_of text =
     if str_eq_ignore_ascii_case text (codes "Z") then Some (pos 0) else numoffset_of text
 
--- what a `date-time` writes. The first 19 bytes are all but the fraction and the offset, which has a byte at least.
+-- `[time-secfrac] time-offset`, after a date and a time of day
+unfoldable pub time_at : CivilTime → List ℕ → Option WrittenTime
+time_at civil rest =
+    secfrac_len rest >>= λ len.
+    offset_of (drop len rest) >>= λ offset.
+    Some (record { civil = civil; has_fraction = is_above_zero (take len rest); offset = offset })
+
+-- a `date-time`. Up to `time-second` it has 19 bytes.
 unfoldable pub time_of : List ℕ → Option WrittenTime
 time_of text =
     if is_in_range 20 time_room (length text) && has_marks text
-    then (civil_of text >>= λ civil.
-    secfrac_len (drop 19 text) >>= λ len.
-    offset_of (drop (19 + len) text) >>= λ offset.
-    Some (record { civil = civil; has_part = is_part (slice_range text 19 (19 + len)); offset = offset }))
-    else None
+    then (civil_of text >>= λ civil. time_at civil (drop 19 text)) else None
 
 -- what four digits and five times two digits can write
 pub record IsShort (w : CivilTime) : Type 0 where
@@ -109,7 +122,7 @@ pub record IsShort (w : CivilTime) : Type 0 where
   pub minute : w.minute < 100
   pub second : w.second < 100
 
--- less than a day, ahead or behind
+-- at most a day, ahead or behind
 pub record IsOffset (offset : ℤ) : Type 0 where
   pub low : neg_ℤ (pos 86_400) ≤ℤ offset
   pub high : offset ≤ℤ pos 86_400
@@ -151,18 +164,18 @@ is_instant second =
 abbrev pub utc_second : WrittenTime → ℤ
 utc_second t = civil_second t.civil -ℤ t.offset
 
--- the second in which a time lies that there is
+-- the second in which the time lies, if there are such a date and time
 unfoldable pub second_of : WrittenTime → Option ℤ
 second_of t =
     if is_civil t.civil && is_instant (utc_second t) then Some (utc_second t) else None
 
--- the second of a text that is a start: its fraction is dropped
+-- the second that a start names: its fraction is dropped
 unfoldable pub start_of : List ℕ → Option ℤ
 start_of text = time_of text >>= second_of
 
--- the second of a text that is an end: one later if its fraction is more than zero
+-- the second that an end names: one later if its fraction is above zero
 unfoldable pub end_of : List ℕ → Option ℤ
 end_of text =
     time_of text >>= λ time.
     second_of time >>= λ second.
-    Some (if time.has_part then second +ℤ pos 1 else second)
+    Some (if time.has_fraction then second +ℤ pos 1 else second)

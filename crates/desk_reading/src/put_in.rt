@@ -8,14 +8,17 @@ ghost use Rattle.desk_reading.specs.PutIn as spec;
 #[cfg(test)]
 mod tests;
 
-use crate::wire_fault::{ReadError, WireFault};
 use crate::json_in::{array_at, present, read_json, text_at};
 use crate::volume_in::read_area;
+use crate::wire_fault::{ReadError, WireFault};
 use desk_rules::plan::PutCall;
 use desk_rules::plan_id::PlanId;
 use desk_rules::words::{Aircraft, Style, Usage};
 use serde_json::Value;
 use std::alloc::Global;
+
+// The greatest priority of a plan.
+const MAX_PRIORITY: i64 = 1_000;
 
 /// The request for the plan of this id that a body is.
 ///
@@ -75,7 +78,7 @@ fn priority_number(value: &Value) -> Option<u32>
     ensures { result ≡ option_and_then spec.priority_number (whole_of (view value.now)) }
 {
     match value.as_i64()? {
-        priority @ 0..=1_000 => Some(priority as u32),
+        priority @ 0..=MAX_PRIORITY => Some(priority as u32),
         _ => None,
     }
 }

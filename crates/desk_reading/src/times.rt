@@ -6,10 +6,10 @@ ghost use Rattle.desk_reading.specs.Times.{IsShort, IsOffset, IsWritten, IsShown
 use jiff::civil::DateTime;
 use jiff::tz::Offset;
 
-/// The most bytes of a time text.
+// The most bytes of a time text.
 const TIME_ROOM: usize = 64;
 
-/// The bytes of a date and a time of day, `YYYY-MM-DDTHH:MM:SS`.
+// The bytes of a date and a time of day, `YYYY-MM-DDTHH:MM:SS`.
 const CIVIL_LEN: usize = 19;
 
 // A date and a time of day, as a text writes them.
@@ -27,8 +27,8 @@ struct CivilTime {
 #[derive(Clone, Copy)]
 struct WrittenTime {
     civil: CivilTime,
-    // Whether its fraction of a second is more than zero.
-    has_part: bool,
+    // Whether its fraction of a second is above zero.
+    has_fraction: bool,
     // Seconds by which the clock that shows it is ahead of UTC.
     offset: i32,
 }
@@ -42,7 +42,7 @@ pub fn start_of(text: &[u8]) -> Option<i64>
     second_of(time_of(text)?)
 }
 
-/// The second of a text that is an end: as for a start, but one later if the fraction is more than
+/// The second of a text that is an end: as for a start, but one later if the fraction is above
 /// zero.
 #[tactic(auto, unfolding(crate::specs::Times::end_of))]
 pub fn end_of(text: &[u8]) -> Option<i64>
@@ -50,10 +50,14 @@ pub fn end_of(text: &[u8]) -> Option<i64>
 {
     let time = time_of(text)?;
     let second = second_of(time)?;
-    Some(if time.has_part { second + 1 } else { second })
+    if time.has_fraction {
+        Some(second + 1)
+    } else {
+        Some(second)
+    }
 }
 
-// What the text writes.
+// What a text writes.
 #[tactic(auto, unfolding(crate::specs::Times::time_of))]
 fn time_of(text: &[u8]) -> Option<WrittenTime>
     ensures value { result ≡ spec.time_of text.now }
@@ -63,12 +67,23 @@ fn time_of(text: &[u8]) -> Option<WrittenTime>
         return None;
     }
     let civil = civil_of(text)?;
-    let len = secfrac_len(text.split_at(CIVIL_LEN).1)?;
-    let (front, zone) = text.split_at(CIVIL_LEN + len);
+    let (_, rest) = text.split_at(CIVIL_LEN);
+    time_at(civil, rest)
+}
+
+// The date and time of day with the fraction and the offset that a text writes.
+#[tactic(auto, unfolding(crate::specs::Times::time_at))]
+fn time_at(civil: CivilTime, rest: &[u8]) -> Option<WrittenTime>
+    requires short { IsShort civil }
+    requires some { 0 < length rest.now }
+    ensures value { result ≡ spec.time_at civil rest.now }
+    ensures written { IfSome result IsWritten }
+{
+    let (secfrac, zone) = rest.split_at(secfrac_len(rest)?);
     let offset = offset_of(zone)?;
     Some(WrittenTime {
         civil,
-        has_part: is_part(front.split_at(CIVIL_LEN).1),
+        has_fraction: is_above_zero(secfrac),
         offset,
     })
 }
@@ -145,9 +160,9 @@ fn digit_count(text: &[u8]) -> usize
     text.iter().take_while(|byte| byte.is_ascii_digit()).count()
 }
 
-// Whether a fraction is more than zero.
-fn is_part(secfrac: &[u8]) -> bool
-    ensures { result ≡ spec.is_part secfrac.now }
+// Whether a fraction is above zero.
+fn is_above_zero(secfrac: &[u8]) -> bool
+    ensures { result ≡ spec.is_above_zero secfrac.now }
 {
     secfrac.iter().any(|byte| b'1' <= *byte && *byte <= b'9')
 }
@@ -200,7 +215,7 @@ fn offset_by(is_behind: bool, hour: u16, minute: u16) -> Option<i32>
     Some(if is_behind { -seconds } else { seconds })
 }
 
-// The second in which a time lies that there is.
+// The second in which a time lies, if there are such a date and time.
 #[tactic(auto, unfolding(crate::specs::Times::second_of))]
 fn second_of(time: WrittenTime) -> Option<i64>
     requires { IsWritten time }
@@ -241,7 +256,10 @@ mod tests {
         assert_eq!(rt; start_of(b"2026-06-01T14:30:00+02:00"), Some(1_780_317_000));
         assert_eq!(rt; start_of(b"2026-06-01T12:59:59.5Z"), Some(1_780_318_799));
         assert_eq!(rt; end_of(b"2026-06-01t12:59:59.50z"), Some(1_780_318_800));
-        assert_eq!(rt; end_of(b"2026-06-01T12:59:59.00-00:00"), Some(1_780_318_799));
+        assert_eq!(rt;
+            end_of(b"2026-06-01T12:59:59.00-00:00"),
+            Some(1_780_318_799)
+        );
         Ok(())
     }
 
@@ -251,7 +269,8 @@ mod tests {
         assert_eq!(rt; start_of(b"2026-06-01T23:59:60Z"), None);
         assert_eq!(rt; start_of(b"2026-06-01T12:00:00.Z"), None);
         assert_eq!(rt; start_of(b"2026-06-01T12:00:00+24:00"), None);
-        assert_eq!(rt; end_of(&[b'0'; 65]), None);
+        let long = b"2026-06-01T12:59:59.00000000000000000000000000000000000000000000Z";
+        assert_eq!(rt; (long.len(), end_of(long)), (65, None));
         Ok(())
     }
 }

@@ -8,9 +8,9 @@ ghost use Rattle.desk_reading.specs.Readings.{GivesIfRoom};
 ghost use Rattle.desk_reading.specs.JsonIn.{each};
 ghost use Rattle.desk_reading.specs.VolumeIn as spec;
 
-use crate::wire_fault::{ReadError, WireFault};
 use crate::json_in::{array_at, present, text_at, whole_at};
 use crate::times::{end_of, start_of};
+use crate::wire_fault::{ReadError, WireFault};
 use s2_cellid::CellId;
 use serde_json::Value;
 use std::alloc::Global;
