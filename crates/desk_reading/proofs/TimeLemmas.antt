@@ -1,16 +1,18 @@
 -- The calendar's test against the library's, and seconds against nanoseconds.
-use Rattle.std.proofs.Common.{◌≡◌, ℕ, ◌+◌, ◌*◌, ◌<◌, ℤ, pos, negsuc, ◌+ℤ◌, ◌-ℤ◌, ◌*ℤ◌, ◌&&◌, ◌↔◌, Bool, true, false, nat_le, int_div, IsOk, IfOk, is_ok, Result, Ok, Err, ap, arith, ◌≤◌, Some, None}
+use Rattle.std.proofs.Common.{◌≡◌, ℕ, ◌+◌, ◌*◌, ◌<◌, ℤ, pos, negsuc, ◌+ℤ◌, ◌-ℤ◌, ◌*ℤ◌, ◌&&◌, ◌↔◌, Bool, true, false, nat_le, int_div, IsOk, IfOk, is_ok, Result, Ok, Err, ap, arith, ◌≤◌, Some, None, SFits, w32}
 use Rattle.std.proofs.lemmas.Bool.Decides.{nat_tests, same_from_decides}
 use Rattle.std.proofs.lemmas.Int.{ints, quot-rem, rem_below}
 use Rattle.std.specs.Int.{is_in_range}
 use Rattle.std.specs.Result.{result_ok}
+use Rattle.jiff.proofs.SpanFacts.{signed_arith}
 use Rattle.jiff.specs.Types.{DateTime}
 use Rattle.jiff_core.specs.Calendar.{IsBetween, IsDate, days_in_month, days_from_civil}
 use Rattle.jiff_core.specs.DateTime.{civil_nanos}
 use Rattle.jiff_core.specs.Time.{IsTime}
 use Rattle.jiff_core.specs.Timestamp.{IsTimestampNanos}
 use Rattle.desk_reading.specs.declared.times.CivilTime.{CivilTime}
-use Rattle.desk_reading.specs.Times.{is_civil, is_instant, civil_second, second_at, IsShort, IsShown}
+use Rattle.desk_reading.specs.declared.times.WrittenTime.{WrittenTime}
+use Rattle.desk_reading.specs.Times.{is_civil, is_instant, civil_second, utc_second, second_of, IsShort, IsShown, IsOffset}
 
 abbrev Tests : ℕ → ℕ → ℕ → ℕ → ℕ → ℕ → Bool
 Tests m limit d h i s =
@@ -47,8 +49,8 @@ civil_test w short = (
 pub div_back : (s : ℤ) → int_div (s *ℤ pos 1_000_000_000) (pos 1_000_000_000) ≡ s
 div_back s = omega (arith, ints, quot-rem (s *ℤ pos 1_000_000_000) (pos 1_000_000_000), rem_below (s *ℤ pos 1_000_000_000) (pos 1_000_000_000) (omega arith))
 
-pub nanos_are : (d : ℤ) (t : ℕ) → (d *ℤ pos 86_400_000_000_000 +ℤ pos (t * 1_000_000_000 + 0)) -ℤ pos 0 ≡ (d *ℤ pos 86_400 +ℤ pos t) *ℤ pos 1_000_000_000
-nanos_are d t = omega (arith, ints)
+pub nanos_are : (d : ℤ) (t : ℕ) (o : ℤ) → (d *ℤ pos 86_400_000_000_000 +ℤ pos (t * 1_000_000_000 + 0)) -ℤ o *ℤ pos 1_000_000_000 ≡ (d *ℤ pos 86_400 +ℤ pos t -ℤ o) *ℤ pos 1_000_000_000
+nanos_are d t o = omega (arith, ints)
 
 pub instant_from_nanos : (s : ℤ) → IsTimestampNanos (s *ℤ pos 1_000_000_000) → is_instant s ≡ true
 instant_from_nanos (pos n) h = grind (arith, nat_tests, ints)
@@ -65,20 +67,25 @@ nanos_from_instant (negsuc n) h =
 pub same_when_ok : {T E P : Type 0} (r : Result T E) (b : Bool) → (IsOk r ↔ P) → (P ↔ (b ≡ true)) → is_ok r ≡ b
 same_when_ok r b ok test = same_from_decides (is_ok r) b ok (test.1, test.0)
 
--- the library's nanoseconds of a date and time
-pub nanos_shown : (w : CivilTime) (shown : DateTime) → IsShown w shown → civil_nanos shown -ℤ pos 0 ≡ civil_second w *ℤ pos 1_000_000_000
+-- the library's nanoseconds of a time
+pub nanos_shown : (t : WrittenTime) (shown : DateTime) (o : ℤ) → IsShown t.civil shown → o ≡ t.offset → civil_nanos shown -ℤ o *ℤ pos 1_000_000_000 ≡ utc_second t *ℤ pos 1_000_000_000
 unfolding civil_nanos civil_second
-nanos_shown w shown is =
-    rw (is.year, is.month, is.day, is.hour, is.minute, is.second, is.whole)
-    (nanos_are (days_from_civil (pos w.year) w.month w.day) (w.hour * 3600 + w.minute * 60 + w.second))
+nanos_shown t shown o is offset =
+    let w = t.civil in
+    rw (is.year, is.month, is.day, is.hour, is.minute, is.second, is.whole, offset)
+    (nanos_are (days_from_civil (pos w.year) w.month w.day) (w.hour * 3600 + w.minute * 60 + w.second) t.offset)
 
-pub second_found : (w : CivilTime) (z : ℤ) → is_civil w ≡ true → is_instant (civil_second w) ≡ true → z ≡ civil_second w → Some z ≡ second_at w
-unfolding second_at
-second_found w z civil instant same = rw (civil, instant) (ap Some same)
+pub second_found : (t : WrittenTime) (z : ℤ) → is_civil t.civil ≡ true → is_instant (utc_second t) ≡ true → z ≡ utc_second t → Some z ≡ second_of t
+unfolding second_of
+second_found t z civil instant same = rw (civil, instant) (ap Some same)
 
-pub second_missing : (w : CivilTime) → is_civil w ≡ true → is_instant (civil_second w) ≡ false → None ≡ second_at w
-unfolding second_at
-second_missing w civil instant = rw (civil, instant)
+pub second_missing : (t : WrittenTime) → is_civil t.civil ≡ true → is_instant (utc_second t) ≡ false → None ≡ second_of t
+unfolding second_of
+second_missing t civil instant = rw (civil, instant)
+
+-- an offset of less than a day or so fits
+pub offset_fits : (o : ℤ) → IsOffset o → SFits w32 o
+offset_fits o is = let low = is.low in let high = is.high in omega (arith, signed_arith)
 
 -- the library has an instant for just the seconds in its range
 pub instant_test : {T E : Type 0} (r : Result T E) (s n : ℤ) → n ≡ s *ℤ pos 1_000_000_000 → (IsOk r ↔ IsTimestampNanos n) → is_ok r ≡ is_instant s

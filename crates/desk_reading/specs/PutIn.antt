@@ -1,15 +1,15 @@
 -- The body of a request for a plan: members and words of InterUSS flight_planning v1, and this desk's
 -- own members of areas.
-use Rattle.std.specs.Prelude.{ℕ, ℤ, pos, negsuc, List, codes, nat_le, if◌then◌else◌, Option, Some, None, option_and_then, Ok}
+use Rattle.std.specs.Prelude.{ℕ, ℤ, pos, negsuc, List, [], ◌∷◌, codes, nat_le, if◌then◌else◌, Option, Some, None, option_and_then, Ok}
 use Rattle.std.specs.Str.{bytes_eq}
 use Rattle.desk_rules.specs.Limits.{max_priority}
 use Rattle.desk_rules.specs.declared.plan.PutCall.{PutCall}
 use Rattle.desk_rules.specs.declared.words.Style.{Style}
-use Rattle.desk_rules.specs.declared.words.Style.TheVariants.{IfAllowed}
+use Rattle.desk_rules.specs.declared.words.Style.TheVariants.{Hypothetical, IfAllowed, InReality}
 use Rattle.desk_rules.specs.declared.words.Usage.{Usage}
-use Rattle.desk_rules.specs.declared.words.Usage.TheVariants.{Planned}
+use Rattle.desk_rules.specs.declared.words.Usage.TheVariants.{Planned, InUse, Closed}
 use Rattle.desk_rules.specs.declared.words.Aircraft.{Aircraft}
-use Rattle.desk_rules.specs.declared.words.Aircraft.TheVariants.{Nominal}
+use Rattle.desk_rules.specs.declared.words.Aircraft.TheVariants.{Nominal, OffNominal, Contingent}
 use Rattle.serde_json.specs.Data.{Data}
 use Rattle.serde_json.specs.Find.{get, as_object}
 use Rattle.desk_reading.specs.Readings.{Reading, or_fault, or_met}
@@ -17,17 +17,43 @@ use Rattle.desk_reading.specs.JsonIn.{array_at, body_value, present, text_at, wh
 use Rattle.desk_reading.specs.VolumeIn.{area_of}
 use Rattle.desk_reading.specs.declared.wire_fault.WireFault.TheVariants.{BadMember}
 
--- the execution style that is taken today
+-- what stands beside a word in a table
+abbrev pub beside : {A : Type 0} → List (List ℕ × A) → List ℕ → Option A
+beside [] word = None
+beside (row ∷ rows) word = if bytes_eq word row.0 then Some row.1 else beside rows word
+
+-- the words of flight_planning v1 for execution styles
+abbrev pub style_words : List (List ℕ × Style)
+style_words =
+    (codes "Hypothetical", Hypothetical)
+    ∷ (codes "IfAllowed", IfAllowed)
+    ∷ (codes "InReality", InReality)
+    ∷ []
+
+-- the words of flight_planning v1 for usage states
+abbrev pub usage_words : List (List ℕ × Usage)
+usage_words =
+    (codes "Planned", Planned)
+    ∷ (codes "InUse", InUse)
+    ∷ (codes "Closed", Closed)
+    ∷ []
+
+-- the words of flight_planning v1 for aircraft states
+abbrev pub aircraft_words : List (List ℕ × Aircraft)
+aircraft_words =
+    (codes "Nominal", Nominal)
+    ∷ (codes "OffNominal", OffNominal)
+    ∷ (codes "Contingent", Contingent)
+    ∷ []
+
 unfoldable pub style_of : List ℕ → Option Style
-style_of word = if bytes_eq word (codes "IfAllowed") then Some IfAllowed else None
+style_of word = beside style_words word
 
--- the usage state that is taken today
 unfoldable pub usage_of : List ℕ → Option Usage
-usage_of word = if bytes_eq word (codes "Planned") then Some Planned else None
+usage_of word = beside usage_words word
 
--- the aircraft state that is taken today
 unfoldable pub aircraft_of : List ℕ → Option Aircraft
-aircraft_of word = if bytes_eq word (codes "Nominal") then Some Nominal else None
+aircraft_of word = beside aircraft_words word
 
 -- the members that hold them
 abbrev pub style_at : Data → Option Style

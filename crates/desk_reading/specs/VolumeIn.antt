@@ -12,7 +12,7 @@ use Rattle.volume4d.specs.Windows.{WindowParts, window_or_fault}
 use Rattle.volume4d.specs.Shape.{cells, is_footprint}
 use Rattle.volume4d.specs.Volume.{Block}
 use Rattle.desk_reading.specs.Readings.{Reading, guard, or_fault, or_met}
-use Rattle.desk_reading.specs.Times.{instant_of}
+use Rattle.desk_reading.specs.Times.{start_of, end_of}
 use Rattle.desk_reading.specs.JsonIn.{array_at, each, present, text_at, whole_at}
 use Rattle.desk_reading.specs.declared.wire_fault.WireFault.TheVariants.{BadVolume}
 
@@ -21,22 +21,27 @@ abbrev pub is_rfc3339 : Option (List ℕ) → Bool
 is_rfc3339 None = false
 is_rfc3339 (Some text) = bytes_eq text (codes "RFC3339")
 
--- a time: `format` is the text `RFC3339`, and `value` names an instant
-unfoldable pub time_of : Data → Option ℤ
-time_of d =
-    if is_rfc3339 (text_at (codes "format") d)
-    then option_and_then instant_of (text_at (codes "value") d) else None
+-- the text of a time: `format` is the text `RFC3339`, and `value` is the time's text
+unfoldable pub time_text : Data → Option (List ℕ)
+time_text d =
+    if is_rfc3339 (text_at (codes "format") d) then text_at (codes "value") d else None
 
-abbrev pub time_at : List ℕ → Data → Option ℤ
-time_at key d = option_and_then time_of (get key d)
+abbrev pub time_at : List ℕ → Data → Option (List ℕ)
+time_at key d = option_and_then time_text (get key d)
+
+abbrev pub start_at : Data → Option ℤ
+start_at d = option_and_then start_of (time_at (codes "time_start") d)
+
+abbrev pub end_at : Data → Option ℤ
+end_at d = option_and_then end_of (time_at (codes "time_end") d)
 
 -- the altitudes are members of the volume's `volume`, the times its own
 unfoldable pub window_of : Data → Data → Reading WindowParts
 window_of d shape =
     or_fault (whole_at (codes "altitude_lower") shape) BadVolume λ lower.
     or_fault (whole_at (codes "altitude_upper") shape) BadVolume λ upper.
-    or_fault (time_at (codes "time_start") d) BadVolume λ start.
-    or_fault (time_at (codes "time_end") d) BadVolume λ end.
+    or_fault (start_at d) BadVolume λ start.
+    or_fault (end_at d) BadVolume λ end.
     or_fault (result_ok (window_or_fault
     (record { lower = lower; upper = upper; start = start; end = end }))) BadVolume Ok
 

@@ -14,6 +14,10 @@ field_room = 64
 abbrev pub digit_room : ℕ
 digit_room = 19
 
+-- the most bytes that a time text may have
+abbrev pub time_room : ℕ
+time_room = 64
+
 -- the most bytes that a body may have
 abbrev pub body_room : ℕ
 body_room = 131072

@@ -17,6 +17,9 @@ use desk_rules::words::{Aircraft, Style, Usage};
 use serde_json::Value;
 use std::alloc::Global;
 
+// The greatest priority of a plan.
+const MAX_PRIORITY: i64 = 1_000;
+
 /// The request for the plan of this id that a body is.
 ///
 /// # Errors
@@ -75,7 +78,7 @@ fn priority_number(value: &Value) -> Option<u32>
     ensures { result ≡ option_and_then spec.priority_number (whole_of (view value.now)) }
 {
     match value.as_i64()? {
-        priority @ 0..=1_000 => Some(priority as u32),
+        priority @ 0..=MAX_PRIORITY => Some(priority as u32),
         _ => None,
     }
 }
@@ -103,7 +106,9 @@ fn style_of(word: &str) -> Option<Style>
     ensures { result ≡ spec.style_of word.now }
 {
     match word {
+        "Hypothetical" => Some(Style::Hypothetical),
         "IfAllowed" => Some(Style::IfAllowed),
+        "InReality" => Some(Style::InReality),
         _ => None,
     }
 }
@@ -114,6 +119,8 @@ fn usage_of(word: &str) -> Option<Usage>
 {
     match word {
         "Planned" => Some(Usage::Planned),
+        "InUse" => Some(Usage::InUse),
+        "Closed" => Some(Usage::Closed),
         _ => None,
     }
 }
@@ -124,6 +131,8 @@ fn aircraft_of(word: &str) -> Option<Aircraft>
 {
     match word {
         "Nominal" => Some(Aircraft::Nominal),
+        "OffNominal" => Some(Aircraft::OffNominal),
+        "Contingent" => Some(Aircraft::Contingent),
         _ => None,
     }
 }

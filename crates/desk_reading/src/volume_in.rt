@@ -1,5 +1,5 @@
 //! The volumes of requests, from JSON.
-ghost use Rattle.std.specs.Prelude.{◌≡◌};
+ghost use Rattle.std.specs.Prelude.{◌≡◌, option_map};
 ghost use Rattle.std.specs.Int.{is_in_range};
 ghost use Rattle.std.specs.Result.{result_ok};
 ghost use Rattle.volume4d.specs.Windows.{window_or_fault};
@@ -9,7 +9,7 @@ ghost use Rattle.desk_reading.specs.JsonIn.{each};
 ghost use Rattle.desk_reading.specs.VolumeIn as spec;
 
 use crate::json_in::{array_at, present, text_at, whole_at};
-use crate::times::second_of;
+use crate::times::{end_of, start_of};
 use crate::wire_fault::{ReadError, WireFault};
 use s2_cellid::CellId;
 use serde_json::Value;
@@ -97,8 +97,8 @@ fn window_of(value: &Value, shape: &Value) -> Result<Window, WireFault>
 {
     let lower = whole_at(shape, "altitude_lower").ok_or(WireFault::BadVolume)?;
     let upper = whole_at(shape, "altitude_upper").ok_or(WireFault::BadVolume)?;
-    let start = time_at(value, "time_start").ok_or(WireFault::BadVolume)?;
-    let end = time_at(value, "time_end").ok_or(WireFault::BadVolume)?;
+    let start = start_at(value).ok_or(WireFault::BadVolume)?;
+    let end = end_at(value).ok_or(WireFault::BadVolume)?;
     checked_window(lower, upper, start, end).ok_or(WireFault::BadVolume)
 }
 
@@ -112,20 +112,32 @@ fn checked_window(lower: i64, upper: i64, start: i64, end: i64) -> Option<Window
     Window::try_new(lower, upper, start, end).ok()
 }
 
-// A member that is a time.
-fn time_at(value: &Value, key: &str) -> Option<i64>
-    ensures { result ≡ spec.time_at key.now (view value.now) }
+fn start_at(value: &Value) -> Option<i64>
+    ensures { result ≡ spec.start_at (view value.now) }
 {
-    time_of(value.get(key)?)
+    start_of(time_at(value, "time_start")?.as_bytes())
 }
 
-// The second of a time, whose format is `RFC3339`.
-#[tactic(auto, unfolding(crate::specs::VolumeIn::time_of))]
-fn time_of(value: &Value) -> Option<i64>
-    ensures { result ≡ spec.time_of (view value.now) }
+fn end_at(value: &Value) -> Option<i64>
+    ensures { result ≡ spec.end_at (view value.now) }
+{
+    end_of(time_at(value, "time_end")?.as_bytes())
+}
+
+// The text of a member that is a time.
+fn time_at<'a>(value: &'a Value, key: &str) -> Option<&'a str>
+    ensures { option_map (λ s. s.now) result ≡ spec.time_at key.now (view value.now) }
+{
+    time_text(value.get(key)?)
+}
+
+// The text of a time, whose format is `RFC3339`.
+#[tactic(auto, unfolding(crate::specs::VolumeIn::time_text))]
+fn time_text<'a>(value: &'a Value) -> Option<&'a str>
+    ensures { option_map (λ s. s.now) result ≡ spec.time_text (view value.now) }
 {
     if text_at(value, "format")? == "RFC3339" {
-        second_of(text_at(value, "value")?.as_bytes())
+        text_at(value, "value")
     } else {
         None
     }

@@ -25,15 +25,15 @@ fn listed(alloc: Global, text: &str, count: usize) -> Result<String, AllocError>
 fn body_of(alloc: Global, volumes: usize, cells: usize) -> Result<String, AllocError> {
     let cells = listed(alloc, "\"04\"", cells)?;
     let volume = format!(in alloc;
-        "{{\"time_end\":{{\"format\":\"RFC3339\",\"value\":\"2026-06-01T13:00:00Z\"}},\
-        \"time_start\":{{\"format\":\"RFC3339\",\"value\":\"2026-06-01T12:00:00Z\"}},\
+        "{{\"time_end\":{{\"format\":\"RFC3339\",\"value\":\"2026-06-01T12:59:59.5Z\"}},\
+        \"time_start\":{{\"format\":\"RFC3339\",\"value\":\"2026-06-01T14:00:00+02:00\"}},\
         \"volume\":{{\"altitude_lower\":0,\"altitude_upper\":1000,\"cells\":[{cells}]}}}}"
     )?;
     let volumes = listed(alloc, volume.as_str(), volumes)?;
     format!(in alloc;
-        "{{\"execution_style\":\"IfAllowed\",\"flight_plan\":{{\
+        "{{\"execution_style\":\"InReality\",\"flight_plan\":{{\
         \"astm_f3548_21\":{{\"priority\":1000}},\"basic_information\":{{\"area\":[{volumes}],\
-        \"uas_state\":\"Nominal\",\"usage_state\":\"Planned\"}}}}}}"
+        \"uas_state\":\"OffNominal\",\"usage_state\":\"InUse\"}}}}}}"
     )
 }
 
@@ -45,7 +45,7 @@ fn reads_the_largest_request(rt: HostRuntime) -> Result<(), Fail> {
     let call = read_put(alloc, id, body.as_bytes())?;
     assert_eq!(rt;
         (call.style, call.usage, call.aircraft),
-        (Style::IfAllowed, Usage::Planned, Aircraft::Nominal)
+        (Style::InReality, Usage::InUse, Aircraft::OffNominal)
     );
     assert_eq!(rt; call.priority, 1_000);
     assert_eq!(rt; call.area.volumes().len(), 8);
