@@ -8,7 +8,7 @@ ghost use Rattle.s2_cover.specs.Runs.{IsRanges};
 ghost use Rattle.volume4d.specs.Shape as shapes;
 ghost use Rattle.volume4d.specs.Shape.{Shape, shape_positions, is_footprint};
 ghost use Rattle.volume4d.specs.Footprint.{shape_of};
-ghost use Rattle.volume4d.specs.FootprintBytes.{footprint_bytes, AreBytesOf};
+ghost use Rattle.volume4d.specs.FootprintBytes.{footprint_bytes, HasCells, AreBytesOf};
 
 use s2_cellid::CellId;
 use s2_cover::{Ranges, normalise};
@@ -32,7 +32,8 @@ impl Footprint {
     ///
     /// `AllocError` for want of memory.
     pub fn to_bytes(&self, alloc: Global) -> Result<Vec<u8>, AllocError>
-        ensures { IfOk result (λ bytes. bytes.items ≡ footprint_bytes (shape_of self.now)) }
+        ensures value { IfOk result (λ bytes. bytes.items ≡ footprint_bytes (shape_of self.now)) }
+        ensures valid { IfOk result (λ bytes. HasCells (shape_of self.now)) }
     {
         match self {
             Footprint::Cells(cells) => cell_bytes(alloc, cells),
@@ -107,7 +108,8 @@ fn cell_ranges(alloc: Global, cells: &[CellId]) -> Result<Ranges, AllocError>
 
 // The bytes of a cell list.
 fn cell_bytes(alloc: Global, cells: &[CellId]) -> Result<Vec<u8>, AllocError>
-    ensures { IfOk result (λ bytes. bytes.items ≡ footprint_bytes (shapes.cells cells.now)) }
+    ensures value { IfOk result (λ bytes. bytes.items ≡ footprint_bytes (shapes.cells cells.now)) }
+    ensures valid { IfOk result (λ bytes. HasCells (shapes.cells cells.now)) }
 {
     let mut bytes = vec![in alloc; CELLS]?;
     for cell in cells {
@@ -118,7 +120,8 @@ fn cell_bytes(alloc: Global, cells: &[CellId]) -> Result<Vec<u8>, AllocError>
 
 // The eight bytes of a cell's id.
 fn id_bytes(cell: &CellId) -> [u8; 8]
-    ensures { result ≡ to_be_bytes w64 cell.now }
+    ensures value { result ≡ to_be_bytes w64 cell.now }
+    ensures valid { IsCellId cell.now }
 {
     cell.raw().to_be_bytes()
 }
