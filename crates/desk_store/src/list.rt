@@ -122,10 +122,13 @@ impl ListStore {
         ensures err { OnErr result (self.new ≡ self.old) }
     {
         let plan_count = count_in(&self.operators, &operator);
-        self.operators.insert(operator, Enrolment {
-            ceiling,
-            plan_count,
-        })?;
+        self.operators.insert(
+            operator,
+            Enrolment {
+                ceiling,
+                plan_count,
+            },
+        )?;
         Ok(())
     }
 
