@@ -1,6 +1,6 @@
 //! The names of operators.
 
-ghost use Rattle.std.specs.Prelude.{◌≡◌, ◌-◌, ◌≤◌, ◌++◌, Some, None, if◌then◌else◌, length, replicate};
+ghost use Rattle.std.specs.Prelude.{◌≡◌, ◌-◌, ◌≤◌, ◌++◌, Some, None, if◌then◌else◌, length, replicate, IsTrue};
 ghost use Rattle.std.specs.List.{list_all};
 ghost use Rattle.desk_rules.specs.Limits.{max_name_length};
 ghost use Rattle.desk_rules.specs.Name as spec;
@@ -65,7 +65,8 @@ impl Operator {
 
     /// The name as text.
     pub fn as_str(&self) -> &str
-        ensures { result.now ≡ self.now }
+        ensures value { result.now ≡ self.now }
+        ensures valid { IsTrue (is_operator_name self.now) }
     {
         str::from_utf8(&self.bytes[..self.len]).unwrap()
     }

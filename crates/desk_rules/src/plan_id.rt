@@ -1,11 +1,12 @@
 //! The ids of plans.
 
-ghost use Rattle.std.specs.Prelude.{◌≡◌};
-ghost use Rattle.uuid.specs.Text.{parsed};
+ghost use Rattle.std.specs.Prelude.{◌≡◌, Some};
+ghost use Rattle.uuid.specs.Text.{parsed, hyphenated_text, lower};
 
 use std::fmt;
 use std::marker::Model;
 use uuid::Uuid;
+use uuid::fmt::Hyphenated;
 
 /// The id of a plan, chosen by its operator: a UUID (RFC 9562). Ids are ordered as 128-bit numbers.
 #[derive(Clone, Copy, Debug, PartialEq, Eq, PartialOrd, Ord, Hash)]
@@ -34,6 +35,15 @@ impl PlanId {
             Ok(uuid) => Some(PlanId { uuid }),
             Err(_) => None,
         }
+    }
+
+    /// Writes the text of the id to the buffer and returns it: the hyphenated form in lower case
+    /// (RFC 9562), which is read back as the id.
+    pub fn encode<'b>(&self, buffer: &'b mut [u8; 36]) -> &'b str
+        ensures text { result.now ≡ hyphenated_text lower self.now }
+        ensures parsed { Some self.now ≡ parsed result.now }
+    {
+        Hyphenated::from_uuid(self.uuid).encode_lower(buffer)
     }
 }
 

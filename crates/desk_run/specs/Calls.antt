@@ -6,6 +6,8 @@ use Rattle.desk_rules.specs.declared.plan.PutCall.{PutCall}
 use Rattle.desk_store.specs.declared.change.Change.{Change}
 use Rattle.desk_store.specs.declared.change.Change.TheVariants as change
 use Rattle.desk_store.specs.StoreChange.{changed_by, IsFitting}
+use Rattle.std.specs.Option.{option_map}
+use Rattle.desk_store.specs.ChangeParts.{parts_in}
 use Rattle.desk_store.specs.World.{World}
 use Rattle.desk_rules.specs.declared.call.Asked.{Asked}
 use Rattle.desk_rules.specs.declared.reply.Reply.{Reply}
@@ -50,6 +52,11 @@ CanCommit w p = Fits w p.change
 -- the world with what is pending committed
 unfoldable pub world_committed : World → Pending → World
 world_committed w p = world_with w p.change
+
+-- the same reply, with a change that asks for the same
+pub record IsSamePending (p copy : Pending) : Type 0 where
+  pub reply : copy.reply ≡ p.reply
+  pub change : option_map parts_in copy.change ≡ option_map parts_in p.change
 
 -- what is pending is what an answer to an operator says
 pub record IsReady (w : World) (operator : List ℕ) (a : Ruling) (p : Pending) : Type 0 where

@@ -12,6 +12,7 @@ use Rattle.volume4d.specs.Point.{Point}
 use Rattle.volume4d.specs.Meeting.{Spot}
 use Rattle.desk_rules.specs.Conflict.{conflict}
 use Rattle.desk_rules.specs.Outcome.{outcome}
+use Rattle.desk_rules.specs.declared.call.Asked.{Asked}
 use Rattle.desk_rules.specs.declared.call.Call.{Call}
 use Rattle.desk_rules.specs.declared.call.Call.TheVariants as call
 use Rattle.desk_rules.specs.declared.reply.Reply.{Reply}
@@ -103,3 +104,7 @@ told_to w operator moment asked = (verdict (own w operator) (held w operator) mo
 
 unfoldable pub step : World → List ℕ → ℤ → Call → World
 step w operator moment asked = world_with_plans w operator (verdict (own w operator) (held w operator) moment asked).plans
+
+-- the world after a call of an operator
+abbrev pub step_by : World → ℤ → Asked → World
+step_by w moment asked = step w asked.operator moment asked.call

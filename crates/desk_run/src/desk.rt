@@ -36,7 +36,7 @@ impl<S: PlanStore> Desk<S> {
     ghost use Rattle.desk_store.specs.Changes.{with_operator};
     ghost use Rattle.desk_store.specs.Faults.{IsHonest, HasRisen};
     ghost use Rattle.desk_run.specs.Faults.{IsBreakdown};
-    ghost use Rattle.desk_run.specs.Verdicts.{step};
+    ghost use Rattle.desk_run.specs.Verdicts.{step_by};
     ghost use Rattle.desk_run.specs.Calls.{Tells, Prepares, CanCommit, reply_in, world_committed};
 
     /// A desk over a store.
@@ -131,7 +131,7 @@ impl<S: PlanStore> Desk<S> {
         ensures told { IsHonest (S.doubt self.new) →
             Tells (S.content self.old) moment asked.now result }
         ensures ok { IsHonest (S.doubt self.new) → OnOk result
-            (S.content self.new ≡ step (S.content self.old) asked.now.operator moment asked.now.call) }
+            (S.content self.new ≡ step_by (S.content self.old) moment asked.now) }
         ensures err { OnErr result (S.content self.new ≡ S.content self.old) }
         ensures doubt { S.doubt self.old ≤ S.doubt self.new }
         ensures counted { S.faults self.old ≤ S.faults self.new }

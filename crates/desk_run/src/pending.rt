@@ -3,7 +3,7 @@
 ghost use Rattle.std.specs.Prelude.{◌≡◌, ◌≤◌, Some, IfOk, IfErr, OnOk, OnErr};
 ghost use Rattle.desk_store.specs.Faults.{IsHonest, HasRisen};
 ghost use Rattle.desk_run.specs.Faults.{IsBreakdown};
-ghost use Rattle.desk_run.specs.Calls.{Prepares, CanCommit, reply_in, world_committed};
+ghost use Rattle.desk_run.specs.Calls.{IsSamePending, Prepares, CanCommit, reply_in, world_committed};
 
 use crate::fault::DeskFault;
 use delete::ready_delete;
@@ -11,7 +11,7 @@ use desk_rules::call::{Asked, Call};
 use desk_rules::reply::Reply;
 use desk_store::{Change, PlanStore};
 use put::ready_put;
-use std::alloc::Global;
+use std::alloc::{AllocError, Global};
 
 mod delete;
 mod put;
@@ -29,6 +29,24 @@ impl Pending {
         ensures { result.now ≡ reply_in self.now }
     {
         &self.reply
+    }
+
+    /// The same reply, with a change that asks for the same.
+    ///
+    /// # Errors
+    ///
+    /// `AllocError` for want of memory.
+    pub fn copy(&self) -> Result<Pending, AllocError>
+        ensures { IfOk result (λ copy. IsSamePending self.now copy) }
+    {
+        let change = match &self.change {
+            Some(change) => Some(change.copy()?),
+            None => None,
+        };
+        Ok(Pending {
+            reply: self.reply,
+            change,
+        })
     }
 }
 

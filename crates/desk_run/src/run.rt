@@ -32,6 +32,23 @@ pub struct Ran {
     pub stopped: Option<DeskFault>,
 }
 
+impl Ran {
+    /// The same outcomes, and the same fault.
+    ///
+    /// # Errors
+    ///
+    /// `AllocError` for want of memory.
+    pub fn copy(&self) -> Result<Ran, AllocError>
+        ensures outcomes { IfOk result (λ copy. copy.outcomes.items ≡ self.now.outcomes.items) }
+        ensures stopped { IfOk result (λ copy. copy.stopped ≡ self.now.stopped) }
+    {
+        Ok(Ran {
+            outcomes: self.outcomes.clone()?,
+            stopped: self.stopped,
+        })
+    }
+}
+
 impl<S: PlanStore> Desk<S> {
     /// Answers calls, each at its moment (a Unix second), until one meets a
     /// want of memory or a store that fails.

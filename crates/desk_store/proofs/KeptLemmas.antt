@@ -101,9 +101,10 @@ count_within old ops plans o count h counted = omega (arith, counted ∙ count_i
 
 -- plans taken out
 pub clear_kept : (old : World) (ops : List (List ℕ × Enrolment)) (plans more : List (Key × PlanParts)) (o : List ℕ) (n : ℕ) (rows : List PlanRow) (change : Change) → changed_by change old ≡ with_plans old o rows → world_of ops plans ≡ old → IsStore ops plans → IsFitting change old → world_of (with_count o n ops) more ≡ with_plans old o rows → n ≡ length (rows_by o (filed_all more)) → IsStore (with_count o n ops) more
-clear_kept old ops plans more o n rows change by is h fits after count =
-    (kept_by change (world_of ops plans) old (world_of (with_count o n ops) more) is h.0 fits (after ∙ sym by),
-    new_counts old ops plans more o n rows is after (count ∙ ap (λ w. length (plans_of o w)) after ∙ ap length (own_replaced o rows old)) h.1)
+clear_kept old ops plans more o n rows change by is h fits after count = (
+  kept_by change (world_of ops plans) old (world_of (with_count o n ops) more) is h.0 fits (after ∙ sym by),
+  new_counts old ops plans more o n rows is after (count ∙ ap (λ w. length (plans_of o w)) after ∙ ap length (own_replaced o rows old)) h.1,
+)
 
 -- those left are within the limit
 pub clear_within : (ops : List (List ℕ × Enrolment)) (plans more : List (Key × PlanParts)) (o : List ℕ) (ids : List (List ℕ)) → IsStore ops plans → more ≡ without o ids plans → length (rows_by o (filed_all more)) ≤ max_plans
@@ -117,6 +118,7 @@ clear_within ops plans more o ids h left =
 -- a plan closed
 pub close_kept : (old : World) (ops : List (List ℕ × Enrolment)) (plans more : List (Key × PlanParts)) (o id : List ℕ) → world_of ops plans ≡ old → IsStore ops plans → IsFitting (Close o id) old → world_of ops more ≡ changed_by (Close o id) old → IsStore ops more
 unfolding changed_by
-close_kept old ops plans more o id is h fits after =
-    (kept_by (Close o id) (world_of ops plans) old (world_of ops more) is h.0 fits after,
-    same_counts old ops plans more o (close_row id (plans_of o old)) is after (length-map (plans_of o old) (λ r. cond (has_id id r) (closed r) r)) h.1)
+close_kept old ops plans more o id is h fits after = (
+  kept_by (Close o id) (world_of ops plans) old (world_of ops more) is h.0 fits after,
+  same_counts old ops plans more o (close_row id (plans_of o old)) is after (length-map (plans_of o old) (λ r. cond (has_id id r) (closed r) r)) h.1,
+)

@@ -1,6 +1,7 @@
 pub mod World
 pub mod Changes
 pub mod StoreChange
+pub mod ChangeParts
 pub mod OrderLaws
 pub mod WorldLaws
 pub mod Rows

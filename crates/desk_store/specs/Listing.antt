@@ -1,7 +1,10 @@
 -- What the lists of a store in memory hold.
-use Rattle.std.specs.Prelude.{◌≡◌, ℕ, Bool, ◌&&◌, not, List, map, cond, length}
+use Rattle.std.specs.Prelude.{◌≡◌, ℕ, Bool, ◌&&◌, not, List, Option, map, cond, length}
 use Rattle.std.specs.List.{AllByRecursion, filter, list_any}
+use Rattle.std.specs.Option.{option_map, unwrap_or}
 use Rattle.std.specs.Ordering.{is_eq}
+use Rattle.std.specs.BTreeMap.{is_at}
+use Rattle.std.specs.Map.{lookup}
 use Rattle.desk_store.specs.declared.list.Enrolment.{Enrolment}
 use Rattle.desk_store.specs.World.{World, Listed, Filed, IsWorld, text_cmp, rows_by}
 use Rattle.desk_store.specs.Parts.{PlanParts, row_of}
@@ -17,6 +20,13 @@ filed_all plans = map filed_of plans
 
 abbrev pub world_of : List (List ℕ × Enrolment) → List ((List ℕ × List ℕ) × PlanParts) → World
 world_of operators plans = record { operators = map listed_of operators; plans = filed_all plans }
+
+-- an operator's ceiling, or none where it is not listed, and its count, or 0
+abbrev pub ceiling_at : List ℕ → List (List ℕ × Enrolment) → Option ℕ
+ceiling_at operator operators = option_map (λ e. e.ceiling) (lookup (is_at (text_cmp operator)) operators)
+
+abbrev pub count_at : List ℕ → List (List ℕ × Enrolment) → ℕ
+count_at operator operators = unwrap_or (option_map (λ e. e.plan_count) (lookup (is_at (text_cmp operator)) operators)) 0
 
 -- each operator's count is that of its plans
 abbrev pub AreCounted : List (List ℕ × Enrolment) → List Filed → Type 0

@@ -1,14 +1,27 @@
 -- What may stand in the way of a plan.
-use Rattle.std.specs.Prelude.{◌≡◌, ℕ, List, true}
+use Rattle.std.specs.Prelude.{◌≡◌, ℕ, List, Option, true}
 use Rattle.volume4d.specs.Point.{Point}
 use Rattle.volume4d.specs.declared.slab.Slab.{Slab}
 use Rattle.volume4d.specs.declared.slab.Held.{Held}
 use Rattle.volume4d.specs.Slab.{slab_has, top_held}
+use Rattle.volume4d.specs.Level.{greater}
 use Rattle.desk_rules.specs.Conflict.{at_least}
 use Rattle.desk_store.specs.World.{World, plans_of, held, held_at}
+
+-- at each point of an extent the greatest priority among the slabs is the level
+abbrev pub HaveLevel : Slab → List Held → (Point → Option ℕ) → Type 0
+HaveLevel extent helds level = (x : Point) → slab_has extent x ≡ true → top_held helds x ≡ level x
+
+-- and is the greater of that before and the level
+abbrev pub AddLevel : Slab → List Held → List Held → (Point → Option ℕ) → Type 0
+AddLevel extent before helds level = HaveLevel extent helds (λ x. greater (top_held before x) (level x))
+
+-- a point that both slabs have
+abbrev pub ShareAPoint : Slab → Slab → Type 0
+ShareAPoint mine theirs = (x : Point) × (slab_has mine x ≡ true) × (slab_has theirs x ≡ true)
 
 -- at each point of an extent the greatest priority among the slabs is the one held there by plans other than the
 -- operator's own of the id, where it is at least the least
 abbrev pub AreRivals : World → List ℕ → List ℕ → ℕ → Slab → List Held → Type 0
 AreRivals w operator id least extent helds =
-    (x : Point) → slab_has extent x ≡ true → top_held helds x ≡ at_least least (held_at (plans_of operator w) (held w operator) id x)
+    HaveLevel extent helds (λ x. at_least least (held_at (plans_of operator w) (held w operator) id x))

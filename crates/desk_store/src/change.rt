@@ -1,8 +1,12 @@
 //! The changes that a store is asked for.
 
+ghost use Rattle.std.specs.Prelude.{◌≡◌, IfOk};
+ghost use Rattle.desk_store.specs.ChangeParts.{parts_in};
+
 use desk_rules::operator::Operator;
 use desk_rules::plan::PlanRow;
 use desk_rules::plan_id::PlanId;
+use std::alloc::AllocError;
 
 /// A change of a store's content.
 #[derive(Debug, Drop)]
@@ -27,4 +31,34 @@ pub enum Change {
         operator: Operator,
         ids: Vec<PlanId>,
     },
+}
+
+impl Change {
+    /// A change that asks for the same.
+    ///
+    /// # Errors
+    ///
+    /// `AllocError` for want of memory.
+    pub fn copy(&self) -> Result<Change, AllocError>
+        ensures { IfOk result (λ copy. parts_in copy ≡ parts_in self.now) }
+    {
+        match self {
+            Change::Enrol { operator, ceiling } => Ok(Change::Enrol {
+                operator: *operator,
+                ceiling: *ceiling,
+            }),
+            Change::Put { operator, row } => Ok(Change::Put {
+                operator: *operator,
+                row: row.copy()?,
+            }),
+            Change::Close { operator, id } => Ok(Change::Close {
+                operator: *operator,
+                id: *id,
+            }),
+            Change::Clear { operator, ids } => Ok(Change::Clear {
+                operator: *operator,
+                ids: ids.clone()?,
+            }),
+        }
+    }
 }

@@ -1,19 +1,15 @@
 //! A store in memory.
 
-ghost use Rattle.std.specs.Prelude.{◌≡◌, ◌≤◌, ◌&&◌, None, true, length, [], IfOk, OnOk, OnErr};
-ghost use Rattle.std.specs.BTreeMap.{is_at};
-ghost use Rattle.std.specs.Map.{lookup};
-ghost use Rattle.std.specs.Option.{unwrap_or, option_map};
+ghost use Rattle.std.specs.Prelude.{◌≡◌, ◌≤◌, ◌&&◌, length, [], IfOk, OnOk, OnErr};
 ghost use Rattle.std.specs.Ordering.{is_eq};
-ghost use Rattle.volume4d.specs.Point.{Point};
-ghost use Rattle.volume4d.specs.Level.{greater};
-ghost use Rattle.volume4d.specs.Slab.{slab_has, top_held};
 ghost use Rattle.desk_rules.specs.Conflict.{at_least};
 ghost use Rattle.desk_rules.specs.Limits.{max_plans};
 ghost use Rattle.desk_store.specs.World.{text_cmp, rows_by, stored_of};
 ghost use Rattle.desk_store.specs.Rows.{rival_level, rivals_top};
 ghost use Rattle.desk_store.specs.StoreChange.{changed_by, IsFitting};
-ghost use Rattle.desk_store.specs.Listing.{filed_of, filed_all, with_count, is_one_of, without};
+ghost use Rattle.desk_store.specs.Rivals.{HaveLevel, AddLevel};
+ghost use Rattle.desk_store.specs.Listing.{filed_of, filed_all, is_one_of, without};
+ghost use Rattle.desk_store.specs.Listing.{ceiling_at, count_at, with_count};
 ghost use Rattle.desk_store.specs.declared.change.Change.TheVariants as change;
 
 use crate::change::Change;
@@ -122,10 +118,13 @@ impl ListStore {
         ensures err { OnErr result (self.new ≡ self.old) }
     {
         let plan_count = count_in(&self.operators, &operator);
-        self.operators.insert(operator, Enrolment {
-            ceiling,
-            plan_count,
-        })?;
+        self.operators.insert(
+            operator,
+            Enrolment {
+                ceiling,
+                plan_count,
+            },
+        )?;
         Ok(())
     }
 
@@ -172,8 +171,7 @@ type Plans = BTreeMap<(Operator, PlanId), Plan>;
 
 // An operator's ceiling; none if it is not listed.
 fn ceiling_in(operators: &Operators, operator: &Operator) -> Option<u32>
-    ensures { result ≡
-        option_map (λ e. e.ceiling) (lookup (is_at (text_cmp operator.now)) operators.now.entries) }
+    ensures { result ≡ ceiling_at operator.now operators.now.entries }
 {
     let enrolment = operators.get(operator)?;
     Some(enrolment.ceiling)
@@ -181,8 +179,7 @@ fn ceiling_in(operators: &Operators, operator: &Operator) -> Option<u32>
 
 // How many plans an operator has by its count; none if it is not listed.
 fn count_in(operators: &Operators, operator: &Operator) -> u32
-    ensures { result ≡ unwrap_or
-        (option_map (λ e. e.plan_count) (lookup (is_at (text_cmp operator.now)) operators.now.entries)) 0 }
+    ensures { result ≡ count_at operator.now operators.now.entries }
 {
     match operators.get(operator) {
         Some(enrolment) => enrolment.plan_count,
@@ -233,7 +230,8 @@ fn count_of(plans: &Plans, operator: &Operator) -> u32
 
 // The operator's plans.
 fn rows_of(alloc: Global, plans: &Plans, operator: &Operator) -> Result<Vec<PlanRow>, AllocError>
-    ensures { IfOk result (λ rows. rows.items ≡ rows_by operator.now (filed_all plans.now.entries)) }
+    ensures { IfOk result (λ rows.
+        rows.items ≡ rows_by operator.now (filed_all plans.now.entries)) }
 {
     let mut rows = Vec::new(alloc);
     for (key, plan) in plans {
@@ -254,8 +252,8 @@ fn rivals_of(
     least: u32,
     extent: &Slab,
 ) -> Result<Vec<Held>, AllocError>
-    ensures { IfOk result (λ helds. (x : Point) → slab_has extent.now x ≡ true → top_held helds.items x
-        ≡ at_least least (rivals_top operator.now id.now (filed_all plans.now.entries) x)) }
+    ensures { IfOk result (λ helds. HaveLevel extent.now helds.items
+        (λ x. at_least least (rivals_top operator.now id.now (filed_all plans.now.entries) x))) }
 {
     let mut helds = Vec::new(alloc);
     for (key, plan) in plans {
@@ -277,9 +275,8 @@ fn push_rival(
     key: &(Operator, PlanId),
     plan: &Plan,
 ) -> Result<(), AllocError>
-    ensures { OnOk result ((x : Point) → slab_has extent.now x ≡ true → top_held helds.new.items x
-        ≡ greater (top_held helds.old.items x)
-        (at_least least (rival_level operator.now id.now (filed_of (key.now, plan.now)) x))) }
+    ensures { OnOk result (AddLevel extent.now helds.old.items helds.new.items
+        (λ x. at_least least (rival_level operator.now id.now (filed_of (key.now, plan.now)) x))) }
 {
     if is_own(operator, id, key) {
         return Ok(());

@@ -1,13 +1,12 @@
 //! A plan as a store in memory keeps it.
 
-ghost use Rattle.std.specs.Prelude.{◌≡◌, ◌&&◌, ◌↔◌, true, false, nat_le, IsTrue, IfOk, OnOk};
-ghost use Rattle.volume4d.specs.Point.{Point};
+ghost use Rattle.std.specs.Prelude.{◌≡◌, ◌&&◌, ◌↔◌, false, nat_le, IsTrue, IfOk, OnOk};
 ghost use Rattle.volume4d.specs.Volume.{area_has};
-ghost use Rattle.volume4d.specs.Level.{greater};
 ghost use Rattle.volume4d.specs.LevelLaws.{level_where};
-ghost use Rattle.volume4d.specs.Slab.{slab_has, slabs_have, top_held};
+ghost use Rattle.volume4d.specs.Slab.{slabs_have};
 ghost use Rattle.desk_rules.specs.Plan as plan_spec;
 ghost use Rattle.desk_rules.specs.Plan.{is_live};
+ghost use Rattle.desk_store.specs.Rivals.{AddLevel, ShareAPoint};
 ghost use Rattle.desk_store.specs.Parts.{parts_of, row_of, closed_parts, HasNoPoint};
 
 use desk_rules::plan::PlanRow;
@@ -31,7 +30,8 @@ pub struct Plan {
 }
 
 impl Model for Plan {
-    ghost use Rattle.desk_store.specs.Parts.{PlanParts, AreSlabs};
+    ghost use Rattle.desk_store.specs.Rivals.{AddLevel, ShareAPoint};
+ghost use Rattle.desk_store.specs.Parts.{PlanParts, AreSlabs};
 
     ghost Value = { PlanParts };
 
@@ -113,9 +113,8 @@ impl Plan {
     ///
     /// `AllocError` for want of memory.
     pub fn push_slabs(&self, helds: &mut Vec<Held>, extent: &Slab) -> Result<(), AllocError>
-        ensures { OnOk result ((x : Point) → slab_has extent.now x ≡ true → top_held helds.new.items x
-            ≡ greater (top_held helds.old.items x)
-            (level_where (area_has self.now.area x) self.now.priority)) }
+        ensures { OnOk result (AddLevel extent.now helds.old.items helds.new.items
+            (λ x. level_where (area_has self.now.area x) self.now.priority)) }
     {
         push_helds(helds, &self.slabs, self.priority, extent)
     }
@@ -138,8 +137,8 @@ fn push_helds(
     priority: u32,
     extent: &Slab,
 ) -> Result<(), AllocError>
-    ensures { OnOk result ((x : Point) → slab_has extent.now x ≡ true → top_held helds.new.items x
-        ≡ greater (top_held helds.old.items x) (level_where (slabs_have slabs.now x) priority)) }
+    ensures { OnOk result (AddLevel extent.now helds.old.items helds.new.items
+        (λ x. level_where (slabs_have slabs.now x) priority)) }
 {
     for slab in slabs {
         if overlap(slab, extent) {
@@ -154,7 +153,7 @@ fn push_helds(
 
 // Whether two slabs share a point.
 fn overlap(mine: &Slab, theirs: &Slab) -> bool
-    ensures { IsTrue result ↔ ((x : Point) × (slab_has mine.now x ≡ true) × (slab_has theirs.now x ≡ true)) }
+    ensures { IsTrue result ↔ ShareAPoint mine.now theirs.now }
 {
     meet(from_ref(mine), from_ref(theirs))
 }

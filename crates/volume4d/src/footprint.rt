@@ -9,7 +9,7 @@ ghost use Rattle.volume4d.specs.Limits.{within_cells};
 ghost use Rattle.volume4d.specs.Shape as shapes;
 ghost use Rattle.volume4d.specs.Shape.{Shape, shape_positions, is_footprint};
 ghost use Rattle.volume4d.specs.Footprint.{shape_of};
-ghost use Rattle.volume4d.specs.FootprintBytes.{footprint_bytes, AreBytesOf};
+ghost use Rattle.volume4d.specs.FootprintBytes.{footprint_bytes, HasCells, AreBytesOf};
 
 use s2_cellid::CellId;
 use s2_cover::{Ranges, normalise};
@@ -37,7 +37,8 @@ impl Footprint {
     ///
     /// `AllocError` if memory runs out.
     pub fn to_bytes(&self, alloc: Global) -> Result<Vec<u8>, AllocError>
-        ensures { IfOk result (λ bytes. bytes.items ≡ footprint_bytes (shape_of self.now)) }
+        ensures value { IfOk result (λ bytes. bytes.items ≡ footprint_bytes (shape_of self.now)) }
+        ensures valid { IfOk result (λ bytes. HasCells (shape_of self.now)) }
     {
         match self {
             Footprint::Cells(cells) => cell_bytes(alloc, cells),
@@ -112,7 +113,8 @@ fn cell_ranges(alloc: Global, cells: &[CellId]) -> Result<Ranges, AllocError>
 
 // A cell list as bytes.
 fn cell_bytes(alloc: Global, cells: &[CellId]) -> Result<Vec<u8>, AllocError>
-    ensures { IfOk result (λ bytes. bytes.items ≡ footprint_bytes (shapes.cells cells.now)) }
+    ensures value { IfOk result (λ bytes. bytes.items ≡ footprint_bytes (shapes.cells cells.now)) }
+    ensures valid { IfOk result (λ bytes. HasCells (shapes.cells cells.now)) }
 {
     let mut bytes = vec![in alloc; CELLS]?;
     for cell in cells {
@@ -123,7 +125,8 @@ fn cell_bytes(alloc: Global, cells: &[CellId]) -> Result<Vec<u8>, AllocError>
 
 // A cell's id as eight bytes, the most significant first.
 fn id_bytes(cell: &CellId) -> [u8; 8]
-    ensures { result ≡ to_be_bytes w64 cell.now }
+    ensures value { result ≡ to_be_bytes w64 cell.now }
+    ensures valid { IsCellId cell.now }
 {
     cell.raw().to_be_bytes()
 }

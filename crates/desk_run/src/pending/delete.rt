@@ -20,7 +20,8 @@ pub fn ready_delete<S: PlanStore>(
     operator: &Operator,
     id: &PlanId,
 ) -> Result<Pending, DeskFault>
-    requires { IsHonest (S.doubt store.old) → IsSome (ceiling_of operator.now (S.content store.old)) }
+    requires { IsHonest (S.doubt store.old) →
+        IsSome (ceiling_of operator.now (S.content store.old)) }
     ensures value { IsHonest (S.doubt store.new) → Readies (S.content store.old) operator.now
         (delete_ruling (plans_of operator.now (S.content store.old)) id.now
         (stored_of id.now (plans_of operator.now (S.content store.old)))) result }

@@ -114,10 +114,9 @@ fn a_plan_is_not_stored(rt: HostRuntime) -> Result<(), Fail> {
 #[test]
 fn a_plan_is_not_closed(rt: HostRuntime) -> Result<(), Fail> {
     let alloc = rt.alloc();
-    let mut desk = desk_of(alloc)?;
-    desk.call(alloc, MOMENT, &put_by(alloc, "alfa", FIRST)?)?;
-    let mut desk = desk_that_fails(desk, 1);
-    let refused = desk.call(alloc, MOMENT, &delete_by("alfa", ID)?);
+    let asked = delete_by("alfa", ID)?;
+    let mut desk = desk_that_fails(desk_with_plan(alloc)?, 1);
+    let refused = desk.call(alloc, MOMENT, &asked);
     assert_eq!(rt; refused, Err(DeskFault::Store));
     Ok(())
 }
@@ -135,6 +134,14 @@ fn a_run_stops(rt: HostRuntime) -> Result<(), Fail> {
     assert_eq!(rt; ran.outcomes.len(), 1);
     assert_eq!(rt; ran.stopped, Some(DeskFault::Store));
     Ok(())
+}
+
+/// A desk at which the plan of `alfa` is stored.
+fn desk_with_plan(alloc: Global) -> Result<Desk<ListStore>, Fail> {
+    let mut desk = desk_of(alloc)?;
+    let asked = put_by(alloc, "alfa", FIRST)?;
+    desk.call(alloc, MOMENT, &asked)?;
+    Ok(desk)
 }
 
 /// A request of an operator for the status.

@@ -16,6 +16,7 @@ pub invariant_of-self-2 : goal.invariant_of-self-2
 invariant_of-self-2 c =
     let ops = c.self.inside.operators.entries in
     let plans = c.self.inside.plans.entries in
-    let o = c.args.operator in
-    (kept_by (Enrol o c.args.ceiling) (world_of ops plans) c.args.self.now (world_of c.insert.new.self.entries plans) c.self.view_is c.self.invariant.0 c.requires (returns-clause-ok c),
-    rw c.in_ok-insert.ensures.entries (count_enrolled o (record { ceiling = c.args.ceiling; plan_count = c.count_in-plan_count.result }) ops (filed_all plans) (c.count_in-plan_count.ensures ∙ count_is o ops plans c.self.invariant) c.self.invariant.1))
+    let o = c.args.operator in (
+      kept_by (Enrol o c.args.ceiling) (world_of ops plans) c.args.self.now (world_of c.insert.new.self.entries plans) c.self.view_is c.self.invariant.0 c.requires (returns-clause-ok c),
+      rw c.in_ok-insert.ensures.entries (count_enrolled o (record { ceiling = c.args.ceiling; plan_count = c.count_in-plan_count.result }) ops (filed_all plans) (c.count_in-plan_count.ensures ∙ count_is o ops plans c.self.invariant) c.self.invariant.1),
+    )
