@@ -5,7 +5,6 @@ use crate::decide::{Effect, Verdict, decide, status_of};
 use crate::operator::Operator;
 use crate::plan::{PlanRow, PutCall};
 use crate::plan_id::PlanId;
-use crate::transition::{Step, transition};
 use crate::words::{Aircraft, Note, PlanResult, PlanStatus, Style, Usage};
 use s2_cellid::CellId;
 use std::alloc::Global;
@@ -267,28 +266,6 @@ fn follows_a_flight(rt: HostRuntime) -> Result<(), Fail> {
     assert_eq!(rt;
         decide(&planned, MOMENT, Some(&stray), 1, CEILING, None),
         unsupported
-    );
-    Ok(())
-}
-
-#[test]
-fn closes_plans(rt: HostRuntime) -> Result<(), Fail> {
-    let alloc = rt.alloc();
-    let put = first_put(alloc)?;
-    let close = request(alloc, Style::IfAllowed, Usage::Closed, Aircraft::Nominal)?;
-    let closed = row(&close)?;
-    assert_eq!(rt; transition(None, &close), Step::Refuse(Note::NotPlanned));
-    let shut = completed(PlanStatus::Closed, Effect::Shut);
-    assert_eq!(rt;
-        decide(&close, TWO, Some(&row(&put)?), 1, CEILING, None),
-        shut
-    );
-    let kept = completed(PlanStatus::Closed, Effect::Nothing);
-    assert_eq!(rt; decide(&close, TWO, Some(&closed), 1, CEILING, None), kept);
-    let refused = rejected(PlanStatus::Closed, Note::Closed);
-    assert_eq!(rt;
-        decide(&put, MOMENT, Some(&closed), 1, CEILING, None),
-        refused
     );
     Ok(())
 }

@@ -1,16 +1,16 @@
 -- The cells that have a leaf of a set and another leaf, as a walk down the squares meets them.
-use Rattle.std.proofs.Common.{◌≡◌, ◌≢◌, ℕ, ◌+◌, ◌-◌, ◌*◌, ◌^◌, ◌<◌, ◌≤◌, zero, suc, Bool, true, false, List, [], ◌∷◌, ◌++◌, length, get_or, refl, sym, ◌∙◌, ap, subst, arith, inl, inr}
-use Rattle.std.specs.Prelude.{IsTrue, Contains, All, AllPairs}
-use Rattle.std.proofs.lemmas.Bool.{cases_lt, both_ways}
+use Rattle.std.proofs.Common.{◌≡◌, ◌≢◌, ℕ, ◌+◌, ◌-◌, ◌*◌, ◌<◌, ◌≤◌, suc, Bool, true, false, List, [], ◌∷◌, ◌++◌, get_or, refl, sym, ◌∙◌, ap, subst, arith, inl, inr}
+use Rattle.std.specs.Prelude.{IsTrue, Contains, AllPairs}
+use Rattle.std.proofs.lemmas.Bool.{cases_lt}
 use Rattle.std.proofs.lemmas.List.Elements.{Contains-append_left, Contains-append_right, Contains-append_cases, Contains-push_cases, Contains-get_or}
 use Rattle.std.proofs.lemmas.List.Kept.{AllPairs-cons}
 use Rattle.s2_hilbert.specs.Curve.{leaf_count}
-use Rattle.s2_cellid.specs.Cell.{lowest_place, lowest_bit, IsCellId, first_leaf, last_leaf, cell_has}
+use Rattle.s2_cellid.specs.Cell.{lowest_place, IsCellId, first_leaf, last_leaf, cell_has}
 use Rattle.s2_cellid.specs.BlockLaws.{first_belongs, last_belongs}
-use Rattle.s2_cover.specs.Walking.{AllIn, SomeIn, IsCrossed, IsCrossedIn, AreCrossedIn}
+use Rattle.s2_cover.specs.Walking.{AllIn, IsCrossed, IsCrossedIn, AreCrossedIn}
 use Rattle.s2_cover.proofs.Beginnings.{same_place}
 use Rattle.s2_cover.proofs.Laid.{has_position, position_in}
-use Rattle.s2_cover.proofs.Nesting.{has_leaves, place_of, nested, same_cell, LiesIn}
+use Rattle.s2_cover.proofs.Nesting.{has_leaves, place_of, nested, same_cell}
 use Rattle.s2_cover.proofs.SquareCells.{IsBlock, some_leaves}
 use Rattle.s2_cover.proofs.Uniqueness.{pairs_tail}
 
@@ -31,7 +31,8 @@ pairs_append (x ∷ xs) ys one two apart =
     ]) rest
 
 -- positions that are all in the set, or all outside it, cross no cell
-pub crossed_none : (set : ℕ → Bool) (b : Bool) (most first last upto : ℕ) → AllIn first last set b → upto ≡ last + 1
+pub crossed_none : (set : ℕ → Bool) (b : Bool) (most first last upto : ℕ) → AllIn first last set b
+    → upto ≡ last + 1
     → AreCrossedIn set most first upto []
 crossed_none set b most first last upto all is = record {
   once = λ i j d less below. absurd (omega (arith, below));
@@ -39,8 +40,8 @@ crossed_none set b most first last upto all is = record {
     λ there. absurd (omega (arith, there.1)),
     λ here.
         let at : (p : ℕ) → IsTrue (cell_has id p) → set p ≡ b = λ p has.
-            let range = position_in id p here.crossed.valid has in
-            all p (omega (arith, range, here.begins)) (omega (arith, range, here.ends, is)) in
+        let range = position_in id p here.crossed.valid has in
+        all p (omega (arith, range, here.begins)) (omega (arith, range, here.ends, is)) in
         let inside = here.crossed.inside in
         let outside = here.crossed.outside in
         let clash : true ≡ false =
@@ -50,7 +51,8 @@ crossed_none set b most first last upto all is = record {
 }
 
 -- no cell lies in an empty range
-pub crossed_nowhere : (set : ℕ → Bool) (most first upto : ℕ) → upto ≡ first → AreCrossedIn set most first upto []
+pub crossed_nowhere : (set : ℕ → Bool) (most first upto : ℕ) → upto ≡ first
+    → AreCrossedIn set most first upto []
 crossed_nowhere set most first upto is = record {
   once = λ i j d less below. absurd (omega (arith, below));
   members = λ id. (
@@ -87,7 +89,8 @@ within_place id block level first valid is begins ends = elim (cases_lt (lowest_
 
 -- the cells up to a quarter, and then those in the quarter
 pub crossings_append : (set : ℕ → Bool) (most first middle upto quarter level : ℕ) (one two : List ℕ)
-    → IsBlock quarter level middle → lowest_place quarter ≡ most → upto ≡ middle + leaf_count level → first ≤ middle
+    → IsBlock quarter level middle → lowest_place quarter ≡ most → upto ≡ middle + leaf_count level
+    → first ≤ middle
     → AreCrossedIn set most first middle one → AreCrossedIn set 60 middle upto two
     → AreCrossedIn set most first upto (one ++ two)
 crossings_append set most first middle upto quarter level one two block place is order before here = record {
@@ -140,7 +143,8 @@ crossings_append set most first middle upto quarter level one two block place is
 }
 
 -- all quarters of a crossed cell, and the cell itself
-pub crossings_whole : (set : ℕ → Bool) (most first upto id level : ℕ) (ids : List ℕ) → IsBlock id level first
+pub crossings_whole : (set : ℕ → Bool) (most first upto id level : ℕ) (ids : List ℕ)
+    → IsBlock id level first
     → level < 30 → most ≡ 60 - 2 * (level + 1) → upto ≡ first + leaf_count level → IsCrossed set id
     → AreCrossedIn set most first upto ids → AreCrossedIn set 60 first upto (ids ++ id ∷ [])
 crossings_whole set most first upto id level ids block inner place is crossed below = record {
@@ -163,11 +167,11 @@ crossings_whole set most first upto id level ids block inner place is crossed be
             ends = told.ends;
           }
       | inr same ↦ subst (IsCrossedIn set 60 first upto) same (record {
-          crossed = crossed;
-          place = omega (arith, place_of id block.valid);
-          begins = omega (arith, block.begins);
-          ends = omega (arith, block.ends, is, some_leaves level);
-        })
+        crossed = crossed;
+        place = omega (arith, place_of id block.valid);
+        begins = omega (arith, block.begins);
+        ends = omega (arith, block.ends, is, some_leaves level);
+      })
     ],
     λ told. elim (cases_lt most (lowest_place x)) [
       | inr smaller ↦

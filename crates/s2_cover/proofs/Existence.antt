@@ -1,20 +1,20 @@
 -- Each set of leaves has a canonical list.
-use Rattle.std.proofs.Common.{◌≡◌, ℕ, ◌+◌, ◌-◌, ◌*◌, ◌^◌, ◌<◌, ◌≤◌, zero, suc, Bool, true, false, List, [], ◌∷◌, ◌++◌, refl, sym, ◌∙◌, ap, subst, arith, inl, inr, ◌⊎◌}
+use Rattle.std.proofs.Common.{◌≡◌, ℕ, ◌+◌, ◌-◌, ◌*◌, ◌^◌, ◌<◌, ◌≤◌, zero, suc, Bool, true, false, List, [], ◌∷◌, ◌++◌, refl, ◌∙◌, ap, subst, arith, inl, inr, ◌⊎◌}
 use Rattle.std.specs.Prelude.{IsTrue}
 use Rattle.std.proofs.Math.Nat.{mul-le-mul_right}
 use Rattle.std.proofs.lemmas.Bool.{cases_lt, cases_Bool}
 use Rattle.s2_hilbert.specs.Curve.{leaf_count}
-use Rattle.s2_cellid.specs.Cell.{last_leaf}
 use Rattle.s2_cover.specs.Leaves.{leaves_of}
 use Rattle.s2_cover.specs.Canonical.{IsCanonical}
 use Rattle.s2_cover.specs.Laying.{IsLaid}
 use Rattle.s2_cover.specs.Walking.{AllIn, SomeIn, IsOpened}
 use Rattle.s2_cover.proofs.Laid.{laid_none, laid_upto, laid_more, canonical_when_laid, leaves_when_laid}
-use Rattle.s2_cover.proofs.SquareCells.{IsBlock, block_at, some_leaves, four_children}
+use Rattle.s2_cover.proofs.SquareCells.{IsBlock, block_at, four_children}
 use Rattle.s2_cover.proofs.Walks.{block_largest, child_opened}
 
 -- a set has all of some positions, or not one of them
-all_or_one : (set : ℕ → Bool) (first more : ℕ) → AllIn first (first + more) set true ⊎ SomeIn first (first + more) set false
+all_or_one : (set : ℕ → Bool) (first more : ℕ)
+    → AllIn first (first + more) set true ⊎ SomeIn first (first + more) set false
 all_or_one set first zero = elim (cases_Bool (set first)) [
   | inl has ↦ inl (λ p low high. let same : p ≡ first = omega (arith, low, high) in ap set same ∙ has)
   | inr not ↦ inr (record { number = first; low = omega arith; high = omega arith; is = not })
@@ -109,7 +109,7 @@ lay_quarters set level number inner lay laid =
     let ends : (4 * number + 4) * leaf_count (level + 1) ≡ number * leaf_count level + leaf_count level =
     omega (arith, quarter_place level number 4 inner, four_children level inner) in
     let step : (k : ℕ) → k < 4 → HasLaid set ((4 * number + k) * leaf_count (level + 1))
-        → HasLaid set ((4 * number + (k + 1)) * leaf_count (level + 1)) =
+    → HasLaid set ((4 * number + (k + 1)) * leaf_count (level + 1)) =
     λ k below before. subst (HasLaid set) (next_quarter level number k) (lay k below before) in
     subst (HasLaid set) ends
     (step 3 (omega arith) (step 2 (omega arith) (step 1 (omega arith) (step 0 (omega arith)

@@ -1,19 +1,19 @@
 -- The cover of a rectangle, from the walk over its face.
-use Rattle.std.proofs.Common.{◌≡◌, ◌≢◌, ℕ, ◌+◌, ◌-◌, ◌*◌, ◌/◌, ◌^◌, ◌<◌, ◌≤◌, Bool, true, false, List, [], ◌∷◌, ◌++◌, length, refl, sym, ◌∙◌, ap, subst, arith, inl, inr}
+use Rattle.std.proofs.Common.{◌≡◌, ◌≢◌, ℕ, ◌+◌, ◌-◌, ◌*◌, ◌/◌, ◌^◌, ◌<◌, ◌≤◌, Bool, false, List, [], ◌++◌, length, refl, sym, ◌∙◌, ap, subst, arith, inl, inr}
 use Rattle.std.specs.Prelude.{◌↔◌, ◌&&◌, ◌==◌, IsTrue}
 use Rattle.std.specs.Int.{IsInRange}
 use Rattle.std.proofs.Math.Nat.{mul-le-mul_right}
 use Rattle.std.proofs.lemmas.Bool.{cases_lt, both_ways}
 use Rattle.std.proofs.lemmas.Bool.Decides.{nat_tests}
 use Rattle.s2_hilbert.specs.Grid.{GridLeaf, IsLeaf, GridSquare, IsSquare, grid_square}
-use Rattle.s2_hilbert.specs.Curve.{position_of, grid_leaf_at, first_position, last_position, leaf_count, place}
+use Rattle.s2_hilbert.specs.Curve.{position_of, grid_leaf_at, first_position, last_position, place}
 use Rattle.s2_hilbert.specs.CurveLaws.{leaf_undone}
 use Rattle.s2_cellid.specs.Family.{square_id}
 use Rattle.s2_cover.specs.Leaves.{leaves_of}
 use Rattle.s2_cover.specs.Canonical.{IsCanonical}
 use Rattle.s2_cover.specs.Laying.{IsLaid}
 use Rattle.s2_cover.specs.Rectangles.{RectParts, IsRect, IsInFootprint, WideParts, widened, wide_has, wide_set, rect_leaves, is_along}
-use Rattle.s2_cover.specs.Walking.{IsOpened, HasWalked, HasStopped, HasMoreCells, AreCrossed, AreCrossedIn, HasLooked, IsRefused, looks_for, max_looks}
+use Rattle.s2_cover.specs.Walking.{IsOpened, HasWalked, HasStopped, AreCrossed, AreCrossedIn, HasLooked, IsRefused, looks_for, max_looks}
 use Rattle.s2_hilbert.specs.Grid.{side_of}
 use Rattle.s2_cover.specs.declared.walk.CoverFault.{CoverFault}
 use Rattle.s2_cover.specs.declared.walk.CoverFault.TheVariants.{TooManyCells, OutOfMemory}
@@ -53,7 +53,7 @@ unfolding wide_set
 other_face w p other =
     let leaf = grid_leaf_at p in
     ap (λ b. b && (is_along (side_of w.level) w.a_min w.a_max leaf.i
-        && is_along (side_of w.level) w.b_min w.b_max leaf.j))
+    && is_along (side_of w.level) w.b_min w.b_max leaf.j))
     (not_same leaf.face w.face (λ same. other (sym (face_at p) ∙ same)))
 
 pub laid_before : (w : WideParts) → IsLaid (wide_set w) [] (first_position (whole w.face))
@@ -76,7 +76,8 @@ from_face w p has = elim (cases_lt p (first_position (whole w.face))) [
 ]
 
 -- a cell with a leaf of the rectangle lies on its face
-lies_on_face : (w : WideParts) (id p : ℕ) → w.face < 6 → IsCellId id → IsTrue (cell_has id p) → IsTrue (wide_set w p)
+lies_on_face : (w : WideParts) (id p : ℕ) → w.face < 6 → IsCellId id → IsTrue (cell_has id p)
+    → IsTrue (wide_set w p)
     → (first_position (whole w.face) ≤ first_leaf id) × (last_leaf id < last_position (whole w.face) + 1)
 lies_on_face w id p face valid here has =
     let block = square_block (whole w.face) (whole_is w.face face) in
@@ -116,7 +117,8 @@ pub whole_opened : (set : ℕ → Bool) (face : ℕ) → face < 6 → IsOpened s
 whole_opened set face below = inl (square_block (whole face) (whole_is face below)).level_is
 
 -- the greatest number of looks of a level and a number of cells
-pub most_looks : (level cells limit : ℕ) → level ≤ 24 → cells ≤ limit + 1 → looks_for level cells ≤ max_looks limit
+pub most_looks : (level cells limit : ℕ) → level ≤ 24 → cells ≤ limit + 1
+    → looks_for level cells ≤ max_looks limit
 most_looks level cells limit low few =
     let product : level * cells ≤ 24 * cells = mul-le-mul_right cells low in omega (arith, product, few)
 
@@ -129,9 +131,11 @@ pub record IsCovered (set : ℕ → Bool) (limit : ℕ) (ids : List ℕ) (looked
   pub looks : IsInRange (length ids) (max_looks limit) looked
   pub exact : HasLooked set looked
 
-pub covered : (w : WideParts) (square : GridSquare) (limit new : ℕ) (before ids : List ℕ) → square ≡ whole w.face
+pub covered : (w : WideParts) (square : GridSquare) (limit new : ℕ) (before ids : List ℕ)
+    → square ≡ whole w.face
     → before ≡ [] → w.face < 6 → w.level ≤ 24
-    → HasWalked (wide_set w) (w.level - square.level) limit (first_position square) (last_position square + 1) before ids 0 new
+    → HasWalked (wide_set w) (w.level - square.level) limit (first_position square)
+    (last_position square + 1) before ids 0 new
     → IsCovered (wide_set w) limit ids new
 covered w square limit new before ids is none face level walked =
     let set = wide_set w in
@@ -150,9 +154,14 @@ covered w square limit new before ids is none face level walked =
       own = canonical_same set (leaves_of ids) ids (λ p. sym (leaves p)) canonical;
       few = walked.few;
       looks = (walked.counted, omega (arith, walked.looks, most));
-      exact = (walked.marked, (all_crossed w walked.marked face
-          (subst (λ s. AreCrossedIn set 60 (first_position s) (last_position s + 1) walked.marked) is walked.crossed),
-          omega (arith, walked.exact)));
+      exact = (
+        walked.marked,
+        (
+          all_crossed w walked.marked face
+              (subst (λ s. AreCrossedIn set 60 (first_position s) (last_position s + 1) walked.marked) is walked.crossed),
+          omega (arith, walked.exact),
+        ),
+      );
     }
 
 pub refused : (w : WideParts) (limit levels left : ℕ) (fault : CoverFault) → w.face < 6 → levels ≤ 24

@@ -1,11 +1,11 @@
 -- The test of a rectangle's leaves, in the words of its footprint.
-use Rattle.std.proofs.Common.{◌≡◌, ℕ, ◌-◌, ◌/◌, ◌<◌, ◌≤◌, true, refl, sym, ◌∙◌, ap, arith, inl, inr}
+use Rattle.std.proofs.Common.{◌≡◌, ℕ, ◌-◌, ◌/◌, ◌<◌, ◌≤◌, true, refl, ◌∙◌, ap, arith, inl, inr}
 use Rattle.std.specs.Prelude.{◌↔◌, ◌&&◌, ◌==◌, IsTrue}
 use Rattle.std.specs.Int.{IsInRange}
 use Rattle.std.proofs.lemmas.Bool.{cases_lt, and_parts}
 use Rattle.std.proofs.lemmas.Bool.Decides.{nat_tests}
 use Rattle.std.proofs.lemmas.Nat.{pow_pos}
-use Rattle.s2_hilbert.specs.Grid.{GridLeaf, grid_leaf, IsLeaf, side_of}
+use Rattle.s2_hilbert.specs.Grid.{GridLeaf, grid_leaf, side_of}
 use Rattle.s2_cover.specs.Rectangles.{RectParts, IsRect, IsInFootprint, widened, wide_has, is_along}
 use Rattle.s2_cover.proofs.RangeTests.{in_range, of_range}
 use Rattle.s2_cover.proofs.Sights.{div_mono, on_face}
@@ -20,16 +20,16 @@ clamped : (side least greatest n : ℕ) → 0 < side → least ≤ greatest → 
     → n / side ≤ greatest / side → IsClamped side least greatest n
 clamped side least greatest n some order low high = elim (cases_lt n least) [
   | inl before ↦ record {
-      number = least;
-      within = (omega arith, order);
-      same = omega (arith, low, div_mono n least side some (omega (arith, before)));
-    }
+    number = least;
+    within = (omega arith, order);
+    same = omega (arith, low, div_mono n least side some (omega (arith, before)));
+  }
   | inr from ↦ elim (cases_lt greatest n) [
     | inl after ↦ record {
-        number = greatest;
-        within = (order, omega arith);
-        same = omega (arith, high, div_mono greatest n side some (omega (arith, after)));
-      }
+      number = greatest;
+      within = (order, omega arith);
+      same = omega (arith, high, div_mono greatest n side some (omega (arith, after)));
+    }
     | inr upto ↦ record { number = n; within = (from, upto); same = refl }
   ]
 ]
@@ -77,6 +77,6 @@ footprint_is rect leaf is =
           let i = along_is side rect.i_min rect.i_max leaf.i inside.inner.i some inside.i inside.share.same_i in
           let j = along_is side rect.j_min rect.j_max leaf.j inside.inner.j some inside.j inside.share.same_j in
           ap (λ b. b && (is_along side (rect.i_min / side) (rect.i_max / side) leaf.i
-              && is_along side (rect.j_min / side) (rect.j_max / side) leaf.j)) face
+          && is_along side (rect.j_min / side) (rect.j_max / side) leaf.j)) face
           ∙ ap (λ b. b && is_along side (rect.j_min / side) (rect.j_max / side) leaf.j) i ∙ j,
     )

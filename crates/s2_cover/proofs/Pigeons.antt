@@ -1,5 +1,5 @@
 -- A list is no longer than another in which each of its elements has one of its own.
-use Rattle.std.proofs.Common.{◌≡◌, ℕ, ◌+◌, ◌<◌, ◌≤◌, zero, suc, List, [], ◌∷◌, length, sym, ◌∙◌, ap, subst, arith, inl, inr, ◌⊎◌}
+use Rattle.std.proofs.Common.{◌≡◌, ℕ, ◌+◌, ◌<◌, ◌≤◌, List, [], ◌∷◌, length, sym, ◌∙◌, subst, arith, inl, inr, ◌⊎◌}
 use Rattle.std.specs.Prelude.{Contains, AllPairs}
 use Rattle.s2_cover.proofs.Uniqueness.{contains_first, contains_later, contains_cases, above_first, pairs_tail}
 
@@ -13,13 +13,13 @@ without : (y : ℕ) (ys : List ℕ) → Contains ys y → IsWithout y ys
 without y [] there = absurd (omega (arith, there.1))
 without y (x ∷ xs) there = elim (contains_cases x y xs there) [
   | inl here ↦ record {
-      rest = xs;
-      long = omega arith;
-      kept = λ z within. elim (contains_cases x z xs within) [
-        | inl first ↦ inl (sym first ∙ here)
-        | inr later ↦ inr later
-      ];
-    }
+    rest = xs;
+    long = omega arith;
+    kept = λ z within. elim (contains_cases x z xs within) [
+      | inl first ↦ inl (sym first ∙ here)
+      | inr later ↦ inr later
+    ];
+  }
   | inr later ↦
       let fewer = without y xs later in
       record {

@@ -1,5 +1,5 @@
 -- What a look at a square tells of the leaves in it.
-use Rattle.std.proofs.Common.{◌≡◌, ◌≢◌, ℕ, ◌+◌, ◌-◌, ◌*◌, ◌/◌, ◌^◌, ◌<◌, ◌≤◌, Bool, true, false, refl, sym, ◌∙◌, ap, subst, arith, inl, inr, ◌⊎◌}
+use Rattle.std.proofs.Common.{◌≡◌, ◌≢◌, ℕ, ◌-◌, ◌*◌, ◌/◌, ◌^◌, ◌<◌, ◌≤◌, Bool, true, false, refl, sym, ◌∙◌, ap, subst, arith, inl, inr, ◌⊎◌}
 use Rattle.std.specs.Prelude.{◌↔◌, ◌&&◌, ◌==◌}
 use Rattle.std.specs.Int.{IsInRange}
 use Rattle.std.proofs.Math.Nat.{div-mul-le_self, mul-div_cancel, mul-le-mul_right}
@@ -13,7 +13,7 @@ use Rattle.s2_cover.specs.Rectangles.{WideParts, is_along, wide_set}
 use Rattle.s2_cover.specs.Walking.{AllIn, SomeIn, Saw, SawSquare, both}
 use Rattle.s2_cover.specs.declared.sight.Sight.{Sight}
 use Rattle.s2_cover.specs.declared.sight.Sight.TheVariants.{Outside, Inside, Across}
-use Rattle.s2_cover.proofs.RangeTests.{of_range, in_range}
+use Rattle.s2_cover.proofs.RangeTests.{of_range}
 use Rattle.s2_cover.proofs.SquareCells.{last_below}
 
 pub div_mono : (m n side : ℕ) → 0 < side → m ≤ n → m / side ≤ n / side
@@ -36,7 +36,8 @@ pub after_all : (side least greatest first last : ℕ) → 0 < side → greatest
 after_all side least greatest first last some after n low high =
     not_high side least greatest n (omega (arith, div_mono first n side some low, after))
 
-pub within_all : (side least greatest first last : ℕ) → 0 < side → least ≤ first / side → last / side ≤ greatest
+pub within_all : (side least greatest first last : ℕ) → 0 < side → least ≤ first / side
+    → last / side ≤ greatest
     → AllIn first last (is_along side least greatest) true
 within_all side least greatest first last some from upto n low high =
     of_range least greatest (n / side) (omega (arith, div_mono first n side some low, from))
@@ -138,7 +139,8 @@ point_of w square i_first i_last j_first j_last p is face spans low high =
     }
 
 -- and each two coordinates of the square are those of a leaf at one of its positions
-some_at : (w : WideParts) (square : GridSquare) (i_first i_last j_first j_last i j : ℕ) (b : Bool) → IsSquare square
+some_at : (w : WideParts) (square : GridSquare) (i_first i_last j_first j_last i j : ℕ) (b : Bool)
+    → IsSquare square
     → square.face ≡ w.face → HasSpans square i_first i_last j_first j_last → IsInRange i_first i_last i
     → IsInRange j_first j_last j → both_tests w i j ≡ b
     → SomeIn (first_position square) (last_position square) (wide_set w) b
@@ -158,7 +160,7 @@ some_at w square i_first i_last j_first j_last i j b is face spans i_in j_in hol
     let range = (square_leaves leaf square leaf_here is).0 within in
     let undone : grid_leaf_at (position_of leaf) ≡ leaf = leaf_undone leaf leaf_here in
     let has : GridLeaf → Bool = λ l. l.face == w.face && (is_along (side_of w.level) w.a_min w.a_max l.i
-        && is_along (side_of w.level) w.b_min w.b_max l.j) in
+    && is_along (side_of w.level) w.b_min w.b_max l.j) in
     record {
       number = position_of leaf;
       low = range.0;
@@ -172,7 +174,8 @@ and_none true = refl
 and_none false = refl
 
 -- the sight of a square, from the tests of its two coordinates
-saw_both : (w : WideParts) (square : GridSquare) (i_first i_last j_first j_last : ℕ) (i_sight j_sight : Sight)
+saw_both : (w : WideParts) (square : GridSquare) (i_first i_last j_first j_last : ℕ)
+    (i_sight j_sight : Sight)
     → IsSquare square → square.face ≡ w.face → HasSpans square i_first i_last j_first j_last
     → Saw i_first i_last (is_along (side_of w.level) w.a_min w.a_max) i_sight
     → Saw j_first j_last (is_along (side_of w.level) w.b_min w.b_max) j_sight
@@ -180,23 +183,30 @@ saw_both : (w : WideParts) (square : GridSquare) (i_first i_last j_first j_last 
 saw_both w square i_first i_last j_first j_last i_sight j_sight is face spans = by_sights i_sight j_sight where
   Test : Type 0
   Test = ℕ → Bool
+
   i_test : ℕ → Bool
   i_test = is_along (side_of w.level) w.a_min w.a_max
+
   j_test : ℕ → Bool
   j_test = is_along (side_of w.level) w.b_min w.b_max
+
   all : (b : Bool) → ((i j : ℕ) → IsInRange i_first i_last i → IsInRange j_first j_last j → (i_test i && j_test j) ≡ b)
       → AllIn (first_position square) (last_position square) (wide_set w) b
   all b tests p low high =
       let point = point_of w square i_first i_last j_first j_last p is face spans low high in
       point.is ∙ tests point.i point.j point.i_in point.j_in
+
   some : (b : Bool) (i j : ℕ) → i_first ≤ i → i ≤ i_last → j_first ≤ j → j ≤ j_last → (i_test i && j_test j) ≡ b
       → SomeIn (first_position square) (last_position square) (wide_set w) b
   some b i j i_low i_high j_low j_high holds =
       some_at w square i_first i_last j_first j_last i j b is face spans (i_low, i_high) (j_low, j_high) holds
+
   i_order : i_first ≤ i_last
   i_order = some_span square.level square.a i_first i_last spans.i
+
   j_order : j_first ≤ j_last
   j_order = some_span square.level square.b j_first j_last spans.j
+
   by_sights : (i_sight j_sight : Sight) → Saw i_first i_last i_test i_sight → Saw j_first j_last j_test j_sight
       → Saw (first_position square) (last_position square) (wide_set w) (both i_sight j_sight)
   by_sights Outside j_sight i_saw j_saw = all false (λ i j i_in j_in. ap (λ b. b && j_test j) (i_saw i i_in.0 i_in.1))
@@ -225,7 +235,8 @@ saw_both w square i_first i_last j_first j_last i_sight j_sight is face spans = 
         (ap (λ b. b && j_test j_saw.0.number) i_saw.1.is),
   )
 
-across_cases : (i_sight j_sight : Sight) → both i_sight j_sight ≡ Across → (i_sight ≡ Across) ⊎ (j_sight ≡ Across)
+across_cases : (i_sight j_sight : Sight) → both i_sight j_sight ≡ Across
+    → (i_sight ≡ Across) ⊎ (j_sight ≡ Across)
 across_cases Outside j_sight e = let clash : Outside ≡ Across = e in cc
 across_cases Inside j_sight e = inr e
 across_cases Across Outside e = let clash : Outside ≡ Across = e in cc
@@ -244,7 +255,8 @@ never_level square level quotient first last spans apart same =
     apart (ap (λ s. first / s) sides ∙ low ∙ sym high ∙ sym (ap (λ s. last / s) sides))
 
 -- a look tells how the square lies to the set
-pub square_seen : (w : WideParts) (square : GridSquare) (i_first i_last j_first j_last side : ℕ) (i_sight j_sight : Sight)
+pub square_seen : (w : WideParts) (square : GridSquare) (i_first i_last j_first j_last side : ℕ)
+    (i_sight j_sight : Sight)
     → side ≡ side_of w.level → IsSquare square → square.face ≡ w.face → square.level ≤ w.level
     → HasSpans square i_first i_last j_first j_last
     → Saw i_first i_last (is_along side w.a_min w.a_max) i_sight

@@ -1,5 +1,5 @@
 -- Squares as cells: the block of positions of a square's cell.
-use Rattle.std.proofs.Common.{◌≡◌, ℕ, ◌+◌, ◌-◌, ◌*◌, ◌/◌, ◌^◌, ◌<◌, ◌≤◌, refl, sym, ◌∙◌, ap, subst, arith, inl, inr}
+use Rattle.std.proofs.Common.{◌≡◌, ℕ, ◌+◌, ◌-◌, ◌*◌, ◌^◌, ◌<◌, ◌≤◌, refl, ◌∙◌, ap, arith}
 use Rattle.std.proofs.Math.Nat.{mul-le-mul_right}
 use Rattle.std.specs.Prelude.{IsTrue}
 use Rattle.std.proofs.lemmas.Nat.{pow-add}
@@ -43,7 +43,8 @@ block_at level number at_most within =
     block_from id level number (cell_of id level number at_most within refl)
 
 -- the cell of a square
-pub square_block : (square : GridSquare) → IsSquare square → IsBlock (square_id square) square.level (first_position square)
+pub square_block : (square : GridSquare) → IsSquare square
+    → IsBlock (square_id square) square.level (first_position square)
 square_block square is =
     let cell = square_cell square is in
     let block = block_from (square_id square) square.level _ cell in

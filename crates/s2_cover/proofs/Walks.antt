@@ -1,17 +1,15 @@
 -- The walk down the squares: what is laid, and how many looks it takes.
-use Rattle.std.proofs.Common.{◌≡◌, ℕ, ◌+◌, ◌-◌, ◌*◌, ◌^◌, ◌<◌, ◌≤◌, Bool, true, false, List, [], ◌∷◌, ◌++◌, length, refl, sym, ◌∙◌, ap, subst, arith, inl, inr}
+use Rattle.std.proofs.Common.{◌≡◌, ℕ, ◌+◌, ◌-◌, ◌*◌, ◌<◌, ◌≤◌, Bool, true, false, List, [], ◌∷◌, ◌++◌, length, refl, sym, ◌∙◌, ap, subst, arith, inr}
 use Rattle.std.specs.Prelude.{IsTrue, Contains}
-use Rattle.std.proofs.lemmas.Bool.{both_ways}
 use Rattle.std.proofs.lemmas.List.{length-append, append-nil, append_assoc}
 use Rattle.std.proofs.lemmas.List.Folds.{Any-from_list_any}
-use Rattle.std.proofs.lemmas.List.Kept.{AllPairs-from_increasing}
 use Rattle.std.specs.Prelude.{Result, Ok, Err, IfErr}
 use Rattle.std.specs.Result.{IsErrAnd}
 use Rattle.s2_hilbert.specs.Grid.{GridSquare, IsSquare}
 use Rattle.s2_hilbert.specs.Curve.{first_position, last_position, leaf_count}
 use Rattle.s2_cellid.specs.Family.{square_id}
-use Rattle.s2_cellid.specs.Cell.{level_of, first_leaf, last_leaf, cell_has}
-use Rattle.s2_cover.specs.Canonical.{parent_of, IsLargest, IsCanonical}
+use Rattle.s2_cellid.specs.Cell.{first_leaf, last_leaf, cell_has}
+use Rattle.s2_cover.specs.Canonical.{IsLargest, IsCanonical}
 use Rattle.s2_cover.specs.Laying.{IsLaid}
 use Rattle.s2_cover.specs.Walking.{AllIn, SomeIn, IsOpened, looks_for, HasMoreCells, IsCrossed, AreCrossedIn, HasWalked, HasStopped, IsFull}
 use Rattle.s2_cover.specs.declared.walk.CoverFault.{CoverFault}
@@ -33,7 +31,8 @@ block_largest set id level first block opened all = record {
 }
 
 -- a quarter of a cell with a leaf outside the set
-pub child_opened : (set : ℕ → Bool) (id parent level first k : ℕ) → IsBlock parent level first → k < 4 → level < 30
+pub child_opened : (set : ℕ → Bool) (id parent level first k : ℕ) → IsBlock parent level first → k < 4
+    → level < 30
     → IsBlock id (level + 1) (first + k * leaf_count (level + 1))
     → SomeIn first (first + (leaf_count level - 1)) set false → IsOpened set id
 child_opened set id parent level first k whole below inner quarter outside =
@@ -44,7 +43,8 @@ child_opened set id parent level first k whole below inner quarter outside =
     (omega (arith, whole.ends, outside.high, some_leaves level)) in
     inr (q, (subst (λ id. IsTrue (cell_has id q)) (sym up) has, outside.is))
 
-pub walked_outside : (set : ℕ → Bool) (levels limit first last old : ℕ) (before : List ℕ) → IsLaid set before first
+pub walked_outside : (set : ℕ → Bool) (levels limit first last old : ℕ) (before : List ℕ)
+    → IsLaid set before first
     → first ≤ last + 1 → AllIn first last set false → length before ≤ limit → length before ≤ old
     → HasWalked set levels limit first (last + 1) before before old (old + 1)
 walked_outside set levels limit first last old before laid order none few counted = record {
@@ -59,7 +59,8 @@ walked_outside set levels limit first last old before laid order none few counte
   counted = omega (arith, counted);
 }
 
-pub walked_inside : (set : ℕ → Bool) (levels limit level first id old : ℕ) (before : List ℕ) → IsLaid set before first
+pub walked_inside : (set : ℕ → Bool) (levels limit level first id old : ℕ) (before : List ℕ)
+    → IsLaid set before first
     → IsBlock id level first → IsLargest set id → AllIn first (first + (leaf_count level - 1)) set true
     → length before < limit → length before ≤ old
     → HasWalked set levels limit first (first + (leaf_count level - 1) + 1) before (before ++ id ∷ []) old (old + 1)
@@ -96,7 +97,8 @@ stopped_inside set limit first id before laid largest begins full ids canonical 
     omega (arith, long, most, full)
 
 -- after some of the four children of a square, whose own children are `levels` above the leaves
-pub record IsWalking (set : ℕ → Bool) (levels limit most first count k : ℕ) (before cells : List ℕ) (old looked : ℕ) : Type 0 where
+pub record IsWalking (set : ℕ → Bool) (levels limit most first count k : ℕ) (before cells : List ℕ)
+    (old looked : ℕ) : Type 0 where
   pub marked : List ℕ
   pub crossed : AreCrossedIn set most first (first + k * count) marked
   pub exact : looked ≡ old + 1 + k + 4 * length marked
@@ -107,7 +109,8 @@ pub record IsWalking (set : ℕ → Bool) (levels limit most first count k : ℕ
   pub looks : looked ≤ old + 1 + k + 4 * (levels * length more)
   pub counted : length cells ≤ looked
 
-pub walking_begins : (set : ℕ → Bool) (levels limit most first count old : ℕ) (before : List ℕ) → IsLaid set before first
+pub walking_begins : (set : ℕ → Bool) (levels limit most first count old : ℕ) (before : List ℕ)
+    → IsLaid set before first
     → length before ≤ limit → length before ≤ old
     → IsWalking set levels limit most first count 0 before before old (old + 1)
 walking_begins set levels limit most first count old before laid few counted = record {
@@ -125,12 +128,14 @@ walking_begins set levels limit most first count old before laid few counted = r
 step_looks : (levels one two all : ℕ) → all ≡ one + two → levels * all ≡ levels * one + levels * two
 step_looks levels one two all is = ap (λ n. levels * n) is ∙ omega arith
 
-pub walking_goes_on : (set : ℕ → Bool) (levels limit level first k upto child : ℕ) (before cells after : List ℕ) (old looked new : ℕ)
+pub walking_goes_on : (set : ℕ → Bool) (levels limit level first k upto child : ℕ)
+    (before cells after : List ℕ) (old looked new : ℕ)
     → IsBlock child (level + 1) (first + k * leaf_count (level + 1))
     → IsWalking set levels limit (60 - 2 * (level + 1)) first (leaf_count (level + 1)) k before cells old looked
     → HasWalked set levels limit (first + k * leaf_count (level + 1)) upto cells after looked new
     → upto ≡ first + (k + 1) * leaf_count (level + 1)
-    → IsWalking set levels limit (60 - 2 * (level + 1)) first (leaf_count (level + 1)) (k + 1) before after old new
+    → IsWalking set levels limit (60 - 2 * (level + 1)) first (leaf_count (level + 1))
+    (k + 1) before after old new
 walking_goes_on set levels limit level first k upto child before cells after old looked new block walking walked is =
     let long = length-append walking.more walked.more in
     let products = step_looks levels (length walking.more) (length walked.more) (length (walking.more ++ walked.more)) long in
@@ -162,7 +167,8 @@ child_sum levels above taken left all up parts some =
     let more : above * all ≡ levels * all + all = ap (λ n. n * all) up ∙ omega arith in
     omega (arith, sum, more, parts, some)
 
-pub child_most : (set : ℕ → Bool) (levels above limit most first count k : ℕ) (before cells : List ℕ) (old looked : ℕ)
+pub child_most : (set : ℕ → Bool) (levels above limit most first count k : ℕ) (before cells : List ℕ)
+    (old looked : ℕ)
     → IsWalking set levels limit most first count k before cells old looked → above ≡ levels + 1 → k < 4
     → looked + looks_for levels (limit + 1 - length cells) ≤ old + looks_for above (limit + 1 - length before)
 child_most set levels above limit most first count k before cells old looked walking up below =
@@ -175,7 +181,8 @@ child_most set levels above limit most first count k before cells old looked wal
 
 -- a square with a leaf of the set holds a cell
 more_than_none : (set : ℕ → Bool) (first upto p : ℕ) (before cells more : List ℕ) → IsLaid set before first
-    → IsLaid set cells upto → cells ≡ before ++ more → first ≤ p → p < upto → IsTrue (set p) → 0 < length more
+    → IsLaid set cells upto → cells ≡ before ++ more → first ≤ p → p < upto → IsTrue (set p)
+    → 0 < length more
 more_than_none set first upto p before cells [] laid all grown low high has =
     let same : cells ≡ before = grown ∙ append-nil before in
     let any = Any-from_list_any (λ id. cell_has id p) cells (all.covered p high has) in
@@ -190,11 +197,13 @@ last_sum levels above cells up some =
     let more : above * cells ≡ levels * cells + cells = ap (λ n. n * cells) up ∙ omega arith in
     omega (arith, more, some)
 
-pub walking_ends : (set : ℕ → Bool) (levels above level limit first k id : ℕ) (before cells : List ℕ) (old looked : ℕ)
+pub walking_ends : (set : ℕ → Bool) (levels above level limit first k id : ℕ) (before cells : List ℕ)
+    (old looked : ℕ)
     → IsBlock id level first
     → IsWalking set levels limit (60 - 2 * (level + 1)) first (leaf_count (level + 1)) k before cells old looked → k ≡ 4
     → level < 30 → above ≡ levels + 1 → IsLaid set before first
-    → SomeIn first (first + (leaf_count level - 1)) set true → SomeIn first (first + (leaf_count level - 1)) set false
+    → SomeIn first (first + (leaf_count level - 1)) set true
+    → SomeIn first (first + (leaf_count level - 1)) set false
     → HasWalked set above limit first (first + (leaf_count level - 1) + 1) before cells old looked
 walking_ends set levels above level limit first k id before cells old looked block walking all inner up laid inside outside =
     let four = four_children level inner in
@@ -206,7 +215,7 @@ walking_ends set levels above level limit first k id before cells old looked blo
     more_than_none set first last inside.number before cells walking.more laid laid_all
     walking.grown inside.low (omega (arith, inside.high)) inside.is in
     let has : (p : ℕ) → first ≤ p → p ≤ first + (leaf_count level - 1) → IsTrue (cell_has id p) = λ p low high.
-        has_position id p block.valid (omega (arith, block.begins, low)) (omega (arith, block.ends, high, some_leaves level)) in
+    has_position id p block.valid (omega (arith, block.begins, low)) (omega (arith, block.ends, high, some_leaves level)) in
     let most = 60 - 2 * (level + 1) in
     let crossed : IsCrossed set id = record {
       valid = block.valid;
@@ -230,7 +239,8 @@ walking_ends set levels above level limit first k id before cells old looked blo
 -- the cell of a child
 pub child_block : (child square : GridSquare) (k : ℕ) → IsSquare child → child.level ≡ square.level + 1
     → first_position child ≡ first_position square + k * leaf_count child.level
-    → IsBlock (square_id child) (square.level + 1) (first_position square + k * leaf_count (square.level + 1))
+    → IsBlock (square_id child) (square.level + 1)
+    (first_position square + k * leaf_count (square.level + 1))
 child_block child square k is level first =
     subst (λ l. IsBlock (square_id child) l (first_position square + k * leaf_count l)) level
     (subst (IsBlock (square_id child) child.level) first (square_block child is))
@@ -247,7 +257,8 @@ child_upto child square k level first =
     omega (arith, first, place, next, counts, some_leaves child.level)
 
 -- a fault is the same within more looks
-pub stopped_later : (set : ℕ → Bool) (limit most more : ℕ) (fault : CoverFault) → HasStopped set limit most fault
+pub stopped_later : (set : ℕ → Bool) (limit most more : ℕ) (fault : CoverFault)
+    → HasStopped set limit most fault
     → most ≤ more → HasStopped set limit more fault
 stopped_later set limit most more (TooManyCells looked) stopped order =
     ((stopped.0.0, omega (arith, stopped.0.1, order)), stopped.1)
@@ -255,7 +266,8 @@ stopped_later set limit most more OutOfMemory stopped order = tt
 
 -- a fault at a cell that is to be appended
 pub stopped_full : (set : ℕ → Bool) (limit first id looks most : ℕ) (before : List ℕ) (fault : CoverFault)
-    → IsLaid set before first → IsLargest set id → first_leaf id ≡ first → length before < looks → looks ≤ most
+    → IsLaid set before first → IsLargest set id → first_leaf id ≡ first → length before < looks
+    → looks ≤ most
     → IsFull limit (length before) looks fault → HasStopped set limit most fault
 stopped_full set limit first id looks most before (TooManyCells looked) laid largest begins counted within full = (
   (omega (arith, full, counted), omega (arith, full.0, within)),

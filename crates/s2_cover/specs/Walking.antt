@@ -1,12 +1,12 @@
 -- A walk down the squares of a face that collects the canonical cells of a set, and counts its looks.
-use Rattle.std.specs.Prelude.{◌≡◌, ◌≢◌, ◌↔◌, ◌⊎◌, ℕ, ◌+◌, ◌-◌, ◌*◌, ◌<◌, ◌≤◌, Bool, true, false, IsTrue, List, ◌++◌, length, Contains, AllPairs}
+use Rattle.std.specs.Prelude.{◌≡◌, ◌≢◌, ◌↔◌, ◌⊎◌, ℕ, ◌+◌, ◌*◌, ◌<◌, ◌≤◌, Bool, true, false, IsTrue, List, ◌++◌, length, Contains, AllPairs}
 use Rattle.std.specs.Int.{IsInRange}
 use Rattle.s2_hilbert.specs.Grid.{GridSquare}
 use Rattle.s2_hilbert.specs.Curve.{first_position, last_position}
 use Rattle.s2_cellid.specs.Cell.{lowest_place, level_of, IsCellId, first_leaf, last_leaf, cell_has}
 use Rattle.s2_cover.specs.Canonical.{parent_of, IsCanonical}
 use Rattle.s2_cover.specs.Laying.{IsLaid}
-use Rattle.s2_cover.specs.Rectangles.{WideParts}
+use Rattle.s2_cover.specs.Rectangles.{WideParts, max_level}
 use Rattle.s2_cover.specs.declared.sight.Sight.{Sight}
 use Rattle.s2_cover.specs.declared.sight.Sight.TheVariants.{Outside, Inside, Across}
 use Rattle.s2_cover.specs.declared.walk.CoverFault.{CoverFault}
@@ -40,7 +40,7 @@ both Across Across = Across
 -- the parts of a rectangle in coordinates of squares
 pub record IsWide (w : WideParts) : Type 0 where
   pub face : w.face < 6
-  pub level : w.level ≤ 24
+  pub level : w.level ≤ max_level
   pub a_order : w.a_min ≤ w.a_max
   pub b_order : w.b_min ≤ w.b_max
 
@@ -73,11 +73,11 @@ pub record AreCrossed (set : ℕ → Bool) (ids : List ℕ) : Type 0 where
   pub once : AllPairs ◌≢◌ ids
   pub members : (id : ℕ) → Contains ids id ↔ IsCrossed set id
 
--- a whole face is looked at, and the four children of each such cell
+-- how many looks a cover takes: one at a face, and four at the children of each such cell
 abbrev pub HasLooked : (ℕ → Bool) → ℕ → Type 0
 HasLooked set looked = (ids : List ℕ) × (AreCrossed set ids × (looked ≡ 1 + 4 * length ids))
 
--- such a cell from one position up to another, with its lowest bit no higher than a place
+-- such a cell among the positions from `first` to before `upto`, with its lowest bit at most at a place
 pub record IsCrossedIn (set : ℕ → Bool) (most first upto id : ℕ) : Type 0 where
   pub crossed : IsCrossed set id
   pub place : lowest_place id ≤ most
@@ -91,7 +91,8 @@ pub record AreCrossedIn (set : ℕ → Bool) (most first upto : ℕ) (ids : List
 
 -- a walk over the positions from `first` to before `upto` has appended the canonical cells there, and
 -- has looked at one square, and at the four children of each crossed cell
-pub record HasWalked (set : ℕ → Bool) (levels limit first upto : ℕ) (before after : List ℕ) (old new : ℕ) : Type 0 where
+pub record HasWalked (set : ℕ → Bool) (levels limit first upto : ℕ) (before after : List ℕ)
+    (old new : ℕ) : Type 0 where
   pub marked : List ℕ
   pub crossed : AreCrossedIn set 60 first upto marked
   pub exact : new ≡ old + 1 + 4 * length marked
@@ -102,23 +103,22 @@ pub record HasWalked (set : ℕ → Bool) (levels limit first upto : ℕ) (befor
   pub looks : new ≤ old + looks_for levels (length more)
   pub counted : length after ≤ new
 
--- a walk has ended at a fault: if there are too many cells, after no more than the greatest number of
--- looks
+-- a walk has ended at a fault; if it is for too many cells, after at most this many looks
 abbrev pub HasStopped : (ℕ → Bool) → ℕ → ℕ → CoverFault → Type 0
 HasStopped set limit most (TooManyCells looked) =
     IsInRange (limit + 1) most looked × HasMoreCells set limit
 HasStopped set limit most OutOfMemory = Unit
 
--- what a fault says where a cell is to be appended to some: that they are as many as the limit allows
+-- the fault at one cell more: there are as many as the limit allows
 abbrev pub IsFull : ℕ → ℕ → ℕ → CoverFault → Type 0
 IsFull limit cells looks (TooManyCells looked) = (looked ≡ looks) × (limit ≤ cells)
 IsFull limit cells looks OutOfMemory = Unit
 
--- the most looks at which a cover within a limit is found or refused
+-- the most looks at which a cover within a limit is found or refused: 1 + 96 * (limit + 1)
 abbrev pub max_looks : ℕ → ℕ
-max_looks limit = 1 + 96 * (limit + 1)
+max_looks limit = looks_for max_level (limit + 1)
 
--- what a refusal says: the set has a canonical list, and it is longer than the limit
+-- a refusal for too many cells: the set has a canonical list, which is longer than the limit
 abbrev pub IsRefused : (ℕ → Bool) → ℕ → CoverFault → Type 0
 IsRefused set limit (TooManyCells looked) =
     IsInRange (limit + 1) (max_looks limit) looked

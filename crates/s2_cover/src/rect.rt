@@ -107,7 +107,13 @@ impl Rect {
         level: u8,
     ) -> Result<Rect, RectFault>
         ensures { result ≡ rect_or_fault (record {
-            face = face; i_min = i_min; i_max = i_max; j_min = j_min; j_max = j_max; level = level }) }
+          face = face;
+          i_min = i_min;
+          i_max = i_max;
+          j_min = j_min;
+          j_max = j_max;
+          level = level;
+        }) }
     {
         if face >= FACES {
             return Err(RectFault::Face);

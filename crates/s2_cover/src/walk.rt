@@ -117,12 +117,7 @@ fn walk(
 }
 
 // Appends the cell of a square, unless there are as many cells as the limit allows.
-fn keep(
-    square: &Square,
-    limit: u32,
-    cells: &mut Vec<CellId>,
-    looked: u64,
-) -> Result<(), CoverFault>
+fn keep(square: &Square, limit: u32, cells: &mut Vec<CellId>, looked: u64) -> Result<(), CoverFault>
     ensures kept { OnOk result (cells.new.items ≡ cells.old.items ++ square_id square.now ∷ []) }
     ensures room { OnOk result (length cells.old.items < limit) }
     ensures full { IfErr result (IsFull limit (length cells.old.items) looked) }

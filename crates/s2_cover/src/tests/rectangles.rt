@@ -55,7 +55,10 @@ fn counts_cells_up_to_the_limit(rt: HostRuntime) -> Result<(), Fail> {
     let longer = (0, 0, 0, 0, 16_384, 24);
     for (parts, limit) in [(longest, 255), (longer, 256)] {
         let refused = cover(alloc, &made(&parts)?, limit);
-        assert!(rt; matches!(refused, Err(CoverFault::TooManyCells { .. })), "{limit}");
+        assert!(rt;
+            matches!(refused, Err(CoverFault::TooManyCells { .. })),
+            "{limit}"
+        );
     }
     Ok(())
 }

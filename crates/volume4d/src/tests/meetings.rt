@@ -48,29 +48,6 @@ fn passes_what_touches(rt: HostRuntime) -> Result<(), Fail> {
 }
 
 #[test]
-fn finds_the_least_corner(rt: HostRuntime) -> Result<(), Fail> {
-    let alloc = rt.alloc();
-    let theirs = held(alloc, &area(alloc, "04", first_hour()?)?, 10)?;
-    let window = Window::try_new(500, 2_000, HALF_PAST, TWO)?;
-    let corner = Meeting {
-        pos: 0,
-        altitude: 500,
-        second: HALF_PAST,
-        priority: 10,
-    };
-    let mine = area(alloc, "9 1", window)?.slabs()?;
-    assert_eq!(rt; first_meeting(&mine, &theirs), Some(corner));
-    let late = Window::try_new(500, 2_000, ONE - 1, TWO)?;
-    let mine = area(alloc, "1", late)?.slabs()?;
-    let last_second = Meeting {
-        second: ONE - 1,
-        ..corner
-    };
-    assert_eq!(rt; first_meeting(&mine, &theirs), Some(last_second));
-    Ok(())
-}
-
-#[test]
 fn orders_leaves_before_altitudes_and_seconds(rt: HostRuntime) -> Result<(), Fail> {
     let alloc = rt.alloc();
     let mine = area(alloc, "1", Window::try_new(0, 2_000, NOON, TWO)?)?.slabs()?;
@@ -100,31 +77,6 @@ fn orders_leaves_before_altitudes_and_seconds(rt: HostRuntime) -> Result<(), Fai
         ..by_leaf
     };
     assert_eq!(rt; first_meeting(&mine, &theirs), Some(by_altitude));
-    Ok(())
-}
-
-#[test]
-fn tells_the_greatest_priority_there(rt: HostRuntime) -> Result<(), Fail> {
-    let alloc = rt.alloc();
-    let face_4 = area(alloc, "9", first_hour()?)?;
-    let mut theirs = held(alloc, &face_4, 20)?;
-    hold(&mut theirs, &face_4, 30)?;
-    hold(&mut theirs, &face_4, 10)?;
-    let mine = area(alloc, "9 1", first_hour()?)?.slabs()?;
-    let at_face_4 = Meeting {
-        pos: 0x4000_0000_0000_0000,
-        altitude: 0,
-        second: NOON,
-        priority: 30,
-    };
-    assert_eq!(rt; first_meeting(&mine, &theirs), Some(at_face_4));
-    hold(&mut theirs, &area(alloc, "04", first_hour()?)?, 5)?;
-    let at_face_0 = Meeting {
-        pos: 0,
-        priority: 5,
-        ..at_face_4
-    };
-    assert_eq!(rt; first_meeting(&mine, &theirs), Some(at_face_0));
     Ok(())
 }
 

@@ -2,11 +2,9 @@
 
 use super::{HALF_PAST, NOON, ONE, TWO, area, first_hour, footprint};
 use crate::area::Area;
-use crate::footprint::Footprint;
 use crate::slab::Slab;
 use crate::volume::{Volume, VolumeFault};
 use crate::window::{Window, WindowFault};
-use s2_cellid::CellId;
 use std::process::Abort;
 use std::test::Fail;
 
@@ -35,45 +33,14 @@ fn bounds_windows(rt: HostRuntime) -> Result<(), Fail> {
 }
 
 #[test]
-fn keeps_volumes_as_asked(rt: HostRuntime) -> Result<(), Fail> {
-    let alloc = rt.alloc();
-    let window = first_hour()?;
-    let volume = Volume::try_new(footprint(alloc, "9 04 9")?, window)?;
-    let copy = volume.copy()?;
-    assert_eq!(rt; copy.window(), window);
-    let Footprint::Cells(cells) = copy.footprint();
-    assert_eq!(rt; cells.len(), 3);
-    assert_eq!(rt; cells[0].token().as_str(), "9");
-    assert_eq!(rt; cells[1].token().as_str(), "04");
-    assert_eq!(rt; cells[2].token().as_str(), "9");
-    let area = Area::try_new(vec![in alloc; volume, copy]?).ok_or("no area")?;
-    assert_eq!(rt; area.copy()?.volumes().len(), 2);
-    Ok(())
-}
-
-#[test]
-fn counts_cells_and_volumes(rt: HostRuntime) -> Result<(), Fail> {
-    let alloc = rt.alloc();
-    for (count, is_taken) in [(0, false), (1, true), (64, true), (65, false)] {
-        let mut cells = Vec::new(alloc);
-        for _ in 0..count {
-            cells.push(CellId::from_token(b"04")?)?;
-        }
-        let made = Volume::try_new(Footprint::Cells(cells), first_hour()?);
-        assert_eq!(rt; made.is_ok(), is_taken, "{count}");
-        assert_eq!(rt;
-            matches!(made, Err(VolumeFault::Cells)),
-            !is_taken,
-            "{count}"
-        );
-    }
-    for (count, is_taken) in [(0, false), (1, true), (8, true), (9, false)] {
-        let mut volumes = Vec::new(alloc);
-        for _ in 0..count {
-            volumes.push(Volume::try_new(footprint(alloc, "04")?, first_hour()?)?)?;
-        }
-        assert_eq!(rt; Area::try_new(volumes).is_some(), is_taken, "{count}");
-    }
+fn prints_faults(rt: HostRuntime) -> Result<(), Fail> {
+    let window = WindowFault::TooLong;
+    let volume = VolumeFault::Cells;
+    let text = format!(in rt.alloc(); "{window}; {volume}")?;
+    assert_eq!(rt;
+        text.as_str(),
+        "a volume lasts at most 86400 s; a footprint has 1 to 64 cells"
+    );
     Ok(())
 }
 

@@ -1,4 +1,4 @@
-use Rattle.std.proofs.Common.{◌≡◌, ◌+◌, ◌-◌, ◌*◌, ◌^◌, ◌<◌, ◌≤◌, ◌++◌, [], ◌∷◌, length, ℕ, List, refl, sym, ◌∙◌, ap, subst, arith}
+use Rattle.std.proofs.Common.{◌≡◌, ◌+◌, ◌-◌, ◌*◌, ◌^◌, ◌<◌, length, ℕ, List, refl, sym, ◌∙◌, ap, subst, arith}
 use Rattle.s2_hilbert.specs.Curve.{first_position, last_position, leaf_count}
 use Rattle.s2_cellid.specs.Family.{square_id}
 use Rattle.s2_cover.specs.Laying.{IsLaid}
@@ -56,16 +56,30 @@ walk-requires t c =
     subst (λ n. c.loop-k.looked + looks_for n (c.args.limit + 1 - length c.loop-k.cells.items) < 2 ^ 64) (sym levels)
     (omega (arith, most, c.requires.room)) in (
       omega (arith, c.decreases, told.level, above),
-      (c.requires.wide,
-      (told.square,
-      (told.face ∙ c.requires.face,
-      (omega (arith, told.level, above),
-      (subst (IsLaid set c.loop-k.cells.items) (sym first) walking.laid,
-      (walking.few,
-      (child_opened set (square_id child) (square_id square) square.level (first_position square) c.loop-k.k
-          (square_block square c.requires.square) c.loop-k-test.true inner
-          (child_block child square c.loop-k.k told.square told.level told.first) c.in-Across.ensures.saw.saw.1,
-      (walking.counted, room)))))))),
+      (
+        c.requires.wide,
+        (
+          told.square,
+          (
+            told.face ∙ c.requires.face,
+            (
+              omega (arith, told.level, above),
+              (
+                subst (IsLaid set c.loop-k.cells.items) (sym first) walking.laid,
+                (
+                  walking.few,
+                  (
+                    child_opened set (square_id child) (square_id square) square.level (first_position square) c.loop-k.k
+                        (square_block square c.requires.square) c.loop-k-test.true inner
+                        (child_block child square c.loop-k.k told.square told.level told.first) c.in-Across.ensures.saw.saw.1,
+                    (walking.counted, room),
+                  ),
+                ),
+              ),
+            ),
+          ),
+        ),
+      ),
     )
 
 pub returns-in_err-walk-in-Across-clause-err : goal.returns-in_err-walk-in-Across-clause-err
@@ -100,7 +114,7 @@ loop-k-preserved t c =
     let first : first_position child ≡ first_position square + c.loop-k.k * leaf_count (square.level + 1) =
     told.first ∙ ap (λ l. first_position square + c.loop-k.k * leaf_count l) told.level in
     let P : ℕ → ℕ → Type 0 = λ n from. HasWalked set n c.args.limit from (last_position child + 1)
-        c.loop-k.cells.items c.walk.new.cells.items c.loop-k.looked c.walk.new.looked in
+    c.loop-k.cells.items c.walk.new.cells.items c.loop-k.looked c.walk.new.looked in
     walking_goes_on set (c.args.wide.now.level - square.level - 1) c.args.limit square.level (first_position square)
     c.loop-k.k (last_position child + 1) (square_id child) c.args.cells.now.items c.loop-k.cells.items
     c.walk.new.cells.items c.args.looked.now c.loop-k.looked c.walk.new.looked
@@ -132,8 +146,8 @@ returns-in_ok-keep-in-Inside-clause-ok t c =
     c.in-Inside.ensures.saw.saw in
     let told = c.in_ok-keep-in-Inside.ensures in
     let P : List ℕ → ℕ → Type 0 = λ after new.
-        HasWalked set levels c.args.limit (first_position square) (last_position square + 1) cells after
-        c.args.looked.now new in
+    HasWalked set levels c.args.limit (first_position square) (last_position square + 1) cells after
+    c.args.looked.now new in
     subst (λ new. P c.keep.new.cells.items new) (sym c.look.ensures.counted)
     (subst (λ after. P after (c.args.looked.now + 1)) (sym told.kept)
     (walked_inside set levels c.args.limit square.level (first_position square) (square_id square) c.args.looked.now
