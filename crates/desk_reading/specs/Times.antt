@@ -100,18 +100,18 @@ unfoldable pub offset_of : List ℕ → Option ℤ
 offset_of text =
     if str_eq_ignore_ascii_case text (codes "Z") then Some (pos 0) else numoffset_of text
 
--- `[time-secfrac] time-offset`, after a date and a time of day
-unfoldable pub time_at : CivilTime → List ℕ → Option WrittenTime
-time_at civil rest =
+-- the date and time of day, with the `[time-secfrac] time-offset` that follows it
+unfoldable pub time_with : CivilTime → List ℕ → Option WrittenTime
+time_with civil rest =
     secfrac_len rest >>= λ len.
     offset_of (drop len rest) >>= λ offset.
     Some (record { civil = civil; has_fraction = is_above_zero (take len rest); offset = offset })
 
--- a `date-time`. Up to `time-second` it has 19 bytes.
+-- a `date-time`: its first 19 bytes go up to `time-second`
 unfoldable pub time_of : List ℕ → Option WrittenTime
 time_of text =
     if is_in_range 20 time_room (length text) && has_marks text
-    then (civil_of text >>= λ civil. time_at civil (drop 19 text)) else None
+    then (civil_of text >>= λ civil. time_with civil (drop 19 text)) else None
 
 -- what four digits and five times two digits can write
 pub record IsShort (w : CivilTime) : Type 0 where

@@ -68,15 +68,15 @@ fn time_of(text: &[u8]) -> Option<WrittenTime>
     }
     let civil = civil_of(text)?;
     let (_, rest) = text.split_at(CIVIL_LEN);
-    time_at(civil, rest)
+    time_with(civil, rest)
 }
 
-// The date and time of day with the fraction and the offset that a text writes.
-#[tactic(auto, unfolding(crate::specs::Times::time_at))]
-fn time_at(civil: CivilTime, rest: &[u8]) -> Option<WrittenTime>
+// The date and time of day, with the fraction and the offset that follow it.
+#[tactic(auto, unfolding(crate::specs::Times::time_with))]
+fn time_with(civil: CivilTime, rest: &[u8]) -> Option<WrittenTime>
     requires short { IsShort civil }
     requires some { 0 < length rest.now }
-    ensures value { result ≡ spec.time_at civil rest.now }
+    ensures value { result ≡ spec.time_with civil rest.now }
     ensures written { IfSome result IsWritten }
 {
     let (secfrac, zone) = rest.split_at(secfrac_len(rest)?);
