@@ -1,3 +1,7 @@
 pub mod MomentLemmas
 pub mod BytesLemmas
 pub mod AllLemmas
+pub mod StreamLemmas
+pub mod FrontLemmas
+pub mod ServeLemmas
+pub mod PlayLemmas
