@@ -1,10 +1,11 @@
 -- The front of a request, and what follows it.
-use Rattle.std.proofs.Common.{◌≡◌, ℕ, zero, suc, ◌+◌, ◌<◌, ◌≤◌, ◌⊎◌, min, Bool, true, false, not, ◌==◌, List, [], ◌∷◌, ◌++◌, Option, Some, None, IfSome, Ok, Err, length, take, refl, sym, ap, subst, ◌∙◌, inl, inr, arith, add-one, length-append, append-nil, nat_lt}
+use Rattle.std.proofs.Common.{if◌then◌else◌, option_and_then, ◌≡◌, ℕ, zero, suc, ◌+◌, ◌<◌, ◌≤◌, ◌⊎◌, min, Bool, true, false, not, ◌==◌, List, [], ◌∷◌, ◌++◌, Option, Some, None, IfSome, Ok, Err, length, take, refl, sym, ap, subst, ◌∙◌, inl, inr, arith, add-one, length-append, append-nil, nat_lt}
 use Rattle.std.proofs.lemmas.Bool.{cases_Bool, cases_eq}
 use Rattle.std.proofs.lemmas.Bool.Decides.{nat_tests}
 use Rattle.std.proofs.lemmas.List.{take-append-le}
 use Rattle.std.proofs.Math.Seq.{take-append_seam, drop-append_seam}
 use Rattle.std.proofs.KnownBytes.{Consumes-trans}
+use Rattle.std.specs.Option.{option_or}
 use Rattle.std.specs.Io.KnownBytes.{Consumes, IsAtEnd}
 use Rattle.desk_reading.specs.Framing.{ends_head, head_len, least}
 use Rattle.desk_reading.specs.Messages.{FrontParts, front_in, message_in}
@@ -174,3 +175,77 @@ told_cut_body (Some xs) (Some rest) text c some h short = subst IsCut (sym c) (i
 pub some_count : (n m : ℕ) → false ≡ (n == 0) → m ≡ n → 0 < m
 some_count zero m e is = cc
 some_count (suc n) m e is = omega (arith, is)
+
+-- ---- what follows a request
+
+-- what a least number is
+record IsLeast (test : ℕ → Bool) (bound n : ℕ) : Type 0 where
+  pub none : least test n ≡ None
+  pub passes : test n ≡ true
+  pub below : n < bound
+
+least_is : (test : ℕ → Bool) (bound n : ℕ) → least test bound ≡ Some n → IsLeast test bound n
+least_is test zero n is = cc
+least_is test (suc bound) n is = by (least_is test bound n) (least test bound) (test bound) refl refl is
+  where
+    by : (least test bound ≡ Some n → IsLeast test bound n) → (o : Option ℕ) (b : Bool) → least test bound ≡ o → test bound ≡ b → option_or o (if b then Some bound else None) ≡ Some n → IsLeast test (suc bound) n
+    by again (Some m) b first last found =
+        let same : m ≡ n = cc in
+        let h = again (first ∙ ap Some same) in
+        record { none = h.none; passes = h.passes; below = omega (arith, h.below) }
+    by again None true first last found =
+        let same : bound ≡ n = cc in
+        record { none = subst (λ k. least test k ≡ None) same first; passes = subst (λ k. test k ≡ true) same last; below = omega (arith, same) }
+    by again None false first last found = cc
+
+head_more : (room : ℕ) (text rest : List ℕ) (n : ℕ) → head_len room text ≡ Some n → (head_len room (text ++ rest) ≡ Some n) × (n ≤ length text)
+unfolding head_len
+head_more room text rest n is =
+    let h = least_is (λ k. ends_head (take k text)) (min (length text) room + 1) n is in
+    let within : n ≤ length text = omega (arith, h.below) in
+    let none = least_same (λ k. ends_head (take k (text ++ rest))) (λ k. ends_head (take k text)) n (λ k below. ap ends_head (take-append-le k text rest (omega (arith, below, within)))) ∙ h.none in
+    (least_found (λ k. ends_head (take k (text ++ rest))) n (min (length (text ++ rest)) room + 1) none (ap ends_head (take-append-le n text rest within) ∙ h.passes) (omega (arith, h.below, length-append text rest)), within)
+
+head_missed_more : (room : ℕ) (text rest : List ℕ) → room ≤ length text → head_len room text ≡ None → head_len room (text ++ rest) ≡ None
+unfolding head_len
+head_missed_more room text rest full missed =
+    let here : min (length text) room ≡ room = omega (arith, full) in
+    let there : min (length (text ++ rest)) room ≡ room = omega (arith, full, length-append text rest) in
+    rw there (least_same (λ k. ends_head (take k (text ++ rest))) (λ k. ends_head (take k text)) (room + 1) (λ k below. ap ends_head (take-append-le k text rest (omega (arith, below, full)))) ∙ rw here at missed)
+
+front_more_by : (room : ℕ) (text rest : List ℕ) (n : ℕ) (o : Option ℕ) (b : Bool) → head_len room text ≡ o → nat_lt (length text) room ≡ b → option_or o (if b then None else Some room) ≡ Some n → (front_within room (text ++ rest) ≡ Some n) × (n ≤ length text)
+unfolding front_within
+front_more_by room text rest n (Some m) b found test is =
+    let h = head_more room text rest m found in
+    let same : m ≡ n = cc in
+    (rw h.0 (ap Some same), omega (arith, same, h.1))
+front_more_by room text rest n None true found test is = cc
+front_more_by room text rest n None false found test is =
+    let same : room ≡ n = cc in
+    let full : room ≤ length text = grind (arith, nat_tests, test) in
+    (rw (head_missed_more room text rest full found, not_below (length (text ++ rest)) room (omega (arith, full, length-append text rest))) (ap Some same), omega (arith, same, full))
+
+front_more : (room : ℕ) (text rest : List ℕ) (n : ℕ) → front_within room text ≡ Some n → (front_within room (text ++ rest) ≡ Some n) × (n ≤ length text)
+unfolding front_within
+front_more room text rest n is = front_more_by room text rest n (head_len room text) (nat_lt (length text) room) refl refl is
+
+whole_is : (there front size n : ℕ) → whole_len there front size ≡ Some n → front + size ≡ n
+whole_is there front size n is = by (nat_lt there (front + size)) is
+  where
+    by : (b : Bool) → (if b then None else Some (front + size)) ≡ Some n → front + size ≡ n
+    by true e = cc
+    by false e = cc
+
+request_more_by : (request rest : List ℕ) (o : Option ℕ) → front_within head_room request ≡ o
+    → option_and_then (λ front. whole_len (length request) front (size_said (front_read (take front request)))) o ≡ Some (length request) → request_len (request ++ rest) ≡ Some (length request)
+unfolding request_len
+request_more_by request rest None found is = cc
+request_more_by request rest (Some front) found is =
+    let more = front_more head_room request rest front found in
+    let whole = whole_is (length request) front (size_said (front_read (take front request))) (length request) is in
+    rw (more.0, take-append-le front request rest more.1)
+    (rw (not_below (length (request ++ rest)) (front + size_said (front_read (take front request))) (omega (arith, whole, length-append request rest))) (ap Some whole))
+
+pub request_more : (request rest : List ℕ) → IsRequest request → request_len (request ++ rest) ≡ Some (length request)
+unfolding request_len
+request_more request rest h = request_more_by request rest (front_within head_room request) refl h

@@ -3,6 +3,7 @@
 
 mod answering;
 mod batch;
+pub mod laws;
 mod play;
 mod refusal;
 mod response;
