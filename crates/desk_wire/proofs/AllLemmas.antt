@@ -22,11 +22,11 @@ none_answered shown items w now requests answers is same = record {
   count = ap length is;
 }
 
-told_more : (w : World) (requests : List Sent) (r : Sent) → answers_to w (requests ++ r ∷ []) ≡ answers_to w requests ++ text_for (world_left w requests) r.0 (asked r.1) ∷ []
+pub told_more : (w : World) (requests : List Sent) (r : Sent) → answers_to w (requests ++ r ∷ []) ≡ answers_to w requests ++ text_for (world_left w requests) r.0 (asked r.1) ∷ []
 told_more w [] r = refl
 told_more w (q ∷ requests) r = ap (λ ts. text_for w q.0 (asked q.1) ∷ ts) (told_more (world_after w q.0 (asked q.1)) requests r)
 
-left_more : (w : World) (requests : List Sent) (r : Sent) → world_left w (requests ++ r ∷ []) ≡ world_after (world_left w requests) r.0 (asked r.1)
+pub left_more : (w : World) (requests : List Sent) (r : Sent) → world_left w (requests ++ r ∷ []) ≡ world_after (world_left w requests) r.0 (asked r.1)
 left_more w [] r = refl
 left_more w (q ∷ requests) r = left_more (world_after w q.0 (asked q.1)) requests r
 

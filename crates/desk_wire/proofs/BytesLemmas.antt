@@ -3,7 +3,7 @@ use Rattle.std.proofs.Common.{◌≡◌, ℤ, List, ℕ, Result, Ok, Err, IfOk, 
 use Rattle.desk_rules.specs.declared.call.Asked.{Asked}
 use Rattle.desk_run.specs.declared.pending.Pending.{Pending}
 use Rattle.desk_store.specs.World.{World}
-use Rattle.desk_run.specs.Verdicts.{Told, replied}
+use Rattle.desk_run.specs.Verdicts.{Told}
 use Rattle.desk_run.specs.Calls.{IsPending, IsUnanswered, reply_in, world_committed}
 use Rattle.desk_writing.specs.PlanBody.{reply_text}
 use Rattle.desk_reading.specs.Messages.{MessageParts, message_in}

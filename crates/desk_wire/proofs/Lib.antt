@@ -1,5 +1,9 @@
 pub mod MomentLemmas
 pub mod BytesLemmas
 pub mod AllLemmas
+pub mod StreamLemmas
+pub mod FrontLemmas
+pub mod ServeLemmas
+pub mod PlayLemmas
 pub mod HeadlineLemmas
 pub mod GivenLemmas

@@ -2,6 +2,9 @@ pub mod Moments
 pub mod Refusals
 pub mod Bytes
 pub mod AllAnswers
+pub mod Streams
+pub mod Serving
+pub mod Playing
 pub mod Headline
 pub mod TwoRuns
 pub mod Given

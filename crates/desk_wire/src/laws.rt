@@ -1,6 +1,6 @@
 //! Laws of the definitions. Each is the contract of a function that does nothing.
 
-ghost use Rattle.std.specs.Prelude.{◌≡◌, ◌<◌, ℕ, List, [], Some, take};
+ghost use Rattle.std.specs.Prelude.{◌≡◌, ◌<◌, ◌++◌, ℕ, List, [], Some, length, take};
 ghost use Rattle.std.specs.List.{AllZip, slice_get};
 ghost use Rattle.desk_store.specs.World.{World};
 ghost use Rattle.desk_run.specs.Sides.{HoldAlike, OwnAlike};
@@ -8,6 +8,7 @@ ghost use Rattle.desk_wire.specs.declared.batch.AnswersEnd.{AnswersEnd};
 ghost use Rattle.desk_wire.specs.AllAnswers.{AreAnswers, AreFirst, Sent};
 ghost use Rattle.desk_wire.specs.Given.{answered};
 ghost use Rattle.desk_wire.specs.Headline.{Headline, LookAlike, sender, world_at};
+ghost use Rattle.desk_wire.specs.Streams.{IsRequest, request_len};
 ghost use Rattle.desk_wire.specs.TwoRuns.{IsSameFor, met_by, requests_of};
 
 /// For every list of requests, each answer, byte for byte, is decided by that request's bytes and
@@ -47,4 +48,11 @@ pub fn answers_given()
     ensures quiet { (end : AnswersEnd) (w after : World) (requests : List Sent)
         (answers : List (List ℕ)) (operator : List ℕ) → AreAnswers end w requests answers after →
         requests_of operator requests ≡ [] → OwnAlike operator after w }
+{}
+
+/// Whatever follows a request in a stream, the request is the stream's first: so what is taken of a
+/// stream, and how it is cut into requests, has one answer.
+pub fn request_ends()
+    ensures { (request rest : List ℕ) → IsRequest request →
+        request_len (request ++ rest) ≡ Some (length request) }
 {}

@@ -1,6 +1,9 @@
 //! Runs over a stream: requests served one after the other.
 
+ghost use Rattle.std.specs.Prelude.{◌≡◌, ◌≤◌, ◌==◌};
+ghost use Rattle.desk_store.specs.Faults.{IsHonest};
 ghost use Rattle.desk_wire.specs.Moments.{IsMoment};
+ghost use Rattle.desk_wire.specs.Playing.{HasPlayed};
 
 #[cfg(test)]
 mod tests;
@@ -50,6 +53,12 @@ pub fn play_all<S: PlanStore, R: Read, W: Write>(
     output: &mut W,
 ) -> Played
     requires { IsMoment moment }
+    ensures played { HasPlayed (IsHonest (S.doubt desk.new)) result.ended result.answered
+        (R.remaining input.old) (R.remaining input.new)
+        (W.contents output.old) (W.contents output.new)
+        (S.content desk.old) moment (S.content desk.new) }
+    ensures doubt { S.doubt desk.old ≤ S.doubt desk.new }
+    ensures counted { S.faults desk.old ≤ S.faults desk.new }
 {
     match Routes::try_new(alloc) {
         Ok(routes) => play_with(alloc, &routes, desk, moment, input, output),
@@ -70,23 +79,37 @@ fn play_with<S: PlanStore, R: Read, W: Write>(
     output: &mut W,
 ) -> Played
     requires { IsMoment moment }
+    ensures played { HasPlayed (IsHonest (S.doubt desk.new)) result.ended result.answered
+        (R.remaining input.old) (R.remaining input.new)
+        (W.contents output.old) (W.contents output.new)
+        (S.content desk.old) moment (S.content desk.new) }
+    ensures doubt { S.doubt desk.old ≤ S.doubt desk.new }
+    ensures counted { S.faults desk.old ≤ S.faults desk.new }
 {
     for before in 0..MAX_ANSWERED {
-        let end = match serve_next(alloc, routes, desk, moment, input, output) {
+        let served = match serve_next(alloc, routes, desk, moment, input, output) {
+            Ok(served) => served,
             Err(fault) => return Played {
                 answered: before,
                 ended: PlayEnd::Fault(fault),
             },
-            Ok(Served::End) => return Played {
+        };
+        let Served::Answered { status, framed } = served else {
+            return Played {
                 answered: before,
                 ended: PlayEnd::End,
-            },
-            Ok(Served::Answered { status, framed }) => end_after(status, framed),
+            };
         };
-        if let Some(ended) = end {
+        if is_server_error(status) {
             return Played {
                 answered: before + 1,
-                ended,
+                ended: PlayEnd::Broken,
+            };
+        }
+        if !framed {
+            return Played {
+                answered: before + 1,
+                ended: PlayEnd::Unframed,
             };
         }
     }
@@ -96,14 +119,9 @@ fn play_with<S: PlanStore, R: Read, W: Write>(
     }
 }
 
-// Why a run ends after an answer with this status to a request that is `framed` if the place of the
-// next request is known.
-fn end_after(status: u16, framed: bool) -> Option<PlayEnd> {
-    if status == StatusCode::INTERNAL_SERVER_ERROR.as_u16() {
-        Some(PlayEnd::Broken)
-    } else if !framed {
-        Some(PlayEnd::Unframed)
-    } else {
-        None
-    }
+// Whether an answer with this status says that the desk failed.
+fn is_server_error(status: u16) -> bool
+    ensures { result ≡ (status == 500) }
+{
+    status == StatusCode::INTERNAL_SERVER_ERROR.as_u16()
 }

@@ -1,11 +1,16 @@
 //! Connections: requests read from a stream, and their answers written to one.
 
-ghost use Rattle.std.specs.Prelude.{◌≡◌, ◌≤◌, length, IfOk};
+ghost use Rattle.std.specs.Prelude.{◌≡◌, ◌≤◌, ◌<◌, [], length, take, IfErr, IfOk, IfSome, OnOk, None};
+ghost use Rattle.std.specs.Io.{ReadsAtMost};
+ghost use Rattle.std.specs.Io.KnownBytes.{Appends, Consumes, IsAtEnd, Keeps};
+ghost use Rattle.desk_reading.specs.Messages.{message_read};
+ghost use Rattle.desk_store.specs.Faults.{IsHonest};
 ghost use Rattle.desk_wire.specs.Moments.{IsMoment};
+ghost use Rattle.desk_wire.specs.Serving.{BreaksOff, HasServed, Stops};
+ghost use Rattle.desk_wire.specs.Streams.{IsCut, IsFront, byte_list, front_read, front_reading, size_said, with_body};
 ghost use Rattle.desk_wire.specs.declared.stream.ServeFault.TheVariants as serve_fault;
 
 use crate::answering::answer_request;
-use crate::response::Answer;
 use desk_reading::{Front, HEAD_ROOM, Message, Routes, WireFault, is_ended, read_front};
 use desk_run::Desk;
 use desk_store::PlanStore;
@@ -82,6 +87,12 @@ pub fn serve_one<S: PlanStore, R: Read, W: Write>(
     output: &mut W,
 ) -> Result<Served, ServeFault>
     requires { IsMoment moment }
+    ensures served { HasServed (IsHonest (S.doubt desk.new)) result
+        (R.remaining input.old) (R.remaining input.new)
+        (W.contents output.old) (W.contents output.new)
+        (S.content desk.old) moment (S.content desk.new) }
+    ensures doubt { S.doubt desk.old ≤ S.doubt desk.new }
+    ensures counted { S.faults desk.old ≤ S.faults desk.new }
 {
     let routes = Routes::try_new(alloc)?;
     serve_next(alloc, &routes, desk, moment, input, output)
@@ -97,28 +108,34 @@ pub fn serve_next<S: PlanStore, R: Read, W: Write>(
     output: &mut W,
 ) -> Result<Served, ServeFault>
     requires { IsMoment moment }
+    ensures served { HasServed (IsHonest (S.doubt desk.new)) result
+        (R.remaining input.old) (R.remaining input.new)
+        (W.contents output.old) (W.contents output.new)
+        (S.content desk.old) moment (S.content desk.new) }
+    ensures doubt { S.doubt desk.old ≤ S.doubt desk.new }
+    ensures counted { S.faults desk.old ≤ S.faults desk.new }
 {
     let mut reads = MAX_READS;
     let text = receive_head(alloc, input, &mut reads)?;
     if text.is_empty() {
         return Ok(Served::End);
     }
-    match front_of(&text) {
-        Ok(Front { head, size }) => {
-            let body = receive_body(alloc, input, size, &mut reads)?;
-            let message = Message { head, body: &body };
-            let answer = answer_request(alloc, routes, desk, moment, &Ok(message))?;
-            write_answer(output, &answer, true)
-        }
-        Err(fault) => {
-            let answer = answer_request(alloc, routes, desk, moment, &Err(fault))?;
-            write_answer(output, &answer, false)
-        }
-    }
+    let front = front_of(&text);
+    let body = receive_body(alloc, input, size_of(&front), &mut reads)?;
+    let request = message_of(front, &body);
+    let answer = answer_request(alloc, routes, desk, moment, &request)?;
+    write_whole(output, &answer.bytes)?;
+    Ok(Served::Answered {
+        status: answer.status,
+        framed: request.is_ok(),
+    })
 }
 
 // The head that was received, and how many bytes follow it, or its first fault.
-fn front_of(text: &[u8]) -> Result<Front<'_>, WireFault> {
+#[tactic(auto, unfolding(crate::specs::Streams::front_read))]
+fn front_of(text: &[u8]) -> Result<Front<'_>, WireFault>
+    ensures { front_reading result ≡ front_read text.now }
+{
     if is_ended(text) {
         read_front(text)
     } else {
@@ -126,17 +143,27 @@ fn front_of(text: &[u8]) -> Result<Front<'_>, WireFault> {
     }
 }
 
-// Writes an answer to a request that is `framed` if the place of the next request is known.
-fn write_answer<W: Write>(
-    output: &mut W,
-    answer: &Answer,
-    framed: bool,
-) -> Result<Served, ServeFault> {
-    write_whole(output, &answer.bytes)?;
-    Ok(Served::Answered {
-        status: answer.status,
-        framed,
-    })
+// How many bytes of a body follow: none after a fault.
+fn size_of(front: &Result<Front<'_>, WireFault>) -> u64
+    ensures { result ≡ size_said (front_reading front.now) }
+{
+    match front {
+        Ok(front) => front.size,
+        Err(_) => 0,
+    }
+}
+
+// The message of a front and its body.
+fn message_of<'t>(
+    front: Result<Front<'t>, WireFault>,
+    body: &'t [u8],
+) -> Result<Message<'t>, WireFault>
+    ensures { message_read result ≡ with_body (front_reading front.entry) body.now }
+{
+    match front {
+        Ok(Front { head, .. }) => Ok(Message { head, body }),
+        Err(fault) => Err(fault),
+    }
 }
 
 // Reads a head byte by byte, as far as its end or as there is room for one. It is empty if the input
@@ -145,23 +172,40 @@ fn receive_head<R: Read>(
     alloc: Global,
     input: &mut R,
     reads: &mut u32,
-) -> Result<Vec<u8>, ServeFault> {
+) -> Result<Vec<u8>, ServeFault>
+    ensures taken { IfOk result (λ text.
+        Consumes (R.remaining input.old) (R.remaining input.new) text.items) }
+    ensures front { IfOk result (λ text. 0 < length text.items → IsFront text.items) }
+    ensures end { IfOk result (λ text. text.items ≡ [] → IsAtEnd (R.remaining input.new)) }
+    ensures fault { IfErr result (Stops (IfSome (R.remaining input.old) IsCut)) }
+{
     let mut text = Vec::new(alloc);
-    let mut byte = [0u8];
     for _ in 0..HEAD_ROOM {
         if is_ended(&text) {
             return Ok(text);
         }
-        if receive_some(input, &mut byte, reads)? == 0 {
+        let Some(byte) = receive_byte(input, reads)? else {
             return if text.is_empty() {
                 Ok(text)
             } else {
                 Err(ServeFault::CutShort)
             };
-        }
-        text.extend_from_slice(&byte)?;
+        };
+        text.extend_from_slice(&[byte])?;
     }
     Ok(text)
+}
+
+// The next byte. None if the input has ended.
+fn receive_byte<R: Read>(input: &mut R, reads: &mut u32) -> Result<Option<u8>, ServeFault>
+    ensures taken { IfOk result (λ byte.
+        Consumes (R.remaining input.old) (R.remaining input.new) (byte_list byte)) }
+    ensures end { IfOk result (λ byte. byte ≡ None → IsAtEnd (R.remaining input.new)) }
+    ensures fault { IfErr result (λ f. f ≡ serve_fault.Read) }
+{
+    let mut room = [0u8];
+    let count = receive_some(input, &mut room, reads)?;
+    Ok((count > 0).then_some(room[0]))
 }
 
 // Reads a body of `size` bytes.
@@ -170,7 +214,12 @@ fn receive_body<R: Read>(
     input: &mut R,
     size: u64,
     reads: &mut u32,
-) -> Result<Vec<u8>, ServeFault> {
+) -> Result<Vec<u8>, ServeFault>
+    ensures taken { IfOk result (λ body.
+        Consumes (R.remaining input.old) (R.remaining input.new) body.items) }
+    ensures size { IfOk result (λ body. length body.items ≡ size) }
+    ensures fault { IfErr result (Stops (IfSome (R.remaining input.old) (λ rest. length rest < size))) }
+{
     let mut body = Vec::new(alloc);
     let mut chunk = [0u8; CHUNK];
     let mut left = size;
@@ -195,7 +244,11 @@ fn receive_some<R: Read>(
     room: &mut [u8],
     reads: &mut u32,
 ) -> Result<usize, ServeFault>
-    ensures bound { IfOk result (λ count. count ≤ length room.new) }
+    ensures bound { ReadsAtMost result room.new }
+    ensures taken { IfOk result (λ n.
+        Consumes (R.remaining input.old) (R.remaining input.new) (take n room.new)) }
+    ensures end { IfOk result (λ n. n ≡ 0 → 0 < length room.new → IsAtEnd (R.remaining input.new)) }
+    ensures fault { IfErr result (λ f. f ≡ serve_fault.Read) }
 {
     for _ in 0..*reads {
         *reads = reads.saturating_sub(1);
@@ -209,7 +262,14 @@ fn receive_some<R: Read>(
 }
 
 /// Writes all bytes, in at most as many writes as they are and 1,000.
-pub fn write_whole<W: Write>(output: &mut W, bytes: &[u8]) -> Result<(), ServeFault> {
+///
+/// # Errors
+///
+/// `Write`, with the number of bytes that were written.
+pub fn write_whole<W: Write>(output: &mut W, bytes: &[u8]) -> Result<(), ServeFault>
+    ensures ok { OnOk result (Appends (W.contents output.old) (W.contents output.new) bytes.now) }
+    ensures err { IfErr result (BreaksOff bytes.now (W.contents output.old) (W.contents output.new)) }
+{
     let mut sent = 0;
     for _ in 0..bytes.len().saturating_add(SPARE_WRITES) {
         if sent == bytes.len() {

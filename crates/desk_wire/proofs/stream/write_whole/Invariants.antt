@@ -1,5 +1,11 @@
-use Rattle.std.proofs.Common.{◌≤◌, length}
+use Rattle.std.proofs.Common.{◌≤◌, length, take}
+use Rattle.std.specs.Io.KnownBytes.{Appends}
 use Rattle.desk_wire.proofs.stream.write_whole.Given as goal
 
+-- the first `sent` bytes are written
 abbrev pub invariant-loop : goal.invariant-loop
-invariant-loop g l = l.sent ≤ length l.bytes
+invariant-loop g l =
+    record {
+      within : l.sent ≤ length l.bytes;
+      sent : Appends (g.W.Write.contents l.fn.output) (g.W.Write.contents l.output) (take l.sent l.bytes);
+    }

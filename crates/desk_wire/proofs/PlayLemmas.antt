@@ -1,0 +1,119 @@
+-- Requests of a stream that are played so far, and one more.
+use Rattle.std.proofs.Common.{◌≡◌, ◌≢◌, ◌==◌, ℕ, ℤ, ◌+◌, Bool, true, false, List, [], ◌∷◌, ◌++◌, Option, Some, None, Ok, Err, refl, sym, ap, subst, ◌∙◌, arith, append-nil, length-append}
+use Rattle.std.proofs.lemmas.List.{map-append}
+use Rattle.std.proofs.lemmas.Bool.Decides.{nat_tests}
+use Rattle.std.proofs.KnownBytes.{Appends-nil, Appends-trans, Consumes-nil, Consumes-trans}
+use Rattle.std.proofs.lemmas.List.Elements.{All-append, All-cons, All-nil}
+use Rattle.std.proofs.lemmas.List.Folds.{concat-append}
+use Rattle.std.specs.List.{concat}
+use Rattle.std.specs.Io.KnownBytes.{Appends, Consumes}
+use Rattle.desk_reading.specs.Requests.{asked}
+use Rattle.desk_reading.specs.Readings.{Reading}
+use Rattle.desk_reading.specs.FaultWords.{fault_status}
+use Rattle.desk_reading.specs.declared.wire_fault.WireFault.{WireFault}
+use Rattle.desk_reading.specs.declared.wire_fault.WireFault.TheVariants as fault
+use Rattle.desk_rules.specs.declared.call.Asked.{Asked}
+use Rattle.desk_run.specs.Verdicts.{Told, replied, unknown_operator, no_such_plan, told_to}
+use Rattle.desk_store.specs.World.{World}
+use Rattle.desk_wire.specs.declared.response.ServerError.{ServerError}
+use Rattle.desk_wire.specs.AllAnswers.{Sent, answers_to, world_left}
+use Rattle.desk_wire.specs.Bytes.{IsAnsweredSo, IsDone, IsServerError, status, status_for, status_so, text_for, world_after}
+use Rattle.desk_wire.specs.Playing.{ArePlayed, IsBroken, IsWhole, at_moment}
+use Rattle.desk_wire.specs.Serving.{IsServed}
+use Rattle.desk_wire.proofs.AllLemmas.{told_more, left_more}
+
+-- no answer but the desk's own failure has the status 500
+told_status : (t : Told) → status t ≢ 500
+unfolding status
+told_status (replied r) e = absurd (omega (arith, e))
+told_status unknown_operator e = absurd (omega (arith, e))
+told_status no_such_plan e = absurd (omega (arith, e))
+
+fault_differs : (f : WireFault) → fault_status f ≢ 500
+fault_differs fault.HeadTooLarge e = absurd (omega (arith, e))
+fault_differs fault.BadHead e = absurd (omega (arith, e))
+fault_differs fault.TransferEncoding e = absurd (omega (arith, e))
+fault_differs fault.ContentLength e = absurd (omega (arith, e))
+fault_differs fault.BodyTooLarge e = absurd (omega (arith, e))
+fault_differs fault.NoRoute e = absurd (omega (arith, e))
+fault_differs fault.BadOperator e = absurd (omega (arith, e))
+fault_differs fault.BadPlanId e = absurd (omega (arith, e))
+fault_differs fault.BadJson e = absurd (omega (arith, e))
+fault_differs fault.BadMember e = absurd (omega (arith, e))
+fault_differs fault.BadVolume e = absurd (omega (arith, e))
+fault_differs fault.TooManyCells e = absurd (omega (arith, e))
+
+never_500 : (w : World) (moment : ℤ) (reading : Reading Asked) → status_for w moment reading ≢ 500
+never_500 w moment (Ok a) e = told_status (told_to w a.operator moment a.call) e
+never_500 w moment (Err f) e = fault_differs f e
+
+-- an answer with another status is what is asked
+done_by_status : (w after : World) (moment : ℤ) (reading : Reading Asked) (answer : List ℕ) (why : Option ServerError) (status : ℕ) → IsAnsweredSo why w moment reading answer after → status ≡ status_so why w moment reading → status ≢ 500 → IsDone w moment reading answer after
+done_by_status w after moment reading answer None status h is other = h
+done_by_status w after moment reading answer (Some why) status h is other = absurd (other is)
+
+-- an answer with that status says why the desk failed
+failed_by_status : (w after : World) (moment : ℤ) (reading : Reading Asked) (answer : List ℕ) (why : Option ServerError) (status : ℕ) → IsAnsweredSo why w moment reading answer after → status ≡ status_so why w moment reading → status ≡ 500 → (error : ServerError) × IsServerError error w answer after
+failed_by_status w after moment reading answer (Some why) status h is same = (why, h)
+failed_by_status w after moment reading answer None status h is same = absurd (never_500 w moment reading (sym is ∙ same))
+
+concat_one : (xs : List (List ℕ)) (x : List ℕ) → concat (xs ++ x ∷ []) ≡ concat xs ++ x
+concat_one xs x = concat-append xs (x ∷ []) ∙ ap (λ ys. concat xs ++ ys) (append-nil x)
+
+pub none_played : (H : Type 0) (old out : Option (List ℕ)) (w : World) (moment : ℤ) → ArePlayed H 0 old old out out w moment w
+none_played H old out w moment = record {
+  requests = [];
+  count_is = refl;
+  whole = All-nil IsWhole;
+  taken = Consumes-nil old;
+  written = λ h. Appends-nil out;
+  left = λ h. refl;
+}
+
+-- the same under a stronger premise
+pub played_if : (H K : Type 0) (count : ℕ) (old new out now : Option (List ℕ)) (w : World) (moment : ℤ) (after : World) → (K → H) → ArePlayed H count old new out now w moment after → ArePlayed K count old new out now w moment after
+played_if H K count old new out now w moment after implies h = record {
+  requests = h.requests;
+  count_is = h.count_is;
+  whole = h.whole;
+  taken = h.taken;
+  written = λ k. h.written (implies k);
+  left = λ k. h.left (implies k);
+}
+
+-- the answers, with one more
+told_one : (w now after : World) (moment : ℤ) (more : List Sent) (answer request : List ℕ) → IsDone now moment (asked request) answer after → now ≡ world_left w more → concat (answers_to w more) ++ answer ≡ concat (answers_to w (more ++ (moment, request) ∷ []))
+told_one w now after moment more answer request done left =
+    ap (λ t. concat (answers_to w more) ++ t) (done.told ∙ ap (λ v. text_for v moment (asked request)) left)
+    ∙ sym (concat_one (answers_to w more) (text_for (world_left w more) moment (asked request)))
+    ∙ ap concat (sym (told_more w more (moment, request)))
+
+pub one_played : (H : Type 0) (count : ℕ) (old mid new out then_out now : Option (List ℕ)) (w : World) (moment : ℤ) (now_world after : World) (code : ℕ) (framed : Bool) → ArePlayed H count old mid out then_out w moment now_world → IsServed H mid new then_out now now_world moment after code framed → code ≢ 500 → framed ≡ true → ArePlayed H (count + 1) old new out now w moment after
+one_played H count old mid new out then_out now w moment now_world after code framed h s other is =
+    let done : H → IsDone now_world moment (asked s.request) s.answer after = λ p. done_by_status now_world after moment (asked s.request) s.answer s.why code (s.replied.told p) (s.status_is p) other in
+    let more = at_moment moment h.requests in
+    let sent : at_moment moment (h.requests ++ s.request ∷ []) ≡ more ++ (moment, s.request) ∷ [] = map-append (λ r. (moment, r)) h.requests (s.request ∷ []) in
+    record {
+      requests = h.requests ++ s.request ∷ [];
+      count_is = length-append h.requests (s.request ∷ []) ∙ ap (λ n. n + 1) h.count_is;
+      whole = All-append IsWhole h.requests (s.request ∷ []) h.whole (All-cons IsWhole s.request [] (record { whole = s.taken.whole; framed = sym s.framed_is ∙ is }) (All-nil IsWhole));
+      taken = subst (Consumes old new) (sym (concat_one h.requests s.request)) (Consumes-trans old mid new (concat h.requests) s.request h.taken s.taken.taken);
+      written = λ p.
+          subst (Appends out now) (told_one w now_world after moment more s.answer s.request (done p) (h.left p) ∙ sym (ap (λ rs. concat (answers_to w rs)) sent)) (Appends-trans out then_out now (concat (answers_to w more)) s.answer (h.written p) s.written);
+      left = λ p. (done p).left ∙ ap (λ v. world_after v moment (asked s.request)) (h.left p) ∙ sym (left_more w more (moment, s.request)) ∙ ap (world_left w) (sym sent);
+    }
+
+pub broken_next : (H : Type 0) (old new out now : Option (List ℕ)) (w : World) (moment : ℤ) (after : World) (code : ℕ) (framed : Bool) → IsServed H old new out now w moment after code framed → code ≡ 500 → IsBroken H old new out now w after
+broken_next H old new out now w moment after code framed s is = record {
+  request = s.request;
+  taken = s.taken;
+  answer = s.answer;
+  written = s.written;
+  failed = λ p. failed_by_status w after moment (asked s.request) s.answer s.why code (s.replied.told p) (s.status_is p) is;
+}
+
+pub is_500 : (n : ℕ) → (n == 500) ≡ true → n ≡ 500
+is_500 n test = grind (arith, nat_tests)
+
+pub not_500 : (n : ℕ) → (n == 500) ≡ false → n ≢ 500
+not_500 n test e = grind (arith, nat_tests)

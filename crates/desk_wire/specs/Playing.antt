@@ -1,0 +1,71 @@
+-- Playing: what comes of the requests of a stream, served one after the other.
+use Rattle.std.specs.Prelude.{◌≡◌, ℕ, ℤ, ◌+◌, true, false, List, length, map, All, Option}
+use Rattle.std.specs.List.{concat}
+use Rattle.std.specs.Io.KnownBytes.{Appends, Consumes, IsAtEnd}
+use Rattle.desk_store.specs.World.{World}
+use Rattle.desk_wire.specs.declared.play.PlayEnd.{PlayEnd}
+use Rattle.desk_wire.specs.declared.play.PlayEnd.TheVariants.{End, Unframed, Broken, Limit, Fault}
+use Rattle.desk_wire.specs.declared.response.ServerError.{ServerError}
+use Rattle.std.specs.Prelude.{Err}
+use Rattle.desk_wire.specs.AllAnswers.{Sent, answers_to, world_left}
+use Rattle.desk_wire.specs.Bytes.{IsServerError}
+use Rattle.desk_wire.specs.Serving.{HasServed, IsServed, IsTaken, IsUntouched}
+use Rattle.desk_wire.specs.Streams.{IsRequest, is_framed}
+
+-- the most requests that one run answers: this desk's own limit
+abbrev pub max_answered : ℕ
+max_answered = 1000000
+
+-- requests that are all sent at one moment
+abbrev pub at_moment : ℤ → List (List ℕ) → List Sent
+at_moment moment requests = map (λ request. (moment, request)) requests
+
+-- a request after which the place of the next is known
+pub record IsWhole (request : List ℕ) : Type 0 where
+  pub whole : IsRequest request
+  pub framed : is_framed request ≡ true
+
+-- so many requests are taken one after the other, and, if the store is honest, their answers are written and what they
+-- leave is left
+pub record ArePlayed (H : Type 0) (count : ℕ) (old new out now : Option (List ℕ)) (w : World) (moment : ℤ) (after : World) : Type 0 where
+  pub requests : List (List ℕ)
+  pub count_is : length requests ≡ count
+  pub whole : All IsWhole requests
+  pub taken : Consumes old new (concat requests)
+  pub written : H → Appends out now (concat (answers_to w (at_moment moment requests)))
+  pub left : H → after ≡ world_left w (at_moment moment requests)
+
+-- one more request is taken, and its answer is that the desk failed
+pub record IsBroken (H : Type 0) (old new out now : Option (List ℕ)) (w after : World) : Type 0 where
+  pub request : List ℕ
+  pub taken : IsTaken old new request
+  pub answer : List ℕ
+  pub written : Appends out now answer
+  pub failed : H → (why : ServerError) × IsServerError why w answer after
+
+-- one more request is answered, and the place of the next is unknown
+pub record IsUnframed (H : Type 0) (old new out now : Option (List ℕ)) (w : World) (moment : ℤ) (after : World) : Type 0 where
+  pub status : ℕ
+  pub served : IsServed H old new out now w moment after status false
+
+-- what comes after the first requests, by why the run ended; the number of requests that are answered
+abbrev pub EndsBy : Type 0 → PlayEnd → ℕ → ℕ → Option (List ℕ) → Option (List ℕ) → Option (List ℕ) → Option (List ℕ) → World → ℤ → World → Type 0
+EndsBy H End count answered old new out now w moment after =
+    (answered ≡ count) × IsAtEnd old × IsUntouched out now w after
+EndsBy H Unframed count answered old new out now w moment after =
+    (answered ≡ count + 1) × IsUnframed H old new out now w moment after
+EndsBy H Broken count answered old new out now w moment after =
+    (answered ≡ count + 1) × IsBroken H old new out now w after
+EndsBy H Limit count answered old new out now w moment after =
+    (answered ≡ count) × (count ≡ max_answered) × IsUntouched out now w after
+EndsBy H (Fault fault) count answered old new out now w moment after =
+    (answered ≡ count) × HasServed H (Err fault) old new out now w moment after
+
+-- the first requests are answered in their order, and then the run ends
+pub record HasPlayed (H : Type 0) (ended : PlayEnd) (answered : ℕ) (old new out now : Option (List ℕ)) (w : World) (moment : ℤ) (after : World) : Type 0 where
+  pub count : ℕ
+  pub input : Option (List ℕ)
+  pub output : Option (List ℕ)
+  pub world : World
+  pub first : ArePlayed H count old input out output w moment world
+  pub last : EndsBy H ended count answered input new output now world moment after

@@ -1,0 +1,71 @@
+-- Streams: the requests that the bytes of a stream are, one after the other (RFC 9112, section 2.1).
+use Rattle.std.specs.Prelude.{◌≡◌, ◌<◌, ◌≤◌, ◌⊎◌, ℕ, ◌+◌, List, [], ◌∷◌, length, take, Bool, true, nat_lt, if◌then◌else◌, Option, Some, None, option_and_then, Result, Ok, Err}
+use Rattle.std.specs.Option.{option_or}
+use Rattle.std.specs.Result.{is_ok}
+use Rattle.desk_reading.specs.declared.message.Front.{Front}
+use Rattle.desk_reading.specs.declared.wire_fault.WireFault.{WireFault}
+use Rattle.desk_reading.specs.declared.wire_fault.WireFault.TheVariants.{HeadTooLarge}
+use Rattle.desk_reading.specs.Framing.{ends_head, head_len, least}
+use Rattle.desk_reading.specs.Messages.{FrontParts, MessageParts, front_in, front_shown, message_in}
+use Rattle.desk_reading.specs.Readings.{Reading}
+use Rattle.desk_reading.specs.WireLimits.{head_room}
+
+-- how many bytes the first request of a stream has before its body: those of its head, or the first `room` if no head
+-- ends within them. None if the stream ends before
+unfoldable pub front_within : ℕ → List ℕ → Option ℕ
+front_within room stream =
+    option_or (head_len room stream) (if nat_lt (length stream) room then None else Some room)
+
+-- what these bytes are: a head, and how many bytes of a body follow it, or their fault
+unfoldable pub front_read : List ℕ → Reading FrontParts
+front_read front = if ends_head front then front_in front else Err HeadTooLarge
+
+-- how many bytes of a body follow: none after a fault
+abbrev pub size_said : Reading FrontParts → ℕ
+size_said (Ok front) = front.size
+size_said (Err fault) = 0
+
+-- the length of a request whose body has `size` bytes, if the stream is as long
+abbrev pub whole_len : ℕ → ℕ → ℕ → Option ℕ
+whole_len there front size = if nat_lt there (front + size) then None else Some (front + size)
+
+-- the length of the stream's first request. None if the stream ends before the request does
+unfoldable pub request_len : List ℕ → Option ℕ
+request_len stream =
+    option_and_then
+    (λ front. whole_len (length stream) front (size_said (front_read (take front stream))))
+    (front_within head_room stream)
+
+-- the bytes are one request of a stream, and no more
+abbrev pub IsRequest : List ℕ → Type 0
+IsRequest bytes = request_len bytes ≡ Some (length bytes)
+
+-- the place of the next request is known: the request has no fault of its framing
+abbrev pub is_framed : List ℕ → Bool
+is_framed request = is_ok (message_in request)
+
+-- the stream ends inside its first request
+pub record IsCut (stream : List ℕ) : Type 0 where
+  pub some : 0 < length stream
+  pub cut : request_len stream ≡ None
+
+-- the byte, if there is one
+abbrev pub byte_list : Option ℕ → List ℕ
+byte_list None = []
+byte_list (Some b) = b ∷ []
+
+-- a front that was read, or the fault that was met
+abbrev pub front_reading : Result Front WireFault → Reading FrontParts
+front_reading (Ok front) = Ok (front_shown front)
+front_reading (Err fault) = Err fault
+
+-- the message of a front and a body, or the fault that was met
+abbrev pub with_body : Reading FrontParts → List ℕ → Reading MessageParts
+with_body (Ok front) body = Ok (record { head = front.head; body = body })
+with_body (Err fault) body = Err fault
+
+-- the bytes before the body of a request: they are its head, or as many as a head may have; no shorter ones are
+pub record IsFront (text : List ℕ) : Type 0 where
+  pub none : least (λ n. ends_head (take n text)) (length text) ≡ None
+  pub within : length text ≤ head_room
+  pub whole : (ends_head text ≡ true) ⊎ (length text ≡ head_room)
