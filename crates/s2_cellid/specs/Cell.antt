@@ -5,7 +5,7 @@ use Rattle.std.specs.Prelude.{ℕ, ◌+◌, ◌-◌, ◌*◌, ◌/◌, ◌%◌, 
 use Rattle.std.specs.Int.{w64, trailing_zeros, is_in_range}
 use Rattle.s2_hilbert.specs.Grid.{face_count, leaf_level}
 
--- the place of the lowest set bit, counted from 0; 64 where no bit is set
+-- the place of the lowest set bit, counted from 0; 64 if no bit is set
 abbrev pub lowest_place : ℕ → ℕ
 lowest_place id = trailing_zeros w64 id
 

@@ -79,7 +79,7 @@ impl CellId {
 }
 
 // The lowest set bit of the ids of each level (S2's `lsb_for_level`). Reading it takes less time than
-// a shift by a number that isn't known.
+// a shift by a number that is not known.
 static LOWEST_BITS: [u64; 31] = [
     1 << 60,
     1 << 58,

@@ -46,7 +46,7 @@ impl Model for CellId {
 }
 
 impl CellId {
-    /// The cell of an id; `None` where the id is not valid (S2's `is_valid`).
+    /// The cell of an id; `None` if the id is not valid (S2's `is_valid`).
     pub fn from_raw(id: u64) -> Option<CellId>
         ensures { SomeIff result (IsCellId id) id }
     {

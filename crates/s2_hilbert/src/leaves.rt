@@ -42,7 +42,7 @@ impl Model for Leaf {
 }
 
 impl Leaf {
-    /// The leaf of three numbers; `None` where the face is above 5 or a coordinate above `2^30 - 1`.
+    /// The leaf of three numbers; `None` if the face is above 5 or a coordinate above `2^30 - 1`.
     pub fn try_new(face: u8, i: u32, j: u32) -> Option<Leaf>
         ensures { SomeIff result (IsLeaf (grid_leaf face i j)) (grid_leaf face i j) }
     {
