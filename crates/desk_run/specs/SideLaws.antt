@@ -99,24 +99,24 @@ module _ {R : Type 0} (caller : R → Option (List ℕ)) (o : List ℕ) (left : 
   found_is f g seen w [] = refl
   found_is {A} f g seen w (r ∷ rs) =
       by_test (is_from o (caller r)) refl (found_is f g seen (left w r) rs) where
-    rest : List A
-    rest = beside caller o rs (along left f (left w r) rs)
+        rest : List A
+        rest = beside caller o rs (along left f (left w r) rs)
 
-    mine : List R
-    mine = asked_in rs
+        mine : List R
+        mine = asked_in rs
 
-    worlds : List World
-    worlds = met_in (left w r) rs
+        worlds : List World
+        worlds = met_in (left w r) rs
 
-    by_test : (b : Bool) → is_from o (caller r) ≡ b
-        → rest ≡ alone keep g (own (left w r) o) mine (levels_in o worlds)
-        → cond b (f w r ∷ rest) rest
-        ≡ alone keep g (own w o) (cond b (r ∷ mine) mine) (levels_in o (cond b (w ∷ worlds) worlds))
-    by_test true e ih =
-        ap (λ x. x ∷ rest) (seen w r e)
-        ∙ ap (λ xs. g (own w o) (held w o) r ∷ xs)
-        (ih ∙ ap (λ m. alone keep g m mine (levels_in o worlds)) (kept.mine w r e))
-    by_test false e ih = ih ∙ ap (λ m. alone keep g m mine (levels_in o worlds)) (kept.others w r e)
+        by_test : (b : Bool) → is_from o (caller r) ≡ b
+            → rest ≡ alone keep g (own (left w r) o) mine (levels_in o worlds)
+            → cond b (f w r ∷ rest) rest
+            ≡ alone keep g (own w o) (cond b (r ∷ mine) mine) (levels_in o (cond b (w ∷ worlds) worlds))
+        by_test true e ih =
+            ap (λ x. x ∷ rest) (seen w r e)
+            ∙ ap (λ xs. g (own w o) (held w o) r ∷ xs)
+            (ih ∙ ap (λ m. alone keep g m mine (levels_in o worlds)) (kept.mine w r e))
+        by_test false e ih = ih ∙ ap (λ m. alone keep g m mine (levels_in o worlds)) (kept.others w r e)
 
   last_is : (w : World) (rs : List R)
       → own (after_all left w rs) o ≡ last_own keep (own w o) (asked_in rs) (levels_in o (met_in w rs))

@@ -25,10 +25,10 @@ broken_first : (w after : World) (rs : List Sent) (answers : List (List ℕ)) �
     → GivenFirst Broken w rs answers after
 broken_first w after rs answers h =
     let count : length h.before ≡ h.count =
-        ap length h.first.told ∙ one_each w (take h.count rs)
-        ∙ length-take-le h.count rs (omega (arith, h.cut)) in
+    ap length h.first.told ∙ one_each w (take h.count rs)
+    ∙ length-take-le h.count rs (omega (arith, h.cut)) in
     let whole : length answers ≡ length h.before + 1 =
-        ap length h.last ∙ length-append h.before (server_error_text h.why ∷ []) in
+    ap length h.last ∙ length-append h.before (server_error_text h.why ∷ []) in
     let n : length answers - 1 ≡ length h.before = omega (arith, whole) in
     record {
       told =
