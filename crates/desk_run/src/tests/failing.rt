@@ -2,7 +2,7 @@
 
 ghost use Rattle.std.specs.Prelude.{◌≡◌, ◌≤◌, ◌<◌, ◌-◌, ◌^◌, Err, OnOk, OnErr, IfErr};
 
-use super::{FIRST, ID, MOMENT, delete_by, desk_of, operator_of, put_by};
+use super::{FIRST, ID, MOMENT, delete_by, desk_of, operator_of, outcomes_of, put_by};
 use crate::{Asked, Call, Desk, DeskFault};
 use desk_rules::operator::Operator;
 use desk_rules::plan::PlanRow;
@@ -139,8 +139,8 @@ fn a_run_stops(rt: HostRuntime) -> Result<(), Fail> {
 /// A desk at which the plan of `alfa` is stored.
 fn desk_with_plan(alloc: Global) -> Result<Desk<ListStore>, Fail> {
     let mut desk = desk_of(alloc)?;
-    let asked = put_by(alloc, "alfa", FIRST)?;
-    desk.call(alloc, MOMENT, &asked)?;
+    let calls = [(MOMENT, put_by(alloc, "alfa", FIRST)?)];
+    outcomes_of(alloc, &mut desk, &calls)?;
     Ok(desk)
 }
 
