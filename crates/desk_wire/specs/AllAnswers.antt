@@ -23,7 +23,8 @@ world_left w [] = w
 world_left w (r ∷ rs) = world_left (world_after w r.0 (asked r.1)) rs
 
 -- the first requests are answered, and no more
-pub record AreFirst (w : World) (requests : List Sent) (n : ℕ) (answers : List (List ℕ)) (after : World) : Type 0 where
+pub record AreFirst (w : World) (requests : List Sent) (n : ℕ) (answers : List (List ℕ))
+    (after : World) : Type 0 where
   pub told : answers ≡ answers_to w (take n requests)
   pub left : after ≡ world_left w (take n requests)
 
@@ -38,7 +39,8 @@ pub record AreCut (w : World) (requests : List Sent) (answers : List (List ℕ))
   pub cut : length answers < length requests
 
 -- the last answer says why the desk failed, and its request changed nothing
-pub record AreBroken (w : World) (requests : List Sent) (answers : List (List ℕ)) (after : World) : Type 0 where
+pub record AreBroken (w : World) (requests : List Sent) (answers : List (List ℕ)) (after : World)
+    : Type 0 where
   pub why : ServerError
   pub count : ℕ
   pub before : List (List ℕ)

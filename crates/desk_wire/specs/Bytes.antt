@@ -39,7 +39,8 @@ world_after w moment (Ok a) = step w a.operator moment a.call
 world_after w moment (Err fault) = w
 
 -- the answer, and what is left, are those of what is asked
-pub record IsDone (w : World) (moment : ℤ) (reading : Reading Asked) (answer : List ℕ) (after : World) : Type 0 where
+pub record IsDone (w : World) (moment : ℤ) (reading : Reading Asked) (answer : List ℕ)
+    (after : World) : Type 0 where
   pub told : answer ≡ text_for w moment reading
   pub left : after ≡ world_after w moment reading
 

@@ -1,12 +1,11 @@
 -- Playing: what comes of the requests of a stream, served one after the other.
-use Rattle.std.specs.Prelude.{◌≡◌, ℕ, ℤ, ◌+◌, true, false, List, length, map, All, Option}
+use Rattle.std.specs.Prelude.{◌≡◌, ℕ, ℤ, ◌+◌, true, false, List, length, map, All, Option, Err}
 use Rattle.std.specs.List.{concat}
 use Rattle.std.specs.Io.KnownBytes.{Appends, Consumes, IsAtEnd}
 use Rattle.desk_store.specs.World.{World}
 use Rattle.desk_wire.specs.declared.play.PlayEnd.{PlayEnd}
 use Rattle.desk_wire.specs.declared.play.PlayEnd.TheVariants.{End, Unframed, Broken, Limit, Fault}
 use Rattle.desk_wire.specs.declared.response.ServerError.{ServerError}
-use Rattle.std.specs.Prelude.{Err}
 use Rattle.desk_wire.specs.AllAnswers.{Sent, answers_to, world_left}
 use Rattle.desk_wire.specs.Bytes.{IsServerError}
 use Rattle.desk_wire.specs.Serving.{HasServed, IsServed, IsTaken, IsUntouched}
@@ -25,9 +24,10 @@ pub record IsWhole (request : List ℕ) : Type 0 where
   pub whole : IsRequest request
   pub framed : is_framed request ≡ true
 
--- so many requests are taken one after the other, and, if the store is honest, their answers are written and what they
--- leave is left
-pub record ArePlayed (H : Type 0) (count : ℕ) (old new out now : Option (List ℕ)) (w : World) (moment : ℤ) (after : World) : Type 0 where
+-- so many requests are taken one after the other, and, if the store is honest, their answers are written and what
+-- they leave is left
+pub record ArePlayed (H : Type 0) (count : ℕ) (old new out now : Option (List ℕ)) (w : World)
+    (moment : ℤ) (after : World) : Type 0 where
   pub requests : List (List ℕ)
   pub count_is : length requests ≡ count
   pub whole : All IsWhole requests
@@ -44,12 +44,15 @@ pub record IsBroken (H : Type 0) (old new out now : Option (List ℕ)) (w after 
   pub failed : H → (why : ServerError) × IsServerError why w answer after
 
 -- one more request is answered, and the place of the next is unknown
-pub record IsUnframed (H : Type 0) (old new out now : Option (List ℕ)) (w : World) (moment : ℤ) (after : World) : Type 0 where
+pub record IsUnframed (H : Type 0) (old new out now : Option (List ℕ)) (w : World) (moment : ℤ)
+    (after : World) : Type 0 where
   pub status : ℕ
   pub served : IsServed H old new out now w moment after status false
 
 -- what comes after the first requests, by why the run ended; the number of requests that are answered
-abbrev pub EndsBy : Type 0 → PlayEnd → ℕ → ℕ → Option (List ℕ) → Option (List ℕ) → Option (List ℕ) → Option (List ℕ) → World → ℤ → World → Type 0
+abbrev pub EndsBy :
+    Type 0 → PlayEnd → ℕ → ℕ → Option (List ℕ) → Option (List ℕ) → Option (List ℕ) → Option (List ℕ)
+    → World → ℤ → World → Type 0
 EndsBy H End count answered old new out now w moment after =
     (answered ≡ count) × IsAtEnd old × IsUntouched out now w after
 EndsBy H Unframed count answered old new out now w moment after =
@@ -62,7 +65,8 @@ EndsBy H (Fault fault) count answered old new out now w moment after =
     (answered ≡ count) × HasServed H (Err fault) old new out now w moment after
 
 -- the first requests are answered in their order, and then the run ends
-pub record HasPlayed (H : Type 0) (ended : PlayEnd) (answered : ℕ) (old new out now : Option (List ℕ)) (w : World) (moment : ℤ) (after : World) : Type 0 where
+pub record HasPlayed (H : Type 0) (ended : PlayEnd) (answered : ℕ)
+    (old new out now : Option (List ℕ)) (w : World) (moment : ℤ) (after : World) : Type 0 where
   pub count : ℕ
   pub input : Option (List ℕ)
   pub output : Option (List ℕ)

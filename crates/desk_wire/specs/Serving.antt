@@ -22,12 +22,14 @@ pub record IsTaken (old new : Option (List ℕ)) (request : List ℕ) : Type 0 w
   pub taken : Consumes old new request
 
 -- the answer to a request, if the store is honest; an answer that the desk failed is so in any case
-pub record IsReplied (H : Type 0) (w : World) (moment : ℤ) (request answer : List ℕ) (why : Option ServerError) (after : World) : Type 0 where
+pub record IsReplied (H : Type 0) (w : World) (moment : ℤ) (request answer : List ℕ)
+    (why : Option ServerError) (after : World) : Type 0 where
   pub told : H → IsAnsweredSo why w moment (asked request) answer after
   pub failed : IfSome why (λ error. IsServerError error w answer after)
 
 -- one request is taken, answered, and the answer written
-pub record IsServed (H : Type 0) (old new out now : Option (List ℕ)) (w : World) (moment : ℤ) (after : World) (status : ℕ) (framed : Bool) : Type 0 where
+pub record IsServed (H : Type 0) (old new out now : Option (List ℕ)) (w : World) (moment : ℤ)
+    (after : World) (status : ℕ) (framed : Bool) : Type 0 where
   pub request : List ℕ
   pub taken : IsTaken old new request
   pub framed_is : framed ≡ is_framed request
@@ -38,7 +40,8 @@ pub record IsServed (H : Type 0) (old new out now : Option (List ℕ)) (w : Worl
   pub written : Appends out now answer
 
 -- the same, but only the first bytes of the answer are written
-pub record IsBrokenOff (H : Type 0) (old new out now : Option (List ℕ)) (w : World) (moment : ℤ) (after : World) (sent : ℕ) : Type 0 where
+pub record IsBrokenOff (H : Type 0) (old new out now : Option (List ℕ)) (w : World) (moment : ℤ)
+    (after : World) (sent : ℕ) : Type 0 where
   pub request : List ℕ
   pub taken : IsTaken old new request
   pub answer : List ℕ
@@ -62,7 +65,9 @@ BreaksOff bytes out now CutShort = ⊥
 BreaksOff bytes out now OutOfMemory = ⊥
 
 -- what comes of one request of a stream
-abbrev pub HasServed : Type 0 → Result Served ServeFault → Option (List ℕ) → Option (List ℕ) → Option (List ℕ) → Option (List ℕ) → World → ℤ → World → Type 0
+abbrev pub HasServed :
+    Type 0 → Result Served ServeFault → Option (List ℕ) → Option (List ℕ) → Option (List ℕ)
+    → Option (List ℕ) → World → ℤ → World → Type 0
 HasServed H (Ok (Answered status framed)) old new out now w moment after =
     IsServed H old new out now w moment after status framed
 HasServed H (Ok End) old new out now w moment after = IsAtEnd old × IsUntouched out now w after

@@ -10,8 +10,8 @@ use Rattle.desk_reading.specs.Messages.{FrontParts, MessageParts, front_in, fron
 use Rattle.desk_reading.specs.Readings.{Reading}
 use Rattle.desk_reading.specs.WireLimits.{head_room}
 
--- how many bytes the first request of a stream has before its body: those of its head, or the first `room` if no head
--- ends within them. None if the stream ends before
+-- how many bytes the first request of a stream has before its body: those of its head, or the first `room` if no
+-- head ends within them. None if the stream ends before
 unfoldable pub front_within : ℕ → List ℕ → Option ℕ
 front_within room stream =
     option_or (head_len room stream) (if nat_lt (length stream) room then None else Some room)
@@ -64,7 +64,8 @@ abbrev pub with_body : Reading FrontParts → List ℕ → Reading MessageParts
 with_body (Ok front) body = Ok (record { head = front.head; body = body })
 with_body (Err fault) body = Err fault
 
--- the bytes before the body of a request: they are its head, or as many as a head may have; no shorter ones are
+-- the bytes before the body of a request: they are its head, or as many as a head may have; no shorter ones
+-- are
 pub record IsFront (text : List ℕ) : Type 0 where
   pub none : least (λ n. ends_head (take n text)) (length text) ≡ None
   pub within : length text ≤ head_room

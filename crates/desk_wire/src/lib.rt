@@ -12,5 +12,5 @@ mod stream;
 pub use answering::answer;
 pub use batch::{Answers, AnswersEnd, answer_all};
 pub use desk_reading::{ReadError, WireFault, read_request};
-pub use play::{MAX_ANSWERED, PlayEnd, Played, play_all};
+pub use play::{PlayEnd, Played, play_all};
 pub use stream::{ServeFault, Served, serve_one, write_whole};

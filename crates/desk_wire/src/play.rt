@@ -16,8 +16,8 @@ use http::StatusCode;
 use std::alloc::{AllocError, Global};
 use std::io::{Read, Write};
 
-/// The most requests that one run answers.
-pub const MAX_ANSWERED: u32 = 1_000_000;
+// The most requests that one run answers.
+const MAX_ANSWERED: u32 = 1_000_000;
 
 /// What came of a run over a stream.
 #[derive(Clone, Copy, Debug, PartialEq, Eq)]

@@ -45,11 +45,11 @@ pub struct Enrolment {
 /// Why words are no command line.
 #[derive(Debug, Drop)]
 pub enum WordsFault {
-    /// A growth was refused.
+    /// Memory ran out.
     OutOfMemory,
-    /// Help was asked for, or the words are none of the forms that help shows.
+    /// Help was asked for, or the words have none of the forms that help shows.
     Words(clap::Error),
-    /// A NAME, CEILING or `NAME=CEILING` is none.
+    /// A `NAME=CEILING` is malformed, or the ceiling is above 1,000.
     Value,
 }
 
@@ -79,7 +79,7 @@ impl From<clap::Error> for WordsFault {
 ///
 /// # Errors
 ///
-/// `OutOfMemory`; `Words` where `clap` refuses them, a moment out of range too; `Value`.
+/// `OutOfMemory`; `Words` if `clap` refuses them, or the moment is out of range; `Value`.
 pub fn read_words(alloc: Global, words: &[String]) -> Result<Line, WordsFault>
     ensures { IfOk result (λ line. HasMoment line) }
 {
