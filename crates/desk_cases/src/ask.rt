@@ -33,20 +33,31 @@ impl<'l> Ask<'l> {
     /// The eleven words of an ask, in the order of its fields; None of any other number of words.
     pub fn of_words(words: &[&'l str]) -> Option<Ask<'l>> {
         match *words {
-            [operator, id, style, usage, aircraft, priority, lower, upper, start, end, cells] =>
-                Some(Ask {
-                    operator,
-                    id,
-                    style,
-                    usage,
-                    aircraft,
-                    priority,
-                    lower,
-                    upper,
-                    start,
-                    end,
-                    cells,
-                }),
+            [
+                operator,
+                id,
+                style,
+                usage,
+                aircraft,
+                priority,
+                lower,
+                upper,
+                start,
+                end,
+                cells,
+            ] => Some(Ask {
+                operator,
+                id,
+                style,
+                usage,
+                aircraft,
+                priority,
+                lower,
+                upper,
+                start,
+                end,
+                cells,
+            }),
             _ => None,
         }
     }
@@ -109,7 +120,9 @@ impl<'l> Ask<'l> {
         .context("no window")?;
         let mut cells = Vec::new(alloc);
         for token in self.cells.split(',') {
-            let cell = CellId::from_token(token.as_bytes()).ok().context("no cell")?;
+            let cell = CellId::from_token(token.as_bytes())
+                .ok()
+                .context("no cell")?;
             cells.push(cell)?;
         }
         let volume = Volume::try_new(Footprint::Cells(cells), window)

@@ -52,9 +52,7 @@ fn show_meeting<W: fmt::Write>(f: &mut fmt::Formatter<W>, meeting: &Meeting) -> 
     write!(
         f,
         " at {leaf:016x} {} {} priority {}",
-        meeting.altitude,
-        meeting.second,
-        meeting.priority
+        meeting.altitude, meeting.second, meeting.priority
     )
 }
 
@@ -68,10 +66,7 @@ impl fmt::Display for ShownPlan<'_> {
         write!(
             f,
             "{} {:?} {:?} priority {}",
-            row.id,
-            row.usage,
-            row.aircraft,
-            row.priority
+            row.id, row.usage, row.aircraft, row.priority
         )?;
         for volume in row.area.volumes() {
             let window = volume.window();
@@ -90,10 +85,7 @@ impl fmt::Display for ShownPlan<'_> {
 }
 
 // The cells of a footprint, by their tokens.
-fn show_footprint<W: fmt::Write>(
-    f: &mut fmt::Formatter<W>,
-    footprint: &Footprint,
-) -> fmt::Result {
+fn show_footprint<W: fmt::Write>(f: &mut fmt::Formatter<W>, footprint: &Footprint) -> fmt::Result {
     match footprint {
         Footprint::Cells(cells) => {
             for cell in cells.iter() {

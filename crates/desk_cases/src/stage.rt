@@ -9,9 +9,9 @@ use anyhow::{Context, bail};
 use desk_rules::call::{Asked, Call};
 use desk_rules::operator::Operator;
 use desk_rules::plan_id::PlanId;
-use desk_run::{Desk, Outcome};
 use desk_rules::reply::Reply;
 use desk_rules::words::PlanResult;
+use desk_run::{Desk, Outcome};
 use desk_store::{ListStore, PlanStore};
 use desk_wire::answer;
 use std::alloc::Global;
@@ -175,7 +175,11 @@ impl Stage {
             calls.push((self.moment.second, ask.call(self.alloc)?))?;
         }
         let ran = self.desk.run(self.alloc, &calls)?;
-        let completed = ran.outcomes.iter().filter(|outcome| is_completed(outcome)).count();
+        let completed = ran
+            .outcomes
+            .iter()
+            .filter(|outcome| is_completed(outcome))
+            .count();
         writeln!(output, "{completed} completed")?;
         Ok(())
     }

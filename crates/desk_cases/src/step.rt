@@ -29,13 +29,23 @@ pub enum Step<'l> {
     Put(Ask<'l>),
     /// `puts COUNT ..`: as `put`, of plans one above the other, each ten decimetres high from LOWER on, with
     /// ids of their own.
-    Puts { count: &'l str, ask: Ask<'l> },
+    Puts {
+        count: &'l str,
+        ask: Ask<'l>,
+    },
     /// `delete OPERATOR ID`: a call.
-    Delete { operator: &'l str, id: &'l str },
+    Delete {
+        operator: &'l str,
+        id: &'l str,
+    },
     /// `status OPERATOR`: a call.
-    Status { operator: &'l str },
+    Status {
+        operator: &'l str,
+    },
     /// `plans OPERATOR`: what the store holds of the operator.
-    Plans { operator: &'l str },
+    Plans {
+        operator: &'l str,
+    },
 }
 
 impl<'l> Step<'l> {

@@ -31,7 +31,7 @@ pub struct Plan {
 
 impl Model for Plan {
     ghost use Rattle.desk_store.specs.Rivals.{AddLevel, ShareAPoint};
-ghost use Rattle.desk_store.specs.Parts.{PlanParts, AreSlabs};
+    ghost use Rattle.desk_store.specs.Parts.{PlanParts, AreSlabs};
 
     ghost Value = { PlanParts };
 
