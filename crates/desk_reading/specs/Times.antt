@@ -8,9 +8,9 @@
 --     time-offset    = "Z" / time-numoffset
 --     time-numoffset = ("+" / "-") time-hour ":" time-minute
 --
--- The year has four digits, every other number two. `T` and `Z` may be small letters (section 5.6, first note).
--- A text that is a start names the second in which its instant lies, one that is an end the first second at or
--- after its instant.
+-- The year has four digits, every other number two. `T` and `Z` may be small letters (section 5.6,
+-- first note). A text that is a start names the second in which its instant lies, one that is an
+-- end the first second at or after its instant.
 use Rattle.std.specs.Prelude.{ℕ, ◌+◌, ◌*◌, ◌<◌, ℤ, pos, ◌+ℤ◌, ◌-ℤ◌, ◌*ℤ◌, ◌≤ℤ◌, int_le, neg_ℤ, ◌≡◌, List, codes, length, take, drop, slice_index, slice_range, Bool, ◌&&◌, ◌||◌, ◌==◌, nat_le, nat_lt, if◌then◌else◌, Option, Some, None, option_and_then}
 use Rattle.std.specs.Char.{is_ascii_digit, to_ascii_uppercase}
 use Rattle.std.specs.Int.{is_in_range}

@@ -21,8 +21,8 @@ pub record IsUnanswered (w : World) (moment : ℤ) (asked : Asked) (reason : Tol
   pub told : told_to w asked.operator moment asked.call ≡ reason
   pub left : step w asked.operator moment asked.call ≡ w
 
--- a reply is told as it is, and so are an unknown operator and a plan that is not there; of want of memory, and of a
--- store that failed, nothing is claimed; no other fault comes
+-- a reply is told as it is, and so are an unknown operator and a plan that is not there; of want of
+-- memory, and of a store that failed, nothing is claimed; no other fault comes
 abbrev pub Tells : World → ℤ → Asked → Result Reply DeskFault → Type 0
 Tells w moment asked (Ok r) = told_to w asked.operator moment asked.call ≡ replied r
 Tells w moment asked (Err UnknownOperator) = IsUnanswered w moment asked unknown_operator

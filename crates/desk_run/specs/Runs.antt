@@ -14,7 +14,9 @@ use Rattle.desk_run.specs.Verdicts.{Told, replied, unknown_operator, no_such_pla
 -- what each caller is told
 abbrev pub told_in : World → List (ℤ × Asked) → List Told
 told_in w [] = []
-told_in w (call ∷ calls) = told_to w call.1.operator call.0 call.1.call ∷ told_in (step w call.1.operator call.0 call.1.call) calls
+told_in w (call ∷ calls) =
+    told_to w call.1.operator call.0 call.1.call
+    ∷ told_in (step w call.1.operator call.0 call.1.call) calls
 
 -- the world after all calls
 abbrev pub world_left : World → List (ℤ × Asked) → World
@@ -36,7 +38,8 @@ outcome_of (Err OutOfMemory) = Err OutOfMemory
 outcome_of (Err Store) = Err Store
 outcome_of (Err Ceiling) = Err Ceiling
 
--- what stops a run before its end: want of memory, or a store that failed, with a call left that has no outcome
+-- what stops a run before its end: want of memory, or a store that failed, with a call left that
+-- has no outcome
 pub record IsCutShort (fault : DeskFault) (answered asked : ℕ) : Type 0 where
   pub breakdown : IsBreakdown fault
   pub left_over : answered < asked
@@ -46,8 +49,8 @@ abbrev pub EndsAt : Option DeskFault → ℕ → ℕ → Type 0
 EndsAt None answered asked = answered ≡ asked
 EndsAt (Some fault) answered asked = IsCutShort fault answered asked
 
--- the calls answered are the first of the list, all of them where nothing stopped the run; the outcomes, and what is
--- left, are theirs
+-- the calls answered are the first of the list, all of them where nothing stopped the run; the
+-- outcomes, and what is left, are theirs
 pub record IsRun (w : World) (calls : List (ℤ × Asked)) (ran : Ran) (after : World) : Type 0 where
   pub told : map told_by ran.outcomes.items ≡ told_in w (take (length ran.outcomes.items) calls)
   pub left : after ≡ world_left w (take (length ran.outcomes.items) calls)

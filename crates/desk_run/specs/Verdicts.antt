@@ -1,4 +1,5 @@
--- Verdicts: what a desk answers to a call, and what it leaves, by what the operator owns and what others hold.
+-- Verdicts: what a desk answers to a call, and what it leaves, by what the operator owns and what
+-- others hold.
 use Rattle.std.specs.Prelude.{ℕ, ℤ, length, List, Option, Some, None}
 use Rattle.std.specs.Option.{unwrap_or}
 use Rattle.desk_rules.specs.declared.plan.PlanRow.{PlanRow}
@@ -26,27 +27,37 @@ pub data Told : Type 0 where
   unknown_operator : Told
   no_such_plan : Told
 
--- the verdict on a call: what the caller is told, and the operator's plans afterwards, or none where they stay as they
--- were
+-- the verdict on a call: what the caller is told, and the operator's plans afterwards, or none
+-- where they stay as they were
 pub record Ruling : Type 0 where
   pub told : Told
   pub plans : Option (List PlanRow)
 
--- the verdict on a request to plan of an operator with a ceiling: the outcome with the conflict of the area asked
+-- the verdict on a request to plan of an operator with a ceiling: the outcome with the conflict of
+-- the area asked
 unfoldable pub put_outcome : Own → (Point → Option ℕ) → ℕ → ℤ → PutCall → Verdict
 put_outcome mine others ceiling moment asked =
-    outcome asked moment (stored_of asked.id mine.plans) (length mine.plans) ceiling (conflict asked.area (held_at mine.plans others asked.id) asked.priority)
+    outcome asked moment (stored_of asked.id mine.plans) (length mine.plans) ceiling
+    (conflict asked.area (held_at mine.plans others asked.id) asked.priority)
 
 -- that in a world, and the conflict of the area asked there
 abbrev pub put_outcome_in : World → List ℕ → ℕ → ℤ → PutCall → Verdict
-put_outcome_in w operator ceiling moment asked = put_outcome (own w operator) (held w operator) ceiling moment asked
+put_outcome_in w operator ceiling moment asked =
+    put_outcome (own w operator) (held w operator) ceiling moment asked
 
 abbrev pub conflict_in : World → List ℕ → PutCall → Option Spot
-conflict_in w operator asked = conflict asked.area (held_at (plans_of operator w) (held w operator) asked.id) asked.priority
+conflict_in w operator asked =
+    conflict asked.area (held_at (plans_of operator w) (held w operator) asked.id) asked.priority
 
 -- the plan that a request asks for
 abbrev pub row_asked : PutCall → PlanRow
-row_asked asked = record { id = asked.id; priority = asked.priority; usage = asked.usage; aircraft = asked.aircraft; area = asked.area }
+row_asked asked = record {
+  id = asked.id;
+  priority = asked.priority;
+  usage = asked.usage;
+  aircraft = asked.aircraft;
+  area = asked.area;
+}
 
 -- the plans that an effect leaves
 abbrev pub plans_left : Effect → PutCall → List PlanRow → Option (List PlanRow)
@@ -77,8 +88,10 @@ delete_ruling rows id (Some row) =
 -- the answer to a call of an operator under a ceiling
 unfoldable pub enrolled_ruling : Own → (Point → Option ℕ) → ℕ → ℤ → Call → Ruling
 enrolled_ruling mine others ceiling moment call.Status = ruling_alone (replied reply.Ready)
-enrolled_ruling mine others ceiling moment (call.Put asked) = put_ruling (put_outcome mine others ceiling moment asked) asked mine.plans
-enrolled_ruling mine others ceiling moment (call.Delete id) = delete_ruling mine.plans id (stored_of id mine.plans)
+enrolled_ruling mine others ceiling moment (call.Put asked) =
+    put_ruling (put_outcome mine others ceiling moment asked) asked mine.plans
+enrolled_ruling mine others ceiling moment (call.Delete id) =
+    delete_ruling mine.plans id (stored_of id mine.plans)
 
 -- the answer to a call; none is made to an operator that is not enrolled
 abbrev pub ruling_under : Option ℕ → Own → (Point → Option ℕ) → ℤ → Call → Ruling
@@ -90,20 +103,22 @@ verdict mine others moment asked = ruling_under mine.ceiling mine others moment 
 
 -- what the operator owns after a call
 unfoldable pub own_left : Own → (Point → Option ℕ) → ℤ → Call → Own
-own_left mine others moment asked = record mine { plans = unwrap_or (verdict mine others moment asked).plans mine.plans }
+own_left mine others moment asked =
+    record mine { plans = unwrap_or (verdict mine others moment asked).plans mine.plans }
 
 -- the world with an operator's plans replaced, where they changed
 abbrev pub world_with_plans : World → List ℕ → Option (List PlanRow) → World
 world_with_plans w operator None = w
 world_with_plans w operator (Some rows) = with_plans w operator rows
 
--- a call at a moment: what the caller is told, and the world after it. The world is read through what the operator owns
--- and what others hold alone
+-- a call at a moment: what the caller is told, and the world after it. The world is read through
+-- what the operator owns and what others hold alone
 unfoldable pub told_to : World → List ℕ → ℤ → Call → Told
 told_to w operator moment asked = (verdict (own w operator) (held w operator) moment asked).told
 
 unfoldable pub step : World → List ℕ → ℤ → Call → World
-step w operator moment asked = world_with_plans w operator (verdict (own w operator) (held w operator) moment asked).plans
+step w operator moment asked =
+    world_with_plans w operator (verdict (own w operator) (held w operator) moment asked).plans
 
 -- the world after a call of an operator
 abbrev pub step_by : World → ℤ → Asked → World

@@ -24,8 +24,8 @@ pub record IsWhole (request : List ℕ) : Type 0 where
   pub whole : IsRequest request
   pub framed : is_framed request ≡ true
 
--- so many requests are taken one after the other, and, if the store is honest, their answers are written and what
--- they leave is left
+-- so many requests are taken one after the other, and, if the store is honest, their answers are
+-- written and what they leave is left
 pub record ArePlayed (H : Type 0) (count : ℕ) (old new out now : Option (List ℕ)) (w : World)
     (moment : ℤ) (after : World) : Type 0 where
   pub requests : List (List ℕ)

@@ -10,8 +10,8 @@ use Rattle.desk_reading.specs.Messages.{FrontParts, MessageParts, front_in, fron
 use Rattle.desk_reading.specs.Readings.{Reading}
 use Rattle.desk_reading.specs.WireLimits.{head_room}
 
--- how many bytes the first request of a stream has before its body: those of its head, or the first `room` if no
--- head ends within them. None if the stream ends before
+-- how many bytes the first request of a stream has before its body: those of its head, or the first
+-- `room` if no head ends within them. None if the stream ends before
 unfoldable pub front_within : ℕ → List ℕ → Option ℕ
 front_within room stream =
     option_or (head_len room stream) (if nat_lt (length stream) room then None else Some room)

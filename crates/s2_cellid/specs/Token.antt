@@ -13,8 +13,8 @@ use Rattle.s2_cellid.specs.declared.tokens.TokenFault.TheVariants.{Empty, TooLon
 unfoldable pub filled_value : List ℕ → ℕ
 filled_value text = digits_value 16 (filled text)
 
--- the text spells the id: hex digits, one at least and no more than an id has, which, filled up with zeros on the right, write it in
--- base 16
+-- the text spells the id: hex digits, one at least and no more than an id has, which, filled up
+-- with zeros on the right, write it in base 16
 pub record IsSpelling (text : List ℕ) (id : ℕ) : Type 0 where
   pub some : 0 < length text
   pub at_most : length text ≤ most_digits
