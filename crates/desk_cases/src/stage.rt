@@ -1,6 +1,6 @@
 //! Where cases are played: a desk, its moment, and what their steps do.
 
-ghost use Rattle.desk_run.specs.Moments.{IsMoment};
+ghost use Rattle.desk_wire.specs.Moments.{IsMoment};
 
 use crate::ask::Ask;
 use crate::shown::{ShownPlan, ShownRun};
