@@ -4,7 +4,6 @@ ghost use Rattle.std.specs.Prelude.{◌≡◌, ◌&&◌, ◌↔◌, false, nat_l
 ghost use Rattle.volume4d.specs.Volume.{area_has};
 ghost use Rattle.volume4d.specs.LevelLaws.{level_where};
 ghost use Rattle.volume4d.specs.Slab.{slabs_have};
-ghost use Rattle.desk_rules.specs.Plan as plan_spec;
 ghost use Rattle.desk_rules.specs.Plan.{is_live};
 ghost use Rattle.desk_store.specs.Rivals.{AddLevel, ShareAPoint};
 ghost use Rattle.desk_store.specs.Parts.{parts_of, row_of, closed_parts, HasNoPoint};
@@ -101,7 +100,7 @@ impl Plan {
     pub fn is_rival(&self, least: u32) -> bool
         ensures { result ≡ (is_live self.now.usage && nat_le least self.now.priority) }
     {
-        if !is_live(self.usage) {
+        if !self.usage.is_live() {
             return false;
         }
         self.priority >= least
@@ -117,16 +116,6 @@ impl Plan {
             (λ x. level_where (area_has self.now.area x) self.now.priority)) }
     {
         push_helds(helds, &self.slabs, self.priority, extent)
-    }
-}
-
-fn is_live(usage: Usage) -> bool
-    ensures { result ≡ plan_spec.is_live usage }
-{
-    match usage {
-        Usage::Planned => true,
-        Usage::InUse => true,
-        Usage::Closed => false,
     }
 }
 

@@ -25,6 +25,37 @@ pub struct Answers {
     pub ended: AnswersEnd,
 }
 
+impl Answers {
+    /// The same answers, and the same end.
+    ///
+    /// # Errors
+    ///
+    /// `AllocError` for want of memory.
+    pub fn copy(&self) -> Result<Answers, AllocError>
+        ensures answers { IfOk result (λ copy. map (λ v. v.items) copy.answers.items
+            ≡ map (λ v. v.items) self.now.answers.items) }
+        ensures ended { IfOk result (λ copy. copy.ended ≡ self.now.ended) }
+    {
+        Ok(Answers {
+            answers: copies(&self.answers)?,
+            ended: self.ended,
+        })
+    }
+}
+
+// Vectors of equal bytes.
+fn copies(answers: &Vec<Vec<u8>>) -> Result<Vec<Vec<u8>>, AllocError>
+    ensures { IfOk result (λ copies. map (λ v. v.items) copies.items
+        ≡ map (λ v. v.items) answers.now.items) }
+{
+    let alloc = *answers.allocator();
+    let mut copies = Vec::new(alloc);
+    for answer in answers {
+        copies.push(Vec::from_slice(alloc, answer)?)?;
+    }
+    Ok(copies)
+}
+
 /// Why there are no more answers.
 #[derive(Clone, Copy, Debug, PartialEq, Eq)]
 pub enum AnswersEnd {

@@ -1,6 +1,5 @@
 //! The bodies of answers, as JSON.
 ghost use Rattle.std.specs.Prelude.{◌≡◌, IfOk, codes, false};
-ghost use Rattle.s2_cellid.specs.Family.{leaf_id};
 ghost use Rattle.serde_json.specs.Data.{object, member};
 ghost use Rattle.serde_json.specs.View.{view};
 ghost use Rattle.serde_json.specs.Written.{has_float};
@@ -8,8 +7,6 @@ ghost use Rattle.desk_writing.specs.PlanWords as words;
 ghost use Rattle.desk_writing.specs.PlanBody.{conflict_data, outcome_members, put_data};
 
 use desk_rules::words::{Note, PlanResult, PlanStatus};
-use s2_cellid::CellId;
-use s2_hilbert::leaf_at;
 use serde_json::{Value, json};
 use std::alloc::{AllocError, Global};
 use volume4d::Meeting;
@@ -119,18 +116,11 @@ fn blocked_value(
 fn conflict_value(alloc: Global, meeting: Meeting) -> Result<Value, AllocError>
     ensures { IfOk result (λ v. view v ≡ conflict_data meeting) }
 {
-    let token = leaf_of(meeting).token();
+    let token = meeting.cell().token();
     json!(in alloc; {
         "altitude": meeting.altitude,
         "cell": token.as_str(),
         "priority": meeting.priority,
         "second": meeting.second
     })
-}
-
-// The leaf cell where two plans meet.
-fn leaf_of(meeting: Meeting) -> CellId
-    ensures { result ≡ leaf_id meeting.point.leaf }
-{
-    CellId::of_leaf(leaf_at(meeting.pos))
 }
