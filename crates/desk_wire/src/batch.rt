@@ -36,10 +36,10 @@ impl Answers {
             ≡ map (λ v. v.items) self.now.answers.items) }
         ensures ended { IfOk result (λ copy. copy.ended ≡ self.now.ended) }
     {
-        Ok(Answers {
-            answers: copies(&self.answers)?,
-            ended: self.ended,
-        })
+        let answers = copies(&self.answers)?;
+        let ended = self.ended;
+        let copy = Answers { answers, ended };
+        Ok(copy)
     }
 }
 
