@@ -28,6 +28,8 @@ constexpr size_t kInARegion = 256;
 // Steele, Lea and Flood's generator SplitMix64.
 class Numbers {
  public:
+  explicit Numbers(uint64_t state) : state_(state) {}
+
   uint64_t Next() {
     state_ += 0x9e3779b97f4a7c15;
     uint64_t mixed = (state_ ^ state_ >> 30) * 0xbf58476d1ce4e5b9;
@@ -38,7 +40,7 @@ class Numbers {
   uint64_t Place() { return Next() % kLeaves; }
 
  private:
-  uint64_t state_ = 1;
+  uint64_t state_;
 };
 
 struct Leaf {
@@ -53,6 +55,41 @@ struct Climb {
   int level;
 };
 
+constexpr uint64_t kFaceSide = uint64_t{1} << 30;
+
+// The least and the greatest coordinate of so many squares, the first of which lies round a place.
+std::pair<uint64_t, uint64_t> Coordinates(uint64_t place, uint64_t squares, uint64_t side) {
+  const uint64_t least = place % kFaceSide - place % kFaceSide % side;
+  return {least, least + squares * side - 1};
+}
+
+// The squares of the pseudo-random rectangles of crates/s2_bench (src/rects.rt): of 1 to 24 squares a side,
+// or rows of 256.
+std::vector<std::vector<S2CellId>> Rects(size_t count, bool rows) {
+  Numbers numbers(2);
+  std::vector<std::vector<S2CellId>> rects;
+  for (; count > 0; --count) {
+    const uint64_t face = numbers.Next() % 6;
+    const uint64_t above = numbers.Next() % 17;
+    const uint64_t wide = rows ? 1 : 1 + numbers.Next() % 24;
+    const uint64_t high = rows ? 256 : 1 + numbers.Next() % 24;
+    const uint64_t side = uint64_t{64} << above;
+    const auto [i_min, i_max] = Coordinates(numbers.Next(), wide, side);
+    const auto [j_min, j_max] = Coordinates(numbers.Next(), high, side);
+    if (i_max >= kFaceSide || j_max >= kFaceSide) continue;
+    std::vector<S2CellId> squares;
+    for (uint64_t i = i_min; i <= i_max; i += side) {
+      for (uint64_t j = j_min; j <= j_max; j += side) {
+        const S2CellId leaf =
+            S2CellId::FromFaceIJ(static_cast<int>(face), static_cast<int>(i), static_cast<int>(j));
+        squares.push_back(leaf.parent(static_cast<int>(24 - above)));
+      }
+    }
+    rects.push_back(squares);
+  }
+  return rects;
+}
+
 struct Inputs {
   std::vector<S2CellId> places;
   std::vector<Leaf> leaves;
@@ -60,9 +97,11 @@ struct Inputs {
   std::vector<Climb> climbs;
   std::vector<std::string> tokens;
   std::vector<S2CellId> close;
+  std::vector<std::vector<S2CellId>> any_rects;
+  std::vector<std::vector<S2CellId>> rows;
 
-  explicit Inputs(size_t count) {
-    Numbers numbers;
+  explicit Inputs(size_t count) : any_rects(Rects(count, false)), rows(Rects(count, true)) {
+    Numbers numbers(1);
     for (size_t k = 0; k < count; ++k) {
       const S2CellId place = LeafAt(numbers.Place());
       Leaf leaf;
@@ -128,6 +167,16 @@ uint64_t SumOfCovers(const Inputs& inputs, size_t length) {
   return sum;
 }
 
+// Of each rectangle the cells of the normal form of its squares.
+uint64_t SumOfRects(const std::vector<std::vector<S2CellId>>& rects) {
+  uint64_t sum = 0;
+  for (const std::vector<S2CellId>& squares : rects) {
+    const S2CellUnion cover(squares);
+    for (const S2CellId cell : cover) sum += cell.id();
+  }
+  return sum;
+}
+
 struct Measure {
   const char* name;
   std::function<uint64_t(const Inputs&)> sum;
@@ -160,6 +209,9 @@ int main(int count, char** words) {
       {"from_token", SumOfReadTokens, cells, most},  {"token", SumOfTokens, cells, most},
       {"parent", SumOfParents, cells, most},         Normalise("normalise_5", inputs, 5),
       Normalise("normalise_64", inputs, 64),         Normalise("normalise_256", inputs, 256),
+      {"cover", [](const Inputs& given) { return SumOfRects(given.any_rects); },
+       inputs.any_rects.size(), most},
+      {"cover_row", [](const Inputs& given) { return SumOfRects(given.rows); }, inputs.rows.size(), most},
   };
   for (int round = std::atoi(words[2]); round > 0; --round) {
     for (Measure& measure : measures) measure.least = std::min(measure.least, Nanoseconds(measure, inputs));

@@ -1,6 +1,7 @@
-//! Times a PUT among plans that are far apart, through `answer` over a list in memory. In the crate's folder:
-//! `rt run -- PLANS CELLS`, the number of plans and of cells of each. The nanoseconds go to standard error,
-//! and the number of requests that were completed, which is the same on each run, to standard output.
+//! Times a PUT among plans that are far apart, and a list of the first operator's plans, through `answer`
+//! over a list in memory. In the crate's folder: `rt run -- PLANS CELLS VOLUMES`, the number of plans, of
+//! cells of each volume and of volumes of each plan, 1 if it is left out. The nanoseconds go to standard
+//! error, and the number of requests that were completed and of plans that were listed to standard output.
 #![tactic(auto)]
 
 mod requests;
@@ -10,7 +11,7 @@ use desk_rules::operator::Operator;
 use desk_run::Desk;
 use desk_store::ListStore;
 use desk_wire::answer;
-use requests::{Requests, operator_name};
+use requests::{Requests, list_request, operator_name};
 use std::alloc::Global;
 use std::env;
 use std::time::{Duration, Instant};
@@ -26,7 +27,11 @@ fn main(rt: HostRuntime) -> anyhow::Result<()> {
     let mut words = env::args(&rt)?;
     let plans: u32 = words.nth(1).context("PLANS is missing")?.as_str().parse()?;
     let cells: u32 = words.next().context("CELLS is missing")?.as_str().parse()?;
-    let requests = Requests::make(alloc, plans, cells)?;
+    let volumes: u32 = match words.next() {
+        Some(word) => word.as_str().parse()?,
+        None => 1,
+    };
+    let requests = Requests::make(alloc, plans, volumes, cells)?;
     let mut desk = desk_of(alloc, requests.operators())?;
 
     let start = Instant::now(&rt)?;
@@ -35,12 +40,18 @@ fn main(rt: HostRuntime) -> anyhow::Result<()> {
     let start = Instant::now(&rt)?;
     let again = count_completed(alloc, &mut desk, requests.last_texts())?;
     let change = start.elapsed(&rt)?;
+    let request = list_request(alloc, 0)?;
+    let start = Instant::now(&rt)?;
+    let list = answer(alloc, &mut desk, MOMENT, &request)?;
+    let listing = start.elapsed(&rt)?;
 
     println!(rt; "{plans} plans of {cells} cells: {filed} filed, {again} filed again")?;
+    println!(rt; "{} listed", count_plans(&list))?;
     let each = nanoseconds_each(filing, requests.texts().len());
     eprintln!(rt; "a PUT while they are filed: {each} ns")?;
     let each = nanoseconds_each(change, requests.last_texts().len());
     eprintln!(rt; "a PUT among them: {each} ns")?;
+    eprintln!(rt; "a list of {} bytes: {} ns", list.len(), listing.as_nanos())?;
     Ok(())
 }
 
@@ -71,6 +82,15 @@ fn count_completed(
         }
     }
     Ok(completed)
+}
+
+// How many plans an answer lists.
+fn count_plans(answer: &[u8]) -> usize {
+    let name = b"\"flight_plan_id\"".as_slice();
+    answer
+        .windows(name.len())
+        .filter(|window| *window == name)
+        .count()
 }
 
 fn nanoseconds_each(time: Duration, count: usize) -> u128 {

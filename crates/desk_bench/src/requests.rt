@@ -21,13 +21,13 @@ pub struct Requests {
 }
 
 impl Requests {
-    /// Requests for so many plans, each of so many cells.
-    pub fn make(alloc: Global, plans: u32, cells: u32) -> anyhow::Result<Requests> {
+    /// Requests for so many plans, each of so many volumes, each of so many cells.
+    pub fn make(alloc: Global, plans: u32, volumes: u32, cells: u32) -> anyhow::Result<Requests> {
         let mut generator = Pcg64::seed_from_u64(1);
         let mut texts = Vec::new(alloc);
         for plan in 0..plans {
-            let tokens = random_tokens(alloc, &mut generator, cells)?;
-            texts.push(request_for(alloc, plan, &tokens)?)?;
+            let area = random_area(alloc, &mut generator, volumes, cells)?;
+            texts.push(request_for(alloc, plan, &area)?)?;
         }
         Ok(Requests {
             texts,
@@ -69,15 +69,38 @@ fn random_tokens(alloc: Global, generator: &mut Pcg64, cells: u32) -> anyhow::Re
     Ok(tokens.join(alloc, ",")?)
 }
 
+// So many volumes with commas between, each of so many random cells.
+fn random_area(
+    alloc: Global,
+    generator: &mut Pcg64,
+    volumes: u32,
+    cells: u32,
+) -> anyhow::Result<String> {
+    let mut texts = Vec::new(alloc);
+    for _ in 0..volumes {
+        let tokens = random_tokens(alloc, generator, cells)?;
+        texts.push(format!(in alloc;
+            "{{\"time_end\":{{\"format\":\"RFC3339\",\"value\":\"2026-06-01T13:00:00Z\"}},\
+            \"time_start\":{{\"format\":\"RFC3339\",\"value\":\"2026-06-01T12:00:00Z\"}},\
+            \"volume\":{{\"altitude_lower\":0,\"altitude_upper\":1000,\"cells\":[{tokens}]}}}}"
+        )?)?;
+    }
+    Ok(texts.join(alloc, ",")?)
+}
+
+/// The bytes of the request for a list of an operator's plans.
+pub fn list_request(alloc: Global, operator: u32) -> Result<Vec<u8>, AllocError> {
+    let operator = operator_name(alloc, operator)?;
+    let text = format!(in alloc; "GET /flight_plans HTTP/1.1\r\nx-operator: {operator}\r\n\r\n")?;
+    Ok(text.into_bytes())
+}
+
 // The bytes of the request for a plan.
-fn request_for(alloc: Global, plan: u32, tokens: &str) -> Result<Vec<u8>, AllocError> {
+fn request_for(alloc: Global, plan: u32, area: &str) -> Result<Vec<u8>, AllocError> {
     let operator = operator_name(alloc, plan / PLANS_EACH)?;
     let body = format!(in alloc;
         "{{\"execution_style\":\"IfAllowed\",\"flight_plan\":{{\
-        \"astm_f3548_21\":{{\"priority\":10}},\"basic_information\":{{\"area\":[{{\
-        \"time_end\":{{\"format\":\"RFC3339\",\"value\":\"2026-06-01T13:00:00Z\"}},\
-        \"time_start\":{{\"format\":\"RFC3339\",\"value\":\"2026-06-01T12:00:00Z\"}},\
-        \"volume\":{{\"altitude_lower\":0,\"altitude_upper\":1000,\"cells\":[{tokens}]}}}}],\
+        \"astm_f3548_21\":{{\"priority\":10}},\"basic_information\":{{\"area\":[{area}],\
         \"uas_state\":\"Nominal\",\"usage_state\":\"Planned\"}}}},\"request_id\":\"r1\"}}"
     )?;
     let length = body.len();

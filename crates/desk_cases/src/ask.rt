@@ -110,6 +110,47 @@ impl<'l> Ask<'l> {
 
     // The area, of one volume.
     fn area(&self, alloc: Global) -> anyhow::Result<Area> {
+        let extent = Extent {
+            lower: self.lower,
+            upper: self.upper,
+            start: self.start,
+            end: self.end,
+            cells: self.cells,
+        };
+        Area::try_new(vec![in alloc; extent.volume(alloc)?]?).context("no area")
+    }
+}
+
+/// A volume of cells.
+#[derive(Clone, Copy, Debug)]
+pub struct Extent<'l> {
+    /// Decimetres.
+    pub lower: &'l str,
+    pub upper: &'l str,
+    /// Unix seconds.
+    pub start: &'l str,
+    pub end: &'l str,
+    /// S2 tokens with commas between.
+    pub cells: &'l str,
+}
+
+impl<'l> Extent<'l> {
+    /// The five words of an extent, in the order of its fields; None of any other number of words.
+    pub fn of_words(words: &[&'l str]) -> Option<Extent<'l>> {
+        match *words {
+            [lower, upper, start, end, cells] => Some(Extent {
+                lower,
+                upper,
+                start,
+                end,
+                cells,
+            }),
+            _ => None,
+        }
+    }
+
+    /// The volume.
+    pub fn volume(&self, alloc: Global) -> anyhow::Result<Volume> {
         let window = Window::try_new(
             self.lower.parse()?,
             self.upper.parse()?,
@@ -125,10 +166,9 @@ impl<'l> Ask<'l> {
                 .context("no cell")?;
             cells.push(cell)?;
         }
-        let volume = Volume::try_new(Footprint::Cells(cells), window)
+        Volume::try_new(alloc, Footprint::Cells(cells), window)
             .ok()
-            .context("no volume")?;
-        Area::try_new(vec![in alloc; volume]?).context("no area")
+            .context("no volume")
     }
 }
 

@@ -1,8 +1,9 @@
 //! How outcomes of calls and stored plans are printed.
 
 use desk_rules::plan::PlanRow;
-use desk_rules::reply::{PutReply, Reply};
+use desk_rules::reply::{PutReply, Reply, Shown};
 use desk_run::{Outcome, Ran};
+use s2_cover::Rect;
 use std::fmt;
 use volume4d::{Footprint, Meeting};
 
@@ -30,7 +31,29 @@ impl fmt::Display for ShownRun<'_> {
 fn show_reply<W: fmt::Write>(f: &mut fmt::Formatter<W>, reply: &Reply) -> fmt::Result {
     match reply {
         Reply::Ready => write!(f, "ready"),
+        Reply::Plans(plans) => show_list(f, plans),
+        Reply::Plan(plan) => show_plan(f, plan),
         Reply::Answered(put) => show_put(f, put),
+        Reply::Cleared(count) => write!(f, "cleared {count}"),
+    }
+}
+
+// A list: how many plans there are, and each on a line of its own.
+fn show_list<W: fmt::Write>(f: &mut fmt::Formatter<W>, plans: &[Shown]) -> fmt::Result {
+    write!(f, "shown {}", plans.len())?;
+    for plan in plans {
+        writeln!(f)?;
+        show_plan(f, plan)?;
+    }
+    Ok(())
+}
+
+// A plan as it is shown: the status, the stored plan and the conflict.
+fn show_plan<W: fmt::Write>(f: &mut fmt::Formatter<W>, plan: &Shown) -> fmt::Result {
+    write!(f, "{:?}: {}", plan.status, ShownPlan(&plan.row))?;
+    match &plan.conflict {
+        Some(meeting) => show_meeting(f, meeting),
+        None => Ok(()),
     }
 }
 
@@ -84,7 +107,7 @@ impl fmt::Display for ShownPlan<'_> {
     }
 }
 
-// The cells of a footprint, by their tokens.
+// The cells of a footprint, by their tokens, or the parts of its rectangle.
 fn show_footprint<W: fmt::Write>(f: &mut fmt::Formatter<W>, footprint: &Footprint) -> fmt::Result {
     match footprint {
         Footprint::Cells(cells) => {
@@ -93,5 +116,20 @@ fn show_footprint<W: fmt::Write>(f: &mut fmt::Formatter<W>, footprint: &Footprin
             }
             Ok(())
         }
+        Footprint::Rectangle(rect) => show_rect(f, rect),
     }
+}
+
+// A rectangle: its face, its coordinates and its level.
+fn show_rect<W: fmt::Write>(f: &mut fmt::Formatter<W>, rect: &Rect) -> fmt::Result {
+    write!(
+        f,
+        " rectangle {} {}..={} {}..={} {}",
+        rect.face(),
+        rect.i_min(),
+        rect.i_max(),
+        rect.j_min(),
+        rect.j_max(),
+        rect.level()
+    )
 }

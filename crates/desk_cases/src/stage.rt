@@ -73,17 +73,13 @@ impl Stage {
                 body,
             } => self.send_request(method, target, operator, body, output)?,
             Step::Raw(text) => self.send_raw(text, output)?,
-            Step::Put(ask) => {
-                let asked = ask.call(self.alloc)?;
-                self.call(asked, output)?;
-            }
             Step::Puts { count, ask } => self.put_many(count, ask, output)?,
-            Step::Delete { operator, id } => {
-                let id = PlanId::try_parse(id).context("no id")?;
-                self.call(asked_by(operator, Call::Delete(id))?, output)?;
-            }
-            Step::Status { operator } => self.call(asked_by(operator, Call::Status)?, output)?,
             Step::Plans { operator } => self.show_plans(operator, output)?,
+            _ => {
+                if let Some(asked) = asked_in(self.alloc, step)? {
+                    self.call(asked, output)?;
+                }
+            }
         }
         Ok(())
     }
@@ -199,6 +195,24 @@ impl Stage {
         }
         Ok(())
     }
+}
+
+// The call that a step makes, if it makes one.
+fn asked_in(alloc: Global, step: &Step<'_>) -> anyhow::Result<Option<Asked>> {
+    let asked = match step {
+        Step::Put(ask) => ask.call(alloc)?,
+        Step::Delete { operator, id } => asked_by(operator, Call::Delete(id_of(id)?))?,
+        Step::Status { operator } => asked_by(operator, Call::Status)?,
+        Step::List { operator } => asked_by(operator, Call::List)?,
+        Step::Show { operator, id } => asked_by(operator, Call::Show(id_of(id)?))?,
+        Step::Clear { operator, extent } => asked_by(operator, Call::Clear(extent.volume(alloc)?))?,
+        _ => return Ok(None),
+    };
+    Ok(Some(asked))
+}
+
+fn id_of(text: &str) -> anyhow::Result<PlanId> {
+    PlanId::try_parse(text).context("no id")
 }
 
 // A call of an operator.

@@ -1,6 +1,6 @@
 //! Steps of worked cases, each a line.
 
-use crate::ask::Ask;
+use crate::ask::{Ask, Extent};
 use std::alloc::{AllocError, Global};
 
 /// A step of a case. Words stand apart by blanks; the last part of `request` and of `raw` is the rest of
@@ -41,6 +41,20 @@ pub enum Step<'l> {
     /// `status OPERATOR`: a call.
     Status {
         operator: &'l str,
+    },
+    /// `list OPERATOR`: a call.
+    List {
+        operator: &'l str,
+    },
+    /// `show OPERATOR ID`: a call.
+    Show {
+        operator: &'l str,
+        id: &'l str,
+    },
+    /// `clear OPERATOR LOWER UPPER START END CELL,..`: a call; Unix seconds.
+    Clear {
+        operator: &'l str,
+        extent: Extent<'l>,
     },
     /// `plans OPERATOR`: what the store holds of the operator.
     Plans {
@@ -90,6 +104,12 @@ fn call_of<'l>(word: &str, words: &[&'l str]) -> Option<Step<'l>> {
         }),
         ("delete", [operator, id]) => Some(Step::Delete { operator, id }),
         ("status", [operator]) => Some(Step::Status { operator }),
+        ("list", [operator]) => Some(Step::List { operator }),
+        ("show", [operator, id]) => Some(Step::Show { operator, id }),
+        ("clear", [operator, words @ ..]) => Some(Step::Clear {
+            operator,
+            extent: Extent::of_words(words)?,
+        }),
         ("plans", [operator]) => Some(Step::Plans { operator }),
         _ => None,
     }

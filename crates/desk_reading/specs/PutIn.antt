@@ -1,7 +1,6 @@
 -- The body of a request for a plan: members and words of InterUSS flight_planning v1, and this desk's
 -- own members of areas.
 use Rattle.std.specs.Prelude.{ℕ, ℤ, pos, negsuc, List, [], ◌∷◌, codes, nat_le, if◌then◌else◌, Option, Some, None, option_and_then, Ok}
-use Rattle.std.specs.Str.{bytes_eq}
 use Rattle.desk_rules.specs.Limits.{max_priority}
 use Rattle.desk_rules.specs.declared.plan.PutCall.{PutCall}
 use Rattle.desk_rules.specs.declared.words.Style.{Style}
@@ -13,14 +12,10 @@ use Rattle.desk_rules.specs.declared.words.Aircraft.TheVariants.{Nominal, OffNom
 use Rattle.serde_json.specs.Data.{Data}
 use Rattle.serde_json.specs.Find.{get, as_object}
 use Rattle.desk_reading.specs.Readings.{Reading, or_fault, or_met}
+use Rattle.desk_reading.specs.Words.{beside}
 use Rattle.desk_reading.specs.JsonIn.{array_at, body_value, present, text_at, whole_of}
 use Rattle.desk_reading.specs.VolumeIn.{area_of}
 use Rattle.desk_reading.specs.declared.wire_fault.WireFault.TheVariants.{BadMember}
-
--- what stands beside a word in a table
-abbrev pub beside : {A : Type 0} → List (List ℕ × A) → List ℕ → Option A
-beside [] word = None
-beside (row ∷ rows) word = if bytes_eq word row.0 then Some row.1 else beside rows word
 
 -- the words of flight_planning v1 for execution styles
 abbrev pub style_words : List (List ℕ × Style)

@@ -1,45 +1,49 @@
-//! Addresses: who sends a request to which flight plan.
+//! Addresses: who asks for what at which resource.
 
 ghost use Rattle.std.specs.Prelude.{◌≡◌, codes};
-ghost use Rattle.desk_reading.specs.Addresses.{address_of, operator_of};
+ghost use Rattle.desk_reading.specs.Addresses.{address_of, address_shown, operator_of};
 ghost use Rattle.desk_reading.specs.Fields.{count_in};
+ghost use Rattle.desk_reading.specs.Readings.{Gives};
 
 use crate::fields::Once;
 use crate::head::Head;
+use crate::resource::Action;
 use crate::routes::Routes;
 use crate::wire_fault::WireFault;
 use desk_rules::operator::Operator;
-use desk_rules::plan_id::PlanId;
 
-/// Who sends a request to which flight plan.
-#[derive(Clone, Copy, Debug)]
-pub struct Address {
+/// Who asks for what at which resource.
+#[derive(Clone, Copy)]
+pub struct Address<'t> {
+    pub action: Action,
     pub operator: Operator,
-    pub plan_id: PlanId,
+    /// The id of a flight plan, as it is written. Empty if the resource is another.
+    pub id: &'t str,
 }
 
 /// The address that a head gives.
 ///
 /// # Errors
 ///
-/// The first of `NoRoute`, `BadOperator` and `BadPlanId` that applies.
+/// The first of `NoRoute`, `Method` and `BadOperator` that applies.
 #[tactic(auto, unfolding(crate::specs::Addresses::address_of))]
-pub fn read_address(routes: &Routes, head: &Head<'_>) -> Result<Address, WireFault>
-    ensures { result ≡ address_of head.now }
+pub fn read_address<'t>(routes: &Routes, head: &Head<'t>) -> Result<Address<'t>, WireFault>
+    ensures { Gives address_shown result (address_of head.now) }
 {
-    let Some(id) = routes.find_target(head.target()) else {
+    let Some(target) = routes.find_target(head.target()) else {
         return Err(WireFault::NoRoute);
     };
-    if head.method() != b"PUT".as_slice() {
-        return Err(WireFault::NoRoute);
-    }
+    let Some(action) = target.route.action(head.method()) else {
+        return Err(WireFault::Method(target.route));
+    };
     let Some(operator) = find_operator(head) else {
         return Err(WireFault::BadOperator);
     };
-    let Some(plan_id) = PlanId::try_parse(id) else {
-        return Err(WireFault::BadPlanId);
-    };
-    Ok(Address { operator, plan_id })
+    Ok(Address {
+        action,
+        operator,
+        id: target.id,
+    })
 }
 
 // The operator, if `x-operator` is there once with a name.

@@ -2,6 +2,7 @@
 #![tactic(auto)]
 
 mod address;
+mod clear_in;
 mod fields;
 mod framing;
 mod head;
@@ -10,6 +11,7 @@ pub mod laws;
 mod message;
 mod put_in;
 mod request;
+mod resource;
 mod routes;
 mod times;
 mod volume_in;
@@ -18,5 +20,6 @@ mod wire_fault;
 pub use framing::{HEAD_ROOM, is_ended};
 pub use message::{Front, Message, read_front, read_message};
 pub use request::{read_asked, read_request};
+pub use resource::{Action, Route};
 pub use routes::Routes;
 pub use wire_fault::{ReadError, WireFault};

@@ -1,16 +1,19 @@
 //! Routes: which resource the path of a request names.
 
-ghost use Rattle.std.specs.Prelude.{◌≡◌, IfOk, option_copied};
-ghost use Rattle.desk_reading.specs.Routes.{path_of, route_in, route_of, route_rows};
+ghost use Rattle.std.specs.Prelude.{◌≡◌, IfOk, option_map};
+ghost use Rattle.desk_reading.specs.Routes.{path_of, route_in, route_of, route_rows, target_shown};
 
-use matchit::Router;
+use crate::resource::Route;
+use matchit::{InsertError, Router};
 use std::alloc::{AllocError, Global};
 use std::marker::Model;
 
-/// The resources that have a route.
+/// The resource that a request names.
 #[derive(Clone, Copy)]
-enum Route {
-    FlightPlan,
+pub struct Target<'t> {
+    pub route: Route,
+    /// The id of a flight plan, as it is written. Empty if the resource is another.
+    pub id: &'t str,
 }
 
 /// A router with every route of the desk.
@@ -24,7 +27,7 @@ impl Model for Routes {
     ghost use Rattle.matchit.specs.Rows.{RowsOf};
     ghost use Rattle.matchit.specs.Router.{RouteOf};
     ghost use Rattle.desk_reading.specs.Routes.{route_rows};
-    ghost use Rattle.desk_reading.specs.declared.routes.Route.{Route};
+    ghost use Rattle.desk_reading.specs.declared.resource.Route.{Route};
 
     ghost Value = { RowsOf (RouteOf Route) };
 
@@ -36,17 +39,18 @@ impl Model for Routes {
 impl Routes {
     /// The routes of the desk.
     pub fn try_new(alloc: Global) -> Result<Routes, AllocError> {
-        Ok(Routes {
-            router: make_router(alloc)?,
-        })
+        match make_router(alloc) {
+            Ok(router) => Ok(Routes { router }),
+            Err(_) => Err(AllocError),
+        }
     }
 
-    /// The id of the flight plan that a request target names. None for every other target.
-    pub fn find_target<'t>(&self, target: &'t [u8]) -> Option<&'t str>
-        ensures { option_copied result ≡ route_in target.now }
+    /// The resource that a request target names. None if it names none.
+    pub fn find_target<'t>(&self, target: &'t [u8]) -> Option<Target<'t>>
+        ensures { option_map target_shown result ≡ route_in target.now }
     {
         match str::from_utf8(target) {
-            Ok(target) => find_plan(&self.router, read_path(target)),
+            Ok(target) => find_route(&self.router, read_path(target)),
             Err(_) => None,
         }
     }
@@ -63,26 +67,27 @@ fn read_path(target: &str) -> &str
 }
 
 // A router with every route.
-fn make_router(alloc: Global) -> Result<Router<Route>, AllocError>
+fn make_router(alloc: Global) -> Result<Router<Route>, InsertError>
     ensures { IfOk result (λ router. router ≡ route_rows) }
 {
     let mut router = Router::new(alloc);
-    match router.insert("/flight_plans/{flight_plan_id}", Route::FlightPlan) {
-        Ok(()) => Ok(router),
-        Err(_) => Err(AllocError),
-    }
+    router.insert("/clear_area_requests", Route::ClearAreaRequests)?;
+    router.insert("/flight_plans", Route::FlightPlans)?;
+    router.insert("/flight_plans/{flight_plan_id}", Route::FlightPlan)?;
+    router.insert("/status", Route::Status)?;
+    Ok(router)
 }
 
-// The flight plan's id in a path that the router knows as a flight plan's. None for every other
-// path.
-fn find_plan<'p>(router: &Router<Route>, path: &'p str) -> Option<&'p str>
+// The resource of a path that the router knows. None for every other path.
+fn find_route<'p>(router: &Router<Route>, path: &'p str) -> Option<Target<'p>>
     requires { router.now ≡ route_rows }
-    ensures { option_copied result ≡ route_of path.now }
+    ensures { option_map target_shown result ≡ route_of path.now }
 {
     match router.at(path) {
-        Ok(found) => match found.value {
-            Route::FlightPlan => found.params.get("flight_plan_id"),
-        },
+        Ok(found) => Some(Target {
+            route: *found.value,
+            id: found.params.get("flight_plan_id").unwrap_or(""),
+        }),
         Err(_) => None,
     }
 }

@@ -2,19 +2,22 @@
 ghost use Rattle.std.specs.Prelude.{◌≡◌, option_map};
 ghost use Rattle.std.specs.Int.{is_in_range};
 ghost use Rattle.std.specs.Result.{result_ok};
+ghost use Rattle.s2_cover.specs.Rectangles.{rect_or_fault};
 ghost use Rattle.volume4d.specs.Windows.{window_or_fault};
+ghost use Rattle.volume4d.specs.Footprint.{shape_of};
 ghost use Rattle.serde_json.specs.View.{view, items_view};
 ghost use Rattle.desk_reading.specs.Readings.{GivesIfRoom};
 ghost use Rattle.desk_reading.specs.JsonIn.{each};
 ghost use Rattle.desk_reading.specs.VolumeIn as spec;
 
-use crate::json_in::{array_at, present, text_at, whole_at};
+use crate::json_in::{present, text_at, whole_at};
 use crate::times::{end_of, start_of};
 use crate::wire_fault::{ReadError, WireFault};
 use s2_cellid::CellId;
+use s2_cover::Rect;
 use serde_json::Value;
 use std::alloc::Global;
-use volume4d::{Area, Footprint, Volume, Window};
+use volume4d::{Area, Footprint, Volume, VolumeFault, Window};
 
 /// The volumes of a plan's area.
 pub fn read_area(alloc: Global, items: &[Value]) -> Result<Area, ReadError>
@@ -43,30 +46,101 @@ fn read_volumes(alloc: Global, items: &[Value]) -> Result<Vec<Volume>, ReadError
     Ok(volumes)
 }
 
-// A volume.
+/// A volume.
+///
+/// # Errors
+///
+/// `OutOfMemory`, or the first of `BadVolume` and `TooManyCells` that applies.
 #[tactic(auto, unfolding(crate::specs::VolumeIn::volume_of))]
-fn read_volume(alloc: Global, value: &Value) -> Result<Volume, ReadError>
+pub fn read_volume(alloc: Global, value: &Value) -> Result<Volume, ReadError>
     ensures { GivesIfRoom (λ volume. volume) result (spec.volume_of (view value.now)) }
 {
     let shape = value.get("volume").ok_or(WireFault::BadVolume)?;
     let window = window_of(value, shape)?;
-    let cells = read_cells(alloc, shape)?;
-    match Volume::try_new(Footprint::Cells(cells), window) {
+    let footprint = read_footprint(alloc, shape)?;
+    volume_over(alloc, footprint, window)
+}
+
+// The volume over a footprint in a window.
+#[tactic(auto, unfolding(crate::specs::VolumeIn::volume_over))]
+fn volume_over(alloc: Global, footprint: Footprint, window: Window) -> Result<Volume, ReadError>
+    ensures { GivesIfRoom (λ volume. volume) result (spec.volume_over (shape_of footprint) window) }
+{
+    match Volume::try_new(alloc, footprint, window) {
         Ok(volume) => Ok(volume),
-        Err(_) => Err(ReadError::Fault(WireFault::BadVolume)),
+        Err(VolumeFault::Cells) => Err(ReadError::Fault(WireFault::BadVolume)),
+        Err(VolumeFault::TooManyCells) => Err(ReadError::Fault(WireFault::TooManyCells)),
+        Err(VolumeFault::OutOfMemory) => Err(ReadError::OutOfMemory),
     }
 }
 
-// The cells of a volume's `volume`.
-#[tactic(auto, unfolding(crate::specs::VolumeIn::cells_of))]
-fn read_cells(alloc: Global, shape: &Value) -> Result<Vec<CellId>, ReadError>
-    ensures { GivesIfRoom (λ v. v.items) result (spec.cells_of (view shape.now)) }
+// The footprint of a volume's `volume`: its `cells` or its `rectangle`.
+#[tactic(auto, unfolding(crate::specs::VolumeIn::footprint_of))]
+fn read_footprint(alloc: Global, shape: &Value) -> Result<Footprint, ReadError>
+    ensures { GivesIfRoom shape_of result (spec.footprint_of (view shape.now)) }
 {
-    if present(shape, "rectangle").is_some() {
-        return Err(ReadError::Fault(WireFault::BadVolume));
+    match (present(shape, "cells"), present(shape, "rectangle")) {
+        (Some(list), None) => Ok(Footprint::Cells(read_cells(alloc, list)?)),
+        (None, Some(parts)) => Ok(Footprint::Rectangle(rectangle_of(parts)?)),
+        _ => Err(ReadError::Fault(WireFault::BadVolume)),
     }
-    let items = array_at(shape, "cells").ok_or(WireFault::BadVolume)?;
+}
+
+// A cell list.
+#[tactic(auto, unfolding(crate::specs::VolumeIn::cells_of))]
+fn read_cells(alloc: Global, list: &Value) -> Result<Vec<CellId>, ReadError>
+    ensures { GivesIfRoom (λ v. v.items) result (spec.cells_of (view list.now)) }
+{
+    let items = list.as_array().ok_or(WireFault::BadVolume)?;
     read_tokens(alloc, items)
+}
+
+// A rectangle.
+#[tactic(auto, unfolding(crate::specs::VolumeIn::rectangle_of))]
+fn rectangle_of(value: &Value) -> Result<Rect, WireFault>
+    ensures { result ≡ spec.rectangle_of (view value.now) }
+{
+    let face = natural_at(value, "face").ok_or(WireFault::BadVolume)?;
+    let i_min = natural_at(value, "i_min").ok_or(WireFault::BadVolume)?;
+    let i_max = natural_at(value, "i_max").ok_or(WireFault::BadVolume)?;
+    let j_min = natural_at(value, "j_min").ok_or(WireFault::BadVolume)?;
+    let j_max = natural_at(value, "j_max").ok_or(WireFault::BadVolume)?;
+    let level = natural_at(value, "level").ok_or(WireFault::BadVolume)?;
+    checked_rect(face, i_min, i_max, j_min, j_max, level).ok_or(WireFault::BadVolume)
+}
+
+// The rectangle of numbers of any size.
+fn checked_rect(
+    face: u64,
+    i_min: u64,
+    i_max: u64,
+    j_min: u64,
+    j_max: u64,
+    level: u64,
+) -> Option<Rect>
+    ensures { result ≡ result_ok (rect_or_fault (record {
+      face = face;
+      i_min = i_min;
+      i_max = i_max;
+      j_min = j_min;
+      j_max = j_max;
+      level = level;
+    })) }
+{
+    let face = u8::try_from(face).ok()?;
+    let i_min = u32::try_from(i_min).ok()?;
+    let i_max = u32::try_from(i_max).ok()?;
+    let j_min = u32::try_from(j_min).ok()?;
+    let j_max = u32::try_from(j_max).ok()?;
+    let level = u8::try_from(level).ok()?;
+    Rect::try_new(face, i_min, i_max, j_min, j_max, level).ok()
+}
+
+// A member that is a whole number and not negative.
+fn natural_at(value: &Value, key: &str) -> Option<u64>
+    ensures { result ≡ spec.natural_at key.now (view value.now) }
+{
+    u64::try_from(whole_at(value, key)?).ok()
 }
 
 fn read_tokens(alloc: Global, items: &[Value]) -> Result<Vec<CellId>, ReadError>

@@ -1,9 +1,10 @@
 //! Why a request is refused before it is a call.
 
-ghost use Rattle.std.specs.Prelude.{◌≡◌};
+ghost use Rattle.std.specs.Prelude.{◌≡◌, option_map};
 ghost use Rattle.desk_reading.specs.FaultWords as spec;
 ghost use Rattle.desk_reading.specs.declared.wire_fault.ReadError.TheVariants.{Fault, OutOfMemory};
 
+use crate::resource::Route;
 use http::StatusCode;
 use std::alloc::{AllocError, AllocFailed};
 use std::error::Error;
@@ -22,8 +23,10 @@ pub enum WireFault {
     ContentLength,
     /// The content-length is above 131,072.
     BodyTooLarge,
-    /// No resource has this path and method.
+    /// No resource has this path.
     NoRoute,
+    /// The resource with this path has no such method.
+    Method(Route),
     /// `x-operator` is not there exactly once with an operator's name.
     BadOperator,
     /// The id in the path is not a UUID.
@@ -47,6 +50,7 @@ impl WireFault {
             WireFault::HeadTooLarge | WireFault::BodyTooLarge => StatusCode::PAYLOAD_TOO_LARGE,
             WireFault::TransferEncoding => StatusCode::NOT_IMPLEMENTED,
             WireFault::NoRoute => StatusCode::NOT_FOUND,
+            WireFault::Method(_) => StatusCode::METHOD_NOT_ALLOWED,
             WireFault::BadHead
             | WireFault::ContentLength
             | WireFault::BadOperator
@@ -67,6 +71,7 @@ impl WireFault {
             WireFault::BadHead | WireFault::ContentLength => "bad_head",
             WireFault::TransferEncoding => "transfer_encoding",
             WireFault::NoRoute => "no_route",
+            WireFault::Method(_) => "method",
             WireFault::BadOperator => "bad_operator",
             WireFault::BadPlanId => "bad_plan_id",
             WireFault::BadJson => "bad_json",
@@ -75,17 +80,32 @@ impl WireFault {
             WireFault::TooManyCells => "too_many_cells",
         }
     }
+
+    /// The methods of the resource, if the answer has the field `allow` (RFC 9110, section 15.5.6).
+    pub fn allow(self) -> Option<&'static str>
+        ensures { option_map (λ s. s.now) result ≡ spec.fault_allow self }
+    {
+        match self {
+            WireFault::Method(route) => Some(route.allow()),
+            _ => None,
+        }
+    }
 }
 
 impl fmt::Display for WireFault {
+    ghost use Rattle.std.specs.Prelude.{Some};
+
+    ghost output = { λ fault. Some (spec.fault_text fault) };
+
     fn fmt<W: fmt::Write>(&self, f: &mut fmt::Formatter<W>) -> fmt::Result {
-        f.write_str(match self {
+        f.pad(match self {
             WireFault::HeadTooLarge => "the head is too large",
             WireFault::BadHead => "the head is malformed, or the body has another length",
             WireFault::TransferEncoding => "a transfer encoding is not supported",
             WireFault::ContentLength => "the content length is malformed",
             WireFault::BodyTooLarge => "the body is too large",
-            WireFault::NoRoute => "no resource has this path and method",
+            WireFault::NoRoute => "no resource has this path",
+            WireFault::Method(_) => "the resource has no such method",
             WireFault::BadOperator => "the operator's name is missing or malformed",
             WireFault::BadPlanId => "the id of the plan is not a UUID",
             WireFault::BadJson => "the body is not JSON",
@@ -108,10 +128,14 @@ pub enum ReadError {
 }
 
 impl fmt::Display for ReadError {
+    ghost use Rattle.std.specs.Prelude.{Some};
+
+    ghost output = { λ error. Some (spec.read_error_text error) };
+
     fn fmt<W: fmt::Write>(&self, f: &mut fmt::Formatter<W>) -> fmt::Result {
         match self {
-            ReadError::OutOfMemory => f.write_str("out of memory"),
-            ReadError::Fault(fault) => write!(f, "{fault}"),
+            ReadError::OutOfMemory => f.pad("out of memory"),
+            ReadError::Fault(fault) => fault.fmt(f),
         }
     }
 }

@@ -4,3 +4,4 @@ pub mod PointTests
 pub mod SearchLemmas
 pub mod Reach
 pub mod ConflictLemmas
+pub mod SharingLemmas

@@ -9,11 +9,12 @@ use Rattle.std.proofs.lemmas.Bool.Decides.{nat_tests}
 use Rattle.std.proofs.lemmas.List.Sums.{sum_by-cons}
 use Rattle.s2_hilbert.specs.Grid.{GridLeaf}
 use Rattle.s2_hilbert.specs.Curve.{position_of}
-use Rattle.s2_hilbert.specs.CurveLaws.{position_undone}
+use Rattle.s2_hilbert.specs.CurveLaws.{position_undone, position_below}
 use Rattle.s2_cellid.specs.Cell.{cell_has, leaf_id_at, first_leaf_id, last_leaf_id}
 use Rattle.s2_cellid.specs.Family.{leaf_id, cell_has_leaf}
 use Rattle.volume4d.specs.Point.{Point, is_leaf, point_cmp}
-use Rattle.volume4d.specs.Shape.{Shape, cells, shape_has}
+use Rattle.volume4d.specs.PointLaws.{leaf_test}
+use Rattle.volume4d.specs.Shape.{Shape, cells, rectangle, shape_has}
 use Rattle.volume4d.specs.Volume.{Block, block_has, area_has}
 use Rattle.desk_rules.specs.Conflict.{leaf_reach, altitude_reach, second_reach, point_of}
 use Rattle.std.proofs.lemmas.Bool.{and_parts}
@@ -34,6 +35,7 @@ leaf_below id p h = upto _ (and_parts (leb (first_leaf_id id) (leaf_id_at p)) _ 
 
 shape_below : (s : Shape) (leaf : GridLeaf) → shape_has s leaf ≡ true → position_of leaf + 1 ≤ leaf_reach s
 shape_below (cells ids) leaf h = any_sum (λ id. cell_has_leaf id leaf) (λ id. last_leaf_id id + 1) (position_of leaf + 1) (λ id e. leaf_below id (position_of leaf) e) ids (and_parts (is_leaf leaf) _ h).1
+shape_below (rectangle r) leaf h = let below = position_below leaf ((leaf_test leaf).0 (and_parts (is_leaf leaf) _ h).0) in omega (arith, below)
 
 abs_between : (l a u : ℤ) → int_le l a ≡ true → int_lt a u ≡ true → unsigned_abs a ≤ unsigned_abs l + unsigned_abs u
 abs_between (pos l) (pos a) (pos u) p q = grind (arith, nat_tests)

@@ -1,13 +1,13 @@
 -- The conflict of a plan, by the strategic conflict detection of ASTM F3548-21: a plan may share
 -- points with plans of lower priority, and not with those of higher priority. The standard leaves equal
 -- priorities to the regulator; here they block.
-use Rattle.std.specs.Prelude.{ℕ, ◌+◌, ℤ, unsigned_abs, List, Bool, ◌&&◌, cond, Option, None}
+use Rattle.std.specs.Prelude.{ℕ, ◌+◌, ◌*◌, ◌^◌, ℤ, unsigned_abs, List, Bool, ◌&&◌, cond, Option, None}
 use Rattle.std.specs.Option.{option_map, option_and_then}
 use Rattle.std.specs.List.{sum_by}
 use Rattle.s2_hilbert.specs.Curve.{grid_leaf_at}
 use Rattle.s2_cellid.specs.Cell.{last_leaf_id}
 use Rattle.volume4d.specs.Point.{Point}
-use Rattle.volume4d.specs.Shape.{Shape, cells}
+use Rattle.volume4d.specs.Shape.{Shape, cells, rectangle}
 use Rattle.volume4d.specs.Volume.{Block, area_has}
 use Rattle.desk_rules.specs.Level.{reaches}
 use Rattle.volume4d.specs.Meeting.{Spot, IsFirst}
@@ -27,6 +27,7 @@ IsConflict area levels priority spot = IsFirst (is_blocked area levels priority)
 -- ends there.
 abbrev pub leaf_reach : Shape → ℕ
 leaf_reach (cells ids) = sum_by (λ id. last_leaf_id id + 1) ids
+leaf_reach (rectangle r) = 6 * 2 ^ 60
 
 abbrev pub altitude_reach : Block → ℕ
 altitude_reach v = unsigned_abs v.window.lower + unsigned_abs v.window.upper

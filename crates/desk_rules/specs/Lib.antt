@@ -8,3 +8,5 @@ pub mod Search
 pub mod Conflict
 pub mod Bridge
 pub mod PlanLaws
+pub mod Replies
+pub mod Sharing

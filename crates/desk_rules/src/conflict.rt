@@ -1,12 +1,13 @@
-//! Conflicts of an area with stored plans.
+//! Conflicts of an area with stored plans, and points that two areas share.
 
 ghost use Rattle.std.specs.Prelude.{◌≡◌, ℕ, List, Option};
 ghost use Rattle.volume4d.specs.Point.{Point};
 ghost use Rattle.volume4d.specs.Volume.{Block};
 ghost use Rattle.desk_rules.specs.Bridge.{AreSlabsOf, HoldLevels};
 ghost use Rattle.desk_rules.specs.Conflict.{conflict};
+ghost use Rattle.desk_rules.specs.Sharing as spec;
 
-use volume4d::{Held, Meeting, Slab, first_meeting};
+use volume4d::{Held, Meeting, Slab, first_meeting, meet};
 
 /// The conflict of an area with other plans: its first blocked point, or `None` if no point is
 /// blocked.
@@ -20,4 +21,12 @@ pub fn first_conflict(mine: &[Slab], theirs: &[Held]) -> Option<Meeting>
         result ≡ conflict area levels priority }
 {
     first_meeting(mine, theirs)
+}
+
+/// Whether two areas share a point, by their slabs.
+pub fn share_a_point(mine: &[Slab], theirs: &[Slab]) -> bool
+    ensures { (area other : List Block) → AreSlabsOf mine.now area → AreSlabsOf theirs.now other →
+        result ≡ spec.share_a_point area other }
+{
+    meet(mine, theirs)
 }

@@ -1,10 +1,12 @@
-//! Laws of the definition of a conflict. Each is the contract of a function that does nothing.
+//! Laws of the definitions of a conflict and of a shared point. Each is the contract of a function that
+//! does nothing.
 
-ghost use Rattle.std.specs.Prelude.{◌≡◌, ℕ, List, Option};
+ghost use Rattle.std.specs.Prelude.{◌≡◌, ◌↔◌, ℕ, List, Option, true};
 ghost use Rattle.volume4d.specs.Point.{Point};
 ghost use Rattle.volume4d.specs.Volume.{Block};
 ghost use Rattle.volume4d.specs.Meeting.{Spot};
 ghost use Rattle.desk_rules.specs.Conflict.{IsConflict, conflict};
+ghost use Rattle.desk_rules.specs.Sharing.{HaveAPoint, share_a_point};
 
 /// An area has one conflict.
 pub fn one_conflict()
@@ -25,4 +27,9 @@ pub fn same_levels_same_conflict()
     ensures kept { (area : List Block) (f g : Point → Option ℕ) (priority : ℕ) (spot : Option Spot)
         → ((x : Point) → f x ≡ g x) → IsConflict area f priority spot
         → IsConflict area g priority spot }
+{}
+
+/// The test of a shared point says whether there is one.
+pub fn shared_point_is_found()
+    ensures { (area other : List Block) → (share_a_point area other ≡ true) ↔ HaveAPoint area other }
 {}

@@ -1,15 +1,38 @@
 //! Replies of the desk.
 
+ghost use Rattle.std.specs.Prelude.{◌≡◌, IfOk};
+ghost use Rattle.desk_rules.specs.Replies.{said_in};
+
+use crate::plan::PlanRow;
 use crate::words::{Note, PlanResult, PlanStatus};
+use std::alloc::AllocError;
 use volume4d::Meeting;
 
 /// A reply of the desk.
-#[derive(Clone, Copy, Debug, PartialEq, Eq)]
+#[derive(Debug, Drop)]
 pub enum Reply {
     /// The desk is ready.
     Ready,
+    /// The operator's plans, ascending by id.
+    Plans(Vec<Shown>),
+    /// The plan asked for.
+    Plan(Shown),
     /// The reply to a request to plan or to close.
     Answered(PutReply),
+    /// How many plans were removed.
+    Cleared(u32),
+}
+
+/// A plan of the operator as it is shown.
+#[derive(Debug, Drop)]
+pub struct Shown {
+    /// The plan as it is stored.
+    pub row: PlanRow,
+    /// The status of the plan.
+    pub status: PlanStatus,
+    /// The first point of the plan at which another plan blocks it, or `None` if there is none or
+    /// the plan is closed.
+    pub conflict: Option<Meeting>,
 }
 
 /// The reply to a request to plan or to close.
@@ -23,4 +46,51 @@ pub struct PutReply {
     pub note: Option<Note>,
     /// The first blocked point, if the note is `Conflict`.
     pub meeting: Option<Meeting>,
+}
+
+impl Reply {
+    /// A reply that says the same.
+    ///
+    /// # Errors
+    ///
+    /// `AllocError` if memory runs out.
+    pub fn copy(&self) -> Result<Reply, AllocError>
+        ensures { IfOk result (λ copy. said_in copy ≡ said_in self.now) }
+    {
+        match self {
+            Reply::Ready => Ok(Reply::Ready),
+            Reply::Plans(plans) => Ok(Reply::Plans(copies(plans)?)),
+            Reply::Plan(shown) => Ok(Reply::Plan(shown.copy()?)),
+            Reply::Answered(reply) => Ok(Reply::Answered(*reply)),
+            Reply::Cleared(count) => Ok(Reply::Cleared(*count)),
+        }
+    }
+}
+
+impl Shown {
+    /// An equal value.
+    ///
+    /// # Errors
+    ///
+    /// `AllocError` if memory runs out.
+    pub fn copy(&self) -> Result<Shown, AllocError>
+        ensures { IfOk result (λ copy. copy ≡ self.now) }
+    {
+        Ok(Shown {
+            row: self.row.copy()?,
+            status: self.status,
+            conflict: self.conflict,
+        })
+    }
+}
+
+// A copy of the list.
+fn copies(plans: &Vec<Shown>) -> Result<Vec<Shown>, AllocError>
+    ensures { IfOk result (λ copies. copies.items ≡ plans.now.items) }
+{
+    let mut copies = Vec::new(*plans.allocator());
+    for shown in plans {
+        copies.push(shown.copy()?)?;
+    }
+    Ok(copies)
 }

@@ -44,7 +44,7 @@ fn volume(alloc: Global, cells: &[u64], window: Window) -> Result<Volume, Fail> 
     for cell in cells {
         ids.push(CellId::from_raw(*cell).ok_or("no cell")?)?;
     }
-    Ok(Volume::try_new(Footprint::Cells(ids), window)?)
+    Ok(Volume::try_new(alloc, Footprint::Cells(ids), window)?)
 }
 
 fn area(alloc: Global, cells: &[u64], window: Window) -> Result<Area, Fail> {

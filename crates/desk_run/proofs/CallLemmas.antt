@@ -1,5 +1,5 @@
 -- Calls: what is prepared and committed is the verdict's.
-use Rattle.std.proofs.Common.{◌≡◌, ◌≤◌, ℕ, ℤ, List, length, Option, Some, None, Result, Ok, Err, true, refl, sym, ap, subst, ◌∙◌}
+use Rattle.std.proofs.Common.{◌≡◌, ◌≤◌, ℕ, ℤ, List, length, map, Option, Some, None, Result, Ok, Err, true, refl, sym, ap, subst, ◌∙◌}
 use Rattle.std.specs.Prelude.{IsSome, is_some}
 use Rattle.desk_rules.specs.declared.plan.PlanRow.{PlanRow}
 use Rattle.desk_rules.specs.declared.plan.PutCall.{PutCall}
@@ -16,14 +16,20 @@ use Rattle.desk_store.specs.declared.change.Change.{Change}
 use Rattle.desk_store.specs.declared.change.Change.TheVariants as change
 use Rattle.desk_store.specs.StoreChange.{changed_by, IsFitting}
 use Rattle.desk_store.specs.World.{World, own, held, held_at, ceiling_of, plans_of, stored_of}
+use Rattle.volume4d.specs.Volume.{Block}
+use Rattle.desk_rules.specs.declared.call.Call.{Call}
 use Rattle.desk_rules.specs.declared.call.Call.TheVariants as call
 use Rattle.desk_rules.specs.declared.call.Asked.{Asked}
 use Rattle.desk_run.specs.declared.fault.DeskFault.{DeskFault}
 use Rattle.desk_run.specs.declared.fault.DeskFault.TheVariants.{OutOfMemory, Store, UnknownOperator, NoSuchPlan, Ceiling}
 use Rattle.desk_rules.specs.declared.reply.Reply.TheVariants as reply
+use Rattle.desk_rules.specs.declared.reply.Reply.{Reply}
+use Rattle.desk_rules.specs.declared.reply.Shown.{Shown}
+use Rattle.desk_rules.specs.Replies.{ReplyParts, said_in}
+use Rattle.desk_rules.specs.Replies as said
 use Rattle.desk_rules.specs.declared.reply.PutReply.{PutReply}
 use Rattle.desk_run.specs.declared.pending.Pending.{Pending}
-use Rattle.desk_run.specs.Verdicts.{Told, replied, unknown_operator, no_such_plan, ruling_alone, put_outcome, put_ruling, plans_left, delete_ruling, enrolled_ruling, ruling_under, verdict, world_with_plans, told_to, step}
+use Rattle.desk_run.specs.Verdicts.{Told, replied, unknown_operator, no_such_plan, ruling_alone, put_outcome, put_ruling, plans_left, delete_ruling, shown_in, list_ruling, show_ruling, clear_ruling, enrolled_ruling, ruling_under, verdict, world_with_plans, told_to, step}
 use Rattle.desk_run.specs.Calls.{IsUnanswered, IsReady, Readies, IsPending, Prepares, change_after, world_with, world_committed}
 use Rattle.desk_run.proofs.PutLemmas.{change_fits}
 
@@ -57,7 +63,7 @@ put_ready w o put given moment ceiling v r c listed low is m change reply_is =
     let v_is : v ≡ u = is ∙ ap (λ t. put_outcome (own w o) (held w o) ceiling t put) m in
     let c_is : c ≡ change_after u.effect o put = change ∙ ap (λ x. change_after x.effect o put) v_is in
     record {
-      told = ap (λ x. (put_ruling x put (plans_of o w)).told) (sym v_is) ∙ ap (λ q. replied (reply.Answered q)) (sym reply_is);
+      told = ap (λ x. (put_ruling x put (plans_of o w)).told) (sym v_is) ∙ ap (λ q. replied (said.answered q)) (sym reply_is);
       left = ap (world_with w) c_is ∙ change_made w o put u.effect;
       fits = rw c_is (change_fits w o put moment ceiling (conflict put.area (held_at (plans_of o w) (held w o) put.id) put.priority) listed low);
     }
@@ -81,6 +87,22 @@ prepares_from w moment asked ceiling (Err OutOfMemory) listed h = tt
 prepares_from w moment asked ceiling (Err Store) listed h = tt
 prepares_from w moment asked ceiling (Err UnknownOperator) listed h = absurd h
 prepares_from w moment asked ceiling (Err Ceiling) listed h = absurd h
+
+-- a reply that goes with no change is ready
+alone_ready : (w : World) (o : List ℕ) (told : ReplyParts) (r : Reply) → said_in r ≡ told → IsReady w o (ruling_alone (replied told)) (record { reply = r; change = None })
+unfolding world_committed
+alone_ready w o told r e = record { told = ap replied (sym e); left = refl; fits = tt }
+
+-- the list of an operator's plans is ready
+pub list_ready : (w now : World) (o : List ℕ) (rows : List PlanRow) (shown : List Shown) (r : Reply) → rows ≡ plans_of o w → now ≡ w → shown ≡ map (shown_in now o) rows → said_in r ≡ said.plans shown → IsReady w o (list_ruling (plans_of o w) (held w o)) (record { reply = r; change = None })
+list_ready w now o rows shown r listed same is says =
+    alone_ready w o _ r (says ∙ ap said.plans (is ∙ (λ i. map (shown_in (same i) o) (listed i))))
+
+-- a plan is ready to be shown
+pub show_ready : (w now : World) (o id : List ℕ) (found : Option PlanRow) (row : PlanRow) (shown : Shown) → found ≡ stored_of id (plans_of o w) → found ≡ Some row → now ≡ w → shown ≡ shown_in now o row → IsReady w o (show_ruling (plans_of o w) (held w o) (stored_of id (plans_of o w))) (record { reply = reply.Plan shown; change = None })
+show_ready w now o id found row shown stored is same shown_is =
+    subst (λ r. IsReady w o (show_ruling (plans_of o w) (held w o) r) (record { reply = reply.Plan shown; change = None })) (sym is ∙ stored)
+    (alone_ready w o _ (reply.Plan shown) (ap said.plan (shown_is ∙ ap (λ v. shown_in v o row) same)))
 
 -- that the desk is ready
 pub status_ready : (w : World) (moment : ℤ) (asked : Asked) (ceiling : ℕ) → ceiling_of asked.operator w ≡ Some ceiling → asked.call ≡ call.Status → IsPending w moment asked (record { reply = reply.Ready; change = None })
@@ -106,8 +128,24 @@ put_readies w before given moment asked put ceiling r same m is h =
     (subst (λ t. Readies w asked.operator (enrolled_ruling (own w asked.operator) (held w asked.operator) ceiling t asked.call) r) m
     (subst (λ c. Readies w asked.operator (enrolled_ruling (own w asked.operator) (held w asked.operator) ceiling given c) r) (sym is) h))
 
-pub delete_readies : (w before : World) (moment : ℤ) (asked : Asked) (id : List ℕ) (ceiling : ℕ) (r : Result Pending DeskFault) → w ≡ before → asked.call ≡ call.Delete id → Readies w asked.operator (delete_ruling (plans_of asked.operator w) id (stored_of id (plans_of asked.operator w))) r → Readies before asked.operator (enrolled_ruling (own before asked.operator) (held before asked.operator) ceiling moment asked.call) r
-unfolding enrolled_ruling own
-delete_readies w before moment asked id ceiling r same is h =
+-- what is ready for a call of a kind is ready for the call
+readies_as : (w before : World) (moment : ℤ) (asked : Asked) (kind : Call) (ceiling : ℕ) (r : Result Pending DeskFault) → w ≡ before → asked.call ≡ kind → Readies w asked.operator (enrolled_ruling (own w asked.operator) (held w asked.operator) ceiling moment kind) r → Readies before asked.operator (enrolled_ruling (own before asked.operator) (held before asked.operator) ceiling moment asked.call) r
+readies_as w before moment asked kind ceiling r same is h =
     subst (λ v. Readies v asked.operator (enrolled_ruling (own v asked.operator) (held v asked.operator) ceiling moment asked.call) r) same
     (subst (λ c. Readies w asked.operator (enrolled_ruling (own w asked.operator) (held w asked.operator) ceiling moment c) r) (sym is) h)
+
+pub list_readies : (w before : World) (moment : ℤ) (asked : Asked) (ceiling : ℕ) (r : Result Pending DeskFault) → w ≡ before → asked.call ≡ call.List → Readies w asked.operator (list_ruling (plans_of asked.operator w) (held w asked.operator)) r → Readies before asked.operator (enrolled_ruling (own before asked.operator) (held before asked.operator) ceiling moment asked.call) r
+unfolding enrolled_ruling own
+list_readies w before moment asked ceiling r same is h = readies_as w before moment asked call.List ceiling r same is h
+
+pub show_readies : (w before : World) (moment : ℤ) (asked : Asked) (id : List ℕ) (ceiling : ℕ) (r : Result Pending DeskFault) → w ≡ before → asked.call ≡ call.Show id → Readies w asked.operator (show_ruling (plans_of asked.operator w) (held w asked.operator) (stored_of id (plans_of asked.operator w))) r → Readies before asked.operator (enrolled_ruling (own before asked.operator) (held before asked.operator) ceiling moment asked.call) r
+unfolding enrolled_ruling own
+show_readies w before moment asked id ceiling r same is h = readies_as w before moment asked (call.Show id) ceiling r same is h
+
+pub clear_readies : (w before : World) (moment : ℤ) (asked : Asked) (extent : Block) (ceiling : ℕ) (r : Result Pending DeskFault) → w ≡ before → asked.call ≡ call.Clear extent → Readies w asked.operator (clear_ruling (plans_of asked.operator w) extent) r → Readies before asked.operator (enrolled_ruling (own before asked.operator) (held before asked.operator) ceiling moment asked.call) r
+unfolding enrolled_ruling own
+clear_readies w before moment asked extent ceiling r same is h = readies_as w before moment asked (call.Clear extent) ceiling r same is h
+
+pub delete_readies : (w before : World) (moment : ℤ) (asked : Asked) (id : List ℕ) (ceiling : ℕ) (r : Result Pending DeskFault) → w ≡ before → asked.call ≡ call.Delete id → Readies w asked.operator (delete_ruling (plans_of asked.operator w) id (stored_of id (plans_of asked.operator w))) r → Readies before asked.operator (enrolled_ruling (own before asked.operator) (held before asked.operator) ceiling moment asked.call) r
+unfolding enrolled_ruling own
+delete_readies w before moment asked id ceiling r same is h = readies_as w before moment asked (call.Delete id) ceiling r same is h

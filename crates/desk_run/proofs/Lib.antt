@@ -2,3 +2,4 @@ pub mod FaultLemmas
 pub mod PutLemmas
 pub mod CallLemmas
 pub mod RunLemmas
+pub mod ClearLemmas

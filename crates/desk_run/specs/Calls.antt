@@ -1,5 +1,8 @@
 -- What the calls of a desk give, by the verdict.
-use Rattle.std.specs.Prelude.{◌≡◌, ℕ, ℤ, ⊤, List, Option, Some, None, Result, Ok, Err}
+use Rattle.std.specs.Prelude.{◌≡◌, ℕ, ℤ, ⊤, List, map, Option, Some, None, Result, Ok, Err}
+use Rattle.std.specs.List.{filter}
+use Rattle.volume4d.specs.Volume.{Block}
+use Rattle.desk_rules.specs.declared.plan.PlanRow.{PlanRow}
 use Rattle.desk_rules.specs.declared.decide.Effect.{Effect}
 use Rattle.desk_rules.specs.declared.decide.Effect.TheVariants as effect
 use Rattle.desk_rules.specs.declared.plan.PutCall.{PutCall}
@@ -11,10 +14,11 @@ use Rattle.desk_store.specs.ChangeParts.{parts_in}
 use Rattle.desk_store.specs.World.{World}
 use Rattle.desk_rules.specs.declared.call.Asked.{Asked}
 use Rattle.desk_rules.specs.declared.reply.Reply.{Reply}
+use Rattle.desk_rules.specs.Replies.{said_in}
 use Rattle.desk_run.specs.declared.pending.Pending.{Pending}
 use Rattle.desk_run.specs.declared.fault.DeskFault.{DeskFault}
 use Rattle.desk_run.specs.declared.fault.DeskFault.TheVariants.{OutOfMemory, Store, UnknownOperator, NoSuchPlan, Ceiling}
-use Rattle.desk_run.specs.Verdicts.{Told, Ruling, replied, unknown_operator, no_such_plan, row_asked, ruling_alone, world_with_plans, told_to, step}
+use Rattle.desk_run.specs.Verdicts.{Told, Ruling, replied, unknown_operator, no_such_plan, is_in, row_asked, ruling_alone, world_with_plans, told_to, step}
 
 -- a call without a reply: what the caller is told instead, and that the call leaves the world as it was
 pub record IsUnanswered (w : World) (moment : ℤ) (asked : Asked) (reason : Told) : Type 0 where
@@ -24,7 +28,7 @@ pub record IsUnanswered (w : World) (moment : ℤ) (asked : Asked) (reason : Tol
 -- a reply is told as it is, and so are an unknown operator and a plan that is not there; of want of
 -- memory, and of a store that failed, nothing is claimed; no other fault comes
 abbrev pub Tells : World → ℤ → Asked → Result Reply DeskFault → Type 0
-Tells w moment asked (Ok r) = told_to w asked.operator moment asked.call ≡ replied r
+Tells w moment asked (Ok r) = told_to w asked.operator moment asked.call ≡ replied (said_in r)
 Tells w moment asked (Err UnknownOperator) = IsUnanswered w moment asked unknown_operator
 Tells w moment asked (Err NoSuchPlan) = IsUnanswered w moment asked no_such_plan
 Tells w moment asked (Err OutOfMemory) = ⊤
@@ -53,14 +57,14 @@ CanCommit w p = Fits w p.change
 unfoldable pub world_committed : World → Pending → World
 world_committed w p = world_with w p.change
 
--- the same reply, with a change that asks for the same
+-- a reply that says the same, with a change that asks for the same
 pub record IsSamePending (p copy : Pending) : Type 0 where
-  pub reply : copy.reply ≡ p.reply
+  pub reply : said_in copy.reply ≡ said_in p.reply
   pub change : option_map parts_in copy.change ≡ option_map parts_in p.change
 
 -- what is pending is what an answer to an operator says
 pub record IsReady (w : World) (operator : List ℕ) (a : Ruling) (p : Pending) : Type 0 where
-  pub told : a.told ≡ replied (reply_in p)
+  pub told : a.told ≡ replied (said_in (reply_in p))
   pub left : world_committed w p ≡ world_with_plans w operator a.plans
   pub fits : CanCommit w p
 
@@ -79,9 +83,13 @@ change_after effect.Nothing operator asked = None
 change_after effect.Save operator asked = Some (change.Put operator (row_asked asked))
 change_after effect.Shut operator asked = Some (change.Close operator asked.id)
 
+-- the ids of the plans that share a point with an extent
+abbrev pub ids_in : Block → List PlanRow → List (List ℕ)
+ids_in extent rows = map (λ row. row.id) (filter (is_in extent) rows)
+
 -- what is pending is the reply and the change of the call at the moment, and may be committed
 pub record IsPending (w : World) (moment : ℤ) (asked : Asked) (p : Pending) : Type 0 where
-  pub told : told_to w asked.operator moment asked.call ≡ replied (reply_in p)
+  pub told : told_to w asked.operator moment asked.call ≡ replied (said_in (reply_in p))
   pub left : world_committed w p ≡ step w asked.operator moment asked.call
   pub fits : CanCommit w p
 

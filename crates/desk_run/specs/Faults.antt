@@ -1,9 +1,9 @@
 -- What stops a call.
-use Rattle.std.specs.Prelude.{◌≡◌, ◌⊎◌}
+use Rattle.std.specs.Prelude.{◌≡◌, ◌⊎◌, ℕ, List, codes}
 use Rattle.desk_store.specs.declared.fault.StoreFault.{StoreFault}
 use Rattle.desk_store.specs.declared.fault.StoreFault.TheVariants as store
 use Rattle.desk_run.specs.declared.fault.DeskFault.{DeskFault}
-use Rattle.desk_run.specs.declared.fault.DeskFault.TheVariants.{OutOfMemory, Store}
+use Rattle.desk_run.specs.declared.fault.DeskFault.TheVariants.{OutOfMemory, Store, UnknownOperator, NoSuchPlan, Ceiling}
 
 -- a store's fault, as the desk hands it on
 abbrev pub fault_of : StoreFault → DeskFault
@@ -13,3 +13,11 @@ fault_of store.Store = Store
 -- want of memory, or a failing store: neither says anything of the call
 abbrev pub IsBreakdown : DeskFault → Type 0
 IsBreakdown fault = (fault ≡ OutOfMemory) ⊎ (fault ≡ Store)
+
+-- the fault as a sentence
+abbrev pub fault_text : DeskFault → List ℕ
+fault_text OutOfMemory = codes "out of memory"
+fault_text Store = codes "the store failed"
+fault_text UnknownOperator = codes "the operator is not enrolled"
+fault_text NoSuchPlan = codes "the operator has no plan with this id"
+fault_text Ceiling = codes "the ceiling is above 1,000"

@@ -3,6 +3,7 @@ use Rattle.std.specs.Prelude.{◌≡◌, ◌<◌, ℕ, ℤ, List, [], ◌∷◌,
 use Rattle.desk_store.specs.World.{World}
 use Rattle.desk_rules.specs.declared.call.Asked.{Asked}
 use Rattle.desk_rules.specs.declared.reply.Reply.{Reply}
+use Rattle.desk_rules.specs.Replies.{said_in}
 use Rattle.desk_run.specs.declared.fault.DeskFault.{DeskFault}
 use Rattle.desk_run.specs.declared.fault.DeskFault.TheVariants.{OutOfMemory, Store, UnknownOperator, NoSuchPlan, Ceiling}
 use Rattle.desk_run.specs.declared.run.Ran.{Ran}
@@ -25,7 +26,7 @@ world_left w (call ∷ calls) = world_left (step w call.1.operator call.0 call.1
 
 -- an outcome as it is told
 abbrev pub told_by : Outcome → Told
-told_by (outcome.Reply reply) = replied reply
+told_by (outcome.Reply reply) = replied (said_in reply)
 told_by outcome.UnknownOperator = unknown_operator
 told_by outcome.NoSuchPlan = no_such_plan
 

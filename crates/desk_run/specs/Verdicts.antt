@@ -1,6 +1,7 @@
 -- Verdicts: what a desk answers to a call, and what it leaves, by what the operator owns and what
 -- others hold.
-use Rattle.std.specs.Prelude.{ℕ, ℤ, length, List, Option, Some, None}
+use Rattle.std.specs.Prelude.{ℕ, ℤ, length, List, [], ◌∷◌, map, Bool, not, cond, Option, Some, None}
+use Rattle.std.specs.List.{filter, list_any}
 use Rattle.std.specs.Option.{unwrap_or}
 use Rattle.desk_rules.specs.declared.plan.PlanRow.{PlanRow}
 use Rattle.desk_rules.specs.declared.plan.PutCall.{PutCall}
@@ -11,19 +12,24 @@ use Rattle.desk_rules.specs.declared.decide.Effect.{Effect}
 use Rattle.desk_rules.specs.declared.decide.Effect.TheVariants as effect
 use Rattle.volume4d.specs.Point.{Point}
 use Rattle.volume4d.specs.Meeting.{Spot}
+use Rattle.volume4d.specs.Volume.{Block}
+use Rattle.desk_rules.specs.Plan.{is_live}
+use Rattle.desk_rules.specs.States.{status_of}
 use Rattle.desk_rules.specs.Conflict.{conflict}
+use Rattle.desk_rules.specs.Sharing.{share_a_point}
 use Rattle.desk_rules.specs.Outcome.{outcome}
 use Rattle.desk_rules.specs.declared.call.Asked.{Asked}
 use Rattle.desk_rules.specs.declared.call.Call.{Call}
 use Rattle.desk_rules.specs.declared.call.Call.TheVariants as call
-use Rattle.desk_rules.specs.declared.reply.Reply.{Reply}
-use Rattle.desk_rules.specs.declared.reply.Reply.TheVariants as reply
+use Rattle.desk_rules.specs.declared.reply.Shown.{Shown}
+use Rattle.desk_rules.specs.Replies as said
+use Rattle.desk_rules.specs.Replies.{ReplyParts}
 use Rattle.desk_store.specs.World.{World, Own, own, held, held_at, plans_of, stored_of}
 use Rattle.desk_store.specs.Changes.{put_row, close_row, with_plans}
 
 -- what a caller is told: a reply, that the operator is not enrolled, or that it has no such plan
 pub data Told : Type 0 where
-  replied : Reply → Told
+  replied : ReplyParts → Told
   unknown_operator : Told
   no_such_plan : Told
 
@@ -40,14 +46,15 @@ put_outcome mine others ceiling moment asked =
     outcome asked moment (stored_of asked.id mine.plans) (length mine.plans) ceiling
     (conflict asked.area (held_at mine.plans others asked.id) asked.priority)
 
--- that in a world, and the conflict of the area asked there
+-- that in a world
 abbrev pub put_outcome_in : World → List ℕ → ℕ → ℤ → PutCall → Verdict
 put_outcome_in w operator ceiling moment asked =
     put_outcome (own w operator) (held w operator) ceiling moment asked
 
-abbrev pub conflict_in : World → List ℕ → PutCall → Option Spot
-conflict_in w operator asked =
-    conflict asked.area (held_at (plans_of operator w) (held w operator) asked.id) asked.priority
+-- the conflict of an area with a priority in a world, of an operator's plan of an id
+abbrev pub conflict_in : World → List ℕ → List ℕ → List Block → ℕ → Option Spot
+conflict_in w operator id area priority =
+    conflict area (held_at (plans_of operator w) (held w operator) id) priority
 
 -- the plan that a request asks for
 abbrev pub row_asked : PutCall → PlanRow
@@ -68,7 +75,10 @@ plans_left effect.Shut asked rows = Some (close_row asked.id rows)
 abbrev pub put_ruling : Verdict → PutCall → List PlanRow → Ruling
 put_ruling v asked rows =
     record {
-      told = replied (reply.Answered (record { result = v.result; status = v.status; note = v.note; meeting = v.meeting }));
+      told =
+          replied
+          (said.answered
+          (record { result = v.result; status = v.status; note = v.note; meeting = v.meeting }));
       plans = plans_left v.effect asked rows;
     }
 
@@ -81,17 +91,62 @@ abbrev pub delete_ruling : List PlanRow → List ℕ → Option PlanRow → Ruli
 delete_ruling rows id None = ruling_alone no_such_plan
 delete_ruling rows id (Some row) =
     record {
-      told = replied (reply.Answered (record { result = result.Completed; status = status.Closed; note = None; meeting = None }));
+      told =
+          replied
+          (said.answered
+          (record { result = result.Completed; status = status.Closed; note = None; meeting = None }));
       plans = Some (close_row id rows);
+    }
+
+-- the conflict of a live plan's area at its own priority; a closed plan has none
+abbrev pub conflict_shown : List PlanRow → (Point → Option ℕ) → PlanRow → Option Spot
+conflict_shown rows others row =
+    cond (is_live row.usage) (conflict row.area (held_at rows others row.id) row.priority) None
+
+-- a plan as it is shown to its operator, who has these plans beside what others hold
+abbrev pub shown_plan : List PlanRow → (Point → Option ℕ) → PlanRow → Shown
+shown_plan rows others row =
+    record { row = row; status = status_of (Some row); conflict = conflict_shown rows others row }
+
+-- these in a world
+abbrev pub conflict_shown_in : World → List ℕ → PlanRow → Option Spot
+conflict_shown_in w operator row = conflict_shown (plans_of operator w) (held w operator) row
+
+abbrev pub shown_in : World → List ℕ → PlanRow → Shown
+shown_in w operator row = shown_plan (plans_of operator w) (held w operator) row
+
+-- all plans of the operator are shown, by id
+abbrev pub list_ruling : List PlanRow → (Point → Option ℕ) → Ruling
+list_ruling rows others = ruling_alone (replied (said.plans (map (shown_plan rows others) rows)))
+
+-- the plan of an id is shown, if there is one
+abbrev pub show_ruling : List PlanRow → (Point → Option ℕ) → Option PlanRow → Ruling
+show_ruling rows others None = ruling_alone no_such_plan
+show_ruling rows others (Some row) = ruling_alone (replied (said.plan (shown_plan rows others row)))
+
+-- a plan, closed or not, that shares a point with an extent
+abbrev pub is_in : Block → PlanRow → Bool
+is_in extent row = share_a_point (extent ∷ []) row.area
+
+-- the plans that share a point with an extent are taken out, closed ones too, and their number is told
+abbrev pub clear_ruling : List PlanRow → Block → Ruling
+clear_ruling rows extent =
+    record {
+      told = replied (said.cleared (length (filter (is_in extent) rows)));
+      plans = cond (list_any (is_in extent) rows) (Some (filter (λ row. not (is_in extent row)) rows)) None;
     }
 
 -- the answer to a call of an operator under a ceiling
 unfoldable pub enrolled_ruling : Own → (Point → Option ℕ) → ℕ → ℤ → Call → Ruling
-enrolled_ruling mine others ceiling moment call.Status = ruling_alone (replied reply.Ready)
+enrolled_ruling mine others ceiling moment call.Status = ruling_alone (replied said.ready)
+enrolled_ruling mine others ceiling moment call.List = list_ruling mine.plans others
+enrolled_ruling mine others ceiling moment (call.Show id) =
+    show_ruling mine.plans others (stored_of id mine.plans)
 enrolled_ruling mine others ceiling moment (call.Put asked) =
     put_ruling (put_outcome mine others ceiling moment asked) asked mine.plans
 enrolled_ruling mine others ceiling moment (call.Delete id) =
     delete_ruling mine.plans id (stored_of id mine.plans)
+enrolled_ruling mine others ceiling moment (call.Clear extent) = clear_ruling mine.plans extent
 
 -- the answer to a call; none is made to an operator that is not enrolled
 abbrev pub ruling_under : Option ℕ → Own → (Point → Option ℕ) → ℤ → Call → Ruling

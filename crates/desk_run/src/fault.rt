@@ -21,14 +21,19 @@ pub enum DeskFault {
 }
 
 impl fmt::Display for DeskFault {
+    ghost use Rattle.std.specs.Prelude.{Some};
+    ghost use Rattle.desk_run.specs.Faults.{fault_text};
+
+    ghost output = { λ fault. Some (fault_text fault) };
+
     fn fmt<W: fmt::Write>(&self, f: &mut fmt::Formatter<W>) -> fmt::Result {
-        match self {
-            DeskFault::OutOfMemory => write!(f, "out of memory"),
-            DeskFault::Store => write!(f, "the store failed"),
-            DeskFault::UnknownOperator => write!(f, "the operator is not enrolled"),
-            DeskFault::NoSuchPlan => write!(f, "the operator has no plan with this id"),
-            DeskFault::Ceiling => write!(f, "the ceiling is above 1,000"),
-        }
+        f.pad(match self {
+            DeskFault::OutOfMemory => "out of memory",
+            DeskFault::Store => "the store failed",
+            DeskFault::UnknownOperator => "the operator is not enrolled",
+            DeskFault::NoSuchPlan => "the operator has no plan with this id",
+            DeskFault::Ceiling => "the ceiling is above 1,000",
+        })
     }
 }
 

@@ -11,7 +11,7 @@ mod tests;
 
 pub use desk::{Desk, MAX_CEILING};
 pub use desk_rules::call::{Asked, Call};
-pub use desk_rules::reply::{PutReply, Reply};
+pub use desk_rules::reply::{PutReply, Reply, Shown};
 pub use fault::DeskFault;
 pub use pending::Pending;
 pub use run::{Outcome, Ran};

@@ -6,15 +6,20 @@ ghost use Rattle.desk_run.specs.Faults.{IsBreakdown};
 ghost use Rattle.desk_run.specs.Calls.{IsSamePending, Prepares, CanCommit, reply_in, world_committed};
 
 use crate::fault::DeskFault;
+use clear::ready_clear;
 use delete::ready_delete;
 use desk_rules::call::{Asked, Call};
 use desk_rules::reply::Reply;
 use desk_store::{Change, PlanStore};
 use put::ready_put;
+use show::{ready_list, ready_show};
 use std::alloc::{AllocError, Global};
 
+mod clear;
+mod conflict;
 mod delete;
 mod put;
+mod show;
 
 /// A reply that is ready, and the change that goes with it.
 #[derive(Debug, Drop)]
@@ -31,11 +36,11 @@ impl Pending {
         &self.reply
     }
 
-    /// The same reply, with a change that asks for the same.
+    /// A reply that says the same, with a change that asks for the same.
     ///
     /// # Errors
     ///
-    /// `AllocError` for want of memory.
+    /// `AllocError` if memory runs out.
     pub fn copy(&self) -> Result<Pending, AllocError>
         ensures { IfOk result (λ copy. IsSamePending self.now copy) }
     {
@@ -44,7 +49,7 @@ impl Pending {
             None => None,
         };
         Ok(Pending {
-            reply: self.reply,
+            reply: self.reply.copy()?,
             change,
         })
     }
@@ -74,8 +79,11 @@ pub fn prepare_over<S: PlanStore>(
             reply: Reply::Ready,
             change: None,
         }),
-        Call::Put(put) => ready_put(alloc, store, moment, operator, put, ceiling),
+        Call::List => ready_list(alloc, store, operator),
+        Call::Show(id) => ready_show(store, operator, id),
+        Call::Put(put) => ready_put(store, moment, operator, put, ceiling),
         Call::Delete(id) => ready_delete(store, operator, id),
+        Call::Clear(extent) => ready_clear(alloc, store, operator, extent),
     }
 }
 

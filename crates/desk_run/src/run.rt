@@ -1,9 +1,9 @@
 //! Runs: lists of calls, answered one after the other.
 
-ghost use Rattle.std.specs.Prelude.{◌≡◌, ◌≤◌, Some, IfOk, OnErr};
+ghost use Rattle.std.specs.Prelude.{◌≡◌, ◌≤◌, map, Some, IfOk, OnErr};
 ghost use Rattle.desk_store.specs.Faults.{IsHonest, HasRisen};
 ghost use Rattle.desk_run.specs.Runs as spec;
-ghost use Rattle.desk_run.specs.Runs.{IsRun};
+ghost use Rattle.desk_run.specs.Runs.{IsRun, told_by};
 
 use crate::desk::Desk;
 use crate::fault::DeskFault;
@@ -13,7 +13,7 @@ use desk_store::PlanStore;
 use std::alloc::{AllocError, Global};
 
 /// What a call of a run came to.
-#[derive(Clone, Copy, Debug, PartialEq, Eq)]
+#[derive(Debug, Drop)]
 pub enum Outcome {
     /// It has a reply.
     Reply(Reply),
@@ -32,18 +32,36 @@ pub struct Ran {
     pub stopped: Option<DeskFault>,
 }
 
-impl Ran {
-    /// The same outcomes, and the same fault.
+impl Outcome {
+    /// An outcome that is told as this one is.
     ///
     /// # Errors
     ///
-    /// `AllocError` for want of memory.
+    /// `AllocError` if memory runs out.
+    pub fn copy(&self) -> Result<Outcome, AllocError>
+        ensures { IfOk result (λ copy. told_by copy ≡ told_by self.now) }
+    {
+        match self {
+            Outcome::Reply(reply) => Ok(Outcome::Reply(reply.copy()?)),
+            Outcome::UnknownOperator => Ok(Outcome::UnknownOperator),
+            Outcome::NoSuchPlan => Ok(Outcome::NoSuchPlan),
+        }
+    }
+}
+
+impl Ran {
+    /// Outcomes that are told as these are, and the same fault.
+    ///
+    /// # Errors
+    ///
+    /// `AllocError` if memory runs out.
     pub fn copy(&self) -> Result<Ran, AllocError>
-        ensures outcomes { IfOk result (λ copy. copy.outcomes.items ≡ self.now.outcomes.items) }
+        ensures outcomes { IfOk result (λ copy.
+            map told_by copy.outcomes.items ≡ map told_by self.now.outcomes.items) }
         ensures stopped { IfOk result (λ copy. copy.stopped ≡ self.now.stopped) }
     {
         Ok(Ran {
-            outcomes: self.outcomes.clone()?,
+            outcomes: copies(&self.outcomes)?,
             stopped: self.stopped,
         })
     }
@@ -67,6 +85,17 @@ impl<S: PlanStore> Desk<S> {
     {
         run_over(alloc, self, calls)
     }
+}
+
+// Copies of outcomes, in their order.
+fn copies(outcomes: &Vec<Outcome>) -> Result<Vec<Outcome>, AllocError>
+    ensures { IfOk result (λ copies. map told_by copies.items ≡ map told_by outcomes.now.items) }
+{
+    let mut copies = Vec::new(*outcomes.allocator());
+    for outcome in outcomes {
+        copies.push(outcome.copy()?)?;
+    }
+    Ok(copies)
 }
 
 // Answers calls at a desk.

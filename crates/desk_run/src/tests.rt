@@ -1,7 +1,7 @@
 //! Runs at a desk of `alfa` and `bravo`, whose ceilings are 100, and what its store then holds; the
 //! outcomes are written by hand.
 
-use crate::{Asked, Call, Desk, Outcome};
+use crate::{Asked, Call, Desk, Outcome, PutReply, Reply};
 use desk_rules::operator::Operator;
 use desk_rules::plan::PutCall;
 use desk_rules::plan_id::PlanId;
@@ -63,7 +63,9 @@ fn area_of(alloc: Global, ask: Ask) -> Result<Area, Fail> {
         .ok()
         .ok_or("a cell")?;
     let footprint = Footprint::Cells(vec![in alloc; cell]?);
-    let volume = Volume::try_new(footprint, window).ok().ok_or("a volume")?;
+    let volume = Volume::try_new(alloc, footprint, window)
+        .ok()
+        .ok_or("a volume")?;
     Ok(Area::try_new(vec![in alloc; volume]?).ok_or("an area")?)
 }
 
@@ -103,6 +105,14 @@ fn desk_of(alloc: Global) -> Result<Desk<ListStore>, Fail> {
         desk.enrol(&operator_of(name)?, 100)?;
     }
     Ok(desk)
+}
+
+/// The reply to a request to plan or to close.
+fn put_reply(reply: &Reply) -> Result<PutReply, Fail> {
+    match reply {
+        Reply::Answered(put) => Ok(*put),
+        _ => Err(Fail::from("another reply")),
+    }
 }
 
 /// The outcomes of a run that nothing stopped.

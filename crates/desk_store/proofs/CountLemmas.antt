@@ -1,7 +1,6 @@
 -- The counts of plans that a store in memory keeps.
 use Rattle.std.proofs.Common.{◌≡◌, ℕ, Bool, true, false, cond, List, [], ◌∷◌, length, map, Option, Some, None, refl, sym, ap, subst, ◌∙◌, Less, Equal, Greater}
-use Rattle.std.specs.Prelude.{IsSome, is_some}
-use Rattle.std.specs.List.{filter, find, AllByRecursion}
+use Rattle.std.specs.List.{AllByRecursion}
 use Rattle.std.specs.Option.{option_map, unwrap_or}
 use Rattle.std.specs.declared.cmp.Ordering.{Ordering}
 use Rattle.std.specs.Ordering.{is_eq, ordering_reverse, match_ordering}
@@ -11,10 +10,10 @@ use Rattle.std.specs.Map.{lookup, set_value, keys_of}
 use Rattle.std.specs.List.Sorted.{IsStrictlySortedBy}
 use Rattle.std.proofs.lemmas.Map.Lookups.{exact_bytes}
 use Rattle.desk_store.specs.declared.list.Enrolment.{Enrolment}
-use Rattle.desk_store.specs.World.{Filed, World, text_cmp, rows_by, plans_of, is_by, ceiling_of, IsListed, IsWorld}
+use Rattle.desk_store.specs.World.{Filed, text_cmp, rows_by, ceiling_of}
 use Rattle.desk_store.specs.Parts.{PlanParts}
 use Rattle.desk_store.specs.Listing.{listed_of, filed_all, world_of, AreCounted, IsStore, with_count}
-use Rattle.desk_store.specs.OrderLaws.{all_weaker, name_of}
+use Rattle.desk_store.specs.OrderLaws.{all_weaker}
 use Rattle.desk_store.specs.WorldLaws.{unlisted_none}
 use Rattle.desk_store.proofs.EntryLemmas.{Key}
 use Rattle.desk_store.proofs.StoreLemmas.{ceiling_found}

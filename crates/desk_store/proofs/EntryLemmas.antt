@@ -1,5 +1,5 @@
 -- The entries of a store in memory, as plans in order.
-use Rattle.std.proofs.Common.{◌≡◌, ℕ, List, [], ◌∷◌, map, refl, sym, ap, ◌∙◌, Less, Equal, Greater}
+use Rattle.std.proofs.Common.{◌≡◌, ℕ, List, [], ◌∷◌, refl, sym, ap, ◌∙◌, Less, Equal, Greater}
 use Rattle.std.specs.List.{AllByRecursion}
 use Rattle.std.specs.declared.cmp.Ordering.{Ordering}
 use Rattle.std.specs.Ordering.{ordering_then, match_ordering}
@@ -7,7 +7,7 @@ use Rattle.std.specs.List.Sorted.{IsStrictlySortedBy}
 use Rattle.std.specs.BTreeMap.{insert_entry}
 use Rattle.std.specs.Map.{keys_of}
 use Rattle.std.proofs.lemmas.Map.Lookups.{exact_bytes}
-use Rattle.desk_store.specs.World.{Filed, text_cmp, rows_by, filed_cmp}
+use Rattle.desk_store.specs.World.{text_cmp, rows_by, filed_cmp}
 use Rattle.desk_store.specs.Changes.{put_row, put_filed, filed_by, replaced}
 use Rattle.desk_store.specs.OrderLaws.{inserted}
 use Rattle.desk_store.specs.Parts.{PlanParts, row_of}

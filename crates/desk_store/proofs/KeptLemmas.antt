@@ -1,5 +1,5 @@
 -- What a store in memory always is, is kept.
-use Rattle.std.proofs.Common.{◌≡◌, ℕ, ◌+◌, ◌≤◌, Bool, true, false, cond, not, List, [], ◌∷◌, length, map, Option, Some, None, refl, sym, ap, subst, ◌∙◌, arith, Less, Equal, Greater}
+use Rattle.std.proofs.Common.{◌≡◌, ℕ, ◌+◌, ◌≤◌, Bool, true, false, cond, not, List, [], ◌∷◌, length, Option, Some, None, refl, sym, ap, subst, ◌∙◌, arith, Less, Equal, Greater}
 use Rattle.std.specs.Prelude.{IsSome, is_some}
 use Rattle.std.specs.List.{find}
 use Rattle.std.specs.Option.{option_map, unwrap_or}
@@ -13,13 +13,13 @@ use Rattle.std.proofs.lemmas.List.{length-map}
 use Rattle.desk_rules.specs.declared.plan.PlanRow.{PlanRow}
 use Rattle.desk_rules.specs.Limits.{max_plans}
 use Rattle.desk_store.specs.declared.change.Change.{Change}
-use Rattle.desk_store.specs.declared.change.Change.TheVariants.{Put, Close, Clear}
+use Rattle.desk_store.specs.declared.change.Change.TheVariants.{Put, Close}
 use Rattle.desk_store.specs.declared.list.Enrolment.{Enrolment}
-use Rattle.desk_store.specs.World.{Filed, World, IsWorld, text_cmp, rows_by, plans_of, stored_of, has_id}
+use Rattle.desk_store.specs.World.{World, IsWorld, text_cmp, rows_by, plans_of, stored_of, has_id}
 use Rattle.desk_store.specs.Changes.{put_row, closed, close_row, is_named, clear_rows, with_plans}
 use Rattle.desk_store.specs.StoreChange.{changed_by, IsFitting}
 use Rattle.desk_store.specs.Parts.{PlanParts, parts_of, row_of}
-use Rattle.desk_store.specs.Listing.{listed_of, filed_all, world_of, AreCounted, IsStore, with_count, without}
+use Rattle.desk_store.specs.Listing.{filed_all, world_of, AreCounted, IsStore, with_count, without}
 use Rattle.desk_store.specs.OrderLaws.{rows_sorted}
 use Rattle.desk_store.specs.WorldLaws.{own_replaced, others_kept, kept, fewer, length-put_stored}
 use Rattle.desk_store.proofs.EntryLemmas.{Key, key_cmp}

@@ -1,5 +1,5 @@
 -- Honesty over calls, with its proof.
-use Rattle.std.proofs.Common.{◌≡◌, ℕ, ◌≤◌, arith}
+use Rattle.std.proofs.Common.{ℕ, ◌≤◌, arith}
 use Rattle.desk_store.specs.Faults.{IsHonest}
 
 -- doubt never falls, so a store that is honest after a call was honest before it

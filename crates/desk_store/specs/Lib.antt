@@ -4,6 +4,7 @@ pub mod StoreChange
 pub mod ChangeParts
 pub mod OrderLaws
 pub mod WorldLaws
+pub mod ChangeLaws
 pub mod Rows
 pub mod Rivals
 pub mod Faults

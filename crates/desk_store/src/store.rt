@@ -3,7 +3,7 @@
 ghost use Rattle.std.specs.Prelude.{◌≡◌, ◌≤◌, ℕ, length, IfOk, IfErr, IfSome, OnOk, OnErr};
 ghost use Rattle.desk_store.specs.World.{World, AreInOrder, ceiling_of, plans_of, stored_of};
 ghost use Rattle.desk_store.specs.Rivals.{AreRivals};
-ghost use Rattle.desk_rules.specs.Limits.{max_priority};
+ghost use Rattle.desk_rules.specs.Limits.{max_plans, max_priority};
 
 use crate::change::Change;
 use crate::fault::StoreFault;
@@ -63,11 +63,13 @@ pub trait PlanStore {
         ensures cause { IfErr result (λ e. e ≡ StoreFault.Store →
             HasRisen (faults self.old) (faults self.new)) };
 
-    /// The operator's plans, ascending by id, none twice.
+    /// The operator's plans, at most 200, ascending by id, none twice.
     fn own_plans(&mut self, operator: &Operator) -> Result<Vec<PlanRow>, StoreFault>
         ensures value { IsHonest (doubt self.new) →
             IfOk result (λ rows. rows.items ≡ plans_of operator.now (content self.old)) }
         ensures order { IsHonest (doubt self.new) → IfOk result (λ rows. AreInOrder rows.items) }
+        ensures limit { IsHonest (doubt self.new) →
+            IfOk result (λ rows. length rows.items ≤ max_plans) }
         ensures same { content self.new ≡ content self.old }
         ensures doubt { doubt self.old ≤ doubt self.new }
         ensures counted { faults self.old ≤ faults self.new }

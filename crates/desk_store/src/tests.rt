@@ -25,7 +25,9 @@ fn area_of(alloc: Global, lower: i32, upper: i32) -> Result<Area, Fail> {
         .ok_or("a window")?;
     let cell = CellId::from_token(b"04").ok().ok_or("a cell")?;
     let footprint = Footprint::Cells(vec![in alloc; cell]?);
-    let volume = Volume::try_new(footprint, window).ok().ok_or("a volume")?;
+    let volume = Volume::try_new(alloc, footprint, window)
+        .ok()
+        .ok_or("a volume")?;
     Ok(Area::try_new(vec![in alloc; volume]?).ok_or("an area")?)
 }
 

@@ -5,7 +5,8 @@ use Rattle.desk_run.specs.declared.pending.Pending.{Pending}
 use Rattle.desk_store.specs.World.{World}
 use Rattle.desk_run.specs.Verdicts.{Told}
 use Rattle.desk_run.specs.Calls.{IsPending, IsUnanswered, reply_in, world_committed}
-use Rattle.desk_writing.specs.PlanBody.{reply_text}
+use Rattle.desk_rules.specs.Replies.{said_in}
+use Rattle.desk_writing.specs.Replies.{reply_text}
 use Rattle.desk_reading.specs.Messages.{MessageParts, message_in}
 use Rattle.desk_reading.specs.Readings.{Reading, or_met}
 use Rattle.desk_reading.specs.Requests.{asked, asked_by}
@@ -14,7 +15,7 @@ use Rattle.desk_wire.specs.declared.response.ServerError.{ServerError}
 use Rattle.desk_wire.specs.declared.response.ServerError.TheVariants.{OutOfMemory, Store}
 
 -- the answer and the change of what was pending
-pub done_pending : (w after : World) (moment : ℤ) (asked : Asked) (p : Pending) (answer : List ℕ) → IsPending w moment asked p → answer ≡ reply_text (reply_in p) → after ≡ world_committed w p → IsDone w moment (Ok asked) answer after
+pub done_pending : (w after : World) (moment : ℤ) (asked : Asked) (p : Pending) (answer : List ℕ) → IsPending w moment asked p → answer ≡ reply_text (said_in (reply_in p)) → after ≡ world_committed w p → IsDone w moment (Ok asked) answer after
 unfolding text
 done_pending w after moment asked p answer h told left = record {
   told = told ∙ sym (ap text h.told);
@@ -29,7 +30,7 @@ done_unanswered w after moment asked reason answer h told left = record {
 }
 
 -- where the answer was made and the change committed
-pub done_if_ok : {V E : Type 0} (items : V → List ℕ) (r : Result V E) (w after : World) (moment : ℤ) (asked : Asked) (p : Pending) → IsPending w moment asked p → IfOk r (λ v. items v ≡ reply_text (reply_in p)) → OnOk r (after ≡ world_committed w p) → IfOk r (λ v. IsDone w moment (Ok asked) (items v) after)
+pub done_if_ok : {V E : Type 0} (items : V → List ℕ) (r : Result V E) (w after : World) (moment : ℤ) (asked : Asked) (p : Pending) → IsPending w moment asked p → IfOk r (λ v. items v ≡ reply_text (said_in (reply_in p))) → OnOk r (after ≡ world_committed w p) → IfOk r (λ v. IsDone w moment (Ok asked) (items v) after)
 done_if_ok items (Ok v) w after moment asked p h told left = done_pending w after moment asked p (items v) h told left
 done_if_ok items (Err e) w after moment asked p h told left = tt
 

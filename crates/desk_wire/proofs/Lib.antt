@@ -7,3 +7,4 @@ pub mod ServeLemmas
 pub mod PlayLemmas
 pub mod HeadlineLemmas
 pub mod GivenLemmas
+pub mod StreamGivenLemmas

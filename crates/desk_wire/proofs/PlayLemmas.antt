@@ -36,6 +36,7 @@ fault_differs fault.TransferEncoding e = absurd (omega (arith, e))
 fault_differs fault.ContentLength e = absurd (omega (arith, e))
 fault_differs fault.BodyTooLarge e = absurd (omega (arith, e))
 fault_differs fault.NoRoute e = absurd (omega (arith, e))
+fault_differs (fault.Method route) e = absurd (omega (arith, e))
 fault_differs fault.BadOperator e = absurd (omega (arith, e))
 fault_differs fault.BadPlanId e = absurd (omega (arith, e))
 fault_differs fault.BadJson e = absurd (omega (arith, e))
@@ -48,7 +49,7 @@ never_500 w moment (Ok a) e = told_status (told_to w a.operator moment a.call) e
 never_500 w moment (Err f) e = fault_differs f e
 
 -- an answer with another status is what is asked
-done_by_status : (w after : World) (moment : ℤ) (reading : Reading Asked) (answer : List ℕ) (why : Option ServerError) (status : ℕ) → IsAnsweredSo why w moment reading answer after → status ≡ status_so why w moment reading → status ≢ 500 → IsDone w moment reading answer after
+pub done_by_status : (w after : World) (moment : ℤ) (reading : Reading Asked) (answer : List ℕ) (why : Option ServerError) (status : ℕ) → IsAnsweredSo why w moment reading answer after → status ≡ status_so why w moment reading → status ≢ 500 → IsDone w moment reading answer after
 done_by_status w after moment reading answer None status h is other = h
 done_by_status w after moment reading answer (Some why) status h is other = absurd (other is)
 
@@ -82,7 +83,7 @@ played_if H K count old new out now w moment after implies h = record {
 }
 
 -- the answers, with one more
-told_one : (w now after : World) (moment : ℤ) (more : List Sent) (answer request : List ℕ) → IsDone now moment (asked request) answer after → now ≡ world_left w more → concat (answers_to w more) ++ answer ≡ concat (answers_to w (more ++ (moment, request) ∷ []))
+pub told_one : (w now after : World) (moment : ℤ) (more : List Sent) (answer request : List ℕ) → IsDone now moment (asked request) answer after → now ≡ world_left w more → concat (answers_to w more) ++ answer ≡ concat (answers_to w (more ++ (moment, request) ∷ []))
 told_one w now after moment more answer request done left =
     ap (λ t. concat (answers_to w more) ++ t) (done.told ∙ ap (λ v. text_for v moment (asked request)) left)
     ∙ sym (concat_one (answers_to w more) (text_for (world_left w more) moment (asked request)))

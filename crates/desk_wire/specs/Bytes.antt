@@ -4,7 +4,7 @@ use Rattle.desk_rules.specs.declared.call.Asked.{Asked}
 use Rattle.desk_reading.specs.FaultWords.{fault_status}
 use Rattle.desk_reading.specs.Readings.{Reading}
 use Rattle.desk_reading.specs.Requests.{asked}
-use Rattle.desk_writing.specs.PlanBody.{reply_text}
+use Rattle.desk_writing.specs.Replies.{reply_text}
 use Rattle.desk_wire.specs.declared.refusal.Refusal.TheVariants.{Fault, UnknownOperator, NoSuchPlan}
 use Rattle.desk_wire.specs.declared.response.ServerError.{ServerError}
 use Rattle.desk_wire.specs.Refusals.{refusal_status, refusal_text, server_error_text}

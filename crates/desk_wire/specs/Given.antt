@@ -1,10 +1,73 @@
--- How many of the answers that a desk gave to a list of requests are the answers to what they ask.
-use Rattle.std.specs.Prelude.{ℕ, ◌-◌, List, length}
+-- Which of the answers that a desk gave, to a list of requests or to a stream of them, are the answers to
+-- what they ask.
+use Rattle.std.specs.Prelude.{◌≡◌, ◌⊎◌, ◌-◌, ◌+◌, ℕ, ℤ, List, [], ◌∷◌, ◌++◌, length, Option, IfSome}
+use Rattle.std.specs.List.{concat}
+use Rattle.std.specs.Io.KnownBytes.{Appends}
+use Rattle.desk_store.specs.World.{World}
+use Rattle.desk_reading.specs.Requests.{asked}
 use Rattle.desk_wire.specs.declared.batch.AnswersEnd.{AnswersEnd}
 use Rattle.desk_wire.specs.declared.batch.AnswersEnd.TheVariants.{All, Broken, NoMemory}
+use Rattle.desk_wire.specs.declared.play.PlayEnd.{PlayEnd}
+use Rattle.desk_wire.specs.declared.play.PlayEnd.TheVariants as play
+use Rattle.desk_wire.specs.declared.stream.ServeFault.TheVariants.{Read, Write, CutShort, OutOfMemory}
+use Rattle.desk_wire.specs.declared.response.ServerError.{ServerError}
+use Rattle.desk_wire.specs.AllAnswers.{answers_to, world_left}
+use Rattle.desk_wire.specs.Bytes.{world_after}
+use Rattle.desk_wire.specs.Playing.{at_moment}
+use Rattle.desk_wire.specs.Refusals.{server_error_text}
+use Rattle.desk_wire.specs.Streams.{requests_in}
 
 -- all of them, but for a last one that says why the desk failed
 abbrev pub answered : AnswersEnd → List (List ℕ) → ℕ
 answered All answers = length answers
 answered Broken answers = length answers - 1
 answered NoMemory answers = length answers
+
+-- how many of the requests of a stream that were answered have the answer to what they ask: all of them, but
+-- for a last one at which the desk failed
+abbrev pub told_in_play : PlayEnd → ℕ → ℕ
+told_in_play play.End count = count
+told_in_play play.Unframed count = count
+told_in_play play.Limit count = count
+told_in_play play.Broken count = count - 1
+told_in_play (play.Fault fault) count = count
+
+-- what is written after their answers: why the desk failed, the first bytes of the next answer, or nothing
+abbrev pub FollowsBy : PlayEnd → List ℕ → Type 0
+FollowsBy play.End more = more ≡ []
+FollowsBy play.Unframed more = more ≡ []
+FollowsBy play.Limit more = more ≡ []
+FollowsBy play.Broken more = (why : ServerError) × (more ≡ server_error_text why)
+FollowsBy (play.Fault (Write sent)) more = length more ≡ sent
+FollowsBy (play.Fault Read) more = more ≡ []
+FollowsBy (play.Fault CutShort) more = more ≡ []
+FollowsBy (play.Fault OutOfMemory) more = more ≡ []
+
+-- what is left, by the world that the requests leave: that world; or, if the next answer was broken off, what
+-- its request leaves, unless that answer said that the desk failed
+abbrev pub LeavesBy : PlayEnd → (List ℕ → Type 0) → World → ℤ → World → Type 0
+LeavesBy play.End IsNext w moment after = after ≡ w
+LeavesBy play.Unframed IsNext w moment after = after ≡ w
+LeavesBy play.Limit IsNext w moment after = after ≡ w
+LeavesBy play.Broken IsNext w moment after = after ≡ w
+LeavesBy (play.Fault (Write sent)) IsNext w moment after =
+    (next : List ℕ) × IsNext next × ((after ≡ world_after w moment (asked next)) ⊎ (after ≡ w))
+LeavesBy (play.Fault Read) IsNext w moment after = after ≡ w
+LeavesBy (play.Fault CutShort) IsNext w moment after = after ≡ w
+LeavesBy (play.Fault OutOfMemory) IsNext w moment after = after ≡ w
+
+-- the request that follows the first n of a stream, if its bytes are known
+abbrev pub IsNextIn : Option (List ℕ) → ℕ → List (List ℕ) → List ℕ → Type 0
+IsNextIn old n requests next = IfSome old (λ stream. requests_in (n + 1) stream ≡ requests ++ next ∷ [])
+
+-- the first n requests of a stream, all sent at one moment, have these answers, which are written one after
+-- the other
+pub record AreGiven (ended : PlayEnd) (n : ℕ) (old out now : Option (List ℕ)) (w : World) (moment : ℤ)
+    (after : World) (requests answers : List (List ℕ)) : Type 0 where
+  pub count : length requests ≡ n
+  pub first : IfSome old (λ stream. requests ≡ requests_in n stream)
+  pub told : answers ≡ answers_to w (at_moment moment requests)
+  pub more : List ℕ
+  pub written : Appends out now (concat answers ++ more)
+  pub follows : FollowsBy ended more
+  pub left : LeavesBy ended (IsNextIn old n requests) (world_left w (at_moment moment requests)) moment after

@@ -9,7 +9,9 @@
 -- it. Part by part:
 --
 --   "For every list of requests": each field speaks of any lists of any bytes with any moments, answered
---   one after the other from any world on. That a desk gives these answers is the contract of `answer_all`.
+--   one after the other from any world on. That a desk gives these answers is the contract of `answer_all`,
+--   and of `play_all` for the requests of a stream; the laws `answers_given` and `stream_given` say what
+--   follows for the answers that were really given.
 --
 --   "each answer": a list of requests has as many answers, in their order (`each`).
 --

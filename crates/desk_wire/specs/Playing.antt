@@ -1,5 +1,5 @@
 -- Playing: what comes of the requests of a stream, served one after the other.
-use Rattle.std.specs.Prelude.{◌≡◌, ℕ, ℤ, ◌+◌, true, false, List, length, map, All, Option, Err}
+use Rattle.std.specs.Prelude.{◌≡◌, ◌≢◌, ℕ, ℤ, ◌+◌, true, false, List, length, map, All, Option, Err}
 use Rattle.std.specs.List.{concat}
 use Rattle.std.specs.Io.KnownBytes.{Appends, Consumes, IsAtEnd}
 use Rattle.desk_store.specs.World.{World}
@@ -43,11 +43,12 @@ pub record IsBroken (H : Type 0) (old new out now : Option (List ℕ)) (w after 
   pub written : Appends out now answer
   pub failed : H → (why : ServerError) × IsServerError why w answer after
 
--- one more request is answered, and the place of the next is unknown
+-- one more request has the answer to what it asks, and the place of the next is unknown
 pub record IsUnframed (H : Type 0) (old new out now : Option (List ℕ)) (w : World) (moment : ℤ)
     (after : World) : Type 0 where
   pub status : ℕ
   pub served : IsServed H old new out now w moment after status false
+  pub answered : status ≢ 500
 
 -- what comes after the first requests, by why the run ended; the number of requests that are answered
 abbrev pub EndsBy :

@@ -1,6 +1,6 @@
 -- The answers to requests that are refused before any rule is asked, and to those that are given up.
-use Rattle.std.specs.Prelude.{ℕ, List, codes}
-use Rattle.desk_reading.specs.FaultWords.{fault_status, fault_word}
+use Rattle.std.specs.Prelude.{ℕ, List, Option, None, codes}
+use Rattle.desk_reading.specs.FaultWords.{fault_allow, fault_status, fault_word}
 use Rattle.desk_writing.specs.Answer.{error_text}
 use Rattle.desk_wire.specs.declared.refusal.Refusal.{Refusal}
 use Rattle.desk_wire.specs.declared.refusal.Refusal.TheVariants.{Fault, UnknownOperator, NoSuchPlan}
@@ -19,11 +19,18 @@ refusal_word (Fault fault) = fault_word fault
 refusal_word UnknownOperator = codes "unknown_operator"
 refusal_word NoSuchPlan = codes "no_such_plan"
 
+-- the methods that the answer lists, if the method is at fault
+abbrev pub refusal_allow : Refusal → Option (List ℕ)
+refusal_allow (Fault fault) = fault_allow fault
+refusal_allow UnknownOperator = None
+refusal_allow NoSuchPlan = None
+
 -- the whole answer
 unfoldable pub refusal_text : Refusal → List ℕ
-refusal_text refusal = error_text (refusal_status refusal) (refusal_word refusal)
+refusal_text refusal =
+    error_text (refusal_status refusal) (refusal_allow refusal) (refusal_word refusal)
 
 -- the answer that the desk itself failed, with the status 500
 abbrev pub server_error_text : ServerError → List ℕ
-server_error_text OutOfMemory = error_text 500 (codes "out_of_memory")
-server_error_text Store = error_text 500 (codes "store")
+server_error_text OutOfMemory = error_text 500 None (codes "out_of_memory")
+server_error_text Store = error_text 500 None (codes "store")

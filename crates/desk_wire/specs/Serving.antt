@@ -1,5 +1,5 @@
 -- Serving: what comes of one request of a stream.
-use Rattle.std.specs.Prelude.{◌≡◌, ◌<◌, ℕ, ℤ, ⊤, List, length, take, Bool, Option, IfSome, Result, Ok, Err}
+use Rattle.std.specs.Prelude.{◌≡◌, ◌<◌, ◌++◌, ℕ, ℤ, ⊤, List, length, take, codes, decimal, Bool, Option, IfSome, Result, Ok, Err}
 use Rattle.std.specs.Io.KnownBytes.{Appends, Consumes, IsAtEnd, Keeps}
 use Rattle.desk_reading.specs.Requests.{asked}
 use Rattle.desk_store.specs.World.{World}
@@ -77,3 +77,10 @@ HasServed H (Err CutShort) old new out now w moment after =
     IfSome old IsCut × IsUntouched out now w after
 HasServed H (Err Read) old new out now w moment after = IsUntouched out now w after
 HasServed H (Err OutOfMemory) old new out now w moment after = IsUntouched out now w after
+
+-- the fault as a sentence
+abbrev pub fault_text : ServeFault → List ℕ
+fault_text Read = codes "a read failed"
+fault_text (Write sent) = codes "a write failed after " ++ (decimal sent ++ codes " bytes")
+fault_text CutShort = codes "the input ended inside a request"
+fault_text OutOfMemory = codes "out of memory"

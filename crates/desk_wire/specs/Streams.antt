@@ -1,5 +1,5 @@
 -- Streams: the requests that the bytes of a stream are, one after the other (RFC 9112, section 2.1).
-use Rattle.std.specs.Prelude.{◌≡◌, ◌<◌, ◌≤◌, ◌⊎◌, ℕ, ◌+◌, List, [], ◌∷◌, length, take, Bool, true, nat_lt, if◌then◌else◌, Option, Some, None, option_and_then, Result, Ok, Err}
+use Rattle.std.specs.Prelude.{◌≡◌, ◌<◌, ◌≤◌, ◌⊎◌, ℕ, zero, suc, ◌+◌, List, [], ◌∷◌, length, take, drop, Bool, true, nat_lt, if◌then◌else◌, Option, Some, None, option_and_then, Result, Ok, Err}
 use Rattle.std.specs.Option.{option_or}
 use Rattle.std.specs.Result.{is_ok}
 use Rattle.desk_reading.specs.declared.message.Front.{Front}
@@ -43,6 +43,18 @@ IsRequest bytes = request_len bytes ≡ Some (length bytes)
 -- the place of the next request is known: the request has no fault of its framing
 abbrev pub is_framed : List ℕ → Bool
 is_framed request = is_ok (message_in request)
+
+-- a request at the front of a stream, and those that follow it if the place of the next is known
+abbrev pub with_next : (List ℕ → List (List ℕ)) → List ℕ → Option ℕ → List (List ℕ)
+with_next next stream None = []
+with_next next stream (Some len) =
+    take len stream ∷ (if is_framed (take len stream) then next (drop len stream) else [])
+
+-- the first requests of a stream, at most n: the whole ones, one after the other, up to its end, to one that
+-- is cut off, or to the first after which the place of the next is unknown
+unfoldable pub requests_in : ℕ → List ℕ → List (List ℕ)
+requests_in zero stream = []
+requests_in (suc n) stream = with_next (requests_in n) stream (request_len stream)
 
 -- the stream ends inside its first request
 pub record IsCut (stream : List ℕ) : Type 0 where

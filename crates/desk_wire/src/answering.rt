@@ -7,7 +7,8 @@ ghost use Rattle.desk_reading.specs.Requests.{asked_by};
 ghost use Rattle.desk_store.specs.Faults.{IsHonest, HasRisen};
 ghost use Rattle.desk_run.specs.Calls.{CanCommit, reply_in, world_committed};
 ghost use Rattle.desk_wire.specs.Moments.{IsMoment};
-ghost use Rattle.desk_writing.specs.PlanBody.{reply_text};
+ghost use Rattle.desk_rules.specs.Replies.{said_in};
+ghost use Rattle.desk_writing.specs.Replies.{reply_text};
 ghost use Rattle.desk_wire.specs.Bytes.{IsAnswered, IsAnsweredSo, IsDone, IsServerError, status_for, status_so};
 ghost use Rattle.desk_wire.specs.Refusals.{refusal_status, refusal_text};
 
@@ -184,7 +185,8 @@ fn answer_pending<S: PlanStore>(
     pending: Pending,
 ) -> Result<Response, ServerError>
     requires { IsHonest (S.doubt desk.old) → CanCommit (S.content desk.old) pending }
-    ensures bytes { IfOk result (λ r. r.bytes.items ≡ reply_text (reply_in pending)) }
+    ensures bytes { IfOk result (λ r. r.bytes.items
+        ≡ reply_text (said_in (reply_in pending))) }
     ensures status { IfOk result (λ r. r.status ≡ 200) }
     ensures ok { IsHonest (S.doubt desk.new) → OnOk result
         (S.content desk.new ≡ world_committed (S.content desk.old) pending) }
@@ -212,7 +214,7 @@ fn refuse(alloc: Global, refusal: Refusal) -> Result<Response, ServerError>
     ensures status { IfOk result (λ r. r.status ≡ refusal_status refusal) }
     ensures error { IfErr result (λ e. e ≡ ServerError.OutOfMemory) }
 {
-    let bytes = error_answer(alloc, refusal.status(), refusal.word())?;
+    let bytes = error_answer(alloc, refusal.status(), refusal.allow(), refusal.word())?;
     Ok(Response {
         status: refusal.status().as_u16(),
         bytes,

@@ -1,14 +1,17 @@
 //! Laws of the definitions. Each is the contract of a function that does nothing.
 
-ghost use Rattle.std.specs.Prelude.{◌≡◌, ◌<◌, ◌++◌, ℕ, List, [], Some, length, take};
+ghost use Rattle.std.specs.Prelude.{◌≡◌, ◌<◌, ◌+◌, ◌++◌, ℕ, ℤ, List, [], Option, Some, length, take};
 ghost use Rattle.std.specs.List.{AllZip, slice_get};
+ghost use Rattle.desk_store.specs.Faults.{IsHonest};
 ghost use Rattle.desk_store.specs.World.{World};
 ghost use Rattle.desk_run.specs.Sides.{HoldAlike, OwnAlike};
 ghost use Rattle.desk_wire.specs.declared.batch.AnswersEnd.{AnswersEnd};
+ghost use Rattle.desk_wire.specs.declared.play.PlayEnd.{PlayEnd};
 ghost use Rattle.desk_wire.specs.AllAnswers.{AreAnswers, AreFirst, Sent};
-ghost use Rattle.desk_wire.specs.Given.{answered};
+ghost use Rattle.desk_wire.specs.Given.{answered, AreGiven, told_in_play};
 ghost use Rattle.desk_wire.specs.Headline.{Headline, LookAlike, sender, world_at};
-ghost use Rattle.desk_wire.specs.Streams.{IsRequest, request_len};
+ghost use Rattle.desk_wire.specs.Playing.{HasPlayed, at_moment};
+ghost use Rattle.desk_wire.specs.Streams.{IsRequest, request_len, requests_in};
 ghost use Rattle.desk_wire.specs.TwoRuns.{IsSameFor, met_by, requests_of};
 
 /// For every list of requests, each answer, byte for byte, is decided by that request's bytes and
@@ -48,6 +51,33 @@ pub fn answers_given()
     ensures quiet { (end : AnswersEnd) (w after : World) (requests : List Sent)
         (answers : List (List ℕ)) (operator : List ℕ) → AreAnswers end w requests answers after →
         requests_of operator requests ≡ [] → OwnAlike operator after w }
+{}
+
+/// The laws above, of what a desk wrote for a stream of requests (the clause of `play_all`), if its
+/// store is honest. `first`: the first requests of the stream, all sent at the moment, are answered as in a
+/// run, and their answers are written one after the other. `decided`: so one request, sent at one
+/// moment in two streams at worlds that look alike to its operator, was given equal bytes. `quiet`: an
+/// operator that sent nothing owns what it did.
+pub fn stream_given()
+    ensures first { (ended : PlayEnd) (doubt count : ℕ) (old new out now : Option (List ℕ))
+        (w : World) (moment : ℤ) (after : World) →
+        HasPlayed (IsHonest doubt) ended count old new out now w moment after → IsHonest doubt →
+        (requests answers : List (List ℕ)) ×
+        AreGiven ended (told_in_play ended count) old out now w moment after requests answers }
+    ensures decided { (e f : PlayEnd) (m n : ℕ) (old out now old_too out_too now_too : Option (List ℕ))
+        (v w v_after w_after : World) (moment : ℤ) (rs ss xs ys : List (List ℕ)) (i j : ℕ)
+        (r : List ℕ) → AreGiven e m old out now v moment v_after rs xs →
+        AreGiven f n old_too out_too now_too w moment w_after ss ys →
+        slice_get rs i ≡ Some r → slice_get ss j ≡ Some r →
+        LookAlike (sender (moment, r)) (world_at v (at_moment moment rs) i)
+        (world_at w (at_moment moment ss) j) → slice_get xs i ≡ slice_get ys j }
+    ensures quiet { (ended : PlayEnd) (doubt count : ℕ) (stream : List ℕ)
+        (new out now : Option (List ℕ)) (w : World) (moment : ℤ) (after : World)
+        (operator : List ℕ) →
+        HasPlayed (IsHonest doubt) ended count (Some stream) new out now w moment after →
+        IsHonest doubt →
+        requests_of operator (at_moment moment (requests_in (count + 1) stream)) ≡ [] →
+        OwnAlike operator after w }
 {}
 
 /// Whatever follows a request in a stream, the request is the stream's first: so what is taken of a

@@ -1,6 +1,6 @@
 //! Why a request is refused before any rule is asked.
 
-ghost use Rattle.std.specs.Prelude.{◌≡◌};
+ghost use Rattle.std.specs.Prelude.{◌≡◌, option_map};
 ghost use Rattle.desk_wire.specs.Refusals as spec;
 
 use desk_reading::WireFault;
@@ -37,6 +37,16 @@ impl Refusal {
             Refusal::Fault(fault) => fault.word(),
             Refusal::UnknownOperator => "unknown_operator",
             Refusal::NoSuchPlan => "no_such_plan",
+        }
+    }
+
+    /// The methods that the answer lists, if the method is at fault (RFC 9110, section 15.5.6).
+    pub fn allow(self) -> Option<&'static str>
+        ensures { option_map (λ s. s.now) result ≡ spec.refusal_allow self }
+    {
+        match self {
+            Refusal::Fault(fault) => fault.allow(),
+            Refusal::UnknownOperator | Refusal::NoSuchPlan => None,
         }
     }
 }

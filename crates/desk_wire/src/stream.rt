@@ -1,8 +1,8 @@
 //! Connections: requests read from a stream, and their answers written to one.
 
-ghost use Rattle.std.specs.Prelude.{◌≡◌, ◌≤◌, ◌<◌, [], length, take, IfErr, IfOk, IfSome, OnOk, None};
+ghost use Rattle.std.specs.Prelude.{◌≡◌, ◌≤◌, ◌<◌, ◌+◌, [], length, take, IfErr, IfOk, IfSome, OnOk, None};
 ghost use Rattle.std.specs.Io.{ReadsAtMost};
-ghost use Rattle.std.specs.Io.KnownBytes.{Appends, Consumes, IsAtEnd, Keeps};
+ghost use Rattle.std.specs.Io.KnownBytes.{Appends, Consumes, IsAtEnd, ReadConsumes};
 ghost use Rattle.desk_reading.specs.Messages.{message_read};
 ghost use Rattle.desk_store.specs.Faults.{IsHonest};
 ghost use Rattle.desk_wire.specs.Moments.{IsMoment};
@@ -17,7 +17,7 @@ use desk_store::PlanStore;
 use std::alloc::{AllocError, Global};
 use std::error::Error;
 use std::fmt;
-use std::io::{ErrorKind, Read, Write};
+use std::io::{self, ErrorKind, Read, Write};
 
 /// The most reads that one request may take.
 const MAX_READS: u32 = 200_000;
@@ -52,6 +52,11 @@ pub enum ServeFault {
 }
 
 impl fmt::Display for ServeFault {
+    ghost use Rattle.std.specs.Prelude.{Some};
+    ghost use Rattle.desk_wire.specs.Serving.{fault_text};
+
+    ghost output = { λ fault. Some (fault_text fault) };
+
     fn fmt<W: fmt::Write>(&self, f: &mut fmt::Formatter<W>) -> fmt::Result {
         match self {
             ServeFault::Read => f.write_str("a read failed"),
@@ -250,15 +255,25 @@ fn receive_some<R: Read>(
     ensures end { IfOk result (λ n. n ≡ 0 → 0 < length room.new → IsAtEnd (R.remaining input.new)) }
     ensures fault { IfErr result (λ f. f ≡ serve_fault.Read) }
 {
-    for _ in 0..*reads {
-        *reads = reads.saturating_sub(1);
-        match input.read(room) {
+    while *reads > 0 {
+        match read_counted(input, room, reads) {
             Ok(count) => return Ok(count),
             Err(error) if error.kind() == ErrorKind::Interrupted => {}
             Err(_) => return Err(ServeFault::Read),
         }
     }
     Err(ServeFault::Read)
+}
+
+// Reads once, and takes one from the reads that are left, whatever comes of it.
+fn read_counted<R: Read>(input: &mut R, room: &mut [u8], left: &mut u32) -> io::Result<usize>
+    requires { 0 < left.old }
+    ensures bound { ReadsAtMost result room.new }
+    ensures taken { ReadConsumes (R.remaining input.old) (R.remaining input.new) result room.new }
+    ensures counted { left.new + 1 ≡ left.old }
+{
+    *left -= 1;
+    input.read(room)
 }
 
 /// Writes all bytes, in at most as many writes as they are and 1,000.

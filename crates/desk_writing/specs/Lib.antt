@@ -1,3 +1,5 @@
 pub mod Answer
 pub mod PlanWords
 pub mod PlanBody
+pub mod ShownBody
+pub mod Replies

@@ -1,16 +1,13 @@
 -- The bodies of answers: JSON (RFC 8259) with the members in byte order.
-use Rattle.std.specs.Prelude.{ℕ, List, codes, Option, Some, None}
+use Rattle.std.specs.Prelude.{ℕ, ◌++◌, true, codes, decimal, Option, Some, None}
 use Rattle.s2_cellid.specs.Family.{leaf_id}
 use Rattle.s2_cellid.specs.Token.{token_text}
-use Rattle.serde_json.specs.Data.{Data, Members, number, unsigned, string, object, member, no_members}
+use Rattle.serde_json.specs.Data.{Data, Members, number, unsigned, boolean, string, object, member, no_members}
 use Rattle.serde_json.specs.Find.{of_integer}
 use Rattle.volume4d.specs.Meeting.{Spot}
 use Rattle.desk_rules.specs.declared.words.PlanStatus.{PlanStatus}
 use Rattle.desk_rules.specs.declared.words.PlanResult.{PlanResult}
 use Rattle.desk_rules.specs.declared.words.Note.{Note}
-use Rattle.desk_rules.specs.declared.reply.Reply.{Reply}
-use Rattle.desk_rules.specs.declared.reply.Reply.TheVariants.{Ready, Answered}
-use Rattle.desk_writing.specs.Answer.{json_answer}
 use Rattle.desk_writing.specs.PlanWords.{status_word, result_word, notes_text}
 
 -- the first blocked point, its leaf by its S2 token, with the priority held there
@@ -28,24 +25,22 @@ outcome_members status result note =
     member (codes "notes") (string (notes_text note)) (
     member (codes "planning_result") (string (result_word result)) no_members))
 
+-- these members, behind the conflict if there is one
+abbrev pub with_conflict : Option Spot → Members → Members
+with_conflict None rest = rest
+with_conflict (Some spot) rest = member (codes "conflict") (conflict_data spot) rest
+
 -- the body
 abbrev pub put_data : PlanStatus → PlanResult → Option Note → Option Spot → Data
-put_data status result note None = object (outcome_members status result note)
-put_data status result note (Some spot) =
-    object (member (codes "conflict") (conflict_data spot) (outcome_members status result note))
-
--- the whole answer
-unfoldable pub put_text : PlanStatus → PlanResult → Option Note → Option Spot → List ℕ
-put_text status result note conflict = json_answer 200 (put_data status result note conflict)
+put_data status result note conflict =
+    object (with_conflict conflict (outcome_members status result note))
 
 -- the desk is ready
 abbrev pub ready_data : Data
 ready_data = object (member (codes "status") (string (codes "Ready")) no_members)
 
-unfoldable pub ready_text : List ℕ
-ready_text = json_answer 200 ready_data
-
--- the answer that gives a reply
-unfoldable pub reply_text : Reply → List ℕ
-reply_text Ready = ready_text
-reply_text (Answered r) = put_text r.status r.result r.note r.meeting
+-- so many plans were taken out
+abbrev pub cleared_data : ℕ → Data
+cleared_data count = object (member (codes "outcome") (object (
+    member (codes "message") (string (codes "cleared " ++ decimal count)) (
+    member (codes "success") (boolean true) no_members))) no_members)

@@ -5,6 +5,8 @@ use Rattle.desk_rules.specs.declared.words.PlanStatus.TheVariants.{NotPlanned, P
 use Rattle.desk_rules.specs.declared.words.PlanResult.{PlanResult}
 use Rattle.desk_rules.specs.declared.words.PlanResult.TheVariants.{Completed, Rejected, NotSupported}
 use Rattle.desk_rules.specs.declared.words.Note.{Note}
+use Rattle.desk_rules.specs.declared.words.Usage.{Usage}
+use Rattle.desk_rules.specs.declared.words.Aircraft.{Aircraft}
 
 -- `flight_plan_status`
 abbrev pub status_word : PlanStatus → List ℕ
@@ -19,6 +21,18 @@ abbrev pub result_word : PlanResult → List ℕ
 result_word Completed = codes "Completed"
 result_word Rejected = codes "Rejected"
 result_word NotSupported = codes "NotSupported"
+
+-- `usage_state`
+abbrev pub usage_word : Usage → List ℕ
+usage_word Usage.Planned = codes "Planned"
+usage_word Usage.InUse = codes "InUse"
+usage_word Usage.Closed = codes "Closed"
+
+-- `uas_state`
+abbrev pub aircraft_word : Aircraft → List ℕ
+aircraft_word Aircraft.Nominal = codes "Nominal"
+aircraft_word Aircraft.OffNominal = codes "OffNominal"
+aircraft_word Aircraft.Contingent = codes "Contingent"
 
 -- why a request was refused
 abbrev pub note_word : Note → List ℕ

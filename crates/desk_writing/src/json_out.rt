@@ -1,80 +1,62 @@
 //! The bodies of answers, as JSON.
-ghost use Rattle.std.specs.Prelude.{◌≡◌, IfOk, codes, false};
+ghost use Rattle.std.specs.Prelude.{◌≡◌, IfOk, codes};
 ghost use Rattle.serde_json.specs.Data.{object, member};
 ghost use Rattle.serde_json.specs.View.{view};
-ghost use Rattle.serde_json.specs.Written.{has_float};
-ghost use Rattle.desk_writing.specs.PlanWords as words;
-ghost use Rattle.desk_writing.specs.PlanBody.{conflict_data, outcome_members, put_data};
+ghost use Rattle.desk_rules.specs.Replies.{said_in};
+ghost use Rattle.desk_writing.specs.Answer.{error_data};
+ghost use Rattle.desk_writing.specs.PlanBody.{cleared_data, conflict_data, outcome_members, put_data, ready_data};
+ghost use Rattle.desk_writing.specs.Replies.{reply_data};
 
+use crate::shown_out::{plans_value, shown_value};
+use crate::words::{notes_text, result_word, status_word};
+use desk_rules::reply::{PutReply, Reply};
 use desk_rules::words::{Note, PlanResult, PlanStatus};
 use serde_json::{Value, json};
 use std::alloc::{AllocError, Global};
 use volume4d::Meeting;
 
-fn status_word(status: PlanStatus) -> &'static str
-    ensures { result.now ≡ words.status_word status }
+/// The body of the answer that gives a reply.
+pub fn reply_value(alloc: Global, reply: &Reply) -> Result<Value, AllocError>
+    ensures { IfOk result (λ v. view v ≡ reply_data (said_in reply.now)) }
 {
-    match status {
-        PlanStatus::NotPlanned => "NotPlanned",
-        PlanStatus::Planned => "Planned",
-        PlanStatus::OkToFly => "OkToFly",
-        PlanStatus::OffNominal => "OffNominal",
-        PlanStatus::Closed => "Closed",
+    match reply {
+        Reply::Ready => ready_value(alloc),
+        Reply::Plans(plans) => plans_value(alloc, plans),
+        Reply::Plan(shown) => shown_value(alloc, shown),
+        Reply::Answered(put) => put_value(alloc, *put),
+        Reply::Cleared(count) => cleared_value(alloc, *count),
     }
 }
 
-fn result_word(outcome: PlanResult) -> &'static str
-    ensures { result.now ≡ words.result_word outcome }
+/// The body of the answer that a request is refused for this reason.
+pub fn error_value(alloc: Global, word: &str) -> Result<Value, AllocError>
+    ensures { IfOk result (λ v. view v ≡ error_data word.now) }
 {
-    match outcome {
-        PlanResult::Completed => "Completed",
-        PlanResult::Rejected => "Rejected",
-        PlanResult::NotSupported => "NotSupported",
-    }
+    json!(in alloc; {"error": word})
 }
 
-fn note_word(note: Note) -> &'static str
-    ensures { result.now ≡ words.note_word note }
+fn ready_value(alloc: Global) -> Result<Value, AllocError>
+    ensures { IfOk result (λ v. view v ≡ ready_data) }
 {
-    match note {
-        Note::Style => "style",
-        Note::State => "state",
-        Note::Closed => "closed",
-        Note::NotPlanned => "not_planned",
-        Note::Ended => "ended",
-        Note::Horizon => "horizon",
-        Note::Priority => "priority",
-        Note::PlansLimit => "plans_limit",
-        Note::Conflict => "conflict",
-    }
+    json!(in alloc; {"status": "Ready"})
 }
 
-fn notes_text(note: Option<Note>) -> &'static str
-    ensures { result.now ≡ words.notes_text note }
+fn cleared_value(alloc: Global, count: u32) -> Result<Value, AllocError>
+    ensures { IfOk result (λ v. view v ≡ cleared_data count) }
 {
-    match note {
-        Some(note) => note_word(note),
-        None => "",
-    }
+    let message = format!(in alloc; "cleared {count}")?;
+    json!(in alloc; {"outcome": {"message": message.as_str(), "success": true}})
 }
 
-/// The body of an answer to a request for a plan.
-pub fn put_value(
-    alloc: Global,
-    status: PlanStatus,
-    outcome: PlanResult,
-    note: Option<Note>,
-    conflict: Option<Meeting>,
-) -> Result<Value, AllocError>
-    ensures value { IfOk result (λ v. view v ≡ put_data status outcome note conflict) }
-    ensures whole { IfOk result (λ v. has_float (view v) ≡ false) }
+fn put_value(alloc: Global, put: PutReply) -> Result<Value, AllocError>
+    ensures { IfOk result (λ v. view v ≡ put_data put.status put.result put.note put.meeting) }
 {
-    match conflict {
+    match put.meeting {
         Some(meeting) => {
             let conflict = conflict_value(alloc, meeting)?;
-            blocked_value(alloc, status, outcome, note, conflict)
+            blocked_value(alloc, put.status, put.result, put.note, conflict)
         }
-        None => outcome_value(alloc, status, outcome, note),
+        None => outcome_value(alloc, put.status, put.result, put.note),
     }
 }
 
@@ -113,7 +95,8 @@ fn blocked_value(
     })
 }
 
-fn conflict_value(alloc: Global, meeting: Meeting) -> Result<Value, AllocError>
+/// The first blocked point.
+pub fn conflict_value(alloc: Global, meeting: Meeting) -> Result<Value, AllocError>
     ensures { IfOk result (λ v. view v ≡ conflict_data meeting) }
 {
     let token = meeting.cell().token();

@@ -3,7 +3,9 @@
 ghost use Rattle.std.specs.Prelude.{◌≡◌, ◌*◌, ◌^◌, ◌<◌, ◌≤◌};
 ghost use Rattle.s2_cellid.specs.Cell.{level_of};
 
+use crate::rects::{Form, random_rects};
 use s2_cellid::CellId;
+use s2_cover::Rect;
 use s2_hilbert::{Leaf, leaf_at};
 use std::alloc::{AllocError, Global};
 
@@ -45,16 +47,30 @@ pub struct Inputs {
     pub tokens: Vec<String>,
     /// Cells of the levels 22 to 26 that lie close to one another, many of them in others.
     pub close: Vec<CellId>,
+    // Rectangles on whole squares, and rows of squares.
+    any_rects: Vec<Rect>,
+    rows: Vec<Rect>,
 }
 
-// Steele, Lea and Flood's generator SplitMix64.
+impl Inputs {
+    /// The rectangles of a form.
+    pub fn rects(&self, form: Form) -> &[Rect] {
+        match form {
+            Form::Any => &self.any_rects,
+            Form::Row => &self.rows,
+        }
+    }
+}
+
+/// Steele, Lea and Flood's generator SplitMix64.
 #[derive(Drop)]
-struct Numbers {
-    state: u64,
+pub struct Numbers {
+    pub state: u64,
 }
 
 impl Numbers {
-    fn next(&mut self) -> u64 {
+    /// The next number.
+    pub fn next(&mut self) -> u64 {
         self.state = self.state.wrapping_add(0x9e37_79b9_7f4a_7c15);
         let mixed = (self.state ^ self.state >> 30).wrapping_mul(0xbf58_476d_1ce4_e5b9);
         let mixed = (mixed ^ mixed >> 27).wrapping_mul(0x94d0_49bb_1331_11eb);
@@ -78,6 +94,8 @@ pub fn random_inputs(alloc: Global, count: u32) -> Result<Inputs, AllocError> {
         climbs: Vec::new(alloc),
         tokens: Vec::new(alloc),
         close: Vec::new(alloc),
+        any_rects: random_rects(alloc, count, Form::Any)?,
+        rows: random_rects(alloc, count, Form::Row)?,
     };
     for _ in 0..count {
         let place = numbers.place();

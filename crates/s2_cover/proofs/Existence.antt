@@ -13,7 +13,7 @@ use Rattle.s2_cover.proofs.SquareCells.{IsBlock, block_at, four_children}
 use Rattle.s2_cover.proofs.Walks.{block_largest, child_opened}
 
 -- a set has all of some positions, or not one of them
-all_or_one : (set : ℕ → Bool) (first more : ℕ)
+pub all_or_one : (set : ℕ → Bool) (first more : ℕ)
     → AllIn first (first + more) set true ⊎ SomeIn first (first + more) set false
 all_or_one set first zero = elim (cases_Bool (set first)) [
   | inl has ↦ inl (λ p low high. let same : p ≡ first = omega (arith, low, high) in ap set same ∙ has)

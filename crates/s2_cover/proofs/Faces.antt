@@ -1,11 +1,11 @@
 -- The cover of a rectangle, from the walk over its face.
-use Rattle.std.proofs.Common.{◌≡◌, ◌≢◌, ℕ, ◌+◌, ◌-◌, ◌*◌, ◌/◌, ◌^◌, ◌<◌, ◌≤◌, Bool, false, List, [], ◌++◌, length, refl, sym, ◌∙◌, ap, subst, arith, inl, inr}
+use Rattle.std.proofs.Common.{◌≡◌, ◌≢◌, ℕ, ◌+◌, ◌-◌, ◌*◌, ◌/◌, ◌^◌, ◌<◌, ◌≤◌, Bool, true, false, List, [], ◌∷◌, ◌++◌, length, refl, sym, ◌∙◌, ap, subst, arith, inl, inr}
 use Rattle.std.specs.Prelude.{◌↔◌, ◌&&◌, ◌==◌, IsTrue}
 use Rattle.std.specs.Int.{IsInRange}
 use Rattle.std.proofs.Math.Nat.{mul-le-mul_right}
 use Rattle.std.proofs.lemmas.Bool.{cases_lt, both_ways}
 use Rattle.std.proofs.lemmas.Bool.Decides.{nat_tests}
-use Rattle.s2_hilbert.specs.Grid.{GridLeaf, IsLeaf, GridSquare, IsSquare, grid_square}
+use Rattle.s2_hilbert.specs.Grid.{GridLeaf, grid_leaf, IsLeaf, GridSquare, IsSquare, grid_square}
 use Rattle.s2_hilbert.specs.Curve.{position_of, grid_leaf_at, first_position, last_position, place}
 use Rattle.s2_hilbert.specs.CurveLaws.{leaf_undone}
 use Rattle.s2_cellid.specs.Family.{square_id}
@@ -189,3 +189,28 @@ covers_footprint rect ids is same leaf here =
       λ has. told.0 (sym tests ∙ has),
       λ inside. tests ∙ told.1 inside,
     )
+
+-- the leaf at the least coordinates belongs to its rectangle
+least_leaf : (r : RectParts) → IsRect r → IsInFootprint r (grid_leaf r.face r.i_min r.j_min)
+least_leaf r is = record {
+  inner = grid_leaf r.face r.i_min r.j_min;
+  is = record { face_below = is.face; i_below = omega (arith, is); j_below = omega (arith, is) };
+  face = refl;
+  i = (omega arith, is.i_order);
+  j = (omega arith, is.j_order);
+  share = record { same_face = refl; same_i = refl; same_j = refl };
+}
+
+some_of : (ids : List ℕ) (p : ℕ) → leaves_of ids p ≡ true → 0 < length ids
+some_of [] p has = cc
+some_of (id ∷ ids) p has = omega arith
+
+-- so its cover has a cell
+pub some_cells : (r : RectParts) (ids : List ℕ) → IsRect r
+    → ((leaf : GridLeaf) → IsLeaf leaf → IsTrue (leaves_of ids (position_of leaf)) ↔ IsInFootprint r leaf)
+    → 0 < length ids
+unfolding least_leaf
+some_cells r ids is told =
+    let least = least_leaf r is in
+    some_of ids (position_of (grid_leaf r.face r.i_min r.j_min))
+    ((told (grid_leaf r.face r.i_min r.j_min) least.is).1 least)

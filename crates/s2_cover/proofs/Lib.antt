@@ -4,6 +4,7 @@ pub mod Existence
 pub mod Faces
 pub mod Footprints
 pub mod Laid
+pub mod Listing
 pub mod Merging
 pub mod Nesting
 pub mod Pigeons

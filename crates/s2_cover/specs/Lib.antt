@@ -1,4 +1,5 @@
 pub mod Canonical
+pub mod CanonicalList
 pub mod Laying
 pub mod Leaves
 pub mod Ranges

@@ -5,6 +5,7 @@ ghost use Rattle.s2_hilbert.specs.Grid.{GridLeaf};
 ghost use Rattle.s2_cellid.specs.Cell.{IsCellId};
 ghost use Rattle.s2_cover.specs.Leaves.{leaves_of};
 ghost use Rattle.s2_cover.specs.Canonical.{IsCanonical};
+ghost use Rattle.s2_cover.specs.CanonicalList.{canonical_list};
 ghost use Rattle.s2_cover.specs.Rectangles.{RectParts, IsRect, IsInFootprint, widened, wide_has};
 ghost use Rattle.s2_cover.specs.Ranges.{IsRanges};
 ghost use Rattle.s2_cover.specs.declared.spans.Span.{Span};
@@ -25,6 +26,11 @@ pub fn equal_sets_have_equal_covers()
 pub fn canonical_list_exists()
     ensures { (set : ℕ → Bool) → ((p : ℕ) → IsTrue (set p) → p < 6 * 2 ^ 60)
         → (ids : List ℕ) × (IsCanonical set ids × ((p : ℕ) → leaves_of ids p ≡ set p)) }
+{}
+
+/// The function that gives the canonical list of a set of leaves gives it.
+pub fn canonical_list_is()
+    ensures { (set : ℕ → Bool) → IsCanonical set (canonical_list set) }
 {}
 
 /// No list of cells with the leaves of a set is shorter than its canonical list.

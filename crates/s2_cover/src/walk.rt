@@ -7,6 +7,7 @@ ghost use Rattle.s2_hilbert.specs.Curve.{position_of, first_position, last_posit
 ghost use Rattle.s2_cellid.specs.Family.{square_id};
 ghost use Rattle.s2_cover.specs.Leaves.{leaves_of};
 ghost use Rattle.s2_cover.specs.Canonical.{IsCanonical};
+ghost use Rattle.s2_cover.specs.CanonicalList.{canonical_list, IsLonger};
 ghost use Rattle.s2_cover.specs.Laying.{IsLaid};
 ghost use Rattle.s2_cover.specs.Rectangles.{IsInFootprint, rect_leaves, wide_set};
 ghost use Rattle.s2_cover.specs.Walking.{IsOpened, IsWide, HasWalked, HasStopped, IsFull, IsRefused, HasLooked, looks_for, max_looks};
@@ -66,11 +67,14 @@ pub fn cover(alloc: Global, rect: &Rect, limit: u32) -> Result<Cover, CoverFault
         (p : ℕ) → leaves_of cover.ids p ≡ rect_leaves rect.now p) }
     ensures footprint { IfOk result (λ cover. (leaf : GridLeaf) → IsLeaf leaf →
         IsTrue (leaves_of cover.ids (position_of leaf)) ↔ IsInFootprint rect.now leaf) }
+    ensures some { IfOk result (λ cover. 0 < length cover.ids) }
     ensures few { IfOk result (λ cover. length cover.ids ≤ limit) }
     ensures looked { IfOk result (λ cover.
         IsInRange (length cover.ids) (max_looks limit) cover.looked) }
     ensures exact { IfOk result (λ cover. HasLooked (rect_leaves rect.now) cover.looked) }
     ensures refused { IfErr result (IsRefused (rect_leaves rect.now) limit) }
+    ensures list { IfOk result (λ cover. cover.ids ≡ canonical_list (rect_leaves rect.now)) }
+    ensures longer { IfErr result (IsLonger (rect_leaves rect.now) limit) }
 {
     let wide = Wide::of_rect(rect);
     let face = Square::of_face(wide.face());

@@ -1,11 +1,12 @@
 -- The first and last position of a square and of its children, and its spans.
 use Rattle.std.proofs.Common.{◌≡◌, ℕ, ◌+◌, ◌-◌, ◌*◌, ◌/◌, ◌%◌, ◌^◌, ◌<◌, ◌≤◌, refl, sym, ◌∙◌, ap, arith}
 use Rattle.std.specs.Prelude.{◌↔◌}
-use Rattle.std.proofs.lemmas.Nat.{pow_pos, pow-add, mul-le}
+use Rattle.std.proofs.lemmas.Nat.{pow_pos, pow-add, mul-le, div-mul-add}
+use Rattle.std.proofs.Math.Nat.{mul-div_cancel}
 use Rattle.s2_hilbert.specs.Grid.{GridLeaf, IsLeaf, side_of, GridSquare, IsSquare, IsWithin, grid_square}
 use Rattle.s2_hilbert.specs.Curve.{quadrant_at, turned, place, turn_at, position_of, leaf_count, turn_of, first_position}
 use Rattle.s2_hilbert.specs.QuadrantLaws.{is_place}
-use Rattle.s2_hilbert.specs.PlaceLaws.{turn_below, four_pow_pos}
+use Rattle.s2_hilbert.specs.PlaceLaws.{turn_below, four_pow_pos, place_below, split_at}
 use Rattle.s2_hilbert.specs.CurveLaws.{square_leaves}
 use Rattle.s2_hilbert.specs.SquareLaws.{quarter_count, quotient_range}
 use Rattle.s2_hilbert.proofs.Steps.{has_last, last_quadrant}
@@ -108,3 +109,24 @@ face_square face below = record {
   a_below = omega arith;
   b_below = omega arith;
 }
+
+-- the place of a square, from that of the leaf at its first coordinates
+pub square_place_is : (level turn a b : ℕ) → level ≤ 30 → turn < 4
+    → place 30 turn (a * side_of level) (b * side_of level) / leaf_count level ≡ place level turn a b
+square_place_is level turn a b below turn_low =
+    let sum : 30 ≡ level + (30 - level) = omega (arith, below) in
+    let split = split_at level (30 - level) 30 turn (a * side_of level) (b * side_of level) sum in
+    let some : 0 < side_of level = pow_pos (30 - level) in
+    let i : a * side_of level / side_of level ≡ a = mul-div_cancel a some in
+    let j : b * side_of level / side_of level ≡ b = mul-div_cancel b some in
+    let inner = turn_at level turn (a * side_of level / side_of level) (b * side_of level / side_of level) in
+    let inner_low : inner < 4 =
+    turn_below level turn (a * side_of level / side_of level) (b * side_of level / side_of level) turn_low in
+    let low = place (30 - level) inner (a * side_of level % side_of level) (b * side_of level % side_of level) in
+    let low_below : low < leaf_count level =
+    place_below (30 - level) inner (a * side_of level % side_of level) (b * side_of level % side_of level) inner_low in
+    ap (λ p. p / leaf_count level) split.places
+    ∙ div-mul-add (place level turn (a * side_of level / side_of level) (b * side_of level / side_of level))
+    (leaf_count level) low low_below
+    ∙ ap (λ x. place level turn x (b * side_of level / side_of level)) i
+    ∙ ap (λ y. place level turn a y) j

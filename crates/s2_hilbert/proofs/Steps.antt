@@ -92,14 +92,6 @@ walk_ends levels turn i j at along walked =
     let j_is : j / 2 ^ 0 ≡ j = omega arith in
     rw (none, i_is, j_is) at walked.place_is
 
--- one more level fits
-pub walk_fits : (levels turn i j step at along : ℕ) → levels ≤ 30 → step < levels
-    → HasWalked levels turn i j step at along → 4 * along + 4 ≤ 2 ^ 60
-walk_fits levels turn i j step at along at_most inside walked =
-    let within : step ≤ 29 = omega arith in
-    let power : 4 ^ step ≤ 4 ^ 29 = pow-le-pow_right (omega arith) within in
-    omega (arith, power, walked.place_below)
-
 -- the places on the level above
 quarter : (along n : ℕ) → along / 4 ^ n / 4 ≡ along / 4 ^ (n + 1)
 quarter along n =

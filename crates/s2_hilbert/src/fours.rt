@@ -4,9 +4,9 @@ ghost use Rattle.std.specs.Prelude.{◌≡◌, ℕ, ◌+◌, ◌*◌, ◌/◌, �
 ghost use Rattle.s2_hilbert.specs.Grid as grid;
 ghost use Rattle.s2_hilbert.specs.Curve as curve;
 
+use crate::levels::{LEAF_LEVEL, quadrant_of};
 use crate::quadrants::{quadrant_at, step_to, turned};
 use crate::tables::{place_of_four, point_of_four};
-use crate::walk::{LEAF_LEVEL, quadrant_of};
 
 // How many steps of four levels there are below the two highest levels.
 const FOURS: u8 = 7;

@@ -6,7 +6,7 @@ ghost use Rattle.s2_hilbert.specs.Grid.{GridLeaf, IsLeaf, grid_leaf, face_count,
 ghost use Rattle.s2_hilbert.specs.Curve.{position_of, grid_leaf_at};
 
 use crate::fours::{place_on_face, point_on_face};
-use crate::walk::{FACE_LEAVES, LEAF_LEVEL};
+use crate::levels::{FACE_LEAVES, LEAF_LEVEL};
 use std::marker::Model;
 
 /// How many faces there are.

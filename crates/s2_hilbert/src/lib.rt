@@ -5,14 +5,14 @@
 mod fours;
 pub mod laws;
 mod leaves;
+mod levels;
 mod quadrants;
 mod squares;
 mod tables;
-mod walk;
 
 pub use leaves::{FACES, Leaf, leaf_at, position};
+pub use levels::LEAF_LEVEL;
 pub use squares::Square;
-pub use walk::LEAF_LEVEL;
 
 #[cfg(test)]
 mod tests {

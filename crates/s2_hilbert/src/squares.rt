@@ -8,8 +8,9 @@ ghost use Rattle.s2_hilbert.specs.Curve.{position_of};
 ghost use Rattle.s2_hilbert.specs.Curve as curve;
 ghost use Rattle.s2_hilbert.specs.Curve.{first_position, last_position};
 
+use crate::fours::place_on_face;
+use crate::levels::{FACE_LEAVES, LEAF_LEVEL};
 use crate::quadrants::{quadrant_at, turned};
-use crate::walk::{FACE_LEAVES, LEAF_LEVEL, place_of_point};
 use std::marker::Model;
 
 /// A square of leaves: its face, its level from 0 for a whole face to 30 for a leaf, its coordinates
@@ -95,7 +96,7 @@ impl Square {
         ensures below { result < 6 * 2 ^ 60 }
         ensures square { IsSquare self.now }
     {
-        let place = place_of_point(self.level, self.face % 2, self.a, self.b);
+        let place = place_of_square(self.level, self.face % 2, self.a, self.b);
         u64::from(self.face) * FACE_LEAVES + place * leaf_count(self.level)
     }
 
@@ -126,6 +127,20 @@ impl Square {
     {
         span(self.level, self.b)
     }
+}
+
+// The place of a square along the curve through a face, among the squares of its level: that of its first
+// coordinates' leaf, without the levels below.
+fn place_of_square(level: u8, turn: u8, a: u32, b: u32) -> u64
+    requires level { level ≤ grid.leaf_level }
+    requires turn { turn < 4 }
+    requires a { a < 2 ^ level }
+    requires b { b < 2 ^ level }
+    ensures value { result ≡ curve.place level turn a b }
+    ensures below { result < 4 ^ level }
+{
+    let side = side_of(level);
+    place_on_face(turn, a * side, b * side) / leaf_count(level)
 }
 
 // How many leaves a square of a level has.

@@ -1,8 +1,7 @@
 //! The command line of the program.
 
-ghost use Rattle.std.specs.Prelude.{IfOk};
-ghost use Rattle.desk_wire.specs.Moments.{IsMoment};
-ghost use Rattle.uss_desk.specs.Lines.{HasMoment};
+ghost use Rattle.std.specs.Prelude.{◌≤◌, IfOk, IfSome, OnOk};
+ghost use Rattle.uss_desk.specs.Lines.{AreEnrolments, IsLine, IsPlay, IsServe, max_ceiling};
 
 #[cfg(test)]
 mod tests;
@@ -12,6 +11,7 @@ use clap::{Arg, ArgAction, ArgMatches, Command, value_parser};
 use desk_rules::operator::Operator;
 use desk_run::MAX_CEILING;
 use std::alloc::{AllocError, AllocFailed, Global};
+use std::str::FromStr;
 
 /// The last moment, a Unix second.
 const LAST_MOMENT: i64 = 253_370_764_800;
@@ -19,11 +19,20 @@ const LAST_MOMENT: i64 = 253_370_764_800;
 /// The most digits of a ceiling.
 const CEILING_DIGITS: usize = 4;
 
+/// The most connections that are served.
+const MAX_CONNECTIONS: u32 = 1_000_000;
+
 /// What the program is asked to do.
 #[derive(Debug, Drop)]
 pub enum Line {
     /// `play`: enrols the names, and answers the requests of the standard input.
     Play(Play),
+    /// `token`: tells the cell of this text.
+    Token(String),
+    /// `serve`: enrols the names, and answers one request a connection.
+    Serve(Serve),
+    /// `cover`: tells the cells of a rectangle.
+    Cover(Cover),
 }
 
 /// The words of `play`.
@@ -32,6 +41,30 @@ pub struct Play {
     /// The moment of all requests, a Unix second from 0 to 253,370,764,800.
     pub moment: i64,
     pub enrolments: Vec<Enrolment>,
+}
+
+/// The words of `serve`.
+#[derive(Debug, Drop)]
+pub struct Serve {
+    /// The port of 127.0.0.1 that is listened at, 1 to 65,535.
+    pub port: u16,
+    /// How many connections are served, 1 to 1,000,000.
+    pub connections: u32,
+    pub enrolments: Vec<Enrolment>,
+}
+
+/// The words of `cover`: the parts of a rectangle of leaves, of which nothing is known yet.
+#[derive(Clone, Copy, Debug)]
+pub struct Cover {
+    pub face: u8,
+    pub i_min: u32,
+    pub i_max: u32,
+    pub j_min: u32,
+    pub j_max: u32,
+    /// The level of the squares.
+    pub level: u8,
+    /// Whether a picture is wanted in place of the tokens.
+    pub is_picture: bool,
 }
 
 /// An operator to be enrolled, `NAME=CEILING`.
@@ -79,56 +112,186 @@ impl From<clap::Error> for WordsFault {
 ///
 /// # Errors
 ///
-/// `OutOfMemory`; `Words` if `clap` refuses them, or the moment is out of range; `Value`.
+/// `OutOfMemory`; `Words` if `clap` refuses them, or a number is out of range; `Value`.
 pub fn read_words(alloc: Global, words: &[String]) -> Result<Line, WordsFault>
-    ensures { IfOk result (λ line. HasMoment line) }
+    ensures { IfOk result IsLine }
 {
     let matches = make_command(alloc)?.try_get_matches_from(words)?;
     match matches.subcommand() {
         Some(("play", play)) => Ok(Line::Play(read_play(alloc, play)?)),
+        Some(("token", token)) => Ok(Line::Token(read_token(alloc, token)?)),
+        Some(("serve", serve)) => Ok(Line::Serve(read_serve(alloc, serve)?)),
+        Some(("cover", cover)) => Ok(Line::Cover(read_cover(cover)?)),
         _ => Err(WordsFault::Value),
     }
 }
 
 // The command line that is taken.
 fn make_command<'a>(alloc: Global) -> Result<Command<'a>, AllocError> {
+    Command::new(alloc, "uss_desk")
+        .about("The planning desk of one UAS service supplier")
+        .subcommand_required(true)
+        .subcommand(play_command(alloc)?)?
+        .subcommand(token_command(alloc)?)?
+        .subcommand(serve_command(alloc)?)?
+        .subcommand(cover_command(alloc)?)
+}
+
+fn play_command<'a>(alloc: Global) -> Result<Command<'a>, AllocError> {
     let moment = Arg::new(alloc, "moment")
         .long("at")
         .value_name("SECOND")
         .help("The moment of all requests, a Unix second")
         .required(true)
         .value_parser(value_parser!(i64).range(0..=LAST_MOMENT));
-    let enrolments = Arg::new(alloc, "enrolments")
-        .value_name("NAME=CEILING")
-        .help("An operator, and the greatest priority that it may use")
-        .action(ArgAction::Append);
-    let play = Command::new(alloc, "play")
+    Command::new(alloc, "play")
         .about("Answers the requests of the standard input")
         .arg(moment)?
-        .arg(enrolments)?;
-    Command::new(alloc, "uss_desk")
-        .about("The planning desk of one UAS service supplier")
-        .subcommand_required(true)
-        .subcommand(play)
+        .arg(enrolments_arg(alloc))
+}
+
+fn token_command<'a>(alloc: Global) -> Result<Command<'a>, AllocError> {
+    let token = Arg::new(alloc, "token")
+        .value_name("TOKEN")
+        .help("A cell of the S2 geometry library, 1 to 16 hex digits")
+        .required(true);
+    Command::new(alloc, "token")
+        .about("Tells a cell's face, its level, and its first and last leaf")
+        .arg(token)
+}
+
+fn serve_command<'a>(alloc: Global) -> Result<Command<'a>, AllocError> {
+    let port = Arg::new(alloc, "port")
+        .long("port")
+        .value_name("N")
+        .help("The port of 127.0.0.1 that is listened at")
+        .required(true)
+        .value_parser(value_parser!(u16).range(1..));
+    let connections = Arg::new(alloc, "connections")
+        .long("requests")
+        .value_name("N")
+        .help("How many connections are served, one request each")
+        .required(true)
+        .value_parser(value_parser!(u32).range(1..=i64::from(MAX_CONNECTIONS)));
+    Command::new(alloc, "serve")
+        .about("Answers one request a connection, at the moment that the clock tells")
+        .arg(port)?
+        .arg(connections)?
+        .arg(enrolments_arg(alloc))
+}
+
+fn cover_command<'a>(alloc: Global) -> Result<Command<'a>, AllocError> {
+    let picture = Arg::new(alloc, "picture")
+        .long("svg")
+        .help("Prints a picture (SVG) in place of the tokens")
+        .action(ArgAction::SetTrue);
+    Command::new(alloc, "cover")
+        .about("Tells the cells of a rectangle of leaves, widened to whole squares of the level")
+        .arg(number_arg(alloc, "FACE", "The face, 0 to 5").value_parser(value_parser!(u8)))?
+        .arg(coordinate_arg(alloc, "I_MIN", "The least coordinate i of a leaf"))?
+        .arg(coordinate_arg(alloc, "I_MAX", "The greatest coordinate i"))?
+        .arg(coordinate_arg(alloc, "J_MIN", "The least coordinate j"))?
+        .arg(coordinate_arg(alloc, "J_MAX", "The greatest coordinate j"))?
+        .arg(number_arg(alloc, "LEVEL", "The level, 8 to 24").value_parser(value_parser!(u8)))?
+        .arg(picture)
+}
+
+// Operators and their ceilings.
+fn enrolments_arg<'a>(alloc: Global) -> Arg<'a> {
+    Arg::new(alloc, "enrolments")
+        .value_name("NAME=CEILING")
+        .help("An operator, and the greatest priority that it may use")
+        .action(ArgAction::Append)
+}
+
+// A number that has to be there.
+fn number_arg<'a>(alloc: Global, name: &'a str, help: &'a str) -> Arg<'a> {
+    Arg::new(alloc, name)
+        .value_name(name)
+        .help(help)
+        .required(true)
+}
+
+fn coordinate_arg<'a>(alloc: Global, name: &'a str, help: &'a str) -> Arg<'a> {
+    number_arg(alloc, name, help).value_parser(value_parser!(u32))
 }
 
 // The words of `play`.
 fn read_play(alloc: Global, matches: &ArgMatches<'_>) -> Result<Play, WordsFault>
-    ensures { IfOk result (λ play. IsMoment play.moment) }
+    ensures { IfOk result IsPlay }
 {
     let moment = match matches.get_one::<i64>("moment") {
         Some(moment @ 0..=LAST_MOMENT) => moment,
         _ => return Err(WordsFault::Value),
     };
-    let mut enrolments = Vec::new(alloc);
-    for word in matches.get_strs("enrolments").unwrap_or(&[]) {
-        enrolments.push(enrolment_of(word).ok_or(WordsFault::Value)?)?;
-    }
+    let enrolments = read_enrolments(alloc, matches)?;
     Ok(Play { moment, enrolments })
 }
 
+// The text of `token`.
+fn read_token(alloc: Global, matches: &ArgMatches<'_>) -> Result<String, WordsFault> {
+    let token = matches.get_str("token").ok_or(WordsFault::Value)?;
+    Ok(String::from_str(alloc, token)?)
+}
+
+// The words of `serve`.
+fn read_serve(alloc: Global, matches: &ArgMatches<'_>) -> Result<Serve, WordsFault>
+    ensures { IfOk result IsServe }
+{
+    let port = match matches.get_one::<u16>("port") {
+        Some(port @ 1..) => port,
+        _ => return Err(WordsFault::Value),
+    };
+    let connections = match matches.get_one::<u32>("connections") {
+        Some(connections @ 1..=MAX_CONNECTIONS) => connections,
+        _ => return Err(WordsFault::Value),
+    };
+    Ok(Serve {
+        port,
+        connections,
+        enrolments: read_enrolments(alloc, matches)?,
+    })
+}
+
+// The words of `cover`.
+fn read_cover(matches: &ArgMatches<'_>) -> Result<Cover, WordsFault> {
+    Ok(Cover {
+        face: read_number(matches, "FACE")?,
+        i_min: read_number(matches, "I_MIN")?,
+        i_max: read_number(matches, "I_MAX")?,
+        j_min: read_number(matches, "J_MIN")?,
+        j_max: read_number(matches, "J_MAX")?,
+        level: read_number(matches, "LEVEL")?,
+        is_picture: matches.get_flag("picture"),
+    })
+}
+
+// A number that `clap` has read.
+fn read_number<T: FromStr>(matches: &ArgMatches<'_>, name: &str) -> Result<T, WordsFault>
+where
+    T::Err: Drop,
+{
+    matches.get_one::<T>(name).ok_or(WordsFault::Value)
+}
+
+// The enrolments, in the order given.
+fn read_enrolments(alloc: Global, matches: &ArgMatches<'_>) -> Result<Vec<Enrolment>, WordsFault>
+    ensures { IfOk result (λ enrolments. AreEnrolments enrolments.items) }
+{
+    let mut enrolments = Vec::new(alloc);
+    for word in matches.get_strs("enrolments").unwrap_or(&[]) {
+        let Some(enrolment) = enrolment_of(word) else {
+            return Err(WordsFault::Value);
+        };
+        enrolments.push(enrolment)?;
+    }
+    Ok(enrolments)
+}
+
 // An enrolment, `NAME=CEILING`, parted at its first `=`.
-fn enrolment_of(word: &str) -> Option<Enrolment> {
+fn enrolment_of(word: &str) -> Option<Enrolment>
+    ensures { IfSome result (λ e. e.ceiling ≤ max_ceiling) }
+{
     let (name, ceiling) = word.split_once('=')?;
     Some(Enrolment {
         operator: Operator::try_new(name.as_bytes())?,
@@ -137,7 +300,9 @@ fn enrolment_of(word: &str) -> Option<Enrolment> {
 }
 
 // A ceiling: 1 to 4 digits, at most 1,000.
-fn ceiling_of(digits: &str) -> Option<u32> {
+fn ceiling_of(digits: &str) -> Option<u32>
+    ensures { IfSome result (λ ceiling. ceiling ≤ max_ceiling) }
+{
     if digits.len() > CEILING_DIGITS || !digits.bytes().all(|b| b.is_ascii_digit()) {
         return None;
     }

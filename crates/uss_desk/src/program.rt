@@ -1,83 +1,47 @@
-//! The program: what a command line does, its exit status, and the word that it prints.
+//! What the program does at a desk: enrolments, and the requests of an input.
 
-ghost use Rattle.std.specs.Prelude.{◌≡◌};
-ghost use Rattle.desk_wire.specs.Moments.{IsMoment};
+ghost use Rattle.std.specs.Prelude.{◌≡◌, ◌≤◌, ◌⊎◌, IfErr, OnOk};
+ghost use Rattle.desk_run.specs.Faults.{IsBreakdown};
+ghost use Rattle.desk_store.specs.Faults.{IsHonest};
+ghost use Rattle.uss_desk.specs.Enrolling.{with_operators};
 ghost use Rattle.uss_desk.specs.Exits as spec;
-ghost use Rattle.uss_desk.specs.Lines.{HasMoment};
+ghost use Rattle.uss_desk.specs.Exits.{exit_status};
+ghost use Rattle.uss_desk.specs.Lines.{AreEnrolments, HasDesk, IsLine, IsPlay};
+ghost use Rattle.uss_desk.specs.Playing.{IsLinePlayed, IsNotPlayed, IsPlayed, status_after};
 
 #[cfg(test)]
 mod tests;
 
+use crate::failure::{Failure, conclude};
 use crate::line::{Enrolment, Line, Play};
 use desk_run::{Desk, DeskFault};
 use desk_store::PlanStore;
-use desk_wire::{PlayEnd, ServeFault, play_all, write_whole};
+use desk_wire::{PlayEnd, play_all};
 use std::alloc::Global;
 use std::io::{Read, Write};
 
-/// Why the program did not do all that it was asked.
-#[derive(Clone, Copy, Debug, PartialEq, Eq)]
-pub enum Failure {
-    /// The place of the next request is unknown.
-    Unframed,
-    /// The input ended inside a request.
-    CutShort,
-    /// A read failed.
-    Read,
-    /// As many requests were answered as a run answers at most.
-    Limit,
-    /// The last answer has the status 500.
-    Broken,
-    /// Memory ran out.
-    Memory,
-    /// The store failed.
-    Store,
-    /// A write failed.
-    Write,
-    /// An enrolment's ceiling is above 1,000.
-    Value,
-}
-
-impl Failure {
-    /// The exit status: 2 for the words, 3 for the input, 4 for memory, the store and output.
-    pub fn status(self) -> u8
-        ensures { result ≡ spec.failure_status self }
-    {
-        match self {
-            Failure::Value => 2,
-            Failure::Unframed | Failure::CutShort | Failure::Read | Failure::Limit => 3,
-            Failure::Broken | Failure::Memory | Failure::Store | Failure::Write => 4,
-        }
-    }
-
-    /// The word that is printed.
-    pub fn word(self) -> &'static str
-        ensures { result.now ≡ spec.failure_word self }
-    {
-        match self {
-            Failure::Unframed => "unframed",
-            Failure::CutShort => "cut_short",
-            Failure::Read => "read",
-            Failure::Limit => "limit",
-            Failure::Broken => "broken",
-            Failure::Memory => "memory",
-            Failure::Store => "store",
-            Failure::Write => "write",
-            Failure::Value => "value",
-        }
-    }
-}
-
-impl From<DeskFault> for Failure {
-    ghost from_gives = { λ fault failure. failure ≡ spec.enrolment_failure fault };
-
-    fn from(fault: DeskFault) -> Failure {
-        match fault {
-            DeskFault::OutOfMemory => Failure::Memory,
-            DeskFault::Store => Failure::Store,
-            DeskFault::UnknownOperator | DeskFault::NoSuchPlan | DeskFault::Ceiling =>
-                Failure::Value,
-        }
+/// Does what a line of `play` says at a desk, and answers the exit status. The word of a failure goes
+/// to `errors`; a fault there is passed over.
+pub fn with_desk<S: PlanStore, R: Read, W: Write, E: Write>(
+    alloc: Global,
+    line: &Line,
+    desk: &mut Desk<S>,
+    input: &mut R,
+    output: &mut W,
+    errors: &mut E,
+) -> u8
+    requires line { IsLine line.now }
+    requires desk { HasDesk line.now }
+    ensures played { IsLinePlayed (IsHonest (S.doubt desk.new)) line.now result
+        (R.remaining input.old) (R.remaining input.new)
+        (W.contents output.old) (W.contents output.new)
+        (S.content desk.old) (S.content desk.new) }
+    ensures doubt { S.doubt desk.old ≤ S.doubt desk.new }
+    ensures counted { S.faults desk.old ≤ S.faults desk.new }
+{
+    match line {
+        Line::Play(play) => play_line(alloc, play, desk, input, output, errors),
+        _ => unreachable!(),
     }
 }
 
@@ -90,70 +54,63 @@ fn failure_after(ended: PlayEnd) -> Option<Failure>
         PlayEnd::Unframed => Some(Failure::Unframed),
         PlayEnd::Broken => Some(Failure::Broken),
         PlayEnd::Limit => Some(Failure::Limit),
-        PlayEnd::Fault(ServeFault::Read) => Some(Failure::Read),
-        PlayEnd::Fault(ServeFault::Write { .. }) => Some(Failure::Write),
-        PlayEnd::Fault(ServeFault::CutShort) => Some(Failure::CutShort),
-        PlayEnd::Fault(ServeFault::OutOfMemory) => Some(Failure::Memory),
-    }
-}
-
-/// Does what a line says at a desk, and answers the exit status. The word of a failure goes to
-/// `errors`; a fault there is passed over.
-pub fn with_desk<S: PlanStore, R: Read, W: Write, E: Write>(
-    alloc: Global,
-    line: &Line,
-    desk: &mut Desk<S>,
-    input: &mut R,
-    output: &mut W,
-    errors: &mut E,
-) -> u8
-    requires { HasMoment line.now }
-{
-    let Line::Play(play) = line;
-    conclude(errors, play_line(alloc, play, desk, input, output))
-}
-
-/// The exit status of what was done; the word of a failure is printed as `uss_desk: WORD`, and a
-/// fault of the writer is passed over.
-pub fn conclude<E: Write>(errors: &mut E, done: Result<(), Failure>) -> u8
-    ensures { result ≡ spec.exit_status done }
-{
-    match done {
-        Ok(()) => 0,
-        Err(failure) => {
-            print_failure(errors, failure);
-            failure.status()
-        }
+        PlayEnd::Fault(fault) => Some(Failure::from(fault)),
     }
 }
 
 // Enrols the operators, and answers the requests of the input.
-fn play_line<S: PlanStore, R: Read, W: Write>(
+fn play_line<S: PlanStore, R: Read, W: Write, E: Write>(
     alloc: Global,
     play: &Play,
     desk: &mut Desk<S>,
     input: &mut R,
     output: &mut W,
-) -> Result<(), Failure>
-    requires { IsMoment play.now.moment }
+    errors: &mut E,
+) -> u8
+    requires { IsPlay play.now }
+    ensures played { IsPlayed (IsHonest (S.doubt desk.new)) play.now result
+        (R.remaining input.old) (R.remaining input.new)
+        (W.contents output.old) (W.contents output.new) (S.content desk.old) (S.content desk.new)
+        ⊎ IsNotPlayed result (R.remaining input.old) (R.remaining input.new)
+        (W.contents output.old) (W.contents output.new) }
+    ensures doubt { S.doubt desk.old ≤ S.doubt desk.new }
+    ensures counted { S.faults desk.old ≤ S.faults desk.new }
 {
-    enrol_all(desk, &play.enrolments)?;
+    if let Err(fault) = enrol_all(desk, &play.enrolments) {
+        return conclude(errors, Err(Failure::from(fault)));
+    }
     let played = play_all(alloc, desk, play.moment, input, output);
-    match failure_after(played.ended) {
+    conclude(errors, done_after(played.ended))
+}
+
+// Whether a run over the input came to the input's end, by its own end.
+fn done_after(ended: PlayEnd) -> Result<(), Failure>
+    ensures { exit_status result ≡ status_after (spec.failure_after ended) }
+{
+    match failure_after(ended) {
         None => Ok(()),
         Some(failure) => Err(failure),
     }
 }
 
-fn enrol_all<S: PlanStore>(desk: &mut Desk<S>, enrolments: &[Enrolment]) -> Result<(), DeskFault> {
+/// Enrols the operators in the order given, so that a name given twice has its last ceiling.
+///
+/// # Errors
+///
+/// The first fault of an enrolment, `OutOfMemory` or `Store`; those before it stand.
+pub fn enrol_all<S: PlanStore>(
+    desk: &mut Desk<S>,
+    enrolments: &[Enrolment],
+) -> Result<(), DeskFault>
+    requires { AreEnrolments enrolments.now }
+    ensures ok { IsHonest (S.doubt desk.new) → OnOk result
+        (S.content desk.new ≡ with_operators (S.content desk.old) enrolments.now) }
+    ensures fault { IfErr result IsBreakdown }
+    ensures doubt { S.doubt desk.old ≤ S.doubt desk.new }
+    ensures counted { S.faults desk.old ≤ S.faults desk.new }
+{
     for enrolment in enrolments {
         desk.enrol(&enrolment.operator, enrolment.ceiling)?;
     }
     Ok(())
-}
-
-fn print_failure<E: Write>(errors: &mut E, failure: Failure) {
-    for part in ["uss_desk: ", failure.word(), "\n"] {
-        let _ = write_whole(errors, part.as_bytes());
-    }
 }

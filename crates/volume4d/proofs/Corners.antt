@@ -135,6 +135,27 @@ none_right a b m c e x = false_from_ne_true _ (λ h.
     let here = has-from_IsIn b _ (corner_right a b x (IsIn-from_has a x parts.0) (IsIn-from_has b x parts.1)) in
     let bad : false ≡ true = e ∙ ap (slab_has b) c ∙ here in cc)
 
+-- a slab without the leaf or the altitude and second of a point does not have the point
+pub leaf_out : (a : Slab) (m : Point) → false ≡ slab_has_leaf a m.leaf → false ≡ slab_has a m
+leaf_out a m e =
+    ap (λ b. b && (int_le a.lower m.altitude && int_lt m.altitude a.upper)
+    && (int_le a.start m.second && int_lt m.second a.end)) e
+
+pub time_out : (a : Slab) (m : Point)
+    → false ≡ ((int_le a.lower m.altitude && int_lt m.altitude a.upper) && (int_le a.start m.second && int_lt m.second a.end))
+    → false ≡ slab_has a m
+time_out a m e = sym (false_from_ne_true _ (λ h.
+    let outer = and_parts (slab_has_leaf a m.leaf && (int_le a.lower m.altitude && int_lt m.altitude a.upper)) _ h in
+    let bad : false ≡ true = e ∙ and_from _ _ (and_parts (slab_has_leaf a m.leaf) _ outer.0).1 outer.1 in cc))
+
+-- one with both has it
+pub has_both : (a : Slab) (m : Point) → slab_has_leaf a m.leaf ≡ true
+    → ((int_le a.lower m.altitude && int_lt m.altitude a.upper) && (int_le a.start m.second && int_lt m.second a.end)) ≡ true
+    → slab_has a m ≡ true
+has_both a m leaf time =
+    let parts = and_parts (int_le a.lower m.altitude && int_lt m.altitude a.upper) _ time in
+    and_from _ _ (and_from _ _ leaf parts.0) parts.1
+
 -- an element of the list that passes: every test that it passes, some element passes
 abbrev pub IsWitness : {A : Type 0} → (A → Bool) → List A → A → Type 0
 IsWitness {A} p xs y = (p y ≡ true) × ((q : A → Bool) → q y ≡ true → list_any q xs ≡ true)

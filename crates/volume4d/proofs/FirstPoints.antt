@@ -18,16 +18,20 @@ first_point_same f g same None h = λ x. sym (same x) ∙ h x
 first_point_same f g same (Some p) h = (sym (same p) ∙ h.0, λ x e. sym (same x) ∙ h.1 x e)
 
 -- one more held slab
-pub one_more_held : (s : Slab) (hs : List Held) (i : ℕ) (h : Held) (o : Option Point) → i < length hs → h ≡ get_or hs i h → IsFirstPoint (λ x. (slab_has s x && helds_have (take i hs) x) || (slab_has s x && slab_has h.slab x)) o → IsFirstPoint (λ x. slab_has s x && helds_have (take (i + 1) hs) x) o
-one_more_held s hs i h o below is =
-    first_point_same _ _ (λ x. sym (and-or_distrib_left (slab_has s x) (helds_have (take i hs) x) (slab_has h.slab x))
-    ∙ ap (λ b. slab_has s x && b) (sym (list_any_more (λ g. slab_has g.slab x) hs i h below ∙ ap (λ g. helds_have (take i hs) x || slab_has g.slab x) (sym is)))) o
+pub one_more_held : (f : Point → Bool) (hs : List Held) (i : ℕ) (h : Held) (o : Option Point) → i < length hs → h ≡ get_or hs i h
+    → IsFirstPoint (λ x. (f x && helds_have (take i hs) x) || (f x && slab_has h.slab x)) o
+    → IsFirstPoint (λ x. f x && helds_have (take (i + 1) hs) x) o
+one_more_held f hs i h o below is =
+    first_point_same _ _ (λ x. sym (and-or_distrib_left (f x) (helds_have (take i hs) x) (slab_has h.slab x))
+    ∙ ap (λ b. f x && b) (sym (list_any_more (λ g. slab_has g.slab x) hs i h below ∙ ap (λ g. helds_have (take i hs) x || slab_has g.slab x) (sym is)))) o
 
 -- one more slab
-pub one_more_of_mine : (mine : List Slab) (hs : List Held) (i : ℕ) (s : Slab) (o : Option Point) → i < length mine → s ≡ get_or mine i s → IsFirstPoint (λ x. (slabs_have (take i mine) x && helds_have hs x) || (slab_has s x && helds_have hs x)) o → IsFirstPoint (λ x. slabs_have (take (i + 1) mine) x && helds_have hs x) o
-one_more_of_mine mine hs i s o below is =
-    first_point_same _ _ (λ x. sym (and-or_distrib_right (slabs_have (take i mine) x) (slab_has s x) (helds_have hs x))
-    ∙ ap (λ b. b && helds_have hs x) (sym (list_any_more (λ t. slab_has t x) mine i s below ∙ ap (λ t. slabs_have (take i mine) x || slab_has t x) (sym is)))) o
+pub one_more_of_mine : (mine : List Slab) (f : Point → Bool) (i : ℕ) (s : Slab) (o : Option Point) → i < length mine → s ≡ get_or mine i s
+    → IsFirstPoint (λ x. (slabs_have (take i mine) x && f x) || (slab_has s x && f x)) o
+    → IsFirstPoint (λ x. slabs_have (take (i + 1) mine) x && f x) o
+one_more_of_mine mine f i s o below is =
+    first_point_same _ _ (λ x. sym (and-or_distrib_right (slabs_have (take i mine) x) (slab_has s x) (f x))
+    ∙ ap (λ b. b && f x) (sym (list_any_more (λ t. slab_has t x) mine i s below ∙ ap (λ t. slabs_have (take i mine) x || slab_has t x) (sym is)))) o
 
 shared_is : (mine : List Slab) (hs : List Held) (x : Point) → (slabs_have mine x && helds_have hs x) ≡ is_shared mine hs x
 unfolding is_shared

@@ -1,5 +1,6 @@
 pub mod IdBytes
 pub mod Readings
+pub mod RectReadings
 pub mod Extents
 pub mod LeafTests
 pub mod FootprintRanges

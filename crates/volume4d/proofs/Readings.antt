@@ -1,14 +1,15 @@
 -- Which shapes have given bytes.
-use Rattle.std.specs.Prelude.{◌≡◌, ℕ, ◌+◌, ◌*◌, ◌/◌, ◌%◌, ◌<◌, ◌≤◌, IsTrue, List, [], ◌∷◌, length, All, refl}
+use Rattle.std.specs.Prelude.{◌≡◌, ℕ, ◌+◌, ◌*◌, ◌/◌, ◌%◌, ◌<◌, ◌≤◌, IsTrue, List, [], ◌∷◌, length, All}
 use Rattle.std.specs.Int.{w64, from_be_bytes}
 use Rattle.std.specs.Simd.{first_chunks}
 use Rattle.std.proofs.Common.{ap, sym, ◌∙◌, arith, get_or, take, ◌++◌, subst}
 use Rattle.std.proofs.lemmas.List.{length-map, get_or-map, map_more, take_all}
 use Rattle.std.proofs.lemmas.List.Elements.{All-push}
 use Rattle.s2_cellid.specs.Cell.{IsCellId}
+use Rattle.s2_cover.specs.Rectangles.{RectParts}
 use Rattle.volume4d.specs.Limits.{within_cells}
-use Rattle.volume4d.specs.Shape.{Shape, cells}
-use Rattle.volume4d.specs.FootprintBytes.{footprint_bytes, HasCells, AreBytesOf}
+use Rattle.volume4d.specs.Shape.{Shape, cells, rectangle}
+use Rattle.volume4d.specs.FootprintBytes.{footprint_bytes, AreBytesOf}
 use Rattle.volume4d.proofs.IdBytes.{bytes_of, ids_of, length-bytes_of, ids_again, bytes_again}
 
 -- the ids that stand behind the first byte
@@ -21,6 +22,12 @@ ids_in-bytes_of ids bytes valid written =
     let count : length bytes / 8 ≡ length ids = omega (arith, length-bytes_of ids, ap length written) in
     rw (count, ← written) (ids_again ids valid)
 
+-- a rectangle has another first byte
+other_kind : (bytes : List ℕ) (r : RectParts) → AreBytesOf (1 ∷ bytes) (rectangle r) → ⊥
+other_kind bytes r a =
+    let other : get_or (footprint_bytes (rectangle r)) 0 0 ≡ 1 = ap (λ b. get_or b 0 0) a.written in
+    absurd (omega (arith, other))
+
 -- the bytes behind the first are whole ids, as many as the limits allow
 pub counted : (bytes : List ℕ) (shape : Shape) → AreBytesOf (1 ∷ bytes) shape
     → (length bytes % 8 ≡ 0) × IsTrue (within_cells (length bytes / 8))
@@ -29,12 +36,14 @@ counted bytes (cells ids) a =
     let many : length bytes ≡ 8 * length ids = omega (arith, length-bytes_of ids, ap length written) in
     let count : length ids ≡ length bytes / 8 = omega arith in
     (omega arith, subst (λ n. IsTrue (within_cells n)) count a.limits)
+counted bytes (rectangle r) a = absurd (other_kind bytes r a)
 
 -- and each eight is a valid id
 pub valid_ids : (bytes : List ℕ) (shape : Shape) → AreBytesOf (1 ∷ bytes) shape → All IsCellId (ids_in bytes)
 valid_ids bytes (cells ids) a =
     let written : bytes_of ids ≡ bytes = cc (a.written) in
     rw (ids_in-bytes_of ids bytes a.valid written) a.valid
+valid_ids bytes (rectangle r) a = absurd (other_kind bytes r a)
 
 -- the same, by place
 pub valid_id : (bytes : List ℕ) (shape : Shape) (eights : List (List ℕ)) (i : ℕ) → AreBytesOf (1 ∷ bytes) shape
@@ -74,9 +83,3 @@ all_read bytes eights i ids small even few cut ended so_far valid =
     let whole : ids ≡ ids_in bytes = so_far ∙ ap ids_of (take_all i eights ended ∙ cut) in
     subst (λ list. AreBytesOf (1 ∷ bytes) (cells list)) (sym whole)
     (read bytes small even few (subst (λ list. All IsCellId list) whole valid))
-
--- shapes of valid cells with the same bytes are the same
-pub same_from_bytes : (one other : Shape) → HasCells one → HasCells other → footprint_bytes one ≡ footprint_bytes other → one ≡ other
-same_from_bytes (cells ids) (cells others) valid others_valid same =
-    let written : bytes_of ids ≡ bytes_of others = cc in
-    ap cells (sym (ids_in-bytes_of ids (bytes_of others) valid written) ∙ ids_in-bytes_of others (bytes_of others) others_valid refl)

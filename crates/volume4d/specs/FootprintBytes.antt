@@ -1,21 +1,31 @@
 -- The bytes of a footprint, this desk's own form: a byte that names the kind of footprint, and then
 -- the kind's own bytes.
-use Rattle.std.specs.Prelude.{◌≡◌, ℕ, IsTrue, List, ◌∷◌, All}
+use Rattle.std.specs.Prelude.{◌≡◌, ℕ, IsTrue, List, [], ◌∷◌, ◌++◌, All}
 use Rattle.std.specs.List.{flat_map}
-use Rattle.std.specs.Int.{w64, to_be_bytes}
+use Rattle.std.specs.Int.{w32, w64, to_be_bytes}
 use Rattle.s2_cellid.specs.Cell.{IsCellId}
-use Rattle.volume4d.specs.Shape.{Shape, cells, is_footprint}
+use Rattle.s2_cover.specs.Rectangles.{RectParts, IsRect}
+use Rattle.volume4d.specs.Shape.{Shape, cells, rectangle, has_count}
 
--- a cell list is the byte 1, and then each id as eight bytes, the most significant first, in order
+-- the coordinates of a rectangle, in the order in which they are written
+abbrev pub coordinates_of : RectParts → List ℕ
+coordinates_of r = r.i_min ∷ r.i_max ∷ r.j_min ∷ r.j_max ∷ []
+
+-- a cell list is the byte 1, and then each id as eight bytes, the most significant first, in order; a
+-- rectangle is the byte 2, the face, each coordinate as four bytes, the most significant first, and the
+-- level
 abbrev pub footprint_bytes : Shape → List ℕ
 footprint_bytes (cells ids) = 1 ∷ flat_map (λ id. to_be_bytes w64 id) ids
+footprint_bytes (rectangle r) =
+    2 ∷ r.face ∷ flat_map (λ n. to_be_bytes w32 n) (coordinates_of r) ++ r.level ∷ []
 
--- each id is that of a cell of S2 (S2CellId::is_valid)
-abbrev pub HasCells : Shape → Type 0
-HasCells (cells ids) = All IsCellId ids
+-- each id is that of a cell of S2 (S2CellId::is_valid), and a rectangle has no fault
+abbrev pub HasValidParts : Shape → Type 0
+HasValidParts (cells ids) = All IsCellId ids
+HasValidParts (rectangle r) = IsRect r
 
--- the shape is a footprint's, within the limits, and these are its bytes
+-- the shape is a footprint's, with as many cells as the limits allow, and these are its bytes
 pub record AreBytesOf (bytes : List ℕ) (shape : Shape) : Type 0 where
-  pub limits : IsTrue (is_footprint shape)
-  pub valid : HasCells shape
+  pub limits : IsTrue (has_count shape)
+  pub valid : HasValidParts shape
   pub written : footprint_bytes shape ≡ bytes

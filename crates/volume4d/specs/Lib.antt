@@ -5,6 +5,7 @@ pub mod PointLaws
 pub mod Shape
 pub mod Footprint
 pub mod FootprintBytes
+pub mod Kept
 pub mod Volume
 pub mod Level
 pub mod Slab

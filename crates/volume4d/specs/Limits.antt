@@ -21,6 +21,10 @@ max_length = pos 86400
 abbrev pub max_cells : ℕ
 max_cells = 64
 
+-- the most cells of the canonical cover of a rectangle
+abbrev pub max_cover : ℕ
+max_cover = 256
+
 -- the most volumes of an area
 abbrev pub max_volumes : ℕ
 max_volumes = 8
@@ -41,6 +45,10 @@ within_length start end = int_le (end -ℤ start) max_length
 -- a number of cells that a cell list may have
 abbrev pub within_cells : ℕ → Bool
 within_cells count = nat_le 1 count && nat_le count max_cells
+
+-- a number of cells that the canonical cover of a rectangle may have
+abbrev pub within_cover : ℕ → Bool
+within_cover count = nat_le count max_cover
 
 -- a number of volumes that an area may have
 abbrev pub within_volumes : ℕ → Bool

@@ -3,11 +3,12 @@ use Rattle.std.specs.Prelude.{◌≡◌, Bool, true, false, ◌||◌, List, [], 
 use Rattle.std.proofs.lemmas.Bool.{and_parts}
 use Rattle.s2_hilbert.specs.Grid.{GridLeaf}
 use Rattle.volume4d.specs.Point.{Point, is_leaf}
-use Rattle.volume4d.specs.Shape.{Shape, cells, shape_has}
+use Rattle.volume4d.specs.Shape.{Shape, cells, rectangle, shape_has}
 use Rattle.volume4d.specs.Volume.{Block, block_has, area_has}
 
 shape_leaf : (s : Shape) (leaf : GridLeaf) → shape_has s leaf ≡ true → is_leaf leaf ≡ true
 shape_leaf (cells ids) leaf h = (and_parts (is_leaf leaf) _ h).0
+shape_leaf (rectangle r) leaf h = (and_parts (is_leaf leaf) _ h).0
 
 -- the points of an area have leaves of the grid
 pub area_leaf : (area : List Block) (x : Point) → area_has area x ≡ true → is_leaf x.leaf ≡ true

@@ -1,25 +1,35 @@
 //! Footprints: the ground that a volume covers, and its bytes.
 
-ghost use Rattle.std.specs.Prelude.{◌≡◌, ◌<◌, ◌∷◌, IfOk, MatchOption, IsTrue, length};
-ghost use Rattle.std.specs.Int.{w64, to_be_bytes, from_be_bytes};
+ghost use Rattle.std.specs.Prelude.{◌≡◌, ◌+◌, ◌≤◌, [], ◌∷◌, IfOk, IfErr, MatchOption, length, slice_index};
+ghost use Rattle.std.specs.Int.{w32, w64, to_be_bytes, from_be_bytes};
 ghost use Rattle.std.specs.Option.{SomeIff};
 ghost use Rattle.s2_cellid.specs.Cell.{IsCellId};
-ghost use Rattle.s2_cover.specs.Ranges.{IsRanges};
 ghost use Rattle.volume4d.specs.Limits.{within_cells};
 ghost use Rattle.volume4d.specs.Shape as shapes;
-ghost use Rattle.volume4d.specs.Shape.{Shape, shape_positions, is_footprint};
+ghost use Rattle.volume4d.specs.Shape.{Shape};
 ghost use Rattle.volume4d.specs.Footprint.{shape_of};
-ghost use Rattle.volume4d.specs.FootprintBytes.{footprint_bytes, HasCells, AreBytesOf};
+ghost use Rattle.volume4d.specs.FootprintBytes.{footprint_bytes, HasValidParts, AreBytesOf};
+ghost use Rattle.volume4d.specs.Kept.{HasRanges, IsFaultOf};
 
+use crate::fault::VolumeFault;
 use s2_cellid::CellId;
-use s2_cover::{Ranges, normalise};
+use s2_cover::{CoverFault, Ranges, Rect, cover, normalise};
 use std::alloc::{AllocError, Global};
 
 // The byte before the ids of a cell list.
 const CELLS: u8 = 1;
 
+// The byte before the parts of a rectangle.
+const RECTANGLE: u8 = 2;
+
+// How many bytes the parts of a rectangle take.
+const RECTANGLE_BYTES: usize = 18;
+
 // The most cells of a cell list.
 const MAX_CELLS: usize = 64;
+
+// The most cells of the canonical cover of a rectangle.
+const MAX_COVER: u32 = 256;
 
 /// The ground that a volume covers.
 #[derive(Debug, Drop)]
@@ -27,26 +37,31 @@ pub enum Footprint {
     /// A list of S2 cells: the footprint has the leaves of each. The list keeps its order, and
     /// cells that it has more than once.
     Cells(Vec<CellId>),
+    /// A rectangle of a face: the footprint has the leaves of each square of its level that it touches.
+    Rectangle(Rect),
 }
 
 impl Footprint {
     /// The footprint as bytes. A cell list is the byte 1, and then each cell's id as eight bytes,
-    /// the most significant first, in the order of the list.
+    /// the most significant first, in the order of the list. A rectangle is the byte 2, its face as one
+    /// byte, `i_min`, `i_max`, `j_min` and `j_max` as four bytes each, the most significant first, and its
+    /// level as one byte.
     ///
     /// # Errors
     ///
     /// `AllocError` if memory runs out.
     pub fn to_bytes(&self, alloc: Global) -> Result<Vec<u8>, AllocError>
         ensures value { IfOk result (λ bytes. bytes.items ≡ footprint_bytes (shape_of self.now)) }
-        ensures valid { IfOk result (λ bytes. HasCells (shape_of self.now)) }
+        ensures valid { IfOk result (λ bytes. HasValidParts (shape_of self.now)) }
     {
         match self {
             Footprint::Cells(cells) => cell_bytes(alloc, cells),
+            Footprint::Rectangle(rect) => rect_bytes(alloc, rect),
         }
     }
 
-    /// The footprint of 1 to 64 cells for which `to_bytes` gives these bytes, or `None` if there is
-    /// no such footprint.
+    /// The footprint, of 1 to 64 cells or a rectangle, for which `to_bytes` gives these bytes, or `None`
+    /// if there is no such footprint.
     ///
     /// # Errors
     ///
@@ -58,6 +73,7 @@ impl Footprint {
     {
         match bytes.split_first() {
             Some((&CELLS, ids)) => Ok(cells_of(alloc, ids)?.map(Footprint::Cells)),
+            Some((&RECTANGLE, parts)) => Ok(rect_of(parts).map(Footprint::Rectangle)),
             _ => Ok(None),
         }
     }
@@ -72,54 +88,73 @@ impl Footprint {
     {
         match self {
             Footprint::Cells(cells) => Ok(Footprint::Cells(cells.clone()?)),
-        }
-    }
-
-    /// Whether the footprint has 1 to 64 cells, as a volume requires.
-    pub(crate) fn is_within_limits(&self) -> bool
-        ensures { result ≡ is_footprint (shape_of self.now) }
-    {
-        match self {
-            Footprint::Cells(cells) => is_count(cells.len()),
+            Footprint::Rectangle(rect) => Ok(Footprint::Rectangle(*rect)),
         }
     }
 
     /// The footprint's leaves as ranges of positions along the S2 curve.
-    pub(crate) fn ranges(&self) -> Result<Ranges, AllocError>
-        ensures ranges { IfOk result (IsRanges (shape_positions (shape_of self.now))) }
-        ensures some { IsTrue (is_footprint (shape_of self.now)) →
-            IfOk result (λ ranges. 0 < length ranges) }
+    ///
+    /// # Errors
+    ///
+    /// `Cells` if a cell list does not have 1 to 64 cells, `TooManyCells` if the canonical cover of a
+    /// rectangle has more than 256, `OutOfMemory` if memory runs out.
+    pub(crate) fn ranges(&self, alloc: Global) -> Result<Ranges, VolumeFault>
+        ensures ok { IfOk result (HasRanges (shape_of self.now)) }
+        ensures err { IfErr result (IsFaultOf (shape_of self.now)) }
     {
         match self {
-            Footprint::Cells(cells) => cell_ranges(*cells.allocator(), cells),
-        }
-    }
-
-    /// The allocator of the footprint's memory.
-    pub(crate) fn allocator(&self) -> Global {
-        match self {
-            Footprint::Cells(cells) => *cells.allocator(),
+            Footprint::Cells(cells) => cell_ranges(alloc, cells),
+            Footprint::Rectangle(rect) => rect_ranges(alloc, rect),
         }
     }
 }
 
 // The leaves of a cell list as ranges of positions along the S2 curve.
-fn cell_ranges(alloc: Global, cells: &[CellId]) -> Result<Ranges, AllocError>
-    ensures ranges { IfOk result (IsRanges (shape_positions (shapes.cells cells.now))) }
-    ensures some { 0 < length cells.now → IfOk result (λ ranges. 0 < length ranges) }
+fn cell_ranges(alloc: Global, cells: &[CellId]) -> Result<Ranges, VolumeFault>
+    ensures ok { IfOk result (HasRanges (shapes.cells cells.now)) }
+    ensures err { IfErr result (IsFaultOf (shapes.cells cells.now)) }
 {
-    normalise(alloc, cells)?.ranges()
+    if !is_count(cells.len()) {
+        return Err(VolumeFault::Cells);
+    }
+    Ok(normalise(alloc, cells)?.ranges()?)
+}
+
+// The leaves of a rectangle as ranges of positions along the S2 curve.
+fn rect_ranges(alloc: Global, rect: &Rect) -> Result<Ranges, VolumeFault>
+    ensures ok { IfOk result (HasRanges (shapes.rectangle rect.now)) }
+    ensures err { IfErr result (IsFaultOf (shapes.rectangle rect.now)) }
+{
+    match cover(alloc, rect, MAX_COVER) {
+        Ok(cover) => Ok(cover.ranges()?),
+        Err(CoverFault::TooManyCells { .. }) => Err(VolumeFault::TooManyCells),
+        Err(CoverFault::OutOfMemory) => Err(VolumeFault::OutOfMemory),
+    }
 }
 
 // A cell list as bytes.
 fn cell_bytes(alloc: Global, cells: &[CellId]) -> Result<Vec<u8>, AllocError>
     ensures value { IfOk result (λ bytes. bytes.items ≡ footprint_bytes (shapes.cells cells.now)) }
-    ensures valid { IfOk result (λ bytes. HasCells (shapes.cells cells.now)) }
+    ensures valid { IfOk result (λ bytes. HasValidParts (shapes.cells cells.now)) }
 {
     let mut bytes = vec![in alloc; CELLS]?;
     for cell in cells {
         bytes.extend_from_slice(&id_bytes(cell))?;
     }
+    Ok(bytes)
+}
+
+// A rectangle as bytes.
+fn rect_bytes(alloc: Global, rect: &Rect) -> Result<Vec<u8>, AllocError>
+    ensures value { IfOk result (λ bytes. bytes.items ≡ footprint_bytes (shapes.rectangle rect.now)) }
+    ensures valid { IfOk result (λ bytes. HasValidParts (shapes.rectangle rect.now)) }
+{
+    let mut bytes = vec![in alloc; RECTANGLE, rect.face()]?;
+    bytes.extend_from_slice(&rect.i_min().to_be_bytes())?;
+    bytes.extend_from_slice(&rect.i_max().to_be_bytes())?;
+    bytes.extend_from_slice(&rect.j_min().to_be_bytes())?;
+    bytes.extend_from_slice(&rect.j_max().to_be_bytes())?;
+    bytes.push(rect.level())?;
     Ok(bytes)
 }
 
@@ -167,4 +202,33 @@ fn is_count(count: usize) -> bool
         return false;
     }
     count <= MAX_CELLS
+}
+
+// The rectangle whose bytes these are, without the first, or `None` if they are not those of one.
+fn rect_of(bytes: &[u8]) -> Option<Rect>
+    ensures { MatchOption result
+        ((shape : Shape) → ¬ AreBytesOf (2 ∷ bytes.now) shape)
+        (λ rect. AreBytesOf (2 ∷ bytes.now) (shapes.rectangle rect)) }
+{
+    if bytes.len() != RECTANGLE_BYTES {
+        return None;
+    }
+    let (i_min, i_max) = (number_at(bytes, 1), number_at(bytes, 5));
+    let (j_min, j_max) = (number_at(bytes, 9), number_at(bytes, 13));
+    Rect::try_new(bytes[0], i_min, i_max, j_min, j_max, bytes[17]).ok()
+}
+
+// The number whose four bytes begin at a place, the most significant first.
+fn number_at(bytes: &[u8], place: usize) -> u32
+    requires { place + 4 ≤ length bytes.now }
+    ensures { result ≡ from_be_bytes w32
+        (slice_index bytes.now place ∷ slice_index bytes.now (place + 1)
+        ∷ slice_index bytes.now (place + 2) ∷ slice_index bytes.now (place + 3) ∷ []) }
+{
+    u32::from_be_bytes([
+        bytes[place],
+        bytes[place + 1],
+        bytes[place + 2],
+        bytes[place + 3],
+    ])
 }

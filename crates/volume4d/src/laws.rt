@@ -3,10 +3,10 @@
 
 ghost use Rattle.std.specs.Prelude.{◌≡◌};
 ghost use Rattle.volume4d.specs.Shape.{Shape};
-ghost use Rattle.volume4d.specs.FootprintBytes.{HasCells, footprint_bytes};
+ghost use Rattle.volume4d.specs.FootprintBytes.{HasValidParts, footprint_bytes};
 
 /// Two footprints that have the same bytes are the same.
 pub fn one_shape()
-    ensures { (one other : Shape) → HasCells one → HasCells other
+    ensures { (one other : Shape) → HasValidParts one → HasValidParts other
         → footprint_bytes one ≡ footprint_bytes other → one ≡ other }
 {}

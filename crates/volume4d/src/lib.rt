@@ -1,9 +1,11 @@
-//! Volumes of flight in four dimensions: footprints of S2 cells with altitudes and times, the slabs
-//! that have the same points, and the first point that two lists of slabs share.
+//! Volumes of flight in four dimensions: footprints (lists of S2 cells, or rectangles of a face) with
+//! altitudes and times, the slabs that have the same points, and the first point that two lists of slabs
+//! share.
 #![tactic(auto)]
 
 mod area;
 mod bounds;
+mod fault;
 mod footprint;
 pub mod laws;
 mod meeting;
@@ -15,8 +17,9 @@ mod window;
 
 pub use area::Area;
 pub use bounds::bounds_of;
+pub use fault::VolumeFault;
 pub use footprint::Footprint;
 pub use meeting::{Meeting, first_meeting, meet};
 pub use slab::{Held, Slab};
-pub use volume::{Volume, VolumeFault};
+pub use volume::Volume;
 pub use window::{Window, WindowFault};

@@ -151,19 +151,19 @@ fn first_shared(mine: &[Slab], theirs: &[Held]) -> Option<Corner>
     ensures { IsFirstPoint (λ x. slabs_have mine.now x && helds_have theirs.now x) result }
 {
     let mut first = None;
-    for slab in mine {
-        first = earlier(first, first_in(slab, theirs));
+    for held in theirs {
+        first = earlier(first, first_in(mine, &held.slab));
     }
     first
 }
 
-// The first point that the slab shares with a held one.
-fn first_in(slab: &Slab, theirs: &[Held]) -> Option<Corner>
-    ensures { IsFirstPoint (λ x. slab_has slab.now x && helds_have theirs.now x) result }
+// The first point that one of the slabs shares with another.
+fn first_in(mine: &[Slab], other: &Slab) -> Option<Corner>
+    ensures { IsFirstPoint (λ x. slabs_have mine.now x && slab_has other.now x) result }
 {
     let mut first = None;
-    for held in theirs {
-        first = earlier(first, least_corner(slab, &held.slab));
+    for slab in mine {
+        first = earlier(first, least_corner(slab, other));
     }
     first
 }
@@ -174,10 +174,16 @@ fn least_corner(mine: &Slab, theirs: &Slab) -> Option<Corner>
     ensures found { is_some result ≡ share mine.now theirs.now }
 {
     let corner = corner_of(mine, theirs);
-    if !has(mine, &corner) {
+    if !has_leaf(mine, &corner) {
         return None;
     }
-    if !has(theirs, &corner) {
+    if !has_leaf(theirs, &corner) {
+        return None;
+    }
+    if !has_time(mine, &corner) {
+        return None;
+    }
+    if !has_time(theirs, &corner) {
         return None;
     }
     Some(corner)
@@ -199,7 +205,7 @@ fn corner_of(mine: &Slab, theirs: &Slab) -> Corner
 fn has(slab: &Slab, x: &Corner) -> bool
     ensures { result ≡ slab_has slab.now x.now }
 {
-    has_leaf(slab, x) && has_altitude(slab, x.altitude) && has_second(slab, x.second)
+    has_leaf(slab, x) && has_time(slab, x)
 }
 
 // Whether a slab has a point's leaf.
@@ -208,6 +214,14 @@ fn has_leaf(slab: &Slab, x: &Corner) -> bool
     ensures { result ≡ slab_has_leaf slab.now x.now.leaf }
 {
     slab.first <= x.pos && x.pos <= slab.last
+}
+
+// Whether a slab has a point's altitude and second.
+fn has_time(slab: &Slab, x: &Corner) -> bool
+    ensures { result ≡ ((int_le slab.now.lower x.now.altitude && int_lt x.now.altitude slab.now.upper)
+        && (int_le slab.now.start x.now.second && int_lt x.now.second slab.now.end)) }
+{
+    has_altitude(slab, x.altitude) && has_second(slab, x.second)
 }
 
 // Whether a slab has an altitude.

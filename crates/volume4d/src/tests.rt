@@ -33,7 +33,7 @@ fn footprint(alloc: Global, tokens: &str) -> Result<Footprint, Fail> {
 
 // The area of one volume.
 fn area(alloc: Global, tokens: &str, window: Window) -> Result<Area, Fail> {
-    let volume = Volume::try_new(footprint(alloc, tokens)?, window)?;
+    let volume = Volume::try_new(alloc, footprint(alloc, tokens)?, window)?;
     Ok(Area::try_new(vec![in alloc; volume]?).ok_or("no area")?)
 }
 

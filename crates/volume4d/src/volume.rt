@@ -1,6 +1,6 @@
 //! Volumes.
 
-ghost use Rattle.std.specs.Prelude.{◌≡◌, Ok, Err, if◌then◌else◌, IsTrue, IfOk, All};
+ghost use Rattle.std.specs.Prelude.{◌≡◌, IsTrue, IfOk, IfErr, All};
 ghost use Rattle.s2_cover.specs.Ranges.{IsSpan};
 ghost use Rattle.volume4d.specs.Point.{Point};
 ghost use Rattle.volume4d.specs.Windows.{is_window};
@@ -10,46 +10,30 @@ ghost use Rattle.volume4d.specs.Volume.{block_has};
 ghost use Rattle.volume4d.specs.Slab.{slabs_have, span_of, slab_window};
 ghost use Rattle.volume4d.specs.Bounds.{AreFilled};
 ghost use Rattle.volume4d.specs.Slabs.{AreSlabsOn, AreVolumeSlabs};
-ghost use Rattle.volume4d.specs.declared.volume.VolumeFault.TheVariants as faults;
+ghost use Rattle.volume4d.specs.Kept.{IsFaultOf};
 
+use crate::fault::VolumeFault;
 use crate::footprint::Footprint;
 use crate::slab::Slab;
 use crate::window::Window;
-use s2_cover::Span;
+use s2_cover::{Ranges, Span};
 use std::alloc::{AllocError, Global};
-use std::error::Error;
-use std::fmt;
 use std::marker::Model;
 
 /// A footprint with altitudes and times (`Volume4D` of ASTM F3548-21), always within the desk's
-/// limits.
+/// limits. It keeps the ranges of its footprint's leaves, so that they are computed once.
 #[derive(Debug, Drop)]
 pub struct Volume {
     footprint: Footprint,
     window: Window,
+    ranges: Ranges,
+    alloc: Global,
 }
-
-/// Why a volume cannot be made.
-#[derive(Clone, Copy, Debug, PartialEq, Eq)]
-pub enum VolumeFault {
-    /// The footprint does not have 1 to 64 cells.
-    Cells,
-}
-
-impl fmt::Display for VolumeFault {
-    fn fmt<W: fmt::Write>(&self, f: &mut fmt::Formatter<W>) -> fmt::Result {
-        match self {
-            VolumeFault::Cells => f.pad("a footprint has 1 to 64 cells"),
-        }
-    }
-}
-
-impl Error for VolumeFault {}
 
 impl Model for Volume {
-    ghost use Rattle.std.specs.Prelude.{IsTrue, ◌&&◌};
+    ghost use Rattle.std.specs.Prelude.{IsTrue};
     ghost use Rattle.volume4d.specs.Windows.{is_window};
-    ghost use Rattle.volume4d.specs.Shape.{is_footprint};
+    ghost use Rattle.volume4d.specs.Kept.{HasRanges};
     ghost use Rattle.volume4d.specs.Volume.{Block};
 
     ghost Value = { Block };
@@ -58,7 +42,7 @@ impl Model for Volume {
 
     ghost view = { λ v. record { footprint = shape_of v.footprint; window = v.window } };
 
-    ghost invariant = { λ v. IsTrue (is_footprint (shape_of v.footprint) && is_window v.window) };
+    ghost invariant = { λ v. HasRanges (shape_of v.footprint) v.ranges × IsTrue (is_window v.window) };
 }
 
 impl Volume {
@@ -68,17 +52,25 @@ impl Volume {
     ///
     /// # Errors
     ///
-    /// `Cells` if the footprint has no cell or more than 64.
-    pub fn try_new(footprint: Footprint, window: Window) -> Result<Volume, VolumeFault>
-        ensures { result ≡ (if is_footprint (shape_of footprint)
-            then Ok (record { footprint = shape_of footprint; window = window })
-            else Err faults.Cells) }
+    /// `Cells` if a cell list does not have 1 to 64 cells, `TooManyCells` if the canonical cover of a
+    /// rectangle has more than 256, `OutOfMemory` if memory runs out.
+    pub fn try_new(
+        alloc: Global,
+        footprint: Footprint,
+        window: Window,
+    ) -> Result<Volume, VolumeFault>
+        ensures value { IfOk result (λ volume.
+            volume ≡ record { footprint = shape_of footprint; window = window }) }
+        ensures limits { IfOk result (λ volume. IsTrue (is_footprint (shape_of footprint))) }
+        ensures fault { IfErr result (IsFaultOf (shape_of footprint)) }
     {
-        if footprint.is_within_limits() {
-            Ok(Volume { footprint, window })
-        } else {
-            Err(VolumeFault::Cells)
-        }
+        let ranges = footprint.ranges(alloc)?;
+        Ok(Volume {
+            footprint,
+            window,
+            ranges,
+            alloc,
+        })
     }
 
     /// The footprint given to `try_new`.
@@ -110,8 +102,7 @@ impl Volume {
             slabs_have slabs.items x ≡ block_has self.now x) }
         ensures filled { IfOk result (λ slabs. AreFilled slabs.items) }
     {
-        let ranges = self.footprint.ranges()?;
-        slabs_of(self.footprint.allocator(), ranges.spans(), self.window)
+        slabs_of(self.alloc, self.ranges.spans(), self.window)
     }
 
     /// An equal volume.
@@ -125,6 +116,8 @@ impl Volume {
         Ok(Volume {
             footprint: self.footprint.copy()?,
             window: self.window,
+            ranges: self.ranges.copy()?,
+            alloc: self.alloc,
         })
     }
 }

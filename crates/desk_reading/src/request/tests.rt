@@ -42,7 +42,7 @@ fn with_body(alloc: Global, size: usize) -> Result<Vec<u8>, AllocError> {
 fn reads_a_put(rt: HostRuntime) -> Result<(), Fail> {
     let asked = read_request(rt.alloc(), FIRST_PUT)?;
     assert_eq!(rt; asked.operator.as_bytes(), b"alfa".as_slice());
-    let Call::Put(put) = asked.call else {
+    let Call::Put(put) = &asked.call else {
         return Err(Fail::from("no request to plan"));
     };
     assert_eq!(rt; put.id, PlanId::try_parse(ID).ok_or("an id")?);

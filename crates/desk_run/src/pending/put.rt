@@ -4,25 +4,22 @@ ghost use Rattle.std.specs.Prelude.{◌≡◌, ◌≤◌, Some, IfOk, IfErr};
 ghost use Rattle.desk_store.specs.Faults.{IsHonest, HasRisen};
 ghost use Rattle.desk_rules.specs.Limits.{max_priority};
 ghost use Rattle.std.specs.Option.{option_copied};
-ghost use Rattle.desk_rules.specs.Conflict.{conflict};
-ghost use Rattle.desk_store.specs.World.{own, ceiling_of, plans_of, held, held_at};
+ghost use Rattle.desk_store.specs.World.{own, ceiling_of, plans_of, held};
 ghost use Rattle.desk_run.specs.Calls.{Readies, change_after};
-ghost use Rattle.desk_run.specs.Verdicts.{put_ruling, put_outcome_in, conflict_in, row_asked};
+ghost use Rattle.desk_run.specs.Verdicts.{put_ruling, put_outcome_in, row_asked};
 
 use super::Pending;
+use super::conflict::conflict_of;
 use crate::fault::DeskFault;
-use desk_rules::conflict::first_conflict;
 use desk_rules::decide::{Effect, Verdict, decide};
 use desk_rules::operator::Operator;
 use desk_rules::plan::{PlanRow, PutCall};
 use desk_rules::reply::{PutReply, Reply};
 use desk_store::{Change, PlanStore, StoreFault};
-use std::alloc::{AllocError, Global};
-use volume4d::{Meeting, bounds_of};
+use std::alloc::AllocError;
 
 // Gets the reply to a request of an operator under a ceiling ready.
 pub fn ready_put<S: PlanStore>(
-    alloc: Global,
     store: &mut S,
     moment: i64,
     operator: &Operator,
@@ -41,7 +38,7 @@ pub fn ready_put<S: PlanStore>(
     ensures cause { IfErr result (λ e. e ≡ DeskFault.Store →
         HasRisen (S.faults store.old) (S.faults store.new)) }
 {
-    let verdict = verdict_on(alloc, store, moment, operator, put, ceiling)?;
+    let verdict = verdict_on(store, moment, operator, put, ceiling)?;
     let change = change_for(verdict.effect, operator, put)?;
     let reply = Reply::Answered(reply_of(&verdict));
     Ok(Pending { reply, change })
@@ -65,7 +62,6 @@ fn reply_of(verdict: &Verdict) -> PutReply
 
 // The verdict on a request of an operator under a ceiling.
 fn verdict_on<S: PlanStore>(
-    alloc: Global,
     store: &mut S,
     moment: i64,
     operator: &Operator,
@@ -82,29 +78,8 @@ fn verdict_on<S: PlanStore>(
 {
     let stored = store.plan(operator, &put.id)?;
     let own_rows = store.own_count(operator)?;
-    let meeting = conflict_of(alloc, store, operator, put)?;
+    let meeting = conflict_of(store, operator, &put.id, &put.area, put.priority)?;
     Ok(decide(put, moment, stored.as_ref(), own_rows, ceiling, meeting))
-}
-
-// The conflict of the area asked.
-fn conflict_of<S: PlanStore>(
-    alloc: Global,
-    store: &mut S,
-    operator: &Operator,
-    put: &PutCall,
-) -> Result<Option<Meeting>, StoreFault>
-    ensures value { IsHonest (S.doubt store.new) → IfOk result (λ meeting.
-        meeting ≡ conflict_in (S.content store.old) operator.now put.now) }
-    ensures same { S.content store.new ≡ S.content store.old }
-    ensures doubt { S.doubt store.old ≤ S.doubt store.new }
-    ensures counted { S.faults store.old ≤ S.faults store.new }
-    ensures cause { IfErr result (λ e. e ≡ StoreFault.Store →
-        HasRisen (S.faults store.old) (S.faults store.new)) }
-{
-    let mine = put.area.slabs()?;
-    let extent = bounds_of(&mine);
-    let theirs = store.rivals(operator, &put.id, put.priority, &extent)?;
-    Ok(first_conflict(&mine, &theirs))
 }
 
 // The change that an effect is.

@@ -1,7 +1,7 @@
 //! Ceilings, and replies that wait until they are committed.
 
-use super::{FIRST, ID, MOMENT, delete_by, desk_of, operator_of, put_by};
-use crate::{Desk, DeskFault, PutReply, Reply};
+use super::{FIRST, ID, MOMENT, delete_by, desk_of, operator_of, put_by, put_reply};
+use crate::{Desk, DeskFault, PutReply};
 use desk_rules::words::{Note, PlanResult, PlanStatus};
 use desk_store::{ListStore, PlanStore};
 use std::test::Fail;
@@ -25,12 +25,12 @@ fn what_is_prepared_waits(rt: HostRuntime) -> Result<(), Fail> {
     let mut desk = desk_of(alloc)?;
     let asked = put_by(alloc, "alfa", FIRST)?;
     let pending = desk.prepare(alloc, MOMENT, &asked)?;
-    let reply = *pending.reply();
+    let reply = put_reply(pending.reply())?;
     let mut store = desk.into_store();
     assert_eq!(rt; store.own_count(&alfa), Ok(0));
     let mut desk = Desk::new(store);
     let pending = desk.prepare(alloc, MOMENT, &asked)?;
-    assert_eq!(rt; desk.commit(pending)?, reply);
+    assert_eq!(rt; put_reply(&desk.commit(pending)?)?, reply);
     assert_eq!(rt; desk.into_store().own_count(&alfa), Ok(1));
     Ok(())
 }
@@ -43,14 +43,14 @@ fn what_is_refused_is_ready_too(rt: HostRuntime) -> Result<(), Fail> {
     desk.enrol(&alfa, 9)?;
     let asked = put_by(alloc, "alfa", FIRST)?;
     let pending = desk.prepare(alloc, MOMENT, &asked)?;
-    let rejected = Reply::Answered(PutReply {
+    let rejected = PutReply {
         result: PlanResult::Rejected,
         status: PlanStatus::NotPlanned,
         note: Some(Note::Priority),
         meeting: None,
-    });
-    assert_eq!(rt; *pending.reply(), rejected);
-    assert_eq!(rt; desk.commit(pending)?, rejected);
+    };
+    assert_eq!(rt; put_reply(pending.reply())?, rejected);
+    assert_eq!(rt; put_reply(&desk.commit(pending)?)?, rejected);
     assert_eq!(rt; desk.into_store().own_count(&alfa), Ok(0));
     Ok(())
 }
@@ -63,13 +63,13 @@ fn a_plan_is_closed(rt: HostRuntime) -> Result<(), Fail> {
     desk.call(alloc, MOMENT, &asked)?;
     let asked = delete_by("alfa", ID)?;
     let pending = desk.prepare(alloc, MOMENT, &asked)?;
-    let closed = Reply::Answered(PutReply {
+    let closed = PutReply {
         result: PlanResult::Completed,
         status: PlanStatus::Closed,
         note: None,
         meeting: None,
-    });
-    assert_eq!(rt; desk.commit(pending)?, closed);
+    };
+    assert_eq!(rt; put_reply(&desk.commit(pending)?)?, closed);
     Ok(())
 }
 
@@ -79,6 +79,6 @@ fn no_plan_is_closed(rt: HostRuntime) -> Result<(), Fail> {
     let mut desk = desk_of(alloc)?;
     let asked = delete_by("alfa", ID)?;
     let refused = desk.call(alloc, MOMENT, &asked);
-    assert_eq!(rt; refused, Err(DeskFault::NoSuchPlan));
+    assert_eq!(rt; refused.err(), Some(DeskFault::NoSuchPlan));
     Ok(())
 }

@@ -13,7 +13,7 @@ fn the_desk_is_ready(rt: HostRuntime) -> Result<(), Fail> {
         call: Call::Status,
     };
     let outcome = outcome_at(alloc, &mut desk, 0, asked)?;
-    assert_eq!(rt; outcome, Outcome::Reply(Reply::Ready));
+    assert!(rt; matches!(outcome, Outcome::Reply(Reply::Ready)));
     Ok(())
 }
 

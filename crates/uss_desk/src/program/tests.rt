@@ -1,6 +1,6 @@
 //! Lines carried out over streams in memory: the exit status, and what is printed.
 
-ghost use Rattle.uss_desk.specs.Lines.{HasMoment};
+ghost use Rattle.uss_desk.specs.Lines.{HasDesk, IsLine};
 
 use super::with_desk;
 use crate::line::{Line, read_words};
@@ -25,14 +25,15 @@ fn play(alloc: Global, bytes: &[u8]) -> Result<Done, Fail> {
     for word in ["uss_desk", "play", "--at", "0", "alfa=1000", "bravo=7"] {
         words.push(String::from_str(alloc, word)?)?;
     }
-    let Ok(line) = read_words(alloc, &words) else {
+    let Ok(Line::Play(play)) = read_words(alloc, &words) else {
         return Err(Fail::from("no line"));
     };
-    carry_out(alloc, &line, bytes)
+    carry_out(alloc, &Line::Play(play), bytes)
 }
 
 fn carry_out(alloc: Global, line: &Line, bytes: &[u8]) -> Result<Done, Fail>
-    requires { HasMoment line.now }
+    requires line { IsLine line.now }
+    requires desk { HasDesk line.now }
 {
     let mut desk = Desk::new(ListStore::new(alloc));
     let mut input = bytes;
@@ -49,7 +50,7 @@ fn carry_out(alloc: Global, line: &Line, bytes: &[u8]) -> Result<Done, Fail>
 
 #[test]
 fn plays_to_the_end(rt: HostRuntime) -> Result<(), Fail> {
-    let route = b"GET /status HTTP/1.1\r\n\r\n".as_slice();
+    let route = b"GET /plans HTTP/1.1\r\n\r\n".as_slice();
     let done = play(rt.alloc(), route)?;
     let text = b"HTTP/1.1 404 Not Found\r\ncontent-type: application/json\r\n\
         content-length: 20\r\nconnection: close\r\n\r\n{\"error\":\"no_route\"}"

@@ -2,9 +2,12 @@
 
 use super::{HALF_PAST, NOON, ONE, TWO, area, first_hour, footprint};
 use crate::area::Area;
+use crate::fault::VolumeFault;
+use crate::footprint::Footprint;
 use crate::slab::Slab;
-use crate::volume::{Volume, VolumeFault};
+use crate::volume::Volume;
 use crate::window::{Window, WindowFault};
+use s2_cover::Rect;
 use std::process::Abort;
 use std::test::Fail;
 
@@ -39,7 +42,7 @@ fn prints_faults(rt: HostRuntime) -> Result<(), Fail> {
     let text = format!(in rt.alloc(); "{window}; {volume}")?;
     assert_eq!(rt;
         text.as_str(),
-        "a volume lasts at most 86400 s; a footprint has 1 to 64 cells"
+        "a volume lasts at most 86400 s; a cell list has 1 to 64 cells"
     );
     Ok(())
 }
@@ -64,7 +67,7 @@ fn touching_cells_make_one_slab(rt: HostRuntime) -> Result<(), Fail> {
     let alloc = rt.alloc();
     let quarter = (0, (1 << 58) - 1, 0, 1_000, NOON, ONE);
     for tokens in ["04", "01 03 05 07", "07 05 03 01 04"] {
-        let volume = Volume::try_new(footprint(alloc, tokens)?, first_hour()?)?;
+        let volume = Volume::try_new(alloc, footprint(alloc, tokens)?, first_hour()?)?;
         check_slabs(&rt, &volume.slabs()?, &[quarter])?;
     }
     let apart = area(alloc, "05 3 01", first_hour()?)?;
@@ -82,9 +85,9 @@ fn touching_cells_make_one_slab(rt: HostRuntime) -> Result<(), Fail> {
 #[test]
 fn bounds_areas(rt: HostRuntime) -> Result<(), Fail> {
     let alloc = rt.alloc();
-    let first = Volume::try_new(footprint(alloc, "b 3")?, first_hour()?)?;
+    let first = Volume::try_new(alloc, footprint(alloc, "b 3")?, first_hour()?)?;
     let under = Window::try_new(-10_000, -5_000, HALF_PAST, TWO)?;
-    let second = Volume::try_new(footprint(alloc, "04")?, under)?;
+    let second = Volume::try_new(alloc, footprint(alloc, "04")?, under)?;
     let one = Area::try_new(vec![in alloc; second.copy()?]?).ok_or("no area")?;
     let low = (0, (1 << 58) - 1, -10_000, -5_000, HALF_PAST, TWO);
     check_slabs(&rt, &[one.bounds()?], &[low])?;
@@ -94,4 +97,28 @@ fn bounds_areas(rt: HostRuntime) -> Result<(), Fail> {
     let top = area(alloc, "b", first_hour()?)?;
     let last_face = (5 << 60, (6 << 60) - 1, 0, 1_000, NOON, ONE);
     check_slabs(&rt, &[top.bounds()?], &[last_face])
+}
+
+// Of face 0 the squares of level 24 along i = 0, which have 64 leaves a side.
+#[test]
+fn rectangles_have_at_most_256_cells(rt: HostRuntime) -> Result<(), Fail> {
+    let alloc = rt.alloc();
+    let longest = Footprint::Rectangle(Rect::try_new(0, 0, 0, 0, 16_383, 24)?);
+    assert!(rt; Volume::try_new(alloc, longest, first_hour()?).is_ok());
+    let longer = Footprint::Rectangle(Rect::try_new(0, 0, 0, 0, 16_384, 24)?);
+    match Volume::try_new(alloc, longer, first_hour()?) {
+        Ok(_) => return Err(Fail::from("a volume")),
+        Err(fault) => assert_eq!(rt; fault, VolumeFault::TooManyCells),
+    }
+    Ok(())
+}
+
+// The cell 0000000000003 of level 24 has the leaves i 64 to 127 and j 0 to 63, from position 2^12.
+#[test]
+fn rectangles_take_whole_squares(rt: HostRuntime) -> Result<(), Fail> {
+    let alloc = rt.alloc();
+    let rect = Footprint::Rectangle(Rect::try_new(0, 100, 100, 0, 0, 24)?);
+    let volume = Volume::try_new(alloc, rect, first_hour()?)?.copy()?;
+    let wanted = (1 << 12, (2 << 12) - 1, 0, 1_000, NOON, ONE);
+    check_slabs(&rt, &volume.slabs()?, &[wanted])
 }

@@ -1,7 +1,7 @@
 use Rattle.std.proofs.Common.{sym, ◌∙◌, w64}
 use Rattle.std.proofs.lemmas.Int.{to_z-of_z}
 use Rattle.desk_store.specs.FaultLaws.{was_honest}
-use Rattle.desk_run.proofs.CallLemmas.{unlisted_is, status_ready, prepares_from, put_readies, delete_readies}
+use Rattle.desk_run.proofs.CallLemmas.{unlisted_is, status_ready, prepares_from, list_readies, show_readies, put_readies, delete_readies, clear_readies}
 use Rattle.desk_run.proofs.pending.prepare_over.Goals as goal
 
 pub returns-in_default-clause-value : goal.returns-in_default-clause-value
@@ -29,3 +29,30 @@ returns-in-Delete-clause-value g c = λ honest.
     prepares_from before c.args.moment asked c.in-Some.ceiling c.ready_delete.result (sym (c.in_ok-ceiling.ensures.value listing) ∙ c.in-Some.is)
     (delete_readies (g.S.PlanStore.content c.ceiling.new.self) before c.args.moment asked c.in-Delete.id c.in-Some.ceiling c.ready_delete.result c.ceiling.ensures.same
     c.in-Delete.is (c.ready_delete.ensures.value honest))
+
+pub returns-in-List-clause-value : goal.returns-in-List-clause-value
+returns-in-List-clause-value g c = λ honest.
+    let listing = was_honest c.ready_list.ensures.doubt honest in
+    let before = g.S.PlanStore.content c.args.store.now in
+    let asked = c.args.asked.now in
+    prepares_from before c.args.moment asked c.in-Some.ceiling c.ready_list.result (sym (c.in_ok-ceiling.ensures.value listing) ∙ c.in-Some.is)
+    (list_readies (g.S.PlanStore.content c.ceiling.new.self) before c.args.moment asked c.in-Some.ceiling c.ready_list.result c.ceiling.ensures.same
+    c.in-List.is (c.ready_list.ensures.value honest))
+
+pub returns-in-Show-clause-value : goal.returns-in-Show-clause-value
+returns-in-Show-clause-value g c = λ honest.
+    let listing = was_honest c.ready_show.ensures.doubt honest in
+    let before = g.S.PlanStore.content c.args.store.now in
+    let asked = c.args.asked.now in
+    prepares_from before c.args.moment asked c.in-Some.ceiling c.ready_show.result (sym (c.in_ok-ceiling.ensures.value listing) ∙ c.in-Some.is)
+    (show_readies (g.S.PlanStore.content c.ceiling.new.self) before c.args.moment asked c.in-Show.id c.in-Some.ceiling c.ready_show.result c.ceiling.ensures.same
+    c.in-Show.is (c.ready_show.ensures.value honest))
+
+pub returns-in-Clear-clause-value : goal.returns-in-Clear-clause-value
+returns-in-Clear-clause-value g c = λ honest.
+    let listing = was_honest c.ready_clear.ensures.doubt honest in
+    let before = g.S.PlanStore.content c.args.store.now in
+    let asked = c.args.asked.now in
+    prepares_from before c.args.moment asked c.in-Some.ceiling c.ready_clear.result (sym (c.in_ok-ceiling.ensures.value listing) ∙ c.in-Some.is)
+    (clear_readies (g.S.PlanStore.content c.ceiling.new.self) before c.args.moment asked c.in-Clear.extent c.in-Some.ceiling c.ready_clear.result c.ceiling.ensures.same
+    c.in-Clear.is (c.ready_clear.ensures.value honest))

@@ -3,10 +3,12 @@ use Rattle.s2_hilbert.specs.Curve.{first_position}
 use Rattle.s2_cellid.specs.Family.{square_id}
 use Rattle.s2_cover.specs.Leaves.{leaves_of}
 use Rattle.s2_cover.specs.Canonical.{IsCanonical}
+use Rattle.s2_cover.specs.CanonicalList.{IsLonger}
 use Rattle.s2_cover.specs.Laying.{IsLaid}
 use Rattle.s2_cover.specs.Rectangles.{rect_leaves, wide_set}
 use Rattle.s2_cover.specs.Walking.{IsOpened, IsRefused, HasLooked}
-use Rattle.s2_cover.proofs.Faces.{whole, laid_before, whole_opened, IsCovered, covered, refused, covers_footprint}
+use Rattle.s2_cover.proofs.Listing.{same_list, longer}
+use Rattle.s2_cover.proofs.Faces.{whole, laid_before, whole_opened, IsCovered, covered, refused, covers_footprint, some_cells}
 use Rattle.s2_cover.proofs.Walks.{if_err}
 use Rattle.s2_cover.proofs.walk.cover.Goals as goal
 
@@ -48,6 +50,19 @@ found c =
     c.walk.new.cells.items square c.new-cells.ensures.items c.of_rect-wide.ensures.is.face
     c.of_rect-wide.ensures.is.level c.in_ok-walk.ensures.ok)
 
+pub returns-in_err-walk-clause-longer : goal.returns-in_err-walk-clause-longer
+returns-in_err-walk-clause-longer c =
+    let wide = c.of_rect-wide.result in
+    let fault = c.in_err-walk.field-0.0 in
+    let set = rect_leaves c.args.rect.now in
+    let told =
+    refused wide c.args.limit (wide.level - c.of_face-face.result.level)
+    (c.args.limit + 1 - length c.new-cells.result.items) fault c.of_rect-wide.ensures.is.face
+    (omega (arith, c.of_rect-wide.ensures.is.level)) (omega arith) c.in_err-walk.ensures.err in
+    if_err c.from_residual.result fault (IsLonger set c.args.limit) c.from_residual.ensures.1
+    (longer set c.args.limit fault
+    (subst (λ w. IsRefused (wide_set w) c.args.limit fault) c.of_rect-wide.ensures.value told))
+
 pub of_canonical-requires : goal.of_canonical-requires
 of_canonical-requires c = (found c).own
 
@@ -64,6 +79,12 @@ returns-clause-footprint c =
     covers_footprint c.args.rect.now c.of_canonical.result.ids c.of_rect-wide.ensures.rect (λ p.
     ap (λ ids. leaves_of ids p) c.of_canonical.ensures.ids ∙ (found c.before).leaves p)
 
+pub returns-clause-some : goal.returns-clause-some
+returns-clause-some c =
+    some_cells c.args.rect.now c.of_canonical.result.ids c.of_rect-wide.ensures.rect
+    (covers_footprint c.args.rect.now c.of_canonical.result.ids c.of_rect-wide.ensures.rect (λ p.
+    ap (λ ids. leaves_of ids p) c.of_canonical.ensures.ids ∙ (found c.before).leaves p))
+
 pub returns-clause-few : goal.returns-clause-few
 returns-clause-few c = omega (arith, ap length c.of_canonical.ensures.ids, (found c.before).few)
 
@@ -76,3 +97,7 @@ returns-clause-looked c =
 pub returns-clause-exact : goal.returns-clause-exact
 returns-clause-exact c =
     subst (HasLooked (rect_leaves c.args.rect.now)) (sym c.of_canonical.ensures.looked) (found c.before).exact
+
+pub returns-clause-list : goal.returns-clause-list
+returns-clause-list c =
+    c.of_canonical.ensures.ids ∙ same_list (rect_leaves c.args.rect.now) c.walk.new.cells.items (found c.before).canonical

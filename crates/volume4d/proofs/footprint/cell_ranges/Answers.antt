@@ -1,12 +1,18 @@
-use Rattle.std.proofs.lemmas.Result.{IfOk-weaker}
+use Rattle.std.proofs.Common.{arith, ◌≡◌, true, ◌<◌, length}
+use Rattle.std.proofs.lemmas.Bool.Decides.{nat_tests}
 use Rattle.s2_cover.specs.Leaves.{leaves_of}
+use Rattle.volume4d.specs.Limits.{within_cells}
 use Rattle.volume4d.proofs.FootprintRanges.{cell_ranges}
 use Rattle.volume4d.proofs.footprint.cell_ranges.Goals as goal
 
-pub returns-clause-ranges : goal.returns-clause-ranges
-returns-clause-ranges c =
+pub returns-clause-ok : goal.returns-clause-ok
+returns-clause-ok c =
     let cells = c.args.cells.now in
-    IfOk-weaker c.ranges-3.result _ _
-    (λ ranges same.
-    cell_ranges cells ranges (same (leaves_of cells) c.in_ok-normalise.ensures.leaves))
-    c.ranges-3.ensures.same
+    let spans = c.in_ok-ranges.field-0 in
+    let count : within_cells (length cells) ≡ true = grind (arith, c.is_count.ensures, c.if-not-is_count.false) in
+    let some : 0 < length cells = grind (arith, nat_tests, count) in
+    record {
+      limits = count;
+      ranges = cell_ranges cells spans (c.in_ok-ranges.ensures.same (leaves_of cells) c.in_ok-normalise.ensures.leaves);
+      some = c.in_ok-ranges.ensures.some (c.in_ok-normalise.ensures.some some);
+    }

@@ -1,4 +1,4 @@
-use Rattle.volume4d.proofs.Readings.{same_from_bytes}
+use Rattle.volume4d.proofs.RectReadings.{same_from_bytes}
 use Rattle.volume4d.proofs.laws.one_shape.Goals as goal
 
 pub returns : goal.returns

@@ -1,8 +1,8 @@
 use Rattle.std.proofs.Common.{◌&&◌, take}
-use Rattle.volume4d.specs.Slab.{slab_has, helds_have}
+use Rattle.volume4d.specs.Slab.{slab_has, slabs_have}
 use Rattle.volume4d.specs.Meeting.{IsFirstPoint}
 use Rattle.volume4d.proofs.meeting.first_in.Given as goal
 
--- the first point shared with the held slabs so far
-abbrev pub invariant-loop-held : goal.invariant-loop-held
-invariant-loop-held l = IsFirstPoint (λ x. slab_has l.slab x && helds_have (take l.held-index l.theirs) x) l.first
+-- the first point that the slabs so far share with the other
+abbrev pub invariant-loop-slab : goal.invariant-loop-slab
+invariant-loop-slab l = IsFirstPoint (λ x. slabs_have (take l.slab-index l.mine) x && slab_has l.other x) l.first

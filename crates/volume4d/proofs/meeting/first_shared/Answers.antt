@@ -1,11 +1,11 @@
 use Rattle.std.proofs.Common.{◌&&◌, take}
 use Rattle.volume4d.specs.Slab.{slab_has, slabs_have, helds_have}
-use Rattle.volume4d.proofs.FirstPoints.{one_more_of_mine}
+use Rattle.volume4d.proofs.FirstPoints.{one_more_held}
 use Rattle.volume4d.proofs.meeting.first_shared.Goals as goal
 
-pub loop-slab-preserved : goal.loop-slab-preserved
-loop-slab-preserved c =
-    let theirs = c.args.theirs.now in
-    let so_far = take c.loop-slab.slab-index c.args.mine.now in
-    one_more_of_mine c.args.mine.now theirs c.loop-slab.slab-index c.slab-item.result c.earlier-first.result c.loop-slab-test.true c.slab-item.is
-    (c.earlier-first.ensures (λ x. slabs_have so_far x && helds_have theirs x) (λ x. slab_has c.slab-item.result x && helds_have theirs x) c.loop-slab.invariant c.first_in.ensures)
+pub loop-held-preserved : goal.loop-held-preserved
+loop-held-preserved c =
+    let mine = c.args.mine.now in
+    let so_far = take c.loop-held.held-index c.args.theirs.now in
+    one_more_held (slabs_have mine) c.args.theirs.now c.loop-held.held-index c.held-item.result c.earlier-first.result c.loop-held-test.true c.held-item.is
+    (c.earlier-first.ensures (λ x. slabs_have mine x && helds_have so_far x) (λ x. slabs_have mine x && slab_has c.held-item.result.slab x) c.loop-held.invariant c.first_in.ensures)

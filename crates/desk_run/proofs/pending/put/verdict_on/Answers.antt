@@ -1,6 +1,5 @@
 use Rattle.std.proofs.Common.{◌∙◌, ap, length, w64, to_z, of_z}
 use Rattle.std.proofs.lemmas.Int.{to_z-of_z}
-use Rattle.desk_rules.specs.Conflict.{conflict}
 use Rattle.desk_rules.specs.Outcome.{outcome}
 use Rattle.desk_store.specs.FaultLaws.{was_honest}
 use Rattle.desk_store.specs.World.{plans_of}
@@ -20,4 +19,4 @@ returns-clause-verdict g c = λ honest.
     (c.decide.ensures ∙ ap (λ s. outcome c.args.put.now (to_z w64 (of_z w64 c.args.moment)) s c.in_ok-own_rows.own_rows c.args.ceiling c.in_ok-meeting.meeting) c.as_ref.ensures.value) (to_z-of_z w64 c.args.moment c.ranges.moment)
     (c.in_ok-stored.ensures.value planning)
     (c.in_ok-own_rows.ensures.value counting ∙ ap (λ w. length (plans_of o w)) planned)
-    (c.in_ok-meeting.ensures.value honest ∙ ap (λ w. conflict_in w o c.args.put.now) counted)
+    (c.in_ok-meeting.ensures.value honest ∙ ap (λ w. conflict_in w o c.args.put.now.id c.args.put.now.area c.args.put.now.priority) counted)

@@ -1,6 +1,6 @@
 use Rattle.std.proofs.Common.{◌∙◌, ap, sym, refl}
 use Rattle.desk_store.specs.World.{plans_of}
-use Rattle.desk_store.specs.Changes.{clear_rows, with_plans}
+use Rattle.desk_store.specs.Changes.{clear_rows}
 use Rattle.desk_store.specs.declared.change.Change.TheVariants.{Clear}
 use Rattle.desk_store.specs.StoreChange.{changed_by}
 use Rattle.desk_store.specs.Listing.{world_of, with_count, without}

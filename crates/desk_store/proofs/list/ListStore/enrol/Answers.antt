@@ -1,4 +1,4 @@
-use Rattle.std.proofs.Common.{◌∙◌, ap}
+use Rattle.std.proofs.Common.{◌∙◌}
 use Rattle.desk_store.specs.StoreChange.{changed_by}
 use Rattle.desk_store.specs.declared.change.Change.TheVariants.{Enrol}
 use Rattle.desk_store.specs.Listing.{world_of, filed_all}

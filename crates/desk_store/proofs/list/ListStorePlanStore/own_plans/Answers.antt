@@ -1,4 +1,5 @@
-use Rattle.std.proofs.Common.{◌∙◌, ap, sym, subst}
+use Rattle.std.proofs.Common.{◌∙◌, ◌≤◌, ap, length, sym, subst}
+use Rattle.desk_rules.specs.Limits.{max_plans}
 use Rattle.desk_store.specs.World.{AreInOrder, plans_of}
 use Rattle.desk_store.specs.Listing.{filed_all}
 use Rattle.desk_store.specs.OrderLaws.{rows_sorted}
@@ -9,3 +10,6 @@ returns-clause-value c = λ _. c.in_ok-rows_of.ensures ∙ ap (plans_of c.args.o
 
 pub returns-clause-order : goal.returns-clause-order
 returns-clause-order c = λ _. subst AreInOrder (sym c.in_ok-rows_of.ensures) (rows_sorted c.args.operator.now (filed_all c.self.inside.plans.entries) c.self.invariant.0.plans)
+
+pub returns-clause-limit : goal.returns-clause-limit
+returns-clause-limit c = λ _. subst (λ rows. length rows ≤ max_plans) (sym c.in_ok-rows_of.ensures) (c.self.invariant.0.rows c.args.operator.now)

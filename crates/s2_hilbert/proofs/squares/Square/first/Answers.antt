@@ -8,19 +8,19 @@ pub overflow_mul-result-2 : goal.overflow_mul-result-2
 overflow_mul-result-2 c =
     let inside = c.self.inside in
     let facts = has_positions (grid_square inside.face inside.level inside.a inside.b) c.self.invariant.0 in
-    rw (c.place_of_point-place.ensures.value, c.leaf_count.ensures) (omega (arith, facts.place_room))
+    rw (c.place_of_square-place.ensures.value, c.leaf_count.ensures) (omega (arith, facts.place_room))
 
 pub overflow_add-result : goal.overflow_add-result
 overflow_add-result c =
     let inside = c.self.inside in
     let facts = has_positions (grid_square inside.face inside.level inside.a inside.b) c.self.invariant.0 in
-    rw (c.place_of_point-place.ensures.value, c.leaf_count.ensures, c.from.ensures)
+    rw (c.place_of_square-place.ensures.value, c.leaf_count.ensures, c.from.ensures)
     (omega (arith, facts.place_room, c.self.invariant.0.face_below))
 
 pub returns-clause-value : goal.returns-clause-value
 returns-clause-value c =
     let inside = c.self.inside in
-    rw (← c.self.view_is, c.from.ensures, c.place_of_point-place.ensures.value, c.leaf_count.ensures)
+    rw (← c.self.view_is, c.from.ensures, c.place_of_square-place.ensures.value, c.leaf_count.ensures)
     (sym (first_position_is (grid_square inside.face inside.level inside.a inside.b)))
 
 pub returns-clause-leaves : goal.returns-clause-leaves
@@ -30,7 +30,7 @@ returns-clause-leaves c =
     rw (
       ← c.self.view_is,
       c.from.ensures,
-      c.place_of_point-place.ensures.value,
+      c.place_of_square-place.ensures.value,
       c.leaf_count.ensures,
       ←
           first_position_is square,
@@ -43,7 +43,7 @@ returns-clause-below c =
     let square = grid_square inside.face inside.level inside.a inside.b in
     rw (
       c.from.ensures,
-      c.place_of_point-place.ensures.value,
+      c.place_of_square-place.ensures.value,
       c.leaf_count.ensures,
       ← first_position_is
           square,

@@ -1,10 +1,8 @@
 use Rattle.std.proofs.Common.{◌<◌, length, subst, sym}
 use Rattle.std.specs.Prelude.{All}
-use Rattle.std.proofs.lemmas.Bool.{and_parts}
 use Rattle.std.proofs.lemmas.Result.{IfOk-weaker}
 use Rattle.s2_cover.specs.Ranges.{IsSpan, IsRanges}
-use Rattle.volume4d.specs.Windows.{is_window}
-use Rattle.volume4d.specs.Shape.{shape_positions, is_footprint}
+use Rattle.volume4d.specs.Shape.{shape_positions}
 use Rattle.volume4d.specs.Footprint.{shape_of}
 use Rattle.volume4d.specs.Volume.{Block}
 use Rattle.volume4d.proofs.SlabPoints.{volume_points, volume_slabs}
@@ -17,7 +15,7 @@ returns-clause-points c =
     record { footprint = shape_of c.self.inside.footprint; window = c.self.inside.window } in
     let ranges =
     subst (IsRanges (shape_positions volume.footprint)) (sym c.spans.ensures.value)
-    c.in_ok-ranges.ensures.ranges in
+    c.self.invariant.0.ranges in
     let spans = c.spans.result.now in
     rw (← c.self.view_is)
     (IfOk-weaker c.slabs_of.result _ _
@@ -26,12 +24,11 @@ returns-clause-points c =
 
 pub returns-clause-filled : goal.returns-clause-filled
 returns-clause-filled c =
-    let footprint = shape_of c.self.inside.footprint in
     let window = c.self.inside.window in
-    let limits = and_parts (is_footprint footprint) (is_window window) c.self.invariant in
+    let kept = c.self.invariant in
     let shown = sym c.spans.ensures.value in
-    let some = subst (λ spans. 0 < length spans) shown (c.in_ok-ranges.ensures.some limits.0) in
+    let some = subst (λ spans. 0 < length spans) shown kept.0.some in
     let each = subst (All IsSpan) shown c.spans.ensures.ranges.each in
     IfOk-weaker c.slabs_of.result _ _
-    (λ slabs on. filled_on c.spans.result.now window slabs.items limits.1 some each on)
+    (λ slabs on. filled_on c.spans.result.now window slabs.items kept.1 some each on)
     c.slabs_of.ensures

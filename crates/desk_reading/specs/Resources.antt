@@ -1,0 +1,24 @@
+-- The methods of the desk's resources: RFC 9110, sections 9.1 and 10.2.1.
+use Rattle.std.specs.Prelude.{ℕ, List, [], ◌∷◌, Option, codes}
+use Rattle.std.specs.List.{join_by}
+use Rattle.desk_reading.specs.declared.resource.Action.{Action}
+use Rattle.desk_reading.specs.declared.resource.Action.TheVariants as action
+use Rattle.desk_reading.specs.declared.resource.Route.{Route}
+use Rattle.desk_reading.specs.declared.resource.Route.TheVariants.{Status, FlightPlans, FlightPlan, ClearAreaRequests}
+use Rattle.desk_reading.specs.Words.{beside}
+
+-- the methods that a resource has, each with what it does, in the order of `allow`
+abbrev pub methods_of : Route → List (List ℕ × Action)
+methods_of Status = (codes "GET", action.Status) ∷ []
+methods_of FlightPlans = (codes "GET", action.List) ∷ []
+methods_of FlightPlan =
+    (codes "DELETE", action.Delete) ∷ (codes "GET", action.Show) ∷ (codes "PUT", action.Put) ∷ []
+methods_of ClearAreaRequests = (codes "POST", action.Clear) ∷ []
+
+-- what a method does at a resource, if the resource has it
+unfoldable pub action_of : Route → List ℕ → Option Action
+action_of route method = beside (methods_of route) method
+
+-- these methods, as the field `allow` of an answer lists them
+abbrev pub allow_text : Route → List ℕ
+allow_text route = join_by (λ (row : List ℕ × Action). row.0) (codes ", ") (methods_of route)

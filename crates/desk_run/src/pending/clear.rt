@@ -1,0 +1,83 @@
+//! Plans that are to be taken out.
+
+ghost use Rattle.std.specs.Prelude.{◌≡◌, ◌≤◌, ◌<◌, ◌^◌, ◌∷◌, [], length, IsSome, IfOk, IfErr};
+ghost use Rattle.desk_store.specs.Faults.{IsHonest, HasRisen};
+ghost use Rattle.desk_store.specs.World.{ceiling_of, plans_of};
+ghost use Rattle.desk_rules.specs.Bridge.{AreSlabsOf};
+ghost use Rattle.volume4d.specs.Volume.{Block};
+ghost use Rattle.desk_run.specs.Calls.{Readies, ids_in};
+ghost use Rattle.desk_run.specs.Verdicts.{clear_ruling, is_in};
+
+use super::Pending;
+use crate::fault::DeskFault;
+use desk_rules::conflict::share_a_point;
+use desk_rules::operator::Operator;
+use desk_rules::plan::PlanRow;
+use desk_rules::plan_id::PlanId;
+use desk_rules::reply::Reply;
+use desk_store::{Change, PlanStore};
+use std::alloc::{AllocError, Global};
+use volume4d::{Slab, Volume};
+
+// Gets the clearing of an enrolled operator's plans from an extent ready.
+pub fn ready_clear<S: PlanStore>(
+    alloc: Global,
+    store: &mut S,
+    operator: &Operator,
+    extent: &Volume,
+) -> Result<Pending, DeskFault>
+    requires { IsHonest (S.doubt store.old) →
+        IsSome (ceiling_of operator.now (S.content store.old)) }
+    ensures value { IsHonest (S.doubt store.new) → Readies (S.content store.old) operator.now
+        (clear_ruling (plans_of operator.now (S.content store.old)) extent.now) result }
+    ensures same { S.content store.new ≡ S.content store.old }
+    ensures doubt { S.doubt store.old ≤ S.doubt store.new }
+    ensures counted { S.faults store.old ≤ S.faults store.new }
+    ensures cause { IfErr result (λ e. e ≡ DeskFault.Store →
+        HasRisen (S.faults store.old) (S.faults store.new)) }
+{
+    let rows = store.own_plans(operator)?;
+    let ids = ids_within(alloc, &extent.slabs()?, &rows)?;
+    if ids.is_empty() {
+        return Ok(Pending {
+            reply: Reply::Cleared(0),
+            change: None,
+        });
+    }
+    Ok(Pending {
+        reply: Reply::Cleared(count_of(&ids)),
+        change: Some(Change::Clear {
+            operator: *operator,
+            ids,
+        }),
+    })
+}
+
+// The ids of the plans that share a point with the extent of the slabs.
+fn ids_within(alloc: Global, slabs: &[Slab], rows: &[PlanRow]) -> Result<Vec<PlanId>, AllocError>
+    ensures { (extent : Block) → AreSlabsOf slabs.now (extent ∷ []) →
+        IfOk result (λ ids. ids.items ≡ ids_in extent rows.now) }
+{
+    let mut ids = Vec::new(alloc);
+    for row in rows {
+        if is_within(slabs, row)? {
+            ids.push(row.id)?;
+        }
+    }
+    Ok(ids)
+}
+
+// Whether a plan, closed or not, shares a point with the extent of the slabs.
+fn is_within(slabs: &[Slab], row: &PlanRow) -> Result<bool, AllocError>
+    ensures { (extent : Block) → AreSlabsOf slabs.now (extent ∷ []) →
+        IfOk result (λ found. found ≡ is_in extent row.now) }
+{
+    Ok(share_a_point(slabs, &row.area.slabs()?))
+}
+
+// How many ids there are, where 32 bits can say it.
+fn count_of(ids: &[PlanId]) -> u32
+    ensures { length ids.now < 2 ^ 32 → result ≡ length ids.now }
+{
+    u32::try_from(ids.len()).unwrap_or(u32::MAX)
+}

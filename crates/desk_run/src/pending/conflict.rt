@@ -1,0 +1,33 @@
+//! Conflicts of an operator's plans with what is held.
+
+ghost use Rattle.std.specs.Prelude.{◌≡◌, ◌≤◌, IfOk, IfErr};
+ghost use Rattle.desk_store.specs.Faults.{IsHonest, HasRisen};
+ghost use Rattle.desk_run.specs.Verdicts.{conflict_in};
+
+use desk_rules::conflict::first_conflict;
+use desk_rules::operator::Operator;
+use desk_rules::plan_id::PlanId;
+use desk_store::{PlanStore, StoreFault};
+use volume4d::{Area, Meeting, bounds_of};
+
+// The conflict of an area with a priority, of the operator's plan of the id.
+pub fn conflict_of<S: PlanStore>(
+    store: &mut S,
+    operator: &Operator,
+    id: &PlanId,
+    area: &Area,
+    priority: u32,
+) -> Result<Option<Meeting>, StoreFault>
+    ensures value { IsHonest (S.doubt store.new) → IfOk result (λ meeting.
+        meeting ≡ conflict_in (S.content store.old) operator.now id.now area.now priority) }
+    ensures same { S.content store.new ≡ S.content store.old }
+    ensures doubt { S.doubt store.old ≤ S.doubt store.new }
+    ensures counted { S.faults store.old ≤ S.faults store.new }
+    ensures cause { IfErr result (λ e. e ≡ StoreFault.Store →
+        HasRisen (S.faults store.old) (S.faults store.new)) }
+{
+    let mine = area.slabs()?;
+    let extent = bounds_of(&mine);
+    let theirs = store.rivals(operator, id, priority, &extent)?;
+    Ok(first_conflict(&mine, &theirs))
+}

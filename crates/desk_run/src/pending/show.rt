@@ -1,0 +1,132 @@
+//! Plans that are shown to their operator.
+
+ghost use Rattle.std.specs.Prelude.{◌≡◌, ◌≤◌, map, IfOk, IfErr};
+ghost use Rattle.desk_store.specs.Faults.{IsHonest, HasRisen};
+ghost use Rattle.desk_store.specs.World.{held, plans_of, stored_of};
+ghost use Rattle.desk_run.specs.Calls.{Readies};
+ghost use Rattle.desk_run.specs.Verdicts.{conflict_shown_in, list_ruling, show_ruling, shown_in};
+
+use super::Pending;
+use super::conflict::conflict_of;
+use crate::fault::DeskFault;
+use desk_rules::decide::status_of;
+use desk_rules::operator::Operator;
+use desk_rules::plan::PlanRow;
+use desk_rules::plan_id::PlanId;
+use desk_rules::reply::{Reply, Shown};
+use desk_store::{PlanStore, StoreFault};
+use std::alloc::Global;
+use volume4d::Meeting;
+
+// Gets the list of an enrolled operator's plans ready.
+pub fn ready_list<S: PlanStore>(
+    alloc: Global,
+    store: &mut S,
+    operator: &Operator,
+) -> Result<Pending, DeskFault>
+    ensures value { IsHonest (S.doubt store.new) → Readies (S.content store.old) operator.now
+        (list_ruling (plans_of operator.now (S.content store.old))
+        (held (S.content store.old) operator.now)) result }
+    ensures same { S.content store.new ≡ S.content store.old }
+    ensures doubt { S.doubt store.old ≤ S.doubt store.new }
+    ensures counted { S.faults store.old ≤ S.faults store.new }
+    ensures cause { IfErr result (λ e. e ≡ DeskFault.Store →
+        HasRisen (S.faults store.old) (S.faults store.new)) }
+{
+    let rows = store.own_plans(operator)?;
+    let plans = shown_all(alloc, store, operator, &rows)?;
+    Ok(Pending {
+        reply: Reply::Plans(plans),
+        change: None,
+    })
+}
+
+// Gets the showing of an enrolled operator's plan ready.
+pub fn ready_show<S: PlanStore>(
+    store: &mut S,
+    operator: &Operator,
+    id: &PlanId,
+) -> Result<Pending, DeskFault>
+    ensures value { IsHonest (S.doubt store.new) → Readies (S.content store.old) operator.now
+        (show_ruling (plans_of operator.now (S.content store.old))
+        (held (S.content store.old) operator.now)
+        (stored_of id.now (plans_of operator.now (S.content store.old)))) result }
+    ensures same { S.content store.new ≡ S.content store.old }
+    ensures doubt { S.doubt store.old ≤ S.doubt store.new }
+    ensures counted { S.faults store.old ≤ S.faults store.new }
+    ensures cause { IfErr result (λ e. e ≡ DeskFault.Store →
+        HasRisen (S.faults store.old) (S.faults store.new)) }
+{
+    let Some(row) = store.plan(operator, id)? else {
+        return Err(DeskFault::NoSuchPlan);
+    };
+    let plan = shown(store, operator, &row)?;
+    Ok(Pending {
+        reply: Reply::Plan(plan),
+        change: None,
+    })
+}
+
+// Plans of the operator as they are shown.
+fn shown_all<S: PlanStore>(
+    alloc: Global,
+    store: &mut S,
+    operator: &Operator,
+    rows: &[PlanRow],
+) -> Result<Vec<Shown>, StoreFault>
+    ensures value { IsHonest (S.doubt store.new) → IfOk result (λ plans.
+        plans.items ≡ map (shown_in (S.content store.old) operator.now) rows.now) }
+    ensures same { S.content store.new ≡ S.content store.old }
+    ensures doubt { S.doubt store.old ≤ S.doubt store.new }
+    ensures counted { S.faults store.old ≤ S.faults store.new }
+    ensures cause { IfErr result (λ e. e ≡ StoreFault.Store →
+        HasRisen (S.faults store.old) (S.faults store.new)) }
+{
+    let mut plans = Vec::new(alloc);
+    for row in rows {
+        plans.push(shown(store, operator, row)?)?;
+    }
+    Ok(plans)
+}
+
+// A plan of the operator as it is shown.
+fn shown<S: PlanStore>(
+    store: &mut S,
+    operator: &Operator,
+    row: &PlanRow,
+) -> Result<Shown, StoreFault>
+    ensures value { IsHonest (S.doubt store.new) → IfOk result (λ shown.
+        shown ≡ shown_in (S.content store.old) operator.now row.now) }
+    ensures same { S.content store.new ≡ S.content store.old }
+    ensures doubt { S.doubt store.old ≤ S.doubt store.new }
+    ensures counted { S.faults store.old ≤ S.faults store.new }
+    ensures cause { IfErr result (λ e. e ≡ StoreFault.Store →
+        HasRisen (S.faults store.old) (S.faults store.new)) }
+{
+    let conflict = shown_conflict(store, operator, row)?;
+    Ok(Shown {
+        row: row.copy()?,
+        status: status_of(Some(row)),
+        conflict,
+    })
+}
+
+// The conflict of a live plan of the operator at its own priority; a closed plan has none.
+fn shown_conflict<S: PlanStore>(
+    store: &mut S,
+    operator: &Operator,
+    row: &PlanRow,
+) -> Result<Option<Meeting>, StoreFault>
+    ensures value { IsHonest (S.doubt store.new) → IfOk result (λ conflict.
+        conflict ≡ conflict_shown_in (S.content store.old) operator.now row.now) }
+    ensures same { S.content store.new ≡ S.content store.old }
+    ensures doubt { S.doubt store.old ≤ S.doubt store.new }
+    ensures counted { S.faults store.old ≤ S.faults store.new }
+    ensures cause { IfErr result (λ e. e ≡ StoreFault.Store →
+        HasRisen (S.faults store.old) (S.faults store.new)) }
+{
+    if !row.usage.is_live() {
+        return Ok(None);
+    }
+    conflict_of(store, operator, &row.id, &row.area, row.priority)
+}

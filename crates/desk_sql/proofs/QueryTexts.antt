@@ -1,0 +1,98 @@
+-- What the queries mean, found by computing.
+use Rattle.std.proofs.Common.{◌≡◌, ℕ, pos, negsuc, List, [], ◌∷◌, codes, None, false, refl}
+use Rattle.sqlite.specs.Collation.TheVariants.{Binary}
+use Rattle.sqlite.specs.declared.types.Value.TheVariants.{Int}
+use Rattle.sqlite.specs.Term.{Term, lit, col, op2}
+use Rattle.sqlite.specs.Query.{Query, Join, inner, end}
+use Rattle.sqlite.specs.Command.TheVariants.{Select}
+use Rattle.sqlite_value.specs.declared.keys.Key.{Key}
+use Rattle.sqlite_value.specs.Keys.{ascending}
+use Rattle.sqlite_sql.specs.declared.ops.BinaryOp.TheVariants.{Compare, Or}
+use Rattle.sqlite_sql.specs.declared.ops.CompareOp.TheVariants.{Eq, Ne}
+use Rattle.sqlite_tied.specs.Compute.{everything}
+use Rattle.sqlite.specs.Listing.{understood, reads_listing}
+use Rattle.sqlite.proofs.Callers.{IsPlain, command_of}
+use Rattle.desk_sql.specs.Schema.{desk_schema}
+use Rattle.desk_sql.proofs.Texts.{operator_named_text, all_operators_text, plan_of_text, all_plans_text, volumes_of_text, all_volumes_text, all_spans_text, own_plans_text, rivals_text}
+
+abbrev pub query_of : Join → List Term → List Term → List (Term × Key) → Query
+query_of from filter project order = record {
+  from = from;
+  filter = filter;
+  group = None;
+  project = project;
+  distinct = false;
+  collations = [];
+  order = order;
+  limit = lit (Int (negsuc 0));
+  offset = lit (Int (pos 0));
+}
+
+-- a text that is this query and no more
+pub record IsQuery (text : List ℕ) (query : Query) (names : List (List ℕ)) : Type 0 where
+  pub is : command_of (understood desk_schema text) ≡ Select (record { lets = []; body = query }) names
+  pub plain : IsPlain (understood desk_schema text)
+  pub unlisted : reads_listing desk_schema text ≡ false
+
+abbrev pub operator_named_query : Query
+operator_named_query = query_of (inner 0 end) (op2 (Compare Eq Binary) (col 1 1) (col 0 0) ∷ []) (col 1 1 ∷ col 1 2 ∷ []) ([])
+
+pub operator_named_is : IsQuery operator_named_text operator_named_query (codes "name" ∷ codes "ceiling" ∷ [])
+unfolding understood everything
+operator_named_is = record { is = refl; plain = (refl, refl); unlisted = refl }
+
+abbrev pub all_operators_query : Query
+all_operators_query = query_of (inner 0 end) ([]) (col 1 1 ∷ col 1 2 ∷ []) ((col 1 1, ascending Binary) ∷ [])
+
+pub all_operators_is : IsQuery all_operators_text all_operators_query (codes "name" ∷ codes "ceiling" ∷ [])
+unfolding understood everything
+all_operators_is = record { is = refl; plain = (refl, refl); unlisted = refl }
+
+abbrev pub plan_of_query : Query
+plan_of_query = query_of (inner 2 end) (op2 (Compare Eq Binary) (col 1 1) (col 0 0) ∷ op2 (Compare Eq Binary) (col 1 2) (col 0 1) ∷ []) (col 1 1 ∷ col 1 2 ∷ col 1 3 ∷ col 1 4 ∷ col 1 5 ∷ []) ([])
+
+pub plan_of_is : IsQuery plan_of_text plan_of_query (codes "operator" ∷ codes "id" ∷ codes "priority" ∷ codes "usage" ∷ codes "aircraft" ∷ [])
+unfolding understood everything
+plan_of_is = record { is = refl; plain = (refl, refl); unlisted = refl }
+
+abbrev pub all_plans_query : Query
+all_plans_query = query_of (inner 2 end) ([]) (col 1 1 ∷ col 1 2 ∷ col 1 3 ∷ col 1 4 ∷ col 1 5 ∷ []) ((col 1 1, ascending Binary) ∷ (col 1 2, ascending Binary) ∷ [])
+
+pub all_plans_is : IsQuery all_plans_text all_plans_query (codes "operator" ∷ codes "id" ∷ codes "priority" ∷ codes "usage" ∷ codes "aircraft" ∷ [])
+unfolding understood everything
+all_plans_is = record { is = refl; plain = (refl, refl); unlisted = refl }
+
+abbrev pub volumes_of_query : Query
+volumes_of_query = query_of (inner 4 end) (op2 (Compare Eq Binary) (col 1 1) (col 0 0) ∷ op2 (Compare Eq Binary) (col 1 2) (col 0 1) ∷ []) (col 1 1 ∷ col 1 2 ∷ col 1 3 ∷ col 1 4 ∷ col 1 5 ∷ col 1 6 ∷ col 1 7 ∷ col 1 8 ∷ []) ((col 1 3, ascending Binary) ∷ [])
+
+pub volumes_of_is : IsQuery volumes_of_text volumes_of_query (codes "operator" ∷ codes "id" ∷ codes "place" ∷ codes "lower" ∷ codes "upper" ∷ codes "start" ∷ codes "stop" ∷ codes "asked" ∷ [])
+unfolding understood everything
+volumes_of_is = record { is = refl; plain = (refl, refl); unlisted = refl }
+
+abbrev pub all_volumes_query : Query
+all_volumes_query = query_of (inner 4 end) ([]) (col 1 1 ∷ col 1 2 ∷ col 1 3 ∷ col 1 4 ∷ col 1 5 ∷ col 1 6 ∷ col 1 7 ∷ col 1 8 ∷ []) ((col 1 1, ascending Binary) ∷ (col 1 2, ascending Binary) ∷ (col 1 3, ascending Binary) ∷ [])
+
+pub all_volumes_is : IsQuery all_volumes_text all_volumes_query (codes "operator" ∷ codes "id" ∷ codes "place" ∷ codes "lower" ∷ codes "upper" ∷ codes "start" ∷ codes "stop" ∷ codes "asked" ∷ [])
+unfolding understood everything
+all_volumes_is = record { is = refl; plain = (refl, refl); unlisted = refl }
+
+abbrev pub all_spans_query : Query
+all_spans_query = query_of (inner 6 end) ([]) (col 1 1 ∷ col 1 2 ∷ col 1 3 ∷ col 1 4 ∷ col 1 5 ∷ col 1 6 ∷ col 1 7 ∷ col 1 8 ∷ col 1 9 ∷ col 1 10 ∷ []) ((col 1 1, ascending Binary) ∷ (col 1 2, ascending Binary) ∷ (col 1 3, ascending Binary) ∷ (col 1 4, ascending Binary) ∷ [])
+
+pub all_spans_is : IsQuery all_spans_text all_spans_query (codes "operator" ∷ codes "id" ∷ codes "place" ∷ codes "first" ∷ codes "last" ∷ codes "lower" ∷ codes "upper" ∷ codes "start" ∷ codes "stop" ∷ codes "priority" ∷ [])
+unfolding understood everything
+all_spans_is = record { is = refl; plain = (refl, refl); unlisted = refl }
+
+abbrev pub own_plans_query : Query
+own_plans_query = query_of (inner 2 (inner 4 end)) (op2 (Compare Eq Binary) (col 2 1) (col 1 1) ∷ op2 (Compare Eq Binary) (col 2 2) (col 1 2) ∷ op2 (Compare Eq Binary) (col 1 1) (col 0 0) ∷ []) (col 1 1 ∷ col 1 2 ∷ col 1 3 ∷ col 1 4 ∷ col 1 5 ∷ col 2 3 ∷ col 2 4 ∷ col 2 5 ∷ col 2 6 ∷ col 2 7 ∷ col 2 8 ∷ []) ((col 1 2, ascending Binary) ∷ (col 2 3, ascending Binary) ∷ [])
+
+pub own_plans_is : IsQuery own_plans_text own_plans_query (codes "operator" ∷ codes "id" ∷ codes "priority" ∷ codes "usage" ∷ codes "aircraft" ∷ codes "place" ∷ codes "lower" ∷ codes "upper" ∷ codes "start" ∷ codes "stop" ∷ codes "asked" ∷ [])
+unfolding understood everything
+own_plans_is = record { is = refl; plain = (refl, refl); unlisted = refl }
+
+abbrev pub rivals_query : Query
+rivals_query = query_of (inner 2 (inner 4 end)) (op2 (Compare Eq Binary) (col 2 1) (col 1 1) ∷ op2 (Compare Eq Binary) (col 2 2) (col 1 2) ∷ op2 (Compare Ne Binary) (col 1 4) (lit (Int (pos 2))) ∷ op2 Or (op2 (Compare Ne Binary) (col 1 1) (col 0 0)) (op2 (Compare Ne Binary) (col 1 2) (col 0 1)) ∷ []) (col 1 1 ∷ col 1 2 ∷ col 1 3 ∷ col 1 4 ∷ col 1 5 ∷ col 2 3 ∷ col 2 4 ∷ col 2 5 ∷ col 2 6 ∷ col 2 7 ∷ col 2 8 ∷ []) ((col 1 1, ascending Binary) ∷ (col 1 2, ascending Binary) ∷ (col 2 3, ascending Binary) ∷ [])
+
+pub rivals_is : IsQuery rivals_text rivals_query (codes "operator" ∷ codes "id" ∷ codes "priority" ∷ codes "usage" ∷ codes "aircraft" ∷ codes "place" ∷ codes "lower" ∷ codes "upper" ∷ codes "start" ∷ codes "stop" ∷ codes "asked" ∷ [])
+unfolding understood everything
+rivals_is = record { is = refl; plain = (refl, refl); unlisted = refl }

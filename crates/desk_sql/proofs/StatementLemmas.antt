@@ -1,0 +1,175 @@
+-- What each query shows.
+use Rattle.std.proofs.Common.{◌≡◌, ℕ, ◌<◌, ◌+◌, List, [], ◌∷◌, ◌++◌, length, map, filter, refl, sym, ap, subst, ◌∙◌, Result, Ok, Err, IfOk, Bool, ap₂, true, false, ◌&&◌, ◌||◌, cond, pos, All, arith, slice_index_or}
+use Rattle.std.specs.Ordering.{is_lt}
+use Rattle.std.specs.List.{flat_map, list_all}
+use Rattle.std.specs.List.Sorted.{IsPermutation, IsSorted}
+use Rattle.std.proofs.lemmas.List.Sorted.{All-permutation}
+use Rattle.std.proofs.lemmas.List.{get_or-map, map-append, length-map}
+use Rattle.sqlite.specs.Order.{Row, column}
+use Rattle.sqlite.specs.declared.types.Value.TheVariants.{Int, Text}
+use Rattle.sqlite.specs.declared.error.Error.{Error}
+use Rattle.sqlite.specs.Term.{Term, Env, eval_all, holds}
+use Rattle.sqlite.specs.Query.{Join, Output, output, key_cmp, matches}
+use Rattle.sqlite.specs.Program.{overlay}
+use Rattle.sqlite_value.specs.declared.keys.Key.{Key}
+use Rattle.sqlite.specs.State.{State, HasCleanDisk, Shown}
+use Rattle.sqlite.specs.Store.{Ghosts}
+use Rattle.sqlite.specs.Held.{Held, state}
+use Rattle.desk_sql.specs.Rows.{IsDesk, is_by, is_of, is_rival, differs, is_same, joined, has_volume, with_volumes, by_cells, columns, tables_of, Lists}
+use Rattle.desk_sql.specs.Effects.{IsReady}
+use Rattle.desk_sql.proofs.Texts.{operator_named_text, all_operators_text, plan_of_text, all_plans_text, volumes_of_text, all_volumes_text, all_spans_text, own_plans_text, rivals_text}
+use Rattle.desk_sql.proofs.QueryTexts.{IsQuery, query_of, operator_named_is, operator_named_query, all_operators_is, all_operators_query, plan_of_is, plan_of_query, all_plans_is, all_plans_query, volumes_of_is, volumes_of_query, all_volumes_is, all_volumes_query, all_spans_is, all_spans_query, own_plans_is, own_plans_query, rivals_is, rivals_query}
+use Rattle.desk_sql.proofs.ReadLemmas.{was_open, answered, shows, scanned, equals_text, equals, differs_int, either_true}
+
+-- a value that a desk's rows have, whenever something is shown
+pub if_shown : {S V : Type 0} (g : Ghosts S) (old new : Held S) (items : V → List Row) (text : List ℕ) (params : Row) (P : List Row → Type 0) → IsReady g old → HasCleanDisk (state g old)
+    → ((rows : List Row) → IsDesk (state g old).now → Shown text params (state g old) (state g new) rows → P rows)
+    → (r : Result V Error) → IfOk r (λ v. Shown text params (state g old) (state g new) (items v)) → IfOk r (λ v. P (items v))
+if_shown g old new items text params P ready clean gives (Ok v) shown = gives (items v) (ready clean (was_open text params _ _ _ shown)) shown
+if_shown g old new items text params P ready clean gives (Err e) shown = tt
+
+both_hold : (a : Bool) → (a && true) ≡ a
+both_hold true = refl
+both_hold false = refl
+
+every : (rows : List Row) → filter (λ r. true) rows ≡ rows
+every [] = refl
+every (r ∷ rows) = ap (λ xs. r ∷ xs) (every rows)
+
+-- ---- sorted outputs show sorted rows
+
+sorted_shown : (by : List Key) (cells : List ℕ) (xs : List Output) → ((x y : Row) → key_cmp 0 by (map (column x) cells) (map (column y) cells) ≡ by_cells cells x y)
+    → All (λ (o : Output). o.0 ≡ map (column o.1) cells) xs → IsSorted (λ (o p : Output). key_cmp 0 by o.0 p.0) xs → IsSorted (by_cells cells) (map (λ (o : Output). o.1) xs)
+sorted_shown by cells xs compares keys sorted k d low high =
+    let more : k + 1 < length xs = omega (arith, high, length-map xs (λ (o : Output). o.1)) in
+    let none : Output = ([], []) in
+    let a = slice_index_or xs (k + 1) none in
+    let b = slice_index_or xs k none in
+    ap is_lt (
+    ap₂ (by_cells cells) (get_or-map (λ (o : Output). o.1) xs (k + 1) none d more) (get_or-map (λ (o : Output). o.1) xs k none d (omega (arith, more)))
+    ∙ sym (compares a.1 b.1) ∙ ap₂ (key_cmp 0 by) (sym (keys (k + 1) none more)) (sym (keys k none (omega (arith, more))))
+    ) ∙ sorted k none low more
+
+module _ (text : List ℕ) (from : Join) (terms : List Term) (project : List Term) (order : List (Term × Key)) (names : List (List ℕ)) (known : IsQuery text (query_of from terms project order) names)
+    (params : Row) (old new : State) (rows : List Row) (desk : IsDesk old.now) (h : Shown text params old new rows) (cells : List ℕ) (wanted : List Row) where
+  lists : ((e : Env) → eval_all (map (λ k. k.0) order) e ≡ map (column (eval_all project e)) cells)
+      → ((x y : Row) → key_cmp 0 (map (λ k. k.1) order) (map (column x) cells) (map (column y) cells) ≡ by_cells cells x y)
+      → map (eval_all project) (matches (overlay old.now.trees []) terms from (params ∷ [])) ≡ wanted → Lists cells wanted rows
+  lists keys compares are =
+      let query = query_of from terms project order in
+      let a = answered text from terms project order names known params old new rows desk h in
+      let P = λ (o : Output). o.0 ≡ map (column o.1) cells in
+      let each : All P (map (output query) a.staged) = λ i d low. subst P (sym (get_or-map (output query) a.staged i [] d (omega (arith, low, length-map a.staged (output query))))) (keys (slice_index_or a.staged i [])) in
+      let all : All P a.ordered = All-permutation P a.kept a.ordered a.same (subst (All P) (sym a.distinct) each) in
+      record {
+        same = subst (λ xs. IsPermutation xs rows) are (shows text from terms project order names known params old new rows desk h);
+        sorted = subst (IsSorted (by_cells cells)) (sym a.shown) (sorted_shown (map (λ k. k.1) order) cells a.ordered compares all a.sorted);
+      }
+
+-- ---- joins
+
+and_later : (a b c : Bool) → (a && (b && (c && true))) ≡ ((a && b) && c)
+and_later true true true = refl
+and_later true true false = refl
+and_later true false c = refl
+and_later false b c = refl
+
+and_both : (a b c d : Bool) → (a && (b && (c && (d && true)))) ≡ ((a && b) && (c && d))
+and_both true true true true = refl
+and_both true true true false = refl
+and_both true true false d = refl
+and_both true false c d = refl
+and_both false b c d = refl
+
+joined_first : {E : Type 0} (f : E → Row) (e : E) (j : Row → Row) (x : Row) → f e ≡ j x → (a b : Bool) → a ≡ (b && true) → (es : List E) (xs : List Row) → map f es ≡ map j xs
+    → map f (cond a (e ∷ []) [] ++ es) ≡ map j (cond b (x ∷ xs) xs)
+joined_first f e j x at true true same es xs more = ap₂ (λ y ys. y ∷ ys) at more
+joined_first f e j x at false false same es xs more = more
+joined_first f e j x at true false same es xs more = cc
+joined_first f e j x at false true same es xs more = cc
+
+none_first : {E : Type 0} (f : E → Row) (e : E) (a b : Bool) → a ≡ (b && false) → (es : List E) → map f es ≡ [] → map f (cond a (e ∷ []) [] ++ es) ≡ []
+none_first f e false b same es more = more
+none_first f e true true same es more = cc
+none_first f e true false same es more = cc
+
+module _ {E : Type 0} (f : E → Row) (env : Row → E) (test : Row → Bool) (show : Row → Row) (has : Row → Bool) (j : Row → Row) (at : (s : Row) → f (env s) ≡ j (show s)) where
+  one_plan : (w : Bool) → ((s : Row) → test s ≡ (has (show s) && w)) → (ss : List Row)
+      → map f (flat_map (λ s. cond (test s) (env s ∷ []) []) ss) ≡ cond w (map j (filter has (map show ss))) []
+  one_plan true is [] = refl
+  one_plan false is [] = refl
+  one_plan true is (s ∷ ss) = joined_first f (env s) j (show s) (at s) (test s) (has (show s)) (is s) _ _ (one_plan true is ss)
+  one_plan false is (s ∷ ss) = none_first f (env s) (test s) (has (show s)) (is s) _ (one_plan false is ss)
+
+wanted_first : (j : Row → List Row) (p : Row) (w : Bool) (ps : List Row) → cond w (j p) [] ++ flat_map j ps ≡ flat_map j (cond w (p ∷ ps) ps)
+wanted_first j p true ps = refl
+wanted_first j p false ps = refl
+
+joined_rows : (params : Row) (terms project : List Term) (wanted : Row → Bool) → ((p s : Row) → eval_all project (params ∷ p ∷ s ∷ []) ≡ joined (columns 5 p) (columns 8 s))
+    → ((p s : Row) → list_all (holds (params ∷ p ∷ s ∷ [])) terms ≡ (has_volume (columns 5 p) (columns 8 s) && wanted (columns 5 p))) → (plans volumes : List Row)
+    → map (eval_all project) (flat_map (λ p. flat_map (λ s. cond (list_all (holds (params ∷ p ∷ s ∷ [])) terms) ((params ∷ p ∷ s ∷ []) ∷ []) []) volumes) plans)
+    ≡ flat_map (λ p. map (joined p) (filter (has_volume p) (map (columns 8) volumes))) (filter wanted (map (columns 5) plans))
+joined_rows params terms project wanted shown passes [] volumes = refl
+joined_rows params terms project wanted shown passes (p ∷ plans) volumes =
+    let cut = columns 5 p in
+    map-append (eval_all project) _ _
+    ∙ ap₂ (λ a b. a ++ b)
+    (one_plan (eval_all project) (λ s. params ∷ p ∷ s ∷ []) (λ s. list_all (holds (params ∷ p ∷ s ∷ [])) terms) (columns 8) (has_volume cut) (joined cut) (shown p) (wanted cut) (passes p) volumes)
+    (joined_rows params terms project wanted shown passes plans volumes)
+    ∙ wanted_first (λ q. map (joined q) (filter (has_volume q) (map (columns 8) volumes))) cut (wanted cut) _
+
+own_test : (operator : List ℕ) (p s : Row) → list_all (holds ((Text operator ∷ []) ∷ p ∷ s ∷ [])) own_plans_query.filter ≡ (has_volume (columns 5 p) (columns 8 s) && is_by operator (columns 5 p))
+own_test operator p s =
+    ap₂ (λ a b. a && b) (equals (column s 1) (column p 1)) (ap₂ (λ a b. a && (b && true)) (equals (column s 2) (column p 2)) (equals_text (column p 1) operator))
+    ∙ and_later (is_same (column s 1) (column p 1)) (is_same (column s 2) (column p 2)) (is_by operator (columns 5 p))
+
+rivals_test : (operator id : List ℕ) (p s : Row) → list_all (holds ((Text operator ∷ Text id ∷ []) ∷ p ∷ s ∷ [])) rivals_query.filter ≡ (has_volume (columns 5 p) (columns 8 s) && is_rival operator id (columns 5 p))
+rivals_test operator id p s =
+    ap₂ (λ a b. a && b) (equals (column s 1) (column p 1))
+    (ap₂ (λ a b. a && b) (equals (column s 2) (column p 2)) (ap₂ (λ a b. a && (b && true)) (differs_int (column p 4) (pos 2)) (either_true (column p 1) (column p 2) operator id)))
+    ∙ and_both (is_same (column s 1) (column p 1)) (is_same (column s 2) (column p 2)) (differs (column p 4) (Int (pos 2))) (differs (column p 1) (Text operator) || differs (column p 2) (Text id))
+
+pub operator_named : (name : List ℕ) (old new : State) (rows : List Row) → IsDesk old.now → Shown operator_named_text (Text name ∷ []) old new rows → Lists [] (filter (is_by name) (tables_of old.now.trees).operators) rows
+operator_named name old new rows desk h =
+    lists operator_named_text _ _ _ _ _ operator_named_is (Text name ∷ []) old new rows desk h [] _ (λ e. refl) (λ x y. refl)
+    (scanned (λ r. (Text name ∷ []) ∷ r ∷ []) operator_named_query.filter operator_named_query.project (columns 2) (is_by name) (λ r. refl) (λ r. both_hold _ ∙ equals_text (column r 1) name) (old.now.trees 0))
+
+pub all_operators : (old new : State) (rows : List Row) → IsDesk old.now → Shown all_operators_text ([]) old new rows → Lists (0 ∷ []) ((tables_of old.now.trees).operators) rows
+all_operators old new rows desk h =
+    lists all_operators_text _ _ _ _ _ all_operators_is ([]) old new rows desk h (0 ∷ []) _ (λ e. refl) (λ x y. refl)
+    (scanned (λ r. [] ∷ r ∷ []) all_operators_query.filter all_operators_query.project (columns 2) (λ r. true) (λ r. refl) (λ r. refl) (old.now.trees 0) ∙ every (map (columns 2) (old.now.trees 0)))
+
+pub plan_of : (operator : List ℕ) (id : List ℕ) (old new : State) (rows : List Row) → IsDesk old.now → Shown plan_of_text (Text operator ∷ Text id ∷ []) old new rows → Lists [] (filter (is_of operator id) (tables_of old.now.trees).plans) rows
+plan_of operator id old new rows desk h =
+    lists plan_of_text _ _ _ _ _ plan_of_is (Text operator ∷ Text id ∷ []) old new rows desk h [] _ (λ e. refl) (λ x y. refl)
+    (scanned (λ r. (Text operator ∷ Text id ∷ []) ∷ r ∷ []) plan_of_query.filter plan_of_query.project (columns 5) (is_of operator id) (λ r. refl) (λ r. ap₂ (λ a b. a && b) (equals_text (column r 1) operator) (both_hold _ ∙ equals_text (column r 2) id)) (old.now.trees 2))
+
+pub all_plans : (old new : State) (rows : List Row) → IsDesk old.now → Shown all_plans_text ([]) old new rows → Lists (0 ∷ 1 ∷ []) ((tables_of old.now.trees).plans) rows
+all_plans old new rows desk h =
+    lists all_plans_text _ _ _ _ _ all_plans_is ([]) old new rows desk h (0 ∷ 1 ∷ []) _ (λ e. refl) (λ x y. refl)
+    (scanned (λ r. [] ∷ r ∷ []) all_plans_query.filter all_plans_query.project (columns 5) (λ r. true) (λ r. refl) (λ r. refl) (old.now.trees 2) ∙ every (map (columns 5) (old.now.trees 2)))
+
+pub volumes_of : (operator : List ℕ) (id : List ℕ) (old new : State) (rows : List Row) → IsDesk old.now → Shown volumes_of_text (Text operator ∷ Text id ∷ []) old new rows → Lists (2 ∷ []) (filter (is_of operator id) (tables_of old.now.trees).volumes) rows
+volumes_of operator id old new rows desk h =
+    lists volumes_of_text _ _ _ _ _ volumes_of_is (Text operator ∷ Text id ∷ []) old new rows desk h (2 ∷ []) _ (λ e. refl) (λ x y. refl)
+    (scanned (λ r. (Text operator ∷ Text id ∷ []) ∷ r ∷ []) volumes_of_query.filter volumes_of_query.project (columns 8) (is_of operator id) (λ r. refl) (λ r. ap₂ (λ a b. a && b) (equals_text (column r 1) operator) (both_hold _ ∙ equals_text (column r 2) id)) (old.now.trees 4))
+
+pub all_volumes : (old new : State) (rows : List Row) → IsDesk old.now → Shown all_volumes_text ([]) old new rows → Lists (0 ∷ 1 ∷ 2 ∷ []) ((tables_of old.now.trees).volumes) rows
+all_volumes old new rows desk h =
+    lists all_volumes_text _ _ _ _ _ all_volumes_is ([]) old new rows desk h (0 ∷ 1 ∷ 2 ∷ []) _ (λ e. refl) (λ x y. refl)
+    (scanned (λ r. [] ∷ r ∷ []) all_volumes_query.filter all_volumes_query.project (columns 8) (λ r. true) (λ r. refl) (λ r. refl) (old.now.trees 4) ∙ every (map (columns 8) (old.now.trees 4)))
+
+pub all_spans : (old new : State) (rows : List Row) → IsDesk old.now → Shown all_spans_text ([]) old new rows → Lists (0 ∷ 1 ∷ 2 ∷ 3 ∷ []) ((tables_of old.now.trees).spans) rows
+all_spans old new rows desk h =
+    lists all_spans_text _ _ _ _ _ all_spans_is ([]) old new rows desk h (0 ∷ 1 ∷ 2 ∷ 3 ∷ []) _ (λ e. refl) (λ x y. refl)
+    (scanned (λ r. [] ∷ r ∷ []) all_spans_query.filter all_spans_query.project (columns 10) (λ r. true) (λ r. refl) (λ r. refl) (old.now.trees 6) ∙ every (map (columns 10) (old.now.trees 6)))
+
+pub own_plans : (operator : List ℕ) (old new : State) (rows : List Row) → IsDesk old.now → Shown own_plans_text (Text operator ∷ []) old new rows → Lists (1 ∷ 5 ∷ []) (with_volumes (is_by operator) (tables_of old.now.trees)) rows
+own_plans operator old new rows desk h =
+    lists own_plans_text _ _ _ _ _ own_plans_is (Text operator ∷ []) old new rows desk h (1 ∷ 5 ∷ []) _ (λ e. refl) (λ x y. refl)
+    (joined_rows (Text operator ∷ []) own_plans_query.filter own_plans_query.project (is_by operator) (λ p s. refl) (λ p s. own_test operator p s) (old.now.trees 2) (old.now.trees 4))
+
+pub rivals : (operator : List ℕ) (id : List ℕ) (old new : State) (rows : List Row) → IsDesk old.now → Shown rivals_text (Text operator ∷ Text id ∷ []) old new rows → Lists (0 ∷ 1 ∷ 5 ∷ []) (with_volumes (is_rival operator id) (tables_of old.now.trees)) rows
+rivals operator id old new rows desk h =
+    lists rivals_text _ _ _ _ _ rivals_is (Text operator ∷ Text id ∷ []) old new rows desk h (0 ∷ 1 ∷ 5 ∷ []) _ (λ e. refl) (λ x y. refl)
+    (joined_rows (Text operator ∷ Text id ∷ []) rivals_query.filter rivals_query.project (is_rival operator id) (λ p s. refl) (λ p s. rivals_test operator id p s) (old.now.trees 2) (old.now.trees 4))

@@ -1,0 +1,22 @@
+-- What the texts mean, found by computing.
+use Rattle.std.proofs.Common.{◌≡◌, Ok, refl}
+use Rattle.sqlite.specs.Compile.{table_defined_by}
+use Rattle.sqlite_tied.specs.Compute.{everything}
+use Rattle.desk_sql.specs.Schema.{operator_table, plan_table, volume_table, span_table}
+use Rattle.desk_sql.proofs.Texts.{operator_text, plan_text, volume_text, span_text}
+
+pub operator_is : table_defined_by operator_text ≡ Ok operator_table
+unfolding everything
+operator_is = refl
+
+pub plan_is : table_defined_by plan_text ≡ Ok plan_table
+unfolding everything
+plan_is = refl
+
+pub volume_is : table_defined_by volume_text ≡ Ok volume_table
+unfolding everything
+volume_is = refl
+
+pub span_is : table_defined_by span_text ≡ Ok span_table
+unfolding everything
+span_is = refl

@@ -1,0 +1,71 @@
+-- The texts of the statements.
+use Rattle.std.specs.Prelude.{ℕ, List, codes}
+
+abbrev pub operator_text : List ℕ
+operator_text = codes "CREATE TABLE operator (name TEXT NOT NULL, ceiling INTEGER NOT NULL, PRIMARY KEY (name)) STRICT"
+
+abbrev pub plan_text : List ℕ
+plan_text = codes "CREATE TABLE plan (operator TEXT NOT NULL, id TEXT NOT NULL, priority INTEGER NOT NULL, usage INTEGER NOT NULL, aircraft INTEGER NOT NULL, PRIMARY KEY (operator, id), FOREIGN KEY (operator) REFERENCES operator (name)) STRICT"
+
+abbrev pub volume_text : List ℕ
+volume_text = codes "CREATE TABLE volume (operator TEXT NOT NULL, id TEXT NOT NULL, place INTEGER NOT NULL, lower INTEGER NOT NULL, upper INTEGER NOT NULL, start INTEGER NOT NULL, stop INTEGER NOT NULL, asked BLOB NOT NULL, PRIMARY KEY (operator, id, place), FOREIGN KEY (operator, id) REFERENCES plan (operator, id) ON DELETE CASCADE) STRICT"
+
+abbrev pub span_text : List ℕ
+span_text = codes "CREATE TABLE span (operator TEXT NOT NULL, id TEXT NOT NULL, place INTEGER NOT NULL, first INTEGER NOT NULL, last INTEGER NOT NULL, lower INTEGER NOT NULL, upper INTEGER NOT NULL, start INTEGER NOT NULL, stop INTEGER NOT NULL, priority INTEGER NOT NULL, PRIMARY KEY (operator, id, place, first), FOREIGN KEY (operator, id) REFERENCES plan (operator, id) ON DELETE CASCADE) STRICT"
+
+abbrev pub operator_named_text : List ℕ
+operator_named_text = codes "SELECT name, ceiling FROM operator WHERE name = ?1"
+
+abbrev pub all_operators_text : List ℕ
+all_operators_text = codes "SELECT name, ceiling FROM operator ORDER BY name"
+
+abbrev pub plan_of_text : List ℕ
+plan_of_text = codes "SELECT operator, id, priority, usage, aircraft FROM plan WHERE operator = ?1 AND id = ?2"
+
+abbrev pub all_plans_text : List ℕ
+all_plans_text = codes "SELECT operator, id, priority, usage, aircraft FROM plan ORDER BY operator, id"
+
+abbrev pub volumes_of_text : List ℕ
+volumes_of_text = codes "SELECT operator, id, place, lower, upper, start, stop, asked FROM volume WHERE operator = ?1 AND id = ?2 ORDER BY place"
+
+abbrev pub all_volumes_text : List ℕ
+all_volumes_text = codes "SELECT operator, id, place, lower, upper, start, stop, asked FROM volume ORDER BY operator, id, place"
+
+abbrev pub all_spans_text : List ℕ
+all_spans_text = codes "SELECT operator, id, place, first, last, lower, upper, start, stop, priority FROM span ORDER BY operator, id, place, first"
+
+abbrev pub own_plans_text : List ℕ
+own_plans_text = codes "SELECT plan.operator, plan.id, plan.priority, plan.usage, plan.aircraft, volume.place, volume.lower, volume.upper, volume.start, volume.stop, volume.asked FROM plan JOIN volume ON volume.operator = plan.operator AND volume.id = plan.id WHERE plan.operator = ?1 ORDER BY plan.id, volume.place"
+
+abbrev pub rivals_text : List ℕ
+rivals_text = codes "SELECT plan.operator, plan.id, plan.priority, plan.usage, plan.aircraft, volume.place, volume.lower, volume.upper, volume.start, volume.stop, volume.asked FROM plan JOIN volume ON volume.operator = plan.operator AND volume.id = plan.id WHERE plan.usage <> 2 AND (plan.operator <> ?1 OR plan.id <> ?2) ORDER BY plan.operator, plan.id, volume.place"
+
+abbrev pub own_count_text : List ℕ
+own_count_text = codes "SELECT count(*) FROM plan WHERE operator = ?1"
+
+abbrev pub insert_operator_text : List ℕ
+insert_operator_text = codes "INSERT INTO operator (name, ceiling) VALUES (?1, ?2)"
+
+abbrev pub insert_plan_text : List ℕ
+insert_plan_text = codes "INSERT INTO plan (operator, id, priority, usage, aircraft) VALUES (?1, ?2, ?3, ?4, ?5)"
+
+abbrev pub insert_volume_text : List ℕ
+insert_volume_text = codes "INSERT INTO volume (operator, id, place, lower, upper, start, stop, asked) VALUES (?1, ?2, ?3, ?4, ?5, ?6, ?7, ?8)"
+
+abbrev pub insert_span_text : List ℕ
+insert_span_text = codes "INSERT INTO span (operator, id, place, first, last, lower, upper, start, stop, priority) VALUES (?1, ?2, ?3, ?4, ?5, ?6, ?7, ?8, ?9, ?10)"
+
+abbrev pub set_ceiling_text : List ℕ
+set_ceiling_text = codes "UPDATE operator SET ceiling = ?2 WHERE name = ?1"
+
+abbrev pub close_plan_text : List ℕ
+close_plan_text = codes "UPDATE plan SET priority = ?3, usage = 2, aircraft = ?4 WHERE operator = ?1 AND id = ?2"
+
+abbrev pub remove_plan_text : List ℕ
+remove_plan_text = codes "DELETE FROM plan WHERE operator = ?1 AND id = ?2"
+
+abbrev pub remove_spans_text : List ℕ
+remove_spans_text = codes "DELETE FROM span WHERE operator = ?1 AND id = ?2"
+
+abbrev pub plans_by_text : List ℕ
+plans_by_text = codes "SELECT operator, id, priority, usage, aircraft FROM plan WHERE operator = ?1"

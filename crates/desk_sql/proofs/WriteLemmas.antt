@@ -1,0 +1,144 @@
+-- From what a statement that writes does to the rows of the tables.
+use Rattle.std.proofs.Common.{◌≡◌, ◌≢◌, ◌⊎◌, inl, inr, ℕ, ◌/◌, ℤ, List, [], ◌∷◌, ◌++◌, length, Bool, true, false, not, cond, ◌&&◌, None, Option, Ok, Err, Result, refl, sym, ap, subst, ◌∙◌}
+use Rattle.std.specs.List.{AllByRecursion}
+use Rattle.sqlite.specs.Order.{Row}
+use Rattle.sqlite.specs.declared.types.Value.{Value}
+use Rattle.sqlite.specs.declared.types.Value.TheVariants.{Null, Int}
+use Rattle.sqlite.specs.Term.{Term}
+use Rattle.sqlite.specs.Ops.{unary}
+use Rattle.sqlite.specs.Cast.{cast, cast_row}
+use Rattle.sqlite.specs.Kind.TheVariants.{Integer}
+use Rattle.sqlite.specs.Tree.{Trees, rowid, put_row}
+use Rattle.sqlite.specs.View.{is_int}
+use Rattle.sqlite.specs.Table.{Table}
+use Rattle.sqlite.specs.Edit.{edit_of, is_taken, with_rowid, Applies}
+use Rattle.sqlite.specs.Rowids.TheVariants.{Chosen}
+use Rattle.sqlite.specs.Command.{Command}
+use Rattle.sqlite.specs.Command.TheVariants.{Insert, Update, Delete}
+use Rattle.sqlite.specs.Source.{Source}
+use Rattle.sqlite.specs.Source.TheVariants.{Values}
+use Rattle.sqlite_schema.specs.declared.schema.Column.{Column}
+use Rattle.sqlite_schema.specs.declared.schema.Reference.{Reference}
+use Rattle.sqlite_schema.specs.declared.schema.Keys.TheVariants.{Enforced}
+use Rattle.sqlite_schema.specs.declared.program.Program.{Program}
+use Rattle.sqlite.specs.declared.run.Mode.{Mode}
+use Rattle.sqlite.specs.Effect.{Database, value_rows}
+use Rattle.sqlite.specs.Does.{Tally, Does, OnRows, WritesRows}
+use Rattle.sqlite.specs.Rows.{Written, Task, Inserts}
+use Rattle.sqlite.specs.State.{State, HasCleanDisk, Executes, Writes, Shows}
+use Rattle.sqlite.specs.Store.{Ghosts}
+use Rattle.sqlite.specs.Held.{Held, state}
+use Rattle.sqlite.specs.Listing.{understood}
+use Rattle.sqlite.proofs.Callers.{statement_of, runs_as, one_step}
+use Rattle.sqlite_rules.proofs.ActionLemmas.{no_works}
+use Rattle.desk_sql.specs.Schema.{desk_schema, table_of}
+use Rattle.desk_sql.specs.Rows.{IsDesk, Tables, tables_of}
+use Rattle.desk_sql.specs.Effects.{IsReady, Makes}
+use Rattle.desk_sql.proofs.CommandTexts.{IsCommand}
+
+-- a part that gave a value did not stop on the way
+pub went : {B E R : Type 0} {b : B} {Stops : E → Type 0} → ((stop : E) × Stops stop × (Ok b ≡ Err stop)) ⊎ R → R
+went (inl stopped) = absurd (let e = stopped.2 in cc)
+went (inr on) = on
+
+pub same_value : {B E : Type 0} {a b : B} → ◌≡◌ {A = Result B E} (Ok a) (Ok b) → a ≡ b
+same_value e = cc
+
+abbrev pub enforced : Mode
+enforced = record { keys = Enforced; in_doubt = false; may_wait = false }
+
+-- ---- from the text to what is done
+
+module _ (text : List ℕ) (params : Row) (old new : State) (desk : IsDesk old.now) where
+  abbrev pub Did : Command → Type 0
+  Did command = (tally : Tally) × Does old.step_limit enforced params (record { schema = desk_schema; trees = old.now.trees }) (statement_of text (understood desk_schema text)) None command (Ok (tally, new.now))
+
+  did : (command : Command) (count : ℕ) → Writes old new None command (statement_of text (understood desk_schema text)) params count → Did command
+  did command count w =
+      (w.tally, subst (λ s. Does old.step_limit enforced params (record old.now { schema = s }) (statement_of text (understood desk_schema text)) None command (Ok (w.tally, new.now))) desk.schema w.changed)
+
+  pub inserts : (at : ℕ) (from : Source) → IsCommand text (Insert at from) → (count : ℕ) → Executes text params old new (Ok count) → Did (Insert at from)
+  inserts at from known count h = did (Insert at from) count (runs_as text params old new desk_schema desk.schema (Insert at from) known.is known.plain count h)
+
+  pub deletes : (at : ℕ) (q : Program) → IsCommand text (Delete at q) → (count : ℕ) → Executes text params old new (Ok count) → Did (Delete at q)
+  deletes at q known count h = did (Delete at q) count (runs_as text params old new desk_schema desk.schema (Delete at q) known.is known.plain count h)
+
+  pub updates : (at : ℕ) (q : Program) → IsCommand text (Update at q) → (count : ℕ) → Executes text params old new (Ok count) → Did (Update at q)
+  updates at q known count h = did (Update at q) count (runs_as text params old new desk_schema desk.schema (Update at q) known.is known.plain count h)
+
+-- what it writes is what is there then
+pub rows_written : (task : Task) (command : Command) (db : Trees) (tally : Tally) (now : Database) → OnRows task enforced None command db (Ok (tally, now))
+    → (w : Written) × WritesRows task db command (Ok w) × (now ≡ record { schema = task.schema; trees = w.trees })
+rows_written task command db tally now h =
+    let done = went h in
+    let tested = went done.2 in
+    let returned = went tested.2 in
+    (done.0, done.1, ap (λ (p : Tally × Database). p.1) (same_value returned.2))
+
+-- ---- INSERT
+
+module _ (limit : Option ℕ) (params : Row) (name : List ℕ) (cols : List Column) (key : List ℕ) (refs : List Reference) (tree : ℕ) where
+  abbrev pub table_at : Table
+  table_at = record (table_of name cols key refs) { tree = tree }
+
+  abbrev pub task_at : Task
+  task_at = record { limit = limit; keys = Enforced; schema = desk_schema; table = table_at; params = params }
+
+  pub insert_applies : (terms : List Term) (width : ℕ) (db : Trees) (w : Written) (source : Row) → value_rows (params ++ []) width (length terms / width) terms ≡ source ∷ []
+      → Inserts task_at (Values terms width) db (Ok w) → Applies desk_schema Enforced db (edit_of db table_at [] Chosen 0 (source ∷ [])) w.trees
+  insert_applies terms width db w source one h =
+      let given = went h in
+      let counter = went given.2 in
+      let written = went counter.2 in
+      let counted = went written.2 in
+      let rows : given.0 ≡ source ∷ [] = given.1.1 ∙ one in
+      let step = one_step desk_schema Enforced db written.0 (edit_of db table_at [] Chosen 0 given.0) (no_works desk_schema Enforced 0 tree (edit_of db table_at [] Chosen 0 given.0).news) written.1 in
+      let trees : w.trees ≡ written.0 = ap (λ (it : Written). it.trees) (same_value counted.2) ∙ same_value counted.1 in
+      subst (λ rs. Applies desk_schema Enforced db (edit_of db table_at [] Chosen 0 rs) w.trees) rows (subst (Applies desk_schema Enforced db (edit_of db table_at [] Chosen 0 given.0)) (sym trees) step)
+
+-- one row came to a tree, under a rowid that was free
+pub record Adds (tree : ℕ) (new : Row) (db next : Trees) : Type 0 where
+  pub at : next tree ≡ put_row new (db tree)
+  pub free : is_taken (db tree) new ≡ false
+  pub whole : is_int (rowid new) ≡ true
+  pub others : AllByRecursion (λ (t : Table). t.tree ≢ tree → next t.tree ≡ db t.tree) desk_schema.tables
+
+and_first : (a b : Bool) → (a && b) ≡ true → a ≡ true
+and_first true b h = refl
+and_first false b h = cc
+
+not_true : (a : Bool) → not a ≡ true → a ≡ false
+not_true true h = cc
+not_true false h = refl
+
+pub adds : (name : List ℕ) (cols : List Column) (key : List ℕ) (refs : List Reference) (tree : ℕ) (db next : Trees) (source : Row) → Applies desk_schema Enforced db (edit_of db (table_at None [] name cols key refs tree) [] Chosen 0 (source ∷ [])) next
+    → Adds tree (with_rowid Chosen (db tree) (cast_row (table_at None [] name cols key refs tree) source)) db next
+adds name cols key refs tree db next source h = record {
+  at = h.rows;
+  free = not_true _ (and_first _ _ h.fresh);
+  whole = and_first _ _ h.keyed;
+  others = h.tables;
+}
+
+-- ---- what a column makes of a value
+
+either : (b : Bool) (x : Value) → cond b x x ≡ x
+either true x = refl
+either false x = refl
+
+pub cast_null : cast Integer Null ≡ Null
+unfolding unary
+cast_null = either _ Null
+
+pub cast_int : (n : ℤ) → cast Integer (Int n) ≡ Int n
+unfolding unary
+cast_int n = either _ (Int n)
+
+-- ---- the statement's effect, from what its text does
+
+module _ {S : Type 0} (g : Ghosts S) (old new : Held S) (ready : IsReady g old) (clean : HasCleanDisk (state g old)) (Changes : Tables → Tables → Type 0)
+    (shows : Shows (state g old) (state g new) (state g new).now (state g old).committed true) where
+  pub makes : (IsDesk (state g old).now → IsDesk (state g new).now × Changes (tables_of (state g old).now.trees) (tables_of (state g new).now.trees)) → Makes g old new Changes
+  makes gives =
+      let done = gives (ready clean shows.was_open) in
+      record { was_open = shows.was_open; is_open = shows.is_open; begun = shows.mode; committed = shows.committed_is; desk = done.0; changed = done.1 }

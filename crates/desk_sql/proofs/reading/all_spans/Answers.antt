@@ -1,0 +1,14 @@
+use Rattle.std.proofs.Common.{arith, [], ◌∷◌}
+use Rattle.sqlite.specs.Held.{state}
+use Rattle.desk_sql.specs.Rows.{tables_of, Lists}
+use Rattle.desk_sql.proofs.QueryTexts.{all_spans_is}
+use Rattle.desk_sql.proofs.StatementLemmas.{if_shown, all_spans}
+use Rattle.desk_sql.proofs.reading.all_spans.Goals as goal
+
+pub answer-requires-clause-plain : goal.answer-requires-clause-plain
+answer-requires-clause-plain g c = all_spans_is.plain
+
+pub returns-clause-value : goal.returns-clause-value
+returns-clause-value g c clean =
+    if_shown g.S.Store c.args.connection.now c.answer.new.connection (λ v. v.items) _ _ (Lists (0 ∷ 1 ∷ 2 ∷ 3 ∷ []) ((tables_of (state g.S.Store c.args.connection.now).now.trees).spans)) c.requires.ready (omega (arith, c.answer.ensures.doubt, clean))
+    (all_spans (state g.S.Store c.args.connection.now) (state g.S.Store c.answer.new.connection)) c.answer.result (c.answer.ensures.shown clean)

@@ -1,0 +1,32 @@
+-- Several rows at once.
+use Rattle.std.specs.Prelude.{◌≡◌, ℕ, List, ◌∷◌, ◌++◌, filter, IsTrue, IsPermutation}
+use Rattle.sqlite.specs.Order.{Row}
+use Rattle.sqlite.specs.Store.{Ghosts}
+use Rattle.sqlite.specs.State.{HasCleanDisk}
+use Rattle.sqlite.specs.Held.{Held, state}
+use Rattle.desk_sql.specs.declared.writing.VolumeRow.{VolumeRow}
+use Rattle.desk_sql.specs.declared.writing.SpanRow.{SpanRow}
+use Rattle.desk_sql.specs.Rows.{IsDesk, Tables, is_not_of, left_without, volume_row, span_row}
+
+abbrev pub volume_of : VolumeRow → Row
+volume_of v = volume_row v.operator.now v.id.now v.place v.lower v.upper v.start v.stop v.asked.now
+
+abbrev pub span_of : SpanRow → Row
+span_of s = span_row s.operator.now s.id.now s.place s.first s.last s.lower s.upper s.start s.stop s.priority
+
+abbrev pub AddsVolumes : List Row → Tables → Tables → Type 0
+AddsVolumes rows old new = IsPermutation (rows ++ old.volumes) new.volumes × (new ≡ record old { volumes = new.volumes })
+
+abbrev pub AddsSpans : List Row → Tables → Tables → Type 0
+AddsSpans rows old new = IsPermutation (rows ++ old.spans) new.spans × (new ≡ record old { spans = new.spans })
+
+-- a transaction goes on over a desk's tables
+abbrev pub IsUnderWay : {S : Type 0} → Ghosts S → Held S → Type 0
+IsUnderWay g h = HasCleanDisk (state g h) → IsTrue (state g h).is_open × IsTrue h.in_transaction × IsDesk (state g h).now
+
+-- what there was of the plan goes, and this comes
+pub record PutsPlan (operator id : List ℕ) (plan : Row) (volumes spans : List Row) (old new : Tables) : Type 0 where
+  pub operators : new.operators ≡ old.operators
+  pub plans : IsPermutation (plan ∷ filter (is_not_of operator id) old.plans) new.plans
+  pub with_volumes : IsPermutation (volumes ++ left_without operator id old old.volumes) new.volumes
+  pub with_spans : IsPermutation (spans ++ left_without operator id old old.spans) new.spans

@@ -1,0 +1,161 @@
+-- The rows of the four tables, as a caller sees them.
+use Rattle.std.specs.Prelude.{◌≡◌, ℕ, ℤ, pos, Bool, true, false, ◌&&◌, ◌||◌, not, List, [], ◌∷◌, map, drop, filter, ◌++◌, IsPermutation, IsSorted, if◌then◌else◌}
+use Rattle.std.specs.Ordering.{is_eq, ordering_then}
+use Rattle.std.specs.declared.cmp.Ordering.{Ordering}
+use Rattle.std.specs.declared.cmp.Ordering.TheVariants.{Equal}
+use Rattle.sqlite.specs.Ops.{is_null}
+use Rattle.std.specs.List.{AllByRecursion, flat_map, list_any, range_with_len}
+use Rattle.sqlite.specs.declared.types.Value.{Value}
+use Rattle.sqlite.specs.declared.types.Value.TheVariants.{Int, Text, Blob}
+use Rattle.sqlite.specs.Order.{Row, column, value_cmp}
+use Rattle.sqlite.specs.Tree.{Trees, rowid, IsAscending}
+use Rattle.sqlite.specs.View.{is_int}
+use Rattle.sqlite.specs.Effect.{Database}
+use Rattle.desk_sql.specs.Schema.{desk_schema}
+
+-- ---- what a row holds
+
+abbrev pub operator_row : List ℕ → ℕ → Row
+operator_row name ceiling = Text name ∷ Int (pos ceiling) ∷ []
+
+abbrev pub plan_row : List ℕ → List ℕ → ℕ → ℕ → ℕ → Row
+plan_row operator id priority usage aircraft = Text operator ∷ Text id ∷ Int (pos priority) ∷ Int (pos usage) ∷ Int (pos aircraft) ∷ []
+
+abbrev pub volume_row : List ℕ → List ℕ → ℕ → ℤ → ℤ → ℤ → ℤ → List ℕ → Row
+volume_row operator id place lower upper start stop asked =
+    Text operator ∷ Text id ∷ Int (pos place) ∷ Int lower ∷ Int upper ∷ Int start ∷ Int stop ∷ Blob asked ∷ []
+
+abbrev pub span_row : List ℕ → List ℕ → ℕ → ℤ → ℤ → ℤ → ℤ → ℤ → ℤ → ℕ → Row
+span_row operator id place first last lower upper start stop priority =
+    Text operator ∷ Text id ∷ Int (pos place) ∷ Int first ∷ Int last ∷ Int lower ∷ Int upper ∷ Int start ∷ Int stop ∷ Int (pos priority) ∷ []
+
+-- ---- what a row is asked
+
+abbrev pub is_text : Value → List ℕ → Bool
+is_text v text = is_eq (value_cmp v (Text text))
+
+-- the first column: the name of an operator, or of the operator whose row it is
+abbrev pub is_by : List ℕ → Row → Bool
+is_by operator row = is_text (column row 0) operator
+
+-- of this plan: of `plan`, `volume` and `span`
+abbrev pub is_of : List ℕ → List ℕ → Row → Bool
+is_of operator id row = is_by operator row && is_text (column row 1) id
+
+abbrev pub is_not_of : List ℕ → List ℕ → Row → Bool
+is_not_of operator id row = not (is_of operator id row)
+
+-- ---- the tables
+
+-- the rows of each table, as a query shows them: without their rowids
+pub record Tables : Type 0 where
+  pub operators : List Row
+  pub plans : List Row
+  pub volumes : List Row
+  pub spans : List Row
+
+-- so many columns of a stored row, which begins with its rowid
+abbrev pub columns : ℕ → Row → Row
+columns width row = map (column row) (range_with_len 1 width)
+
+abbrev pub tables_of : Trees → Tables
+tables_of db = record { operators = map (columns 2) (db 0); plans = map (columns 5) (db 2); volumes = map (columns 8) (db 4); spans = map (columns 10) (db 6) }
+
+-- ---- changes of the tables
+
+abbrev pub AddsOperator : Row → Tables → Tables → Type 0
+AddsOperator row old new = IsPermutation (row ∷ old.operators) new.operators × (new ≡ record old { operators = new.operators })
+
+abbrev pub AddsPlan : Row → Tables → Tables → Type 0
+AddsPlan row old new = IsPermutation (row ∷ old.plans) new.plans × (new ≡ record old { plans = new.plans })
+
+abbrev pub AddsVolume : Row → Tables → Tables → Type 0
+AddsVolume row old new = IsPermutation (row ∷ old.volumes) new.volumes × (new ≡ record old { volumes = new.volumes })
+
+abbrev pub AddsSpan : Row → Tables → Tables → Type 0
+AddsSpan row old new = IsPermutation (row ∷ old.spans) new.spans × (new ≡ record old { spans = new.spans })
+
+-- what goes with the plan, if it is there
+abbrev pub left_without : List ℕ → List ℕ → Tables → List Row → List Row
+left_without operator id old rows = if list_any (is_of operator id) old.plans then filter (is_not_of operator id) rows else rows
+
+-- the plan goes, and its volumes and spans with it
+abbrev pub RemovesPlan : List ℕ → List ℕ → Tables → Tables → Type 0
+RemovesPlan operator id old new =
+    new ≡ record {
+      operators = old.operators;
+      plans = filter (is_not_of operator id) old.plans;
+      volumes = left_without operator id old old.volumes;
+      spans = left_without operator id old old.spans;
+    }
+
+abbrev pub RemovesSpans : List ℕ → List ℕ → Tables → Tables → Type 0
+RemovesSpans operator id old new = new ≡ record old { spans = filter (is_not_of operator id) old.spans }
+
+-- this row in place of each that passes
+abbrev pub with_row : (Row → Bool) → Row → List Row → List Row
+with_row p row = map (λ r. if p r then row else r)
+
+abbrev pub SetsOperators : (Row → Bool) → Row → Tables → Tables → Type 0
+SetsOperators p row old new = IsPermutation (with_row p row old.operators) new.operators × (new ≡ record old { operators = new.operators })
+
+abbrev pub SetsPlans : (Row → Bool) → Row → Tables → Tables → Type 0
+SetsPlans p row old new = IsPermutation (with_row p row old.plans) new.plans × (new ≡ record old { plans = new.plans })
+
+-- the operator's row is set, or added where there is none with its name
+abbrev pub PutsOperator : List ℕ → ℕ → Tables → Tables → Type 0
+PutsOperator name ceiling old new =
+    IsPermutation (if list_any (is_by name) old.operators then with_row (is_by name) (operator_row name ceiling) old.operators else operator_row name ceiling ∷ old.operators) new.operators
+    × (new ≡ record old { operators = new.operators })
+
+-- the plan's row is set to the usage Closed, and its spans go
+pub record ClosesPlan (operator id : List ℕ) (priority aircraft : ℕ) (old new : Tables) : Type 0 where
+  pub operators : new.operators ≡ old.operators
+  pub plans : IsPermutation (with_row (is_of operator id) (plan_row operator id priority 2 aircraft) old.plans) new.plans
+  pub volumes : new.volumes ≡ old.volumes
+  pub spans : new.spans ≡ filter (is_not_of operator id) old.spans
+
+-- rowids are whole numbers, and none comes twice: what makes a DELETE remove just the rows that it names
+pub record AreNumbered (rows : List Row) : Type 0 where
+  pub whole : AllByRecursion (λ r. is_int (rowid r) ≡ true) rows
+  pub distinct : IsAscending (λ a b. is_eq (value_cmp (rowid a) (rowid b)) ≡ false) rows
+
+-- as SQL's = and <>, which are not true of NULL
+abbrev pub is_same : Value → Value → Bool
+is_same a b = not (is_null a) && is_eq (value_cmp a b)
+
+abbrev pub differs : Value → Value → Bool
+differs a b = not (is_null a) && not (is_eq (value_cmp a b))
+
+-- the plan's columns, and then the volume's from `place` on
+abbrev pub joined : Row → Row → Row
+joined plan volume = plan ++ drop 2 volume
+
+abbrev pub has_volume : Row → Row → Bool
+has_volume plan volume = is_same (column volume 0) (column plan 0) && is_same (column volume 1) (column plan 1)
+
+-- each plan that is wanted with each of its volumes
+abbrev pub with_volumes : (Row → Bool) → Tables → List Row
+with_volumes wanted t = flat_map (λ p. map (joined p) (filter (has_volume p) t.volumes)) (filter wanted t.plans)
+
+-- a plan that is not closed, and not this one
+abbrev pub is_rival : List ℕ → List ℕ → Row → Bool
+is_rival operator id plan = differs (column plan 3) (Int (pos 2)) && (differs (column plan 0) (Text operator) || differs (column plan 1) (Text id))
+
+-- by these columns, in turn
+abbrev pub by_cells : List ℕ → Row → Row → Ordering
+by_cells [] a b = Equal
+by_cells (at ∷ more) a b = ordering_then (value_cmp (column a at) (column b at)) (by_cells more a b)
+
+-- an answer has just these rows, in the order of these columns
+pub record Lists (cells : List ℕ) (wanted rows : List Row) : Type 0 where
+  pub same : IsPermutation wanted rows
+  pub sorted : IsSorted (by_cells cells) rows
+
+-- a database with the desk's tables
+pub record IsDesk (db : Database) : Type 0 where
+  pub schema : db.schema ≡ desk_schema
+  pub operators : AreNumbered (db.trees 0)
+  pub plans : AreNumbered (db.trees 2)
+  pub volumes : AreNumbered (db.trees 4)
+  pub spans : AreNumbered (db.trees 6)

@@ -1,0 +1,57 @@
+ghost use Rattle.std.specs.Prelude.{◌≡◌, ◌≤◌, OnOk, OnErr, map};
+ghost use Rattle.sqlite.specs.View.{doubt};
+ghost use Rattle.sqlite.specs.State.{HasCleanDisk, KeepsCommit};
+ghost use Rattle.sqlite.specs.Held.{state};
+ghost use Rattle.desk_sql.specs.Batches.{volume_of, span_of, AddsVolumes, AddsSpans, IsUnderWay};
+ghost use Rattle.desk_sql.specs.Effects.{Makes};
+
+use crate::writing::{SpanRow, VolumeRow, insert_span, insert_volume};
+use sqlite::{Alter, Error, Transaction};
+
+/// Adds these rows to `volume`.
+pub fn insert_volumes<S: Alter>(
+    tx: &mut Transaction<'_, S>,
+    rows: &[VolumeRow<'_>],
+) -> Result<(), Error>
+    requires under_way { IsUnderWay S.Store tx.old.conn.now }
+    ensures same_reference { tx.new.conn.ghost_name ≡ tx.old.conn.ghost_name }
+    ensures done { HasCleanDisk (state S.Store tx.new.conn.now)
+        → OnOk result (Makes S.Store tx.old.conn.now tx.new.conn.now (AddsVolumes
+        (map volume_of rows.now))) }
+    ensures undone { HasCleanDisk (state S.Store tx.new.conn.now)
+        → OnErr result (KeepsCommit (state S.Store tx.old.conn.now)
+        (state S.Store tx.new.conn.now)) }
+    ensures doubt { doubt (state S.Store tx.old.conn.now).is_clean ≤ doubt
+        (state S.Store tx.new.conn.now).is_clean }
+    ensures faults { (state S.Store tx.old.conn.now).faults ≤
+        (state S.Store tx.new.conn.now).faults }
+{
+    'rows: for row in rows {
+        insert_volume(tx, *row)?;
+    }
+    Ok(())
+}
+
+/// Adds these rows to `span`.
+pub fn insert_spans<S: Alter>(
+    tx: &mut Transaction<'_, S>,
+    rows: &[SpanRow<'_>],
+) -> Result<(), Error>
+    requires under_way { IsUnderWay S.Store tx.old.conn.now }
+    ensures same_reference { tx.new.conn.ghost_name ≡ tx.old.conn.ghost_name }
+    ensures done { HasCleanDisk (state S.Store tx.new.conn.now)
+        → OnOk result (Makes S.Store tx.old.conn.now tx.new.conn.now (AddsSpans
+        (map span_of rows.now))) }
+    ensures undone { HasCleanDisk (state S.Store tx.new.conn.now)
+        → OnErr result (KeepsCommit (state S.Store tx.old.conn.now)
+        (state S.Store tx.new.conn.now)) }
+    ensures doubt { doubt (state S.Store tx.old.conn.now).is_clean ≤ doubt
+        (state S.Store tx.new.conn.now).is_clean }
+    ensures faults { (state S.Store tx.old.conn.now).faults ≤
+        (state S.Store tx.new.conn.now).faults }
+{
+    'rows: for row in rows {
+        insert_span(tx, *row)?;
+    }
+    Ok(())
+}

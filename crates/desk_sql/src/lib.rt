@@ -1,0 +1,29 @@
+//! The desk's tables: their schema, and each statement as a function whose contract speaks of rows.
+#![tactic(auto)]
+
+mod answer;
+mod batch;
+mod changing;
+mod counting;
+mod making;
+mod reading;
+mod removing;
+mod run;
+mod setting;
+mod writing;
+
+pub use changing::{clear_plan, close_plan, is_enrolled, put_operator, put_plan};
+pub use counting::own_count;
+pub use making::make_tables;
+pub use reading::{
+    all_operators, all_plans, all_spans, all_volumes, operator_named, own_plans, plan_of, rivals,
+    volumes_of,
+};
+pub use removing::{remove_plan, remove_spans};
+pub use setting::{set_ceiling, set_closed};
+pub use writing::{
+    PlanRow, SpanRow, VolumeRow, insert_operator, insert_plan, insert_span, insert_volume,
+};
+
+#[cfg(test)]
+mod tests;

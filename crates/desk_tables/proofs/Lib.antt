@@ -1,0 +1,14 @@
+pub mod IdLemmas
+pub mod ParseLemmas
+pub mod RowLemmas
+pub mod ContentLemmas
+pub mod FilterLemmas
+pub mod ChangeLemmas
+pub mod PutLemmas
+pub mod SetLemmas
+pub mod AfterLemmas
+pub mod ReadingLemmas
+pub mod StoreLemmas
+pub mod ListingLemmas
+pub mod JoinLemmas
+pub mod JoinedLemmas

@@ -1,0 +1,148 @@
+-- What stands after a query, and what its answer is of the world.
+use Rattle.std.proofs.Common.{◌≡◌, ℕ, pos, ◌≤◌, Bool, true, false, cond, List, [], ◌∷◌, map, Option, Some, None, Result, Ok, Err, IfOk, OnOk, refl, sym, ap, subst, ◌∙◌, arith, Less, Equal, Greater, IsPermutation, IsTrue}
+use Rattle.std.specs.List.{filter, find}
+use Rattle.std.specs.List.Sorted.{IsStrictlySortedBy}
+use Rattle.std.specs.Option.{option_map}
+use Rattle.std.specs.declared.cmp.Ordering.{Ordering}
+use Rattle.std.specs.Ordering.{is_eq}
+use Rattle.std.specs.Cmp.Lexicographic.{nat_list_cmp_total}
+use Rattle.std.proofs.lemmas.List.Elements.{recursion_from_All, All-from_recursion}
+use Rattle.std.proofs.lemmas.List.Sorted.{IsPermutation-refl, length_permutation, All-permutation, IsPermutation-trans}
+use Rattle.sqlite_trees.specs.declared.store.Store.{Ghosts}
+use Rattle.sqlite_trees.specs.View.{doubt}
+use Rattle.sqlite_value.specs.declared.value.Value.TheVariants.{Int}
+use Rattle.sqlite_value.specs.Order.{Row, column}
+use Rattle.sqlite_value.proofs.OrderLemmas.{value_cmp-Text}
+use Rattle.sqlite_keyed.proofs.ListLemmas.{IsPermutation-filter, filter_none}
+use Rattle.sqlite.specs.State.{HasCleanDisk}
+use Rattle.sqlite.specs.Held.{Held, state}
+use Rattle.desk_sql.specs.Rows as sql
+use Rattle.desk_sql.specs.Rows.{Tables, IsDesk, Lists, tables_of}
+use Rattle.desk_sql.specs.Effects.{IsKept, IsReady, Commits}
+use Rattle.desk_sql.specs.Making.{no_rows, AreEmpty}
+use Rattle.desk_store.specs.World.{Listed, World, text_cmp, listed_cmp, ceiling_of}
+use Rattle.desk_store.specs.OrderLaws.{all_weaker}
+use Rattle.desk_tables.specs.Tables.{operator_row, operator_rows, AreTables}
+use Rattle.desk_tables.specs.Content.{IsContent}
+use Rattle.desk_tables.specs.Lookups.{IsCeilingIn}
+use Rattle.desk_tables.specs.Store.{IsStanding, Stands}
+use Rattle.desk_tables.proofs.FilterLemmas.{turned}
+
+module _ {S : Type 0} (g : Ghosts S) (old new : Held S) (w : World) (stood : Stands g old w) where
+  pub is_ready : IsReady g old
+  is_ready clean live = (stood.standing clean live).desk
+
+  -- a query leaves what stands
+  pub still_stands : IsKept g old new → new.in_transaction ≡ false → doubt (state g old).is_clean ≤ doubt (state g new).is_clean → Stands g new w
+  still_stands kept mode rises = record { settled = mode; standing = λ clean live. standing clean live } where
+    standing : HasCleanDisk (state g new) → IsTrue (state g new).is_open → IsStanding g new w
+    standing clean live =
+        let shows = kept clean live in
+        let before = stood.standing (omega (arith, rises, clean)) shows.was_open in
+        record {
+          content = before.content;
+          desk = subst IsDesk (sym shows.now) before.desk;
+          tables = subst (λ db. AreTables (tables_of db.trees) w) (sym shows.now) before.tables;
+        }
+
+  -- and answers from what stands
+  pub stood_then : {V E : Type 0} (r : Result V E) → OnOk r (IsTrue (state g old).is_open) → doubt (state g old).is_clean ≤ doubt (state g new).is_clean → HasCleanDisk (state g new) → OnOk r (IsStanding g old w)
+  stood_then (Ok v) live rises clean = stood.standing (omega (arith, rises, clean)) live
+  stood_then (Err e) live rises clean = tt
+
+one_row : (r : Row) (rows : List Row) → IsPermutation (r ∷ []) rows → rows ≡ r ∷ []
+one_row r [] same = absurd (omega (arith, length_permutation (r ∷ []) [] same))
+one_row r (s ∷ []) same = ap (λ x. x ∷ []) (recursion_from_All (λ x. x ≡ r) (s ∷ []) (All-permutation (λ x. x ≡ r) (r ∷ []) (s ∷ []) same (All-from_recursion (λ x. x ≡ r) (r ∷ []) (refl, tt)))).0
+one_row r (s ∷ t ∷ rows) same = absurd (omega (arith, length_permutation (r ∷ []) (s ∷ t ∷ rows) same))
+
+no_row : (rows : List Row) → IsPermutation [] rows → rows ≡ []
+no_row [] same = refl
+no_row (r ∷ rows) same = absurd (omega (arith, length_permutation [] (r ∷ rows) same))
+
+-- ---- ceilings
+
+abbrev named : List ℕ → Listed → Bool
+named name l = is_eq (text_cmp name l.name)
+
+names_filtered : (name : List ℕ) (ls : List Listed) → filter (sql.is_by name) (map operator_row ls) ≡ map operator_row (filter (named name) ls)
+names_filtered name [] = refl
+names_filtered name (l ∷ ls) =
+    (λ i. cond (is_eq (value_cmp-Text l.name name i)) (operator_row l ∷ left) left)
+    ∙ ap (λ b. cond b (operator_row l ∷ left) left) (turned l.name name)
+    ∙ by_test (named name l) (names_filtered name ls) where
+      left : List Row
+      left = filter (sql.is_by name) (map operator_row ls)
+
+      by_test : (b : Bool) → left ≡ map operator_row (filter (named name) ls) → cond b (operator_row l ∷ left) left ≡ map operator_row (cond b (l ∷ filter (named name) ls) (filter (named name) ls))
+      by_test true ih = ap (λ rows. operator_row l ∷ rows) ih
+      by_test false ih = ih
+
+abbrev listed_or_none : Option Listed → List Listed
+listed_or_none None = []
+listed_or_none (Some l) = l ∷ []
+
+is_equal : (n : Ordering) → is_eq n ≡ true → n ≡ Equal
+is_equal Less f = cc
+is_equal Equal f = refl
+is_equal Greater f = cc
+
+one_named : (name : List ℕ) (ls : List Listed) → IsStrictlySortedBy listed_cmp ls → filter (named name) ls ≡ listed_or_none (find (named name) ls)
+unfolding IsStrictlySortedBy
+one_named name [] s = refl
+one_named name (l ∷ ls) s = by_test (named name l) refl (one_named name ls s.1) where
+  later : named name l ≡ true → filter (named name) ls ≡ []
+  later e = filter_none (named name) ls (all_weaker (λ k. listed_cmp l k ≡ Less) (λ k. named name k ≡ false) (λ k h. ap is_eq (nat_list_cmp_total.congr name l.name k.name (is_equal (text_cmp name l.name) e) ∙ h)) ls s.0)
+
+  by_test : (b : Bool) → named name l ≡ b → filter (named name) ls ≡ listed_or_none (find (named name) ls) → cond b (l ∷ filter (named name) ls) (filter (named name) ls) ≡ listed_or_none (cond b (Some l) (find (named name) ls))
+  by_test true e ih = ap (λ xs. l ∷ xs) (later e)
+  by_test false e ih = ih
+
+pub ceiling_is : (tables : Tables) (w : World) (name : List ℕ) (rows : List Row) (found : Option ℕ) → IsContent w → AreTables tables w
+    → Lists [] (filter (sql.is_by name) tables.operators) rows → IsCeilingIn rows found → found ≡ ceiling_of name w
+unfolding ceiling_of
+ceiling_is tables w name rows found h t lists read = by_found (find (named name) w.operators) found rows here read where
+  here : IsPermutation (map operator_row (listed_or_none (find (named name) w.operators))) rows
+  here = subst (λ xs. IsPermutation xs rows) (names_filtered name w.operators ∙ ap (map operator_row) (one_named name w.operators h.world.operators))
+      (IsPermutation-trans (filter (sql.is_by name) (operator_rows w)) (filter (sql.is_by name) tables.operators) rows (IsPermutation-filter (sql.is_by name) (operator_rows w) tables.operators t.operators) lists.same)
+
+  by_found : (listed : Option Listed) (found : Option ℕ) (rows : List Row) → IsPermutation (map operator_row (listed_or_none listed)) rows → IsCeilingIn rows found → found ≡ option_map (λ l. l.ceiling) listed
+  by_found None None rows same read = refl
+  by_found None (Some n) rows same (first, rest, are, is) = let none = no_row rows same in cc
+  by_found (Some l) None rows same read = let one = one_row (operator_row l) rows same in cc
+  by_found (Some l) (Some n) rows same (first, rest, are, is) =
+      let one = one_row (operator_row l) rows same in
+      let is_first : first ≡ operator_row l = cc in
+      let number : Int (pos n) ≡ Int (pos l.ceiling) = sym is ∙ ap (λ r. column r 1) is_first in
+      cc
+
+pub weaker : {V E : Type 0} {P Q : V → Type 0} (r : Result V E) → ((v : V) → P v → Q v) → IfOk r P → IfOk r Q
+weaker (Ok v) f h = f v h
+weaker (Err e) f h = tt
+
+-- ---- tables with no row
+
+abbrev nothing : World
+nothing = record { operators = []; plans = [] }
+
+nothing_is_content : IsContent nothing
+unfolding IsStrictlySortedBy
+nothing_is_content = record {
+  world = record { operators = tt; plans = tt; listed = tt; rows = λ o. omega arith; ceilings = tt; priorities = tt };
+  names = tt;
+  rows = tt;
+}
+
+nothing_has_no_rows : AreTables no_rows nothing
+nothing_has_no_rows = record {
+  operators = IsPermutation-refl [];
+  plans = IsPermutation-refl [];
+  volumes = IsPermutation-refl [];
+  spans = ([], refl, IsPermutation-refl []);
+}
+
+-- tables that were made stand for no operators and no plans
+pub made_stands : {S : Type 0} (g : Ghosts S) (old new : Held S) → new.in_transaction ≡ false → (HasCleanDisk (state g new) → Commits g old new AreEmpty) → Stands g new nothing
+made_stands g old new mode done = record {
+  settled = mode;
+  standing = λ clean live. record { content = nothing_is_content; desk = (done clean).desk; tables = subst (λ t. AreTables t nothing) (sym (done clean).changed) nothing_has_no_rows };
+}

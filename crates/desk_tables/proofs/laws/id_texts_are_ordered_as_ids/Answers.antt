@@ -1,0 +1,5 @@
+use Rattle.desk_tables.proofs.IdLemmas.{text_order}
+use Rattle.desk_tables.proofs.laws.id_texts_are_ordered_as_ids.Goals as goal
+
+pub returns : goal.returns
+returns c = text_order

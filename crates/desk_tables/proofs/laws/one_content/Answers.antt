@@ -1,0 +1,5 @@
+use Rattle.desk_tables.proofs.ContentLemmas.{one_world}
+use Rattle.desk_tables.proofs.laws.one_content.Goals as goal
+
+pub returns : goal.returns
+returns c = one_world c.one_shape.ensures

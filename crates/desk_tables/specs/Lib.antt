@@ -1,0 +1,6 @@
+pub mod Tables
+pub mod Content
+pub mod TableChanges
+pub mod Reading
+pub mod Lookups
+pub mod Store

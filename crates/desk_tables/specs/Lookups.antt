@@ -1,0 +1,20 @@
+-- What is taken from the rows of answers.
+use Rattle.std.specs.Prelude.{◌≡◌, ℕ, pos, List, [], ◌∷◌, Option, Some, None, MatchOption}
+use Rattle.std.specs.List.{find}
+use Rattle.sqlite_value.specs.declared.value.Value.TheVariants.{Int}
+use Rattle.sqlite_value.specs.Order.{Row, column}
+use Rattle.desk_store.specs.World.{Filed, World}
+use Rattle.desk_store.specs.Rows.{is_own}
+
+-- the number in the second column of the first row, or none where there is no row
+abbrev pub IsCeilingIn : List Row → Option ℕ → Type 0
+IsCeilingIn rows found =
+    MatchOption found (rows ≡ []) (λ n. (first : Row) × (rest : List Row) × (rows ≡ first ∷ rest) × (column first 1 ≡ Int (pos n)))
+
+-- the operator's plan of the id, as a list of none or one
+abbrev pub one_or_none : Option Filed → List Filed
+one_or_none None = []
+one_or_none (Some p) = p ∷ []
+
+abbrev pub own_of : List ℕ → List ℕ → World → List Filed
+own_of operator id w = one_or_none (find (is_own operator id) w.plans)

@@ -1,0 +1,92 @@
+-- The rows of a world in the four tables of schema 1.
+use Rattle.std.specs.Prelude.{◌≡◌, ℕ, ◌+◌, pos, List, [], ◌∷◌, ◌++◌, map, MatchBool}
+use Rattle.std.specs.List.{flat_map}
+use Rattle.std.specs.List.Sorted.{IsPermutation}
+use Rattle.uuid.specs.Text.{hyphenated_text, lower}
+use Rattle.sqlite_value.specs.Order.{Row}
+use Rattle.desk_sql.specs.Rows as sql
+use Rattle.desk_sql.specs.Rows.{Tables}
+use Rattle.s2_cover.specs.declared.spans.Span.{Span}
+use Rattle.s2_cover.specs.Ranges.{IsRanges}
+use Rattle.volume4d.specs.FootprintBytes.{footprint_bytes}
+use Rattle.volume4d.specs.Shape.{shape_positions}
+use Rattle.volume4d.specs.Volume.{Block}
+use Rattle.desk_rules.specs.declared.words.Usage.{Usage}
+use Rattle.desk_rules.specs.declared.words.Usage.TheVariants as usage
+use Rattle.desk_rules.specs.declared.words.Aircraft.{Aircraft}
+use Rattle.desk_rules.specs.declared.words.Aircraft.TheVariants as aircraft
+use Rattle.desk_rules.specs.Plan.{is_live}
+use Rattle.desk_store.specs.World.{Filed, Listed, World}
+
+-- 0 Planned, 1 InUse, 2 Closed
+abbrev pub usage_number : Usage → ℕ
+usage_number usage.Planned = 0
+usage_number usage.InUse = 1
+usage_number usage.Closed = 2
+
+-- 0 Nominal, 1 OffNominal, 2 Contingent
+abbrev pub aircraft_number : Aircraft → ℕ
+aircraft_number aircraft.Nominal = 0
+aircraft_number aircraft.OffNominal = 1
+aircraft_number aircraft.Contingent = 2
+
+-- the text of a plan's id: hyphenated, in lower case
+abbrev pub id_text : List ℕ → List ℕ
+id_text id = hyphenated_text lower id
+
+abbrev pub operator_row : Listed → Row
+operator_row l = sql.operator_row l.name l.ceiling
+
+abbrev pub plan_row : Filed → Row
+plan_row p =
+    sql.plan_row p.operator (id_text p.row.id) p.row.priority (usage_number p.row.usage) (aircraft_number p.row.aircraft)
+
+abbrev pub volume_row : Filed → ℕ → Block → Row
+volume_row p place v =
+    sql.volume_row p.operator (id_text p.row.id) place v.window.lower v.window.upper v.window.start v.window.end
+    (footprint_bytes v.footprint)
+
+abbrev pub span_row : Filed → ℕ → Block → Span → Row
+span_row p place v span =
+    sql.span_row p.operator (id_text p.row.id) place (pos span.first) (pos span.last) v.window.lower v.window.upper
+    v.window.start v.window.end p.row.priority
+
+abbrev pub operator_rows : World → List Row
+operator_rows w = map operator_row w.operators
+
+abbrev pub plan_rows : List Filed → List Row
+plan_rows ps = map plan_row ps
+
+-- the places of an area's volumes go up from a first one
+abbrev pub volume_rows_from : Filed → ℕ → List Block → List Row
+volume_rows_from p place [] = []
+volume_rows_from p place (v ∷ vs) = volume_row p place v ∷ volume_rows_from p (place + 1) vs
+
+abbrev pub area_rows : Filed → List Row
+area_rows p = volume_rows_from p 0 p.row.area
+
+abbrev pub volume_rows : List Filed → List Row
+volume_rows ps = flat_map area_rows ps
+
+-- one row for each range of the leaves of each volume
+abbrev pub AreSpanRowsFrom : Filed → ℕ → List Block → List Row → Type 0
+AreSpanRowsFrom p place [] rows = rows ≡ []
+AreSpanRowsFrom p place (v ∷ vs) rows =
+    (spans : List Span) × (rest : List Row) × IsRanges (shape_positions v.footprint) spans
+    × (rows ≡ map (span_row p place v) spans ++ rest) × AreSpanRowsFrom p (place + 1) vs rest
+
+-- a closed plan has none
+abbrev pub ArePlanSpanRows : Filed → List Row → Type 0
+ArePlanSpanRows p rows = MatchBool (is_live p.row.usage) (AreSpanRowsFrom p 0 p.row.area rows) (rows ≡ [])
+
+abbrev pub AreSpanRows : List Filed → List Row → Type 0
+AreSpanRows [] rows = rows ≡ []
+AreSpanRows (p ∷ ps) rows =
+    (front rest : List Row) × (rows ≡ front ++ rest) × ArePlanSpanRows p front × AreSpanRows ps rest
+
+-- up to order, the tables have exactly the rows of the world
+pub record AreTables (tables : Tables) (w : World) : Type 0 where
+  pub operators : IsPermutation (operator_rows w) tables.operators
+  pub plans : IsPermutation (plan_rows w.plans) tables.plans
+  pub volumes : IsPermutation (volume_rows w.plans) tables.volumes
+  pub spans : (rows : List Row) × AreSpanRows w.plans rows × IsPermutation rows tables.spans

@@ -1,0 +1,35 @@
+//! The world that a store keeps, for its contracts alone.
+
+ghost use Rattle.std.specs.Prelude.{◌≡◌, []};
+ghost use Rattle.std.specs.Borrow.{ftrue};
+ghost use Rattle.desk_store.specs.World.{World};
+ghost use Rattle.desk_store.specs.StoreChange.{changed_by};
+
+use desk_store::Change;
+use std::marker::Model;
+
+/// The world that a store keeps. It takes no bytes: contracts alone read it.
+#[derive(Drop)]
+pub struct Kept {
+    pub ghost world: { World },
+}
+
+impl Model for Kept {
+    ghost also_owns = { λ _. ftrue };
+}
+
+impl Kept {
+    /// The world of no operators and no plans.
+    pub fn new() -> Kept
+        ensures { result.world ≡ record { operators = []; plans = [] } }
+    {
+        Kept {}
+    }
+
+    /// The world after a change.
+    pub fn after(_before: &Kept, _change: &Change) -> Kept
+        ensures { result.world ≡ changed_by _change.now _before.now.world }
+    {
+        Kept {}
+    }
+}

@@ -1,0 +1,69 @@
+//! Laws of the definitions. Each is the contract of a function that does nothing.
+
+ghost use Rattle.std.specs.Prelude.{◌≡◌, ℕ, List, [], ◌∷◌, Some};
+ghost use Rattle.uuid.specs.Text.{parsed};
+ghost use Rattle.sqlite_value.specs.Order.{Row};
+ghost use Rattle.desk_sql.specs.Rows.{Tables, PutsOperator, RemovesPlan};
+ghost use Rattle.desk_sql.specs.Batches.{PutsPlan};
+ghost use Rattle.desk_store.specs.World.{Filed, World, text_cmp};
+ghost use Rattle.desk_store.specs.StoreChange.{changed_by, IsFitting};
+ghost use Rattle.desk_store.specs.declared.change.Change.{Change};
+ghost use Rattle.desk_tables.specs.Tables.{id_text, plan_row, area_rows};
+ghost use Rattle.desk_tables.specs.Tables.{ArePlanSpanRows, AreTables};
+ghost use Rattle.desk_tables.specs.Content.{IsId, IsPlan, IsContent};
+ghost use Rattle.desk_tables.specs.TableChanges.{ChangesRows, EnrolsRows, PutsRows, ClearsRows, IsWithin};
+
+use volume4d::laws::one_shape;
+
+/// The texts of two ids are ordered as the ids are.
+pub fn id_texts_are_ordered_as_ids()
+    ensures { (one other : List ℕ) → IsId one → IsId other
+        → text_cmp (id_text one) (id_text other) ≡ text_cmp one other }
+{}
+
+/// What a text is read as is an id.
+pub fn what_is_read_is_an_id()
+    ensures { (text id : List ℕ) → Some id ≡ parsed text → IsId id }
+{}
+
+/// Tables stand for one content at most.
+pub fn one_content()
+    ensures { (tables : Tables) (one other : World) → IsContent one → IsContent other
+        → AreTables tables one → AreTables tables other → one ≡ other }
+{
+    one_shape();
+}
+
+/// Tables of a content whose rows are changed as a change asks are those of the content after it.
+pub fn changed_rows_are_the_changed_content()
+    ensures { (change : Change) (w : World) (old new : Tables) → IsContent w → IsWithin change
+        → AreTables old w → ChangesRows change old new → AreTables new (changed_by change w) }
+{}
+
+/// A content after a change that fits it, and whose values are within their limits, is a content.
+pub fn a_changed_content_is_a_content()
+    ensures { (change : Change) (w : World) → IsContent w → IsFitting change w → IsWithin change
+        → IsContent (changed_by change w) }
+{}
+
+/// Tables of a content in which a plan's rows are put, in place of those of its key, are changed as
+/// a put asks.
+pub fn a_plan_put_changes_rows()
+    ensures { (p : Filed) (w : World) (old new : Tables) (spans : List Row) → IsContent w
+        → IsPlan p.row → AreTables old w → ArePlanSpanRows p spans
+        → PutsPlan p.operator (id_text p.row.id) (plan_row p) (area_rows p) spans old new
+        → PutsRows p old new }
+{}
+
+/// Tables of a content from which a plan is removed are changed as a clear of its id asks.
+pub fn a_plan_removed_changes_rows()
+    ensures { (operator id : List ℕ) (w : World) (old new : Tables) → IsContent w → IsId id
+        → AreTables old w → RemovesPlan operator (id_text id) old new
+        → ClearsRows operator (id ∷ []) old new }
+{}
+
+/// Tables of a content in which an operator's row is set, or added, are changed as enrolling asks.
+pub fn an_operator_put_changes_rows()
+    ensures { (name : List ℕ) (ceiling : ℕ) (w : World) (old new : Tables) → IsContent w
+        → AreTables old w → PutsOperator name ceiling old new → EnrolsRows name ceiling old new }
+{}

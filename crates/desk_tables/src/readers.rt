@@ -1,0 +1,176 @@
+//! What a store answers, read from its tables.
+
+ghost use Rattle.std.specs.Prelude.{◌≡◌, ◌≤◌, IfOk, length};
+ghost use Rattle.sqlite_trees.specs.View.{doubt};
+ghost use Rattle.sqlite.specs.State.{HasCleanDisk};
+ghost use Rattle.sqlite.specs.Held.{state};
+ghost use Rattle.desk_store.specs.World.{ceiling_of, plans_of, stored_of};
+ghost use Rattle.desk_tables.specs.Tables.{plan_rows, volume_rows};
+ghost use Rattle.desk_tables.specs.Content.{IsContent};
+ghost use Rattle.desk_tables.specs.Lookups.{own_of};
+ghost use Rattle.desk_tables.specs.Store.{Stands};
+
+use crate::kept::Kept;
+use crate::listing::plans_in;
+use crate::reading::{area_in, ceiling_in, fault_of, plan_in};
+use desk_rules::operator::Operator;
+use desk_rules::plan::PlanRow;
+use desk_rules::plan_id::PlanId;
+use desk_sql::{
+    operator_named, own_count as listing_length, own_plans as own_listing, plan_of, volumes_of,
+};
+use desk_store::StoreFault;
+use sqlite::{Connection, Row};
+use sqlite_trees::store::Alter;
+use std::alloc::Global;
+
+/// The operator's ceiling, or none if it is not enrolled.
+///
+/// # Errors
+///
+/// `OutOfMemory` if memory runs out. `Store` if SQLite refuses the query for another cause, or if
+/// the row has no ceiling.
+pub(crate) fn ceiling<S: Alter>(
+    connection: &mut Connection<S>,
+    kept: &Kept,
+    operator: &Operator,
+) -> Result<Option<u32>, StoreFault>
+    requires { Stands S.Store connection.old kept.now.world }
+    ensures value { HasCleanDisk (state S.Store connection.new) →
+        IfOk result (λ found. found ≡ ceiling_of operator.now kept.now.world) }
+    ensures stands { Stands S.Store connection.new kept.now.world }
+    ensures doubt { doubt (state S.Store connection.old).is_clean
+        ≤ doubt (state S.Store connection.new).is_clean }
+{
+    match operator_named(connection, operator.as_str()) {
+        Ok(rows) => ceiling_in(&rows),
+        Err(e) => Err(fault_of(e)),
+    }
+}
+
+// The row of `plan` of the operator's plan of the id, if it is stored.
+fn heads<S: Alter>(
+    connection: &mut Connection<S>,
+    kept: &Kept,
+    operator: &Operator,
+    id: &PlanId,
+) -> Result<Vec<Row>, StoreFault>
+    requires { Stands S.Store connection.old kept.now.world }
+    ensures value { HasCleanDisk (state S.Store connection.new) →
+        IfOk result (λ rows. IsContent kept.now.world
+        × (rows.items ≡ plan_rows (own_of operator.now id.now kept.now.world))) }
+    ensures stands { Stands S.Store connection.new kept.now.world }
+    ensures doubt { doubt (state S.Store connection.old).is_clean
+        ≤ doubt (state S.Store connection.new).is_clean }
+{
+    let mut buffer = [0u8; 36];
+    let text = id.encode(&mut buffer);
+    match plan_of(connection, operator.as_str(), text) {
+        Ok(rows) => Ok(rows),
+        Err(e) => Err(fault_of(e)),
+    }
+}
+
+// The rows of `volume` of the operator's plan of the id, by place.
+fn volumes<S: Alter>(
+    connection: &mut Connection<S>,
+    kept: &Kept,
+    operator: &Operator,
+    id: &PlanId,
+) -> Result<Vec<Row>, StoreFault>
+    requires { Stands S.Store connection.old kept.now.world }
+    ensures value { HasCleanDisk (state S.Store connection.new) →
+        IfOk result (λ rows. IsContent kept.now.world
+        × (rows.items ≡ volume_rows (own_of operator.now id.now kept.now.world))) }
+    ensures stands { Stands S.Store connection.new kept.now.world }
+    ensures doubt { doubt (state S.Store connection.old).is_clean
+        ≤ doubt (state S.Store connection.new).is_clean }
+{
+    let mut buffer = [0u8; 36];
+    let text = id.encode(&mut buffer);
+    match volumes_of(connection, operator.as_str(), text) {
+        Ok(rows) => Ok(rows),
+        Err(e) => Err(fault_of(e)),
+    }
+}
+
+/// The operator's plan of the id, or none if it is not stored.
+///
+/// # Errors
+///
+/// `OutOfMemory` if memory runs out. `Store` if SQLite refuses a query for another cause, or if the
+/// rows are no plan's.
+pub(crate) fn plan<S: Alter>(
+    alloc: Global,
+    connection: &mut Connection<S>,
+    kept: &Kept,
+    operator: &Operator,
+    id: &PlanId,
+) -> Result<Option<PlanRow>, StoreFault>
+    requires { Stands S.Store connection.old kept.now.world }
+    ensures value { HasCleanDisk (state S.Store connection.new) →
+        IfOk result (λ row. row ≡ stored_of id.now (plans_of operator.now kept.now.world)) }
+    ensures stands { Stands S.Store connection.new kept.now.world }
+    ensures doubt { doubt (state S.Store connection.old).is_clean
+        ≤ doubt (state S.Store connection.new).is_clean }
+{
+    let heads = heads(connection, kept, operator, id)?;
+    let Some(head) = heads.first() else {
+        return Ok(None);
+    };
+    let rows = volumes(connection, kept, operator, id)?;
+    let area = area_in(alloc, &rows, 3)?;
+    Ok(Some(plan_in(head, area)?))
+}
+
+/// The operator's plans, ascending by id.
+///
+/// # Errors
+///
+/// `OutOfMemory` if memory runs out. `Store` if SQLite refuses the query for another cause, or if
+/// the rows are no plans'.
+pub(crate) fn own_plans<S: Alter>(
+    alloc: Global,
+    connection: &mut Connection<S>,
+    kept: &Kept,
+    operator: &Operator,
+) -> Result<Vec<PlanRow>, StoreFault>
+    requires { Stands S.Store connection.old kept.now.world }
+    ensures value { HasCleanDisk (state S.Store connection.new) →
+        IfOk result (λ rows. rows.items ≡ plans_of operator.now kept.now.world) }
+    ensures stands { Stands S.Store connection.new kept.now.world }
+    ensures doubt { doubt (state S.Store connection.old).is_clean
+        ≤ doubt (state S.Store connection.new).is_clean }
+{
+    match own_listing(connection, operator.as_str()) {
+        Ok(rows) => plans_in(alloc, &rows),
+        Err(e) => Err(fault_of(e)),
+    }
+}
+
+/// How many plans the operator has.
+///
+/// # Errors
+///
+/// `OutOfMemory` if memory runs out. `Store` if SQLite refuses the query for another cause.
+pub(crate) fn own_count<S: Alter>(
+    connection: &mut Connection<S>,
+    kept: &Kept,
+    operator: &Operator,
+) -> Result<u32, StoreFault>
+    requires { Stands S.Store connection.old kept.now.world }
+    ensures value { HasCleanDisk (state S.Store connection.new) →
+        IfOk result (λ count. count ≡ length (plans_of operator.now kept.now.world)) }
+    ensures stands { Stands S.Store connection.new kept.now.world }
+    ensures doubt { doubt (state S.Store connection.old).is_clean
+        ≤ doubt (state S.Store connection.new).is_clean }
+{
+    let count = match listing_length(connection, operator.as_str()) {
+        Ok(count) => count,
+        Err(e) => return Err(fault_of(e)),
+    };
+    match u32::try_from(count) {
+        Ok(count) => Ok(count),
+        Err(_) => Err(StoreFault::Store),
+    }
+}

@@ -1,0 +1,26 @@
+//! The levels of squares on a face, and the quadrant of a point at one of them.
+
+ghost use Rattle.std.specs.Prelude.{◌≡◌, ◌<◌};
+ghost use Rattle.s2_hilbert.specs.Grid as grid;
+ghost use Rattle.s2_hilbert.specs.Curve as curve;
+
+/// The level of a leaf.
+pub const LEAF_LEVEL: u8 = 30;
+
+/// How many leaves a face has.
+pub const FACE_LEAVES: u64 = 1 << 60;
+
+// The constants are those of the definition.
+fn has_the_limits()
+    ensures level { LEAF_LEVEL ≡ grid.leaf_level }
+    ensures leaves { FACE_LEAVES ≡ curve.leaf_count 0 }
+{}
+
+/// The quadrant that a bit of each coordinate names.
+pub fn quadrant_of(bit: u8, i: u32, j: u32) -> u8
+    requires { bit < grid.leaf_level }
+    ensures value { result ≡ curve.quadrant_of bit i j }
+    ensures below { result < 4 }
+{
+    (2 * (i >> bit & 1) + (j >> bit & 1)) as u8
+}

@@ -1,0 +1,21 @@
+use Rattle.std.proofs.Common.{length, subst}
+use Rattle.std.proofs.lemmas.Bool.Decides.{nat_tests}
+use Rattle.std.proofs.Common.{arith, ◌≤◌}
+use Rattle.s2_cover.specs.CanonicalList.{canonical_list}
+use Rattle.s2_cover.specs.Rectangles.{rect_leaves}
+use Rattle.volume4d.proofs.FootprintRanges.{rectangle_ranges}
+use Rattle.volume4d.proofs.footprint.rect_ranges.Goals as goal
+
+pub returns-in_ok-ranges-in-Ok-clause-ok : goal.returns-in_ok-ranges-in-Ok-clause-ok
+returns-in_ok-ranges-in-Ok-clause-ok c =
+    let rect = c.args.rect.now in
+    let spans = c.in_ok-ranges-in-Ok.field-0 in
+    let few : length (canonical_list (rect_leaves rect)) ≤ 256 =
+    subst (λ ids. length ids ≤ 256) c.in-Ok.ensures.list c.in-Ok.ensures.few in
+    record {
+      limits = grind (arith, nat_tests, few);
+      ranges =
+          rectangle_ranges rect spans
+          (c.in_ok-ranges-in-Ok.ensures.same (rect_leaves rect) c.in-Ok.ensures.leaves);
+      some = c.in_ok-ranges-in-Ok.ensures.some c.in-Ok.ensures.some;
+    }
