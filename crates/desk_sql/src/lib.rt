@@ -6,6 +6,7 @@ mod batch;
 mod changing;
 mod counting;
 mod making;
+mod matching;
 mod reading;
 mod removing;
 mod run;
