@@ -17,3 +17,4 @@ pub mod SetLemmas
 pub mod EnrolLemmas
 pub mod CountLemmas
 pub mod SchemaLemmas
+pub mod RowidLemmas

@@ -32,7 +32,7 @@ both_hold : (a : Bool) → (a && true) ≡ a
 both_hold true = refl
 both_hold false = refl
 
-every : (rows : List Row) → filter (λ r. true) rows ≡ rows
+pub every : (rows : List Row) → filter (λ r. true) rows ≡ rows
 every [] = refl
 every (r ∷ rows) = ap (λ xs. r ∷ xs) (every rows)
 

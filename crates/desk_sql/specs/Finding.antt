@@ -1,7 +1,13 @@
 -- What tables a database has.
-use Rattle.std.specs.Prelude.{◌≡◌, ◌≢◌, ℕ, ◌+◌, List, [], ◌∷◌, None, true, false, codes, IsTrue}
+use Rattle.std.specs.Prelude.{◌≡◌, ◌≢◌, ℕ, ◌+◌, List, [], ◌∷◌, ℤ, Bool, int_lt, if◌then◌else◌, Option, None, Some, true, false, codes, IsTrue}
+use Rattle.std.specs.List.{AllByRecursion}
+use Rattle.sqlite.specs.Order.{Row}
+use Rattle.sqlite.specs.Tree.{rowid, IsTable}
+use Rattle.sqlite.specs.View.{is_int}
+use Rattle.sqlite.specs.declared.types.Value.{Value}
+use Rattle.sqlite.specs.declared.types.Value.TheVariants.{Null, Int, Real, Text, Blob}
 use Rattle.sqlite.specs.Table.{Table}
-use Rattle.sqlite.specs.Kind.TheVariants.{Integer, Text}
+use Rattle.sqlite.specs.Kind.TheVariants as kind
 use Rattle.sqlite_schema.specs.declared.schema.Column.{Column}
 use Rattle.sqlite_schema.specs.declared.schema.Index.{Index}
 use Rattle.sqlite_value.specs.Keys.{plain}
@@ -22,6 +28,25 @@ HasDeskSchema db = db.schema ≡ desk_schema
 abbrev pub HasOthers : Database → Type 0
 HasOthers db = (db.schema ≢ blank_schema) × (db.schema ≢ desk_schema)
 
+-- ---- rowids
+
+-- whole numbers, each above those before
+pub record AreRising (rows : List Row) : Type 0 where
+  pub whole : AllByRecursion (λ r. is_int (rowid r) ≡ true) rows
+  pub rising : IsTable rows
+
+abbrev pub exceeds : Option ℤ → ℤ → Bool
+exceeds None n = true
+exceeds (Some last) n = int_lt last n
+
+-- the value, if it is a whole number above the last one
+abbrev pub next_above : Option ℤ → Value → Option ℤ
+next_above last (Int n) = if exceeds last n then Some n else None
+next_above last Null = None
+next_above last (Real x) = None
+next_above last (Text t) = None
+next_above last (Blob b) = None
+
 -- ---- the parts of a schema
 
 -- the table with no INTEGER PRIMARY KEY, CHECK, computed default or AUTOINCREMENT
@@ -34,10 +59,10 @@ abbrev pub plain_table : Table → List ℕ → ℕ → List ℕ → Table
 plain_table like name tree key = record (table_of name like.columns key like.references) { tree = tree }
 
 abbrev pub place_columns : List Column
-place_columns = column_of (codes "operator") Text ∷ column_of (codes "id") Text ∷ column_of (codes "place") Integer ∷ []
+place_columns = column_of (codes "operator") kind.Text ∷ column_of (codes "id") kind.Text ∷ column_of (codes "place") kind.Integer ∷ []
 
 abbrev pub extent_columns : List Column
-extent_columns = column_of (codes "lower") Integer ∷ column_of (codes "upper") Integer ∷ column_of (codes "start") Integer ∷ column_of (codes "stop") Integer ∷ []
+extent_columns = column_of (codes "lower") kind.Integer ∷ column_of (codes "upper") kind.Integer ∷ column_of (codes "start") kind.Integer ∷ column_of (codes "stop") kind.Integer ∷ []
 
 -- the index that SQLite makes for the primary key of the table in the tree before its own
 abbrev pub key_index : List ℕ → ℕ → List ℕ → Index
