@@ -16,3 +16,5 @@ pub mod UpdateLemmas
 pub mod SetLemmas
 pub mod EnrolLemmas
 pub mod CountLemmas
+pub mod SchemaLemmas
+pub mod RowidLemmas
