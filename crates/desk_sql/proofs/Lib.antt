@@ -16,3 +16,4 @@ pub mod UpdateLemmas
 pub mod SetLemmas
 pub mod EnrolLemmas
 pub mod CountLemmas
+pub mod ClearLemmas
