@@ -18,3 +18,4 @@ pub mod EnrolLemmas
 pub mod CountLemmas
 pub mod SchemaLemmas
 pub mod RowidLemmas
+pub mod ClearLemmas

@@ -15,7 +15,7 @@ mod run;
 mod setting;
 mod writing;
 
-pub use changing::{clear_plan, close_plan, is_enrolled, put_operator, put_plan};
+pub use changing::{clear_plans, close_plan, is_enrolled, put_operator, put_plan};
 pub use counting::own_count;
 pub use finding::{Found, find_tables};
 pub use making::make_tables;
