@@ -55,8 +55,12 @@ pub(crate) fn ceiling<S: Alter>(
     }
 }
 
-// The row of `plan` of the operator's plan of the id, if it is stored.
-fn heads<S: Alter>(
+/// The row of `plan` of the operator's plan of the id, if it is stored.
+///
+/// # Errors
+///
+/// `OutOfMemory` if memory runs out. `Store` if SQLite refuses the query for another cause.
+pub(crate) fn heads<S: Alter>(
     connection: &mut Connection<S>,
     kept: &Kept,
     operator: &Operator,
