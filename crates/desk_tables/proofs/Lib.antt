@@ -15,3 +15,5 @@ pub mod JoinedLemmas
 pub mod RecordLemmas
 pub mod ClearLemmas
 pub mod CloseLemmas
+pub mod UnreadLemmas
+pub mod ExactLemmas
