@@ -1,5 +1,5 @@
 use super::*;
-use sqlite::{Connection, params};
+use sqlite::Connection;
 use std::test::Fail;
 
 #[test]
@@ -24,5 +24,22 @@ fn the_tables_made_are_a_desk(rt: HostRuntime) -> Result<(), Fail> {
     make_tables(&mut connection)?;
     put_operator(&mut connection, "alfa", 100)?;
     assert_eq!(rt; find_tables(&mut connection)?, Found::Desk);
+    Ok(())
+}
+
+#[test]
+fn another_table_is_other(rt: HostRuntime) -> Result<(), Fail> {
+    let mut connection = Connection::open_in_memory(rt.alloc())?;
+    connection.execute_batch("CREATE TABLE note (title TEXT)")?;
+    assert_eq!(rt; find_tables(&mut connection)?, Found::Other);
+    Ok(())
+}
+
+#[test]
+fn a_table_beside_is_other(rt: HostRuntime) -> Result<(), Fail> {
+    let mut connection = Connection::open_in_memory(rt.alloc())?;
+    make_tables(&mut connection)?;
+    connection.execute_batch("CREATE TABLE note (title TEXT)")?;
+    assert_eq!(rt; find_tables(&mut connection)?, Found::Other);
     Ok(())
 }
