@@ -1,5 +1,5 @@
 -- What tables a database has.
-use Rattle.std.specs.Prelude.{◌≡◌, ◌≢◌, ℕ, ◌+◌, List, [], ◌∷◌, ℤ, Bool, int_lt, if◌then◌else◌, Option, None, Some, true, false, codes, IsTrue}
+use Rattle.std.specs.Prelude.{◌≡◌, ◌≢◌, ℕ, ◌+◌, List, [], ◌∷◌, ◌++◌, ℤ, Bool, int_lt, if◌then◌else◌, Option, None, Some, true, false, codes, IsTrue}
 use Rattle.std.specs.List.{AllByRecursion}
 use Rattle.sqlite.specs.Order.{Row}
 use Rattle.sqlite.specs.Tree.{rowid, IsTable}
@@ -10,6 +10,7 @@ use Rattle.sqlite.specs.Table.{Table}
 use Rattle.sqlite.specs.Kind.TheVariants as kind
 use Rattle.sqlite_schema.specs.declared.schema.Column.{Column}
 use Rattle.sqlite_schema.specs.declared.schema.Index.{Index}
+use Rattle.sqlite_schema.specs.declared.schema.Stamps.{Stamps}
 use Rattle.sqlite_value.specs.Keys.{plain}
 use Rattle.sqlite.specs.Store.{Ghosts}
 use Rattle.sqlite.specs.State.{HasCleanDisk}
@@ -49,25 +50,39 @@ next_above last (Blob b) = None
 
 -- ---- the parts of a schema
 
+-- no default reads the time
+abbrev pub no_stamps : Stamps
+no_stamps = record { places = []; terms = []; formats = [] }
+
 -- the table with no INTEGER PRIMARY KEY, CHECK, computed default or AUTOINCREMENT
 abbrev pub without_extras : Table → Table
 without_extras table =
-    record table { key = None; checks = []; computed = []; stamps = record { places = []; terms = []; formats = [] }; is_counted = false }
+    record table { key = None; checks = []; computed = []; stamps = no_stamps; is_counted = false }
 
--- the table of this name, in this tree and with this primary key, that has the columns and references of another
+-- the table of this name, in this tree and with this primary key, that has the columns and references
+-- of another
 abbrev pub plain_table : Table → List ℕ → ℕ → List ℕ → Table
 plain_table like name tree key = record (table_of name like.columns key like.references) { tree = tree }
 
+abbrev pub text : List ℕ → Column
+text name = column_of name kind.Text
+
+abbrev pub number : List ℕ → Column
+number name = column_of name kind.Integer
+
 abbrev pub place_columns : List Column
-place_columns = column_of (codes "operator") kind.Text ∷ column_of (codes "id") kind.Text ∷ column_of (codes "place") kind.Integer ∷ []
+place_columns = text (codes "operator") ∷ text (codes "id") ∷ number (codes "place") ∷ []
+
+abbrev pub altitude_columns : List Column
+altitude_columns = number (codes "lower") ∷ number (codes "upper") ∷ []
 
 abbrev pub extent_columns : List Column
-extent_columns = column_of (codes "lower") kind.Integer ∷ column_of (codes "upper") kind.Integer ∷ column_of (codes "start") kind.Integer ∷ column_of (codes "stop") kind.Integer ∷ []
+extent_columns = altitude_columns ++ number (codes "start") ∷ number (codes "stop") ∷ []
 
 -- the index that SQLite makes for the primary key of the table in the tree before its own
 abbrev pub key_index : List ℕ → ℕ → List ℕ → Index
-key_index name table columns =
-    record { name = name; tree = table + 1; table = table; columns = columns; order = plain; is_unique = true }
+key_index name table key =
+    record { name = name; tree = table + 1; table = table; columns = key; order = plain; is_unique = true }
 
 unfoldable pub operator_index : Index
 operator_index = key_index (codes "sqlite_autoindex_operator_1") 0 (1 ∷ [])

@@ -4,7 +4,7 @@ ghost use Rattle.std.specs.Prelude.{◌≡◌, ◌↔◌, ◌<◌, ◌-◌, ◌^
 ghost use Rattle.sqlite_value.specs.Keys.{plain};
 ghost use Rattle.sqlite_schema.specs.declared.schema.Action.TheVariants.{NoAction};
 ghost use Rattle.desk_sql.specs.Schema.{column_of, operator_table, plan_table, volume_table, span_table, to_operator, to_plan, blank_schema, desk_schema};
-ghost use Rattle.desk_sql.specs.Finding.{without_extras, plain_table, place_columns, extent_columns, key_index, desk_indexes, operator_index, plan_index, volume_index, span_index};
+ghost use Rattle.desk_sql.specs.Finding.{no_stamps, without_extras, plain_table, place_columns, extent_columns, key_index, desk_indexes, operator_index, plan_index, volume_index, span_index};
 
 use sqlite_items::Items;
 use sqlite_schema::schema::{Action, Column, Index, Kind, Reference, Schema, Stamps, Table};
@@ -139,7 +139,7 @@ fn is_only_plain(orders: &[Order]) -> bool
 
 /// Whether no default reads the time.
 fn is_stampless(stamps: &Stamps) -> bool
-    ensures { IsTrue result ↔ (stamps.now ≡ record { places = []; terms = []; formats = [] }) }
+    ensures { IsTrue result ↔ (stamps.now ≡ no_stamps) }
 {
     stamps.places.is_empty() && stamps.terms.roots.is_empty() && stamps.formats.is_empty()
 }
@@ -169,11 +169,11 @@ fn is_plain_table(table: &Table, name: &[u8], tree: u32, key: &[usize]) -> bool
 
 fn is_reference(reference: &Reference, columns: &[usize], parent: &[u8], on_delete: Action) -> bool
     ensures { IsTrue result ↔ (reference.now ≡ record reference.now {
-        columns = columns.now;
-        parent = parent.now;
-        on_delete = on_delete;
-        on_update = NoAction;
-        is_deferred = false;
+      columns = columns.now;
+      parent = parent.now;
+      on_delete = on_delete;
+      on_update = NoAction;
+      is_deferred = false;
     }) }
 {
     are_places(&reference.columns, columns)
@@ -309,7 +309,12 @@ fn is_volume_index(index: &Index) -> bool
 fn is_span_index(index: &Index) -> bool
     ensures { IsTrue result ↔ (index.now ≡ span_index) }
 {
-    is_key_index(index, b"sqlite_autoindex_span_1", 6, [1, 2, 3, 4].as_slice())
+    is_key_index(
+        index,
+        b"sqlite_autoindex_span_1",
+        6,
+        [1, 2, 3, 4].as_slice(),
+    )
 }
 
 fn are_desk_indexes(indexes: &[Index]) -> bool

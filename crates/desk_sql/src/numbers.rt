@@ -64,11 +64,7 @@ fn test_operators<S: Alter>(connection: &mut Connection<S>) -> Result<(), Error>
         (state S.Store connection.new).is_clean }
     ensures faults { (state S.Store connection.old).faults ≤ (state S.Store connection.new).faults }
 {
-    let rows = answer_by_schema(
-        connection,
-        "SELECT rowid FROM operator ORDER BY rowid",
-        &[],
-    )?;
+    let rows = answer_by_schema(connection, "SELECT rowid FROM operator ORDER BY rowid", &[])?;
     test_rising(&rows)
 }
 
@@ -82,11 +78,7 @@ fn test_plans<S: Alter>(connection: &mut Connection<S>) -> Result<(), Error>
         (state S.Store connection.new).is_clean }
     ensures faults { (state S.Store connection.old).faults ≤ (state S.Store connection.new).faults }
 {
-    let rows = answer_by_schema(
-        connection,
-        "SELECT rowid FROM plan ORDER BY rowid",
-        &[],
-    )?;
+    let rows = answer_by_schema(connection, "SELECT rowid FROM plan ORDER BY rowid", &[])?;
     test_rising(&rows)
 }
 
@@ -100,11 +92,7 @@ fn test_volumes<S: Alter>(connection: &mut Connection<S>) -> Result<(), Error>
         (state S.Store connection.new).is_clean }
     ensures faults { (state S.Store connection.old).faults ≤ (state S.Store connection.new).faults }
 {
-    let rows = answer_by_schema(
-        connection,
-        "SELECT rowid FROM volume ORDER BY rowid",
-        &[],
-    )?;
+    let rows = answer_by_schema(connection, "SELECT rowid FROM volume ORDER BY rowid", &[])?;
     test_rising(&rows)
 }
 
@@ -118,11 +106,7 @@ fn test_spans<S: Alter>(connection: &mut Connection<S>) -> Result<(), Error>
         (state S.Store connection.new).is_clean }
     ensures faults { (state S.Store connection.old).faults ≤ (state S.Store connection.new).faults }
 {
-    let rows = answer_by_schema(
-        connection,
-        "SELECT rowid FROM span ORDER BY rowid",
-        &[],
-    )?;
+    let rows = answer_by_schema(connection, "SELECT rowid FROM span ORDER BY rowid", &[])?;
     test_rising(&rows)
 }
 

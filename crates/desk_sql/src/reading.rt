@@ -15,11 +15,15 @@ pub fn operator_named<S: Alter>(
 ) -> Result<Vec<Row>, Error>
     requires ready { IsReady S.Store connection.old }
     requires settled { connection.old.in_transaction ≡ false }
-    ensures value { HasCleanDisk (state S.Store connection.new) → IfOk result (λ rows. Lists [] (filter (is_by name.now) (tables_of (state S.Store connection.old).now.trees).operators) rows.items) }
-    ensures open { HasCleanDisk (state S.Store connection.new) → OnOk result (IsTrue (state S.Store connection.old).is_open) }
+    ensures value { HasCleanDisk (state S.Store connection.new)
+        → IfOk result (λ rows. Lists [] (filter (is_by name.now) (tables_of
+        (state S.Store connection.old).now.trees).operators) rows.items) }
+    ensures open { HasCleanDisk (state S.Store connection.new)
+        → OnOk result (IsTrue (state S.Store connection.old).is_open) }
     ensures kept { IsKept S.Store connection.old connection.new }
     ensures mode { connection.new.in_transaction ≡ false }
-    ensures doubt { doubt (state S.Store connection.old).is_clean ≤ doubt (state S.Store connection.new).is_clean }
+    ensures doubt { doubt (state S.Store connection.old).is_clean ≤ doubt
+        (state S.Store connection.new).is_clean }
     ensures faults { (state S.Store connection.old).faults ≤ (state S.Store connection.new).faults }
 {
     answer(
@@ -33,11 +37,15 @@ pub fn operator_named<S: Alter>(
 pub fn all_operators<S: Alter>(connection: &mut Connection<S>) -> Result<Vec<Row>, Error>
     requires ready { IsReady S.Store connection.old }
     requires settled { connection.old.in_transaction ≡ false }
-    ensures value { HasCleanDisk (state S.Store connection.new) → IfOk result (λ rows. Lists (0 ∷ []) ((tables_of (state S.Store connection.old).now.trees).operators) rows.items) }
-    ensures open { HasCleanDisk (state S.Store connection.new) → OnOk result (IsTrue (state S.Store connection.old).is_open) }
+    ensures value { HasCleanDisk (state S.Store connection.new)
+        → IfOk result (λ rows. Lists (0 ∷ []) ((tables_of
+        (state S.Store connection.old).now.trees).operators) rows.items) }
+    ensures open { HasCleanDisk (state S.Store connection.new)
+        → OnOk result (IsTrue (state S.Store connection.old).is_open) }
     ensures kept { IsKept S.Store connection.old connection.new }
     ensures mode { connection.new.in_transaction ≡ false }
-    ensures doubt { doubt (state S.Store connection.old).is_clean ≤ doubt (state S.Store connection.new).is_clean }
+    ensures doubt { doubt (state S.Store connection.old).is_clean ≤ doubt
+        (state S.Store connection.new).is_clean }
     ensures faults { (state S.Store connection.old).faults ≤ (state S.Store connection.new).faults }
 {
     answer(
@@ -55,11 +63,15 @@ pub fn plan_of<S: Alter>(
 ) -> Result<Vec<Row>, Error>
     requires ready { IsReady S.Store connection.old }
     requires settled { connection.old.in_transaction ≡ false }
-    ensures value { HasCleanDisk (state S.Store connection.new) → IfOk result (λ rows. Lists [] (filter (is_of operator.now id.now) (tables_of (state S.Store connection.old).now.trees).plans) rows.items) }
-    ensures open { HasCleanDisk (state S.Store connection.new) → OnOk result (IsTrue (state S.Store connection.old).is_open) }
+    ensures value { HasCleanDisk (state S.Store connection.new)
+        → IfOk result (λ rows. Lists [] (filter (is_of operator.now id.now) (tables_of
+        (state S.Store connection.old).now.trees).plans) rows.items) }
+    ensures open { HasCleanDisk (state S.Store connection.new)
+        → OnOk result (IsTrue (state S.Store connection.old).is_open) }
     ensures kept { IsKept S.Store connection.old connection.new }
     ensures mode { connection.new.in_transaction ≡ false }
-    ensures doubt { doubt (state S.Store connection.old).is_clean ≤ doubt (state S.Store connection.new).is_clean }
+    ensures doubt { doubt (state S.Store connection.old).is_clean ≤ doubt
+        (state S.Store connection.new).is_clean }
     ensures faults { (state S.Store connection.old).faults ≤ (state S.Store connection.new).faults }
 {
     answer(
@@ -73,11 +85,15 @@ pub fn plan_of<S: Alter>(
 pub fn all_plans<S: Alter>(connection: &mut Connection<S>) -> Result<Vec<Row>, Error>
     requires ready { IsReady S.Store connection.old }
     requires settled { connection.old.in_transaction ≡ false }
-    ensures value { HasCleanDisk (state S.Store connection.new) → IfOk result (λ rows. Lists (0 ∷ 1 ∷ []) ((tables_of (state S.Store connection.old).now.trees).plans) rows.items) }
-    ensures open { HasCleanDisk (state S.Store connection.new) → OnOk result (IsTrue (state S.Store connection.old).is_open) }
+    ensures value { HasCleanDisk (state S.Store connection.new)
+        → IfOk result (λ rows. Lists (0 ∷ 1 ∷ []) ((tables_of
+        (state S.Store connection.old).now.trees).plans) rows.items) }
+    ensures open { HasCleanDisk (state S.Store connection.new)
+        → OnOk result (IsTrue (state S.Store connection.old).is_open) }
     ensures kept { IsKept S.Store connection.old connection.new }
     ensures mode { connection.new.in_transaction ≡ false }
-    ensures doubt { doubt (state S.Store connection.old).is_clean ≤ doubt (state S.Store connection.new).is_clean }
+    ensures doubt { doubt (state S.Store connection.old).is_clean ≤ doubt
+        (state S.Store connection.new).is_clean }
     ensures faults { (state S.Store connection.old).faults ≤ (state S.Store connection.new).faults }
 {
     answer(
@@ -87,7 +103,8 @@ pub fn all_plans<S: Alter>(connection: &mut Connection<S>) -> Result<Vec<Row>, E
     )
 }
 
-/// The rows `operator`, `id`, `place`, `lower`, `upper`, `start`, `stop`, `asked` of the volumes of a plan, by place.
+/// The rows `operator`, `id`, `place`, `lower`, `upper`, `start`, `stop`, `asked` of the volumes of a
+/// plan, by place.
 pub fn volumes_of<S: Alter>(
     connection: &mut Connection<S>,
     operator: &str,
@@ -95,11 +112,15 @@ pub fn volumes_of<S: Alter>(
 ) -> Result<Vec<Row>, Error>
     requires ready { IsReady S.Store connection.old }
     requires settled { connection.old.in_transaction ≡ false }
-    ensures value { HasCleanDisk (state S.Store connection.new) → IfOk result (λ rows. Lists (2 ∷ []) (filter (is_of operator.now id.now) (tables_of (state S.Store connection.old).now.trees).volumes) rows.items) }
-    ensures open { HasCleanDisk (state S.Store connection.new) → OnOk result (IsTrue (state S.Store connection.old).is_open) }
+    ensures value { HasCleanDisk (state S.Store connection.new)
+        → IfOk result (λ rows. Lists (2 ∷ []) (filter (is_of operator.now id.now) (tables_of
+        (state S.Store connection.old).now.trees).volumes) rows.items) }
+    ensures open { HasCleanDisk (state S.Store connection.new)
+        → OnOk result (IsTrue (state S.Store connection.old).is_open) }
     ensures kept { IsKept S.Store connection.old connection.new }
     ensures mode { connection.new.in_transaction ≡ false }
-    ensures doubt { doubt (state S.Store connection.old).is_clean ≤ doubt (state S.Store connection.new).is_clean }
+    ensures doubt { doubt (state S.Store connection.old).is_clean ≤ doubt
+        (state S.Store connection.new).is_clean }
     ensures faults { (state S.Store connection.old).faults ≤ (state S.Store connection.new).faults }
 {
     answer(
@@ -113,11 +134,15 @@ pub fn volumes_of<S: Alter>(
 pub fn all_volumes<S: Alter>(connection: &mut Connection<S>) -> Result<Vec<Row>, Error>
     requires ready { IsReady S.Store connection.old }
     requires settled { connection.old.in_transaction ≡ false }
-    ensures value { HasCleanDisk (state S.Store connection.new) → IfOk result (λ rows. Lists (0 ∷ 1 ∷ 2 ∷ []) ((tables_of (state S.Store connection.old).now.trees).volumes) rows.items) }
-    ensures open { HasCleanDisk (state S.Store connection.new) → OnOk result (IsTrue (state S.Store connection.old).is_open) }
+    ensures value { HasCleanDisk (state S.Store connection.new)
+        → IfOk result (λ rows. Lists (0 ∷ 1 ∷ 2 ∷ []) ((tables_of
+        (state S.Store connection.old).now.trees).volumes) rows.items) }
+    ensures open { HasCleanDisk (state S.Store connection.new)
+        → OnOk result (IsTrue (state S.Store connection.old).is_open) }
     ensures kept { IsKept S.Store connection.old connection.new }
     ensures mode { connection.new.in_transaction ≡ false }
-    ensures doubt { doubt (state S.Store connection.old).is_clean ≤ doubt (state S.Store connection.new).is_clean }
+    ensures doubt { doubt (state S.Store connection.old).is_clean ≤ doubt
+        (state S.Store connection.new).is_clean }
     ensures faults { (state S.Store connection.old).faults ≤ (state S.Store connection.new).faults }
 {
     answer(
@@ -127,15 +152,20 @@ pub fn all_volumes<S: Alter>(connection: &mut Connection<S>) -> Result<Vec<Row>,
     )
 }
 
-/// The rows `operator`, `id`, `place`, `first`, `last`, `lower`, `upper`, `start`, `stop`, `priority` of all spans, by operator, id, place and first.
+/// The rows `operator`, `id`, `place`, `first`, `last`, `lower`, `upper`, `start`, `stop`, `priority`
+/// of all spans, by operator, id, place and first.
 pub fn all_spans<S: Alter>(connection: &mut Connection<S>) -> Result<Vec<Row>, Error>
     requires ready { IsReady S.Store connection.old }
     requires settled { connection.old.in_transaction ≡ false }
-    ensures value { HasCleanDisk (state S.Store connection.new) → IfOk result (λ rows. Lists (0 ∷ 1 ∷ 2 ∷ 3 ∷ []) ((tables_of (state S.Store connection.old).now.trees).spans) rows.items) }
-    ensures open { HasCleanDisk (state S.Store connection.new) → OnOk result (IsTrue (state S.Store connection.old).is_open) }
+    ensures value { HasCleanDisk (state S.Store connection.new)
+        → IfOk result (λ rows. Lists (0 ∷ 1 ∷ 2 ∷ 3 ∷ []) ((tables_of
+        (state S.Store connection.old).now.trees).spans) rows.items) }
+    ensures open { HasCleanDisk (state S.Store connection.new)
+        → OnOk result (IsTrue (state S.Store connection.old).is_open) }
     ensures kept { IsKept S.Store connection.old connection.new }
     ensures mode { connection.new.in_transaction ≡ false }
-    ensures doubt { doubt (state S.Store connection.old).is_clean ≤ doubt (state S.Store connection.new).is_clean }
+    ensures doubt { doubt (state S.Store connection.old).is_clean ≤ doubt
+        (state S.Store connection.new).is_clean }
     ensures faults { (state S.Store connection.old).faults ≤ (state S.Store connection.new).faults }
 {
     answer(
@@ -145,18 +175,23 @@ pub fn all_spans<S: Alter>(connection: &mut Connection<S>) -> Result<Vec<Row>, E
     )
 }
 
-/// Each plan of an operator with each of its volumes: the columns of `plan`, and then those of `volume` from `place` on. By id and place.
+/// Each plan of an operator with each of its volumes: the columns of `plan`, and then those of `volume`
+/// from `place` on. By id and place.
 pub fn own_plans<S: Alter>(
     connection: &mut Connection<S>,
     operator: &str,
 ) -> Result<Vec<Row>, Error>
     requires ready { IsReady S.Store connection.old }
     requires settled { connection.old.in_transaction ≡ false }
-    ensures value { HasCleanDisk (state S.Store connection.new) → IfOk result (λ rows. Lists (1 ∷ 5 ∷ []) (with_volumes (is_by operator.now) (tables_of (state S.Store connection.old).now.trees)) rows.items) }
-    ensures open { HasCleanDisk (state S.Store connection.new) → OnOk result (IsTrue (state S.Store connection.old).is_open) }
+    ensures value { HasCleanDisk (state S.Store connection.new)
+        → IfOk result (λ rows. Lists (1 ∷ 5 ∷ []) (with_volumes (is_by operator.now) (tables_of
+        (state S.Store connection.old).now.trees)) rows.items) }
+    ensures open { HasCleanDisk (state S.Store connection.new)
+        → OnOk result (IsTrue (state S.Store connection.old).is_open) }
     ensures kept { IsKept S.Store connection.old connection.new }
     ensures mode { connection.new.in_transaction ≡ false }
-    ensures doubt { doubt (state S.Store connection.old).is_clean ≤ doubt (state S.Store connection.new).is_clean }
+    ensures doubt { doubt (state S.Store connection.old).is_clean ≤ doubt
+        (state S.Store connection.new).is_clean }
     ensures faults { (state S.Store connection.old).faults ≤ (state S.Store connection.new).faults }
 {
     answer(
@@ -166,7 +201,8 @@ pub fn own_plans<S: Alter>(
     )
 }
 
-/// The same of each plan that is not closed, but for the plan of this operator with this id. By operator, id and place.
+/// The same of each plan that is not closed, but for the plan of this operator with this id. By
+/// operator, id and place.
 pub fn rivals<S: Alter>(
     connection: &mut Connection<S>,
     operator: &str,
@@ -174,11 +210,15 @@ pub fn rivals<S: Alter>(
 ) -> Result<Vec<Row>, Error>
     requires ready { IsReady S.Store connection.old }
     requires settled { connection.old.in_transaction ≡ false }
-    ensures value { HasCleanDisk (state S.Store connection.new) → IfOk result (λ rows. Lists (0 ∷ 1 ∷ 5 ∷ []) (with_volumes (is_rival operator.now id.now) (tables_of (state S.Store connection.old).now.trees)) rows.items) }
-    ensures open { HasCleanDisk (state S.Store connection.new) → OnOk result (IsTrue (state S.Store connection.old).is_open) }
+    ensures value { HasCleanDisk (state S.Store connection.new)
+        → IfOk result (λ rows. Lists (0 ∷ 1 ∷ 5 ∷ []) (with_volumes (is_rival operator.now id.now)
+        (tables_of (state S.Store connection.old).now.trees)) rows.items) }
+    ensures open { HasCleanDisk (state S.Store connection.new)
+        → OnOk result (IsTrue (state S.Store connection.old).is_open) }
     ensures kept { IsKept S.Store connection.old connection.new }
     ensures mode { connection.new.in_transaction ≡ false }
-    ensures doubt { doubt (state S.Store connection.old).is_clean ≤ doubt (state S.Store connection.new).is_clean }
+    ensures doubt { doubt (state S.Store connection.old).is_clean ≤ doubt
+        (state S.Store connection.new).is_clean }
     ensures faults { (state S.Store connection.old).faults ≤ (state S.Store connection.new).faults }
 {
     answer(

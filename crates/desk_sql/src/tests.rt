@@ -31,6 +31,7 @@ fn the_tables_made_are_a_desk(rt: HostRuntime) -> Result<(), Fail> {
 fn another_table_is_other(rt: HostRuntime) -> Result<(), Fail> {
     let mut connection = Connection::open_in_memory(rt.alloc())?;
     connection.execute_batch("CREATE TABLE note (title TEXT)")?;
+    assert!(rt; connection.is_autocommit());
     assert_eq!(rt; find_tables(&mut connection)?, Found::Other);
     Ok(())
 }
@@ -40,6 +41,7 @@ fn a_table_beside_is_other(rt: HostRuntime) -> Result<(), Fail> {
     let mut connection = Connection::open_in_memory(rt.alloc())?;
     make_tables(&mut connection)?;
     connection.execute_batch("CREATE TABLE note (title TEXT)")?;
+    assert!(rt; connection.is_autocommit());
     assert_eq!(rt; find_tables(&mut connection)?, Found::Other);
     Ok(())
 }
