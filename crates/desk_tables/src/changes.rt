@@ -1,6 +1,8 @@
 //! Changes of a store's tables.
 
-ghost use Rattle.std.specs.Prelude.{◌≤◌, OnOk, OnErr};
+ghost use Rattle.std.specs.Prelude.{◌≡◌, ◌≤◌, pos, IfOk, OnOk, OnErr};
+ghost use Rattle.sqlite_value.specs.declared.value.Value.TheVariants.{Int};
+ghost use Rattle.sqlite_value.specs.Order.{column};
 ghost use Rattle.sqlite_trees.specs.View.{doubt};
 ghost use Rattle.sqlite.specs.State.{HasCleanDisk};
 ghost use Rattle.sqlite.specs.Held.{state};
@@ -18,7 +20,7 @@ use desk_rules::plan::PlanRow;
 use desk_rules::plan_id::PlanId;
 use desk_sql::{PlanRow as HeadRow, clear_plans, close_plan, put_operator, put_plan};
 use desk_store::{Change, StoreFault};
-use sqlite::Connection;
+use sqlite::{Connection, Row};
 use sqlite_trees::store::Alter;
 use std::alloc::Global;
 
@@ -130,14 +132,23 @@ fn close<S: Alter>(
     let Some(head) = heads.first() else {
         return Err(StoreFault::Store);
     };
-    let priority = count_at(head, 2)?;
-    let aircraft = count_at(head, 4)?;
+    let (priority, aircraft) = numbers_in(head)?;
     let mut buffer = [0u8; 36];
     let text = id.encode(&mut buffer);
     match close_plan(connection, operator.as_str(), text, priority, aircraft) {
         Ok(()) => Ok(()),
         Err(e) => Err(fault_of(e)),
     }
+}
+
+// The priority in the row of a plan, and the number of the state of its aircraft.
+fn numbers_in(head: &Row) -> Result<(u32, u32), StoreFault>
+    ensures priority { IfOk result (λ found. column head.now 2 ≡ Int (pos found.0)) }
+    ensures aircraft { IfOk result (λ found. column head.now 4 ≡ Int (pos found.1)) }
+{
+    let priority = count_at(head, 2)?;
+    let aircraft = count_at(head, 4)?;
+    Ok((priority, aircraft))
 }
 
 // Takes the operator's plans of the ids out.
