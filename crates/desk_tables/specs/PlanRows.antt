@@ -12,7 +12,7 @@ abbrev pub AreAskedOf : List Block → List (List ℕ) → Type 0
 AreAskedOf volumes asked = asked ≡ map (λ v. footprint_bytes v.footprint) volumes
 
 abbrev pub volume_record : List ℕ → List ℕ → ℕ → WindowParts → List ℕ → Row
-volume_record operator id place window asked = sql.volume_row operator id place window.lower window.upper window.start window.end asked
+volume_record operator id place w asked = sql.volume_row operator id place w.lower w.upper w.start w.end asked
 
 abbrev pub slab_record : List ℕ → List ℕ → ℕ → ℕ → Slab → Row
 slab_record operator id place priority s =
