@@ -1,0 +1,19 @@
+use Rattle.std.proofs.Common.{◌∙◌, ◌<◌, length, inr, sym, subst, arith, rules}
+use Rattle.std.specs.Prelude.{IsSome}
+use Rattle.desk_store.specs.FaultLaws.{was_honest}
+use Rattle.desk_store.specs.StoreChange.{IsFitting}
+use Rattle.desk_store.specs.World.{ceiling_of, plans_of}
+use Rattle.desk_tables.proofs.tests.put.Goals as goal
+
+pub apply-requires : goal.apply-requires
+unfolding IsFitting
+apply-requires c = λ honest.
+    let o = c.args.operator in
+    let counted = c.in_ok-own_count.ensures.value honest in
+    let listed = c.in_ok-ceiling.ensures.value (was_honest c.own_count.ensures.doubt honest) in
+    let some : IsSome c.in_ok-ceiling.field-0 = search rules in
+    (
+      inr (subst (λ w. length (plans_of o w) < 200) (sym c.own_count.ensures.same) (omega (arith, counted, c.if-branch-lt200.true))),
+      c.if-row-gt1000.false,
+      subst (λ w. IsSome (ceiling_of o w)) (sym (c.own_count.ensures.same ∙ c.ceiling.ensures.same)) (subst IsSome listed some),
+    )
