@@ -12,3 +12,5 @@ pub mod StoreLemmas
 pub mod ListingLemmas
 pub mod JoinLemmas
 pub mod JoinedLemmas
+pub mod UnreadLemmas
+pub mod ExactLemmas

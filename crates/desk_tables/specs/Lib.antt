@@ -4,3 +4,4 @@ pub mod TableChanges
 pub mod Reading
 pub mod Lookups
 pub mod Store
+pub mod Records

@@ -2,6 +2,7 @@
 #![tactic(auto)]
 
 mod changes;
+mod exact;
 mod kept;
 pub mod laws;
 mod listing;

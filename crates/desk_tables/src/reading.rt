@@ -1,16 +1,20 @@
 //! From rows to what they stand for.
 
-ghost use Rattle.std.specs.Prelude.{◌≡◌, ◌≤◌, ℕ, List, pos, IfOk};
+ghost use Rattle.std.specs.Prelude.{◌≡◌, ◌≢◌, ◌≤◌, ◌<◌, ◌^◌, ℕ, ℤ, List, pos, IsTrue, IsUtf8, FitsSigned, IfOk, IfErr};
+ghost use Rattle.std.specs.Int.{w32};
 ghost use Rattle.std.specs.List.{AllByRecursion, AllZip};
 ghost use Rattle.std.specs.String.{string_bytes};
 ghost use Rattle.sqlite_value.specs.declared.value.Value.TheVariants.{Int, Text, Blob};
 ghost use Rattle.sqlite_value.specs.Order.{column};
-ghost use Rattle.volume4d.specs.Volume.{Block};
+ghost use Rattle.volume4d.specs.Volume.{Block, is_area};
 ghost use Rattle.desk_rules.specs.declared.plan.PlanRow.{PlanRow as Plan};
+ghost use Rattle.desk_rules.specs.declared.words.Usage.{Usage as Use};
+ghost use Rattle.desk_rules.specs.declared.words.Aircraft.{Aircraft as State};
 ghost use Rattle.desk_tables.specs.Tables.{id_text, usage_number, aircraft_number};
 ghost use Rattle.desk_tables.specs.Content.{IsId, IsBlock};
 ghost use Rattle.desk_tables.specs.Reading.{IsVolumeAt, IsHead};
 ghost use Rattle.desk_tables.specs.Lookups.{IsCeilingIn};
+ghost use Rattle.desk_tables.specs.Records.{AreNumbersOf};
 
 use desk_rules::plan::PlanRow;
 use desk_rules::plan_id::PlanId;
@@ -22,7 +26,9 @@ use volume4d::laws::one_shape;
 use volume4d::{Area, Footprint, Volume, VolumeFault, Window};
 
 /// The fault of a store that an error of SQLite is.
-pub(crate) fn fault_of(error: Error) -> StoreFault {
+pub(crate) fn fault_of(error: Error) -> StoreFault
+    ensures { result ≡ StoreFault.Store → error ≢ Error.SqliteFailure ErrorCode.OutOfMemory }
+{
     match error {
         Error::SqliteFailure(ErrorCode::OutOfMemory) => StoreFault::OutOfMemory,
         _ => StoreFault::Store,
@@ -31,7 +37,9 @@ pub(crate) fn fault_of(error: Error) -> StoreFault {
 
 // The number in a column.
 fn narrow_at(row: &Row, at: usize) -> Result<i32, StoreFault>
-    ensures { IfOk result (λ n. column row.now at ≡ Int n) }
+    ensures value { IfOk result (λ n. column row.now at ≡ Int n) }
+    ensures none { IfErr result (λ e. e ≡ StoreFault.Store →
+        (n : ℤ) → FitsSigned w32 n → column row.now at ≢ Int n) }
 {
     match row.get(at) {
         Ok(n) => Ok(n),
@@ -41,7 +49,8 @@ fn narrow_at(row: &Row, at: usize) -> Result<i32, StoreFault>
 
 // The number in a column.
 fn wide_at(row: &Row, at: usize) -> Result<i64, StoreFault>
-    ensures { IfOk result (λ n. column row.now at ≡ Int n) }
+    ensures value { IfOk result (λ n. column row.now at ≡ Int n) }
+    ensures none { IfErr result (λ e. e ≡ StoreFault.Store → (n : ℤ) → column row.now at ≢ Int n) }
 {
     match row.get(at) {
         Ok(n) => Ok(n),
@@ -51,7 +60,9 @@ fn wide_at(row: &Row, at: usize) -> Result<i64, StoreFault>
 
 // The bytes in a column.
 fn blob_at(row: &Row, at: usize) -> Result<Vec<u8>, StoreFault>
-    ensures { IfOk result (λ bytes. column row.now at ≡ Blob bytes.items) }
+    ensures value { IfOk result (λ bytes. column row.now at ≡ Blob bytes.items) }
+    ensures none { IfErr result (λ e. e ≡ StoreFault.Store →
+        (bytes : List ℕ) → column row.now at ≢ Blob bytes) }
 {
     match row.get(at) {
         Ok(bytes) => Ok(bytes),
@@ -66,8 +77,11 @@ fn blob_at(row: &Row, at: usize) -> Result<Vec<u8>, StoreFault>
 /// `OutOfMemory` if memory runs out. `Store` if they are no volume's.
 pub(crate) fn volume_in(alloc: Global, row: &Row, at: usize) -> Result<Volume, StoreFault>
     requires { at ≤ 6 }
-    ensures { IfOk result (λ volume. (v : Block) → IsBlock v → IsVolumeAt row.now at v
+    ensures value { IfOk result (λ volume. (v : Block) → IsBlock v → IsVolumeAt row.now at v
         → volume ≡ v) }
+    ensures is { IfOk result (λ volume. IsBlock volume × IsVolumeAt row.now at volume) }
+    ensures none { IfErr result (λ e. e ≡ StoreFault.Store →
+        (v : Block) → IsBlock v → ¬ IsVolumeAt row.now at v) }
 {
     one_shape();
     let lower = narrow_at(row, at)?;
@@ -83,8 +97,17 @@ pub(crate) fn volume_in(alloc: Global, row: &Row, at: usize) -> Result<Volume, S
     };
     match Volume::try_new(alloc, footprint, window) {
         Ok(volume) => Ok(volume),
-        Err(VolumeFault::OutOfMemory) => Err(StoreFault::OutOfMemory),
-        Err(_) => Err(StoreFault::Store),
+        Err(e) => Err(fault_from(e)),
+    }
+}
+
+// The fault of a store in whose rows no volume stands.
+fn fault_from(fault: VolumeFault) -> StoreFault
+    ensures { result ≡ StoreFault.Store → fault ≢ VolumeFault.OutOfMemory }
+{
+    match fault {
+        VolumeFault::OutOfMemory => StoreFault::OutOfMemory,
+        _ => StoreFault::Store,
     }
 }
 
@@ -95,8 +118,13 @@ pub(crate) fn volume_in(alloc: Global, row: &Row, at: usize) -> Result<Volume, S
 /// `OutOfMemory` if memory runs out. `Store` if they are no area's.
 pub(crate) fn area_in(alloc: Global, rows: &[Row], at: usize) -> Result<Area, StoreFault>
     requires { at ≤ 6 }
-    ensures { IfOk result (λ area. (vs : List Block) → AllByRecursion IsBlock vs
+    ensures value { IfOk result (λ area. (vs : List Block) → AllByRecursion IsBlock vs
         → AllZip (λ row v. IsVolumeAt row at v) rows.now vs → area ≡ vs) }
+    ensures are { IfOk result (λ area. AllByRecursion IsBlock area
+        × AllZip (λ row v. IsVolumeAt row at v) rows.now area) }
+    ensures none { IfErr result (λ e. e ≡ StoreFault.Store →
+        (vs : List Block) → IsTrue (is_area vs) → AllByRecursion IsBlock vs
+        → ¬ AllZip (λ row v. IsVolumeAt row at v) rows.now vs) }
 {
     let mut volumes = Vec::new(alloc);
     for row in rows {
@@ -108,9 +136,15 @@ pub(crate) fn area_in(alloc: Global, rows: &[Row], at: usize) -> Result<Area, St
     }
 }
 
-// The number in a column.
-fn count_at(row: &Row, at: usize) -> Result<u32, StoreFault>
-    ensures { IfOk result (λ n. column row.now at ≡ Int (pos n)) }
+/// The number in a column.
+///
+/// # Errors
+///
+/// `OutOfMemory` if memory runs out. `Store` if the column is no number of 32 bits.
+pub(crate) fn count_at(row: &Row, at: usize) -> Result<u32, StoreFault>
+    ensures value { IfOk result (λ n. column row.now at ≡ Int (pos n)) }
+    ensures none { IfErr result (λ e. e ≡ StoreFault.Store →
+        (n : ℕ) → n < 2 ^ 32 → column row.now at ≢ Int (pos n)) }
 {
     match row.get(at) {
         Ok(n) => Ok(n),
@@ -120,7 +154,9 @@ fn count_at(row: &Row, at: usize) -> Result<u32, StoreFault>
 
 // The text in a column.
 fn text_at(row: &Row, at: usize) -> Result<String, StoreFault>
-    ensures { IfOk result (λ text. column row.now at ≡ Text (string_bytes text)) }
+    ensures value { IfOk result (λ text. column row.now at ≡ Text (string_bytes text)) }
+    ensures none { IfErr result (λ e. e ≡ StoreFault.Store →
+        (text : List ℕ) → IsUtf8 text → column row.now at ≢ Text text) }
 {
     match row.get(at) {
         Ok(text) => Ok(text),
@@ -130,8 +166,11 @@ fn text_at(row: &Row, at: usize) -> Result<String, StoreFault>
 
 // The id in the second column.
 fn id_in(row: &Row) -> Result<PlanId, StoreFault>
-    ensures { IfOk result (λ found. (id : List ℕ) → IsId id
+    ensures value { IfOk result (λ found. (id : List ℕ) → IsId id
         → column row.now 1 ≡ Text (id_text id) → found ≡ id) }
+    ensures is { IfOk result (λ found. IsId found) }
+    ensures none { IfErr result (λ e. e ≡ StoreFault.Store →
+        (id : List ℕ) → IsId id → column row.now 1 ≢ Text (id_text id)) }
 {
     let text = text_at(row, 1)?;
     match PlanId::try_parse(&text) {
@@ -142,7 +181,9 @@ fn id_in(row: &Row) -> Result<PlanId, StoreFault>
 
 // The usage in the fourth column.
 fn usage_in(row: &Row) -> Result<Usage, StoreFault>
-    ensures { IfOk result (λ usage. column row.now 3 ≡ Int (pos (usage_number usage))) }
+    ensures value { IfOk result (λ usage. column row.now 3 ≡ Int (pos (usage_number usage))) }
+    ensures none { IfErr result (λ e. e ≡ StoreFault.Store →
+        (usage : Use) → column row.now 3 ≢ Int (pos (usage_number usage))) }
 {
     match count_at(row, 3)? {
         0 => Ok(Usage::Planned),
@@ -154,7 +195,9 @@ fn usage_in(row: &Row) -> Result<Usage, StoreFault>
 
 // The state of the aircraft in the fifth column.
 fn aircraft_in(row: &Row) -> Result<Aircraft, StoreFault>
-    ensures { IfOk result (λ aircraft. column row.now 4 ≡ Int (pos (aircraft_number aircraft))) }
+    ensures value { IfOk result (λ aircraft. column row.now 4 ≡ Int (pos (aircraft_number aircraft))) }
+    ensures none { IfErr result (λ e. e ≡ StoreFault.Store →
+        (aircraft : State) → column row.now 4 ≢ Int (pos (aircraft_number aircraft))) }
 {
     match count_at(row, 4)? {
         0 => Ok(Aircraft::Nominal),
@@ -170,8 +213,12 @@ fn aircraft_in(row: &Row) -> Result<Aircraft, StoreFault>
 ///
 /// `OutOfMemory` if memory runs out. `Store` if they are no plan's.
 pub(crate) fn plan_in(row: &Row, area: Area) -> Result<PlanRow, StoreFault>
-    ensures { IfOk result (λ plan. (p : Plan) → IsId p.id → IsHead row.now p → area ≡ p.area
-        → plan ≡ p) }
+    ensures value { IfOk result (λ plan. (p : Plan) → IsId p.id → IsHead row.now p
+        → area ≡ p.area → plan ≡ p) }
+    ensures is { IfOk result (λ plan. IsId plan.id × (plan.area ≡ area)
+        × AreNumbersOf row.now plan) }
+    ensures none { IfErr result (λ e. e ≡ StoreFault.Store →
+        (p : Plan) → IsId p.id → p.priority < 2 ^ 32 → ¬ IsHead row.now p) }
 {
     Ok(PlanRow {
         id: id_in(row)?,
