@@ -12,5 +12,13 @@ pub mod StoreLemmas
 pub mod ListingLemmas
 pub mod JoinLemmas
 pub mod JoinedLemmas
+pub mod AscendLemmas
+pub mod OperatorLemmas
+pub mod PlanLemmas
+pub mod SpanLemmas
+pub mod ShareLemmas
+pub mod KeyOrderLemmas
+pub mod AssemblyLemmas
+pub mod OpeningLemmas
 pub mod UnreadLemmas
 pub mod ExactLemmas

@@ -2,16 +2,18 @@
 #![tactic(auto)]
 
 mod changes;
+mod content;
 mod exact;
 mod kept;
 pub mod laws;
 mod listing;
 mod open;
+mod opening;
 mod readers;
 mod reading;
 mod store;
 #[cfg(test)]
 mod tests;
 
-pub use open::OpenFault;
+pub use open::{AdoptFault, OpenFault};
 pub use store::SqliteStore;
