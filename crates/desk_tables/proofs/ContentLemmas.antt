@@ -54,7 +54,7 @@ one_listed l k e =
     let ceiling : l.ceiling ≡ k.ceiling = cc in
     λ i. record { name = name i; ceiling = ceiling i }
 
-one_operators : (ls ks : List Listed) → map operator_row ls ≡ map operator_row ks → ls ≡ ks
+pub one_operators : (ls ks : List Listed) → map operator_row ls ≡ map operator_row ks → ls ≡ ks
 one_operators [] [] e = refl
 one_operators [] (k ∷ ks) e = cc
 one_operators (l ∷ ls) [] e = cc
@@ -140,7 +140,7 @@ module _ (one_shape : (one other : Shape) → HasValidParts one → HasValidPart
         };
       }
 
-  one_plans : (ps qs : List Filed) → ArePlans ps → ArePlans qs → plan_rows ps ≡ plan_rows qs → volume_rows ps ≡ volume_rows qs → ps ≡ qs
+  pub one_plans : (ps qs : List Filed) → ArePlans ps → ArePlans qs → plan_rows ps ≡ plan_rows qs → volume_rows ps ≡ volume_rows qs → ps ≡ qs
   one_plans [] [] hp hq e f = refl
   one_plans [] (q ∷ qs) hp hq e f = cc
   one_plans (p ∷ ps) [] hp hq e f = cc

@@ -15,5 +15,13 @@ pub mod JoinedLemmas
 pub mod RecordLemmas
 pub mod ClearLemmas
 pub mod CloseLemmas
+pub mod AscendLemmas
+pub mod OperatorLemmas
+pub mod PlanLemmas
+pub mod SpanLemmas
+pub mod ShareLemmas
+pub mod KeyOrderLemmas
+pub mod AssemblyLemmas
+pub mod OpeningLemmas
 pub mod UnreadLemmas
 pub mod ExactLemmas

@@ -6,3 +6,4 @@ pub mod Reading
 pub mod Lookups
 pub mod Store
 pub mod Records
+pub mod Opening

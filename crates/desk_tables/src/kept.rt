@@ -5,6 +5,7 @@ ghost use Rattle.std.specs.Borrow.{ftrue};
 ghost use Rattle.desk_store.specs.World.{World};
 ghost use Rattle.desk_store.specs.StoreChange.{changed_by};
 
+use crate::content::Content;
 use desk_store::Change;
 use std::marker::Model;
 
@@ -29,6 +30,13 @@ impl Kept {
     /// The world after a change.
     pub fn after(_before: &Kept, _change: &Change) -> Kept
         ensures { result.world ≡ changed_by _change.now _before.now.world }
+    {
+        Kept {}
+    }
+
+    /// The world of a content that was read.
+    pub(crate) fn of(_content: &Content) -> Kept
+        ensures { result.world ≡ _content.now }
     {
         Kept {}
     }

@@ -2,11 +2,13 @@
 #![tactic(auto)]
 
 mod changes;
+mod content;
 mod exact;
 mod kept;
 pub mod laws;
 mod listing;
 mod open;
+mod opening;
 mod readers;
 mod reading;
 mod records;
@@ -14,5 +16,5 @@ mod store;
 #[cfg(test)]
 mod tests;
 
-pub use open::OpenFault;
+pub use open::{AdoptFault, OpenFault};
 pub use store::SqliteStore;

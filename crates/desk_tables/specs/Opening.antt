@@ -1,0 +1,121 @@
+-- What all rows of a desk's tables stand for, and what a store over a connection begins with.
+use Rattle.std.specs.Prelude.{◌≡◌, ◌≤◌, ℕ, ◌⊎◌, Bool, true, false, ◌&&◌, List, [], ◌∷◌, length, map, codes, IsTrue}
+use Rattle.std.specs.List.{AllByRecursion}
+use Rattle.std.specs.List.Sorted.{IsStrictlySortedBy}
+use Rattle.std.specs.declared.cmp.Ordering.{Ordering}
+use Rattle.std.specs.Ordering.{is_lt, is_eq}
+use Rattle.sqlite_trees.specs.declared.store.Store.{Ghosts}
+use Rattle.sqlite_value.specs.declared.value.Value.{Value}
+use Rattle.sqlite_value.specs.declared.value.Value.TheVariants.{Null, Int, Real, Text, Blob}
+use Rattle.sqlite_value.specs.Order.{Row, column}
+use Rattle.sqlite.specs.Effect.{Database}
+use Rattle.sqlite.specs.State.{HasCleanDisk}
+use Rattle.sqlite.specs.Held.{Held, state}
+use Rattle.desk_rules.specs.Limits.{max_plans}
+use Rattle.desk_sql.specs.Schema.{blank_schema}
+use Rattle.desk_sql.specs.Finding.{HasOthers}
+use Rattle.desk_sql.specs.Making.{HasEmpty}
+use Rattle.desk_sql.specs.Rows.{Tables, Lists, tables_of}
+use Rattle.desk_sql.specs.Effects.{ShowsAsBefore}
+use Rattle.desk_store.specs.World.{Filed, Listed, World, IsListed, text_cmp, listed_cmp, filed_cmp, rows_by}
+use Rattle.desk_tables.specs.Tables.{operator_row, operator_rows, plan_rows, volume_rows, AreSpanRows, AreTables}
+use Rattle.desk_tables.specs.Content.{IsContent}
+use Rattle.desk_tables.specs.declared.open.OpenFault.{OpenFault}
+use Rattle.desk_tables.specs.declared.open.OpenFault.TheVariants.{OutOfMemory, Store, NotADesk}
+use Rattle.desk_tables.specs.Records.{IsOperator, IsFiled}
+use Rattle.desk_tables.specs.Store.{IsStanding}
+
+-- why a store cannot be opened
+abbrev pub fault_text : OpenFault → List ℕ
+fault_text OutOfMemory = codes "out of memory"
+fault_text Store = codes "the database failed"
+fault_text NotADesk = codes "the tables are not a desk's"
+
+-- ---- rows in the order of their keys
+
+abbrev pub has_text : Value → List ℕ → Bool
+has_text Null text = false
+has_text (Int n) text = false
+has_text (Real x) text = false
+has_text (Text t) text = is_eq (text_cmp t text)
+has_text (Blob b) text = false
+
+-- a row of `plan`, `volume` or `span` of the operator's plan with this text for its id
+abbrev pub is_of : List ℕ → List ℕ → Row → Bool
+is_of operator id row = has_text (column row 0) operator && has_text (column row 1) id
+
+-- the rows of these operators
+pub record AreOperatorRows (ls : List Listed) (rows : List Row) : Type 0 where
+  pub within : AllByRecursion IsOperator ls
+  pub are : rows ≡ map operator_row ls
+
+-- the rows of these plans, and those of their volumes
+pub record ArePlanRows (ps : List Filed) (heads volumes : List Row) : Type 0 where
+  pub within : AllByRecursion IsFiled ps
+  pub plans : heads ≡ plan_rows ps
+  pub areas : volumes ≡ volume_rows ps
+
+-- each plan's operator is among these, and none has too many plans
+pub record AreShared (ls : List Listed) (ps : List Filed) : Type 0 where
+  pub listed : AllByRecursion (IsListed (record { operators = ls; plans = ps })) ps
+  pub few : (operator : List ℕ) → length (rows_by operator ps) ≤ max_plans
+
+-- operators by name, plans by operator and id, each operator's plans few, and the rows of `span` those of the plans
+pub record AreAgreed (ls : List Listed) (ps : List Filed) (rows : List Row) : Type 0 where
+  pub names : IsStrictlySortedBy listed_cmp ls
+  pub keys : IsStrictlySortedBy filed_cmp ps
+  pub shared : AreShared ls ps
+  pub spans : AreSpanRows ps rows
+
+-- the tables, each in the order of its key, have the rows of the world in that order
+pub record AreRows (t : Tables) (w : World) : Type 0 where
+  pub operator_part : t.operators ≡ operator_rows w
+  pub plan_part : t.plans ≡ plan_rows w.plans
+  pub volume_part : t.volumes ≡ volume_rows w.plans
+  pub span_part : AreSpanRows w.plans t.spans
+
+-- an element is below the first of a list, if there is one
+abbrev pub is_below_first : {X : Type 0} → (X → X → Ordering) → X → List X → Bool
+is_below_first cmp x [] = true
+is_below_first cmp x (y ∷ ys) = is_lt (cmp x y)
+
+-- the tables, each put in the order of its key
+pub record AreInOrder (t rows : Tables) : Type 0 where
+  pub operator_part : Lists (0 ∷ []) t.operators rows.operators
+  pub plan_part : Lists (0 ∷ 1 ∷ []) t.plans rows.plans
+  pub volume_part : Lists (0 ∷ 1 ∷ 2 ∷ []) t.volumes rows.volumes
+  pub span_part : Lists (0 ∷ 1 ∷ 2 ∷ 3 ∷ []) t.spans rows.spans
+
+-- ---- what a store begins with
+
+-- the tables are a content's
+pub record IsContentOf (t : Tables) (w : World) : Type 0 where
+  pub content : IsContent w
+  pub tables : AreTables t w
+
+-- of no content
+abbrev pub AreNoContent : Tables → Type 0
+AreNoContent t = (w : World) → IsContent w → ¬ AreTables t w
+
+-- there were no tables, and the world is empty
+pub record BeganBlank (db : Database) (w : World) : Type 0 where
+  pub blank : HasEmpty blank_schema db
+  pub empty : w ≡ record { operators = []; plans = [] }
+
+-- what the database showed is still shown, and is a desk's tables with the rows of the world
+pub record WasFound {S : Type 0} (g : Ghosts S) (old new : Held S) (w : World) : Type 0 where
+  pub standing : IsStanding g old w
+  pub kept : ShowsAsBefore g old new
+
+-- over a connection that is open and a clean disk, a store of this world begins
+abbrev pub BeginsWith : {S : Type 0} → Ghosts S → Held S → Held S → World → Type 0
+BeginsWith g old new w =
+    HasCleanDisk (state g new) → IsTrue (state g new).is_open → BeganBlank (state g old).now w ⊎ WasFound g old new w
+
+-- the schema is another than a desk's, or the rows are those of no content
+abbrev pub IsNoDesk : Database → Type 0
+IsNoDesk db = HasOthers db ⊎ AreNoContent (tables_of db.trees)
+
+-- what is shown is no desk's
+abbrev pub ShowsNoDesk : {S : Type 0} → Ghosts S → Held S → Held S → Type 0
+ShowsNoDesk g old new = HasCleanDisk (state g new) → IsTrue (state g new).is_open → IsNoDesk (state g old).now
