@@ -234,10 +234,10 @@ module _ (ls : List Listed) (ps : List Filed) (others later : List Listed) (l : 
     rest_is : more ≡ rest_of l.name left
     rest_is = more_is ∙ ap (λ n. drop n left) count_of ∙ dropped l.name left
 
-  pub stops : max_plans < count → IsTrue false ↔ AreShared ls ps
+  pub stops : (count ≤ max_plans → ⊥) → IsTrue false ↔ AreShared ls ps
   stops many = (
     λ t. absurd (true≢false (sym t)),
-    λ k. absurd (omega (arith, many, subst (λ n. n ≤ max_plans) (sym count_of) (share_few l later left above (all_there k)))),
+    λ k. absurd (many (subst (λ n. n ≤ max_plans) (sym count_of) (share_few l later left above (all_there k)))),
   )
 
 nobody : (ps : List Filed) → Shares [] ps → ps ≡ []

@@ -4,6 +4,7 @@ ghost use Rattle.std.specs.Prelude.{◌≡◌, ◌↔◌, ◌≤◌, List, IsTru
 ghost use Rattle.std.specs.List.{AllByRecursion, prefix_len};
 ghost use Rattle.std.specs.List.Sorted.{IsStrictlySortedBy};
 ghost use Rattle.sqlite_value.specs.Order.{column};
+ghost use Rattle.desk_rules.specs.Limits.{max_plans};
 ghost use Rattle.desk_store.specs.World as world;
 ghost use Rattle.desk_store.specs.World.{World, Listed, Filed, listed_cmp, filed_cmp};
 ghost use Rattle.desk_tables.specs.Tables.{id_text, plan_row, AreSpanRows};
@@ -292,7 +293,7 @@ fn are_shared(operators: &[ListedOperator], plans: &[FiledPlan]) -> bool
     let mut left = plans;
     while let Some((listed, later)) = others.split_first() {
         let count = own_plans(listed, left);
-        if count > MAX_PLANS as usize {
+        if !are_few(count) {
             return false;
         }
         let (_mine, more) = left.split_at(count);
@@ -300,6 +301,13 @@ fn are_shared(operators: &[ListedOperator], plans: &[FiledPlan]) -> bool
         left = more;
     }
     left.is_empty()
+}
+
+// Whether an operator may have so many plans.
+fn are_few(count: usize) -> bool
+    ensures { IsTrue result ↔ count ≤ max_plans }
+{
+    count <= MAX_PLANS as usize
 }
 
 // How many of the first plans are the operator's.

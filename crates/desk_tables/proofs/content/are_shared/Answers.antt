@@ -1,4 +1,4 @@
-use Rattle.std.proofs.Common.{ap, length, arith}
+use Rattle.std.proofs.Common.{◌∙◌, sym, ap, length, arith, true≢false}
 use Rattle.std.proofs.lemmas.Bool.Decides.{nat_tests}
 use Rattle.desk_tables.proofs.ShareLemmas.{begin, goes_on, stops, ends}
 use Rattle.desk_tables.proofs.AscendLemmas.{empty}
@@ -7,15 +7,15 @@ use Rattle.desk_tables.proofs.content.are_shared.Goals as goal
 pub loop-listed-init : goal.loop-listed-init
 loop-listed-init c = begin c.args.operators.now c.args.plans.now c.requires.names c.requires.keys
 
-pub returns-then-count : goal.returns-then-count
-returns-then-count c =
+pub returns-then-not-are_few : goal.returns-then-not-are_few
+returns-then-not-are_few c =
     stops c.args.operators.now c.args.plans.now c.loop-listed.others.now c.in-Some.later.now c.in-Some.listed.now c.loop-listed.left.now c.loop-listed.left.now c.own_plans-count.result c.loop-listed.invariant c.in-Some.ensures.cases.0 c.own_plans-count.ensures.value
-    c.if-count.true
+    (λ few. true≢false (sym (c.are_few.ensures.1 few) ∙ c.if-not-are_few.true))
 
 pub loop-listed-preserved : goal.loop-listed-preserved
 loop-listed-preserved c =
     goes_on c.args.operators.now c.args.plans.now c.loop-listed.others.now c.in-Some.later.now c.in-Some.listed.now c.loop-listed.left.now c.split_at.result.1.now c.own_plans-count.result c.loop-listed.invariant c.in-Some.ensures.cases.0 c.own_plans-count.ensures.value
-    c.if-count.false c.split_at.ensures.back
+    (c.are_few.ensures.0 c.if-not-are_few.false) c.split_at.ensures.back
 
 pub returns : goal.returns
 returns c = ends c.args.operators.now c.args.plans.now c.loop-listed.others.now c.loop-listed.left.now c.loop-listed.invariant (empty c.loop-listed.others.now c.in_default.ensures.cases) c.is_empty.result (λ t. empty c.loop-listed.left.now (grind (arith, nat_tests, c.is_empty.ensures, t))) (λ e. grind (arith, nat_tests, c.is_empty.ensures, ap length e))
