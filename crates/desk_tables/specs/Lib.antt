@@ -7,3 +7,4 @@ pub mod Lookups
 pub mod Store
 pub mod Records
 pub mod Opening
+pub mod Files

@@ -4,6 +4,7 @@
 mod changes;
 mod content;
 mod exact;
+mod files;
 mod kept;
 pub mod laws;
 mod listing;
