@@ -6,12 +6,42 @@ use rand_core::{Rng, SeedableRng};
 use rand_pcg::Pcg64;
 use s2_cellid::CellId;
 use std::alloc::{AllocError, Global};
+use std::env;
 
 /// How many plans an operator gets: as many as it may have.
 const PLANS_EACH: u32 = 200;
 
 /// How many of the last requests are sent again.
 const AGAIN: usize = 1_000;
+
+/// How many plans are filed, and what each asks for.
+#[derive(Clone, Copy, Debug)]
+pub struct Sizes {
+    pub plans: u32,
+    /// The cells of each volume.
+    pub cells: u32,
+    /// The volumes of each plan.
+    pub volumes: u32,
+}
+
+impl Sizes {
+    /// The numbers that the words after the program's name give: plans, cells, and volumes, 1 if that is left out.
+    pub fn read(mut words: env::Args) -> anyhow::Result<Sizes> {
+        Ok(Sizes {
+            plans: number_in(words.nth(1)).context("PLANS")?,
+            cells: number_in(words.next()).context("CELLS")?,
+            volumes: match words.next() {
+                None => 1,
+                word => number_in(word).context("VOLUMES")?,
+            },
+        })
+    }
+}
+
+// The number that a word is.
+fn number_in(word: Option<String>) -> anyhow::Result<u32> {
+    Ok(word.context("missing")?.as_str().parse()?)
+}
 
 /// Requests, one for each plan.
 #[derive(Drop)]
@@ -21,17 +51,17 @@ pub struct Requests {
 }
 
 impl Requests {
-    /// Requests for so many plans, each of so many volumes, each of so many cells.
-    pub fn make(alloc: Global, plans: u32, volumes: u32, cells: u32) -> anyhow::Result<Requests> {
+    /// Requests of these sizes.
+    pub fn make(alloc: Global, sizes: Sizes) -> anyhow::Result<Requests> {
         let mut generator = Pcg64::seed_from_u64(1);
         let mut texts = Vec::new(alloc);
-        for plan in 0..plans {
-            let area = random_area(alloc, &mut generator, volumes, cells)?;
+        for plan in 0..sizes.plans {
+            let area = random_area(alloc, &mut generator, sizes.volumes, sizes.cells)?;
             texts.push(request_for(alloc, plan, &area)?)?;
         }
         Ok(Requests {
             texts,
-            operators: plans / PLANS_EACH + 1,
+            operators: sizes.plans / PLANS_EACH + 1,
         })
     }
 

@@ -34,4 +34,4 @@ plans_counted operator old new rows desk h =
     length_permutation (filter (is_by operator) (tables_of old.now.trees).plans) rows
     (subst (λ xs. IsPermutation xs rows)
     (scanned (λ r. (Text operator ∷ []) ∷ r ∷ []) plans_by_query.filter plans_by_query.project (columns 5) (is_by operator) (λ r. refl) (λ r. both_hold _ ∙ equals_text (column r 1) operator) (old.now.trees 2))
-    (shows plans_by_text _ _ _ _ _ plans_by_is (Text operator ∷ []) old new rows desk h))
+    (shows plans_by_text _ _ _ _ _ plans_by_is (Text operator ∷ []) old new rows desk.schema h))

@@ -16,3 +16,6 @@ pub mod UpdateLemmas
 pub mod SetLemmas
 pub mod EnrolLemmas
 pub mod CountLemmas
+pub mod SchemaLemmas
+pub mod RowidLemmas
+pub mod ClearLemmas

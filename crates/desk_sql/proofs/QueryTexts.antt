@@ -13,7 +13,7 @@ use Rattle.sqlite_tied.specs.Compute.{everything}
 use Rattle.sqlite.specs.Listing.{understood, reads_listing}
 use Rattle.sqlite.proofs.Callers.{IsPlain, command_of}
 use Rattle.desk_sql.specs.Schema.{desk_schema}
-use Rattle.desk_sql.proofs.Texts.{operator_named_text, all_operators_text, plan_of_text, all_plans_text, volumes_of_text, all_volumes_text, all_spans_text, own_plans_text, rivals_text}
+use Rattle.desk_sql.proofs.Texts.{operator_named_text, all_operators_text, plan_of_text, all_plans_text, volumes_of_text, all_volumes_text, all_spans_text, own_plans_text, rivals_text, operator_rowids_text, plan_rowids_text, volume_rowids_text, span_rowids_text}
 
 abbrev pub query_of : Join → List Term → List Term → List (Term × Key) → Query
 query_of from filter project order = record {
@@ -96,3 +96,23 @@ rivals_query = query_of (inner 2 (inner 4 end)) (op2 (Compare Eq Binary) (col 2 
 pub rivals_is : IsQuery rivals_text rivals_query (codes "operator" ∷ codes "id" ∷ codes "priority" ∷ codes "usage" ∷ codes "aircraft" ∷ codes "place" ∷ codes "lower" ∷ codes "upper" ∷ codes "start" ∷ codes "stop" ∷ codes "asked" ∷ [])
 unfolding understood everything
 rivals_is = record { is = refl; plain = (refl, refl); unlisted = refl }
+
+-- the rowids of the table in a tree
+abbrev pub rowids_query : ℕ → Query
+rowids_query tree = query_of (inner tree end) ([]) (col 1 0 ∷ []) ((col 1 0, ascending Binary) ∷ [])
+
+pub operator_rowids_is : IsQuery operator_rowids_text (rowids_query 0) (codes "rowid" ∷ [])
+unfolding understood everything
+operator_rowids_is = record { is = refl; plain = (refl, refl); unlisted = refl }
+
+pub plan_rowids_is : IsQuery plan_rowids_text (rowids_query 2) (codes "rowid" ∷ [])
+unfolding understood everything
+plan_rowids_is = record { is = refl; plain = (refl, refl); unlisted = refl }
+
+pub volume_rowids_is : IsQuery volume_rowids_text (rowids_query 4) (codes "rowid" ∷ [])
+unfolding understood everything
+volume_rowids_is = record { is = refl; plain = (refl, refl); unlisted = refl }
+
+pub span_rowids_is : IsQuery span_rowids_text (rowids_query 6) (codes "rowid" ∷ [])
+unfolding understood everything
+span_rowids_is = record { is = refl; plain = (refl, refl); unlisted = refl }

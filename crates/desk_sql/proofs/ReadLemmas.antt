@@ -26,8 +26,9 @@ use Rattle.sqlite.specs.Held.{Held, state}
 use Rattle.sqlite_value.proofs.OrderLemmas.{value_cmp-Null, value_cmp-apart}
 use Rattle.sqlite_keyed.proofs.ListLemmas.{map-map}
 use Rattle.sqlite.proofs.Callers.{IsPlain, reads_as}
-use Rattle.desk_sql.specs.Rows.{IsDesk, is_text, is_same, differs}
-use Rattle.desk_sql.specs.Effects.{ShowsAsBefore, IsReady}
+use Rattle.desk_sql.specs.Rows.{is_text, is_same, differs}
+use Rattle.desk_sql.specs.Effects.{ShowsAsBefore}
+use Rattle.desk_sql.specs.Finding.{Holds, HasDeskSchema}
 use Rattle.desk_sql.proofs.QueryTexts.{IsQuery, query_of}
 
 -- ---- the connection was open, and shows what it showed
@@ -70,12 +71,12 @@ module _ {S : Type 0} (g : Ghosts S) (old new : Held S) where
       let back = h.undone live in
       record { was_open = was; now = back.0 ∙ sym (settled was); committed = back.1 }
 
-  module _ {V : Type 0} (items : V → List Row) (text : List ℕ) (params : Row) (ready : IsReady g old) (plain : IsPlain (understood desk_schema text)) (settled : IsTrue (state g old).is_open → (state g old).now ≡ (state g old).committed) where
+  module _ {V : Type 0} (items : V → List Row) (text : List ℕ) (params : Row) (known : Holds g old HasDeskSchema) (plain : IsPlain (understood desk_schema text)) (settled : IsTrue (state g old).is_open → (state g old).now ≡ (state g old).committed) where
     pub kept_if : (r : Result V Error) → HasCleanDisk (state g old) → IfOk r (λ v. Shown text params (state g old) (state g new) (items v)) → IfErr r (FailsToQuery text params (state g old) (state g new))
         → IsTrue (state g new).is_open → ShowsAsBefore g old new
     kept_if (Ok v) clean shown _ live =
-        let desk = ready clean (was_open text params _ _ _ shown) in
-        if_unchanged (unmoved text params _ _ _ (subst (λ s. IsPlain (understood s text)) (sym desk.schema) plain) shown)
+        let schema = known clean (was_open text params _ _ _ shown) in
+        if_unchanged (unmoved text params _ _ _ (subst (λ s. IsPlain (understood s text)) (sym schema) plain) shown)
     kept_if (Err e) clean _ fails live = if_either settled live (failed text params _ _ e fails)
 
 -- an answer comes from an open connection alone
@@ -89,14 +90,14 @@ module _ (text : List ℕ) (from : Join) (terms : List Term) (project : List Ter
   abbrev query : Query
   query = query_of from terms project order
 
-  pub answered : (params : Row) (old new : State) (rows : List Row) → IsDesk old.now → Shown text params old new rows
+  pub answered : (params : Row) (old new : State) (rows : List Row) → HasDeskSchema old.now → Shown text params old new rows
       → IsAnswer query (overlay old.now.trees []) params rows
-  answered params old new rows desk h = (reads_as text params old new desk_schema desk.schema _ known.is known.plain known.unlisted rows h).answer Null
+  answered params old new rows schema h = (reads_as text params old new desk_schema schema _ known.is known.plain known.unlisted rows h).answer Null
 
-  pub shows : (params : Row) (old new : State) (rows : List Row) → IsDesk old.now → Shown text params old new rows
+  pub shows : (params : Row) (old new : State) (rows : List Row) → HasDeskSchema old.now → Shown text params old new rows
       → IsPermutation (map (eval_all project) (matches (overlay old.now.trees []) terms from (params ∷ []))) rows
-  shows params old new rows desk h =
-      let a = answered params old new rows desk h in
+  shows params old new rows schema h =
+      let a = answered params old new rows schema h in
       let all = matches (overlay old.now.trees []) terms from (params ∷ []) in
       let kept : a.kept ≡ map (output query) all = a.distinct ∙ ap (map (output query)) a.grouped in
       let second : map (λ (o : Output). o.1) a.kept ≡ map (eval_all project) all = ap (map (λ (o : Output). o.1)) kept ∙ map-map (λ (o : Output). o.1) (output query) all in

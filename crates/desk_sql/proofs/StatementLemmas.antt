@@ -32,7 +32,7 @@ both_hold : (a : Bool) → (a && true) ≡ a
 both_hold true = refl
 both_hold false = refl
 
-every : (rows : List Row) → filter (λ r. true) rows ≡ rows
+pub every : (rows : List Row) → filter (λ r. true) rows ≡ rows
 every [] = refl
 every (r ∷ rows) = ap (λ xs. r ∷ xs) (every rows)
 
@@ -57,12 +57,12 @@ module _ (text : List ℕ) (from : Join) (terms : List Term) (project : List Ter
       → map (eval_all project) (matches (overlay old.now.trees []) terms from (params ∷ [])) ≡ wanted → Lists cells wanted rows
   lists keys compares are =
       let query = query_of from terms project order in
-      let a = answered text from terms project order names known params old new rows desk h in
+      let a = answered text from terms project order names known params old new rows desk.schema h in
       let P = λ (o : Output). o.0 ≡ map (column o.1) cells in
       let each : All P (map (output query) a.staged) = λ i d low. subst P (sym (get_or-map (output query) a.staged i [] d (omega (arith, low, length-map a.staged (output query))))) (keys (slice_index_or a.staged i [])) in
       let all : All P a.ordered = All-permutation P a.kept a.ordered a.same (subst (All P) (sym a.distinct) each) in
       record {
-        same = subst (λ xs. IsPermutation xs rows) are (shows text from terms project order names known params old new rows desk h);
+        same = subst (λ xs. IsPermutation xs rows) are (shows text from terms project order names known params old new rows desk.schema h);
         sorted = subst (IsSorted (by_cells cells)) (sym a.shown) (sorted_shown (map (λ k. k.1) order) cells a.ordered compares all a.sorted);
       }
 

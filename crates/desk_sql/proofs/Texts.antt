@@ -69,3 +69,15 @@ remove_spans_text = codes "DELETE FROM span WHERE operator = ?1 AND id = ?2"
 
 abbrev pub plans_by_text : List ℕ
 plans_by_text = codes "SELECT operator, id, priority, usage, aircraft FROM plan WHERE operator = ?1"
+
+abbrev pub operator_rowids_text : List ℕ
+operator_rowids_text = codes "SELECT rowid FROM operator ORDER BY rowid"
+
+abbrev pub plan_rowids_text : List ℕ
+plan_rowids_text = codes "SELECT rowid FROM plan ORDER BY rowid"
+
+abbrev pub volume_rowids_text : List ℕ
+volume_rowids_text = codes "SELECT rowid FROM volume ORDER BY rowid"
+
+abbrev pub span_rowids_text : List ℕ
+span_rowids_text = codes "SELECT rowid FROM span ORDER BY rowid"

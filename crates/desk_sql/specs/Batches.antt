@@ -1,12 +1,13 @@
 -- Several rows at once.
-use Rattle.std.specs.Prelude.{◌≡◌, ℕ, List, ◌∷◌, ◌++◌, filter, IsTrue, IsPermutation}
+use Rattle.std.specs.Prelude.{◌≡◌, ℕ, Bool, not, List, ◌∷◌, ◌++◌, filter, IsTrue, IsPermutation}
+use Rattle.std.specs.List.{list_any}
 use Rattle.sqlite.specs.Order.{Row}
 use Rattle.sqlite.specs.Store.{Ghosts}
 use Rattle.sqlite.specs.State.{HasCleanDisk}
 use Rattle.sqlite.specs.Held.{Held, state}
 use Rattle.desk_sql.specs.declared.writing.VolumeRow.{VolumeRow}
 use Rattle.desk_sql.specs.declared.writing.SpanRow.{SpanRow}
-use Rattle.desk_sql.specs.Rows.{IsDesk, Tables, is_not_of, left_without, volume_row, span_row}
+use Rattle.desk_sql.specs.Rows.{IsDesk, Tables, is_of, is_not_of, left_without, volume_row, span_row}
 
 abbrev pub volume_of : VolumeRow → Row
 volume_of v = volume_row v.operator.now v.id.now v.place v.lower v.upper v.start v.stop v.asked.now
@@ -30,3 +31,21 @@ pub record PutsPlan (operator id : List ℕ) (plan : Row) (volumes spans : List 
   pub plans : IsPermutation (plan ∷ filter (is_not_of operator id) old.plans) new.plans
   pub with_volumes : IsPermutation (volumes ++ left_without operator id old old.volumes) new.volumes
   pub with_spans : IsPermutation (spans ++ left_without operator id old old.spans) new.spans
+
+-- of none of these plans
+abbrev pub is_of_none : List ℕ → List (List ℕ) → Row → Bool
+is_of_none operator ids row = not (list_any (λ id. is_of operator id row) ids)
+
+-- those of the ids whose plan is there
+abbrev pub ids_there : List ℕ → List (List ℕ) → Tables → List (List ℕ)
+ids_there operator ids old = filter (λ id. list_any (is_of operator id) old.plans) ids
+
+-- the plans of these ids go, and the volumes and spans of each that is there with it
+abbrev pub RemovesPlans : List ℕ → List (List ℕ) → Tables → Tables → Type 0
+RemovesPlans operator ids old new =
+    new ≡ record {
+      operators = old.operators;
+      plans = filter (is_of_none operator ids) old.plans;
+      volumes = filter (is_of_none operator (ids_there operator ids old)) old.volumes;
+      spans = filter (is_of_none operator (ids_there operator ids old)) old.spans;
+    }

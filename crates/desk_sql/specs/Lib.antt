@@ -3,3 +3,4 @@ pub mod Rows
 pub mod Effects
 pub mod Making
 pub mod Batches
+pub mod Finding

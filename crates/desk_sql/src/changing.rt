@@ -2,29 +2,30 @@ ghost use Rattle.std.specs.Prelude.{◌≡◌, ◌≤◌, false, OnOk, OnErr, If
 ghost use Rattle.sqlite.specs.View.{doubt};
 ghost use Rattle.sqlite.specs.State.{HasCleanDisk};
 ghost use Rattle.sqlite.specs.Held.{state};
-ghost use Rattle.desk_sql.specs.Rows.{RemovesPlan, PutsOperator, ClosesPlan, is_by, plan_row, tables_of};
+ghost use Rattle.desk_sql.specs.Rows.{PutsOperator, ClosesPlan, is_by, plan_row, tables_of};
 ghost use Rattle.std.specs.List.{list_any};
-ghost use Rattle.desk_sql.specs.Batches.{PutsPlan, volume_of, span_of};
+ghost use Rattle.std.specs.String.{string_bytes};
+ghost use Rattle.desk_sql.specs.Batches.{PutsPlan, RemovesPlans, volume_of, span_of};
 ghost use Rattle.desk_sql.specs.Effects.{IsReady, IsKept, Commits};
 
-use crate::batch::{insert_spans, insert_volumes};
+use crate::batch::{insert_spans, insert_volumes, remove_plans};
 use crate::reading::operator_named;
 use crate::removing::{remove_plan, remove_spans};
 use crate::setting::{set_ceiling, set_closed};
 use crate::writing::{PlanRow, SpanRow, VolumeRow, insert_operator, insert_plan};
 use sqlite::{Alter, Connection, Error};
 
-/// Removes a plan, and its volumes and spans with it, as a transaction of its own.
-pub fn clear_plan<S: Alter>(
+/// Removes the plans of these ids, and their volumes and spans with them, as one transaction.
+pub fn clear_plans<S: Alter>(
     connection: &mut Connection<S>,
     operator: &str,
-    id: &str,
+    ids: &[String],
 ) -> Result<(), Error>
     requires ready { IsReady S.Store connection.old }
     requires settled { connection.old.in_transaction ≡ false }
     ensures done { HasCleanDisk (state S.Store connection.new)
         → OnOk result (Commits S.Store connection.old connection.new
-        (RemovesPlan operator.now id.now)) }
+        (RemovesPlans operator.now (map string_bytes ids.now))) }
     ensures kept { OnErr result (IsKept S.Store connection.old connection.new) }
     ensures mode { connection.new.in_transaction ≡ false }
     ensures doubt { doubt (state S.Store connection.old).is_clean ≤ doubt
@@ -33,7 +34,7 @@ pub fn clear_plan<S: Alter>(
 {
     let _settled = connection.is_autocommit();
     let mut tx = connection.transaction();
-    remove_plan(&mut tx, operator, id)?;
+    remove_plans(&mut tx, operator, ids)?;
     tx.commit()
 }
 

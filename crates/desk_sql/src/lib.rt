@@ -5,15 +5,19 @@ mod answer;
 mod batch;
 mod changing;
 mod counting;
+mod finding;
 mod making;
+mod matching;
+mod numbers;
 mod reading;
 mod removing;
 mod run;
 mod setting;
 mod writing;
 
-pub use changing::{clear_plan, close_plan, is_enrolled, put_operator, put_plan};
+pub use changing::{clear_plans, close_plan, is_enrolled, put_operator, put_plan};
 pub use counting::own_count;
+pub use finding::{Found, find_tables};
 pub use making::make_tables;
 pub use reading::{
     all_operators, all_plans, all_spans, all_volumes, operator_named, own_plans, plan_of, rivals,

@@ -15,8 +15,9 @@ use Rattle.volume4d.specs.LevelLaws.{greater_none, greater_assoc, greater_comm, 
 use Rattle.desk_rules.specs.PlanLaws.{top_priority-cons, top_priority-nil}
 use Rattle.desk_rules.specs.Plan.{is_live, row_holds, top_priority}
 use Rattle.desk_rules.specs.Conflict.{at_least}
-use Rattle.desk_store.specs.World.{Filed, World, rows_by, is_by, has_id, others_of, held, held_at}
+use Rattle.desk_store.specs.World.{Filed}
 use Rattle.desk_store.specs.Rows.{is_own, rival_level, rivals_top}
+use Rattle.desk_store.specs.RivalLaws.{rivals_top-cons, rivals_top-nil}
 
 max_reaches : (n a b : ℕ) → (nat_le n a || nat_le n b) ≡ nat_le n (max a b)
 max_reaches n a b = grind (arith, nat_tests)
@@ -40,53 +41,6 @@ at_least_greater n (Some a) (Some b) = ap (λ c. cond c (Some (max a b)) None) (
 
 max_itself : (n : ℕ) → max n n ≡ n
 max_itself n = omega arith
-
--- one more plan
-pub rivals_top-cons : (o id : List ℕ) (p : Filed) (ps : List Filed) (x : Point) → rivals_top o id (p ∷ ps) x ≡ greater (rival_level o id p x) (rivals_top o id ps x)
-unfolding rivals_top rival_level
-rivals_top-cons o id p ps x = by_test (not (is_own o id p)) where
-  others : List PlanRow
-  others = map (λ q. q.row) (filter (λ q. not (is_own o id q)) ps)
-
-  by_test : (b : Bool) → top_priority (map (λ q. q.row) (cond b (p ∷ filter (λ q. not (is_own o id q)) ps) (filter (λ q. not (is_own o id q)) ps))) x ≡ greater (level_where (b && row_holds p.row x) p.row.priority) (top_priority others x)
-  by_test true = top_priority-cons p.row others x
-  by_test false = refl
-
-pub rivals_top-nil : (o id : List ℕ) (x : Point) → rivals_top o id [] x ≡ None
-unfolding rivals_top
-rivals_top-nil o id x = top_priority-nil x
-
-own_top : List ℕ → List ℕ → List Filed → Point → Option ℕ
-own_top o id ps x = top_priority (filter (λ r. not (has_id id r)) (rows_by o ps)) x
-
-other_top : List ℕ → List Filed → Point → Option ℕ
-other_top o ps x = top_priority (map (λ p. p.row) (filter (λ p. not (is_by o p)) ps)) x
-
-swap_greater : (a b c : Option ℕ) → greater a (greater b c) ≡ greater b (greater a c)
-swap_greater a b c = sym (greater_assoc a b c) ∙ ap (λ q. greater q c) (greater_comm a b) ∙ greater_assoc b a c
-
-split : (o id : List ℕ) (x : Point) (ps : List Filed) → rivals_top o id ps x ≡ greater (other_top o ps x) (own_top o id ps x)
-unfolding own_top other_top rival_level
-split o id x [] = rivals_top-nil o id x ∙ sym (ap (λ a. greater a (top_priority [] x)) (top_priority-nil x) ∙ top_priority-nil x)
-split o id x (p ∷ ps) = rivals_top-cons o id p ps x ∙ ap (greater (rival_level o id p x)) (split o id x ps) ∙ by_operator (is_by o p) where
-  mine : List PlanRow
-  mine = rows_by o ps
-
-  theirs : List PlanRow
-  theirs = map (λ q. q.row) (filter (λ q. not (is_by o q)) ps)
-
-  by_id : (c : Bool) → greater (level_where (not c && row_holds p.row x) p.row.priority) (greater (top_priority theirs x) (top_priority (filter (λ r. not (has_id id r)) mine) x)) ≡ greater (top_priority theirs x) (top_priority (cond (not c) (p.row ∷ filter (λ r. not (has_id id r)) mine) (filter (λ r. not (has_id id r)) mine)) x)
-  by_id true = refl
-  by_id false = swap_greater (level_where (row_holds p.row x) p.row.priority) (top_priority theirs x) _ ∙ ap (greater (top_priority theirs x)) (sym (top_priority-cons p.row (filter (λ r. not (has_id id r)) mine) x))
-
-  by_operator : (b : Bool) → greater (level_where (not (b && has_id id p.row) && row_holds p.row x) p.row.priority) (greater (top_priority theirs x) (top_priority (filter (λ r. not (has_id id r)) mine) x)) ≡ greater (top_priority (map (λ q. q.row) (cond (not b) (p ∷ filter (λ q. not (is_by o q)) ps) (filter (λ q. not (is_by o q)) ps))) x) (top_priority (filter (λ r. not (has_id id r)) (map (λ q. q.row) (cond b (p ∷ filter (is_by o) ps) (filter (is_by o) ps)))) x)
-  by_operator true = by_id (has_id id p.row)
-  by_operator false = sym (greater_assoc (level_where (row_holds p.row x) p.row.priority) (top_priority theirs x) _) ∙ ap (λ a. greater a (top_priority (filter (λ r. not (has_id id r)) mine) x)) (sym (top_priority-cons p.row theirs x))
-
--- what others hold, and what the operator's other plans hold, are what all rivals hold
-pub held_by_rivals : (o id : List ℕ) (w : World) (x : Point) → rivals_top o id w.plans x ≡ held_at (rows_by o w.plans) (held w o) id x
-unfolding held_at held others_of own_top other_top
-held_by_rivals o id w x = split o id x w.plans
 
 -- the step of a loop over the plans
 pub rival_added : (n : ℕ) (o id : List ℕ) (p : Filed) (ps : List Filed) (x : Point) (before after all : Option ℕ) → after ≡ greater before (at_least n (rival_level o id p x)) → greater before (at_least n (rivals_top o id (p ∷ ps) x)) ≡ all → greater after (at_least n (rivals_top o id ps x)) ≡ all
@@ -137,6 +91,39 @@ rival_adds n o id p x own e = sym (ap (λ b. at_least n (level_where (not b && (
   by_tests false a f = cc
   by_tests true true f = ap (λ b. cond b (Some p.row.priority) None) f
   by_tests true false f = refl
+
+-- ---- rows of plans, whosever they are
+
+-- the step of a loop over the rows
+pub row_added : (n : ℕ) (row : PlanRow) (rows : List PlanRow) (x : Point) (before after all : Option ℕ) → after ≡ greater before (at_least n (level_where (row_holds row x) row.priority)) → greater before (at_least n (top_priority (row ∷ rows) x)) ≡ all → greater after (at_least n (top_priority rows x)) ≡ all
+row_added n row rows x before after all more e =
+    ap (λ l. greater l (at_least n (top_priority rows x))) more ∙ greater_assoc before (at_least n (level_where (row_holds row x) row.priority)) _
+    ∙ ap (greater before) (sym (ap (at_least n) (top_priority-cons row rows x) ∙ at_least_greater n (level_where (row_holds row x) row.priority) (top_priority rows x))) ∙ e
+
+-- its end
+pub rows_end : (n : ℕ) (rows : List PlanRow) (x : Point) (level all : Option ℕ) → rows ≡ [] → greater level (at_least n (top_priority rows x)) ≡ all → level ≡ all
+rows_end n rows x level all none e =
+    sym (ap (λ rs. greater level (at_least n (top_priority rs x))) none ∙ ap (λ l. greater level (at_least n l)) (top_priority-nil x) ∙ greater_none level) ∙ e
+
+-- a row that isn't live, or of a lower priority, adds nothing
+pub low_row_adds_none : (n : ℕ) (row : PlanRow) (x : Point) (level : Option ℕ) → (is_live row.usage && nat_le n row.priority) ≡ false → level ≡ greater level (at_least n (level_where (row_holds row x) row.priority))
+unfolding row_holds
+low_row_adds_none n row x level e = sym (ap (greater level) (by_tests (is_live row.usage) (area_has row.area x) e) ∙ greater_none level) where
+  by_tests : (l a : Bool) → (l && nat_le n row.priority) ≡ false → at_least n (level_where (l && a) row.priority) ≡ None
+  by_tests false a f = refl
+  by_tests true true f = ap (λ b. cond b (Some row.priority) None) f
+  by_tests true false f = refl
+
+-- every other row adds its priority where its area has the point
+pub row_adds : (n : ℕ) (row : PlanRow) (x : Point) → (is_live row.usage && nat_le n row.priority) ≡ true → level_where (area_has row.area x) row.priority ≡ at_least n (level_where (row_holds row x) row.priority)
+unfolding row_holds
+row_adds n row x e = sym (by_tests (is_live row.usage) (area_has row.area x) e) where
+  by_tests : (l a : Bool) → (l && nat_le n row.priority) ≡ true → at_least n (level_where (l && a) row.priority) ≡ level_where a row.priority
+  by_tests false a f = cc
+  by_tests true true f = ap (λ b. cond b (Some row.priority) None) f
+  by_tests true false f = refl
+
+-- ---- slabs
 
 -- one more slab of a priority
 pub slab_adds : (helds : List Held) (slabs : List Slab) (i : ℕ) (s : Slab) (priority : ℕ) (x : Point) (before : Option ℕ) → i < length slabs → s ≡ get_or slabs i s → top_held helds x ≡ greater before (level_where (slabs_have (take i slabs) x) priority) → top_held (helds ++ record { slab = s; priority = priority } ∷ []) x ≡ greater before (level_where (slabs_have (take (i + 1) slabs) x) priority)

@@ -7,6 +7,7 @@ pub mod WorldLaws
 pub mod ChangeLaws
 pub mod Rows
 pub mod Rivals
+pub mod RivalLaws
 pub mod Faults
 pub mod FaultLaws
 pub mod Parts

@@ -1,7 +1,8 @@
 -- The join of plans with volumes, of the plans of a world.
-use Rattle.std.proofs.Common.{◌≡◌, ℕ, pos, ◌+◌, ◌<◌, Bool, true, false, ◌&&◌, cond, List, [], ◌∷◌, ◌++◌, length, map, Some, refl, sym, ap, subst, ◌∙◌, arith, Less, Equal, IsPermutation}
+use Rattle.std.proofs.Common.{◌≡◌, ℕ, pos, ◌+◌, ◌<◌, Bool, true, false, ◌&&◌, ◌||◌, not, cond, List, [], ◌∷◌, ◌++◌, length, map, Some, refl, sym, ap, subst, ◌∙◌, arith, Less, Equal, Greater, IsPermutation}
 use Rattle.std.specs.List.{AllByRecursion, filter, find, flat_map}
 use Rattle.std.specs.List.Sorted.{IsStrictlySortedBy}
+use Rattle.std.specs.declared.cmp.Ordering.{Ordering}
 use Rattle.std.specs.Ordering.{ordering_then, ordering_reverse, is_eq}
 use Rattle.std.specs.Cmp.Lexicographic.{nat_list_cmp_total}
 use Rattle.std.proofs.lemmas.Cmp.{tied_itself}
@@ -10,7 +11,7 @@ use Rattle.std.proofs.lemmas.List.Kept.{IsStrictlySortedBy-filter}
 use Rattle.std.proofs.lemmas.List.Sorted.{length_permutation, IsPermutation-trans, IsPermutation-map}
 use Rattle.sqlite_value.specs.declared.value.Value.TheVariants.{Int, Text}
 use Rattle.sqlite_value.specs.Order.{Row, value_cmp}
-use Rattle.sqlite_value.proofs.OrderLemmas.{value_cmp_total, value_cmp-Text}
+use Rattle.sqlite_value.proofs.OrderLemmas.{value_cmp_total, value_cmp-Text, value_cmp-Int}
 use Rattle.sqlite_trees.specs.Tree.{IsAscending}
 use Rattle.sqlite_keyed.proofs.ListLemmas.{IsPermutation-filter, IsPermutation-flat_map, IsPermutation-flat_map_each, ascending-append}
 use Rattle.volume4d.specs.Volume.{Block}
@@ -18,18 +19,22 @@ use Rattle.desk_sql.specs.Rows as sql
 use Rattle.desk_sql.specs.Rows.{Tables, Lists, by_cells, joined, has_volume, with_volumes}
 use Rattle.desk_store.specs.World.{Filed, World, text_cmp, filed_cmp, is_by, plans_of}
 use Rattle.desk_store.specs.OrderLaws.{all_filter, all_append, all_kept, by_ids, name_of}
-use Rattle.desk_store.specs.Rows.{is_own}
-use Rattle.desk_tables.specs.Tables.{id_text, plan_row, plan_rows, volume_row, area_rows, volume_rows, AreTables}
-use Rattle.desk_tables.specs.Content.{IsPlan, IsContent}
+use Rattle.desk_store.specs.Rows.{is_own, is_rival}
+use Rattle.desk_rules.specs.declared.words.Usage.{Usage}
+use Rattle.desk_rules.specs.declared.words.Usage.TheVariants as usage
+use Rattle.desk_rules.specs.Plan.{is_live}
+use Rattle.desk_tables.specs.Tables.{id_text, usage_number, plan_row, plan_rows, volume_row, area_rows, volume_rows, AreTables}
+use Rattle.desk_tables.specs.Content.{IsId, IsPlan, IsContent}
 use Rattle.desk_tables.specs.Reading.{joined_from, joined_rows, listing_rows}
 use Rattle.desk_tables.specs.Lookups.{one_or_none}
 use Rattle.desk_tables.proofs.IdLemmas.{text_order}
+use Rattle.desk_tables.proofs.RowLemmas.{after_key}
 use Rattle.desk_tables.proofs.FilterLemmas.{ArePlans, turned, own_row, volumes_filtered}
 use Rattle.desk_tables.proofs.ListingLemmas.{in_order, places_less, one_own, filed_total, own_at}
 
-heads_filtered : (wanted : Filed → Bool) (want : Row → Bool) → ((q : Filed) → want (plan_row q) ≡ wanted q) → (ps : List Filed) → filter want (plan_rows ps) ≡ plan_rows (filter wanted ps)
-heads_filtered wanted want same [] = refl
-heads_filtered wanted want same (p ∷ ps) = ap (λ b. cond b (plan_row p ∷ filter want (plan_rows ps)) (filter want (plan_rows ps))) (same p) ∙ by_test (wanted p) (heads_filtered wanted want same ps) where
+heads_filtered : (wanted : Filed → Bool) (want : Row → Bool) → ((q : Filed) → IsPlan q.row → want (plan_row q) ≡ wanted q) → (ps : List Filed) → ArePlans ps → filter want (plan_rows ps) ≡ plan_rows (filter wanted ps)
+heads_filtered wanted want same [] h = refl
+heads_filtered wanted want same (p ∷ ps) h = ap (λ b. cond b (plan_row p ∷ filter want (plan_rows ps)) (filter want (plan_rows ps))) (same p h.0) ∙ by_test (wanted p) (heads_filtered wanted want same ps h.1) where
   by_test : (b : Bool) → filter want (plan_rows ps) ≡ plan_rows (filter wanted ps) → cond b (plan_row p ∷ filter want (plan_rows ps)) (filter want (plan_rows ps)) ≡ plan_rows (cond b (p ∷ filter wanted ps) (filter wanted ps))
   by_test true ih = ap (λ rows. plan_row p ∷ rows) ih
   by_test false ih = ih
@@ -64,7 +69,7 @@ listed : (ps qs : List Filed) → IsStrictlySortedBy filed_cmp ps → ArePlans p
 listed ps [] s h hq found = refl
 listed ps (q ∷ qs) s h hq found = λ i. map (joined (plan_row q)) (own_volumes ps q s h hq.0 found.0 i) ++ listed ps qs s h hq.1 found.1 i
 
-module _ (wanted : Filed → Bool) (want : Row → Bool) (same : (q : Filed) → want (plan_row q) ≡ wanted q) (tables : Tables) (w : World) (h : IsContent w) (t : AreTables tables w) where
+module _ (wanted : Filed → Bool) (want : Row → Bool) (same : (q : Filed) → IsPlan q.row → want (plan_row q) ≡ wanted q) (tables : Tables) (w : World) (h : IsContent w) (t : AreTables tables w) where
   joins : List Row → Row → List Row
   joins volumes r = map (joined r) (filter (has_volume r) volumes)
 
@@ -74,7 +79,7 @@ module _ (wanted : Filed → Bool) (want : Row → Bool) (same : (q : Filed) →
       (IsPermutation-trans (flat_map (joins (volume_rows w.plans)) (plan_rows (filter wanted w.plans))) (flat_map (joins tables.volumes) (plan_rows (filter wanted w.plans))) (with_volumes want tables)
       (IsPermutation-flat_map_each (joins (volume_rows w.plans)) (joins tables.volumes) (λ r. IsPermutation-map (joined r) (filter (has_volume r) (volume_rows w.plans)) (filter (has_volume r) tables.volumes) (IsPermutation-filter (has_volume r) (volume_rows w.plans) tables.volumes t.volumes)) (plan_rows (filter wanted w.plans)))
       (IsPermutation-flat_map (joins tables.volumes) (plan_rows (filter wanted w.plans)) (filter want tables.plans)
-      (subst (λ xs. IsPermutation xs (filter want tables.plans)) (heads_filtered wanted want same w.plans) (IsPermutation-filter want (plan_rows w.plans) tables.plans t.plans))))
+      (subst (λ xs. IsPermutation xs (filter want tables.plans)) (heads_filtered wanted want same w.plans h.rows) (IsPermutation-filter want (plan_rows w.plans) tables.plans t.plans))))
 
 -- ---- in order
 
@@ -130,8 +135,8 @@ own_alike o ps = go (filter (is_by o) ps) (all_kept (is_by o) ps) where
   go [] h = tt
   go (q ∷ qs) h = (with_first q qs h.0 h.1, go qs h.1)
 
-own_test : (o : List ℕ) (q : Filed) → sql.is_by o (plan_row q) ≡ is_by o q
-own_test o q = ap is_eq (value_cmp-Text q.operator o) ∙ turned q.operator o
+own_test : (o : List ℕ) (q : Filed) → IsPlan q.row → sql.is_by o (plan_row q) ≡ is_by o q
+own_test o q h = ap is_eq (value_cmp-Text q.operator o) ∙ turned q.operator o
 
 -- the rows of the join are the listing of the operator's plans
 pub own_listing : (tables : Tables) (w : World) (o : List ℕ) (rows : List Row) → IsContent w → AreTables tables w → Lists (1 ∷ 5 ∷ []) (with_volumes (sql.is_by o) tables) rows → rows ≡ listing_rows (filter (is_by o) w.plans)
@@ -144,8 +149,62 @@ pub own_plans_are : (w : World) (o : List ℕ) → IsContent w → ArePlans (fil
 own_plans_are w o h = all_filter (λ p. IsPlan p.row) (is_by o) w.plans h.rows
 
 -- the rows of an operator in a table of plans are as many as its plans
-pub own_length : (tables : Tables) (w : World) (o : List ℕ) → AreTables tables w → length (filter (sql.is_by o) tables.plans) ≡ length (plans_of o w)
-own_length tables w o t =
+pub own_length : (tables : Tables) (w : World) (o : List ℕ) → IsContent w → AreTables tables w → length (filter (sql.is_by o) tables.plans) ≡ length (plans_of o w)
+own_length tables w o h t =
     length_permutation (filter (sql.is_by o) (plan_rows w.plans)) (filter (sql.is_by o) tables.plans) (IsPermutation-filter (sql.is_by o) (plan_rows w.plans) tables.plans t.plans)
-    ∙ ap length (heads_filtered (is_by o) (sql.is_by o) (own_test o) w.plans)
+    ∙ ap length (heads_filtered (is_by o) (sql.is_by o) (own_test o) w.plans h.rows)
     ∙ length-map (filter (is_by o) w.plans) plan_row ∙ sym (length-map (filter (is_by o) w.plans) (λ p. p.row))
+
+-- ---- the rivals of a plan
+
+abbrev IsBefore : Filed → Filed → Type 0
+IsBefore p q = filed_cmp p q ≡ Less
+
+in_turn : (n m : Ordering) (more : Ordering) → ordering_then n m ≡ Less → ordering_then n (ordering_then m more) ≡ Less
+in_turn Less m more e = refl
+in_turn Equal Less more e = refl
+in_turn Equal Equal more e = cc
+in_turn Equal Greater more e = cc
+in_turn Greater m more e = cc
+
+all_keys : (p q : Filed) (n m : ℕ) (v u : Block) → IsPlan p.row → IsPlan q.row → IsBefore p q → filed_cmp p q ≡ Less → by_cells (0 ∷ 1 ∷ 5 ∷ []) (joined (plan_row p) (volume_row p n v)) (joined (plan_row q) (volume_row q m u)) ≡ Less
+all_keys p q n m v u hp hq same e =
+    (λ i. ordering_then (value_cmp-Text p.operator q.operator i) (ordering_then (names i) (ordering_then (value_cmp (Int (pos n)) (Int (pos m))) Equal)))
+    ∙ in_turn (text_cmp p.operator q.operator) (text_cmp p.row.id q.row.id) (ordering_then (value_cmp (Int (pos n)) (Int (pos m))) Equal) e where
+      names : value_cmp (Text (id_text p.row.id)) (Text (id_text q.row.id)) ≡ text_cmp p.row.id q.row.id
+      names = value_cmp-Text (id_text p.row.id) (id_text q.row.id) ∙ text_order p.row.id q.row.id hp.id hq.id
+
+all_places : (p : Filed) (n m : ℕ) (v u : Block) → n < m → by_cells (0 ∷ 1 ∷ 5 ∷ []) (joined (plan_row p) (volume_row p n v)) (joined (plan_row p) (volume_row p m u)) ≡ Less
+all_places p n m v u e = λ i.
+    ordering_then (tied_itself value_cmp_total (Text p.operator) i) (ordering_then (tied_itself value_cmp_total (Text (id_text p.row.id)) i) (ordering_then (places_less n m e i) Equal))
+
+usages : (u : Usage) → not (is_eq (value_cmp (Int (pos (usage_number u))) (Int (pos 2)))) ≡ is_live u
+usages usage.Planned = ap (λ o. not (is_eq o)) (value_cmp-Int (pos 0) (pos 2))
+usages usage.InUse = ap (λ o. not (is_eq o)) (value_cmp-Int (pos 1) (pos 2))
+usages usage.Closed = ap (λ o. not (is_eq o)) (value_cmp-Int (pos 2) (pos 2))
+
+either_differs : (a b : Bool) → (not a || not b) ≡ not (a && b)
+either_differs true b = refl
+either_differs false b = refl
+
+rival_test : (o id : List ℕ) → IsId id → (q : Filed) → IsPlan q.row → sql.is_rival o (id_text id) (plan_row q) ≡ is_rival o id q
+rival_test o id hi q h = λ i.
+    usages q.row.usage i
+    && (either_differs (sql.is_by o (plan_row q)) (sql.is_text (Text (id_text q.row.id)) (id_text id)) ∙ ap not (own_row o id q (after_key (plan_row q)) hi h.id)) i
+
+pub rivals_are_plans : (w : World) (o id : List ℕ) → IsContent w → ArePlans (filter (is_rival o id) w.plans)
+rivals_are_plans w o id h = all_filter (λ p. IsPlan p.row) (is_rival o id) w.plans h.rows
+
+before_each : (ps : List Filed) → IsStrictlySortedBy filed_cmp ps → IsAscending IsBefore ps
+unfolding IsStrictlySortedBy
+before_each [] s = tt
+before_each (p ∷ ps) s = (s.0, before_each ps s.1)
+
+-- the rows of the join are the listing of the rivals
+pub rival_listing : (tables : Tables) (w : World) (o id : List ℕ) (rows : List Row) → IsId id → IsContent w → AreTables tables w → Lists (0 ∷ 1 ∷ 5 ∷ []) (with_volumes (sql.is_rival o (id_text id)) tables) rows → rows ≡ listing_rows (filter (is_rival o id) w.plans)
+rival_listing tables w o id rows hi h t lists =
+    in_order (0 ∷ 1 ∷ 5 ∷ []) (listing_rows (filter (is_rival o id) w.plans)) (with_volumes (sql.is_rival o (id_text id)) tables) rows
+    (listing_up (0 ∷ 1 ∷ 5 ∷ []) IsBefore all_keys all_places (filter (is_rival o id) w.plans) (rivals_are_plans w o id h) (before_each (filter (is_rival o id) w.plans) up) up)
+    (join_rows (is_rival o id) (sql.is_rival o (id_text id)) (rival_test o id hi) tables w h t) lists where
+      up : IsStrictlySortedBy filed_cmp (filter (is_rival o id) w.plans)
+      up = IsStrictlySortedBy-filter filed_cmp (is_rival o id) w.plans h.world.plans

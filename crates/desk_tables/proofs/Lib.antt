@@ -12,3 +12,6 @@ pub mod StoreLemmas
 pub mod ListingLemmas
 pub mod JoinLemmas
 pub mod JoinedLemmas
+pub mod RecordLemmas
+pub mod ClearLemmas
+pub mod CloseLemmas

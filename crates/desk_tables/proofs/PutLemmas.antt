@@ -1,17 +1,17 @@
--- A plan put in its tables, and one taken out.
-use Rattle.std.proofs.Common.{◌≡◌, Bool, true, false, ◌||◌, not, cond, List, [], ◌∷◌, ◌++◌, refl, sym, ap, subst, ◌∙◌, IsPermutation, ℕ}
+-- A plan put in its tables.
+use Rattle.std.proofs.Common.{◌≡◌, Bool, true, false, not, cond, List, [], ◌∷◌, ◌++◌, refl, sym, ap, subst, ◌∙◌, IsPermutation, ℕ}
 use Rattle.std.specs.List.{AllByRecursion, filter, list_any}
 use Rattle.std.proofs.lemmas.List.Elements.{filter-append}
 use Rattle.std.proofs.lemmas.List.Sorted.{IsPermutation-refl, IsPermutation-sym, IsPermutation-trans, IsPermutation-append_right, list_any-IsPermutation}
 use Rattle.sqlite_value.specs.Order.{Row}
 use Rattle.sqlite_keyed.proofs.ListLemmas.{IsPermutation-filter, IsPermutation-same, filter_all, none_from_any}
-use Rattle.desk_sql.specs.Rows.{Tables, is_of, is_not_of, left_without, RemovesPlan}
+use Rattle.desk_sql.specs.Rows.{Tables, is_of, is_not_of, left_without}
 use Rattle.desk_sql.specs.Batches.{PutsPlan}
 use Rattle.desk_store.specs.World.{Filed, World}
 use Rattle.desk_store.specs.Rows.{is_own}
 use Rattle.desk_tables.specs.Tables.{id_text, plan_row, plan_rows, area_rows, volume_rows, ArePlanSpanRows, AreSpanRows, AreTables}
 use Rattle.desk_tables.specs.Content.{IsId, IsPlan, IsContent}
-use Rattle.desk_tables.specs.TableChanges.{PutsRows, ClearsRows, is_left}
+use Rattle.desk_tables.specs.TableChanges.{PutsRows}
 use Rattle.desk_tables.proofs.RowLemmas.{after_key}
 use Rattle.desk_tables.proofs.FilterLemmas.{ArePlans, own_row, other_row, volumes_filtered, plan_spans_filtered}
 
@@ -70,18 +70,3 @@ put_is_put p w old new spans h hp t are e = record {
 } where
   test : Row → Bool
   test = is_not_of p.operator (id_text p.row.id)
-
-one_left : (o id : List ℕ) (rows : List Row) → filter (is_left o (id ∷ [])) rows ≡ filter (is_not_of o (id_text id)) rows
-one_left o id [] = refl
-one_left o id (r ∷ rows) = λ i. cond (same (is_of o (id_text id) r) i) (r ∷ one_left o id rows i) (one_left o id rows i) where
-  same : (b : Bool) → not (b || false) ≡ not b
-  same true = refl
-  same false = refl
-
-pub removal_is_clear : (o id : List ℕ) (w : World) (old new : Tables) → IsContent w → IsId id → AreTables old w → RemovesPlan o (id_text id) old new → ClearsRows o (id ∷ []) old new
-removal_is_clear o id w old new h hi t e = record {
-  operators = IsPermutation-same old.operators new.operators (sym (ap (λ x. x.operators) e));
-  plans = IsPermutation-same (filter (is_left o (id ∷ [])) old.plans) new.plans (one_left o id old.plans ∙ sym (ap (λ x. x.plans) e));
-  volumes = subst (λ xs. IsPermutation xs new.volumes) (sym (one_left o id old.volumes)) (subst (IsPermutation (filter (is_not_of o (id_text id)) old.volumes)) (sym (ap (λ x. x.volumes) e)) (volumes_left o id old w hi h t));
-  spans = subst (λ xs. IsPermutation xs new.spans) (sym (one_left o id old.spans)) (subst (IsPermutation (filter (is_not_of o (id_text id)) old.spans)) (sym (ap (λ x. x.spans) e)) (spans_left o id old w hi h t));
-}

@@ -6,7 +6,7 @@ use Rattle.sqlite_value.specs.declared.value.Value.TheVariants.{Int, Text, Blob}
 use Rattle.sqlite_value.specs.Order.{Row, column}
 use Rattle.volume4d.specs.FootprintBytes.{footprint_bytes, HasValidParts, AreBytesOf}
 use Rattle.volume4d.specs.Limits.{within_altitudes, within_times, within_length}
-use Rattle.volume4d.specs.Shape.{Shape, is_footprint}
+use Rattle.volume4d.specs.Shape.{Shape}
 use Rattle.volume4d.specs.Volume.{Block}
 use Rattle.volume4d.specs.Windows.{WindowParts, window_or_fault}
 use Rattle.volume4d.specs.declared.window.WindowFault.{WindowFault}

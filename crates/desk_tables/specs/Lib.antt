@@ -1,4 +1,5 @@
 pub mod Tables
+pub mod PlanRows
 pub mod Content
 pub mod TableChanges
 pub mod Reading

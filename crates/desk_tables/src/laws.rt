@@ -1,17 +1,19 @@
 //! Laws of the definitions. Each is the contract of a function that does nothing.
 
-ghost use Rattle.std.specs.Prelude.{◌≡◌, ℕ, List, [], ◌∷◌, Some};
+ghost use Rattle.std.specs.Prelude.{◌≡◌, ℕ, List, [], ◌∷◌, map, Some};
 ghost use Rattle.uuid.specs.Text.{parsed};
 ghost use Rattle.sqlite_value.specs.Order.{Row};
-ghost use Rattle.desk_sql.specs.Rows.{Tables, PutsOperator, RemovesPlan};
-ghost use Rattle.desk_sql.specs.Batches.{PutsPlan};
+ghost use Rattle.desk_sql.specs.Rows.{Tables, PutsOperator, ClosesPlan};
+ghost use Rattle.desk_sql.specs.Batches.{PutsPlan, RemovesPlans};
 ghost use Rattle.desk_store.specs.World.{Filed, World, text_cmp};
 ghost use Rattle.desk_store.specs.StoreChange.{changed_by, IsFitting};
 ghost use Rattle.desk_store.specs.declared.change.Change.{Change};
-ghost use Rattle.desk_tables.specs.Tables.{id_text, plan_row, area_rows};
+ghost use Rattle.desk_tables.specs.Tables.{id_text, aircraft_number, plan_row, area_rows};
 ghost use Rattle.desk_tables.specs.Tables.{ArePlanSpanRows, AreTables};
 ghost use Rattle.desk_tables.specs.Content.{IsId, IsPlan, IsContent};
-ghost use Rattle.desk_tables.specs.TableChanges.{ChangesRows, EnrolsRows, PutsRows, ClearsRows, IsWithin};
+ghost use Rattle.desk_tables.specs.Lookups.{own_of};
+ghost use Rattle.desk_tables.specs.TableChanges.{ChangesRows, EnrolsRows, PutsRows};
+ghost use Rattle.desk_tables.specs.TableChanges.{ClosesRows, ClearsRows, IsWithin};
 
 use volume4d::laws::one_shape;
 
@@ -55,11 +57,21 @@ pub fn a_plan_put_changes_rows()
         → PutsRows p old new }
 {}
 
-/// Tables of a content from which a plan is removed are changed as a clear of its id asks.
-pub fn a_plan_removed_changes_rows()
-    ensures { (operator id : List ℕ) (w : World) (old new : Tables) → IsContent w → IsId id
-        → AreTables old w → RemovesPlan operator (id_text id) old new
-        → ClearsRows operator (id ∷ []) old new }
+/// Tables of a content in which the row of a stored plan is set to closed, and its spans are removed,
+/// are changed as a close of its id asks.
+pub fn a_plan_closed_changes_rows()
+    ensures { (operator id : List ℕ) (p : Filed) (w : World) (old new : Tables) → IsContent w
+        → IsId id → AreTables old w → own_of operator id w ≡ p ∷ []
+        → ClosesPlan operator (id_text id) p.row.priority (aircraft_number p.row.aircraft) old new
+        → ClosesRows operator id old new }
+{}
+
+/// Tables of a content from which the plans of ids are removed are changed as a clear of the ids
+/// asks.
+pub fn plans_removed_change_rows()
+    ensures { (operator : List ℕ) (ids : List (List ℕ)) (w : World) (old new : Tables)
+        → AreTables old w → RemovesPlans operator (map id_text ids) old new
+        → ClearsRows operator ids old new }
 {}
 
 /// Tables of a content in which an operator's row is set, or added, are changed as enrolling asks.

@@ -8,6 +8,7 @@ mod listing;
 mod open;
 mod readers;
 mod reading;
+mod records;
 mod store;
 #[cfg(test)]
 mod tests;

@@ -1,10 +1,13 @@
 //! What a store answers, read from its tables.
 
-ghost use Rattle.std.specs.Prelude.{◌≡◌, ◌≤◌, IfOk, length};
+ghost use Rattle.std.specs.Prelude.{◌≡◌, ◌≤◌, IfOk, IfSome, filter, length, map};
 ghost use Rattle.sqlite_trees.specs.View.{doubt};
 ghost use Rattle.sqlite.specs.State.{HasCleanDisk};
 ghost use Rattle.sqlite.specs.Held.{state};
-ghost use Rattle.desk_store.specs.World.{ceiling_of, plans_of, stored_of};
+ghost use Rattle.desk_rules.specs.Limits.{max_plans, max_priority};
+ghost use Rattle.desk_store.specs.World.{AreInOrder, ceiling_of, plans_of, stored_of};
+ghost use Rattle.desk_store.specs.Rows.{is_rival};
+ghost use Rattle.desk_store.specs.Rivals.{AreRivals};
 ghost use Rattle.desk_tables.specs.Tables.{plan_rows, volume_rows};
 ghost use Rattle.desk_tables.specs.Content.{IsContent};
 ghost use Rattle.desk_tables.specs.Lookups.{own_of};
@@ -17,14 +20,16 @@ use desk_rules::operator::Operator;
 use desk_rules::plan::PlanRow;
 use desk_rules::plan_id::PlanId;
 use desk_sql::{
-    operator_named, own_count as listing_length, own_plans as own_listing, plan_of, volumes_of,
+    operator_named, own_count as listing_length, own_plans as own_listing, plan_of,
+    rivals as rival_listing, volumes_of,
 };
-use desk_store::StoreFault;
+use desk_store::{StoreFault, held_slabs};
 use sqlite::{Connection, Row};
 use sqlite_trees::store::Alter;
 use std::alloc::Global;
+use volume4d::{Held, Slab};
 
-/// The operator's ceiling, or none if it is not enrolled.
+/// The operator's ceiling, at most 1,000, or none if it is not enrolled.
 ///
 /// # Errors
 ///
@@ -38,6 +43,8 @@ pub(crate) fn ceiling<S: Alter>(
     requires { Stands S.Store connection.old kept.now.world }
     ensures value { HasCleanDisk (state S.Store connection.new) →
         IfOk result (λ found. found ≡ ceiling_of operator.now kept.now.world) }
+    ensures bound { HasCleanDisk (state S.Store connection.new) →
+        IfOk result (λ found. IfSome found (λ n. n ≤ max_priority)) }
     ensures stands { Stands S.Store connection.new kept.now.world }
     ensures doubt { doubt (state S.Store connection.old).is_clean
         ≤ doubt (state S.Store connection.new).is_clean }
@@ -48,8 +55,12 @@ pub(crate) fn ceiling<S: Alter>(
     }
 }
 
-// The row of `plan` of the operator's plan of the id, if it is stored.
-fn heads<S: Alter>(
+/// The row of `plan` of the operator's plan of the id, if it is stored.
+///
+/// # Errors
+///
+/// `OutOfMemory` if memory runs out. `Store` if SQLite refuses the query for another cause.
+pub(crate) fn heads<S: Alter>(
     connection: &mut Connection<S>,
     kept: &Kept,
     operator: &Operator,
@@ -123,7 +134,7 @@ pub(crate) fn plan<S: Alter>(
     Ok(Some(plan_in(head, area)?))
 }
 
-/// The operator's plans, ascending by id.
+/// The operator's plans, at most 200, ascending by id, none twice.
 ///
 /// # Errors
 ///
@@ -138,6 +149,10 @@ pub(crate) fn own_plans<S: Alter>(
     requires { Stands S.Store connection.old kept.now.world }
     ensures value { HasCleanDisk (state S.Store connection.new) →
         IfOk result (λ rows. rows.items ≡ plans_of operator.now kept.now.world) }
+    ensures order { HasCleanDisk (state S.Store connection.new) →
+        IfOk result (λ rows. AreInOrder rows.items) }
+    ensures limit { HasCleanDisk (state S.Store connection.new) →
+        IfOk result (λ rows. length rows.items ≤ max_plans) }
     ensures stands { Stands S.Store connection.new kept.now.world }
     ensures doubt { doubt (state S.Store connection.old).is_clean
         ≤ doubt (state S.Store connection.new).is_clean }
@@ -173,4 +188,55 @@ pub(crate) fn own_count<S: Alter>(
         Ok(count) => Ok(count),
         Err(_) => Err(StoreFault::Store),
     }
+}
+
+// The live plans but the operator's own of the id, ascending by operator and id.
+fn rival_plans<S: Alter>(
+    alloc: Global,
+    connection: &mut Connection<S>,
+    kept: &Kept,
+    operator: &Operator,
+    id: &PlanId,
+) -> Result<Vec<PlanRow>, StoreFault>
+    requires { Stands S.Store connection.old kept.now.world }
+    ensures value { HasCleanDisk (state S.Store connection.new) →
+        IfOk result (λ rows. rows.items ≡
+        map (λ p. p.row) (filter (is_rival operator.now id.now) kept.now.world.plans)) }
+    ensures stands { Stands S.Store connection.new kept.now.world }
+    ensures doubt { doubt (state S.Store connection.old).is_clean
+        ≤ doubt (state S.Store connection.new).is_clean }
+{
+    let mut buffer = [0u8; 36];
+    let text = id.encode(&mut buffer);
+    match rival_listing(connection, operator.as_str(), text) {
+        Ok(rows) => plans_in(alloc, &rows),
+        Err(e) => Err(fault_of(e)),
+    }
+}
+
+/// The slabs that live plans but the operator's own of the id hold, of those of a priority at least,
+/// where they meet an extent.
+///
+/// # Errors
+///
+/// `OutOfMemory` if memory runs out. `Store` if SQLite refuses the query for another cause, or if
+/// the rows are no plans'.
+pub(crate) fn rivals<S: Alter>(
+    alloc: Global,
+    connection: &mut Connection<S>,
+    kept: &Kept,
+    operator: &Operator,
+    id: &PlanId,
+    least: u32,
+    extent: &Slab,
+) -> Result<Vec<Held>, StoreFault>
+    requires { Stands S.Store connection.old kept.now.world }
+    ensures value { HasCleanDisk (state S.Store connection.new) → IfOk result (λ helds.
+        AreRivals kept.now.world operator.now id.now least extent.now helds.items) }
+    ensures stands { Stands S.Store connection.new kept.now.world }
+    ensures doubt { doubt (state S.Store connection.old).is_clean
+        ≤ doubt (state S.Store connection.new).is_clean }
+{
+    let plans = rival_plans(alloc, connection, kept, operator, id)?;
+    Ok(held_slabs(alloc, &plans, least, extent)?)
 }

@@ -108,8 +108,12 @@ pub(crate) fn area_in(alloc: Global, rows: &[Row], at: usize) -> Result<Area, St
     }
 }
 
-// The number in a column.
-fn count_at(row: &Row, at: usize) -> Result<u32, StoreFault>
+/// The number in a column.
+///
+/// # Errors
+///
+/// `Store` if it is no number from 0 to the greatest of the type.
+pub(crate) fn count_at(row: &Row, at: usize) -> Result<u32, StoreFault>
     ensures { IfOk result (λ n. column row.now at ≡ Int (pos n)) }
 {
     match row.get(at) {

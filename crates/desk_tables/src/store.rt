@@ -1,13 +1,6 @@
 //! A store of plans over tables in SQLite.
 
-ghost use Rattle.std.specs.Prelude.{◌≡◌, ◌≤◌, length, IfOk, IfErr, OnOk, OnErr};
-ghost use Rattle.sqlite_trees.specs.View.{doubt};
-ghost use Rattle.sqlite.specs.State.{HasCleanDisk};
-ghost use Rattle.sqlite.specs.Held.{state};
-ghost use Rattle.desk_store.specs.World.{ceiling_of, plans_of, stored_of};
-ghost use Rattle.desk_store.specs.StoreChange.{changed_by};
-ghost use Rattle.desk_store.specs.declared.change.Change.TheVariants as change;
-ghost use Rattle.desk_rules.specs.Limits.{max_priority};
+ghost use Rattle.std.specs.Prelude.{◌≡◌, ◌≤◌, IfErr};
 ghost use Rattle.desk_store.specs.Faults.{HasRisen};
 ghost use Rattle.desk_tables.specs.Store.{Stands};
 
@@ -16,11 +9,12 @@ use crate::{changes, readers};
 use desk_rules::operator::Operator;
 use desk_rules::plan::PlanRow;
 use desk_rules::plan_id::PlanId;
-use desk_store::{Change, StoreFault};
+use desk_store::{Change, PlanStore, StoreFault};
 use sqlite::Connection;
 use sqlite_trees::store::Alter;
 use std::alloc::Global;
 use std::marker::Model;
+use volume4d::{Held, Slab};
 
 /// A store of plans over tables in SQLite, with a connection of its own.
 ///
@@ -72,110 +66,59 @@ impl<S: Alter> SqliteStore<S> {
     {
         self.connection
     }
+}
 
-    /// Lists an operator under a ceiling; its plans stay.
-    ///
-    /// # Errors
-    ///
-    /// `OutOfMemory` if memory runs out. `Store` if SQLite refuses the change for another cause.
-    pub fn enrol(&mut self, operator: &Operator, ceiling: u32) -> Result<(), StoreFault>
-        requires { ceiling ≤ max_priority }
-        ensures ok { OnOk result
-            (self.new.world ≡ changed_by (change.Enrol operator.now ceiling) self.old.world) }
-        ensures err { OnErr result (self.new.world ≡ self.old.world) }
-        ensures doubt { doubt (state S.Store self.old.held).is_clean
-            ≤ doubt (state S.Store self.new.held).is_clean }
-        ensures counted { self.old.faults ≤ self.new.faults }
-        ensures cause { IfErr result (λ e. e ≡ StoreFault.Store →
-            HasRisen self.old.faults self.new.faults) }
-    {
-        match changes::enrol(&mut self.connection, &self.kept, operator, ceiling) {
-            Ok(()) => {
-                let change = Change::Enrol {
-                    operator: *operator,
-                    ceiling,
-                };
-                self.kept = Kept::after(&self.kept, &change);
-                Ok(())
-            }
-            Err(e) => counted(&mut self.faults, Err(e)),
-        }
-    }
+impl<S: Alter> PlanStore for SqliteStore<S> {
+    ghost use Rattle.sqlite_trees.specs.View.{doubt};
+    ghost use Rattle.sqlite.specs.Held.{state};
 
-    /// The operator's ceiling, at most 1,000, or none if it is not enrolled.
-    ///
-    /// # Errors
-    ///
-    /// `OutOfMemory` if memory runs out. `Store` if SQLite refuses the query for another cause.
-    pub fn ceiling(&mut self, operator: &Operator) -> Result<Option<u32>, StoreFault>
-        ensures value { HasCleanDisk (state S.Store self.new.held) →
-            IfOk result (λ ceiling. ceiling ≡ ceiling_of operator.now self.old.world) }
-        ensures same { self.new.world ≡ self.old.world }
-        ensures doubt { doubt (state S.Store self.old.held).is_clean
-            ≤ doubt (state S.Store self.new.held).is_clean }
-        ensures counted { self.old.faults ≤ self.new.faults }
-        ensures cause { IfErr result (λ e. e ≡ StoreFault.Store →
-            HasRisen self.old.faults self.new.faults) }
-    {
+    ghost content = { λ s. s.world };
+
+    ghost doubt = { λ s. doubt (state S.Store s.held).is_clean };
+
+    ghost faults = { λ s. s.faults };
+
+    fn ceiling(&mut self, operator: &Operator) -> Result<Option<u32>, StoreFault> {
         let answer = readers::ceiling(&mut self.connection, &self.kept, operator);
         counted(&mut self.faults, answer)
     }
 
-    /// How many plans the operator has, closed ones too.
-    ///
-    /// # Errors
-    ///
-    /// `OutOfMemory` if memory runs out. `Store` if SQLite refuses the query for another cause.
-    pub fn own_count(&mut self, operator: &Operator) -> Result<u32, StoreFault>
-        ensures value { HasCleanDisk (state S.Store self.new.held) →
-            IfOk result (λ count. count ≡ length (plans_of operator.now self.old.world)) }
-        ensures same { self.new.world ≡ self.old.world }
-        ensures doubt { doubt (state S.Store self.old.held).is_clean
-            ≤ doubt (state S.Store self.new.held).is_clean }
-        ensures counted { self.old.faults ≤ self.new.faults }
-        ensures cause { IfErr result (λ e. e ≡ StoreFault.Store →
-            HasRisen self.old.faults self.new.faults) }
-    {
+    fn plan(&mut self, operator: &Operator, id: &PlanId) -> Result<Option<PlanRow>, StoreFault> {
+        let answer = readers::plan(self.alloc, &mut self.connection, &self.kept, operator, id);
+        counted(&mut self.faults, answer)
+    }
+
+    fn own_count(&mut self, operator: &Operator) -> Result<u32, StoreFault> {
         let answer = readers::own_count(&mut self.connection, &self.kept, operator);
         counted(&mut self.faults, answer)
     }
 
-    /// The operator's plans, ascending by id, none twice.
-    ///
-    /// # Errors
-    ///
-    /// `OutOfMemory` if memory runs out. `Store` if SQLite refuses the query for another cause.
-    pub fn own_plans(&mut self, operator: &Operator) -> Result<Vec<PlanRow>, StoreFault>
-        ensures value { HasCleanDisk (state S.Store self.new.held) →
-            IfOk result (λ rows. rows.items ≡ plans_of operator.now self.old.world) }
-        ensures same { self.new.world ≡ self.old.world }
-        ensures doubt { doubt (state S.Store self.old.held).is_clean
-            ≤ doubt (state S.Store self.new.held).is_clean }
-        ensures counted { self.old.faults ≤ self.new.faults }
-        ensures cause { IfErr result (λ e. e ≡ StoreFault.Store →
-            HasRisen self.old.faults self.new.faults) }
-    {
+    fn own_plans(&mut self, operator: &Operator) -> Result<Vec<PlanRow>, StoreFault> {
         let answer = readers::own_plans(self.alloc, &mut self.connection, &self.kept, operator);
         counted(&mut self.faults, answer)
     }
 
-    /// The operator's plan of the id, or none if it is not stored.
-    ///
-    /// # Errors
-    ///
-    /// `OutOfMemory` if memory runs out. `Store` if SQLite refuses a query for another cause.
-    pub fn plan(&mut self, operator: &Operator, id: &PlanId) -> Result<Option<PlanRow>, StoreFault>
-        ensures value { HasCleanDisk (state S.Store self.new.held) →
-            IfOk result (λ row. row ≡ stored_of id.now (plans_of operator.now self.old.world)) }
-        ensures same { self.new.world ≡ self.old.world }
-        ensures doubt { doubt (state S.Store self.old.held).is_clean
-            ≤ doubt (state S.Store self.new.held).is_clean }
-        ensures counted { self.old.faults ≤ self.new.faults }
-        ensures cause { IfErr result (λ e. e ≡ StoreFault.Store →
-            HasRisen self.old.faults self.new.faults) }
-    {
-        let answer = readers::plan(self.alloc, &mut self.connection, &self.kept, operator, id);
+    fn rivals(
+        &mut self,
+        operator: &Operator,
+        id: &PlanId,
+        least: u32,
+        extent: &Slab,
+    ) -> Result<Vec<Held>, StoreFault> {
+        let alloc = self.alloc;
+        let connection = &mut self.connection;
+        let answer = readers::rivals(alloc, connection, &self.kept, operator, id, least, extent);
         counted(&mut self.faults, answer)
+    }
+
+    fn apply(&mut self, change: &Change) -> Result<(), StoreFault> {
+        match changes::make(self.alloc, &mut self.connection, &self.kept, change) {
+            Ok(()) => {
+                self.kept = Kept::after(&self.kept, change);
+                Ok(())
+            }
+            Err(e) => counted(&mut self.faults, Err(e)),
+        }
     }
 }
 

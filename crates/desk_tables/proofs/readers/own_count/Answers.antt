@@ -11,4 +11,4 @@ returns-in-Ok-try_from-clause-value g c = λ clean.
     let tables = tables_of (state g.S.Store c.args.connection.now).now.trees in
     let counted = subst (λ name. c.in-Ok.count ≡ length (filter (is_by name) tables.plans)) c.as_str.ensures.value (c.in-Ok.ensures.value clean) in
     let same : c.in-Ok-try_from.count ≡ c.in-Ok.count = search rules in
-    same ∙ counted ∙ own_length tables c.args.kept.now.world c.args.operator.now standing.tables
+    same ∙ counted ∙ own_length tables c.args.kept.now.world c.args.operator.now standing.content standing.tables

@@ -1,0 +1,165 @@
+-- From rowids that rise to tables whose rows are numbered.
+use Rattle.std.proofs.Common.{◌≡◌, ℤ, Bool, true, false, cond, Option, None, Some, List, [], ◌∷◌, map, refl, sym, ap, subst, ◌∙◌, Less, Equal, Greater, int_lt, true≢false, IsTrue, IsPermutation, ℕ, codes, if◌then◌else◌, ◌≤◌, ◌<◌, suc, length, drop, drop-cons, drop_of_length-le, get_or}
+use Rattle.std.specs.Prelude.{⊤}
+use Rattle.std.specs.Ordering.{is_eq}
+use Rattle.std.specs.List.{AllByRecursion, IsDistinct, flat_map, list_all}
+use Rattle.std.proofs.lemmas.List.Sorted.{IsPermutation-sym}
+use Rattle.std.proofs.lemmas.Map.Keys.{IsDistinct-IsPermutation}
+use Rattle.sqlite.specs.Order.{Row, value_cmp}
+use Rattle.sqlite.specs.declared.types.Value.{Value}
+use Rattle.sqlite.specs.declared.types.Value.TheVariants.{Null, Int, Real, Text, Blob}
+use Rattle.sqlite.specs.Tree.{rowid, Trees, IsAscending}
+use Rattle.sqlite.specs.View.{is_int}
+use Rattle.sqlite.specs.Query.{inner, end, matches}
+use Rattle.sqlite.specs.Term.{col, eval_all, holds}
+use Rattle.sqlite.specs.Program.{overlay}
+use Rattle.sqlite.specs.State.{HasCleanDisk, Shown}
+use Rattle.sqlite.specs.Store.{Ghosts}
+use Rattle.sqlite.specs.Held.{Held, state}
+use Rattle.sqlite.specs.Effect.{Database}
+use Rattle.sqlite_trees.proofs.ListLemmas.{all-permutation}
+use Rattle.sqlite_keyed.proofs.ListLemmas.{all_weaker, all_unmap, ascending_weaker, ascending_from_map}
+use Rattle.sqlite_value.proofs.OrderLemmas.{value_cmp_total, value_cmp-Int}
+use Rattle.desk_sql.specs.Rows.{AreNumbered}
+use Rattle.desk_sql.specs.Effects.{IsKept}
+use Rattle.desk_sql.specs.Finding.{Holds, HasDeskSchema, AreRising, next_above, exceeds}
+use Rattle.desk_sql.proofs.QueryTexts.{IsQuery, rowids_query}
+use Rattle.desk_sql.proofs.ReadLemmas.{shows, scanned}
+use Rattle.desk_sql.proofs.NumberLemmas.{IsApart, reversed}
+use Rattle.desk_sql.proofs.StatementLemmas.{every}
+
+-- ---- the walk along the rows
+
+abbrev rises_after : (Option ℤ → Bool) → Option ℤ → Bool
+rises_after more None = false
+rises_after more (Some n) = more (Some n)
+
+-- each rowid is above the one before, and the first above the last of others
+abbrev pub rises : List Row → Option ℤ → Bool
+rises [] last = true
+rises (r ∷ rows) last = rises_after (rises rows) (next_above last (rowid r))
+
+abbrev IsAbove : Option ℤ → Row → Type 0
+IsAbove None r = ⊤
+IsAbove (Some last) r = value_cmp (Int last) (rowid r) ≡ Less
+
+less_if : (m n : ℤ) → int_lt m n ≡ true → value_cmp (Int m) (Int n) ≡ Less
+less_if m n lt = value_cmp-Int m n ∙ ap (λ b. cond b Less (cond (int_lt n m) Greater Equal)) lt
+
+lt_if : (m n : ℤ) → value_cmp (Int m) (Int n) ≡ Less → int_lt m n ≡ true
+lt_if m n less = go (int_lt m n) (int_lt n m) (sym (value_cmp-Int m n) ∙ less)
+  where
+    go : (a b : Bool) → cond a Less (cond b Greater Equal) ≡ Less → a ≡ true
+    go true b h = refl
+    go false true h = cc
+    go false false h = cc
+
+abbrev Rises : Option ℤ → List Row → Type 0
+Rises last rows = AreRising rows × AllByRecursion (IsAbove last) rows
+
+none_above : (rows : List Row) → AllByRecursion (IsAbove None) rows
+none_above [] = tt
+none_above (r ∷ rows) = (tt, none_above rows)
+
+module _ (r : Row) (rows : List Row) where
+  above_all : (last : Option ℤ) (n : ℤ) → rowid r ≡ Int n → exceeds last n ≡ true → AllByRecursion (IsAbove (Some n)) rows → AllByRecursion (IsAbove last) (r ∷ rows)
+  above_all None n is up more = (tt, none_above rows)
+  above_all (Some m) n is up more =
+      let less = less_if m n up in
+      (subst (λ v. value_cmp (Int m) v ≡ Less) (sym is) less, all_weaker (IsAbove (Some n)) (IsAbove (Some m)) (λ x h. value_cmp_total.trans (Int m) (Int n) (rowid x) less h) rows more)
+
+  module _ (last : Option ℤ) (later : (n : ℤ) → rises rows (Some n) ≡ true → Rises (Some n) rows) where
+    if_above : (n : ℤ) → rowid r ≡ Int n → (b : Bool) → exceeds last n ≡ b → rises_after (rises rows) (if b then Some n else None) ≡ true → Rises last (r ∷ rows)
+    if_above n is false up h = absurd (true≢false (sym h))
+    if_above n is true up h =
+        let more = later n h in
+        let first = subst (λ v. AllByRecursion (λ b. value_cmp v (rowid b) ≡ Less) rows) (sym is) more.1 in
+        (record { whole = (ap is_int is, more.0.whole); rising = (first, more.0.rising) }, above_all last n is up more.1)
+
+    if_rises : (v : Value) → rowid r ≡ v → rises_after (rises rows) (next_above last v) ≡ true → Rises last (r ∷ rows)
+    if_rises Null is h = absurd (true≢false (sym h))
+    if_rises (Int n) is h = if_above n is (exceeds last n) refl h
+    if_rises (Real x) is h = absurd (true≢false (sym h))
+    if_rises (Text t) is h = absurd (true≢false (sym h))
+    if_rises (Blob b) is h = absurd (true≢false (sym h))
+
+  exceeds_if : (last : Option ℤ) (n : ℤ) → rowid r ≡ Int n → IsAbove last r → exceeds last n ≡ true
+  exceeds_if None n is up = refl
+  exceeds_if (Some m) n is up = lt_if m n (subst (λ v. value_cmp (Int m) v ≡ Less) is up)
+
+  then_rises : (last : Option ℤ) → ((n : ℤ) → AllByRecursion (IsAbove (Some n)) rows → rises rows (Some n) ≡ true) → (v : Value) → rowid r ≡ v → is_int v ≡ true
+      → IsAbove last r → AllByRecursion (λ b. value_cmp (rowid r) (rowid b) ≡ Less) rows → rises_after (rises rows) (next_above last v) ≡ true
+  then_rises last later Null is int up more = absurd (true≢false (sym int))
+  then_rises last later (Int n) is int up more =
+      ap (λ b. rises_after (rises rows) (if b then Some n else None)) (exceeds_if last n is up) ∙ later n (subst (λ v. AllByRecursion (λ b. value_cmp v (rowid b) ≡ Less) rows) is more)
+  then_rises last later (Real x) is int up more = absurd (true≢false (sym int))
+  then_rises last later (Text t) is int up more = absurd (true≢false (sym int))
+  then_rises last later (Blob b) is int up more = absurd (true≢false (sym int))
+
+are_rising : (rows : List Row) (last : Option ℤ) → rises rows last ≡ true → Rises last rows
+are_rising [] last h = (record { whole = tt; rising = tt }, tt)
+are_rising (r ∷ rows) last h = if_rises r rows last (λ n. are_rising rows (Some n)) (rowid r) refl h
+
+do_rise : (rows : List Row) (last : Option ℤ) → AreRising rows → AllByRecursion (IsAbove last) rows → rises rows last ≡ true
+do_rise [] last up above = refl
+do_rise (r ∷ rows) last up above =
+    then_rises r rows last (λ n. do_rise rows (Some n) (record { whole = up.whole.1; rising = up.rising.1 })) (rowid r) refl up.whole.0 above.0 up.rising.0
+
+pub rising_just_if : (rows : List Row) (b : Bool) → rises rows None ≡ b → (IsTrue b → AreRising rows) × (AreRising rows → IsTrue b)
+rising_just_if rows b is = (λ yes. (are_rising rows None (is ∙ yes)).0, λ up. sym is ∙ do_rise rows None up (none_above rows))
+
+pub risen : (rows : List Row) (i : ℕ) (last : Option ℤ) → length rows ≤ i → rises (drop i rows) last ≡ true
+risen rows i last all = ap (λ xs. rises xs last) (drop_of_length-le rows all)
+
+pub fallen : (rows : List Row) (i : ℕ) (last : Option ℤ) (r : Row) → i < length rows → r ≡ get_or rows i r → next_above last (rowid r) ≡ None → rises (drop i rows) last ≡ false
+fallen rows i last r low is none = ap (λ xs. rises xs last) (drop-cons rows i r low) ∙ ap (rises_after (rises (drop (suc i) rows))) (ap (λ x. next_above last (rowid x)) (sym is) ∙ none)
+
+-- ---- an answer with the rowids of a table
+
+abbrev is_same_id : Row → Row → Bool
+is_same_id a b = is_eq (value_cmp (rowid a) (rowid b))
+
+flips : (a b : Row) → is_same_id a b ≡ is_same_id b a
+flips a b = ap is_eq (value_cmp_total.antisymm (rowid a) (rowid b)) ∙ reversed (value_cmp (rowid b) (rowid a))
+
+to_distinct : (rows : List Row) → IsAscending IsApart rows → IsDistinct is_same_id rows
+unfolding IsDistinct
+to_distinct [] up = tt
+to_distinct (r ∷ rows) up = (up.0, to_distinct rows up.1)
+
+from_distinct : (rows : List Row) → IsDistinct is_same_id rows → IsAscending IsApart rows
+unfolding IsDistinct
+from_distinct [] apart = tt
+from_distinct (r ∷ rows) apart = (apart.0, from_distinct rows apart.1)
+
+numbered_by : (rows shown : List Row) → IsPermutation (map (λ r. rowid r ∷ []) rows) shown → AreRising shown → AreNumbered rows
+numbered_by rows shown same up =
+    let cells = map (λ (r : Row). rowid r ∷ []) rows in
+    let back = IsPermutation-sym cells shown same in
+    let apart = ascending_weaker (λ a b. value_cmp (rowid a) (rowid b) ≡ Less) IsApart (λ a b h. ap is_eq h) shown up.rising in
+    record {
+      whole = all_unmap (λ r. is_int (rowid r) ≡ true) (λ (r : Row). rowid r ∷ []) rows (all-permutation (λ r. is_int (rowid r) ≡ true) shown cells back up.whole);
+      distinct = ascending_from_map IsApart (λ (r : Row). rowid r ∷ []) rows (from_distinct cells (IsDistinct-IsPermutation is_same_id flips shown cells back (to_distinct shown apart)));
+    }
+
+module _ {S : Type 0} (g : Ghosts S) (old new : Held S) (text : List ℕ) (tree : ℕ) (is : IsQuery text (rowids_query tree) (codes "rowid" ∷ [])) (alone : (db : Trees) → overlay db [] tree ≡ db tree) where
+  pub numbered_if : Holds g old HasDeskSchema → (HasCleanDisk (state g new) → HasCleanDisk (state g old)) → IsKept g old new → (rows : List Row)
+      → (HasCleanDisk (state g new) → Shown text [] (state g old) (state g new) rows) → AreRising rows → Holds g new (λ (db : Database). AreNumbered (db.trees tree))
+  numbered_if known was kept rows shown up clean live =
+      let before = kept clean live in
+      let stored = (state g old).now.trees tree in
+      let cells = scanned (λ r. [] ∷ r ∷ []) [] (col 1 0 ∷ []) (λ r. rowid r ∷ []) (λ r. true) (λ r. refl) (λ r. refl) stored ∙ every (map (λ (r : Row). rowid r ∷ []) stored) in
+      let all_cells : map (eval_all (col 1 0 ∷ [])) (matches (overlay (state g old).now.trees []) [] (inner tree end) ([] ∷ [])) ≡ map (λ (r : Row). rowid r ∷ []) stored =
+      subst (λ rows. map (eval_all (col 1 0 ∷ [])) (flat_map (λ r. cond (list_all (holds ([] ∷ r ∷ [])) []) (([] ∷ r ∷ []) ∷ []) []) rows) ≡ map (λ (r : Row). rowid r ∷ []) stored) (sym (alone (state g old).now.trees)) cells in
+      let all = shows text _ _ _ _ _ is [] (state g old) (state g new) rows (known (was clean) before.was_open) (shown clean) in
+      subst (λ (db : Database). AreNumbered (db.trees tree)) (sym before.now) (numbered_by stored rows (subst (λ xs. IsPermutation xs rows) all_cells all) up)
+
+-- what a later call keeps
+pub still : {S : Type 0} (g : Ghosts S) (old new : Held S) (Is : Database → Type 0) → Holds g old Is → (HasCleanDisk (state g new) → HasCleanDisk (state g old)) → IsKept g old new → Holds g new Is
+still g old new Is holds was kept clean live = let before = kept clean live in subst Is (sym before.now) (holds (was clean) before.was_open)
+
+pub kept_on : {S : Type 0} (g : Ghosts S) (old mid new : Held S) → IsKept g old mid → (HasCleanDisk (state g new) → HasCleanDisk (state g mid)) → IsKept g mid new → IsKept g old new
+kept_on g old mid new first was second clean live =
+    let b = second clean live in
+    let a = first (was clean) b.was_open in
+    record { was_open = a.was_open; now = b.now ∙ a.now; committed = b.committed ∙ a.committed }

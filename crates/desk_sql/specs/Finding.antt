@@ -1,0 +1,85 @@
+-- What tables a database has.
+use Rattle.std.specs.Prelude.{◌≡◌, ◌≢◌, ℕ, ◌+◌, List, [], ◌∷◌, ℤ, Bool, int_lt, if◌then◌else◌, Option, None, Some, true, false, codes, IsTrue}
+use Rattle.std.specs.List.{AllByRecursion}
+use Rattle.sqlite.specs.Order.{Row}
+use Rattle.sqlite.specs.Tree.{rowid, IsTable}
+use Rattle.sqlite.specs.View.{is_int}
+use Rattle.sqlite.specs.declared.types.Value.{Value}
+use Rattle.sqlite.specs.declared.types.Value.TheVariants.{Null, Int, Real, Text, Blob}
+use Rattle.sqlite.specs.Table.{Table}
+use Rattle.sqlite.specs.Kind.TheVariants as kind
+use Rattle.sqlite_schema.specs.declared.schema.Column.{Column}
+use Rattle.sqlite_schema.specs.declared.schema.Index.{Index}
+use Rattle.sqlite_value.specs.Keys.{plain}
+use Rattle.sqlite.specs.Store.{Ghosts}
+use Rattle.sqlite.specs.State.{HasCleanDisk}
+use Rattle.sqlite.specs.Held.{Held, state}
+use Rattle.sqlite.specs.Effect.{Database}
+use Rattle.desk_sql.specs.Schema.{blank_schema, desk_schema, column_of, table_of}
+
+-- what is shown, if it means something, is so
+abbrev pub Holds : {S : Type 0} → Ghosts S → Held S → (Database → Type 0) → Type 0
+Holds g h Is = HasCleanDisk (state g h) → IsTrue (state g h).is_open → Is (state g h).now
+
+abbrev pub HasDeskSchema : Database → Type 0
+HasDeskSchema db = db.schema ≡ desk_schema
+
+-- some tables or other objects, and not those of a desk
+abbrev pub HasOthers : Database → Type 0
+HasOthers db = (db.schema ≢ blank_schema) × (db.schema ≢ desk_schema)
+
+-- ---- rowids
+
+-- whole numbers, each above those before
+pub record AreRising (rows : List Row) : Type 0 where
+  pub whole : AllByRecursion (λ r. is_int (rowid r) ≡ true) rows
+  pub rising : IsTable rows
+
+abbrev pub exceeds : Option ℤ → ℤ → Bool
+exceeds None n = true
+exceeds (Some last) n = int_lt last n
+
+-- the value, if it is a whole number above the last one
+abbrev pub next_above : Option ℤ → Value → Option ℤ
+next_above last (Int n) = if exceeds last n then Some n else None
+next_above last Null = None
+next_above last (Real x) = None
+next_above last (Text t) = None
+next_above last (Blob b) = None
+
+-- ---- the parts of a schema
+
+-- the table with no INTEGER PRIMARY KEY, CHECK, computed default or AUTOINCREMENT
+abbrev pub without_extras : Table → Table
+without_extras table =
+    record table { key = None; checks = []; computed = []; stamps = record { places = []; terms = []; formats = [] }; is_counted = false }
+
+-- the table of this name, in this tree and with this primary key, that has the columns and references of another
+abbrev pub plain_table : Table → List ℕ → ℕ → List ℕ → Table
+plain_table like name tree key = record (table_of name like.columns key like.references) { tree = tree }
+
+abbrev pub place_columns : List Column
+place_columns = column_of (codes "operator") kind.Text ∷ column_of (codes "id") kind.Text ∷ column_of (codes "place") kind.Integer ∷ []
+
+abbrev pub extent_columns : List Column
+extent_columns = column_of (codes "lower") kind.Integer ∷ column_of (codes "upper") kind.Integer ∷ column_of (codes "start") kind.Integer ∷ column_of (codes "stop") kind.Integer ∷ []
+
+-- the index that SQLite makes for the primary key of the table in the tree before its own
+abbrev pub key_index : List ℕ → ℕ → List ℕ → Index
+key_index name table columns =
+    record { name = name; tree = table + 1; table = table; columns = columns; order = plain; is_unique = true }
+
+unfoldable pub operator_index : Index
+operator_index = key_index (codes "sqlite_autoindex_operator_1") 0 (1 ∷ [])
+
+unfoldable pub plan_index : Index
+plan_index = key_index (codes "sqlite_autoindex_plan_1") 2 (1 ∷ 2 ∷ [])
+
+unfoldable pub volume_index : Index
+volume_index = key_index (codes "sqlite_autoindex_volume_1") 4 (1 ∷ 2 ∷ 3 ∷ [])
+
+unfoldable pub span_index : Index
+span_index = key_index (codes "sqlite_autoindex_span_1") 6 (1 ∷ 2 ∷ 3 ∷ 4 ∷ [])
+
+abbrev pub desk_indexes : List Index
+desk_indexes = operator_index ∷ plan_index ∷ volume_index ∷ span_index ∷ []

@@ -1,0 +1,229 @@
+//! The rows of a plan, as they are put into the tables.
+
+ghost use Rattle.std.specs.Prelude.{◌≡◌, IfOk, map};
+ghost use Rattle.std.specs.List.{AllByRecursion};
+ghost use Rattle.std.specs.String.{string_bytes};
+ghost use Rattle.volume4d.specs.FootprintBytes.{footprint_bytes};
+ghost use Rattle.desk_sql.specs.Batches.{volume_of, span_of};
+ghost use Rattle.desk_store.specs.Changes.{filed_by};
+ghost use Rattle.desk_tables.specs.Tables as spec;
+ghost use Rattle.desk_tables.specs.Tables.{id_text, area_rows, ArePlanSpanRows, AreSpanRowsFrom};
+ghost use Rattle.desk_tables.specs.Content.{IsId, IsBlock};
+ghost use Rattle.desk_tables.specs.PlanRows.{volume_record, slab_record, AreAskedOf};
+
+use desk_rules::plan::PlanRow;
+use desk_rules::plan_id::PlanId;
+use desk_rules::words::{Aircraft, Usage};
+use desk_sql::{SpanRow, VolumeRow};
+use std::alloc::{AllocError, Global};
+use volume4d::{Slab, Volume};
+
+/// The number of a usage.
+pub(crate) fn usage_number(usage: Usage) -> u32
+    ensures { result ≡ spec.usage_number usage }
+{
+    match usage {
+        Usage::Planned => 0,
+        Usage::InUse => 1,
+        Usage::Closed => 2,
+    }
+}
+
+/// The number of a state of the aircraft.
+pub(crate) fn aircraft_number(aircraft: Aircraft) -> u32
+    ensures { result ≡ spec.aircraft_number aircraft }
+{
+    match aircraft {
+        Aircraft::Nominal => 0,
+        Aircraft::OffNominal => 1,
+        Aircraft::Contingent => 2,
+    }
+}
+
+/// The texts of ids, which are ids.
+///
+/// # Errors
+///
+/// `AllocError` if memory runs out.
+pub(crate) fn texts_of(alloc: Global, ids: &[PlanId]) -> Result<Vec<String>, AllocError>
+    ensures value { IfOk result (λ texts. map string_bytes texts.items ≡ map id_text ids.now) }
+    ensures valid { IfOk result (λ texts. AllByRecursion IsId ids.now) }
+{
+    let mut texts = Vec::new(alloc);
+    for id in ids {
+        texts.push(text_of(alloc, id)?)?;
+    }
+    Ok(texts)
+}
+
+// The text of an id, which is an id.
+fn text_of(alloc: Global, id: &PlanId) -> Result<String, AllocError>
+    ensures value { IfOk result (λ text. string_bytes text ≡ id_text id.now) }
+    ensures valid { IsId id.now }
+{
+    let mut buffer = [0u8; 36];
+    String::from_str(alloc, id.encode(&mut buffer))
+}
+
+/// The bytes of the footprints of volumes, which are within the limits.
+///
+/// # Errors
+///
+/// `AllocError` if memory runs out.
+pub(crate) fn asked_of(alloc: Global, volumes: &[Volume]) -> Result<Vec<Vec<u8>>, AllocError>
+    ensures value { IfOk result (λ asked. AreAskedOf volumes.now (map (λ bytes. bytes.items) asked.items)) }
+    ensures valid { IfOk result (λ asked. AllByRecursion IsBlock volumes.now) }
+{
+    let mut asked = Vec::new(alloc);
+    for volume in volumes {
+        asked.push(asked_in(alloc, volume)?)?;
+    }
+    Ok(asked)
+}
+
+// The bytes of the footprint of a volume, which is within the limits.
+fn asked_in(alloc: Global, volume: &Volume) -> Result<Vec<u8>, AllocError>
+    ensures value { IfOk result (λ bytes. bytes.items ≡ footprint_bytes volume.now.footprint) }
+    ensures valid { IfOk result (λ bytes. IsBlock volume.now) }
+{
+    let _window = volume.window();
+    volume.footprint().to_bytes(alloc)
+}
+
+/// The rows of a plan's volumes, at the places 0, 1, .. of their area.
+///
+/// # Errors
+///
+/// `AllocError` if memory runs out.
+pub(crate) fn volume_rows<'a>(
+    alloc: Global,
+    operator: &'a str,
+    id: &'a str,
+    plan: &PlanRow,
+    asked: &'a [Vec<u8>],
+) -> Result<Vec<VolumeRow<'a>>, AllocError>
+    requires named { id.now ≡ id_text plan.now.id }
+    requires same { AreAskedOf plan.now.area (map (λ bytes. bytes.items) asked.now) }
+    ensures { IfOk result (λ rows. map volume_of rows.items
+        ≡ area_rows (filed_by operator.now plan.now)) }
+{
+    let volumes = plan.area.volumes();
+    let mut rows = Vec::new(alloc);
+    let mut place = 0u32;
+    for volume in volumes {
+        rows.push(volume_row(operator, id, place, volume, &asked[place as usize]))?;
+        place += 1;
+    }
+    Ok(rows)
+}
+
+// The row of a volume at a place, with the bytes of its footprint.
+fn volume_row<'a>(
+    operator: &'a str,
+    id: &'a str,
+    place: u32,
+    volume: &Volume,
+    asked: &'a [u8],
+) -> VolumeRow<'a>
+    ensures { volume_of result ≡ volume_record operator.now id.now place volume.now.window asked.now }
+{
+    let window = volume.window();
+    VolumeRow {
+        operator,
+        id,
+        place,
+        lower: i64::from(window.lower()),
+        upper: i64::from(window.upper()),
+        start: window.start(),
+        stop: window.end(),
+        asked,
+    }
+}
+
+/// The rows of a plan's spans: one for each range of each of its volumes while it is live, and none
+/// once it is closed.
+///
+/// # Errors
+///
+/// `AllocError` if memory runs out.
+pub(crate) fn span_rows<'a>(
+    alloc: Global,
+    operator: &'a str,
+    id: &'a str,
+    plan: &PlanRow,
+) -> Result<Vec<SpanRow<'a>>, AllocError>
+    requires { id.now ≡ id_text plan.now.id }
+    ensures { IfOk result (λ rows. ArePlanSpanRows (filed_by operator.now plan.now)
+        (map span_of rows.items)) }
+{
+    if plan.usage.is_live() {
+        area_spans(alloc, operator, id, plan)
+    } else {
+        Ok(Vec::new(alloc))
+    }
+}
+
+// A row for each range of each volume of a plan.
+fn area_spans<'a>(
+    alloc: Global,
+    operator: &'a str,
+    id: &'a str,
+    plan: &PlanRow,
+) -> Result<Vec<SpanRow<'a>>, AllocError>
+    requires { id.now ≡ id_text plan.now.id }
+    ensures { IfOk result (λ rows. AreSpanRowsFrom (filed_by operator.now plan.now) 0 plan.now.area
+        (map span_of rows.items)) }
+{
+    let volumes = plan.area.volumes();
+    let mut rows = Vec::new(alloc);
+    let mut place: u32 = 0;
+    for volume in volumes {
+        let slabs = volume.slabs()?;
+        rows.extend_from_slice(&slab_rows(alloc, operator, id, place, plan.priority, &slabs)?)?;
+        place += 1;
+    }
+    Ok(rows)
+}
+
+// A row for each slab of the volume at a place.
+fn slab_rows<'a>(
+    alloc: Global,
+    operator: &'a str,
+    id: &'a str,
+    place: u32,
+    priority: u32,
+    slabs: &[Slab],
+) -> Result<Vec<SpanRow<'a>>, AllocError>
+    ensures { IfOk result (λ rows. map span_of rows.items
+        ≡ map (slab_record operator.now id.now place priority) slabs.now) }
+{
+    let mut rows = Vec::new(alloc);
+    for slab in slabs {
+        rows.push(slab_row(operator, id, place, priority, slab))?;
+    }
+    Ok(rows)
+}
+
+// The row of a slab of the volume at a place.
+fn slab_row<'a>(
+    operator: &'a str,
+    id: &'a str,
+    place: u32,
+    priority: u32,
+    slab: &Slab,
+) -> SpanRow<'a>
+    ensures { span_of result ≡ slab_record operator.now id.now place priority slab.now }
+{
+    SpanRow {
+        operator,
+        id,
+        place,
+        first: slab.first as i64,
+        last: slab.last as i64,
+        lower: i64::from(slab.lower),
+        upper: i64::from(slab.upper),
+        start: slab.start,
+        stop: slab.end,
+        priority,
+    }
+}
