@@ -1,5 +1,6 @@
 //! Pairs of histories: two desks side by side, at which one operator asks the same.
 
+use crate::empty_store::EmptyStore;
 use crate::stage::Stage;
 use crate::step::Step;
 use anyhow::Context;
@@ -8,20 +9,20 @@ use std::io::Write;
 
 /// Two desks with a history each.
 #[derive(Drop)]
-pub struct Pair {
-    one: Stage,
-    two: Stage,
+pub struct Pair<S: EmptyStore> {
+    one: Stage<S>,
+    two: Stage<S>,
     alloc: Global,
 }
 
-impl Pair {
+impl<S: EmptyStore> Pair<S> {
     /// Two empty desks.
-    pub fn new(alloc: Global) -> Pair {
-        Pair {
-            one: Stage::new(alloc),
-            two: Stage::new(alloc),
+    pub fn new(alloc: Global) -> anyhow::Result<Pair<S>> {
+        Ok(Pair {
+            one: Stage::new(alloc)?,
+            two: Stage::new(alloc)?,
             alloc,
-        }
+        })
     }
 
     /// Plays a line of a pair, and says whether it is one:
@@ -34,7 +35,7 @@ impl Pair {
         let (word, rest) = line.split_once(' ').unwrap_or((line, ""));
         match word {
             "pair" => {
-                *self = Pair::new(self.alloc);
+                *self = Pair::new(self.alloc)?;
                 writeln!(output, "pair {rest}")?;
             }
             "one" => {
@@ -62,7 +63,11 @@ impl Pair {
 }
 
 // What comes of a step, as bytes.
-fn said_by(alloc: Global, stage: &mut Stage, line: &str) -> anyhow::Result<Vec<u8>> {
+fn said_by<S: EmptyStore>(
+    alloc: Global,
+    stage: &mut Stage<S>,
+    line: &str,
+) -> anyhow::Result<Vec<u8>> {
     let step = Step::parse(alloc, line)?.context("a line of no known form")?;
     let mut said = Vec::new(alloc);
     stage.play(&step, &mut said)?;

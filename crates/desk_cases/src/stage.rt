@@ -3,6 +3,7 @@
 ghost use Rattle.desk_wire.specs.Moments.{IsMoment};
 
 use crate::ask::Ask;
+use crate::empty_store::EmptyStore;
 use crate::shown::{ShownPlan, ShownRun};
 use crate::step::Step;
 use anyhow::{Context, bail};
@@ -12,7 +13,6 @@ use desk_rules::plan_id::PlanId;
 use desk_rules::reply::Reply;
 use desk_rules::words::PlanResult;
 use desk_run::{Desk, Outcome};
-use desk_store::{ListStore, PlanStore};
 use desk_wire::answer;
 use std::alloc::Global;
 use std::io::Write;
@@ -41,22 +41,22 @@ impl Moment {
     }
 }
 
-/// A desk over a list, and its moment.
+/// A desk over a store, and its moment.
 #[derive(Drop)]
-pub struct Stage {
-    desk: Desk<ListStore>,
+pub struct Stage<S: EmptyStore> {
+    desk: Desk<S>,
     moment: Moment,
     alloc: Global,
 }
 
-impl Stage {
+impl<S: EmptyStore> Stage<S> {
     /// An empty desk at the first moment.
-    pub fn new(alloc: Global) -> Stage {
-        Stage {
-            desk: Desk::new(ListStore::new(alloc)),
+    pub fn new(alloc: Global) -> anyhow::Result<Stage<S>> {
+        Ok(Stage {
+            desk: Desk::new(S::empty(alloc)?),
             moment: Moment { second: 0 },
             alloc,
-        }
+        })
     }
 
     /// Does what a step says, and prints what comes of it.
@@ -86,7 +86,7 @@ impl Stage {
 
     // A new desk with these enrolments, `NAME=CEILING ..`.
     fn begin(&mut self, enrolments: &str) -> anyhow::Result<()> {
-        self.desk = Desk::new(ListStore::new(self.alloc));
+        self.desk = Desk::new(S::empty(self.alloc)?);
         for enrolment in enrolments.split_whitespace() {
             let (name, ceiling) = enrolment.split_once('=').context("no enrolment")?;
             let operator = Operator::try_new(name.as_bytes()).context("no name")?;
@@ -183,7 +183,7 @@ impl Stage {
     // Prints what the store holds of an operator.
     fn show_plans<W: Write>(&mut self, operator: &str, output: &mut W) -> anyhow::Result<()> {
         let operator = Operator::try_new(operator.as_bytes()).context("no name")?;
-        let empty = Desk::new(ListStore::new(self.alloc));
+        let empty = Desk::new(S::empty(self.alloc)?);
         let mut store = std::mem::replace(&mut self.desk, empty).into_store();
         let Ok(rows) = store.own_plans(&operator) else {
             bail!("the plans can't be read");

@@ -1,10 +1,13 @@
 -- Lines: what holds of a command line that was read.
-use Rattle.std.specs.Prelude.{ℕ, List, All, ⊤, ◌≤◌}
+use Rattle.std.specs.Prelude.{ℕ, List, All, ⊤, ◌≤◌, Option, Some, None, if◌then◌else◌, bytes_eq, codes, string_bytes}
 use Rattle.std.specs.Int.{IsInRange}
 use Rattle.desk_wire.specs.Moments.{IsMoment}
+use Rattle.uss_desk.specs.declared.line.Database.{Database}
+use Rattle.uss_desk.specs.declared.line.Database.TheVariants.{InMemory, File}
+use Rattle.uss_desk.specs.declared.line.Enrol.{Enrol as EnrolWords}
 use Rattle.uss_desk.specs.declared.line.Enrolment.{Enrolment}
 use Rattle.uss_desk.specs.declared.line.Line.{Line}
-use Rattle.uss_desk.specs.declared.line.Line.TheVariants.{Play, Token, Serve, Cover}
+use Rattle.uss_desk.specs.declared.line.Line.TheVariants.{Play, Token, Serve, Cover, Enrol}
 use Rattle.uss_desk.specs.declared.line.Play.{Play as PlayWords}
 use Rattle.uss_desk.specs.declared.line.Serve.{Serve as ServeWords}
 
@@ -25,6 +28,16 @@ min_connections = 1
 abbrev pub max_connections : ℕ
 max_connections = 1000000
 
+-- the file of a database; none if it is in memory
+abbrev pub file_of : Database → Option (List ℕ)
+file_of InMemory = None
+file_of (File path) = Some (string_bytes path)
+
+-- the file that a word names, if there is a word
+abbrev pub named_file : Option (List ℕ) → Option (List ℕ)
+named_file None = None
+named_file (Some word) = if bytes_eq word (codes ":memory:") then None else Some word
+
 abbrev pub AreEnrolments : List Enrolment → Type 0
 AreEnrolments enrolments = All (λ e. e.ceiling ≤ max_ceiling) enrolments
 
@@ -39,19 +52,25 @@ pub record IsServe (serve : ServeWords) : Type 0 where
   pub connections : IsInRange min_connections max_connections serve.connections
   pub enrolments : AreEnrolments serve.enrolments.items
 
+-- the words of `enrol`
+abbrev pub IsEnrol : EnrolWords → Type 0
+IsEnrol enrol = enrol.enrolment.ceiling ≤ max_ceiling
+
 -- each number of a line is in its range
 abbrev pub IsLine : Line → Type 0
 IsLine (Play play) = IsPlay play
 IsLine (Token token) = ⊤
 IsLine (Serve serve) = IsServe serve
 IsLine (Cover cover) = ⊤
+IsLine (Enrol enrol) = IsEnrol enrol
 
--- a line that is carried out at a desk over the standard streams
+-- a line that is carried out at a desk, by reading and writing alone
 abbrev pub HasDesk : Line → Type 0
 HasDesk (Play play) = ⊤
 HasDesk (Token token) = ⊥
 HasDesk (Serve serve) = ⊥
 HasDesk (Cover cover) = ⊥
+HasDesk (Enrol enrol) = ⊤
 
 -- a line that is carried out with no desk
 abbrev pub IsPrintable : Line → Type 0
@@ -59,3 +78,4 @@ IsPrintable (Play play) = ⊥
 IsPrintable (Token token) = ⊤
 IsPrintable (Serve serve) = ⊥
 IsPrintable (Cover cover) = ⊤
+IsPrintable (Enrol enrol) = ⊥

@@ -1,5 +1,6 @@
--- Playing: what comes of a line of `play` at a desk.
+-- Playing: what comes of a line of `play` or of `enrol` at a desk.
 use Rattle.std.specs.Prelude.{◌≡◌, ◌⊎◌, ℕ, List, Option, None, Some}
+use Rattle.std.specs.Io.KnownBytes.{Appends}
 use Rattle.desk_store.specs.World.{World}
 use Rattle.desk_wire.specs.Playing.{HasPlayed}
 use Rattle.desk_wire.specs.declared.play.PlayEnd.{PlayEnd}
@@ -7,7 +8,8 @@ use Rattle.uss_desk.specs.declared.failure.Failure.{Failure}
 use Rattle.uss_desk.specs.declared.line.Line.{Line}
 use Rattle.uss_desk.specs.declared.line.Line.TheVariants as line
 use Rattle.uss_desk.specs.declared.line.Play.{Play as PlayWords}
-use Rattle.uss_desk.specs.Enrolling.{with_operators}
+use Rattle.uss_desk.specs.declared.line.Enrolment.{Enrolment}
+use Rattle.uss_desk.specs.Enrolling.{IsCutOff, Lists, enrolled_line, with_operators}
 use Rattle.uss_desk.specs.Exits.{failure_after, failure_status}
 
 abbrev pub status_after : Option Failure → ℕ
@@ -30,6 +32,15 @@ pub record IsNotPlayed (status : ℕ) (old new out now : Option (List ℕ)) : Ty
   pub unread : new ≡ old
   pub unwritten : now ≡ out
 
+-- the operator is listed and its line printed; or its line is cut off, and it stays listed; or
+-- nothing is changed and printed
+abbrev pub IsEnrolled :
+    Type 0 → Enrolment → ℕ → Option (List ℕ) → Option (List ℕ) → World → World → Type 0
+IsEnrolled H enrolment status out now w after =
+    ((status ≡ 0) × Appends out now (enrolled_line enrolment) × Lists H enrolment w after)
+    ⊎ ((status ≡ 4) × IsCutOff (enrolled_line enrolment) out now × Lists H enrolment w after)
+    ⊎ ((status ≡ 4) × (now ≡ out) × (after ≡ w))
+
 abbrev pub IsLinePlayed :
     Type 0 → Line → ℕ → Option (List ℕ) → Option (List ℕ) → Option (List ℕ) → Option (List ℕ)
     → World → World → Type 0
@@ -38,3 +49,5 @@ IsLinePlayed H (line.Play play) status old new out now w after =
 IsLinePlayed H (line.Token token) status old new out now w after = ⊥
 IsLinePlayed H (line.Serve serve) status old new out now w after = ⊥
 IsLinePlayed H (line.Cover cover) status old new out now w after = ⊥
+IsLinePlayed H (line.Enrol enrol) status old new out now w after =
+    (new ≡ old) × IsEnrolled H enrol.enrolment status out now w after

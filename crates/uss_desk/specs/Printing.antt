@@ -80,6 +80,7 @@ IsTold (line.Play play) told = ⊥
 IsTold (line.Token token) told = told ≡ told_of_token (read_token (string_bytes token))
 IsTold (line.Serve serve) told = ⊥
 IsTold (line.Cover words) told = IsRectTold words.is_picture (rect_or_fault (rect_parts words)) told
+IsTold (line.Enrol enrol) told = ⊥
 
 -- what was told is printed, or the status says why there is nothing to tell
 abbrev pub IsShown : Result (List ℕ) Failure → ℕ → Option (List ℕ) → Option (List ℕ) → Type 0

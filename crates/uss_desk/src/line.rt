@@ -1,7 +1,9 @@
 //! The command line of the program.
 
-ghost use Rattle.std.specs.Prelude.{◌≤◌, IfOk, IfSome, OnOk};
-ghost use Rattle.uss_desk.specs.Lines.{AreEnrolments, IsLine, IsPlay, IsServe, max_ceiling};
+ghost use Rattle.std.specs.Prelude.{◌≡◌, ◌≤◌, IfOk, IfSome, OnOk, option_map, codes};
+ghost use Rattle.clap.specs.Matches.{found_of, first_value};
+ghost use Rattle.uss_desk.specs.Lines.{AreEnrolments, IsEnrol, IsLine, IsPlay, IsServe, max_ceiling};
+ghost use Rattle.uss_desk.specs.Lines.{file_of, named_file};
 
 #[cfg(test)]
 mod tests;
@@ -15,6 +17,9 @@ use std::str::FromStr;
 
 /// The last moment, a Unix second.
 const LAST_MOMENT: i64 = 253_370_764_800;
+
+/// The word for a database in memory.
+const IN_MEMORY: &str = ":memory:";
 
 /// The most digits of a ceiling.
 const CEILING_DIGITS: usize = 4;
@@ -33,11 +38,23 @@ pub enum Line {
     Serve(Serve),
     /// `cover`: tells the cells of a rectangle.
     Cover(Cover),
+    /// `enrol`: enrols one operator.
+    Enrol(Enrol),
+}
+
+/// Where operators and plans are kept.
+#[derive(Debug, Drop)]
+pub enum Database {
+    /// In memory: they are gone when the program ends.
+    InMemory,
+    /// In the SQLite database of this path.
+    File(String),
 }
 
 /// The words of `play`.
 #[derive(Debug, Drop)]
 pub struct Play {
+    pub database: Database,
     /// The moment of all requests, a Unix second from 0 to 253,370,764,800.
     pub moment: i64,
     pub enrolments: Vec<Enrolment>,
@@ -46,6 +63,7 @@ pub struct Play {
 /// The words of `serve`.
 #[derive(Debug, Drop)]
 pub struct Serve {
+    pub database: Database,
     /// The port of 127.0.0.1 that is listened at, 1 to 65,535.
     pub port: u16,
     /// How many connections are served, 1 to 1,000,000.
@@ -67,6 +85,13 @@ pub struct Cover {
     pub is_picture: bool,
 }
 
+/// The words of `enrol`.
+#[derive(Debug, Drop)]
+pub struct Enrol {
+    pub database: Database,
+    pub enrolment: Enrolment,
+}
+
 /// An operator to be enrolled, `NAME=CEILING`.
 #[derive(Clone, Copy, Debug)]
 pub struct Enrolment {
@@ -82,7 +107,7 @@ pub enum WordsFault {
     OutOfMemory,
     /// Help was asked for, or the words have none of the forms that help shows.
     Words(clap::Error),
-    /// A `NAME=CEILING` is malformed, or the ceiling is above 1,000.
+    /// A name, a ceiling or a `NAME=CEILING` is malformed, or the ceiling is above 1,000.
     Value,
 }
 
@@ -122,6 +147,7 @@ pub fn read_words(alloc: Global, words: &[String]) -> Result<Line, WordsFault>
         Some(("token", token)) => Ok(Line::Token(read_token(alloc, token)?)),
         Some(("serve", serve)) => Ok(Line::Serve(read_serve(alloc, serve)?)),
         Some(("cover", cover)) => Ok(Line::Cover(read_cover(cover)?)),
+        Some(("enrol", enrol)) => Ok(Line::Enrol(read_enrol(alloc, enrol)?)),
         _ => Err(WordsFault::Value),
     }
 }
@@ -134,7 +160,8 @@ fn make_command<'a>(alloc: Global) -> Result<Command<'a>, AllocError> {
         .subcommand(play_command(alloc)?)?
         .subcommand(token_command(alloc)?)?
         .subcommand(serve_command(alloc)?)?
-        .subcommand(cover_command(alloc)?)
+        .subcommand(cover_command(alloc)?)?
+        .subcommand(enrol_command(alloc)?)
 }
 
 fn play_command<'a>(alloc: Global) -> Result<Command<'a>, AllocError> {
@@ -146,6 +173,7 @@ fn play_command<'a>(alloc: Global) -> Result<Command<'a>, AllocError> {
         .value_parser(value_parser!(i64).range(0..=LAST_MOMENT));
     Command::new(alloc, "play")
         .about("Answers the requests of the standard input")
+        .arg(database_arg(alloc))?
         .arg(moment)?
         .arg(enrolments_arg(alloc))
 }
@@ -175,6 +203,7 @@ fn serve_command<'a>(alloc: Global) -> Result<Command<'a>, AllocError> {
         .value_parser(value_parser!(u32).range(1..=i64::from(MAX_CONNECTIONS)));
     Command::new(alloc, "serve")
         .about("Answers one request a connection, at the moment that the clock tells")
+        .arg(database_arg(alloc))?
         .arg(port)?
         .arg(connections)?
         .arg(enrolments_arg(alloc))
@@ -187,13 +216,29 @@ fn cover_command<'a>(alloc: Global) -> Result<Command<'a>, AllocError> {
         .action(ArgAction::SetTrue);
     Command::new(alloc, "cover")
         .about("Tells the cells of a rectangle of leaves, widened to whole squares of the level")
-        .arg(number_arg(alloc, "FACE", "The face, 0 to 5").value_parser(value_parser!(u8)))?
+        .arg(word_arg(alloc, "FACE", "The face, 0 to 5").value_parser(value_parser!(u8)))?
         .arg(coordinate_arg(alloc, "I_MIN", "The least coordinate i of a leaf"))?
         .arg(coordinate_arg(alloc, "I_MAX", "The greatest coordinate i"))?
         .arg(coordinate_arg(alloc, "J_MIN", "The least coordinate j"))?
         .arg(coordinate_arg(alloc, "J_MAX", "The greatest coordinate j"))?
-        .arg(number_arg(alloc, "LEVEL", "The level, 8 to 24").value_parser(value_parser!(u8)))?
+        .arg(word_arg(alloc, "LEVEL", "The level, 8 to 24").value_parser(value_parser!(u8)))?
         .arg(picture)
+}
+
+fn enrol_command<'a>(alloc: Global) -> Result<Command<'a>, AllocError> {
+    Command::new(alloc, "enrol")
+        .about("Enrols an operator in a database, or replaces its ceiling")
+        .arg(database_arg(alloc).required(true))?
+        .arg(word_arg(alloc, "NAME", "The operator's name"))?
+        .arg(word_arg(alloc, "CEILING", "The greatest priority that it may use"))
+}
+
+// The file of operators and plans.
+fn database_arg<'a>(alloc: Global) -> Arg<'a> {
+    Arg::new(alloc, "database")
+        .long("db")
+        .value_name("FILE")
+        .help("The SQLite database of operators and plans, or :memory: for one in memory")
 }
 
 // Operators and their ceilings.
@@ -204,8 +249,8 @@ fn enrolments_arg<'a>(alloc: Global) -> Arg<'a> {
         .action(ArgAction::Append)
 }
 
-// A number that has to be there.
-fn number_arg<'a>(alloc: Global, name: &'a str, help: &'a str) -> Arg<'a> {
+// A word that has to be there.
+fn word_arg<'a>(alloc: Global, name: &'a str, help: &'a str) -> Arg<'a> {
     Arg::new(alloc, name)
         .value_name(name)
         .help(help)
@@ -213,19 +258,24 @@ fn number_arg<'a>(alloc: Global, name: &'a str, help: &'a str) -> Arg<'a> {
 }
 
 fn coordinate_arg<'a>(alloc: Global, name: &'a str, help: &'a str) -> Arg<'a> {
-    number_arg(alloc, name, help).value_parser(value_parser!(u32))
+    word_arg(alloc, name, help).value_parser(value_parser!(u32))
 }
 
 // The words of `play`.
 fn read_play(alloc: Global, matches: &ArgMatches<'_>) -> Result<Play, WordsFault>
-    ensures { IfOk result IsPlay }
+    ensures valid { IfOk result IsPlay }
+    ensures file { IfOk result (λ play. file_of play.database ≡
+        named_file (first_value (found_of matches.now) (codes "database"))) }
 {
     let moment = match matches.get_one::<i64>("moment") {
         Some(moment @ 0..=LAST_MOMENT) => moment,
         _ => return Err(WordsFault::Value),
     };
-    let enrolments = read_enrolments(alloc, matches)?;
-    Ok(Play { moment, enrolments })
+    Ok(Play {
+        database: read_database(alloc, matches)?,
+        moment,
+        enrolments: read_enrolments(alloc, matches)?,
+    })
 }
 
 // The text of `token`.
@@ -236,7 +286,9 @@ fn read_token(alloc: Global, matches: &ArgMatches<'_>) -> Result<String, WordsFa
 
 // The words of `serve`.
 fn read_serve(alloc: Global, matches: &ArgMatches<'_>) -> Result<Serve, WordsFault>
-    ensures { IfOk result IsServe }
+    ensures valid { IfOk result IsServe }
+    ensures file { IfOk result (λ serve. file_of serve.database ≡
+        named_file (first_value (found_of matches.now) (codes "database"))) }
 {
     let port = match matches.get_one::<u16>("port") {
         Some(port @ 1..) => port,
@@ -247,6 +299,7 @@ fn read_serve(alloc: Global, matches: &ArgMatches<'_>) -> Result<Serve, WordsFau
         _ => return Err(WordsFault::Value),
     };
     Ok(Serve {
+        database: read_database(alloc, matches)?,
         port,
         connections,
         enrolments: read_enrolments(alloc, matches)?,
@@ -264,6 +317,47 @@ fn read_cover(matches: &ArgMatches<'_>) -> Result<Cover, WordsFault> {
         level: read_number(matches, "LEVEL")?,
         is_picture: matches.get_flag("picture"),
     })
+}
+
+// The words of `enrol`.
+fn read_enrol(alloc: Global, matches: &ArgMatches<'_>) -> Result<Enrol, WordsFault>
+    ensures valid { IfOk result IsEnrol }
+    ensures file { IfOk result (λ enrol. file_of enrol.database ≡
+        named_file (first_value (found_of matches.now) (codes "database"))) }
+{
+    let name = matches.get_str("NAME").ok_or(WordsFault::Value)?;
+    let ceiling = matches.get_str("CEILING").ok_or(WordsFault::Value)?;
+    let Some(enrolment) = enrolment_by(name, ceiling) else {
+        return Err(WordsFault::Value);
+    };
+    Ok(Enrol {
+        database: read_database(alloc, matches)?,
+        enrolment,
+    })
+}
+
+// The database that the words name.
+fn read_database(alloc: Global, matches: &ArgMatches<'_>) -> Result<Database, AllocError>
+    ensures { IfOk result (λ database. file_of database ≡
+        named_file (first_value (found_of matches.now) (codes "database"))) }
+{
+    database_of(alloc, matches.get_str("database"))
+}
+
+// The database of a word; one in memory if there is none.
+fn database_of(alloc: Global, word: Option<&str>) -> Result<Database, AllocError>
+    ensures { IfOk result (λ database.
+        file_of database ≡ named_file (option_map (λ path. path.now) word.entry)) }
+{
+    match word {
+        None => Ok(Database::InMemory),
+        Some(path) => {
+            if path == IN_MEMORY {
+                return Ok(Database::InMemory);
+            }
+            Ok(Database::File(String::from_str(alloc, path)?))
+        }
+    }
 }
 
 // A number that `clap` has read.
@@ -293,6 +387,13 @@ fn enrolment_of(word: &str) -> Option<Enrolment>
     ensures { IfSome result (λ e. e.ceiling ≤ max_ceiling) }
 {
     let (name, ceiling) = word.split_once('=')?;
+    enrolment_by(name, ceiling)
+}
+
+// An enrolment of an operator under a ceiling.
+fn enrolment_by(name: &str, ceiling: &str) -> Option<Enrolment>
+    ensures { IfSome result (λ e. e.ceiling ≤ max_ceiling) }
+{
     Some(Enrolment {
         operator: Operator::try_new(name.as_bytes())?,
         ceiling: ceiling_of(ceiling)?,

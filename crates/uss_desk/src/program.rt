@@ -1,13 +1,14 @@
 //! What the program does at a desk: enrolments, and the requests of an input.
 
-ghost use Rattle.std.specs.Prelude.{◌≡◌, ◌≤◌, ◌⊎◌, IfErr, OnOk};
+ghost use Rattle.std.specs.Prelude.{◌≡◌, ◌≤◌, ◌⊎◌, IfErr, IfOk, OnOk, string_bytes};
 ghost use Rattle.desk_run.specs.Faults.{IsBreakdown};
 ghost use Rattle.desk_store.specs.Faults.{IsHonest};
+ghost use Rattle.uss_desk.specs.Enrolling as enrolling;
 ghost use Rattle.uss_desk.specs.Enrolling.{with_operators};
 ghost use Rattle.uss_desk.specs.Exits as spec;
 ghost use Rattle.uss_desk.specs.Exits.{exit_status};
-ghost use Rattle.uss_desk.specs.Lines.{AreEnrolments, HasDesk, IsLine, IsPlay};
-ghost use Rattle.uss_desk.specs.Playing.{IsLinePlayed, IsNotPlayed, IsPlayed, status_after};
+ghost use Rattle.uss_desk.specs.Lines.{AreEnrolments, HasDesk, IsLine, IsPlay, max_ceiling};
+ghost use Rattle.uss_desk.specs.Playing.{IsEnrolled, IsLinePlayed, IsNotPlayed, IsPlayed, status_after};
 
 #[cfg(test)]
 mod tests;
@@ -16,12 +17,12 @@ use crate::failure::{Failure, conclude};
 use crate::line::{Enrolment, Line, Play};
 use desk_run::{Desk, DeskFault};
 use desk_store::PlanStore;
-use desk_wire::{PlayEnd, play_all};
-use std::alloc::Global;
+use desk_wire::{PlayEnd, play_all, write_whole};
+use std::alloc::{AllocError, Global};
 use std::io::{Read, Write};
 
-/// Does what a line of `play` says at a desk, and answers the exit status. The word of a failure goes
-/// to `errors`; a fault there is passed over.
+/// Does what a line of `play` or of `enrol` says at a desk, and answers the exit status. The word of a
+/// failure goes to `errors`; a fault there is passed over.
 pub fn with_desk<S: PlanStore, R: Read, W: Write, E: Write>(
     alloc: Global,
     line: &Line,
@@ -41,6 +42,7 @@ pub fn with_desk<S: PlanStore, R: Read, W: Write, E: Write>(
 {
     match line {
         Line::Play(play) => play_line(alloc, play, desk, input, output, errors),
+        Line::Enrol(enrol) => enrol_line(alloc, &enrol.enrolment, desk, output, errors),
         _ => unreachable!(),
     }
 }
@@ -81,6 +83,42 @@ fn play_line<S: PlanStore, R: Read, W: Write, E: Write>(
     }
     let played = play_all(alloc, desk, play.moment, input, output);
     conclude(errors, done_after(played.ended))
+}
+
+// Enrols an operator, and prints the line that says so, which is made first.
+fn enrol_line<S: PlanStore, W: Write, E: Write>(
+    alloc: Global,
+    enrolment: &Enrolment,
+    desk: &mut Desk<S>,
+    output: &mut W,
+    errors: &mut E,
+) -> u8
+    requires { enrolment.now.ceiling ≤ max_ceiling }
+    ensures enrolled { IsEnrolled (IsHonest (S.doubt desk.new)) enrolment.now result
+        (W.contents output.old) (W.contents output.new) (S.content desk.old) (S.content desk.new) }
+    ensures doubt { S.doubt desk.old ≤ S.doubt desk.new }
+    ensures counted { S.faults desk.old ≤ S.faults desk.new }
+{
+    let Ok(text) = enrolled_text(alloc, enrolment) else {
+        return conclude(errors, Err(Failure::Memory));
+    };
+    if let Err(fault) = desk.enrol(&enrolment.operator, enrolment.ceiling) {
+        return conclude(errors, Err(Failure::from(fault)));
+    }
+    match write_whole(output, text.as_bytes()) {
+        Ok(()) => 0,
+        Err(_) => conclude(errors, Err(Failure::Write)),
+    }
+}
+
+// The line that tells of an enrolment.
+#[tactic(auto, unfolding(crate::specs::Enrolling::enrolled_line))]
+fn enrolled_text(alloc: Global, enrolment: &Enrolment) -> Result<String, AllocError>
+    ensures { IfOk result (λ text. string_bytes text ≡ enrolling.enrolled_line enrolment.now) }
+{
+    let operator = enrolment.operator;
+    let ceiling = enrolment.ceiling;
+    format!(in alloc; "enrolled {operator} {ceiling}\n")
 }
 
 // Whether a run over the input came to the input's end, by its own end.

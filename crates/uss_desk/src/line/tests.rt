@@ -1,6 +1,6 @@
 //! Words, and the lines that they are.
 
-use super::{Line, WordsFault, read_words};
+use super::{Database, Line, WordsFault, read_words};
 use std::alloc::{AllocError, Global};
 use std::test::Fail;
 
@@ -47,6 +47,44 @@ fn reads_play(rt: HostRuntime) -> Result<(), Fail> {
 }
 
 #[test]
+fn reads_enrol(rt: HostRuntime) -> Result<(), Fail> {
+    let words = ["enrol", "--db", "desk.db", "alfa", "100"];
+    let Ok(Line::Enrol(enrol)) = line_of(rt.alloc(), &words)? else {
+        return Err(Fail::from("no line"));
+    };
+    assert!(rt; is_file(&enrol.database, "desk.db"));
+    let enrolment = &enrol.enrolment;
+    assert_eq!(rt; enrolment.operator.as_bytes(), b"alfa".as_slice());
+    assert_eq!(rt; enrolment.ceiling, 100);
+    Ok(())
+}
+
+// Whether a database is in the file of this path.
+fn is_file(database: &Database, wanted: &str) -> bool {
+    matches!(database, Database::File(path) if path.as_str() == wanted)
+}
+
+#[test]
+fn reads_databases(rt: HostRuntime) -> Result<(), Fail> {
+    let alloc = rt.alloc();
+    for words in [
+        ["play", "--at", "0"].as_slice(),
+        &["play", "--db", ":memory:", "--at", "0"],
+    ] {
+        let Ok(Line::Play(play)) = line_of(alloc, words)? else {
+            return Err(Fail::from("no line"));
+        };
+        assert!(rt; matches!(play.database, Database::InMemory));
+    }
+    let words = ["serve", "--port", "1", "--db", "a b", "--requests", "1"];
+    let Ok(Line::Serve(serve)) = line_of(alloc, &words)? else {
+        return Err(Fail::from("no line"));
+    };
+    assert!(rt; is_file(&serve.database, "a b"));
+    Ok(())
+}
+
+#[test]
 fn refuses_values(rt: HostRuntime) -> Result<(), Fail> {
     let alloc = rt.alloc();
     for word in [
@@ -62,6 +100,8 @@ fn refuses_values(rt: HostRuntime) -> Result<(), Fail> {
     ] {
         assert!(rt; is_bad_value(alloc, &["play", "--at", "0", word])?);
     }
+    assert!(rt; is_bad_value(alloc, &["enrol", "--db", "d", "Alfa", "1"])?);
+    assert!(rt; is_bad_value(alloc, &["enrol", "--db", "d", "alfa", "1001"])?);
     Ok(())
 }
 
@@ -73,6 +113,8 @@ fn refuses_words(rt: HostRuntime) -> Result<(), Fail> {
     assert!(rt; is_refused(alloc, &["play", "alfa=1"])?);
     assert!(rt; is_refused(alloc, &["play", "--at", "253370764801"])?);
     assert!(rt; line_of(alloc, &["play", "--at", "253370764800"])?.is_ok());
+    assert!(rt; is_refused(alloc, &["enrol", "alfa", "1"])?);
+    assert!(rt; is_refused(alloc, &["enrol", "--db", "d", "alfa"])?);
     Ok(())
 }
 
@@ -86,7 +128,7 @@ fn shows_help(rt: HostRuntime) -> Result<(), Fail> {
     let text = format!(in alloc; "{help}")?;
     assert!(rt;
         text.as_str()
-            .contains("Usage: uss_desk play --at <SECOND> [NAME=CEILING]...")
+            .contains("Usage: uss_desk play [OPTIONS] --at <SECOND> [NAME=CEILING]...")
     );
     assert_eq!(rt; help.exit_code(), 0);
     Ok(())

@@ -3,7 +3,7 @@
 ghost use Rattle.uss_desk.specs.Lines.{HasDesk, IsLine};
 
 use super::with_desk;
-use crate::line::{Line, read_words};
+use crate::line::{Enrol, Line, read_words};
 use desk_rules::operator::Operator;
 use desk_run::Desk;
 use desk_store::{ListStore, PlanStore};
@@ -69,6 +69,57 @@ fn enrols_every_name(rt: HostRuntime) -> Result<(), Fail> {
     let bravo = Operator::try_new(b"bravo").ok_or("a name")?;
     assert_eq!(rt; store.ceiling(&alfa)?, Some(1_000));
     assert_eq!(rt; store.ceiling(&bravo)?, Some(7));
+    Ok(())
+}
+
+// The line of `enrol` for `alfa`.
+fn enrol_alfa(alloc: Global) -> Result<Enrol, Fail> {
+    let mut words = Vec::new(alloc);
+    for word in ["uss_desk", "enrol", "--db", ":memory:", "alfa", "100"] {
+        words.push(String::from_str(alloc, word)?)?;
+    }
+    let Ok(Line::Enrol(enrol)) = read_words(alloc, &words) else {
+        return Err(Fail::from("no line"));
+    };
+    Ok(enrol)
+}
+
+#[test]
+fn tells_of_an_enrolment(rt: HostRuntime) -> Result<(), Fail> {
+    let alloc = rt.alloc();
+    let done = carry_out(alloc, &Line::Enrol(enrol_alfa(alloc)?), b"left unread")?;
+    assert_eq!(rt; done.status, 0);
+    assert_eq!(rt; done.output.as_slice(), b"enrolled alfa 100\n".as_slice());
+    assert!(rt; done.errors.is_empty());
+    let mut store = done.desk.into_store();
+    let alfa = Operator::try_new(b"alfa").ok_or("a name")?;
+    assert_eq!(rt; store.ceiling(&alfa)?, Some(100));
+    Ok(())
+}
+
+// The writer takes eight bytes: the line is cut off, and the operator stays enrolled.
+#[test]
+fn enrols_before_it_prints(rt: HostRuntime) -> Result<(), Fail> {
+    let alloc = rt.alloc();
+    let line = Line::Enrol(enrol_alfa(alloc)?);
+    let mut desk = Desk::new(ListStore::new(alloc));
+    let mut input = b"".as_slice();
+    let mut room = [0; 8];
+    let mut output = room.as_mut_slice();
+    let mut errors = Vec::new(alloc);
+    let status = with_desk(
+        alloc,
+        &line,
+        &mut desk,
+        &mut input,
+        &mut output,
+        &mut errors,
+    );
+    assert_eq!(rt; status, 4);
+    assert_eq!(rt; room.as_slice(), b"enrolled".as_slice());
+    assert_eq!(rt; errors.as_slice(), b"uss_desk: write\n".as_slice());
+    let alfa = Operator::try_new(b"alfa").ok_or("a name")?;
+    assert_eq!(rt; desk.into_store().ceiling(&alfa)?, Some(100));
     Ok(())
 }
 
