@@ -60,7 +60,7 @@ pub record AreShared (ls : List Listed) (ps : List Filed) : Type 0 where
   pub listed : AllByRecursion (IsListed (record { operators = ls; plans = ps })) ps
   pub few : (operator : List ℕ) → length (rows_by operator ps) ≤ max_plans
 
--- operators by name, plans by operator and id, each operator's plans few, and the rows of `span` those of the plans
+-- operators by name, plans by operator and id, each operator's plans few, and `span` has the plans' rows
 pub record AreAgreed (ls : List Listed) (ps : List Filed) (rows : List Row) : Type 0 where
   pub names : IsStrictlySortedBy listed_cmp ls
   pub keys : IsStrictlySortedBy filed_cmp ps
