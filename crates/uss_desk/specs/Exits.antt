@@ -8,6 +8,8 @@ use Rattle.desk_wire.specs.declared.stream.ServeFault.{ServeFault}
 use Rattle.desk_wire.specs.declared.stream.ServeFault.TheVariants as serve
 use Rattle.desk_wire.specs.declared.stream.Served.{Served}
 use Rattle.desk_wire.specs.declared.stream.Served.TheVariants.{Answered, End}
+use Rattle.desk_tables.specs.declared.open.OpenFault.{OpenFault}
+use Rattle.desk_tables.specs.declared.open.OpenFault.TheVariants as open
 use Rattle.s2_cellid.specs.declared.tokens.TokenFault.{TokenFault}
 use Rattle.s2_cellid.specs.declared.tokens.TokenFault.TheVariants as token
 use Rattle.s2_cover.specs.declared.rect.RectFault.{RectFault}
@@ -33,6 +35,7 @@ failure_status failure.Store = 4
 failure_status failure.Write = 4
 failure_status failure.Network = 4
 failure_status failure.Clock = 4
+failure_status (failure.Open fault) = 4
 
 abbrev pub token_word : TokenFault → List ℕ
 token_word token.Empty = codes "empty"
@@ -45,6 +48,11 @@ rect_word rect.Face = codes "face"
 rect_word rect.Coordinate = codes "coordinate"
 rect_word rect.Order = codes "order"
 rect_word rect.Level = codes "level"
+
+abbrev pub open_word : OpenFault → List ℕ
+open_word open.OutOfMemory = codes "memory"
+open_word open.Store = codes "store"
+open_word open.NotADesk = codes "not_a_desk"
 
 abbrev pub failure_word : Failure → List ℕ
 failure_word failure.Value = codes "value"
@@ -61,6 +69,7 @@ failure_word failure.Store = codes "store"
 failure_word failure.Write = codes "write"
 failure_word failure.Network = codes "network"
 failure_word failure.Clock = codes "clock"
+failure_word (failure.Open fault) = open_word fault
 
 -- 0 if nothing failed
 abbrev pub exit_status : {A : Type 0} → Result A Failure → ℕ

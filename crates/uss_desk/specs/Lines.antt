@@ -72,6 +72,14 @@ HasDesk (Serve serve) = ⊥
 HasDesk (Cover cover) = ⊥
 HasDesk (Enrol enrol) = ⊤
 
+-- a line that is carried out at a desk over a database
+abbrev pub HasDatabase : Line → Type 0
+HasDatabase (Play play) = ⊤
+HasDatabase (Token token) = ⊥
+HasDatabase (Serve serve) = ⊤
+HasDatabase (Cover cover) = ⊥
+HasDatabase (Enrol enrol) = ⊤
+
 -- a line that is carried out with no desk
 abbrev pub IsPrintable : Line → Type 0
 IsPrintable (Play play) = ⊥
