@@ -9,7 +9,7 @@ use Rattle.desk_wire.specs.declared.stream.ServeFault.TheVariants as serve
 use Rattle.desk_wire.specs.declared.stream.Served.{Served}
 use Rattle.desk_wire.specs.declared.stream.Served.TheVariants.{Answered, End}
 use Rattle.desk_tables.specs.declared.open.OpenFault.{OpenFault}
-use Rattle.desk_tables.specs.declared.open.OpenFault.TheVariants as open
+use Rattle.desk_tables.specs.declared.open.OpenFault.TheVariants as opening
 use Rattle.s2_cellid.specs.declared.tokens.TokenFault.{TokenFault}
 use Rattle.s2_cellid.specs.declared.tokens.TokenFault.TheVariants as token
 use Rattle.s2_cover.specs.declared.rect.RectFault.{RectFault}
@@ -50,9 +50,9 @@ rect_word rect.Order = codes "order"
 rect_word rect.Level = codes "level"
 
 abbrev pub open_word : OpenFault → List ℕ
-open_word open.OutOfMemory = codes "memory"
-open_word open.Store = codes "store"
-open_word open.NotADesk = codes "not_a_desk"
+open_word opening.OutOfMemory = codes "memory"
+open_word opening.Store = codes "store"
+open_word opening.NotADesk = codes "not_a_desk"
 
 abbrev pub failure_word : Failure → List ℕ
 failure_word failure.Value = codes "value"
