@@ -127,8 +127,7 @@ fn shows_help(rt: HostRuntime) -> Result<(), Fail> {
     };
     let text = format!(in alloc; "{help}")?;
     assert!(rt;
-        text.as_str()
-            .contains("Usage: uss_desk play [OPTIONS] --at <SECOND> [NAME=CEILING]...")
+        text.as_str().contains("Usage: uss_desk play [OPTIONS] --at <SECOND> [NAME=CEILING]...")
     );
     assert_eq!(rt; help.exit_code(), 0);
     Ok(())

@@ -76,7 +76,14 @@ fn play_over<D: Disk + Drop>(
     let mut input = bytes;
     let mut output = Vec::new(alloc);
     let mut errors = Vec::new(alloc);
-    with_desk(alloc, &Line::Play(play), &mut desk, &mut input, &mut output, &mut errors);
+    with_desk(
+        alloc,
+        &Line::Play(play),
+        &mut desk,
+        &mut input,
+        &mut output,
+        &mut errors,
+    );
     match desk.into_store().release().close_files() {
         Ok(files) => Ok((files, output)),
         Err(_) => Err(Fail::from("the files are not closed")),
