@@ -1,6 +1,7 @@
 //! Lines carried out over streams in memory: the exit status, and what is printed.
 
-ghost use Rattle.uss_desk.specs.Lines.{HasDesk, IsLine};
+ghost use Rattle.std.specs.Prelude.{IfOk};
+ghost use Rattle.uss_desk.specs.Lines.{HasDesk, IsEnrol, IsLine};
 
 use super::with_desk;
 use crate::line::{Enrol, Line, read_words};
@@ -73,7 +74,9 @@ fn enrols_every_name(rt: HostRuntime) -> Result<(), Fail> {
 }
 
 // The line of `enrol` for `alfa`.
-fn enrol_alfa(alloc: Global) -> Result<Enrol, Fail> {
+fn enrol_alfa(alloc: Global) -> Result<Enrol, Fail>
+    ensures { IfOk result IsEnrol }
+{
     let mut words = Vec::new(alloc);
     for word in ["uss_desk", "enrol", "--db", ":memory:", "alfa", "100"] {
         words.push(String::from_str(alloc, word)?)?;
