@@ -25,7 +25,8 @@ pub struct Sizes {
 }
 
 impl Sizes {
-    /// The numbers that the words after the program's name give: plans, cells, and volumes, 1 if that is left out.
+    /// The numbers that the words after the program's name give: plans, cells, and volumes, 1 if that is
+    /// left out.
     pub fn read(mut words: env::Args) -> anyhow::Result<Sizes> {
         Ok(Sizes {
             plans: number_in(words.nth(1)).context("PLANS")?,
