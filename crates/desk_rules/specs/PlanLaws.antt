@@ -7,7 +7,9 @@ use Rattle.desk_rules.specs.declared.plan.PlanRow.{PlanRow}
 use Rattle.desk_rules.specs.Plan.{row_holds, top_priority}
 
 -- the greatest priority with one more plan
-pub top_priority-cons : (row : PlanRow) (rows : List PlanRow) (x : Point) → top_priority (row ∷ rows) x ≡ greater (level_where (row_holds row x) row.priority) (top_priority rows x)
+pub top_priority-cons :
+    (row : PlanRow) (rows : List PlanRow) (x : Point)
+    → top_priority (row ∷ rows) x ≡ greater (level_where (row_holds row x) row.priority) (top_priority rows x)
 unfolding top_priority
 top_priority-cons row rows x = top_by-cons (λ r. row_holds r x) (λ r. r.priority) row rows
 

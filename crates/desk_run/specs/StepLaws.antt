@@ -15,29 +15,40 @@ use Rattle.desk_store.specs.WorldLaws.{own_replaced, others_kept, close_closed, 
 abbrev owner : World → List ℕ → List PlanRow → Own
 owner w o rows = record { ceiling = ceiling_of o w; plans = rows }
 
-others_changed : (w : World) (o q : List ℕ) (rows : Option (List PlanRow)) → is_eq (text_cmp q o) ≡ false → own (world_with_plans w o rows) q ≡ own w q
+others_changed :
+    (w : World) (o q : List ℕ) (rows : Option (List PlanRow)) → is_eq (text_cmp q o) ≡ false
+    → own (world_with_plans w o rows) q ≡ own w q
 unfolding own with_plans ceiling_of
 others_changed w o q None e = refl
 others_changed w o q (Some rows) e = ap (owner w q) (others_kept q o rows w e)
 
-pub others_stay : (w : World) (o q : List ℕ) (moment : ℤ) (asked : Call) → is_eq (text_cmp q o) ≡ false → own (step w o moment asked) q ≡ own w q
+pub others_stay :
+    (w : World) (o q : List ℕ) (moment : ℤ) (asked : Call) → is_eq (text_cmp q o) ≡ false
+    → own (step w o moment asked) q ≡ own w q
 unfolding step
 others_stay w o q moment asked e = others_changed w o q (verdict (own w o) (held w o) moment asked).plans e
 
-own_changed : (w : World) (o : List ℕ) (rows : Option (List PlanRow)) → own (world_with_plans w o rows) o ≡ record (own w o) { plans = unwrap_or rows (plans_of o w) }
+own_changed :
+    (w : World) (o : List ℕ) (rows : Option (List PlanRow))
+    → own (world_with_plans w o rows) o ≡ record (own w o) { plans = unwrap_or rows (plans_of o w) }
 unfolding own with_plans ceiling_of
 own_changed w o None = refl
 own_changed w o (Some rows) = ap (owner w o) (own_replaced o rows w)
 
-pub own_stays : (w : World) (o : List ℕ) (moment : ℤ) (asked : Call) → own (step w o moment asked) o ≡ own_left (own w o) (held w o) moment asked
+pub own_stays :
+    (w : World) (o : List ℕ) (moment : ℤ) (asked : Call)
+    → own (step w o moment asked) o ≡ own_left (own w o) (held w o) moment asked
 unfolding step own_left own
 own_stays w o moment asked = own_changed w o (verdict (own w o) (held w o) moment asked).plans
 
 -- closing a closed plan leaves the world as it is
-pub closing_closed : (w : World) (o id : List ℕ) (moment : ℤ) (row : PlanRow) → IsWorld w → stored_of id (plans_of o w) ≡ Some row → row.usage ≡ usage.Closed → step w o moment (Delete id) ≡ w
+pub closing_closed :
+    (w : World) (o id : List ℕ) (moment : ℤ) (row : PlanRow) → IsWorld w
+    → stored_of id (plans_of o w) ≡ Some row → row.usage ≡ usage.Closed → step w o moment (Delete id) ≡ w
 unfolding step verdict own enrolled_ruling
 closing_closed w o id moment row h stored shut = by_ceiling (ceiling_of o w) where
-  by_ceiling : (c : Option ℕ) → world_with_plans w o (ruling_under c (own w o) (held w o) moment (Delete id)).plans ≡ w
+  by_ceiling :
+      (c : Option ℕ) → world_with_plans w o (ruling_under c (own w o) (held w o) moment (Delete id)).plans ≡ w
   by_ceiling None = refl
   by_ceiling (Some c) =
       ap (λ s. world_with_plans w o (delete_ruling (plans_of o w) id s).plans) stored

@@ -16,17 +16,21 @@ abbrev pub span_of : SpanRow → Row
 span_of s = span_row s.operator.now s.id.now s.place s.first s.last s.lower s.upper s.start s.stop s.priority
 
 abbrev pub AddsVolumes : List Row → Tables → Tables → Type 0
-AddsVolumes rows old new = IsPermutation (rows ++ old.volumes) new.volumes × (new ≡ record old { volumes = new.volumes })
+AddsVolumes rows old new = IsPermutation (rows ++ old.volumes) new.volumes
+    × (new ≡ record old { volumes = new.volumes })
 
 abbrev pub AddsSpans : List Row → Tables → Tables → Type 0
-AddsSpans rows old new = IsPermutation (rows ++ old.spans) new.spans × (new ≡ record old { spans = new.spans })
+AddsSpans rows old new = IsPermutation (rows ++ old.spans) new.spans
+    × (new ≡ record old { spans = new.spans })
 
 -- a transaction goes on over a desk's tables
 abbrev pub IsUnderWay : {S : Type 0} → Ghosts S → Held S → Type 0
-IsUnderWay g h = HasCleanDisk (state g h) → IsTrue (state g h).is_open × IsTrue h.in_transaction × IsDesk (state g h).now
+IsUnderWay g h = HasCleanDisk (state g h) → IsTrue (state g h).is_open × IsTrue h.in_transaction
+    × IsDesk (state g h).now
 
 -- what there was of the plan goes, and this comes
-pub record PutsPlan (operator id : List ℕ) (plan : Row) (volumes spans : List Row) (old new : Tables) : Type 0 where
+pub record PutsPlan (operator id : List ℕ) (plan : Row) (volumes spans : List Row)
+    (old new : Tables) : Type 0 where
   pub operators : new.operators ≡ old.operators
   pub plans : IsPermutation (plan ∷ filter (is_not_of operator id) old.plans) new.plans
   pub with_volumes : IsPermutation (volumes ++ left_without operator id old old.volumes) new.volumes

@@ -19,7 +19,8 @@ abbrev pub operator_row : List ℕ → ℕ → Row
 operator_row name ceiling = Text name ∷ Int (pos ceiling) ∷ []
 
 abbrev pub plan_row : List ℕ → List ℕ → ℕ → ℕ → ℕ → Row
-plan_row operator id priority usage aircraft = Text operator ∷ Text id ∷ Int (pos priority) ∷ Int (pos usage) ∷ Int (pos aircraft) ∷ []
+plan_row operator id priority usage aircraft =
+    Text operator ∷ Text id ∷ Int (pos priority) ∷ Int (pos usage) ∷ Int (pos aircraft) ∷ []
 
 abbrev pub volume_row : List ℕ → List ℕ → ℕ → ℤ → ℤ → ℤ → ℤ → List ℕ → Row
 volume_row operator id place lower upper start stop asked =
@@ -27,7 +28,8 @@ volume_row operator id place lower upper start stop asked =
 
 abbrev pub span_row : List ℕ → List ℕ → ℕ → ℤ → ℤ → ℤ → ℤ → ℤ → ℤ → ℕ → Row
 span_row operator id place first last lower upper start stop priority =
-    Text operator ∷ Text id ∷ Int (pos place) ∷ Int first ∷ Int last ∷ Int lower ∷ Int upper ∷ Int start ∷ Int stop ∷ Int (pos priority) ∷ []
+    Text operator ∷ Text id ∷ Int (pos place) ∷ Int first ∷ Int last ∷ Int lower ∷ Int upper ∷ Int start
+    ∷ Int stop ∷ Int (pos priority) ∷ []
 
 -- ---- what a row is asked
 
@@ -59,25 +61,33 @@ abbrev pub columns : ℕ → Row → Row
 columns width row = map (column row) (range_with_len 1 width)
 
 abbrev pub tables_of : Trees → Tables
-tables_of db = record { operators = map (columns 2) (db 0); plans = map (columns 5) (db 2); volumes = map (columns 8) (db 4); spans = map (columns 10) (db 6) }
+tables_of db = record {
+  operators = map (columns 2) (db 0);
+  plans = map (columns 5) (db 2);
+  volumes = map (columns 8) (db 4);
+  spans = map (columns 10) (db 6);
+}
 
 -- ---- changes of the tables
 
 abbrev pub AddsOperator : Row → Tables → Tables → Type 0
-AddsOperator row old new = IsPermutation (row ∷ old.operators) new.operators × (new ≡ record old { operators = new.operators })
+AddsOperator row old new = IsPermutation (row ∷ old.operators) new.operators
+    × (new ≡ record old { operators = new.operators })
 
 abbrev pub AddsPlan : Row → Tables → Tables → Type 0
 AddsPlan row old new = IsPermutation (row ∷ old.plans) new.plans × (new ≡ record old { plans = new.plans })
 
 abbrev pub AddsVolume : Row → Tables → Tables → Type 0
-AddsVolume row old new = IsPermutation (row ∷ old.volumes) new.volumes × (new ≡ record old { volumes = new.volumes })
+AddsVolume row old new = IsPermutation (row ∷ old.volumes) new.volumes
+    × (new ≡ record old { volumes = new.volumes })
 
 abbrev pub AddsSpan : Row → Tables → Tables → Type 0
 AddsSpan row old new = IsPermutation (row ∷ old.spans) new.spans × (new ≡ record old { spans = new.spans })
 
 -- what goes with the plan, if it is there
 abbrev pub left_without : List ℕ → List ℕ → Tables → List Row → List Row
-left_without operator id old rows = if list_any (is_of operator id) old.plans then filter (is_not_of operator id) rows else rows
+left_without operator id old rows =
+    if list_any (is_of operator id) old.plans then filter (is_not_of operator id) rows else rows
 
 -- the plan goes, and its volumes and spans with it
 abbrev pub RemovesPlan : List ℕ → List ℕ → Tables → Tables → Type 0
@@ -97,21 +107,26 @@ abbrev pub with_row : (Row → Bool) → Row → List Row → List Row
 with_row p row = map (λ r. if p r then row else r)
 
 abbrev pub SetsOperators : (Row → Bool) → Row → Tables → Tables → Type 0
-SetsOperators p row old new = IsPermutation (with_row p row old.operators) new.operators × (new ≡ record old { operators = new.operators })
+SetsOperators p row old new = IsPermutation (with_row p row old.operators) new.operators
+    × (new ≡ record old { operators = new.operators })
 
 abbrev pub SetsPlans : (Row → Bool) → Row → Tables → Tables → Type 0
-SetsPlans p row old new = IsPermutation (with_row p row old.plans) new.plans × (new ≡ record old { plans = new.plans })
+SetsPlans p row old new = IsPermutation (with_row p row old.plans) new.plans
+    × (new ≡ record old { plans = new.plans })
 
 -- the operator's row is set, or added where there is none with its name
 abbrev pub PutsOperator : List ℕ → ℕ → Tables → Tables → Type 0
 PutsOperator name ceiling old new =
-    IsPermutation (if list_any (is_by name) old.operators then with_row (is_by name) (operator_row name ceiling) old.operators else operator_row name ceiling ∷ old.operators) new.operators
+    IsPermutation (if list_any (is_by name) old.operators
+    then with_row (is_by name) (operator_row name ceiling) old.operators
+    else operator_row name ceiling ∷ old.operators) new.operators
     × (new ≡ record old { operators = new.operators })
 
 -- the plan's row is set to the usage Closed, and its spans go
 pub record ClosesPlan (operator id : List ℕ) (priority aircraft : ℕ) (old new : Tables) : Type 0 where
   pub operators : new.operators ≡ old.operators
-  pub plans : IsPermutation (with_row (is_of operator id) (plan_row operator id priority 2 aircraft) old.plans) new.plans
+  pub plans : IsPermutation (with_row (is_of operator id)
+      (plan_row operator id priority 2 aircraft) old.plans) new.plans
   pub volumes : new.volumes ≡ old.volumes
   pub spans : new.spans ≡ filter (is_not_of operator id) old.spans
 
@@ -132,15 +147,19 @@ abbrev pub joined : Row → Row → Row
 joined plan volume = plan ++ drop 2 volume
 
 abbrev pub has_volume : Row → Row → Bool
-has_volume plan volume = is_same (column volume 0) (column plan 0) && is_same (column volume 1) (column plan 1)
+has_volume plan volume = is_same (column volume 0) (column plan 0)
+    && is_same (column volume 1) (column plan 1)
 
 -- each plan that is wanted with each of its volumes
 abbrev pub with_volumes : (Row → Bool) → Tables → List Row
-with_volumes wanted t = flat_map (λ p. map (joined p) (filter (has_volume p) t.volumes)) (filter wanted t.plans)
+with_volumes wanted t = flat_map (λ p. map (joined p) (filter (has_volume p) t.volumes))
+    (filter wanted t.plans)
 
 -- a plan that is not closed, and not this one
 abbrev pub is_rival : List ℕ → List ℕ → Row → Bool
-is_rival operator id plan = differs (column plan 3) (Int (pos 2)) && (differs (column plan 0) (Text operator) || differs (column plan 1) (Text id))
+is_rival operator id plan =
+    differs (column plan 3) (Int (pos 2))
+    && (differs (column plan 0) (Text operator) || differs (column plan 1) (Text id))
 
 -- by these columns, in turn
 abbrev pub by_cells : List ℕ → Row → Row → Ordering

@@ -13,7 +13,14 @@ use Rattle.sqlite_value.specs.Keys.{plain}
 use Rattle.sqlite_catalog.specs.Change.{created}
 
 abbrev pub column_of : List ℕ → Kind → Column
-column_of name kind = record { name = name; kind = kind; is_strict = true; not_null = true; default = Null; collation = Binary }
+column_of name kind = record {
+  name = name;
+  kind = kind;
+  is_strict = true;
+  not_null = true;
+  default = Null;
+  collation = Binary;
+}
 
 -- a strict table whose primary key is its first columns, at these places
 abbrev pub table_of : List ℕ → List Column → List ℕ → List Reference → Table
@@ -33,7 +40,8 @@ table_of name columns key references = record {
 }
 
 abbrev pub operator_table : Table
-operator_table = table_of (codes "operator") (column_of (codes "name") Text ∷ column_of (codes "ceiling") Integer ∷ []) (1 ∷ []) []
+operator_table = table_of (codes "operator")
+    (column_of (codes "name") Text ∷ column_of (codes "ceiling") Integer ∷ []) (1 ∷ []) []
 
 abbrev pub to_operator : Reference
 to_operator = record {
@@ -58,24 +66,32 @@ to_plan = record {
 
 abbrev pub plan_table : Table
 plan_table = table_of (codes "plan")
-    (column_of (codes "operator") Text ∷ column_of (codes "id") Text ∷ column_of (codes "priority") Integer ∷ column_of (codes "usage") Integer ∷ column_of (codes "aircraft") Integer ∷ [])
+    (column_of (codes "operator") Text ∷ column_of (codes "id") Text ∷ column_of (codes "priority") Integer
+    ∷ column_of (codes "usage") Integer ∷ column_of (codes "aircraft") Integer ∷ [])
     (1 ∷ 2 ∷ []) (to_operator ∷ [])
 
 abbrev pub volume_table : Table
 volume_table = table_of (codes "volume")
-    (column_of (codes "operator") Text ∷ column_of (codes "id") Text ∷ column_of (codes "place") Integer ∷ column_of (codes "lower") Integer ∷ column_of (codes "upper") Integer
-    ∷ column_of (codes "start") Integer ∷ column_of (codes "stop") Integer ∷ column_of (codes "asked") Blob ∷ [])
+    (column_of (codes "operator") Text ∷ column_of (codes "id") Text ∷ column_of (codes "place") Integer
+    ∷ column_of (codes "lower") Integer ∷ column_of (codes "upper") Integer
+    ∷ column_of (codes "start") Integer ∷ column_of (codes "stop") Integer ∷ column_of (codes "asked") Blob
+    ∷ [])
     (1 ∷ 2 ∷ 3 ∷ []) (to_plan ∷ [])
 
 abbrev pub span_table : Table
 span_table = table_of (codes "span")
-    (column_of (codes "operator") Text ∷ column_of (codes "id") Text ∷ column_of (codes "place") Integer ∷ column_of (codes "first") Integer ∷ column_of (codes "last") Integer
-    ∷ column_of (codes "lower") Integer ∷ column_of (codes "upper") Integer ∷ column_of (codes "start") Integer ∷ column_of (codes "stop") Integer ∷ column_of (codes "priority") Integer ∷ [])
+    (column_of (codes "operator") Text ∷ column_of (codes "id") Text ∷ column_of (codes "place") Integer
+    ∷ column_of (codes "first") Integer ∷ column_of (codes "last") Integer
+    ∷ column_of (codes "lower") Integer ∷ column_of (codes "upper") Integer
+    ∷ column_of (codes "start") Integer ∷ column_of (codes "stop") Integer
+    ∷ column_of (codes "priority") Integer ∷ [])
     (1 ∷ 2 ∷ 3 ∷ 4 ∷ []) (to_plan ∷ [])
 
 abbrev pub blank_schema : Schema
 blank_schema = record { tables = []; indexes = []; views = [] }
 
--- the tables made in this order: `operator` is tree 0, `plan` 2, `volume` 4, `span` 6, and their keys' indexes are the trees between
+-- the tables made in this order: `operator` is tree 0, `plan` 2, `volume` 4, `span` 6, and their keys'
+-- indexes are the trees between
 abbrev pub desk_schema : Schema
-desk_schema = created (created (created (created blank_schema operator_table) plan_table) volume_table) span_table
+desk_schema = created (created
+    (created (created blank_schema operator_table) plan_table) volume_table) span_table

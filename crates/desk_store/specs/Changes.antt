@@ -31,7 +31,9 @@ clear_rows ids rows = filter (λ r. not (is_named ids r)) rows
 -- operators ascending by name, with a ceiling at its place
 abbrev pub list_operator : List ℕ → ℕ → List Listed → List Listed
 list_operator name ceiling [] = record { name = name; ceiling = ceiling } ∷ []
-list_operator name ceiling (l ∷ ls) = match_ordering (text_cmp name l.name) (record { name = name; ceiling = ceiling } ∷ l ∷ ls) (record { name = name; ceiling = ceiling } ∷ ls) (l ∷ list_operator name ceiling ls)
+list_operator name ceiling (l ∷ ls) =
+    match_ordering (text_cmp name l.name) (record { name = name; ceiling = ceiling } ∷ l ∷ ls)
+    (record { name = name; ceiling = ceiling } ∷ ls) (l ∷ list_operator name ceiling ls)
 
 abbrev pub filed_by : List ℕ → PlanRow → Filed
 filed_by operator row = record { operator = operator; row = row }
@@ -44,7 +46,8 @@ is_after operator p = is_lt (text_cmp operator p.operator)
 
 -- plans with an operator's replaced
 abbrev pub replaced : List ℕ → List PlanRow → List Filed → List Filed
-replaced operator rows plans = filter (is_before operator) plans ++ (map (filed_by operator) rows ++ filter (is_after operator) plans)
+replaced operator rows plans =
+    filter (is_before operator) plans ++ (map (filed_by operator) rows ++ filter (is_after operator) plans)
 
 -- the world with the operator's plans replaced
 unfoldable pub with_plans : World → List ℕ → List PlanRow → World
@@ -61,7 +64,8 @@ with_operator w name ceiling = record w { operators = list_operator name ceiling
 
 -- there is room for a row: its id is stored, or the operator has fewer plans than it may have
 abbrev pub HasRoom : World → List ℕ → List ℕ → Type 0
-HasRoom w operator id = IsSome (stored_of id (plans_of operator w)) ⊎ (length (plans_of operator w) < max_plans)
+HasRoom w operator id = IsSome (stored_of id (plans_of operator w))
+    ⊎ (length (plans_of operator w) < max_plans)
 
 -- each of the ids is that of a row
 abbrev pub AreStored : List (List ℕ) → List PlanRow → Type 0

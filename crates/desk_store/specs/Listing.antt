@@ -26,7 +26,8 @@ abbrev pub ceiling_at : List ℕ → List (List ℕ × Enrolment) → Option ℕ
 ceiling_at operator operators = option_map (λ e. e.ceiling) (lookup (is_at (text_cmp operator)) operators)
 
 abbrev pub count_at : List ℕ → List (List ℕ × Enrolment) → ℕ
-count_at operator operators = unwrap_or (option_map (λ e. e.plan_count) (lookup (is_at (text_cmp operator)) operators)) 0
+count_at operator operators =
+    unwrap_or (option_map (λ e. e.plan_count) (lookup (is_at (text_cmp operator)) operators)) 0
 
 -- each operator's count is that of its plans
 abbrev pub AreCounted : List (List ℕ × Enrolment) → List Filed → Type 0
@@ -40,9 +41,11 @@ IsStore operators plans = IsWorld (world_of operators plans) × AreCounted opera
 abbrev pub is_one_of : List ℕ → List (List ℕ) → List ℕ × List ℕ → Bool
 is_one_of operator ids key = list_any (λ id. is_eq (text_cmp operator key.0) && is_eq (text_cmp id key.1)) ids
 
-abbrev pub without : List ℕ → List (List ℕ) → List ((List ℕ × List ℕ) × PlanParts) → List ((List ℕ × List ℕ) × PlanParts)
+abbrev pub without :
+    List ℕ → List (List ℕ) → List ((List ℕ × List ℕ) × PlanParts) → List ((List ℕ × List ℕ) × PlanParts)
 without operator ids plans = filter (λ e. not (is_one_of operator ids e.0)) plans
 
 -- an operator's count replaced
 abbrev pub with_count : List ℕ → ℕ → List (List ℕ × Enrolment) → List (List ℕ × Enrolment)
-with_count operator count operators = map (λ e. cond (is_eq (text_cmp operator e.0)) (e.0, record e.1 { plan_count = count }) e) operators
+with_count operator count operators =
+    map (λ e. cond (is_eq (text_cmp operator e.0)) (e.0, record e.1 { plan_count = count }) e) operators

@@ -21,14 +21,21 @@ abbrev pub parts_of : PlanRow → PlanParts
 parts_of row = record { priority = row.priority; usage = row.usage; aircraft = row.aircraft; area = row.area }
 
 abbrev pub row_of : List ℕ → PlanParts → PlanRow
-row_of id plan = record { id = id; priority = plan.priority; usage = plan.usage; aircraft = plan.aircraft; area = plan.area }
+row_of id plan = record {
+  id = id;
+  priority = plan.priority;
+  usage = plan.usage;
+  aircraft = plan.aircraft;
+  area = plan.area;
+}
 
 abbrev pub closed_parts : PlanParts → PlanParts
 closed_parts plan = record plan { usage = usage.Closed }
 
 -- slabs that have the points of an area, and a slab round them
 abbrev pub AreSlabs : List Block → List Slab → Slab → Type 0
-AreSlabs area slabs bounds = ((x : Point) → slabs_have slabs x ≡ area_has area x) × HasAll (area_has area) bounds
+AreSlabs area slabs bounds = ((x : Point) → slabs_have slabs x ≡ area_has area x)
+    × HasAll (area_has area) bounds
 
 -- an area has no point of an extent
 abbrev pub HasNoPoint : List Block → Slab → Type 0

@@ -16,13 +16,18 @@ use Rattle.desk_store.specs.Rows.{is_own, is_rival, rival_level, rivals_top}
 use Rattle.desk_store.specs.Rivals.{HaveLevel, AreRivals}
 
 -- one more plan
-pub rivals_top-cons : (o id : List ℕ) (p : Filed) (ps : List Filed) (x : Point) → rivals_top o id (p ∷ ps) x ≡ greater (rival_level o id p x) (rivals_top o id ps x)
+pub rivals_top-cons :
+    (o id : List ℕ) (p : Filed) (ps : List Filed) (x : Point)
+    → rivals_top o id (p ∷ ps) x ≡ greater (rival_level o id p x) (rivals_top o id ps x)
 unfolding rivals_top rival_level
 rivals_top-cons o id p ps x = by_test (not (is_own o id p)) where
   others : List PlanRow
   others = map (λ q. q.row) (filter (λ q. not (is_own o id q)) ps)
 
-  by_test : (b : Bool) → top_priority (map (λ q. q.row) (cond b (p ∷ filter (λ q. not (is_own o id q)) ps) (filter (λ q. not (is_own o id q)) ps))) x ≡ greater (level_where (b && row_holds p.row x) p.row.priority) (top_priority others x)
+  by_test : (b : Bool) → top_priority
+      (map (λ q. q.row) (cond b (p ∷ filter (λ q. not (is_own o id q)) ps)
+      (filter (λ q. not (is_own o id q)) ps))) x
+      ≡ greater (level_where (b && row_holds p.row x) p.row.priority) (top_priority others x)
   by_test true = top_priority-cons p.row others x
   by_test false = refl
 
@@ -37,28 +42,50 @@ other_top : List ℕ → List Filed → Point → Option ℕ
 other_top o ps x = top_priority (map (λ p. p.row) (filter (λ p. not (is_by o p)) ps)) x
 
 swap_greater : (a b c : Option ℕ) → greater a (greater b c) ≡ greater b (greater a c)
-swap_greater a b c = sym (greater_assoc a b c) ∙ ap (λ q. greater q c) (greater_comm a b) ∙ greater_assoc b a c
+swap_greater a b c = sym (greater_assoc a b c) ∙ ap (λ q. greater q c) (greater_comm a b)
+    ∙ greater_assoc b a c
 
-split : (o id : List ℕ) (x : Point) (ps : List Filed) → rivals_top o id ps x ≡ greater (other_top o ps x) (own_top o id ps x)
+split :
+    (o id : List ℕ) (x : Point) (ps : List Filed)
+    → rivals_top o id ps x ≡ greater (other_top o ps x) (own_top o id ps x)
 unfolding own_top other_top rival_level
-split o id x [] = rivals_top-nil o id x ∙ sym (ap (λ a. greater a (top_priority [] x)) (top_priority-nil x) ∙ top_priority-nil x)
-split o id x (p ∷ ps) = rivals_top-cons o id p ps x ∙ ap (greater (rival_level o id p x)) (split o id x ps) ∙ by_operator (is_by o p) where
-  mine : List PlanRow
-  mine = rows_by o ps
+split o id x [] = rivals_top-nil o id x
+    ∙ sym (ap (λ a. greater a (top_priority [] x)) (top_priority-nil x) ∙ top_priority-nil x)
+split o id x (p ∷ ps) = rivals_top-cons o id p ps x ∙ ap (greater (rival_level o id p x)) (split o id x ps)
+    ∙ by_operator (is_by o p) where
+      mine : List PlanRow
+      mine = rows_by o ps
 
-  theirs : List PlanRow
-  theirs = map (λ q. q.row) (filter (λ q. not (is_by o q)) ps)
+      theirs : List PlanRow
+      theirs = map (λ q. q.row) (filter (λ q. not (is_by o q)) ps)
 
-  by_id : (c : Bool) → greater (level_where (not c && row_holds p.row x) p.row.priority) (greater (top_priority theirs x) (top_priority (filter (λ r. not (has_id id r)) mine) x)) ≡ greater (top_priority theirs x) (top_priority (cond (not c) (p.row ∷ filter (λ r. not (has_id id r)) mine) (filter (λ r. not (has_id id r)) mine)) x)
-  by_id true = refl
-  by_id false = swap_greater (level_where (row_holds p.row x) p.row.priority) (top_priority theirs x) _ ∙ ap (greater (top_priority theirs x)) (sym (top_priority-cons p.row (filter (λ r. not (has_id id r)) mine) x))
+      by_id : (c : Bool) → greater (level_where (not c && row_holds p.row x) p.row.priority)
+          (greater (top_priority theirs x) (top_priority (filter (λ r. not (has_id id r)) mine) x))
+          ≡ greater (top_priority theirs x)
+          (top_priority (cond (not c) (p.row ∷ filter (λ r. not (has_id id r)) mine)
+          (filter (λ r. not (has_id id r)) mine)) x)
+      by_id true = refl
+      by_id false = swap_greater (level_where (row_holds p.row x) p.row.priority) (top_priority theirs x) _
+          ∙ ap (greater (top_priority theirs x))
+          (sym (top_priority-cons p.row (filter (λ r. not (has_id id r)) mine) x))
 
-  by_operator : (b : Bool) → greater (level_where (not (b && has_id id p.row) && row_holds p.row x) p.row.priority) (greater (top_priority theirs x) (top_priority (filter (λ r. not (has_id id r)) mine) x)) ≡ greater (top_priority (map (λ q. q.row) (cond (not b) (p ∷ filter (λ q. not (is_by o q)) ps) (filter (λ q. not (is_by o q)) ps))) x) (top_priority (filter (λ r. not (has_id id r)) (map (λ q. q.row) (cond b (p ∷ filter (is_by o) ps) (filter (is_by o) ps)))) x)
-  by_operator true = by_id (has_id id p.row)
-  by_operator false = sym (greater_assoc (level_where (row_holds p.row x) p.row.priority) (top_priority theirs x) _) ∙ ap (λ a. greater a (top_priority (filter (λ r. not (has_id id r)) mine) x)) (sym (top_priority-cons p.row theirs x))
+      by_operator : (b : Bool) → greater
+          (level_where (not (b && has_id id p.row) && row_holds p.row x) p.row.priority)
+          (greater (top_priority theirs x) (top_priority (filter (λ r. not (has_id id r)) mine) x))
+          ≡ greater (top_priority (map (λ q. q.row)
+          (cond (not b) (p ∷ filter (λ q. not (is_by o q)) ps) (filter (λ q. not (is_by o q)) ps))) x)
+          (top_priority (filter (λ r. not (has_id id r))
+          (map (λ q. q.row) (cond b (p ∷ filter (is_by o) ps) (filter (is_by o) ps)))) x)
+      by_operator true = by_id (has_id id p.row)
+      by_operator false = sym (greater_assoc (level_where (row_holds p.row x) p.row.priority)
+          (top_priority theirs x) _)
+          ∙ ap (λ a. greater a (top_priority (filter (λ r. not (has_id id r)) mine) x))
+          (sym (top_priority-cons p.row theirs x))
 
 -- what others hold, and what the operator's other plans hold, are what all rivals hold
-pub held_by_rivals : (o id : List ℕ) (w : World) (x : Point) → rivals_top o id w.plans x ≡ held_at (rows_by o w.plans) (held w o) id x
+pub held_by_rivals :
+    (o id : List ℕ) (w : World) (x : Point)
+    → rivals_top o id w.plans x ≡ held_at (rows_by o w.plans) (held w o) id x
 unfolding held_at held others_of own_top other_top
 held_by_rivals o id w x = split o id x w.plans
 
@@ -67,24 +94,38 @@ unfolding row_holds
 none_held row x e = ap (λ b. b && area_has row.area x) e
 
 -- a plan that isn't live holds nothing, so that the live ones hold what all do
-live_top : (o id : List ℕ) (ps : List Filed) (x : Point) → top_priority (map (λ p. p.row) (filter (is_rival o id) ps)) x ≡ rivals_top o id ps x
+live_top :
+    (o id : List ℕ) (ps : List Filed) (x : Point)
+    → top_priority (map (λ p. p.row) (filter (is_rival o id) ps)) x ≡ rivals_top o id ps x
 unfolding rivals_top
 live_top o id [] x = refl
-live_top o id (p ∷ ps) x = by_tests (is_live p.row.usage) (not (is_own o id p)) refl (live_top o id ps x) where
-  live : List PlanRow
-  live = map (λ q. q.row) (filter (is_rival o id) ps)
+live_top o id (p ∷ ps) x =
+    by_tests (is_live p.row.usage) (not (is_own o id p)) refl (live_top o id ps x) where
+      live : List PlanRow
+      live = map (λ q. q.row) (filter (is_rival o id) ps)
 
-  others : List PlanRow
-  others = map (λ q. q.row) (filter (λ q. not (is_own o id q)) ps)
+      others : List PlanRow
+      others = map (λ q. q.row) (filter (λ q. not (is_own o id q)) ps)
 
-  by_tests : (l b : Bool) → is_live p.row.usage ≡ l → top_priority live x ≡ top_priority others x → top_priority (map (λ q. q.row) (cond (l && b) (p ∷ filter (is_rival o id) ps) (filter (is_rival o id) ps))) x ≡ top_priority (map (λ q. q.row) (cond b (p ∷ filter (λ q. not (is_own o id q)) ps) (filter (λ q. not (is_own o id q)) ps))) x
-  by_tests true true e ih = top_priority-cons p.row live x ∙ ap (greater (level_where (row_holds p.row x) p.row.priority)) ih ∙ sym (top_priority-cons p.row others x)
-  by_tests true false e ih = ih
-  by_tests false true e ih = ih ∙ sym (top_priority-cons p.row others x ∙ ap (λ b. greater (level_where b p.row.priority) (top_priority others x)) (none_held p.row x e))
-  by_tests false false e ih = ih
+      by_tests : (l b : Bool) → is_live p.row.usage ≡ l → top_priority live x ≡ top_priority others x
+          → top_priority (map (λ q. q.row)
+          (cond (l && b) (p ∷ filter (is_rival o id) ps) (filter (is_rival o id) ps))) x
+          ≡ top_priority (map (λ q. q.row)
+          (cond b (p ∷ filter (λ q. not (is_own o id q)) ps) (filter (λ q. not (is_own o id q)) ps))) x
+      by_tests true true e ih = top_priority-cons p.row live x
+          ∙ ap (greater (level_where (row_holds p.row x) p.row.priority)) ih
+          ∙ sym (top_priority-cons p.row others x)
+      by_tests true false e ih = ih
+      by_tests false true e ih = ih
+          ∙ sym (top_priority-cons p.row others x
+          ∙ ap (λ b. greater (level_where b p.row.priority) (top_priority others x)) (none_held p.row x e))
+      by_tests false false e ih = ih
 
 -- slabs that have the levels of the live plans but the operator's own of the id are its rivals' slabs
-pub are_rivals : (w : World) (o id : List ℕ) (least : ℕ) (extent : Slab) (rows : List PlanRow) (helds : List Held) → rows ≡ map (λ p. p.row) (filter (is_rival o id) w.plans)
+pub are_rivals :
+    (w : World) (o id : List ℕ) (least : ℕ) (extent : Slab) (rows : List PlanRow) (helds : List Held)
+    → rows ≡ map (λ p. p.row) (filter (is_rival o id) w.plans)
     → HaveLevel extent helds (λ x. at_least least (top_priority rows x)) → AreRivals w o id least extent helds
 are_rivals w o id least extent rows helds are levels = λ x inside.
-    levels x inside ∙ ap (at_least least) (ap (λ rs. top_priority rs x) are ∙ live_top o id w.plans x ∙ held_by_rivals o id w x)
+    levels x inside ∙ ap (at_least least) (ap (λ rs. top_priority rs x) are ∙ live_top o id w.plans x
+    ∙ held_by_rivals o id w x)

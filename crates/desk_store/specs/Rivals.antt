@@ -20,8 +20,8 @@ AddLevel extent before helds level = HaveLevel extent helds (λ x. greater (top_
 abbrev pub ShareAPoint : Slab → Slab → Type 0
 ShareAPoint mine theirs = (x : Point) × (slab_has mine x ≡ true) × (slab_has theirs x ≡ true)
 
--- at each point of an extent the greatest priority among the slabs is the one held there by plans other than the
--- operator's own of the id, where it is at least the least
+-- at each point of an extent the greatest priority among the slabs is the one held there by plans other than
+-- the operator's own of the id, where it is at least the least
 abbrev pub AreRivals : World → List ℕ → List ℕ → ℕ → Slab → List Held → Type 0
 AreRivals w operator id least extent helds =
     HaveLevel extent helds (λ x. at_least least (held_at (plans_of operator w) (held w operator) id x))

@@ -1,4 +1,5 @@
--- Worlds: what a desk knows of its operators and of their plans. What one operator owns, and what others hold.
+-- Worlds: what a desk knows of its operators and of their plans. What one operator owns, and what others
+-- hold.
 use Rattle.std.specs.Prelude.{ℕ, List, Bool, not, Option, IsSome, map, length, ◌≤◌}
 use Rattle.std.specs.Option.{option_map}
 use Rattle.std.specs.List.{filter, find, AllByRecursion}
@@ -79,7 +80,8 @@ held w operator x = top_priority (others_of operator w) x
 unfoldable pub stored_of : List ℕ → List PlanRow → Option PlanRow
 stored_of id rows = find (has_id id) rows
 
--- the greatest priority held at a point by plans other than the operator's own of the id: the others', and its own
+-- the greatest priority held at a point by plans other than the operator's own of the id: the others', and
+-- its own
 unfoldable pub held_at : List PlanRow → (Point → Option ℕ) → List ℕ → Point → Option ℕ
 held_at rows others id x = greater (others x) (top_priority (filter (λ r. not (has_id id r)) rows) x)
 
@@ -91,8 +93,9 @@ IsListed w p = IsSome (ceiling_of p.operator w)
 abbrev pub AreInOrder : List PlanRow → Type 0
 AreInOrder rows = IsStrictlySortedBy row_cmp rows
 
--- what every world of a desk is: operators ascend by name, and none is listed twice; plans ascend by operator and id, and
--- no operator has two of one id; each plan's operator is listed; and the limits are kept
+-- what every world of a desk is: operators ascend by name, and none is listed twice; plans ascend by
+-- operator and id, and no operator has two of one id; each plan's operator is listed; and the limits are
+-- kept
 pub record IsWorld (w : World) : Type 0 where
   pub operators : IsStrictlySortedBy listed_cmp w.operators
   pub plans : IsStrictlySortedBy filed_cmp w.plans

@@ -9,7 +9,8 @@ use Rattle.desk_store.specs.Rows.{is_own}
 -- the number in the second column of the first row, or none where there is no row
 abbrev pub IsCeilingIn : List Row → Option ℕ → Type 0
 IsCeilingIn rows found =
-    MatchOption found (rows ≡ []) (λ n. (first : Row) × (rest : List Row) × (rows ≡ first ∷ rest) × (column first 1 ≡ Int (pos n)))
+    MatchOption found (rows ≡ []) (λ n. (first : Row) × (rest : List Row) × (rows ≡ first ∷ rest)
+    × (column first 1 ≡ Int (pos n)))
 
 -- the operator's plan of the id, as a list of none or one
 abbrev pub one_or_none : Option Filed → List Filed

@@ -29,7 +29,8 @@ pub record IsStanding {S : Type 0} (g : Ghosts S) (h : Held S) (w : World) : Typ
   pub desk : IsDesk (state g h).now
   pub tables : AreTables (tables_of (state g h).now.trees) w
 
--- so it is while the disk has returned what was written and no fault has shut the connection; no transaction is begun
+-- so it is while the disk has returned what was written and no fault has shut the connection; no transaction
+-- is begun
 pub record Stands {S : Type 0} (g : Ghosts S) (h : Held S) (w : World) : Type 0 where
   pub settled : h.in_transaction ≡ false
   pub standing : HasCleanDisk (state g h) → IsTrue (state g h).is_open → IsStanding g h w

@@ -24,11 +24,13 @@ with_usage number row = take 3 row ++ Int (pos number) ∷ drop 4 row
 
 -- a plan's row with the usage Closed, if it is the operator's of the id
 abbrev pub closed_if : List ℕ → List ℕ → Row → Row
-closed_if operator id row = cond (is_of operator (id_text id) row) (with_usage (usage_number usage.Closed) row) row
+closed_if operator id row =
+    cond (is_of operator (id_text id) row) (with_usage (usage_number usage.Closed) row) row
 
 -- the operator's row is put in place of the one of its name, or added
 pub record EnrolsRows (name : List ℕ) (ceiling : ℕ) (old new : Tables) : Type 0 where
-  pub operators : IsPermutation (operator_row name ceiling ∷ filter (λ r. not (is_by name r)) old.operators) new.operators
+  pub operators :
+      IsPermutation (operator_row name ceiling ∷ filter (λ r. not (is_by name r)) old.operators) new.operators
   pub plans : IsPermutation old.plans new.plans
   pub volumes : IsPermutation old.volumes new.volumes
   pub spans : IsPermutation old.spans new.spans
@@ -36,8 +38,10 @@ pub record EnrolsRows (name : List ℕ) (ceiling : ℕ) (old new : Tables) : Typ
 -- the plan's rows are put in place of those of its key
 pub record PutsRows (p : Filed) (old new : Tables) : Type 0 where
   pub operators : IsPermutation old.operators new.operators
-  pub plans : IsPermutation (plan_row p ∷ filter (is_not_of p.operator (id_text p.row.id)) old.plans) new.plans
-  pub volumes : IsPermutation (area_rows p ++ filter (is_not_of p.operator (id_text p.row.id)) old.volumes) new.volumes
+  pub plans :
+      IsPermutation (plan_row p ∷ filter (is_not_of p.operator (id_text p.row.id)) old.plans) new.plans
+  pub volumes :
+      IsPermutation (area_rows p ++ filter (is_not_of p.operator (id_text p.row.id)) old.volumes) new.volumes
   pub spans :
       (rows : List Row) × ArePlanSpanRows p rows
       × IsPermutation (rows ++ filter (is_not_of p.operator (id_text p.row.id)) old.spans) new.spans

@@ -39,16 +39,19 @@ operator_row l = sql.operator_row l.name l.ceiling
 
 abbrev pub plan_row : Filed → Row
 plan_row p =
-    sql.plan_row p.operator (id_text p.row.id) p.row.priority (usage_number p.row.usage) (aircraft_number p.row.aircraft)
+    sql.plan_row p.operator (id_text p.row.id) p.row.priority (usage_number p.row.usage)
+    (aircraft_number p.row.aircraft)
 
 abbrev pub volume_row : Filed → ℕ → Block → Row
 volume_row p place v =
-    sql.volume_row p.operator (id_text p.row.id) place v.window.lower v.window.upper v.window.start v.window.end
+    sql.volume_row p.operator
+    (id_text p.row.id) place v.window.lower v.window.upper v.window.start v.window.end
     (footprint_bytes v.footprint)
 
 abbrev pub span_row : Filed → ℕ → Block → Span → Row
 span_row p place v span =
-    sql.span_row p.operator (id_text p.row.id) place (pos span.first) (pos span.last) v.window.lower v.window.upper
+    sql.span_row p.operator (id_text p.row.id) place (pos span.first)
+    (pos span.last) v.window.lower v.window.upper
     v.window.start v.window.end p.row.priority
 
 abbrev pub operator_rows : World → List Row

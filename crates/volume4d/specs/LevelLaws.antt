@@ -31,7 +31,8 @@ greater_comm (Some a) (Some b) = ap Some (max_comm a b)
 
 pub greatest-append : (xs ys : List ℕ) → greatest (xs ++ ys) ≡ greater (greatest xs) (greatest ys)
 greatest-append [] ys = refl
-greatest-append (x ∷ xs) ys = ap (greater (Some x)) (greatest-append xs ys) ∙ sym (greater_assoc (Some x) (greatest xs) (greatest ys))
+greatest-append (x ∷ xs) ys = ap (greater (Some x)) (greatest-append xs ys)
+    ∙ sym (greater_assoc (Some x) (greatest xs) (greatest ys))
 
 -- a number that counts if a test passes
 abbrev pub level_where : Bool → ℕ → Option ℕ
@@ -42,17 +43,23 @@ level_where false n = None
 abbrev pub top_by : {A : Type 0} → (A → Bool) → (A → ℕ) → List A → Option ℕ
 top_by p f xs = greatest (map f (filter p xs))
 
-pub top_by-cons : {A : Type 0} (p : A → Bool) (f : A → ℕ) (x : A) (xs : List A) → top_by p f (x ∷ xs) ≡ greater (level_where (p x) (f x)) (top_by p f xs)
+pub top_by-cons :
+    {A : Type 0} (p : A → Bool) (f : A → ℕ) (x : A) (xs : List A)
+    → top_by p f (x ∷ xs) ≡ greater (level_where (p x) (f x)) (top_by p f xs)
 top_by-cons p f x xs = by_test (p x) where
-  by_test : (b : Bool) → greatest (map f (cond b (x ∷ filter p xs) (filter p xs))) ≡ greater (level_where b (f x)) (top_by p f xs)
+  by_test : (b : Bool) → greatest (map f (cond b (x ∷ filter p xs) (filter p xs)))
+      ≡ greater (level_where b (f x)) (top_by p f xs)
   by_test true = refl
   by_test false = refl
 
-pub top_by-append : {A : Type 0} (p : A → Bool) (f : A → ℕ) (xs ys : List A) → top_by p f (xs ++ ys) ≡ greater (top_by p f xs) (top_by p f ys)
+pub top_by-append :
+    {A : Type 0} (p : A → Bool) (f : A → ℕ) (xs ys : List A)
+    → top_by p f (xs ++ ys) ≡ greater (top_by p f xs) (top_by p f ys)
 top_by-append p f [] ys = refl
 top_by-append p f (x ∷ xs) ys =
     top_by-cons p f x (xs ++ ys) ∙ ap (greater (level_where (p x) (f x))) (top_by-append p f xs ys)
-    ∙ sym (greater_assoc (level_where (p x) (f x)) (top_by p f xs) (top_by p f ys)) ∙ ap (λ o. greater o (top_by p f ys)) (sym (top_by-cons p f x xs))
+    ∙ sym (greater_assoc (level_where (p x) (f x)) (top_by p f xs) (top_by p f ys))
+    ∙ ap (λ o. greater o (top_by p f ys)) (sym (top_by-cons p f x xs))
 
 is_some_greater : (a b : Option ℕ) → is_some (greater a b) ≡ (is_some a || is_some b)
 is_some_greater None b = refl
@@ -60,20 +67,27 @@ is_some_greater (Some a) None = refl
 is_some_greater (Some a) (Some b) = refl
 
 -- there is a greatest number exactly if an element passes
-pub is_some_top : {A : Type 0} (p : A → Bool) (f : A → ℕ) (xs : List A) → is_some (top_by p f xs) ≡ list_any p xs
+pub is_some_top :
+    {A : Type 0} (p : A → Bool) (f : A → ℕ) (xs : List A) → is_some (top_by p f xs) ≡ list_any p xs
 is_some_top p f [] = refl
 is_some_top p f (x ∷ xs) =
-    ap is_some (top_by-cons p f x xs) ∙ is_some_greater (level_where (p x) (f x)) (top_by p f xs) ∙ by_test (p x) (is_some_top p f xs) where
-      by_test : (b : Bool) → is_some (top_by p f xs) ≡ list_any p xs → (is_some (level_where b (f x)) || is_some (top_by p f xs)) ≡ (b || list_any p xs)
+    ap is_some (top_by-cons p f x xs) ∙ is_some_greater (level_where (p x) (f x)) (top_by p f xs)
+    ∙ by_test (p x) (is_some_top p f xs) where
+      by_test :
+          (b : Bool) → is_some (top_by p f xs) ≡ list_any p xs
+          → (is_some (level_where b (f x)) || is_some (top_by p f xs)) ≡ (b || list_any p xs)
       by_test true e = refl
       by_test false e = e
 
 -- the greatest priority with one more held slab
-pub top_held-push : (helds : List Held) (h : Held) (x : Point) → top_held (helds ++ h ∷ []) x ≡ greater (top_held helds x) (level_where (slab_has h.slab x) h.priority)
+pub top_held-push :
+    (helds : List Held) (h : Held) (x : Point)
+    → top_held (helds ++ h ∷ []) x ≡ greater (top_held helds x) (level_where (slab_has h.slab x) h.priority)
 unfolding top_held
 top_held-push helds h x =
     top_by-append (λ g. slab_has g.slab x) (λ g. g.priority) helds (h ∷ [])
-    ∙ ap (greater (top_held helds x)) (top_by-cons (λ g. slab_has g.slab x) (λ g. g.priority) h [] ∙ greater_none (level_where (slab_has h.slab x) h.priority))
+    ∙ ap (greater (top_held helds x)) (top_by-cons (λ g. slab_has g.slab x) (λ g. g.priority) h []
+    ∙ greater_none (level_where (slab_has h.slab x) h.priority))
 
 pub top_held-nil : (x : Point) → top_held [] x ≡ None
 unfolding top_held
