@@ -45,7 +45,9 @@ fn make_plan<S: Alter>(tx: &mut Transaction<'_, S>) -> Result<(), Error>
 {
     run(
         tx,
-        "CREATE TABLE plan (operator TEXT NOT NULL, id TEXT NOT NULL, priority INTEGER NOT NULL, usage INTEGER NOT NULL, aircraft INTEGER NOT NULL, PRIMARY KEY (operator, id), FOREIGN KEY (operator) REFERENCES operator (name)) STRICT",
+        "CREATE TABLE plan (operator TEXT NOT NULL, id TEXT NOT NULL, priority INTEGER NOT NULL, \
+        usage INTEGER NOT NULL, aircraft INTEGER NOT NULL, PRIMARY KEY (operator, id), \
+        FOREIGN KEY (operator) REFERENCES operator (name)) STRICT",
         &[],
     )?;
     Ok(())
@@ -66,7 +68,10 @@ fn make_volume<S: Alter>(tx: &mut Transaction<'_, S>) -> Result<(), Error>
 {
     run(
         tx,
-        "CREATE TABLE volume (operator TEXT NOT NULL, id TEXT NOT NULL, place INTEGER NOT NULL, lower INTEGER NOT NULL, upper INTEGER NOT NULL, start INTEGER NOT NULL, stop INTEGER NOT NULL, asked BLOB NOT NULL, PRIMARY KEY (operator, id, place), FOREIGN KEY (operator, id) REFERENCES plan (operator, id) ON DELETE CASCADE) STRICT",
+        "CREATE TABLE volume (operator TEXT NOT NULL, id TEXT NOT NULL, place INTEGER NOT NULL, \
+        lower INTEGER NOT NULL, upper INTEGER NOT NULL, start INTEGER NOT NULL, \
+        stop INTEGER NOT NULL, asked BLOB NOT NULL, PRIMARY KEY (operator, id, place), \
+        FOREIGN KEY (operator, id) REFERENCES plan (operator, id) ON DELETE CASCADE) STRICT",
         &[],
     )?;
     Ok(())
@@ -87,7 +92,11 @@ fn make_span<S: Alter>(tx: &mut Transaction<'_, S>) -> Result<(), Error>
 {
     run(
         tx,
-        "CREATE TABLE span (operator TEXT NOT NULL, id TEXT NOT NULL, place INTEGER NOT NULL, first INTEGER NOT NULL, last INTEGER NOT NULL, lower INTEGER NOT NULL, upper INTEGER NOT NULL, start INTEGER NOT NULL, stop INTEGER NOT NULL, priority INTEGER NOT NULL, PRIMARY KEY (operator, id, place, first), FOREIGN KEY (operator, id) REFERENCES plan (operator, id) ON DELETE CASCADE) STRICT",
+        "CREATE TABLE span (operator TEXT NOT NULL, id TEXT NOT NULL, place INTEGER NOT NULL, \
+        first INTEGER NOT NULL, last INTEGER NOT NULL, lower INTEGER NOT NULL, \
+        upper INTEGER NOT NULL, start INTEGER NOT NULL, stop INTEGER NOT NULL, \
+        priority INTEGER NOT NULL, PRIMARY KEY (operator, id, place, first), \
+        FOREIGN KEY (operator, id) REFERENCES plan (operator, id) ON DELETE CASCADE) STRICT",
         &[],
     )?;
     Ok(())

@@ -122,7 +122,8 @@ pub fn insert_volume<S: Alter>(tx: &mut Transaction<'_, S>, row: VolumeRow<'_>) 
 {
     run(
         tx,
-        "INSERT INTO volume (operator, id, place, lower, upper, start, stop, asked) VALUES (?1, ?2, ?3, ?4, ?5, ?6, ?7, ?8)",
+        "INSERT INTO volume (operator, id, place, lower, upper, start, stop, asked) \
+        VALUES (?1, ?2, ?3, ?4, ?5, ?6, ?7, ?8)",
         params![
             row.operator,
             row.id,
@@ -156,7 +157,8 @@ pub fn insert_span<S: Alter>(tx: &mut Transaction<'_, S>, row: SpanRow<'_>) -> R
 {
     run(
         tx,
-        "INSERT INTO span (operator, id, place, first, last, lower, upper, start, stop, priority) VALUES (?1, ?2, ?3, ?4, ?5, ?6, ?7, ?8, ?9, ?10)",
+        "INSERT INTO span (operator, id, place, first, last, lower, upper, start, stop, priority) \
+        VALUES (?1, ?2, ?3, ?4, ?5, ?6, ?7, ?8, ?9, ?10)",
         params![
             row.operator,
             row.id,
