@@ -2,6 +2,7 @@
 
 ghost use Rattle.std.specs.Prelude.{◌≡◌, ◌≤◌, ◌<◌, ◌+◌, [], length, take, IfErr, IfOk, IfSome, OnOk, None};
 ghost use Rattle.std.specs.Io.{ReadsAtMost};
+ghost use Rattle.std.specs.Result.{is_ok};
 ghost use Rattle.std.specs.Io.KnownBytes.{Appends, Consumes, IsAtEnd, ReadConsumes};
 ghost use Rattle.desk_reading.specs.Messages.{message_read};
 ghost use Rattle.desk_store.specs.Faults.{IsHonest};
@@ -130,10 +131,17 @@ pub fn serve_next<S: PlanStore, R: Read, W: Write>(
     let request = message_of(front, &body);
     let answer = answer_request(alloc, routes, desk, moment, &request)?;
     write_whole(output, &answer.bytes)?;
-    Ok(Served::Answered {
-        status: answer.status,
+    Ok(answered(answer.status, &request))
+}
+
+// What came of a request that was answered with this status: it is framed where it could be read.
+fn answered(status: u16, request: &Result<Message<'_>, WireFault>) -> Served
+    ensures { result ≡ Served.Answered status (is_ok request.now) }
+{
+    Served::Answered {
+        status,
         framed: request.is_ok(),
-    })
+    }
 }
 
 // The head that was received, and how many bytes follow it, or its first fault.
