@@ -289,25 +289,35 @@ fn read_counted<R: Read>(input: &mut R, room: &mut [u8], left: &mut u32) -> io::
 /// # Errors
 ///
 /// `Write`, with the number of bytes that were written.
+#[tactic(auto, using(crate::proofs::StreamLemmas::written_all))]
 pub fn write_whole<W: Write>(output: &mut W, bytes: &[u8]) -> Result<(), ServeFault>
     ensures ok { OnOk result (Appends (W.contents output.old) (W.contents output.new) bytes.now) }
     ensures err { IfErr result (BreaksOff bytes.now (W.contents output.old) (W.contents output.new)) }
 {
-    let mut sent = 0;
-    for _ in 0..bytes.len().saturating_add(SPARE_WRITES) {
-        if sent == bytes.len() {
-            return Ok(());
-        }
-        match output.write(&bytes[sent..]) {
-            Ok(0) => return Err(ServeFault::Write { sent }),
-            Ok(count) => sent += count,
-            Err(error) if error.kind() == ErrorKind::Interrupted => {}
-            Err(_) => return Err(ServeFault::Write { sent }),
-        }
-    }
+    let sent = write_most(output, bytes);
     if sent == bytes.len() {
         Ok(())
     } else {
         Err(ServeFault::Write { sent })
     }
+}
+
+// Writes the first bytes, as many as the output takes in so many writes, and says how many they are.
+fn write_most<W: Write>(output: &mut W, bytes: &[u8]) -> usize
+    ensures written { Appends (W.contents output.old) (W.contents output.new) (take result bytes.now) }
+    ensures within { result ≤ length bytes.now }
+{
+    let mut sent = 0;
+    for _ in 0..bytes.len().saturating_add(SPARE_WRITES) {
+        if sent == bytes.len() {
+            return sent;
+        }
+        match output.write(&bytes[sent..]) {
+            Ok(0) => return sent,
+            Ok(count) => sent += count,
+            Err(error) if error.kind() == ErrorKind::Interrupted => {}
+            Err(_) => return sent,
+        }
+    }
+    sent
 }

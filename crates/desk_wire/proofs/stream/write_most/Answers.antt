@@ -2,25 +2,15 @@ use Rattle.std.proofs.Common.{◌≤◌, ◌-◌, length, take, drop, sym, subst
 use Rattle.std.specs.Io.KnownBytes.{Appends}
 use Rattle.std.proofs.KnownBytes.{Appends-kept}
 use Rattle.desk_wire.proofs.StreamLemmas.{length_rest, rest_is, written_all, written_bound, written_more, written_none}
-use Rattle.desk_wire.proofs.stream.write_whole.Goals as goal
-use Rattle.desk_wire.proofs.stream.write_whole.Goals.{in-Ok, in-Err}
+use Rattle.desk_wire.proofs.stream.write_most.Goals as goal
+use Rattle.desk_wire.proofs.stream.write_most.Goals.{in-Ok, in-Err}
 
-pub returns-then-sent-bytes-clause-ok : goal.returns-then-sent-bytes-clause-ok
-returns-then-sent-bytes-clause-ok g c = written_all _ _ c.args.bytes.now c.loop.sent c.loop.invariant.sent c.if-sent-bytes.true
+pub returns-in-Ok-eq0-clause-written : goal.returns-in-Ok-eq0-clause-written
+returns-in-Ok-eq0-clause-written g c =
+    written_none _ _ _ c.args.bytes.now _ c.loop.sent c.in-Ok-eq0.field-0 c.loop.invariant.sent (rw c.in-Ok-eq0.is at c.write.ensures.bytes) c.in-Ok-eq0.field-0-test
 
-pub returns-then-sent-bytes-2-clause-ok : goal.returns-then-sent-bytes-2-clause-ok
-returns-then-sent-bytes-2-clause-ok g c = written_all _ _ c.args.bytes.now c.loop.sent c.loop.invariant.sent c.if-sent-bytes-2.true
-
-pub returns-in-Ok-eq0-clause-err : goal.returns-in-Ok-eq0-clause-err
-returns-in-Ok-eq0-clause-err g c =
-    (omega (arith, c.if-sent-bytes.false, c.loop.invariant.within), written_none _ _ _ c.args.bytes.now _ c.loop.sent c.in-Ok-eq0.field-0 c.loop.invariant.sent (rw c.in-Ok-eq0.is at c.write.ensures.bytes) c.in-Ok-eq0.field-0-test)
-
-pub returns-in-Err-2-clause-err : goal.returns-in-Err-2-clause-err
-returns-in-Err-2-clause-err g c =
-    (omega (arith, c.if-sent-bytes.false, c.loop.invariant.within), Appends-kept _ _ _ _ c.loop.invariant.sent c.in-Err-2.ensures.bytes)
-
-pub returns-else-sent-bytes-2-clause-err : goal.returns-else-sent-bytes-2-clause-err
-returns-else-sent-bytes-2-clause-err g c = (omega (arith, c.if-sent-bytes-2.false, c.loop.invariant.within), c.loop.invariant.sent)
+pub returns-in-Err-2-clause-written : goal.returns-in-Err-2-clause-written
+returns-in-Err-2-clause-written g c = Appends-kept _ _ _ _ c.loop.invariant.sent c.in-Err-2.ensures.bytes
 
 pub loop-preserved : goal.loop-preserved
 loop-preserved g c =
