@@ -1,7 +1,7 @@
 use Rattle.std.proofs.Common.{◌≤◌, ◌-◌, length, take, drop, sym, subst, arith}
 use Rattle.std.specs.Io.KnownBytes.{Appends}
 use Rattle.std.proofs.KnownBytes.{Appends-kept}
-use Rattle.desk_wire.proofs.StreamLemmas.{length_rest, rest_is, written_all, written_bound, written_more, written_none}
+use Rattle.desk_wire.proofs.StreamLemmas.{length_rest, rest_is, written_bound, written_more, written_none}
 use Rattle.desk_wire.proofs.stream.write_most.Goals as goal
 use Rattle.desk_wire.proofs.stream.write_most.Goals.{in-Ok, in-Err}
 
