@@ -94,9 +94,8 @@ unfolding world_committed
 alone_ready w o told r e = record { told = ap replied (sym e); left = refl; fits = tt }
 
 -- the list of an operator's plans is ready
-pub list_ready : (w now : World) (o : List ℕ) (rows : List PlanRow) (shown : List Shown) (r : Reply) → rows ≡ plans_of o w → now ≡ w → shown ≡ map (shown_in now o) rows → said_in r ≡ said.plans shown → IsReady w o (list_ruling (plans_of o w) (held w o)) (record { reply = r; change = None })
-list_ready w now o rows shown r listed same is says =
-    alone_ready w o _ r (says ∙ ap said.plans (is ∙ (λ i. map (shown_in (same i) o) (listed i))))
+pub list_ready : (w : World) (o : List ℕ) (shown : List Shown) (r : Reply) → shown ≡ map (shown_in w o) (plans_of o w) → said_in r ≡ said.plans shown → IsReady w o (list_ruling (plans_of o w) (held w o)) (record { reply = r; change = None })
+list_ready w o shown r is says = alone_ready w o _ r (says ∙ ap said.plans is)
 
 -- a plan is ready to be shown
 pub show_ready : (w now : World) (o id : List ℕ) (found : Option PlanRow) (row : PlanRow) (shown : Shown) → found ≡ stored_of id (plans_of o w) → found ≡ Some row → now ≡ w → shown ≡ shown_in now o row → IsReady w o (show_ruling (plans_of o w) (held w o) (stored_of id (plans_of o w))) (record { reply = reply.Plan shown; change = None })

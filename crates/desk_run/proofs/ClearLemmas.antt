@@ -1,6 +1,6 @@
 -- Clears: the ids found are those of the plans that are taken out.
 use Rattle.std.proofs.Common.{◌≡◌, ◌≤◌, ◌<◌, ◌+◌, ◌^◌, ℕ, Bool, true, false, cond, not, ◌||◌, List, [], ◌∷◌, ◌++◌, length, map, take, get_or, Some, None, refl, sym, ap, subst, ◌∙◌, arith, Less, Equal, Greater}
-use Rattle.std.specs.Prelude.{IsSome, is_some}
+use Rattle.std.specs.Prelude.{IsSome, is_some, Option}
 use Rattle.std.specs.List.{filter, find, list_any, AllByRecursion}
 use Rattle.std.specs.List.Sorted.{IsStrictlySortedBy}
 use Rattle.std.specs.declared.cmp.Ordering.{Ordering}
@@ -20,6 +20,7 @@ use Rattle.volume4d.specs.Slab.{slabs_have}
 use Rattle.volume4d.specs.Volume.{Block, block_has}
 use Rattle.desk_rules.specs.Bridge.{AreSlabsOf}
 use Rattle.desk_rules.specs.declared.plan.PlanRow.{PlanRow}
+use Rattle.desk_rules.specs.declared.reply.Reply.{Reply}
 use Rattle.desk_rules.specs.declared.reply.Reply.TheVariants as reply
 use Rattle.desk_rules.specs.Limits.{max_plans}
 use Rattle.desk_rules.specs.Replies as said
@@ -32,7 +33,8 @@ use Rattle.desk_store.specs.Changes.{is_named, clear_rows, with_plans, AreStored
 use Rattle.desk_store.specs.OrderLaws.{all_weaker, all_filter, all_map, sorted_map}
 use Rattle.desk_store.specs.WorldLaws.{fewer}
 use Rattle.desk_run.specs.Verdicts.{replied, is_in, clear_ruling}
-use Rattle.desk_run.specs.Calls.{ids_in, IsReady, world_committed}
+use Rattle.desk_run.specs.declared.pending.Pending.{Pending}
+use Rattle.desk_run.specs.Calls.{ids_in, IsClearing, IsReady, world_committed}
 
 -- an extent's ids, plan by plan
 ids_append : (extent : Block) (rows : List PlanRow) (row : PlanRow)
@@ -248,3 +250,31 @@ some_cleared w o extent ids count c is some parts counted s few listed =
       left = rw any made.0;
       fits = made.1;
     }
+
+-- an operator's plans are few, and those that an extent meets no more
+few_ids : (w : World) (o : List ℕ) (extent : Block) → length (plans_of o w) ≤ max_plans
+    → length (ids_in extent (plans_of o w)) < 2 ^ 32
+few_ids w o extent few =
+    let rows = plans_of o w in
+    let size : length (ids_in extent rows) ≡ length (filter (is_in extent) rows) = length-map (filter (is_in extent) rows) (λ r. r.id) in
+    omega (arith, size, fewer (is_in extent) rows, few)
+
+-- what clears the plans that share a point with an extent is ready
+pub clearing_ready : (w : World) (o : List ℕ) (extent : Block) (p : Pending) → IsClearing o (ids_in extent (plans_of o w)) p
+    → AreInOrder (plans_of o w) → length (plans_of o w) ≤ max_plans → IsSome (ceiling_of o w)
+    → IsReady w o (clear_ruling (plans_of o w) extent) p
+clearing_ready w o extent p h s few listed = by_change p.change h where
+  ids : List (List ℕ)
+  ids = ids_in extent (plans_of o w)
+
+  told : p.reply ≡ reply.Cleared (length ids)
+  told = h.told (few_ids w o extent few)
+
+  by_change : (c : Option Change) → IsClearing o ids (record { reply = p.reply; change = c })
+      → IsReady w o (clear_ruling (plans_of o w) extent) (record { reply = p.reply; change = c })
+  by_change None k =
+      subst (λ r. IsReady w o (clear_ruling (plans_of o w) extent) (record { reply = r; change = None }))
+      (sym (told ∙ ap (λ xs. reply.Cleared (length xs)) k.asked)) (none_cleared w o extent ids refl (ap length k.asked))
+  by_change (Some c) k =
+      subst (λ r. IsReady w o (clear_ruling (plans_of o w) extent) (record { reply = r; change = Some c })) (sym told)
+      (some_cleared w o extent ids (length ids) c refl k.asked.0 k.asked.1 (λ _. refl) s few listed)

@@ -1,5 +1,5 @@
 -- What the calls of a desk give, by the verdict.
-use Rattle.std.specs.Prelude.{◌≡◌, ℕ, ℤ, ⊤, List, map, Option, Some, None, Result, Ok, Err}
+use Rattle.std.specs.Prelude.{◌≡◌, ◌<◌, ◌^◌, ℕ, ℤ, ⊤, List, [], length, map, Option, Some, None, MatchOption, Result, Ok, Err}
 use Rattle.std.specs.List.{filter}
 use Rattle.volume4d.specs.Volume.{Block}
 use Rattle.desk_rules.specs.declared.plan.PlanRow.{PlanRow}
@@ -10,10 +10,11 @@ use Rattle.desk_store.specs.declared.change.Change.{Change}
 use Rattle.desk_store.specs.declared.change.Change.TheVariants as change
 use Rattle.desk_store.specs.StoreChange.{changed_by, IsFitting}
 use Rattle.std.specs.Option.{option_map}
-use Rattle.desk_store.specs.ChangeParts.{parts_in}
+use Rattle.desk_store.specs.ChangeParts.{parts_in, clear}
 use Rattle.desk_store.specs.World.{World}
 use Rattle.desk_rules.specs.declared.call.Asked.{Asked}
 use Rattle.desk_rules.specs.declared.reply.Reply.{Reply}
+use Rattle.desk_rules.specs.declared.reply.Reply.TheVariants.{Cleared}
 use Rattle.desk_rules.specs.Replies.{said_in}
 use Rattle.desk_run.specs.declared.pending.Pending.{Pending}
 use Rattle.desk_run.specs.declared.fault.DeskFault.{DeskFault}
@@ -86,6 +87,11 @@ change_after effect.Shut operator asked = Some (change.Close operator asked.id)
 -- the ids of the plans that share a point with an extent
 abbrev pub ids_in : Block → List PlanRow → List (List ℕ)
 ids_in extent rows = map (λ row. row.id) (filter (is_in extent) rows)
+
+-- what clears the plans of these ids: no change where there are none
+pub record IsClearing (operator : List ℕ) (ids : List (List ℕ)) (p : Pending) : Type 0 where
+  pub told : length ids < 2 ^ 32 → reply_in p ≡ Cleared (length ids)
+  pub asked : MatchOption p.change (ids ≡ []) (λ c. (0 < length ids) × (parts_in c ≡ clear operator ids))
 
 -- what is pending is the reply and the change of the call at the moment, and may be committed
 pub record IsPending (w : World) (moment : ℤ) (asked : Asked) (p : Pending) : Type 0 where

@@ -11,10 +11,11 @@ use Rattle.desk_reading.specs.declared.wire_fault.WireFault.{WireFault}
 use Rattle.desk_store.specs.World.{World}
 use Rattle.desk_wire.specs.declared.response.ServerError.{ServerError}
 use Rattle.desk_wire.specs.declared.stream.Served.{Served}
+use Rattle.desk_wire.specs.declared.stream.Served.TheVariants.{Answered}
 use Rattle.desk_wire.specs.declared.stream.ServeFault.{ServeFault}
 use Rattle.desk_wire.specs.declared.stream.ServeFault.TheVariants.{Read, Write, CutShort, OutOfMemory}
 use Rattle.desk_wire.specs.Bytes.{IsAnsweredSo, IsServerError, status_so}
-use Rattle.desk_wire.specs.Serving.{BreaksOff, HasServed, IsReplied, IsTaken, IsUntouched, Stops}
+use Rattle.desk_wire.specs.Serving.{BreaksOff, HasServed, IsReplied, IsServed, IsTaken, IsUntouched, Stops}
 use Rattle.desk_wire.specs.Streams.{IsCut, IsFront, front_read, is_framed, size_said, with_body}
 use Rattle.desk_wire.proofs.BytesLemmas.{asked_read}
 use Rattle.desk_wire.proofs.FrontLemmas.{is_request, message_is}
@@ -44,6 +45,11 @@ status_as H w given moment request reading why status m r is h = is h ∙ ap (λ
 pub framed_as : (request : Result Message WireFault) (bytes : List ℕ) (framed : Bool) → framed ≡ is_ok request → message_read request ≡ message_in bytes → framed ≡ is_framed bytes
 framed_as (Ok m) bytes framed is read = is ∙ ap is_ok read
 framed_as (Err f) bytes framed is read = is ∙ ap is_ok read
+
+-- the exit after a whole answer
+pub served_as : (H : Type 0) (s : Served) (status : ℕ) (framed : Bool) (old new out now : Option (List ℕ)) (w after : World) (moment : ℤ) → s ≡ Answered status framed → IsServed H old new out now w moment after status framed → HasServed H (Ok s) old new out now w moment after
+served_as H s status framed old new out now w after moment is served =
+    subst (λ r. HasServed H (Ok r) old new out now w moment after) (sym is) served
 
 -- the exit of a `?` that hands on what stopped the reading
 pub stopped : (H cut : Type 0) (r : Result Served ServeFault) (f : ServeFault) (old new out : Option (List ℕ)) (w : World) (moment : ℤ) → IsErrAnd r (λ e. e ≡ f) → Stops cut f → (cut → IfSome old IsCut) → HasServed H r old new out out w moment w

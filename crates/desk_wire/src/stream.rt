@@ -2,6 +2,7 @@
 
 ghost use Rattle.std.specs.Prelude.{◌≡◌, ◌≤◌, ◌<◌, ◌+◌, [], length, take, IfErr, IfOk, IfSome, OnOk, None};
 ghost use Rattle.std.specs.Io.{ReadsAtMost};
+ghost use Rattle.std.specs.Result.{is_ok};
 ghost use Rattle.std.specs.Io.KnownBytes.{Appends, Consumes, IsAtEnd, ReadConsumes};
 ghost use Rattle.desk_reading.specs.Messages.{message_read};
 ghost use Rattle.desk_store.specs.Faults.{IsHonest};
@@ -130,10 +131,17 @@ pub fn serve_next<S: PlanStore, R: Read, W: Write>(
     let request = message_of(front, &body);
     let answer = answer_request(alloc, routes, desk, moment, &request)?;
     write_whole(output, &answer.bytes)?;
-    Ok(Served::Answered {
-        status: answer.status,
+    Ok(answered(answer.status, &request))
+}
+
+// What came of a request that was answered with this status: it is framed where it could be read.
+fn answered(status: u16, request: &Result<Message<'_>, WireFault>) -> Served
+    ensures { result ≡ Served.Answered status (is_ok request.now) }
+{
+    Served::Answered {
+        status,
         framed: request.is_ok(),
-    })
+    }
 }
 
 // The head that was received, and how many bytes follow it, or its first fault.
@@ -281,25 +289,35 @@ fn read_counted<R: Read>(input: &mut R, room: &mut [u8], left: &mut u32) -> io::
 /// # Errors
 ///
 /// `Write`, with the number of bytes that were written.
+#[tactic(auto, using(crate::proofs::StreamLemmas::written_all))]
 pub fn write_whole<W: Write>(output: &mut W, bytes: &[u8]) -> Result<(), ServeFault>
     ensures ok { OnOk result (Appends (W.contents output.old) (W.contents output.new) bytes.now) }
     ensures err { IfErr result (BreaksOff bytes.now (W.contents output.old) (W.contents output.new)) }
 {
-    let mut sent = 0;
-    for _ in 0..bytes.len().saturating_add(SPARE_WRITES) {
-        if sent == bytes.len() {
-            return Ok(());
-        }
-        match output.write(&bytes[sent..]) {
-            Ok(0) => return Err(ServeFault::Write { sent }),
-            Ok(count) => sent += count,
-            Err(error) if error.kind() == ErrorKind::Interrupted => {}
-            Err(_) => return Err(ServeFault::Write { sent }),
-        }
-    }
+    let sent = write_most(output, bytes);
     if sent == bytes.len() {
         Ok(())
     } else {
         Err(ServeFault::Write { sent })
     }
+}
+
+// Writes the first bytes, as many as the output takes in so many writes, and says how many they are.
+fn write_most<W: Write>(output: &mut W, bytes: &[u8]) -> usize
+    ensures written { Appends (W.contents output.old) (W.contents output.new) (take result bytes.now) }
+    ensures within { result ≤ length bytes.now }
+{
+    let mut sent = 0;
+    for _ in 0..bytes.len().saturating_add(SPARE_WRITES) {
+        if sent == bytes.len() {
+            return sent;
+        }
+        match output.write(&bytes[sent..]) {
+            Ok(0) => return sent,
+            Ok(count) => sent += count,
+            Err(error) if error.kind() == ErrorKind::Interrupted => {}
+            Err(_) => return sent,
+        }
+    }
+    sent
 }

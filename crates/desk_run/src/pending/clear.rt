@@ -5,7 +5,7 @@ ghost use Rattle.desk_store.specs.Faults.{IsHonest, HasRisen};
 ghost use Rattle.desk_store.specs.World.{ceiling_of, plans_of};
 ghost use Rattle.desk_rules.specs.Bridge.{AreSlabsOf};
 ghost use Rattle.volume4d.specs.Volume.{Block};
-ghost use Rattle.desk_run.specs.Calls.{Readies, ids_in};
+ghost use Rattle.desk_run.specs.Calls.{IsClearing, Readies, ids_in};
 ghost use Rattle.desk_run.specs.Verdicts.{clear_ruling, is_in};
 
 use super::Pending;
@@ -37,7 +37,21 @@ pub fn ready_clear<S: PlanStore>(
         HasRisen (S.faults store.old) (S.faults store.new)) }
 {
     let rows = store.own_plans(operator)?;
-    let ids = ids_within(alloc, &extent.slabs()?, &rows)?;
+    Ok(clearing(alloc, operator, &extent.slabs()?, &rows)?)
+}
+
+// What is pending where those of the operator's plans are cleared that share a point with the extent
+// of the slabs.
+fn clearing(
+    alloc: Global,
+    operator: &Operator,
+    slabs: &[Slab],
+    rows: &[PlanRow],
+) -> Result<Pending, AllocError>
+    ensures { (extent : Block) → AreSlabsOf slabs.now (extent ∷ []) →
+        IfOk result (IsClearing operator.now (ids_in extent rows.now)) }
+{
+    let ids = ids_within(alloc, slabs, rows)?;
     if ids.is_empty() {
         return Ok(Pending {
             reply: Reply::Cleared(0),

@@ -33,12 +33,30 @@ pub fn ready_list<S: PlanStore>(
     ensures cause { IfErr result (λ e. e ≡ DeskFault.Store →
         HasRisen (S.faults store.old) (S.faults store.new)) }
 {
-    let rows = store.own_plans(operator)?;
-    let plans = shown_all(alloc, store, operator, &rows)?;
+    let plans = own_shown(alloc, store, operator)?;
     Ok(Pending {
         reply: Reply::Plans(plans),
         change: None,
     })
+}
+
+// The operator's plans, by id, as they are shown.
+fn own_shown<S: PlanStore>(
+    alloc: Global,
+    store: &mut S,
+    operator: &Operator,
+) -> Result<Vec<Shown>, StoreFault>
+    ensures value { IsHonest (S.doubt store.new) → IfOk result (λ plans.
+        plans.items ≡ map (shown_in (S.content store.old) operator.now)
+        (plans_of operator.now (S.content store.old))) }
+    ensures same { S.content store.new ≡ S.content store.old }
+    ensures doubt { S.doubt store.old ≤ S.doubt store.new }
+    ensures counted { S.faults store.old ≤ S.faults store.new }
+    ensures cause { IfErr result (λ e. e ≡ StoreFault.Store →
+        HasRisen (S.faults store.old) (S.faults store.new)) }
+{
+    let rows = store.own_plans(operator)?;
+    shown_all(alloc, store, operator, &rows)
 }
 
 // Gets the showing of an enrolled operator's plan ready.

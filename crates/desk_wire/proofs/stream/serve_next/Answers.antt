@@ -1,10 +1,11 @@
-use Rattle.std.proofs.Common.{◌<◌, ◌++◌, IfSome, w64, sym, ap, subst, ◌∙◌, length}
+use Rattle.std.proofs.Common.{◌<◌, ◌++◌, IfSome, w64, refl, sym, ap, subst, ◌∙◌, length}
+use Rattle.std.specs.Result.{is_ok}
 use Rattle.std.proofs.lemmas.Int.{to_z-of_z}
 use Rattle.desk_reading.specs.Messages.{message_read}
 use Rattle.desk_store.specs.Faults.{IsHonest}
 use Rattle.desk_wire.specs.Streams.{front_read, front_reading, size_said, with_body}
 use Rattle.desk_wire.proofs.FrontLemmas.{some_count, told_cut_body}
-use Rattle.desk_wire.proofs.ServeLemmas.{broken, framed_as, received, replied, status_as, stopped}
+use Rattle.desk_wire.proofs.ServeLemmas.{broken, framed_as, received, replied, served_as, status_as, stopped}
 use Rattle.desk_wire.proofs.stream.serve_next.Goals as goal
 
 pub returns-in_err-body-clause-served : goal.returns-in_err-body-clause-served
@@ -52,10 +53,11 @@ returns-clause-served g c =
     let why = c.in_ok-answer.answer.error in
     let answer = c.in_ok-answer.answer.bytes.items in
     let told = replied (IsHonest (g.S.PlanStore.doubt c.answer_request.new.desk)) w after _ c.args.moment (text ++ body) answer (message_read c.message_of-request.result) why moment got.read c.in_ok-answer.ensures.bytes c.in_ok-answer.ensures.failed in
-    record {
+    served_as (IsHonest (g.S.PlanStore.doubt c.answer_request.new.desk)) c.answered.result c.in_ok-answer.answer.status (is_ok c.message_of-request.result) (g.R.Read.remaining c.args.input.now) _ _ _ w after c.args.moment
+    c.answered.ensures record {
       request = text ++ body;
       taken = got.taken;
-      framed_is = framed_as c.message_of-request.result (text ++ body) c.is_ok.result c.is_ok.ensures.value got.read;
+      framed_is = framed_as c.message_of-request.result (text ++ body) _ refl got.read;
       answer = answer;
       why = why;
       replied = told;
