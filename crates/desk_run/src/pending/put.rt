@@ -1,10 +1,10 @@
 //! Requests to plan, decided over a store.
 
-ghost use Rattle.std.specs.Prelude.{◌≡◌, ◌≤◌, Some, IfOk, IfErr};
+ghost use Rattle.std.specs.Prelude.{◌≡◌, ◌≤◌, length, Some, IfOk, IfErr};
 ghost use Rattle.desk_store.specs.Faults.{IsHonest, HasRisen};
 ghost use Rattle.desk_rules.specs.Limits.{max_priority};
 ghost use Rattle.std.specs.Option.{option_copied};
-ghost use Rattle.desk_store.specs.World.{own, ceiling_of, plans_of, held};
+ghost use Rattle.desk_store.specs.World.{own, ceiling_of, plans_of, stored_of, held};
 ghost use Rattle.desk_run.specs.Calls.{Readies, change_after};
 ghost use Rattle.desk_run.specs.Verdicts.{put_ruling, put_outcome_in, row_asked};
 
@@ -14,6 +14,7 @@ use crate::fault::DeskFault;
 use desk_rules::decide::{Effect, Verdict, decide};
 use desk_rules::operator::Operator;
 use desk_rules::plan::{PlanRow, PutCall};
+use desk_rules::plan_id::PlanId;
 use desk_rules::reply::{PutReply, Reply};
 use desk_store::{Change, PlanStore, StoreFault};
 use std::alloc::AllocError;
@@ -76,10 +77,30 @@ fn verdict_on<S: PlanStore>(
     ensures cause { IfErr result (λ e. e ≡ StoreFault.Store →
         HasRisen (S.faults store.old) (S.faults store.new)) }
 {
-    let stored = store.plan(operator, &put.id)?;
-    let own_rows = store.own_count(operator)?;
+    let (stored, own_rows) = plan_and_count(store, operator, &put.id)?;
     let meeting = conflict_of(store, operator, &put.id, &put.area, put.priority)?;
     Ok(decide(put, moment, stored.as_ref(), own_rows, ceiling, meeting))
+}
+
+// The operator's plan of the id, and how many plans the operator has.
+fn plan_and_count<S: PlanStore>(
+    store: &mut S,
+    operator: &Operator,
+    id: &PlanId,
+) -> Result<(Option<PlanRow>, u32), StoreFault>
+    ensures stored { IsHonest (S.doubt store.new) → IfOk result (λ own.
+        own.0 ≡ stored_of id.now (plans_of operator.now (S.content store.old))) }
+    ensures count { IsHonest (S.doubt store.new) → IfOk result (λ own.
+        own.1 ≡ length (plans_of operator.now (S.content store.old))) }
+    ensures same { S.content store.new ≡ S.content store.old }
+    ensures doubt { S.doubt store.old ≤ S.doubt store.new }
+    ensures counted { S.faults store.old ≤ S.faults store.new }
+    ensures cause { IfErr result (λ e. e ≡ StoreFault.Store →
+        HasRisen (S.faults store.old) (S.faults store.new)) }
+{
+    let stored = store.plan(operator, id)?;
+    let own_rows = store.own_count(operator)?;
+    Ok((stored, own_rows))
 }
 
 // The change that an effect is.
