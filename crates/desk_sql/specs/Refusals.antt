@@ -1,5 +1,6 @@
 -- Why the tables of a desk are not read.
-use Rattle.std.specs.Prelude.{◌≡◌, ◌⊎◌, ℕ, ◌≤◌, List, [], length, Option, Result, Ok, Err, None, IsSome, false}
+use Rattle.std.specs.Prelude.{◌≡◌, ◌⊎◌, ℕ, ◌≤◌, List, [], length, Option, Result, Ok, Err, None, IsSome}
+use Rattle.std.specs.Prelude.{false}
 use Rattle.sqlite_disk.specs.Disk.{MoreFaults}
 use Rattle.sqlite_schema.specs.declared.command.Command.{Command}
 use Rattle.sqlite_resolve.specs.declared.compiled.Compiled.{Compiled}
@@ -26,7 +27,7 @@ IsSureIn text (Ok c) =
     (c.returning ≡ None) × (c.formats ≡ []) × (c.names ≡ []) × (length text ≤ c.tail) × NeverRefuses c.command
 IsSureIn text (Err e) = ⊥
 
--- a query of a desk's tables that is refused only if memory runs out, the disk fails or it takes too many steps
+-- a query of a desk's tables that only memory, the disk and a limit on steps refuse
 pub record IsSure (text : List ℕ) : Type 0 where
   pub means : IsSureIn text (understood desk_schema text)
   pub unlisted : reads_listing desk_schema text ≡ false

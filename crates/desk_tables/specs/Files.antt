@@ -26,24 +26,33 @@ pub record IsUnopened (e : OpenFault) : Type 0 where
   pub named : IsTrue (is_open_error error)
   pub is : e ≡ open_fault_of error
 
--- a connection finds the database that the files held, and the store begins with what that connection shows
-pub record OpensIn {D : Type 0} {g : disk.Ghosts D} (image : Image) (h : Held (FileStore D g)) (w : World) : Type 0 where
-  pub found : Held (FileStore D g)
-  pub opened : HasCleanDisk (file_state h) → IsOpened found × FindsIn image (file_state found)
-  pub begins : BeginsWith (over_files {D = D} {g = g}) found h w
+-- a connection is opened, and finds the database that the files held
+abbrev pub FindsFirst : {D : Type 0} {g : disk.Ghosts D} → Image → Held (FileStore D g) → Type 0
+FindsFirst image found = IsOpened found × FindsIn image (file_state found)
+
+module _ {D : Type 0} {g : disk.Ghosts D} where
+  -- a connection finds the database of the files, and the store begins with what that connection shows
+  pub record OpensIn (image : Image) (h : Held (FileStore D g)) (w : World) : Type 0 where
+    pub found : Held (FileStore D g)
+    pub opened : HasCleanDisk (file_state h) → FindsFirst image found
+    pub begins : BeginsWith (over_files {D = D} {g = g}) found h w
 
 module _ {D : Type 0} (g : disk.Ghosts D) where
-  -- A connection finds the database that the files held, and is left so. That says why it is no store's.
+  -- a connection finds the database of the files, and what it shows says why it is no store's
   pub record IsRefusedIn (image : Image) (e : OpenFault) : Type 0 where
     pub found : Held (FileStore D g)
     pub left : Held (FileStore D g)
-    pub opened : HasCleanDisk (file_state left) → IsOpened found × FindsIn image (file_state found)
+    pub opened : HasCleanDisk (file_state left) → FindsFirst image found
     pub fresh : IsNew found
     pub none : e ≡ NotADesk → ShowsNoDesk (over_files {D = D} {g = g}) found left
     pub cause : BlamesDatabase (over_files {D = D} {g = g}) found left e
     pub kept : IsKept (over_files {D = D} {g = g}) found left
 
+-- a store over files, or why there is none
+abbrev pub Opened : (D : Type 0) → disk.Ghosts D → Type 0
+Opened D g = Result (Shown (FileStore D g)) OpenFault
+
 -- the fault, if there is one, is that of the files or of the database in them
-abbrev pub FailsIn : {D : Type 0} {g : disk.Ghosts D} → Image → Result (Shown (FileStore D g)) OpenFault → Type 0
+abbrev pub FailsIn : {D : Type 0} {g : disk.Ghosts D} → Image → Opened D g → Type 0
 FailsIn {D} {g} image (Ok store) = ⊤
 FailsIn {D} {g} image (Err e) = IsUnopened e ⊎ IsRefusedIn g image e

@@ -1,5 +1,6 @@
 -- What all rows of a desk's tables stand for, and what a store over a connection begins with.
-use Rattle.std.specs.Prelude.{◌≡◌, ◌≤◌, ℕ, ◌⊎◌, Bool, true, false, ◌&&◌, List, [], ◌∷◌, length, map, codes, if◌then◌else◌, IsSome, IsTrue}
+use Rattle.std.specs.Prelude.{◌≡◌, ◌≤◌, ℕ, ◌⊎◌, Bool, true, false, ◌&&◌, List, [], ◌∷◌, length, map, codes}
+use Rattle.std.specs.Prelude.{if◌then◌else◌, IsSome, IsTrue}
 use Rattle.std.specs.List.{AllByRecursion}
 use Rattle.std.specs.List.Sorted.{IsStrictlySortedBy}
 use Rattle.std.specs.declared.cmp.Ordering.{Ordering}
@@ -22,7 +23,8 @@ use Rattle.desk_sql.specs.Rows.{IsDesk, Tables, Lists, tables_of}
 use Rattle.desk_sql.specs.Refusals.{HasDiskFailed, IsMisnumbered}
 use Rattle.desk_sql.specs.Effects.{ShowsAsBefore}
 use Rattle.desk_store.specs.World.{Filed, Listed, World, IsListed, text_cmp, listed_cmp, filed_cmp, rows_by}
-use Rattle.desk_tables.specs.Tables.{operator_row, operator_rows, plan_rows, volume_rows, AreSpanRows, AreTables}
+use Rattle.desk_tables.specs.Tables.{operator_row, operator_rows, plan_rows, volume_rows, AreSpanRows}
+use Rattle.desk_tables.specs.Tables.{AreTables}
 use Rattle.desk_tables.specs.Content.{IsContent}
 use Rattle.desk_tables.specs.declared.exact.RowFault.{RowFault}
 use Rattle.desk_tables.specs.declared.exact.RowFault.TheVariants as row
