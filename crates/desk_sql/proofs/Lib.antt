@@ -19,3 +19,5 @@ pub mod CountLemmas
 pub mod SchemaLemmas
 pub mod RowidLemmas
 pub mod ClearLemmas
+pub mod SureTexts
+pub mod AskLemmas

@@ -1,6 +1,7 @@
 -- From rowids that rise to tables whose rows are numbered.
-use Rattle.std.proofs.Common.{◌≡◌, ℤ, Bool, true, false, cond, Option, None, Some, List, [], ◌∷◌, map, refl, sym, ap, subst, ◌∙◌, Less, Equal, Greater, int_lt, true≢false, IsTrue, IsPermutation, ℕ, codes, if◌then◌else◌, ◌≤◌, ◌<◌, suc, length, drop, drop-cons, drop_of_length-le, get_or}
-use Rattle.std.specs.Prelude.{⊤}
+use Rattle.std.proofs.Common.{Ok, Err, Result, IfErr, OnErr, inl, inr, IsSorted, Ordering, is_lt, add-one, arith, ◌≡◌, ℤ, Bool, true, false, cond, Option, None, Some, List, [], ◌∷◌, map, refl, sym, ap, subst, ◌∙◌, Less, Equal, Greater, int_lt, true≢false, IsTrue, IsPermutation, ℕ, codes, if◌then◌else◌, ◌≤◌, ◌<◌, suc, length, drop, drop-cons, drop_of_length-le, get_or}
+use Rattle.std.specs.Prelude.{⊤, IsSome}
+use Rattle.std.specs.Ordering.{ordering_then, ordering_reverse}
 use Rattle.std.specs.Ordering.{is_eq}
 use Rattle.std.specs.List.{AllByRecursion, IsDistinct, flat_map, list_all}
 use Rattle.std.proofs.lemmas.List.Sorted.{IsPermutation-sym}
@@ -8,7 +9,7 @@ use Rattle.std.proofs.lemmas.Map.Keys.{IsDistinct-IsPermutation}
 use Rattle.sqlite.specs.Order.{Row, value_cmp}
 use Rattle.sqlite.specs.declared.types.Value.{Value}
 use Rattle.sqlite.specs.declared.types.Value.TheVariants.{Null, Int, Real, Text, Blob}
-use Rattle.sqlite.specs.Tree.{rowid, Trees, IsAscending}
+use Rattle.sqlite.specs.Tree.{rowid, Trees, IsAscending, IsTable}
 use Rattle.sqlite.specs.View.{is_int}
 use Rattle.sqlite.specs.Query.{inner, end, matches}
 use Rattle.sqlite.specs.Term.{col, eval_all, holds}
@@ -18,15 +19,19 @@ use Rattle.sqlite.specs.Store.{Ghosts}
 use Rattle.sqlite.specs.Held.{Held, state}
 use Rattle.sqlite.specs.Effect.{Database}
 use Rattle.sqlite_trees.proofs.ListLemmas.{all-permutation}
-use Rattle.sqlite_keyed.proofs.ListLemmas.{all_weaker, all_unmap, ascending_weaker, ascending_from_map}
+use Rattle.sqlite_keyed.proofs.ListLemmas.{all_weaker, all_map, all_unmap, ascending-map, ascending_weaker, ascending_from_map}
 use Rattle.sqlite_value.proofs.OrderLemmas.{value_cmp_total, value_cmp-Int}
-use Rattle.desk_sql.specs.Rows.{AreNumbered}
+use Rattle.sqlite.specs.declared.error.Error.{Error}
+use Rattle.sqlite.specs.declared.error.Error.TheVariants.{SqliteFailure}
+use Rattle.sqlite.specs.declared.error.ErrorCode.TheVariants.{DatabaseCorrupt}
+use Rattle.desk_sql.specs.Rows.{AreNumbered, IsDesk, Lists, by_cells}
+use Rattle.desk_sql.specs.Refusals.{IsRefusal, IsUnread, IsMisnumbered}
 use Rattle.desk_sql.specs.Effects.{IsKept}
 use Rattle.desk_sql.specs.Finding.{Holds, HasDeskSchema, AreRising, next_above, exceeds}
 use Rattle.desk_sql.proofs.QueryTexts.{IsQuery, rowids_query}
 use Rattle.desk_sql.proofs.ReadLemmas.{shows, scanned}
 use Rattle.desk_sql.proofs.NumberLemmas.{IsApart, reversed}
-use Rattle.desk_sql.proofs.StatementLemmas.{every}
+use Rattle.desk_sql.proofs.StatementLemmas.{every, lists}
 
 -- ---- the walk along the rows
 
@@ -163,3 +168,65 @@ kept_on g old mid new first was second clean live =
     let b = second clean live in
     let a = first (was clean) b.was_open in
     record { was_open = a.was_open; now = b.now ∙ a.now; committed = b.committed ∙ a.committed }
+
+-- ---- rows that are numbered show rowids that rise
+
+then_is : (o : Ordering) → is_lt (ordering_then o Equal) ≡ is_lt o
+then_is Less = refl
+then_is Equal = refl
+then_is Greater = refl
+
+less_than : (o : Ordering) → is_lt (ordering_reverse o) ≡ false → is_eq o ≡ false → o ≡ Less
+less_than Less up apart = refl
+less_than Equal up apart = absurd (true≢false apart)
+less_than Greater up apart = absurd (true≢false up)
+
+below_rest : (r : Row) (rows : List Row) → IsSorted (by_cells (0 ∷ [])) (r ∷ rows) → AllByRecursion (IsApart r) rows → IsTable rows → AllByRecursion (λ b. value_cmp (rowid r) (rowid b) ≡ Less) rows
+below_rest r [] sorted apart up = tt
+below_rest r (x ∷ rows) sorted apart up =
+    let above : is_lt (value_cmp (rowid x) (rowid r)) ≡ false = sym (then_is (value_cmp (rowid x) (rowid r))) ∙ sorted 0 r (omega arith) (omega arith) in
+    let first = less_than (value_cmp (rowid r) (rowid x)) (ap is_lt (sym (value_cmp_total.antisymm (rowid x) (rowid r))) ∙ above) apart.0 in
+    (first, all_weaker (λ b. value_cmp (rowid x) (rowid b) ≡ Less) (λ b. value_cmp (rowid r) (rowid b) ≡ Less) (λ b h. value_cmp_total.trans (rowid r) (rowid x) (rowid b) first h) rows up.0)
+
+sorted_table : (rows : List Row) → IsSorted (by_cells (0 ∷ [])) rows → IsAscending IsApart rows → IsTable rows
+sorted_table [] sorted apart = tt
+sorted_table (r ∷ rows) sorted apart =
+    let tail : IsSorted (by_cells (0 ∷ [])) rows = λ k d p q. rw add-one (rw add-one at (sorted (suc k) d (omega arith) (omega arith))) in
+    let up = sorted_table rows tail apart.1 in
+    (below_rest r rows sorted apart.0 up, up)
+
+rising_by : (rows shown : List Row) → Lists (0 ∷ []) (map (λ r. rowid r ∷ []) rows) shown → AreNumbered rows → AreRising shown
+rising_by rows shown lists num =
+    let cells = map (λ (r : Row). rowid r ∷ []) rows in
+    let apart = ascending-map IsApart (λ (r : Row). rowid r ∷ []) rows num.distinct in
+    record {
+      whole = all-permutation (λ r. is_int (rowid r) ≡ true) cells shown lists.same (all_map (λ r. is_int (rowid r) ≡ true) (λ (r : Row). rowid r ∷ []) rows num.whole);
+      rising = sorted_table shown lists.sorted (from_distinct shown (IsDistinct-IsPermutation is_same_id flips cells shown lists.same (to_distinct cells apart)));
+    }
+
+module _ {S : Type 0} (g : Ghosts S) (old new : Held S) (text : List ℕ) (tree : ℕ) (is : IsQuery text (rowids_query tree) (codes "rowid" ∷ [])) (alone : (db : Trees) → overlay db [] tree ≡ db tree) where
+  rises_if : (rows : List Row) → IsDesk (state g old).now → AreNumbered ((state g old).now.trees tree) → Shown text [] (state g old) (state g new) rows → AreRising rows
+  rises_if rows desk num shown =
+      let stored = (state g old).now.trees tree in
+      let cells = scanned (λ r. [] ∷ r ∷ []) [] (col 1 0 ∷ []) (λ r. rowid r ∷ []) (λ r. true) (λ r. refl) (λ r. refl) stored ∙ every (map (λ (r : Row). rowid r ∷ []) stored) in
+      let all_cells : map (eval_all (col 1 0 ∷ [])) (matches (overlay (state g old).now.trees []) [] (inner tree end) ([] ∷ [])) ≡ map (λ (r : Row). rowid r ∷ []) stored =
+      subst (λ rows. map (eval_all (col 1 0 ∷ [])) (flat_map (λ r. cond (list_all (holds ([] ∷ r ∷ [])) []) (([] ∷ r ∷ []) ∷ []) []) rows) ≡ map (λ (r : Row). rowid r ∷ []) stored) (sym (alone (state g old).now.trees)) cells in
+      rising_by stored rows (lists text _ _ _ _ _ is [] (state g old) (state g new) rows desk shown (0 ∷ []) _ (λ e. refl) (λ x y. refl) all_cells) num
+
+  -- why a table is not found to be numbered
+  pub unread_if : {V : Type 0} → Holds g old HasDeskSchema → HasCleanDisk (state g old) → IsTrue (state g old).is_open → (IsDesk (state g old).now → AreNumbered ((state g old).now.trees tree)) → (rows : List Row)
+      → Shown text [] (state g old) (state g new) rows → (r : Result V Error) → OnErr r (¬ AreRising rows) → IfErr r (λ e. e ≡ SqliteFailure DatabaseCorrupt) → IfErr r (IsUnread g old new)
+  unread_if known clean live numbered rows shown (Ok v) broken told = tt
+  unread_if known clean live numbered rows shown (Err e) broken told = inr (told, record { schema = known clean live; unsound = λ desk. broken (rises_if rows desk (numbered desk) shown) })
+
+module _ {S : Type 0} (g : Ghosts S) (old mid new : Held S) (fewer : (state g old).faults ≤ (state g mid).faults) (limit : mid.step_limit ≡ old.step_limit) where
+  -- a cause that comes after a call is one since before that call
+  pub refusal_on : (e : Error) → IsRefusal g mid new e → IsRefusal g old new e
+  refusal_on e (inl h) = inl h
+  refusal_on e (inr (inl h)) = inr (inl (omega (arith, h, fewer)))
+  refusal_on e (inr (inr h)) = inr (inr (h.0, subst IsSome limit h.1))
+
+  pub unread_on : {V : Type 0} → (state g mid).now ≡ (state g old).now → (r : Result V Error) → IfErr r (IsUnread g mid new) → IfErr r (IsUnread g old new)
+  unread_on same (Ok v) why = tt
+  unread_on same (Err e) (inl h) = inl (refusal_on e h)
+  unread_on same (Err e) (inr h) = inr (h.0, subst IsMisnumbered same h.1)

@@ -52,7 +52,7 @@ sorted_shown by cells xs compares keys sorted k d low high =
 
 module _ (text : List ℕ) (from : Join) (terms : List Term) (project : List Term) (order : List (Term × Key)) (names : List (List ℕ)) (known : IsQuery text (query_of from terms project order) names)
     (params : Row) (old new : State) (rows : List Row) (desk : IsDesk old.now) (h : Shown text params old new rows) (cells : List ℕ) (wanted : List Row) where
-  lists : ((e : Env) → eval_all (map (λ k. k.0) order) e ≡ map (column (eval_all project e)) cells)
+  pub lists : ((e : Env) → eval_all (map (λ k. k.0) order) e ≡ map (column (eval_all project e)) cells)
       → ((x y : Row) → key_cmp 0 (map (λ k. k.1) order) (map (column x) cells) (map (column y) cells) ≡ by_cells cells x y)
       → map (eval_all project) (matches (overlay old.now.trees []) terms from (params ∷ [])) ≡ wanted → Lists cells wanted rows
   lists keys compares are =

@@ -1,5 +1,6 @@
 -- What tables a database has.
-use Rattle.std.specs.Prelude.{◌≡◌, ◌≢◌, ℕ, ◌+◌, List, [], ◌∷◌, ◌++◌, ℤ, Bool, int_lt, if◌then◌else◌, Option, None, Some, true, false, codes, IsTrue}
+use Rattle.std.specs.Prelude.{◌≡◌, ◌≢◌, ℕ, ◌+◌, List, [], ◌∷◌, ◌++◌, ℤ, Bool, int_lt, if◌then◌else◌, Option}
+use Rattle.std.specs.Prelude.{None, Some, true, false, codes, IsTrue}
 use Rattle.std.specs.List.{AllByRecursion}
 use Rattle.sqlite.specs.Order.{Row}
 use Rattle.sqlite.specs.Tree.{rowid, IsTable}

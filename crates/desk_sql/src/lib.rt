@@ -2,6 +2,7 @@
 #![tactic(auto)]
 
 mod answer;
+mod asking;
 mod batch;
 mod changing;
 mod counting;
@@ -13,18 +14,17 @@ mod reading;
 mod removing;
 mod run;
 mod setting;
+mod whole;
 mod writing;
 
 pub use changing::{clear_plans, close_plan, is_enrolled, put_operator, put_plan};
 pub use counting::own_count;
 pub use finding::{Found, find_tables};
 pub use making::make_tables;
-pub use reading::{
-    all_operators, all_plans, all_spans, all_volumes, operator_named, own_plans, plan_of, rivals,
-    volumes_of,
-};
+pub use reading::{operator_named, own_plans, plan_of, rivals, volumes_of};
 pub use removing::{remove_plan, remove_spans};
 pub use setting::{set_ceiling, set_closed};
+pub use whole::{all_operators, all_plans, all_spans, all_volumes};
 pub use writing::{
     PlanRow, SpanRow, VolumeRow, insert_operator, insert_plan, insert_span, insert_volume,
 };

@@ -3,8 +3,11 @@
 ghost use Rattle.std.specs.Prelude.{◌≡◌, ◌↔◌, ◌<◌, ◌-◌, ◌^◌, [], ◌∷◌, ◌++◌, false, IsTrue};
 ghost use Rattle.sqlite_value.specs.Keys.{plain};
 ghost use Rattle.sqlite_schema.specs.declared.schema.Action.TheVariants.{NoAction};
-ghost use Rattle.desk_sql.specs.Schema.{column_of, operator_table, plan_table, volume_table, span_table, to_operator, to_plan, blank_schema, desk_schema};
-ghost use Rattle.desk_sql.specs.Finding.{no_stamps, without_extras, plain_table, place_columns, extent_columns, key_index, desk_indexes, operator_index, plan_index, volume_index, span_index};
+ghost use Rattle.desk_sql.specs.Schema.{column_of, operator_table, plan_table, volume_table, span_table};
+ghost use Rattle.desk_sql.specs.Schema.{to_operator, to_plan, blank_schema, desk_schema};
+ghost use Rattle.desk_sql.specs.Finding.{no_stamps, without_extras, plain_table, place_columns};
+ghost use Rattle.desk_sql.specs.Finding.{extent_columns, key_index, desk_indexes, operator_index, plan_index};
+ghost use Rattle.desk_sql.specs.Finding.{volume_index, span_index};
 
 use sqlite_items::Items;
 use sqlite_schema::schema::{Action, Column, Index, Kind, Reference, Schema, Stamps, Table};

@@ -3,12 +3,14 @@
 ghost use Rattle.std.specs.Prelude.{◌≡◌, ◌≤◌, ◌↔◌, false, IsTrue, OnOk, OnErr, IfErr};
 ghost use Rattle.sqlite.specs.Tree.{rowid};
 ghost use Rattle.sqlite.specs.View.{doubt};
+ghost use Rattle.sqlite.specs.State.{HasCleanDisk};
 ghost use Rattle.sqlite.specs.Held.{state};
 ghost use Rattle.desk_sql.specs.Rows.{AreNumbered};
 ghost use Rattle.desk_sql.specs.Effects.{IsReady, IsKept};
+ghost use Rattle.desk_sql.specs.Refusals.{IsUnread};
 ghost use Rattle.desk_sql.specs.Finding.{Holds, HasDeskSchema, AreRising, next_above};
 
-use crate::answer::answer_by_schema;
+use crate::asking::ask;
 use sqlite::{Alter, Connection, Error, ErrorCode, Row};
 use sqlite_value::value::ValueRef;
 
@@ -58,13 +60,17 @@ fn test_operators<S: Alter>(connection: &mut Connection<S>) -> Result<(), Error>
     requires known { Holds S.Store connection.old HasDeskSchema }
     requires settled { connection.old.in_transaction ≡ false }
     ensures numbered { OnOk result (Holds S.Store connection.new (λ db. AreNumbered (db.trees 0))) }
+    ensures cause { HasCleanDisk (state S.Store connection.new)
+        → IsTrue (state S.Store connection.new).is_open
+        → IfErr result (IsUnread S.Store connection.old connection.new) }
     ensures kept { IsKept S.Store connection.old connection.new }
     ensures mode { connection.new.in_transaction ≡ false }
+    ensures limit { connection.new.step_limit ≡ connection.old.step_limit }
     ensures doubt { doubt (state S.Store connection.old).is_clean ≤ doubt
         (state S.Store connection.new).is_clean }
     ensures faults { (state S.Store connection.old).faults ≤ (state S.Store connection.new).faults }
 {
-    let rows = answer_by_schema(connection, "SELECT rowid FROM operator ORDER BY rowid", &[])?;
+    let rows = ask(connection, "SELECT rowid FROM operator ORDER BY rowid")?;
     test_rising(&rows)
 }
 
@@ -72,13 +78,17 @@ fn test_plans<S: Alter>(connection: &mut Connection<S>) -> Result<(), Error>
     requires known { Holds S.Store connection.old HasDeskSchema }
     requires settled { connection.old.in_transaction ≡ false }
     ensures numbered { OnOk result (Holds S.Store connection.new (λ db. AreNumbered (db.trees 2))) }
+    ensures cause { HasCleanDisk (state S.Store connection.new)
+        → IsTrue (state S.Store connection.new).is_open
+        → IfErr result (IsUnread S.Store connection.old connection.new) }
     ensures kept { IsKept S.Store connection.old connection.new }
     ensures mode { connection.new.in_transaction ≡ false }
+    ensures limit { connection.new.step_limit ≡ connection.old.step_limit }
     ensures doubt { doubt (state S.Store connection.old).is_clean ≤ doubt
         (state S.Store connection.new).is_clean }
     ensures faults { (state S.Store connection.old).faults ≤ (state S.Store connection.new).faults }
 {
-    let rows = answer_by_schema(connection, "SELECT rowid FROM plan ORDER BY rowid", &[])?;
+    let rows = ask(connection, "SELECT rowid FROM plan ORDER BY rowid")?;
     test_rising(&rows)
 }
 
@@ -86,13 +96,17 @@ fn test_volumes<S: Alter>(connection: &mut Connection<S>) -> Result<(), Error>
     requires known { Holds S.Store connection.old HasDeskSchema }
     requires settled { connection.old.in_transaction ≡ false }
     ensures numbered { OnOk result (Holds S.Store connection.new (λ db. AreNumbered (db.trees 4))) }
+    ensures cause { HasCleanDisk (state S.Store connection.new)
+        → IsTrue (state S.Store connection.new).is_open
+        → IfErr result (IsUnread S.Store connection.old connection.new) }
     ensures kept { IsKept S.Store connection.old connection.new }
     ensures mode { connection.new.in_transaction ≡ false }
+    ensures limit { connection.new.step_limit ≡ connection.old.step_limit }
     ensures doubt { doubt (state S.Store connection.old).is_clean ≤ doubt
         (state S.Store connection.new).is_clean }
     ensures faults { (state S.Store connection.old).faults ≤ (state S.Store connection.new).faults }
 {
-    let rows = answer_by_schema(connection, "SELECT rowid FROM volume ORDER BY rowid", &[])?;
+    let rows = ask(connection, "SELECT rowid FROM volume ORDER BY rowid")?;
     test_rising(&rows)
 }
 
@@ -100,13 +114,17 @@ fn test_spans<S: Alter>(connection: &mut Connection<S>) -> Result<(), Error>
     requires known { Holds S.Store connection.old HasDeskSchema }
     requires settled { connection.old.in_transaction ≡ false }
     ensures numbered { OnOk result (Holds S.Store connection.new (λ db. AreNumbered (db.trees 6))) }
+    ensures cause { HasCleanDisk (state S.Store connection.new)
+        → IsTrue (state S.Store connection.new).is_open
+        → IfErr result (IsUnread S.Store connection.old connection.new) }
     ensures kept { IsKept S.Store connection.old connection.new }
     ensures mode { connection.new.in_transaction ≡ false }
+    ensures limit { connection.new.step_limit ≡ connection.old.step_limit }
     ensures doubt { doubt (state S.Store connection.old).is_clean ≤ doubt
         (state S.Store connection.new).is_clean }
     ensures faults { (state S.Store connection.old).faults ≤ (state S.Store connection.new).faults }
 {
-    let rows = answer_by_schema(connection, "SELECT rowid FROM span ORDER BY rowid", &[])?;
+    let rows = ask(connection, "SELECT rowid FROM span ORDER BY rowid")?;
     test_rising(&rows)
 }
 
@@ -119,8 +137,12 @@ pub(crate) fn test_tables<S: Alter>(connection: &mut Connection<S>) -> Result<()
     requires known { Holds S.Store connection.old HasDeskSchema }
     requires settled { connection.old.in_transaction ≡ false }
     ensures ready { OnOk result (IsReady S.Store connection.new) }
+    ensures cause { HasCleanDisk (state S.Store connection.new)
+        → IsTrue (state S.Store connection.new).is_open
+        → IfErr result (IsUnread S.Store connection.old connection.new) }
     ensures kept { IsKept S.Store connection.old connection.new }
     ensures mode { connection.new.in_transaction ≡ false }
+    ensures limit { connection.new.step_limit ≡ connection.old.step_limit }
     ensures doubt { doubt (state S.Store connection.old).is_clean ≤ doubt
         (state S.Store connection.new).is_clean }
     ensures faults { (state S.Store connection.old).faults ≤ (state S.Store connection.new).faults }

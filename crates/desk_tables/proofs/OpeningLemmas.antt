@@ -1,16 +1,21 @@
 -- What a store begins with, from what was found.
-use Rattle.std.proofs.Common.{◌≡◌, ◌≤◌, ◌∙◌, sym, subst, arith, inr, Result, Ok, Err, IfErr}
+use Rattle.std.proofs.Common.{◌≡◌, ◌≤◌, ◌∙◌, sym, subst, arith, inl, inr, IsTrue, Result, Ok, Err, IfOk, IfErr}
+use Rattle.std.specs.Prelude.{IsSome}
+use Rattle.sqlite.specs.declared.error.Error.{Error}
+use Rattle.sqlite.specs.declared.error.Error.TheVariants.{SqliteFailure}
+use Rattle.sqlite.specs.declared.error.ErrorCode.TheVariants as code
 use Rattle.sqlite_trees.specs.declared.store.Store.{Ghosts}
 use Rattle.sqlite_trees.specs.View.{doubt}
 use Rattle.sqlite.specs.State.{HasCleanDisk}
 use Rattle.sqlite.specs.Held.{Held, state}
 use Rattle.desk_sql.specs.Rows.{IsDesk, Tables, tables_of}
 use Rattle.desk_sql.specs.Effects.{IsKept, IsReady}
+use Rattle.desk_sql.specs.Refusals.{IsRefusal}
 use Rattle.desk_store.specs.World.{World}
 use Rattle.desk_tables.specs.declared.open.OpenFault.{OpenFault}
-use Rattle.desk_tables.specs.declared.open.OpenFault.TheVariants.{NotADesk}
+use Rattle.desk_tables.specs.declared.open.OpenFault.TheVariants.{NotADesk, Store}
 use Rattle.desk_tables.specs.Content.{IsContent}
-use Rattle.desk_tables.specs.Opening.{AreInOrder, AreRows, IsContentOf, AreNoContent, ShowsNoDesk, IsNoDesk}
+use Rattle.desk_tables.specs.Opening.{AreInOrder, AreRows, IsContentOf, AreNoContent, ShowsNoDesk, IsNoDesk, HasFailed, BlamesReading, open_fault_of}
 use Rattle.desk_tables.proofs.KeyOrderLemmas.{are_rows, are_tables}
 
 module _ {S : Type 0} (g : Ghosts S) where
@@ -31,21 +36,38 @@ module _ {S : Type 0} (g : Ghosts S) where
       subst IsDesk (sym before.now) (ready (omega (arith, rises, clean)) before.was_open)
 
   -- rows of no content are no desk's, also before what was kept
-  pub none_shown : (a b c : Held S) → IsKept g a b → IsKept g b c → doubt (state g b).is_clean ≤ doubt (state g c).is_clean
+  none_shown : (a b c : Held S) → IsKept g a b → IsReady g b → IsKept g b c → doubt (state g b).is_clean ≤ doubt (state g c).is_clean
       → (HasCleanDisk (state g c) → AreNoContent (tables_of (state g b).now.trees)) → ShowsNoDesk g a c
-  none_shown a b c one two rises none = λ clean live.
+  none_shown a b c one ready two rises none = λ clean live.
       let after = two clean live in
-      let before = one (omega (arith, rises, clean)) after.was_open in
-      subst IsNoDesk before.now (inr (none clean))
+      let was : HasCleanDisk (state g b) = omega (arith, rises, clean) in
+      let before = one was after.was_open in
+      subst IsNoDesk before.now (inr (record { desk = ready was after.was_open; none = none clean }))
 
-  pub none_of : {V : Type 0} (r : Result V OpenFault) (a b c : Held S) → IsKept g a b → IsKept g b c → doubt (state g b).is_clean ≤ doubt (state g c).is_clean
+  pub none_of : {V : Type 0} (r : Result V OpenFault) (a b c : Held S) → IsKept g a b → IsReady g b → IsKept g b c → doubt (state g b).is_clean ≤ doubt (state g c).is_clean
       → (HasCleanDisk (state g c) → IfErr r (λ e. e ≡ NotADesk → AreNoContent (tables_of (state g b).now.trees))) → IfErr r (λ e. e ≡ NotADesk → ShowsNoDesk g a c)
-  none_of (Ok v) a b c one two rises none = tt
-  none_of (Err e) a b c one two rises none = λ n. none_shown a b c one two rises (λ clean. none clean n)
+  none_of (Ok v) a b c one ready two rises none = tt
+  none_of (Err e) a b c one ready two rises none = λ n. none_shown a b c one ready two rises (λ clean. none clean n)
+
+  -- what SQLite refuses is told as a failure only if the disk failed or the steps did not do
+  failed_if : (a b c : Held S) (error : Error) → (state g a).faults ≤ (state g b).faults → b.step_limit ≡ a.step_limit → IsRefusal g b c error → open_fault_of error ≡ Store → HasFailed g a c
+  failed_if a b c error fewer limit (inl h) told = let e : open_fault_of (SqliteFailure code.OutOfMemory) ≡ Store = subst (λ x. open_fault_of x ≡ Store) h told in cc
+  failed_if a b c error fewer limit (inr (inl h)) told = inl (omega (arith, h, fewer))
+  failed_if a b c error fewer limit (inr (inr h)) told = inr (subst IsSome limit h.1)
+
+  pub blames_reading : (a b c : Held S) (error : Error) → (state g a).faults ≤ (state g b).faults → b.step_limit ≡ a.step_limit
+      → (HasCleanDisk (state g c) → IsTrue (state g c).is_open → IsRefusal g b c error) → BlamesReading g a c (open_fault_of error)
+  blames_reading a b c error fewer limit why clean live told = failed_if a b c error fewer limit (why clean live) told
 
 -- what is read in the order of its keys has the tables' content, or theirs is none
-pub tables_have : (t rows : Tables) (w v : World) → AreInOrder t rows → IsContent w → AreRows rows w → v ≡ w → IsContentOf t v
-tables_have t rows w v lists h are e = subst (IsContentOf t) (sym e) (record { content = h; tables = are_tables t rows w lists are })
-
-pub none_there : (t rows : Tables) → AreInOrder t rows → ((w : World) → IsContent w → AreRows rows w → ⊥) → AreNoContent t
+none_there : (t rows : Tables) → AreInOrder t rows → ((w : World) → IsContent w → AreRows rows w → ⊥) → AreNoContent t
 none_there t rows lists none = λ w h are. none w h (are_rows t rows w h are lists)
+
+module _ (t rows : Tables) {V : Type 0} where
+  pub have_content : (world : V → World) (r : Result V OpenFault) → AreInOrder t rows → IfOk r (λ v. IsContent (world v) × AreRows rows (world v)) → IfOk r (λ v. IsContentOf t (world v))
+  have_content world (Ok v) lists read = record { content = read.0; tables = are_tables t rows (world v) lists read.1 }
+  have_content world (Err e) lists read = tt
+
+  pub of_none : (r : Result V OpenFault) → AreInOrder t rows → IfErr r (λ e. e ≡ NotADesk → (w : World) → IsContent w → ¬ AreRows rows w) → IfErr r (λ e. e ≡ NotADesk → AreNoContent t)
+  of_none (Ok v) lists none = tt
+  of_none (Err e) lists none = λ n. none_there t rows lists (none n)

@@ -1,5 +1,6 @@
 -- What all rows of a desk's tables stand for, and what a store over a connection begins with.
-use Rattle.std.specs.Prelude.{◌≡◌, ◌≤◌, ℕ, ◌⊎◌, Bool, true, false, ◌&&◌, List, [], ◌∷◌, length, map, codes, IsTrue}
+use Rattle.std.specs.Prelude.{◌≡◌, ◌≤◌, ℕ, ◌⊎◌, Bool, true, false, ◌&&◌, List, [], ◌∷◌, length, map, codes}
+use Rattle.std.specs.Prelude.{if◌then◌else◌, IsSome, IsTrue}
 use Rattle.std.specs.List.{AllByRecursion}
 use Rattle.std.specs.List.Sorted.{IsStrictlySortedBy}
 use Rattle.std.specs.declared.cmp.Ordering.{Ordering}
@@ -8,6 +9,9 @@ use Rattle.sqlite_trees.specs.declared.store.Store.{Ghosts}
 use Rattle.sqlite_value.specs.declared.value.Value.{Value}
 use Rattle.sqlite_value.specs.declared.value.Value.TheVariants.{Null, Int, Real, Text, Blob}
 use Rattle.sqlite_value.specs.Order.{Row, column}
+use Rattle.sqlite.specs.declared.error.Error.{Error}
+use Rattle.sqlite.specs.declared.error.Error.TheVariants.{SqliteFailure}
+use Rattle.sqlite.specs.declared.error.ErrorCode.TheVariants as code
 use Rattle.sqlite.specs.Effect.{Database}
 use Rattle.sqlite.specs.State.{HasCleanDisk}
 use Rattle.sqlite.specs.Held.{Held, state}
@@ -15,11 +19,15 @@ use Rattle.desk_rules.specs.Limits.{max_plans}
 use Rattle.desk_sql.specs.Schema.{blank_schema}
 use Rattle.desk_sql.specs.Finding.{HasOthers}
 use Rattle.desk_sql.specs.Making.{HasEmpty}
-use Rattle.desk_sql.specs.Rows.{Tables, Lists, tables_of}
+use Rattle.desk_sql.specs.Rows.{IsDesk, Tables, Lists, tables_of}
+use Rattle.desk_sql.specs.Refusals.{HasDiskFailed, IsMisnumbered}
 use Rattle.desk_sql.specs.Effects.{ShowsAsBefore}
 use Rattle.desk_store.specs.World.{Filed, Listed, World, IsListed, text_cmp, listed_cmp, filed_cmp, rows_by}
-use Rattle.desk_tables.specs.Tables.{operator_row, operator_rows, plan_rows, volume_rows, AreSpanRows, AreTables}
+use Rattle.desk_tables.specs.Tables.{operator_row, operator_rows, plan_rows, volume_rows, AreSpanRows}
+use Rattle.desk_tables.specs.Tables.{AreTables}
 use Rattle.desk_tables.specs.Content.{IsContent}
+use Rattle.desk_tables.specs.declared.exact.RowFault.{RowFault}
+use Rattle.desk_tables.specs.declared.exact.RowFault.TheVariants as row
 use Rattle.desk_tables.specs.declared.open.OpenFault.{OpenFault}
 use Rattle.desk_tables.specs.declared.open.OpenFault.TheVariants.{OutOfMemory, Store, NotADesk}
 use Rattle.desk_tables.specs.Records.{IsOperator, IsFiled}
@@ -30,6 +38,19 @@ abbrev pub fault_text : OpenFault → List ℕ
 fault_text OutOfMemory = codes "out of memory"
 fault_text Store = codes "the database failed"
 fault_text NotADesk = codes "the tables are not a desk's"
+
+abbrev pub is_memory : Error → Bool
+is_memory (SqliteFailure code.OutOfMemory) = true
+is_memory _ = false
+
+-- what an error of SQLite makes an opening answer
+abbrev pub open_fault_of : Error → OpenFault
+open_fault_of error = if is_memory error then OutOfMemory else Store
+
+-- what rows that are not read make an opening answer
+abbrev pub refusal_of : RowFault → OpenFault
+refusal_of row.OutOfMemory = OutOfMemory
+refusal_of row.NoDesk = NotADesk
 
 -- ---- rows in the order of their keys
 
@@ -107,15 +128,41 @@ pub record WasFound {S : Type 0} (g : Ghosts S) (old new : Held S) (w : World) :
   pub standing : IsStanding g old w
   pub kept : ShowsAsBefore g old new
 
--- over a connection that is open and a clean disk, a store of this world begins
-abbrev pub BeginsWith : {S : Type 0} → Ghosts S → Held S → Held S → World → Type 0
-BeginsWith g old new w =
-    HasCleanDisk (state g new) → IsTrue (state g new).is_open → BeganBlank (state g old).now w ⊎ WasFound g old new w
+-- a desk's schema, and rows of no content
+pub record HasNoContent (db : Database) : Type 0 where
+  pub desk : IsDesk db
+  pub none : AreNoContent (tables_of db.trees)
 
 -- the schema is another than a desk's, or the rows are those of no content
 abbrev pub IsNoDesk : Database → Type 0
-IsNoDesk db = HasOthers db ⊎ AreNoContent (tables_of db.trees)
+IsNoDesk db = HasOthers db ⊎ HasNoContent db
 
--- what is shown is no desk's
-abbrev pub ShowsNoDesk : {S : Type 0} → Ghosts S → Held S → Held S → Type 0
-ShowsNoDesk g old new = HasCleanDisk (state g new) → IsTrue (state g new).is_open → IsNoDesk (state g old).now
+-- a desk's tables were to be made, or the rowids of a desk's are not those of a sound one
+abbrev pub IsUnmade : Database → Type 0
+IsUnmade db = HasEmpty blank_schema db ⊎ IsMisnumbered db
+
+module _ {S : Type 0} (g : Ghosts S) (old new : Held S) where
+  -- over a connection that is open and a clean disk, a store of this world begins
+  abbrev pub BeginsWith : World → Type 0
+  BeginsWith w =
+      HasCleanDisk (state g new) → IsTrue (state g new).is_open →
+      BeganBlank (state g old).now w ⊎ WasFound g old new w
+
+  -- what is shown is no desk's
+  abbrev pub ShowsNoDesk : Type 0
+  ShowsNoDesk = HasCleanDisk (state g new) → IsTrue (state g new).is_open → IsNoDesk (state g old).now
+
+  -- the disk failed meanwhile, or the connection allows a statement but few steps
+  abbrev pub HasFailed : Type 0
+  HasFailed = HasDiskFailed g old new ⊎ IsSome old.step_limit
+
+  -- why rows are not read
+  abbrev pub BlamesReading : OpenFault → Type 0
+  BlamesReading e =
+      HasCleanDisk (state g new) → IsTrue (state g new).is_open → e ≡ Store → HasFailed
+
+  -- why an opening tells that the database failed
+  abbrev pub BlamesDatabase : OpenFault → Type 0
+  BlamesDatabase e =
+      HasCleanDisk (state g new) → IsTrue (state g new).is_open → e ≡ Store →
+      HasFailed ⊎ IsUnmade (state g old).now

@@ -11,7 +11,8 @@ ghost use Rattle.desk_tables.specs.Tables.{id_text, plan_row, AreSpanRows};
 ghost use Rattle.desk_tables.specs.Content.{IsContent};
 ghost use Rattle.desk_tables.specs.Records.{IsFiled};
 ghost use Rattle.desk_tables.specs.Opening as spec;
-ghost use Rattle.desk_tables.specs.Opening.{AreOperatorRows, ArePlanRows, AreShared, AreAgreed, AreRows, is_below_first};
+ghost use Rattle.desk_tables.specs.Opening.{AreOperatorRows, ArePlanRows, AreShared, AreAgreed, AreRows};
+ghost use Rattle.desk_tables.specs.Opening.{is_below_first};
 
 use crate::exact::{FiledPlan, ListedOperator, RowFault, are_spans, filed_in, listed_in};
 use desk_rules::decide::MAX_PLANS;

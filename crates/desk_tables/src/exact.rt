@@ -1,7 +1,8 @@
 //! Rows read exactly: what an operator's row and the rows of a plan stand for, or that they are no
 //! desk's.
 
-ghost use Rattle.std.specs.Prelude.{◌≡◌, ◌≢◌, ◌≤◌, ◌↔◌, ◌++◌, ℕ, List, map, pos, IsTrue, IfOk, IfErr, MatchOption};
+ghost use Rattle.std.specs.Prelude.{◌≡◌, ◌≢◌, ◌≤◌, ◌↔◌, ◌++◌, ℕ, List, map, pos, IsTrue, IfOk, IfErr};
+ghost use Rattle.std.specs.Prelude.{MatchOption};
 ghost use Rattle.std.specs.List.{AllZip};
 ghost use Rattle.sqlite_value.specs.declared.value.Value.TheVariants.{Int, Text};
 ghost use Rattle.sqlite_value.specs.Order.{Row as Columns, column};
@@ -11,7 +12,8 @@ ghost use Rattle.desk_rules.specs.Name.{is_operator_name};
 ghost use Rattle.desk_store.specs.World.{Filed, Listed};
 ghost use Rattle.desk_tables.specs.Tables.{id_text, operator_row, volume_row, area_rows, ArePlanSpanRows};
 ghost use Rattle.desk_tables.specs.Reading.{IsVolumeAt};
-ghost use Rattle.desk_tables.specs.Records.{IsOperator, IsFiled, AreRowsOf, AreNumbersOf, IsKeyed, IsWindowAt, slab_row};
+ghost use Rattle.desk_tables.specs.Records.{IsOperator, IsFiled, AreRowsOf, AreNumbersOf, IsKeyed};
+ghost use Rattle.desk_tables.specs.Records.{IsWindowAt, slab_row};
 
 use crate::reading::{area_in, count_at, plan_in};
 use desk_rules::operator::Operator;

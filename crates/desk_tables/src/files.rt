@@ -2,7 +2,7 @@
 
 ghost use Rattle.std.specs.Prelude.{IfOk};
 ghost use Rattle.sqlite_wal.specs.Files.{image_at};
-ghost use Rattle.desk_tables.specs.Files.{OpensIn};
+ghost use Rattle.desk_tables.specs.Files.{OpensIn, FailsIn, no_files};
 
 use crate::open::OpenFault;
 use crate::store::SqliteStore;
@@ -22,7 +22,9 @@ impl<S: Start> SqliteStore<FileStore<FileFrom<S>>> {
         path: &str,
         start: S,
     ) -> Result<SqliteStore<FileStore<FileFrom<S>>>, OpenFault>
-        ensures { IfOk result (λ store. OpensIn (image_at S.Start) store.held store.world) }
+        ensures begins { IfOk result (λ store.
+            OpensIn (image_at S.Start) store.held store.world) }
+        ensures fault { FailsIn (image_at S.Start) result }
     {
         match Connection::open_from(rt, path, false, start) {
             Ok(connection) => match SqliteStore::adopt(rt.alloc(), connection) {
@@ -44,7 +46,10 @@ impl SqliteStore<FileStore<FileFrom<Unknown>>> {
     pub fn open(
         rt: &HostRuntime,
         path: &str,
-    ) -> Result<SqliteStore<FileStore<FileFrom<Unknown>>>, OpenFault> {
+    ) -> Result<SqliteStore<FileStore<FileFrom<Unknown>>>, OpenFault>
+        ensures begins { IfOk result (λ store. OpensIn no_files store.held store.world) }
+        ensures fault { FailsIn no_files result }
+    {
         SqliteStore::open_from(rt, path, Unknown)
     }
 }

@@ -1,19 +1,17 @@
 //! Stores of plans made over connections.
 
-ghost use Rattle.std.specs.Prelude.{◌≡◌, ◌≤◌, [], false, IfOk, IfErr};
+ghost use Rattle.std.specs.Prelude.{◌≡◌, ◌≤◌, [], false, IfOk, IfErr, MatchResult};
 ghost use Rattle.sqlite_trees.specs.View.{doubt};
 ghost use Rattle.sqlite.specs.Held.{state};
 ghost use Rattle.desk_sql.specs.Schema.{blank_schema};
 ghost use Rattle.desk_sql.specs.Making.{IsAt};
 ghost use Rattle.desk_sql.specs.Effects.{IsKept};
-ghost use Rattle.desk_tables.specs.Opening.{BeginsWith, ShowsNoDesk};
+ghost use Rattle.desk_tables.specs.Opening.{BeginsWith, ShowsNoDesk, BlamesDatabase};
 
 use crate::exact::RowFault;
 use crate::opening::{made_in, world_in};
-use crate::reading::fault_of;
 use crate::store::SqliteStore;
-use desk_store::StoreFault;
-use sqlite::{Connection, MemStore};
+use sqlite::{Connection, ErrorCode, MemStore};
 use sqlite_trees::store::Alter;
 use std::alloc::Global;
 use std::error::Error;
@@ -48,28 +46,27 @@ impl fmt::Display for OpenFault {
 impl Error for OpenFault {}
 
 impl From<sqlite::Error> for OpenFault {
-    ghost use Rattle.std.specs.Prelude.{◌≢◌};
-    ghost use Rattle.desk_tables.specs.declared.open.OpenFault.TheVariants.{NotADesk};
+    ghost use Rattle.std.specs.Prelude.{◌≡◌};
+    ghost use Rattle.desk_tables.specs.Opening.{open_fault_of};
 
-    ghost from_gives = { λ _ e. e ≢ NotADesk };
+    ghost from_gives = { λ error fault. fault ≡ open_fault_of error };
 
-    fn from(e: sqlite::Error) -> OpenFault {
-        match fault_of(e) {
-            StoreFault::OutOfMemory => OpenFault::OutOfMemory,
-            StoreFault::Store => OpenFault::Store,
+    fn from(error: sqlite::Error) -> OpenFault {
+        match error {
+            sqlite::Error::SqliteFailure(ErrorCode::OutOfMemory) => OpenFault::OutOfMemory,
+            _ => OpenFault::Store,
         }
     }
 }
 
 impl From<RowFault> for OpenFault {
     ghost use Rattle.std.specs.Prelude.{◌≡◌};
-    ghost use Rattle.desk_tables.specs.declared.exact.RowFault.TheVariants.{NoDesk};
-    ghost use Rattle.desk_tables.specs.declared.open.OpenFault.TheVariants.{NotADesk};
+    ghost use Rattle.desk_tables.specs.Opening.{refusal_of};
 
-    ghost from_gives = { λ fault e. e ≡ NotADesk → fault ≡ NoDesk };
+    ghost from_gives = { λ rows fault. fault ≡ refusal_of rows };
 
-    fn from(fault: RowFault) -> OpenFault {
-        match fault {
+    fn from(rows: RowFault) -> OpenFault {
+        match rows {
             RowFault::OutOfMemory => OpenFault::OutOfMemory,
             RowFault::NoDesk => OpenFault::NotADesk,
         }
@@ -121,9 +118,14 @@ impl<S: Alter> SqliteStore<S> {
             BeginsWith S.Store connection store.held store.world) }
         ensures none { IfErr result (λ refused. refused.fault ≡ OpenFault.NotADesk →
             ShowsNoDesk S.Store connection refused.connection) }
+        ensures cause { IfErr result (λ refused.
+            BlamesDatabase S.Store connection refused.connection refused.fault) }
         ensures kept { IfErr result (λ refused. IsKept S.Store connection refused.connection) }
-        ensures doubt { IfOk result (λ store. doubt (state S.Store connection).is_clean
-            ≤ doubt (state S.Store store.held).is_clean) }
+        ensures doubt { MatchResult result
+            (λ store. doubt (state S.Store connection).is_clean
+            ≤ doubt (state S.Store store.held).is_clean)
+            (λ refused. doubt (state S.Store connection).is_clean
+            ≤ doubt (state S.Store refused.connection).is_clean) }
     {
         match world_in(alloc, &mut connection) {
             Ok(kept) => Ok(SqliteStore::with(alloc, connection, kept)),

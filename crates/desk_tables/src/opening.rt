@@ -9,8 +9,10 @@ ghost use Rattle.desk_sql.specs.Making.{IsAt};
 ghost use Rattle.desk_sql.specs.Rows.{tables_of};
 ghost use Rattle.desk_sql.specs.Effects.{IsKept, IsReady};
 ghost use Rattle.desk_tables.specs.Store.{Stands};
-ghost use Rattle.desk_tables.specs.Opening.{AreInOrder, IsContentOf, AreNoContent};
-ghost use Rattle.desk_tables.specs.Opening.{BeginsWith, ShowsNoDesk};
+ghost use Rattle.desk_store.specs.World.{World};
+ghost use Rattle.desk_tables.specs.Content.{IsContent};
+ghost use Rattle.desk_tables.specs.Opening.{AreInOrder, AreRows, IsContentOf, AreNoContent};
+ghost use Rattle.desk_tables.specs.Opening.{BeginsWith, ShowsNoDesk, BlamesReading, BlamesDatabase};
 
 use crate::content::{TableRows, content_in};
 use crate::kept::Kept;
@@ -37,6 +39,7 @@ pub(crate) fn world_in<S: Alter>(
     ensures stands { IfOk result (λ kept. Stands S.Store connection.new kept.world) }
     ensures none { IfErr result (λ e. e ≡ OpenFault.NotADesk →
         ShowsNoDesk S.Store connection.old connection.new) }
+    ensures cause { IfErr result (BlamesDatabase S.Store connection.old connection.new) }
     ensures kept { OnErr result (IsKept S.Store connection.old connection.new) }
     ensures doubt { doubt (state S.Store connection.old).is_clean
         ≤ doubt (state S.Store connection.new).is_clean }
@@ -76,13 +79,24 @@ fn found_in<S: Alter>(alloc: Global, connection: &mut Connection<S>) -> Result<K
         AreNoContent (tables_of (state S.Store connection.old).now.trees)) }
     ensures open { HasCleanDisk (state S.Store connection.new) →
         OnOk result (IsTrue (state S.Store connection.old).is_open) }
+    ensures cause { IfErr result (BlamesReading S.Store connection.old connection.new) }
     ensures kept { IsKept S.Store connection.old connection.new }
     ensures mode { connection.new.in_transaction ≡ false }
     ensures doubt { doubt (state S.Store connection.old).is_clean
         ≤ doubt (state S.Store connection.new).is_clean }
 {
     let rows = rows_in(connection)?;
-    let content = content_in(alloc, &rows)?;
+    kept_of(alloc, &rows)
+}
+
+// The world whose rows these are.
+fn kept_of(alloc: Global, rows: &TableRows) -> Result<Kept, OpenFault>
+    ensures value { IfOk result (λ kept. IsContent kept.world × AreRows rows.now kept.world) }
+    ensures none { IfErr result (λ e. e ≡ OpenFault.NotADesk →
+        (w : World) → IsContent w → ¬ AreRows rows.now w) }
+    ensures fault { IfErr result (λ e. e ≢ OpenFault.Store) }
+{
+    let content = content_in(alloc, rows)?;
     Ok(Kept::of(&content))
 }
 
@@ -96,6 +110,7 @@ fn rows_in<S: Alter>(connection: &mut Connection<S>) -> Result<TableRows, OpenFa
     ensures open { HasCleanDisk (state S.Store connection.new) →
         OnOk result (IsTrue (state S.Store connection.old).is_open) }
     ensures fault { IfErr result (λ e. e ≢ OpenFault.NotADesk) }
+    ensures cause { IfErr result (BlamesReading S.Store connection.old connection.new) }
     ensures kept { IsKept S.Store connection.old connection.new }
     ensures mode { connection.new.in_transaction ≡ false }
     ensures doubt { doubt (state S.Store connection.old).is_clean

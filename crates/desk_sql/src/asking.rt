@@ -1,0 +1,34 @@
+ghost use Rattle.std.specs.Prelude.{◌≡◌, ◌≤◌, [], false, IfOk, IfErr, OnOk, IsTrue};
+ghost use Rattle.sqlite.specs.View.{doubt};
+ghost use Rattle.sqlite.specs.State.{HasCleanDisk, Shown};
+ghost use Rattle.sqlite.specs.Held.{state};
+ghost use Rattle.desk_sql.specs.Effects.{IsKept};
+ghost use Rattle.desk_sql.specs.Finding.{Holds, HasDeskSchema};
+ghost use Rattle.desk_sql.specs.Refusals.{IsSure, IsRefusal};
+
+use sqlite::{Alter, Connection, Error, Row};
+
+/// All rows of a query with no parameters, where the schema is a desk's. The rows of the tables stay,
+/// whatever is answered.
+pub(crate) fn ask<S: Alter>(connection: &mut Connection<S>, query: &str) -> Result<Vec<Row>, Error>
+    requires known { Holds S.Store connection.old HasDeskSchema }
+    requires settled { connection.old.in_transaction ≡ false }
+    requires sure { IsSure query.now }
+    ensures shown { HasCleanDisk (state S.Store connection.new)
+        → IfOk result (λ rows. Shown query.now [] (state S.Store connection.old)
+        (state S.Store connection.new) rows.items) }
+    ensures open { HasCleanDisk (state S.Store connection.new)
+        → OnOk result (IsTrue (state S.Store connection.old).is_open) }
+    ensures cause { HasCleanDisk (state S.Store connection.new)
+        → IsTrue (state S.Store connection.new).is_open
+        → IfErr result (IsRefusal S.Store connection.old connection.new) }
+    ensures kept { IsKept S.Store connection.old connection.new }
+    ensures mode { connection.new.in_transaction ≡ false }
+    ensures limit { connection.new.step_limit ≡ connection.old.step_limit }
+    ensures doubt { doubt (state S.Store connection.old).is_clean ≤ doubt
+        (state S.Store connection.new).is_clean }
+    ensures faults { (state S.Store connection.old).faults ≤ (state S.Store connection.new).faults }
+{
+    let _settled = connection.is_autocommit();
+    connection.query_all(query, &[])
+}
