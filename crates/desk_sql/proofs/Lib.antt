@@ -19,3 +19,4 @@ pub mod CountLemmas
 pub mod SchemaLemmas
 pub mod RowidLemmas
 pub mod ClearLemmas
+pub mod TakingLemmas

@@ -4,3 +4,4 @@ pub mod Effects
 pub mod Making
 pub mod Batches
 pub mod Finding
+pub mod Taking

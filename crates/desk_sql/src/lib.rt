@@ -13,6 +13,7 @@ mod reading;
 mod removing;
 mod run;
 mod setting;
+mod taking;
 mod writing;
 
 pub use changing::{clear_plans, close_plan, is_enrolled, put_operator, put_plan};
@@ -25,6 +26,7 @@ pub use reading::{
 };
 pub use removing::{remove_plan, remove_spans};
 pub use setting::{set_ceiling, set_closed};
+pub use taking::TakeRow;
 pub use writing::{
     PlanRow, SpanRow, VolumeRow, insert_operator, insert_plan, insert_span, insert_volume,
 };
