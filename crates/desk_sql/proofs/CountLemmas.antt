@@ -1,37 +1,112 @@
 -- How many plans an operator has.
-use Rattle.std.proofs.Common.{◌≡◌, ℕ, Bool, true, false, ◌&&◌, List, [], ◌∷◌, ◌∙◌, length, filter, subst, codes, refl}
+use Rattle.std.proofs.Common.{◌≡◌, ◌⊎◌, inl, inr, ℕ, Bool, true, false, ◌&&◌, ◌<◌, ◌≤◌, ◌^◌, pos, List, [], ◌∷◌, ◌∙◌, length, map, filter, min, ap, sym, subst, codes, refl, arith, Some, Result, Ok, Err, IfOk}
+use Rattle.std.specs.List.{AllZip}
+use Rattle.std.proofs.Math.Nat.{min-eq_left, min-eq_right, le_of_lt}
+use Rattle.std.proofs.lemmas.Bool.{cases_lt}
 use Rattle.std.specs.List.Sorted.{IsPermutation}
+use Rattle.std.proofs.lemmas.List.{length-map}
 use Rattle.std.proofs.lemmas.List.Sorted.{length_permutation}
 use Rattle.sqlite_tied.specs.Compute.{everything}
+use Rattle.sqlite_tied.specs.Listing.{count_rows, first_column}
 use Rattle.sqlite.specs.Listing.{understood}
 use Rattle.sqlite.specs.Collation.TheVariants.{Binary}
 use Rattle.sqlite.specs.Order.{Row, column}
-use Rattle.sqlite.specs.declared.types.Value.TheVariants.{Text}
-use Rattle.sqlite.specs.Term.{col, op2}
-use Rattle.sqlite.specs.Query.{Query, inner, end}
+use Rattle.sqlite.specs.declared.types.Value.{Value}
+use Rattle.sqlite.specs.declared.types.Value.TheVariants.{Int, Text, Null}
+use Rattle.sqlite.specs.declared.error.Error.{Error}
+use Rattle.sqlite.specs.Term.{Term, Env, lit, col, op2, eval, eval_all}
+use Rattle.sqlite.specs.Query.{Query, Output, output, inner, end, matches, IsAnswer}
+use Rattle.sqlite.specs.Program.{overlay}
+use Rattle.sqlite.specs.Tree.{Trees}
 use Rattle.sqlite_sql.specs.declared.ops.BinaryOp.TheVariants.{Compare}
 use Rattle.sqlite_sql.specs.declared.ops.CompareOp.TheVariants.{Eq}
+use Rattle.sqlite_sql.specs.declared.aggregate.AggregateOp.TheVariants.{CountRows}
+use Rattle.sqlite_sql.specs.Aggregate.{count}
+use Rattle.sqlite_sql.specs.Group.{Grouping, IsSummary, value_over}
 use Rattle.sqlite.specs.State.{State, Shown}
+use Rattle.sqlite.proofs.Callers.{one_permutation, reads_as}
+use Rattle.desk_sql.specs.Schema.{desk_schema}
 use Rattle.desk_sql.specs.Rows.{IsDesk, is_by, columns, tables_of}
-use Rattle.desk_sql.proofs.Texts.{plans_by_text}
+use Rattle.desk_sql.proofs.Texts.{count_plans_text}
 use Rattle.desk_sql.proofs.QueryTexts.{IsQuery, query_of}
-use Rattle.desk_sql.proofs.ReadLemmas.{shows, scanned, equals_text}
+use Rattle.desk_sql.proofs.ReadLemmas.{scanned, equals_text}
 
-abbrev pub plans_by_query : Query
-plans_by_query = query_of (inner 2 end) (op2 (Compare Eq Binary) (col 1 1) (col 0 0) ∷ []) (col 1 1 ∷ col 1 2 ∷ col 1 3 ∷ col 1 4 ∷ col 1 5 ∷ []) []
+abbrev by_operator : List Term
+by_operator = op2 (Compare Eq Binary) (col 1 1) (col 0 0) ∷ []
 
-pub plans_by_is : IsQuery plans_by_text plans_by_query (codes "operator" ∷ codes "id" ∷ codes "priority" ∷ codes "usage" ∷ codes "aircraft" ∷ [])
+abbrev pub count_plans_query : Query
+count_plans_query = record (query_of (inner 2 end) by_operator first_column []) { group = count_rows }
+
+pub count_plans_is : IsQuery count_plans_text count_plans_query (codes "COUNT(*)" ∷ [])
 unfolding understood everything
-plans_by_is = record { is = refl; plain = (refl, refl); unlisted = refl }
+count_plans_is = record { is = refl; plain = (refl, refl); unlisted = refl }
+
+-- ---- the one row
+
+abbrev by_count : Grouping
+by_count = record { keys = []; collations = []; aggregates = record { op = CountRows; distinct = false; collation = Binary; argument = lit Null } ∷ []; having = [] }
+
+one_value : (group : List Env) (values : Row) → AllZip (λ a v. value_over group a ≡ Some v) by_count.aggregates values → values ≡ count (length group) ∷ []
+one_value group [] h = absurd h
+one_value group (v ∷ []) h =
+    let is : v ≡ count (length (map (eval (lit Null)) group)) = cc in
+    ap (λ x. x ∷ []) (is ∙ ap count (length-map group (eval (lit Null))))
+one_value group (v ∷ w ∷ more) h = absurd h.1
+
+one_summary : (group : List Env) (rows : List Row) → AllZip (IsSummary by_count) (group ∷ []) rows → rows ≡ (count (length group) ∷ []) ∷ []
+one_summary group [] h = absurd h
+one_summary group (r ∷ []) h = let (values, are, is) = h.0 in ap (λ x. x ∷ []) (is ∙ one_value group values are)
+one_summary group (r ∷ s ∷ more) h = absurd h.1
+
+module _ (params : Row) (db : Trees) (rows : List Row) (a : IsAnswer count_plans_query db params rows) where
+  abbrev found : List Env
+  found = matches db by_operator (inner 2 end) (params ∷ [])
+
+  summed : a.grouped.rows ≡ (count (length found) ∷ []) ∷ []
+  summed =
+      let (order, same, are) = a.grouped.grouping in
+      let one = one_summary order a.grouped.rows (subst (λ gs. AllZip (IsSummary by_count) gs a.grouped.rows) are a.grouped.summaries) in
+      one ∙ ap (λ n. (count n ∷ []) ∷ []) (length_permutation found order same)
+
+  kept_one : a.kept ≡ ([], count (length found) ∷ []) ∷ []
+  kept_one = a.distinct ∙ ap (map (output count_plans_query)) (a.grouped.having ∙ ap (λ rs. filter (λ env. true) (map (λ r. params ∷ r ∷ []) rs)) summed)
+
+  counted : rows ≡ (count (length found) ∷ []) ∷ []
+  counted =
+      let one = one_permutation ([], count (length found) ∷ []) a.ordered (subst (λ k. IsPermutation k a.ordered) kept_one a.same) in
+      a.shown ∙ ap (λ os. map (λ (o : Output). o.1) os) one
 
 both_hold : (a : Bool) → (a && true) ≡ a
 both_hold true = refl
 both_hold false = refl
 
-pub plans_counted : (operator : List ℕ) (old new : State) (rows : List Row) → IsDesk old.now → Shown plans_by_text (Text operator ∷ []) old new rows
-    → length rows ≡ length (filter (is_by operator) (tables_of old.now.trees).plans)
+abbrev all_columns : List Term
+all_columns = col 1 1 ∷ col 1 2 ∷ col 1 3 ∷ col 1 4 ∷ col 1 5 ∷ []
+
+found_plans : (operator : List ℕ) (db : Trees) → length (matches (overlay db []) by_operator (inner 2 end) ((Text operator ∷ []) ∷ [])) ≡ length (filter (is_by operator) (tables_of db).plans)
+found_plans operator db =
+    let all = matches (overlay db []) by_operator (inner 2 end) ((Text operator ∷ []) ∷ []) in
+    sym (length-map all (eval_all all_columns))
+    ∙ ap length (scanned (λ r. (Text operator ∷ []) ∷ r ∷ []) by_operator all_columns (columns 5) (is_by operator) (λ r. refl) (λ r. both_hold _ ∙ equals_text (column r 1) operator) (db 2))
+
+-- the answer is one row, of the number of the operator's plans
+pub plans_counted : (operator : List ℕ) (old new : State) (rows : List Row) → IsDesk old.now → Shown count_plans_text (Text operator ∷ []) old new rows
+    → rows ≡ (count (length (filter (is_by operator) (tables_of old.now.trees).plans)) ∷ []) ∷ []
 plans_counted operator old new rows desk h =
-    length_permutation (filter (is_by operator) (tables_of old.now.trees).plans) rows
-    (subst (λ xs. IsPermutation xs rows)
-    (scanned (λ r. (Text operator ∷ []) ∷ r ∷ []) plans_by_query.filter plans_by_query.project (columns 5) (is_by operator) (λ r. refl) (λ r. both_hold _ ∙ equals_text (column r 1) operator) (old.now.trees 2))
-    (shows plans_by_text _ _ _ _ _ plans_by_is (Text operator ∷ []) old new rows desk.schema h))
+    let a = (reads_as count_plans_text (Text operator ∷ []) old new desk_schema desk.schema _ count_plans_is.is count_plans_is.plain count_plans_is.unlisted rows h).answer Null in
+    counted (Text operator ∷ []) (overlay old.now.trees []) rows a ∙ ap (λ n. (count n ∷ []) ∷ []) (found_plans operator old.now.trees)
+
+-- a count that fits 32 bits is exact
+exact_count : (n m : ℕ) → m < 2 ^ 32 → count n ≡ Int (pos m) → m ≡ n
+exact_count n m low is =
+    let least : min n 9223372036854775807 ≡ m = cc in
+    by_size (cases_lt 9223372036854775807 n) least
+  where
+    by_size : (9223372036854775807 < n) ⊎ (n ≤ 9223372036854775807) → min n 9223372036854775807 ≡ m → m ≡ n
+    by_size (inr h) e = sym e ∙ min-eq_left h
+    by_size (inl h) e = absurd (let most : m ≡ 9223372036854775807 = sym e ∙ min-eq_right (le_of_lt h) in omega (arith, low, most))
+
+pub count_if : (r : Result ℕ Error) (rows : List Row) (n : ℕ) → rows ≡ (count n ∷ []) ∷ [] → IfOk r (λ m. (v : Value) → rows ≡ (v ∷ []) ∷ [] → v ≡ Int (pos m)) → IfOk r (λ m. m < 2 ^ 32)
+    → IfOk r (λ m. m ≡ n)
+count_if (Ok m) rows n are reads low = exact_count n m low (reads (count n) are)
+count_if (Err e) rows n are reads low = tt

@@ -21,3 +21,4 @@ pub mod RowidLemmas
 pub mod ClearLemmas
 pub mod SureTexts
 pub mod AskLemmas
+pub mod TakingLemmas

@@ -54,7 +54,7 @@ failed_to_show old new text c params e None h = inl h.3
 failed_to_show old new text c params e (Some what) (inl h) = inl h.1
 failed_to_show old new text c params e (Some what) (inr h) = inr h.3
 
-failed : (text : List ℕ) (params : Row) (old new : State) (e : Error) → FailsToQuery text params old new e → IsUnchanged old new ⊎ IsRolledBack old new
+pub failed : (text : List ℕ) (params : Row) (old new : State) (e : Error) → FailsToQuery text params old new e → IsUnchanged old new ⊎ IsRolledBack old new
 unfolding FailsToQuery IsNotRun
 failed text params old new e (inl (inl h)) = inl h.1
 failed text params old new e (inl (inr h)) = inr h.3
@@ -64,7 +64,7 @@ module _ {S : Type 0} (g : Ghosts S) (old new : Held S) where
   if_unchanged : IsUnchanged (state g old) (state g new) → ShowsAsBefore g old new
   if_unchanged h = record { was_open = h.0.was_open; now = h.0.now_is; committed = h.0.committed_is }
 
-  if_either : (IsTrue (state g old).is_open → (state g old).now ≡ (state g old).committed) → IsTrue (state g new).is_open → IsUnchanged (state g old) (state g new) ⊎ IsRolledBack (state g old) (state g new) → ShowsAsBefore g old new
+  pub if_either : (IsTrue (state g old).is_open → (state g old).now ≡ (state g old).committed) → IsTrue (state g new).is_open → IsUnchanged (state g old) (state g new) ⊎ IsRolledBack (state g old) (state g new) → ShowsAsBefore g old new
   if_either settled live (inl h) = if_unchanged h
   if_either settled live (inr h) =
       let was = h.was_open live in

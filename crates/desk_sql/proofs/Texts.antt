@@ -67,8 +67,8 @@ remove_plan_text = codes "DELETE FROM plan WHERE operator = ?1 AND id = ?2"
 abbrev pub remove_spans_text : List ℕ
 remove_spans_text = codes "DELETE FROM span WHERE operator = ?1 AND id = ?2"
 
-abbrev pub plans_by_text : List ℕ
-plans_by_text = codes "SELECT operator, id, priority, usage, aircraft FROM plan WHERE operator = ?1"
+abbrev pub count_plans_text : List ℕ
+count_plans_text = codes "SELECT COUNT(*) FROM plan WHERE operator = ?1"
 
 abbrev pub operator_rowids_text : List ℕ
 operator_rowids_text = codes "SELECT rowid FROM operator ORDER BY rowid"

@@ -5,3 +5,4 @@ pub mod Making
 pub mod Batches
 pub mod Finding
 pub mod Refusals
+pub mod Taking

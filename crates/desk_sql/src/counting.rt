@@ -1,4 +1,6 @@
-ghost use Rattle.std.specs.Prelude.{◌≡◌, ◌≤◌, false, IfOk, filter, length, OnOk, IsTrue};
+ghost use Rattle.std.specs.Prelude.{◌≡◌, ◌≤◌, ◌<◌, ◌^◌, [], ◌∷◌, pos, false, IfOk, filter, length, OnOk, IsTrue};
+ghost use Rattle.sqlite.specs.declared.types.Value.{Value};
+ghost use Rattle.sqlite.specs.declared.types.Value.TheVariants.{Int};
 ghost use Rattle.sqlite.specs.View.{doubt};
 ghost use Rattle.sqlite.specs.State.{HasCleanDisk};
 ghost use Rattle.sqlite.specs.Held.{state};
@@ -6,10 +8,26 @@ ghost use Rattle.desk_sql.specs.Rows.{is_by, tables_of};
 ghost use Rattle.desk_sql.specs.Effects.{IsReady, IsKept};
 
 use crate::answer::answer;
-use sqlite::{Alter, Connection, Error, params};
+use sqlite::{Alter, Connection, Error, Row, params};
+
+// The number that is the only column of the only row.
+fn count_in(rows: &[Row]) -> Result<u32, Error>
+    ensures value { IfOk result (λ count.
+        (n : Value) → rows.now ≡ (n ∷ []) ∷ [] → n ≡ Int (pos count)) }
+    ensures small { IfOk result (λ count. count < 2 ^ 32) }
+{
+    match rows.first() {
+        Some(row) => row.get(0),
+        None => Err(Error::QueryReturnedNoRows),
+    }
+}
 
 /// How many plans an operator has.
-pub fn own_count<S: Alter>(connection: &mut Connection<S>, operator: &str) -> Result<usize, Error>
+///
+/// # Errors
+///
+/// What a query may fail with. Also `IntegralValueOutOfRange` if they are 2 ^ 32 or more.
+pub fn own_count<S: Alter>(connection: &mut Connection<S>, operator: &str) -> Result<u32, Error>
     requires ready { IsReady S.Store connection.old }
     requires settled { connection.old.in_transaction ≡ false }
     ensures value { HasCleanDisk (state S.Store connection.new)
@@ -25,8 +43,8 @@ pub fn own_count<S: Alter>(connection: &mut Connection<S>, operator: &str) -> Re
 {
     let rows = answer(
         connection,
-        "SELECT operator, id, priority, usage, aircraft FROM plan WHERE operator = ?1",
+        "SELECT COUNT(*) FROM plan WHERE operator = ?1",
         params![operator],
     )?;
-    Ok(rows.len())
+    count_in(&rows)
 }

@@ -14,6 +14,7 @@ mod reading;
 mod removing;
 mod run;
 mod setting;
+mod taking;
 mod whole;
 mod writing;
 
@@ -24,6 +25,7 @@ pub use making::make_tables;
 pub use reading::{operator_named, own_plans, plan_of, rivals, volumes_of};
 pub use removing::{remove_plan, remove_spans};
 pub use setting::{set_ceiling, set_closed};
+pub use taking::TakeRow;
 pub use whole::{all_operators, all_plans, all_spans, all_volumes};
 pub use writing::{
     PlanRow, SpanRow, VolumeRow, insert_operator, insert_plan, insert_span, insert_volume,

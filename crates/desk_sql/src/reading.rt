@@ -1,4 +1,5 @@
-ghost use Rattle.std.specs.Prelude.{◌≡◌, ◌≤◌, [], ◌∷◌, false, IfOk, OnOk, IsTrue, filter};
+ghost use Rattle.std.specs.Prelude.{◌≡◌, ◌≤◌, List, [], ◌∷◌, false, IfOk, OnOk, IsTrue, filter};
+ghost use Rattle.sqlite.specs.Order.{Row as Values};
 ghost use Rattle.sqlite.specs.View.{doubt};
 ghost use Rattle.sqlite.specs.State.{HasCleanDisk};
 ghost use Rattle.sqlite.specs.Held.{state};
@@ -6,6 +7,7 @@ ghost use Rattle.desk_sql.specs.Rows.{is_by, is_of, is_rival, tables_of, with_vo
 ghost use Rattle.desk_sql.specs.Effects.{IsReady, IsKept};
 
 use crate::answer::answer;
+use crate::taking::{TakeRow, hand_over};
 use sqlite::{Alter, Connection, Error, Row, params};
 
 /// The row `name`, `ceiling` of the operator with this name.
@@ -175,17 +177,23 @@ pub fn all_spans<S: Alter>(connection: &mut Connection<S>) -> Result<Vec<Row>, E
     )
 }
 
-/// Each plan of an operator with each of its volumes: the columns of `plan`, and then those of `volume`
-/// from `place` on. By id and place.
-pub fn own_plans<S: Alter>(
+/// Hands over, one at a time, each plan of an operator with each of its volumes: the columns of `plan`,
+/// and then those of `volume` from `place` on. By id and place.
+///
+/// # Errors
+///
+/// What a query or the taker may fail with.
+pub fn own_plans<S: Alter, T: TakeRow>(
     connection: &mut Connection<S>,
     operator: &str,
-) -> Result<Vec<Row>, Error>
+    taker: &mut T,
+) -> Result<(), Error>
     requires ready { IsReady S.Store connection.old }
     requires settled { connection.old.in_transaction ≡ false }
+    requires fresh { T.has_taken taker.old [] }
     ensures value { HasCleanDisk (state S.Store connection.new)
-        → IfOk result (λ rows. Lists (1 ∷ 5 ∷ []) (with_volumes (is_by operator.now) (tables_of
-        (state S.Store connection.old).now.trees)) rows.items) }
+        → OnOk result ((rows : List Values) × Lists (1 ∷ 5 ∷ []) (with_volumes (is_by operator.now)
+        (tables_of (state S.Store connection.old).now.trees)) rows × T.has_taken taker.new rows) }
     ensures open { HasCleanDisk (state S.Store connection.new)
         → OnOk result (IsTrue (state S.Store connection.old).is_open) }
     ensures kept { IsKept S.Store connection.old connection.new }
@@ -194,25 +202,33 @@ pub fn own_plans<S: Alter>(
         (state S.Store connection.new).is_clean }
     ensures faults { (state S.Store connection.old).faults ≤ (state S.Store connection.new).faults }
 {
-    answer(
+    hand_over(
         connection,
         "SELECT plan.operator, plan.id, plan.priority, plan.usage, plan.aircraft, volume.place, volume.lower, volume.upper, volume.start, volume.stop, volume.asked FROM plan JOIN volume ON volume.operator = plan.operator AND volume.id = plan.id WHERE plan.operator = ?1 ORDER BY plan.id, volume.place",
         params![operator],
+        taker,
     )
 }
 
-/// The same of each plan that is not closed, but for the plan of this operator with this id. By
-/// operator, id and place.
-pub fn rivals<S: Alter>(
+/// Hands over the same of each plan that is not closed, but for the plan of this operator with this id.
+/// By operator, id and place.
+///
+/// # Errors
+///
+/// What a query or the taker may fail with.
+pub fn rivals<S: Alter, T: TakeRow>(
     connection: &mut Connection<S>,
     operator: &str,
     id: &str,
-) -> Result<Vec<Row>, Error>
+    taker: &mut T,
+) -> Result<(), Error>
     requires ready { IsReady S.Store connection.old }
     requires settled { connection.old.in_transaction ≡ false }
+    requires fresh { T.has_taken taker.old [] }
     ensures value { HasCleanDisk (state S.Store connection.new)
-        → IfOk result (λ rows. Lists (0 ∷ 1 ∷ 5 ∷ []) (with_volumes (is_rival operator.now id.now)
-        (tables_of (state S.Store connection.old).now.trees)) rows.items) }
+        → OnOk result ((rows : List Values) × Lists (0 ∷ 1 ∷ 5 ∷ [])
+        (with_volumes (is_rival operator.now id.now)
+        (tables_of (state S.Store connection.old).now.trees)) rows × T.has_taken taker.new rows) }
     ensures open { HasCleanDisk (state S.Store connection.new)
         → OnOk result (IsTrue (state S.Store connection.old).is_open) }
     ensures kept { IsKept S.Store connection.old connection.new }
@@ -221,9 +237,10 @@ pub fn rivals<S: Alter>(
         (state S.Store connection.new).is_clean }
     ensures faults { (state S.Store connection.old).faults ≤ (state S.Store connection.new).faults }
 {
-    answer(
+    hand_over(
         connection,
         "SELECT plan.operator, plan.id, plan.priority, plan.usage, plan.aircraft, volume.place, volume.lower, volume.upper, volume.start, volume.stop, volume.asked FROM plan JOIN volume ON volume.operator = plan.operator AND volume.id = plan.id WHERE plan.usage <> 2 AND (plan.operator <> ?1 OR plan.id <> ?2) ORDER BY plan.operator, plan.id, volume.place",
         params![operator, id],
+        taker,
     )
 }

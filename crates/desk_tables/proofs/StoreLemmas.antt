@@ -1,5 +1,5 @@
 -- What stands after a query, and what its answer is of the world.
-use Rattle.std.proofs.Common.{◌≡◌, ℕ, pos, ◌≤◌, Bool, true, false, cond, List, [], ◌∷◌, map, Option, Some, None, Result, Ok, Err, IfOk, OnOk, refl, sym, ap, subst, ◌∙◌, arith, Less, Equal, Greater, IsPermutation, IsTrue}
+use Rattle.std.proofs.Common.{◌≡◌, ℕ, pos, ◌≤◌, Bool, true, false, cond, List, [], ◌∷◌, map, Option, Some, None, Result, Ok, Err, IfOk, IsOk, OnOk, refl, sym, ap, subst, ◌∙◌, arith, Less, Equal, Greater, IsPermutation, IsTrue}
 use Rattle.std.specs.List.{filter, find}
 use Rattle.std.specs.List.Sorted.{IsStrictlySortedBy}
 use Rattle.std.specs.Option.{option_map}
@@ -146,3 +146,9 @@ made_stands g old new mode done = record {
   settled = mode;
   standing = λ clean live. record { content = nothing_is_content; desk = (done clean).desk; tables = subst (λ t. AreTables t nothing) (sym (done clean).changed) nothing_has_no_rows };
 }
+
+-- what holds where something was taken to its end, of what is answered then alone
+pub on_whole : {V E F A : Type 0} (P : V → Type 0) (taken : Result (Unit {0}) E) (result : Result V F) → OnOk result (IsOk taken) → OnOk taken A → (A → IfOk result P) → IfOk result P
+on_whole P (Ok u) result whole holds gives = gives holds
+on_whole P (Err e) (Ok v) whole holds gives = cc
+on_whole P (Err e) (Err f) whole holds gives = tt

@@ -3,6 +3,7 @@ pub mod PlanRows
 pub mod Content
 pub mod TableChanges
 pub mod Reading
+pub mod Gathering
 pub mod Lookups
 pub mod Store
 pub mod Records

@@ -1,30 +1,33 @@
 //! What a store answers, read from its tables.
 
-ghost use Rattle.std.specs.Prelude.{◌≡◌, ◌≤◌, IfOk, IfSome, filter, length, map};
+ghost use Rattle.std.specs.Prelude.{◌≡◌, ◌≤◌, List, IfOk, IfSome, IsOk, OnOk, filter, length, map};
+ghost use Rattle.std.specs.List.{AllByRecursion};
 ghost use Rattle.sqlite_trees.specs.View.{doubt};
 ghost use Rattle.sqlite.specs.State.{HasCleanDisk};
 ghost use Rattle.sqlite.specs.Held.{state};
 ghost use Rattle.desk_rules.specs.Limits.{max_plans, max_priority};
-ghost use Rattle.desk_store.specs.World.{AreInOrder, ceiling_of, plans_of, stored_of};
+ghost use Rattle.desk_store.specs.World.{AreInOrder, Filed, ceiling_of, plans_of, stored_of};
 ghost use Rattle.desk_store.specs.Rows.{is_rival};
 ghost use Rattle.desk_store.specs.Rivals.{AreRivals};
 ghost use Rattle.desk_tables.specs.Tables.{plan_rows, volume_rows};
-ghost use Rattle.desk_tables.specs.Content.{IsContent};
+ghost use Rattle.desk_tables.specs.Content.{IsContent, IsPlan};
+ghost use Rattle.desk_tables.specs.Reading.{listing_rows};
+ghost use Rattle.desk_tables.specs.Gathering.{HasGathered};
 ghost use Rattle.desk_tables.specs.Lookups.{own_of};
 ghost use Rattle.desk_tables.specs.Store.{Stands};
 
 use crate::kept::Kept;
-use crate::listing::plans_in;
+use crate::listing::Gather;
 use crate::reading::{area_in, ceiling_in, fault_of, plan_in};
 use desk_rules::operator::Operator;
 use desk_rules::plan::PlanRow;
 use desk_rules::plan_id::PlanId;
 use desk_sql::{
-    operator_named, own_count as listing_length, own_plans as own_listing, plan_of,
+    operator_named, own_count as plan_count, own_plans as own_listing, plan_of,
     rivals as rival_listing, volumes_of,
 };
 use desk_store::{StoreFault, held_slabs};
-use sqlite::{Connection, Row};
+use sqlite::{Connection, Error, Row};
 use sqlite_trees::store::Alter;
 use std::alloc::Global;
 use volume4d::{Held, Slab};
@@ -134,6 +137,20 @@ pub(crate) fn plan<S: Alter>(
     Ok(Some(plan_in(head, area)?))
 }
 
+// The plans of a listing, if it was taken to its end.
+fn gathered(taken: Result<(), Error>, gather: Gather) -> Result<Vec<PlanRow>, StoreFault>
+    ensures whole { OnOk result (IsOk taken) }
+    ensures value { IfOk result (λ plans. (ps : List Filed)
+        → AllByRecursion (λ p. IsPlan p.row) ps
+        → HasGathered gather.plans.items gather.head gather.volumes.items (listing_rows ps)
+        → plans.items ≡ map (λ p. p.row) ps) }
+{
+    match taken {
+        Ok(()) => gather.finish(),
+        Err(e) => Err(fault_of(e)),
+    }
+}
+
 /// The operator's plans, at most 200, ascending by id, none twice.
 ///
 /// # Errors
@@ -157,10 +174,9 @@ pub(crate) fn own_plans<S: Alter>(
     ensures doubt { doubt (state S.Store connection.old).is_clean
         ≤ doubt (state S.Store connection.new).is_clean }
 {
-    match own_listing(connection, operator.as_str()) {
-        Ok(rows) => plans_in(alloc, &rows),
-        Err(e) => Err(fault_of(e)),
-    }
+    let mut gather = Gather::new(alloc);
+    let taken = own_listing(connection, operator.as_str(), &mut gather);
+    gathered(taken, gather)
 }
 
 /// How many plans the operator has.
@@ -180,13 +196,9 @@ pub(crate) fn own_count<S: Alter>(
     ensures doubt { doubt (state S.Store connection.old).is_clean
         ≤ doubt (state S.Store connection.new).is_clean }
 {
-    let count = match listing_length(connection, operator.as_str()) {
-        Ok(count) => count,
-        Err(e) => return Err(fault_of(e)),
-    };
-    match u32::try_from(count) {
+    match plan_count(connection, operator.as_str()) {
         Ok(count) => Ok(count),
-        Err(_) => Err(StoreFault::Store),
+        Err(e) => Err(fault_of(e)),
     }
 }
 
@@ -208,10 +220,9 @@ fn rival_plans<S: Alter>(
 {
     let mut buffer = [0u8; 36];
     let text = id.encode(&mut buffer);
-    match rival_listing(connection, operator.as_str(), text) {
-        Ok(rows) => plans_in(alloc, &rows),
-        Err(e) => Err(fault_of(e)),
-    }
+    let mut gather = Gather::new(alloc);
+    let taken = rival_listing(connection, operator.as_str(), text, &mut gather);
+    gathered(taken, gather)
 }
 
 /// The slabs that live plans but the operator's own of the id hold, of those of a priority at least,

@@ -1,6 +1,6 @@
 //! From rows to what they stand for.
 
-ghost use Rattle.std.specs.Prelude.{◌≡◌, ◌≢◌, ◌≤◌, ◌<◌, ◌^◌, ℕ, ℤ, List, pos, IsTrue, IsUtf8, FitsSigned, IfOk, IfErr};
+ghost use Rattle.std.specs.Prelude.{◌≡◌, ◌≢◌, ◌≤◌, ◌<◌, ◌^◌, ℕ, ℤ, List, [], pos, IsTrue, IsUtf8, FitsSigned, IfOk, IfErr};
 ghost use Rattle.std.specs.Int.{w32};
 ghost use Rattle.std.specs.List.{AllByRecursion, AllZip};
 ghost use Rattle.std.specs.String.{string_bytes};
@@ -15,6 +15,7 @@ ghost use Rattle.desk_tables.specs.Content.{IsId, IsBlock};
 ghost use Rattle.desk_tables.specs.Reading.{IsVolumeAt, IsHead};
 ghost use Rattle.desk_tables.specs.Lookups.{IsCeilingIn};
 ghost use Rattle.desk_tables.specs.Records.{AreNumbersOf};
+ghost use Rattle.desk_tables.specs.Gathering.{plan_with};
 
 use desk_rules::plan::PlanRow;
 use desk_rules::plan_id::PlanId;
@@ -207,6 +208,50 @@ fn aircraft_in(row: &Row) -> Result<Aircraft, StoreFault>
     }
 }
 
+/// A plan but for its area.
+#[derive(Clone, Copy)]
+pub(crate) struct Head {
+    id: PlanId,
+    priority: u32,
+    usage: Usage,
+    aircraft: Aircraft,
+}
+
+impl Head {
+    /// The plan, with its area.
+    pub(crate) fn with(self, area: Area) -> PlanRow
+        ensures { result ≡ plan_with self area }
+    {
+        PlanRow {
+            id: self.id,
+            priority: self.priority,
+            usage: self.usage,
+            aircraft: self.aircraft,
+            area,
+        }
+    }
+}
+
+/// What a row's columns from `operator` to `aircraft` say of a plan.
+///
+/// # Errors
+///
+/// `OutOfMemory` if memory runs out. `Store` if they are no plan's.
+pub(crate) fn head_in(row: &Row) -> Result<Head, StoreFault>
+    ensures value { IfOk result (λ head. (p : Plan) → IsId p.id → IsHead row.now p
+        → plan_with head p.area ≡ p) }
+    ensures is { IfOk result (λ head. IsId head.id × AreNumbersOf row.now (plan_with head [])) }
+    ensures none { IfErr result (λ e. e ≡ StoreFault.Store →
+        (p : Plan) → IsId p.id → p.priority < 2 ^ 32 → ¬ IsHead row.now p) }
+{
+    Ok(Head {
+        id: id_in(row)?,
+        priority: count_at(row, 2)?,
+        usage: usage_in(row)?,
+        aircraft: aircraft_in(row)?,
+    })
+}
+
 /// The plan of a row's columns from `operator` to `aircraft`, with an area.
 ///
 /// # Errors
@@ -220,13 +265,8 @@ pub(crate) fn plan_in(row: &Row, area: Area) -> Result<PlanRow, StoreFault>
     ensures none { IfErr result (λ e. e ≡ StoreFault.Store →
         (p : Plan) → IsId p.id → p.priority < 2 ^ 32 → ¬ IsHead row.now p) }
 {
-    Ok(PlanRow {
-        id: id_in(row)?,
-        priority: count_at(row, 2)?,
-        usage: usage_in(row)?,
-        aircraft: aircraft_in(row)?,
-        area,
-    })
+    let head = head_in(row)?;
+    Ok(head.with(area))
 }
 
 /// The ceiling in the row of an operator, or none where there is no row.

@@ -1,0 +1,123 @@
+//! Rows of an answer, handed over one at a time.
+
+ghost use Rattle.std.specs.Prelude.{◌≡◌, ◌≤◌, List, [], false, IfOk, OnOk, OnErr, IsTrue};
+ghost use Rattle.sqlite.specs.Order.{Row as Values};
+ghost use Rattle.sqlite.specs.Values.{bound};
+ghost use Rattle.sqlite.specs.View.{doubt};
+ghost use Rattle.sqlite.specs.State.{HasCleanDisk, IsUnchanged, Shown};
+ghost use Rattle.sqlite.specs.Held.{state};
+ghost use Rattle.sqlite.specs.Given.{IsPlain};
+ghost use Rattle.sqlite.specs.Listing.{understood};
+ghost use Rattle.desk_sql.specs.Schema.{desk_schema};
+ghost use Rattle.desk_sql.specs.Effects.{IsReady, IsKept};
+ghost use Rattle.desk_sql.specs.Taking.{HandsOver, HandsAll, IsLeft};
+
+use sqlite::{Alter, Connection, Error, ErrorCode, Row, Rows};
+use sqlite_value::value::ValueRef;
+
+/// What takes the rows of an answer, one at a time.
+pub trait TakeRow {
+    ghost use Rattle.std.specs.Prelude.{List, [], ◌∷◌, ◌++◌};
+    ghost use Rattle.sqlite.specs.Order.{Row};
+
+    /// Whether these rows were taken, in this order.
+    ghost has_taken: { Self → List Row → Type 0 };
+
+    /// Takes the next row.
+    ///
+    /// # Errors
+    ///
+    /// `OutOfMemory` if memory runs out, and another if the row is none that is expected here.
+    fn take(&mut self, row: &Row) -> Result<(), Error>
+        ensures { OnOk result ((rows : List Row) → has_taken self.old rows
+            → has_taken self.new (rows ++ row.now ∷ [])) };
+}
+
+/// Hands over the next row, if there is one.
+fn hand_next<S: Alter, T: TakeRow>(rows: &mut Rows<'_, S>, taker: &mut T) -> Result<bool, Error>
+    ensures same_reference { rows.new.conn.ghost_name ≡ rows.old.conn.ghost_name }
+    ensures handed { HasCleanDisk (state S.Store rows.new.conn.now) → IfOk result
+        (HandsOver S.Store rows.old.conn.now rows.new.conn.now (T.has_taken taker.old)
+        (T.has_taken taker.new)) }
+    ensures same { HasCleanDisk (state S.Store rows.new.conn.now)
+        → OnOk result (IsUnchanged (state S.Store rows.old.conn.now)
+        (state S.Store rows.new.conn.now)) }
+    ensures left { HasCleanDisk (state S.Store rows.new.conn.now)
+        → OnErr result (IsLeft S.Store rows.old.conn.now rows.new.conn.now) }
+    ensures mode { rows.old.conn.now.in_transaction ≡ false
+        → rows.new.conn.now.in_transaction ≡ false }
+    ensures doubt { doubt (state S.Store rows.old.conn.now).is_clean ≤ doubt
+        (state S.Store rows.new.conn.now).is_clean }
+    ensures faults { (state S.Store rows.old.conn.now).faults
+        ≤ (state S.Store rows.new.conn.now).faults }
+{
+    rows.advance()?;
+    match rows.get() {
+        Some(row) => {
+            taker.take(row)?;
+            Ok(true)
+        }
+        None => Ok(false),
+    }
+}
+
+/// Hands over each row that is left.
+///
+/// # Errors
+///
+/// What a query or the taker may fail with.
+fn hand_all<S: Alter, T: TakeRow>(rows: &mut Rows<'_, S>, taker: &mut T) -> Result<(), Error>
+    requires { HasCleanDisk (state S.Store rows.old.conn.now)
+        → IsTrue (state S.Store rows.old.conn.now).is_open }
+    ensures same_reference { rows.new.conn.ghost_name ≡ rows.old.conn.ghost_name }
+    ensures handed { HasCleanDisk (state S.Store rows.new.conn.now) → OnOk result
+        (HandsAll S.Store rows.old.conn.now rows.new.conn.now (T.has_taken taker.old)
+        (T.has_taken taker.new)) }
+    ensures left { HasCleanDisk (state S.Store rows.new.conn.now)
+        → IsLeft S.Store rows.old.conn.now rows.new.conn.now }
+    ensures mode { rows.old.conn.now.in_transaction ≡ false
+        → rows.new.conn.now.in_transaction ≡ false }
+    ensures doubt { doubt (state S.Store rows.old.conn.now).is_clean ≤ doubt
+        (state S.Store rows.new.conn.now).is_clean }
+    ensures faults { (state S.Store rows.old.conn.now).faults
+        ≤ (state S.Store rows.new.conn.now).faults }
+{
+    for _ in 0..u64::MAX {
+        if !hand_next(rows, taker)? {
+            return Ok(());
+        }
+    }
+    Err(Error::SqliteFailure(ErrorCode::TooBig))
+}
+
+/// Hands over each row of a query's answer. The rows of the tables stay, whatever is answered.
+///
+/// # Errors
+///
+/// What a query or the taker may fail with.
+pub(crate) fn hand_over<S: Alter, T: TakeRow>(
+    connection: &mut Connection<S>,
+    query: &str,
+    params: &[ValueRef<'_>],
+    taker: &mut T,
+) -> Result<(), Error>
+    requires ready { IsReady S.Store connection.old }
+    requires settled { connection.old.in_transaction ≡ false }
+    requires plain { IsPlain (understood desk_schema query.now) }
+    requires fresh { T.has_taken taker.old [] }
+    ensures shown { HasCleanDisk (state S.Store connection.new)
+        → OnOk result ((rows : List Values) × Shown query.now (bound params.now)
+        (state S.Store connection.old) (state S.Store connection.new) rows
+        × T.has_taken taker.new rows) }
+    ensures open { HasCleanDisk (state S.Store connection.new)
+        → OnOk result (IsTrue (state S.Store connection.old).is_open) }
+    ensures kept { IsKept S.Store connection.old connection.new }
+    ensures mode { connection.new.in_transaction ≡ false }
+    ensures doubt { doubt (state S.Store connection.old).is_clean ≤ doubt
+        (state S.Store connection.new).is_clean }
+    ensures faults { (state S.Store connection.old).faults ≤ (state S.Store connection.new).faults }
+{
+    let _settled = connection.is_autocommit();
+    let mut rows = connection.query(query, params)?;
+    hand_all(&mut rows, taker)
+}

@@ -1,0 +1,44 @@
+-- Plans that are gathered from the rows of a listing, one row after the other.
+use Rattle.std.specs.Prelude.{◌≡◌, ◌≤◌, List, [], ◌∷◌, ◌++◌, length, map, Option, Some, None}
+use Rattle.std.specs.List.{AllByRecursion}
+use Rattle.sqlite_value.specs.Order.{Row}
+use Rattle.volume4d.specs.Volume.{Block}
+use Rattle.desk_rules.specs.declared.plan.PlanRow.{PlanRow}
+use Rattle.desk_store.specs.World.{Filed}
+use Rattle.desk_tables.specs.declared.reading.Head.{Head}
+use Rattle.desk_tables.specs.Content.{IsPlan}
+use Rattle.desk_tables.specs.Reading.{joined_from, listing_rows}
+
+-- the plan that is this but for its area
+abbrev pub plan_with : Head → List Block → PlanRow
+plan_with head area =
+    record { id = head.id; priority = head.priority; usage = head.usage; aircraft = head.aircraft; area = area }
+
+-- the plans that are whole, and the one under way, as if no volume of it were left
+abbrev pub closed_plans : List PlanRow → Option Head → List Block → List PlanRow
+closed_plans plans None volumes = plans
+closed_plans plans (Some head) volumes = plans ++ plan_with head volumes ∷ []
+
+-- the plan under way is the first of some whose other rows are left; with the plans before it they
+-- are all plans
+pub record IsUnderWay (plans : List PlanRow) (head : Head) (volumes : List Block) (left : List Row) (all : List PlanRow) : Type 0 where
+  pub plan : Filed
+  pub rest : List Block
+  pub more : List Filed
+  pub begun : 1 ≤ length volumes
+  pub area : volumes ++ rest ≡ plan.row.area
+  pub row : plan_with head plan.row.area ≡ plan.row
+  pub each : AllByRecursion (λ p. IsPlan p.row) (plan ∷ more)
+  pub rows : left ≡ joined_from plan (length volumes) rest ++ listing_rows more
+  pub whole : plans ++ map (λ p. p.row) (plan ∷ more) ≡ all
+
+-- what is gathered and the rows that are left make these plans
+abbrev pub Leads : List PlanRow → Option Head → List Block → List Row → List Filed → Type 0
+Leads plans None volumes left ps = (plans ≡ []) × (left ≡ listing_rows ps)
+Leads plans (Some head) volumes left ps = IsUnderWay plans head volumes left (map (λ p. p.row) ps)
+
+-- whatever plans these are the first rows of a listing of: what is gathered leads to them
+abbrev pub HasGathered : List PlanRow → Option Head → List Block → List Row → Type 0
+HasGathered plans head volumes rows =
+    (ps : List Filed) (left : List Row) → AllByRecursion (λ p. IsPlan p.row) ps → rows ++ left ≡ listing_rows ps
+    → Leads plans head volumes left ps
