@@ -35,28 +35,6 @@ pub fn operator_named<S: Alter>(
     )
 }
 
-/// The rows `name`, `ceiling` of all operators, by name.
-pub fn all_operators<S: Alter>(connection: &mut Connection<S>) -> Result<Vec<Row>, Error>
-    requires ready { IsReady S.Store connection.old }
-    requires settled { connection.old.in_transaction ≡ false }
-    ensures value { HasCleanDisk (state S.Store connection.new)
-        → IfOk result (λ rows. Lists (0 ∷ []) ((tables_of
-        (state S.Store connection.old).now.trees).operators) rows.items) }
-    ensures open { HasCleanDisk (state S.Store connection.new)
-        → OnOk result (IsTrue (state S.Store connection.old).is_open) }
-    ensures kept { IsKept S.Store connection.old connection.new }
-    ensures mode { connection.new.in_transaction ≡ false }
-    ensures doubt { doubt (state S.Store connection.old).is_clean ≤ doubt
-        (state S.Store connection.new).is_clean }
-    ensures faults { (state S.Store connection.old).faults ≤ (state S.Store connection.new).faults }
-{
-    answer(
-        connection,
-        "SELECT name, ceiling FROM operator ORDER BY name",
-        &[],
-    )
-}
-
 /// The row `operator`, `id`, `priority`, `usage`, `aircraft` of the plan of this operator with this id.
 pub fn plan_of<S: Alter>(
     connection: &mut Connection<S>,
@@ -83,28 +61,6 @@ pub fn plan_of<S: Alter>(
     )
 }
 
-/// The rows `operator`, `id`, `priority`, `usage`, `aircraft` of all plans, by operator and id.
-pub fn all_plans<S: Alter>(connection: &mut Connection<S>) -> Result<Vec<Row>, Error>
-    requires ready { IsReady S.Store connection.old }
-    requires settled { connection.old.in_transaction ≡ false }
-    ensures value { HasCleanDisk (state S.Store connection.new)
-        → IfOk result (λ rows. Lists (0 ∷ 1 ∷ []) ((tables_of
-        (state S.Store connection.old).now.trees).plans) rows.items) }
-    ensures open { HasCleanDisk (state S.Store connection.new)
-        → OnOk result (IsTrue (state S.Store connection.old).is_open) }
-    ensures kept { IsKept S.Store connection.old connection.new }
-    ensures mode { connection.new.in_transaction ≡ false }
-    ensures doubt { doubt (state S.Store connection.old).is_clean ≤ doubt
-        (state S.Store connection.new).is_clean }
-    ensures faults { (state S.Store connection.old).faults ≤ (state S.Store connection.new).faults }
-{
-    answer(
-        connection,
-        "SELECT operator, id, priority, usage, aircraft FROM plan ORDER BY operator, id",
-        &[],
-    )
-}
-
 /// The rows `operator`, `id`, `place`, `lower`, `upper`, `start`, `stop`, `asked` of the volumes of a
 /// plan, by place.
 pub fn volumes_of<S: Alter>(
@@ -127,53 +83,9 @@ pub fn volumes_of<S: Alter>(
 {
     answer(
         connection,
-        "SELECT operator, id, place, lower, upper, start, stop, asked FROM volume WHERE operator = ?1 AND id = ?2 ORDER BY place",
+        "SELECT operator, id, place, lower, upper, start, stop, asked FROM volume \
+        WHERE operator = ?1 AND id = ?2 ORDER BY place",
         params![operator, id],
-    )
-}
-
-/// The rows of all volumes, with the columns of `volumes_of`, by operator, id and place.
-pub fn all_volumes<S: Alter>(connection: &mut Connection<S>) -> Result<Vec<Row>, Error>
-    requires ready { IsReady S.Store connection.old }
-    requires settled { connection.old.in_transaction ≡ false }
-    ensures value { HasCleanDisk (state S.Store connection.new)
-        → IfOk result (λ rows. Lists (0 ∷ 1 ∷ 2 ∷ []) ((tables_of
-        (state S.Store connection.old).now.trees).volumes) rows.items) }
-    ensures open { HasCleanDisk (state S.Store connection.new)
-        → OnOk result (IsTrue (state S.Store connection.old).is_open) }
-    ensures kept { IsKept S.Store connection.old connection.new }
-    ensures mode { connection.new.in_transaction ≡ false }
-    ensures doubt { doubt (state S.Store connection.old).is_clean ≤ doubt
-        (state S.Store connection.new).is_clean }
-    ensures faults { (state S.Store connection.old).faults ≤ (state S.Store connection.new).faults }
-{
-    answer(
-        connection,
-        "SELECT operator, id, place, lower, upper, start, stop, asked FROM volume ORDER BY operator, id, place",
-        &[],
-    )
-}
-
-/// The rows `operator`, `id`, `place`, `first`, `last`, `lower`, `upper`, `start`, `stop`, `priority`
-/// of all spans, by operator, id, place and first.
-pub fn all_spans<S: Alter>(connection: &mut Connection<S>) -> Result<Vec<Row>, Error>
-    requires ready { IsReady S.Store connection.old }
-    requires settled { connection.old.in_transaction ≡ false }
-    ensures value { HasCleanDisk (state S.Store connection.new)
-        → IfOk result (λ rows. Lists (0 ∷ 1 ∷ 2 ∷ 3 ∷ []) ((tables_of
-        (state S.Store connection.old).now.trees).spans) rows.items) }
-    ensures open { HasCleanDisk (state S.Store connection.new)
-        → OnOk result (IsTrue (state S.Store connection.old).is_open) }
-    ensures kept { IsKept S.Store connection.old connection.new }
-    ensures mode { connection.new.in_transaction ≡ false }
-    ensures doubt { doubt (state S.Store connection.old).is_clean ≤ doubt
-        (state S.Store connection.new).is_clean }
-    ensures faults { (state S.Store connection.old).faults ≤ (state S.Store connection.new).faults }
-{
-    answer(
-        connection,
-        "SELECT operator, id, place, first, last, lower, upper, start, stop, priority FROM span ORDER BY operator, id, place, first",
-        &[],
     )
 }
 
@@ -204,7 +116,10 @@ pub fn own_plans<S: Alter, T: TakeRow>(
 {
     hand_over(
         connection,
-        "SELECT plan.operator, plan.id, plan.priority, plan.usage, plan.aircraft, volume.place, volume.lower, volume.upper, volume.start, volume.stop, volume.asked FROM plan JOIN volume ON volume.operator = plan.operator AND volume.id = plan.id WHERE plan.operator = ?1 ORDER BY plan.id, volume.place",
+        "SELECT plan.operator, plan.id, plan.priority, plan.usage, plan.aircraft, volume.place, \
+        volume.lower, volume.upper, volume.start, volume.stop, volume.asked FROM plan JOIN volume \
+        ON volume.operator = plan.operator AND volume.id = plan.id WHERE plan.operator = ?1 \
+        ORDER BY plan.id, volume.place",
         params![operator],
         taker,
     )
@@ -239,7 +154,10 @@ pub fn rivals<S: Alter, T: TakeRow>(
 {
     hand_over(
         connection,
-        "SELECT plan.operator, plan.id, plan.priority, plan.usage, plan.aircraft, volume.place, volume.lower, volume.upper, volume.start, volume.stop, volume.asked FROM plan JOIN volume ON volume.operator = plan.operator AND volume.id = plan.id WHERE plan.usage <> 2 AND (plan.operator <> ?1 OR plan.id <> ?2) ORDER BY plan.operator, plan.id, volume.place",
+        "SELECT plan.operator, plan.id, plan.priority, plan.usage, plan.aircraft, volume.place, \
+        volume.lower, volume.upper, volume.start, volume.stop, volume.asked FROM plan JOIN volume \
+        ON volume.operator = plan.operator AND volume.id = plan.id WHERE plan.usage <> 2 \
+        AND (plan.operator <> ?1 OR plan.id <> ?2) ORDER BY plan.operator, plan.id, volume.place",
         params![operator, id],
         taker,
     )

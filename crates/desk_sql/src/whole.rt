@@ -82,7 +82,8 @@ pub fn all_volumes<S: Alter>(connection: &mut Connection<S>) -> Result<Vec<Row>,
 {
     ask(
         connection,
-        "SELECT operator, id, place, lower, upper, start, stop, asked FROM volume ORDER BY operator, id, place",
+        "SELECT operator, id, place, lower, upper, start, stop, asked FROM volume \
+        ORDER BY operator, id, place",
     )
 }
 
@@ -108,6 +109,7 @@ pub fn all_spans<S: Alter>(connection: &mut Connection<S>) -> Result<Vec<Row>, E
 {
     ask(
         connection,
-        "SELECT operator, id, place, first, last, lower, upper, start, stop, priority FROM span ORDER BY operator, id, place, first",
+        "SELECT operator, id, place, first, last, lower, upper, start, stop, priority FROM span \
+        ORDER BY operator, id, place, first",
     )
 }
