@@ -1,5 +1,7 @@
 -- A store's own faults, and doubt of what it answers.
-use Rattle.std.specs.Prelude.{◌≡◌, ℕ, ◌<◌, ◌-◌, ◌^◌}
+use Rattle.std.specs.Prelude.{◌≡◌, ℕ, ◌<◌, ◌-◌, ◌^◌, List, codes}
+use Rattle.desk_store.specs.declared.fault.StoreFault.{StoreFault}
+use Rattle.desk_store.specs.declared.fault.StoreFault.TheVariants.{OutOfMemory, Store}
 
 -- no doubt is on a store: what it answers is what its content has
 abbrev pub IsHonest : ℕ → Type 0
@@ -8,3 +10,8 @@ IsHonest doubt = doubt ≡ 0
 -- a count of 64 bits rose, or had come to its last value, at which it stays
 abbrev pub HasRisen : ℕ → ℕ → Type 0
 HasRisen old new = new < 2 ^ 64 - 1 → old < new
+
+-- the fault as a sentence
+abbrev pub fault_text : StoreFault → List ℕ
+fault_text OutOfMemory = codes "out of memory"
+fault_text Store = codes "the store failed"

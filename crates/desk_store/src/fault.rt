@@ -14,11 +14,16 @@ pub enum StoreFault {
 }
 
 impl fmt::Display for StoreFault {
+    ghost use Rattle.std.specs.Prelude.{Some};
+    ghost use Rattle.desk_store.specs.Faults.{fault_text};
+
+    ghost output = { λ fault. Some (fault_text fault) };
+
     fn fmt<W: fmt::Write>(&self, f: &mut fmt::Formatter<W>) -> fmt::Result {
-        match self {
-            StoreFault::OutOfMemory => write!(f, "out of memory"),
-            StoreFault::Store => write!(f, "the store failed"),
-        }
+        f.pad(match self {
+            StoreFault::OutOfMemory => "out of memory",
+            StoreFault::Store => "the store failed",
+        })
     }
 }
 

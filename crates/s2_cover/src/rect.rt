@@ -46,6 +46,11 @@ pub enum RectFault {
 }
 
 impl fmt::Display for RectFault {
+    ghost use Rattle.std.specs.Prelude.{Some};
+    ghost use Rattle.s2_cover.specs.Faults.{rect_fault_text};
+
+    ghost output = { λ fault. Some (rect_fault_text fault) };
+
     fn fmt<W: fmt::Write>(&self, f: &mut fmt::Formatter<W>) -> fmt::Result {
         f.pad(match self {
             RectFault::Face => "a face is 0 to 5",

@@ -35,6 +35,11 @@ pub enum CoverFault {
 }
 
 impl fmt::Display for CoverFault {
+    ghost use Rattle.std.specs.Prelude.{Some};
+    ghost use Rattle.s2_cover.specs.Faults.{cover_fault_text};
+
+    ghost output = { λ fault. Some (cover_fault_text fault) };
+
     fn fmt<W: fmt::Write>(&self, f: &mut fmt::Formatter<W>) -> fmt::Result {
         f.pad(match self {
             CoverFault::TooManyCells { .. } => "the cover has too many cells",

@@ -15,3 +15,4 @@ pub mod Meeting
 pub mod Shared
 pub mod LevelLaws
 pub mod VolumeLaws
+pub mod Faults

@@ -19,6 +19,11 @@ pub enum VolumeFault {
 }
 
 impl fmt::Display for VolumeFault {
+    ghost use Rattle.std.specs.Prelude.{Some};
+    ghost use Rattle.volume4d.specs.Faults.{volume_fault_text};
+
+    ghost output = { λ fault. Some (volume_fault_text fault) };
+
     fn fmt<W: fmt::Write>(&self, f: &mut fmt::Formatter<W>) -> fmt::Result {
         f.pad(match self {
             VolumeFault::Cells => "a cell list has 1 to 64 cells",

@@ -30,6 +30,11 @@ pub enum WindowFault {
 }
 
 impl fmt::Display for WindowFault {
+    ghost use Rattle.std.specs.Prelude.{Some};
+    ghost use Rattle.volume4d.specs.Faults.{window_fault_text};
+
+    ghost output = { λ fault. Some (window_fault_text fault) };
+
     fn fmt<W: fmt::Write>(&self, f: &mut fmt::Formatter<W>) -> fmt::Result {
         f.pad(match self {
             WindowFault::Altitude => "altitudes are -10000 <= lower < upper <= 200000 decimetres",
