@@ -12,7 +12,13 @@ use Rattle.desk_tables.specs.Reading.{joined_from, listing_rows}
 -- the plan that is this but for its area
 abbrev pub plan_with : Head → List Block → PlanRow
 plan_with head area =
-    record { id = head.id; priority = head.priority; usage = head.usage; aircraft = head.aircraft; area = area }
+    record {
+      id = head.id;
+      priority = head.priority;
+      usage = head.usage;
+      aircraft = head.aircraft;
+      area = area;
+    }
 
 -- the plans that are whole, and the one under way, as if no volume of it were left
 abbrev pub closed_plans : List PlanRow → Option Head → List Block → List PlanRow
@@ -21,7 +27,8 @@ closed_plans plans (Some head) volumes = plans ++ plan_with head volumes ∷ []
 
 -- the plan under way is the first of some whose other rows are left; with the plans before it they
 -- are all plans
-pub record IsUnderWay (plans : List PlanRow) (head : Head) (volumes : List Block) (left : List Row) (all : List PlanRow) : Type 0 where
+pub record IsUnderWay (plans : List PlanRow) (head : Head) (volumes : List Block)
+    (left : List Row) (all : List PlanRow) : Type 0 where
   pub plan : Filed
   pub rest : List Block
   pub more : List Filed
@@ -40,5 +47,5 @@ Leads plans (Some head) volumes left ps = IsUnderWay plans head volumes left (ma
 -- whatever plans these are the first rows of a listing of: what is gathered leads to them
 abbrev pub HasGathered : List PlanRow → Option Head → List Block → List Row → Type 0
 HasGathered plans head volumes rows =
-    (ps : List Filed) (left : List Row) → AllByRecursion (λ p. IsPlan p.row) ps → rows ++ left ≡ listing_rows ps
-    → Leads plans head volumes left ps
+    (ps : List Filed) (left : List Row) → AllByRecursion (λ p. IsPlan p.row) ps
+    → rows ++ left ≡ listing_rows ps → Leads plans head volumes left ps
