@@ -1,4 +1,5 @@
-ghost use Rattle.std.specs.Prelude.{◌≡◌, ◌≤◌, ◌<◌, ◌^◌, [], ◌∷◌, pos, false, IfOk, filter, length, OnOk, IsTrue};
+ghost use Rattle.std.specs.Prelude.{◌≡◌, ◌≤◌, ◌<◌, ◌^◌, [], ◌∷◌, pos, filter, length};
+ghost use Rattle.std.specs.Prelude.{false, IfOk, OnOk, IsTrue};
 ghost use Rattle.sqlite.specs.declared.types.Value.{Value};
 ghost use Rattle.sqlite.specs.declared.types.Value.TheVariants.{Int};
 ghost use Rattle.sqlite.specs.View.{doubt};

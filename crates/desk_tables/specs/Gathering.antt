@@ -27,8 +27,8 @@ closed_plans plans (Some head) volumes = plans ++ plan_with head volumes ∷ []
 
 -- the plan under way is the first of some whose other rows are left; with the plans before it they
 -- are all plans
-pub record IsUnderWay (plans : List PlanRow) (head : Head) (volumes : List Block) (left : List Row)
-    (all : List PlanRow) : Type 0 where
+pub record IsUnderWay (plans : List PlanRow) (head : Head) (volumes : List Block)
+    (left : List Row) (all : List PlanRow) : Type 0 where
   pub plan : Filed
   pub rest : List Block
   pub more : List Filed

@@ -1,6 +1,7 @@
 //! From rows to what they stand for.
 
-ghost use Rattle.std.specs.Prelude.{◌≡◌, ◌≢◌, ◌≤◌, ◌<◌, ◌^◌, ℕ, ℤ, List, [], pos, IsTrue, IsUtf8, FitsSigned, IfOk, IfErr};
+ghost use Rattle.std.specs.Prelude.{◌≡◌, ◌≢◌, ◌≤◌, ◌<◌, ◌^◌, ℕ, ℤ, List, [], pos};
+ghost use Rattle.std.specs.Prelude.{IsTrue, IsUtf8, FitsSigned, IfOk, IfErr};
 ghost use Rattle.std.specs.Int.{w32};
 ghost use Rattle.std.specs.List.{AllByRecursion, AllZip};
 ghost use Rattle.std.specs.String.{string_bytes};
