@@ -127,7 +127,8 @@ pub fn volumes_of<S: Alter>(
 {
     answer(
         connection,
-        "SELECT operator, id, place, lower, upper, start, stop, asked FROM volume WHERE operator = ?1 AND id = ?2 ORDER BY place",
+        "SELECT operator, id, place, lower, upper, start, stop, asked FROM volume \
+         WHERE operator = ?1 AND id = ?2 ORDER BY place",
         params![operator, id],
     )
 }
@@ -149,7 +150,8 @@ pub fn all_volumes<S: Alter>(connection: &mut Connection<S>) -> Result<Vec<Row>,
 {
     answer(
         connection,
-        "SELECT operator, id, place, lower, upper, start, stop, asked FROM volume ORDER BY operator, id, place",
+        "SELECT operator, id, place, lower, upper, start, stop, asked FROM volume \
+         ORDER BY operator, id, place",
         &[],
     )
 }
@@ -172,7 +174,8 @@ pub fn all_spans<S: Alter>(connection: &mut Connection<S>) -> Result<Vec<Row>, E
 {
     answer(
         connection,
-        "SELECT operator, id, place, first, last, lower, upper, start, stop, priority FROM span ORDER BY operator, id, place, first",
+        "SELECT operator, id, place, first, last, lower, upper, start, stop, priority FROM span \
+         ORDER BY operator, id, place, first",
         &[],
     )
 }
@@ -204,7 +207,10 @@ pub fn own_plans<S: Alter, T: TakeRow>(
 {
     hand_over(
         connection,
-        "SELECT plan.operator, plan.id, plan.priority, plan.usage, plan.aircraft, volume.place, volume.lower, volume.upper, volume.start, volume.stop, volume.asked FROM plan JOIN volume ON volume.operator = plan.operator AND volume.id = plan.id WHERE plan.operator = ?1 ORDER BY plan.id, volume.place",
+        "SELECT plan.operator, plan.id, plan.priority, plan.usage, plan.aircraft, volume.place, \
+         volume.lower, volume.upper, volume.start, volume.stop, volume.asked \
+         FROM plan JOIN volume ON volume.operator = plan.operator AND volume.id = plan.id \
+         WHERE plan.operator = ?1 ORDER BY plan.id, volume.place",
         params![operator],
         taker,
     )
@@ -239,7 +245,11 @@ pub fn rivals<S: Alter, T: TakeRow>(
 {
     hand_over(
         connection,
-        "SELECT plan.operator, plan.id, plan.priority, plan.usage, plan.aircraft, volume.place, volume.lower, volume.upper, volume.start, volume.stop, volume.asked FROM plan JOIN volume ON volume.operator = plan.operator AND volume.id = plan.id WHERE plan.usage <> 2 AND (plan.operator <> ?1 OR plan.id <> ?2) ORDER BY plan.operator, plan.id, volume.place",
+        "SELECT plan.operator, plan.id, plan.priority, plan.usage, plan.aircraft, volume.place, \
+         volume.lower, volume.upper, volume.start, volume.stop, volume.asked \
+         FROM plan JOIN volume ON volume.operator = plan.operator AND volume.id = plan.id \
+         WHERE plan.usage <> 2 AND (plan.operator <> ?1 OR plan.id <> ?2) \
+         ORDER BY plan.operator, plan.id, volume.place",
         params![operator, id],
         taker,
     )
