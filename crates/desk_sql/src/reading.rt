@@ -185,7 +185,7 @@ pub fn all_spans<S: Alter>(connection: &mut Connection<S>) -> Result<Vec<Row>, E
 ///
 /// # Errors
 ///
-/// What a query or the taker may fail with.
+/// What a query or the taker may fail with. Nothing is said of what the taker has taken then.
 pub fn own_plans<S: Alter, T: TakeRow>(
     connection: &mut Connection<S>,
     operator: &str,
@@ -221,7 +221,7 @@ pub fn own_plans<S: Alter, T: TakeRow>(
 ///
 /// # Errors
 ///
-/// What a query or the taker may fail with.
+/// What a query or the taker may fail with. Nothing is said of what the taker has taken then.
 pub fn rivals<S: Alter, T: TakeRow>(
     connection: &mut Connection<S>,
     operator: &str,
