@@ -84,7 +84,7 @@ pub fn volumes_of<S: Alter>(
     answer(
         connection,
         "SELECT operator, id, place, lower, upper, start, stop, asked FROM volume \
-        WHERE operator = ?1 AND id = ?2 ORDER BY place",
+         WHERE operator = ?1 AND id = ?2 ORDER BY place",
         params![operator, id],
     )
 }
@@ -94,7 +94,7 @@ pub fn volumes_of<S: Alter>(
 ///
 /// # Errors
 ///
-/// What a query or the taker may fail with.
+/// What a query or the taker may fail with. Nothing is said of what the taker has taken then.
 pub fn own_plans<S: Alter, T: TakeRow>(
     connection: &mut Connection<S>,
     operator: &str,
@@ -117,9 +117,9 @@ pub fn own_plans<S: Alter, T: TakeRow>(
     hand_over(
         connection,
         "SELECT plan.operator, plan.id, plan.priority, plan.usage, plan.aircraft, volume.place, \
-        volume.lower, volume.upper, volume.start, volume.stop, volume.asked FROM plan JOIN volume \
-        ON volume.operator = plan.operator AND volume.id = plan.id WHERE plan.operator = ?1 \
-        ORDER BY plan.id, volume.place",
+         volume.lower, volume.upper, volume.start, volume.stop, volume.asked \
+         FROM plan JOIN volume ON volume.operator = plan.operator AND volume.id = plan.id \
+         WHERE plan.operator = ?1 ORDER BY plan.id, volume.place",
         params![operator],
         taker,
     )
@@ -130,7 +130,7 @@ pub fn own_plans<S: Alter, T: TakeRow>(
 ///
 /// # Errors
 ///
-/// What a query or the taker may fail with.
+/// What a query or the taker may fail with. Nothing is said of what the taker has taken then.
 pub fn rivals<S: Alter, T: TakeRow>(
     connection: &mut Connection<S>,
     operator: &str,
@@ -155,9 +155,10 @@ pub fn rivals<S: Alter, T: TakeRow>(
     hand_over(
         connection,
         "SELECT plan.operator, plan.id, plan.priority, plan.usage, plan.aircraft, volume.place, \
-        volume.lower, volume.upper, volume.start, volume.stop, volume.asked FROM plan JOIN volume \
-        ON volume.operator = plan.operator AND volume.id = plan.id WHERE plan.usage <> 2 \
-        AND (plan.operator <> ?1 OR plan.id <> ?2) ORDER BY plan.operator, plan.id, volume.place",
+         volume.lower, volume.upper, volume.start, volume.stop, volume.asked \
+         FROM plan JOIN volume ON volume.operator = plan.operator AND volume.id = plan.id \
+         WHERE plan.usage <> 2 AND (plan.operator <> ?1 OR plan.id <> ?2) \
+         ORDER BY plan.operator, plan.id, volume.place",
         params![operator, id],
         taker,
     )
