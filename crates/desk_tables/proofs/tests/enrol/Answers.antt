@@ -3,4 +3,4 @@ use Rattle.desk_tables.proofs.tests.enrol.Goals as goal
 
 pub apply-requires : goal.apply-requires
 unfolding IsFitting
-apply-requires c = λ honest. c.if-ceiling-le1000.true
+apply-requires g c = λ honest. c.if-ceiling-le1000.true

@@ -7,7 +7,7 @@ use Rattle.desk_tables.proofs.tests.put.Goals as goal
 
 pub apply-requires : goal.apply-requires
 unfolding IsFitting
-apply-requires c = λ honest.
+apply-requires g c = λ honest.
     let o = c.args.operator in
     let counted = c.in_ok-own_count.ensures.value honest in
     let listed = c.in_ok-ceiling.ensures.value (was_honest c.own_count.ensures.doubt honest) in
