@@ -7,35 +7,9 @@ ghost use Rattle.sqlite.specs.Given.{IsPlain};
 ghost use Rattle.sqlite.specs.Listing.{understood};
 ghost use Rattle.desk_sql.specs.Schema.{desk_schema};
 ghost use Rattle.desk_sql.specs.Effects.{IsReady, IsKept};
-ghost use Rattle.desk_sql.specs.Finding.{Holds, HasDeskSchema};
 
 use sqlite::{Alter, Connection, Error, Row};
 use sqlite_value::value::ValueRef;
-
-/// All rows of a query's answer, where the schema is a desk's. The rows of the tables stay, whatever is
-/// answered.
-pub(crate) fn answer_by_schema<S: Alter>(
-    connection: &mut Connection<S>,
-    query: &str,
-    params: &[ValueRef<'_>],
-) -> Result<Vec<Row>, Error>
-    requires known { Holds S.Store connection.old HasDeskSchema }
-    requires settled { connection.old.in_transaction ≡ false }
-    requires plain { IsPlain (understood desk_schema query.now) }
-    ensures shown { HasCleanDisk (state S.Store connection.new)
-        → IfOk result (λ rows. Shown query.now (bound params.now) (state S.Store connection.old)
-        (state S.Store connection.new) rows.items) }
-    ensures open { HasCleanDisk (state S.Store connection.new)
-        → OnOk result (IsTrue (state S.Store connection.old).is_open) }
-    ensures kept { IsKept S.Store connection.old connection.new }
-    ensures mode { connection.new.in_transaction ≡ false }
-    ensures doubt { doubt (state S.Store connection.old).is_clean ≤ doubt
-        (state S.Store connection.new).is_clean }
-    ensures faults { (state S.Store connection.old).faults ≤ (state S.Store connection.new).faults }
-{
-    let _settled = connection.is_autocommit();
-    connection.query_all(query, params)
-}
 
 /// All rows of a query's answer. The rows of the tables stay, whatever is answered.
 pub(crate) fn answer<S: Alter>(
@@ -57,5 +31,6 @@ pub(crate) fn answer<S: Alter>(
         (state S.Store connection.new).is_clean }
     ensures faults { (state S.Store connection.old).faults ≤ (state S.Store connection.new).faults }
 {
-    answer_by_schema(connection, query, params)
+    let _settled = connection.is_autocommit();
+    connection.query_all(query, params)
 }
