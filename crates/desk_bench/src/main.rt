@@ -1,28 +1,46 @@
-//! Times a PUT among plans that are far apart, and a list of the first operator's plans, through `answer`
-//! over a list in memory. In the crate's folder: `rt run -- PLANS CELLS VOLUMES`, the number of plans, of
-//! cells of each volume and of volumes of each plan, 1 if it is left out. The nanoseconds go to standard
-//! error, and the number of requests that were completed and of plans that were listed to standard output.
+//! Times a PUT among plans that are far apart, and a list of the first operator's plans, through `answer`.
+//! In the crate's folder: `rt run -- STORE PLANS CELLS VOLUMES`, where plans are kept, and the number of
+//! plans, of cells of each volume and of volumes of each plan, 1 if it is left out. STORE is `list`, a list
+//! in memory, `tables`, tables of SQLite in memory, or `file PATH`, tables in a database that is best new.
+//! The nanoseconds go to standard error, and the number of requests that were completed and of plans that
+//! were listed to standard output.
 #![tactic(auto)]
 
+mod keeping;
 mod requests;
 mod timing;
 
-use desk_store::ListStore;
+use desk_store::{ListStore, PlanStore};
+use desk_tables::SqliteStore;
+use keeping::Keeping;
 use requests::{Requests, Sizes};
 use std::env;
 use timing::{Times, desk_of, time_list, time_puts};
 
 fn main(rt: HostRuntime) -> anyhow::Result<()> {
-    let sizes = Sizes::read(env::args(&rt)?)?;
-    let times = time_all(&rt, sizes)?;
-    times.print(&rt, sizes)
+    let mut words = env::args(&rt)?;
+    let keeping = Keeping::read(&mut words)?;
+    let sizes = Sizes::read(&mut words)?;
+    let requests = Requests::make(rt.alloc(), sizes)?;
+    time_at(&rt, &keeping, &requests)?.print(&rt, sizes)
 }
 
-// Files plans of these sizes at a desk, files the last ones again, and lists the first operator's.
-fn time_all(rt: &HostRuntime, sizes: Sizes) -> anyhow::Result<Times> {
-    let alloc = rt.alloc();
-    let requests = Requests::make(alloc, sizes)?;
-    let mut desk = desk_of(alloc, ListStore::new(alloc), requests.operators())?;
+// Times the requests at a desk that keeps its plans in the place named.
+fn time_at(rt: &HostRuntime, keeping: &Keeping, requests: &Requests) -> anyhow::Result<Times> {
+    match keeping {
+        Keeping::List => time_all(rt, ListStore::new(rt.alloc()), requests),
+        Keeping::Tables => time_all(rt, SqliteStore::in_memory(rt.alloc())?, requests),
+        Keeping::File(path) => time_all(rt, SqliteStore::open(rt, path)?, requests),
+    }
+}
+
+// Files all plans at a desk over a store, files the last ones again, and lists the first operator's.
+fn time_all<S: PlanStore + Drop>(
+    rt: &HostRuntime,
+    store: S,
+    requests: &Requests,
+) -> anyhow::Result<Times> {
+    let mut desk = desk_of(rt.alloc(), store, requests.operators())?;
     Ok(Times {
         filing: time_puts(rt, &mut desk, requests.texts())?,
         change: time_puts(rt, &mut desk, requests.last_texts())?,

@@ -25,11 +25,10 @@ pub struct Sizes {
 }
 
 impl Sizes {
-    /// The numbers that the words after the program's name give: plans, cells, and volumes, 1 if that is
-    /// left out.
-    pub fn read(mut words: env::Args) -> anyhow::Result<Sizes> {
+    /// The numbers that the next words give: plans, cells, and volumes, 1 if that is left out.
+    pub fn read(words: &mut env::Args) -> anyhow::Result<Sizes> {
         Ok(Sizes {
-            plans: number_in(words.nth(1)).context("PLANS")?,
+            plans: number_in(words.next()).context("PLANS")?,
             cells: number_in(words.next()).context("CELLS")?,
             volumes: match words.next() {
                 None => 1,

@@ -11,6 +11,8 @@ ghost use Rattle.uss_desk.specs.Lines.{AreEnrolments, HasDesk, IsLine, IsPlay, m
 ghost use Rattle.uss_desk.specs.Playing.{IsEnrolled, IsLinePlayed, IsNotPlayed, IsPlayed, status_after};
 
 #[cfg(test)]
+mod kept_tests;
+#[cfg(test)]
 mod tests;
 
 use crate::failure::{Failure, conclude};
