@@ -5,6 +5,7 @@ ghost use Rattle.sqlite.specs.State.{HasCleanDisk, KeepsCommit};
 ghost use Rattle.sqlite.specs.Held.{state};
 ghost use Rattle.desk_sql.specs.Batches.{volume_of, span_of, AddsVolumes, AddsSpans, RemovesPlans, IsUnderWay};
 ghost use Rattle.desk_sql.specs.Effects.{IsReady, Makes};
+ghost use Rattle.desk_sql.specs.Rows.{RemovesPlan};
 
 use crate::removing::remove_plan;
 use crate::writing::{SpanRow, VolumeRow, insert_span, insert_volume};
@@ -80,7 +81,29 @@ pub fn remove_plans<S: Alter>(
         (state S.Store tx.new.conn.now).faults }
 {
     'ids: for id in ids {
-        remove_plan(tx, operator, id)?;
+        remove_one(tx, operator, id)?;
     }
     Ok(())
+}
+
+// Removes the plan of an id, which is a text of its own.
+fn remove_one<S: Alter>(
+    tx: &mut Transaction<'_, S>,
+    operator: &str,
+    id: &String,
+) -> Result<(), Error>
+    requires ready { IsReady S.Store tx.old.conn.now }
+    ensures same_reference { tx.new.conn.ghost_name ≡ tx.old.conn.ghost_name }
+    ensures done { HasCleanDisk (state S.Store tx.new.conn.now)
+        → OnOk result (Makes S.Store tx.old.conn.now tx.new.conn.now
+        (RemovesPlan operator.now (string_bytes id.now))) }
+    ensures undone { HasCleanDisk (state S.Store tx.new.conn.now)
+        → OnErr result (KeepsCommit (state S.Store tx.old.conn.now)
+        (state S.Store tx.new.conn.now)) }
+    ensures doubt { doubt (state S.Store tx.old.conn.now).is_clean ≤ doubt
+        (state S.Store tx.new.conn.now).is_clean }
+    ensures faults { (state S.Store tx.old.conn.now).faults ≤
+        (state S.Store tx.new.conn.now).faults }
+{
+    remove_plan(tx, operator, id)
 }

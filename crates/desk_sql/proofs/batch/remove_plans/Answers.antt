@@ -13,8 +13,8 @@ pub ids-preserved : goal.ids-preserved
 ids-preserved g c =
     let ids = c.args.ids.now in
     let at = c.ids.id-index in (
-      c.remove_plan.ensures.same_reference ∙ c.ids.invariant.0,
-      goes_on g.S.Store c.args.tx.now.conn.now c.ids.tx.conn.now c.remove_plan.new.tx.conn.now (RemovesPlans c.args.operator.now (map string_bytes (take at ids))) (RemovesPlan c.args.operator.now c.deref.result.now) (RemovesPlans c.args.operator.now (map string_bytes (take (at + 1) ids)))
-          (one_removed c.args.operator.now (map string_bytes (take at ids)) c.deref.result.now (map string_bytes (take (at + 1) ids)) (map_more string_bytes ids at _ c.ids-test.true ∙ ap (λ id. map string_bytes (take at ids) ++ id ∷ []) (sym (c.deref.ensures ∙ ap string_bytes c.id-item.is))))
-          c.ids.invariant.1 c.remove_plan.ensures.doubt c.remove_plan.ensures.faults c.in_ok-remove_plan.ensures.done,
+      c.remove_one.ensures.same_reference ∙ c.ids.invariant.0,
+      goes_on g.S.Store c.args.tx.now.conn.now c.ids.tx.conn.now c.remove_one.new.tx.conn.now (RemovesPlans c.args.operator.now (map string_bytes (take at ids))) (RemovesPlan c.args.operator.now (string_bytes c.id-item.result)) (RemovesPlans c.args.operator.now (map string_bytes (take (at + 1) ids)))
+          (one_removed c.args.operator.now (map string_bytes (take at ids)) _ (map string_bytes (take (at + 1) ids)) (map_more string_bytes ids at _ c.ids-test.true ∙ ap (λ id. map string_bytes (take at ids) ++ id ∷ []) (sym (ap string_bytes c.id-item.is))))
+          c.ids.invariant.1 c.remove_one.ensures.doubt c.remove_one.ensures.faults c.in_ok-remove_one.ensures.done,
     )
