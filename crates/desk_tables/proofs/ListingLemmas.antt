@@ -141,18 +141,17 @@ none_stored o id w heads are none = by_found (find (is_own o id) w.plans) (sym a
   by_found None e = refl
   by_found (Some p) e = cc
 
-pub plan_stored : (o id : List ℕ) (w : World) (heads rows rest : List Row) (head : Row) (area : List Block) (plan : PlanRow) → IsContent w → heads ≡ plan_rows (own_of o id w) → rows ≡ volume_rows (own_of o id w) → heads ≡ head ∷ rest
-    → ((vs : List Block) → AllByRecursion IsBlock vs → AllZip (λ r v. IsVolumeAt r 3 v) rows vs → area ≡ vs)
-    → ((p : PlanRow) → IsId p.id → IsHead head p → area ≡ p.area → plan ≡ p) → Some plan ≡ stored_of id (plans_of o w)
+pub plan_stored : (o id : List ℕ) (w : World) (heads rows rest : List Row) (head : Row) (plan : PlanRow) → IsContent w → heads ≡ plan_rows (own_of o id w) → rows ≡ volume_rows (own_of o id w) → heads ≡ head ∷ rest
+    → ((p : PlanRow) → IsId p.id → IsHead head p → AllByRecursion IsBlock p.area → AllZip (λ r v. IsVolumeAt r 3 v) rows p.area → plan ≡ p) → Some plan ≡ stored_of id (plans_of o w)
 unfolding stored_of
-plan_stored o id w heads rows rest head area plan h are volumes some read_area read_plan =
+plan_stored o id w heads rows rest head plan h are volumes some read =
     by_found (find (is_own o id) w.plans) (own_is_plan o id w.plans h.rows) (sym some ∙ are) volumes ∙ sym (found_own o id w.plans) where
       by_found : (found : Option Filed) → ArePlans (one_or_none found) → head ∷ rest ≡ plan_rows (one_or_none found) → rows ≡ volume_rows (one_or_none found) → Some plan ≡ option_map (λ p. p.row) found
       by_found None hp e f = cc
       by_found (Some p) hp e f =
           let is : head ≡ plan_row p = cc in
-          let area_is = read_area p.row.area hp.0.each (subst (λ xs. AllZip (λ r v. IsVolumeAt r 3 v) xs p.row.area) (sym (f ∙ append-nil (area_rows p))) (area_read p 0 p.row.area)) in
-          ap Some (read_plan p.row hp.0.id (subst (λ r. IsHead r p.row) (sym is) (head_read p)) area_is)
+          ap Some (read p.row hp.0.id (subst (λ r. IsHead r p.row) (sym is) (head_read p)) hp.0.each
+          (subst (λ xs. AllZip (λ r v. IsVolumeAt r 3 v) xs p.row.area) (sym (f ∙ append-nil (area_rows p))) (area_read p 0 p.row.area)))
 
 pub none_first : (rows : List Row) → ◌≡◌ {A = Option Row} None (slice_get rows 0) → rows ≡ []
 none_first [] e = refl

@@ -1,17 +1,18 @@
 //! What a store answers, read from its tables.
 
 ghost use Rattle.std.specs.Prelude.{◌≡◌, ◌≤◌, List, IfOk, IfSome, IsOk, OnOk, filter, length, map};
-ghost use Rattle.std.specs.List.{AllByRecursion};
+ghost use Rattle.std.specs.List.{AllByRecursion, AllZip};
 ghost use Rattle.sqlite_trees.specs.View.{doubt};
 ghost use Rattle.sqlite.specs.State.{HasCleanDisk};
 ghost use Rattle.sqlite.specs.Held.{state};
 ghost use Rattle.desk_rules.specs.Limits.{max_plans, max_priority};
+ghost use Rattle.desk_rules.specs.declared.plan.PlanRow.{PlanRow as Plan};
 ghost use Rattle.desk_store.specs.World.{AreInOrder, Filed, ceiling_of, plans_of, stored_of};
 ghost use Rattle.desk_store.specs.Rows.{is_rival};
 ghost use Rattle.desk_store.specs.Rivals.{AreRivals};
 ghost use Rattle.desk_tables.specs.Tables.{plan_rows, volume_rows};
-ghost use Rattle.desk_tables.specs.Content.{IsContent, IsPlan};
-ghost use Rattle.desk_tables.specs.Reading.{listing_rows};
+ghost use Rattle.desk_tables.specs.Content.{IsBlock, IsContent, IsId, IsPlan};
+ghost use Rattle.desk_tables.specs.Reading.{IsHead, IsVolumeAt, listing_rows};
 ghost use Rattle.desk_tables.specs.Gathering.{HasGathered};
 ghost use Rattle.desk_tables.specs.Lookups.{own_of};
 ghost use Rattle.desk_tables.specs.Store.{Stands};
@@ -133,8 +134,17 @@ pub(crate) fn plan<S: Alter>(
         return Ok(None);
     };
     let rows = volumes(connection, kept, operator, id)?;
-    let area = area_in(alloc, &rows, 3)?;
-    Ok(Some(plan_in(head, area)?))
+    Ok(Some(plan_of_rows(alloc, head, &rows)?))
+}
+
+// The plan of a row of `plan`, with the volumes of rows of `volume`.
+fn plan_of_rows(alloc: Global, head: &Row, rows: &[Row]) -> Result<PlanRow, StoreFault>
+    ensures value { IfOk result (λ plan. (p : Plan) → IsId p.id → IsHead head.now p
+        → AllByRecursion IsBlock p.area → AllZip (λ row v. IsVolumeAt row 3 v) rows.now p.area
+        → plan ≡ p) }
+{
+    let area = area_in(alloc, rows, 3)?;
+    plan_in(head, area)
 }
 
 // The plans of a listing, if it was taken to its end.
