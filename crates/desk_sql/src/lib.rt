@@ -30,6 +30,3 @@ pub use whole::{all_operators, all_plans, all_spans, all_volumes};
 pub use writing::{
     PlanRow, SpanRow, VolumeRow, insert_operator, insert_plan, insert_span, insert_volume,
 };
-
-#[cfg(test)]
-mod tests;

@@ -14,8 +14,6 @@ mod readers;
 mod reading;
 mod records;
 mod store;
-#[cfg(test)]
-mod tests;
 
 pub use open::{AdoptFault, OpenFault};
 pub use store::SqliteStore;

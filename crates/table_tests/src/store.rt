@@ -3,12 +3,12 @@
 ghost use Rattle.std.specs.Prelude.{◌≡◌, false, IsTrue, IfOk};
 ghost use Rattle.sqlite_disk.specs.Memory.{memory_is_usable};
 
-use crate::{OpenFault, SqliteStore};
 use desk_rules::operator::Operator;
 use desk_rules::plan::PlanRow;
 use desk_rules::plan_id::PlanId;
 use desk_rules::words::{Aircraft, Usage};
 use desk_store::{Change, PlanStore};
+use desk_tables::{OpenFault, SqliteStore};
 use s2_cellid::CellId;
 use sqlite::{Alter, Connection, Error, FileStore, Files, MemStore, Options, params};
 use sqlite_disk::Memory;

@@ -1,5 +1,5 @@
 use Rattle.desk_store.specs.StoreChange.{IsFitting}
-use Rattle.desk_tables.proofs.tests.enrol.Goals as goal
+use Rattle.table_tests.proofs.store.enrol.Goals as goal
 
 pub apply-requires : goal.apply-requires
 unfolding IsFitting

@@ -1,4 +1,6 @@
-use super::*;
+//! The tables of a database: what is made, and what is found.
+
+use desk_sql::{Found, find_tables, is_enrolled, make_tables, put_operator};
 use sqlite::Connection;
 use std::test::Fail;
 

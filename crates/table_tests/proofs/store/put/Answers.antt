@@ -3,7 +3,7 @@ use Rattle.std.specs.Prelude.{IsSome}
 use Rattle.desk_store.specs.FaultLaws.{was_honest}
 use Rattle.desk_store.specs.StoreChange.{IsFitting}
 use Rattle.desk_store.specs.World.{ceiling_of, plans_of}
-use Rattle.desk_tables.proofs.tests.put.Goals as goal
+use Rattle.table_tests.proofs.store.put.Goals as goal
 
 pub apply-requires : goal.apply-requires
 unfolding IsFitting
