@@ -15,7 +15,7 @@ use Rattle.sqlite.specs.Program.{overlay}
 use Rattle.sqlite.specs.Ops.{binary, is_true, is_null, truth, or3, from_truth}
 use Rattle.sqlite_value.specs.declared.keys.Key.{Key}
 use Rattle.sqlite_sql.specs.declared.ops.BinaryOp.TheVariants.{Compare, Or}
-use Rattle.sqlite_sql.specs.declared.ops.CompareOp.TheVariants.{Eq, Ne}
+use Rattle.sqlite_sql.specs.declared.ops.CompareOp.TheVariants.{Eq, Ne, Lt, Le, Gt, Ge}
 use Rattle.sqlite_schema.specs.declared.command.Returning.{Returning}
 use Rattle.sqlite_resolve.specs.declared.compiled.Compiled.{Compiled}
 use Rattle.sqlite.specs.Listing.{understood}
@@ -26,7 +26,7 @@ use Rattle.sqlite.specs.Held.{Held, state}
 use Rattle.sqlite_value.proofs.OrderLemmas.{value_cmp-Null, value_cmp-apart}
 use Rattle.sqlite_keyed.proofs.ListLemmas.{map-map}
 use Rattle.sqlite.proofs.Callers.{IsPlain, reads_as}
-use Rattle.desk_sql.specs.Rows.{is_text, is_same, differs}
+use Rattle.desk_sql.specs.Rows.{is_text, is_same, differs, is_at_most, is_at_least, is_below, is_above}
 use Rattle.desk_sql.specs.Effects.{ShowsAsBefore}
 use Rattle.desk_sql.specs.Finding.{Holds, HasDeskSchema}
 use Rattle.desk_sql.proofs.QueryTexts.{IsQuery, query_of}
@@ -169,13 +169,29 @@ differs_text (Real n) t = truth_of _ ∙ ne_is _
 differs_text (Text n) t = truth_of _ ∙ ne_is _
 differs_text (Blob n) t = truth_of _ ∙ ne_is _
 
-pub differs_int : (v : Value) (n : ℤ) → is_true (binary (Compare Ne Binary) v (Int n)) ≡ differs v (Int n)
+compared : (v : Value) (b : Bool) → is_true (if is_null v || false then Null else from_truth (Some b)) ≡ (not (is_null v) && b)
+compared Null b = refl
+compared (Int n) b = truth_of b
+compared (Real x) b = truth_of b
+compared (Text t) b = truth_of b
+compared (Blob t) b = truth_of b
+
+-- SQL's comparisons with a number
+pub le_number : (v : Value) (n : ℤ) → is_true (binary (Compare Le Binary) v (Int n)) ≡ is_at_most v n
 unfolding binary
-differs_int Null t = refl
-differs_int (Int n) t = truth_of _ ∙ ne_is _
-differs_int (Real n) t = truth_of _ ∙ ne_is _
-differs_int (Text n) t = truth_of _ ∙ ne_is _
-differs_int (Blob n) t = truth_of _ ∙ ne_is _
+le_number v n = compared v _
+
+pub ge_number : (v : Value) (n : ℤ) → is_true (binary (Compare Ge Binary) v (Int n)) ≡ is_at_least v n
+unfolding binary
+ge_number v n = compared v _
+
+pub lt_number : (v : Value) (n : ℤ) → is_true (binary (Compare Lt Binary) v (Int n)) ≡ is_below v n
+unfolding binary
+lt_number v n = compared v _
+
+pub gt_number : (v : Value) (n : ℤ) → is_true (binary (Compare Gt Binary) v (Int n)) ≡ is_above v n
+unfolding binary
+gt_number v n = compared v _
 
 or_true : (p q x y : Bool) → is_true (from_truth (or3 (truth (if p || false then Null else from_truth (Some x))) (truth (if q || false then Null else from_truth (Some y)))))
     ≡ ((not p && x) || (not q && y))

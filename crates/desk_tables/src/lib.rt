@@ -13,6 +13,7 @@ mod opening;
 mod readers;
 mod reading;
 mod records;
+mod rivals;
 mod store;
 #[cfg(test)]
 mod tests;
