@@ -18,9 +18,13 @@ use Rattle.sqlite.specs.Held.{Held, state}
 use Rattle.desk_sql.specs.Rows.{IsDesk, is_by, is_of, is_rival, differs, is_at_most, is_at_least, is_below, is_above, held_columns, is_same, joined, has_volume, with_volumes, by_cells, columns, tables_of, Lists}
 use Rattle.desk_sql.specs.declared.rivals.Reach.{Reach}
 use Rattle.desk_sql.specs.Effects.{IsReady}
+use Rattle.desk_sql.specs.Rivals.{rival_params, MayRead, SelectsRivals}
+use Rattle.desk_sql.specs.Schema.{desk_schema}
+use Rattle.sqlite.specs.Effect.{Database}
+use Rattle.sqlite.specs.Listing.{understood}
 use Rattle.desk_sql.proofs.Texts.{operator_named_text, all_operators_text, plan_of_text, all_plans_text, volumes_of_text, all_volumes_text, all_spans_text, own_plans_text, rival_spans_text}
 use Rattle.desk_sql.proofs.QueryTexts.{IsQuery, query_of, operator_named_is, operator_named_query, all_operators_is, all_operators_query, plan_of_is, plan_of_query, all_plans_is, all_plans_query, volumes_of_is, volumes_of_query, all_volumes_is, all_volumes_query, all_spans_is, all_spans_query, own_plans_is, own_plans_query, rival_spans_is, rival_spans_query}
-use Rattle.desk_sql.proofs.ReadLemmas.{was_open, answered, shows, scanned, equals_text, equals, either_true, le_number, ge_number, lt_number, gt_number}
+use Rattle.desk_sql.proofs.ReadLemmas.{was_open, answered, shows, may_show, scanned, equals_text, equals, either_true, le_number, ge_number, lt_number, gt_number}
 
 -- a value that a desk's rows have, whenever something is shown
 pub if_shown : {S V : Type 0} (g : Ghosts S) (old new : Held S) (items : V → List Row) (text : List ℕ) (params : Row) (P : List Row → Type 0) → IsReady g old → HasCleanDisk (state g old)
@@ -169,21 +173,19 @@ and_last true true false d e f g h = refl
 and_last true false c d e f g h = refl
 and_last false b c d e f g h = refl
 
--- what is asked of spans, as the query is given it
-abbrev pub rival_params : List ℕ → List ℕ → Reach → Row
-rival_params operator id reach =
-    Int reach.last ∷ Int reach.first ∷ Int reach.upper ∷ Int reach.lower ∷ Int reach.stop ∷ Int reach.start ∷ Int (pos reach.priority) ∷ Text operator ∷ Text id ∷ []
-
 rival_test : (operator id : List ℕ) (reach : Reach) (s : Row) → list_all (holds (rival_params operator id reach ∷ s ∷ [])) rival_spans_query.filter ≡ is_rival operator id reach (columns 10 s)
 rival_test operator id reach s =
     (λ i. le_number (column s 4) reach.last i && (ge_number (column s 5) reach.first i && (lt_number (column s 6) reach.upper i && (gt_number (column s 7) reach.lower i
     && (lt_number (column s 8) reach.stop i && (gt_number (column s 9) reach.start i && (ge_number (column s 10) (pos reach.priority) i && (either_true (column s 1) (column s 2) operator id i && true))))))))
     ∙ and_last (is_at_most (column s 4) reach.last) (is_at_least (column s 5) reach.first) (is_below (column s 6) reach.upper) (is_above (column s 7) reach.lower) (is_below (column s 8) reach.stop) (is_above (column s 9) reach.start) (is_at_least (column s 10) (pos reach.priority)) (differs (column s 1) (Text operator) || differs (column s 2) (Text id))
 
-pub rival_spans : (operator id : List ℕ) (reach : Reach) (old new : State) (rows : List Row) → IsDesk old.now → Shown rival_spans_text (rival_params operator id reach) old new rows
-    → IsPermutation (map held_columns (filter (is_rival operator id reach) (tables_of old.now.trees).spans)) rows
-rival_spans operator id reach old new rows desk h =
+rival_rows : (operator id : List ℕ) (reach : Reach) (db : Database) (rows : List Row) → IsDesk db → MayRead (understood desk_schema rival_spans_text) db (rival_params operator id reach) rows
+    → IsPermutation (map held_columns (filter (is_rival operator id reach) (tables_of db.trees).spans)) rows
+rival_rows operator id reach db rows desk h =
     let params = rival_params operator id reach in
     subst (λ xs. IsPermutation xs rows)
-    (one_plan (eval_all rival_spans_query.project) (λ s. params ∷ s ∷ []) (λ s. list_all (holds (params ∷ s ∷ [])) rival_spans_query.filter) (columns 10) (is_rival operator id reach) held_columns (λ s. refl) true (λ s. rival_test operator id reach s ∙ sym (both_hold _)) (old.now.trees 6))
-    (shows rival_spans_text _ _ _ _ _ rival_spans_is params old new rows desk.schema h)
+    (one_plan (eval_all rival_spans_query.project) (λ s. params ∷ s ∷ []) (λ s. list_all (holds (params ∷ s ∷ [])) rival_spans_query.filter) (columns 10) (is_rival operator id reach) held_columns (λ s. refl) true (λ s. rival_test operator id reach s ∙ sym (both_hold _)) (db.trees 6))
+    (may_show rival_spans_text _ _ _ _ _ rival_spans_is params db rows h)
+
+pub rival_spans_selected : SelectsRivals rival_spans_text
+rival_spans_selected = record { plain = rival_spans_is.plain; unlisted = rival_spans_is.unlisted; rows = rival_rows }

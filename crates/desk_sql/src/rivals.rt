@@ -7,6 +7,7 @@ ghost use Rattle.sqlite.specs.State.{HasCleanDisk};
 ghost use Rattle.sqlite.specs.Held.{state};
 ghost use Rattle.desk_sql.specs.Rows.{is_rival, held_columns, tables_of};
 ghost use Rattle.desk_sql.specs.Effects.{IsReady, IsKept};
+ghost use Rattle.desk_sql.specs.Rivals.{SelectsRivals};
 
 use crate::taking::{TakeRow, hand_over};
 use sqlite::{Alter, Connection, Error, params};
@@ -23,6 +24,16 @@ pub struct Reach {
     pub start: i64,
     pub stop: i64,
     pub priority: u32,
+}
+
+// The query of the spans that are reached, but for those of one plan.
+#[tactic(auto, using(crate::proofs::StatementLemmas::rival_spans_selected))]
+fn rival_spans_text() -> &'static str
+    ensures { SelectsRivals result.now }
+{
+    "SELECT first, last, lower, upper, start, stop, priority FROM span \
+     WHERE first <= ?1 AND last >= ?2 AND lower < ?3 AND upper > ?4 AND start < ?5 AND stop > ?6 \
+     AND priority >= ?7 AND (operator <> ?8 OR id <> ?9)"
 }
 
 /// Hands over, one at a time and in no order, the columns of `span` from `first` on of each span that is
@@ -55,9 +66,7 @@ pub fn rival_spans<S: Alter, T: TakeRow>(
 {
     hand_over(
         connection,
-        "SELECT first, last, lower, upper, start, stop, priority FROM span \
-         WHERE first <= ?1 AND last >= ?2 AND lower < ?3 AND upper > ?4 AND start < ?5 AND stop > ?6 \
-         AND priority >= ?7 AND (operator <> ?8 OR id <> ?9)",
+        rival_spans_text(),
         params![
             reach.last,
             reach.first,
