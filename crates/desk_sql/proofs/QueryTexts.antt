@@ -8,12 +8,13 @@ use Rattle.sqlite.specs.Command.TheVariants.{Select}
 use Rattle.sqlite_value.specs.declared.keys.Key.{Key}
 use Rattle.sqlite_value.specs.Keys.{ascending}
 use Rattle.sqlite_sql.specs.declared.ops.BinaryOp.TheVariants.{Compare, Or}
-use Rattle.sqlite_sql.specs.declared.ops.CompareOp.TheVariants.{Eq, Ne}
+use Rattle.sqlite_sql.specs.declared.ops.CompareOp.{CompareOp}
+use Rattle.sqlite_sql.specs.declared.ops.CompareOp.TheVariants.{Eq, Ne, Lt, Le, Gt, Ge}
 use Rattle.sqlite_tied.specs.Compute.{everything}
 use Rattle.sqlite.specs.Listing.{understood, reads_listing}
 use Rattle.sqlite.proofs.Callers.{IsPlain, command_of}
 use Rattle.desk_sql.specs.Schema.{desk_schema}
-use Rattle.desk_sql.proofs.Texts.{operator_named_text, all_operators_text, plan_of_text, all_plans_text, volumes_of_text, all_volumes_text, all_spans_text, own_plans_text, rivals_text, operator_rowids_text, plan_rowids_text, volume_rowids_text, span_rowids_text}
+use Rattle.desk_sql.proofs.Texts.{operator_named_text, all_operators_text, plan_of_text, all_plans_text, volumes_of_text, all_volumes_text, all_spans_text, own_plans_text, rival_spans_text, operator_rowids_text, plan_rowids_text, volume_rowids_text, span_rowids_text}
 
 abbrev pub query_of : Join → List Term → List Term → List (Term × Key) → Query
 query_of from filter project order = record {
@@ -90,12 +91,16 @@ pub own_plans_is : IsQuery own_plans_text own_plans_query (codes "operator" ∷ 
 unfolding understood everything
 own_plans_is = record { is = refl; plain = (refl, refl); unlisted = refl }
 
-abbrev pub rivals_query : Query
-rivals_query = query_of (inner 2 (inner 4 end)) (op2 (Compare Eq Binary) (col 2 1) (col 1 1) ∷ op2 (Compare Eq Binary) (col 2 2) (col 1 2) ∷ op2 (Compare Ne Binary) (col 1 4) (lit (Int (pos 2))) ∷ op2 Or (op2 (Compare Ne Binary) (col 1 1) (col 0 0)) (op2 (Compare Ne Binary) (col 1 2) (col 0 1)) ∷ []) (col 1 1 ∷ col 1 2 ∷ col 1 3 ∷ col 1 4 ∷ col 1 5 ∷ col 2 3 ∷ col 2 4 ∷ col 2 5 ∷ col 2 6 ∷ col 2 7 ∷ col 2 8 ∷ []) ((col 1 1, ascending Binary) ∷ (col 1 2, ascending Binary) ∷ (col 2 3, ascending Binary) ∷ [])
+-- a number of the table's, compared with a parameter
+abbrev compared : CompareOp → ℕ → ℕ → Term
+compared op at param = op2 (Compare op Binary) (col 1 at) (col 0 param)
 
-pub rivals_is : IsQuery rivals_text rivals_query (codes "operator" ∷ codes "id" ∷ codes "priority" ∷ codes "usage" ∷ codes "aircraft" ∷ codes "place" ∷ codes "lower" ∷ codes "upper" ∷ codes "start" ∷ codes "stop" ∷ codes "asked" ∷ [])
+abbrev pub rival_spans_query : Query
+rival_spans_query = query_of (inner 6 end) (compared Le 4 0 ∷ compared Ge 5 1 ∷ compared Lt 6 2 ∷ compared Gt 7 3 ∷ compared Lt 8 4 ∷ compared Gt 9 5 ∷ compared Ge 10 6 ∷ op2 Or (op2 (Compare Ne Binary) (col 1 1) (col 0 7)) (op2 (Compare Ne Binary) (col 1 2) (col 0 8)) ∷ []) (col 1 4 ∷ col 1 5 ∷ col 1 6 ∷ col 1 7 ∷ col 1 8 ∷ col 1 9 ∷ col 1 10 ∷ []) ([])
+
+pub rival_spans_is : IsQuery rival_spans_text rival_spans_query (codes "first" ∷ codes "last" ∷ codes "lower" ∷ codes "upper" ∷ codes "start" ∷ codes "stop" ∷ codes "priority" ∷ [])
 unfolding understood everything
-rivals_is = record { is = refl; plain = (refl, refl); unlisted = refl }
+rival_spans_is = record { is = refl; plain = (refl, refl); unlisted = refl }
 
 -- the rowids of the table in a tree
 abbrev pub rowids_query : ℕ → Query

@@ -15,20 +15,24 @@ use Rattle.sqlite.specs.Program.{overlay}
 use Rattle.sqlite.specs.Ops.{binary, is_true, is_null, truth, or3, from_truth}
 use Rattle.sqlite_value.specs.declared.keys.Key.{Key}
 use Rattle.sqlite_sql.specs.declared.ops.BinaryOp.TheVariants.{Compare, Or}
-use Rattle.sqlite_sql.specs.declared.ops.CompareOp.TheVariants.{Eq, Ne}
+use Rattle.sqlite_sql.specs.declared.ops.CompareOp.TheVariants.{Eq, Ne, Lt, Le, Gt, Ge}
 use Rattle.sqlite_schema.specs.declared.command.Returning.{Returning}
 use Rattle.sqlite_resolve.specs.declared.compiled.Compiled.{Compiled}
-use Rattle.sqlite.specs.Listing.{understood}
+use Rattle.sqlite_resolve.specs.declared.error.CompileError.{CompileError}
+use Rattle.sqlite.specs.Listing.{understood, reads_listing}
+use Rattle.sqlite.specs.Command.TheVariants.{Select}
+use Rattle.sqlite.specs.Effect.{Database, Reads}
 use Rattle.desk_sql.specs.Schema.{desk_schema}
 use Rattle.sqlite.specs.State.{State, HasCleanDisk, Shown, ShowsRows, FailsToQuery, FailsToShow, IsUnchanged, IsRolledBack, IsNotRun}
 use Rattle.sqlite.specs.Store.{Ghosts}
 use Rattle.sqlite.specs.Held.{Held, state}
 use Rattle.sqlite_value.proofs.OrderLemmas.{value_cmp-Null, value_cmp-apart}
 use Rattle.sqlite_keyed.proofs.ListLemmas.{map-map}
-use Rattle.sqlite.proofs.Callers.{IsPlain, reads_as}
-use Rattle.desk_sql.specs.Rows.{is_text, is_same, differs}
+use Rattle.sqlite.proofs.Callers.{IsPlain, reads_as, command_of}
+use Rattle.desk_sql.specs.Rows.{is_text, is_same, differs, is_at_most, is_at_least, is_below, is_above}
 use Rattle.desk_sql.specs.Effects.{ShowsAsBefore}
 use Rattle.desk_sql.specs.Finding.{Holds, HasDeskSchema}
+use Rattle.desk_sql.specs.Rivals.{MayRead}
 use Rattle.desk_sql.proofs.QueryTexts.{IsQuery, query_of}
 
 -- ---- the connection was open, and shows what it showed
@@ -94,14 +98,33 @@ module _ (text : List ℕ) (from : Join) (terms : List Term) (project : List Ter
       → IsAnswer query (overlay old.now.trees []) params rows
   answered params old new rows schema h = (reads_as text params old new desk_schema schema _ known.is known.plain known.unlisted rows h).answer Null
 
-  pub shows : (params : Row) (old new : State) (rows : List Row) → HasDeskSchema old.now → Shown text params old new rows
-      → IsPermutation (map (eval_all project) (matches (overlay old.now.trees []) terms from (params ∷ []))) rows
-  shows params old new rows schema h =
-      let a = answered params old new rows schema h in
-      let all = matches (overlay old.now.trees []) terms from (params ∷ []) in
+  answer_rows : (params : Row) (db : Database) (rows : List Row) → IsAnswer query (overlay db.trees []) params rows
+      → IsPermutation (map (eval_all project) (matches (overlay db.trees []) terms from (params ∷ []))) rows
+  answer_rows params db rows a =
+      let all = matches (overlay db.trees []) terms from (params ∷ []) in
       let kept : a.kept ≡ map (output query) all = a.distinct ∙ ap (map (output query)) a.grouped in
       let second : map (λ (o : Output). o.1) a.kept ≡ map (eval_all project) all = ap (map (λ (o : Output). o.1)) kept ∙ map-map (λ (o : Output). o.1) (output query) all in
       subst (λ xs. IsPermutation xs rows) second (subst (IsPermutation (map (λ (o : Output). o.1) a.kept)) (sym a.shown) (IsPermutation-map (λ (o : Output). o.1) a.kept a.ordered a.same))
+
+  pub shows : (params : Row) (old new : State) (rows : List Row) → HasDeskSchema old.now → Shown text params old new rows
+      → IsPermutation (map (eval_all project) (matches (overlay old.now.trees []) terms from (params ∷ []))) rows
+  shows params old new rows schema h = answer_rows params old.now rows (answered params old new rows schema h)
+
+  pub may_show : (params : Row) (db : Database) (rows : List Row) → MayRead (understood desk_schema text) db params rows
+      → IsPermutation (map (eval_all project) (matches (overlay db.trees []) terms from (params ∷ []))) rows
+  may_show params db rows h = answer_rows params db rows ((by_command (understood desk_schema text) known.is h).answer Null) where
+    by_command : (r : Result Compiled CompileError) → command_of r ≡ Select (record { lets = []; body = query }) names → MayRead r db params rows → Reads (Select (record { lets = []; body = query }) names) db params rows
+    by_command (Ok c) is read = subst (λ k. Reads k db params rows) is read
+    by_command (Err e) is read = absurd read
+
+-- what is shown, a text may show
+pub shown_read : (text : List ℕ) (params : Row) (old new : State) (rows : List Row) → HasDeskSchema old.now → IsPlain (understood desk_schema text) → reads_listing desk_schema text ≡ false
+    → Shown text params old new rows → MayRead (understood desk_schema text) old.now params rows
+shown_read text params old new rows schema plain unlisted h =
+    by_command (understood desk_schema text) plain (reads_as text params old new desk_schema schema (command_of (understood desk_schema text)) refl plain unlisted rows h) where
+      by_command : (r : Result Compiled CompileError) → IsPlain r → Reads (command_of r) old.now params rows → MayRead r old.now params rows
+      by_command (Ok c) is read = read
+      by_command (Err e) is read = absurd is
 
 kept_first : {E : Type 0} (f : E → Row) (e : E) (x : Row) → f e ≡ x → (a b : Bool) → a ≡ b → (es : List E) (xs : List Row) → map f es ≡ xs → map f (cond a (e ∷ []) [] ++ es) ≡ cond b (x ∷ xs) xs
 kept_first f e x at true true same es xs more = ap₂ (λ y ys. y ∷ ys) at more
@@ -169,13 +192,29 @@ differs_text (Real n) t = truth_of _ ∙ ne_is _
 differs_text (Text n) t = truth_of _ ∙ ne_is _
 differs_text (Blob n) t = truth_of _ ∙ ne_is _
 
-pub differs_int : (v : Value) (n : ℤ) → is_true (binary (Compare Ne Binary) v (Int n)) ≡ differs v (Int n)
+compared : (v : Value) (b : Bool) → is_true (if is_null v || false then Null else from_truth (Some b)) ≡ (not (is_null v) && b)
+compared Null b = refl
+compared (Int n) b = truth_of b
+compared (Real x) b = truth_of b
+compared (Text t) b = truth_of b
+compared (Blob t) b = truth_of b
+
+-- SQL's comparisons with a number
+pub le_number : (v : Value) (n : ℤ) → is_true (binary (Compare Le Binary) v (Int n)) ≡ is_at_most v n
 unfolding binary
-differs_int Null t = refl
-differs_int (Int n) t = truth_of _ ∙ ne_is _
-differs_int (Real n) t = truth_of _ ∙ ne_is _
-differs_int (Text n) t = truth_of _ ∙ ne_is _
-differs_int (Blob n) t = truth_of _ ∙ ne_is _
+le_number v n = compared v _
+
+pub ge_number : (v : Value) (n : ℤ) → is_true (binary (Compare Ge Binary) v (Int n)) ≡ is_at_least v n
+unfolding binary
+ge_number v n = compared v _
+
+pub lt_number : (v : Value) (n : ℤ) → is_true (binary (Compare Lt Binary) v (Int n)) ≡ is_below v n
+unfolding binary
+lt_number v n = compared v _
+
+pub gt_number : (v : Value) (n : ℤ) → is_true (binary (Compare Gt Binary) v (Int n)) ≡ is_above v n
+unfolding binary
+gt_number v n = compared v _
 
 or_true : (p q x y : Bool) → is_true (from_truth (or3 (truth (if p || false then Null else from_truth (Some x))) (truth (if q || false then Null else from_truth (Some y)))))
     ≡ ((not p && x) || (not q && y))

@@ -15,11 +15,16 @@ use Rattle.sqlite_value.specs.declared.keys.Key.{Key}
 use Rattle.sqlite.specs.State.{State, HasCleanDisk, Shown}
 use Rattle.sqlite.specs.Store.{Ghosts}
 use Rattle.sqlite.specs.Held.{Held, state}
-use Rattle.desk_sql.specs.Rows.{IsDesk, is_by, is_of, is_rival, differs, is_same, joined, has_volume, with_volumes, by_cells, columns, tables_of, Lists}
+use Rattle.desk_sql.specs.Rows.{IsDesk, is_by, is_of, is_rival, differs, is_at_most, is_at_least, is_below, is_above, held_columns, is_same, joined, has_volume, with_volumes, by_cells, columns, tables_of, Lists}
+use Rattle.desk_sql.specs.declared.rivals.Reach.{Reach}
 use Rattle.desk_sql.specs.Effects.{IsReady}
-use Rattle.desk_sql.proofs.Texts.{operator_named_text, all_operators_text, plan_of_text, all_plans_text, volumes_of_text, all_volumes_text, all_spans_text, own_plans_text, rivals_text}
-use Rattle.desk_sql.proofs.QueryTexts.{IsQuery, query_of, operator_named_is, operator_named_query, all_operators_is, all_operators_query, plan_of_is, plan_of_query, all_plans_is, all_plans_query, volumes_of_is, volumes_of_query, all_volumes_is, all_volumes_query, all_spans_is, all_spans_query, own_plans_is, own_plans_query, rivals_is, rivals_query}
-use Rattle.desk_sql.proofs.ReadLemmas.{was_open, answered, shows, scanned, equals_text, equals, differs_int, either_true}
+use Rattle.desk_sql.specs.Rivals.{rival_params, MayRead, SelectsRivals}
+use Rattle.desk_sql.specs.Schema.{desk_schema}
+use Rattle.sqlite.specs.Effect.{Database}
+use Rattle.sqlite.specs.Listing.{understood}
+use Rattle.desk_sql.proofs.Texts.{operator_named_text, all_operators_text, plan_of_text, all_plans_text, volumes_of_text, all_volumes_text, all_spans_text, own_plans_text, rival_spans_text}
+use Rattle.desk_sql.proofs.QueryTexts.{IsQuery, query_of, operator_named_is, operator_named_query, all_operators_is, all_operators_query, plan_of_is, plan_of_query, all_plans_is, all_plans_query, volumes_of_is, volumes_of_query, all_volumes_is, all_volumes_query, all_spans_is, all_spans_query, own_plans_is, own_plans_query, rival_spans_is, rival_spans_query}
+use Rattle.desk_sql.proofs.ReadLemmas.{was_open, answered, shows, may_show, scanned, equals_text, equals, either_true, le_number, ge_number, lt_number, gt_number}
 
 -- a value that a desk's rows have, whenever something is shown
 pub if_shown : {S V : Type 0} (g : Ghosts S) (old new : Held S) (items : V → List Row) (text : List ℕ) (params : Row) (P : List Row → Type 0) → IsReady g old → HasCleanDisk (state g old)
@@ -74,13 +79,6 @@ and_later true true false = refl
 and_later true false c = refl
 and_later false b c = refl
 
-and_both : (a b c d : Bool) → (a && (b && (c && (d && true)))) ≡ ((a && b) && (c && d))
-and_both true true true true = refl
-and_both true true true false = refl
-and_both true true false d = refl
-and_both true false c d = refl
-and_both false b c d = refl
-
 joined_first : {E : Type 0} (f : E → Row) (e : E) (j : Row → Row) (x : Row) → f e ≡ j x → (a b : Bool) → a ≡ (b && true) → (es : List E) (xs : List Row) → map f es ≡ map j xs
     → map f (cond a (e ∷ []) [] ++ es) ≡ map j (cond b (x ∷ xs) xs)
 joined_first f e j x at true true same es xs more = ap₂ (λ y ys. y ∷ ys) at more
@@ -123,12 +121,6 @@ own_test operator p s =
     ap₂ (λ a b. a && b) (equals (column s 1) (column p 1)) (ap₂ (λ a b. a && (b && true)) (equals (column s 2) (column p 2)) (equals_text (column p 1) operator))
     ∙ and_later (is_same (column s 1) (column p 1)) (is_same (column s 2) (column p 2)) (is_by operator (columns 5 p))
 
-rivals_test : (operator id : List ℕ) (p s : Row) → list_all (holds ((Text operator ∷ Text id ∷ []) ∷ p ∷ s ∷ [])) rivals_query.filter ≡ (has_volume (columns 5 p) (columns 8 s) && is_rival operator id (columns 5 p))
-rivals_test operator id p s =
-    ap₂ (λ a b. a && b) (equals (column s 1) (column p 1))
-    (ap₂ (λ a b. a && b) (equals (column s 2) (column p 2)) (ap₂ (λ a b. a && (b && true)) (differs_int (column p 4) (pos 2)) (either_true (column p 1) (column p 2) operator id)))
-    ∙ and_both (is_same (column s 1) (column p 1)) (is_same (column s 2) (column p 2)) (differs (column p 4) (Int (pos 2))) (differs (column p 1) (Text operator) || differs (column p 2) (Text id))
-
 pub operator_named : (name : List ℕ) (old new : State) (rows : List Row) → IsDesk old.now → Shown operator_named_text (Text name ∷ []) old new rows → Lists [] (filter (is_by name) (tables_of old.now.trees).operators) rows
 operator_named name old new rows desk h =
     lists operator_named_text _ _ _ _ _ operator_named_is (Text name ∷ []) old new rows desk h [] _ (λ e. refl) (λ x y. refl)
@@ -169,7 +161,31 @@ own_plans operator old new rows desk h =
     lists own_plans_text _ _ _ _ _ own_plans_is (Text operator ∷ []) old new rows desk h (1 ∷ 5 ∷ []) _ (λ e. refl) (λ x y. refl)
     (joined_rows (Text operator ∷ []) own_plans_query.filter own_plans_query.project (is_by operator) (λ p s. refl) (λ p s. own_test operator p s) (old.now.trees 2) (old.now.trees 4))
 
-pub rivals : (operator : List ℕ) (id : List ℕ) (old new : State) (rows : List Row) → IsDesk old.now → Shown rivals_text (Text operator ∷ Text id ∷ []) old new rows → Lists (0 ∷ 1 ∷ 5 ∷ []) (with_volumes (is_rival operator id) (tables_of old.now.trees)) rows
-rivals operator id old new rows desk h =
-    lists rivals_text _ _ _ _ _ rivals_is (Text operator ∷ Text id ∷ []) old new rows desk h (0 ∷ 1 ∷ 5 ∷ []) _ (λ e. refl) (λ x y. refl)
-    (joined_rows (Text operator ∷ Text id ∷ []) rivals_query.filter rivals_query.project (is_rival operator id) (λ p s. refl) (λ p s. rivals_test operator id p s) (old.now.trees 2) (old.now.trees 4))
+-- ---- the spans that may stand in the way of a plan
+
+and_last : (a b c d e f g h : Bool) → (a && (b && (c && (d && (e && (f && (g && (h && true)))))))) ≡ ((a && (b && (c && (d && (e && (f && g)))))) && h)
+and_last true true true true true true true h = both_hold h
+and_last true true true true true true false h = refl
+and_last true true true true true false g h = refl
+and_last true true true true false f g h = refl
+and_last true true true false e f g h = refl
+and_last true true false d e f g h = refl
+and_last true false c d e f g h = refl
+and_last false b c d e f g h = refl
+
+rival_test : (operator id : List ℕ) (reach : Reach) (s : Row) → list_all (holds (rival_params operator id reach ∷ s ∷ [])) rival_spans_query.filter ≡ is_rival operator id reach (columns 10 s)
+rival_test operator id reach s =
+    (λ i. le_number (column s 4) reach.last i && (ge_number (column s 5) reach.first i && (lt_number (column s 6) reach.upper i && (gt_number (column s 7) reach.lower i
+    && (lt_number (column s 8) reach.stop i && (gt_number (column s 9) reach.start i && (ge_number (column s 10) (pos reach.priority) i && (either_true (column s 1) (column s 2) operator id i && true))))))))
+    ∙ and_last (is_at_most (column s 4) reach.last) (is_at_least (column s 5) reach.first) (is_below (column s 6) reach.upper) (is_above (column s 7) reach.lower) (is_below (column s 8) reach.stop) (is_above (column s 9) reach.start) (is_at_least (column s 10) (pos reach.priority)) (differs (column s 1) (Text operator) || differs (column s 2) (Text id))
+
+rival_rows : (operator id : List ℕ) (reach : Reach) (db : Database) (rows : List Row) → IsDesk db → MayRead (understood desk_schema rival_spans_text) db (rival_params operator id reach) rows
+    → IsPermutation (map held_columns (filter (is_rival operator id reach) (tables_of db.trees).spans)) rows
+rival_rows operator id reach db rows desk h =
+    let params = rival_params operator id reach in
+    subst (λ xs. IsPermutation xs rows)
+    (one_plan (eval_all rival_spans_query.project) (λ s. params ∷ s ∷ []) (λ s. list_all (holds (params ∷ s ∷ [])) rival_spans_query.filter) (columns 10) (is_rival operator id reach) held_columns (λ s. refl) true (λ s. rival_test operator id reach s ∙ sym (both_hold _)) (db.trees 6))
+    (may_show rival_spans_text _ _ _ _ _ rival_spans_is params db rows h)
+
+pub rival_spans_selected : SelectsRivals rival_spans_text
+rival_spans_selected = record { plain = rival_spans_is.plain; unlisted = rival_spans_is.unlisted; rows = rival_rows }

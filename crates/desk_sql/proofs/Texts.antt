@@ -37,8 +37,8 @@ all_spans_text = codes "SELECT operator, id, place, first, last, lower, upper, s
 abbrev pub own_plans_text : List ℕ
 own_plans_text = codes "SELECT plan.operator, plan.id, plan.priority, plan.usage, plan.aircraft, volume.place, volume.lower, volume.upper, volume.start, volume.stop, volume.asked FROM plan JOIN volume ON volume.operator = plan.operator AND volume.id = plan.id WHERE plan.operator = ?1 ORDER BY plan.id, volume.place"
 
-abbrev pub rivals_text : List ℕ
-rivals_text = codes "SELECT plan.operator, plan.id, plan.priority, plan.usage, plan.aircraft, volume.place, volume.lower, volume.upper, volume.start, volume.stop, volume.asked FROM plan JOIN volume ON volume.operator = plan.operator AND volume.id = plan.id WHERE plan.usage <> 2 AND (plan.operator <> ?1 OR plan.id <> ?2) ORDER BY plan.operator, plan.id, volume.place"
+abbrev pub rival_spans_text : List ℕ
+rival_spans_text = codes "SELECT first, last, lower, upper, start, stop, priority FROM span WHERE first <= ?1 AND last >= ?2 AND lower < ?3 AND upper > ?4 AND start < ?5 AND stop > ?6 AND priority >= ?7 AND (operator <> ?8 OR id <> ?9)"
 
 abbrev pub own_count_text : List ℕ
 own_count_text = codes "SELECT count(*) FROM plan WHERE operator = ?1"

@@ -6,3 +6,4 @@ pub mod Batches
 pub mod Finding
 pub mod Refusals
 pub mod Taking
+pub mod Rivals

@@ -1,6 +1,6 @@
 -- The rows of the four tables, as a caller sees them.
 use Rattle.std.specs.Prelude.{◌≡◌, ℕ, ℤ, pos, Bool, true, false, ◌&&◌, ◌||◌, not, List, [], ◌∷◌, map, drop, filter, ◌++◌, IsPermutation, IsSorted, if◌then◌else◌}
-use Rattle.std.specs.Ordering.{is_eq, ordering_then}
+use Rattle.std.specs.Ordering.{is_eq, is_lt, is_le, is_gt, is_ge, ordering_then}
 use Rattle.std.specs.declared.cmp.Ordering.{Ordering}
 use Rattle.std.specs.declared.cmp.Ordering.TheVariants.{Equal}
 use Rattle.sqlite.specs.Ops.{is_null}
@@ -12,6 +12,7 @@ use Rattle.sqlite.specs.Tree.{Trees, rowid, IsAscending}
 use Rattle.sqlite.specs.View.{is_int}
 use Rattle.sqlite.specs.Effect.{Database}
 use Rattle.desk_sql.specs.Schema.{desk_schema}
+use Rattle.desk_sql.specs.declared.rivals.Reach.{Reach}
 
 -- ---- what a row holds
 
@@ -155,11 +156,39 @@ abbrev pub with_volumes : (Row → Bool) → Tables → List Row
 with_volumes wanted t = flat_map (λ p. map (joined p) (filter (has_volume p) t.volumes))
     (filter wanted t.plans)
 
--- a plan that is not closed, and not this one
-abbrev pub is_rival : List ℕ → List ℕ → Row → Bool
-is_rival operator id plan =
-    differs (column plan 3) (Int (pos 2))
-    && (differs (column plan 0) (Text operator) || differs (column plan 1) (Text id))
+-- as SQL's <=, >=, < and > with a number, which are not true of NULL
+abbrev pub is_at_most : Value → ℤ → Bool
+is_at_most v n = not (is_null v) && is_le (value_cmp v (Int n))
+
+abbrev pub is_at_least : Value → ℤ → Bool
+is_at_least v n = not (is_null v) && is_ge (value_cmp v (Int n))
+
+abbrev pub is_below : Value → ℤ → Bool
+is_below v n = not (is_null v) && is_lt (value_cmp v (Int n))
+
+abbrev pub is_above : Value → ℤ → Bool
+is_above v n = not (is_null v) && is_gt (value_cmp v (Int n))
+
+-- a span with a leaf, an altitude and a second of the reach, and a priority at least its least
+abbrev pub is_reached : Reach → Row → Bool
+is_reached reach span =
+    is_at_most (column span 3) reach.last
+    && (is_at_least (column span 4) reach.first
+    && (is_below (column span 5) reach.upper
+    && (is_above (column span 6) reach.lower
+    && (is_below (column span 7) reach.stop
+    && (is_above (column span 8) reach.start
+    && is_at_least (column span 9) (pos reach.priority))))))
+
+-- such a span of another plan than this one
+abbrev pub is_rival : List ℕ → List ℕ → Reach → Row → Bool
+is_rival operator id reach span =
+    is_reached reach span
+    && (differs (column span 0) (Text operator) || differs (column span 1) (Text id))
+
+-- a span's columns from `first` on
+abbrev pub held_columns : Row → Row
+held_columns span = drop 3 span
 
 -- by these columns, in turn
 abbrev pub by_cells : List ℕ → Row → Row → Ordering

@@ -12,6 +12,7 @@ mod matching;
 mod numbers;
 mod reading;
 mod removing;
+mod rivals;
 mod run;
 mod setting;
 mod taking;
@@ -22,8 +23,9 @@ pub use changing::{clear_plans, close_plan, is_enrolled, put_operator, put_plan}
 pub use counting::own_count;
 pub use finding::{Found, find_tables};
 pub use making::make_tables;
-pub use reading::{operator_named, own_plans, plan_of, rivals, volumes_of};
+pub use reading::{operator_named, own_plans, plan_of, volumes_of};
 pub use removing::{remove_plan, remove_spans};
+pub use rivals::{Reach, rival_spans};
 pub use setting::{set_ceiling, set_closed};
 pub use taking::TakeRow;
 pub use whole::{all_operators, all_plans, all_spans, all_volumes};

@@ -3,7 +3,7 @@ ghost use Rattle.sqlite.specs.Order.{Row as Values};
 ghost use Rattle.sqlite.specs.View.{doubt};
 ghost use Rattle.sqlite.specs.State.{HasCleanDisk};
 ghost use Rattle.sqlite.specs.Held.{state};
-ghost use Rattle.desk_sql.specs.Rows.{is_by, is_of, is_rival, tables_of, with_volumes, Lists};
+ghost use Rattle.desk_sql.specs.Rows.{is_by, is_of, tables_of, with_volumes, Lists};
 ghost use Rattle.desk_sql.specs.Effects.{IsReady, IsKept};
 
 use crate::answer::answer;
@@ -121,45 +121,6 @@ pub fn own_plans<S: Alter, T: TakeRow>(
          FROM plan JOIN volume ON volume.operator = plan.operator AND volume.id = plan.id \
          WHERE plan.operator = ?1 ORDER BY plan.id, volume.place",
         params![operator],
-        taker,
-    )
-}
-
-/// Hands over the same of each plan that is not closed, but for the plan of this operator with this id.
-/// By operator, id and place.
-///
-/// # Errors
-///
-/// What a query or the taker may fail with. Nothing is said of what the taker has taken then.
-pub fn rivals<S: Alter, T: TakeRow>(
-    connection: &mut Connection<S>,
-    operator: &str,
-    id: &str,
-    taker: &mut T,
-) -> Result<(), Error>
-    requires ready { IsReady S.Store connection.old }
-    requires settled { connection.old.in_transaction ≡ false }
-    requires fresh { T.has_taken taker.old [] }
-    ensures value { HasCleanDisk (state S.Store connection.new)
-        → OnOk result ((rows : List Values) × Lists (0 ∷ 1 ∷ 5 ∷ [])
-        (with_volumes (is_rival operator.now id.now)
-        (tables_of (state S.Store connection.old).now.trees)) rows × T.has_taken taker.new rows) }
-    ensures open { HasCleanDisk (state S.Store connection.new)
-        → OnOk result (IsTrue (state S.Store connection.old).is_open) }
-    ensures kept { IsKept S.Store connection.old connection.new }
-    ensures mode { connection.new.in_transaction ≡ false }
-    ensures doubt { doubt (state S.Store connection.old).is_clean ≤ doubt
-        (state S.Store connection.new).is_clean }
-    ensures faults { (state S.Store connection.old).faults ≤ (state S.Store connection.new).faults }
-{
-    hand_over(
-        connection,
-        "SELECT plan.operator, plan.id, plan.priority, plan.usage, plan.aircraft, volume.place, \
-         volume.lower, volume.upper, volume.start, volume.stop, volume.asked \
-         FROM plan JOIN volume ON volume.operator = plan.operator AND volume.id = plan.id \
-         WHERE plan.usage <> 2 AND (plan.operator <> ?1 OR plan.id <> ?2) \
-         ORDER BY plan.operator, plan.id, volume.place",
-        params![operator, id],
         taker,
     )
 }

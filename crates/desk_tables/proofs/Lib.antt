@@ -12,6 +12,7 @@ pub mod StoreLemmas
 pub mod ListingLemmas
 pub mod JoinLemmas
 pub mod JoinedLemmas
+pub mod HeldLemmas
 pub mod RecordLemmas
 pub mod ClearLemmas
 pub mod CloseLemmas

@@ -5,6 +5,7 @@ pub mod TableChanges
 pub mod Reading
 pub mod Gathering
 pub mod Lookups
+pub mod Rivals
 pub mod Store
 pub mod Records
 pub mod Opening

@@ -13,6 +13,7 @@ mod opening;
 mod readers;
 mod reading;
 mod records;
+mod rivals;
 mod store;
 
 pub use open::{AdoptFault, OpenFault};

@@ -116,7 +116,7 @@ impl TakeRow for Gather {
 }
 
 // The error with which a taker of rows gives up.
-fn error_of(fault: StoreFault) -> Error
+pub(crate) fn error_of(fault: StoreFault) -> Error
     ensures { (result ≡ Error.SqliteFailure ErrorCode.OutOfMemory) ↔ (fault ≡ StoreFault.OutOfMemory) }
 {
     match fault {

@@ -1,6 +1,6 @@
 //! What a store answers, read from its tables.
 
-ghost use Rattle.std.specs.Prelude.{◌≡◌, ◌≤◌, List, IfOk, IfSome, IsOk, OnOk, filter, length, map};
+ghost use Rattle.std.specs.Prelude.{◌≡◌, ◌≤◌, List, IfOk, IfSome, IsOk, OnOk, length, map};
 ghost use Rattle.std.specs.List.{AllByRecursion, AllZip};
 ghost use Rattle.sqlite_trees.specs.View.{doubt};
 ghost use Rattle.sqlite.specs.State.{HasCleanDisk};
@@ -8,7 +8,6 @@ ghost use Rattle.sqlite.specs.Held.{state};
 ghost use Rattle.desk_rules.specs.Limits.{max_plans, max_priority};
 ghost use Rattle.desk_rules.specs.declared.plan.PlanRow.{PlanRow as Plan};
 ghost use Rattle.desk_store.specs.World.{AreInOrder, Filed, ceiling_of, plans_of, stored_of};
-ghost use Rattle.desk_store.specs.Rows.{is_rival};
 ghost use Rattle.desk_store.specs.Rivals.{AreRivals};
 ghost use Rattle.desk_tables.specs.Tables.{plan_rows, volume_rows};
 ghost use Rattle.desk_tables.specs.Content.{IsBlock, IsContent, IsId, IsPlan};
@@ -20,14 +19,15 @@ ghost use Rattle.desk_tables.specs.Store.{Stands};
 use crate::kept::Kept;
 use crate::listing::Gather;
 use crate::reading::{area_in, ceiling_in, fault_of, plan_in};
+use crate::rivals::{Rivals, reach_of};
 use desk_rules::operator::Operator;
 use desk_rules::plan::PlanRow;
 use desk_rules::plan_id::PlanId;
 use desk_sql::{
-    operator_named, own_count as plan_count, own_plans as own_listing, plan_of,
-    rivals as rival_listing, volumes_of,
+    operator_named, own_count as plan_count, own_plans as own_listing, plan_of, rival_spans,
+    volumes_of,
 };
-use desk_store::{StoreFault, held_slabs};
+use desk_store::StoreFault;
 use sqlite::{Connection, Error, Row};
 use sqlite_trees::store::Alter;
 use std::alloc::Global;
@@ -212,27 +212,15 @@ pub(crate) fn own_count<S: Alter>(
     }
 }
 
-// The live plans but the operator's own of the id, ascending by operator and id.
-fn rival_plans<S: Alter>(
-    alloc: Global,
-    connection: &mut Connection<S>,
-    kept: &Kept,
-    operator: &Operator,
-    id: &PlanId,
-) -> Result<Vec<PlanRow>, StoreFault>
-    requires { Stands S.Store connection.old kept.now.world }
-    ensures value { HasCleanDisk (state S.Store connection.new) →
-        IfOk result (λ rows. rows.items ≡
-        map (λ p. p.row) (filter (is_rival operator.now id.now) kept.now.world.plans)) }
-    ensures stands { Stands S.Store connection.new kept.now.world }
-    ensures doubt { doubt (state S.Store connection.old).is_clean
-        ≤ doubt (state S.Store connection.new).is_clean }
+// The slabs of spans that were handed over, if all were.
+fn held_by(handed: Result<(), Error>, rivals: Rivals) -> Result<Vec<Held>, StoreFault>
+    ensures whole { OnOk result (IsOk handed) }
+    ensures value { IfOk result (λ helds. helds.items ≡ rivals.helds.items) }
 {
-    let mut buffer = [0u8; 36];
-    let text = id.encode(&mut buffer);
-    let mut gather = Gather::new(alloc);
-    let taken = rival_listing(connection, operator.as_str(), text, &mut gather);
-    gathered(taken, gather)
+    match handed {
+        Ok(()) => Ok(rivals.finish()),
+        Err(e) => Err(fault_of(e)),
+    }
 }
 
 /// The slabs that live plans but the operator's own of the id hold, of those of a priority at least,
@@ -241,7 +229,7 @@ fn rival_plans<S: Alter>(
 /// # Errors
 ///
 /// `OutOfMemory` if memory runs out. `Store` if SQLite refuses the query for another cause, or if
-/// the rows are no plans'.
+/// a row is no slab's.
 pub(crate) fn rivals<S: Alter>(
     alloc: Global,
     connection: &mut Connection<S>,
@@ -258,6 +246,10 @@ pub(crate) fn rivals<S: Alter>(
     ensures doubt { doubt (state S.Store connection.old).is_clean
         ≤ doubt (state S.Store connection.new).is_clean }
 {
-    let plans = rival_plans(alloc, connection, kept, operator, id)?;
-    Ok(held_slabs(alloc, &plans, least, extent)?)
+    let mut buffer = [0u8; 36];
+    let text = id.encode(&mut buffer);
+    let mut rivals = Rivals::new(alloc);
+    let reach = reach_of(extent, least);
+    let handed = rival_spans(connection, operator.as_str(), text, reach, &mut rivals);
+    held_by(handed, rivals)
 }

@@ -38,7 +38,7 @@ pub(crate) fn fault_of(error: Error) -> StoreFault
 }
 
 // The number in a column.
-fn narrow_at(row: &Row, at: usize) -> Result<i32, StoreFault>
+pub(crate) fn narrow_at(row: &Row, at: usize) -> Result<i32, StoreFault>
     ensures value { IfOk result (λ n. column row.now at ≡ Int n) }
     ensures none { IfErr result (λ e. e ≡ StoreFault.Store →
         (n : ℤ) → FitsSigned w32 n → column row.now at ≢ Int n) }
@@ -50,7 +50,7 @@ fn narrow_at(row: &Row, at: usize) -> Result<i32, StoreFault>
 }
 
 // The number in a column.
-fn wide_at(row: &Row, at: usize) -> Result<i64, StoreFault>
+pub(crate) fn wide_at(row: &Row, at: usize) -> Result<i64, StoreFault>
     ensures value { IfOk result (λ n. column row.now at ≡ Int n) }
     ensures none { IfErr result (λ e. e ≡ StoreFault.Store → (n : ℤ) → column row.now at ≢ Int n) }
 {

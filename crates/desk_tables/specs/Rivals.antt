@@ -1,0 +1,38 @@
+-- Slabs that are held, as rows of `span` show them.
+use Rattle.std.specs.Prelude.{◌≡◌, ℕ, pos, List}
+use Rattle.std.specs.List.{AllZip}
+use Rattle.sqlite_value.specs.declared.value.Value.TheVariants.{Int}
+use Rattle.sqlite_value.specs.Order.{Row, column}
+use Rattle.volume4d.specs.declared.slab.Slab.{Slab}
+use Rattle.volume4d.specs.declared.slab.Held.{Held}
+use Rattle.desk_sql.specs.declared.rivals.Reach.{Reach}
+
+-- the columns of `span` from `first` to `stop` are a slab's
+pub record IsSlabIn (row : Row) (slab : Slab) : Type 0 where
+  pub first : column row 0 ≡ Int (pos slab.first)
+  pub last : column row 1 ≡ Int (pos slab.last)
+  pub lower : column row 2 ≡ Int slab.lower
+  pub upper : column row 3 ≡ Int slab.upper
+  pub start : column row 4 ≡ Int slab.start
+  pub end : column row 5 ≡ Int slab.end
+
+-- and `priority` is its plan's
+pub record IsHeldIn (row : Row) (held : Held) : Type 0 where
+  pub slab : IsSlabIn row held.slab
+  pub priority : column row 6 ≡ Int (pos held.priority)
+
+-- one held slab for each row, in the same order
+abbrev pub HasTakenHelds : List Held → List Row → Type 0
+HasTakenHelds helds rows = AllZip IsHeldIn rows helds
+
+-- what spans are asked for that may hold a point of an extent, at a priority at least
+abbrev pub reach_of : Slab → ℕ → Reach
+reach_of extent least = record {
+  first = pos extent.first;
+  last = pos extent.last;
+  lower = extent.lower;
+  upper = extent.upper;
+  start = extent.start;
+  stop = extent.end;
+  priority = least;
+}
