@@ -2,18 +2,13 @@
 use Rattle.std.proofs.Common.{◌≡◌, ℕ, Bool, true, false, ◌&&◌, cond, not, List, [], ◌∷◌, map, Option, None, refl, sym, ap, ◌∙◌}
 use Rattle.std.specs.List.{filter}
 use Rattle.desk_rules.specs.declared.plan.PlanRow.{PlanRow}
-use Rattle.volume4d.specs.declared.slab.Slab.{Slab}
-use Rattle.volume4d.specs.declared.slab.Held.{Held}
 use Rattle.volume4d.specs.Point.{Point}
-use Rattle.volume4d.specs.Volume.{area_has}
 use Rattle.volume4d.specs.Level.{greater}
 use Rattle.volume4d.specs.LevelLaws.{greater_assoc, greater_comm, level_where}
 use Rattle.desk_rules.specs.PlanLaws.{top_priority-cons, top_priority-nil}
-use Rattle.desk_rules.specs.Plan.{is_live, row_holds, top_priority}
-use Rattle.desk_rules.specs.Conflict.{at_least}
+use Rattle.desk_rules.specs.Plan.{row_holds, top_priority}
 use Rattle.desk_store.specs.World.{Filed, World, rows_by, is_by, has_id, others_of, held, held_at}
-use Rattle.desk_store.specs.Rows.{is_own, is_rival, rival_level, rivals_top}
-use Rattle.desk_store.specs.Rivals.{HaveLevel, AreRivals}
+use Rattle.desk_store.specs.Rows.{is_own, rival_level, rivals_top}
 
 -- one more plan
 pub rivals_top-cons :
@@ -88,44 +83,3 @@ pub held_by_rivals :
     → rivals_top o id w.plans x ≡ held_at (rows_by o w.plans) (held w o) id x
 unfolding held_at held others_of own_top other_top
 held_by_rivals o id w x = split o id x w.plans
-
-none_held : (row : PlanRow) (x : Point) → is_live row.usage ≡ false → row_holds row x ≡ false
-unfolding row_holds
-none_held row x e = ap (λ b. b && area_has row.area x) e
-
--- a plan that isn't live holds nothing, so that the live ones hold what all do
-live_top :
-    (o id : List ℕ) (ps : List Filed) (x : Point)
-    → top_priority (map (λ p. p.row) (filter (is_rival o id) ps)) x ≡ rivals_top o id ps x
-unfolding rivals_top
-live_top o id [] x = refl
-live_top o id (p ∷ ps) x =
-    by_tests (is_live p.row.usage) (not (is_own o id p)) refl (live_top o id ps x) where
-      live : List PlanRow
-      live = map (λ q. q.row) (filter (is_rival o id) ps)
-
-      others : List PlanRow
-      others = map (λ q. q.row) (filter (λ q. not (is_own o id q)) ps)
-
-      by_tests : (l b : Bool) → is_live p.row.usage ≡ l → top_priority live x ≡ top_priority others x
-          → top_priority (map (λ q. q.row)
-          (cond (l && b) (p ∷ filter (is_rival o id) ps) (filter (is_rival o id) ps))) x
-          ≡ top_priority (map (λ q. q.row)
-          (cond b (p ∷ filter (λ q. not (is_own o id q)) ps) (filter (λ q. not (is_own o id q)) ps))) x
-      by_tests true true e ih = top_priority-cons p.row live x
-          ∙ ap (greater (level_where (row_holds p.row x) p.row.priority)) ih
-          ∙ sym (top_priority-cons p.row others x)
-      by_tests true false e ih = ih
-      by_tests false true e ih = ih
-          ∙ sym (top_priority-cons p.row others x
-          ∙ ap (λ b. greater (level_where b p.row.priority) (top_priority others x)) (none_held p.row x e))
-      by_tests false false e ih = ih
-
--- slabs that have the levels of the live plans but the operator's own of the id are its rivals' slabs
-pub are_rivals :
-    (w : World) (o id : List ℕ) (least : ℕ) (extent : Slab) (rows : List PlanRow) (helds : List Held)
-    → rows ≡ map (λ p. p.row) (filter (is_rival o id) w.plans)
-    → HaveLevel extent helds (λ x. at_least least (top_priority rows x)) → AreRivals w o id least extent helds
-are_rivals w o id least extent rows helds are levels = λ x inside.
-    levels x inside ∙ ap (at_least least) (ap (λ rs. top_priority rs x) are ∙ live_top o id w.plans x
-    ∙ held_by_rivals o id w x)

@@ -3,16 +3,12 @@ use Rattle.std.specs.Prelude.{ℕ, List, Bool, not, ◌&&◌, Option, map}
 use Rattle.std.specs.List.{filter}
 use Rattle.volume4d.specs.Point.{Point}
 use Rattle.volume4d.specs.LevelLaws.{level_where}
-use Rattle.desk_rules.specs.Plan.{is_live, row_holds, top_priority}
+use Rattle.desk_rules.specs.Plan.{row_holds, top_priority}
 use Rattle.desk_store.specs.World.{Filed, is_by, has_id}
 
 -- the operator's own plan of the id
 abbrev pub is_own : List ℕ → List ℕ → Filed → Bool
 is_own operator id p = is_by operator p && has_id id p.row
-
--- a live plan, but for that one
-abbrev pub is_rival : List ℕ → List ℕ → Filed → Bool
-is_rival operator id p = is_live p.row.usage && not (is_own operator id p)
 
 -- the priority that a plan other than that one holds at a point, or none
 unfoldable pub rival_level : List ℕ → List ℕ → Filed → Point → Option ℕ

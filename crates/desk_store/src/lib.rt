@@ -3,7 +3,6 @@
 
 mod change;
 mod fault;
-mod holding;
 mod list;
 mod plan;
 mod store;
@@ -12,6 +11,5 @@ mod tests;
 
 pub use change::Change;
 pub use fault::StoreFault;
-pub use holding::held_slabs;
 pub use list::ListStore;
 pub use store::PlanStore;

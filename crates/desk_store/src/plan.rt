@@ -100,7 +100,10 @@ impl Plan {
     pub fn is_rival(&self, least: u32) -> bool
         ensures { result ≡ (is_live self.now.usage && nat_le least self.now.priority) }
     {
-        is_holding(self.usage, self.priority, least)
+        if !self.usage.is_live() {
+            return false;
+        }
+        self.priority >= least
     }
 
     /// Appends the slabs of its area that meet an extent, at its priority.
@@ -116,22 +119,8 @@ impl Plan {
     }
 }
 
-/// Whether a plan of the usage is live, and of a priority at least.
-pub(crate) fn is_holding(usage: Usage, priority: u32, least: u32) -> bool
-    ensures { result ≡ (is_live usage && nat_le least priority) }
-{
-    if !usage.is_live() {
-        return false;
-    }
-    priority >= least
-}
-
-/// Appends the slabs that meet an extent, at a priority.
-///
-/// # Errors
-///
-/// `AllocError` for want of memory.
-pub(crate) fn push_helds(
+// Appends the slabs that meet an extent, at a priority.
+fn push_helds(
     helds: &mut Vec<Held>,
     slabs: &[Slab],
     priority: u32,
