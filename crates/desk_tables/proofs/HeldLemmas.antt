@@ -1,18 +1,18 @@
 -- The greatest priority that the rows of `span` hold at a point.
-use Rattle.std.proofs.Common.{◌≡◌, ℕ, ℤ, pos, ◌+◌, ◌<◌, max, Bool, true, false, leb, MatchBool, ◌&&◌, ◌||◌, not, cond, List, [], ◌∷◌, ◌++◌, drop, map, Option, Some, None, refl, sym, ap, ap₂, subst, ◌∙◌, arith, Less, Equal, Greater, IsPermutation}
+use Rattle.std.proofs.Common.{◌≡◌, ℕ, ℤ, pos, ◌+◌, max, Bool, true, false, leb, MatchBool, ◌&&◌, ◌||◌, not, cond, List, [], ◌∷◌, ◌++◌, map, Option, Some, None, refl, sym, ap, ◌∙◌, arith, Less, Equal, Greater, IsPermutation}
 use Rattle.std.specs.Prelude.{int_le, int_lt, nat_le, unsigned_abs}
-use Rattle.std.specs.List.{AllByRecursion, AllZip, filter}
-use Rattle.std.specs.Ordering.{is_lt, is_le, is_gt, is_ge, int_cmp}
+use Rattle.std.specs.List.{filter}
+use Rattle.std.specs.Ordering.{is_lt, is_le, is_gt, is_ge}
 use Rattle.std.proofs.Math.Bool.{and_assoc, and-or_distrib_left, and-or_distrib_right, and-false}
 use Rattle.std.proofs.lemmas.Int.{ints}
 use Rattle.std.proofs.lemmas.Bool.{and_parts}
 use Rattle.std.proofs.lemmas.Bool.Decides.{nat_tests}
 use Rattle.sqlite_value.specs.declared.value.Value.{Value}
 use Rattle.sqlite_value.specs.declared.value.Value.TheVariants.{Null, Int, Real, Text, Blob}
-use Rattle.sqlite_value.specs.Order.{Row, column, value_cmp}
+use Rattle.sqlite_value.specs.Order.{Row, column}
 use Rattle.sqlite_value.proofs.OrderLemmas.{value_cmp-Int}
 use Rattle.sqlite_keyed.proofs.ListLemmas.{along_permutation}
-use Rattle.s2_hilbert.specs.Curve.{position_of, grid_leaf_at}
+use Rattle.s2_hilbert.specs.Curve.{position_of}
 use Rattle.s2_hilbert.specs.CurveLaws.{leaf_undone}
 use Rattle.s2_cover.specs.declared.spans.Span.{Span}
 use Rattle.s2_cover.specs.Ranges.{IsRanges, span_has, spans_have}
@@ -29,7 +29,6 @@ use Rattle.desk_rules.specs.Conflict.{at_least}
 use Rattle.desk_rules.specs.Plan.{is_live, row_holds}
 use Rattle.desk_sql.specs.Rows as sql
 use Rattle.desk_sql.specs.Rows.{Tables, is_at_most, is_at_least, is_below, is_above, differs, held_columns}
-use Rattle.desk_sql.specs.declared.rivals.Reach.{Reach}
 use Rattle.desk_store.specs.World.{Filed, World}
 use Rattle.desk_store.specs.Rows.{is_own, rival_level, rivals_top}
 use Rattle.desk_store.specs.Rivals.{AreRivals}

@@ -1,8 +1,7 @@
 -- The join of plans with volumes, of the plans of a world.
-use Rattle.std.proofs.Common.{◌≡◌, ℕ, pos, ◌+◌, ◌<◌, Bool, true, false, ◌&&◌, ◌||◌, not, cond, List, [], ◌∷◌, ◌++◌, length, map, Some, refl, sym, ap, subst, ◌∙◌, arith, Less, Equal, Greater, IsPermutation}
+use Rattle.std.proofs.Common.{◌≡◌, ℕ, pos, ◌+◌, ◌<◌, Bool, true, false, ◌&&◌, cond, List, [], ◌∷◌, ◌++◌, length, map, Some, refl, sym, ap, subst, ◌∙◌, arith, Less, Equal, IsPermutation}
 use Rattle.std.specs.List.{AllByRecursion, filter, find, flat_map}
 use Rattle.std.specs.List.Sorted.{IsStrictlySortedBy}
-use Rattle.std.specs.declared.cmp.Ordering.{Ordering}
 use Rattle.std.specs.Ordering.{ordering_then, ordering_reverse, is_eq}
 use Rattle.std.specs.Cmp.Lexicographic.{nat_list_cmp_total}
 use Rattle.std.proofs.lemmas.Cmp.{tied_itself}
@@ -11,7 +10,7 @@ use Rattle.std.proofs.lemmas.List.Kept.{IsStrictlySortedBy-filter}
 use Rattle.std.proofs.lemmas.List.Sorted.{length_permutation, IsPermutation-trans, IsPermutation-map}
 use Rattle.sqlite_value.specs.declared.value.Value.TheVariants.{Int, Text}
 use Rattle.sqlite_value.specs.Order.{Row, value_cmp}
-use Rattle.sqlite_value.proofs.OrderLemmas.{value_cmp_total, value_cmp-Text, value_cmp-Int}
+use Rattle.sqlite_value.proofs.OrderLemmas.{value_cmp_total, value_cmp-Text}
 use Rattle.sqlite_trees.specs.Tree.{IsAscending}
 use Rattle.sqlite_keyed.proofs.ListLemmas.{IsPermutation-filter, IsPermutation-flat_map, IsPermutation-flat_map_each, ascending-append}
 use Rattle.volume4d.specs.Volume.{Block}
@@ -21,11 +20,10 @@ use Rattle.desk_store.specs.World.{Filed, World, text_cmp, filed_cmp, is_by, pla
 use Rattle.desk_store.specs.OrderLaws.{all_filter, all_append, all_kept, by_ids, name_of}
 use Rattle.desk_store.specs.Rows.{is_own}
 use Rattle.desk_tables.specs.Tables.{id_text, plan_row, plan_rows, volume_row, area_rows, volume_rows, AreTables}
-use Rattle.desk_tables.specs.Content.{IsId, IsPlan, IsContent}
+use Rattle.desk_tables.specs.Content.{IsPlan, IsContent}
 use Rattle.desk_tables.specs.Reading.{joined_from, joined_rows, listing_rows}
 use Rattle.desk_tables.specs.Lookups.{one_or_none}
 use Rattle.desk_tables.proofs.IdLemmas.{text_order}
-use Rattle.desk_tables.proofs.RowLemmas.{after_key}
 use Rattle.desk_tables.proofs.FilterLemmas.{ArePlans, turned, own_row, volumes_filtered}
 use Rattle.desk_tables.proofs.ListingLemmas.{in_order, places_less, one_own, filed_total, own_at}
 
