@@ -2,14 +2,14 @@
 use Rattle.std.specs.Prelude.{ℕ, List, All, ⊤, ◌≤◌, Option, Some, None, if◌then◌else◌, bytes_eq, codes, string_bytes}
 use Rattle.std.specs.Int.{IsInRange}
 use Rattle.desk_wire.specs.Moments.{IsMoment}
-use Rattle.uss_desk.specs.declared.line.Database.{Database}
-use Rattle.uss_desk.specs.declared.line.Database.TheVariants.{InMemory, File}
-use Rattle.uss_desk.specs.declared.line.Enrol.{Enrol as EnrolWords}
-use Rattle.uss_desk.specs.declared.line.Enrolment.{Enrolment}
-use Rattle.uss_desk.specs.declared.line.Line.{Line}
-use Rattle.uss_desk.specs.declared.line.Line.TheVariants.{Play, Token, Serve, Cover, Enrol}
-use Rattle.uss_desk.specs.declared.line.Play.{Play as PlayWords}
-use Rattle.uss_desk.specs.declared.line.Serve.{Serve as ServeWords}
+use Rattle.desk_line.specs.declared.line.Database.{Database}
+use Rattle.desk_line.specs.declared.line.Database.TheVariants.{InMemory, File}
+use Rattle.desk_line.specs.declared.line.Enrol.{Enrol as EnrolWords}
+use Rattle.desk_line.specs.declared.line.Enrolment.{Enrolment}
+use Rattle.desk_line.specs.declared.line.Line.{Line}
+use Rattle.desk_line.specs.declared.line.Line.TheVariants.{Play, Token, Serve, Cover, Enrol}
+use Rattle.desk_line.specs.declared.line.Play.{Play as PlayWords}
+use Rattle.desk_line.specs.declared.line.Serve.{Serve as ServeWords}
 
 -- the greatest ceiling
 abbrev pub max_ceiling : ℕ

@@ -5,9 +5,9 @@ ghost use Rattle.desk_run.specs.Faults.{IsBreakdown};
 ghost use Rattle.desk_store.specs.Faults.{IsHonest};
 ghost use Rattle.uss_desk.specs.Enrolling as enrolling;
 ghost use Rattle.uss_desk.specs.Enrolling.{with_operators};
-ghost use Rattle.uss_desk.specs.Exits as spec;
-ghost use Rattle.uss_desk.specs.Exits.{exit_status};
-ghost use Rattle.uss_desk.specs.Lines.{AreEnrolments, HasDesk, IsLine, IsPlay, max_ceiling};
+ghost use Rattle.desk_line.specs.Exits as spec;
+ghost use Rattle.desk_line.specs.Exits.{exit_status};
+ghost use Rattle.desk_line.specs.Lines.{AreEnrolments, HasDesk, IsLine, IsPlay, max_ceiling};
 ghost use Rattle.uss_desk.specs.Playing.{IsEnrolled, IsLinePlayed, IsNotPlayed, IsPlayed, status_after};
 
 #[cfg(test)]
@@ -15,8 +15,7 @@ mod kept_tests;
 #[cfg(test)]
 mod tests;
 
-use crate::failure::{Failure, conclude};
-use crate::line::{Enrolment, Line, Play};
+use desk_line::{Enrolment, Failure, Line, Play, conclude};
 use desk_run::{Desk, DeskFault};
 use desk_store::PlanStore;
 use desk_wire::{PlayEnd, play_all, write_whole};

@@ -2,8 +2,8 @@
 
 ghost use Rattle.std.specs.Prelude.{◌≡◌, ◌≤◌, IfOk, IfSome, OnOk, option_map, codes};
 ghost use Rattle.clap.specs.Matches.{found_of, first_value};
-ghost use Rattle.uss_desk.specs.Lines.{AreEnrolments, IsEnrol, IsLine, IsPlay, IsServe, max_ceiling};
-ghost use Rattle.uss_desk.specs.Lines.{file_of, named_file};
+ghost use Rattle.desk_line.specs.Lines.{AreEnrolments, IsEnrol, IsLine, IsPlay, IsServe, max_ceiling};
+ghost use Rattle.desk_line.specs.Lines.{file_of, named_file};
 
 #[cfg(test)]
 mod tests;
@@ -54,32 +54,41 @@ pub enum Database {
 /// The words of `play`.
 #[derive(Debug, Drop)]
 pub struct Play {
+    /// Where operators and plans are kept.
     pub database: Database,
     /// The moment of all requests, a Unix second from 0 to 253,370,764,800.
     pub moment: i64,
+    /// The operators, in the order given; a name may be there twice.
     pub enrolments: Vec<Enrolment>,
 }
 
 /// The words of `serve`.
 #[derive(Debug, Drop)]
 pub struct Serve {
+    /// Where operators and plans are kept.
     pub database: Database,
     /// The port of 127.0.0.1 that is listened at, 1 to 65,535.
     pub port: u16,
     /// How many connections are served, 1 to 1,000,000.
     pub connections: u32,
+    /// The operators, in the order given; a name may be there twice.
     pub enrolments: Vec<Enrolment>,
 }
 
 /// The words of `cover`: the parts of a rectangle of leaves, of which nothing is known yet.
 #[derive(Clone, Copy, Debug)]
 pub struct Cover {
+    /// The face, 0 to 5.
     pub face: u8,
+    /// The least coordinate `i` of a leaf.
     pub i_min: u32,
+    /// The greatest coordinate `i`.
     pub i_max: u32,
+    /// The least coordinate `j`.
     pub j_min: u32,
+    /// The greatest coordinate `j`.
     pub j_max: u32,
-    /// The level of the squares.
+    /// The level of the squares, 8 to 24.
     pub level: u8,
     /// Whether a picture is wanted in place of the tokens.
     pub is_picture: bool,
@@ -88,15 +97,18 @@ pub struct Cover {
 /// The words of `enrol`.
 #[derive(Debug, Drop)]
 pub struct Enrol {
+    /// Where the operator is enrolled.
     pub database: Database,
+    /// The operator and its ceiling.
     pub enrolment: Enrolment,
 }
 
 /// An operator to be enrolled, `NAME=CEILING`.
 #[derive(Clone, Copy, Debug)]
 pub struct Enrolment {
+    /// Its name.
     pub operator: Operator,
-    /// At most 1,000.
+    /// The greatest priority that it may use, at most 1,000.
     pub ceiling: u32,
 }
 

@@ -1,10 +1,10 @@
 //! Lines carried out over streams in memory: the exit status, and what is printed.
 
 ghost use Rattle.std.specs.Prelude.{IfOk};
-ghost use Rattle.uss_desk.specs.Lines.{HasDesk, IsEnrol, IsLine};
+ghost use Rattle.desk_line.specs.Lines.{HasDesk, IsEnrol, IsLine};
 
 use super::with_desk;
-use crate::line::{Enrol, Line, read_words};
+use desk_line::{Enrol, Line, read_words};
 use desk_rules::operator::Operator;
 use desk_run::Desk;
 use desk_store::{ListStore, PlanStore};

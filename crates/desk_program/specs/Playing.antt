@@ -4,13 +4,13 @@ use Rattle.std.specs.Io.KnownBytes.{Appends}
 use Rattle.desk_store.specs.World.{World}
 use Rattle.desk_wire.specs.Playing.{HasPlayed}
 use Rattle.desk_wire.specs.declared.play.PlayEnd.{PlayEnd}
-use Rattle.uss_desk.specs.declared.failure.Failure.{Failure}
-use Rattle.uss_desk.specs.declared.line.Line.{Line}
-use Rattle.uss_desk.specs.declared.line.Line.TheVariants as line
-use Rattle.uss_desk.specs.declared.line.Play.{Play as PlayWords}
-use Rattle.uss_desk.specs.declared.line.Enrolment.{Enrolment}
+use Rattle.desk_line.specs.declared.failure.Failure.{Failure}
+use Rattle.desk_line.specs.declared.line.Line.{Line}
+use Rattle.desk_line.specs.declared.line.Line.TheVariants as line
+use Rattle.desk_line.specs.declared.line.Play.{Play as PlayWords}
+use Rattle.desk_line.specs.declared.line.Enrolment.{Enrolment}
 use Rattle.uss_desk.specs.Enrolling.{IsCutOff, Lists, enrolled_line, with_operators}
-use Rattle.uss_desk.specs.Exits.{failure_after, failure_status}
+use Rattle.desk_line.specs.Exits.{failure_after, failure_status}
 
 abbrev pub status_after : Option Failure → ℕ
 status_after None = 0

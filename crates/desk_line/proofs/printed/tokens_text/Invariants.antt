@@ -1,6 +1,6 @@
 use Rattle.std.proofs.Common.{◌≡◌, ◌++◌, drop, string_bytes}
-use Rattle.uss_desk.specs.Printing.{token_lines}
-use Rattle.uss_desk.proofs.printed.tokens_text.Given as goal
+use Rattle.desk_line.specs.Printing.{token_lines}
+use Rattle.desk_line.proofs.printed.tokens_text.Given as goal
 
 -- the tokens of the others are still to come
 abbrev pub invariant-loop-cell : goal.invariant-loop-cell

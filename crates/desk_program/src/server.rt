@@ -5,15 +5,14 @@ ghost use Rattle.std.specs.Io.KnownBytes.{Appends};
 ghost use Rattle.desk_store.specs.Faults.{IsHonest};
 ghost use Rattle.desk_wire.specs.Moments.{IsMoment};
 ghost use Rattle.uss_desk.specs.Enrolling.{with_operators};
-ghost use Rattle.uss_desk.specs.Exits.{failure_at, failure_status};
-ghost use Rattle.uss_desk.specs.Lines.{IsServe};
+ghost use Rattle.desk_line.specs.Exits.{failure_at, failure_status};
+ghost use Rattle.desk_line.specs.Lines.{IsServe};
 ghost use Rattle.uss_desk.specs.Serving.{AreServed, listening_line};
 
 #[cfg(test)]
 mod tests;
 
-use crate::failure::{Failure, conclude};
-use crate::line::Serve;
+use desk_line::{Failure, Serve, conclude};
 use crate::program::enrol_all;
 use desk_run::Desk;
 use desk_store::PlanStore;

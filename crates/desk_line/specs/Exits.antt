@@ -8,16 +8,14 @@ use Rattle.desk_wire.specs.declared.stream.ServeFault.{ServeFault}
 use Rattle.desk_wire.specs.declared.stream.ServeFault.TheVariants as serve
 use Rattle.desk_wire.specs.declared.stream.Served.{Served}
 use Rattle.desk_wire.specs.declared.stream.Served.TheVariants.{Answered, End}
-use Rattle.desk_tables.specs.declared.open.OpenFault.{OpenFault}
-use Rattle.desk_tables.specs.declared.open.OpenFault.TheVariants as opening
 use Rattle.s2_cellid.specs.declared.tokens.TokenFault.{TokenFault}
 use Rattle.s2_cellid.specs.declared.tokens.TokenFault.TheVariants as token
 use Rattle.s2_cover.specs.declared.rect.RectFault.{RectFault}
 use Rattle.s2_cover.specs.declared.rect.RectFault.TheVariants as rect
 use Rattle.s2_cover.specs.declared.walk.CoverFault.{CoverFault}
 use Rattle.s2_cover.specs.declared.walk.CoverFault.TheVariants as cover
-use Rattle.uss_desk.specs.declared.failure.Failure.{Failure}
-use Rattle.uss_desk.specs.declared.failure.Failure.TheVariants as failure
+use Rattle.desk_line.specs.declared.failure.Failure.{Failure}
+use Rattle.desk_line.specs.declared.failure.Failure.TheVariants as failure
 
 -- 2 for the words, 3 for the input, 4 for the rest
 abbrev pub failure_status : Failure → ℕ
@@ -35,7 +33,7 @@ failure_status failure.Store = 4
 failure_status failure.Write = 4
 failure_status failure.Network = 4
 failure_status failure.Clock = 4
-failure_status (failure.Open fault) = 4
+failure_status failure.NotADesk = 4
 
 abbrev pub token_word : TokenFault → List ℕ
 token_word token.Empty = codes "empty"
@@ -48,11 +46,6 @@ rect_word rect.Face = codes "face"
 rect_word rect.Coordinate = codes "coordinate"
 rect_word rect.Order = codes "order"
 rect_word rect.Level = codes "level"
-
-abbrev pub open_word : OpenFault → List ℕ
-open_word opening.OutOfMemory = codes "memory"
-open_word opening.Store = codes "store"
-open_word opening.NotADesk = codes "not_a_desk"
 
 abbrev pub failure_word : Failure → List ℕ
 failure_word failure.Value = codes "value"
@@ -69,7 +62,7 @@ failure_word failure.Store = codes "store"
 failure_word failure.Write = codes "write"
 failure_word failure.Network = codes "network"
 failure_word failure.Clock = codes "clock"
-failure_word (failure.Open fault) = open_word fault
+failure_word failure.NotADesk = codes "not_a_desk"
 
 -- 0 if nothing failed
 abbrev pub exit_status : {A : Type 0} → Result A Failure → ℕ

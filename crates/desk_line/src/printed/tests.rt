@@ -1,6 +1,6 @@
 //! What the lines print that need no desk.
 
-ghost use Rattle.uss_desk.specs.Lines.{IsPrintable};
+ghost use Rattle.desk_line.specs.Lines.{IsPrintable};
 
 use super::print_line;
 use crate::line::{Cover, Line};

@@ -1,11 +1,10 @@
 //! Why the program did not do all that it was asked: the exit status, and the word that it prints.
 
 ghost use Rattle.std.specs.Prelude.{◌≡◌};
-ghost use Rattle.uss_desk.specs.Exits as spec;
-ghost use Rattle.uss_desk.specs.declared.failure.Failure.TheVariants as failure;
+ghost use Rattle.desk_line.specs.Exits as spec;
+ghost use Rattle.desk_line.specs.declared.failure.Failure.TheVariants as failure;
 
 use desk_run::DeskFault;
-use desk_tables::OpenFault;
 use desk_wire::{ServeFault, write_whole};
 use s2_cellid::TokenFault;
 use s2_cover::{CoverFault, RectFault};
@@ -43,8 +42,8 @@ pub enum Failure {
     Clock,
     /// An enrolment's ceiling is above 1,000.
     Value,
-    /// The database can't be opened.
-    Open(OpenFault),
+    /// A database has other tables than a desk's, or rows that are no desk's.
+    NotADesk,
 }
 
 impl Failure {
@@ -58,7 +57,7 @@ impl Failure {
             Failure::Unframed | Failure::CutShort | Failure::Read | Failure::Limit => 3,
             Failure::Token(_) | Failure::Rect(_) | Failure::TooManyCells => 3,
             Failure::Broken | Failure::Memory | Failure::Store | Failure::Write => 4,
-            Failure::Network | Failure::Clock | Failure::Open(_) => 4,
+            Failure::Network | Failure::Clock | Failure::NotADesk => 4,
         }
     }
 
@@ -81,19 +80,8 @@ impl Failure {
             Failure::Network => "network",
             Failure::Clock => "clock",
             Failure::Value => "value",
-            Failure::Open(fault) => open_word(&fault),
+            Failure::NotADesk => "not_a_desk",
         }
-    }
-}
-
-/// The word of a database that can't be opened.
-pub fn open_word(fault: &OpenFault) -> &'static str
-    ensures { result.now ≡ spec.open_word fault.now }
-{
-    match fault {
-        OpenFault::OutOfMemory => "memory",
-        OpenFault::Store => "store",
-        OpenFault::NotADesk => "not_a_desk",
     }
 }
 

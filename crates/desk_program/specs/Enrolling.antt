@@ -3,7 +3,7 @@ use Rattle.std.specs.Prelude.{◌≡◌, ◌<◌, ℕ, List, [], ◌∷◌, ◌+
 use Rattle.std.specs.Io.KnownBytes.{Appends}
 use Rattle.desk_store.specs.Changes.{with_operator}
 use Rattle.desk_store.specs.World.{World}
-use Rattle.uss_desk.specs.declared.line.Enrolment.{Enrolment}
+use Rattle.desk_line.specs.declared.line.Enrolment.{Enrolment}
 
 -- each operator under its ceiling, in the order given: a name given twice has its last ceiling
 abbrev pub with_operators : World → List Enrolment → World

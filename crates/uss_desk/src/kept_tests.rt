@@ -2,10 +2,10 @@
 
 ghost use Rattle.std.specs.Prelude.{◌≡◌, false, IfOk, IsTrue};
 ghost use Rattle.sqlite_disk.specs.Memory.{memory_is_usable};
-ghost use Rattle.uss_desk.specs.Lines.{IsPlay};
+ghost use Rattle.desk_line.specs.Lines.{IsPlay};
 
 use super::with_desk;
-use crate::line::{Line, Play, read_words};
+use desk_line::{Line, Play, read_words};
 use desk_run::Desk;
 use desk_store::PlanStore;
 use desk_tables::SqliteStore;

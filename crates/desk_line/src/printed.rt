@@ -7,12 +7,12 @@ ghost use Rattle.s2_cover.specs.Leaves.{leaves_of};
 ghost use Rattle.s2_cover.specs.Ranges.{IsRanges};
 ghost use Rattle.s2_cover.specs.Rectangles.{rect_or_fault};
 ghost use Rattle.s2_cover.specs.declared.spans.Span.{Span};
-ghost use Rattle.uss_desk.specs.Exits.{failure_status};
-ghost use Rattle.uss_desk.specs.Lines.{IsPrintable};
-ghost use Rattle.uss_desk.specs.Printing as spec;
-ghost use Rattle.uss_desk.specs.Printing.{IsCoverText, IsPrinted, IsRectTold, IsTold, rect_parts};
-ghost use Rattle.uss_desk.specs.Printing.{told_of_token};
-ghost use Rattle.uss_desk.specs.declared.failure.Failure.TheVariants.{Memory};
+ghost use Rattle.desk_line.specs.Exits.{failure_status};
+ghost use Rattle.desk_line.specs.Lines.{IsPrintable};
+ghost use Rattle.desk_line.specs.Printing as spec;
+ghost use Rattle.desk_line.specs.Printing.{IsCoverText, IsPrinted, IsRectTold, IsTold, rect_parts};
+ghost use Rattle.desk_line.specs.Printing.{told_of_token};
+ghost use Rattle.desk_line.specs.declared.failure.Failure.TheVariants.{Memory};
 
 #[cfg(test)]
 mod tests;

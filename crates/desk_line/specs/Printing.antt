@@ -10,12 +10,12 @@ use Rattle.s2_cover.specs.Ranges.{IsRanges}
 use Rattle.s2_cover.specs.Rectangles.{RectParts, rect_leaves, rect_or_fault}
 use Rattle.s2_cover.specs.declared.rect.RectFault.{RectFault}
 use Rattle.s2_cover.specs.declared.spans.Span.{Span}
-use Rattle.uss_desk.specs.declared.failure.Failure.{Failure}
-use Rattle.uss_desk.specs.declared.failure.Failure.TheVariants as failure
-use Rattle.uss_desk.specs.declared.line.Cover.{Cover as CoverWords}
-use Rattle.uss_desk.specs.declared.line.Line.{Line}
-use Rattle.uss_desk.specs.declared.line.Line.TheVariants as line
-use Rattle.uss_desk.specs.Exits.{failure_status}
+use Rattle.desk_line.specs.declared.failure.Failure.{Failure}
+use Rattle.desk_line.specs.declared.failure.Failure.TheVariants as failure
+use Rattle.desk_line.specs.declared.line.Cover.{Cover as CoverWords}
+use Rattle.desk_line.specs.declared.line.Line.{Line}
+use Rattle.desk_line.specs.declared.line.Line.TheVariants as line
+use Rattle.desk_line.specs.Exits.{failure_status}
 
 -- the line that tells a cell: a leaf's token is its id in 16 hex digits
 unfoldable pub cell_line : ℕ → List ℕ
