@@ -11,7 +11,7 @@ use Rattle.desk_wire.specs.declared.stream.Served.{Served}
 use Rattle.desk_wire.specs.declared.stream.Served.TheVariants.{Answered, End}
 use Rattle.desk_wire.specs.declared.stream.ServeFault.{ServeFault}
 use Rattle.desk_wire.specs.declared.stream.ServeFault.TheVariants.{Read, Write, CutShort, OutOfMemory}
-use Rattle.uss_desk.specs.Serving.{AreServed}
+use Rattle.desk_program.specs.Serving.{AreServed}
 
 -- what is left by requests, and then by others
 left_by_both : (xs : List Sent) (w : World) (ys : List Sent) → world_left w (xs ++ ys) ≡ world_left (world_left w xs) ys

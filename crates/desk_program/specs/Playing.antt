@@ -9,8 +9,8 @@ use Rattle.desk_line.specs.declared.line.Line.{Line}
 use Rattle.desk_line.specs.declared.line.Line.TheVariants as line
 use Rattle.desk_line.specs.declared.line.Play.{Play as PlayWords}
 use Rattle.desk_line.specs.declared.line.Enrolment.{Enrolment}
-use Rattle.uss_desk.specs.Enrolling.{IsCutOff, Lists, enrolled_line, with_operators}
 use Rattle.desk_line.specs.Exits.{failure_after, failure_status}
+use Rattle.desk_program.specs.Enrolling.{IsCutOff, Lists, enrolled_line, with_operators}
 
 abbrev pub status_after : Option Failure → ℕ
 status_after None = 0

@@ -3,15 +3,13 @@
 ghost use Rattle.std.specs.Prelude.{◌≡◌, ◌≤◌, ◌⊎◌, IfErr, IfOk, OnOk, string_bytes};
 ghost use Rattle.desk_run.specs.Faults.{IsBreakdown};
 ghost use Rattle.desk_store.specs.Faults.{IsHonest};
-ghost use Rattle.uss_desk.specs.Enrolling as enrolling;
-ghost use Rattle.uss_desk.specs.Enrolling.{with_operators};
 ghost use Rattle.desk_line.specs.Exits as spec;
 ghost use Rattle.desk_line.specs.Exits.{exit_status};
 ghost use Rattle.desk_line.specs.Lines.{AreEnrolments, HasDesk, IsLine, IsPlay, max_ceiling};
-ghost use Rattle.uss_desk.specs.Playing.{IsEnrolled, IsLinePlayed, IsNotPlayed, IsPlayed, status_after};
+ghost use Rattle.desk_program.specs.Enrolling as enrolling;
+ghost use Rattle.desk_program.specs.Enrolling.{with_operators};
+ghost use Rattle.desk_program.specs.Playing.{IsEnrolled, IsLinePlayed, IsNotPlayed, IsPlayed, status_after};
 
-#[cfg(test)]
-mod kept_tests;
 #[cfg(test)]
 mod tests;
 

@@ -4,16 +4,16 @@ ghost use Rattle.std.specs.Prelude.{◌≡◌, ◌≤◌, ◌⊎◌, IfOk, IfErr
 ghost use Rattle.std.specs.Io.KnownBytes.{Appends};
 ghost use Rattle.desk_store.specs.Faults.{IsHonest};
 ghost use Rattle.desk_wire.specs.Moments.{IsMoment};
-ghost use Rattle.uss_desk.specs.Enrolling.{with_operators};
 ghost use Rattle.desk_line.specs.Exits.{failure_at, failure_status};
 ghost use Rattle.desk_line.specs.Lines.{IsServe};
-ghost use Rattle.uss_desk.specs.Serving.{AreServed, listening_line};
+ghost use Rattle.desk_program.specs.Enrolling.{with_operators};
+ghost use Rattle.desk_program.specs.Serving.{AreServed, listening_line};
 
 #[cfg(test)]
 mod tests;
 
-use desk_line::{Failure, Serve, conclude};
 use crate::program::enrol_all;
+use desk_line::{Failure, Serve, conclude};
 use desk_run::Desk;
 use desk_store::PlanStore;
 use desk_wire::{ServeFault, Served, serve_one, write_whole};

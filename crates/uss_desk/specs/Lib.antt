@@ -1,4 +1,1 @@
-pub mod Enrolling
-pub mod Serving
-pub mod Playing
 pub mod Opening

@@ -4,8 +4,8 @@ ghost use Rattle.std.specs.Prelude.{◌≡◌, false, IfOk, IsTrue};
 ghost use Rattle.sqlite_disk.specs.Memory.{memory_is_usable};
 ghost use Rattle.desk_line.specs.Lines.{IsPlay};
 
-use super::with_desk;
 use desk_line::{Line, Play, read_words};
+use desk_program::with_desk;
 use desk_run::Desk;
 use desk_store::PlanStore;
 use desk_tables::SqliteStore;

@@ -1,7 +1,7 @@
 use Rattle.std.proofs.Common.{◌≡◌, ◌≤◌, drop}
 use Rattle.desk_store.specs.Faults.{IsHonest}
-use Rattle.uss_desk.specs.Enrolling.{with_operators}
-use Rattle.uss_desk.proofs.program.enrol_all.Given as goal
+use Rattle.desk_program.specs.Enrolling.{with_operators}
+use Rattle.desk_program.proofs.program.enrol_all.Given as goal
 
 -- the others are still to be listed
 abbrev pub invariant-loop-enrolment : goal.invariant-loop-enrolment

@@ -2,9 +2,9 @@ use Rattle.std.proofs.Common.{ap, ◌∙◌, inl, subst, to_z, of_z, w64}
 use Rattle.desk_store.specs.Faults.{IsHonest}
 use Rattle.desk_store.specs.FaultLaws.{was_honest}
 use Rattle.desk_wire.specs.Playing.{HasPlayed}
-use Rattle.uss_desk.specs.Enrolling.{with_operators}
-use Rattle.uss_desk.proofs.MomentLemmas.{same_moment}
-use Rattle.uss_desk.proofs.program.play_line.Goals as goal
+use Rattle.desk_program.specs.Enrolling.{with_operators}
+use Rattle.desk_program.proofs.MomentLemmas.{same_moment}
+use Rattle.desk_program.proofs.program.play_line.Goals as goal
 
 pub returns-clause-played : goal.returns-clause-played
 returns-clause-played g c =

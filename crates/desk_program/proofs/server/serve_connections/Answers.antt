@@ -1,7 +1,7 @@
 use Rattle.std.proofs.Common.{◌+◌, arith}
 use Rattle.desk_store.specs.FaultLaws.{was_honest}
-use Rattle.uss_desk.proofs.ServedLemmas.{both_served, fewer_served}
-use Rattle.uss_desk.proofs.server.serve_connections.Goals as goal
+use Rattle.desk_program.proofs.ServedLemmas.{both_served, fewer_served}
+use Rattle.desk_program.proofs.server.serve_connections.Goals as goal
 
 pub returns-in_err-serve_next-clause-served : goal.returns-in_err-serve_next-clause-served
 returns-in_err-serve_next-clause-served g c = λ honest.

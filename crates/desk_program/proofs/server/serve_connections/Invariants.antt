@@ -1,7 +1,7 @@
 use Rattle.std.proofs.Common.{◌≤◌}
 use Rattle.desk_store.specs.Faults.{IsHonest}
-use Rattle.uss_desk.specs.Serving.{AreServed}
-use Rattle.uss_desk.proofs.server.serve_connections.Given as goal
+use Rattle.desk_program.specs.Serving.{AreServed}
+use Rattle.desk_program.proofs.server.serve_connections.Given as goal
 
 -- as many connections as rounds are served
 abbrev pub invariant-loop-before : goal.invariant-loop-before

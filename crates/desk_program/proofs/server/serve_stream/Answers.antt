@@ -2,8 +2,8 @@ use Rattle.std.proofs.Common.{w64, to_z, of_z, sym, subst}
 use Rattle.std.proofs.lemmas.Int.{to_z-of_z}
 use Rattle.desk_store.specs.Faults.{IsHonest}
 use Rattle.desk_wire.specs.Moments.{IsMoment}
-use Rattle.uss_desk.proofs.ServedLemmas.{one_served}
-use Rattle.uss_desk.proofs.server.serve_stream.Goals as goal
+use Rattle.desk_program.proofs.ServedLemmas.{one_served}
+use Rattle.desk_program.proofs.server.serve_stream.Goals as goal
 
 pub returns-in-None-clause-served : goal.returns-in-None-clause-served
 returns-in-None-clause-served g c = λ honest.
