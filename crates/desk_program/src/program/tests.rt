@@ -1,7 +1,7 @@
 //! Lines carried out over streams in memory: the exit status, and what is printed.
 
 ghost use Rattle.std.specs.Prelude.{IfOk};
-ghost use Rattle.desk_line.specs.Lines.{HasDesk, IsEnrol, IsLine};
+ghost use Rattle.desk_line.specs.Lines.{IsEnrol};
 
 use super::with_desk;
 use desk_line::{Enrol, Line, read_words};
@@ -9,6 +9,7 @@ use desk_rules::operator::Operator;
 use desk_run::Desk;
 use desk_store::{ListStore, PlanStore};
 use std::alloc::Global;
+use std::process::Abort;
 use std::test::Fail;
 
 // What a line came to.
@@ -29,18 +30,19 @@ fn play(alloc: Global, bytes: &[u8]) -> Result<Done, Fail> {
     let Ok(Line::Play(play)) = read_words(alloc, &words) else {
         return Err(Fail::from("no line"));
     };
-    carry_out(alloc, &Line::Play(play), bytes)
-}
-
-fn carry_out(alloc: Global, line: &Line, bytes: &[u8]) -> Result<Done, Fail>
-    requires line { IsLine line.now }
-    requires desk { HasDesk line.now }
-{
+    let line = Line::Play(play);
     let mut desk = Desk::new(ListStore::new(alloc));
     let mut input = bytes;
     let mut output = Vec::new(alloc);
     let mut errors = Vec::new(alloc);
-    let status = with_desk(alloc, line, &mut desk, &mut input, &mut output, &mut errors);
+    let status = with_desk(
+        alloc,
+        &line,
+        &mut desk,
+        &mut input,
+        &mut output,
+        &mut errors,
+    );
     Ok(Done {
         status,
         output,
@@ -49,17 +51,35 @@ fn carry_out(alloc: Global, line: &Line, bytes: &[u8]) -> Result<Done, Fail>
     })
 }
 
+// Each row has an input, the exit status, and what is printed to the two writers.
+fn check_plays(
+    rt: &impl Abort,
+    alloc: Global,
+    rows: &[(&[u8], u8, &[u8], &str)],
+) -> Result<(), Fail> {
+    for (bytes, wanted, text, word) in rows {
+        let done = play(alloc, bytes)?;
+        assert_eq!(rt; done.status, *wanted, "{word}");
+        assert_eq!(rt; done.output.as_slice(), *text);
+        assert_eq!(rt; done.errors.as_slice(), word.as_bytes());
+    }
+    Ok(())
+}
+
 #[test]
-fn plays_to_the_end(rt: HostRuntime) -> Result<(), Fail> {
-    let route = b"GET /plans HTTP/1.1\r\n\r\n".as_slice();
-    let done = play(rt.alloc(), route)?;
-    let text = b"HTTP/1.1 404 Not Found\r\ncontent-type: application/json\r\n\
+fn says_how_it_ended(rt: HostRuntime) -> Result<(), Fail> {
+    let no_route = b"HTTP/1.1 404 Not Found\r\ncontent-type: application/json\r\n\
         content-length: 20\r\nconnection: close\r\n\r\n{\"error\":\"no_route\"}"
         .as_slice();
-    assert_eq!(rt; done.status, 0);
-    assert_eq!(rt; done.output.as_slice(), text);
-    assert!(rt; done.errors.is_empty());
-    Ok(())
+    let bad_head = b"HTTP/1.1 400 Bad Request\r\ncontent-type: application/json\r\n\
+        content-length: 20\r\nconnection: close\r\n\r\n{\"error\":\"bad_head\"}"
+        .as_slice();
+    let rows = [
+        (b"GET /plans HTTP/1.1\r\n\r\n".as_slice(), 0, no_route, ""),
+        (b"GET /status", 3, b"", "uss_desk: cut_short\n"),
+        (b"GET\r\n\r\n", 3, bad_head, "uss_desk: unframed\n"),
+    ];
+    check_plays(&rt, rt.alloc(), &rows)
 }
 
 #[test]
@@ -87,56 +107,47 @@ fn enrol_alfa(alloc: Global) -> Result<Enrol, Fail>
     Ok(enrol)
 }
 
-#[test]
-fn tells_of_an_enrolment(rt: HostRuntime) -> Result<(), Fail> {
-    let alloc = rt.alloc();
-    let done = carry_out(alloc, &Line::Enrol(enrol_alfa(alloc)?), b"left unread")?;
-    assert_eq!(rt; done.status, 0);
-    assert_eq!(rt; done.output.as_slice(), b"enrolled alfa 100\n".as_slice());
-    assert!(rt; done.errors.is_empty());
-    let mut store = done.desk.into_store();
-    let alfa = Operator::try_new(b"alfa").ok_or("a name")?;
-    assert_eq!(rt; store.ceiling(&alfa)?, Some(100));
-    Ok(())
-}
-
-// The writer takes eight bytes: the line is cut off, and the operator stays enrolled.
-#[test]
-fn enrols_before_it_prints(rt: HostRuntime) -> Result<(), Fail> {
-    let alloc = rt.alloc();
+// Enrols `alfa` with a writer that takes so many bytes, and compares the exit status and what is printed to
+// the two writers. The operator is enrolled in any case.
+fn check_enrolment(
+    rt: &impl Abort,
+    alloc: Global,
+    room: usize,
+    wanted: u8,
+    text: &str,
+    word: &str,
+) -> Result<(), Fail> {
     let line = Line::Enrol(enrol_alfa(alloc)?);
     let mut desk = Desk::new(ListStore::new(alloc));
-    let mut input = b"".as_slice();
-    let mut room = [0; 8];
-    let mut output = room.as_mut_slice();
+    let mut bytes = [0; 20];
+    let mut output = bytes.get_mut(..room).ok_or("too much room")?;
     let mut errors = Vec::new(alloc);
     let status = with_desk(
         alloc,
         &line,
         &mut desk,
-        &mut input,
+        &mut b"".as_slice(),
         &mut output,
         &mut errors,
     );
-    assert_eq!(rt; status, 4);
-    assert_eq!(rt; room.as_slice(), b"enrolled".as_slice());
-    assert_eq!(rt; errors.as_slice(), b"uss_desk: write\n".as_slice());
+    assert_eq!(rt; status, wanted);
+    let left = output.len();
+    assert_eq!(rt; room.checked_sub(left), Some(text.len()));
+    assert!(rt; bytes.starts_with(text.as_bytes()));
+    assert_eq!(rt; errors.as_slice(), word.as_bytes());
     let alfa = Operator::try_new(b"alfa").ok_or("a name")?;
     assert_eq!(rt; desk.into_store().ceiling(&alfa)?, Some(100));
     Ok(())
 }
 
+// A line that is cut off leaves the operator enrolled.
 #[test]
-fn says_why_it_ended(rt: HostRuntime) -> Result<(), Fail> {
-    let alloc = rt.alloc();
-    let cut = play(alloc, b"GET /status".as_slice())?;
-    assert_eq!(rt; cut.status, 3);
-    assert_eq!(rt; cut.errors.as_slice(), b"uss_desk: cut_short\n".as_slice());
-    let unframed = play(alloc, b"GET\r\n\r\n".as_slice())?;
-    assert_eq!(rt; unframed.status, 3);
-    assert_eq!(rt;
-        unframed.errors.as_slice(),
-        b"uss_desk: unframed\n".as_slice()
-    );
+fn enrols_before_it_prints(rt: HostRuntime) -> Result<(), Fail> {
+    for (room, wanted, text, word) in [
+        (20, 0, "enrolled alfa 100\n", ""),
+        (8, 4, "enrolled", "uss_desk: write\n"),
+    ] {
+        check_enrolment(&rt, rt.alloc(), room, wanted, text, word)?;
+    }
     Ok(())
 }

@@ -4,8 +4,9 @@ use super::{moment_of, serve_connections};
 use desk_rules::operator::Operator;
 use desk_run::Desk;
 use desk_store::ListStore;
+use std::alloc::Global;
 use std::io::{self, Read, Write};
-use std::net::{Ipv4Addr, TcpListener, TcpStream};
+use std::net::{Ipv4Addr, SocketAddr, TcpListener, TcpStream};
 use std::test::Fail;
 use std::time::{Clock, Duration};
 
@@ -35,25 +36,40 @@ impl Clock for Standing {
     }
 }
 
+// A desk at which `alfa` is enrolled.
+fn desk_of_alfa(alloc: Global) -> Result<Desk<ListStore>, Fail> {
+    let mut desk = Desk::new(ListStore::new(alloc));
+    let alfa = Operator::try_new(b"alfa").ok_or("a name")?;
+    desk.enrol(&alfa, 100)?;
+    Ok(desk)
+}
+
+// A client of a port that has written these bytes.
+fn client_of(rt: &HostRuntime, address: SocketAddr, bytes: &[u8]) -> Result<TcpStream, Fail> {
+    let mut client = TcpStream::connect(rt, address)?;
+    client.write_all(bytes)?;
+    Ok(client)
+}
+
+// What a client reads to the end.
+fn read_by(alloc: Global, mut client: TcpStream) -> Result<Vec<u8>, Fail> {
+    let mut answer = Vec::new(alloc);
+    client.read_to_end(&mut answer)?;
+    Ok(answer)
+}
+
 // A client hangs up in mid-request; the one after it has its answer.
 #[test]
 fn serves_after_a_cut(rt: HostRuntime) -> Result<(), Fail> {
     let alloc = rt.alloc();
-    let mut desk = Desk::new(ListStore::new(alloc));
-    let alfa = Operator::try_new(b"alfa").ok_or("a name")?;
-    desk.enrol(&alfa, 100)?;
+    let mut desk = desk_of_alfa(alloc)?;
     let listener = TcpListener::bind(&rt, (Ipv4Addr::LOCALHOST, 0u16))?;
     let address = listener.local_addr()?;
-    let mut cut = TcpStream::connect(&rt, address)?;
-    cut.write_all(&FIRST_PUT[..200])?;
-    drop(cut);
-    let mut client = TcpStream::connect(&rt, address)?;
-    client.write_all(FIRST_PUT)?;
+    drop(client_of(&rt, address, &FIRST_PUT[..200])?);
+    let client = client_of(&rt, address, FIRST_PUT)?;
     let served = serve_connections(alloc, &Standing(1_780_315_000), &listener, 2, &mut desk);
     assert_eq!(rt; served, Ok(()));
-    let mut answer = Vec::new(alloc);
-    client.read_to_end(&mut answer)?;
-    assert_eq!(rt; answer.as_slice(), COMPLETED);
+    assert_eq!(rt; read_by(alloc, client)?.as_slice(), COMPLETED);
     Ok(())
 }
 
