@@ -1,5 +1,6 @@
 -- Lines: what holds of a command line that was read.
-use Rattle.std.specs.Prelude.{ℕ, List, All, ⊤, ◌≤◌, Option, Some, None, if◌then◌else◌, bytes_eq, codes, string_bytes}
+use Rattle.std.specs.Prelude.{ℕ, List, All, ⊤, ◌≤◌, Option, Some, None, if◌then◌else◌, bytes_eq, codes}
+use Rattle.std.specs.Prelude.{string_bytes}
 use Rattle.std.specs.Int.{IsInRange}
 use Rattle.desk_wire.specs.Moments.{IsMoment}
 use Rattle.desk_line.specs.declared.line.Database.{Database}
