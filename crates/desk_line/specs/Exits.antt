@@ -1,0 +1,107 @@
+-- Exits: the status with which the program ends, and the word that it prints.
+use Rattle.std.specs.Prelude.{ℕ, ◌==◌, if◌then◌else◌, List, codes, Option, Some, None, Result, Ok, Err}
+use Rattle.desk_run.specs.declared.fault.DeskFault.{DeskFault}
+use Rattle.desk_run.specs.declared.fault.DeskFault.TheVariants as desk
+use Rattle.desk_wire.specs.declared.play.PlayEnd.{PlayEnd}
+use Rattle.desk_wire.specs.declared.play.PlayEnd.TheVariants as play
+use Rattle.desk_wire.specs.declared.stream.ServeFault.{ServeFault}
+use Rattle.desk_wire.specs.declared.stream.ServeFault.TheVariants as serve
+use Rattle.desk_wire.specs.declared.stream.Served.{Served}
+use Rattle.desk_wire.specs.declared.stream.Served.TheVariants.{Answered, End}
+use Rattle.s2_cellid.specs.declared.tokens.TokenFault.{TokenFault}
+use Rattle.s2_cellid.specs.declared.tokens.TokenFault.TheVariants as token
+use Rattle.s2_cover.specs.declared.rect.RectFault.{RectFault}
+use Rattle.s2_cover.specs.declared.rect.RectFault.TheVariants as rect
+use Rattle.s2_cover.specs.declared.walk.CoverFault.{CoverFault}
+use Rattle.s2_cover.specs.declared.walk.CoverFault.TheVariants as cover
+use Rattle.desk_line.specs.declared.failure.Failure.{Failure}
+use Rattle.desk_line.specs.declared.failure.Failure.TheVariants as failure
+
+-- 2 for the words, 3 for the input, 4 for the rest
+abbrev pub failure_status : Failure → ℕ
+failure_status failure.Value = 2
+failure_status failure.Unframed = 3
+failure_status failure.CutShort = 3
+failure_status failure.Read = 3
+failure_status failure.Limit = 3
+failure_status (failure.Token fault) = 3
+failure_status (failure.Rect fault) = 3
+failure_status failure.TooManyCells = 3
+failure_status failure.Broken = 4
+failure_status failure.Memory = 4
+failure_status failure.Store = 4
+failure_status failure.Write = 4
+failure_status failure.Network = 4
+failure_status failure.Clock = 4
+failure_status failure.NotADesk = 4
+
+abbrev pub token_word : TokenFault → List ℕ
+token_word token.Empty = codes "empty"
+token_word token.TooLong = codes "too_long"
+token_word token.NotHex = codes "not_hex"
+token_word token.NotACell = codes "not_a_cell"
+
+abbrev pub rect_word : RectFault → List ℕ
+rect_word rect.Face = codes "face"
+rect_word rect.Coordinate = codes "coordinate"
+rect_word rect.Order = codes "order"
+rect_word rect.Level = codes "level"
+
+abbrev pub failure_word : Failure → List ℕ
+failure_word failure.Value = codes "value"
+failure_word failure.Unframed = codes "unframed"
+failure_word failure.CutShort = codes "cut_short"
+failure_word failure.Read = codes "read"
+failure_word failure.Limit = codes "limit"
+failure_word (failure.Token fault) = token_word fault
+failure_word (failure.Rect fault) = rect_word fault
+failure_word failure.TooManyCells = codes "too_many_cells"
+failure_word failure.Broken = codes "broken"
+failure_word failure.Memory = codes "memory"
+failure_word failure.Store = codes "store"
+failure_word failure.Write = codes "write"
+failure_word failure.Network = codes "network"
+failure_word failure.Clock = codes "clock"
+failure_word failure.NotADesk = codes "not_a_desk"
+
+-- 0 if nothing failed
+abbrev pub exit_status : {A : Type 0} → Result A Failure → ℕ
+exit_status (Ok done) = 0
+exit_status (Err failure) = failure_status failure
+
+-- what a request without a whole answer means
+abbrev pub serving_failure : ServeFault → Failure
+serving_failure serve.Read = failure.Read
+serving_failure (serve.Write sent) = failure.Write
+serving_failure serve.CutShort = failure.CutShort
+serving_failure serve.OutOfMemory = failure.Memory
+
+-- what the end of a run over the input means; none if the input came to its end
+abbrev pub failure_after : PlayEnd → Option Failure
+failure_after play.End = None
+failure_after play.Unframed = Some failure.Unframed
+failure_after play.Broken = Some failure.Broken
+failure_after play.Limit = Some failure.Limit
+failure_after (play.Fault fault) = Some (serving_failure fault)
+
+-- what a refused enrolment means
+abbrev pub enrolment_failure : DeskFault → Failure
+enrolment_failure desk.OutOfMemory = failure.Memory
+enrolment_failure desk.Store = failure.Store
+enrolment_failure desk.UnknownOperator = failure.Value
+enrolment_failure desk.NoSuchPlan = failure.Value
+enrolment_failure desk.Ceiling = failure.Value
+
+-- what a rectangle without a cover means
+abbrev pub cover_failure : CoverFault → Failure
+cover_failure (cover.TooManyCells looked) = failure.TooManyCells
+cover_failure cover.OutOfMemory = failure.Memory
+
+-- why a desk at a port ends after what came of a connection's request; none if it goes on
+abbrev pub failure_at : Result Served ServeFault → Option Failure
+failure_at (Ok (Answered status framed)) = if status == 500 then Some failure.Broken else None
+failure_at (Ok End) = None
+failure_at (Err serve.OutOfMemory) = Some failure.Memory
+failure_at (Err serve.Read) = None
+failure_at (Err (serve.Write sent)) = None
+failure_at (Err serve.CutShort) = None

@@ -1,0 +1,3 @@
+pub mod Exits
+pub mod Lines
+pub mod Printing

@@ -1,0 +1,90 @@
+-- Lines: what holds of a command line that was read.
+use Rattle.std.specs.Prelude.{ℕ, List, All, ⊤, ◌≤◌, Option, Some, None, if◌then◌else◌, bytes_eq, codes}
+use Rattle.std.specs.Prelude.{string_bytes}
+use Rattle.std.specs.Int.{IsInRange}
+use Rattle.desk_wire.specs.Moments.{IsMoment}
+use Rattle.desk_line.specs.declared.line.Database.{Database}
+use Rattle.desk_line.specs.declared.line.Database.TheVariants.{InMemory, File}
+use Rattle.desk_line.specs.declared.line.Enrol.{Enrol as EnrolWords}
+use Rattle.desk_line.specs.declared.line.Enrolment.{Enrolment}
+use Rattle.desk_line.specs.declared.line.Line.{Line}
+use Rattle.desk_line.specs.declared.line.Line.TheVariants.{Play, Token, Serve, Cover, Enrol}
+use Rattle.desk_line.specs.declared.line.Play.{Play as PlayWords}
+use Rattle.desk_line.specs.declared.line.Serve.{Serve as ServeWords}
+
+-- the greatest ceiling
+abbrev pub max_ceiling : ℕ
+max_ceiling = 1000
+
+abbrev pub min_port : ℕ
+min_port = 1
+
+abbrev pub max_port : ℕ
+max_port = 65535
+
+-- the least and the greatest number of connections that are served
+abbrev pub min_connections : ℕ
+min_connections = 1
+
+abbrev pub max_connections : ℕ
+max_connections = 1000000
+
+-- the file of a database; none if it is in memory
+abbrev pub file_of : Database → Option (List ℕ)
+file_of InMemory = None
+file_of (File path) = Some (string_bytes path)
+
+-- the file that a word names, if there is a word
+abbrev pub named_file : Option (List ℕ) → Option (List ℕ)
+named_file None = None
+named_file (Some word) = if bytes_eq word (codes ":memory:") then None else Some word
+
+abbrev pub AreEnrolments : List Enrolment → Type 0
+AreEnrolments enrolments = All (λ e. e.ceiling ≤ max_ceiling) enrolments
+
+-- the words of `play`
+pub record IsPlay (play : PlayWords) : Type 0 where
+  pub moment : IsMoment play.moment
+  pub enrolments : AreEnrolments play.enrolments.items
+
+-- the words of `serve`
+pub record IsServe (serve : ServeWords) : Type 0 where
+  pub port : IsInRange min_port max_port serve.port
+  pub connections : IsInRange min_connections max_connections serve.connections
+  pub enrolments : AreEnrolments serve.enrolments.items
+
+-- the words of `enrol`
+abbrev pub IsEnrol : EnrolWords → Type 0
+IsEnrol enrol = enrol.enrolment.ceiling ≤ max_ceiling
+
+-- each number of a line is in its range
+abbrev pub IsLine : Line → Type 0
+IsLine (Play play) = IsPlay play
+IsLine (Token token) = ⊤
+IsLine (Serve serve) = IsServe serve
+IsLine (Cover cover) = ⊤
+IsLine (Enrol enrol) = IsEnrol enrol
+
+-- a line that is carried out at a desk, by reading and writing alone
+abbrev pub HasDesk : Line → Type 0
+HasDesk (Play play) = ⊤
+HasDesk (Token token) = ⊥
+HasDesk (Serve serve) = ⊥
+HasDesk (Cover cover) = ⊥
+HasDesk (Enrol enrol) = ⊤
+
+-- a line that is carried out at a desk over a database
+abbrev pub HasDatabase : Line → Type 0
+HasDatabase (Play play) = ⊤
+HasDatabase (Token token) = ⊥
+HasDatabase (Serve serve) = ⊤
+HasDatabase (Cover cover) = ⊥
+HasDatabase (Enrol enrol) = ⊤
+
+-- a line that is carried out with no desk
+abbrev pub IsPrintable : Line → Type 0
+IsPrintable (Play play) = ⊥
+IsPrintable (Token token) = ⊤
+IsPrintable (Serve serve) = ⊥
+IsPrintable (Cover cover) = ⊤
+IsPrintable (Enrol enrol) = ⊥

@@ -1,0 +1,199 @@
+//! Why the program did not do all that it was asked: the exit status, and the word that it prints.
+
+ghost use Rattle.std.specs.Prelude.{◌≡◌};
+ghost use Rattle.desk_line.specs.Exits as spec;
+ghost use Rattle.desk_line.specs.declared.failure.Failure.TheVariants as failure;
+
+use desk_run::DeskFault;
+use desk_wire::{ServeFault, write_whole};
+use s2_cellid::TokenFault;
+use s2_cover::{CoverFault, RectFault};
+use std::alloc::{AllocError, AllocFailed};
+use std::io::Write;
+
+/// Why the program did not do all that it was asked.
+#[derive(Clone, Copy, Debug, PartialEq, Eq)]
+pub enum Failure {
+    /// The place of the next request is unknown.
+    Unframed,
+    /// The input ended inside a request.
+    CutShort,
+    /// A read failed.
+    Read,
+    /// As many requests were answered as a run answers at most.
+    Limit,
+    /// A text is no token of a cell.
+    Token(TokenFault),
+    /// Numbers are no rectangle.
+    Rect(RectFault),
+    /// The cover of a rectangle has too many cells.
+    TooManyCells,
+    /// The last answer has the status 500.
+    Broken,
+    /// Memory ran out.
+    Memory,
+    /// The store failed.
+    Store,
+    /// A write failed.
+    Write,
+    /// The port can't be had, or no connection can be taken from it.
+    Network,
+    /// The clock gives no moment in range.
+    Clock,
+    /// An enrolment's ceiling is above 1,000.
+    Value,
+    /// A database has other tables than a desk's, or rows that are no desk's.
+    NotADesk,
+}
+
+impl Failure {
+    /// The exit status: 2 for the words, 3 for the input, 4 for memory, the store, output, the network
+    /// and the clock.
+    pub fn status(self) -> u8
+        ensures { result ≡ spec.failure_status self }
+    {
+        match self {
+            Failure::Value => 2,
+            Failure::Unframed | Failure::CutShort | Failure::Read | Failure::Limit => 3,
+            Failure::Token(_) | Failure::Rect(_) | Failure::TooManyCells => 3,
+            Failure::Broken | Failure::Memory | Failure::Store | Failure::Write => 4,
+            Failure::Network | Failure::Clock | Failure::NotADesk => 4,
+        }
+    }
+
+    /// The word that is printed.
+    pub fn word(self) -> &'static str
+        ensures { result.now ≡ spec.failure_word self }
+    {
+        match self {
+            Failure::Unframed => "unframed",
+            Failure::CutShort => "cut_short",
+            Failure::Read => "read",
+            Failure::Limit => "limit",
+            Failure::Token(fault) => token_word(fault),
+            Failure::Rect(fault) => rect_word(fault),
+            Failure::TooManyCells => "too_many_cells",
+            Failure::Broken => "broken",
+            Failure::Memory => "memory",
+            Failure::Store => "store",
+            Failure::Write => "write",
+            Failure::Network => "network",
+            Failure::Clock => "clock",
+            Failure::Value => "value",
+            Failure::NotADesk => "not_a_desk",
+        }
+    }
+}
+
+// The word of a text that is no token.
+fn token_word(fault: TokenFault) -> &'static str
+    ensures { result.now ≡ spec.token_word fault }
+{
+    match fault {
+        TokenFault::Empty => "empty",
+        TokenFault::TooLong => "too_long",
+        TokenFault::NotHex => "not_hex",
+        TokenFault::NotACell => "not_a_cell",
+    }
+}
+
+// The word of numbers that are no rectangle.
+fn rect_word(fault: RectFault) -> &'static str
+    ensures { result.now ≡ spec.rect_word fault }
+{
+    match fault {
+        RectFault::Face => "face",
+        RectFault::Coordinate => "coordinate",
+        RectFault::Order => "order",
+        RectFault::Level => "level",
+    }
+}
+
+impl From<DeskFault> for Failure {
+    ghost from_gives = { λ fault failure. failure ≡ spec.enrolment_failure fault };
+
+    fn from(fault: DeskFault) -> Failure {
+        match fault {
+            DeskFault::OutOfMemory => Failure::Memory,
+            DeskFault::Store => Failure::Store,
+            DeskFault::UnknownOperator | DeskFault::NoSuchPlan | DeskFault::Ceiling =>
+                Failure::Value,
+        }
+    }
+}
+
+impl From<ServeFault> for Failure {
+    ghost from_gives = { λ fault failure. failure ≡ spec.serving_failure fault };
+
+    fn from(fault: ServeFault) -> Failure {
+        match fault {
+            ServeFault::Read => Failure::Read,
+            ServeFault::Write { .. } => Failure::Write,
+            ServeFault::CutShort => Failure::CutShort,
+            ServeFault::OutOfMemory => Failure::Memory,
+        }
+    }
+}
+
+impl From<TokenFault> for Failure {
+    ghost from_gives = { λ fault f. f ≡ failure.Token fault };
+
+    fn from(fault: TokenFault) -> Failure {
+        Failure::Token(fault)
+    }
+}
+
+impl From<RectFault> for Failure {
+    ghost from_gives = { λ fault f. f ≡ failure.Rect fault };
+
+    fn from(fault: RectFault) -> Failure {
+        Failure::Rect(fault)
+    }
+}
+
+impl From<CoverFault> for Failure {
+    ghost from_gives = { λ fault f. f ≡ spec.cover_failure fault };
+
+    fn from(fault: CoverFault) -> Failure {
+        match fault {
+            CoverFault::TooManyCells { .. } => Failure::TooManyCells,
+            CoverFault::OutOfMemory => Failure::Memory,
+        }
+    }
+}
+
+impl From<AllocError> for Failure {
+    ghost from_gives = { λ _ f. f ≡ failure.Memory };
+
+    fn from(_error: AllocError) -> Failure {
+        Failure::Memory
+    }
+}
+
+impl<T: Drop> From<AllocFailed<T>> for Failure {
+    ghost from_gives = { λ _ f. f ≡ failure.Memory };
+
+    fn from(_error: AllocFailed<T>) -> Failure {
+        Failure::Memory
+    }
+}
+
+/// The exit status of what was done; the word of a failure is printed as `uss_desk: WORD`, and a
+/// fault of the writer is passed over.
+pub fn conclude<E: Write>(errors: &mut E, done: Result<(), Failure>) -> u8
+    ensures { result ≡ spec.exit_status done }
+{
+    match done {
+        Ok(()) => 0,
+        Err(failure) => {
+            print_failure(errors, failure);
+            failure.status()
+        }
+    }
+}
+
+fn print_failure<E: Write>(errors: &mut E, failure: Failure) {
+    for part in ["uss_desk: ", failure.word(), "\n"] {
+        let _ = write_whole(errors, part.as_bytes());
+    }
+}

@@ -1,0 +1,12 @@
+//! The command line of the planning desk's program: what its words say, why the program ends and with
+//! which status, and what the lines print that need no desk.
+#![tactic(auto)]
+
+mod failure;
+mod line;
+mod picture;
+mod printed;
+
+pub use failure::{Failure, conclude};
+pub use line::{Cover, Database, Enrol, Enrolment, Line, Play, Serve, WordsFault, read_words};
+pub use printed::print_line;

@@ -1,0 +1,426 @@
+//! The command line of the program.
+
+ghost use Rattle.std.specs.Prelude.{◌≡◌, ◌≤◌, IfOk, IfSome, OnOk, option_map, codes};
+ghost use Rattle.clap.specs.Matches.{found_of, first_value};
+ghost use Rattle.desk_line.specs.Lines.{AreEnrolments, IsEnrol, IsLine, IsPlay, IsServe, max_ceiling};
+ghost use Rattle.desk_line.specs.Lines.{file_of, named_file};
+
+#[cfg(test)]
+mod tests;
+
+use clap::error::ErrorKind;
+use clap::{Arg, ArgAction, ArgMatches, Command, value_parser};
+use desk_rules::operator::Operator;
+use desk_run::MAX_CEILING;
+use std::alloc::{AllocError, AllocFailed, Global};
+use std::str::FromStr;
+
+/// The last moment, a Unix second.
+const LAST_MOMENT: i64 = 253_370_764_800;
+
+/// The word for a database in memory.
+const IN_MEMORY: &str = ":memory:";
+
+/// The most digits of a ceiling.
+const CEILING_DIGITS: usize = 4;
+
+/// The most connections that are served.
+const MAX_CONNECTIONS: u32 = 1_000_000;
+
+/// What the program is asked to do.
+#[derive(Debug, Drop)]
+pub enum Line {
+    /// `play`: enrols the names, and answers the requests of the standard input.
+    Play(Play),
+    /// `token`: tells the cell of this text.
+    Token(String),
+    /// `serve`: enrols the names, and answers one request a connection.
+    Serve(Serve),
+    /// `cover`: tells the cells of a rectangle.
+    Cover(Cover),
+    /// `enrol`: enrols one operator.
+    Enrol(Enrol),
+}
+
+/// Where operators and plans are kept.
+#[derive(Debug, Drop)]
+pub enum Database {
+    /// In memory: they are gone when the program ends.
+    InMemory,
+    /// In the SQLite database of this path.
+    File(String),
+}
+
+/// The words of `play`.
+#[derive(Debug, Drop)]
+pub struct Play {
+    /// Where operators and plans are kept.
+    pub database: Database,
+    /// The moment of all requests, a Unix second from 0 to 253,370,764,800.
+    pub moment: i64,
+    /// The operators, in the order given; a name may be there twice.
+    pub enrolments: Vec<Enrolment>,
+}
+
+/// The words of `serve`.
+#[derive(Debug, Drop)]
+pub struct Serve {
+    /// Where operators and plans are kept.
+    pub database: Database,
+    /// The port of 127.0.0.1 that is listened at, 1 to 65,535.
+    pub port: u16,
+    /// How many connections are served, 1 to 1,000,000.
+    pub connections: u32,
+    /// The operators, in the order given; a name may be there twice.
+    pub enrolments: Vec<Enrolment>,
+}
+
+/// The words of `cover`: the parts of a rectangle of leaves, of which nothing is known yet.
+#[derive(Clone, Copy, Debug)]
+pub struct Cover {
+    /// The face, 0 to 5.
+    pub face: u8,
+    /// The least coordinate `i` of a leaf.
+    pub i_min: u32,
+    /// The greatest coordinate `i`.
+    pub i_max: u32,
+    /// The least coordinate `j`.
+    pub j_min: u32,
+    /// The greatest coordinate `j`.
+    pub j_max: u32,
+    /// The level of the squares, 8 to 24.
+    pub level: u8,
+    /// Whether a picture is wanted in place of the tokens.
+    pub is_picture: bool,
+}
+
+/// The words of `enrol`.
+#[derive(Debug, Drop)]
+pub struct Enrol {
+    /// Where the operator is enrolled.
+    pub database: Database,
+    /// The operator and its ceiling.
+    pub enrolment: Enrolment,
+}
+
+/// An operator to be enrolled, `NAME=CEILING`.
+#[derive(Clone, Copy, Debug)]
+pub struct Enrolment {
+    /// Its name.
+    pub operator: Operator,
+    /// The greatest priority that it may use, at most 1,000.
+    pub ceiling: u32,
+}
+
+/// Why words are no command line.
+#[derive(Debug, Drop)]
+pub enum WordsFault {
+    /// Memory ran out.
+    OutOfMemory,
+    /// Help was asked for, or the words have none of the forms that help shows.
+    Words(clap::Error),
+    /// A name, a ceiling or a `NAME=CEILING` is malformed, or the ceiling is above 1,000.
+    Value,
+}
+
+impl From<AllocError> for WordsFault {
+    fn from(_error: AllocError) -> WordsFault {
+        WordsFault::OutOfMemory
+    }
+}
+
+impl<T: Drop> From<AllocFailed<T>> for WordsFault {
+    fn from(_error: AllocFailed<T>) -> WordsFault {
+        WordsFault::OutOfMemory
+    }
+}
+
+impl From<clap::Error> for WordsFault {
+    fn from(error: clap::Error) -> WordsFault {
+        if error.kind() == ErrorKind::OutOfMemory {
+            WordsFault::OutOfMemory
+        } else {
+            WordsFault::Words(error)
+        }
+    }
+}
+
+/// Reads the words of a command line, the first of them the program's own name.
+///
+/// # Errors
+///
+/// `OutOfMemory`; `Words` if `clap` refuses them, or a number is out of range; `Value`.
+pub fn read_words(alloc: Global, words: &[String]) -> Result<Line, WordsFault>
+    ensures { IfOk result IsLine }
+{
+    let matches = make_command(alloc)?.try_get_matches_from(words)?;
+    match matches.subcommand() {
+        Some(("play", play)) => Ok(Line::Play(read_play(alloc, play)?)),
+        Some(("token", token)) => Ok(Line::Token(read_token(alloc, token)?)),
+        Some(("serve", serve)) => Ok(Line::Serve(read_serve(alloc, serve)?)),
+        Some(("cover", cover)) => Ok(Line::Cover(read_cover(cover)?)),
+        Some(("enrol", enrol)) => Ok(Line::Enrol(read_enrol(alloc, enrol)?)),
+        _ => Err(WordsFault::Value),
+    }
+}
+
+// The command line that is taken.
+fn make_command<'a>(alloc: Global) -> Result<Command<'a>, AllocError> {
+    Command::new(alloc, "uss_desk")
+        .about("The planning desk of one UAS service supplier")
+        .subcommand_required(true)
+        .subcommand(play_command(alloc)?)?
+        .subcommand(token_command(alloc)?)?
+        .subcommand(serve_command(alloc)?)?
+        .subcommand(cover_command(alloc)?)?
+        .subcommand(enrol_command(alloc)?)
+}
+
+fn play_command<'a>(alloc: Global) -> Result<Command<'a>, AllocError> {
+    let moment = Arg::new(alloc, "moment")
+        .long("at")
+        .value_name("SECOND")
+        .help("The moment of all requests, a Unix second")
+        .required(true)
+        .value_parser(value_parser!(i64).range(0..=LAST_MOMENT));
+    Command::new(alloc, "play")
+        .about("Answers the requests of the standard input")
+        .arg(database_arg(alloc))?
+        .arg(moment)?
+        .arg(enrolments_arg(alloc))
+}
+
+fn token_command<'a>(alloc: Global) -> Result<Command<'a>, AllocError> {
+    let token = Arg::new(alloc, "token")
+        .value_name("TOKEN")
+        .help("A cell of the S2 geometry library, 1 to 16 hex digits")
+        .required(true);
+    Command::new(alloc, "token")
+        .about("Tells a cell's face, its level, and its first and last leaf")
+        .arg(token)
+}
+
+fn serve_command<'a>(alloc: Global) -> Result<Command<'a>, AllocError> {
+    let port = Arg::new(alloc, "port")
+        .long("port")
+        .value_name("N")
+        .help("The port of 127.0.0.1 that is listened at")
+        .required(true)
+        .value_parser(value_parser!(u16).range(1..));
+    let connections = Arg::new(alloc, "connections")
+        .long("requests")
+        .value_name("N")
+        .help("How many connections are served, one request each")
+        .required(true)
+        .value_parser(value_parser!(u32).range(1..=i64::from(MAX_CONNECTIONS)));
+    Command::new(alloc, "serve")
+        .about("Answers one request a connection, at the moment that the clock tells")
+        .arg(database_arg(alloc))?
+        .arg(port)?
+        .arg(connections)?
+        .arg(enrolments_arg(alloc))
+}
+
+fn cover_command<'a>(alloc: Global) -> Result<Command<'a>, AllocError> {
+    let picture = Arg::new(alloc, "picture")
+        .long("svg")
+        .help("Prints a picture (SVG) in place of the tokens")
+        .action(ArgAction::SetTrue);
+    Command::new(alloc, "cover")
+        .about("Tells the cells of a rectangle of leaves, widened to whole squares of the level")
+        .arg(word_arg(alloc, "FACE", "The face, 0 to 5").value_parser(value_parser!(u8)))?
+        .arg(coordinate_arg(alloc, "I_MIN", "The least coordinate i of a leaf"))?
+        .arg(coordinate_arg(alloc, "I_MAX", "The greatest coordinate i"))?
+        .arg(coordinate_arg(alloc, "J_MIN", "The least coordinate j"))?
+        .arg(coordinate_arg(alloc, "J_MAX", "The greatest coordinate j"))?
+        .arg(word_arg(alloc, "LEVEL", "The level, 8 to 24").value_parser(value_parser!(u8)))?
+        .arg(picture)
+}
+
+fn enrol_command<'a>(alloc: Global) -> Result<Command<'a>, AllocError> {
+    Command::new(alloc, "enrol")
+        .about("Enrols an operator in a database, or replaces its ceiling")
+        .arg(database_arg(alloc).required(true))?
+        .arg(word_arg(alloc, "NAME", "The operator's name"))?
+        .arg(word_arg(alloc, "CEILING", "The greatest priority that it may use"))
+}
+
+// The file of operators and plans.
+fn database_arg<'a>(alloc: Global) -> Arg<'a> {
+    Arg::new(alloc, "database")
+        .long("db")
+        .value_name("FILE")
+        .help("The SQLite database of operators and plans, or :memory: for one in memory")
+}
+
+// Operators and their ceilings.
+fn enrolments_arg<'a>(alloc: Global) -> Arg<'a> {
+    Arg::new(alloc, "enrolments")
+        .value_name("NAME=CEILING")
+        .help("An operator, and the greatest priority that it may use")
+        .action(ArgAction::Append)
+}
+
+// A word that has to be there.
+fn word_arg<'a>(alloc: Global, name: &'a str, help: &'a str) -> Arg<'a> {
+    Arg::new(alloc, name)
+        .value_name(name)
+        .help(help)
+        .required(true)
+}
+
+fn coordinate_arg<'a>(alloc: Global, name: &'a str, help: &'a str) -> Arg<'a> {
+    word_arg(alloc, name, help).value_parser(value_parser!(u32))
+}
+
+// The words of `play`.
+fn read_play(alloc: Global, matches: &ArgMatches<'_>) -> Result<Play, WordsFault>
+    ensures valid { IfOk result IsPlay }
+    ensures file { IfOk result (λ play. file_of play.database ≡
+        named_file (first_value (found_of matches.now) (codes "database"))) }
+{
+    let moment = match matches.get_one::<i64>("moment") {
+        Some(moment @ 0..=LAST_MOMENT) => moment,
+        _ => return Err(WordsFault::Value),
+    };
+    Ok(Play {
+        database: read_database(alloc, matches)?,
+        moment,
+        enrolments: read_enrolments(alloc, matches)?,
+    })
+}
+
+// The text of `token`.
+fn read_token(alloc: Global, matches: &ArgMatches<'_>) -> Result<String, WordsFault> {
+    let token = matches.get_str("token").ok_or(WordsFault::Value)?;
+    Ok(String::from_str(alloc, token)?)
+}
+
+// The words of `serve`.
+fn read_serve(alloc: Global, matches: &ArgMatches<'_>) -> Result<Serve, WordsFault>
+    ensures valid { IfOk result IsServe }
+    ensures file { IfOk result (λ serve. file_of serve.database ≡
+        named_file (first_value (found_of matches.now) (codes "database"))) }
+{
+    let port = match matches.get_one::<u16>("port") {
+        Some(port @ 1..) => port,
+        _ => return Err(WordsFault::Value),
+    };
+    let connections = match matches.get_one::<u32>("connections") {
+        Some(connections @ 1..=MAX_CONNECTIONS) => connections,
+        _ => return Err(WordsFault::Value),
+    };
+    Ok(Serve {
+        database: read_database(alloc, matches)?,
+        port,
+        connections,
+        enrolments: read_enrolments(alloc, matches)?,
+    })
+}
+
+// The words of `cover`.
+fn read_cover(matches: &ArgMatches<'_>) -> Result<Cover, WordsFault> {
+    Ok(Cover {
+        face: read_number(matches, "FACE")?,
+        i_min: read_number(matches, "I_MIN")?,
+        i_max: read_number(matches, "I_MAX")?,
+        j_min: read_number(matches, "J_MIN")?,
+        j_max: read_number(matches, "J_MAX")?,
+        level: read_number(matches, "LEVEL")?,
+        is_picture: matches.get_flag("picture"),
+    })
+}
+
+// The words of `enrol`.
+fn read_enrol(alloc: Global, matches: &ArgMatches<'_>) -> Result<Enrol, WordsFault>
+    ensures valid { IfOk result IsEnrol }
+    ensures file { IfOk result (λ enrol. file_of enrol.database ≡
+        named_file (first_value (found_of matches.now) (codes "database"))) }
+{
+    let name = matches.get_str("NAME").ok_or(WordsFault::Value)?;
+    let ceiling = matches.get_str("CEILING").ok_or(WordsFault::Value)?;
+    let Some(enrolment) = enrolment_by(name, ceiling) else {
+        return Err(WordsFault::Value);
+    };
+    Ok(Enrol {
+        database: read_database(alloc, matches)?,
+        enrolment,
+    })
+}
+
+// The database that the words name.
+fn read_database(alloc: Global, matches: &ArgMatches<'_>) -> Result<Database, AllocError>
+    ensures { IfOk result (λ database. file_of database ≡
+        named_file (first_value (found_of matches.now) (codes "database"))) }
+{
+    database_of(alloc, matches.get_str("database"))
+}
+
+// The database of a word; one in memory if there is none.
+fn database_of(alloc: Global, word: Option<&str>) -> Result<Database, AllocError>
+    ensures { IfOk result (λ database.
+        file_of database ≡ named_file (option_map (λ path. path.now) word.entry)) }
+{
+    match word {
+        None => Ok(Database::InMemory),
+        Some(path) => {
+            if path == IN_MEMORY {
+                return Ok(Database::InMemory);
+            }
+            Ok(Database::File(String::from_str(alloc, path)?))
+        }
+    }
+}
+
+// A number that `clap` has read.
+fn read_number<T: FromStr>(matches: &ArgMatches<'_>, name: &str) -> Result<T, WordsFault>
+where
+    T::Err: Drop,
+{
+    matches.get_one::<T>(name).ok_or(WordsFault::Value)
+}
+
+// The enrolments, in the order given.
+fn read_enrolments(alloc: Global, matches: &ArgMatches<'_>) -> Result<Vec<Enrolment>, WordsFault>
+    ensures { IfOk result (λ enrolments. AreEnrolments enrolments.items) }
+{
+    let mut enrolments = Vec::new(alloc);
+    for word in matches.get_strs("enrolments").unwrap_or(&[]) {
+        let Some(enrolment) = enrolment_of(word) else {
+            return Err(WordsFault::Value);
+        };
+        enrolments.push(enrolment)?;
+    }
+    Ok(enrolments)
+}
+
+// An enrolment, `NAME=CEILING`, parted at its first `=`.
+fn enrolment_of(word: &str) -> Option<Enrolment>
+    ensures { IfSome result (λ e. e.ceiling ≤ max_ceiling) }
+{
+    let (name, ceiling) = word.split_once('=')?;
+    enrolment_by(name, ceiling)
+}
+
+// An enrolment of an operator under a ceiling.
+fn enrolment_by(name: &str, ceiling: &str) -> Option<Enrolment>
+    ensures { IfSome result (λ e. e.ceiling ≤ max_ceiling) }
+{
+    Some(Enrolment {
+        operator: Operator::try_new(name.as_bytes())?,
+        ceiling: ceiling_of(ceiling)?,
+    })
+}
+
+// A ceiling: 1 to 4 digits, at most 1,000.
+fn ceiling_of(digits: &str) -> Option<u32>
+    ensures { IfSome result (λ ceiling. ceiling ≤ max_ceiling) }
+{
+    if digits.len() > CEILING_DIGITS || !digits.bytes().all(|b| b.is_ascii_digit()) {
+        return None;
+    }
+    digits
+        .parse()
+        .ok()
+        .filter(|ceiling| *ceiling <= MAX_CEILING)
+}

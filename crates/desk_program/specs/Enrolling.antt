@@ -1,0 +1,24 @@
+-- Enrolling: the world in which operators are listed, and the line that tells of one.
+use Rattle.std.specs.Prelude.{◌≡◌, ◌<◌, ℕ, List, [], ◌∷◌, ◌++◌, length, take, codes, decimal, Option}
+use Rattle.std.specs.Io.KnownBytes.{Appends}
+use Rattle.desk_store.specs.Changes.{with_operator}
+use Rattle.desk_store.specs.World.{World}
+use Rattle.desk_line.specs.declared.line.Enrolment.{Enrolment}
+
+-- each operator under its ceiling, in the order given: a name given twice has its last ceiling
+abbrev pub with_operators : World → List Enrolment → World
+with_operators w [] = w
+with_operators w (e ∷ es) = with_operators (with_operator w e.operator e.ceiling) es
+
+-- if the store is honest, the operator is listed under its ceiling, and nothing else is changed
+abbrev pub Lists : Type 0 → Enrolment → World → World → Type 0
+Lists H e w after = H → after ≡ with_operator w e.operator e.ceiling
+
+-- the line that is printed of it
+unfoldable pub enrolled_line : Enrolment → List ℕ
+enrolled_line e =
+    codes "enrolled " ++ (e.operator ++ (codes " " ++ (decimal e.ceiling ++ codes "\n")))
+
+-- the bytes are written up to one that can't be written
+abbrev pub IsCutOff : List ℕ → Option (List ℕ) → Option (List ℕ) → Type 0
+IsCutOff bytes out now = (sent : ℕ) × ((sent < length bytes) × Appends out now (take sent bytes))

@@ -1,0 +1,3 @@
+pub mod Enrolling
+pub mod Serving
+pub mod Playing

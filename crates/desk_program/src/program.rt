@@ -1,0 +1,153 @@
+//! What the program does at a desk: enrolments, and the requests of an input.
+
+ghost use Rattle.std.specs.Prelude.{◌≡◌, ◌≤◌, ◌⊎◌, IfErr, IfOk, OnOk, string_bytes};
+ghost use Rattle.desk_run.specs.Faults.{IsBreakdown};
+ghost use Rattle.desk_store.specs.Faults.{IsHonest};
+ghost use Rattle.desk_line.specs.Exits as spec;
+ghost use Rattle.desk_line.specs.Exits.{exit_status};
+ghost use Rattle.desk_line.specs.Lines.{AreEnrolments, HasDesk, IsLine, IsPlay, max_ceiling};
+ghost use Rattle.desk_program.specs.Enrolling as enrolling;
+ghost use Rattle.desk_program.specs.Enrolling.{with_operators};
+ghost use Rattle.desk_program.specs.Playing.{IsEnrolled, IsLinePlayed, IsNotPlayed, IsPlayed, status_after};
+
+#[cfg(test)]
+mod tests;
+
+use desk_line::{Enrolment, Failure, Line, Play, conclude};
+use desk_run::{Desk, DeskFault};
+use desk_store::PlanStore;
+use desk_wire::{PlayEnd, play_all, write_whole};
+use std::alloc::{AllocError, Global};
+use std::io::{Read, Write};
+
+/// Does what a line of `play` or of `enrol` says at a desk, and answers the exit status. The word of a
+/// failure goes to `errors`; a fault there is passed over.
+pub fn with_desk<S: PlanStore, R: Read, W: Write, E: Write>(
+    alloc: Global,
+    line: &Line,
+    desk: &mut Desk<S>,
+    input: &mut R,
+    output: &mut W,
+    errors: &mut E,
+) -> u8
+    requires line { IsLine line.now }
+    requires desk { HasDesk line.now }
+    ensures played { IsLinePlayed (IsHonest (S.doubt desk.new)) line.now result
+        (R.remaining input.old) (R.remaining input.new)
+        (W.contents output.old) (W.contents output.new)
+        (S.content desk.old) (S.content desk.new) }
+    ensures doubt { S.doubt desk.old ≤ S.doubt desk.new }
+    ensures counted { S.faults desk.old ≤ S.faults desk.new }
+{
+    match line {
+        Line::Play(play) => play_line(alloc, play, desk, input, output, errors),
+        Line::Enrol(enrol) => enrol_line(alloc, &enrol.enrolment, desk, output, errors),
+        _ => unreachable!(),
+    }
+}
+
+// Why a run over the input did not end with the input, by its end.
+fn failure_after(ended: PlayEnd) -> Option<Failure>
+    ensures { result ≡ spec.failure_after ended }
+{
+    match ended {
+        PlayEnd::End => None,
+        PlayEnd::Unframed => Some(Failure::Unframed),
+        PlayEnd::Broken => Some(Failure::Broken),
+        PlayEnd::Limit => Some(Failure::Limit),
+        PlayEnd::Fault(fault) => Some(Failure::from(fault)),
+    }
+}
+
+// Enrols the operators, and answers the requests of the input.
+fn play_line<S: PlanStore, R: Read, W: Write, E: Write>(
+    alloc: Global,
+    play: &Play,
+    desk: &mut Desk<S>,
+    input: &mut R,
+    output: &mut W,
+    errors: &mut E,
+) -> u8
+    requires { IsPlay play.now }
+    ensures played { IsPlayed (IsHonest (S.doubt desk.new)) play.now result
+        (R.remaining input.old) (R.remaining input.new)
+        (W.contents output.old) (W.contents output.new) (S.content desk.old) (S.content desk.new)
+        ⊎ IsNotPlayed result (R.remaining input.old) (R.remaining input.new)
+        (W.contents output.old) (W.contents output.new) }
+    ensures doubt { S.doubt desk.old ≤ S.doubt desk.new }
+    ensures counted { S.faults desk.old ≤ S.faults desk.new }
+{
+    if let Err(fault) = enrol_all(desk, &play.enrolments) {
+        return conclude(errors, Err(Failure::from(fault)));
+    }
+    let played = play_all(alloc, desk, play.moment, input, output);
+    conclude(errors, done_after(played.ended))
+}
+
+// Enrols an operator, and prints the line that says so, which is made first.
+fn enrol_line<S: PlanStore, W: Write, E: Write>(
+    alloc: Global,
+    enrolment: &Enrolment,
+    desk: &mut Desk<S>,
+    output: &mut W,
+    errors: &mut E,
+) -> u8
+    requires { enrolment.now.ceiling ≤ max_ceiling }
+    ensures enrolled { IsEnrolled (IsHonest (S.doubt desk.new)) enrolment.now result
+        (W.contents output.old) (W.contents output.new) (S.content desk.old) (S.content desk.new) }
+    ensures doubt { S.doubt desk.old ≤ S.doubt desk.new }
+    ensures counted { S.faults desk.old ≤ S.faults desk.new }
+{
+    let Ok(text) = enrolled_text(alloc, enrolment) else {
+        return conclude(errors, Err(Failure::Memory));
+    };
+    if let Err(fault) = desk.enrol(&enrolment.operator, enrolment.ceiling) {
+        return conclude(errors, Err(Failure::from(fault)));
+    }
+    match write_whole(output, text.as_bytes()) {
+        Ok(()) => 0,
+        Err(_) => conclude(errors, Err(Failure::Write)),
+    }
+}
+
+// The line that tells of an enrolment.
+#[tactic(auto, unfolding(crate::specs::Enrolling::enrolled_line))]
+fn enrolled_text(alloc: Global, enrolment: &Enrolment) -> Result<String, AllocError>
+    ensures { IfOk result (λ text. string_bytes text ≡ enrolling.enrolled_line enrolment.now) }
+{
+    let operator = enrolment.operator;
+    let ceiling = enrolment.ceiling;
+    format!(in alloc; "enrolled {operator} {ceiling}\n")
+}
+
+// Whether a run over the input came to the input's end, by its own end.
+fn done_after(ended: PlayEnd) -> Result<(), Failure>
+    ensures { exit_status result ≡ status_after (spec.failure_after ended) }
+{
+    match failure_after(ended) {
+        None => Ok(()),
+        Some(failure) => Err(failure),
+    }
+}
+
+/// Enrols the operators in the order given, so that a name given twice has its last ceiling.
+///
+/// # Errors
+///
+/// The first fault of an enrolment, `OutOfMemory` or `Store`; those before it stand.
+pub fn enrol_all<S: PlanStore>(
+    desk: &mut Desk<S>,
+    enrolments: &[Enrolment],
+) -> Result<(), DeskFault>
+    requires { AreEnrolments enrolments.now }
+    ensures ok { IsHonest (S.doubt desk.new) → OnOk result
+        (S.content desk.new ≡ with_operators (S.content desk.old) enrolments.now) }
+    ensures fault { IfErr result IsBreakdown }
+    ensures doubt { S.doubt desk.old ≤ S.doubt desk.new }
+    ensures counted { S.faults desk.old ≤ S.faults desk.new }
+{
+    for enrolment in enrolments {
+        desk.enrol(&enrolment.operator, enrolment.ceiling)?;
+    }
+    Ok(())
+}

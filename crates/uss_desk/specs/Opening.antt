@@ -1,0 +1,18 @@
+-- Opening: what a database that can't be opened means, and its word.
+use Rattle.std.specs.Prelude.{List, ℕ, codes}
+use Rattle.desk_line.specs.declared.failure.Failure.{Failure}
+use Rattle.desk_line.specs.declared.failure.Failure.TheVariants as failure
+use Rattle.desk_tables.specs.declared.open.OpenFault.{OpenFault}
+use Rattle.desk_tables.specs.declared.open.OpenFault.TheVariants as opening
+
+-- why a program ends at a database that can't be opened
+abbrev pub open_failure : OpenFault → Failure
+open_failure opening.OutOfMemory = failure.Memory
+open_failure opening.Store = failure.Store
+open_failure opening.NotADesk = failure.NotADesk
+
+-- the word that is printed
+abbrev pub open_word : OpenFault → List ℕ
+open_word opening.OutOfMemory = codes "memory"
+open_word opening.Store = codes "store"
+open_word opening.NotADesk = codes "not_a_desk"
