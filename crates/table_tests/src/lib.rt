@@ -3,6 +3,8 @@
 #![tactic(auto)]
 
 #[cfg(test)]
+mod kept;
+#[cfg(test)]
 mod schema;
 #[cfg(test)]
 mod store;
