@@ -30,4 +30,5 @@ pub record SelectsRivals (text : List ℕ) : Type 0 where
   pub rows :
       (operator id : List ℕ) (reach : Reach) (db : Database) (shown : List Row) → IsDesk db
       → MayRead (understood desk_schema text) db (rival_params operator id reach) shown
-      → IsPermutation (map held_columns (filter (is_rival operator id reach) (tables_of db.trees).spans)) shown
+      → IsPermutation (map held_columns (filter (is_rival operator id reach) (tables_of db.trees).spans))
+      shown
