@@ -9,6 +9,7 @@ use Rattle.s2_cover.specs.Rectangles.{RectParts, rect_or_fault}
 use Rattle.serde_json.specs.Data.{Data, Items}
 use Rattle.serde_json.specs.Events.{items_len}
 use Rattle.serde_json.specs.Find.{get, as_str, as_array}
+use Rattle.volume4d.specs.Limits.{max_volumes}
 use Rattle.volume4d.specs.Windows.{WindowParts, window_or_fault}
 use Rattle.volume4d.specs.Shape.{Shape, cells, rectangle, is_footprint}
 use Rattle.volume4d.specs.Volume.{Block}
@@ -113,4 +114,4 @@ volume_of d =
 
 -- the volumes of a plan's area, as many as an area may have
 unfoldable pub area_of : Items → Reading (List Block)
-area_of items = guard (not (is_in_range 1 8 (items_len items))) BadVolume (each volume_of items)
+area_of items = guard (not (is_in_range 1 max_volumes (items_len items))) BadVolume (each volume_of items)

@@ -11,14 +11,12 @@ mod tests;
 use crate::json_in::{array_at, present, read_json, text_at};
 use crate::volume_in::read_area;
 use crate::wire_fault::{ReadError, WireFault};
+use desk_rules::decide::MAX_PRIORITY;
 use desk_rules::plan::PutCall;
 use desk_rules::plan_id::PlanId;
 use desk_rules::words::{Aircraft, Style, Usage};
 use serde_json::Value;
 use std::alloc::Global;
-
-// The greatest priority of a plan.
-const MAX_PRIORITY: i64 = 1_000;
 
 /// The request for the plan of this id that a body is.
 ///
@@ -77,10 +75,8 @@ fn priority_of(plan: &Value) -> Result<u32, WireFault>
 fn priority_number(value: &Value) -> Option<u32>
     ensures { result ≡ option_and_then spec.priority_number (whole_of (view value.now)) }
 {
-    match value.as_i64()? {
-        priority @ 0..=MAX_PRIORITY => Some(priority as u32),
-        _ => None,
-    }
+    let priority = u32::try_from(value.as_i64()?).ok()?;
+    (priority <= MAX_PRIORITY).then_some(priority)
 }
 
 fn style_at(value: &Value) -> Option<Style>

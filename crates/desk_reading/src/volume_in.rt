@@ -3,6 +3,7 @@ ghost use Rattle.std.specs.Prelude.{◌≡◌, option_map};
 ghost use Rattle.std.specs.Int.{is_in_range};
 ghost use Rattle.std.specs.Result.{result_ok};
 ghost use Rattle.s2_cover.specs.Rectangles.{rect_or_fault};
+ghost use Rattle.volume4d.specs.Limits.{max_volumes};
 ghost use Rattle.volume4d.specs.Windows.{window_or_fault};
 ghost use Rattle.volume4d.specs.Footprint.{shape_of};
 ghost use Rattle.serde_json.specs.View.{view, items_view};
@@ -17,7 +18,7 @@ use s2_cellid::CellId;
 use s2_cover::Rect;
 use serde_json::Value;
 use std::alloc::Global;
-use volume4d::{Area, Footprint, Volume, VolumeFault, Window};
+use volume4d::{Area, Footprint, MAX_VOLUMES, Volume, VolumeFault, Window};
 
 /// The volumes of a plan's area.
 pub fn read_area(alloc: Global, items: &[Value]) -> Result<Area, ReadError>
@@ -31,9 +32,9 @@ pub fn read_area(alloc: Global, items: &[Value]) -> Result<Area, ReadError>
 }
 
 fn is_area_count(count: usize) -> bool
-    ensures { result ≡ is_in_range 1 8 count }
+    ensures { result ≡ is_in_range 1 max_volumes count }
 {
-    (1..=8).contains(&count)
+    (1..=MAX_VOLUMES).contains(&count)
 }
 
 fn read_volumes(alloc: Global, items: &[Value]) -> Result<Vec<Volume>, ReadError>

@@ -43,6 +43,9 @@ pub struct Verdict {
 /// The greatest time between a request and the start of its plan, in seconds: thirty days.
 pub const HORIZON: i64 = 2_592_000;
 
+/// The greatest priority of a plan, and the greatest ceiling of an operator.
+pub const MAX_PRIORITY: u32 = 1_000;
+
 /// The most plans that an operator may have, closed ones included.
 pub const MAX_PLANS: u32 = 200;
 

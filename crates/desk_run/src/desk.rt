@@ -6,14 +6,12 @@ ghost use Rattle.desk_rules.specs.Limits.{max_priority};
 use crate::fault::DeskFault;
 use crate::pending::{Pending, commit_over, prepare_over};
 use desk_rules::call::Asked;
+use desk_rules::decide::MAX_PRIORITY;
 use desk_rules::operator::Operator;
 use desk_rules::reply::Reply;
 use desk_store::{Change, PlanStore};
 use std::alloc::Global;
 use std::marker::Model;
-
-/// The greatest ceiling.
-pub const MAX_CEILING: u32 = 1_000;
 
 /// A desk over a store.
 ///
@@ -69,7 +67,7 @@ impl<S: PlanStore> Desk<S> {
         ensures cause { IfErr result (λ e. e ≡ DeskFault.Store →
             HasRisen (S.faults self.old) (S.faults self.new)) }
     {
-        if ceiling > MAX_CEILING {
+        if ceiling > MAX_PRIORITY {
             return Err(DeskFault::Ceiling);
         }
         self.store.apply(&Change::Enrol {

@@ -9,7 +9,7 @@ mod run;
 #[cfg(test)]
 mod tests;
 
-pub use desk::{Desk, MAX_CEILING};
+pub use desk::Desk;
 pub use desk_rules::call::{Asked, Call};
 pub use desk_rules::reply::{PutReply, Reply, Shown};
 pub use fault::DeskFault;

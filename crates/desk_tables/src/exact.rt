@@ -16,6 +16,7 @@ ghost use Rattle.desk_tables.specs.Records.{IsOperator, IsFiled, AreRowsOf, AreN
 ghost use Rattle.desk_tables.specs.Records.{IsWindowAt, slab_row};
 
 use crate::reading::{area_in, count_at, plan_in};
+use desk_rules::decide::MAX_PRIORITY;
 use desk_rules::operator::Operator;
 use desk_rules::plan::PlanRow;
 use desk_rules::words::Usage;
@@ -26,9 +27,6 @@ use sqlite_value::value::ValueRef;
 use std::alloc::{AllocError, Global};
 use std::marker::Model;
 use volume4d::Slab;
-
-// The greatest priority of a plan, and the greatest ceiling of an operator.
-const MAX_PRIORITY: u32 = 1_000;
 
 // How many columns a row of each table has.
 const OPERATOR_WIDTH: usize = 2;

@@ -4,15 +4,10 @@ ghost use Rattle.std.specs.Prelude.{◌≡◌, ◌&&◌, nat_le};
 ghost use Rattle.std.specs.Int.{is_in_range};
 ghost use Rattle.s2_cover.specs.Rectangles.{rect_or_fault, is_coordinate, min_level, max_level, IsRect};
 
+use s2_hilbert::{FACE_SIDE, FACES};
 use std::error::Error;
 use std::fmt;
 use std::marker::Model;
-
-// How many faces there are.
-const FACES: u8 = 6;
-
-// How many leaves a face has along a side.
-const FACE_SIDE: u32 = 1 << 30;
 
 // The least level of a rectangle.
 const MIN_LEVEL: u8 = 8;

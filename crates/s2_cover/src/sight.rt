@@ -9,11 +9,8 @@ ghost use Rattle.s2_cover.specs.Walking.{Saw, SawSquare, IsWide};
 ghost use Rattle.s2_cover.specs.declared.sight.Sight.TheVariants.{Across};
 
 use crate::rect::Rect;
-use s2_hilbert::Square;
+use s2_hilbert::{LEAF_LEVEL, Square};
 use std::marker::Model;
-
-// The level of the leaves.
-const LEAF_LEVEL: u8 = 30;
 
 /// A rectangle in coordinates of the squares of its level: the whole squares that it touches.
 #[derive(Clone, Copy, Debug)]

@@ -12,8 +12,8 @@ use std::marker::Model;
 /// How many faces there are.
 pub const FACES: u8 = 6;
 
-// How many leaves a face has along a side.
-const FACE_SIDE: u32 = 1 << LEAF_LEVEL;
+/// How many leaves a face has along a side.
+pub const FACE_SIDE: u32 = 1 << LEAF_LEVEL;
 
 // The constants are those of the definition.
 fn has_the_limits()

@@ -10,7 +10,7 @@ mod quadrants;
 mod squares;
 mod tables;
 
-pub use leaves::{FACES, Leaf, leaf_at, position};
+pub use leaves::{FACE_SIDE, FACES, Leaf, leaf_at, position};
 pub use levels::LEAF_LEVEL;
 pub use squares::Square;
 

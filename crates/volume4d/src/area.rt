@@ -14,8 +14,8 @@ use crate::volume::Volume;
 use std::alloc::{AllocError, Global};
 use std::marker::Model;
 
-// The most volumes of an area.
-const MAX_VOLUMES: usize = 8;
+/// The most volumes of an area.
+pub const MAX_VOLUMES: usize = 8;
 
 /// The volumes of a plan (`Volume4D` of ASTM F3548-21), always 1 to 8 of them. A point belongs to
 /// the area if it belongs to one of the volumes.

@@ -25,11 +25,11 @@ const RECTANGLE: u8 = 2;
 // How many bytes the parts of a rectangle take.
 const RECTANGLE_BYTES: usize = 18;
 
-// The most cells of a cell list.
-const MAX_CELLS: usize = 64;
+/// The most cells of a cell list.
+pub const MAX_CELLS: usize = 64;
 
-// The most cells of the canonical cover of a rectangle.
-const MAX_COVER: u32 = 256;
+/// The most cells of the canonical cover of a rectangle.
+pub const MAX_COVER: u32 = 256;
 
 /// The ground that a volume covers.
 #[derive(Debug, Drop)]

@@ -15,11 +15,11 @@ mod tests;
 mod volume;
 mod window;
 
-pub use area::Area;
+pub use area::{Area, MAX_VOLUMES};
 pub use bounds::bounds_of;
 pub use fault::VolumeFault;
-pub use footprint::Footprint;
+pub use footprint::{Footprint, MAX_CELLS, MAX_COVER};
 pub use meeting::{Meeting, first_meeting, meet};
 pub use slab::{Held, Slab};
 pub use volume::Volume;
-pub use window::{Window, WindowFault};
+pub use window::{MAX_SECOND, Window, WindowFault};

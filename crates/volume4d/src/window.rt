@@ -80,8 +80,8 @@ const MIN_ALTITUDE: i32 = -10_000;
 // The highest upper bound of altitudes, in decimetres above the WGS84 ellipsoid.
 const MAX_ALTITUDE: i32 = 200_000;
 
-// The latest end, as a Unix second: the end of the year 9998.
-const MAX_SECOND: i64 = 253_370_764_800;
+/// The latest end of a volume, and the latest moment, as a Unix second: the end of the year 9998.
+pub const MAX_SECOND: i64 = 253_370_764_800;
 
 // The greatest length in time, in seconds: a day.
 const MAX_LENGTH: i64 = 86_400;
