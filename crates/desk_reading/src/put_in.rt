@@ -29,12 +29,12 @@ pub fn read_put(alloc: Global, id: PlanId, body: &[u8]) -> Result<PutCall, ReadE
     ensures { GivesIfRoom (λ call. call) result (spec.put_in id body.now) }
 {
     let value = read_json(alloc, body)?;
-    read_call(alloc, id, &value)
+    read_members(alloc, id, &value)
 }
 
 // The request that a value is.
 #[tactic(auto, unfolding(crate::specs::PutIn::put_of))]
-fn read_call(alloc: Global, id: PlanId, value: &Value) -> Result<PutCall, ReadError>
+fn read_members(alloc: Global, id: PlanId, value: &Value) -> Result<PutCall, ReadError>
     ensures { GivesIfRoom (λ call. call) result (spec.put_of id (view value.now)) }
 {
     let style = style_at(value).ok_or(WireFault::BadMember)?;

@@ -5,14 +5,14 @@ use Rattle.sqlite.specs.Order.{Row}
 use Rattle.sqlite.specs.Store.{Ghosts}
 use Rattle.sqlite.specs.State.{HasCleanDisk}
 use Rattle.sqlite.specs.Held.{Held, state}
-use Rattle.desk_sql.specs.declared.writing.VolumeRow.{VolumeRow}
-use Rattle.desk_sql.specs.declared.writing.SpanRow.{SpanRow}
+use Rattle.desk_sql.specs.declared.writing.VolumeRecord.{VolumeRecord}
+use Rattle.desk_sql.specs.declared.writing.SpanRecord.{SpanRecord}
 use Rattle.desk_sql.specs.Rows.{IsDesk, Tables, is_of, is_not_of, left_without, volume_row, span_row}
 
-abbrev pub volume_of : VolumeRow → Row
+abbrev pub volume_of : VolumeRecord → Row
 volume_of v = volume_row v.operator.now v.id.now v.place v.lower v.upper v.start v.stop v.asked.now
 
-abbrev pub span_of : SpanRow → Row
+abbrev pub span_of : SpanRecord → Row
 span_of s = span_row s.operator.now s.id.now s.place s.first s.last s.lower s.upper s.start s.stop s.priority
 
 abbrev pub AddsVolumes : List Row → Tables → Tables → Type 0

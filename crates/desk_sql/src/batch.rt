@@ -8,13 +8,13 @@ ghost use Rattle.desk_sql.specs.Effects.{IsReady, Makes};
 ghost use Rattle.desk_sql.specs.Rows.{RemovesPlan};
 
 use crate::removing::remove_plan;
-use crate::writing::{SpanRow, VolumeRow, insert_span, insert_volume};
+use crate::writing::{SpanRecord, VolumeRecord, insert_span, insert_volume};
 use sqlite::{Alter, Error, Transaction};
 
 /// Adds these rows to `volume`.
 pub fn insert_volumes<S: Alter>(
     tx: &mut Transaction<'_, S>,
-    rows: &[VolumeRow<'_>],
+    rows: &[VolumeRecord<'_>],
 ) -> Result<(), Error>
     requires under_way { IsUnderWay S.Store tx.old.conn.now }
     ensures same_reference { tx.new.conn.ghost_name ≡ tx.old.conn.ghost_name }
@@ -38,7 +38,7 @@ pub fn insert_volumes<S: Alter>(
 /// Adds these rows to `span`.
 pub fn insert_spans<S: Alter>(
     tx: &mut Transaction<'_, S>,
-    rows: &[SpanRow<'_>],
+    rows: &[SpanRecord<'_>],
 ) -> Result<(), Error>
     requires under_way { IsUnderWay S.Store tx.old.conn.now }
     ensures same_reference { tx.new.conn.ghost_name ≡ tx.old.conn.ghost_name }

@@ -12,7 +12,7 @@ use crate::batch::{insert_spans, insert_volumes, remove_plans};
 use crate::reading::operator_named;
 use crate::removing::{remove_plan, remove_spans};
 use crate::setting::{set_ceiling, set_closed};
-use crate::writing::{PlanRow, SpanRow, VolumeRow, insert_operator, insert_plan};
+use crate::writing::{PlanRecord, SpanRecord, VolumeRecord, insert_operator, insert_plan};
 use sqlite::{Alter, Connection, Error};
 
 /// Removes the plans of these ids, and their volumes and spans with them, as one transaction.
@@ -41,9 +41,9 @@ pub fn clear_plans<S: Alter>(
 /// Puts a plan with its volumes and spans, in place of what there was of it, as one transaction.
 pub fn put_plan<S: Alter>(
     connection: &mut Connection<S>,
-    plan: PlanRow<'_>,
-    volumes: &[VolumeRow<'_>],
-    spans: &[SpanRow<'_>],
+    plan: PlanRecord<'_>,
+    volumes: &[VolumeRecord<'_>],
+    spans: &[SpanRecord<'_>],
 ) -> Result<(), Error>
     requires ready { IsReady S.Store connection.old }
     requires settled { connection.old.in_transaction ≡ false }

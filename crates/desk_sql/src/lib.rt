@@ -24,11 +24,7 @@ pub use counting::own_count;
 pub use finding::{Found, find_tables};
 pub use making::make_tables;
 pub use reading::{operator_named, own_plans, plan_of, volumes_of};
-pub use removing::{remove_plan, remove_spans};
 pub use rivals::{Reach, rival_spans};
-pub use setting::{set_ceiling, set_closed};
 pub use taking::TakeRow;
 pub use whole::{all_operators, all_plans, all_spans, all_volumes};
-pub use writing::{
-    PlanRow, SpanRow, VolumeRow, insert_operator, insert_plan, insert_span, insert_volume,
-};
+pub use writing::{PlanRecord, SpanRecord, VolumeRecord};

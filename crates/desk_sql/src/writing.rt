@@ -10,7 +10,7 @@ use sqlite::{Alter, Error, Transaction, params};
 
 /// A row of `plan`.
 #[derive(Clone, Copy, Debug)]
-pub struct PlanRow<'a> {
+pub struct PlanRecord<'a> {
     pub operator: &'a str,
     pub id: &'a str,
     pub priority: u32,
@@ -20,7 +20,7 @@ pub struct PlanRow<'a> {
 
 /// A row of `volume`: altitudes in decimetres above the WGS84 ellipsoid, moments in seconds since 1970.
 #[derive(Clone, Copy, Debug)]
-pub struct VolumeRow<'a> {
+pub struct VolumeRecord<'a> {
     pub operator: &'a str,
     pub id: &'a str,
     pub place: u32,
@@ -34,7 +34,7 @@ pub struct VolumeRow<'a> {
 /// A row of `span`: leaf positions, altitudes in decimetres above the WGS84 ellipsoid, moments in
 /// seconds since 1970.
 #[derive(Clone, Copy, Debug)]
-pub struct SpanRow<'a> {
+pub struct SpanRecord<'a> {
     pub operator: &'a str,
     pub id: &'a str,
     pub place: u32,
@@ -105,7 +105,10 @@ pub fn insert_plan<S: Alter>(
 }
 
 /// Adds a row to `volume`.
-pub fn insert_volume<S: Alter>(tx: &mut Transaction<'_, S>, row: VolumeRow<'_>) -> Result<(), Error>
+pub fn insert_volume<S: Alter>(
+    tx: &mut Transaction<'_, S>,
+    row: VolumeRecord<'_>,
+) -> Result<(), Error>
     requires ready { IsReady S.Store tx.old.conn.now }
     ensures same_reference { tx.new.conn.ghost_name ≡ tx.old.conn.ghost_name }
     ensures done { HasCleanDisk (state S.Store tx.new.conn.now)
@@ -139,7 +142,7 @@ pub fn insert_volume<S: Alter>(tx: &mut Transaction<'_, S>, row: VolumeRow<'_>) 
 }
 
 /// Adds a row to `span`.
-pub fn insert_span<S: Alter>(tx: &mut Transaction<'_, S>, row: SpanRow<'_>) -> Result<(), Error>
+pub fn insert_span<S: Alter>(tx: &mut Transaction<'_, S>, row: SpanRecord<'_>) -> Result<(), Error>
     requires ready { IsReady S.Store tx.old.conn.now }
     ensures same_reference { tx.new.conn.ghost_name ≡ tx.old.conn.ghost_name }
     ensures done { HasCleanDisk (state S.Store tx.new.conn.now)

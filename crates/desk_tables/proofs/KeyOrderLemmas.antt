@@ -20,7 +20,7 @@ use Rattle.desk_store.specs.World.{Filed, Listed, World, text_cmp, listed_cmp, f
 use Rattle.desk_store.specs.OrderLaws.{all_weaker, all_append}
 use Rattle.desk_tables.specs.Tables.{id_text, operator_row, operator_rows, plan_row, plan_rows, volume_row, volume_rows_from, area_rows, volume_rows, span_row, AreSpanRowsFrom, ArePlanSpanRows, AreSpanRows, AreTables}
 use Rattle.desk_tables.specs.Content.{IsPlan, IsContent}
-use Rattle.desk_tables.specs.Opening.{AreRows, AreInOrder}
+use Rattle.desk_tables.specs.Opening.{AreRows, AreSortedByKey}
 use Rattle.desk_tables.proofs.IdLemmas.{text_order, then_then}
 use Rattle.desk_tables.proofs.RowLemmas.{after_key}
 use Rattle.desk_tables.proofs.FilterLemmas.{ArePlans}
@@ -186,7 +186,7 @@ spans_up (p ∷ ps) rows h s (front, rest, are, own, then) =
 -- ---- all tables
 
 -- what is read in the order of its keys is the rows of the content in that order
-pub are_rows : (t rows : Tables) (w : World) → IsContent w → AreTables t w → AreInOrder t rows → AreRows rows w
+pub are_rows : (t rows : Tables) (w : World) → IsContent w → AreTables t w → AreSortedByKey t rows → AreRows rows w
 are_rows t rows w h are lists =
     let spans = are.spans in record {
       operator_part = in_order (0 ∷ []) (operator_rows w) t.operators rows.operators (operators_up w.operators h.world.operators) are.operators lists.operator_part;
@@ -199,7 +199,7 @@ moved : (cells : List ℕ) (xs wanted rows : List Row) → rows ≡ xs → Lists
 moved cells xs wanted rows e lists = subst (λ rs. IsPermutation rs wanted) e (IsPermutation-sym wanted rows lists.same)
 
 -- and tables read so are the content's
-pub are_tables : (t rows : Tables) (w : World) → AreInOrder t rows → AreRows rows w → AreTables t w
+pub are_tables : (t rows : Tables) (w : World) → AreSortedByKey t rows → AreRows rows w → AreTables t w
 are_tables t rows w lists are = record {
   operators = moved (0 ∷ []) (operator_rows w) t.operators rows.operators are.operator_part lists.operator_part;
   plans = moved (0 ∷ 1 ∷ []) (plan_rows w.plans) t.plans rows.plans are.plan_part lists.plan_part;

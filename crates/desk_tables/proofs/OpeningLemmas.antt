@@ -15,7 +15,7 @@ use Rattle.desk_store.specs.World.{World}
 use Rattle.desk_tables.specs.declared.open.OpenFault.{OpenFault}
 use Rattle.desk_tables.specs.declared.open.OpenFault.TheVariants.{NotADesk, Store}
 use Rattle.desk_tables.specs.Content.{IsContent}
-use Rattle.desk_tables.specs.Opening.{AreInOrder, AreRows, IsContentOf, AreNoContent, ShowsNoDesk, IsNoDesk, HasFailed, BlamesReading, open_fault_of}
+use Rattle.desk_tables.specs.Opening.{AreSortedByKey, AreRows, IsContentOf, AreNoContent, ShowsNoDesk, IsNoDesk, HasFailed, BlamesReading, open_fault_of}
 use Rattle.desk_tables.proofs.KeyOrderLemmas.{are_rows, are_tables}
 
 module _ {S : Type 0} (g : Ghosts S) where
@@ -60,14 +60,14 @@ module _ {S : Type 0} (g : Ghosts S) where
   blames_reading a b c error fewer limit why clean live told = failed_if a b c error fewer limit (why clean live) told
 
 -- what is read in the order of its keys has the tables' content, or theirs is none
-none_there : (t rows : Tables) → AreInOrder t rows → ((w : World) → IsContent w → AreRows rows w → ⊥) → AreNoContent t
+none_there : (t rows : Tables) → AreSortedByKey t rows → ((w : World) → IsContent w → AreRows rows w → ⊥) → AreNoContent t
 none_there t rows lists none = λ w h are. none w h (are_rows t rows w h are lists)
 
 module _ (t rows : Tables) {V : Type 0} where
-  pub have_content : (world : V → World) (r : Result V OpenFault) → AreInOrder t rows → IfOk r (λ v. IsContent (world v) × AreRows rows (world v)) → IfOk r (λ v. IsContentOf t (world v))
+  pub have_content : (world : V → World) (r : Result V OpenFault) → AreSortedByKey t rows → IfOk r (λ v. IsContent (world v) × AreRows rows (world v)) → IfOk r (λ v. IsContentOf t (world v))
   have_content world (Ok v) lists read = record { content = read.0; tables = are_tables t rows (world v) lists read.1 }
   have_content world (Err e) lists read = tt
 
-  pub of_none : (r : Result V OpenFault) → AreInOrder t rows → IfErr r (λ e. e ≡ NotADesk → (w : World) → IsContent w → ¬ AreRows rows w) → IfErr r (λ e. e ≡ NotADesk → AreNoContent t)
+  pub of_none : (r : Result V OpenFault) → AreSortedByKey t rows → IfErr r (λ e. e ≡ NotADesk → (w : World) → IsContent w → ¬ AreRows rows w) → IfErr r (λ e. e ≡ NotADesk → AreNoContent t)
   of_none (Ok v) lists none = tt
   of_none (Err e) lists none = λ n. none_there t rows lists (none n)

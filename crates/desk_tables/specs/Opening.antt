@@ -101,7 +101,7 @@ is_below_first cmp x [] = true
 is_below_first cmp x (y ∷ ys) = is_lt (cmp x y)
 
 -- the tables, each put in the order of its key
-pub record AreInOrder (t rows : Tables) : Type 0 where
+pub record AreSortedByKey (t rows : Tables) : Type 0 where
   pub operator_part : Lists (0 ∷ []) t.operators rows.operators
   pub plan_part : Lists (0 ∷ 1 ∷ []) t.plans rows.plans
   pub volume_part : Lists (0 ∷ 1 ∷ 2 ∷ []) t.volumes rows.volumes

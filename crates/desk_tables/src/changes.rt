@@ -18,7 +18,7 @@ use crate::records::{aircraft_number, asked_of, span_rows, texts_of, usage_numbe
 use desk_rules::operator::Operator;
 use desk_rules::plan::PlanRow;
 use desk_rules::plan_id::PlanId;
-use desk_sql::{PlanRow as HeadRow, clear_plans, close_plan, put_operator, put_plan};
+use desk_sql::{PlanRecord, clear_plans, close_plan, put_operator, put_plan};
 use desk_store::{Change, StoreFault};
 use sqlite::{Connection, Row};
 use sqlite_trees::store::Alter;
@@ -99,7 +99,7 @@ fn put<S: Alter>(
     let asked = asked_of(alloc, row.area.volumes())?;
     let volumes = volume_rows(alloc, operator.as_str(), id, row, &asked)?;
     let spans = span_rows(alloc, operator.as_str(), id, row)?;
-    let head = HeadRow {
+    let head = PlanRecord {
         operator: operator.as_str(),
         id,
         priority: row.priority,

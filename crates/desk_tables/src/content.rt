@@ -293,7 +293,7 @@ fn are_shared(operators: &[ListedOperator], plans: &[FiledPlan]) -> bool
     let mut others = operators;
     let mut left = plans;
     while let Some((listed, later)) = others.split_first() {
-        let count = own_plans(listed, left);
+        let count = count_own(listed, left);
         if !are_few(count) {
             return false;
         }
@@ -313,7 +313,7 @@ fn are_few(count: usize) -> bool
 
 // How many of the first plans are the operator's.
 #[tactic(auto, using(crate::proofs::JoinLemmas::within))]
-fn own_plans(listed: &ListedOperator, plans: &[FiledPlan]) -> usize
+fn count_own(listed: &ListedOperator, plans: &[FiledPlan]) -> usize
     ensures value { result ≡ prefix_len (world.is_by listed.now.name) plans.now }
     ensures within { result ≤ length plans.now }
 {

@@ -11,7 +11,7 @@ ghost use Rattle.desk_sql.specs.Effects.{IsKept, IsReady};
 ghost use Rattle.desk_tables.specs.Store.{Stands};
 ghost use Rattle.desk_store.specs.World.{World};
 ghost use Rattle.desk_tables.specs.Content.{IsContent};
-ghost use Rattle.desk_tables.specs.Opening.{AreInOrder, AreRows, IsContentOf, AreNoContent};
+ghost use Rattle.desk_tables.specs.Opening.{AreSortedByKey, AreRows, IsContentOf, AreNoContent};
 ghost use Rattle.desk_tables.specs.Opening.{BeginsWith, ShowsNoDesk, BlamesReading, BlamesDatabase};
 
 use crate::content::{TableRows, content_in};
@@ -106,7 +106,7 @@ fn rows_in<S: Alter>(connection: &mut Connection<S>) -> Result<TableRows, OpenFa
     requires ready { IsReady S.Store connection.old }
     requires settled { connection.old.in_transaction ≡ false }
     ensures value { HasCleanDisk (state S.Store connection.new) →
-        IfOk result (AreInOrder (tables_of (state S.Store connection.old).now.trees)) }
+        IfOk result (AreSortedByKey (tables_of (state S.Store connection.old).now.trees)) }
     ensures open { HasCleanDisk (state S.Store connection.new) →
         OnOk result (IsTrue (state S.Store connection.old).is_open) }
     ensures fault { IfErr result (λ e. e ≢ OpenFault.NotADesk) }

@@ -14,7 +14,7 @@ ghost use Rattle.desk_tables.specs.PlanRows.{volume_record, slab_record, AreAske
 use desk_rules::plan::PlanRow;
 use desk_rules::plan_id::PlanId;
 use desk_rules::words::{Aircraft, Usage};
-use desk_sql::{SpanRow, VolumeRow};
+use desk_sql::{SpanRecord, VolumeRecord};
 use std::alloc::{AllocError, Global};
 use volume4d::{Slab, Volume};
 
@@ -101,7 +101,7 @@ pub(crate) fn volume_rows<'a>(
     id: &'a str,
     plan: &PlanRow,
     asked: &'a [Vec<u8>],
-) -> Result<Vec<VolumeRow<'a>>, AllocError>
+) -> Result<Vec<VolumeRecord<'a>>, AllocError>
     requires named { id.now ≡ id_text plan.now.id }
     requires same { AreAskedOf plan.now.area (map (λ bytes. bytes.items) asked.now) }
     ensures { IfOk result (λ rows. map volume_of rows.items
@@ -124,11 +124,11 @@ fn volume_row<'a>(
     place: u32,
     volume: &Volume,
     asked: &'a [u8],
-) -> VolumeRow<'a>
+) -> VolumeRecord<'a>
     ensures { volume_of result ≡ volume_record operator.now id.now place volume.now.window asked.now }
 {
     let window = volume.window();
-    VolumeRow {
+    VolumeRecord {
         operator,
         id,
         place,
@@ -151,7 +151,7 @@ pub(crate) fn span_rows<'a>(
     operator: &'a str,
     id: &'a str,
     plan: &PlanRow,
-) -> Result<Vec<SpanRow<'a>>, AllocError>
+) -> Result<Vec<SpanRecord<'a>>, AllocError>
     requires { id.now ≡ id_text plan.now.id }
     ensures { IfOk result (λ rows. ArePlanSpanRows (filed_by operator.now plan.now)
         (map span_of rows.items)) }
@@ -169,7 +169,7 @@ fn area_spans<'a>(
     operator: &'a str,
     id: &'a str,
     plan: &PlanRow,
-) -> Result<Vec<SpanRow<'a>>, AllocError>
+) -> Result<Vec<SpanRecord<'a>>, AllocError>
     requires { id.now ≡ id_text plan.now.id }
     ensures { IfOk result (λ rows. AreSpanRowsFrom (filed_by operator.now plan.now) 0 plan.now.area
         (map span_of rows.items)) }
@@ -193,7 +193,7 @@ fn slab_rows<'a>(
     place: u32,
     priority: u32,
     slabs: &[Slab],
-) -> Result<Vec<SpanRow<'a>>, AllocError>
+) -> Result<Vec<SpanRecord<'a>>, AllocError>
     ensures { IfOk result (λ rows. map span_of rows.items
         ≡ map (slab_record operator.now id.now place priority) slabs.now) }
 {
@@ -211,10 +211,10 @@ fn slab_row<'a>(
     place: u32,
     priority: u32,
     slab: &Slab,
-) -> SpanRow<'a>
+) -> SpanRecord<'a>
     ensures { span_of result ≡ slab_record operator.now id.now place priority slab.now }
 {
-    SpanRow {
+    SpanRecord {
         operator,
         id,
         place,
