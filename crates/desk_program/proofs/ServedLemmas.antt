@@ -14,7 +14,8 @@ use Rattle.desk_wire.specs.declared.stream.ServeFault.TheVariants.{Read, Write, 
 use Rattle.desk_program.specs.Serving.{AreServed}
 
 -- what is left by requests, and then by others
-left_by_both : (xs : List Sent) (w : World) (ys : List Sent) → world_left w (xs ++ ys) ≡ world_left (world_left w xs) ys
+left_by_both : (xs : List Sent) (w : World) (ys : List Sent) → world_left w (xs ++ ys)
+    ≡ world_left (world_left w xs) ys
 left_by_both [] w ys = refl
 left_by_both (x ∷ xs) w ys = left_by_both xs _ ys
 
@@ -27,34 +28,44 @@ pub unserved : (count : ℕ) (w : World) → AreServed count w w
 unserved count w = none_served count w w refl
 
 -- so many connections, and then others
-pub both_served : (m n : ℕ) (v w after : World) → AreServed m v w → AreServed n w after → AreServed (m + n) v after
+pub both_served : (m n : ℕ) (v w after : World) → AreServed m v w → AreServed n w after
+    → AreServed (m + n) v after
 both_served m n v w after first then = record {
   requests = first.requests ++ then.requests;
   few = omega (arith, length-append first.requests then.requests, first.few, then.few);
   moments = All-append (λ r. IsMoment r.0) first.requests then.requests first.moments then.moments;
-  left = then.left ∙ ap (λ u. world_left u then.requests) first.left ∙ sym (left_by_both first.requests v then.requests);
+  left = then.left ∙ ap (λ u. world_left u then.requests) first.left
+      ∙ sym (left_by_both first.requests v then.requests);
 }
 
 -- an answer was made, if only the desk's own failure
-answered_one : (H : Type 0) (why : Option ServerError) (w : World) (moment : ℤ) (request answer : List ℕ) (after : World) → IsMoment moment → H → IsReplied H w moment request answer why after → AreServed 1 w after
+answered_one : (H : Type 0) (why : Option ServerError) (w : World) (moment : ℤ)
+    (request answer : List ℕ)
+    (after : World) → IsMoment moment → H → IsReplied H w moment request answer why after
+    → AreServed 1 w after
 answered_one H None w moment request answer after m h replied = record {
   requests = (moment, request) ∷ [];
   few = omega arith;
   moments = All-cons (λ r. IsMoment r.0) (moment, request) [] m (All-nil (λ r. IsMoment r.0));
   left = (replied.told h).left;
 }
-answered_one H (Some error) w moment request answer after m h replied = none_served 1 w after (replied.told h).left
+answered_one H (Some error) w moment request answer after m h replied =
+    none_served 1 w after (replied.told h).left
 
 -- one connection
-pub one_served : (H : Type 0) (result : Result Served ServeFault) (old new out now : Option (List ℕ)) (w : World) (moment : ℤ) (after : World) → IsMoment moment → H → HasServed H result old new out now w moment after → AreServed 1 w after
+pub one_served : (H : Type 0) (result : Result Served ServeFault) (old new out now : Option (List ℕ))
+    (w : World) (moment : ℤ) (after : World) → IsMoment moment → H
+    → HasServed H result old new out now w moment after → AreServed 1 w after
 one_served H (Ok (Answered status framed)) old new out now w moment after m h served =
     answered_one H served.why w moment served.request served.answer after m h served.replied
 one_served H (Ok End) old new out now w moment after m h served = none_served 1 w after served.1.left
 one_served H (Err (Write sent)) old new out now w moment after m h served =
     answered_one H served.why w moment served.request served.answer after m h served.replied
-one_served H (Err CutShort) old new out now w moment after m h served = none_served 1 w after served.1.left
+one_served H (Err CutShort) old new out now w moment after m h served =
+    none_served 1 w after served.1.left
 one_served H (Err Read) old new out now w moment after m h served = none_served 1 w after served.left
-one_served H (Err OutOfMemory) old new out now w moment after m h served = none_served 1 w after served.left
+one_served H (Err OutOfMemory) old new out now w moment after m h served =
+    none_served 1 w after served.left
 
 -- so many at most are more at most
 pub fewer_served : (m n : ℕ) (v w : World) → m ≤ n → AreServed m v w → AreServed n v w

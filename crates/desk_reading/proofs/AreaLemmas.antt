@@ -11,16 +11,19 @@ use Rattle.desk_reading.specs.JsonIn.{each}
 use Rattle.desk_reading.specs.VolumeIn.{volume_of, area_of}
 use Rattle.desk_reading.specs.declared.wire_fault.WireFault.TheVariants.{BadVolume}
 
-pub area_of-uncounted : (vs : List Value) → is_in_range 1 max_volumes (length vs) ≡ false → area_of (items_view vs) ≡ Err BadVolume
+pub area_of-uncounted : (vs : List Value) → is_in_range 1 max_volumes (length vs) ≡ false
+    → area_of (items_view vs) ≡ Err BadVolume
 unfolding area_of
 area_of-uncounted vs count = rw (items_len-items_view vs, count)
 
-pub area_of-counted : (vs : List Value) → is_in_range 1 max_volumes (length vs) ≡ true → area_of (items_view vs) ≡ each volume_of (items_view vs)
+pub area_of-counted : (vs : List Value) → is_in_range 1 max_volumes (length vs) ≡ true
+    → area_of (items_view vs) ≡ each volume_of (items_view vs)
 unfolding area_of
 area_of-counted vs count = rw (items_len-items_view vs, count)
 
 -- so many volumes make an area
-pub made : (vs : List Value) (blocks : List Block) → is_in_range 1 max_volumes (length vs) ≡ true → each volume_of (items_view vs) ≡ Ok blocks → is_area blocks ≡ true
+pub made : (vs : List Value) (blocks : List Block) → is_in_range 1 max_volumes (length vs) ≡ true
+    → each volume_of (items_view vs) ≡ Ok blocks → is_area blocks ≡ true
 made vs blocks count read =
     let len = length-each volume_of (items_view vs) blocks read ∙ items_len-items_view vs in
     ap (is_in_range 1 max_volumes) len ∙ count

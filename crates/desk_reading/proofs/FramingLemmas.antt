@@ -4,7 +4,8 @@ use Rattle.std.proofs.lemmas.Bool.{cases_eq}
 use Rattle.desk_reading.specs.Framing.{least}
 
 -- no number below n passes, and n doesn't
-pub least_more : (test : ℕ → Bool) (n : ℕ) → least test n ≡ None → test n ≡ false → least test (n + 1) ≡ None
+pub least_more : (test : ℕ → Bool) (n : ℕ) → least test n ≡ None → test n ≡ false → least test (n + 1)
+    ≡ None
 least_more test n none fails = rw (add-one, none, fails)
 
 -- no number below n passes, and n does

@@ -33,7 +33,8 @@ class_is_not test c fails b passes = ne_eqb b c (λ e. false≢true (sym fails �
 abbrev pub HasNone : ℕ → List ℕ → Type 0
 HasNone c text = All (λ b. (b == c) ≡ false) text
 
-HasNone_from_class : (test : ℕ → Bool) (c : ℕ) → test c ≡ false → (text : List ℕ) → AllPass test text → HasNone c text
+HasNone_from_class : (test : ℕ → Bool) (c : ℕ) → test c ≡ false → (text : List ℕ) → AllPass test text
+    → HasNone c text
 HasNone_from_class test c fails text pass =
     All-weaker (λ b. test b ≡ true) (λ b. (b == c) ≡ false) (class_is_not test c fails) text pass
 
@@ -42,7 +43,8 @@ pub record IsLineText (text : List ℕ) : Type 0 where
   pub no_cr : HasNone 13 text
   pub no_lf : HasNone 10 text
 
-IsLineText_from_class : (test : ℕ → Bool) → test 13 ≡ false → test 10 ≡ false → (text : List ℕ) → AllPass test text → IsLineText text
+IsLineText_from_class : (test : ℕ → Bool) → test 13 ≡ false → test 10 ≡ false → (text : List ℕ)
+    → AllPass test text → IsLineText text
 IsLineText_from_class test cr nl text pass = record {
   no_cr = HasNone_from_class test 13 cr text pass;
   no_lf = HasNone_from_class test 10 nl text pass;
@@ -54,7 +56,8 @@ IsLineText-append x y p q = record {
   no_lf = All-append (λ b. (b == 10) ≡ false) x y p.no_lf q.no_lf;
 }
 
-IsLineText-cons : (b : ℕ) (x : List ℕ) → (b == 13) ≡ false → (b == 10) ≡ false → IsLineText x → IsLineText (b ∷ x)
+IsLineText-cons : (b : ℕ) (x : List ℕ) → (b == 13) ≡ false → (b == 10) ≡ false → IsLineText x
+    → IsLineText (b ∷ x)
 IsLineText-cons b x cr nl p = record {
   no_cr = All-cons (λ b. (b == 13) ≡ false) b x cr p.no_cr;
   no_lf = All-cons (λ b. (b == 10) ≡ false) b x nl p.no_lf;
@@ -91,7 +94,9 @@ lines-line (b ∷ x) end rest p =
 
 -- ---- the parts of a line
 
-position_at : (stop : ℕ) (x y : List ℕ) → HasNone stop x → position_or_len (λ b. b == stop) (x ++ stop ∷ y) ≡ length x
+position_at : (stop : ℕ) (x y : List ℕ) → HasNone stop x
+    → position_or_len (λ b. b == stop) (x ++ stop ∷ y)
+    ≡ length x
 position_at stop [] y none = let same : (stop == stop) ≡ true = eq-eqb stop stop refl in rw same
 position_at stop (b ∷ x) y none =
     let other : (b == stop) ≡ false = All-head (λ b. (b == stop) ≡ false) b x none in
@@ -123,7 +128,11 @@ field_text f = f.name ++ 58 ∷ f.raw
 field_of-text : (f : Field) → IsField f → field_of (field_text f) f.end ≡ f
 field_of-text f ok =
     let none = HasNone_from_class is_token_byte 58 colon_ends_token f.name ok.name.1 in
-    λ i. record { name = before_at 58 f.name f.raw none i; raw = after_at 58 f.name f.raw none i; end = f.end }
+    λ i. record {
+      name = before_at 58 f.name f.raw none i;
+      raw = after_at 58 f.name f.raw none i;
+      end = f.end;
+    }
 
 field_text_is_line : (f : Field) → IsField f → IsLineText (field_text f)
 field_text_is_line f ok =
@@ -176,8 +185,10 @@ abbrev pub request_text : RequestHead → List ℕ
 request_text h = h.method ++ 32 ∷ (h.target ++ 32 ∷ print_version h.minor)
 
 version_is_line : (minor : ℕ) → minor ≤ 1 → IsLineText (print_version minor)
-version_is_line zero ok = IsLineText_from_class is_uri_byte refl refl _ (AllPass-from_list_all is_uri_byte (print_version 0) refl)
-version_is_line (suc zero) ok = IsLineText_from_class is_uri_byte refl refl _ (AllPass-from_list_all is_uri_byte (print_version 1) refl)
+version_is_line zero ok = IsLineText_from_class is_uri_byte refl refl _
+    (AllPass-from_list_all is_uri_byte (print_version 0) refl)
+version_is_line (suc zero) ok = IsLineText_from_class is_uri_byte refl refl _
+    (AllPass-from_list_all is_uri_byte (print_version 1) refl)
 version_is_line (suc (suc n)) ok = absurd (omega arith)
 
 request_text_is_line : (h : RequestHead) → IsRequestHead h → IsLineText (request_text h)
@@ -213,7 +224,8 @@ head_at-text h ok rest same_fields same_last =
     ap (before 32) after_method ∙ before_at 32 h.target (print_version h.minor) no_blank in
     let version : after 32 (after 32 (request_text h)) ≡ print_version h.minor =
     ap (after 32) after_method ∙ after_at 32 h.target (print_version h.minor) no_blank in
-    let minor : (if bytes_eq (after 32 (after 32 (request_text h))) (codes "HTTP/1.1") then 1 else 0) ≡ h.minor =
+    let minor : (if bytes_eq (after 32 (after 32 (request_text h))) (codes "HTTP/1.1") then 1 else 0)
+    ≡ h.minor =
     rw version (minor_of h.minor ok.minor) in
     λ i. record {
       blank = [];
@@ -229,20 +241,24 @@ lines-blank : (end : LineEnd) (rest : List ℕ) → lines (print_end end ++ rest
 lines-blank crlf rest = refl
 lines-blank lf rest = refl
 
-head_of-blank : (blank : List LineEnd) (h : RequestHead) (rest : List ℕ) → head_of (lines rest) ≡ without_blank h
+head_of-blank : (blank : List LineEnd) (h : RequestHead) (rest : List ℕ) → head_of (lines rest)
+    ≡ without_blank h
     → head_of (lines (print_blank blank ++ rest)) ≡ record h { blank = blank }
 head_of-blank [] h rest e = e
 head_of-blank (end ∷ blank) h rest e =
-    ap head_of (ap lines (append_assoc (print_end end) (print_blank blank) rest) ∙ lines-blank end (print_blank blank ++ rest))
+    ap head_of (ap lines (append_assoc (print_end end) (print_blank blank) rest)
+    ∙ lines-blank end (print_blank blank ++ rest))
     ∙ ap (λ (k : RequestHead). record k { blank = end ∷ k.blank }) (head_of-blank blank h rest e)
 
 -- the lines of a printed head make that head
 head_of-lines : (h : RequestHead) → IsRequestHead h → head_of (lines (print_request h ++ [])) ≡ h
 head_of-lines h ok =
     let section : List ℕ = flat_map print_field h.fields ++ (print_end h.last ++ []) in
-    let request : lines (request_text h ++ (print_end h.line_end ++ section)) ≡ line (request_text h) h.line_end ∷ lines section =
+    let request : lines (request_text h ++ (print_end h.line_end ++ section))
+    ≡ line (request_text h) h.line_end ∷ lines section =
     lines-line (request_text h) h.line_end section (request_text_is_line h ok) in
-    let first : head_of (lines (request_text h ++ (print_end h.line_end ++ section))) ≡ without_blank h =
+    let first : head_of (lines (request_text h ++ (print_end h.line_end ++ section)))
+    ≡ without_blank h =
     ap head_of request
     ∙ head_of-line (request_text h) h.line_end (lines section) (request_text_some h ok)
     ∙ head_at-text h ok (lines section) (fields_of-section h.fields h.last [] ok.fields)
@@ -255,7 +271,8 @@ head_of-lines h ok =
     ∙ head_of-blank h.blank h _ first
   where
     regroup : (a b c d e f : List ℕ)
-        → a ++ 32 ∷ (b ++ 32 ∷ (c ++ (d ++ ((e ++ f) ++ [])))) ≡ (a ++ 32 ∷ (b ++ 32 ∷ c)) ++ (d ++ (e ++ (f ++ [])))
+        → a ++ 32 ∷ (b ++ 32 ∷ (c ++ (d ++ ((e ++ f) ++ [])))) ≡ (a ++ 32 ∷ (b ++ 32 ∷ c))
+        ++ (d ++ (e ++ (f ++ [])))
     regroup a b c d e f = simp (append_assoc, cons-append)
 
 -- ---- the tests
@@ -263,7 +280,8 @@ head_of-lines h ok =
 is_field-from : (f : Field) → IsField f → is_field f ≡ true
 is_field-from f ok =
     and_from _ _
-    (and_from _ _ (lt-ltb 0 (length f.name) ok.name.0) (list_all-from_AllPass is_token_byte f.name ok.name.1))
+    (and_from _ _ (lt-ltb 0 (length f.name) ok.name.0)
+    (list_all-from_AllPass is_token_byte f.name ok.name.1))
     (list_all-from_AllPass is_value_byte f.raw ok.raw)
 
 IsField-from : (f : Field) → is_field f ≡ true → IsField f
@@ -278,9 +296,11 @@ IsField-from f e =
 is_request_head-from : (h : RequestHead) → IsRequestHead h → is_request_head h ≡ true
 is_request_head-from h ok =
     let method : is_token h.method ≡ true =
-    and_from _ _ (lt-ltb 0 (length h.method) ok.method.0) (list_all-from_AllPass is_token_byte h.method ok.method.1) in
+    and_from _ _ (lt-ltb 0 (length h.method) ok.method.0)
+    (list_all-from_AllPass is_token_byte h.method ok.method.1) in
     let target : (nat_lt 0 (length h.target) && list_all is_uri_byte h.target) ≡ true =
-    and_from _ _ (lt-ltb 0 (length h.target) ok.target.0) (list_all-from_AllPass is_uri_byte h.target ok.target.1) in
+    and_from _ _ (lt-ltb 0 (length h.target) ok.target.0)
+    (list_all-from_AllPass is_uri_byte h.target ok.target.1) in
     and_from _ _
     (and_from _ _
     (and_from _ _ (and_from _ _ method target) (is_utf8-from_IsUtf8 h.target ok.target_text))
@@ -297,8 +317,16 @@ IsRequestHead-from h e =
     let method = and_parts (nat_lt 0 (length h.method)) (list_all is_token_byte h.method) a.0 in
     let target = and_parts (nat_lt 0 (length h.target)) (list_all is_uri_byte h.target) a.1 in
     record {
-      method = (ltb-true 0 (length h.method) method.0, AllPass-from_list_all is_token_byte h.method method.1);
-      target = (ltb-true 0 (length h.target) target.0, AllPass-from_list_all is_uri_byte h.target target.1);
+      method = (
+        ltb-true 0 (length h.method) method.0,
+        AllPass-from_list_all is_token_byte h.method
+            method.1,
+      );
+      target = (
+        ltb-true 0 (length h.target) target.0,
+        AllPass-from_list_all is_uri_byte h.target
+            target.1,
+      );
       target_text = IsUtf8-from_is_utf8 h.target b.1;
       minor = leb-true h.minor 1 c.1;
       fields = All-weaker (λ f. is_field f ≡ true) IsField IsField-from h.fields
@@ -310,22 +338,26 @@ IsRequestHead-from h e =
 pub head_in-reads : (text : List ℕ) (h : RequestHead) → ReadsRequest text h [] → head_in text ≡ Some h
 unfolding head_in
 head_in-reads text h reads =
-    let found : head_of (lines text) ≡ h = ap (λ (t : List ℕ). head_of (lines t)) reads.1 ∙ head_of-lines h reads.0 in
+    let found : head_of (lines text) ≡ h = ap (λ (t : List ℕ). head_of (lines t)) reads.1
+    ∙ head_of-lines h reads.0 in
     let same : bytes_eq (print_request h) text ≡ true =
     (bytes_eq-Decides (print_request h) text).1 (sym (reads.1 ∙ append-nil (print_request h))) in
     let passes : (is_request_head h && bytes_eq (print_request h) text) ≡ true =
     and_from _ _ (is_request_head-from h reads.0) same in
     ap (checked_head text) found ∙ cond-true _ (Some h) None passes
 
-checked_head-reads : (text : List ℕ) (k h : RequestHead) → checked_head text k ≡ Some h → ReadsRequest text h []
+checked_head-reads : (text : List ℕ) (k h : RequestHead) → checked_head text k ≡ Some h
+    → ReadsRequest text h []
 checked_head-reads text k h e =
     elim (cases_Bool (is_request_head k && bytes_eq (print_request k) text)) [
       | inl passes ↦
           let parts = and_parts (is_request_head k) _ passes in
-          let found : k ≡ h = let at : Some k ≡ Some h = sym (cond-true _ (Some k) None passes) ∙ e in cc in
+          let found : k ≡ h = let at : Some k ≡ Some h = sym (cond-true _ (Some k) None passes) ∙ e
+          in cc in
           subst (λ (v : RequestHead). ReadsRequest text v []) found (
             IsRequestHead-from k parts.0,
-            sym ((bytes_eq-Decides (print_request k) text).0 parts.1) ∙ sym (append-nil (print_request k)),
+            sym ((bytes_eq-Decides (print_request k) text).0 parts.1)
+                ∙ sym (append-nil (print_request k)),
           )
       | inr fails ↦ let none : None ≡ Some h = sym (cond-false _ (Some k) None fails) ∙ e in cc
     ]
@@ -337,19 +369,24 @@ reads-head_in text h e = checked_head-reads text (head_of (lines text)) h e
 -- ---- what the parser found
 
 -- the head that a parser read whole is the text's
-pub head_within-reads : (room : ℕ) (text : List ℕ) (h : RequestHead) → ReadsRequest text h [] → length h.fields ≤ room
+pub head_within-reads : (room : ℕ) (text : List ℕ) (h : RequestHead) → ReadsRequest text h []
+    → length h.fields ≤ room
     → head_within room text ≡ Some h
 unfolding head_within
-head_within-reads room text h reads fits = rw (head_in-reads text h reads, le-leb (length h.fields) room fits)
+head_within-reads room text h reads fits =
+    rw (head_in-reads text h reads, le-leb (length h.fields) room fits)
 
 -- where no head of at most so many fields reads the text, there is none
 pub head_within-none : (room : ℕ) (text : List ℕ)
-    → ((h : RequestHead) → ReadsRequest text h [] → length h.fields ≤ room → ⊥) → head_within room text ≡ None
+    → ((h : RequestHead) → ReadsRequest text h [] → length h.fields ≤ room → ⊥) → head_within room text
+    ≡ None
 unfolding head_within
 head_within-none room text none = by (head_in text) refl
   where
     by : (o : Option RequestHead) → head_in text ≡ o
-        → option_and_then (λ (h : RequestHead). if nat_le (length h.fields) room then Some h else None) o ≡ None
+        → option_and_then (λ (h : RequestHead). if nat_le (length h.fields) room then Some h else None)
+        o
+        ≡ None
     by None e = refl
     by (Some h) e =
         elim (cases_Bool (nat_le (length h.fields) room)) [
@@ -358,7 +395,8 @@ head_within-none room text none = by (head_in text) refl
         ]
 
 -- a parser that stopped at the text's end
-pub parts_at-whole : (text : List ℕ) (headers : List HeaderSpan) (r : RequestSpans) → IsRequestOf text headers r
+pub parts_at-whole : (text : List ℕ) (headers : List HeaderSpan) (r : RequestSpans)
+    → IsRequestOf text headers r
     → length headers ≡ 64 → r.len ≡ length text
     → Some (parts_at text r headers) ≡ option_map parts_of (head_within 64 text)
 parts_at-whole text headers r (h, at) room all =
@@ -372,7 +410,8 @@ parts_at-whole text headers r (h, at) room all =
 
 -- a parser that read no head, or stopped before the text's end
 pub no_parts : (text : List ℕ) (headers : List HeaderSpan) (r : Result (Status RequestSpans) Error)
-    → FindsRequest text 64 headers r → ((spans : RequestSpans) → r ≡ Ok (Complete spans) → spans.len ≢ length text)
+    → FindsRequest text 64 headers r → ((spans : RequestSpans) → r ≡ Ok (Complete spans)
+    → spans.len ≢ length text)
     → None ≡ option_map parts_of (head_within 64 text)
 no_parts text headers r finds short =
     rw (head_within-none 64 text (λ h reads fits. clash h r short (finds h [] reads fits) reads.1)) refl
@@ -380,6 +419,7 @@ no_parts text headers r finds short =
     clash : (h : RequestHead) (r : Result (Status RequestSpans) Error)
         → ((spans : RequestSpans) → r ≡ Ok (Complete spans) → spans.len ≢ length text)
         → IsCompleteAnd r (λ spans. IsRequestAt text headers spans h) → text ≡ print_request h ++ [] → ⊥
-    clash h (Ok (Complete spans)) short at e = short spans refl (at.len ∙ ap length (sym (append-nil (print_request h)) ∙ sym e))
+    clash h (Ok (Complete spans)) short at e = short spans refl
+        (at.len ∙ ap length (sym (append-nil (print_request h)) ∙ sym e))
     clash h (Ok Partial) short at e = at
     clash h (Err e') short at e = at

@@ -40,8 +40,10 @@ after_param-segment : (b : ℕ) (path : List ℕ)
 after_param-segment b path =
     rw (ap not (has_slash-is (b ∷ path)))
     (elim (cases_Bool (has_slash (b ∷ path))) [
-      | inl slashed ↦ after_param-stop [] (Some 2) b path refl slashed ∙ ap (λ (v : Bool). cond (not v) (Some 2) None) (sym slashed)
-      | inr one ↦ after_param-end [] (Some 2) b path tt refl one ∙ ap (λ (v : Bool). cond (not v) (Some 2) None) (sym one)
+      | inl slashed ↦ after_param-stop [] (Some 2) b path refl slashed
+          ∙ ap (λ (v : Bool). cond (not v) (Some 2) None) (sym slashed)
+      | inr one ↦ after_param-end [] (Some 2) b path tt refl one
+          ∙ ap (λ (v : Bool). cond (not v) (Some 2) None) (sym one)
     ])
 
 param_row : (path : List ℕ) → IsText path → first param_rows path ≡ cond (is_segment path) (Some 2) None
@@ -140,7 +142,8 @@ first-apart (x ∷ t) (y ∷ w) j k rows (b ∷ path) text e =
     let c : (x == 257) ≡ false = ne_eqb x 257 (λ q. omega (arith, byte)) in
     let d : (y == 256) ≡ false = ne_eqb y 256 (λ q. omega (arith, text.0)) in
     let f : (y == 257) ≡ false = ne_eqb y 257 (λ q. omega (arith, text.0)) in
-    rw (a, c, d, f) (by (x == b) refl (y == b) refl _ (λ g. first-apart t w j k (step b rows) path text.1 g))
+    rw (a, c, d, f) (by (x == b) refl (y == b) refl _
+    (λ g. first-apart t w j k (step b rows) path text.1 g))
   where
     goes_on : (x == b) ≡ true → (y == b) ≡ true → apart t w ≡ true
     goes_on p q =
@@ -151,7 +154,8 @@ first-apart (x ∷ t) (y ∷ w) j k rows (b ∷ path) text e =
         → (apart t w ≡ true → first ((t, j) ∷ (w, k) ∷ step b rows) path
         ≡ cond (bytes_eq w path) (Some k) (first ((t, j) ∷ step b rows) path))
         → or_else (first
-        (cond u ((t, j) ∷ cond v ((w, k) ∷ step b rows) (step b rows)) (cond v ((w, k) ∷ step b rows) (step b rows)))
+        (cond u ((t, j) ∷ cond v ((w, k) ∷ step b rows) (step b rows))
+        (cond v ((w, k) ∷ step b rows) (step b rows)))
         path) rest
         ≡ cond (v && bytes_eq w path) (Some k)
         (or_else (first (cond u ((t, j) ∷ step b rows) (step b rows)) path) rest)
@@ -171,7 +175,8 @@ number_of path =
     cond (bytes_eq (codes "/clear_area_requests") path) (Some 0)
     (cond (bytes_eq (codes "/flight_plans") path) (Some 1)
     (cond (bytes_eq (codes "/status") path) (Some 3)
-    (cond (starts_with nat_eq path plans_folder) (cond (is_segment (drop 14 path)) (Some 2) None) None)))
+    (cond (starts_with nat_eq path plans_folder) (cond (is_segment (drop 14 path)) (Some 2) None)
+    None)))
 
 first-numbered : (path : List ℕ) → IsText path → first numbered_rows path ≡ number_of path
 first-numbered path text =
@@ -181,7 +186,8 @@ first-numbered path text =
     (first-apart plan_pattern (codes "/flight_plans") 2 1 _ path
     (IsText_from_test (codes "/flight_plans") refl) refl
     ∙ ap (cond (bytes_eq (codes "/flight_plans") path) (Some 1))
-    (first-apart plan_pattern (codes "/status") 2 3 [] path (IsText_from_test (codes "/status") refl) refl
+    (first-apart plan_pattern (codes "/status") 2 3 [] path (IsText_from_test (codes "/status") refl)
+    refl
     ∙ ap (cond (bytes_eq (codes "/status") path) (Some 3))
     (first-prefix plans_folder param_rows path folder_is_text
     ∙ ap (λ o. cond (starts_with nat_eq path plans_folder) o None)
@@ -214,11 +220,14 @@ plan_part path long =
     (take_all (length path - 14) (drop 14 path) (omega (arith, length-drop 14 path)))
 
 plan_walk : (path : List ℕ) → 14 ≤ length path
-    → walk plan_pattern plan_entry.text path ((15, 29) ∷ []) 0 0 ≡ (codes "flight_plan_id", drop 14 path) ∷ []
+    → walk plan_pattern plan_entry.text path ((15, 29) ∷ []) 0 0
+    ≡ (codes "flight_plan_id", drop 14 path) ∷ []
 plan_walk path long =
     let at : wild_from plan_pattern (length path) 0 0 ≡ (14, 14) =
     wild_from-text plans_folder (length path) 0 0 folder_is_text (omega arith) in
-    ap (λ (w : ℕ × ℕ). (codes "flight_plan_id", part_of path w.1 (wild_stop plan_pattern w.0 path w.1)) ∷ []) at
+    ap (λ (w : ℕ × ℕ). (codes "flight_plan_id", part_of path w.1 (wild_stop plan_pattern w.0 path w.1))
+    ∷ [])
+    at
     ∙ ap (λ (part : List ℕ). (codes "flight_plan_id", part) ∷ []) (plan_part path long)
 
 -- ---- the route
@@ -240,7 +249,8 @@ route_of-number path =
     (bytes_eq (codes "/status") path) (starts_with nat_eq path plans_folder) (is_segment (drop 14 path))
   where
     by : (a b c d e : Bool)
-        → (if a then Some (place_at path 0) else if b then Some (place_at path 1) else if c then Some (place_at path 3)
+        → (if a then Some (place_at path 0) else if b then Some (place_at path 1) else if c
+        then Some (place_at path 3)
         else if d && e then Some (place_at path 2) else None)
         ≡ option_map (place_at path)
         (cond a (Some 0) (cond b (Some 1) (cond c (Some 3) (cond d (cond e (Some 2) None) None))))
@@ -259,13 +269,15 @@ route_of-none path text none =
     by None e = refl
     by (Some n) e = cc
 
-number_of-folder : (path : List ℕ) → number_of path ≡ Some 2 → starts_with nat_eq path plans_folder ≡ true
+number_of-folder : (path : List ℕ) → number_of path ≡ Some 2 → starts_with nat_eq path plans_folder
+    ≡ true
 number_of-folder path =
     by (bytes_eq (codes "/clear_area_requests") path) (bytes_eq (codes "/flight_plans") path)
     (bytes_eq (codes "/status") path) (starts_with nat_eq path plans_folder) (is_segment (drop 14 path))
   where
     by : (a b c d e : Bool)
-        → cond {A = Option ℕ} a (Some 0) (cond b (Some 1) (cond c (Some 3) (cond d (cond e (Some 2) None) None)))
+        → cond {A = Option ℕ} a (Some 0) (cond b (Some 1)
+        (cond c (Some 3) (cond d (cond e (Some 2) None) None)))
         ≡ Some 2
         → d ≡ true
     by a b c true e q = refl
@@ -284,9 +296,11 @@ LooksAmong parts r =
 abbrev pub Looks : List ℕ → RouteOf Route → Option (Bor (List ℕ)) → Type 0
 Looks path entry r = LooksAmong (walk entry.pattern entry.text path entry.names 0 0) r
 
-IsAscii_from_test : (text : List ℕ) → list_all (λ b. ltb b 128) text ≡ true → (i : ℕ) → get_or text i 0 < 128
+IsAscii_from_test : (text : List ℕ) → list_all (λ b. ltb b 128) text ≡ true → (i : ℕ)
+    → get_or text i 0 < 128
 IsAscii_from_test [] e i = omega arith
-IsAscii_from_test (b ∷ text) e zero = ltb-true b 128 (and_parts (ltb b 128) (list_all (λ c. ltb c 128) text) e).0
+IsAscii_from_test (b ∷ text) e zero = ltb-true b 128
+    (and_parts (ltb b 128) (list_all (λ c. ltb c 128) text) e).0
 IsAscii_from_test (b ∷ text) e (suc i) =
     IsAscii_from_test text (and_parts (ltb b 128) (list_all (λ c. ltb c 128) text) e).1 i
 
@@ -297,10 +311,16 @@ module _ (path : List ℕ) (r : Option (Bor (List ℕ))) (other : Bor (List ℕ)
       let long : length path ≡ 14 + length (drop 14 path) =
       omega (arith, ap length begins, length-append plans_folder (drop 14 path)) in
       let slash : get_or path 13 0 ≡ 47 = ap (λ (l : List ℕ). get_or l 13 0) begins in
-      let rest : IsUtf8 (drop 14 path) = IsUtf8-drop path 14 utf8 (IsCharBoundary-after_ascii path 13 utf8 (omega arith) (omega arith)) in
+      let rest : IsUtf8 (drop 14 path) = IsUtf8-drop path 14 utf8
+      (IsCharBoundary-after_ascii path 13 utf8 (omega arith) (omega arith)) in
       let known : LooksAmong ((codes "flight_plan_id", drop 14 path) ∷ []) r =
       subst (λ parts. LooksAmong parts r) (plan_walk path (omega arith)) looks in
-      by r (known (IsUtf8-from_ascii (codes "flight_plan_id") (IsAscii_from_test (codes "flight_plan_id") refl), rest, tt))
+      by r (known (
+        IsUtf8-from_ascii (codes "flight_plan_id")
+            (IsAscii_from_test (codes "flight_plan_id") refl),
+        rest,
+        tt,
+      ))
     where
       by : (r : Option (Bor (List ℕ)))
           → MatchOption r (Some (drop 14 path) ≡ None) (λ value. Some (drop 14 path) ≡ Some value.now)
@@ -319,12 +339,15 @@ module _ (path : List ℕ) (r : Option (Bor (List ℕ))) (other : Bor (List ℕ)
       by None e = empty
       by (Some value) e = cc
 
-  found_id : (n : ℕ) → IsUtf8 path → other.now ≡ [] → number_of path ≡ Some n → Looks path (entry_of n) r
+  found_id : (n : ℕ) → IsUtf8 path → other.now ≡ [] → number_of path ≡ Some n
+      → Looks path (entry_of n) r
       → (unwrap_or r other).now ≡ id_at n path
   found_id zero utf8 empty number looks = not_looked_up empty looks
   found_id (suc zero) utf8 empty number looks = not_looked_up empty looks
   found_id (suc (suc zero)) utf8 empty number looks =
-      looked_up utf8 ((starts_is Decides-eqb path plans_folder true (sym (number_of-folder path number))).0 refl) looks
+      looked_up utf8 ((starts_is Decides-eqb path plans_folder true
+      (sym (number_of-folder path number))).0
+      refl) looks
   found_id (suc (suc (suc n))) utf8 empty number looks = not_looked_up empty looks
 
   pub route_of-found : (entry : RouteOf Route) → IsText path → IsUtf8 path → other.now ≡ []

@@ -29,26 +29,45 @@ use Rattle.desk_rules.proofs.SearchLemmas.{IsFound, InBoth, BeforePair, IsBelow,
 use Rattle.desk_rules.proofs.Reach.{same_position, same_int, area_reach, before_pair, leaf_total, altitude_total, second_total}
 
 -- the search finds the first point of the area that passes, where only the area's points pass
-pub first_point_is : (area : List Block) (passes : Point → Bool) → ((x : Point) → passes x ≡ true → area_has area x ≡ true) → IsFirstPoint passes (first_point area passes)
+pub first_point_is : (area : List Block) (passes : Point → Bool)
+    → ((x : Point) → passes x ≡ true → area_has area x ≡ true)
+    → IsFirstPoint passes (first_point area passes)
 unfolding first_point
-first_point_is area passes inside = step (first_pair _ _ (λ p. passes (point_of p))) (pair_finds (IsBelow (leaf_total area)) IsLess (InBoth (IsWithinInt (altitude_total area)) (IsWithinInt (second_total area))) (BeforePair IsLessInt IsLessInt) _ _ (below_finds (leaf_total area)) (pair_finds (IsWithinInt (altitude_total area)) IsLessInt (IsWithinInt (second_total area)) IsLessInt _ _ (within_finds (altitude_total area)) (within_finds (second_total area))) (λ p. passes (point_of p))) where
-  Reach : ℕ × (ℤ × ℤ) → Type 0
-  Reach = InBoth (IsBelow (leaf_total area)) (InBoth (IsWithinInt (altitude_total area)) (IsWithinInt (second_total area)))
+first_point_is area passes inside = step (first_pair _ _ (λ p. passes (point_of p)))
+    (pair_finds (IsBelow (leaf_total area)) IsLess
+    (InBoth (IsWithinInt (altitude_total area)) (IsWithinInt (second_total area)))
+    (BeforePair IsLessInt IsLessInt) _ _ (below_finds (leaf_total area))
+    (pair_finds (IsWithinInt (altitude_total area)) IsLessInt (IsWithinInt (second_total area))
+    IsLessInt _ _
+    (within_finds (altitude_total area)) (within_finds (second_total area))) (λ p. passes (point_of p)))
+  where
+    Reach : ℕ × (ℤ × ℤ) → Type 0
+    Reach = InBoth (IsBelow (leaf_total area)) (InBoth (IsWithinInt (altitude_total area))
+        (IsWithinInt (second_total area)))
 
-  Before : ℕ × (ℤ × ℤ) → ℕ × (ℤ × ℤ) → Type 0
-  Before = BeforePair IsLess (BeforePair IsLessInt IsLessInt)
+    Before : ℕ × (ℤ × ℤ) → ℕ × (ℤ × ℤ) → Type 0
+    Before = BeforePair IsLess (BeforePair IsLessInt IsLessInt)
 
-  place_of : Point → ℕ × (ℤ × ℤ)
-  place_of x = (position_of x.leaf, (x.altitude, x.second))
+    place_of : Point → ℕ × (ℤ × ℤ)
+    place_of x = (position_of x.leaf, (x.altitude, x.second))
 
-  passes_there : (x : Point) → passes x ≡ true → passes (point_of (place_of x)) ≡ true
-  passes_there x e = ap passes (point_by_position x (area_leaf area x (inside x e))) ∙ e
+    passes_there : (x : Point) → passes x ≡ true → passes (point_of (place_of x)) ≡ true
+    passes_there x e = ap passes (point_by_position x (area_leaf area x (inside x e))) ∙ e
 
-  step : (o : Option (ℕ × (ℤ × ℤ))) → IsFound Reach Before (λ p. passes (point_of p)) o → IsFirstPoint passes (option_map point_of o)
-  step None h = λ x. false_from_ne_true _ (λ e. let no = h (place_of x) (area_reach area x (inside x e)) in let yes = passes_there x e in cc)
-  step (Some p) h = (h.1, λ x l. false_from_ne_true _ (λ e. let no = h.2 (place_of x) (area_reach area x (inside x e)) (before_pair x p l) in let yes = passes_there x e in cc))
+    step : (o : Option (ℕ × (ℤ × ℤ))) → IsFound Reach Before (λ p. passes (point_of p)) o
+        → IsFirstPoint passes (option_map point_of o)
+    step None h = λ x. false_from_ne_true _ (λ e. let no = h (place_of x)
+        (area_reach area x (inside x e))
+        in let yes = passes_there x e in cc)
+    step (Some p) h = (
+      h.1,
+      λ x l. false_from_ne_true _
+          (λ e. let no = h.2 (place_of x) (area_reach area x (inside x e)) (before_pair x p l)
+          in let yes = passes_there x e in cc),
+    )
 
-only_inside : (area : List Block) (levels : Point → Option ℕ) (priority : ℕ) (x : Point) → is_blocked area levels priority x ≡ true → area_has area x ≡ true
+only_inside : (area : List Block) (levels : Point → Option ℕ) (priority : ℕ) (x : Point)
+    → is_blocked area levels priority x ≡ true → area_has area x ≡ true
 unfolding is_blocked
 only_inside area levels priority x e = (and_parts (area_has area x) _ e).0
 
@@ -56,22 +75,29 @@ has_level : (o : Option ℕ) (priority : ℕ) → reaches o priority ≡ true �
 has_level None priority e = cc
 has_level (Some n) priority e = (n, refl)
 
-blocked_level : (area : List Block) (levels : Point → Option ℕ) (priority : ℕ) (x : Point) → is_blocked area levels priority x ≡ true → (n : ℕ) × (levels x ≡ Some n)
+blocked_level : (area : List Block) (levels : Point → Option ℕ) (priority : ℕ) (x : Point)
+    → is_blocked area levels priority x ≡ true → (n : ℕ) × (levels x ≡ Some n)
 unfolding is_blocked
-blocked_level area levels priority x e = has_level (levels x) priority (and_parts (area_has area x) _ e).1
+blocked_level area levels priority x e = has_level (levels x) priority
+    (and_parts (area_has area x) _ e).1
 
 -- the first passing point and its level are the first spot
-pub first_spot : (passes : Point → Bool) (levels : Point → Option ℕ) → ((x : Point) → passes x ≡ true → (n : ℕ) × (levels x ≡ Some n)) → (o : Option Point) → IsFirstPoint passes o → IsFirst passes levels (option_and_then (λ x. option_map (λ level. record { point = x; priority = level }) (levels x)) o)
+pub first_spot : (passes : Point → Bool) (levels : Point → Option ℕ)
+    → ((x : Point) → passes x ≡ true → (n : ℕ) × (levels x ≡ Some n)) → (o : Option Point)
+    → IsFirstPoint passes o → IsFirst passes levels
+    (option_and_then (λ x. option_map (λ level. record { point = x; priority = level }) (levels x)) o)
 first_spot passes levels there None h = h
 first_spot passes levels there (Some p) h =
     let level = there p h.0 in
     rw level.1 (record { here = h.0; level = level.1; first = h.1 })
 
 -- the search meets what a conflict is
-pub conflict_is : (area : List Block) (levels : Point → Option ℕ) (priority : ℕ) → IsConflict area levels priority (conflict area levels priority)
+pub conflict_is : (area : List Block) (levels : Point → Option ℕ) (priority : ℕ)
+    → IsConflict area levels priority (conflict area levels priority)
 unfolding conflict
 conflict_is area levels priority =
-    first_spot (is_blocked area levels priority) levels (blocked_level area levels priority) _ (first_point_is area (is_blocked area levels priority) (only_inside area levels priority))
+    first_spot (is_blocked area levels priority) levels (blocked_level area levels priority) _
+    (first_point_is area (is_blocked area levels priority) (only_inside area levels priority))
 
 -- points are in a total order
 then_equal : (o p : Ordering) → ordering_then o p ≡ Equal → (o ≡ Equal) × (p ≡ Equal)
@@ -79,21 +105,26 @@ then_equal Less p e = cc
 then_equal Equal p e = (refl, e)
 then_equal Greater p e = cc
 
-same_point : (x y : Point) → is_leaf x.leaf ≡ true → is_leaf y.leaf ≡ true → point_cmp x y ≡ Equal → x ≡ y
+same_point : (x y : Point) → is_leaf x.leaf ≡ true → is_leaf y.leaf ≡ true → point_cmp x y ≡ Equal → x
+    ≡ y
 same_point x y x_is y_is e =
     let leaf = then_equal (nat_cmp (leaf_id x.leaf) (leaf_id y.leaf)) _ e in
     let rest = then_equal (int_cmp x.altitude y.altitude) _ leaf.1 in
-    let l = same_leaf x.leaf y.leaf ((leaf_test x.leaf).0 x_is) ((leaf_test y.leaf).0 y_is) (same_position (position_of x.leaf) (position_of y.leaf) leaf.0) in
+    let l = same_leaf x.leaf y.leaf ((leaf_test x.leaf).0 x_is) ((leaf_test y.leaf).0 y_is)
+    (same_position (position_of x.leaf) (position_of y.leaf) leaf.0) in
     let a = same_int x.altitude y.altitude rest.0 in
     let s = same_int x.second y.second rest.1 in
     λ i. record { leaf = l i; altitude = a i; second = s i }
 
 points_total : IsTotalOrder point_cmp
-points_total = then_total (on_total (λ x. leaf_id x.leaf) nat_cmp_total) (then_total (on_total (λ x. x.altitude) int_cmp_total) (on_total (λ x. x.second) int_cmp_total))
+points_total = then_total (on_total (λ x. leaf_id x.leaf) nat_cmp_total)
+    (then_total (on_total (λ x. x.altitude) int_cmp_total) (on_total (λ x. x.second) int_cmp_total))
 
-less_or_after : (x y : Point) → (point_cmp x y ≡ Less) ⊎ ((point_cmp x y ≡ Equal) ⊎ (point_cmp y x ≡ Less))
+less_or_after : (x y : Point) → (point_cmp x y ≡ Less)
+    ⊎ ((point_cmp x y ≡ Equal) ⊎ (point_cmp y x ≡ Less))
 less_or_after x y = by_answer (point_cmp x y) refl where
-  by_answer : (o : Ordering) → point_cmp x y ≡ o → (point_cmp x y ≡ Less) ⊎ ((point_cmp x y ≡ Equal) ⊎ (point_cmp y x ≡ Less))
+  by_answer : (o : Ordering) → point_cmp x y ≡ o → (point_cmp x y ≡ Less)
+      ⊎ ((point_cmp x y ≡ Equal) ⊎ (point_cmp y x ≡ Less))
   by_answer Less e = inl e
   by_answer Equal e = inr (inl e)
   by_answer Greater e = inr (inr (points_total.antisymm y x ∙ ap ordering_reverse e))
@@ -102,9 +133,11 @@ less_or_after x y = by_answer (point_cmp x y) refl where
 abbrev pub OnLeaves : (Point → Bool) → Type 0
 OnLeaves passes = (x : Point) → passes x ≡ true → is_leaf x.leaf ≡ true
 
-one_spot : (passes : Point → Bool) (levels : Point → Option ℕ) (a b : Spot) → OnLeaves passes → IsFirstSpot passes levels a → IsFirstSpot passes levels b → a ≡ b
+one_spot : (passes : Point → Bool) (levels : Point → Option ℕ) (a b : Spot) → OnLeaves passes
+    → IsFirstSpot passes levels a → IsFirstSpot passes levels b → a ≡ b
 one_spot passes levels a b leaves p q = by_order (less_or_after a.point b.point) where
-  by_order : (point_cmp a.point b.point ≡ Less) ⊎ ((point_cmp a.point b.point ≡ Equal) ⊎ (point_cmp b.point a.point ≡ Less)) → a ≡ b
+  by_order : (point_cmp a.point b.point ≡ Less) ⊎ ((point_cmp a.point b.point ≡ Equal)
+      ⊎ (point_cmp b.point a.point ≡ Less)) → a ≡ b
   by_order (inl l) = let no = q.first a.point l in let yes = p.here in cc
   by_order (inr (inr l)) = let no = p.first b.point l in let yes = q.here in cc
   by_order (inr (inl e)) =
@@ -113,13 +146,16 @@ one_spot passes levels a b leaves p q = by_order (less_or_after a.point b.point)
       let priorities : a.priority ≡ b.priority = cc in
       λ i. record { point = same i; priority = priorities i }
 
-pub one_first : (passes : Point → Bool) (levels : Point → Option ℕ) (a b : Option Spot) → OnLeaves passes → IsFirst passes levels a → IsFirst passes levels b → a ≡ b
+pub one_first : (passes : Point → Bool) (levels : Point → Option ℕ) (a b : Option Spot)
+    → OnLeaves passes
+    → IsFirst passes levels a → IsFirst passes levels b → a ≡ b
 one_first passes levels None None leaves p q = refl
 one_first passes levels None (Some b) leaves p q = let no = p b.point in let yes = q.here in cc
 one_first passes levels (Some a) None leaves p q = let no = q a.point in let yes = p.here in cc
 one_first passes levels (Some a) (Some b) leaves p q = ap Some (one_spot passes levels a b leaves p q)
 
-pub blocked_leaves : (area : List Block) (levels : Point → Option ℕ) (priority : ℕ) → OnLeaves (is_blocked area levels priority)
+pub blocked_leaves : (area : List Block) (levels : Point → Option ℕ) (priority : ℕ)
+    → OnLeaves (is_blocked area levels priority)
 blocked_leaves area levels priority x e = area_leaf area x (only_inside area levels priority x e)
 
 is_some_at_least : (o : Option ℕ) (priority : ℕ) → is_some (at_least priority o) ≡ reaches o priority
@@ -135,27 +171,44 @@ level_at_least o priority n = by_test (reaches o priority) where
   by_test true e = e
   by_test false e = cc
 
-shared_is_blocked : (area : List Block) (levels : Point → Option ℕ) (priority : ℕ) (mine : List Slab) (theirs : List Held) → AreSlabsOf mine area → HoldLevels theirs area levels priority → (x : Point) → is_shared mine theirs x ≡ is_blocked area levels priority x
+shared_is_blocked : (area : List Block) (levels : Point → Option ℕ) (priority : ℕ) (mine : List Slab)
+    (theirs : List Held) → AreSlabsOf mine area → HoldLevels theirs area levels priority → (x : Point)
+    → is_shared mine theirs x ≡ is_blocked area levels priority x
 unfolding is_shared is_blocked
 shared_is_blocked area levels priority mine theirs slabs helds x =
     ap (λ b. b && is_some (top_held theirs x)) (slabs x) ∙ by_test (area_has area x) (helds x) where
-      by_test : (b : Bool) → (b ≡ true → top_held theirs x ≡ at_least priority (levels x)) → (b && is_some (top_held theirs x)) ≡ (b && reaches (levels x) priority)
+      by_test : (b : Bool) → (b ≡ true → top_held theirs x ≡ at_least priority (levels x))
+          → (b && is_some (top_held theirs x)) ≡ (b && reaches (levels x) priority)
       by_test true h = ap is_some (h refl) ∙ is_some_at_least (levels x) priority
       by_test false h = refl
 
 -- the first meeting of an area's slabs with what others hold is the area's conflict
-pub conflict_by_meeting : (area : List Block) (levels : Point → Option ℕ) (priority : ℕ) (mine : List Slab) (theirs : List Held) → AreSlabsOf mine area → HoldLevels theirs area levels priority → (m : Option Spot) → IsFirst (is_shared mine theirs) (top_held theirs) m → m ≡ conflict area levels priority
+pub conflict_by_meeting : (area : List Block) (levels : Point → Option ℕ) (priority : ℕ)
+    (mine : List Slab)
+    (theirs : List Held) → AreSlabsOf mine area → HoldLevels theirs area levels priority
+    → (m : Option Spot)
+    → IsFirst (is_shared mine theirs) (top_held theirs) m → m ≡ conflict area levels priority
 conflict_by_meeting area levels priority mine theirs slabs helds m h =
-    one_first (is_blocked area levels priority) levels m (conflict area levels priority) (blocked_leaves area levels priority) (kept m h) (conflict_is area levels priority) where
+    one_first (is_blocked area levels priority) levels m (conflict area levels priority)
+    (blocked_leaves area levels priority) (kept m h) (conflict_is area levels priority) where
       same : (x : Point) → is_shared mine theirs x ≡ is_blocked area levels priority x
       same = shared_is_blocked area levels priority mine theirs slabs helds
 
-      kept : (o : Option Spot) → IsFirst (is_shared mine theirs) (top_held theirs) o → IsFirst (is_blocked area levels priority) levels o
+      kept : (o : Option Spot) → IsFirst (is_shared mine theirs) (top_held theirs) o
+          → IsFirst (is_blocked area levels priority) levels o
       kept None h = λ x. sym (same x) ∙ h x
       kept (Some s) h =
           let here = sym (same s.point) ∙ h.here in
-          record { here = here; level = level_at_least (levels s.point) priority s.priority (sym (helds s.point (only_inside area levels priority s.point here)) ∙ h.level); first = λ x l. sym (same x) ∙ h.first x l }
+          record {
+            here = here;
+            level = level_at_least (levels s.point) priority s.priority
+                (sym (helds s.point (only_inside area levels priority s.point here)) ∙ h.level);
+            first =
+                λ x l. sym (same x) ∙ h.first x l;
+          }
 
 -- equal levels have equal conflicts
-pub conflict_same_levels : (area : List Block) (f g : Point → Option ℕ) (priority : ℕ) → ((x : Point) → f x ≡ g x) → conflict area f priority ≡ conflict area g priority
-conflict_same_levels area f g priority same = ap (λ levels. conflict area levels priority) (fun_ext same)
+pub conflict_same_levels : (area : List Block) (f g : Point → Option ℕ) (priority : ℕ)
+    → ((x : Point) → f x ≡ g x) → conflict area f priority ≡ conflict area g priority
+conflict_same_levels area f g priority same = ap (λ levels. conflict area levels priority)
+    (fun_ext same)

@@ -14,7 +14,8 @@ below_128 b is = grind (arith, nat_tests)
 
 ascii_names : (name : List ℕ) → list_all is_name_byte name ≡ true → IsAscii name
 ascii_names [] all = IsAscii-nil
-ascii_names (b ∷ bs) all = let parts = and_parts _ _ all in IsAscii-cons b bs (below_128 b parts.0) (ascii_names bs parts.1)
+ascii_names (b ∷ bs) all = let parts = and_parts _ _ all
+    in IsAscii-cons b bs (below_128 b parts.0) (ascii_names bs parts.1)
 
 -- an operator's name is text
 pub name_is_text : (name : List ℕ) → IsTrue (is_operator_name name) → IsUtf8 name

@@ -38,12 +38,14 @@ use Rattle.desk_run.specs.Calls.{ids_in, IsClearing, IsReady, world_committed}
 
 -- an extent's ids, plan by plan
 ids_append : (extent : Block) (rows : List PlanRow) (row : PlanRow)
-    → ids_in extent (rows ++ row ∷ []) ≡ ids_in extent rows ++ map (λ r. r.id) (cond (is_in extent row) (row ∷ []) [])
+    → ids_in extent (rows ++ row ∷ []) ≡ ids_in extent rows
+    ++ map (λ r. r.id) (cond (is_in extent row) (row ∷ []) [])
 ids_append extent rows row =
     ap (map (λ r. r.id)) (filter-append (is_in extent) rows (row ∷ []))
     ∙ map-append (λ r. r.id) (filter (is_in extent) rows) _
 
-next_ids : (extent : Block) (rows : List PlanRow) (n : ℕ) (row : PlanRow) → n < length rows → row ≡ get_or rows n row
+next_ids : (extent : Block) (rows : List PlanRow) (n : ℕ) (row : PlanRow) → n < length rows → row
+    ≡ get_or rows n row
     → ids_in extent (take (n + 1) rows)
     ≡ ids_in extent (take n rows) ++ map (λ r. r.id) (cond (is_in extent row) (row ∷ []) [])
 next_ids extent rows n row below is =
@@ -54,7 +56,8 @@ append_none : (xs : List (List ℕ)) → xs ++ [] ≡ xs
 append_none [] = refl
 append_none (x ∷ xs) = ap (λ ys. x ∷ ys) (append_none xs)
 
-pub id_added : (extent : Block) (rows : List PlanRow) (n : ℕ) (row : PlanRow) (ids : List (List ℕ)) → n < length rows
+pub id_added : (extent : Block) (rows : List PlanRow) (n : ℕ) (row : PlanRow) (ids : List (List ℕ))
+    → n < length rows
     → row ≡ get_or rows n row → is_in extent row ≡ true → ids ≡ ids_in extent (take n rows)
     → ids ++ row.id ∷ [] ≡ ids_in extent (take (n + 1) rows)
 id_added extent rows n row ids below is there so_far =
@@ -62,7 +65,8 @@ id_added extent rows n row ids below is there so_far =
     ∙ ap (λ b. ids_in extent (take n rows) ++ map (λ r. r.id) (cond b (row ∷ []) [])) (sym there)
     ∙ sym (next_ids extent rows n row below is)
 
-pub id_passed : (extent : Block) (rows : List PlanRow) (n : ℕ) (row : PlanRow) (ids : List (List ℕ)) → n < length rows
+pub id_passed : (extent : Block) (rows : List PlanRow) (n : ℕ) (row : PlanRow) (ids : List (List ℕ))
+    → n < length rows
     → row ≡ get_or rows n row → is_in extent row ≡ false → ids ≡ ids_in extent (take n rows)
     → ids ≡ ids_in extent (take (n + 1) rows)
 id_passed extent rows n row ids below is there so_far =
@@ -89,12 +93,14 @@ is_greater Equal e = cc
 is_greater Greater e = refl
 
 -- a plan before others has none of their ids
-unnamed : (takes : PlanRow → Bool) (row : PlanRow) (rows : List PlanRow) → AllByRecursion (λ r. row_cmp row r ≡ Less) rows
+unnamed : (takes : PlanRow → Bool) (row : PlanRow) (rows : List PlanRow)
+    → AllByRecursion (λ r. row_cmp row r ≡ Less) rows
     → is_named (ids_by takes rows) row ≡ false
 unnamed takes row [] all = refl
 unnamed takes row (r ∷ rs) all = by_test (takes r) (unnamed takes row rs all.1) where
   other : has_id r.id row ≡ false
-  other = is_greater (text_cmp r.id row.id) (nat_list_cmp_total.antisymm r.id row.id ∙ ap ordering_reverse all.0)
+  other = is_greater (text_cmp r.id row.id) (nat_list_cmp_total.antisymm r.id row.id
+      ∙ ap ordering_reverse all.0)
 
   by_test : (b : Bool) → is_named (ids_by takes rs) row ≡ false
       → is_named (map (λ s. s.id) (cond b (r ∷ filter takes rs) (filter takes rs))) row ≡ false
@@ -121,7 +127,9 @@ named_right takes (r ∷ rs) s = by_test (takes r) refl (named_right takes rs s.
   both (q ∷ qs) l h = (passed q l.0 h.0, both qs l.1 h.1)
 
   by_test : (b : Bool) → takes r ≡ b → AllByRecursion (IsNamedRight takes (ids_by takes rs)) rs
-      → AllByRecursion (IsNamedRight takes (map (λ q. q.id) (cond b (r ∷ filter takes rs) (filter takes rs)))) (r ∷ rs)
+      → AllByRecursion (IsNamedRight takes (map (λ q. q.id)
+      (cond b (r ∷ filter takes rs) (filter takes rs))))
+      (r ∷ rs)
   by_test true e ih = (rw (own_id r, e) refl, both rs s.0 ih)
   by_test false e ih = (unnamed takes r rs s.0 ∙ sym e, ih)
 
@@ -138,7 +146,8 @@ cleared_is : (takes : PlanRow → Bool) (rows : List PlanRow) → IsStrictlySort
 cleared_is takes rows s = same_left (is_named (ids_by takes rows)) takes rows (named_right takes rows s)
 
 -- each plan is found by its id
-found_with : (r : PlanRow) (rows : List PlanRow) (q : PlanRow) → is_some (find (has_id q.id) rows) ≡ true
+found_with : (r : PlanRow) (rows : List PlanRow) (q : PlanRow) → is_some (find (has_id q.id) rows)
+    ≡ true
     → is_some (find (has_id q.id) (r ∷ rows)) ≡ true
 found_with r rows q h = by_test (has_id q.id r) where
   by_test : (b : Bool) → is_some (cond b (Some r) (find (has_id q.id) rows)) ≡ true
@@ -149,7 +158,8 @@ each_found : (rows : List PlanRow) → AllByRecursion (λ r. is_some (find (has_
 each_found [] = tt
 each_found (r ∷ rs) = (
   rw (own_id r) refl,
-  all_weaker (λ q. is_some (find (has_id q.id) rs) ≡ true) (λ q. is_some (find (has_id q.id) (r ∷ rs)) ≡ true)
+  all_weaker (λ q. is_some (find (has_id q.id) rs) ≡ true)
+      (λ q. is_some (find (has_id q.id) (r ∷ rs)) ≡ true)
       (found_with r rs) rs (each_found rs),
 )
 
@@ -160,13 +170,17 @@ are_stored takes rows =
     (all_map (λ id. IsSome (stored_of id rows)) (λ r. r.id) (filter takes rows)
     (all_filter (λ r. IsSome (stored_of r.id rows)) takes rows (each_found rows)))
 
-are_distinct : (takes : PlanRow → Bool) (rows : List PlanRow) → IsStrictlySortedBy row_cmp rows → AreDistinct (ids_by takes rows)
+are_distinct : (takes : PlanRow → Bool) (rows : List PlanRow) → IsStrictlySortedBy row_cmp rows
+    → AreDistinct (ids_by takes rows)
 are_distinct takes rows s =
     IsDistinct-from_sorted text_cmp (ids_by takes rows)
-    (sorted_map row_cmp text_cmp (λ r. r.id) (λ a b h. h) (filter takes rows) (IsStrictlySortedBy-filter row_cmp takes rows s))
+    (sorted_map row_cmp text_cmp (λ r. r.id) (λ a b h. h) (filter takes rows)
+    (IsStrictlySortedBy-filter row_cmp takes rows s))
 
 -- whether any plan is taken
-none_taken : (takes : PlanRow → Bool) (rows : List PlanRow) → filter takes rows ≡ [] → list_any takes rows ≡ false
+none_taken : (takes : PlanRow → Bool) (rows : List PlanRow) → filter takes rows ≡ []
+    → list_any takes rows
+    ≡ false
 none_taken takes [] e = refl
 none_taken takes (r ∷ rs) e = by_test (takes r) (none_taken takes rs) e where
   by_test : (b : Bool) → (filter takes rs ≡ [] → list_any takes rs ≡ false)
@@ -174,7 +188,8 @@ none_taken takes (r ∷ rs) e = by_test (takes r) (none_taken takes rs) e where
   by_test true ih h = cc
   by_test false ih h = ih h
 
-some_taken : (takes : PlanRow → Bool) (rows : List PlanRow) → 0 < length (filter takes rows) → list_any takes rows ≡ true
+some_taken : (takes : PlanRow → Bool) (rows : List PlanRow) → 0 < length (filter takes rows)
+    → list_any takes rows ≡ true
 some_taken takes [] e = absurd (omega (arith, e))
 some_taken takes (r ∷ rs) e = by_test (takes r) (some_taken takes rs) e where
   by_test : (b : Bool) → (0 < length (filter takes rs) → list_any takes rs ≡ true)
@@ -182,11 +197,14 @@ some_taken takes (r ∷ rs) e = by_test (takes r) (some_taken takes rs) e where
   by_test true ih h = refl
   by_test false ih h = ih h
 
-no_ids : (takes : PlanRow → Bool) (rows : List PlanRow) → length (ids_by takes rows) ≡ 0 → filter takes rows ≡ []
-no_ids takes rows e = by_rows (filter takes rows) (sym (length-map (filter takes rows) (λ r. r.id)) ∙ e) where
-  by_rows : (taken : List PlanRow) → length taken ≡ 0 → taken ≡ []
-  by_rows [] h = refl
-  by_rows (r ∷ taken) h = absurd (omega (arith, h))
+no_ids : (takes : PlanRow → Bool) (rows : List PlanRow) → length (ids_by takes rows) ≡ 0
+    → filter takes rows
+    ≡ []
+no_ids takes rows e = by_rows (filter takes rows) (sym (length-map (filter takes rows) (λ r. r.id)) ∙ e)
+  where
+    by_rows : (taken : List PlanRow) → length taken ≡ 0 → taken ≡ []
+    by_rows [] h = refl
+    by_rows (r ∷ taken) h = absurd (omega (arith, h))
 
 -- the slabs of an extent, as those of an area of one volume
 pub slabs_alone : (extent : Block) (given slabs : List Slab) → given ≡ slabs
@@ -204,11 +222,13 @@ some_items n m e same = grind (arith, nat_tests)
 -- nothing is pending where no plan is taken out
 pub none_cleared : (w : World) (o : List ℕ) (extent : Block) (ids : List (List ℕ))
     → ids ≡ ids_in extent (plans_of o w) → length ids ≡ 0
-    → IsReady w o (clear_ruling (plans_of o w) extent) (record { reply = reply.Cleared 0; change = None })
+    → IsReady w o (clear_ruling (plans_of o w) extent)
+    (record { reply = reply.Cleared 0; change = None })
 unfolding world_committed
 none_cleared w o extent ids is none =
     let rows = plans_of o w in
-    let taken : filter (is_in extent) rows ≡ [] = no_ids (is_in extent) rows (ap length (sym is) ∙ none) in
+    let taken : filter (is_in extent) rows ≡ [] =
+    no_ids (is_in extent) rows (ap length (sym is) ∙ none) in
     let any : list_any (is_in extent) rows ≡ false = none_taken (is_in extent) rows taken in
     record {
       told = ap (λ xs. replied (said.cleared (length xs))) taken;
@@ -217,7 +237,8 @@ none_cleared w o extent ids is none =
     }
 
 -- a change that is a clear leaves the plans that aren't taken, and a store takes it
-clear_made : (w : World) (o : List ℕ) (takes : PlanRow → Bool) (c : Change) → parts_in c ≡ clear o (ids_by takes (plans_of o w))
+clear_made : (w : World) (o : List ℕ) (takes : PlanRow → Bool) (c : Change) → parts_in c
+    ≡ clear o (ids_by takes (plans_of o w))
     → AreInOrder (plans_of o w) → IsSome (ceiling_of o w)
     → (changed_by c w ≡ with_plans w o (filter (λ r. not (takes r)) (plans_of o w))) × IsFitting c w
 unfolding changed_by IsFitting
@@ -228,22 +249,27 @@ clear_made w o takes (change.Clear operator ids) e s listed =
     let rows = plans_of o w in
     let name : operator ≡ o = cc in
     let which : ids.items ≡ ids_by takes rows = cc in (
-      (λ i. with_plans w (name i) (clear_rows (which i) (plans_of (name i) w))) ∙ ap (with_plans w o) (cleared_is takes rows s),
+      (λ i. with_plans w (name i) (clear_rows (which i) (plans_of (name i) w)))
+          ∙ ap (with_plans w o) (cleared_is takes rows s),
       rw (name, which) (listed, are_stored takes rows, are_distinct takes rows s),
     )
 
-pub some_cleared : (w : World) (o : List ℕ) (extent : Block) (ids : List (List ℕ)) (count : ℕ) (c : Change)
+pub some_cleared : (w : World) (o : List ℕ) (extent : Block) (ids : List (List ℕ)) (count : ℕ)
+    (c : Change)
     → ids ≡ ids_in extent (plans_of o w) → 0 < length ids → parts_in c ≡ clear o ids
-    → (length ids < 2 ^ 32 → count ≡ length ids) → AreInOrder (plans_of o w) → length (plans_of o w) ≤ max_plans
+    → (length ids < 2 ^ 32 → count ≡ length ids) → AreInOrder (plans_of o w)
+    → length (plans_of o w) ≤ max_plans
     → IsSome (ceiling_of o w)
-    → IsReady w o (clear_ruling (plans_of o w) extent) (record { reply = reply.Cleared count; change = Some c })
+    → IsReady w o (clear_ruling (plans_of o w) extent)
+    (record { reply = reply.Cleared count; change = Some c })
 unfolding world_committed
 some_cleared w o extent ids count c is some parts counted s few listed =
     let rows = plans_of o w in
     let taken = filter (is_in extent) rows in
     let size : length ids ≡ length taken = ap length is ∙ length-map taken (λ r. r.id) in
     let less : length taken ≤ length rows = fewer (is_in extent) rows in
-    let any : list_any (is_in extent) rows ≡ true = some_taken (is_in extent) rows (subst (λ n. 0 < n) size some) in
+    let any : list_any (is_in extent) rows ≡ true =
+    some_taken (is_in extent) rows (subst (λ n. 0 < n) size some) in
     let made = clear_made w o (is_in extent) c (parts ∙ ap (clear o) is) s listed in
     record {
       told = ap (λ n. replied (said.cleared n)) (sym (counted (omega (arith, size, less, few)) ∙ size));
@@ -256,11 +282,13 @@ few_ids : (w : World) (o : List ℕ) (extent : Block) → length (plans_of o w) 
     → length (ids_in extent (plans_of o w)) < 2 ^ 32
 few_ids w o extent few =
     let rows = plans_of o w in
-    let size : length (ids_in extent rows) ≡ length (filter (is_in extent) rows) = length-map (filter (is_in extent) rows) (λ r. r.id) in
+    let size : length (ids_in extent rows) ≡ length (filter (is_in extent) rows) =
+    length-map (filter (is_in extent) rows) (λ r. r.id) in
     omega (arith, size, fewer (is_in extent) rows, few)
 
 -- what clears the plans that share a point with an extent is ready
-pub clearing_ready : (w : World) (o : List ℕ) (extent : Block) (p : Pending) → IsClearing o (ids_in extent (plans_of o w)) p
+pub clearing_ready : (w : World) (o : List ℕ) (extent : Block) (p : Pending)
+    → IsClearing o (ids_in extent (plans_of o w)) p
     → AreInOrder (plans_of o w) → length (plans_of o w) ≤ max_plans → IsSome (ceiling_of o w)
     → IsReady w o (clear_ruling (plans_of o w) extent) p
 clearing_ready w o extent p h s few listed = by_change p.change h where
@@ -273,8 +301,12 @@ clearing_ready w o extent p h s few listed = by_change p.change h where
   by_change : (c : Option Change) → IsClearing o ids (record { reply = p.reply; change = c })
       → IsReady w o (clear_ruling (plans_of o w) extent) (record { reply = p.reply; change = c })
   by_change None k =
-      subst (λ r. IsReady w o (clear_ruling (plans_of o w) extent) (record { reply = r; change = None }))
-      (sym (told ∙ ap (λ xs. reply.Cleared (length xs)) k.asked)) (none_cleared w o extent ids refl (ap length k.asked))
+      subst (λ r. IsReady w o (clear_ruling (plans_of o w) extent)
+      (record { reply = r; change = None }))
+      (sym (told ∙ ap (λ xs. reply.Cleared (length xs)) k.asked))
+      (none_cleared w o extent ids refl (ap length k.asked))
   by_change (Some c) k =
-      subst (λ r. IsReady w o (clear_ruling (plans_of o w) extent) (record { reply = r; change = Some c })) (sym told)
+      subst (λ r. IsReady w o (clear_ruling (plans_of o w) extent)
+      (record { reply = r; change = Some c }))
+      (sym told)
       (some_cleared w o extent ids (length ids) c refl k.asked.0 k.asked.1 (λ _. refl) s few listed)

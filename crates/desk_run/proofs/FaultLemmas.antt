@@ -6,7 +6,8 @@ use Rattle.desk_run.specs.declared.fault.DeskFault.{DeskFault}
 use Rattle.desk_run.specs.declared.fault.DeskFault.TheVariants.{Ceiling}
 use Rattle.desk_run.specs.Faults.{fault_of, IsBreakdown}
 
-pub never_ceiling : {T : Type 0} (fault : StoreFault) → ◌≡◌ {A = Result T DeskFault} (Err (fault_of fault)) (Err Ceiling) → ⊥
+pub never_ceiling : {T : Type 0} (fault : StoreFault)
+    → ◌≡◌ {A = Result T DeskFault} (Err (fault_of fault)) (Err Ceiling) → ⊥
 never_ceiling store.OutOfMemory e = cc
 never_ceiling store.Store e = cc
 

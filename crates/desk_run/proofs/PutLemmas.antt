@@ -25,7 +25,8 @@ use Rattle.desk_store.specs.Changes.{HasRoom}
 use Rattle.desk_store.specs.StoreChange.{IsFitting}
 use Rattle.desk_run.specs.Calls.{Fits, change_after}
 
-no_first : (x : Option Note) (xs : List (Option Note)) → first_note (x ∷ xs) ≡ None → (x ≡ None) × (first_note xs ≡ None)
+no_first : (x : Option Note) (xs : List (Option Note)) → first_note (x ∷ xs) ≡ None → (x ≡ None)
+    × (first_note xs ≡ None)
 no_first None xs e = (refl, e)
 no_first (Some n) xs e = cc
 
@@ -51,30 +52,39 @@ fifth a b c d f g h e =
     (no_first f (g ∷ h ∷ []) s.1).0
 
 -- where nothing is noted, the priority of a stored request is within the ceiling
-within_ceiling : (asked : PutCall) (moment : ℤ) (stored : Option PlanRow) (own_rows ceiling : ℕ) (blocked : Bool) → note_of asked moment stored own_rows ceiling blocked ≡ None → (is_stored (step_of stored asked) && nat_lt ceiling asked.priority) ≡ false
+within_ceiling : (asked : PutCall) (moment : ℤ) (stored : Option PlanRow) (own_rows ceiling : ℕ)
+    (blocked : Bool) → note_of asked moment stored own_rows ceiling blocked ≡ None
+    → (is_stored (step_of stored asked) && nat_lt ceiling asked.priority) ≡ false
 unfolding note_of
 within_ceiling asked moment stored own_rows ceiling blocked e =
     let next = step_of stored asked in
     not_noted (is_stored next && nat_lt ceiling asked.priority) note.Priority
-    (fifth (note_where (not (is_offered asked.style asked.usage asked.aircraft)) note.Style) (refusal_of next)
-    (note_where (is_check next && has_ended asked.area moment) note.Ended) (note_where (is_check next && is_beyond_horizon asked.area moment) note.Horizon)
+    (fifth (note_where (not (is_offered asked.style asked.usage asked.aircraft)) note.Style)
+    (refusal_of next)
+    (note_where (is_check next && has_ended asked.area moment) note.Ended)
+    (note_where (is_check next && is_beyond_horizon asked.area moment) note.Horizon)
     (note_where (is_stored next && nat_lt ceiling asked.priority) note.Priority)
     (note_where (is_stored next && (is_none stored && nat_le max_plans own_rows)) note.PlansLimit)
     (note_where (is_check next && blocked) note.Conflict) e)
 
 -- where nothing is noted, a stored request is no plan too many
-within_limit : (asked : PutCall) (moment : ℤ) (stored : Option PlanRow) (own_rows ceiling : ℕ) (blocked : Bool) → note_of asked moment stored own_rows ceiling blocked ≡ None → (is_stored (step_of stored asked) && (is_none stored && nat_le max_plans own_rows)) ≡ false
+within_limit : (asked : PutCall) (moment : ℤ) (stored : Option PlanRow) (own_rows ceiling : ℕ)
+    (blocked : Bool) → note_of asked moment stored own_rows ceiling blocked ≡ None
+    → (is_stored (step_of stored asked) && (is_none stored && nat_le max_plans own_rows)) ≡ false
 unfolding note_of
 within_limit asked moment stored own_rows ceiling blocked e =
     let next = step_of stored asked in
     not_noted (is_stored next && (is_none stored && nat_le max_plans own_rows)) note.PlansLimit
-    (sixth (note_where (not (is_offered asked.style asked.usage asked.aircraft)) note.Style) (refusal_of next)
-    (note_where (is_check next && has_ended asked.area moment) note.Ended) (note_where (is_check next && is_beyond_horizon asked.area moment) note.Horizon)
+    (sixth (note_where (not (is_offered asked.style asked.usage asked.aircraft)) note.Style)
+    (refusal_of next)
+    (note_where (is_check next && has_ended asked.area moment) note.Ended)
+    (note_where (is_check next && is_beyond_horizon asked.area moment) note.Horizon)
     (note_where (is_stored next && nat_lt ceiling asked.priority) note.Priority)
     (note_where (is_stored next && (is_none stored && nat_le max_plans own_rows)) note.PlansLimit)
     (note_where (is_check next && blocked) note.Conflict) e)
 
-saves_stored : (s : Style) (t : Step) → styled_effect s (step_effect t) ≡ effect.Save → is_stored t ≡ true
+saves_stored : (s : Style) (t : Step) → styled_effect s (step_effect t) ≡ effect.Save → is_stored t
+    ≡ true
 saves_stored style.Hypothetical t e = cc
 saves_stored style.IfAllowed (Refuse n) e = cc
 saves_stored style.IfAllowed (Check s) e = refl
@@ -87,23 +97,38 @@ saves_stored style.InReality (Report s) e = refl
 saves_stored style.InReality Shut e = cc
 saves_stored style.InReality Keep e = cc
 
-saved_within : (asked : PutCall) (moment : ℤ) (stored : Option PlanRow) (own_rows ceiling : ℕ) (spot : Option Spot) → (outcome asked moment stored own_rows ceiling spot).effect ≡ effect.Save → (is_none stored && nat_le max_plans own_rows) ≡ false
+saved_within : (asked : PutCall) (moment : ℤ) (stored : Option PlanRow) (own_rows ceiling : ℕ)
+    (spot : Option Spot) → (outcome asked moment stored own_rows ceiling spot).effect ≡ effect.Save
+    → (is_none stored && nat_le max_plans own_rows) ≡ false
 unfolding outcome
-saved_within asked moment stored own_rows ceiling spot = by_note (note_of asked moment stored own_rows ceiling (is_some spot)) refl where
-  by_note : (n : Option Note) → note_of asked moment stored own_rows ceiling (is_some spot) ≡ n → (verdict_by asked stored spot n).effect ≡ effect.Save → (is_none stored && nat_le max_plans own_rows) ≡ false
-  by_note (Some n) f e = cc
-  by_note None f e = rw (saves_stored asked.style (step_of stored asked) e) at (within_limit asked moment stored own_rows ceiling (is_some spot) f)
+saved_within asked moment stored own_rows ceiling spot =
+    by_note (note_of asked moment stored own_rows ceiling (is_some spot)) refl where
+      by_note : (n : Option Note) → note_of asked moment stored own_rows ceiling (is_some spot) ≡ n
+          → (verdict_by asked stored spot n).effect ≡ effect.Save
+          → (is_none stored && nat_le max_plans own_rows)
+          ≡ false
+      by_note (Some n) f e = cc
+      by_note None f e = rw (saves_stored asked.style (step_of stored asked) e) at
+          (within_limit asked moment stored own_rows ceiling (is_some spot) f)
 
-saved_under : (asked : PutCall) (moment : ℤ) (stored : Option PlanRow) (own_rows ceiling : ℕ) (spot : Option Spot) → (outcome asked moment stored own_rows ceiling spot).effect ≡ effect.Save → nat_lt ceiling asked.priority ≡ false
+saved_under : (asked : PutCall) (moment : ℤ) (stored : Option PlanRow) (own_rows ceiling : ℕ)
+    (spot : Option Spot) → (outcome asked moment stored own_rows ceiling spot).effect ≡ effect.Save
+    → nat_lt ceiling asked.priority ≡ false
 unfolding outcome
-saved_under asked moment stored own_rows ceiling spot = by_note (note_of asked moment stored own_rows ceiling (is_some spot)) refl where
-  by_note : (n : Option Note) → note_of asked moment stored own_rows ceiling (is_some spot) ≡ n → (verdict_by asked stored spot n).effect ≡ effect.Save → nat_lt ceiling asked.priority ≡ false
-  by_note (Some n) f e = cc
-  by_note None f e = rw (saves_stored asked.style (step_of stored asked) e) at (within_ceiling asked moment stored own_rows ceiling (is_some spot) f)
+saved_under asked moment stored own_rows ceiling spot =
+    by_note (note_of asked moment stored own_rows ceiling (is_some spot)) refl where
+      by_note : (n : Option Note) → note_of asked moment stored own_rows ceiling (is_some spot) ≡ n
+          → (verdict_by asked stored spot n).effect ≡ effect.Save → nat_lt ceiling asked.priority
+          ≡ false
+      by_note (Some n) f e = cc
+      by_note None f e = rw (saves_stored asked.style (step_of stored asked) e) at
+          (within_ceiling asked moment stored own_rows ceiling (is_some spot) f)
 
-room_by : (w : World) (operator id : List ℕ) → (is_none (stored_of id (plans_of operator w)) && nat_le max_plans (length (plans_of operator w))) ≡ false → HasRoom w operator id
+room_by : (w : World) (operator id : List ℕ) → (is_none (stored_of id (plans_of operator w))
+    && nat_le max_plans (length (plans_of operator w))) ≡ false → HasRoom w operator id
 room_by w operator id e = by_stored (stored_of id (plans_of operator w)) refl e where
-  by_stored : (r : Option PlanRow) → stored_of id (plans_of operator w) ≡ r → (is_none r && nat_le max_plans (length (plans_of operator w))) ≡ false → HasRoom w operator id
+  by_stored : (r : Option PlanRow) → stored_of id (plans_of operator w) ≡ r
+      → (is_none r && nat_le max_plans (length (plans_of operator w))) ≡ false → HasRoom w operator id
   by_stored None f g = inr (below (length (plans_of operator w)) g) where
     below : (n : ℕ) → nat_le max_plans n ≡ false → n < max_plans
     below n h = grind (arith, nat_tests)
@@ -132,34 +157,51 @@ none_is_shut usage.InUse aircraft.OffNominal e = cc
 none_is_shut usage.InUse aircraft.Contingent e = cc
 none_is_shut usage.Closed craft e = cc
 
-stored_if_shut : (stored : Option PlanRow) (asked : PutCall) → step_of stored asked ≡ Shut → IsSome stored
+stored_if_shut : (stored : Option PlanRow) (asked : PutCall) → step_of stored asked ≡ Shut
+    → IsSome stored
 stored_if_shut None asked e = absurd (none_is_shut asked.usage asked.aircraft e)
 stored_if_shut (Some row) asked e = refl
 
-shut_is_stored : (asked : PutCall) (moment : ℤ) (stored : Option PlanRow) (own_rows ceiling : ℕ) (spot : Option Spot) → (outcome asked moment stored own_rows ceiling spot).effect ≡ effect.Shut → IsSome stored
+shut_is_stored : (asked : PutCall) (moment : ℤ) (stored : Option PlanRow) (own_rows ceiling : ℕ)
+    (spot : Option Spot) → (outcome asked moment stored own_rows ceiling spot).effect ≡ effect.Shut
+    → IsSome stored
 unfolding outcome
-shut_is_stored asked moment stored own_rows ceiling spot = by_note (note_of asked moment stored own_rows ceiling (is_some spot)) where
-  by_note : (n : Option Note) → (verdict_by asked stored spot n).effect ≡ effect.Shut → IsSome stored
-  by_note (Some n) e = cc
-  by_note None e = stored_if_shut stored asked (shut_stored asked.style (step_of stored asked) e)
+shut_is_stored asked moment stored own_rows ceiling spot =
+    by_note (note_of asked moment stored own_rows ceiling (is_some spot)) where
+      by_note : (n : Option Note) → (verdict_by asked stored spot n).effect ≡ effect.Shut
+          → IsSome stored
+      by_note (Some n) e = cc
+      by_note None e = stored_if_shut stored asked (shut_stored asked.style (step_of stored asked) e)
 
 -- the change of a verdict is one that a store takes
-pub change_fits : (w : World) (o : List ℕ) (asked : PutCall) (moment : ℤ) (ceiling : ℕ) (spot : Option Spot) → ceiling_of o w ≡ Some ceiling → ceiling ≤ max_priority → Fits w (change_after (outcome asked moment (stored_of asked.id (plans_of o w)) (length (plans_of o w)) ceiling spot).effect o asked)
+pub change_fits : (w : World) (o : List ℕ) (asked : PutCall) (moment : ℤ) (ceiling : ℕ)
+    (spot : Option Spot)
+    → ceiling_of o w ≡ Some ceiling → ceiling ≤ max_priority
+    → Fits w (change_after (outcome asked moment (stored_of asked.id (plans_of o w))
+    (length (plans_of o w))
+    ceiling spot).effect o asked)
 unfolding IsFitting
-change_fits w o asked moment ceiling spot listed low = by_effect (outcome asked moment stored count ceiling spot).effect refl where
-  stored : Option PlanRow
-  stored = stored_of asked.id (plans_of o w)
+change_fits w o asked moment ceiling spot listed low =
+    by_effect (outcome asked moment stored count ceiling spot).effect refl where
+      stored : Option PlanRow
+      stored = stored_of asked.id (plans_of o w)
 
-  count : ℕ
-  count = length (plans_of o w)
+      count : ℕ
+      count = length (plans_of o w)
 
-  is_listed : IsSome (ceiling_of o w)
-  is_listed = ap is_some listed
+      is_listed : IsSome (ceiling_of o w)
+      is_listed = ap is_some listed
 
-  below : (p : ℕ) → nat_lt ceiling p ≡ false → p ≤ max_priority
-  below p e = grind (arith, nat_tests)
+      below : (p : ℕ) → nat_lt ceiling p ≡ false → p ≤ max_priority
+      below p e = grind (arith, nat_tests)
 
-  by_effect : (e : Effect) → (outcome asked moment stored count ceiling spot).effect ≡ e → Fits w (change_after e o asked)
-  by_effect effect.Nothing f = tt
-  by_effect effect.Save f = (room_by w o asked.id (saved_within asked moment stored count ceiling spot f), below asked.priority (saved_under asked moment stored count ceiling spot f), is_listed)
-  by_effect effect.Shut f = (is_listed, shut_is_stored asked moment stored count ceiling spot f)
+      by_effect : (e : Effect) → (outcome asked moment stored count ceiling spot).effect ≡ e
+          → Fits w (change_after e o asked)
+      by_effect effect.Nothing f = tt
+      by_effect effect.Save f = (
+        room_by w o asked.id (saved_within asked moment stored count ceiling spot f),
+        below asked.priority
+            (saved_under asked moment stored count ceiling spot f),
+        is_listed,
+      )
+      by_effect effect.Shut f = (is_listed, shut_is_stored asked moment stored count ceiling spot f)

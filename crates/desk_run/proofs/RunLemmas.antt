@@ -14,54 +14,82 @@ use Rattle.desk_run.specs.Runs.{told_in, world_left, told_by, outcome_of, EndsAt
 use Rattle.desk_run.specs.Faults.{IsBreakdown}
 
 -- the first calls are answered
-pub record AreAnswered (w : World) (calls : List (ℤ × Asked)) (n : ℕ) (outcomes : List Outcome) (now : World) : Type 0 where
+pub record AreAnswered (w : World) (calls : List (ℤ × Asked)) (n : ℕ) (outcomes : List Outcome)
+    (now : World) : Type 0 where
   pub told : map told_by outcomes ≡ told_in w (take n calls)
   pub left : now ≡ world_left w (take n calls)
   pub count : length outcomes ≡ n
 
-pub none_answered : (w now : World) (calls : List (ℤ × Asked)) (outcomes : List Outcome) → outcomes ≡ [] → now ≡ w → AreAnswered w calls 0 outcomes now
-none_answered w now calls outcomes is same = record { told = ap (map told_by) is; left = same; count = ap length is }
+pub none_answered : (w now : World) (calls : List (ℤ × Asked)) (outcomes : List Outcome) → outcomes ≡ []
+    → now
+    ≡ w → AreAnswered w calls 0 outcomes now
+none_answered w now calls outcomes is same = record
+    { told = ap (map told_by) is; left = same; count = ap length is }
 
-told_more : (w : World) (calls : List (ℤ × Asked)) (call : ℤ × Asked) → told_in w (calls ++ call ∷ []) ≡ told_in w calls ++ told_to (world_left w calls) call.1.operator call.0 call.1.call ∷ []
+told_more : (w : World) (calls : List (ℤ × Asked)) (call : ℤ × Asked) → told_in w (calls ++ call ∷ [])
+    ≡ told_in w calls ++ told_to (world_left w calls) call.1.operator call.0 call.1.call ∷ []
 told_more w [] call = refl
-told_more w (c ∷ calls) call = ap (λ ts. told_to w c.1.operator c.0 c.1.call ∷ ts) (told_more (step w c.1.operator c.0 c.1.call) calls call)
+told_more w (c ∷ calls) call = ap (λ ts. told_to w c.1.operator c.0 c.1.call ∷ ts)
+    (told_more (step w c.1.operator c.0 c.1.call) calls call)
 
-left_more : (w : World) (calls : List (ℤ × Asked)) (call : ℤ × Asked) → world_left w (calls ++ call ∷ []) ≡ step (world_left w calls) call.1.operator call.0 call.1.call
+left_more : (w : World) (calls : List (ℤ × Asked)) (call : ℤ × Asked)
+    → world_left w (calls ++ call ∷ [])
+    ≡ step (world_left w calls) call.1.operator call.0 call.1.call
 left_more w [] call = refl
 left_more w (c ∷ calls) call = left_more (step w c.1.operator c.0 c.1.call) calls call
 
 -- one more is
-pub one_answered : (w now after : World) (calls : List (ℤ × Asked)) (n : ℕ) (outcomes : List Outcome) (call : ℤ × Asked) (o : Outcome) → AreAnswered w calls n outcomes now → n < length calls → call ≡ get_or calls n call → told_to now call.1.operator call.0 call.1.call ≡ told_by o → after ≡ step now call.1.operator call.0 call.1.call → AreAnswered w calls (n + 1) (outcomes ++ o ∷ []) after
+pub one_answered : (w now after : World) (calls : List (ℤ × Asked)) (n : ℕ) (outcomes : List Outcome)
+    (call : ℤ × Asked) (o : Outcome) → AreAnswered w calls n outcomes now → n < length calls → call
+    ≡ get_or calls n call → told_to now call.1.operator call.0 call.1.call ≡ told_by o → after
+    ≡ step now call.1.operator call.0 call.1.call
+    → AreAnswered w calls (n + 1) (outcomes ++ o ∷ []) after
 one_answered w now after calls n outcomes call o h below is told left =
     let first = take n calls in
-    let more : take (n + 1) calls ≡ first ++ call ∷ [] = take_more calls n call below ∙ ap (λ c. first ++ c ∷ []) (sym is) in
+    let more : take (n + 1) calls ≡ first ++ call ∷ [] = take_more calls n call below
+    ∙ ap (λ c. first ++ c ∷ []) (sym is) in
     record {
       told =
           map-append told_by outcomes (o ∷ []) ∙ ap (λ ts. ts ++ told_by o ∷ []) h.told
-          ∙ ap (λ t. told_in w first ++ t ∷ []) (sym told ∙ ap (λ v. told_to v call.1.operator call.0 call.1.call) h.left)
+          ∙ ap (λ t. told_in w first ++ t ∷ []) (sym told
+          ∙ ap (λ v. told_to v call.1.operator call.0 call.1.call) h.left)
           ∙ sym (told_more w first call) ∙ ap (told_in w) (sym more);
-      left = left ∙ ap (λ v. step v call.1.operator call.0 call.1.call) h.left ∙ sym (left_more w first call) ∙ ap (world_left w) (sym more);
+      left = left ∙ ap (λ v. step v call.1.operator call.0 call.1.call) h.left
+          ∙ sym (left_more w first call)
+          ∙ ap (world_left w) (sym more);
       count = length-append outcomes (o ∷ []) ∙ ap (λ k. k + 1) h.count;
     }
 
 -- what was answered was told so, and its step made
-pub answered_is : (w after : World) (moment : ℤ) (asked : Asked) (r : Result Reply DeskFault) (o : Outcome) → Tells w moment asked r → OnOk r (after ≡ step w asked.operator moment asked.call) → OnErr r (after ≡ w) → outcome_of r ≡ Ok o → (told_to w asked.operator moment asked.call ≡ told_by o) × (after ≡ step w asked.operator moment asked.call)
+pub answered_is : (w after : World) (moment : ℤ) (asked : Asked) (r : Result Reply DeskFault)
+    (o : Outcome)
+    → Tells w moment asked r → OnOk r (after ≡ step w asked.operator moment asked.call)
+    → OnErr r (after ≡ w)
+    → outcome_of r ≡ Ok o → (told_to w asked.operator moment asked.call ≡ told_by o)
+    × (after ≡ step w asked.operator moment asked.call)
 answered_is w after moment asked (Ok reply) o told ok err is = (told ∙ outcome_told is, ok) where
-  outcome_told : {p : Outcome} → ◌≡◌ {A = Result Outcome DeskFault} (Ok p) (Ok o) → told_by p ≡ told_by o
+  outcome_told : {p : Outcome} → ◌≡◌ {A = Result Outcome DeskFault} (Ok p) (Ok o) → told_by p
+      ≡ told_by o
   outcome_told e = cc
-answered_is w after moment asked (Err UnknownOperator) o told ok err is = (told.told ∙ cc, err ∙ sym told.left)
-answered_is w after moment asked (Err NoSuchPlan) o told ok err is = (told.told ∙ cc, err ∙ sym told.left)
+answered_is w after moment asked (Err UnknownOperator) o told ok err is =
+    (told.told ∙ cc, err ∙ sym told.left)
+answered_is w after moment asked (Err NoSuchPlan) o told ok err is =
+    (told.told ∙ cc, err ∙ sym told.left)
 answered_is w after moment asked (Err OutOfMemory) o told ok err is = cc
 answered_is w after moment asked (Err Store) o told ok err is = cc
 answered_is w after moment asked (Err Ceiling) o told ok err is = cc
 
 -- what stops a run changed nothing
-pub stopped_is : (w after : World) (r : Result Reply DeskFault) (fault : DeskFault) → OnErr r (after ≡ w) → outcome_of r ≡ Err fault → after ≡ w
+pub stopped_is : (w after : World) (r : Result Reply DeskFault) (fault : DeskFault)
+    → OnErr r (after ≡ w)
+    → outcome_of r ≡ Err fault → after ≡ w
 stopped_is w after (Ok reply) fault err is = cc
 stopped_is w after (Err e) fault err is = err
 
 -- and is a breakdown
-pub breaks_down : (w : World) (moment : ℤ) (asked : Asked) (r : Result Reply DeskFault) (fault : DeskFault) → Tells w moment asked r → outcome_of r ≡ Err fault → IsBreakdown fault
+pub breaks_down : (w : World) (moment : ℤ) (asked : Asked) (r : Result Reply DeskFault)
+    (fault : DeskFault)
+    → Tells w moment asked r → outcome_of r ≡ Err fault → IsBreakdown fault
 breaks_down w moment asked (Ok reply) fault told is = cc
 breaks_down w moment asked (Err UnknownOperator) fault told is = cc
 breaks_down w moment asked (Err NoSuchPlan) fault told is = cc
@@ -70,7 +98,9 @@ breaks_down w moment asked (Err Store) fault told is = inr cc
 breaks_down w moment asked (Err Ceiling) fault told is = absurd told
 
 -- a run of the calls answered
-pub run_is : (w after : World) (calls : List (ℤ × Asked)) (n : ℕ) (ran : Ran) → AreAnswered w calls n ran.outcomes.items after → EndsAt ran.stopped n (length calls) → IsRun w calls ran after
+pub run_is : (w after : World) (calls : List (ℤ × Asked)) (n : ℕ) (ran : Ran)
+    → AreAnswered w calls n ran.outcomes.items after → EndsAt ran.stopped n (length calls)
+    → IsRun w calls ran after
 run_is w after calls n ran h ends = record {
   told = h.told ∙ ap (λ k. told_in w (take k calls)) (sym h.count);
   left = h.left ∙ ap (λ k. world_left w (take k calls)) (sym h.count);

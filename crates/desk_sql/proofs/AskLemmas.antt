@@ -24,10 +24,13 @@ use Rattle.desk_sql.specs.Refusals.{NeverRefuses, IsSureIn, IsSure, IsRefusal}
 
 -- the cause, of two states
 abbrev IsCause : State → State → Error → Type 0
-IsCause old new e = (e ≡ SqliteFailure code.OutOfMemory) ⊎ (MoreFaults old.faults new.faults ⊎ ((e ≡ SqliteFailure code.OperationInterrupted) × IsSome old.step_limit))
+IsCause old new e = (e ≡ SqliteFailure code.OutOfMemory)
+    ⊎ (MoreFaults old.faults new.faults ⊎ ((e ≡ SqliteFailure code.OperationInterrupted)
+    × IsSome old.step_limit))
 
 -- the store failed
-by_store : (old new : State) (e : Error) (cause : StoreError) → e ≡ store_error cause → HasCause old new ⊥ cause → IsTrue old.is_open → IsCause old new e
+by_store : (old new : State) (e : Error) (cause : StoreError) → e ≡ store_error cause
+    → HasCause old new ⊥ cause → IsTrue old.is_open → IsCause old new e
 by_store old new e OutOfMemory is h live = inl is
 by_store old new e Io is h live = inr (inl h)
 by_store old new e Corrupt is h live = inr (inl h)
@@ -35,44 +38,64 @@ by_store old new e Full is h live = inr (inl h)
 by_store old new e Broken is h live = absurd (true≢false (sym live ∙ h))
 by_store old new e Unstorable is h live = absurd h
 
-sure_at : (text : List ℕ) (r : Result Compiled CompileError) (c : Compiled) → r ≡ Ok c → IsSureIn text r → IsSureIn text (Ok c)
+sure_at : (text : List ℕ) (r : Result Compiled CompileError) (c : Compiled) → r ≡ Ok c → IsSureIn text r
+    → IsSureIn text (Ok c)
 sure_at text r c is sure = subst (IsSureIn text) is sure
 
 -- the text is a statement
-is_statement : (text : List ℕ) (old : State) (e : Error) → IsSureIn text (understood old.now.schema text) → ¬ IsNoStatement old text [] e
+is_statement : (text : List ℕ) (old : State) (e : Error)
+    → IsSureIn text (understood old.now.schema text)
+    → ¬ IsNoStatement old text [] e
 is_statement text old e sure (inl (fault, is, _)) = absurd (subst (IsSureIn text) is sure)
 is_statement text old e sure (inr (c, is, inl (short, _))) = short (sure_at text _ c is sure).3
-is_statement text old e sure (inr (c, is, inr (inl (other, _)))) = other (ap length (sym (sure_at text _ c is sure).2))
+is_statement text old e sure (inr (c, is, inr (inl (other, _)))) =
+    other (ap length (sym (sure_at text _ c is sure).2))
 is_statement text old e sure (inr (c, is, inr (inr (timed, _)))) = timed (sure_at text _ c is sure).1
 
 -- what is read refuses
-by_rows : (text : List ℕ) (old new : State) (c : Compiled) (params : Row) (e : Error) (r : Option Returning) → r ≡ None → params ≡ [] → NeverRefuses c.command → old.now.schema ≡ desk_schema
-    → reads_listing old.now.schema text ≡ false → FailsToShow old new text c params e r → IsCause old new e
+by_rows : (text : List ℕ) (old new : State) (c : Compiled) (params : Row) (e : Error)
+    (r : Option Returning)
+    → r ≡ None → params ≡ [] → NeverRefuses c.command → old.now.schema ≡ desk_schema
+    → reads_listing old.now.schema text ≡ false → FailsToShow old new text c params e r
+    → IsCause old new e
 by_rows text old new c params e None none bare never schema unlisted (db, source, refuses, same) =
     let now : db ≡ old.now = subst (λ b. IsSourceOf b old.now db) unlisted source in
-    inr (inr (never old.step_limit db e (ap (λ d. d.schema) now ∙ schema) (subst (λ ps. RefusesToRead old.step_limit c.command db ps e) bare refuses)))
+    inr (inr (never old.step_limit db e (ap (λ d. d.schema) now ∙ schema)
+    (subst (λ ps. RefusesToRead old.step_limit c.command db ps e) bare refuses)))
 by_rows text old new c params e (Some what) none bare never schema unlisted h = absurd cc
 
-was_shown : (text : List ℕ) (old new : State) (c : Compiled) (params : Row) (e : Error) (r : Option Returning) → IsTrue new.is_open → FailsToShow old new text c params e r → IsTrue old.is_open
+was_shown : (text : List ℕ) (old new : State) (c : Compiled) (params : Row) (e : Error)
+    (r : Option Returning)
+    → IsTrue new.is_open → FailsToShow old new text c params e r → IsTrue old.is_open
 was_shown text old new c params e None live h = h.3.0.was_open
 was_shown text old new c params e (Some what) live (inl h) = h.1.0.was_open
 was_shown text old new c params e (Some what) live (inr h) = h.3.was_open live
 
-failed : (text : List ℕ) (old new : State) (e : Error) → IsSure text → (IsTrue old.is_open → old.now.schema ≡ desk_schema) → IsTrue new.is_open → FailsToQuery text [] old new e → IsCause old new e
+failed : (text : List ℕ) (old new : State) (e : Error) → IsSure text
+    → (IsTrue old.is_open → old.now.schema ≡ desk_schema) → IsTrue new.is_open
+    → FailsToQuery text [] old new e → IsCause old new e
 unfolding FailsToQuery IsNotRun
 failed text old new e sure known live (inl (inl h)) =
-    absurd (is_statement text old e (subst (λ s. IsSureIn text (understood s text)) (sym (known h.1.0.was_open)) sure.means) h.0)
-failed text old new e sure known live (inl (inr (cause, is, h, back, _))) = by_store old new e cause is h (back.was_open live)
+    absurd (is_statement text old e (subst (λ s. IsSureIn text (understood s text))
+    (sym (known h.1.0.was_open)) sure.means) h.0)
+failed text old new e sure known live (inl (inr (cause, is, h, back, _))) =
+    by_store old new e cause is h (back.was_open live)
 failed text old new e sure known live (inr (c, it, h)) =
     let schema = known (was_shown text old new c _ e c.returning live h) in
-    let means = sure_at text _ c it.is (subst (λ s. IsSureIn text (understood s text)) (sym schema) sure.means) in
-    by_rows text old new c _ e c.returning means.0 (ap (λ formats. timed [] formats it.now) means.1) means.4 schema (ap (λ s. reads_listing s text) schema ∙ sure.unlisted) h
+    let means = sure_at text _ c it.is (subst (λ s. IsSureIn text (understood s text)) (sym schema)
+    sure.means) in
+    by_rows text old new c _ e c.returning means.0 (ap (λ formats. timed [] formats it.now) means.1)
+    means.4
+    schema (ap (λ s. reads_listing s text) schema ∙ sure.unlisted) h
 
 -- a query of a connection
-pub refused : {S V : Type 0} (g : Ghosts S) (old new : Held S) (text : List ℕ) → IsSure text → Holds g old HasDeskSchema → HasCleanDisk (state g old) → (r : Result V Error)
-    → IfErr r (FailsToQuery text [] (state g old) (state g new)) → IsTrue (state g new).is_open → IfErr r (IsRefusal g old new)
+pub refused : {S V : Type 0} (g : Ghosts S) (old new : Held S) (text : List ℕ) → IsSure text
+    → Holds g old HasDeskSchema → HasCleanDisk (state g old) → (r : Result V Error)
+    → IfErr r (FailsToQuery text [] (state g old) (state g new)) → IsTrue (state g new).is_open
+    → IfErr r (IsRefusal g old new)
 refused g old new text sure known clean (Ok v) fails live = tt
-refused g old new text sure known clean (Err e) fails live = failed text (state g old) (state g new) e sure (known clean) live fails
+refused g old new text sure known clean (Err e) fails live =
+    failed text (state g old) (state g new) e sure (known clean) live fails
 
 plain_in : (text : List ℕ) (r : Result Compiled CompileError) → IsSureIn text r → IsPlain r
 plain_in text (Ok c) sure = (sure.0, sure.1)

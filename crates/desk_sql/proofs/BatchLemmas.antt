@@ -11,20 +11,35 @@ use Rattle.desk_sql.specs.Rows.{Tables, tables_of, RemovesPlan, AddsPlan, AddsVo
 use Rattle.desk_sql.specs.Effects.{Makes}
 use Rattle.desk_sql.specs.Batches.{AddsVolumes, AddsSpans, IsUnderWay, PutsPlan}
 
-pub record HasAdded {S : Type 0} (g : Ghosts S) (old now : Held S) (Changes : Tables → Tables → Type 0) : Type 0 where
+pub record HasAdded {S : Type 0} (g : Ghosts S) (old now : Held S)
+    (Changes : Tables → Tables → Type 0) : Type
+    0 where
   pub doubted : doubt (state g old).is_clean ≤ doubt (state g now).is_clean
   pub counted : (state g old).faults ≤ (state g now).faults
   pub made : HasCleanDisk (state g now) → Makes g old now Changes
 
-pub begins : {S : Type 0} (g : Ghosts S) (old : Held S) (Changes : Tables → Tables → Type 0) → ((t : Tables) → Changes t t) → IsUnderWay g old → HasAdded g old old Changes
+pub begins : {S : Type 0} (g : Ghosts S) (old : Held S) (Changes : Tables → Tables → Type 0)
+    → ((t : Tables) → Changes t t) → IsUnderWay g old → HasAdded g old old Changes
 begins g old Changes none under = record {
   doubted = omega arith;
   counted = omega arith;
-  made = λ clean. let h = under clean in record { was_open = h.0; is_open = h.0; begun = h.1; committed = refl; desk = h.2; changed = none (tables_of (state g old).now.trees) };
+  made = λ clean. let h = under clean in record {
+    was_open = h.0;
+    is_open = h.0;
+    begun = h.1;
+    committed = refl;
+    desk = h.2;
+    changed = none (tables_of (state g old).now.trees);
+  };
 }
 
-pub goes_on : {S : Type 0} (g : Ghosts S) (old mid new : Held S) (Before Step After : Tables → Tables → Type 0) → ((a b c : Tables) → Before a b → Step b c → After a c) → HasAdded g old mid Before
-    → doubt (state g mid).is_clean ≤ doubt (state g new).is_clean → (state g mid).faults ≤ (state g new).faults → (HasCleanDisk (state g new) → Makes g mid new Step) → HasAdded g old new After
+pub goes_on : {S : Type 0} (g : Ghosts S) (old mid new : Held S)
+    (Before Step After : Tables → Tables → Type 0)
+    → ((a b c : Tables) → Before a b → Step b c → After a c)
+    → HasAdded g old mid Before
+    → doubt (state g mid).is_clean ≤ doubt (state g new).is_clean
+    → (state g mid).faults ≤ (state g new).faults → (HasCleanDisk (state g new) → Makes g mid new Step)
+    → HasAdded g old new After
 goes_on g old mid new Before Step After joins so_far doubted counted step = record {
   doubted = omega (arith, so_far.doubted, doubted);
   counted = omega (arith, so_far.counted, counted);
@@ -37,35 +52,58 @@ goes_on g old mid new Before Step After joins so_far doubted counted step = reco
         begun = last.begun;
         committed = last.committed ∙ first.committed;
         desk = last.desk;
-        changed = joins (tables_of (state g old).now.trees) (tables_of (state g mid).now.trees) (tables_of (state g new).now.trees) first.changed last.changed;
+        changed = joins (tables_of (state g old).now.trees) (tables_of (state g mid).now.trees)
+            (tables_of (state g new).now.trees) first.changed last.changed;
       };
 }
 
-more_added : (rows : List Row) (row : Row) (old mid new : List Row) → IsPermutation (rows ++ old) mid → IsPermutation (row ∷ mid) new → IsPermutation ((rows ++ row ∷ []) ++ old) new
+more_added : (rows : List Row) (row : Row) (old mid new : List Row) → IsPermutation (rows ++ old) mid
+    → IsPermutation (row ∷ mid) new → IsPermutation ((rows ++ row ∷ []) ++ old) new
 more_added rows row old mid new first last =
     subst (λ xs. IsPermutation xs new) (sym (append_assoc rows (row ∷ []) old))
-    (IsPermutation-trans _ _ _ (IsPermutation-middle rows row old) (IsPermutation-trans _ _ _ (IsPermutation-cons row _ _ first) last))
+    (IsPermutation-trans _ _ _ (IsPermutation-middle rows row old)
+    (IsPermutation-trans _ _ _ (IsPermutation-cons row _ _ first) last))
 
 pub no_volumes : (t : Tables) → AddsVolumes [] t t
 no_volumes t = (IsPermutation-refl t.volumes, refl)
 
-pub more_volumes : (rows : List Row) (row : Row) (all : List Row) → all ≡ rows ++ row ∷ [] → (a b c : Tables) → AddsVolumes rows a b → AddsVolume row b c → AddsVolumes all a c
-more_volumes rows row all is a b c first last =
-    (subst (λ xs. IsPermutation (xs ++ a.volumes) c.volumes) (sym is) (more_added rows row a.volumes b.volumes c.volumes first.0 last.0), last.1 ∙ ap (λ (t : Tables). record t { volumes = c.volumes }) first.1)
+pub more_volumes : (rows : List Row) (row : Row) (all : List Row) → all ≡ rows ++ row ∷ []
+    → (a b c : Tables)
+    → AddsVolumes rows a b → AddsVolume row b c → AddsVolumes all a c
+more_volumes rows row all is a b c first last = (
+  subst (λ xs. IsPermutation (xs ++ a.volumes) c.volumes) (sym is)
+      (more_added rows row a.volumes b.volumes c.volumes first.0 last.0),
+  last.1
+      ∙ ap (λ (t : Tables). record t { volumes = c.volumes }) first.1,
+)
 
 pub no_spans : (t : Tables) → AddsSpans [] t t
 no_spans t = (IsPermutation-refl t.spans, refl)
 
-pub more_spans : (rows : List Row) (row : Row) (all : List Row) → all ≡ rows ++ row ∷ [] → (a b c : Tables) → AddsSpans rows a b → AddsSpan row b c → AddsSpans all a c
-more_spans rows row all is a b c first last =
-    (subst (λ xs. IsPermutation (xs ++ a.spans) c.spans) (sym is) (more_added rows row a.spans b.spans c.spans first.0 last.0), last.1 ∙ ap (λ (t : Tables). record t { spans = c.spans }) first.1)
+pub more_spans : (rows : List Row) (row : Row) (all : List Row) → all ≡ rows ++ row ∷ []
+    → (a b c : Tables)
+    → AddsSpans rows a b → AddsSpan row b c → AddsSpans all a c
+more_spans rows row all is a b c first last = (
+  subst (λ xs. IsPermutation (xs ++ a.spans) c.spans) (sym is)
+      (more_added rows row a.spans b.spans c.spans first.0 last.0),
+  last.1
+      ∙ ap (λ (t : Tables). record t { spans = c.spans }) first.1,
+)
 
-pub puts : (operator id : List ℕ) (plan : Row) (volumes spans : List Row) (a b c d e : Tables) → RemovesPlan operator id a b → AddsPlan plan b c → AddsVolumes volumes c d → AddsSpans spans d e → PutsPlan operator id plan volumes spans a e
+pub puts : (operator id : List ℕ) (plan : Row) (volumes spans : List Row) (a b c d e : Tables)
+    → RemovesPlan operator id a b → AddsPlan plan b c → AddsVolumes volumes c d → AddsSpans spans d e
+    → PutsPlan operator id plan volumes spans a e
 puts operator id plan volumes spans a b c d e one two three four = record {
-  operators = ap (λ (t : Tables). t.operators) four.1 ∙ ap (λ (t : Tables). t.operators) three.1 ∙ ap (λ (t : Tables). t.operators) two.1 ∙ ap (λ (t : Tables). t.operators) one;
+  operators = ap (λ (t : Tables). t.operators) four.1 ∙ ap (λ (t : Tables). t.operators) three.1
+      ∙ ap (λ (t : Tables). t.operators) two.1 ∙ ap (λ (t : Tables). t.operators) one;
   plans = subst (λ xs. IsPermutation (plan ∷ xs) e.plans) (ap (λ (t : Tables). t.plans) one)
-      (subst (IsPermutation (plan ∷ b.plans)) (sym (ap (λ (t : Tables). t.plans) four.1 ∙ ap (λ (t : Tables). t.plans) three.1)) two.0);
-  with_volumes = subst (λ xs. IsPermutation (volumes ++ xs) e.volumes) (ap (λ (t : Tables). t.volumes) two.1 ∙ ap (λ (t : Tables). t.volumes) one)
-      (subst (IsPermutation (volumes ++ c.volumes)) (sym (ap (λ (t : Tables). t.volumes) four.1)) three.0);
-  with_spans = subst (λ xs. IsPermutation (spans ++ xs) e.spans) (ap (λ (t : Tables). t.spans) three.1 ∙ ap (λ (t : Tables). t.spans) two.1 ∙ ap (λ (t : Tables). t.spans) one) four.0;
+      (subst (IsPermutation (plan ∷ b.plans)) (sym
+      (ap (λ (t : Tables). t.plans) four.1 ∙ ap (λ (t : Tables). t.plans) three.1)) two.0);
+  with_volumes = subst (λ xs. IsPermutation (volumes ++ xs) e.volumes)
+      (ap (λ (t : Tables). t.volumes) two.1 ∙ ap (λ (t : Tables). t.volumes) one)
+      (subst (IsPermutation (volumes ++ c.volumes)) (sym (ap (λ (t : Tables). t.volumes) four.1))
+      three.0);
+  with_spans = subst (λ xs. IsPermutation (spans ++ xs) e.spans)
+      (ap (λ (t : Tables). t.spans) three.1 ∙ ap (λ (t : Tables). t.spans) two.1
+      ∙ ap (λ (t : Tables). t.spans) one) four.0;
 }

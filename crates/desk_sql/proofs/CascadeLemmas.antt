@@ -36,12 +36,29 @@ abbrev pub key_places : List ℕ
 key_places = 1 ∷ 2 ∷ []
 
 abbrev pub volumes_work : List Row → Work
-volumes_work olds = record { depth = 0; child = record volume_table { tree = 4 }; ref = to_plan; places = key_places; order = plain; deed = deed.Delete; moves = pairs olds [] }
+volumes_work olds = record {
+  depth = 0;
+  child = record volume_table { tree = 4 };
+  ref = to_plan;
+  places = key_places;
+  order = plain;
+  deed = deed.Delete;
+  moves = pairs olds [];
+}
 
 abbrev pub spans_work : List Row → Work
-spans_work olds = record { depth = 0; child = record span_table { tree = 6 }; ref = to_plan; places = key_places; order = plain; deed = deed.Delete; moves = pairs olds [] }
+spans_work olds = record {
+  depth = 0;
+  child = record span_table { tree = 6 };
+  ref = to_plan;
+  places = key_places;
+  order = plain;
+  deed = deed.Delete;
+  moves = pairs olds [];
+}
 
-pub plan_works : (olds : List Row) (b : Bool) → list_any (loses plain key_places) (pairs olds []) ≡ b → works desk_schema Enforced 0 2 olds [] ≡ cond b (volumes_work olds ∷ spans_work olds ∷ []) []
+pub plan_works : (olds : List Row) (b : Bool) → list_any (loses plain key_places) (pairs olds []) ≡ b
+    → works desk_schema Enforced 0 2 olds [] ≡ cond b (volumes_work olds ∷ spans_work olds ∷ []) []
 unfolding everything
 plan_works olds true some = rw some
 plan_works olds false none = rw none
@@ -89,7 +106,8 @@ null_is_none (Blob n) t = refl
 pub same_text : (v old : Value) (t : List ℕ) → is_text old t ≡ true → is_same v old ≡ is_text v t
 same_text v old t h =
     let tied : value_cmp old (Text t) ≡ Equal = equal_of (value_cmp old (Text t)) h in
-    let moved : is_eq (value_cmp v old) ≡ is_text v t = turned_eq v old ∙ ap is_eq (value_cmp_total.congr old (Text t) v tied) ∙ turned_eq (Text t) v in
+    let moved : is_eq (value_cmp v old) ≡ is_text v t = turned_eq v old
+    ∙ ap is_eq (value_cmp_total.congr old (Text t) v tied) ∙ turned_eq (Text t) v in
     ap (λ b. not (is_null v) && b) moved ∙ null_is_none v t
 
 -- the row is of this operator and has this id: in a stored row
@@ -106,15 +124,19 @@ and_true a b true true p q = rw (p, q)
 and_true a b true false p q = rw (p, q)
 and_true a b false d p q = rw p
 
-agrees : (operator id : List ℕ) (r old : Row) → has_key operator id old ≡ true → agree plain key_places r key_places old ≡ has_key operator id r
+agrees : (operator id : List ℕ) (r old : Row) → has_key operator id old ≡ true
+    → agree plain key_places r key_places old ≡ has_key operator id r
 unfolding first_key
 agrees operator id r old h =
     let parts = and_parts _ _ h in
-    and_true _ _ _ _ (equals (column r 1) (column old 1) ∙ same_text (column r 1) (column old 1) operator parts.0) (equals (column r 2) (column old 2) ∙ same_text (column r 2) (column old 2) id parts.1)
+    and_true _ _ _ _ (equals (column r 1) (column old 1)
+    ∙ same_text (column r 1) (column old 1) operator parts.0)
+    (equals (column r 2) (column old 2) ∙ same_text (column r 2) (column old 2) id parts.1)
 
 agrees_with_none : (old : Row) → agree plain key_places old key_places [] ≡ false
 unfolding first_key
-agrees_with_none old = ap (λ b. b && (equal Binary (column old 2) Null && true)) (equals (column old 1) Null ∙ never_null (column old 1))
+agrees_with_none old = ap (λ b. b && (equal Binary (column old 2) Null && true))
+    (equals (column old 1) Null ∙ never_null (column old 1))
   where
     never_null : (v : Value) → is_same v Null ≡ false
     never_null Null = refl
@@ -123,64 +145,95 @@ agrees_with_none old = ap (λ b. b && (equal Binary (column old 2) Null && true)
     never_null (Text n) = ap is_eq (value_cmp-apart (Text n) Null (λ e. cc))
     never_null (Blob n) = ap is_eq (value_cmp-apart (Blob n) Null (λ e. cc))
 
-lost : (operator id : List ℕ) (old : Row) → has_key operator id old ≡ true → loses plain key_places (old, []) ≡ true
-lost operator id old h = ap₂ (λ a b. a && not b) (agrees operator id old old h ∙ h) (agrees_with_none old)
+lost : (operator id : List ℕ) (old : Row) → has_key operator id old ≡ true
+    → loses plain key_places (old, [])
+    ≡ true
+lost operator id old h = ap₂ (λ a b. a && not b) (agrees operator id old old h ∙ h)
+    (agrees_with_none old)
 
 -- ---- over all old rows
 
 abbrev pub some : List Row → Bool
 some = list_any (λ r. true)
 
-pub all_lost : (operator id : List ℕ) (olds : List Row) → AllByRecursion (λ old. has_key operator id old ≡ true) olds → list_any (loses plain key_places) (pairs olds []) ≡ some olds
+pub all_lost : (operator id : List ℕ) (olds : List Row)
+    → AllByRecursion (λ old. has_key operator id old ≡ true) olds
+    → list_any (loses plain key_places) (pairs olds []) ≡ some olds
 all_lost operator id [] all = refl
-all_lost operator id (old ∷ olds) all = ap (λ b. b || list_any (loses plain key_places) (pairs olds [])) (lost operator id old all.0)
+all_lost operator id (old ∷ olds) all = ap (λ b. b || list_any (loses plain key_places) (pairs olds []))
+    (lost operator id old all.0)
 
 or_and : (a b : Bool) → (a || (b && a)) ≡ a
 or_and true b = refl
 or_and false true = refl
 or_and false false = refl
 
-child_one : (w : Work) → w.order ≡ plain → w.places ≡ key_places → w.ref ≡ to_plan → (operator id : List ℕ) (r old : Row) → has_key operator id old ≡ true → is_child_of w r (old, []) ≡ has_key operator id r
-child_one w o p f operator id r old h = rw (o, p, f) (ap₂ (λ a b. a && b) (lost operator id old h) (agrees operator id r old h))
+child_one : (w : Work) → w.order ≡ plain → w.places ≡ key_places → w.ref ≡ to_plan
+    → (operator id : List ℕ) (r old : Row) → has_key operator id old ≡ true → is_child_of w r (old, [])
+    ≡ has_key operator id r
+child_one w o p f operator id r old h = rw (o, p, f)
+    (ap₂ (λ a b. a && b) (lost operator id old h) (agrees operator id r old h))
 
-pub children_are : (w : Work) → w.order ≡ plain → w.places ≡ key_places → w.ref ≡ to_plan → (operator id : List ℕ) (r : Row) (olds : List Row) → AllByRecursion (λ old. has_key operator id old ≡ true) olds
+pub children_are : (w : Work) → w.order ≡ plain → w.places ≡ key_places → w.ref ≡ to_plan
+    → (operator id : List ℕ) (r : Row) (olds : List Row)
+    → AllByRecursion (λ old. has_key operator id old ≡ true) olds
     → list_any (is_child_of w r) (pairs olds []) ≡ (some olds && has_key operator id r)
 children_are w o p f operator id r [] all = refl
 children_are w o p f operator id r (old ∷ olds) all =
-    ap₂ (λ a b. a || b) (child_one w o p f operator id r old all.0) (children_are w o p f operator id r olds all.1) ∙ or_and (has_key operator id r) (some olds)
+    ap₂ (λ a b. a || b) (child_one w o p f operator id r old all.0)
+    (children_are w o p f operator id r olds all.1) ∙ or_and (has_key operator id r) (some olds)
 
 -- ---- the old rows are those that were found
 
-pub row_found : (p : Row → Bool) (rows : List Row) → AllByRecursion (λ r. is_int (rowid r) ≡ true) rows → IsAscending IsApart rows → AllByRecursion (λ x. p (row_at rows (id_in (rowid x))) ≡ true) (filter p rows)
+pub row_found : (p : Row → Bool) (rows : List Row) → AllByRecursion (λ r. is_int (rowid r) ≡ true) rows
+    → IsAscending IsApart rows → AllByRecursion (λ x. p (row_at rows (id_in (rowid x))) ≡ true)
+    (filter p rows)
 row_found p [] whole apart = tt
 row_found p (r ∷ rows) whole apart =
-    let itself : hits r r ≡ true = has_is r r whole.0 ∙ ap is_eq (tied_itself value_cmp_total (rowid r)) in
-    let far = all_kept (λ x. hits r x ≡ false) p rows (all_both (λ x. is_int (rowid x) ≡ true) (IsApart r) (λ x. hits r x ≡ false) (λ x int away. has_is r x int ∙ away) rows whole.1 apart.0) in
+    let itself : hits r r ≡ true = has_is r r whole.0
+    ∙ ap is_eq (tied_itself value_cmp_total (rowid r)) in
+    let far = all_kept (λ x. hits r x ≡ false) p rows
+    (all_both (λ x. is_int (rowid x) ≡ true) (IsApart r) (λ x. hits r x ≡ false)
+    (λ x int away. has_is r x int ∙ away) rows whole.1 apart.0) in
     let later : AllByRecursion (λ x. p (row_at (r ∷ rows) (id_in (rowid x))) ≡ true) (filter p rows) =
-    all_both (λ x. hits r x ≡ false) (λ x. p (row_at rows (id_in (rowid x))) ≡ true) (λ x. p (row_at (r ∷ rows) (id_in (rowid x))) ≡ true)
-    (λ x away is. ap (λ b. p (unwrap_or (cond b (Some r) (find (has_rowid (id_in (rowid x))) rows)) [])) away ∙ is) (filter p rows) far (row_found p rows whole.1 apart.1) in
-    first (p r) refl later (λ same. ap (λ b. p (unwrap_or (cond b (Some r) (find (has_rowid (id_in (rowid r))) rows)) [])) itself ∙ same)
+    all_both (λ x. hits r x ≡ false) (λ x. p (row_at rows (id_in (rowid x))) ≡ true)
+    (λ x. p (row_at (r ∷ rows) (id_in (rowid x))) ≡ true)
+    (λ x away is. ap (λ b. p (unwrap_or (cond b (Some r) (find (has_rowid (id_in (rowid x))) rows)) []))
+    away
+    ∙ is) (filter p rows) far (row_found p rows whole.1 apart.1) in
+    first (p r) refl later
+    (λ same. ap (λ b. p (unwrap_or (cond b (Some r) (find (has_rowid (id_in (rowid r))) rows)) []))
+    itself
+    ∙ same)
   where
-    first : (b : Bool) → p r ≡ b → AllByRecursion (λ x. p (row_at (r ∷ rows) (id_in (rowid x))) ≡ true) (filter p rows) → (p r ≡ true → p (row_at (r ∷ rows) (id_in (rowid r))) ≡ true)
-        → AllByRecursion (λ x. p (row_at (r ∷ rows) (id_in (rowid x))) ≡ true) (cond b (r ∷ filter p rows) (filter p rows))
+    first : (b : Bool) → p r ≡ b → AllByRecursion (λ x. p (row_at (r ∷ rows) (id_in (rowid x))) ≡ true)
+        (filter p rows) → (p r ≡ true → p (row_at (r ∷ rows) (id_in (rowid r))) ≡ true)
+        → AllByRecursion (λ x. p (row_at (r ∷ rows) (id_in (rowid x))) ≡ true)
+        (cond b (r ∷ filter p rows) (filter p rows))
     first true is later here = (here is, later)
     first false is later here = later
 
-module _ (p : Row → Bool) (rows found : List Row) (num : AreNumbered rows) (are : IsPermutation (map (λ r. rowid r ∷ []) (filter p rows)) found) where
+module _ (p : Row → Bool) (rows found : List Row) (num : AreNumbered rows)
+    (are : IsPermutation (map (λ r. rowid r ∷ []) (filter p rows)) found) where
   pub olds_pass : AllByRecursion (λ old. p old ≡ true) (map (row_at rows) (ids_of found))
   olds_pass =
       let Q = λ (y : Row). p (row_at rows (id_in (rowid y))) ≡ true in
-      let there : AllByRecursion Q found = all-permutation Q _ found are (all-map Q (λ r. rowid r ∷ []) (filter p rows) (row_found p rows num.whole num.distinct)) in
-      all-map (λ old. p old ≡ true) (row_at rows) (ids_of found) (all-map (λ id. p (row_at rows id) ≡ true) (λ r. id_in (rowid r)) found there)
+      let there : AllByRecursion Q found = all-permutation Q _ found are
+      (all-map Q (λ r. rowid r ∷ []) (filter p rows) (row_found p rows num.whole num.distinct)) in
+      all-map (λ old. p old ≡ true) (row_at rows) (ids_of found)
+      (all-map (λ id. p (row_at rows id) ≡ true) (λ r. id_in (rowid r)) found there)
 
   some_kept : (rs : List Row) → some (filter p rs) ≡ list_any p rs
   some_kept [] = refl
-  some_kept (r ∷ rs) = elim (p r) as (λ b. some (cond b (r ∷ filter p rs) (filter p rs)) ≡ (b || list_any p rs)) [ true ↦ refl | false ↦ some_kept rs ]
+  some_kept (r ∷ rs) = elim (p r) as (λ b. some (cond b (r ∷ filter p rs) (filter p rs))
+      ≡ (b || list_any p rs)) [ true ↦ refl | false ↦ some_kept rs ]
 
   pub olds_some : some (map (row_at rows) (ids_of found)) ≡ list_any p rows
   olds_some =
-      any_map (λ r. true) (row_at rows) (ids_of found) ∙ any_map (λ i. true) (λ r. id_in (rowid r)) found
-      ∙ sym (list_any-IsPermutation (λ r. true) _ found are) ∙ any_map (λ r. true) (λ r. rowid r ∷ []) (filter p rows) ∙ some_kept rows
+      any_map (λ r. true) (row_at rows) (ids_of found)
+      ∙ any_map (λ i. true) (λ r. id_in (rowid r)) found
+      ∙ sym (list_any-IsPermutation (λ r. true) _ found are)
+      ∙ any_map (λ r. true) (λ r. rowid r ∷ []) (filter p rows) ∙ some_kept rows
 
 -- ---- one action: the children go
 
@@ -191,7 +244,8 @@ both_ways false false f g = refl
 
 has_any : (q : ℤ → Bool) (ids : List ℤ) (id : ℤ) → Has ids id → q id ≡ true → list_any q ids ≡ true
 has_any q [] id none h = absurd none
-has_any q (x ∷ ids) id (inl same) h = ap (λ y. q y || list_any q ids) (sym same) ∙ ap (λ b. b || list_any q ids) h
+has_any q (x ∷ ids) id (inl same) h = ap (λ y. q y || list_any q ids) (sym same)
+    ∙ ap (λ b. b || list_any q ids) h
 has_any q (x ∷ ids) id (inr there) h = ap (λ b. q x || b) (has_any q ids id there h) ∙ or_true (q x)
   where
     or_true : (a : Bool) → (a || true) ≡ true
@@ -202,7 +256,9 @@ any_has : (q : ℤ → Bool) (ids : List ℤ) → list_any q ids ≡ true → (i
 any_has q [] h = cc
 any_has q (x ∷ ids) h = go (q x) refl h (any_has q ids)
   where
-    go : (b : Bool) → q x ≡ b → (b || list_any q ids) ≡ true → (list_any q ids ≡ true → (id : ℤ) × Has ids id × (q id ≡ true)) → (id : ℤ) × Has (x ∷ ids) id × (q id ≡ true)
+    go : (b : Bool) → q x ≡ b → (b || list_any q ids) ≡ true
+        → (list_any q ids ≡ true → (id : ℤ) × Has ids id × (q id ≡ true)) → (id : ℤ) × Has (x ∷ ids) id
+        × (q id ≡ true)
     go true is h later = (x, inl refl, is)
     go false is h later = let got = later h in (got.0, inr got.1, got.2)
 
@@ -215,34 +271,46 @@ at_has P [] r all none = absurd none
 at_has P (x ∷ rows) r all (inl same) = subst P (sym same) all.0
 at_has P (x ∷ rows) r all (inr there) = at_has P rows r all.1 there
 
-one_row : (rows : List Row) (a b : Row) → IsAscending IsApart rows → Has rows a → Has rows b → is_eq (value_cmp (rowid a) (rowid b)) ≡ true → a ≡ b
+one_row : (rows : List Row) (a b : Row) → IsAscending IsApart rows → Has rows a → Has rows b
+    → is_eq (value_cmp (rowid a) (rowid b)) ≡ true → a ≡ b
 one_row [] a b apart none there h = absurd none
 one_row (r ∷ rows) a b apart (inl ra) (inl rb) h = ra ∙ sym rb
-one_row (r ∷ rows) a b apart (inl ra) (inr there) h = absurd (true≢false (sym h ∙ ap (λ x. is_eq (value_cmp (rowid x) (rowid b))) ra ∙ at_has (IsApart r) rows b apart.0 there))
-one_row (r ∷ rows) a b apart (inr there) (inl rb) h = absurd (true≢false (sym h ∙ ap (λ x. is_eq (value_cmp (rowid a) (rowid x))) rb ∙ turned r a (at_has (IsApart r) rows a apart.0 there)))
+one_row (r ∷ rows) a b apart (inl ra) (inr there) h =
+    absurd (true≢false (sym h ∙ ap (λ x. is_eq (value_cmp (rowid x) (rowid b))) ra
+    ∙ at_has (IsApart r) rows b apart.0 there))
+one_row (r ∷ rows) a b apart (inr there) (inl rb) h =
+    absurd (true≢false (sym h ∙ ap (λ x. is_eq (value_cmp (rowid a) (rowid x))) rb
+    ∙ turned r a (at_has (IsApart r) rows a apart.0 there)))
 one_row (r ∷ rows) a b apart (inr at) (inr there) h = one_row rows a b apart.1 at there h
 
 -- the children's rowids take out the children, and no other row
-pub children_go : (db : Trees) (w : Work) (ids : List ℤ) → AreChildren db w ids → AreNumbered (db w.child.tree)
-    → without_all (db w.child.tree) ids ≡ filter (λ r. not (list_any (is_child_of w r) w.moves)) (db w.child.tree)
+pub children_go : (db : Trees) (w : Work) (ids : List ℤ) → AreChildren db w ids
+    → AreNumbered (db w.child.tree)
+    → without_all (db w.child.tree) ids ≡ filter (λ r. not (list_any (is_child_of w r) w.moves))
+    (db w.child.tree)
 children_go db w ids are num =
     let rows = db w.child.tree in
     let child = λ (r : Row). list_any (is_child_of w r) w.moves in
-    without_is ids rows ∙ filter_same_on _ _ rows (all_has (λ r. not (list_any (λ id. has_rowid id r) ids) ≡ not (child r)) rows (λ r there.
+    without_is ids rows ∙ filter_same_on _ _ rows (all_has
+    (λ r. not (list_any (λ id. has_rowid id r) ids) ≡ not (child r)) rows (λ r there.
     let whole = int_is (rowid r) (at_has (λ r. is_int (rowid r) ≡ true) rows r num.whole there) in
     ap not (both_ways (list_any (λ id. has_rowid id r) ids) (child r)
     (λ some.
     let got = any_has (λ id. has_rowid id r) ids some in
     let it = are.sound got.0 got.1 in
-    let same : it.0 ≡ r = one_row rows it.0 r num.distinct it.1 there (ap (λ v. is_eq (value_cmp v (rowid r))) it.3 ∙ turned_eq (Int got.0) (rowid r) ∙ got.2) in
+    let same : it.0 ≡ r = one_row rows it.0 r num.distinct it.1 there
+    (ap (λ v. is_eq (value_cmp v (rowid r))) it.3 ∙ turned_eq (Int got.0) (rowid r) ∙ got.2) in
     subst (λ x. child x ≡ true) same it.2)
-    (λ is. has_any (λ id. has_rowid id r) ids (id_in (rowid r)) (are.complete r (id_in (rowid r)) there is whole)
-    (has_is r r (at_has (λ r. is_int (rowid r) ≡ true) rows r num.whole there) ∙ ap is_eq (tied_itself value_cmp_total (rowid r)))))))
+    (λ is. has_any (λ id. has_rowid id r) ids (id_in (rowid r))
+    (are.complete r (id_in (rowid r)) there is whole)
+    (has_is r r (at_has (λ r. is_int (rowid r) ≡ true) rows r num.whole there)
+    ∙ ap is_eq (tied_itself value_cmp_total (rowid r)))))))
 
 -- ---- the actions in turn
 
 abbrev pub Others : ℕ → Trees → Trees → Type 0
-Others tree db next = AllByRecursion (λ (t : Table). t.tree ≢ tree → next t.tree ≡ db t.tree) desk_schema.tables
+Others tree db next = AllByRecursion (λ (t : Table). t.tree ≢ tree → next t.tree ≡ db t.tree)
+    desk_schema.tables
 
 -- the children went from one tree
 pub record Took (tree : ℕ) (child : Row → Bool) (db next : Trees) : Type 0 where
@@ -250,31 +318,68 @@ pub record Took (tree : ℕ) (child : Row → Bool) (db next : Trees) : Type 0 w
   pub others : Others tree db next
 
 -- a step that gives trees was not refused, and its rows could be stored
-pub stepped : (Later : Trees → List Work → End → Type 0) (db : Trees) (edit : Edit) (depth : ℕ) (below : List Work) (next : Trees) → Goes desk_schema Enforced Later db edit depth below (Ok next)
-    → (mid : Trees) × Applies desk_schema Enforced db edit mid × Later mid (below ++ works desk_schema Enforced depth edit.table.tree (taken_by db edit) edit.news) (Ok next)
+pub stepped : (Later : Trees → List Work → End → Type 0) (db : Trees) (edit : Edit) (depth : ℕ)
+    (below : List Work) (next : Trees) → Goes desk_schema Enforced Later db edit depth below (Ok next)
+    → (mid : Trees) × Applies desk_schema Enforced db edit mid
+    × Later mid (below ++ works desk_schema Enforced depth edit.table.tree (taken_by db edit) edit.news)
+    (Ok next)
 stepped Later db edit depth below next (inl refused) = absurd (let e = refused.2 in cc)
 stepped Later db edit depth below next (inr (inl big)) = absurd (let e = big.3 in cc)
 stepped Later db edit depth below next (inr (inr went)) = went
 
 -- an action that deletes, at the first depth
 abbrev pub delete_on : Table → List (Row × Row) → Work
-delete_on table moves = record { depth = 0; child = table; ref = to_plan; places = key_places; order = plain; deed = deed.Delete; moves = moves }
+delete_on table moves = record {
+  depth = 0;
+  child = table;
+  ref = to_plan;
+  places = key_places;
+  order = plain;
+  deed = deed.Delete;
+  moves = moves;
+}
 
-module _ (n : ℕ) (db : Trees) (table : Table) (moves : List (Row × Row)) (below : List Work) (next : Trees) (quiet : (depth : ℕ) (olds : List Row) → works desk_schema Enforced depth table.tree olds [] ≡ [])
+module _ (n : ℕ) (db : Trees) (table : Table) (moves : List (Row × Row)) (below : List Work)
+    (next : Trees)
+    (quiet : (depth : ℕ) (olds : List Row) → works desk_schema Enforced depth table.tree olds [] ≡ [])
     (num : AreNumbered (db table.tree)) where
   abbrev is_child : Row → Bool
   is_child r = list_any (is_child_of (delete_on table moves) r) moves
 
-  gone : (ids : List ℤ) → AreChildren db (delete_on table moves) ids → ActsOn desk_schema Enforced (Leads desk_schema Enforced n) db (delete_on table moves) below (Ok next) ids
-      → (mid : Trees) × Took table.tree is_child db mid × Leads desk_schema Enforced n mid below (Ok next)
-  gone [] are h = (db, record { rows = children_go db (delete_on table moves) [] are num; others = (λ _. refl, (λ _. refl, (λ _. refl, (λ _. refl, tt)))) }, h)
+  gone : (ids : List ℤ) → AreChildren db (delete_on table moves) ids
+      → ActsOn desk_schema Enforced (Leads desk_schema Enforced n) db (delete_on table moves) below
+      (Ok next)
+      ids
+      → (mid : Trees) × Took table.tree is_child db mid
+      × Leads desk_schema Enforced n mid below (Ok next)
+  gone [] are h = (
+    db,
+    record {
+      rows = children_go db (delete_on table moves) [] are num;
+      others = (λ _. refl, (λ _. refl, (λ _. refl, (λ _. refl, tt))));
+    },
+    h,
+  )
   gone (id ∷ ids) are h =
-      let step = stepped (Leads desk_schema Enforced n) db (action_edit db (delete_on table moves) (id ∷ ids)) 1 below next h in
-      let rest : below ++ works desk_schema Enforced 1 table.tree (taken_by db (action_edit db (delete_on table moves) (id ∷ ids))) [] ≡ below =
-      ap (λ ws. below ++ ws) (quiet 1 (taken_by db (action_edit db (delete_on table moves) (id ∷ ids)))) ∙ append-nil below in
-      (step.0, record { rows = step.1.rows ∙ children_go db (delete_on table moves) (id ∷ ids) are num; others = step.1.tables }, subst (λ ws. Leads desk_schema Enforced n step.0 ws (Ok next)) rest step.2)
+      let step = stepped (Leads desk_schema Enforced n) db
+      (action_edit db (delete_on table moves) (id ∷ ids))
+      1 below next h in
+      let rest : below ++ works desk_schema Enforced 1 table.tree
+      (taken_by db (action_edit db (delete_on table moves) (id ∷ ids))) [] ≡ below =
+      ap (λ ws. below ++ ws) (quiet 1 (taken_by db (action_edit db (delete_on table moves) (id ∷ ids))))
+      ∙ append-nil below in (
+        step.0,
+        record {
+          rows = step.1.rows ∙ children_go db (delete_on table moves) (id ∷ ids) are num;
+          others = step.1.tables;
+        },
+        subst (λ ws. Leads desk_schema Enforced n step.0 ws (Ok next)) rest
+            step.2,
+      )
 
-  pub acted : Acts desk_schema Enforced (Leads desk_schema Enforced n) db (delete_on table moves) below (Ok next) → (mid : Trees) × Took table.tree is_child db mid × Leads desk_schema Enforced n mid below (Ok next)
+  pub acted : Acts desk_schema Enforced (Leads desk_schema Enforced n) db (delete_on table moves) below
+      (Ok next) → (mid : Trees) × Took table.tree is_child db mid
+      × Leads desk_schema Enforced n mid below (Ok next)
   acted h = gone h.0 h.1 h.2
 
 last_one : (below : List Work) (a w : Work) → a ∷ [] ≡ below ++ w ∷ [] → (below ≡ []) × (w ≡ a)
@@ -282,7 +387,8 @@ last_one [] a w e = (refl, cc)
 last_one (x ∷ []) a w e = cc
 last_one (x ∷ y ∷ below) a w e = cc
 
-last_two : (below : List Work) (a b w : Work) → a ∷ b ∷ [] ≡ below ++ w ∷ [] → (below ≡ a ∷ []) × (w ≡ b)
+last_two : (below : List Work) (a b w : Work) → a ∷ b ∷ [] ≡ below ++ w ∷ [] → (below ≡ a ∷ [])
+    × (w ≡ b)
 last_two [] a b w e = cc
 last_two (x ∷ []) a b w e = (cc, cc)
 last_two (x ∷ y ∷ []) a b w e = cc
@@ -307,22 +413,30 @@ module _ (moves : List (Row × Row)) (next : Trees) where
       none [] w e = cc
       none (x ∷ below) w e = cc
 
-  volumes_go : (n : ℕ) (db : Trees) → AreNumbered (db 4) → Leads desk_schema Enforced n db (delete_on volumes_at moves ∷ []) (Ok next) → Took 4 (child_of volumes_at) db next
+  volumes_go : (n : ℕ) (db : Trees) → AreNumbered (db 4)
+      → Leads desk_schema Enforced n db (delete_on volumes_at moves ∷ []) (Ok next)
+      → Took 4 (child_of volumes_at) db next
   volumes_go zero db num h = absurd (let e = h.0 in cc)
   volumes_go (suc n) db num h =
       let last = last_one h.0 (delete_on volumes_at moves) h.1 h.2 in
-      let acts = subst (λ ws. Acts desk_schema Enforced (Leads desk_schema Enforced n) db (delete_on volumes_at moves) ws (Ok next)) last.0
-      (subst (λ w. Acts desk_schema Enforced (Leads desk_schema Enforced n) db w h.0 (Ok next)) last.1 h.3) in
+      let acts = subst (λ ws. Acts desk_schema Enforced (Leads desk_schema Enforced n) db
+      (delete_on volumes_at moves) ws (Ok next)) last.0
+      (subst (λ w. Acts desk_schema Enforced (Leads desk_schema Enforced n) db w h.0 (Ok next)) last.1
+      h.3) in
       let done = acted n db volumes_at moves [] next volume_works num acts in
       subst (Took 4 (child_of volumes_at) db) (ended n done.0 done.2) done.1
 
-  pub both_go : (n : ℕ) (db : Trees) → AreNumbered (db 4) → AreNumbered (db 6) → Leads desk_schema Enforced n db (delete_on volumes_at moves ∷ delete_on spans_at moves ∷ []) (Ok next)
+  pub both_go : (n : ℕ) (db : Trees) → AreNumbered (db 4) → AreNumbered (db 6)
+      → Leads desk_schema Enforced n db (delete_on volumes_at moves ∷ delete_on spans_at moves ∷ [])
+      (Ok next)
       → (mid : Trees) × Took 6 (child_of spans_at) db mid × Took 4 (child_of volumes_at) mid next
   both_go zero db four six h = absurd (let e = h.0 in cc)
   both_go (suc n) db four six h =
       let last = last_two h.0 (delete_on volumes_at moves) (delete_on spans_at moves) h.1 h.2 in
-      let acts = subst (λ ws. Acts desk_schema Enforced (Leads desk_schema Enforced n) db (delete_on spans_at moves) ws (Ok next)) last.0
-      (subst (λ w. Acts desk_schema Enforced (Leads desk_schema Enforced n) db w h.0 (Ok next)) last.1 h.3) in
+      let acts = subst (λ ws. Acts desk_schema Enforced (Leads desk_schema Enforced n) db
+      (delete_on spans_at moves) ws (Ok next)) last.0
+      (subst (λ w. Acts desk_schema Enforced (Leads desk_schema Enforced n) db w h.0 (Ok next)) last.1
+      h.3) in
       let done = acted n db spans_at moves (delete_on volumes_at moves ∷ []) next span_works six acts in
       let kept : done.0 4 ≡ db 4 = done.1.others.1.1.0 (λ e. cc) in
       (done.0, done.1, volumes_go n done.0 (subst AreNumbered (sym kept) four) done.2)

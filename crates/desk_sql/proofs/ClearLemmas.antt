@@ -26,9 +26,12 @@ is_equal Equal f = refl
 is_equal Greater f = cc
 
 -- texts that one value is are the same to every value
-same_text : (u v : Value) (s t : List ℕ) → is_text u s ≡ true → is_text u t ≡ true → is_text v t ≡ true → is_text v s ≡ true
+same_text : (u v : Value) (s t : List ℕ) → is_text u s ≡ true → is_text u t ≡ true → is_text v t ≡ true
+    → is_text v s ≡ true
 same_text u v s t us ut vt =
-    let texts : value_cmp (Text t) (Text s) ≡ Equal = sym (value_cmp_total.congr u (Text t) (Text s) (is_equal (value_cmp u (Text t)) ut)) ∙ is_equal (value_cmp u (Text s)) us in
+    let texts : value_cmp (Text t) (Text s) ≡ Equal =
+    sym (value_cmp_total.congr u (Text t) (Text s) (is_equal (value_cmp u (Text t)) ut))
+    ∙ is_equal (value_cmp u (Text s)) us in
     ap is_eq (value_cmp_total.congr v (Text t) (Text s) (is_equal (value_cmp v (Text t)) vt) ∙ texts)
 
 both : (a b : Bool) → a ≡ true → b ≡ true → (a && b) ≡ true
@@ -43,10 +46,15 @@ second : (a b : Bool) → (a && b) ≡ true → b ≡ true
 second true b h = h
 second false b h = cc
 
-same_id : (operator id other : List ℕ) (q r : Row) → is_of operator other q ≡ true → is_of operator id q ≡ true → is_of operator id r ≡ true → is_of operator other r ≡ true
+same_id : (operator id other : List ℕ) (q r : Row) → is_of operator other q ≡ true → is_of operator id q
+    ≡ true → is_of operator id r ≡ true → is_of operator other r ≡ true
 same_id operator id other q r one two three =
-    both (is_by operator r) (is_text (column r 1) other) (first (is_by operator r) (is_text (column r 1) id) three)
-    (same_text (column q 1) (column r 1) other id (second (is_by operator q) (is_text (column q 1) other) one) (second (is_by operator q) (is_text (column q 1) id) two) (second (is_by operator r) (is_text (column r 1) id) three))
+    both (is_by operator r) (is_text (column r 1) other)
+    (first (is_by operator r) (is_text (column r 1) id) three)
+    (same_text (column q 1) (column r 1) other id
+    (second (is_by operator q) (is_text (column q 1) other) one)
+    (second (is_by operator q) (is_text (column q 1) id) two)
+    (second (is_by operator r) (is_text (column r 1) id) three))
 
 -- ---- rows that are left
 
@@ -54,24 +62,31 @@ either_is : (a b : Bool) → (a || b) ≡ true → (a ≡ false → b ≡ true) 
 either_is true b h = ((λ e. cc), (λ e. refl))
 either_is false b h = ((λ e. h), (λ e. cc))
 
-any_more : {X : Type 0} (test : X → Bool) (xs : List X) (x : X) → list_any test (xs ++ x ∷ []) ≡ (list_any test xs || test x)
+any_more : {X : Type 0} (test : X → Bool) (xs : List X) (x : X) → list_any test (xs ++ x ∷ [])
+    ≡ (list_any test xs || test x)
 any_more test [] x = by_test (test x) where
   by_test : (b : Bool) → (b || false) ≡ b
   by_test true = refl
   by_test false = refl
 any_more test (y ∷ xs) x = by_test (test y) (any_more test xs x) where
-  by_test : (b : Bool) → list_any test (xs ++ x ∷ []) ≡ (list_any test xs || test x) → (b || list_any test (xs ++ x ∷ [])) ≡ ((b || list_any test xs) || test x)
+  by_test : (b : Bool) → list_any test (xs ++ x ∷ []) ≡ (list_any test xs || test x)
+      → (b || list_any test (xs ++ x ∷ [])) ≡ ((b || list_any test xs) || test x)
   by_test true h = refl
   by_test false h = h
 
-filter_on : {X : Type 0} (p q : X → Bool) → ((x : X) → p x ≡ q x) → (xs : List X) → filter p xs ≡ filter q xs
+filter_on : {X : Type 0} (p q : X → Bool) → ((x : X) → p x ≡ q x) → (xs : List X) → filter p xs
+    ≡ filter q xs
 filter_on p q same [] = refl
-filter_on p q same (x ∷ xs) = λ i. cond (same x i) (x ∷ filter_on p q same xs i) (filter_on p q same xs i)
+filter_on p q same (x ∷ xs) = λ i. cond (same x i) (x ∷ filter_on p q same xs i)
+    (filter_on p q same xs i)
 
-filter_twice : {X : Type 0} (p q : X → Bool) (xs : List X) → filter p (filter q xs) ≡ filter (λ x. q x && p x) xs
+filter_twice : {X : Type 0} (p q : X → Bool) (xs : List X) → filter p (filter q xs)
+    ≡ filter (λ x. q x && p x) xs
 filter_twice p q [] = refl
 filter_twice p q (x ∷ xs) = by_test (q x) (filter_twice p q xs) where
-  by_test : (b : Bool) → filter p (filter q xs) ≡ filter (λ y. q y && p y) xs → filter p (cond b (x ∷ filter q xs) (filter q xs)) ≡ cond (b && p x) (x ∷ filter (λ y. q y && p y) xs) (filter (λ y. q y && p y) xs)
+  by_test : (b : Bool) → filter p (filter q xs) ≡ filter (λ y. q y && p y) xs
+      → filter p (cond b (x ∷ filter q xs) (filter q xs))
+      ≡ cond (b && p x) (x ∷ filter (λ y. q y && p y) xs) (filter (λ y. q y && p y) xs)
   by_test true h = ap (λ ys. cond (p x) (x ∷ ys) ys) h
   by_test false h = h
 
@@ -79,19 +94,25 @@ neither : (a b : Bool) → (not a && not b) ≡ not (a || b)
 neither true b = refl
 neither false b = refl
 
-not_more : (operator : List ℕ) (xs : List (List ℕ)) (id : List ℕ) (r : Row) → (is_of_none operator xs r && is_not_of operator id r) ≡ is_of_none operator (xs ++ id ∷ []) r
-not_more operator xs id r = neither (list_any (λ x. is_of operator x r) xs) (is_of operator id r) ∙ ap not (sym (any_more (λ x. is_of operator x r) xs id))
+not_more : (operator : List ℕ) (xs : List (List ℕ)) (id : List ℕ) (r : Row)
+    → (is_of_none operator xs r && is_not_of operator id r) ≡ is_of_none operator (xs ++ id ∷ []) r
+not_more operator xs id r = neither (list_any (λ x. is_of operator x r) xs) (is_of operator id r)
+    ∙ ap not (sym (any_more (λ x. is_of operator x r) xs id))
 
 -- rows of none of the ids, and then of none of one more
-one_more : (operator : List ℕ) (xs : List (List ℕ)) (id : List ℕ) (rows : List Row) → filter (is_not_of operator id) (filter (is_of_none operator xs) rows) ≡ filter (is_of_none operator (xs ++ id ∷ [])) rows
-one_more operator xs id rows = filter_twice (is_not_of operator id) (is_of_none operator xs) rows ∙ filter_on _ _ (not_more operator xs id) rows
+one_more : (operator : List ℕ) (xs : List (List ℕ)) (id : List ℕ) (rows : List Row)
+    → filter (is_not_of operator id) (filter (is_of_none operator xs) rows)
+    ≡ filter (is_of_none operator (xs ++ id ∷ [])) rows
+one_more operator xs id rows = filter_twice (is_not_of operator id) (is_of_none operator xs) rows
+    ∙ filter_on _ _ (not_more operator xs id) rows
 
 -- ---- a plan that went before
 
 -- a row of the id that goes with the other ids
 abbrev WentBefore : List ℕ → List (List ℕ) → List ℕ → List Row → Type 0
 WentBefore operator xs id plans =
-    (q : Row) × (is_of operator id q ≡ true) × (list_any (λ x. is_of operator x q) xs ≡ true) × ((test : Row → Bool) → test q ≡ true → list_any test plans ≡ true)
+    (q : Row) × (is_of operator id q ≡ true) × (list_any (λ x. is_of operator x q) xs ≡ true)
+    × ((test : Row → Bool) → test q ≡ true → list_any test plans ≡ true)
 
 or_true : (a b : Bool) → b ≡ true → (a || b) ≡ true
 or_true true b h = refl
@@ -105,32 +126,61 @@ not_both : (b : Bool) → b ≡ true → b ≡ false → ⊥
 not_both true h k = cc
 not_both false h k = cc
 
-later : (operator : List ℕ) (xs : List (List ℕ)) (id : List ℕ) (p : Row) (plans : List Row) → WentBefore operator xs id plans → WentBefore operator xs id (p ∷ plans)
-later operator xs id p plans (q, mine, gone, there) = (q, mine, gone, (λ test h. or_true (test p) (list_any test plans) (there test h)))
+later : (operator : List ℕ) (xs : List (List ℕ)) (id : List ℕ) (p : Row) (plans : List Row)
+    → WentBefore operator xs id plans → WentBefore operator xs id (p ∷ plans)
+later operator xs id p plans (q, mine, gone, there) =
+    (q, mine, gone, (λ test h. or_true (test p) (list_any test plans) (there test h)))
 
-went_before : (operator : List ℕ) (xs : List (List ℕ)) (id : List ℕ) (plans : List Row) → list_any (is_of operator id) plans ≡ true → list_any (is_of operator id) (filter (is_of_none operator xs) plans) ≡ false → WentBefore operator xs id plans
+went_before : (operator : List ℕ) (xs : List (List ℕ)) (id : List ℕ) (plans : List Row)
+    → list_any (is_of operator id) plans ≡ true → list_any (is_of operator id)
+    (filter (is_of_none operator xs) plans) ≡ false → WentBefore operator xs id plans
 went_before operator xs id [] any none = cc
-went_before operator xs id (p ∷ plans) any none = by_tests (is_of operator id p) (list_any (λ x. is_of operator x p) xs) refl refl any none (went_before operator xs id plans) where
-  by_tests : (a b : Bool) → is_of operator id p ≡ a → list_any (λ x. is_of operator x p) xs ≡ b → (a || list_any (is_of operator id) plans) ≡ true
-      → list_any (is_of operator id) (cond (not b) (p ∷ filter (is_of_none operator xs) plans) (filter (is_of_none operator xs) plans)) ≡ false
-      → (list_any (is_of operator id) plans ≡ true → list_any (is_of operator id) (filter (is_of_none operator xs) plans) ≡ false → WentBefore operator xs id plans) → WentBefore operator xs id (p ∷ plans)
-  by_tests true true mine gone f n ih = (p, mine, gone, (λ test h. ap (λ b. b || list_any test plans) h))
-  by_tests true false mine gone f n ih =
-      absurd (not_both true refl (sym (ap (λ b. b || list_any (is_of operator id) (filter (is_of_none operator xs) plans)) mine) ∙ n))
-  by_tests false true mine gone f n ih = later operator xs id p plans (ih f n)
-  by_tests false false mine gone f n ih = later operator xs id p plans (ih f (or_false (is_of operator id p) (list_any (is_of operator id) (filter (is_of_none operator xs) plans)) n))
+went_before operator xs id (p ∷ plans) any none = by_tests (is_of operator id p)
+    (list_any (λ x. is_of operator x p) xs) refl refl any none (went_before operator xs id plans) where
+      by_tests : (a b : Bool) → is_of operator id p ≡ a → list_any (λ x. is_of operator x p) xs ≡ b
+          → (a || list_any (is_of operator id) plans) ≡ true
+          → list_any (is_of operator id) (cond (not b) (p ∷ filter (is_of_none operator xs) plans)
+          (filter (is_of_none operator xs) plans)) ≡ false
+          → (list_any (is_of operator id) plans ≡ true
+          → list_any (is_of operator id) (filter (is_of_none operator xs) plans) ≡ false
+          → WentBefore operator xs id plans) → WentBefore operator xs id (p ∷ plans)
+      by_tests true true mine gone f n ih =
+          (p, mine, gone, (λ test h. ap (λ b. b || list_any test plans) h))
+      by_tests true false mine gone f n ih =
+          absurd (not_both true refl
+          (sym (ap (λ b. b || list_any (is_of operator id) (filter (is_of_none operator xs) plans))
+          mine)
+          ∙ n))
+      by_tests false true mine gone f n ih = later operator xs id p plans (ih f n)
+      by_tests false false mine gone f n ih = later operator xs id p plans
+          (ih f (or_false (is_of operator id p) (list_any (is_of operator id)
+          (filter (is_of_none operator xs) plans)) n))
 
 -- so a row of the id is one of those others, if their plans are there
-is_another : (operator : List ℕ) (xs : List (List ℕ)) (id : List ℕ) (q r : Row) (there : List ℕ → Bool) → ((x : List ℕ) → is_of operator x q ≡ true → there x ≡ true) → is_of operator id q ≡ true → is_of operator id r ≡ true
-    → list_any (λ x. is_of operator x q) xs ≡ true → list_any (λ x. is_of operator x r) (filter there xs) ≡ true
+is_another : (operator : List ℕ) (xs : List (List ℕ)) (id : List ℕ) (q r : Row) (there : List ℕ → Bool)
+    → ((x : List ℕ) → is_of operator x q ≡ true → there x ≡ true) → is_of operator id q ≡ true
+    → is_of operator id r ≡ true
+    → list_any (λ x. is_of operator x q) xs ≡ true
+    → list_any (λ x. is_of operator x r) (filter there xs)
+    ≡ true
 is_another operator [] id q r there found mine is any = cc
-is_another operator (x ∷ xs) id q r there found mine is any = by_tests (is_of operator x q) (there x) refl refl any (is_another operator xs id q r there found mine is) where
-  by_tests : (a b : Bool) → is_of operator x q ≡ a → there x ≡ b → (a || list_any (λ y. is_of operator y q) xs) ≡ true → (list_any (λ y. is_of operator y q) xs ≡ true → list_any (λ y. is_of operator y r) (filter there xs) ≡ true)
-      → list_any (λ y. is_of operator y r) (cond b (x ∷ filter there xs) (filter there xs)) ≡ true
-  by_tests true true one here f ih = ap (λ b. b || list_any (λ y. is_of operator y r) (filter there xs)) (same_id operator id x q r one mine is)
-  by_tests true false one here f ih = absurd (not_both (there x) (found x one) here)
-  by_tests false true one here f ih = or_true (is_of operator x r) (list_any (λ y. is_of operator y r) (filter there xs)) (ih f)
-  by_tests false false one here f ih = ih f
+is_another operator (x ∷ xs) id q r there found mine is any =
+    by_tests (is_of operator x q) (there x) refl refl any
+    (is_another operator xs id q r there found mine is)
+  where
+    by_tests : (a b : Bool) → is_of operator x q ≡ a → there x ≡ b
+        → (a || list_any (λ y. is_of operator y q) xs) ≡ true
+        → (list_any (λ y. is_of operator y q) xs ≡ true
+        → list_any (λ y. is_of operator y r) (filter there xs)
+        ≡ true)
+        → list_any (λ y. is_of operator y r) (cond b (x ∷ filter there xs) (filter there xs)) ≡ true
+    by_tests true true one here f ih = ap (λ b. b
+        || list_any (λ y. is_of operator y r) (filter there xs))
+        (same_id operator id x q r one mine is)
+    by_tests true false one here f ih = absurd (not_both (there x) (found x one) here)
+    by_tests false true one here f ih = or_true (is_of operator x r)
+        (list_any (λ y. is_of operator y r) (filter there xs)) (ih f)
+    by_tests false false one here f ih = ih f
 
 -- ---- tables
 
@@ -138,78 +188,127 @@ module _ (operator : List ℕ) (xs : List (List ℕ)) (id : List ℕ) (a b : Tab
   abbrev has : List ℕ → Bool
   has x = list_any (is_of operator x) a.plans
 
-  fewer : (plans : List Row) → list_any (is_of operator id) plans ≡ false → list_any (is_of operator id) (filter (is_of_none operator xs) plans) ≡ false
+  fewer : (plans : List Row) → list_any (is_of operator id) plans ≡ false
+      → list_any (is_of operator id) (filter (is_of_none operator xs) plans) ≡ false
   fewer [] h = refl
-  fewer (p ∷ plans) h = by_test (is_of_none operator xs p) (is_of operator id p) refl h (fewer plans) where
-    by_test : (kept mine : Bool) → is_of operator id p ≡ mine → (mine || list_any (is_of operator id) plans) ≡ false
-        → (list_any (is_of operator id) plans ≡ false → list_any (is_of operator id) (filter (is_of_none operator xs) plans) ≡ false)
-        → list_any (is_of operator id) (cond kept (p ∷ filter (is_of_none operator xs) plans) (filter (is_of_none operator xs) plans)) ≡ false
-    by_test kept true e f ih = cc
-    by_test true false e f ih = ap (λ c. c || list_any (is_of operator id) (filter (is_of_none operator xs) plans)) e ∙ ih f
-    by_test false false e f ih = ih f
+  fewer (p ∷ plans) h = by_test (is_of_none operator xs p) (is_of operator id p) refl h (fewer plans)
+    where
+      by_test : (kept mine : Bool) → is_of operator id p ≡ mine
+          → (mine || list_any (is_of operator id) plans)
+          ≡ false
+          → (list_any (is_of operator id) plans ≡ false
+          → list_any (is_of operator id) (filter (is_of_none operator xs) plans) ≡ false)
+          → list_any (is_of operator id) (cond kept (p ∷ filter (is_of_none operator xs) plans)
+          (filter (is_of_none operator xs) plans)) ≡ false
+      by_test kept true e f ih = cc
+      by_test true false e f ih =
+          ap (λ c. c || list_any (is_of operator id) (filter (is_of_none operator xs) plans)) e ∙ ih f
+      by_test false false e f ih = ih f
 
-  there_more : (c : Bool) → has id ≡ c → ids_there operator (xs ++ id ∷ []) a ≡ ids_there operator xs a ++ cond c (id ∷ []) []
+  there_more : (c : Bool) → has id ≡ c → ids_there operator (xs ++ id ∷ []) a ≡ ids_there operator xs a
+      ++ cond c (id ∷ []) []
   there_more c e = filter-append has xs (id ∷ []) ∙ ap (λ d. filter has xs ++ cond d (id ∷ []) []) e
 
   -- the rows that are left once the id's plan went too
-  left : b.plans ≡ filter (is_of_none operator xs) a.plans → (old rows : List Row) → rows ≡ filter (is_of_none operator (ids_there operator xs a)) old
-      → left_without operator id b rows ≡ filter (is_of_none operator (ids_there operator (xs ++ id ∷ []) a)) old
+  left : b.plans ≡ filter (is_of_none operator xs) a.plans → (old rows : List Row) → rows
+      ≡ filter (is_of_none operator (ids_there operator xs a)) old
+      → left_without operator id b rows ≡ filter
+      (is_of_none operator (ids_there operator (xs ++ id ∷ []) a))
+      old
   left plans old rows are = by_tests (has id) (list_any (is_of operator id) b.plans) refl refl where
     others : List (List ℕ)
     others = ids_there operator xs a
 
     by_tests : (there still : Bool) → has id ≡ there → list_any (is_of operator id) b.plans ≡ still
-        → cond still (filter (is_not_of operator id) rows) rows ≡ filter (is_of_none operator (ids_there operator (xs ++ id ∷ []) a)) old
-    by_tests true true e f = ap (filter (is_not_of operator id)) are ∙ one_more operator others id old ∙ sym (ap (λ ids. filter (is_of_none operator ids) old) (there_more true e))
-    by_tests true false e f = are ∙ filter_on _ _ same old ∙ sym (ap (λ ids. filter (is_of_none operator ids) old) (there_more true e)) where
-      before : WentBefore operator xs id a.plans
-      before = went_before operator xs id a.plans e (ap (list_any (is_of operator id)) (sym plans) ∙ f)
+        → cond still (filter (is_not_of operator id) rows) rows
+        ≡ filter (is_of_none operator (ids_there operator (xs ++ id ∷ []) a)) old
+    by_tests true true e f = ap (filter (is_not_of operator id)) are ∙ one_more operator others id old
+        ∙ sym (ap (λ ids. filter (is_of_none operator ids) old) (there_more true e))
+    by_tests true false e f = are ∙ filter_on _ _ same old
+        ∙ sym (ap (λ ids. filter (is_of_none operator ids) old) (there_more true e)) where
+          before : WentBefore operator xs id a.plans
+          before = went_before operator xs id a.plans e
+              (ap (list_any (is_of operator id)) (sym plans) ∙ f)
 
-      same : (r : Row) → is_of_none operator others r ≡ is_of_none operator (others ++ id ∷ []) r
-      same r = ap not (by_row (list_any (λ x. is_of operator x r) others) (is_of operator id r) one ∙ sym (any_more (λ x. is_of operator x r) others id)) where
-        one : is_of operator id r ≡ true → list_any (λ x. is_of operator x r) others ≡ true
-        one is = is_another operator xs id before.0 r has (λ x h. before.3 (is_of operator x) h) before.1 is before.2
+          same : (r : Row) → is_of_none operator others r ≡ is_of_none operator (others ++ id ∷ []) r
+          same r = ap not (by_row (list_any (λ x. is_of operator x r) others) (is_of operator id r) one
+              ∙ sym (any_more (λ x. is_of operator x r) others id)) where
+                one : is_of operator id r ≡ true → list_any (λ x. is_of operator x r) others ≡ true
+                one is = is_another operator xs id before.0 r has (λ x h. before.3 (is_of operator x) h)
+                    before.1 is
+                    before.2
 
-        by_row : (c d : Bool) → (d ≡ true → c ≡ true) → c ≡ (c || d)
-        by_row true d h = refl
-        by_row false true h = h refl
-        by_row false false h = refl
-    by_tests false true e f = absurd (not_both (list_any (is_of operator id) b.plans) f (ap (list_any (is_of operator id)) plans ∙ fewer a.plans e))
-    by_tests false false e f = are ∙ sym (ap (λ ids. filter (is_of_none operator ids) old) (there_more false e ∙ append-nil others))
+                by_row : (c d : Bool) → (d ≡ true → c ≡ true) → c ≡ (c || d)
+                by_row true d h = refl
+                by_row false true h = h refl
+                by_row false false h = refl
+    by_tests false true e f =
+        absurd (not_both (list_any (is_of operator id) b.plans) f
+        (ap (list_any (is_of operator id)) plans ∙ fewer a.plans e))
+    by_tests false false e f = are
+        ∙ sym (ap (λ ids. filter (is_of_none operator ids) old)
+        (there_more false e ∙ append-nil others))
 
 all_left : {X : Type 0} (xs : List X) → filter (λ x. true) xs ≡ xs
 all_left [] = refl
 all_left (x ∷ xs) = ap (λ ys. x ∷ ys) (all_left xs)
 
 pub none_removed : (operator : List ℕ) (t : Tables) → RemovesPlans operator [] t t
-none_removed operator t = sym (λ i. record { operators = t.operators; plans = all_left t.plans i; volumes = all_left t.volumes i; spans = all_left t.spans i })
+none_removed operator t =
+    sym (λ i. record {
+      operators = t.operators;
+      plans = all_left t.plans i;
+      volumes = all_left t.volumes i;
+      spans = all_left t.spans i;
+    })
 
-pub one_removed : (operator : List ℕ) (xs : List (List ℕ)) (id : List ℕ) (all : List (List ℕ)) → all ≡ xs ++ id ∷ [] → (a b c : Tables) → RemovesPlans operator xs a b → RemovesPlan operator id b c → RemovesPlans operator all a c
+pub one_removed : (operator : List ℕ) (xs : List (List ℕ)) (id : List ℕ) (all : List (List ℕ)) → all
+    ≡ xs
+    ++ id ∷ [] → (a b c : Tables) → RemovesPlans operator xs a b → RemovesPlan operator id b c
+    → RemovesPlans operator all a c
 one_removed operator xs id all is a b c before step =
     subst (λ ids. RemovesPlans operator ids a c) (sym is)
     (step ∙ (λ i. record {
       operators = ap (λ (t : Tables). t.operators) before i;
-      plans = (ap (filter (is_not_of operator id)) (ap (λ (t : Tables). t.plans) before) ∙ one_more operator xs id a.plans) i;
-      volumes = left operator xs id a b (ap (λ (t : Tables). t.plans) before) a.volumes b.volumes (ap (λ (t : Tables). t.volumes) before) i;
-      spans = left operator xs id a b (ap (λ (t : Tables). t.plans) before) a.spans b.spans (ap (λ (t : Tables). t.spans) before) i;
+      plans = (ap (filter (is_not_of operator id)) (ap (λ (t : Tables). t.plans) before)
+          ∙ one_more operator xs id a.plans) i;
+      volumes = left operator xs id a b (ap (λ (t : Tables). t.plans) before) a.volumes b.volumes
+          (ap (λ (t : Tables). t.volumes) before) i;
+      spans = left operator xs id a b (ap (λ (t : Tables). t.plans) before) a.spans b.spans
+          (ap (λ (t : Tables). t.spans) before) i;
     }))
 
 -- ---- the loop
 
-pub record HasRemoved {S : Type 0} (g : Ghosts S) (old now : Held S) (Changes : Tables → Tables → Type 0) : Type 0 where
+pub record HasRemoved {S : Type 0} (g : Ghosts S) (old now : Held S)
+    (Changes : Tables → Tables → Type 0) : Type 0 where
   pub doubted : doubt (state g old).is_clean ≤ doubt (state g now).is_clean
   pub counted : (state g old).faults ≤ (state g now).faults
   pub made : HasCleanDisk (state g now) → IsTrue (state g now).is_open → Makes g old now Changes
 
-pub begins : {S : Type 0} (g : Ghosts S) (old : Held S) (Changes : Tables → Tables → Type 0) → ((t : Tables) → Changes t t) → IsReady g old → IsTrue old.in_transaction → HasRemoved g old old Changes
+pub begins : {S : Type 0} (g : Ghosts S) (old : Held S) (Changes : Tables → Tables → Type 0)
+    → ((t : Tables) → Changes t t) → IsReady g old → IsTrue old.in_transaction
+    → HasRemoved g old old Changes
 begins g old Changes none ready begun = record {
   doubted = omega arith;
   counted = omega arith;
-  made = λ clean live. record { was_open = live; is_open = live; begun = begun; committed = refl; desk = ready clean live; changed = none (tables_of (state g old).now.trees) };
+  made = λ clean live. record {
+    was_open = live;
+    is_open = live;
+    begun = begun;
+    committed = refl;
+    desk = ready clean live;
+    changed = none (tables_of (state g old).now.trees);
+  };
 }
 
-pub goes_on : {S : Type 0} (g : Ghosts S) (old mid new : Held S) (Before Step After : Tables → Tables → Type 0) → ((a b c : Tables) → Before a b → Step b c → After a c) → HasRemoved g old mid Before
-    → doubt (state g mid).is_clean ≤ doubt (state g new).is_clean → (state g mid).faults ≤ (state g new).faults → (HasCleanDisk (state g new) → Makes g mid new Step) → HasRemoved g old new After
+pub goes_on : {S : Type 0} (g : Ghosts S) (old mid new : Held S)
+    (Before Step After : Tables → Tables → Type 0)
+    → ((a b c : Tables) → Before a b → Step b c → After a c)
+    → HasRemoved g old mid Before
+    → doubt (state g mid).is_clean ≤ doubt (state g new).is_clean
+    → (state g mid).faults ≤ (state g new).faults → (HasCleanDisk (state g new) → Makes g mid new Step)
+    → HasRemoved g old new After
 goes_on g old mid new Before Step After joins so_far doubted counted step = record {
   doubted = omega (arith, so_far.doubted, doubted);
   counted = omega (arith, so_far.counted, counted);
@@ -222,27 +321,37 @@ goes_on g old mid new Before Step After joins so_far doubted counted step = reco
         begun = last.begun;
         committed = last.committed ∙ first.committed;
         desk = last.desk;
-        changed = joins (tables_of (state g old).now.trees) (tables_of (state g mid).now.trees) (tables_of (state g new).now.trees) first.changed last.changed;
+        changed = joins (tables_of (state g old).now.trees) (tables_of (state g mid).now.trees)
+            (tables_of (state g new).now.trees) first.changed last.changed;
       };
 }
 
-pub fails : {S : Type 0} (g : Ghosts S) (old mid new : Held S) (Before : Tables → Tables → Type 0) → HasRemoved g old mid Before → HasCleanDisk (state g mid) → KeepsCommit (state g mid) (state g new) → KeepsCommit (state g old) (state g new)
+pub fails : {S : Type 0} (g : Ghosts S) (old mid new : Held S) (Before : Tables → Tables → Type 0)
+    → HasRemoved g old mid Before → HasCleanDisk (state g mid) → KeepsCommit (state g mid) (state g new)
+    → KeepsCommit (state g old) (state g new)
 fails g old mid new Before so_far clean h = record {
   was_open = λ live. (so_far.made clean (h.was_open live)).was_open;
   committed = λ live. h.committed live ∙ (so_far.made clean (h.was_open live)).committed;
 }
 
 -- what the loop leaves is committed
-pub committed : {S : Type 0} (g : Ghosts S) (old begun mid new : Held S) (Changes : Tables → Tables → Type 0) → begun ≡ record old { in_transaction = true } → (IsTrue (state g mid).is_open → Makes g begun mid Changes)
-    → Shows (state g mid) (state g new) (state g mid).now (state g mid).now false → Commits g old new Changes
+pub committed : {S : Type 0} (g : Ghosts S) (old begun mid new : Held S)
+    (Changes : Tables → Tables → Type 0)
+    → begun ≡ record old { in_transaction = true }
+    → (IsTrue (state g mid).is_open → Makes g begun mid Changes)
+    → Shows (state g mid) (state g new) (state g mid).now (state g mid).now false
+    → Commits g old new Changes
 committed g old begun mid new Changes begins made shown =
-    let done : Makes g (record old { in_transaction = true }) mid Changes = subst (λ h. Makes g h mid Changes) begins (made shown.was_open) in
+    let done : Makes g (record old { in_transaction = true }) mid Changes =
+    subst (λ h. Makes g h mid Changes) begins (made shown.was_open) in
     record {
       was_open = done.was_open;
       is_open = shown.is_open;
       settled = shown.now_is ∙ sym shown.committed_is;
       desk = subst IsDesk (sym shown.now_is) done.desk;
-      changed = subst (λ (db : Database). Changes (tables_of (state g old).now.trees) (tables_of db.trees)) (sym shown.now_is) done.changed;
+      changed = subst (λ (db : Database). Changes (tables_of (state g old).now.trees)
+          (tables_of db.trees))
+          (sym shown.now_is) done.changed;
     }
 
 pub on_ok : {V E : Type 0} (r : Result V E) {P Q : Type 0} → (P → Q) → OnOk r P → OnOk r Q

@@ -36,43 +36,55 @@ unfolding understood everything
 insert_plan_is = record { is = refl; plain = (refl, refl) }
 
 abbrev pub insert_volume_terms : List Term
-insert_volume_terms = lit Null ∷ col 0 0 ∷ col 0 1 ∷ col 0 2 ∷ col 0 3 ∷ col 0 4 ∷ col 0 5 ∷ col 0 6 ∷ col 0 7 ∷ []
+insert_volume_terms = lit Null ∷ col 0 0 ∷ col 0 1 ∷ col 0 2 ∷ col 0 3 ∷ col 0 4 ∷ col 0 5 ∷ col 0 6
+    ∷ col 0 7
+    ∷ []
 
 pub insert_volume_is : IsCommand insert_volume_text (Insert 2 (Values insert_volume_terms 9))
 unfolding understood everything
 insert_volume_is = record { is = refl; plain = (refl, refl) }
 
 abbrev pub insert_span_terms : List Term
-insert_span_terms = lit Null ∷ col 0 0 ∷ col 0 1 ∷ col 0 2 ∷ col 0 3 ∷ col 0 4 ∷ col 0 5 ∷ col 0 6 ∷ col 0 7 ∷ col 0 8 ∷ col 0 9 ∷ []
+insert_span_terms = lit Null ∷ col 0 0 ∷ col 0 1 ∷ col 0 2 ∷ col 0 3 ∷ col 0 4 ∷ col 0 5 ∷ col 0 6
+    ∷ col 0 7
+    ∷ col 0 8 ∷ col 0 9 ∷ []
 
 pub insert_span_is : IsCommand insert_span_text (Insert 3 (Values insert_span_terms 11))
 unfolding understood everything
 insert_span_is = record { is = refl; plain = (refl, refl) }
 
 abbrev pub set_ceiling_query : Query
-set_ceiling_query = query_of (inner 0 end) (op2 (Compare Eq Binary) (col 1 1) (col 0 0) ∷ []) (col 1 0 ∷ col 1 0 ∷ col 1 1 ∷ col 0 1 ∷ []) []
+set_ceiling_query = query_of (inner 0 end) (op2 (Compare Eq Binary) (col 1 1) (col 0 0) ∷ [])
+    (col 1 0 ∷ col 1 0 ∷ col 1 1 ∷ col 0 1 ∷ []) []
 
-pub set_ceiling_is : IsCommand set_ceiling_text (Update 0 (record { lets = []; body = set_ceiling_query }))
+pub set_ceiling_is : IsCommand set_ceiling_text
+    (Update 0 (record { lets = []; body = set_ceiling_query }))
 unfolding understood everything
 set_ceiling_is = record { is = refl; plain = (refl, refl) }
 
 abbrev pub close_plan_query : Query
-close_plan_query = query_of (inner 2 end) (op2 (Compare Eq Binary) (col 1 1) (col 0 0) ∷ op2 (Compare Eq Binary) (col 1 2) (col 0 1) ∷ []) (col 1 0 ∷ col 1 0 ∷ col 1 1 ∷ col 1 2 ∷ col 0 2 ∷ lit (Int (pos 2)) ∷ col 0 3 ∷ []) []
+close_plan_query = query_of (inner 2 end) (op2 (Compare Eq Binary) (col 1 1) (col 0 0)
+    ∷ op2 (Compare Eq Binary) (col 1 2) (col 0 1) ∷ [])
+    (col 1 0 ∷ col 1 0 ∷ col 1 1 ∷ col 1 2 ∷ col 0 2 ∷ lit (Int (pos 2)) ∷ col 0 3 ∷ []) []
 
 pub close_plan_is : IsCommand close_plan_text (Update 1 (record { lets = []; body = close_plan_query }))
 unfolding understood everything
 close_plan_is = record { is = refl; plain = (refl, refl) }
 
 abbrev pub remove_plan_query : Query
-remove_plan_query = query_of (inner 2 end) (op2 (Compare Eq Binary) (col 1 1) (col 0 0) ∷ op2 (Compare Eq Binary) (col 1 2) (col 0 1) ∷ []) (col 1 0 ∷ []) []
+remove_plan_query = query_of (inner 2 end) (op2 (Compare Eq Binary) (col 1 1) (col 0 0)
+    ∷ op2 (Compare Eq Binary) (col 1 2) (col 0 1) ∷ []) (col 1 0 ∷ []) []
 
-pub remove_plan_is : IsCommand remove_plan_text (Delete 1 (record { lets = []; body = remove_plan_query }))
+pub remove_plan_is : IsCommand remove_plan_text
+    (Delete 1 (record { lets = []; body = remove_plan_query }))
 unfolding understood everything
 remove_plan_is = record { is = refl; plain = (refl, refl) }
 
 abbrev pub remove_spans_query : Query
-remove_spans_query = query_of (inner 6 end) (op2 (Compare Eq Binary) (col 1 1) (col 0 0) ∷ op2 (Compare Eq Binary) (col 1 2) (col 0 1) ∷ []) (col 1 0 ∷ []) []
+remove_spans_query = query_of (inner 6 end) (op2 (Compare Eq Binary) (col 1 1) (col 0 0)
+    ∷ op2 (Compare Eq Binary) (col 1 2) (col 0 1) ∷ []) (col 1 0 ∷ []) []
 
-pub remove_spans_is : IsCommand remove_spans_text (Delete 3 (record { lets = []; body = remove_spans_query }))
+pub remove_spans_is : IsCommand remove_spans_text
+    (Delete 3 (record { lets = []; body = remove_spans_query }))
 unfolding understood everything
 remove_spans_is = record { is = refl; plain = (refl, refl) }

@@ -44,37 +44,52 @@ count_plans_is = record { is = refl; plain = (refl, refl); unlisted = refl }
 -- ---- the one row
 
 abbrev by_count : Grouping
-by_count = record { keys = []; collations = []; aggregates = record { op = CountRows; distinct = false; collation = Binary; argument = lit Null } ∷ []; having = [] }
+by_count = record {
+  keys = [];
+  collations = [];
+  aggregates = record
+      { op = CountRows; distinct = false; collation = Binary; argument = lit Null } ∷ [];
+  having = [];
+}
 
-one_value : (group : List Env) (values : Row) → AllZip (λ a v. value_over group a ≡ Some v) by_count.aggregates values → values ≡ count (length group) ∷ []
+one_value : (group : List Env) (values : Row) → AllZip (λ a v. value_over group a ≡ Some v)
+    by_count.aggregates values → values ≡ count (length group) ∷ []
 one_value group [] h = absurd h
 one_value group (v ∷ []) h =
     let is : v ≡ count (length (map (eval (lit Null)) group)) = cc in
     ap (λ x. x ∷ []) (is ∙ ap count (length-map group (eval (lit Null))))
 one_value group (v ∷ w ∷ more) h = absurd h.1
 
-one_summary : (group : List Env) (rows : List Row) → AllZip (IsSummary by_count) (group ∷ []) rows → rows ≡ (count (length group) ∷ []) ∷ []
+one_summary : (group : List Env) (rows : List Row) → AllZip (IsSummary by_count) (group ∷ []) rows
+    → rows
+    ≡ (count (length group) ∷ []) ∷ []
 one_summary group [] h = absurd h
-one_summary group (r ∷ []) h = let (values, are, is) = h.0 in ap (λ x. x ∷ []) (is ∙ one_value group values are)
+one_summary group (r ∷ []) h = let (values, are, is) = h.0
+    in ap (λ x. x ∷ []) (is ∙ one_value group values are)
 one_summary group (r ∷ s ∷ more) h = absurd h.1
 
-module _ (params : Row) (db : Trees) (rows : List Row) (a : IsAnswer count_plans_query db params rows) where
-  abbrev found : List Env
-  found = matches db by_operator (inner 2 end) (params ∷ [])
+module _ (params : Row) (db : Trees) (rows : List Row) (a : IsAnswer count_plans_query db params rows)
+  where
+    abbrev found : List Env
+    found = matches db by_operator (inner 2 end) (params ∷ [])
 
-  summed : a.grouped.rows ≡ (count (length found) ∷ []) ∷ []
-  summed =
-      let (order, same, are) = a.grouped.grouping in
-      let one = one_summary order a.grouped.rows (subst (λ gs. AllZip (IsSummary by_count) gs a.grouped.rows) are a.grouped.summaries) in
-      one ∙ ap (λ n. (count n ∷ []) ∷ []) (length_permutation found order same)
+    summed : a.grouped.rows ≡ (count (length found) ∷ []) ∷ []
+    summed =
+        let (order, same, are) = a.grouped.grouping in
+        let one = one_summary order a.grouped.rows
+        (subst (λ gs. AllZip (IsSummary by_count) gs a.grouped.rows)
+        are a.grouped.summaries) in
+        one ∙ ap (λ n. (count n ∷ []) ∷ []) (length_permutation found order same)
 
-  kept_one : a.kept ≡ ([], count (length found) ∷ []) ∷ []
-  kept_one = a.distinct ∙ ap (map (output count_plans_query)) (a.grouped.having ∙ ap (λ rs. filter (λ env. true) (map (λ r. params ∷ r ∷ []) rs)) summed)
+    kept_one : a.kept ≡ ([], count (length found) ∷ []) ∷ []
+    kept_one = a.distinct ∙ ap (map (output count_plans_query))
+        (a.grouped.having ∙ ap (λ rs. filter (λ env. true) (map (λ r. params ∷ r ∷ []) rs)) summed)
 
-  counted : rows ≡ (count (length found) ∷ []) ∷ []
-  counted =
-      let one = one_permutation ([], count (length found) ∷ []) a.ordered (subst (λ k. IsPermutation k a.ordered) kept_one a.same) in
-      a.shown ∙ ap (λ os. map (λ (o : Output). o.1) os) one
+    counted : rows ≡ (count (length found) ∷ []) ∷ []
+    counted =
+        let one = one_permutation ([], count (length found) ∷ []) a.ordered
+        (subst (λ k. IsPermutation k a.ordered) kept_one a.same) in
+        a.shown ∙ ap (λ os. map (λ (o : Output). o.1) os) one
 
 both_hold : (a : Bool) → (a && true) ≡ a
 both_hold true = refl
@@ -83,18 +98,24 @@ both_hold false = refl
 abbrev all_columns : List Term
 all_columns = col 1 1 ∷ col 1 2 ∷ col 1 3 ∷ col 1 4 ∷ col 1 5 ∷ []
 
-found_plans : (operator : List ℕ) (db : Trees) → length (matches (overlay db []) by_operator (inner 2 end) ((Text operator ∷ []) ∷ [])) ≡ length (filter (is_by operator) (tables_of db).plans)
+found_plans : (operator : List ℕ) (db : Trees) → length
+    (matches (overlay db []) by_operator (inner 2 end) ((Text operator ∷ []) ∷ []))
+    ≡ length (filter (is_by operator) (tables_of db).plans)
 found_plans operator db =
     let all = matches (overlay db []) by_operator (inner 2 end) ((Text operator ∷ []) ∷ []) in
     sym (length-map all (eval_all all_columns))
-    ∙ ap length (scanned (λ r. (Text operator ∷ []) ∷ r ∷ []) by_operator all_columns (columns 5) (is_by operator) (λ r. refl) (λ r. both_hold _ ∙ equals_text (column r 1) operator) (db 2))
+    ∙ ap length (scanned (λ r. (Text operator ∷ []) ∷ r ∷ []) by_operator all_columns (columns 5)
+    (is_by operator) (λ r. refl) (λ r. both_hold _ ∙ equals_text (column r 1) operator) (db 2))
 
 -- the answer is one row, of the number of the operator's plans
-pub plans_counted : (operator : List ℕ) (old new : State) (rows : List Row) → IsDesk old.now → Shown count_plans_text (Text operator ∷ []) old new rows
+pub plans_counted : (operator : List ℕ) (old new : State) (rows : List Row) → IsDesk old.now
+    → Shown count_plans_text (Text operator ∷ []) old new rows
     → rows ≡ (count (length (filter (is_by operator) (tables_of old.now.trees).plans)) ∷ []) ∷ []
 plans_counted operator old new rows desk h =
-    let a = (reads_as count_plans_text (Text operator ∷ []) old new desk_schema desk.schema _ count_plans_is.is count_plans_is.plain count_plans_is.unlisted rows h).answer Null in
-    counted (Text operator ∷ []) (overlay old.now.trees []) rows a ∙ ap (λ n. (count n ∷ []) ∷ []) (found_plans operator old.now.trees)
+    let a = (reads_as count_plans_text (Text operator ∷ []) old new desk_schema desk.schema _
+    count_plans_is.is count_plans_is.plain count_plans_is.unlisted rows h).answer Null in
+    counted (Text operator ∷ []) (overlay old.now.trees []) rows a
+    ∙ ap (λ n. (count n ∷ []) ∷ []) (found_plans operator old.now.trees)
 
 -- a count that fits 32 bits is exact
 exact_count : (n m : ℕ) → m < 2 ^ 32 → count n ≡ Int (pos m) → m ≡ n
@@ -102,11 +123,14 @@ exact_count n m low is =
     let least : min n 9223372036854775807 ≡ m = cc in
     by_size (cases_lt 9223372036854775807 n) least
   where
-    by_size : (9223372036854775807 < n) ⊎ (n ≤ 9223372036854775807) → min n 9223372036854775807 ≡ m → m ≡ n
+    by_size : (9223372036854775807 < n) ⊎ (n ≤ 9223372036854775807) → min n 9223372036854775807 ≡ m → m
+        ≡ n
     by_size (inr h) e = sym e ∙ min-eq_left h
-    by_size (inl h) e = absurd (let most : m ≡ 9223372036854775807 = sym e ∙ min-eq_right (le_of_lt h) in omega (arith, low, most))
+    by_size (inl h) e = absurd (let most : m ≡ 9223372036854775807 = sym e ∙ min-eq_right (le_of_lt h)
+        in omega (arith, low, most))
 
-pub count_if : (r : Result ℕ Error) (rows : List Row) (n : ℕ) → rows ≡ (count n ∷ []) ∷ [] → IfOk r (λ m. (v : Value) → rows ≡ (v ∷ []) ∷ [] → v ≡ Int (pos m)) → IfOk r (λ m. m < 2 ^ 32)
+pub count_if : (r : Result ℕ Error) (rows : List Row) (n : ℕ) → rows ≡ (count n ∷ []) ∷ []
+    → IfOk r (λ m. (v : Value) → rows ≡ (v ∷ []) ∷ [] → v ≡ Int (pos m)) → IfOk r (λ m. m < 2 ^ 32)
     → IfOk r (λ m. m ≡ n)
 count_if (Ok m) rows n are reads low = exact_count n m low (reads (count n) are)
 count_if (Err e) rows n are reads low = tt

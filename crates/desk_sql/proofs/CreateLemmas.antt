@@ -30,32 +30,53 @@ pub record MakesTable (schema : Schema) (text : List ℕ) (table : Table) : Type
   pub defined : table_defined_by text ≡ Ok table
   pub uncounted : lacks_sequence (created schema table) ≡ false
 
-all_more : {X : Type 0} (P : X → Type 0) (xs : List X) (x : X) → AllByRecursion P xs → P x → AllByRecursion P (xs ++ x ∷ [])
+all_more : {X : Type 0} (P : X → Type 0) (xs : List X) (x : X) → AllByRecursion P xs → P x
+    → AllByRecursion P (xs ++ x ∷ [])
 all_more P [] x all p = (p, tt)
 all_more P (y ∷ xs) x all p = (all.0, all_more P xs x all.1 p)
 
-pub creates : (schema : Schema) (text : List ℕ) (table : Table) → MakesTable schema text table → (old new : State) → HasEmpty schema old.now → (count : ℕ) → Executes text [] old new (Ok count)
+pub creates : (schema : Schema) (text : List ℕ) (table : Table) → MakesTable schema text table
+    → (old new : State) → HasEmpty schema old.now → (count : ℕ) → Executes text [] old new (Ok count)
     → HasEmpty (created schema table) new.now
 creates schema text table known old new has count h =
-    let w = subst (λ t. Writes old new None CreateTable t [] count) known.whole (runs_as text [] old new schema has.schema_is CreateTable known.is known.plain count h) in
+    let w = subst (λ t. Writes old new None CreateTable t [] count) known.whole
+    (runs_as text [] old new schema has.schema_is CreateTable known.is known.plain count h) in
     let all = went w.changed in
     let first = went all.1 in
     let made = first.1 in
     let both : Ok made.table ≡ Ok table = sym made.defined ∙ known.defined in
     let same : made.table ≡ table = same_value both in
-    let schema_is : first.0.schema ≡ created schema table = made.is ∙ ap (λ s. created s made.table) has.schema_is ∙ ap (created schema) same in
+    let schema_is : first.0.schema ≡ created schema table = made.is
+    ∙ ap (λ s. created s made.table) has.schema_is ∙ ap (created schema) same in
     let plain : lacks_sequence first.0.schema ≡ false = ap lacks_sequence schema_is ∙ known.uncounted in
-    let now : new.now ≡ first.0 = ap (λ (p : Tally × Database). p.1) (same_value all.2) ∙ same_value (rw plain at first.2) in
-    let last : first.0.trees (next_tree schema) ≡ [] = subst (λ s. first.0.trees (next_tree s) ≡ []) has.schema_is made.empty in
-    let kept = subst (λ s. AllByRecursion (λ (t : Table). first.0.trees t.tree ≡ old.now.trees t.tree) s.tables) has.schema_is made.others in
-    let others = all_both (λ (t : Table). first.0.trees t.tree ≡ old.now.trees t.tree) (λ t. old.now.trees t.tree ≡ []) (λ t. first.0.trees t.tree ≡ []) (λ t a b. a ∙ b) schema.tables kept has.empty in
-    let empty : AllByRecursion (λ (t : Table). first.0.trees t.tree ≡ []) (created schema table).tables = all_more (λ (t : Table). first.0.trees t.tree ≡ []) schema.tables (record table { tree = next_tree schema }) others last in
+    let now : new.now ≡ first.0 = ap (λ (p : Tally × Database). p.1) (same_value all.2)
+    ∙ same_value (rw plain at first.2) in
+    let last : first.0.trees (next_tree schema) ≡ [] =
+    subst (λ s. first.0.trees (next_tree s) ≡ []) has.schema_is made.empty in
+    let kept = subst (λ s. AllByRecursion (λ (t : Table). first.0.trees t.tree ≡ old.now.trees t.tree)
+    s.tables) has.schema_is made.others in
+    let others = all_both (λ (t : Table). first.0.trees t.tree ≡ old.now.trees t.tree)
+    (λ t. old.now.trees t.tree ≡ []) (λ t. first.0.trees t.tree ≡ []) (λ t a b. a ∙ b) schema.tables
+    kept
+    has.empty in
+    let empty : AllByRecursion (λ (t : Table). first.0.trees t.tree ≡ [])
+    (created schema table).tables =
+    all_more (λ (t : Table). first.0.trees t.tree ≡ []) schema.tables
+    (record table { tree = next_tree schema }) others last in
     subst (HasEmpty (created schema table)) (sym now) (record { schema_is = schema_is; empty = empty })
 
-module _ {S : Type 0} (g : Ghosts S) (old new : Held S) (schema next : Schema) (at : IsAt g schema old) (clean : HasCleanDisk (state g old))
+module _ {S : Type 0} (g : Ghosts S) (old new : Held S) (schema next : Schema) (at : IsAt g schema old)
+    (clean : HasCleanDisk (state g old))
     (shows : Shows (state g old) (state g new) (state g new).now (state g old).committed true) where
-  pub grows : (HasEmpty schema (state g old).now → HasEmpty next (state g new).now) → Grows g old new next
-  grows gives = record { was_open = shows.was_open; is_open = shows.is_open; begun = shows.mode; committed = shows.committed_is; has = gives (at clean shows.was_open) }
+  pub grows : (HasEmpty schema (state g old).now → HasEmpty next (state g new).now)
+      → Grows g old new next
+  grows gives = record {
+    was_open = shows.was_open;
+    is_open = shows.is_open;
+    begun = shows.mode;
+    committed = shows.committed_is;
+    has = gives (at clean shows.was_open);
+  }
 
 none : AreNumbered []
 none = record { whole = tt; distinct = tt }
@@ -74,16 +95,40 @@ desk_made db has = (
 
 pub operator_makes : MakesTable blank_schema operator_text operator_table
 unfolding understood everything
-operator_makes = record { is = refl; plain = (refl, refl); whole = refl; defined = operator_is; uncounted = refl }
+operator_makes = record {
+  is = refl;
+  plain = (refl, refl);
+  whole = refl;
+  defined = operator_is;
+  uncounted = refl;
+}
 
 pub plan_makes : MakesTable first_schema plan_text plan_table
 unfolding understood everything
-plan_makes = record { is = refl; plain = (refl, refl); whole = refl; defined = plan_is; uncounted = refl }
+plan_makes = record {
+  is = refl;
+  plain = (refl, refl);
+  whole = refl;
+  defined = plan_is;
+  uncounted = refl;
+}
 
 pub volume_makes : MakesTable second_schema volume_text volume_table
 unfolding understood everything
-volume_makes = record { is = refl; plain = (refl, refl); whole = refl; defined = volume_is; uncounted = refl }
+volume_makes = record {
+  is = refl;
+  plain = (refl, refl);
+  whole = refl;
+  defined = volume_is;
+  uncounted = refl;
+}
 
 pub span_makes : MakesTable third_schema span_text span_table
 unfolding understood everything
-span_makes = record { is = refl; plain = (refl, refl); whole = refl; defined = span_is; uncounted = refl }
+span_makes = record {
+  is = refl;
+  plain = (refl, refl);
+  whole = refl;
+  defined = span_is;
+  uncounted = refl;
+}

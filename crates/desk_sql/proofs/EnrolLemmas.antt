@@ -15,7 +15,11 @@ not_empty (r ∷ rows) = ap not (nonempty r rows)
 
 some_kept : (p : Row → Bool) (rows : List Row) → list_any (λ r. true) (filter p rows) ≡ list_any p rows
 some_kept p [] = refl
-some_kept p (r ∷ rows) = elim (p r) as (λ b. list_any (λ r. true) (cond b (r ∷ filter p rows) (filter p rows)) ≡ (b || list_any p rows)) [ true ↦ refl | false ↦ some_kept p rows ]
+some_kept p (r ∷ rows) =
+    elim (p r) as (λ b. list_any (λ r. true) (cond b (r ∷ filter p rows) (filter p rows))
+    ≡ (b || list_any p rows)) [ true ↦ refl | false ↦ some_kept p rows ]
 
-pub some_listed : (p : Row → Bool) (rows shown : List Row) (empty : Bool) → empty ≡ (length shown == 0) → IsPermutation (filter p rows) shown → not empty ≡ list_any p rows
-some_listed p rows shown empty is same = ap not is ∙ not_empty shown ∙ sym (list_any-IsPermutation (λ r. true) (filter p rows) shown same) ∙ some_kept p rows
+pub some_listed : (p : Row → Bool) (rows shown : List Row) (empty : Bool) → empty ≡ (length shown == 0)
+    → IsPermutation (filter p rows) shown → not empty ≡ list_any p rows
+some_listed p rows shown empty is same = ap not is ∙ not_empty shown
+    ∙ sym (list_any-IsPermutation (λ r. true) (filter p rows) shown same) ∙ some_kept p rows

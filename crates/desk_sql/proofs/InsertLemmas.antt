@@ -28,19 +28,34 @@ same v = refl
 then : {a b : Value} {xs ys : Row} → a ≡ b → xs ≡ ys → a ∷ xs ≡ b ∷ ys
 then p q = ap₂ (λ x xs. x ∷ xs) p q
 
-pub tables_operator : (db next : Trees) → next 2 ≡ db 2 → next 4 ≡ db 4 → next 6 ≡ db 6 → tables_of next ≡ record (tables_of db) { operators = (tables_of next).operators }
+pub tables_operator : (db next : Trees) → next 2 ≡ db 2 → next 4 ≡ db 4 → next 6 ≡ db 6 → tables_of next
+    ≡ record (tables_of db) { operators = (tables_of next).operators }
 tables_operator db next a b c = rw (a, b, c)
 
-operator_added : (row new : Row) (old now : Database) → columns 2 new ≡ row → now.schema ≡ desk_schema → Adds 0 new old.trees now.trees → IsDesk old → IsDesk now × AddsOperator row (tables_of old.trees) (tables_of now.trees)
+operator_added : (row new : Row) (old now : Database) → columns 2 new ≡ row → now.schema ≡ desk_schema
+    → Adds 0 new old.trees now.trees → IsDesk old → IsDesk now
+    × AddsOperator row (tables_of old.trees) (tables_of now.trees)
 operator_added row new old now shown schema a desk =
     let e2 : now.trees 2 ≡ old.trees 2 = a.others.1.0 (λ e. cc) in
     let e4 : now.trees 4 ≡ old.trees 4 = a.others.1.1.0 (λ e. cc) in
     let e6 : now.trees 6 ≡ old.trees 6 = a.others.1.1.1.0 (λ e. cc) in (
-      record { schema = schema; operators = subst AreNumbered (sym a.at) (numbered_put new (old.trees 0) a.whole a.free desk.operators); plans = subst AreNumbered (sym e2) desk.plans; volumes = subst AreNumbered (sym e4) desk.volumes; spans = subst AreNumbered (sym e6) desk.spans },
+      record {
+        schema = schema;
+        operators = subst AreNumbered (sym a.at)
+            (numbered_put new (old.trees 0) a.whole a.free desk.operators);
+        plans =
+            subst AreNumbered (sym e2) desk.plans;
+        volumes = subst AreNumbered (sym e4) desk.volumes;
+        spans =
+            subst AreNumbered (sym e6) desk.spans;
+      },
       (
-        subst (λ rows. IsPermutation (row ∷ map (columns 2) (old.trees 0)) (map (columns 2) rows)) (sym a.at)
-            (subst (λ r. IsPermutation (r ∷ map (columns 2) (old.trees 0)) (map (columns 2) (put_row new (old.trees 0)))) shown
-            (IsPermutation-map (columns 2) (new ∷ old.trees 0) (put_row new (old.trees 0)) (put_adds new (old.trees 0) a.free))),
+        subst (λ rows. IsPermutation (row ∷ map (columns 2) (old.trees 0)) (map (columns 2) rows))
+            (sym a.at)
+            (subst (λ r. IsPermutation (r ∷ map (columns 2) (old.trees 0))
+            (map (columns 2) (put_row new (old.trees 0)))) shown
+            (IsPermutation-map (columns 2) (new ∷ old.trees 0) (put_row new (old.trees 0))
+            (put_adds new (old.trees 0) a.free))),
         tables_operator old.trees now.trees e2 e4 e6,
       ),
     )
@@ -49,137 +64,278 @@ module _ (name : List ℕ) (ceiling : ℕ) (old new : State) where
   abbrev operator_params : Row
   operator_params = Text name ∷ Int (pos ceiling) ∷ []
 
-  operator_cells : (rows : List Row) → columns 2 (with_rowid Chosen rows (cast_row operator_table (Null ∷ operator_params))) ≡ operator_row name ceiling
+  operator_cells : (rows : List Row)
+      → columns 2 (with_rowid Chosen rows (cast_row operator_table (Null ∷ operator_params)))
+      ≡ operator_row name ceiling
   operator_cells rows =
-      let numbered : columns 2 (with_rowid Chosen rows (cast_row operator_table (Null ∷ operator_params))) ≡ columns 2 (Null ∷ cast_all operator_table.columns operator_params) =
-      elim (is_null (cast Integer Null)) as (λ b. columns 2 (cond b (Int (next_rowid rows) ∷ cast_all operator_table.columns operator_params) (cast Integer Null ∷ cast_all operator_table.columns operator_params)) ≡ columns 2 (Null ∷ cast_all operator_table.columns operator_params))
+      let numbered : columns 2 (with_rowid Chosen rows
+      (cast_row operator_table (Null ∷ operator_params)))
+      ≡ columns 2 (Null ∷ cast_all operator_table.columns operator_params) =
+      elim (is_null (cast Integer Null)) as (λ b. columns 2
+      (cond b (Int (next_rowid rows) ∷ cast_all operator_table.columns operator_params)
+      (cast Integer Null ∷ cast_all operator_table.columns operator_params))
+      ≡ columns 2 (Null ∷ cast_all operator_table.columns operator_params))
       [ true ↦ refl | false ↦ refl ] in
       numbered ∙ then (same (Text name)) (then (cast_int (pos ceiling)) (refl))
 
-  pub insert_operator : IsDesk old.now → (count : ℕ) → Executes insert_operator_text operator_params old new (Ok count) → IsDesk new.now × AddsOperator (operator_row name ceiling) (tables_of old.now.trees) (tables_of new.now.trees)
+  pub insert_operator : IsDesk old.now → (count : ℕ)
+      → Executes insert_operator_text operator_params old new (Ok count) → IsDesk new.now
+      × AddsOperator (operator_row name ceiling) (tables_of old.now.trees) (tables_of new.now.trees)
   insert_operator desk count h =
       let db = old.now.trees in
-      let d = inserts insert_operator_text operator_params old new desk 0 (Values insert_operator_terms 3) insert_operator_is count h in
-      let it = rows_written (task_at old.step_limit operator_params operator_table.name operator_table.columns operator_table.primary operator_table.references 0) (Insert 0 (Values insert_operator_terms 3)) db d.0 new.now d.1 in
-      let done = insert_applies old.step_limit operator_params operator_table.name operator_table.columns operator_table.primary operator_table.references 0 insert_operator_terms 3 db it.0 (Null ∷ operator_params) refl it.1 in
-      let a = adds operator_table.name operator_table.columns operator_table.primary operator_table.references 0 db it.0.trees (Null ∷ operator_params) done in
+      let d = inserts insert_operator_text operator_params old new desk 0
+      (Values insert_operator_terms 3)
+      insert_operator_is count h in
+      let it = rows_written (task_at old.step_limit operator_params operator_table.name
+      operator_table.columns
+      operator_table.primary operator_table.references 0) (Insert 0 (Values insert_operator_terms 3)) db
+      d.0 new.now d.1 in
+      let done = insert_applies old.step_limit operator_params operator_table.name
+      operator_table.columns
+      operator_table.primary operator_table.references 0 insert_operator_terms 3 db it.0
+      (Null ∷ operator_params) refl it.1 in
+      let a = adds operator_table.name operator_table.columns operator_table.primary
+      operator_table.references
+      0 db it.0.trees (Null ∷ operator_params) done in
       let now : it.0.trees ≡ new.now.trees = sym (ap (λ (d : Database). d.trees) it.2) in
-      operator_added (operator_row name ceiling) (with_rowid Chosen (db 0) (cast_row operator_table (Null ∷ operator_params))) old.now new.now (operator_cells (db 0)) (ap (λ (d : Database). d.schema) it.2)
-      (subst (Adds 0 (with_rowid Chosen (db 0) (cast_row operator_table (Null ∷ operator_params))) db) now a) desk
+      operator_added (operator_row name ceiling) (with_rowid Chosen (db 0)
+      (cast_row operator_table (Null ∷ operator_params))) old.now new.now (operator_cells (db 0))
+      (ap (λ (d : Database). d.schema) it.2)
+      (subst (Adds 0 (with_rowid Chosen (db 0) (cast_row operator_table (Null ∷ operator_params))) db)
+      now a)
+      desk
 
-pub tables_plan : (db next : Trees) → next 0 ≡ db 0 → next 4 ≡ db 4 → next 6 ≡ db 6 → tables_of next ≡ record (tables_of db) { plans = (tables_of next).plans }
+pub tables_plan : (db next : Trees) → next 0 ≡ db 0 → next 4 ≡ db 4 → next 6 ≡ db 6 → tables_of next
+    ≡ record (tables_of db) { plans = (tables_of next).plans }
 tables_plan db next a b c = rw (a, b, c)
 
-plan_added : (row new : Row) (old now : Database) → columns 5 new ≡ row → now.schema ≡ desk_schema → Adds 2 new old.trees now.trees → IsDesk old → IsDesk now × AddsPlan row (tables_of old.trees) (tables_of now.trees)
+plan_added : (row new : Row) (old now : Database) → columns 5 new ≡ row → now.schema ≡ desk_schema
+    → Adds 2 new old.trees now.trees → IsDesk old → IsDesk now
+    × AddsPlan row (tables_of old.trees) (tables_of now.trees)
 plan_added row new old now shown schema a desk =
     let e0 : now.trees 0 ≡ old.trees 0 = a.others.0 (λ e. cc) in
     let e4 : now.trees 4 ≡ old.trees 4 = a.others.1.1.0 (λ e. cc) in
     let e6 : now.trees 6 ≡ old.trees 6 = a.others.1.1.1.0 (λ e. cc) in (
-      record { schema = schema; operators = subst AreNumbered (sym e0) desk.operators; plans = subst AreNumbered (sym a.at) (numbered_put new (old.trees 2) a.whole a.free desk.plans); volumes = subst AreNumbered (sym e4) desk.volumes; spans = subst AreNumbered (sym e6) desk.spans },
+      record {
+        schema = schema;
+        operators = subst AreNumbered (sym e0) desk.operators;
+        plans = subst AreNumbered (sym a.at) (numbered_put new (old.trees 2) a.whole a.free desk.plans);
+        volumes = subst AreNumbered (sym e4) desk.volumes;
+        spans = subst AreNumbered (sym e6) desk.spans;
+      },
       (
-        subst (λ rows. IsPermutation (row ∷ map (columns 5) (old.trees 2)) (map (columns 5) rows)) (sym a.at)
-            (subst (λ r. IsPermutation (r ∷ map (columns 5) (old.trees 2)) (map (columns 5) (put_row new (old.trees 2)))) shown
-            (IsPermutation-map (columns 5) (new ∷ old.trees 2) (put_row new (old.trees 2)) (put_adds new (old.trees 2) a.free))),
+        subst (λ rows. IsPermutation (row ∷ map (columns 5) (old.trees 2)) (map (columns 5) rows))
+            (sym a.at)
+            (subst (λ r. IsPermutation (r ∷ map (columns 5) (old.trees 2))
+            (map (columns 5) (put_row new (old.trees 2)))) shown
+            (IsPermutation-map (columns 5) (new ∷ old.trees 2) (put_row new (old.trees 2))
+            (put_adds new (old.trees 2) a.free))),
         tables_plan old.trees now.trees e0 e4 e6,
       ),
     )
 
-module _ (operator : List ℕ) (id : List ℕ) (priority : ℕ) (usage : ℕ) (aircraft : ℕ) (old new : State) where
-  abbrev plan_params : Row
-  plan_params = Text operator ∷ Text id ∷ Int (pos priority) ∷ Int (pos usage) ∷ Int (pos aircraft) ∷ []
+module _ (operator : List ℕ) (id : List ℕ) (priority : ℕ) (usage : ℕ) (aircraft : ℕ) (old new : State)
+  where
+    abbrev plan_params : Row
+    plan_params = Text operator ∷ Text id ∷ Int (pos priority) ∷ Int (pos usage) ∷ Int (pos aircraft)
+        ∷ []
 
-  plan_cells : (rows : List Row) → columns 5 (with_rowid Chosen rows (cast_row plan_table (Null ∷ plan_params))) ≡ plan_row operator id priority usage aircraft
-  plan_cells rows =
-      let numbered : columns 5 (with_rowid Chosen rows (cast_row plan_table (Null ∷ plan_params))) ≡ columns 5 (Null ∷ cast_all plan_table.columns plan_params) =
-      elim (is_null (cast Integer Null)) as (λ b. columns 5 (cond b (Int (next_rowid rows) ∷ cast_all plan_table.columns plan_params) (cast Integer Null ∷ cast_all plan_table.columns plan_params)) ≡ columns 5 (Null ∷ cast_all plan_table.columns plan_params))
-      [ true ↦ refl | false ↦ refl ] in
-      numbered ∙ then (same (Text operator)) (then (same (Text id)) (then (cast_int (pos priority)) (then (cast_int (pos usage)) (then (cast_int (pos aircraft)) (refl)))))
+    plan_cells : (rows : List Row)
+        → columns 5 (with_rowid Chosen rows (cast_row plan_table (Null ∷ plan_params)))
+        ≡ plan_row operator id priority usage aircraft
+    plan_cells rows =
+        let numbered : columns 5 (with_rowid Chosen rows (cast_row plan_table (Null ∷ plan_params)))
+        ≡ columns 5 (Null ∷ cast_all plan_table.columns plan_params) =
+        elim (is_null (cast Integer Null)) as (λ b. columns 5
+        (cond b (Int (next_rowid rows) ∷ cast_all plan_table.columns plan_params)
+        (cast Integer Null ∷ cast_all plan_table.columns plan_params))
+        ≡ columns 5 (Null ∷ cast_all plan_table.columns plan_params))
+        [ true ↦ refl | false ↦ refl ] in
+        numbered ∙ then (same (Text operator)) (then (same (Text id))
+        (then (cast_int (pos priority)) (then (cast_int (pos usage))
+        (then (cast_int (pos aircraft)) (refl)))))
 
-  pub insert_plan : IsDesk old.now → (count : ℕ) → Executes insert_plan_text plan_params old new (Ok count) → IsDesk new.now × AddsPlan (plan_row operator id priority usage aircraft) (tables_of old.now.trees) (tables_of new.now.trees)
-  insert_plan desk count h =
-      let db = old.now.trees in
-      let d = inserts insert_plan_text plan_params old new desk 1 (Values insert_plan_terms 6) insert_plan_is count h in
-      let it = rows_written (task_at old.step_limit plan_params plan_table.name plan_table.columns plan_table.primary plan_table.references 2) (Insert 1 (Values insert_plan_terms 6)) db d.0 new.now d.1 in
-      let done = insert_applies old.step_limit plan_params plan_table.name plan_table.columns plan_table.primary plan_table.references 2 insert_plan_terms 6 db it.0 (Null ∷ plan_params) refl it.1 in
-      let a = adds plan_table.name plan_table.columns plan_table.primary plan_table.references 2 db it.0.trees (Null ∷ plan_params) done in
-      let now : it.0.trees ≡ new.now.trees = sym (ap (λ (d : Database). d.trees) it.2) in
-      plan_added (plan_row operator id priority usage aircraft) (with_rowid Chosen (db 2) (cast_row plan_table (Null ∷ plan_params))) old.now new.now (plan_cells (db 2)) (ap (λ (d : Database). d.schema) it.2)
-      (subst (Adds 2 (with_rowid Chosen (db 2) (cast_row plan_table (Null ∷ plan_params))) db) now a) desk
+    pub insert_plan : IsDesk old.now → (count : ℕ)
+        → Executes insert_plan_text plan_params old new (Ok count)
+        → IsDesk new.now × AddsPlan (plan_row operator id priority usage aircraft)
+        (tables_of old.now.trees)
+        (tables_of new.now.trees)
+    insert_plan desk count h =
+        let db = old.now.trees in
+        let d = inserts insert_plan_text plan_params old new desk 1 (Values insert_plan_terms 6)
+        insert_plan_is
+        count h in
+        let it = rows_written (task_at old.step_limit plan_params plan_table.name plan_table.columns
+        plan_table.primary plan_table.references 2) (Insert 1 (Values insert_plan_terms 6)) db d.0
+        new.now
+        d.1 in
+        let done = insert_applies old.step_limit plan_params plan_table.name plan_table.columns
+        plan_table.primary plan_table.references 2 insert_plan_terms 6 db it.0 (Null ∷ plan_params) refl
+        it.1 in
+        let a = adds plan_table.name plan_table.columns plan_table.primary plan_table.references 2 db
+        it.0.trees
+        (Null ∷ plan_params) done in
+        let now : it.0.trees ≡ new.now.trees = sym (ap (λ (d : Database). d.trees) it.2) in
+        plan_added (plan_row operator id priority usage aircraft)
+        (with_rowid Chosen (db 2) (cast_row plan_table (Null ∷ plan_params))) old.now new.now
+        (plan_cells (db 2)) (ap (λ (d : Database). d.schema) it.2)
+        (subst (Adds 2 (with_rowid Chosen (db 2) (cast_row plan_table (Null ∷ plan_params))) db) now a)
+        desk
 
-tables_volume : (db next : Trees) → next 0 ≡ db 0 → next 2 ≡ db 2 → next 6 ≡ db 6 → tables_of next ≡ record (tables_of db) { volumes = (tables_of next).volumes }
+tables_volume : (db next : Trees) → next 0 ≡ db 0 → next 2 ≡ db 2 → next 6 ≡ db 6 → tables_of next
+    ≡ record (tables_of db) { volumes = (tables_of next).volumes }
 tables_volume db next a b c = rw (a, b, c)
 
-volume_added : (row new : Row) (old now : Database) → columns 8 new ≡ row → now.schema ≡ desk_schema → Adds 4 new old.trees now.trees → IsDesk old → IsDesk now × AddsVolume row (tables_of old.trees) (tables_of now.trees)
+volume_added : (row new : Row) (old now : Database) → columns 8 new ≡ row → now.schema ≡ desk_schema
+    → Adds 4 new old.trees now.trees → IsDesk old → IsDesk now
+    × AddsVolume row (tables_of old.trees) (tables_of now.trees)
 volume_added row new old now shown schema a desk =
     let e0 : now.trees 0 ≡ old.trees 0 = a.others.0 (λ e. cc) in
     let e2 : now.trees 2 ≡ old.trees 2 = a.others.1.0 (λ e. cc) in
     let e6 : now.trees 6 ≡ old.trees 6 = a.others.1.1.1.0 (λ e. cc) in (
-      record { schema = schema; operators = subst AreNumbered (sym e0) desk.operators; plans = subst AreNumbered (sym e2) desk.plans; volumes = subst AreNumbered (sym a.at) (numbered_put new (old.trees 4) a.whole a.free desk.volumes); spans = subst AreNumbered (sym e6) desk.spans },
+      record {
+        schema = schema;
+        operators = subst AreNumbered (sym e0) desk.operators;
+        plans = subst AreNumbered (sym e2) desk.plans;
+        volumes =
+            subst AreNumbered (sym a.at) (numbered_put new (old.trees 4) a.whole a.free desk.volumes);
+        spans =
+            subst AreNumbered (sym e6) desk.spans;
+      },
       (
-        subst (λ rows. IsPermutation (row ∷ map (columns 8) (old.trees 4)) (map (columns 8) rows)) (sym a.at)
-            (subst (λ r. IsPermutation (r ∷ map (columns 8) (old.trees 4)) (map (columns 8) (put_row new (old.trees 4)))) shown
-            (IsPermutation-map (columns 8) (new ∷ old.trees 4) (put_row new (old.trees 4)) (put_adds new (old.trees 4) a.free))),
+        subst (λ rows. IsPermutation (row ∷ map (columns 8) (old.trees 4)) (map (columns 8) rows))
+            (sym a.at)
+            (subst (λ r. IsPermutation (r ∷ map (columns 8) (old.trees 4))
+            (map (columns 8) (put_row new (old.trees 4)))) shown
+            (IsPermutation-map (columns 8) (new ∷ old.trees 4) (put_row new (old.trees 4))
+            (put_adds new (old.trees 4) a.free))),
         tables_volume old.trees now.trees e0 e2 e6,
       ),
     )
 
-module _ (operator : List ℕ) (id : List ℕ) (place : ℕ) (lower : ℤ) (upper : ℤ) (start : ℤ) (stop : ℤ) (asked : List ℕ) (old new : State) where
+module _ (operator : List ℕ) (id : List ℕ) (place : ℕ) (lower : ℤ) (upper : ℤ) (start : ℤ) (stop : ℤ)
+    (asked : List ℕ) (old new : State) where
   abbrev volume_params : Row
-  volume_params = Text operator ∷ Text id ∷ Int (pos place) ∷ Int lower ∷ Int upper ∷ Int start ∷ Int stop ∷ Blob asked ∷ []
+  volume_params = Text operator ∷ Text id ∷ Int (pos place) ∷ Int lower ∷ Int upper ∷ Int start
+      ∷ Int stop
+      ∷ Blob asked ∷ []
 
-  volume_cells : (rows : List Row) → columns 8 (with_rowid Chosen rows (cast_row volume_table (Null ∷ volume_params))) ≡ volume_row operator id place lower upper start stop asked
+  volume_cells : (rows : List Row)
+      → columns 8 (with_rowid Chosen rows (cast_row volume_table (Null ∷ volume_params)))
+      ≡ volume_row operator id place lower upper start stop asked
   volume_cells rows =
-      let numbered : columns 8 (with_rowid Chosen rows (cast_row volume_table (Null ∷ volume_params))) ≡ columns 8 (Null ∷ cast_all volume_table.columns volume_params) =
-      elim (is_null (cast Integer Null)) as (λ b. columns 8 (cond b (Int (next_rowid rows) ∷ cast_all volume_table.columns volume_params) (cast Integer Null ∷ cast_all volume_table.columns volume_params)) ≡ columns 8 (Null ∷ cast_all volume_table.columns volume_params))
+      let numbered : columns 8 (with_rowid Chosen rows (cast_row volume_table (Null ∷ volume_params)))
+      ≡ columns 8 (Null ∷ cast_all volume_table.columns volume_params) =
+      elim (is_null (cast Integer Null)) as (λ b. columns 8
+      (cond b (Int (next_rowid rows) ∷ cast_all volume_table.columns volume_params)
+      (cast Integer Null ∷ cast_all volume_table.columns volume_params))
+      ≡ columns 8 (Null ∷ cast_all volume_table.columns volume_params))
       [ true ↦ refl | false ↦ refl ] in
-      numbered ∙ then (same (Text operator)) (then (same (Text id)) (then (cast_int (pos place)) (then (cast_int lower) (then (cast_int upper) (then (cast_int start) (then (cast_int stop) (then (same (Blob asked)) (refl))))))))
+      numbered ∙ then (same (Text operator)) (then (same (Text id))
+      (then (cast_int (pos place)) (then (cast_int lower)
+      (then (cast_int upper) (then (cast_int start)
+      (then (cast_int stop) (then (same (Blob asked)) (refl))))))))
 
-  pub insert_volume : IsDesk old.now → (count : ℕ) → Executes insert_volume_text volume_params old new (Ok count) → IsDesk new.now × AddsVolume (volume_row operator id place lower upper start stop asked) (tables_of old.now.trees) (tables_of new.now.trees)
+  pub insert_volume : IsDesk old.now → (count : ℕ)
+      → Executes insert_volume_text volume_params old new (Ok count) → IsDesk new.now
+      × AddsVolume (volume_row operator id place lower upper start stop asked) (tables_of old.now.trees)
+      (tables_of new.now.trees)
   insert_volume desk count h =
       let db = old.now.trees in
-      let d = inserts insert_volume_text volume_params old new desk 2 (Values insert_volume_terms 9) insert_volume_is count h in
-      let it = rows_written (task_at old.step_limit volume_params volume_table.name volume_table.columns volume_table.primary volume_table.references 4) (Insert 2 (Values insert_volume_terms 9)) db d.0 new.now d.1 in
-      let done = insert_applies old.step_limit volume_params volume_table.name volume_table.columns volume_table.primary volume_table.references 4 insert_volume_terms 9 db it.0 (Null ∷ volume_params) refl it.1 in
-      let a = adds volume_table.name volume_table.columns volume_table.primary volume_table.references 4 db it.0.trees (Null ∷ volume_params) done in
+      let d = inserts insert_volume_text volume_params old new desk 2 (Values insert_volume_terms 9)
+      insert_volume_is count h in
+      let it = rows_written (task_at old.step_limit volume_params volume_table.name volume_table.columns
+      volume_table.primary volume_table.references 4) (Insert 2 (Values insert_volume_terms 9)) db d.0
+      new.now d.1 in
+      let done = insert_applies old.step_limit volume_params volume_table.name volume_table.columns
+      volume_table.primary volume_table.references 4 insert_volume_terms 9 db it.0
+      (Null ∷ volume_params)
+      refl it.1 in
+      let a = adds volume_table.name volume_table.columns volume_table.primary volume_table.references 4
+      db
+      it.0.trees (Null ∷ volume_params) done in
       let now : it.0.trees ≡ new.now.trees = sym (ap (λ (d : Database). d.trees) it.2) in
-      volume_added (volume_row operator id place lower upper start stop asked) (with_rowid Chosen (db 4) (cast_row volume_table (Null ∷ volume_params))) old.now new.now (volume_cells (db 4)) (ap (λ (d : Database). d.schema) it.2)
-      (subst (Adds 4 (with_rowid Chosen (db 4) (cast_row volume_table (Null ∷ volume_params))) db) now a) desk
+      volume_added (volume_row operator id place lower upper start stop asked)
+      (with_rowid Chosen (db 4) (cast_row volume_table (Null ∷ volume_params))) old.now new.now
+      (volume_cells (db 4)) (ap (λ (d : Database). d.schema) it.2)
+      (subst (Adds 4 (with_rowid Chosen (db 4) (cast_row volume_table (Null ∷ volume_params))) db) now
+      a) desk
 
-tables_span : (db next : Trees) → next 0 ≡ db 0 → next 2 ≡ db 2 → next 4 ≡ db 4 → tables_of next ≡ record (tables_of db) { spans = (tables_of next).spans }
+tables_span : (db next : Trees) → next 0 ≡ db 0 → next 2 ≡ db 2 → next 4 ≡ db 4 → tables_of next
+    ≡ record (tables_of db) { spans = (tables_of next).spans }
 tables_span db next a b c = rw (a, b, c)
 
-span_added : (row new : Row) (old now : Database) → columns 10 new ≡ row → now.schema ≡ desk_schema → Adds 6 new old.trees now.trees → IsDesk old → IsDesk now × AddsSpan row (tables_of old.trees) (tables_of now.trees)
+span_added : (row new : Row) (old now : Database) → columns 10 new ≡ row → now.schema ≡ desk_schema
+    → Adds 6 new old.trees now.trees → IsDesk old → IsDesk now
+    × AddsSpan row (tables_of old.trees) (tables_of now.trees)
 span_added row new old now shown schema a desk =
     let e0 : now.trees 0 ≡ old.trees 0 = a.others.0 (λ e. cc) in
     let e2 : now.trees 2 ≡ old.trees 2 = a.others.1.0 (λ e. cc) in
     let e4 : now.trees 4 ≡ old.trees 4 = a.others.1.1.0 (λ e. cc) in (
-      record { schema = schema; operators = subst AreNumbered (sym e0) desk.operators; plans = subst AreNumbered (sym e2) desk.plans; volumes = subst AreNumbered (sym e4) desk.volumes; spans = subst AreNumbered (sym a.at) (numbered_put new (old.trees 6) a.whole a.free desk.spans) },
+      record {
+        schema = schema;
+        operators = subst AreNumbered (sym e0) desk.operators;
+        plans = subst AreNumbered (sym e2) desk.plans;
+        volumes = subst AreNumbered (sym e4) desk.volumes;
+        spans = subst AreNumbered (sym a.at) (numbered_put new (old.trees 6) a.whole a.free desk.spans);
+      },
       (
-        subst (λ rows. IsPermutation (row ∷ map (columns 10) (old.trees 6)) (map (columns 10) rows)) (sym a.at)
-            (subst (λ r. IsPermutation (r ∷ map (columns 10) (old.trees 6)) (map (columns 10) (put_row new (old.trees 6)))) shown
-            (IsPermutation-map (columns 10) (new ∷ old.trees 6) (put_row new (old.trees 6)) (put_adds new (old.trees 6) a.free))),
+        subst (λ rows. IsPermutation (row ∷ map (columns 10) (old.trees 6)) (map (columns 10) rows))
+            (sym a.at)
+            (subst (λ r. IsPermutation (r ∷ map (columns 10) (old.trees 6))
+            (map (columns 10) (put_row new (old.trees 6)))) shown
+            (IsPermutation-map (columns 10) (new ∷ old.trees 6) (put_row new (old.trees 6))
+            (put_adds new (old.trees 6) a.free))),
         tables_span old.trees now.trees e0 e2 e4,
       ),
     )
 
-module _ (operator : List ℕ) (id : List ℕ) (place : ℕ) (first : ℤ) (last : ℤ) (lower : ℤ) (upper : ℤ) (start : ℤ) (stop : ℤ) (priority : ℕ) (old new : State) where
+module _ (operator : List ℕ) (id : List ℕ) (place : ℕ) (first : ℤ) (last : ℤ) (lower : ℤ) (upper : ℤ)
+    (start : ℤ) (stop : ℤ) (priority : ℕ) (old new : State) where
   abbrev span_params : Row
-  span_params = Text operator ∷ Text id ∷ Int (pos place) ∷ Int first ∷ Int last ∷ Int lower ∷ Int upper ∷ Int start ∷ Int stop ∷ Int (pos priority) ∷ []
+  span_params = Text operator ∷ Text id ∷ Int (pos place) ∷ Int first ∷ Int last ∷ Int lower ∷ Int upper
+      ∷ Int start ∷ Int stop ∷ Int (pos priority) ∷ []
 
-  span_cells : (rows : List Row) → columns 10 (with_rowid Chosen rows (cast_row span_table (Null ∷ span_params))) ≡ span_row operator id place first last lower upper start stop priority
+  span_cells : (rows : List Row)
+      → columns 10 (with_rowid Chosen rows (cast_row span_table (Null ∷ span_params)))
+      ≡ span_row operator id place first last lower upper start stop priority
   span_cells rows =
-      let numbered : columns 10 (with_rowid Chosen rows (cast_row span_table (Null ∷ span_params))) ≡ columns 10 (Null ∷ cast_all span_table.columns span_params) =
-      elim (is_null (cast Integer Null)) as (λ b. columns 10 (cond b (Int (next_rowid rows) ∷ cast_all span_table.columns span_params) (cast Integer Null ∷ cast_all span_table.columns span_params)) ≡ columns 10 (Null ∷ cast_all span_table.columns span_params))
+      let numbered : columns 10 (with_rowid Chosen rows (cast_row span_table (Null ∷ span_params)))
+      ≡ columns 10 (Null ∷ cast_all span_table.columns span_params) =
+      elim (is_null (cast Integer Null)) as (λ b. columns 10
+      (cond b (Int (next_rowid rows) ∷ cast_all span_table.columns span_params)
+      (cast Integer Null ∷ cast_all span_table.columns span_params))
+      ≡ columns 10 (Null ∷ cast_all span_table.columns span_params))
       [ true ↦ refl | false ↦ refl ] in
-      numbered ∙ then (same (Text operator)) (then (same (Text id)) (then (cast_int (pos place)) (then (cast_int first) (then (cast_int last) (then (cast_int lower) (then (cast_int upper) (then (cast_int start) (then (cast_int stop) (then (cast_int (pos priority)) (refl))))))))))
+      numbered ∙ then (same (Text operator)) (then (same (Text id))
+      (then (cast_int (pos place)) (then (cast_int first)
+      (then (cast_int last) (then (cast_int lower)
+      (then (cast_int upper) (then (cast_int start)
+      (then (cast_int stop) (then (cast_int (pos priority)) (refl))))))))))
 
-  pub insert_span : IsDesk old.now → (count : ℕ) → Executes insert_span_text span_params old new (Ok count) → IsDesk new.now × AddsSpan (span_row operator id place first last lower upper start stop priority) (tables_of old.now.trees) (tables_of new.now.trees)
+  pub insert_span : IsDesk old.now → (count : ℕ)
+      → Executes insert_span_text span_params old new (Ok count)
+      → IsDesk new.now × AddsSpan (span_row operator id place first last lower upper start stop
+      priority)
+      (tables_of old.now.trees) (tables_of new.now.trees)
   insert_span desk count h =
       let db = old.now.trees in
-      let d = inserts insert_span_text span_params old new desk 3 (Values insert_span_terms 11) insert_span_is count h in
-      let it = rows_written (task_at old.step_limit span_params span_table.name span_table.columns span_table.primary span_table.references 6) (Insert 3 (Values insert_span_terms 11)) db d.0 new.now d.1 in
-      let done = insert_applies old.step_limit span_params span_table.name span_table.columns span_table.primary span_table.references 6 insert_span_terms 11 db it.0 (Null ∷ span_params) refl it.1 in
-      let a = adds span_table.name span_table.columns span_table.primary span_table.references 6 db it.0.trees (Null ∷ span_params) done in
+      let d = inserts insert_span_text span_params old new desk 3 (Values insert_span_terms 11)
+      insert_span_is
+      count h in
+      let it = rows_written (task_at old.step_limit span_params span_table.name span_table.columns
+      span_table.primary span_table.references 6) (Insert 3 (Values insert_span_terms 11)) db d.0
+      new.now
+      d.1 in
+      let done = insert_applies old.step_limit span_params span_table.name span_table.columns
+      span_table.primary span_table.references 6 insert_span_terms 11 db it.0 (Null ∷ span_params) refl
+      it.1 in
+      let a = adds span_table.name span_table.columns span_table.primary span_table.references 6 db
+      it.0.trees
+      (Null ∷ span_params) done in
       let now : it.0.trees ≡ new.now.trees = sym (ap (λ (d : Database). d.trees) it.2) in
-      span_added (span_row operator id place first last lower upper start stop priority) (with_rowid Chosen (db 6) (cast_row span_table (Null ∷ span_params))) old.now new.now (span_cells (db 6)) (ap (λ (d : Database). d.schema) it.2)
-      (subst (Adds 6 (with_rowid Chosen (db 6) (cast_row span_table (Null ∷ span_params))) db) now a) desk
+      span_added (span_row operator id place first last lower upper start stop priority)
+      (with_rowid Chosen (db 6) (cast_row span_table (Null ∷ span_params))) old.now new.now
+      (span_cells (db 6)) (ap (λ (d : Database). d.schema) it.2)
+      (subst (Adds 6 (with_rowid Chosen (db 6) (cast_row span_table (Null ∷ span_params))) db) now a)
+      desk

@@ -36,58 +36,89 @@ pub record IsQuery (text : List ℕ) (query : Query) (names : List (List ℕ)) :
   pub unlisted : reads_listing desk_schema text ≡ false
 
 abbrev pub operator_named_query : Query
-operator_named_query = query_of (inner 0 end) (op2 (Compare Eq Binary) (col 1 1) (col 0 0) ∷ []) (col 1 1 ∷ col 1 2 ∷ []) ([])
+operator_named_query = query_of (inner 0 end) (op2 (Compare Eq Binary) (col 1 1) (col 0 0) ∷ [])
+    (col 1 1 ∷ col 1 2 ∷ []) ([])
 
-pub operator_named_is : IsQuery operator_named_text operator_named_query (codes "name" ∷ codes "ceiling" ∷ [])
+pub operator_named_is : IsQuery operator_named_text operator_named_query
+    (codes "name" ∷ codes "ceiling" ∷ [])
 unfolding understood everything
 operator_named_is = record { is = refl; plain = (refl, refl); unlisted = refl }
 
 abbrev pub all_operators_query : Query
-all_operators_query = query_of (inner 0 end) ([]) (col 1 1 ∷ col 1 2 ∷ []) ((col 1 1, ascending Binary) ∷ [])
+all_operators_query = query_of (inner 0 end) ([]) (col 1 1 ∷ col 1 2 ∷ [])
+    ((col 1 1, ascending Binary) ∷ [])
 
-pub all_operators_is : IsQuery all_operators_text all_operators_query (codes "name" ∷ codes "ceiling" ∷ [])
+pub all_operators_is : IsQuery all_operators_text all_operators_query
+    (codes "name" ∷ codes "ceiling" ∷ [])
 unfolding understood everything
 all_operators_is = record { is = refl; plain = (refl, refl); unlisted = refl }
 
 abbrev pub plan_of_query : Query
-plan_of_query = query_of (inner 2 end) (op2 (Compare Eq Binary) (col 1 1) (col 0 0) ∷ op2 (Compare Eq Binary) (col 1 2) (col 0 1) ∷ []) (col 1 1 ∷ col 1 2 ∷ col 1 3 ∷ col 1 4 ∷ col 1 5 ∷ []) ([])
+plan_of_query = query_of (inner 2 end) (op2 (Compare Eq Binary) (col 1 1) (col 0 0)
+    ∷ op2 (Compare Eq Binary) (col 1 2) (col 0 1) ∷ [])
+    (col 1 1 ∷ col 1 2 ∷ col 1 3 ∷ col 1 4 ∷ col 1 5 ∷ [])
+    ([])
 
-pub plan_of_is : IsQuery plan_of_text plan_of_query (codes "operator" ∷ codes "id" ∷ codes "priority" ∷ codes "usage" ∷ codes "aircraft" ∷ [])
+pub plan_of_is : IsQuery plan_of_text plan_of_query
+    (codes "operator" ∷ codes "id" ∷ codes "priority" ∷ codes "usage" ∷ codes "aircraft" ∷ [])
 unfolding understood everything
 plan_of_is = record { is = refl; plain = (refl, refl); unlisted = refl }
 
 abbrev pub all_plans_query : Query
-all_plans_query = query_of (inner 2 end) ([]) (col 1 1 ∷ col 1 2 ∷ col 1 3 ∷ col 1 4 ∷ col 1 5 ∷ []) ((col 1 1, ascending Binary) ∷ (col 1 2, ascending Binary) ∷ [])
+all_plans_query = query_of (inner 2 end) ([]) (col 1 1 ∷ col 1 2 ∷ col 1 3 ∷ col 1 4 ∷ col 1 5 ∷ [])
+    ((col 1 1, ascending Binary) ∷ (col 1 2, ascending Binary) ∷ [])
 
-pub all_plans_is : IsQuery all_plans_text all_plans_query (codes "operator" ∷ codes "id" ∷ codes "priority" ∷ codes "usage" ∷ codes "aircraft" ∷ [])
+pub all_plans_is : IsQuery all_plans_text all_plans_query
+    (codes "operator" ∷ codes "id" ∷ codes "priority" ∷ codes "usage" ∷ codes "aircraft" ∷ [])
 unfolding understood everything
 all_plans_is = record { is = refl; plain = (refl, refl); unlisted = refl }
 
 abbrev pub volumes_of_query : Query
-volumes_of_query = query_of (inner 4 end) (op2 (Compare Eq Binary) (col 1 1) (col 0 0) ∷ op2 (Compare Eq Binary) (col 1 2) (col 0 1) ∷ []) (col 1 1 ∷ col 1 2 ∷ col 1 3 ∷ col 1 4 ∷ col 1 5 ∷ col 1 6 ∷ col 1 7 ∷ col 1 8 ∷ []) ((col 1 3, ascending Binary) ∷ [])
+volumes_of_query = query_of (inner 4 end) (op2 (Compare Eq Binary) (col 1 1) (col 0 0)
+    ∷ op2 (Compare Eq Binary) (col 1 2) (col 0 1) ∷ [])
+    (col 1 1 ∷ col 1 2 ∷ col 1 3 ∷ col 1 4 ∷ col 1 5 ∷ col 1 6 ∷ col 1 7 ∷ col 1 8 ∷ [])
+    ((col 1 3, ascending Binary) ∷ [])
 
-pub volumes_of_is : IsQuery volumes_of_text volumes_of_query (codes "operator" ∷ codes "id" ∷ codes "place" ∷ codes "lower" ∷ codes "upper" ∷ codes "start" ∷ codes "stop" ∷ codes "asked" ∷ [])
+pub volumes_of_is : IsQuery volumes_of_text volumes_of_query
+    (codes "operator" ∷ codes "id" ∷ codes "place" ∷ codes "lower" ∷ codes "upper" ∷ codes "start"
+    ∷ codes "stop" ∷ codes "asked" ∷ [])
 unfolding understood everything
 volumes_of_is = record { is = refl; plain = (refl, refl); unlisted = refl }
 
 abbrev pub all_volumes_query : Query
-all_volumes_query = query_of (inner 4 end) ([]) (col 1 1 ∷ col 1 2 ∷ col 1 3 ∷ col 1 4 ∷ col 1 5 ∷ col 1 6 ∷ col 1 7 ∷ col 1 8 ∷ []) ((col 1 1, ascending Binary) ∷ (col 1 2, ascending Binary) ∷ (col 1 3, ascending Binary) ∷ [])
+all_volumes_query = query_of (inner 4 end) ([])
+    (col 1 1 ∷ col 1 2 ∷ col 1 3 ∷ col 1 4 ∷ col 1 5 ∷ col 1 6
+    ∷ col 1 7 ∷ col 1 8 ∷ []) ((col 1 1, ascending Binary) ∷ (col 1 2, ascending Binary)
+    ∷ (col 1 3, ascending Binary) ∷ [])
 
-pub all_volumes_is : IsQuery all_volumes_text all_volumes_query (codes "operator" ∷ codes "id" ∷ codes "place" ∷ codes "lower" ∷ codes "upper" ∷ codes "start" ∷ codes "stop" ∷ codes "asked" ∷ [])
+pub all_volumes_is : IsQuery all_volumes_text all_volumes_query
+    (codes "operator" ∷ codes "id" ∷ codes "place" ∷ codes "lower" ∷ codes "upper" ∷ codes "start"
+    ∷ codes "stop" ∷ codes "asked" ∷ [])
 unfolding understood everything
 all_volumes_is = record { is = refl; plain = (refl, refl); unlisted = refl }
 
 abbrev pub all_spans_query : Query
-all_spans_query = query_of (inner 6 end) ([]) (col 1 1 ∷ col 1 2 ∷ col 1 3 ∷ col 1 4 ∷ col 1 5 ∷ col 1 6 ∷ col 1 7 ∷ col 1 8 ∷ col 1 9 ∷ col 1 10 ∷ []) ((col 1 1, ascending Binary) ∷ (col 1 2, ascending Binary) ∷ (col 1 3, ascending Binary) ∷ (col 1 4, ascending Binary) ∷ [])
+all_spans_query = query_of (inner 6 end) ([]) (col 1 1 ∷ col 1 2 ∷ col 1 3 ∷ col 1 4 ∷ col 1 5 ∷ col 1 6
+    ∷ col 1 7 ∷ col 1 8 ∷ col 1 9 ∷ col 1 10 ∷ [])
+    ((col 1 1, ascending Binary) ∷ (col 1 2, ascending Binary) ∷ (col 1 3, ascending Binary)
+    ∷ (col 1 4, ascending Binary) ∷ [])
 
-pub all_spans_is : IsQuery all_spans_text all_spans_query (codes "operator" ∷ codes "id" ∷ codes "place" ∷ codes "first" ∷ codes "last" ∷ codes "lower" ∷ codes "upper" ∷ codes "start" ∷ codes "stop" ∷ codes "priority" ∷ [])
+pub all_spans_is : IsQuery all_spans_text all_spans_query
+    (codes "operator" ∷ codes "id" ∷ codes "place" ∷ codes "first" ∷ codes "last" ∷ codes "lower"
+    ∷ codes "upper" ∷ codes "start" ∷ codes "stop" ∷ codes "priority" ∷ [])
 unfolding understood everything
 all_spans_is = record { is = refl; plain = (refl, refl); unlisted = refl }
 
 abbrev pub own_plans_query : Query
-own_plans_query = query_of (inner 2 (inner 4 end)) (op2 (Compare Eq Binary) (col 2 1) (col 1 1) ∷ op2 (Compare Eq Binary) (col 2 2) (col 1 2) ∷ op2 (Compare Eq Binary) (col 1 1) (col 0 0) ∷ []) (col 1 1 ∷ col 1 2 ∷ col 1 3 ∷ col 1 4 ∷ col 1 5 ∷ col 2 3 ∷ col 2 4 ∷ col 2 5 ∷ col 2 6 ∷ col 2 7 ∷ col 2 8 ∷ []) ((col 1 2, ascending Binary) ∷ (col 2 3, ascending Binary) ∷ [])
+own_plans_query = query_of (inner 2 (inner 4 end))
+    (op2 (Compare Eq Binary) (col 2 1) (col 1 1) ∷ op2 (Compare Eq Binary) (col 2 2) (col 1 2)
+    ∷ op2 (Compare Eq Binary) (col 1 1) (col 0 0) ∷ [])
+    (col 1 1 ∷ col 1 2 ∷ col 1 3 ∷ col 1 4 ∷ col 1 5 ∷ col 2 3 ∷ col 2 4 ∷ col 2 5 ∷ col 2 6 ∷ col 2 7
+    ∷ col 2 8 ∷ []) ((col 1 2, ascending Binary) ∷ (col 2 3, ascending Binary) ∷ [])
 
-pub own_plans_is : IsQuery own_plans_text own_plans_query (codes "operator" ∷ codes "id" ∷ codes "priority" ∷ codes "usage" ∷ codes "aircraft" ∷ codes "place" ∷ codes "lower" ∷ codes "upper" ∷ codes "start" ∷ codes "stop" ∷ codes "asked" ∷ [])
+pub own_plans_is : IsQuery own_plans_text own_plans_query
+    (codes "operator" ∷ codes "id" ∷ codes "priority" ∷ codes "usage" ∷ codes "aircraft" ∷ codes "place"
+    ∷ codes "lower" ∷ codes "upper" ∷ codes "start" ∷ codes "stop" ∷ codes "asked" ∷ [])
 unfolding understood everything
 own_plans_is = record { is = refl; plain = (refl, refl); unlisted = refl }
 
@@ -96,9 +127,15 @@ abbrev compared : CompareOp → ℕ → ℕ → Term
 compared op at param = op2 (Compare op Binary) (col 1 at) (col 0 param)
 
 abbrev pub rival_spans_query : Query
-rival_spans_query = query_of (inner 6 end) (compared Le 4 0 ∷ compared Ge 5 1 ∷ compared Lt 6 2 ∷ compared Gt 7 3 ∷ compared Lt 8 4 ∷ compared Gt 9 5 ∷ compared Ge 10 6 ∷ op2 Or (op2 (Compare Ne Binary) (col 1 1) (col 0 7)) (op2 (Compare Ne Binary) (col 1 2) (col 0 8)) ∷ []) (col 1 4 ∷ col 1 5 ∷ col 1 6 ∷ col 1 7 ∷ col 1 8 ∷ col 1 9 ∷ col 1 10 ∷ []) ([])
+rival_spans_query = query_of (inner 6 end) (compared Le 4 0 ∷ compared Ge 5 1 ∷ compared Lt 6 2
+    ∷ compared Gt 7 3 ∷ compared Lt 8 4 ∷ compared Gt 9 5 ∷ compared Ge 10 6
+    ∷ op2 Or (op2 (Compare Ne Binary) (col 1 1) (col 0 7)) (op2 (Compare Ne Binary) (col 1 2) (col 0 8))
+    ∷ [])
+    (col 1 4 ∷ col 1 5 ∷ col 1 6 ∷ col 1 7 ∷ col 1 8 ∷ col 1 9 ∷ col 1 10 ∷ []) ([])
 
-pub rival_spans_is : IsQuery rival_spans_text rival_spans_query (codes "first" ∷ codes "last" ∷ codes "lower" ∷ codes "upper" ∷ codes "start" ∷ codes "stop" ∷ codes "priority" ∷ [])
+pub rival_spans_is : IsQuery rival_spans_text rival_spans_query
+    (codes "first" ∷ codes "last" ∷ codes "lower" ∷ codes "upper" ∷ codes "start" ∷ codes "stop"
+    ∷ codes "priority" ∷ [])
 unfolding understood everything
 rival_spans_is = record { is = refl; plain = (refl, refl); unlisted = refl }
 

@@ -37,28 +37,37 @@ use Rattle.desk_sql.proofs.QueryTexts.{IsQuery, query_of}
 
 -- ---- the connection was open, and shows what it showed
 
-showed : (old new : State) (text : List ℕ) (c : Compiled) (params : Row) (rows : List Row) (r : Option Returning) → ShowsRows old new text c params rows r → IsTrue old.is_open
+showed : (old new : State) (text : List ℕ) (c : Compiled) (params : Row) (rows : List Row)
+    (r : Option Returning) → ShowsRows old new text c params rows r → IsTrue old.is_open
 showed old new text c params rows None h = h.3.0.was_open
 showed old new text c params rows (Some what) h = h.1.shown.was_open
 
-pub was_open : (text : List ℕ) (params : Row) (old new : State) (rows : List Row) → Shown text params old new rows → IsTrue old.is_open
+pub was_open : (text : List ℕ) (params : Row) (old new : State) (rows : List Row)
+    → Shown text params old new rows → IsTrue old.is_open
 unfolding Shown
 was_open text params old new rows h = showed old new text h.0 _ rows h.0.returning h.2
 
-unchanged_if : (old new : State) (text : List ℕ) (c : Compiled) (params : Row) (rows : List Row) (r : Option Returning) → r ≡ None → ShowsRows old new text c params rows r → IsUnchanged old new
+unchanged_if : (old new : State) (text : List ℕ) (c : Compiled) (params : Row) (rows : List Row)
+    (r : Option Returning) → r ≡ None → ShowsRows old new text c params rows r → IsUnchanged old new
 unchanged_if old new text c params rows None none h = h.3
 unchanged_if old new text c params rows (Some what) none h = cc
 
-unmoved : (text : List ℕ) (params : Row) (old new : State) (rows : List Row) → IsPlain (understood old.now.schema text) → Shown text params old new rows → IsUnchanged old new
+unmoved : (text : List ℕ) (params : Row) (old new : State) (rows : List Row)
+    → IsPlain (understood old.now.schema text) → Shown text params old new rows → IsUnchanged old new
 unfolding Shown
-unmoved text params old new rows plain h = unchanged_if old new text h.0 _ rows h.0.returning (subst IsPlain h.1.is plain).0 h.2
+unmoved text params old new rows plain h = unchanged_if old new text h.0 _ rows h.0.returning
+    (subst IsPlain h.1.is plain).0 h.2
 
-failed_to_show : (old new : State) (text : List ℕ) (c : Compiled) (params : Row) (e : Error) (r : Option Returning) → FailsToShow old new text c params e r → IsUnchanged old new ⊎ IsRolledBack old new
+failed_to_show : (old new : State) (text : List ℕ) (c : Compiled) (params : Row) (e : Error)
+    (r : Option Returning) → FailsToShow old new text c params e r → IsUnchanged old new
+    ⊎ IsRolledBack old new
 failed_to_show old new text c params e None h = inl h.3
 failed_to_show old new text c params e (Some what) (inl h) = inl h.1
 failed_to_show old new text c params e (Some what) (inr h) = inr h.3
 
-pub failed : (text : List ℕ) (params : Row) (old new : State) (e : Error) → FailsToQuery text params old new e → IsUnchanged old new ⊎ IsRolledBack old new
+pub failed : (text : List ℕ) (params : Row) (old new : State) (e : Error)
+    → FailsToQuery text params old new e
+    → IsUnchanged old new ⊎ IsRolledBack old new
 unfolding FailsToQuery IsNotRun
 failed text params old new e (inl (inl h)) = inl h.1
 failed text params old new e (inl (inr h)) = inr h.3
@@ -68,77 +77,118 @@ module _ {S : Type 0} (g : Ghosts S) (old new : Held S) where
   if_unchanged : IsUnchanged (state g old) (state g new) → ShowsAsBefore g old new
   if_unchanged h = record { was_open = h.0.was_open; now = h.0.now_is; committed = h.0.committed_is }
 
-  pub if_either : (IsTrue (state g old).is_open → (state g old).now ≡ (state g old).committed) → IsTrue (state g new).is_open → IsUnchanged (state g old) (state g new) ⊎ IsRolledBack (state g old) (state g new) → ShowsAsBefore g old new
+  pub if_either : (IsTrue (state g old).is_open → (state g old).now ≡ (state g old).committed)
+      → IsTrue (state g new).is_open → IsUnchanged (state g old) (state g new)
+      ⊎ IsRolledBack (state g old) (state g new) → ShowsAsBefore g old new
   if_either settled live (inl h) = if_unchanged h
   if_either settled live (inr h) =
       let was = h.was_open live in
       let back = h.undone live in
       record { was_open = was; now = back.0 ∙ sym (settled was); committed = back.1 }
 
-  module _ {V : Type 0} (items : V → List Row) (text : List ℕ) (params : Row) (known : Holds g old HasDeskSchema) (plain : IsPlain (understood desk_schema text)) (settled : IsTrue (state g old).is_open → (state g old).now ≡ (state g old).committed) where
-    pub kept_if : (r : Result V Error) → HasCleanDisk (state g old) → IfOk r (λ v. Shown text params (state g old) (state g new) (items v)) → IfErr r (FailsToQuery text params (state g old) (state g new))
+  module _ {V : Type 0} (items : V → List Row) (text : List ℕ) (params : Row)
+      (known : Holds g old HasDeskSchema) (plain : IsPlain (understood desk_schema text))
+      (settled : IsTrue (state g old).is_open → (state g old).now ≡ (state g old).committed) where
+    pub kept_if : (r : Result V Error) → HasCleanDisk (state g old)
+        → IfOk r (λ v. Shown text params (state g old) (state g new) (items v))
+        → IfErr r (FailsToQuery text params (state g old) (state g new))
         → IsTrue (state g new).is_open → ShowsAsBefore g old new
     kept_if (Ok v) clean shown _ live =
         let schema = known clean (was_open text params _ _ _ shown) in
-        if_unchanged (unmoved text params _ _ _ (subst (λ s. IsPlain (understood s text)) (sym schema) plain) shown)
+        if_unchanged (unmoved text params _ _ _
+        (subst (λ s. IsPlain (understood s text)) (sym schema) plain)
+        shown)
     kept_if (Err e) clean _ fails live = if_either settled live (failed text params _ _ e fails)
 
 -- an answer comes from an open connection alone
-pub open_if : {V : Type 0} (items : V → List Row) (text : List ℕ) (params : Row) (old new : State) (r : Result V Error) → IfOk r (λ v. Shown text params old new (items v)) → OnOk r (IsTrue old.is_open)
+pub open_if : {V : Type 0} (items : V → List Row) (text : List ℕ) (params : Row) (old new : State)
+    (r : Result V Error) → IfOk r (λ v. Shown text params old new (items v))
+    → OnOk r (IsTrue old.is_open)
 open_if items text params old new (Ok v) shown = was_open text params old new (items v) shown
 open_if items text params old new (Err e) shown = tt
 
 -- ---- the answer of a query
 
-module _ (text : List ℕ) (from : Join) (terms : List Term) (project : List Term) (order : List (Term × Key)) (names : List (List ℕ)) (known : IsQuery text (query_of from terms project order) names) where
+module _ (text : List ℕ) (from : Join) (terms : List Term) (project : List Term)
+    (order : List (Term × Key))
+    (names : List (List ℕ)) (known : IsQuery text (query_of from terms project order) names) where
   abbrev query : Query
   query = query_of from terms project order
 
-  pub answered : (params : Row) (old new : State) (rows : List Row) → HasDeskSchema old.now → Shown text params old new rows
+  pub answered : (params : Row) (old new : State) (rows : List Row) → HasDeskSchema old.now
+      → Shown text params old new rows
       → IsAnswer query (overlay old.now.trees []) params rows
-  answered params old new rows schema h = (reads_as text params old new desk_schema schema _ known.is known.plain known.unlisted rows h).answer Null
+  answered params old new rows schema h =
+      (reads_as text params old new desk_schema schema _ known.is known.plain known.unlisted rows
+      h).answer
+      Null
 
-  answer_rows : (params : Row) (db : Database) (rows : List Row) → IsAnswer query (overlay db.trees []) params rows
-      → IsPermutation (map (eval_all project) (matches (overlay db.trees []) terms from (params ∷ []))) rows
+  answer_rows : (params : Row) (db : Database) (rows : List Row)
+      → IsAnswer query (overlay db.trees []) params rows
+      → IsPermutation (map (eval_all project) (matches (overlay db.trees []) terms from (params ∷ [])))
+      rows
   answer_rows params db rows a =
       let all = matches (overlay db.trees []) terms from (params ∷ []) in
       let kept : a.kept ≡ map (output query) all = a.distinct ∙ ap (map (output query)) a.grouped in
-      let second : map (λ (o : Output). o.1) a.kept ≡ map (eval_all project) all = ap (map (λ (o : Output). o.1)) kept ∙ map-map (λ (o : Output). o.1) (output query) all in
-      subst (λ xs. IsPermutation xs rows) second (subst (IsPermutation (map (λ (o : Output). o.1) a.kept)) (sym a.shown) (IsPermutation-map (λ (o : Output). o.1) a.kept a.ordered a.same))
+      let second : map (λ (o : Output). o.1) a.kept ≡ map (eval_all project) all =
+      ap (map (λ (o : Output). o.1)) kept ∙ map-map (λ (o : Output). o.1) (output query) all in
+      subst (λ xs. IsPermutation xs rows) second
+      (subst (IsPermutation (map (λ (o : Output). o.1) a.kept))
+      (sym a.shown) (IsPermutation-map (λ (o : Output). o.1) a.kept a.ordered a.same))
 
-  pub shows : (params : Row) (old new : State) (rows : List Row) → HasDeskSchema old.now → Shown text params old new rows
-      → IsPermutation (map (eval_all project) (matches (overlay old.now.trees []) terms from (params ∷ []))) rows
-  shows params old new rows schema h = answer_rows params old.now rows (answered params old new rows schema h)
+  pub shows : (params : Row) (old new : State) (rows : List Row) → HasDeskSchema old.now
+      → Shown text params old new rows
+      → IsPermutation (map (eval_all project) (matches (overlay old.now.trees []) terms from
+      (params ∷ [])))
+      rows
+  shows params old new rows schema h = answer_rows params old.now rows
+      (answered params old new rows schema h)
 
-  pub may_show : (params : Row) (db : Database) (rows : List Row) → MayRead (understood desk_schema text) db params rows
-      → IsPermutation (map (eval_all project) (matches (overlay db.trees []) terms from (params ∷ []))) rows
-  may_show params db rows h = answer_rows params db rows ((by_command (understood desk_schema text) known.is h).answer Null) where
-    by_command : (r : Result Compiled CompileError) → command_of r ≡ Select (record { lets = []; body = query }) names → MayRead r db params rows → Reads (Select (record { lets = []; body = query }) names) db params rows
-    by_command (Ok c) is read = subst (λ k. Reads k db params rows) is read
-    by_command (Err e) is read = absurd read
+  pub may_show : (params : Row) (db : Database) (rows : List Row)
+      → MayRead (understood desk_schema text) db params rows
+      → IsPermutation (map (eval_all project) (matches (overlay db.trees []) terms from (params ∷ [])))
+      rows
+  may_show params db rows h = answer_rows params db rows
+      ((by_command (understood desk_schema text) known.is h).answer Null) where
+        by_command : (r : Result Compiled CompileError) → command_of r
+            ≡ Select (record { lets = []; body = query }) names → MayRead r db params rows
+            → Reads (Select (record { lets = []; body = query }) names) db params rows
+        by_command (Ok c) is read = subst (λ k. Reads k db params rows) is read
+        by_command (Err e) is read = absurd read
 
 -- what is shown, a text may show
-pub shown_read : (text : List ℕ) (params : Row) (old new : State) (rows : List Row) → HasDeskSchema old.now → IsPlain (understood desk_schema text) → reads_listing desk_schema text ≡ false
+pub shown_read : (text : List ℕ) (params : Row) (old new : State) (rows : List Row)
+    → HasDeskSchema old.now
+    → IsPlain (understood desk_schema text) → reads_listing desk_schema text ≡ false
     → Shown text params old new rows → MayRead (understood desk_schema text) old.now params rows
 shown_read text params old new rows schema plain unlisted h =
-    by_command (understood desk_schema text) plain (reads_as text params old new desk_schema schema (command_of (understood desk_schema text)) refl plain unlisted rows h) where
-      by_command : (r : Result Compiled CompileError) → IsPlain r → Reads (command_of r) old.now params rows → MayRead r old.now params rows
+    by_command (understood desk_schema text) plain (reads_as text params old new desk_schema schema
+    (command_of (understood desk_schema text)) refl plain unlisted rows h) where
+      by_command : (r : Result Compiled CompileError) → IsPlain r
+          → Reads (command_of r) old.now params rows
+          → MayRead r old.now params rows
       by_command (Ok c) is read = read
       by_command (Err e) is read = absurd is
 
-kept_first : {E : Type 0} (f : E → Row) (e : E) (x : Row) → f e ≡ x → (a b : Bool) → a ≡ b → (es : List E) (xs : List Row) → map f es ≡ xs → map f (cond a (e ∷ []) [] ++ es) ≡ cond b (x ∷ xs) xs
+kept_first : {E : Type 0} (f : E → Row) (e : E) (x : Row) → f e ≡ x → (a b : Bool) → a ≡ b
+    → (es : List E) (xs : List Row) → map f es ≡ xs → map f (cond a (e ∷ []) [] ++ es)
+    ≡ cond b (x ∷ xs) xs
 kept_first f e x at true true same es xs more = ap₂ (λ y ys. y ∷ ys) at more
 kept_first f e x at false false same es xs more = more
 kept_first f e x at true false same es xs more = cc
 kept_first f e x at false true same es xs more = cc
 
 -- the rows of one table that pass, as they are shown
-pub scanned : (env : Row → Env) (terms : List Term) (project : List Term) (show : Row → Row) (wanted : Row → Bool) → ((r : Row) → eval_all project (env r) ≡ show r)
+pub scanned : (env : Row → Env) (terms : List Term) (project : List Term) (show : Row → Row)
+    (wanted : Row → Bool) → ((r : Row) → eval_all project (env r) ≡ show r)
     → ((r : Row) → list_all (holds (env r)) terms ≡ wanted (show r)) → (rows : List Row)
-    → map (eval_all project) (flat_map (λ r. cond (list_all (holds (env r)) terms) (env r ∷ []) []) rows) ≡ filter wanted (map show rows)
+    → map (eval_all project) (flat_map (λ r. cond (list_all (holds (env r)) terms) (env r ∷ []) [])
+    rows)
+    ≡ filter wanted (map show rows)
 scanned env terms project show wanted shown passes [] = refl
 scanned env terms project show wanted shown passes (r ∷ rows) =
-    kept_first (eval_all project) (env r) (show r) (shown r) _ _ (passes r) _ _ (scanned env terms project show wanted shown passes rows)
+    kept_first (eval_all project) (env r) (show r) (shown r) _ _ (passes r) _ _
+    (scanned env terms project show wanted shown passes rows)
 
 -- ---- SQL's comparisons
 
@@ -147,7 +197,8 @@ truth_of true = refl
 truth_of false = refl
 
 -- SQL's = with a text, which is not true of NULL
-pub equals_text : (v : Value) (t : List ℕ) → is_true (binary (Compare Eq Binary) v (Text t)) ≡ is_text v t
+pub equals_text : (v : Value) (t : List ℕ) → is_true (binary (Compare Eq Binary) v (Text t))
+    ≡ is_text v t
 unfolding binary
 equals_text Null t = rw value_cmp-Null
 equals_text (Int n) t = truth_of _
@@ -184,7 +235,8 @@ ne_is Less = refl
 ne_is Equal = refl
 ne_is Greater = refl
 
-pub differs_text : (v : Value) (t : List ℕ) → is_true (binary (Compare Ne Binary) v (Text t)) ≡ differs v (Text t)
+pub differs_text : (v : Value) (t : List ℕ) → is_true (binary (Compare Ne Binary) v (Text t))
+    ≡ differs v (Text t)
 unfolding binary
 differs_text Null t = refl
 differs_text (Int n) t = truth_of _ ∙ ne_is _
@@ -192,7 +244,8 @@ differs_text (Real n) t = truth_of _ ∙ ne_is _
 differs_text (Text n) t = truth_of _ ∙ ne_is _
 differs_text (Blob n) t = truth_of _ ∙ ne_is _
 
-compared : (v : Value) (b : Bool) → is_true (if is_null v || false then Null else from_truth (Some b)) ≡ (not (is_null v) && b)
+compared : (v : Value) (b : Bool) → is_true (if is_null v || false then Null else from_truth (Some b))
+    ≡ (not (is_null v) && b)
 compared Null b = refl
 compared (Int n) b = truth_of b
 compared (Real x) b = truth_of b
@@ -216,7 +269,9 @@ pub gt_number : (v : Value) (n : ℤ) → is_true (binary (Compare Gt Binary) v 
 unfolding binary
 gt_number v n = compared v _
 
-or_true : (p q x y : Bool) → is_true (from_truth (or3 (truth (if p || false then Null else from_truth (Some x))) (truth (if q || false then Null else from_truth (Some y)))))
+or_true : (p q x y : Bool)
+    → is_true (from_truth (or3 (truth (if p || false then Null else from_truth (Some x)))
+    (truth (if q || false then Null else from_truth (Some y)))))
     ≡ ((not p && x) || (not q && y))
 or_true true true x y = refl
 or_true true false x true = refl
@@ -228,6 +283,10 @@ or_true false false true false = refl
 or_true false false false true = refl
 or_true false false false false = refl
 
-pub either_true : (v w : Value) (t u : List ℕ) → is_true (binary Or (binary (Compare Ne Binary) v (Text t)) (binary (Compare Ne Binary) w (Text u))) ≡ (differs v (Text t) || differs w (Text u))
+pub either_true : (v w : Value) (t u : List ℕ) → is_true
+    (binary Or (binary (Compare Ne Binary) v (Text t)) (binary (Compare Ne Binary) w (Text u)))
+    ≡ (differs v (Text t) || differs w (Text u))
 unfolding binary
-either_true v w t u = or_true (is_null v) (is_null w) _ _ ∙ ap₂ (λ a b. (not (is_null v) && a) || (not (is_null w) && b)) (ne_is (value_cmp v (Text t))) (ne_is (value_cmp w (Text u)))
+either_true v w t u = or_true (is_null v) (is_null w) _ _
+    ∙ ap₂ (λ a b. (not (is_null v) && a) || (not (is_null w) && b)) (ne_is (value_cmp v (Text t)))
+    (ne_is (value_cmp w (Text u)))

@@ -31,20 +31,28 @@ both_hold : (a : Bool) → (a && true) ≡ a
 both_hold true = refl
 both_hold false = refl
 
-by_key : (operator id : List ℕ) (r : Row) → list_all (holds ((Text operator ∷ Text id ∷ []) ∷ r ∷ [])) remove_plan_query.filter ≡ has_key operator id r
-by_key operator id r = ap₂ (λ a b. a && b) (equals_text (column r 1) operator) (both_hold _ ∙ equals_text (column r 2) id)
+by_key : (operator id : List ℕ) (r : Row) → list_all (holds ((Text operator ∷ Text id ∷ []) ∷ r ∷ []))
+    remove_plan_query.filter ≡ has_key operator id r
+by_key operator id r = ap₂ (λ a b. a && b) (equals_text (column r 1) operator)
+    (both_hold _ ∙ equals_text (column r 2) id)
 
 -- rows of a tree and as they are shown
-shown_cut : (n : ℕ) (show : Row → Row) (operator id : List ℕ) (b : Bool) (rows next : List Row) → next ≡ cond b (filter (λ r. not (is_of operator id (show r))) rows) rows
+shown_cut : (n : ℕ) (show : Row → Row) (operator id : List ℕ) (b : Bool) (rows next : List Row) → next
+    ≡ cond b (filter (λ r. not (is_of operator id (show r))) rows) rows
     → map show next ≡ cond b (filter (is_not_of operator id) (map show rows)) (map show rows)
-shown_cut n show operator id true rows next is = ap (map show) is ∙ sym (filter-map (is_not_of operator id) show rows)
+shown_cut n show operator id true rows next is = ap (map show) is
+    ∙ sym (filter-map (is_not_of operator id) show rows)
 shown_cut n show operator id false rows next is = ap (map show) is
 
-numbered_cut : (p : Row → Bool) (b : Bool) (rows next : List Row) → next ≡ cond b (filter p rows) rows → AreNumbered rows → AreNumbered next
+numbered_cut : (p : Row → Bool) (b : Bool) (rows next : List Row) → next ≡ cond b (filter p rows) rows
+    → AreNumbered rows → AreNumbered next
 numbered_cut p true rows next is num = subst AreNumbered (sym is) (numbered_kept p rows num)
 numbered_cut p false rows next is num = subst AreNumbered (sym is) num
 
-tables_are : (next : Trees) (operators plans volumes spans : List Row) → map (columns 2) (next 0) ≡ operators → map (columns 5) (next 2) ≡ plans → map (columns 8) (next 4) ≡ volumes → map (columns 10) (next 6) ≡ spans
+tables_are : (next : Trees) (operators plans volumes spans : List Row) → map (columns 2) (next 0)
+    ≡ operators
+    → map (columns 5) (next 2) ≡ plans → map (columns 8) (next 4) ≡ volumes → map (columns 10) (next 6)
+    ≡ spans
     → tables_of next ≡ record { operators = operators; plans = plans; volumes = volumes; spans = spans }
 tables_are next operators plans volumes spans a b c d = rw (a, b, c, d)
 
@@ -52,28 +60,40 @@ module _ (operator id : List ℕ) (old new : State) where
   abbrev params : Row
   params = Text operator ∷ Text id ∷ []
 
-  pub remove_spans : IsDesk old.now → (count : ℕ) → Executes remove_spans_text params old new (Ok count) → IsDesk new.now × RemovesSpans operator id (tables_of old.now.trees) (tables_of new.now.trees)
+  pub remove_spans : IsDesk old.now → (count : ℕ) → Executes remove_spans_text params old new (Ok count)
+      → IsDesk new.now × RemovesSpans operator id (tables_of old.now.trees) (tables_of new.now.trees)
   remove_spans desk count h =
       let db = old.now.trees in
       let q : Program = record { lets = []; body = remove_spans_query } in
       let d = deletes remove_spans_text params old new desk 3 q remove_spans_is count h in
-      let it = rows_written (task_at old.step_limit params span_table.name span_table.columns span_table.primary span_table.references 6) (Delete 3 q) db d.0 new.now d.1 in
-      let f = delete_finds old.step_limit params span_table.name span_table.columns span_table.primary span_table.references 6 db remove_spans_query.filter (has_key operator id) it.0 refl (by_key operator id) it.1 in
-      let edit = delete_edit old.step_limit params span_table.name span_table.columns span_table.primary span_table.references 6 db f.found in
-      let step = one_step desk_schema Enforced db it.0.trees edit (span_works 0 (taken_by db edit)) f.writes in
+      let it = rows_written (task_at old.step_limit params span_table.name span_table.columns
+      span_table.primary span_table.references 6) (Delete 3 q) db d.0 new.now d.1 in
+      let f = delete_finds old.step_limit params span_table.name span_table.columns span_table.primary
+      span_table.references 6 db remove_spans_query.filter (has_key operator id) it.0 refl
+      (by_key operator id) it.1 in
+      let edit = delete_edit old.step_limit params span_table.name span_table.columns span_table.primary
+      span_table.references 6 db f.found in
+      let step = one_step desk_schema Enforced db it.0.trees edit (span_works 0 (taken_by db edit))
+      f.writes
+      in
       let now : new.now.trees ≡ it.0.trees = ap (λ (d : Database). d.trees) it.2 in
       let e0 : new.now.trees 0 ≡ db 0 = ap (λ (t : Trees). t 0) now ∙ step.tables.0 (λ e. cc) in
       let e2 : new.now.trees 2 ≡ db 2 = ap (λ (t : Trees). t 2) now ∙ step.tables.1.0 (λ e. cc) in
       let e4 : new.now.trees 4 ≡ db 4 = ap (λ (t : Trees). t 4) now ∙ step.tables.1.1.0 (λ e. cc) in
-      let e6 : new.now.trees 6 ≡ filter (λ r. not (has_key operator id r)) (db 6) = ap (λ (t : Trees). t 6) now ∙ step.rows ∙ removed (has_key operator id) (db 6) f.found desk.spans f.are in (
+      let e6 : new.now.trees 6 ≡ filter (λ r. not (has_key operator id r)) (db 6) =
+      ap (λ (t : Trees). t 6) now ∙ step.rows ∙ removed (has_key operator id) (db 6) f.found desk.spans
+      f.are in (
         record {
           schema = ap (λ (d : Database). d.schema) it.2;
           operators = subst AreNumbered (sym e0) desk.operators;
           plans = subst AreNumbered (sym e2) desk.plans;
           volumes = subst AreNumbered (sym e4) desk.volumes;
-          spans = subst AreNumbered (sym e6) (numbered_kept (λ r. not (has_key operator id r)) (db 6) desk.spans);
+          spans = subst AreNumbered (sym e6) (numbered_kept (λ r. not (has_key operator id r)) (db 6)
+              desk.spans);
         },
-        tables_are new.now.trees _ _ _ _ (ap (map (columns 2)) e0) (ap (map (columns 5)) e2) (ap (map (columns 8)) e4) (shown_cut 0 (columns 10) operator id true (db 6) (new.now.trees 6) e6),
+        tables_are new.now.trees _ _ _ _ (ap (map (columns 2)) e0) (ap (map (columns 5)) e2)
+            (ap (map (columns 8)) e4) (shown_cut 0 (columns 10) operator id true (db 6)
+            (new.now.trees 6) e6),
       )
 
 -- ---- a plan
@@ -85,17 +105,30 @@ pub record AreLeft (operator id : List ℕ) (b : Bool) (mid next : Trees) : Type
   pub volumes : next 4 ≡ cond b (filter (λ r. not (has_key operator id r)) (mid 4)) (mid 4)
   pub spans : next 6 ≡ cond b (filter (λ r. not (has_key operator id r)) (mid 6)) (mid 6)
 
-module _ (operator id : List ℕ) (olds : List Row) (all : AllByRecursion (λ old. has_key operator id old ≡ true) olds) (mid next : Trees) (four : AreNumbered (mid 4)) (six : AreNumbered (mid 6)) where
+module _ (operator id : List ℕ) (olds : List Row) (all : AllByRecursion
+    (λ old. has_key operator id old ≡ true) olds) (mid next : Trees) (four : AreNumbered (mid 4))
+    (six : AreNumbered (mid 6)) where
   abbrev moves : List (Row × Row)
   moves = pairs olds []
 
-  goes : (table : Table) → some olds ≡ true → (rows : List Row) → filter (λ r. not (child_of moves next table r)) rows ≡ filter (λ r. not (has_key operator id r)) rows
-  goes table is rows = filter_same _ _ (λ r. ap not (children_are (delete_on table moves) refl refl refl operator id r olds all ∙ ap (λ b. b && has_key operator id r) is)) rows
+  goes : (table : Table) → some olds ≡ true → (rows : List Row)
+      → filter (λ r. not (child_of moves next table r)) rows
+      ≡ filter (λ r. not (has_key operator id r)) rows
+  goes table is rows = filter_same _ _ (λ r. ap not
+      (children_are (delete_on table moves) refl refl refl operator id r olds all
+      ∙ ap (λ b. b && has_key operator id r) is)) rows
 
-  all_left : (b : Bool) → some olds ≡ b → Settles desk_schema Enforced mid (cond b (delete_on volumes_at moves ∷ delete_on spans_at moves ∷ []) []) (Ok next) → AreLeft operator id b mid next
+  all_left : (b : Bool) → some olds ≡ b → Settles desk_schema Enforced mid
+      (cond b (delete_on volumes_at moves ∷ delete_on spans_at moves ∷ []) []) (Ok next)
+      → AreLeft operator id b mid next
   all_left false none h =
       let same : next ≡ mid = sym (ended moves next h.0 mid h.1) in
-      record { operators = ap (λ (t : Trees). t 0) same; plans = ap (λ (t : Trees). t 2) same; volumes = ap (λ (t : Trees). t 4) same; spans = ap (λ (t : Trees). t 6) same }
+      record {
+        operators = ap (λ (t : Trees). t 0) same;
+        plans = ap (λ (t : Trees). t 2) same;
+        volumes = ap (λ (t : Trees). t 4) same;
+        spans = ap (λ (t : Trees). t 6) same;
+      }
   all_left true is h =
       let done = both_go moves next h.0 mid four six h.1 in
       let spans = done.1 in
@@ -103,7 +136,8 @@ module _ (operator id : List ℕ) (olds : List Row) (all : AllByRecursion (λ ol
       record {
         operators = volumes.others.0 (λ e. cc) ∙ spans.others.0 (λ e. cc);
         plans = volumes.others.1.0 (λ e. cc) ∙ spans.others.1.0 (λ e. cc);
-        volumes = volumes.rows ∙ goes volumes_at is (done.0 4) ∙ ap (filter (λ r. not (has_key operator id r))) (spans.others.1.1.0 (λ e. cc));
+        volumes = volumes.rows ∙ goes volumes_at is (done.0 4)
+            ∙ ap (filter (λ r. not (has_key operator id r))) (spans.others.1.1.0 (λ e. cc));
         spans = volumes.others.1.1.1.0 (λ e. cc) ∙ spans.rows ∙ goes spans_at is (mid 6);
       }
 
@@ -111,14 +145,22 @@ module _ (operator id : List ℕ) (old new : State) where
   abbrev plan_params : Row
   plan_params = Text operator ∷ Text id ∷ []
 
-  pub remove_plan : IsDesk old.now → (count : ℕ) → Executes remove_plan_text plan_params old new (Ok count) → IsDesk new.now × RemovesPlan operator id (tables_of old.now.trees) (tables_of new.now.trees)
+  pub remove_plan : IsDesk old.now → (count : ℕ)
+      → Executes remove_plan_text plan_params old new (Ok count)
+      → IsDesk new.now × RemovesPlan operator id (tables_of old.now.trees) (tables_of new.now.trees)
   remove_plan desk count h =
       let db = old.now.trees in
       let q : Program = record { lets = []; body = remove_plan_query } in
       let d = deletes remove_plan_text plan_params old new desk 1 q remove_plan_is count h in
-      let it = rows_written (task_at old.step_limit plan_params plan_table.name plan_table.columns plan_table.primary plan_table.references 2) (Delete 1 q) db d.0 new.now d.1 in
-      let f = delete_finds old.step_limit plan_params plan_table.name plan_table.columns plan_table.primary plan_table.references 2 db remove_plan_query.filter (has_key operator id) it.0 refl (by_key operator id) it.1 in
-      let edit = delete_edit old.step_limit plan_params plan_table.name plan_table.columns plan_table.primary plan_table.references 2 db f.found in
+      let it = rows_written (task_at old.step_limit plan_params plan_table.name plan_table.columns
+      plan_table.primary plan_table.references 2) (Delete 1 q) db d.0 new.now d.1 in
+      let f = delete_finds old.step_limit plan_params plan_table.name plan_table.columns
+      plan_table.primary
+      plan_table.references 2 db remove_plan_query.filter (has_key operator id) it.0 refl
+      (by_key operator id) it.1 in
+      let edit = delete_edit old.step_limit plan_params plan_table.name plan_table.columns
+      plan_table.primary
+      plan_table.references 2 db f.found in
       let step = stepped (Settles desk_schema Enforced) db edit 0 [] it.0.trees f.writes in
       let mid = step.0 in
       let next = it.0.trees in
@@ -129,25 +171,40 @@ module _ (operator id : List ℕ) (old new : State) where
       let m0 : mid 0 ≡ db 0 = step.1.tables.0 (λ e. cc) in
       let m4 : mid 4 ≡ db 4 = step.1.tables.1.1.0 (λ e. cc) in
       let m6 : mid 6 ≡ db 6 = step.1.tables.1.1.1.0 (λ e. cc) in
-      let m2 : mid 2 ≡ filter (λ r. not (has_key operator id r)) (db 2) = step.1.rows ∙ removed (has_key operator id) (db 2) f.found desk.plans f.are in
-      let settled = subst (λ ws. Settles desk_schema Enforced mid ws (Ok next)) (plan_works olds b (all_lost operator id olds all ∙ is)) step.2 in
-      let left = all_left operator id olds all mid next (subst AreNumbered (sym m4) desk.volumes) (subst AreNumbered (sym m6) desk.spans) b is settled in
+      let m2 : mid 2 ≡ filter (λ r. not (has_key operator id r)) (db 2) = step.1.rows
+      ∙ removed (has_key operator id) (db 2) f.found desk.plans f.are in
+      let settled = subst (λ ws. Settles desk_schema Enforced mid ws (Ok next))
+      (plan_works olds b (all_lost operator id olds all ∙ is)) step.2 in
+      let left = all_left operator id olds all mid next (subst AreNumbered (sym m4) desk.volumes)
+      (subst AreNumbered (sym m6) desk.spans) b is settled in
       let now : new.now.trees ≡ next = ap (λ (d : Database). d.trees) it.2 in
       let e0 : new.now.trees 0 ≡ db 0 = ap (λ (t : Trees). t 0) now ∙ left.operators ∙ m0 in
-      let e2 : new.now.trees 2 ≡ filter (λ r. not (has_key operator id r)) (db 2) = ap (λ (t : Trees). t 2) now ∙ left.plans ∙ m2 in
+      let e2 : new.now.trees 2 ≡ filter (λ r. not (has_key operator id r)) (db 2) =
+      ap (λ (t : Trees). t 2) now ∙ left.plans ∙ m2 in
       let e4 : new.now.trees 4 ≡ cond b (filter (λ r. not (has_key operator id r)) (db 4)) (db 4) =
-      ap (λ (t : Trees). t 4) now ∙ left.volumes ∙ ap (λ rows. cond b (filter (λ r. not (has_key operator id r)) rows) rows) m4 in
+      ap (λ (t : Trees). t 4) now ∙ left.volumes ∙ ap
+      (λ rows. cond b (filter (λ r. not (has_key operator id r)) rows) rows) m4 in
       let e6 : new.now.trees 6 ≡ cond b (filter (λ r. not (has_key operator id r)) (db 6)) (db 6) =
-      ap (λ (t : Trees). t 6) now ∙ left.spans ∙ ap (λ rows. cond b (filter (λ r. not (has_key operator id r)) rows) rows) m6 in
-      let shown : b ≡ list_any (is_of operator id) (map (columns 5) (db 2)) = sym (any_map (is_of operator id) (columns 5) (db 2)) in (
+      ap (λ (t : Trees). t 6) now ∙ left.spans ∙ ap
+      (λ rows. cond b (filter (λ r. not (has_key operator id r)) rows) rows) m6 in
+      let shown : b ≡ list_any (is_of operator id) (map (columns 5) (db 2)) =
+      sym (any_map (is_of operator id) (columns 5) (db 2)) in (
         record {
           schema = ap (λ (d : Database). d.schema) it.2;
           operators = subst AreNumbered (sym e0) desk.operators;
-          plans = subst AreNumbered (sym e2) (numbered_kept (λ r. not (has_key operator id r)) (db 2) desk.plans);
-          volumes = numbered_cut (λ r. not (has_key operator id r)) b (db 4) (new.now.trees 4) e4 desk.volumes;
-          spans = numbered_cut (λ r. not (has_key operator id r)) b (db 6) (new.now.trees 6) e6 desk.spans;
+          plans = subst AreNumbered (sym e2) (numbered_kept (λ r. not (has_key operator id r)) (db 2)
+              desk.plans);
+          volumes = numbered_cut (λ r. not (has_key operator id r)) b (db 4) (new.now.trees 4) e4
+              desk.volumes;
+          spans = numbered_cut (λ r. not (has_key operator id r)) b (db 6) (new.now.trees 6) e6
+              desk.spans;
         },
-        tables_are new.now.trees _ _ _ _ (ap (map (columns 2)) e0) (shown_cut 0 (columns 5) operator id true (db 2) (new.now.trees 2) e2)
-            (shown_cut 0 (columns 8) operator id b (db 4) (new.now.trees 4) e4 ∙ ap (λ c. cond c (filter (is_not_of operator id) (map (columns 8) (db 4))) (map (columns 8) (db 4))) shown)
-            (shown_cut 0 (columns 10) operator id b (db 6) (new.now.trees 6) e6 ∙ ap (λ c. cond c (filter (is_not_of operator id) (map (columns 10) (db 6))) (map (columns 10) (db 6))) shown),
+        tables_are new.now.trees _ _ _ _ (ap (map (columns 2)) e0)
+            (shown_cut 0 (columns 5) operator id true (db 2) (new.now.trees 2) e2)
+            (shown_cut 0 (columns 8) operator id b (db 4) (new.now.trees 4) e4
+            ∙ ap (λ c. cond c (filter (is_not_of operator id) (map (columns 8) (db 4)))
+            (map (columns 8) (db 4))) shown)
+            (shown_cut 0 (columns 10) operator id b (db 6) (new.now.trees 6) e6
+            ∙ ap (λ c. cond c (filter (is_not_of operator id) (map (columns 10) (db 6)))
+            (map (columns 10) (db 6))) shown),
       )

@@ -67,21 +67,31 @@ none_above [] = tt
 none_above (r ∷ rows) = (tt, none_above rows)
 
 module _ (r : Row) (rows : List Row) where
-  above_all : (last : Option ℤ) (n : ℤ) → rowid r ≡ Int n → exceeds last n ≡ true → AllByRecursion (IsAbove (Some n)) rows → AllByRecursion (IsAbove last) (r ∷ rows)
+  above_all : (last : Option ℤ) (n : ℤ) → rowid r ≡ Int n → exceeds last n ≡ true
+      → AllByRecursion (IsAbove (Some n)) rows → AllByRecursion (IsAbove last) (r ∷ rows)
   above_all None n is up more = (tt, none_above rows)
   above_all (Some m) n is up more =
-      let less = less_if m n up in
-      (subst (λ v. value_cmp (Int m) v ≡ Less) (sym is) less, all_weaker (IsAbove (Some n)) (IsAbove (Some m)) (λ x h. value_cmp_total.trans (Int m) (Int n) (rowid x) less h) rows more)
+      let less = less_if m n up in (
+        subst (λ v. value_cmp (Int m) v ≡ Less) (sym is) less,
+        all_weaker (IsAbove (Some n)) (IsAbove (Some m))
+            (λ x h. value_cmp_total.trans (Int m) (Int n) (rowid x) less h) rows more,
+      )
 
   module _ (last : Option ℤ) (later : (n : ℤ) → rises rows (Some n) ≡ true → Rises (Some n) rows) where
-    if_above : (n : ℤ) → rowid r ≡ Int n → (b : Bool) → exceeds last n ≡ b → rises_after (rises rows) (if b then Some n else None) ≡ true → Rises last (r ∷ rows)
+    if_above : (n : ℤ) → rowid r ≡ Int n → (b : Bool) → exceeds last n ≡ b
+        → rises_after (rises rows) (if b then Some n else None) ≡ true → Rises last (r ∷ rows)
     if_above n is false up h = absurd (true≢false (sym h))
     if_above n is true up h =
         let more = later n h in
-        let first = subst (λ v. AllByRecursion (λ b. value_cmp v (rowid b) ≡ Less) rows) (sym is) more.1 in
-        (record { whole = (ap is_int is, more.0.whole); rising = (first, more.0.rising) }, above_all last n is up more.1)
+        let first = subst (λ v. AllByRecursion (λ b. value_cmp v (rowid b) ≡ Less) rows) (sym is) more.1
+        in (
+          record { whole = (ap is_int is, more.0.whole); rising = (first, more.0.rising) },
+          above_all last n is
+              up more.1,
+        )
 
-    if_rises : (v : Value) → rowid r ≡ v → rises_after (rises rows) (next_above last v) ≡ true → Rises last (r ∷ rows)
+    if_rises : (v : Value) → rowid r ≡ v → rises_after (rises rows) (next_above last v) ≡ true
+        → Rises last (r ∷ rows)
     if_rises Null is h = absurd (true≢false (sym h))
     if_rises (Int n) is h = if_above n is (exceeds last n) refl h
     if_rises (Real x) is h = absurd (true≢false (sym h))
@@ -92,11 +102,15 @@ module _ (r : Row) (rows : List Row) where
   exceeds_if None n is up = refl
   exceeds_if (Some m) n is up = lt_if m n (subst (λ v. value_cmp (Int m) v ≡ Less) is up)
 
-  then_rises : (last : Option ℤ) → ((n : ℤ) → AllByRecursion (IsAbove (Some n)) rows → rises rows (Some n) ≡ true) → (v : Value) → rowid r ≡ v → is_int v ≡ true
-      → IsAbove last r → AllByRecursion (λ b. value_cmp (rowid r) (rowid b) ≡ Less) rows → rises_after (rises rows) (next_above last v) ≡ true
+  then_rises : (last : Option ℤ) → ((n : ℤ) → AllByRecursion (IsAbove (Some n)) rows
+      → rises rows (Some n)
+      ≡ true) → (v : Value) → rowid r ≡ v → is_int v ≡ true
+      → IsAbove last r → AllByRecursion (λ b. value_cmp (rowid r) (rowid b) ≡ Less) rows
+      → rises_after (rises rows) (next_above last v) ≡ true
   then_rises last later Null is int up more = absurd (true≢false (sym int))
   then_rises last later (Int n) is int up more =
-      ap (λ b. rises_after (rises rows) (if b then Some n else None)) (exceeds_if last n is up) ∙ later n (subst (λ v. AllByRecursion (λ b. value_cmp v (rowid b) ≡ Less) rows) is more)
+      ap (λ b. rises_after (rises rows) (if b then Some n else None)) (exceeds_if last n is up)
+      ∙ later n (subst (λ v. AllByRecursion (λ b. value_cmp v (rowid b) ≡ Less) rows) is more)
   then_rises last later (Real x) is int up more = absurd (true≢false (sym int))
   then_rises last later (Text t) is int up more = absurd (true≢false (sym int))
   then_rises last later (Blob b) is int up more = absurd (true≢false (sym int))
@@ -105,19 +119,31 @@ are_rising : (rows : List Row) (last : Option ℤ) → rises rows last ≡ true 
 are_rising [] last h = (record { whole = tt; rising = tt }, tt)
 are_rising (r ∷ rows) last h = if_rises r rows last (λ n. are_rising rows (Some n)) (rowid r) refl h
 
-do_rise : (rows : List Row) (last : Option ℤ) → AreRising rows → AllByRecursion (IsAbove last) rows → rises rows last ≡ true
+do_rise : (rows : List Row) (last : Option ℤ) → AreRising rows → AllByRecursion (IsAbove last) rows
+    → rises rows last ≡ true
 do_rise [] last up above = refl
 do_rise (r ∷ rows) last up above =
-    then_rises r rows last (λ n. do_rise rows (Some n) (record { whole = up.whole.1; rising = up.rising.1 })) (rowid r) refl up.whole.0 above.0 up.rising.0
+    then_rises r rows last (λ n. do_rise rows (Some n)
+    (record { whole = up.whole.1; rising = up.rising.1 }))
+    (rowid r) refl up.whole.0 above.0 up.rising.0
 
-pub rising_just_if : (rows : List Row) (b : Bool) → rises rows None ≡ b → (IsTrue b → AreRising rows) × (AreRising rows → IsTrue b)
-rising_just_if rows b is = (λ yes. (are_rising rows None (is ∙ yes)).0, λ up. sym is ∙ do_rise rows None up (none_above rows))
+pub rising_just_if : (rows : List Row) (b : Bool) → rises rows None ≡ b → (IsTrue b → AreRising rows)
+    × (AreRising rows → IsTrue b)
+rising_just_if rows b is = (
+  λ yes. (are_rising rows None (is ∙ yes)).0,
+  λ up. sym is
+      ∙ do_rise rows None up (none_above rows),
+)
 
-pub risen : (rows : List Row) (i : ℕ) (last : Option ℤ) → length rows ≤ i → rises (drop i rows) last ≡ true
+pub risen : (rows : List Row) (i : ℕ) (last : Option ℤ) → length rows ≤ i → rises (drop i rows) last
+    ≡ true
 risen rows i last all = ap (λ xs. rises xs last) (drop_of_length-le rows all)
 
-pub fallen : (rows : List Row) (i : ℕ) (last : Option ℤ) (r : Row) → i < length rows → r ≡ get_or rows i r → next_above last (rowid r) ≡ None → rises (drop i rows) last ≡ false
-fallen rows i last r low is none = ap (λ xs. rises xs last) (drop-cons rows i r low) ∙ ap (rises_after (rises (drop (suc i) rows))) (ap (λ x. next_above last (rowid x)) (sym is) ∙ none)
+pub fallen : (rows : List Row) (i : ℕ) (last : Option ℤ) (r : Row) → i < length rows → r
+    ≡ get_or rows i r
+    → next_above last (rowid r) ≡ None → rises (drop i rows) last ≡ false
+fallen rows i last r low is none = ap (λ xs. rises xs last) (drop-cons rows i r low)
+    ∙ ap (rises_after (rises (drop (suc i) rows))) (ap (λ x. next_above last (rowid x)) (sym is) ∙ none)
 
 -- ---- an answer with the rowids of a table
 
@@ -125,7 +151,8 @@ abbrev is_same_id : Row → Row → Bool
 is_same_id a b = is_eq (value_cmp (rowid a) (rowid b))
 
 flips : (a b : Row) → is_same_id a b ≡ is_same_id b a
-flips a b = ap is_eq (value_cmp_total.antisymm (rowid a) (rowid b)) ∙ reversed (value_cmp (rowid b) (rowid a))
+flips a b = ap is_eq (value_cmp_total.antisymm (rowid a) (rowid b))
+    ∙ reversed (value_cmp (rowid b) (rowid a))
 
 to_distinct : (rows : List Row) → IsAscending IsApart rows → IsDistinct is_same_id rows
 unfolding IsDistinct
@@ -137,33 +164,56 @@ unfolding IsDistinct
 from_distinct [] apart = tt
 from_distinct (r ∷ rows) apart = (apart.0, from_distinct rows apart.1)
 
-numbered_by : (rows shown : List Row) → IsPermutation (map (λ r. rowid r ∷ []) rows) shown → AreRising shown → AreNumbered rows
+numbered_by : (rows shown : List Row) → IsPermutation (map (λ r. rowid r ∷ []) rows) shown
+    → AreRising shown
+    → AreNumbered rows
 numbered_by rows shown same up =
     let cells = map (λ (r : Row). rowid r ∷ []) rows in
     let back = IsPermutation-sym cells shown same in
-    let apart = ascending_weaker (λ a b. value_cmp (rowid a) (rowid b) ≡ Less) IsApart (λ a b h. ap is_eq h) shown up.rising in
+    let apart = ascending_weaker (λ a b. value_cmp (rowid a) (rowid b) ≡ Less) IsApart
+    (λ a b h. ap is_eq h)
+    shown up.rising in
     record {
-      whole = all_unmap (λ r. is_int (rowid r) ≡ true) (λ (r : Row). rowid r ∷ []) rows (all-permutation (λ r. is_int (rowid r) ≡ true) shown cells back up.whole);
-      distinct = ascending_from_map IsApart (λ (r : Row). rowid r ∷ []) rows (from_distinct cells (IsDistinct-IsPermutation is_same_id flips shown cells back (to_distinct shown apart)));
+      whole = all_unmap (λ r. is_int (rowid r) ≡ true) (λ (r : Row). rowid r ∷ []) rows
+          (all-permutation (λ r. is_int (rowid r) ≡ true) shown cells back up.whole);
+      distinct = ascending_from_map IsApart (λ (r : Row). rowid r ∷ []) rows
+          (from_distinct cells (IsDistinct-IsPermutation is_same_id flips shown cells back
+          (to_distinct shown apart)));
     }
 
-module _ {S : Type 0} (g : Ghosts S) (old new : Held S) (text : List ℕ) (tree : ℕ) (is : IsQuery text (rowids_query tree) (codes "rowid" ∷ [])) (alone : (db : Trees) → overlay db [] tree ≡ db tree) where
-  pub numbered_if : Holds g old HasDeskSchema → (HasCleanDisk (state g new) → HasCleanDisk (state g old)) → IsKept g old new → (rows : List Row)
-      → (HasCleanDisk (state g new) → Shown text [] (state g old) (state g new) rows) → AreRising rows → Holds g new (λ (db : Database). AreNumbered (db.trees tree))
+module _ {S : Type 0} (g : Ghosts S) (old new : Held S) (text : List ℕ) (tree : ℕ)
+    (is : IsQuery text (rowids_query tree) (codes "rowid" ∷ []))
+    (alone : (db : Trees) → overlay db [] tree ≡ db tree) where
+  pub numbered_if : Holds g old HasDeskSchema → (HasCleanDisk (state g new)
+      → HasCleanDisk (state g old))
+      → IsKept g old new → (rows : List Row)
+      → (HasCleanDisk (state g new) → Shown text [] (state g old) (state g new) rows) → AreRising rows
+      → Holds g new (λ (db : Database). AreNumbered (db.trees tree))
   numbered_if known was kept rows shown up clean live =
       let before = kept clean live in
       let stored = (state g old).now.trees tree in
-      let cells = scanned (λ r. [] ∷ r ∷ []) [] (col 1 0 ∷ []) (λ r. rowid r ∷ []) (λ r. true) (λ r. refl) (λ r. refl) stored ∙ every (map (λ (r : Row). rowid r ∷ []) stored) in
-      let all_cells : map (eval_all (col 1 0 ∷ [])) (matches (overlay (state g old).now.trees []) [] (inner tree end) ([] ∷ [])) ≡ map (λ (r : Row). rowid r ∷ []) stored =
-      subst (λ rows. map (eval_all (col 1 0 ∷ [])) (flat_map (λ r. cond (list_all (holds ([] ∷ r ∷ [])) []) (([] ∷ r ∷ []) ∷ []) []) rows) ≡ map (λ (r : Row). rowid r ∷ []) stored) (sym (alone (state g old).now.trees)) cells in
-      let all = shows text _ _ _ _ _ is [] (state g old) (state g new) rows (known (was clean) before.was_open) (shown clean) in
-      subst (λ (db : Database). AreNumbered (db.trees tree)) (sym before.now) (numbered_by stored rows (subst (λ xs. IsPermutation xs rows) all_cells all) up)
+      let cells = scanned (λ r. [] ∷ r ∷ []) [] (col 1 0 ∷ []) (λ r. rowid r ∷ []) (λ r. true)
+      (λ r. refl)
+      (λ r. refl) stored ∙ every (map (λ (r : Row). rowid r ∷ []) stored) in
+      let all_cells : map (eval_all (col 1 0 ∷ []))
+      (matches (overlay (state g old).now.trees []) [] (inner tree end) ([] ∷ []))
+      ≡ map (λ (r : Row). rowid r ∷ []) stored =
+      subst (λ rows. map (eval_all (col 1 0 ∷ []))
+      (flat_map (λ r. cond (list_all (holds ([] ∷ r ∷ [])) []) (([] ∷ r ∷ []) ∷ []) []) rows)
+      ≡ map (λ (r : Row). rowid r ∷ []) stored) (sym (alone (state g old).now.trees)) cells in
+      let all = shows text _ _ _ _ _ is [] (state g old) (state g new) rows
+      (known (was clean) before.was_open) (shown clean) in
+      subst (λ (db : Database). AreNumbered (db.trees tree)) (sym before.now)
+      (numbered_by stored rows (subst (λ xs. IsPermutation xs rows) all_cells all) up)
 
 -- what a later call keeps
-pub still : {S : Type 0} (g : Ghosts S) (old new : Held S) (Is : Database → Type 0) → Holds g old Is → (HasCleanDisk (state g new) → HasCleanDisk (state g old)) → IsKept g old new → Holds g new Is
-still g old new Is holds was kept clean live = let before = kept clean live in subst Is (sym before.now) (holds (was clean) before.was_open)
+pub still : {S : Type 0} (g : Ghosts S) (old new : Held S) (Is : Database → Type 0) → Holds g old Is
+    → (HasCleanDisk (state g new) → HasCleanDisk (state g old)) → IsKept g old new → Holds g new Is
+still g old new Is holds was kept clean live = let before = kept clean live
+    in subst Is (sym before.now) (holds (was clean) before.was_open)
 
-pub kept_on : {S : Type 0} (g : Ghosts S) (old mid new : Held S) → IsKept g old mid → (HasCleanDisk (state g new) → HasCleanDisk (state g mid)) → IsKept g mid new → IsKept g old new
+pub kept_on : {S : Type 0} (g : Ghosts S) (old mid new : Held S) → IsKept g old mid
+    → (HasCleanDisk (state g new) → HasCleanDisk (state g mid)) → IsKept g mid new → IsKept g old new
 kept_on g old mid new first was second clean live =
     let b = second clean live in
     let a = first (was clean) b.was_open in
@@ -181,52 +231,92 @@ less_than Less up apart = refl
 less_than Equal up apart = absurd (true≢false apart)
 less_than Greater up apart = absurd (true≢false up)
 
-below_rest : (r : Row) (rows : List Row) → IsSorted (by_cells (0 ∷ [])) (r ∷ rows) → AllByRecursion (IsApart r) rows → IsTable rows → AllByRecursion (λ b. value_cmp (rowid r) (rowid b) ≡ Less) rows
+below_rest : (r : Row) (rows : List Row) → IsSorted (by_cells (0 ∷ [])) (r ∷ rows)
+    → AllByRecursion (IsApart r) rows → IsTable rows
+    → AllByRecursion (λ b. value_cmp (rowid r) (rowid b) ≡ Less) rows
 below_rest r [] sorted apart up = tt
 below_rest r (x ∷ rows) sorted apart up =
-    let above : is_lt (value_cmp (rowid x) (rowid r)) ≡ false = sym (then_is (value_cmp (rowid x) (rowid r))) ∙ sorted 0 r (omega arith) (omega arith) in
-    let first = less_than (value_cmp (rowid r) (rowid x)) (ap is_lt (sym (value_cmp_total.antisymm (rowid x) (rowid r))) ∙ above) apart.0 in
-    (first, all_weaker (λ b. value_cmp (rowid x) (rowid b) ≡ Less) (λ b. value_cmp (rowid r) (rowid b) ≡ Less) (λ b h. value_cmp_total.trans (rowid r) (rowid x) (rowid b) first h) rows up.0)
+    let above : is_lt (value_cmp (rowid x) (rowid r)) ≡ false =
+    sym (then_is (value_cmp (rowid x) (rowid r)))
+    ∙ sorted 0 r (omega arith) (omega arith) in
+    let first = less_than (value_cmp (rowid r) (rowid x))
+    (ap is_lt (sym (value_cmp_total.antisymm (rowid x) (rowid r))) ∙ above) apart.0 in (
+      first,
+      all_weaker (λ b. value_cmp (rowid x) (rowid b) ≡ Less) (λ b. value_cmp (rowid r) (rowid b) ≡ Less)
+          (λ b h. value_cmp_total.trans (rowid r) (rowid x) (rowid b) first h) rows up.0,
+    )
 
-sorted_table : (rows : List Row) → IsSorted (by_cells (0 ∷ [])) rows → IsAscending IsApart rows → IsTable rows
+sorted_table : (rows : List Row) → IsSorted (by_cells (0 ∷ [])) rows → IsAscending IsApart rows
+    → IsTable rows
 sorted_table [] sorted apart = tt
 sorted_table (r ∷ rows) sorted apart =
-    let tail : IsSorted (by_cells (0 ∷ [])) rows = λ k d p q. rw add-one (rw add-one at (sorted (suc k) d (omega arith) (omega arith))) in
+    let tail : IsSorted (by_cells (0 ∷ [])) rows =
+    λ k d p q. rw add-one (rw add-one at (sorted (suc k) d (omega arith) (omega arith))) in
     let up = sorted_table rows tail apart.1 in
     (below_rest r rows sorted apart.0 up, up)
 
-rising_by : (rows shown : List Row) → Lists (0 ∷ []) (map (λ r. rowid r ∷ []) rows) shown → AreNumbered rows → AreRising shown
+rising_by : (rows shown : List Row) → Lists (0 ∷ []) (map (λ r. rowid r ∷ []) rows) shown
+    → AreNumbered rows
+    → AreRising shown
 rising_by rows shown lists num =
     let cells = map (λ (r : Row). rowid r ∷ []) rows in
     let apart = ascending-map IsApart (λ (r : Row). rowid r ∷ []) rows num.distinct in
     record {
-      whole = all-permutation (λ r. is_int (rowid r) ≡ true) cells shown lists.same (all_map (λ r. is_int (rowid r) ≡ true) (λ (r : Row). rowid r ∷ []) rows num.whole);
-      rising = sorted_table shown lists.sorted (from_distinct shown (IsDistinct-IsPermutation is_same_id flips cells shown lists.same (to_distinct cells apart)));
+      whole = all-permutation (λ r. is_int (rowid r) ≡ true) cells shown lists.same
+          (all_map (λ r. is_int (rowid r) ≡ true) (λ (r : Row). rowid r ∷ []) rows num.whole);
+      rising = sorted_table shown lists.sorted (from_distinct shown
+          (IsDistinct-IsPermutation is_same_id flips cells shown lists.same (to_distinct cells apart)));
     }
 
-module _ {S : Type 0} (g : Ghosts S) (old new : Held S) (text : List ℕ) (tree : ℕ) (is : IsQuery text (rowids_query tree) (codes "rowid" ∷ [])) (alone : (db : Trees) → overlay db [] tree ≡ db tree) where
-  rises_if : (rows : List Row) → IsDesk (state g old).now → AreNumbered ((state g old).now.trees tree) → Shown text [] (state g old) (state g new) rows → AreRising rows
+module _ {S : Type 0} (g : Ghosts S) (old new : Held S) (text : List ℕ) (tree : ℕ)
+    (is : IsQuery text (rowids_query tree) (codes "rowid" ∷ []))
+    (alone : (db : Trees) → overlay db [] tree ≡ db tree) where
+  rises_if : (rows : List Row) → IsDesk (state g old).now → AreNumbered ((state g old).now.trees tree)
+      → Shown text [] (state g old) (state g new) rows → AreRising rows
   rises_if rows desk num shown =
       let stored = (state g old).now.trees tree in
-      let cells = scanned (λ r. [] ∷ r ∷ []) [] (col 1 0 ∷ []) (λ r. rowid r ∷ []) (λ r. true) (λ r. refl) (λ r. refl) stored ∙ every (map (λ (r : Row). rowid r ∷ []) stored) in
-      let all_cells : map (eval_all (col 1 0 ∷ [])) (matches (overlay (state g old).now.trees []) [] (inner tree end) ([] ∷ [])) ≡ map (λ (r : Row). rowid r ∷ []) stored =
-      subst (λ rows. map (eval_all (col 1 0 ∷ [])) (flat_map (λ r. cond (list_all (holds ([] ∷ r ∷ [])) []) (([] ∷ r ∷ []) ∷ []) []) rows) ≡ map (λ (r : Row). rowid r ∷ []) stored) (sym (alone (state g old).now.trees)) cells in
-      rising_by stored rows (lists text _ _ _ _ _ is [] (state g old) (state g new) rows desk shown (0 ∷ []) _ (λ e. refl) (λ x y. refl) all_cells) num
+      let cells = scanned (λ r. [] ∷ r ∷ []) [] (col 1 0 ∷ []) (λ r. rowid r ∷ []) (λ r. true)
+      (λ r. refl)
+      (λ r. refl) stored ∙ every (map (λ (r : Row). rowid r ∷ []) stored) in
+      let all_cells : map (eval_all (col 1 0 ∷ []))
+      (matches (overlay (state g old).now.trees []) [] (inner tree end) ([] ∷ []))
+      ≡ map (λ (r : Row). rowid r ∷ []) stored =
+      subst (λ rows. map (eval_all (col 1 0 ∷ []))
+      (flat_map (λ r. cond (list_all (holds ([] ∷ r ∷ [])) []) (([] ∷ r ∷ []) ∷ []) []) rows)
+      ≡ map (λ (r : Row). rowid r ∷ []) stored) (sym (alone (state g old).now.trees)) cells in
+      rising_by stored rows (lists text _ _ _ _ _ is [] (state g old) (state g new) rows desk shown
+      (0 ∷ []) _
+      (λ e. refl) (λ x y. refl) all_cells) num
 
   -- why a table is not found to be numbered
-  pub unread_if : {V : Type 0} → Holds g old HasDeskSchema → HasCleanDisk (state g old) → IsTrue (state g old).is_open → (IsDesk (state g old).now → AreNumbered ((state g old).now.trees tree)) → (rows : List Row)
-      → Shown text [] (state g old) (state g new) rows → (r : Result V Error) → OnErr r (¬ AreRising rows) → IfErr r (λ e. e ≡ SqliteFailure DatabaseCorrupt) → IfErr r (IsUnread g old new)
+  pub unread_if : {V : Type 0} → Holds g old HasDeskSchema → HasCleanDisk (state g old)
+      → IsTrue (state g old).is_open → (IsDesk (state g old).now
+      → AreNumbered ((state g old).now.trees tree))
+      → (rows : List Row)
+      → Shown text [] (state g old) (state g new) rows → (r : Result V Error)
+      → OnErr r (¬ AreRising rows)
+      → IfErr r (λ e. e ≡ SqliteFailure DatabaseCorrupt) → IfErr r (IsUnread g old new)
   unread_if known clean live numbered rows shown (Ok v) broken told = tt
-  unread_if known clean live numbered rows shown (Err e) broken told = inr (told, record { schema = known clean live; unsound = λ desk. broken (rises_if rows desk (numbered desk) shown) })
+  unread_if known clean live numbered rows shown (Err e) broken told =
+      inr (
+        told,
+        record {
+          schema = known clean live;
+          unsound = λ desk. broken (rises_if rows desk (numbered desk) shown);
+        },
+      )
 
-module _ {S : Type 0} (g : Ghosts S) (old mid new : Held S) (fewer : (state g old).faults ≤ (state g mid).faults) (limit : mid.step_limit ≡ old.step_limit) where
-  -- a cause that comes after a call is one since before that call
-  pub refusal_on : (e : Error) → IsRefusal g mid new e → IsRefusal g old new e
-  refusal_on e (inl h) = inl h
-  refusal_on e (inr (inl h)) = inr (inl (omega (arith, h, fewer)))
-  refusal_on e (inr (inr h)) = inr (inr (h.0, subst IsSome limit h.1))
+module _ {S : Type 0} (g : Ghosts S) (old mid new : Held S)
+    (fewer : (state g old).faults ≤ (state g mid).faults) (limit : mid.step_limit ≡ old.step_limit)
+  where
+    -- a cause that comes after a call is one since before that call
+    pub refusal_on : (e : Error) → IsRefusal g mid new e → IsRefusal g old new e
+    refusal_on e (inl h) = inl h
+    refusal_on e (inr (inl h)) = inr (inl (omega (arith, h, fewer)))
+    refusal_on e (inr (inr h)) = inr (inr (h.0, subst IsSome limit h.1))
 
-  pub unread_on : {V : Type 0} → (state g mid).now ≡ (state g old).now → (r : Result V Error) → IfErr r (IsUnread g mid new) → IfErr r (IsUnread g old new)
-  unread_on same (Ok v) why = tt
-  unread_on same (Err e) (inl h) = inl (refusal_on e h)
-  unread_on same (Err e) (inr h) = inr (h.0, subst IsMisnumbered same h.1)
+    pub unread_on : {V : Type 0} → (state g mid).now ≡ (state g old).now → (r : Result V Error)
+        → IfErr r (IsUnread g mid new) → IfErr r (IsUnread g old new)
+    unread_on same (Ok v) why = tt
+    unread_on same (Err e) (inl h) = inl (refusal_on e h)
+    unread_on same (Err e) (inr h) = inr (h.0, subst IsMisnumbered same h.1)

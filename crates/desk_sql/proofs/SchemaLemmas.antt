@@ -12,5 +12,10 @@ indexes_are = refl
 pub has_desk_indexes : (s : Schema) → s ≡ desk_schema → s.indexes ≡ desk_indexes
 has_desk_indexes s is = ap (λ t. t.indexes) is ∙ indexes_are
 
-pub is_desk : (s : Schema) → s.tables ≡ desk_schema.tables → s.indexes ≡ desk_indexes → s.views ≡ [] → s ≡ desk_schema
-is_desk s tables indexes views = λ i. record { tables = tables i; indexes = (indexes ∙ sym indexes_are) i; views = views i }
+pub is_desk : (s : Schema) → s.tables ≡ desk_schema.tables → s.indexes ≡ desk_indexes → s.views ≡ [] → s
+    ≡ desk_schema
+is_desk s tables indexes views = λ i. record {
+  tables = tables i;
+  indexes = (indexes ∙ sym indexes_are) i;
+  views = views i;
+}

@@ -26,10 +26,15 @@ use Rattle.desk_sql.proofs.UpdateLemmas.{update_sets, changes, operator_quiet, p
 
 text_same : (v : Value) (t : List ℕ) → is_text v t ≡ true → v ≡ Text t
 text_same Null t h = absurd (true≢false (sym h ∙ ap is_eq (value_cmp-Null (Text t))))
-text_same (Int n) t h = absurd (true≢false (sym h ∙ ap is_eq (value_cmp-apart (Int n) (Text t) (λ e. cc))))
-text_same (Real n) t h = absurd (true≢false (sym h ∙ ap is_eq (value_cmp-apart (Real n) (Text t) (λ e. cc))))
-text_same (Text s) t h = ap Text ((bytes_eq-Decides s t).0 (sym (is_eq-slice_cmp s t) ∙ sym (ap is_eq (value_cmp-Text s t)) ∙ h))
-text_same (Blob n) t h = absurd (true≢false (sym h ∙ ap is_eq (value_cmp-apart (Blob n) (Text t) (λ e. cc))))
+text_same (Int n) t h =
+    absurd (true≢false (sym h ∙ ap is_eq (value_cmp-apart (Int n) (Text t) (λ e. cc))))
+text_same (Real n) t h =
+    absurd (true≢false (sym h ∙ ap is_eq (value_cmp-apart (Real n) (Text t) (λ e. cc))))
+text_same (Text s) t h =
+    ap Text ((bytes_eq-Decides s t).0 (sym (is_eq-slice_cmp s t) ∙ sym (ap is_eq (value_cmp-Text s t))
+    ∙ h))
+text_same (Blob n) t h =
+    absurd (true≢false (sym h ∙ ap is_eq (value_cmp-apart (Blob n) (Text t) (λ e. cc))))
 
 both_hold : (a : Bool) → (a && true) ≡ a
 both_hold true = refl
@@ -47,21 +52,31 @@ module _ (name : List ℕ) (ceiling : ℕ) (old new : State) where
   abbrev ceiling_params : Row
   ceiling_params = Text name ∷ Int (pos ceiling) ∷ []
 
-  pub set_ceiling : IsDesk old.now → (count : ℕ) → Executes set_ceiling_text ceiling_params old new (Ok count)
-      → IsDesk new.now × SetsOperators (is_by name) (operator_row name ceiling) (tables_of old.now.trees) (tables_of new.now.trees)
+  pub set_ceiling : IsDesk old.now → (count : ℕ)
+      → Executes set_ceiling_text ceiling_params old new (Ok count)
+      → IsDesk new.now × SetsOperators (is_by name) (operator_row name ceiling)
+      (tables_of old.now.trees)
+      (tables_of new.now.trees)
   set_ceiling desk count h =
       let db = old.now.trees in
       let q : Program = record { lets = []; body = set_ceiling_query } in
       let d = updates set_ceiling_text ceiling_params old new desk 0 q set_ceiling_is count h in
-      let it = rows_written (task_at old.step_limit ceiling_params operator_table.name operator_table.columns operator_table.primary operator_table.references 0) (Update 0 q) db d.0 new.now d.1 in
+      let it = rows_written (task_at old.step_limit ceiling_params operator_table.name
+      operator_table.columns
+      operator_table.primary operator_table.references 0) (Update 0 q) db d.0 new.now d.1 in
       let wanted = λ (r : Row). is_text (column r 1) name in
       let source = λ (r : Row). rowid r ∷ rowid r ∷ column r 1 ∷ Int (pos ceiling) ∷ [] in
-      let s = update_sets old.step_limit ceiling_params operator_table.name operator_table.columns operator_table.primary operator_table.references 0 db
-      set_ceiling_query.filter set_ceiling_query.project wanted source it.0 refl (λ r. refl) (λ r. both_hold _ ∙ equals_text (column r 1) name) it.1 in
-      let c = changes old.step_limit ceiling_params operator_table.name operator_table.columns operator_table.primary operator_table.references 0 db wanted (is_by name) (columns 2) source
+      let s = update_sets old.step_limit ceiling_params operator_table.name operator_table.columns
+      operator_table.primary operator_table.references 0 db
+      set_ceiling_query.filter set_ceiling_query.project wanted source it.0 refl (λ r. refl)
+      (λ r. both_hold _ ∙ equals_text (column r 1) name) it.1 in
+      let c = changes old.step_limit ceiling_params operator_table.name operator_table.columns
+      operator_table.primary operator_table.references 0 db wanted (is_by name) (columns 2) source
       (operator_row name ceiling) it.0.trees desk.operators (λ r. refl) (λ r. refl)
-      (λ r is. then (ap (cast kind.Text) (text_same (column r 1) name is)) (then (cast_int (pos ceiling)) refl)) (λ found.
-      let edit = update_edit old.step_limit ceiling_params operator_table.name operator_table.columns operator_table.primary operator_table.references 0 db found in
+      (λ r is. then (ap (cast kind.Text) (text_same (column r 1) name is))
+      (then (cast_int (pos ceiling)) refl)) (λ found.
+      let edit = update_edit old.step_limit ceiling_params operator_table.name operator_table.columns
+      operator_table.primary operator_table.references 0 db found in
       operator_quiet (taken_by db edit) edit.news) s in
       let now : new.now.trees ≡ it.0.trees = ap (λ (d : Database). d.trees) it.2 in
       let e2 : new.now.trees 2 ≡ db 2 = ap (λ (t : Trees). t 2) now ∙ c.others.1.0 (λ e. cc) in
@@ -74,31 +89,48 @@ module _ (name : List ℕ) (ceiling : ℕ) (old new : State) where
           volumes = subst AreNumbered (sym e4) desk.volumes;
           spans = subst AreNumbered (sym e6) desk.spans;
         },
-        (subst (λ (t : Trees). IsPermutation (with_row (is_by name) (operator_row name ceiling) (map (columns 2) (db 0))) (map (columns 2) (t 0))) (sym now) c.rows, tables_operator db new.now.trees e2 e4 e6),
+        (
+          subst (λ (t : Trees). IsPermutation (with_row (is_by name) (operator_row name ceiling)
+              (map (columns 2) (db 0))) (map (columns 2) (t 0))) (sym now) c.rows,
+          tables_operator db
+              new.now.trees e2 e4 e6,
+        ),
       )
 
 module _ (operator id : List ℕ) (priority aircraft : ℕ) (old new : State) where
   abbrev close_params : Row
   close_params = Text operator ∷ Text id ∷ Int (pos priority) ∷ Int (pos aircraft) ∷ []
 
-  pub close_plan : IsDesk old.now → (count : ℕ) → Executes close_plan_text close_params old new (Ok count)
-      → IsDesk new.now × SetsPlans (is_of operator id) (plan_row operator id priority 2 aircraft) (tables_of old.now.trees) (tables_of new.now.trees)
+  pub close_plan : IsDesk old.now → (count : ℕ)
+      → Executes close_plan_text close_params old new (Ok count)
+      → IsDesk new.now × SetsPlans (is_of operator id) (plan_row operator id priority 2 aircraft)
+      (tables_of old.now.trees) (tables_of new.now.trees)
   close_plan desk count h =
       let db = old.now.trees in
       let q : Program = record { lets = []; body = close_plan_query } in
       let d = updates close_plan_text close_params old new desk 1 q close_plan_is count h in
-      let it = rows_written (task_at old.step_limit close_params plan_table.name plan_table.columns plan_table.primary plan_table.references 2) (Update 1 q) db d.0 new.now d.1 in
+      let it = rows_written (task_at old.step_limit close_params plan_table.name plan_table.columns
+      plan_table.primary plan_table.references 2) (Update 1 q) db d.0 new.now d.1 in
       let wanted = λ (r : Row). is_text (column r 1) operator && is_text (column r 2) id in
-      let source = λ (r : Row). rowid r ∷ rowid r ∷ column r 1 ∷ column r 2 ∷ Int (pos priority) ∷ Int (pos 2) ∷ Int (pos aircraft) ∷ [] in
-      let s = update_sets old.step_limit close_params plan_table.name plan_table.columns plan_table.primary plan_table.references 2 db
-      close_plan_query.filter close_plan_query.project wanted source it.0 refl (λ r. refl) (λ r. ap₂ (λ a b. a && b) (equals_text (column r 1) operator) (both_hold _ ∙ equals_text (column r 2) id)) it.1 in
-      let c = changes old.step_limit close_params plan_table.name plan_table.columns plan_table.primary plan_table.references 2 db wanted (is_of operator id) (columns 5) source
+      let source = λ (r : Row). rowid r ∷ rowid r ∷ column r 1 ∷ column r 2 ∷ Int (pos priority)
+      ∷ Int (pos 2)
+      ∷ Int (pos aircraft) ∷ [] in
+      let s = update_sets old.step_limit close_params plan_table.name plan_table.columns
+      plan_table.primary
+      plan_table.references 2 db
+      close_plan_query.filter close_plan_query.project wanted source it.0 refl (λ r. refl)
+      (λ r. ap₂ (λ a b. a && b) (equals_text (column r 1) operator)
+      (both_hold _ ∙ equals_text (column r 2) id)) it.1 in
+      let c = changes old.step_limit close_params plan_table.name plan_table.columns plan_table.primary
+      plan_table.references 2 db wanted (is_of operator id) (columns 5) source
       (plan_row operator id priority 2 aircraft) it.0.trees desk.plans (λ r. refl) (λ r. refl)
       (λ r is.
       let parts = and_parts (is_text (column r 1) operator) (is_text (column r 2) id) is in
-      then (ap (cast kind.Text) (text_same (column r 1) operator parts.0)) (then (ap (cast kind.Text) (text_same (column r 2) id parts.1))
+      then (ap (cast kind.Text) (text_same (column r 1) operator parts.0))
+      (then (ap (cast kind.Text) (text_same (column r 2) id parts.1))
       (then (cast_int (pos priority)) (then (cast_int (pos 2)) (then (cast_int (pos aircraft)) refl)))))
-      (plan_quiet old.step_limit close_params plan_table.name plan_table.columns plan_table.primary plan_table.references db) s in
+      (plan_quiet old.step_limit close_params plan_table.name plan_table.columns plan_table.primary
+      plan_table.references db) s in
       let now : new.now.trees ≡ it.0.trees = ap (λ (d : Database). d.trees) it.2 in
       let e0 : new.now.trees 0 ≡ db 0 = ap (λ (t : Trees). t 0) now ∙ c.others.0 (λ e. cc) in
       let e4 : new.now.trees 4 ≡ db 4 = ap (λ (t : Trees). t 4) now ∙ c.others.1.1.0 (λ e. cc) in
@@ -110,5 +142,11 @@ module _ (operator id : List ℕ) (priority aircraft : ℕ) (old new : State) wh
           volumes = subst AreNumbered (sym e4) desk.volumes;
           spans = subst AreNumbered (sym e6) desk.spans;
         },
-        (subst (λ (t : Trees). IsPermutation (with_row (is_of operator id) (plan_row operator id priority 2 aircraft) (map (columns 5) (db 2))) (map (columns 5) (t 2))) (sym now) c.rows, tables_plan db new.now.trees e0 e4 e6),
+        (
+          subst (λ (t : Trees). IsPermutation (with_row (is_of operator id)
+              (plan_row operator id priority 2 aircraft) (map (columns 5) (db 2)))
+              (map (columns 5) (t 2)))
+              (sym now) c.rows,
+          tables_plan db new.now.trees e0 e4 e6,
+        ),
       )

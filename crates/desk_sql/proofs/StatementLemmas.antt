@@ -27,10 +27,14 @@ use Rattle.desk_sql.proofs.QueryTexts.{IsQuery, query_of, operator_named_is, ope
 use Rattle.desk_sql.proofs.ReadLemmas.{was_open, answered, shows, may_show, scanned, equals_text, equals, either_true, le_number, ge_number, lt_number, gt_number}
 
 -- a value that a desk's rows have, whenever something is shown
-pub if_shown : {S V : Type 0} (g : Ghosts S) (old new : Held S) (items : V → List Row) (text : List ℕ) (params : Row) (P : List Row → Type 0) → IsReady g old → HasCleanDisk (state g old)
-    → ((rows : List Row) → IsDesk (state g old).now → Shown text params (state g old) (state g new) rows → P rows)
-    → (r : Result V Error) → IfOk r (λ v. Shown text params (state g old) (state g new) (items v)) → IfOk r (λ v. P (items v))
-if_shown g old new items text params P ready clean gives (Ok v) shown = gives (items v) (ready clean (was_open text params _ _ _ shown)) shown
+pub if_shown : {S V : Type 0} (g : Ghosts S) (old new : Held S) (items : V → List Row) (text : List ℕ)
+    (params : Row) (P : List Row → Type 0) → IsReady g old → HasCleanDisk (state g old)
+    → ((rows : List Row) → IsDesk (state g old).now → Shown text params (state g old) (state g new) rows
+    → P rows)
+    → (r : Result V Error) → IfOk r (λ v. Shown text params (state g old) (state g new) (items v))
+    → IfOk r (λ v. P (items v))
+if_shown g old new items text params P ready clean gives (Ok v) shown =
+    gives (items v) (ready clean (was_open text params _ _ _ shown)) shown
 if_shown g old new items text params P ready clean gives (Err e) shown = tt
 
 both_hold : (a : Bool) → (a && true) ≡ a
@@ -43,32 +47,48 @@ every (r ∷ rows) = ap (λ xs. r ∷ xs) (every rows)
 
 -- ---- sorted outputs show sorted rows
 
-sorted_shown : (by : List Key) (cells : List ℕ) (xs : List Output) → ((x y : Row) → key_cmp 0 by (map (column x) cells) (map (column y) cells) ≡ by_cells cells x y)
-    → All (λ (o : Output). o.0 ≡ map (column o.1) cells) xs → IsSorted (λ (o p : Output). key_cmp 0 by o.0 p.0) xs → IsSorted (by_cells cells) (map (λ (o : Output). o.1) xs)
+sorted_shown : (by : List Key) (cells : List ℕ) (xs : List Output)
+    → ((x y : Row) → key_cmp 0 by (map (column x) cells) (map (column y) cells) ≡ by_cells cells x y)
+    → All (λ (o : Output). o.0 ≡ map (column o.1) cells) xs
+    → IsSorted (λ (o p : Output). key_cmp 0 by o.0 p.0) xs
+    → IsSorted (by_cells cells) (map (λ (o : Output). o.1) xs)
 sorted_shown by cells xs compares keys sorted k d low high =
     let more : k + 1 < length xs = omega (arith, high, length-map xs (λ (o : Output). o.1)) in
     let none : Output = ([], []) in
     let a = slice_index_or xs (k + 1) none in
     let b = slice_index_or xs k none in
     ap is_lt (
-    ap₂ (by_cells cells) (get_or-map (λ (o : Output). o.1) xs (k + 1) none d more) (get_or-map (λ (o : Output). o.1) xs k none d (omega (arith, more)))
-    ∙ sym (compares a.1 b.1) ∙ ap₂ (key_cmp 0 by) (sym (keys (k + 1) none more)) (sym (keys k none (omega (arith, more))))
+    ap₂ (by_cells cells) (get_or-map (λ (o : Output). o.1) xs (k + 1) none d more)
+    (get_or-map (λ (o : Output). o.1) xs k none d (omega (arith, more)))
+    ∙ sym (compares a.1 b.1) ∙ ap₂ (key_cmp 0 by) (sym (keys (k + 1) none more))
+    (sym (keys k none (omega (arith, more))))
     ) ∙ sorted k none low more
 
-module _ (text : List ℕ) (from : Join) (terms : List Term) (project : List Term) (order : List (Term × Key)) (names : List (List ℕ)) (known : IsQuery text (query_of from terms project order) names)
-    (params : Row) (old new : State) (rows : List Row) (desk : IsDesk old.now) (h : Shown text params old new rows) (cells : List ℕ) (wanted : List Row) where
+module _ (text : List ℕ) (from : Join) (terms : List Term) (project : List Term)
+    (order : List (Term × Key))
+    (names : List (List ℕ)) (known : IsQuery text (query_of from terms project order) names)
+    (params : Row) (old new : State) (rows : List Row) (desk : IsDesk old.now)
+    (h : Shown text params old new rows) (cells : List ℕ) (wanted : List Row) where
   pub lists : ((e : Env) → eval_all (map (λ k. k.0) order) e ≡ map (column (eval_all project e)) cells)
-      → ((x y : Row) → key_cmp 0 (map (λ k. k.1) order) (map (column x) cells) (map (column y) cells) ≡ by_cells cells x y)
-      → map (eval_all project) (matches (overlay old.now.trees []) terms from (params ∷ [])) ≡ wanted → Lists cells wanted rows
+      → ((x y : Row) → key_cmp 0 (map (λ k. k.1) order) (map (column x) cells) (map (column y) cells)
+      ≡ by_cells cells x y)
+      → map (eval_all project) (matches (overlay old.now.trees []) terms from (params ∷ [])) ≡ wanted
+      → Lists cells wanted rows
   lists keys compares are =
       let query = query_of from terms project order in
       let a = answered text from terms project order names known params old new rows desk.schema h in
       let P = λ (o : Output). o.0 ≡ map (column o.1) cells in
-      let each : All P (map (output query) a.staged) = λ i d low. subst P (sym (get_or-map (output query) a.staged i [] d (omega (arith, low, length-map a.staged (output query))))) (keys (slice_index_or a.staged i [])) in
-      let all : All P a.ordered = All-permutation P a.kept a.ordered a.same (subst (All P) (sym a.distinct) each) in
+      let each : All P (map (output query) a.staged) =
+      λ i d low. subst P (sym (get_or-map (output query) a.staged i [] d
+      (omega (arith, low, length-map a.staged (output query))))) (keys (slice_index_or a.staged i []))
+      in
+      let all : All P a.ordered = All-permutation P a.kept a.ordered a.same
+      (subst (All P) (sym a.distinct) each) in
       record {
-        same = subst (λ xs. IsPermutation xs rows) are (shows text from terms project order names known params old new rows desk.schema h);
-        sorted = subst (IsSorted (by_cells cells)) (sym a.shown) (sorted_shown (map (λ k. k.1) order) cells a.ordered compares all a.sorted);
+        same = subst (λ xs. IsPermutation xs rows) are
+            (shows text from terms project order names known params old new rows desk.schema h);
+        sorted = subst (IsSorted (by_cells cells)) (sym a.shown)
+            (sorted_shown (map (λ k. k.1) order) cells a.ordered compares all a.sorted);
       }
 
 -- ---- joins
@@ -79,91 +99,160 @@ and_later true true false = refl
 and_later true false c = refl
 and_later false b c = refl
 
-joined_first : {E : Type 0} (f : E → Row) (e : E) (j : Row → Row) (x : Row) → f e ≡ j x → (a b : Bool) → a ≡ (b && true) → (es : List E) (xs : List Row) → map f es ≡ map j xs
+joined_first : {E : Type 0} (f : E → Row) (e : E) (j : Row → Row) (x : Row) → f e ≡ j x → (a b : Bool)
+    → a
+    ≡ (b && true) → (es : List E) (xs : List Row) → map f es ≡ map j xs
     → map f (cond a (e ∷ []) [] ++ es) ≡ map j (cond b (x ∷ xs) xs)
 joined_first f e j x at true true same es xs more = ap₂ (λ y ys. y ∷ ys) at more
 joined_first f e j x at false false same es xs more = more
 joined_first f e j x at true false same es xs more = cc
 joined_first f e j x at false true same es xs more = cc
 
-none_first : {E : Type 0} (f : E → Row) (e : E) (a b : Bool) → a ≡ (b && false) → (es : List E) → map f es ≡ [] → map f (cond a (e ∷ []) [] ++ es) ≡ []
+none_first : {E : Type 0} (f : E → Row) (e : E) (a b : Bool) → a ≡ (b && false) → (es : List E)
+    → map f es
+    ≡ [] → map f (cond a (e ∷ []) [] ++ es) ≡ []
 none_first f e false b same es more = more
 none_first f e true true same es more = cc
 none_first f e true false same es more = cc
 
-module _ {E : Type 0} (f : E → Row) (env : Row → E) (test : Row → Bool) (show : Row → Row) (has : Row → Bool) (j : Row → Row) (at : (s : Row) → f (env s) ≡ j (show s)) where
+module _ {E : Type 0} (f : E → Row) (env : Row → E) (test : Row → Bool) (show : Row → Row)
+    (has : Row → Bool)
+    (j : Row → Row) (at : (s : Row) → f (env s) ≡ j (show s)) where
   one_plan : (w : Bool) → ((s : Row) → test s ≡ (has (show s) && w)) → (ss : List Row)
-      → map f (flat_map (λ s. cond (test s) (env s ∷ []) []) ss) ≡ cond w (map j (filter has (map show ss))) []
+      → map f (flat_map (λ s. cond (test s) (env s ∷ []) []) ss)
+      ≡ cond w (map j (filter has (map show ss))) []
   one_plan true is [] = refl
   one_plan false is [] = refl
-  one_plan true is (s ∷ ss) = joined_first f (env s) j (show s) (at s) (test s) (has (show s)) (is s) _ _ (one_plan true is ss)
-  one_plan false is (s ∷ ss) = none_first f (env s) (test s) (has (show s)) (is s) _ (one_plan false is ss)
+  one_plan true is (s ∷ ss) = joined_first f (env s) j (show s) (at s) (test s) (has (show s)) (is s) _
+      _
+      (one_plan true is ss)
+  one_plan false is (s ∷ ss) = none_first f (env s) (test s) (has (show s)) (is s) _
+      (one_plan false is ss)
 
-wanted_first : (j : Row → List Row) (p : Row) (w : Bool) (ps : List Row) → cond w (j p) [] ++ flat_map j ps ≡ flat_map j (cond w (p ∷ ps) ps)
+wanted_first : (j : Row → List Row) (p : Row) (w : Bool) (ps : List Row) → cond w (j p) []
+    ++ flat_map j ps
+    ≡ flat_map j (cond w (p ∷ ps) ps)
 wanted_first j p true ps = refl
 wanted_first j p false ps = refl
 
-joined_rows : (params : Row) (terms project : List Term) (wanted : Row → Bool) → ((p s : Row) → eval_all project (params ∷ p ∷ s ∷ []) ≡ joined (columns 5 p) (columns 8 s))
-    → ((p s : Row) → list_all (holds (params ∷ p ∷ s ∷ [])) terms ≡ (has_volume (columns 5 p) (columns 8 s) && wanted (columns 5 p))) → (plans volumes : List Row)
-    → map (eval_all project) (flat_map (λ p. flat_map (λ s. cond (list_all (holds (params ∷ p ∷ s ∷ [])) terms) ((params ∷ p ∷ s ∷ []) ∷ []) []) volumes) plans)
-    ≡ flat_map (λ p. map (joined p) (filter (has_volume p) (map (columns 8) volumes))) (filter wanted (map (columns 5) plans))
+joined_rows : (params : Row) (terms project : List Term) (wanted : Row → Bool)
+    → ((p s : Row) → eval_all project (params ∷ p ∷ s ∷ []) ≡ joined (columns 5 p) (columns 8 s))
+    → ((p s : Row) → list_all (holds (params ∷ p ∷ s ∷ [])) terms
+    ≡ (has_volume (columns 5 p) (columns 8 s) && wanted (columns 5 p))) → (plans volumes : List Row)
+    → map (eval_all project)
+    (flat_map (λ p. flat_map (λ s. cond (list_all (holds (params ∷ p ∷ s ∷ [])) terms)
+    ((params ∷ p ∷ s ∷ []) ∷ []) []) volumes) plans)
+    ≡ flat_map (λ p. map (joined p) (filter (has_volume p) (map (columns 8) volumes)))
+    (filter wanted (map (columns 5) plans))
 joined_rows params terms project wanted shown passes [] volumes = refl
 joined_rows params terms project wanted shown passes (p ∷ plans) volumes =
     let cut = columns 5 p in
     map-append (eval_all project) _ _
     ∙ ap₂ (λ a b. a ++ b)
-    (one_plan (eval_all project) (λ s. params ∷ p ∷ s ∷ []) (λ s. list_all (holds (params ∷ p ∷ s ∷ [])) terms) (columns 8) (has_volume cut) (joined cut) (shown p) (wanted cut) (passes p) volumes)
+    (one_plan (eval_all project) (λ s. params ∷ p ∷ s ∷ [])
+    (λ s. list_all (holds (params ∷ p ∷ s ∷ [])) terms) (columns 8) (has_volume cut) (joined cut)
+    (shown p) (wanted cut) (passes p) volumes)
     (joined_rows params terms project wanted shown passes plans volumes)
-    ∙ wanted_first (λ q. map (joined q) (filter (has_volume q) (map (columns 8) volumes))) cut (wanted cut) _
+    ∙ wanted_first (λ q. map (joined q) (filter (has_volume q) (map (columns 8) volumes))) cut
+    (wanted cut) _
 
-own_test : (operator : List ℕ) (p s : Row) → list_all (holds ((Text operator ∷ []) ∷ p ∷ s ∷ [])) own_plans_query.filter ≡ (has_volume (columns 5 p) (columns 8 s) && is_by operator (columns 5 p))
+own_test : (operator : List ℕ) (p s : Row) → list_all (holds ((Text operator ∷ []) ∷ p ∷ s ∷ []))
+    own_plans_query.filter ≡ (has_volume (columns 5 p) (columns 8 s) && is_by operator (columns 5 p))
 own_test operator p s =
-    ap₂ (λ a b. a && b) (equals (column s 1) (column p 1)) (ap₂ (λ a b. a && (b && true)) (equals (column s 2) (column p 2)) (equals_text (column p 1) operator))
-    ∙ and_later (is_same (column s 1) (column p 1)) (is_same (column s 2) (column p 2)) (is_by operator (columns 5 p))
+    ap₂ (λ a b. a && b) (equals (column s 1) (column p 1))
+    (ap₂ (λ a b. a && (b && true)) (equals (column s 2) (column p 2))
+    (equals_text (column p 1) operator))
+    ∙ and_later (is_same (column s 1) (column p 1)) (is_same (column s 2) (column p 2))
+    (is_by operator (columns 5 p))
 
-pub operator_named : (name : List ℕ) (old new : State) (rows : List Row) → IsDesk old.now → Shown operator_named_text (Text name ∷ []) old new rows → Lists [] (filter (is_by name) (tables_of old.now.trees).operators) rows
+pub operator_named : (name : List ℕ) (old new : State) (rows : List Row) → IsDesk old.now
+    → Shown operator_named_text (Text name ∷ []) old new rows
+    → Lists [] (filter (is_by name) (tables_of old.now.trees).operators) rows
 operator_named name old new rows desk h =
-    lists operator_named_text _ _ _ _ _ operator_named_is (Text name ∷ []) old new rows desk h [] _ (λ e. refl) (λ x y. refl)
-    (scanned (λ r. (Text name ∷ []) ∷ r ∷ []) operator_named_query.filter operator_named_query.project (columns 2) (is_by name) (λ r. refl) (λ r. both_hold _ ∙ equals_text (column r 1) name) (old.now.trees 0))
+    lists operator_named_text _ _ _ _ _ operator_named_is (Text name ∷ []) old new rows desk h [] _
+    (λ e. refl) (λ x y. refl)
+    (scanned (λ r. (Text name ∷ []) ∷ r ∷ []) operator_named_query.filter operator_named_query.project
+    (columns 2) (is_by name) (λ r. refl) (λ r. both_hold _ ∙ equals_text (column r 1) name)
+    (old.now.trees 0))
 
-pub all_operators : (old new : State) (rows : List Row) → IsDesk old.now → Shown all_operators_text ([]) old new rows → Lists (0 ∷ []) ((tables_of old.now.trees).operators) rows
+pub all_operators : (old new : State) (rows : List Row) → IsDesk old.now
+    → Shown all_operators_text ([]) old new rows
+    → Lists (0 ∷ []) ((tables_of old.now.trees).operators) rows
 all_operators old new rows desk h =
-    lists all_operators_text _ _ _ _ _ all_operators_is ([]) old new rows desk h (0 ∷ []) _ (λ e. refl) (λ x y. refl)
-    (scanned (λ r. [] ∷ r ∷ []) all_operators_query.filter all_operators_query.project (columns 2) (λ r. true) (λ r. refl) (λ r. refl) (old.now.trees 0) ∙ every (map (columns 2) (old.now.trees 0)))
+    lists all_operators_text _ _ _ _ _ all_operators_is ([]) old new rows desk h (0 ∷ []) _ (λ e. refl)
+    (λ x y. refl)
+    (scanned (λ r. [] ∷ r ∷ []) all_operators_query.filter all_operators_query.project (columns 2)
+    (λ r. true)
+    (λ r. refl) (λ r. refl) (old.now.trees 0) ∙ every (map (columns 2) (old.now.trees 0)))
 
-pub plan_of : (operator : List ℕ) (id : List ℕ) (old new : State) (rows : List Row) → IsDesk old.now → Shown plan_of_text (Text operator ∷ Text id ∷ []) old new rows → Lists [] (filter (is_of operator id) (tables_of old.now.trees).plans) rows
+pub plan_of : (operator : List ℕ) (id : List ℕ) (old new : State) (rows : List Row) → IsDesk old.now
+    → Shown plan_of_text (Text operator ∷ Text id ∷ []) old new rows
+    → Lists [] (filter (is_of operator id) (tables_of old.now.trees).plans) rows
 plan_of operator id old new rows desk h =
-    lists plan_of_text _ _ _ _ _ plan_of_is (Text operator ∷ Text id ∷ []) old new rows desk h [] _ (λ e. refl) (λ x y. refl)
-    (scanned (λ r. (Text operator ∷ Text id ∷ []) ∷ r ∷ []) plan_of_query.filter plan_of_query.project (columns 5) (is_of operator id) (λ r. refl) (λ r. ap₂ (λ a b. a && b) (equals_text (column r 1) operator) (both_hold _ ∙ equals_text (column r 2) id)) (old.now.trees 2))
+    lists plan_of_text _ _ _ _ _ plan_of_is (Text operator ∷ Text id ∷ []) old new rows desk h [] _
+    (λ e. refl) (λ x y. refl)
+    (scanned (λ r. (Text operator ∷ Text id ∷ []) ∷ r ∷ []) plan_of_query.filter plan_of_query.project
+    (columns 5) (is_of operator id) (λ r. refl)
+    (λ r. ap₂ (λ a b. a && b) (equals_text (column r 1) operator)
+    (both_hold _ ∙ equals_text (column r 2) id)) (old.now.trees 2))
 
-pub all_plans : (old new : State) (rows : List Row) → IsDesk old.now → Shown all_plans_text ([]) old new rows → Lists (0 ∷ 1 ∷ []) ((tables_of old.now.trees).plans) rows
+pub all_plans : (old new : State) (rows : List Row) → IsDesk old.now
+    → Shown all_plans_text ([]) old new rows
+    → Lists (0 ∷ 1 ∷ []) ((tables_of old.now.trees).plans) rows
 all_plans old new rows desk h =
-    lists all_plans_text _ _ _ _ _ all_plans_is ([]) old new rows desk h (0 ∷ 1 ∷ []) _ (λ e. refl) (λ x y. refl)
-    (scanned (λ r. [] ∷ r ∷ []) all_plans_query.filter all_plans_query.project (columns 5) (λ r. true) (λ r. refl) (λ r. refl) (old.now.trees 2) ∙ every (map (columns 5) (old.now.trees 2)))
+    lists all_plans_text _ _ _ _ _ all_plans_is ([]) old new rows desk h (0 ∷ 1 ∷ []) _ (λ e. refl)
+    (λ x y. refl)
+    (scanned (λ r. [] ∷ r ∷ []) all_plans_query.filter all_plans_query.project (columns 5) (λ r. true)
+    (λ r. refl) (λ r. refl) (old.now.trees 2) ∙ every (map (columns 5) (old.now.trees 2)))
 
-pub volumes_of : (operator : List ℕ) (id : List ℕ) (old new : State) (rows : List Row) → IsDesk old.now → Shown volumes_of_text (Text operator ∷ Text id ∷ []) old new rows → Lists (2 ∷ []) (filter (is_of operator id) (tables_of old.now.trees).volumes) rows
+pub volumes_of : (operator : List ℕ) (id : List ℕ) (old new : State) (rows : List Row) → IsDesk old.now
+    → Shown volumes_of_text (Text operator ∷ Text id ∷ []) old new rows
+    → Lists (2 ∷ []) (filter (is_of operator id) (tables_of old.now.trees).volumes) rows
 volumes_of operator id old new rows desk h =
-    lists volumes_of_text _ _ _ _ _ volumes_of_is (Text operator ∷ Text id ∷ []) old new rows desk h (2 ∷ []) _ (λ e. refl) (λ x y. refl)
-    (scanned (λ r. (Text operator ∷ Text id ∷ []) ∷ r ∷ []) volumes_of_query.filter volumes_of_query.project (columns 8) (is_of operator id) (λ r. refl) (λ r. ap₂ (λ a b. a && b) (equals_text (column r 1) operator) (both_hold _ ∙ equals_text (column r 2) id)) (old.now.trees 4))
+    lists volumes_of_text _ _ _ _ _ volumes_of_is (Text operator ∷ Text id ∷ []) old new rows desk h
+    (2 ∷ [])
+    _ (λ e. refl) (λ x y. refl)
+    (scanned (λ r. (Text operator ∷ Text id ∷ []) ∷ r ∷ []) volumes_of_query.filter
+    volumes_of_query.project
+    (columns 8) (is_of operator id) (λ r. refl)
+    (λ r. ap₂ (λ a b. a && b) (equals_text (column r 1) operator)
+    (both_hold _ ∙ equals_text (column r 2) id)) (old.now.trees 4))
 
-pub all_volumes : (old new : State) (rows : List Row) → IsDesk old.now → Shown all_volumes_text ([]) old new rows → Lists (0 ∷ 1 ∷ 2 ∷ []) ((tables_of old.now.trees).volumes) rows
+pub all_volumes : (old new : State) (rows : List Row) → IsDesk old.now
+    → Shown all_volumes_text ([]) old new rows → Lists (0 ∷ 1 ∷ 2 ∷ [])
+    ((tables_of old.now.trees).volumes)
+    rows
 all_volumes old new rows desk h =
-    lists all_volumes_text _ _ _ _ _ all_volumes_is ([]) old new rows desk h (0 ∷ 1 ∷ 2 ∷ []) _ (λ e. refl) (λ x y. refl)
-    (scanned (λ r. [] ∷ r ∷ []) all_volumes_query.filter all_volumes_query.project (columns 8) (λ r. true) (λ r. refl) (λ r. refl) (old.now.trees 4) ∙ every (map (columns 8) (old.now.trees 4)))
+    lists all_volumes_text _ _ _ _ _ all_volumes_is ([]) old new rows desk h (0 ∷ 1 ∷ 2 ∷ []) _
+    (λ e. refl)
+    (λ x y. refl)
+    (scanned (λ r. [] ∷ r ∷ []) all_volumes_query.filter all_volumes_query.project (columns 8)
+    (λ r. true)
+    (λ r. refl) (λ r. refl) (old.now.trees 4) ∙ every (map (columns 8) (old.now.trees 4)))
 
-pub all_spans : (old new : State) (rows : List Row) → IsDesk old.now → Shown all_spans_text ([]) old new rows → Lists (0 ∷ 1 ∷ 2 ∷ 3 ∷ []) ((tables_of old.now.trees).spans) rows
+pub all_spans : (old new : State) (rows : List Row) → IsDesk old.now
+    → Shown all_spans_text ([]) old new rows
+    → Lists (0 ∷ 1 ∷ 2 ∷ 3 ∷ []) ((tables_of old.now.trees).spans) rows
 all_spans old new rows desk h =
-    lists all_spans_text _ _ _ _ _ all_spans_is ([]) old new rows desk h (0 ∷ 1 ∷ 2 ∷ 3 ∷ []) _ (λ e. refl) (λ x y. refl)
-    (scanned (λ r. [] ∷ r ∷ []) all_spans_query.filter all_spans_query.project (columns 10) (λ r. true) (λ r. refl) (λ r. refl) (old.now.trees 6) ∙ every (map (columns 10) (old.now.trees 6)))
+    lists all_spans_text _ _ _ _ _ all_spans_is ([]) old new rows desk h (0 ∷ 1 ∷ 2 ∷ 3 ∷ []) _
+    (λ e. refl)
+    (λ x y. refl)
+    (scanned (λ r. [] ∷ r ∷ []) all_spans_query.filter all_spans_query.project (columns 10) (λ r. true)
+    (λ r. refl) (λ r. refl) (old.now.trees 6) ∙ every (map (columns 10) (old.now.trees 6)))
 
-pub own_plans : (operator : List ℕ) (old new : State) (rows : List Row) → IsDesk old.now → Shown own_plans_text (Text operator ∷ []) old new rows → Lists (1 ∷ 5 ∷ []) (with_volumes (is_by operator) (tables_of old.now.trees)) rows
+pub own_plans : (operator : List ℕ) (old new : State) (rows : List Row) → IsDesk old.now
+    → Shown own_plans_text (Text operator ∷ []) old new rows
+    → Lists (1 ∷ 5 ∷ []) (with_volumes (is_by operator) (tables_of old.now.trees)) rows
 own_plans operator old new rows desk h =
-    lists own_plans_text _ _ _ _ _ own_plans_is (Text operator ∷ []) old new rows desk h (1 ∷ 5 ∷ []) _ (λ e. refl) (λ x y. refl)
-    (joined_rows (Text operator ∷ []) own_plans_query.filter own_plans_query.project (is_by operator) (λ p s. refl) (λ p s. own_test operator p s) (old.now.trees 2) (old.now.trees 4))
+    lists own_plans_text _ _ _ _ _ own_plans_is (Text operator ∷ []) old new rows desk h (1 ∷ 5 ∷ []) _
+    (λ e. refl) (λ x y. refl)
+    (joined_rows (Text operator ∷ []) own_plans_query.filter own_plans_query.project (is_by operator)
+    (λ p s. refl) (λ p s. own_test operator p s) (old.now.trees 2) (old.now.trees 4))
 
 -- ---- the spans that may stand in the way of a plan
 
-and_last : (a b c d e f g h : Bool) → (a && (b && (c && (d && (e && (f && (g && (h && true)))))))) ≡ ((a && (b && (c && (d && (e && (f && g)))))) && h)
+and_last : (a b c d e f g h : Bool) → (a && (b && (c && (d && (e && (f && (g && (h && true))))))))
+    ≡ ((a && (b && (c && (d && (e && (f && g)))))) && h)
 and_last true true true true true true true h = both_hold h
 and_last true true true true true true false h = refl
 and_last true true true true true false g h = refl
@@ -173,19 +262,37 @@ and_last true true false d e f g h = refl
 and_last true false c d e f g h = refl
 and_last false b c d e f g h = refl
 
-rival_test : (operator id : List ℕ) (reach : Reach) (s : Row) → list_all (holds (rival_params operator id reach ∷ s ∷ [])) rival_spans_query.filter ≡ is_rival operator id reach (columns 10 s)
+rival_test : (operator id : List ℕ) (reach : Reach) (s : Row)
+    → list_all (holds (rival_params operator id reach ∷ s ∷ [])) rival_spans_query.filter
+    ≡ is_rival operator id reach (columns 10 s)
 rival_test operator id reach s =
-    (λ i. le_number (column s 4) reach.last i && (ge_number (column s 5) reach.first i && (lt_number (column s 6) reach.upper i && (gt_number (column s 7) reach.lower i
-    && (lt_number (column s 8) reach.stop i && (gt_number (column s 9) reach.start i && (ge_number (column s 10) (pos reach.priority) i && (either_true (column s 1) (column s 2) operator id i && true))))))))
-    ∙ and_last (is_at_most (column s 4) reach.last) (is_at_least (column s 5) reach.first) (is_below (column s 6) reach.upper) (is_above (column s 7) reach.lower) (is_below (column s 8) reach.stop) (is_above (column s 9) reach.start) (is_at_least (column s 10) (pos reach.priority)) (differs (column s 1) (Text operator) || differs (column s 2) (Text id))
+    (λ i. le_number (column s 4) reach.last i && (ge_number (column s 5) reach.first i
+    && (lt_number (column s 6) reach.upper i && (gt_number (column s 7) reach.lower i
+    && (lt_number (column s 8) reach.stop i && (gt_number (column s 9) reach.start i
+    && (ge_number (column s 10) (pos reach.priority) i
+    && (either_true (column s 1) (column s 2) operator id i && true))))))))
+    ∙ and_last (is_at_most (column s 4) reach.last) (is_at_least (column s 5) reach.first)
+    (is_below (column s 6) reach.upper) (is_above (column s 7) reach.lower)
+    (is_below (column s 8) reach.stop) (is_above (column s 9) reach.start)
+    (is_at_least (column s 10) (pos reach.priority))
+    (differs (column s 1) (Text operator) || differs (column s 2) (Text id))
 
-rival_rows : (operator id : List ℕ) (reach : Reach) (db : Database) (rows : List Row) → IsDesk db → MayRead (understood desk_schema rival_spans_text) db (rival_params operator id reach) rows
-    → IsPermutation (map held_columns (filter (is_rival operator id reach) (tables_of db.trees).spans)) rows
+rival_rows : (operator id : List ℕ) (reach : Reach) (db : Database) (rows : List Row) → IsDesk db
+    → MayRead (understood desk_schema rival_spans_text) db (rival_params operator id reach) rows
+    → IsPermutation (map held_columns (filter (is_rival operator id reach) (tables_of db.trees).spans))
+    rows
 rival_rows operator id reach db rows desk h =
     let params = rival_params operator id reach in
     subst (λ xs. IsPermutation xs rows)
-    (one_plan (eval_all rival_spans_query.project) (λ s. params ∷ s ∷ []) (λ s. list_all (holds (params ∷ s ∷ [])) rival_spans_query.filter) (columns 10) (is_rival operator id reach) held_columns (λ s. refl) true (λ s. rival_test operator id reach s ∙ sym (both_hold _)) (db.trees 6))
+    (one_plan (eval_all rival_spans_query.project) (λ s. params ∷ s ∷ [])
+    (λ s. list_all (holds (params ∷ s ∷ [])) rival_spans_query.filter) (columns 10)
+    (is_rival operator id reach) held_columns (λ s. refl) true
+    (λ s. rival_test operator id reach s ∙ sym (both_hold _)) (db.trees 6))
     (may_show rival_spans_text _ _ _ _ _ rival_spans_is params db rows h)
 
 pub rival_spans_selected : SelectsRivals rival_spans_text
-rival_spans_selected = record { plain = rival_spans_is.plain; unlisted = rival_spans_is.unlisted; rows = rival_rows }
+rival_spans_selected = record {
+  plain = rival_spans_is.plain;
+  unlisted = rival_spans_is.unlisted;
+  rows = rival_rows;
+}

@@ -18,48 +18,138 @@ use Rattle.desk_sql.proofs.QueryTexts.{IsQuery, query_of, operator_rowids_is, pl
 
 -- the query's types do not fit the tables
 abbrev Misfits : Query → Schema → Trees → Type 0
-Misfits query schema trees = IsShown (λ (r : Row). r) (record { schema = schema; trees = trees }) (record { lets = []; body = query }) [] None
+Misfits query schema trees = IsShown (λ (r : Row). r) (record { schema = schema; trees = trees })
+    (record { lets = []; body = query }) [] None
 
 -- nothing in a scan of one table can overflow
-scan_never : (tree : ℕ) (project : List Term) (order : List (Term × Key)) (names : List (List ℕ)) → ((trees : Trees) → ¬ Misfits (query_of (inner tree end) [] project order) desk_schema trees)
-    → NeverRefuses (Select (record { lets = []; body = query_of (inner tree end) [] project order }) names)
-scan_never tree project order names fits limit db e same (inl h) = absurd (fits db.trees (subst (λ s. Misfits (query_of (inner tree end) [] project order) s db.trees) same h.1))
+scan_never : (tree : ℕ) (project : List Term) (order : List (Term × Key)) (names : List (List ℕ))
+    → ((trees : Trees) → ¬ Misfits (query_of (inner tree end) [] project order) desk_schema trees)
+    → NeverRefuses (Select (record { lets = []; body = query_of (inner tree end) [] project order })
+    names)
+scan_never tree project order names fits limit db e same (inl h) =
+    absurd (fits db.trees (subst (λ s. Misfits (query_of (inner tree end) [] project order) s db.trees)
+    same
+    h.1))
 scan_never tree project order names fits limit db e same (inr (inl (code, inl h))) = absurd h
 scan_never tree project order names fits limit db e same (inr (inl (code, inr h))) = absurd h.4
 scan_never tree project order names fits limit db e same (inr (inr h)) = h
 
-known_never : (text : List ℕ) (tree : ℕ) (project : List Term) (order : List (Term × Key)) (names : List (List ℕ)) → IsQuery text (query_of (inner tree end) [] project order) names
-    → ((trees : Trees) → ¬ Misfits (query_of (inner tree end) [] project order) desk_schema trees) → NeverRefuses (command_of (understood desk_schema text))
-known_never text tree project order names known fits = subst NeverRefuses (sym known.is) (scan_never tree project order names fits)
+known_never : (text : List ℕ) (tree : ℕ) (project : List Term) (order : List (Term × Key))
+    (names : List (List ℕ)) → IsQuery text (query_of (inner tree end) [] project order) names
+    → ((trees : Trees) → ¬ Misfits (query_of (inner tree end) [] project order) desk_schema trees)
+    → NeverRefuses (command_of (understood desk_schema text))
+known_never text tree project order names known fits =
+    subst NeverRefuses (sym known.is) (scan_never tree project order names fits)
 
 pub operator_rowids_sure : IsSure operator_rowids_text
 unfolding understood everything
-operator_rowids_sure = record { means = (refl, refl, refl, omega arith, known_never _ _ _ _ _ operator_rowids_is (λ trees misfit. true≢false misfit)); unlisted = refl }
+operator_rowids_sure =
+    record {
+      means = (
+        refl,
+        refl,
+        refl,
+        omega arith,
+        known_never _ _ _ _ _ operator_rowids_is
+            (λ trees misfit. true≢false misfit),
+      );
+      unlisted = refl;
+    }
 
 pub plan_rowids_sure : IsSure plan_rowids_text
 unfolding understood everything
-plan_rowids_sure = record { means = (refl, refl, refl, omega arith, known_never _ _ _ _ _ plan_rowids_is (λ trees misfit. true≢false misfit)); unlisted = refl }
+plan_rowids_sure = record {
+  means = (
+    refl,
+    refl,
+    refl,
+    omega arith,
+    known_never _ _ _ _ _ plan_rowids_is
+        (λ trees misfit. true≢false misfit),
+  );
+  unlisted = refl;
+}
 
 pub volume_rowids_sure : IsSure volume_rowids_text
 unfolding understood everything
-volume_rowids_sure = record { means = (refl, refl, refl, omega arith, known_never _ _ _ _ _ volume_rowids_is (λ trees misfit. true≢false misfit)); unlisted = refl }
+volume_rowids_sure = record {
+  means = (
+    refl,
+    refl,
+    refl,
+    omega arith,
+    known_never _ _ _ _ _ volume_rowids_is
+        (λ trees misfit. true≢false misfit),
+  );
+  unlisted = refl;
+}
 
 pub span_rowids_sure : IsSure span_rowids_text
 unfolding understood everything
-span_rowids_sure = record { means = (refl, refl, refl, omega arith, known_never _ _ _ _ _ span_rowids_is (λ trees misfit. true≢false misfit)); unlisted = refl }
+span_rowids_sure = record {
+  means = (
+    refl,
+    refl,
+    refl,
+    omega arith,
+    known_never _ _ _ _ _ span_rowids_is
+        (λ trees misfit. true≢false misfit),
+  );
+  unlisted = refl;
+}
 
 pub all_operators_sure : IsSure all_operators_text
 unfolding understood everything
-all_operators_sure = record { means = (refl, refl, refl, omega arith, known_never _ _ _ _ _ all_operators_is (λ trees misfit. true≢false misfit)); unlisted = refl }
+all_operators_sure = record {
+  means = (
+    refl,
+    refl,
+    refl,
+    omega arith,
+    known_never _ _ _ _ _ all_operators_is
+        (λ trees misfit. true≢false misfit),
+  );
+  unlisted = refl;
+}
 
 pub all_plans_sure : IsSure all_plans_text
 unfolding understood everything
-all_plans_sure = record { means = (refl, refl, refl, omega arith, known_never _ _ _ _ _ all_plans_is (λ trees misfit. true≢false misfit)); unlisted = refl }
+all_plans_sure = record {
+  means = (
+    refl,
+    refl,
+    refl,
+    omega arith,
+    known_never _ _ _ _ _ all_plans_is
+        (λ trees misfit. true≢false misfit),
+  );
+  unlisted = refl;
+}
 
 pub all_volumes_sure : IsSure all_volumes_text
 unfolding understood everything
-all_volumes_sure = record { means = (refl, refl, refl, omega arith, known_never _ _ _ _ _ all_volumes_is (λ trees misfit. true≢false misfit)); unlisted = refl }
+all_volumes_sure = record {
+  means = (
+    refl,
+    refl,
+    refl,
+    omega arith,
+    known_never _ _ _ _ _ all_volumes_is
+        (λ trees misfit. true≢false misfit),
+  );
+  unlisted = refl;
+}
 
 pub all_spans_sure : IsSure all_spans_text
 unfolding understood everything
-all_spans_sure = record { means = (refl, refl, refl, omega arith, known_never _ _ _ _ _ all_spans_is (λ trees misfit. true≢false misfit)); unlisted = refl }
+all_spans_sure = record {
+  means = (
+    refl,
+    refl,
+    refl,
+    omega arith,
+    known_never _ _ _ _ _ all_spans_is
+        (λ trees misfit. true≢false misfit),
+  );
+  unlisted = refl;
+}

@@ -19,7 +19,12 @@ use Rattle.desk_sql.proofs.ReadLemmas.{was_open}
 use Rattle.desk_sql.specs.Taking.{HandsOver, HandsAll, IsLeft}
 
 pub unchanged_itself : (s : State) → IsTrue s.is_open → IsUnchanged s s
-unchanged_itself s live = (record { was_open = live; is_open = live; now_is = refl; committed_is = refl; mode = refl }, record { changes = refl; last_rowid = refl }, refl)
+unchanged_itself s live = (
+  record { was_open = live; is_open = live; now_is = refl; committed_is = refl; mode = refl },
+  record
+      { changes = refl; last_rowid = refl },
+  refl,
+)
 
 rolled_back : (a b c : State) → IsUnchanged a b → IsRolledBack b c → IsRolledBack a c
 rolled_back a b c same back = record {
@@ -27,86 +32,144 @@ rolled_back a b c same back = record {
   undone = λ live. (let e = back.undone live in (e.0 ∙ same.0.committed_is, e.1 ∙ same.0.committed_is));
   autocommit = back.autocommit;
   unmarked = back.unmarked;
-  counts = record { changes = back.counts.changes ∙ same.1.changes; last_rowid = back.counts.last_rowid ∙ same.1.last_rowid };
+  counts = record {
+    changes = back.counts.changes ∙ same.1.changes;
+    last_rowid = back.counts.last_rowid
+        ∙ same.1.last_rowid;
+  };
 }
 
 -- an answer that is shown after no change is shown by the whole of both
-shown_rows : (first mid new : State) (sql : List ℕ) (c : Compiled) (params : Row) (rows : List Row) (r : Option Returning) → r ≡ None → IsUnchanged first mid → ShowsRows mid new sql c params rows r → ShowsRows first new sql c params rows r
-shown_rows first mid new sql c params rows None none same h =
-    (h.0, subst (λ (d : Database). IsSourceOf (reads_listing d.schema sql) d h.0) same.0.now_is h.1, h.2, unchanged_then first mid new same h.3)
+shown_rows : (first mid new : State) (sql : List ℕ) (c : Compiled) (params : Row) (rows : List Row)
+    (r : Option Returning) → r ≡ None → IsUnchanged first mid → ShowsRows mid new sql c params rows r
+    → ShowsRows first new sql c params rows r
+shown_rows first mid new sql c params rows None none same h = (
+  h.0,
+  subst (λ (d : Database). IsSourceOf (reads_listing d.schema sql) d h.0) same.0.now_is h.1,
+  h.2,
+  unchanged_then first mid new same h.3,
+)
 shown_rows first mid new sql c params rows (Some what) none same h = cc
 
-shown_from : (sql : List ℕ) (params : Row) (first mid new : State) (rows : List Row) → IsPlain (understood first.now.schema sql) → IsUnchanged first mid → Shown sql params mid new rows → Shown sql params first new rows
+shown_from : (sql : List ℕ) (params : Row) (first mid new : State) (rows : List Row)
+    → IsPlain (understood first.now.schema sql) → IsUnchanged first mid → Shown sql params mid new rows
+    → Shown sql params first new rows
 unfolding Shown
 shown_from sql params first mid new rows plain same h =
     let is = subst (λ (d : Database). understood d.schema sql ≡ Ok h.0) same.0.now_is h.1.is in
-    let none = (subst IsPlain is plain).0 in
-    (h.0, record { is = is; whole = h.1.whole; given = h.1.given; now = h.1.now }, shown_rows first mid new sql h.0 _ rows h.0.returning none same h.2)
+    let none = (subst IsPlain is plain).0 in (
+      h.0,
+      record { is = is; whole = h.1.whole; given = h.1.given; now = h.1.now },
+      shown_rows first mid new
+          sql h.0 _ rows h.0.returning none same h.2,
+    )
 
 -- nothing has changed since the start, and what was handed over since then begins the answer
-pub record IsUnderWay {S : Type 0} (g : Ghosts S) (old now : Held S) (had has : List Row → Type 0) : Type 0 where
-  pub same : HasCleanDisk (state g now) → IsUnchanged (state g old) (state g now)
-  pub handed :
-      HasCleanDisk (state g now) → (sql : List ℕ) (params : Row) (given : List Row) → HasGiven g sql params old given → had given
-      → (all : List Row) × HasGiven g sql params now all × has all
+pub record IsUnderWay {S : Type 0} (g : Ghosts S) (old now : Held S)
+    (had has : List Row → Type 0) : Type 0
+  where
+    pub same : HasCleanDisk (state g now) → IsUnchanged (state g old) (state g now)
+    pub handed :
+        HasCleanDisk (state g now) → (sql : List ℕ) (params : Row) (given : List Row)
+        → HasGiven g sql params old given → had given
+        → (all : List Row) × HasGiven g sql params now all × has all
 
 module _ {S : Type 0} (g : Ghosts S) where
-  pub begins : (old : Held S) (had : List Row → Type 0) → (HasCleanDisk (state g old) → IsTrue (state g old).is_open) → IsUnderWay g old old had had
-  begins old had live = record { same = λ clean. unchanged_itself (state g old) (live clean); handed = λ clean sql params given h t. (given, h, t) }
+  pub begins : (old : Held S) (had : List Row → Type 0)
+      → (HasCleanDisk (state g old) → IsTrue (state g old).is_open) → IsUnderWay g old old had had
+  begins old had live = record {
+    same = λ clean. unchanged_itself (state g old) (live clean);
+    handed = λ clean sql params given h t. (given, h, t);
+  }
 
-  module _ (old now new : Held S) (had has does : List Row → Type 0) (way : IsUnderWay g old now had has) (clean : HasCleanDisk (state g new) → HasCleanDisk (state g now)) where
-    pub goes_on : (HasCleanDisk (state g new) → IsUnchanged (state g now) (state g new)) → (more : Bool) → more ≡ true → (HasCleanDisk (state g new) → HandsOver g now new has does more) → IsUnderWay g old new had does
+  module _ (old now new : Held S) (had has does : List Row → Type 0)
+      (way : IsUnderWay g old now had has)
+      (clean : HasCleanDisk (state g new) → HasCleanDisk (state g now)) where
+    pub goes_on : (HasCleanDisk (state g new) → IsUnchanged (state g now) (state g new)) → (more : Bool)
+        → more ≡ true → (HasCleanDisk (state g new) → HandsOver g now new has does more)
+        → IsUnderWay g old new had does
     goes_on same true is hands = record {
-      same = λ c. unchanged_then (state g old) (state g now) (state g new) (way.same (clean c)) (same c);
-      handed = λ c sql params given h t. (let (all, gave, took) = way.handed (clean c) sql params given h t in let (row, gives, takes) = hands c sql params all gave took in (all ++ row ∷ [], gives, takes));
+      same = λ c. unchanged_then (state g old) (state g now) (state g new) (way.same (clean c))
+          (same c);
+      handed = λ c sql params given h t. (let (all, gave, took) = way.handed (clean c) sql params given
+          h t
+          in let (row, gives, takes) = hands c sql params all gave took
+          in (all ++ row ∷ [], gives, takes));
     }
     goes_on same false is hands = cc
 
-    pub ends : (more : Bool) → more ≡ false → (HasCleanDisk (state g new) → HandsOver g now new has does more) → HasCleanDisk (state g new) → HandsAll g old new had does
+    pub ends : (more : Bool) → more ≡ false → (HasCleanDisk (state g new)
+        → HandsOver g now new has does more)
+        → HasCleanDisk (state g new) → HandsAll g old new had does
     ends true is hands = cc
     ends false is hands = λ c sql params given plain h t.
         let (all, gave, took) = way.handed (clean c) sql params given h t in
-        let (shown, takes) = hands c sql params all gave took in
-        (all, shown_from sql params (state g old) (state g now) (state g new) all plain (way.same (clean c)) shown, takes)
+        let (shown, takes) = hands c sql params all gave took in (
+          all,
+          shown_from sql params (state g old) (state g now) (state g new) all plain (way.same (clean c))
+              shown,
+          takes,
+        )
 
-    pub is_left : (HasCleanDisk (state g new) → IsLeft g now new) → HasCleanDisk (state g new) → IsLeft g old new
+    pub is_left : (HasCleanDisk (state g new) → IsLeft g now new) → HasCleanDisk (state g new)
+        → IsLeft g old new
     is_left left c = elim (left c) [
-      | inl same ↦ inl (unchanged_then (state g old) (state g now) (state g new) (way.same (clean c)) same)
+      | inl same ↦ inl (unchanged_then (state g old) (state g now) (state g new) (way.same (clean c))
+          same)
       | inr back ↦ inr (rolled_back (state g old) (state g now) (state g new) (way.same (clean c)) back)
     ]
 
 -- ---- a query of the desk's tables
 
-module _ {S : Type 0} (g : Ghosts S) (sql : List ℕ) (params : Row) (old : Held S) (ready : IsReady g old) (plain : IsPlain (understood desk_schema sql)) (clean : HasCleanDisk (state g old)) where
+module _ {S : Type 0} (g : Ghosts S) (sql : List ℕ) (params : Row) (old : Held S)
+    (ready : IsReady g old)
+    (plain : IsPlain (understood desk_schema sql)) (clean : HasCleanDisk (state g old)) where
   plain_here : IsTrue (state g old).is_open → IsPlain (understood old.schema sql)
-  plain_here live = subst (λ (s : Schema). IsPlain (understood s sql)) (sym (ready clean live).schema) plain
+  plain_here live = subst (λ (s : Schema). IsPlain (understood s sql)) (sym (ready clean live).schema)
+      plain
 
-  pub begun : (first : Held S) → HasBegun g sql params old first → HasGiven g sql params first [] × IsUnchanged (state g old) (state g first)
+  pub begun : (first : Held S) → HasBegun g sql params old first → HasGiven g sql params first []
+      × IsUnchanged (state g old) (state g first)
   begun first (inl h) = h
-  begun first (inr h) = begun_plain g sql params old first (plain_here (was_open sql params _ _ _ h.1)) (inr h)
+  begun first (inr h) = begun_plain g sql params old first (plain_here (was_open sql params _ _ _ h.1))
+      (inr h)
 
   module _ (first new : Held S) (begins : HasBegun g sql params old first) where
-    pub shown_if : (had has : List Row → Type 0) → had [] → (r : Result (Unit {0}) Error) → OnOk r (HandsAll g first new had has)
+    pub shown_if : (had has : List Row → Type 0) → had [] → (r : Result (Unit {0}) Error)
+        → OnOk r (HandsAll g first new had has)
         → OnOk r ((all : List Row) × Shown sql params (state g old) (state g new) all × has all)
     shown_if had has fresh (Err e) hands = tt
     shown_if had has fresh (Ok u) hands =
         let (given, same) = begun first begins in
         let here = plain_here same.0.was_open in
-        let (all, shown, takes) = hands sql params [] (subst (λ (d : Database). IsPlain (understood d.schema sql)) (sym same.0.now_is) here) given fresh in
-        (all, shown_from sql params (state g old) (state g first) (state g new) all here same shown, takes)
+        let (all, shown, takes) = hands sql params []
+        (subst (λ (d : Database). IsPlain (understood d.schema sql)) (sym same.0.now_is) here) given
+        fresh
+        in (
+          all,
+          shown_from sql params (state g old) (state g first) (state g new) all here same shown,
+          takes,
+        )
 
     pub left_then : IsLeft g first new → IsLeft g old new
-    left_then (inl same) = inl (unchanged_then (state g old) (state g first) (state g new) (begun first begins).1 same)
-    left_then (inr back) = inr (rolled_back (state g old) (state g first) (state g new) (begun first begins).1 back)
+    left_then (inl same) =
+        inl (unchanged_then (state g old) (state g first) (state g new) (begun first begins).1 same)
+    left_then (inr back) =
+        inr (rolled_back (state g old) (state g first) (state g new) (begun first begins).1 back)
 
 pub open_on : (r : Result (Unit {0}) Error) (s : State) → IsTrue s.is_open → OnOk r (IsTrue s.is_open)
 open_on (Ok u) s live = live
 open_on (Err e) s live = tt
 
 -- rows that a desk's tables have are handed over, whenever something is
-pub if_handed : {S : Type 0} (g : Ghosts S) (old new : Held S) (text : List ℕ) (params : Row) (P has : List Row → Type 0) → IsReady g old → HasCleanDisk (state g old)
-    → ((rows : List Row) → IsDesk (state g old).now → Shown text params (state g old) (state g new) rows → P rows)
-    → (r : Result (Unit {0}) Error) → OnOk r ((rows : List Row) × Shown text params (state g old) (state g new) rows × has rows) → OnOk r ((rows : List Row) × P rows × has rows)
+pub if_handed : {S : Type 0} (g : Ghosts S) (old new : Held S) (text : List ℕ) (params : Row)
+    (P has : List Row → Type 0) → IsReady g old → HasCleanDisk (state g old)
+    → ((rows : List Row) → IsDesk (state g old).now → Shown text params (state g old) (state g new) rows
+    → P rows)
+    → (r : Result (Unit {0}) Error) → OnOk r ((rows : List Row)
+    × Shown text params (state g old) (state g new) rows × has rows)
+    → OnOk r ((rows : List Row) × P rows × has rows)
 if_handed g old new text params P has ready clean gives (Ok u) handed =
-    let (rows, shown, takes) = handed in (rows, gives rows (ready clean (was_open text params _ _ _ shown)) shown, takes)
+    let (rows, shown, takes) = handed
+    in (rows, gives rows (ready clean (was_open text params _ _ _ shown)) shown, takes)
 if_handed g old new text params P has ready clean gives (Err e) handed = tt

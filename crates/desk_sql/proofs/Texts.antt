@@ -2,7 +2,8 @@
 use Rattle.std.specs.Prelude.{ℕ, List, codes}
 
 abbrev pub operator_text : List ℕ
-operator_text = codes "CREATE TABLE operator (name TEXT NOT NULL, ceiling INTEGER NOT NULL, PRIMARY KEY (name)) STRICT"
+operator_text = codes
+    "CREATE TABLE operator (name TEXT NOT NULL, ceiling INTEGER NOT NULL, PRIMARY KEY (name)) STRICT"
 
 abbrev pub plan_text : List ℕ
 plan_text = codes "CREATE TABLE plan (operator TEXT NOT NULL, id TEXT NOT NULL, priority INTEGER NOT NULL, usage INTEGER NOT NULL, aircraft INTEGER NOT NULL, PRIMARY KEY (operator, id), FOREIGN KEY (operator) REFERENCES operator (name)) STRICT"
@@ -26,19 +27,24 @@ abbrev pub all_plans_text : List ℕ
 all_plans_text = codes "SELECT operator, id, priority, usage, aircraft FROM plan ORDER BY operator, id"
 
 abbrev pub volumes_of_text : List ℕ
-volumes_of_text = codes "SELECT operator, id, place, lower, upper, start, stop, asked FROM volume WHERE operator = ?1 AND id = ?2 ORDER BY place"
+volumes_of_text = codes
+    "SELECT operator, id, place, lower, upper, start, stop, asked FROM volume WHERE operator = ?1 AND id = ?2 ORDER BY place"
 
 abbrev pub all_volumes_text : List ℕ
-all_volumes_text = codes "SELECT operator, id, place, lower, upper, start, stop, asked FROM volume ORDER BY operator, id, place"
+all_volumes_text = codes
+    "SELECT operator, id, place, lower, upper, start, stop, asked FROM volume ORDER BY operator, id, place"
 
 abbrev pub all_spans_text : List ℕ
-all_spans_text = codes "SELECT operator, id, place, first, last, lower, upper, start, stop, priority FROM span ORDER BY operator, id, place, first"
+all_spans_text = codes
+    "SELECT operator, id, place, first, last, lower, upper, start, stop, priority FROM span ORDER BY operator, id, place, first"
 
 abbrev pub own_plans_text : List ℕ
-own_plans_text = codes "SELECT plan.operator, plan.id, plan.priority, plan.usage, plan.aircraft, volume.place, volume.lower, volume.upper, volume.start, volume.stop, volume.asked FROM plan JOIN volume ON volume.operator = plan.operator AND volume.id = plan.id WHERE plan.operator = ?1 ORDER BY plan.id, volume.place"
+own_plans_text = codes
+    "SELECT plan.operator, plan.id, plan.priority, plan.usage, plan.aircraft, volume.place, volume.lower, volume.upper, volume.start, volume.stop, volume.asked FROM plan JOIN volume ON volume.operator = plan.operator AND volume.id = plan.id WHERE plan.operator = ?1 ORDER BY plan.id, volume.place"
 
 abbrev pub rival_spans_text : List ℕ
-rival_spans_text = codes "SELECT first, last, lower, upper, start, stop, priority FROM span WHERE first <= ?1 AND last >= ?2 AND lower < ?3 AND upper > ?4 AND start < ?5 AND stop > ?6 AND priority >= ?7 AND (operator <> ?8 OR id <> ?9)"
+rival_spans_text = codes
+    "SELECT first, last, lower, upper, start, stop, priority FROM span WHERE first <= ?1 AND last >= ?2 AND lower < ?3 AND upper > ?4 AND start < ?5 AND stop > ?6 AND priority >= ?7 AND (operator <> ?8 OR id <> ?9)"
 
 abbrev pub own_count_text : List ℕ
 own_count_text = codes "SELECT count(*) FROM plan WHERE operator = ?1"
@@ -47,19 +53,23 @@ abbrev pub insert_operator_text : List ℕ
 insert_operator_text = codes "INSERT INTO operator (name, ceiling) VALUES (?1, ?2)"
 
 abbrev pub insert_plan_text : List ℕ
-insert_plan_text = codes "INSERT INTO plan (operator, id, priority, usage, aircraft) VALUES (?1, ?2, ?3, ?4, ?5)"
+insert_plan_text = codes
+    "INSERT INTO plan (operator, id, priority, usage, aircraft) VALUES (?1, ?2, ?3, ?4, ?5)"
 
 abbrev pub insert_volume_text : List ℕ
-insert_volume_text = codes "INSERT INTO volume (operator, id, place, lower, upper, start, stop, asked) VALUES (?1, ?2, ?3, ?4, ?5, ?6, ?7, ?8)"
+insert_volume_text = codes
+    "INSERT INTO volume (operator, id, place, lower, upper, start, stop, asked) VALUES (?1, ?2, ?3, ?4, ?5, ?6, ?7, ?8)"
 
 abbrev pub insert_span_text : List ℕ
-insert_span_text = codes "INSERT INTO span (operator, id, place, first, last, lower, upper, start, stop, priority) VALUES (?1, ?2, ?3, ?4, ?5, ?6, ?7, ?8, ?9, ?10)"
+insert_span_text = codes
+    "INSERT INTO span (operator, id, place, first, last, lower, upper, start, stop, priority) VALUES (?1, ?2, ?3, ?4, ?5, ?6, ?7, ?8, ?9, ?10)"
 
 abbrev pub set_ceiling_text : List ℕ
 set_ceiling_text = codes "UPDATE operator SET ceiling = ?2 WHERE name = ?1"
 
 abbrev pub close_plan_text : List ℕ
-close_plan_text = codes "UPDATE plan SET priority = ?3, usage = 2, aircraft = ?4 WHERE operator = ?1 AND id = ?2"
+close_plan_text = codes
+    "UPDATE plan SET priority = ?3, usage = 2, aircraft = ?4 WHERE operator = ?1 AND id = ?2"
 
 abbrev pub remove_plan_text : List ℕ
 remove_plan_text = codes "DELETE FROM plan WHERE operator = ?1 AND id = ?2"

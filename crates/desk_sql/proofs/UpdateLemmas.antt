@@ -43,14 +43,20 @@ not_true : (a : Bool) → not a ≡ true → a ≡ false
 not_true true h = cc
 not_true false h = refl
 
-pub all_put : (news rows : List Row) → have_rowids news ≡ true → are_fresh rows news ≡ true → AreNumbered rows → AreNumbered (put_all rows news) × IsPermutation (news ++ rows) (put_all rows news)
+pub all_put : (news rows : List Row) → have_rowids news ≡ true → are_fresh rows news ≡ true
+    → AreNumbered rows
+    → AreNumbered (put_all rows news) × IsPermutation (news ++ rows) (put_all rows news)
 all_put [] rows whole fresh num = (num, IsPermutation-refl rows)
 all_put (r ∷ news) rows whole fresh num =
     let ints = and_parts _ _ whole in
     let frees = and_parts _ _ fresh in
     let free = not_true _ frees.0 in
-    let more = all_put news (put_row r rows) ints.1 frees.1 (numbered_put r rows ints.0 free num) in
-    (more.0, IsPermutation-trans _ _ _ (IsPermutation-sym _ _ (IsPermutation-middle news r rows)) (IsPermutation-trans _ _ _ (IsPermutation-append_right news _ _ (put_adds r rows free)) more.1))
+    let more = all_put news (put_row r rows) ints.1 frees.1 (numbered_put r rows ints.0 free num) in (
+      more.0,
+      IsPermutation-trans _ _ _ (IsPermutation-sym _ _ (IsPermutation-middle news r rows))
+          (IsPermutation-trans _ _ _ (IsPermutation-append_right news _ _ (put_adds r rows free))
+          more.1),
+    )
 
 -- given rowids stay
 given_stay : (rows news : List Row) → numbered Given rows news ≡ news
@@ -59,27 +65,39 @@ given_stay rows (r ∷ news) = ap (λ rs. r ∷ rs) (given_stay (put_row r rows)
 
 -- ---- rows that change in their places
 
-module _ (p : Row → Bool) (show : Row → Row) (passes : Row → Bool) (same : (r : Row) → p r ≡ passes (show r)) (cells : Row) (g : Row → Row) (fixed : (r : Row) → p r ≡ true → show (g r) ≡ cells) where
-  pub replaced : (rows : List Row) → IsPermutation (map show (map g (filter p rows)) ++ map show (filter (λ r. not (p r)) rows)) (with_row passes cells (map show rows))
+module _ (p : Row → Bool) (show : Row → Row) (passes : Row → Bool)
+    (same : (r : Row) → p r ≡ passes (show r))
+    (cells : Row) (g : Row → Row) (fixed : (r : Row) → p r ≡ true → show (g r) ≡ cells) where
+  pub replaced : (rows : List Row) → IsPermutation
+      (map show (map g (filter p rows)) ++ map show (filter (λ r. not (p r)) rows))
+      (with_row passes cells (map show rows))
   replaced [] = IsPermutation-refl []
   replaced (r ∷ rows) = go (p r) refl (replaced rows)
     where
-      go : (b : Bool) → p r ≡ b → IsPermutation (map show (map g (filter p rows)) ++ map show (filter (λ r. not (p r)) rows)) (with_row passes cells (map show rows))
-          → IsPermutation (map show (map g (cond b (r ∷ filter p rows) (filter p rows))) ++ map show (cond (not b) (r ∷ filter (λ r. not (p r)) rows) (filter (λ r. not (p r)) rows)))
+      go : (b : Bool) → p r ≡ b → IsPermutation (map show (map g (filter p rows))
+          ++ map show (filter (λ r. not (p r)) rows)) (with_row passes cells (map show rows))
+          → IsPermutation (map show (map g (cond b (r ∷ filter p rows) (filter p rows)))
+          ++ map show (cond (not b) (r ∷ filter (λ r. not (p r)) rows) (filter (λ r. not (p r)) rows)))
           (cond (passes (show r)) cells (show r) ∷ with_row passes cells (map show rows))
       go true is more =
-          subst (λ x. IsPermutation (show (g r) ∷ (map show (map g (filter p rows)) ++ map show (filter (λ r. not (p r)) rows))) (x ∷ with_row passes cells (map show rows)))
-          (fixed r is ∙ sym (ap (λ c. cond c cells (show r)) (sym (same r) ∙ is))) (IsPermutation-cons (show (g r)) _ _ more)
+          subst (λ x. IsPermutation (show (g r) ∷ (map show (map g (filter p rows))
+          ++ map show (filter (λ r. not (p r)) rows))) (x ∷ with_row passes cells (map show rows)))
+          (fixed r is ∙ sym (ap (λ c. cond c cells (show r)) (sym (same r) ∙ is)))
+          (IsPermutation-cons (show (g r)) _ _ more)
       go false is more =
-          subst (λ x. IsPermutation (map show (map g (filter p rows)) ++ show r ∷ map show (filter (λ r. not (p r)) rows)) (x ∷ with_row passes cells (map show rows)))
+          subst (λ x. IsPermutation (map show (map g (filter p rows)) ++ show r
+          ∷ map show (filter (λ r. not (p r)) rows)) (x ∷ with_row passes cells (map show rows)))
           (sym (ap (λ c. cond c cells (show r)) (sym (same r) ∙ is)))
-          (IsPermutation-trans _ _ _ (IsPermutation-middle (map show (map g (filter p rows))) (show r) (map show (filter (λ r. not (p r)) rows))) (IsPermutation-cons (show r) _ _ more))
+          (IsPermutation-trans _ _ _ (IsPermutation-middle (map show (map g (filter p rows))) (show r)
+          (map show (filter (λ r. not (p r)) rows))) (IsPermutation-cons (show r) _ _ more))
 
 -- ---- what is found and written
 
-module _ (limit : Option ℕ) (params : Row) (name : List ℕ) (cols : List Column) (key : List ℕ) (refs : List Reference) (tree : ℕ) (db : Trees) where
+module _ (limit : Option ℕ) (params : Row) (name : List ℕ) (cols : List Column) (key : List ℕ)
+    (refs : List Reference) (tree : ℕ) (db : Trees) where
   abbrev pub update_edit : List Row → Edit
-  update_edit found = edit_of db (table_at limit params name cols key refs tree) (ids_of found) Given 1 found
+  update_edit found = edit_of db (table_at limit params name cols key refs tree) (ids_of found) Given 1
+      found
 
   abbrev pub news_of : List Row → List Row
   news_of found = map (λ s. cast_row (table_at limit params name cols key refs tree) (drop 1 s)) found
@@ -89,56 +107,92 @@ module _ (limit : Option ℕ) (params : Row) (name : List ℕ) (cols : List Colu
     pub are : IsPermutation (map source (filter wanted (db tree))) found
     pub writes : Writes desk_schema Enforced db (update_edit found) (Ok next)
 
-  pub update_sets : (terms project : List Term) (wanted : Row → Bool) (source : Row → Row) (w : Written) → overlay db [] tree ≡ db tree → ((r : Row) → eval_all project (params ∷ r ∷ []) ≡ source r)
+  pub update_sets : (terms project : List Term) (wanted : Row → Bool) (source : Row → Row) (w : Written)
+      → overlay db [] tree ≡ db tree → ((r : Row) → eval_all project (params ∷ r ∷ []) ≡ source r)
       → ((r : Row) → list_all (holds (params ∷ r ∷ [])) terms ≡ wanted r)
-      → Updates (task_at limit params name cols key refs tree) (record { lets = []; body = query_of (inner tree end) terms project [] }) params db (Ok w) → Sets wanted source w.trees
+      → Updates (task_at limit params name cols key refs tree)
+      (record { lets = []; body = query_of (inner tree end) terms project [] }) params db (Ok w)
+      → Sets wanted source w.trees
   update_sets terms project wanted source w same shows passes h =
       let asked = went h in
       let done = went asked.2 in
-      let shown = answer_shows (inner tree end) terms project (overlay db []) params asked.0 (asked.1.answer Null) in
-      let rows = subst (λ rows. map (eval_all project) (flat_map (λ r. cond (list_all (holds (params ∷ r ∷ [])) terms) ((params ∷ r ∷ []) ∷ []) []) rows) ≡ map source (filter wanted (db tree))) (sym same)
+      let shown = answer_shows (inner tree end) terms project (overlay db []) params asked.0
+      (asked.1.answer Null) in
+      let rows = subst (λ rows. map (eval_all project)
+      (flat_map (λ r. cond (list_all (holds (params ∷ r ∷ [])) terms) ((params ∷ r ∷ []) ∷ []) []) rows)
+      ≡ map source (filter wanted (db tree))) (sym same)
       (picked (λ r. params ∷ r ∷ []) terms project source wanted shows passes (db tree)) in
       record {
         found = asked.0;
         are = subst (λ xs. IsPermutation xs asked.0) rows shown;
-        writes = subst (λ (next : Trees). Writes desk_schema Enforced db (update_edit asked.0) (Ok next)) (sym (ap (λ (it : Written). it.trees) (same_value done.2))) done.1;
+        writes = subst (λ (next : Trees). Writes desk_schema Enforced db (update_edit asked.0)
+            (Ok next))
+            (sym (ap (λ (it : Written). it.trees) (same_value done.2))) done.1;
       }
 
   -- what the tree has then
-  pub record Changed (wanted passes : Row → Bool) (show : Row → Row) (cells : Row) (next : Trees) : Type 0 where
-    pub num : AreNumbered (next tree)
-    pub rows : IsPermutation (with_row passes cells (map show (db tree))) (map show (next tree))
-    pub others : AllByRecursion (λ (t : Table). t.tree ≢ tree → next t.tree ≡ db t.tree) desk_schema.tables
+  pub record Changed (wanted passes : Row → Bool) (show : Row → Row) (cells : Row) (next : Trees) : Type
+      0
+    where
+      pub num : AreNumbered (next tree)
+      pub rows : IsPermutation (with_row passes cells (map show (db tree))) (map show (next tree))
+      pub others : AllByRecursion (λ (t : Table). t.tree ≢ tree → next t.tree ≡ db t.tree)
+          desk_schema.tables
 
-  pub changes : (wanted passes : Row → Bool) (show source : Row → Row) (cells : Row) (next : Trees) → AreNumbered (db tree) → ((r : Row) → wanted r ≡ passes (show r))
+  pub changes : (wanted passes : Row → Bool) (show source : Row → Row) (cells : Row) (next : Trees)
+      → AreNumbered (db tree) → ((r : Row) → wanted r ≡ passes (show r))
       → ((r : Row) → rowid (source r) ≡ rowid r)
-      → ((r : Row) → wanted r ≡ true → show (cast_row (table_at limit params name cols key refs tree) (drop 1 (source r))) ≡ cells)
-      → ((found : List Row) → works desk_schema Enforced 0 tree (taken_by db (update_edit found)) (update_edit found).news ≡ []) → Sets wanted source next → Changed wanted passes show cells next
+      → ((r : Row) → wanted r ≡ true
+      → show (cast_row (table_at limit params name cols key refs tree) (drop 1 (source r))) ≡ cells)
+      → ((found : List Row) → works desk_schema Enforced 0 tree (taken_by db (update_edit found))
+      (update_edit found).news ≡ []) → Sets wanted source next → Changed wanted passes show cells next
   changes wanted passes show source cells next num same keeps fixed quiet s =
       let edit = update_edit s.found in
-      let g = λ (r : Row). cast_row (table_at limit params name cols key refs tree) (drop 1 (source r)) in
+      let g = λ (r : Row). cast_row (table_at limit params name cols key refs tree) (drop 1 (source r))
+      in
       let step = one_step desk_schema Enforced db next edit (quiet s.found) s.writes in
-      let news : edit.news ≡ news_of s.found = given_stay (without_all (db tree) (ids_of s.found)) (news_of s.found) in
-      let ids : IsPermutation (map (λ r. rowid r ∷ []) (filter wanted (db tree))) (map (λ r. rowid r ∷ []) s.found) =
-      subst (λ xs. IsPermutation xs (map (λ r. rowid r ∷ []) s.found)) (map-map (λ r. rowid r ∷ []) source (filter wanted (db tree)) ∙ same_ids (filter wanted (db tree)))
+      let news : edit.news ≡ news_of s.found = given_stay (without_all (db tree) (ids_of s.found))
+      (news_of s.found) in
+      let ids : IsPermutation (map (λ r. rowid r ∷ []) (filter wanted (db tree)))
+      (map (λ r. rowid r ∷ []) s.found) =
+      subst (λ xs. IsPermutation xs (map (λ r. rowid r ∷ []) s.found))
+      (map-map (λ r. rowid r ∷ []) source (filter wanted (db tree))
+      ∙ same_ids (filter wanted (db tree)))
       (IsPermutation-map (λ r. rowid r ∷ []) _ _ s.are) in
-      let left : without_all (db tree) (ids_of s.found) ≡ filter (λ r. not (wanted r)) (db tree) = ap (without_all (db tree)) (sym (shown_ids s.found)) ∙ removed wanted (db tree) (map (λ r. rowid r ∷ []) s.found) num ids in
-      let put = all_put (news_of s.found) (filter (λ r. not (wanted r)) (db tree)) (subst (λ rs. have_rowids rs ≡ true) news step.keyed)
-      (subst (λ rs. are_fresh rs (news_of s.found) ≡ true) left (subst (λ rs. are_fresh (without_all (db tree) (ids_of s.found)) rs ≡ true) news step.fresh)) (numbered_kept (λ r. not (wanted r)) (db tree) num) in
-      let is : next tree ≡ put_all (filter (λ r. not (wanted r)) (db tree)) (news_of s.found) = step.rows ∙ ap₂ put_all left news in
+      let left : without_all (db tree) (ids_of s.found) ≡ filter (λ r. not (wanted r)) (db tree) =
+      ap (without_all (db tree)) (sym (shown_ids s.found))
+      ∙ removed wanted (db tree) (map (λ r. rowid r ∷ []) s.found) num ids in
+      let put = all_put (news_of s.found) (filter (λ r. not (wanted r)) (db tree))
+      (subst (λ rs. have_rowids rs ≡ true) news step.keyed)
+      (subst (λ rs. are_fresh rs (news_of s.found) ≡ true) left
+      (subst (λ rs. are_fresh (without_all (db tree) (ids_of s.found)) rs ≡ true) news step.fresh))
+      (numbered_kept (λ r. not (wanted r)) (db tree) num) in
+      let is : next tree ≡ put_all (filter (λ r. not (wanted r)) (db tree)) (news_of s.found) =
+      step.rows
+      ∙ ap₂ put_all left news in
       let made : IsPermutation (map g (filter wanted (db tree))) (news_of s.found) =
-      subst (λ xs. IsPermutation xs (news_of s.found)) (map-map (λ s. cast_row (table_at limit params name cols key refs tree) (drop 1 s)) source (filter wanted (db tree)))
-      (IsPermutation-map (λ s. cast_row (table_at limit params name cols key refs tree) (drop 1 s)) _ _ s.are) in
+      subst (λ xs. IsPermutation xs (news_of s.found))
+      (map-map (λ s. cast_row (table_at limit params name cols key refs tree) (drop 1 s)) source
+      (filter wanted (db tree)))
+      (IsPermutation-map (λ s. cast_row (table_at limit params name cols key refs tree) (drop 1 s)) _ _
+      s.are)
+      in
       record {
         num = subst AreNumbered (sym is) put.0;
-        rows = IsPermutation-trans _ _ _ (IsPermutation-sym _ _ (replaced wanted show passes same cells g fixed (db tree)))
-            (IsPermutation-trans _ _ _ (IsPermutation-append_left (map show (filter (λ r. not (wanted r)) (db tree))) _ _ (IsPermutation-map show _ _ made))
-            (subst (λ xs. IsPermutation xs (map show (next tree))) (map-append show (news_of s.found) (filter (λ r. not (wanted r)) (db tree)))
-            (subst (λ xs. IsPermutation (map show (news_of s.found ++ filter (λ r. not (wanted r)) (db tree))) (map show xs)) (sym is) (IsPermutation-map show _ _ put.1))));
+        rows = IsPermutation-trans _ _ _ (IsPermutation-sym _ _
+            (replaced wanted show passes same cells g fixed (db tree)))
+            (IsPermutation-trans _ _ _ (IsPermutation-append_left
+            (map show (filter (λ r. not (wanted r)) (db tree))) _ _ (IsPermutation-map show _ _ made))
+            (subst (λ xs. IsPermutation xs (map show (next tree)))
+            (map-append show (news_of s.found) (filter (λ r. not (wanted r)) (db tree)))
+            (subst (λ xs. IsPermutation (map show
+            (news_of s.found ++ filter (λ r. not (wanted r)) (db tree)))
+            (map show xs)) (sym is) (IsPermutation-map show _ _ put.1))));
         others = step.tables;
       }
     where
-      same_ids : (rows : List Row) → map (λ r. rowid (source r) ∷ []) rows ≡ map (λ r. rowid r ∷ []) rows
+      same_ids : (rows : List Row) → map (λ r. rowid (source r) ∷ []) rows
+          ≡ map (λ r. rowid r ∷ []) rows
       same_ids [] = refl
       same_ids (r ∷ rows) = ap₂ (λ v xs. (v ∷ []) ∷ xs) (keeps r) (same_ids rows)
 
@@ -148,7 +202,8 @@ module _ (limit : Option ℕ) (params : Row) (name : List ℕ) (cols : List Colu
 
 -- ---- no action follows
 
-operator_works : (olds news : List Row) (b : Bool) → (length news == 0) ≡ b → works desk_schema Enforced 0 0 olds news ≡ []
+operator_works : (olds news : List Row) (b : Bool) → (length news == 0) ≡ b
+    → works desk_schema Enforced 0 0 olds news ≡ []
 unfolding everything
 operator_works olds news true is = rw is
 operator_works olds news false is = rw is
@@ -159,12 +214,20 @@ operator_quiet olds news = operator_works olds news (length news == 0) refl
 nonempty : (x : Row) (xs : List Row) → (length (x ∷ xs) == 0) ≡ false
 nonempty x xs = grind (arith, nat_tests)
 
-plan_works : (olds news : List Row) → (length news == 0) ≡ false → works desk_schema Enforced 0 2 olds news ≡ []
+plan_works : (olds news : List Row) → (length news == 0) ≡ false
+    → works desk_schema Enforced 0 2 olds news
+    ≡ []
 unfolding everything
 plan_works olds news is = rw is
 
-pub plan_quiet : (limit : Option ℕ) (params : Row) (name : List ℕ) (cols : List Column) (key : List ℕ) (refs : List Reference) (db : Trees) (found : List Row)
-    → works desk_schema Enforced 0 2 (taken_by db (update_edit limit params name cols key refs 2 db found)) (update_edit limit params name cols key refs 2 db found).news ≡ []
+pub plan_quiet : (limit : Option ℕ) (params : Row) (name : List ℕ) (cols : List Column) (key : List ℕ)
+    (refs : List Reference) (db : Trees) (found : List Row)
+    → works desk_schema Enforced 0 2 (taken_by db
+    (update_edit limit params name cols key refs 2 db found))
+    (update_edit limit params name cols key refs 2 db found).news ≡ []
 plan_quiet limit params name cols key refs db [] = no_works desk_schema Enforced 0 2 []
 plan_quiet limit params name cols key refs db (x ∷ found) =
-    plan_works (taken_by db (update_edit limit params name cols key refs 2 db (x ∷ found))) (update_edit limit params name cols key refs 2 db (x ∷ found)).news (nonempty (with_rowid Given (without_all (db 2) (ids_of (x ∷ found))) (cast_row (table_at limit params name cols key refs 2) (drop 1 x))) _)
+    plan_works (taken_by db (update_edit limit params name cols key refs 2 db (x ∷ found)))
+    (update_edit limit params name cols key refs 2 db (x ∷ found)).news
+    (nonempty (with_rowid Given (without_all (db 2) (ids_of (x ∷ found)))
+    (cast_row (table_at limit params name cols key refs 2) (drop 1 x))) _)

@@ -37,7 +37,9 @@ use Rattle.desk_sql.specs.Effects.{IsReady, Makes}
 use Rattle.desk_sql.proofs.CommandTexts.{IsCommand}
 
 -- a part that gave a value did not stop on the way
-pub went : {B E R : Type 0} {b : B} {Stops : E → Type 0} → ((stop : E) × Stops stop × (Ok b ≡ Err stop)) ⊎ R → R
+pub went : {B E R : Type 0} {b : B} {Stops : E → Type 0} → ((stop : E) × Stops stop × (Ok b ≡ Err stop))
+    ⊎ R
+    → R
 went (inl stopped) = absurd (let e = stopped.2 in cc)
 went (inr on) = on
 
@@ -51,24 +53,41 @@ enforced = record { keys = Enforced; in_doubt = false; may_wait = false }
 
 module _ (text : List ℕ) (params : Row) (old new : State) (desk : IsDesk old.now) where
   abbrev pub Did : Command → Type 0
-  Did command = (tally : Tally) × Does old.step_limit enforced params (record { schema = desk_schema; trees = old.now.trees }) (statement_of text (understood desk_schema text)) None command (Ok (tally, new.now))
+  Did command = (tally : Tally) × Does old.step_limit enforced params
+      (record { schema = desk_schema; trees = old.now.trees })
+      (statement_of text (understood desk_schema text)) None command (Ok (tally, new.now))
 
-  did : (command : Command) (count : ℕ) → Writes old new None command (statement_of text (understood desk_schema text)) params count → Did command
-  did command count w =
-      (w.tally, subst (λ s. Does old.step_limit enforced params (record old.now { schema = s }) (statement_of text (understood desk_schema text)) None command (Ok (w.tally, new.now))) desk.schema w.changed)
+  did : (command : Command) (count : ℕ) → Writes old new None command
+      (statement_of text (understood desk_schema text)) params count → Did command
+  did command count w = (
+    w.tally,
+    subst (λ s. Does old.step_limit enforced params (record old.now { schema = s })
+        (statement_of text (understood desk_schema text)) None command (Ok (w.tally, new.now)))
+        desk.schema
+        w.changed,
+  )
 
-  pub inserts : (at : ℕ) (from : Source) → IsCommand text (Insert at from) → (count : ℕ) → Executes text params old new (Ok count) → Did (Insert at from)
-  inserts at from known count h = did (Insert at from) count (runs_as text params old new desk_schema desk.schema (Insert at from) known.is known.plain count h)
+  pub inserts : (at : ℕ) (from : Source) → IsCommand text (Insert at from) → (count : ℕ)
+      → Executes text params old new (Ok count) → Did (Insert at from)
+  inserts at from known count h = did (Insert at from) count
+      (runs_as text params old new desk_schema desk.schema (Insert at from) known.is known.plain count
+      h)
 
-  pub deletes : (at : ℕ) (q : Program) → IsCommand text (Delete at q) → (count : ℕ) → Executes text params old new (Ok count) → Did (Delete at q)
-  deletes at q known count h = did (Delete at q) count (runs_as text params old new desk_schema desk.schema (Delete at q) known.is known.plain count h)
+  pub deletes : (at : ℕ) (q : Program) → IsCommand text (Delete at q) → (count : ℕ)
+      → Executes text params old new (Ok count) → Did (Delete at q)
+  deletes at q known count h = did (Delete at q) count
+      (runs_as text params old new desk_schema desk.schema (Delete at q) known.is known.plain count h)
 
-  pub updates : (at : ℕ) (q : Program) → IsCommand text (Update at q) → (count : ℕ) → Executes text params old new (Ok count) → Did (Update at q)
-  updates at q known count h = did (Update at q) count (runs_as text params old new desk_schema desk.schema (Update at q) known.is known.plain count h)
+  pub updates : (at : ℕ) (q : Program) → IsCommand text (Update at q) → (count : ℕ)
+      → Executes text params old new (Ok count) → Did (Update at q)
+  updates at q known count h = did (Update at q) count
+      (runs_as text params old new desk_schema desk.schema (Update at q) known.is known.plain count h)
 
 -- what it writes is what is there then
-pub rows_written : (task : Task) (command : Command) (db : Trees) (tally : Tally) (now : Database) → OnRows task enforced None command db (Ok (tally, now))
-    → (w : Written) × WritesRows task db command (Ok w) × (now ≡ record { schema = task.schema; trees = w.trees })
+pub rows_written : (task : Task) (command : Command) (db : Trees) (tally : Tally) (now : Database)
+    → OnRows task enforced None command db (Ok (tally, now))
+    → (w : Written) × WritesRows task db command (Ok w)
+    × (now ≡ record { schema = task.schema; trees = w.trees })
 rows_written task command db tally now h =
     let done = went h in
     let tested = went done.2 in
@@ -77,31 +96,45 @@ rows_written task command db tally now h =
 
 -- ---- INSERT
 
-module _ (limit : Option ℕ) (params : Row) (name : List ℕ) (cols : List Column) (key : List ℕ) (refs : List Reference) (tree : ℕ) where
+module _ (limit : Option ℕ) (params : Row) (name : List ℕ) (cols : List Column) (key : List ℕ)
+    (refs : List Reference) (tree : ℕ) where
   abbrev pub table_at : Table
   table_at = record (table_of name cols key refs) { tree = tree }
 
   abbrev pub task_at : Task
-  task_at = record { limit = limit; keys = Enforced; schema = desk_schema; table = table_at; params = params }
+  task_at = record {
+    limit = limit;
+    keys = Enforced;
+    schema = desk_schema;
+    table = table_at;
+    params = params;
+  }
 
-  pub insert_applies : (terms : List Term) (width : ℕ) (db : Trees) (w : Written) (source : Row) → value_rows (params ++ []) width (length terms / width) terms ≡ source ∷ []
-      → Inserts task_at (Values terms width) db (Ok w) → Applies desk_schema Enforced db (edit_of db table_at [] Chosen 0 (source ∷ [])) w.trees
+  pub insert_applies : (terms : List Term) (width : ℕ) (db : Trees) (w : Written) (source : Row)
+      → value_rows (params ++ []) width (length terms / width) terms ≡ source ∷ []
+      → Inserts task_at (Values terms width) db (Ok w)
+      → Applies desk_schema Enforced db (edit_of db table_at [] Chosen 0 (source ∷ [])) w.trees
   insert_applies terms width db w source one h =
       let given = went h in
       let counter = went given.2 in
       let written = went counter.2 in
       let counted = went written.2 in
       let rows : given.0 ≡ source ∷ [] = given.1.1 ∙ one in
-      let step = one_step desk_schema Enforced db written.0 (edit_of db table_at [] Chosen 0 given.0) (no_works desk_schema Enforced 0 tree (edit_of db table_at [] Chosen 0 given.0).news) written.1 in
-      let trees : w.trees ≡ written.0 = ap (λ (it : Written). it.trees) (same_value counted.2) ∙ same_value counted.1 in
-      subst (λ rs. Applies desk_schema Enforced db (edit_of db table_at [] Chosen 0 rs) w.trees) rows (subst (Applies desk_schema Enforced db (edit_of db table_at [] Chosen 0 given.0)) (sym trees) step)
+      let step = one_step desk_schema Enforced db written.0 (edit_of db table_at [] Chosen 0 given.0)
+      (no_works desk_schema Enforced 0 tree (edit_of db table_at [] Chosen 0 given.0).news) written.1 in
+      let trees : w.trees ≡ written.0 = ap (λ (it : Written). it.trees) (same_value counted.2)
+      ∙ same_value counted.1 in
+      subst (λ rs. Applies desk_schema Enforced db (edit_of db table_at [] Chosen 0 rs) w.trees) rows
+      (subst (Applies desk_schema Enforced db (edit_of db table_at [] Chosen 0 given.0)) (sym trees)
+      step)
 
 -- one row came to a tree, under a rowid that was free
 pub record Adds (tree : ℕ) (new : Row) (db next : Trees) : Type 0 where
   pub at : next tree ≡ put_row new (db tree)
   pub free : is_taken (db tree) new ≡ false
   pub whole : is_int (rowid new) ≡ true
-  pub others : AllByRecursion (λ (t : Table). t.tree ≢ tree → next t.tree ≡ db t.tree) desk_schema.tables
+  pub others : AllByRecursion (λ (t : Table). t.tree ≢ tree → next t.tree ≡ db t.tree)
+      desk_schema.tables
 
 and_first : (a b : Bool) → (a && b) ≡ true → a ≡ true
 and_first true b h = refl
@@ -111,8 +144,12 @@ not_true : (a : Bool) → not a ≡ true → a ≡ false
 not_true true h = cc
 not_true false h = refl
 
-pub adds : (name : List ℕ) (cols : List Column) (key : List ℕ) (refs : List Reference) (tree : ℕ) (db next : Trees) (source : Row) → Applies desk_schema Enforced db (edit_of db (table_at None [] name cols key refs tree) [] Chosen 0 (source ∷ [])) next
-    → Adds tree (with_rowid Chosen (db tree) (cast_row (table_at None [] name cols key refs tree) source)) db next
+pub adds : (name : List ℕ) (cols : List Column) (key : List ℕ) (refs : List Reference) (tree : ℕ)
+    (db next : Trees) (source : Row) → Applies desk_schema Enforced db
+    (edit_of db (table_at None [] name cols key refs tree) [] Chosen 0 (source ∷ [])) next
+    → Adds tree (with_rowid Chosen (db tree) (cast_row (table_at None [] name cols key refs tree)
+    source)) db
+    next
 adds name cols key refs tree db next source h = record {
   at = h.rows;
   free = not_true _ (and_first _ _ h.fresh);
@@ -136,9 +173,19 @@ cast_int n = either _ (Int n)
 
 -- ---- the statement's effect, from what its text does
 
-module _ {S : Type 0} (g : Ghosts S) (old new : Held S) (ready : IsReady g old) (clean : HasCleanDisk (state g old)) (Changes : Tables → Tables → Type 0)
+module _ {S : Type 0} (g : Ghosts S) (old new : Held S) (ready : IsReady g old)
+    (clean : HasCleanDisk (state g old)) (Changes : Tables → Tables → Type 0)
     (shows : Shows (state g old) (state g new) (state g new).now (state g old).committed true) where
-  pub makes : (IsDesk (state g old).now → IsDesk (state g new).now × Changes (tables_of (state g old).now.trees) (tables_of (state g new).now.trees)) → Makes g old new Changes
+  pub makes : (IsDesk (state g old).now → IsDesk (state g new).now
+      × Changes (tables_of (state g old).now.trees) (tables_of (state g new).now.trees))
+      → Makes g old new Changes
   makes gives =
       let done = gives (ready clean shows.was_open) in
-      record { was_open = shows.was_open; is_open = shows.is_open; begun = shows.mode; committed = shows.committed_is; desk = done.0; changed = done.1 }
+      record {
+        was_open = shows.was_open;
+        is_open = shows.is_open;
+        begun = shows.mode;
+        committed = shows.committed_is;
+        desk = done.0;
+        changed = done.1;
+      }

@@ -8,8 +8,11 @@ use Rattle.volume4d.specs.Slab.{slab_has}
 use Rattle.desk_store.specs.Parts.{AreSlabs, HasNoPoint}
 
 -- an area has no point of an extent that its bounds don't meet
-pub no_point : (area : List Block) (slabs : List Slab) (bounds extent : Slab) (meets : Bool) → AreSlabs area slabs bounds → (((x : Point) × (slab_has bounds x ≡ true) × (slab_has extent x ≡ true)) → IsTrue meets) → meets ≡ false → HasNoPoint area extent
-no_point area slabs bounds extent meets are shared apart = λ x inside. by_test x inside (area_has area x) refl where
-  by_test : (x : Point) → slab_has extent x ≡ true → (b : Bool) → area_has area x ≡ b → b ≡ false
-  by_test x inside false e = refl
-  by_test x inside true e = absurd (true≢false (sym (shared (x, are.1 x e, inside)) ∙ apart))
+pub no_point : (area : List Block) (slabs : List Slab) (bounds extent : Slab) (meets : Bool)
+    → AreSlabs area slabs bounds → (((x : Point) × (slab_has bounds x ≡ true) × (slab_has extent x ≡ true))
+    → IsTrue meets) → meets ≡ false → HasNoPoint area extent
+no_point area slabs bounds extent meets are shared apart =
+    λ x inside. by_test x inside (area_has area x) refl where
+      by_test : (x : Point) → slab_has extent x ≡ true → (b : Bool) → area_has area x ≡ b → b ≡ false
+      by_test x inside false e = refl
+      by_test x inside true e = absurd (true≢false (sym (shared (x, are.1 x e, inside)) ∙ apart))

@@ -29,96 +29,146 @@ max_right : (n a b : ℕ) → nat_le n a ≡ false → nat_le n b ≡ true → m
 max_right n a b p q = grind (arith, nat_tests)
 
 -- a level, where it is at least a priority, of the greater of two
-pub at_least_greater : (n : ℕ) (a b : Option ℕ) → at_least n (greater a b) ≡ greater (at_least n a) (at_least n b)
+pub at_least_greater : (n : ℕ) (a b : Option ℕ) → at_least n (greater a b)
+    ≡ greater (at_least n a) (at_least n b)
 at_least_greater n None b = refl
 at_least_greater n (Some a) None = sym (greater_none (at_least n (Some a)))
-at_least_greater n (Some a) (Some b) = ap (λ c. cond c (Some (max a b)) None) (sym (max_reaches n a b)) ∙ by_tests (nat_le n a) (nat_le n b) refl refl where
-  by_tests : (s t : Bool) → nat_le n a ≡ s → nat_le n b ≡ t → cond (s || t) (Some (max a b)) None ≡ greater (cond s (Some a) None) (cond t (Some b) None)
-  by_tests true true p q = refl
-  by_tests true false p q = ap Some (max_left n a b p q)
-  by_tests false true p q = ap Some (max_right n a b p q)
-  by_tests false false p q = refl
+at_least_greater n (Some a) (Some b) = ap (λ c. cond c (Some (max a b)) None) (sym (max_reaches n a b))
+    ∙ by_tests (nat_le n a) (nat_le n b) refl refl where
+      by_tests : (s t : Bool) → nat_le n a ≡ s → nat_le n b ≡ t → cond (s || t) (Some (max a b)) None
+          ≡ greater (cond s (Some a) None) (cond t (Some b) None)
+      by_tests true true p q = refl
+      by_tests true false p q = ap Some (max_left n a b p q)
+      by_tests false true p q = ap Some (max_right n a b p q)
+      by_tests false false p q = refl
 
 max_itself : (n : ℕ) → max n n ≡ n
 max_itself n = omega arith
 
 -- the step of a loop over the plans
-pub rival_added : (n : ℕ) (o id : List ℕ) (p : Filed) (ps : List Filed) (x : Point) (before after all : Option ℕ) → after ≡ greater before (at_least n (rival_level o id p x)) → greater before (at_least n (rivals_top o id (p ∷ ps) x)) ≡ all → greater after (at_least n (rivals_top o id ps x)) ≡ all
+pub rival_added : (n : ℕ) (o id : List ℕ) (p : Filed) (ps : List Filed) (x : Point)
+    (before after all : Option ℕ) → after ≡ greater before (at_least n (rival_level o id p x))
+    → greater before (at_least n (rivals_top o id (p ∷ ps) x)) ≡ all
+    → greater after (at_least n (rivals_top o id ps x)) ≡ all
 rival_added n o id p ps x before after all more e =
-    ap (λ l. greater l (at_least n (rivals_top o id ps x))) more ∙ greater_assoc before (at_least n (rival_level o id p x)) _
-    ∙ ap (greater before) (sym (ap (at_least n) (rivals_top-cons o id p ps x) ∙ at_least_greater n (rival_level o id p x) (rivals_top o id ps x))) ∙ e
+    ap (λ l. greater l (at_least n (rivals_top o id ps x))) more
+    ∙ greater_assoc before (at_least n (rival_level o id p x)) _
+    ∙ ap (greater before) (sym (ap (at_least n) (rivals_top-cons o id p ps x)
+    ∙ at_least_greater n (rival_level o id p x) (rivals_top o id ps x))) ∙ e
 
 -- the start of the loop, and its end
-pub rivals_begin : (level : Option ℕ) (helds : List Held) (x : Point) → helds ≡ [] → greater (top_held helds x) level ≡ level
-rivals_begin level helds x e = ap (λ hs. greater (top_held hs x) level) e ∙ ap (λ l. greater l level) (top_held-nil x)
+pub rivals_begin : (level : Option ℕ) (helds : List Held) (x : Point) → helds ≡ []
+    → greater (top_held helds x) level ≡ level
+rivals_begin level helds x e = ap (λ hs. greater (top_held hs x) level) e
+    ∙ ap (λ l. greater l level) (top_held-nil x)
 
-pub rivals_end : (n : ℕ) (o id : List ℕ) (ps : List Filed) (x : Point) (level all : Option ℕ) → ps ≡ [] → greater level (at_least n (rivals_top o id ps x)) ≡ all → level ≡ all
+pub rivals_end : (n : ℕ) (o id : List ℕ) (ps : List Filed) (x : Point) (level all : Option ℕ) → ps ≡ []
+    → greater level (at_least n (rivals_top o id ps x)) ≡ all → level ≡ all
 rivals_end n o id ps x level all none e =
-    sym (ap (λ qs. greater level (at_least n (rivals_top o id qs x))) none ∙ ap (λ l. greater level (at_least n l)) (rivals_top-nil o id x) ∙ greater_none level) ∙ e
+    sym (ap (λ qs. greater level (at_least n (rivals_top o id qs x))) none
+    ∙ ap (λ l. greater level (at_least n l)) (rivals_top-nil o id x) ∙ greater_none level) ∙ e
 
 -- the operator's own plan of the id adds nothing
-pub own_adds_none : (n : ℕ) (o id : List ℕ) (p : Filed) (x : Point) (level : Option ℕ) → is_own o id p ≡ true → level ≡ greater level (at_least n (rival_level o id p x))
+pub own_adds_none : (n : ℕ) (o id : List ℕ) (p : Filed) (x : Point) (level : Option ℕ) → is_own o id p
+    ≡ true
+    → level ≡ greater level (at_least n (rival_level o id p x))
 unfolding rival_level
-own_adds_none n o id p x level e = sym (ap (λ b. greater level (at_least n (level_where (not b && row_holds p.row x) p.row.priority))) e ∙ greater_none level)
+own_adds_none n o id p x level e =
+    sym (ap (λ b. greater level (at_least n (level_where (not b && row_holds p.row x) p.row.priority)))
+    e
+    ∙ greater_none level)
 
 -- nor does a plan that isn't live, or of a lower priority
-pub low_adds_none : (n : ℕ) (o id : List ℕ) (p : Filed) (x : Point) (level : Option ℕ) → (is_live p.row.usage && nat_le n p.row.priority) ≡ false → level ≡ greater level (at_least n (rival_level o id p x))
+pub low_adds_none : (n : ℕ) (o id : List ℕ) (p : Filed) (x : Point) (level : Option ℕ)
+    → (is_live p.row.usage && nat_le n p.row.priority) ≡ false → level
+    ≡ greater level (at_least n (rival_level o id p x))
 unfolding rival_level row_holds
-low_adds_none n o id p x level e = sym (ap (greater level) (by_tests (not (is_own o id p)) (is_live p.row.usage) (area_has p.row.area x) e) ∙ greater_none level) where
-  too_low : nat_le n p.row.priority ≡ false → (a : Bool) → at_least n (level_where a p.row.priority) ≡ None
-  too_low f true = ap (λ b. cond b (Some p.row.priority) None) f
-  too_low f false = refl
+low_adds_none n o id p x level e =
+    sym (ap (greater level) (by_tests (not (is_own o id p)) (is_live p.row.usage)
+    (area_has p.row.area x) e)
+    ∙ greater_none level) where
+      too_low : nat_le n p.row.priority ≡ false → (a : Bool) → at_least n (level_where a p.row.priority)
+          ≡ None
+      too_low f true = ap (λ b. cond b (Some p.row.priority) None) f
+      too_low f false = refl
 
-  by_tests : (b l a : Bool) → (l && nat_le n p.row.priority) ≡ false → at_least n (level_where (b && (l && a)) p.row.priority) ≡ None
-  by_tests false l a f = refl
-  by_tests true false a f = refl
-  by_tests true true a f = too_low f a
+      by_tests : (b l a : Bool) → (l && nat_le n p.row.priority) ≡ false
+          → at_least n (level_where (b && (l && a)) p.row.priority) ≡ None
+      by_tests false l a f = refl
+      by_tests true false a f = refl
+      by_tests true true a f = too_low f a
 
 -- nor does a plan that has no such point
-pub absent_adds_none : (n : ℕ) (o id : List ℕ) (p : Filed) (x : Point) (level : Option ℕ) → area_has p.row.area x ≡ false → level ≡ greater level (at_least n (rival_level o id p x))
+pub absent_adds_none : (n : ℕ) (o id : List ℕ) (p : Filed) (x : Point) (level : Option ℕ)
+    → area_has p.row.area x ≡ false → level ≡ greater level (at_least n (rival_level o id p x))
 unfolding rival_level row_holds
-absent_adds_none n o id p x level e = sym (ap (λ b. greater level (at_least n (level_where (not (is_own o id p) && (is_live p.row.usage && b)) p.row.priority))) e ∙ by_tests (not (is_own o id p)) (is_live p.row.usage)) where
-  by_tests : (b l : Bool) → greater level (at_least n (level_where (b && (l && false)) p.row.priority)) ≡ level
-  by_tests false l = greater_none level
-  by_tests true false = greater_none level
-  by_tests true true = greater_none level
+absent_adds_none n o id p x level e =
+    sym (ap (λ b. greater level
+    (at_least n (level_where (not (is_own o id p) && (is_live p.row.usage && b)) p.row.priority))) e
+    ∙ by_tests (not (is_own o id p)) (is_live p.row.usage)) where
+      by_tests : (b l : Bool)
+          → greater level (at_least n (level_where (b && (l && false)) p.row.priority))
+          ≡ level
+      by_tests false l = greater_none level
+      by_tests true false = greater_none level
+      by_tests true true = greater_none level
 
 -- every other plan adds its priority where its area has the point
-pub rival_adds : (n : ℕ) (o id : List ℕ) (p : Filed) (x : Point) → is_own o id p ≡ false → (is_live p.row.usage && nat_le n p.row.priority) ≡ true → level_where (area_has p.row.area x) p.row.priority ≡ at_least n (rival_level o id p x)
+pub rival_adds : (n : ℕ) (o id : List ℕ) (p : Filed) (x : Point) → is_own o id p ≡ false
+    → (is_live p.row.usage && nat_le n p.row.priority) ≡ true
+    → level_where (area_has p.row.area x) p.row.priority ≡ at_least n (rival_level o id p x)
 unfolding rival_level row_holds
-rival_adds n o id p x own e = sym (ap (λ b. at_least n (level_where (not b && (is_live p.row.usage && area_has p.row.area x)) p.row.priority)) own ∙ by_tests (is_live p.row.usage) (area_has p.row.area x) e) where
-  by_tests : (l a : Bool) → (l && nat_le n p.row.priority) ≡ true → at_least n (level_where (true && (l && a)) p.row.priority) ≡ level_where a p.row.priority
-  by_tests false a f = cc
-  by_tests true true f = ap (λ b. cond b (Some p.row.priority) None) f
-  by_tests true false f = refl
+rival_adds n o id p x own e =
+    sym (ap (λ b. at_least n (level_where (not b && (is_live p.row.usage && area_has p.row.area x))
+    p.row.priority)) own ∙ by_tests (is_live p.row.usage) (area_has p.row.area x) e) where
+      by_tests : (l a : Bool) → (l && nat_le n p.row.priority) ≡ true
+          → at_least n (level_where (true && (l && a)) p.row.priority) ≡ level_where a p.row.priority
+      by_tests false a f = cc
+      by_tests true true f = ap (λ b. cond b (Some p.row.priority) None) f
+      by_tests true false f = refl
 
 -- ---- rows of plans, whosever they are
 
 -- the step of a loop over the rows
-pub row_added : (n : ℕ) (row : PlanRow) (rows : List PlanRow) (x : Point) (before after all : Option ℕ) → after ≡ greater before (at_least n (level_where (row_holds row x) row.priority)) → greater before (at_least n (top_priority (row ∷ rows) x)) ≡ all → greater after (at_least n (top_priority rows x)) ≡ all
+pub row_added : (n : ℕ) (row : PlanRow) (rows : List PlanRow) (x : Point) (before after all : Option ℕ)
+    → after ≡ greater before (at_least n (level_where (row_holds row x) row.priority))
+    → greater before (at_least n (top_priority (row ∷ rows) x)) ≡ all
+    → greater after (at_least n (top_priority rows x)) ≡ all
 row_added n row rows x before after all more e =
-    ap (λ l. greater l (at_least n (top_priority rows x))) more ∙ greater_assoc before (at_least n (level_where (row_holds row x) row.priority)) _
-    ∙ ap (greater before) (sym (ap (at_least n) (top_priority-cons row rows x) ∙ at_least_greater n (level_where (row_holds row x) row.priority) (top_priority rows x))) ∙ e
+    ap (λ l. greater l (at_least n (top_priority rows x))) more
+    ∙ greater_assoc before (at_least n (level_where (row_holds row x) row.priority)) _
+    ∙ ap (greater before) (sym (ap (at_least n) (top_priority-cons row rows x)
+    ∙ at_least_greater n (level_where (row_holds row x) row.priority) (top_priority rows x))) ∙ e
 
 -- its end
-pub rows_end : (n : ℕ) (rows : List PlanRow) (x : Point) (level all : Option ℕ) → rows ≡ [] → greater level (at_least n (top_priority rows x)) ≡ all → level ≡ all
+pub rows_end : (n : ℕ) (rows : List PlanRow) (x : Point) (level all : Option ℕ) → rows ≡ []
+    → greater level (at_least n (top_priority rows x)) ≡ all → level ≡ all
 rows_end n rows x level all none e =
-    sym (ap (λ rs. greater level (at_least n (top_priority rs x))) none ∙ ap (λ l. greater level (at_least n l)) (top_priority-nil x) ∙ greater_none level) ∙ e
+    sym (ap (λ rs. greater level (at_least n (top_priority rs x))) none
+    ∙ ap (λ l. greater level (at_least n l)) (top_priority-nil x) ∙ greater_none level) ∙ e
 
 -- a row that isn't live, or of a lower priority, adds nothing
-pub low_row_adds_none : (n : ℕ) (row : PlanRow) (x : Point) (level : Option ℕ) → (is_live row.usage && nat_le n row.priority) ≡ false → level ≡ greater level (at_least n (level_where (row_holds row x) row.priority))
+pub low_row_adds_none : (n : ℕ) (row : PlanRow) (x : Point) (level : Option ℕ)
+    → (is_live row.usage && nat_le n row.priority) ≡ false → level
+    ≡ greater level (at_least n (level_where (row_holds row x) row.priority))
 unfolding row_holds
-low_row_adds_none n row x level e = sym (ap (greater level) (by_tests (is_live row.usage) (area_has row.area x) e) ∙ greater_none level) where
-  by_tests : (l a : Bool) → (l && nat_le n row.priority) ≡ false → at_least n (level_where (l && a) row.priority) ≡ None
-  by_tests false a f = refl
-  by_tests true true f = ap (λ b. cond b (Some row.priority) None) f
-  by_tests true false f = refl
+low_row_adds_none n row x level e =
+    sym (ap (greater level) (by_tests (is_live row.usage) (area_has row.area x) e) ∙ greater_none level)
+  where
+    by_tests : (l a : Bool) → (l && nat_le n row.priority) ≡ false
+        → at_least n (level_where (l && a) row.priority) ≡ None
+    by_tests false a f = refl
+    by_tests true true f = ap (λ b. cond b (Some row.priority) None) f
+    by_tests true false f = refl
 
 -- every other row adds its priority where its area has the point
-pub row_adds : (n : ℕ) (row : PlanRow) (x : Point) → (is_live row.usage && nat_le n row.priority) ≡ true → level_where (area_has row.area x) row.priority ≡ at_least n (level_where (row_holds row x) row.priority)
+pub row_adds : (n : ℕ) (row : PlanRow) (x : Point) → (is_live row.usage && nat_le n row.priority) ≡ true
+    → level_where (area_has row.area x) row.priority
+    ≡ at_least n (level_where (row_holds row x) row.priority)
 unfolding row_holds
 row_adds n row x e = sym (by_tests (is_live row.usage) (area_has row.area x) e) where
-  by_tests : (l a : Bool) → (l && nat_le n row.priority) ≡ true → at_least n (level_where (l && a) row.priority) ≡ level_where a row.priority
+  by_tests : (l a : Bool) → (l && nat_le n row.priority) ≡ true
+      → at_least n (level_where (l && a) row.priority) ≡ level_where a row.priority
   by_tests false a f = cc
   by_tests true true f = ap (λ b. cond b (Some row.priority) None) f
   by_tests true false f = refl
@@ -126,21 +176,36 @@ row_adds n row x e = sym (by_tests (is_live row.usage) (area_has row.area x) e) 
 -- ---- slabs
 
 -- one more slab of a priority
-pub slab_adds : (helds : List Held) (slabs : List Slab) (i : ℕ) (s : Slab) (priority : ℕ) (x : Point) (before : Option ℕ) → i < length slabs → s ≡ get_or slabs i s → top_held helds x ≡ greater before (level_where (slabs_have (take i slabs) x) priority) → top_held (helds ++ record { slab = s; priority = priority } ∷ []) x ≡ greater before (level_where (slabs_have (take (i + 1) slabs) x) priority)
+pub slab_adds : (helds : List Held) (slabs : List Slab) (i : ℕ) (s : Slab) (priority : ℕ) (x : Point)
+    (before : Option ℕ) → i < length slabs → s ≡ get_or slabs i s → top_held helds x
+    ≡ greater before (level_where (slabs_have (take i slabs) x) priority)
+    → top_held (helds ++ record { slab = s; priority = priority } ∷ []) x
+    ≡ greater before (level_where (slabs_have (take (i + 1) slabs) x) priority)
 slab_adds helds slabs i s priority x before h is so_far =
-    top_held-push helds (record { slab = s; priority = priority }) x ∙ ap (λ l. greater l (level_where (slab_has s x) priority)) so_far
-    ∙ greater_assoc before (level_where (slabs_have (take i slabs) x) priority) (level_where (slab_has s x) priority)
+    top_held-push helds (record { slab = s; priority = priority }) x
+    ∙ ap (λ l. greater l (level_where (slab_has s x) priority)) so_far
+    ∙ greater_assoc before (level_where (slabs_have (take i slabs) x) priority)
+    (level_where (slab_has s x) priority)
     ∙ ap (greater before) (either (slabs_have (take i slabs) x) (slab_has s x)
-    ∙ ap (λ b. level_where b priority) (sym (list_any_more (λ t. slab_has t x) slabs i s h ∙ ap (λ t. slabs_have (take i slabs) x || slab_has t x) (sym is)))) where
-      either : (a b : Bool) → greater (level_where a priority) (level_where b priority) ≡ level_where (a || b) priority
+    ∙ ap (λ b. level_where b priority) (sym (list_any_more (λ t. slab_has t x) slabs i s h
+    ∙ ap (λ t. slabs_have (take i slabs) x || slab_has t x) (sym is)))) where
+      either : (a b : Bool) → greater (level_where a priority) (level_where b priority)
+          ≡ level_where (a || b) priority
       either true true = ap Some (max_itself priority)
       either true false = refl
       either false b = refl
 
 -- a slab that has no point of an extent adds nothing there
-pub slab_outside : (slabs : List Slab) (i : ℕ) (s : Slab) (priority : ℕ) (x : Point) (meets : Bool) (level before : Option ℕ) → i < length slabs → s ≡ get_or slabs i s → meets ≡ false → (slab_has s x ≡ true → meets ≡ true) → level ≡ greater before (level_where (slabs_have (take i slabs) x) priority) → level ≡ greater before (level_where (slabs_have (take (i + 1) slabs) x) priority)
+pub slab_outside : (slabs : List Slab) (i : ℕ) (s : Slab) (priority : ℕ) (x : Point) (meets : Bool)
+    (level before : Option ℕ) → i < length slabs → s ≡ get_or slabs i s → meets ≡ false
+    → (slab_has s x ≡ true → meets ≡ true) → level
+    ≡ greater before (level_where (slabs_have (take i slabs) x) priority) → level
+    ≡ greater before (level_where (slabs_have (take (i + 1) slabs) x) priority)
 slab_outside slabs i s priority x meets level before h is apart shared so_far =
-    so_far ∙ ap (λ b. greater before (level_where b priority)) (sym (list_any_more (λ t. slab_has t x) slabs i s h ∙ ap (λ t. slabs_have (take i slabs) x || slab_has t x) (sym is) ∙ no_more (slabs_have (take i slabs) x) (slab_has s x) shared)) where
+    so_far ∙ ap (λ b. greater before (level_where b priority))
+    (sym (list_any_more (λ t. slab_has t x) slabs i s h
+    ∙ ap (λ t. slabs_have (take i slabs) x || slab_has t x) (sym is)
+    ∙ no_more (slabs_have (take i slabs) x) (slab_has s x) shared)) where
       no_more : (a b : Bool) → (b ≡ true → meets ≡ true) → (a || b) ≡ a
       no_more true b h = refl
       no_more false true h = sym (h refl) ∙ apart

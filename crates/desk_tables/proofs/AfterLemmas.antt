@@ -33,15 +33,18 @@ named : (name : List ℕ) (ceiling : ℕ) → IsTrue (is_operator_name name) →
 unfolding IsWithin
 named name ceiling valid = valid
 
-pub low_fits : (name : List ℕ) (ceiling : ℕ) (w : World) → ceiling ≤ max_priority → IsFitting (Enrol name ceiling) w
+pub low_fits : (name : List ℕ) (ceiling : ℕ) (w : World) → ceiling ≤ max_priority
+    → IsFitting (Enrol name ceiling) w
 unfolding IsFitting
 low_fits name ceiling w low = low
 
-pub fits_low : (name : List ℕ) (ceiling : ℕ) (w : World) → IsFitting (Enrol name ceiling) w → ceiling ≤ max_priority
+pub fits_low : (name : List ℕ) (ceiling : ℕ) (w : World) → IsFitting (Enrol name ceiling) w
+    → ceiling ≤ max_priority
 unfolding IsFitting
 fits_low name ceiling w fits = fits
 
-enrolled : (name : List ℕ) (ceiling : ℕ) (w : World) (old new : Tables) → IsContent w → AreTables old w → PutsOperator name ceiling old new → ChangesRows (Enrol name ceiling) old new
+enrolled : (name : List ℕ) (ceiling : ℕ) (w : World) (old new : Tables) → IsContent w → AreTables old w
+    → PutsOperator name ceiling old new → ChangesRows (Enrol name ceiling) old new
 unfolding ChangesRows
 enrolled name ceiling w old new h t e = operator_is_put name ceiling w old new h t e
 
@@ -53,56 +56,102 @@ within_close : (operator id : List ℕ) → IsId id → IsWithin (Close operator
 unfolding IsWithin
 within_close operator id valid = valid
 
-put_asked : (operator : List ℕ) (row : PlanRow) (old new : Tables) → PutsRows (filed_by operator row) old new → ChangesRows (Put operator row) old new
+put_asked : (operator : List ℕ) (row : PlanRow) (old new : Tables)
+    → PutsRows (filed_by operator row) old new
+    → ChangesRows (Put operator row) old new
 unfolding ChangesRows
 put_asked operator row old new e = e
 
-close_asked : (operator id : List ℕ) (old new : Tables) → ClosesRows operator id old new → ChangesRows (Close operator id) old new
+close_asked : (operator id : List ℕ) (old new : Tables) → ClosesRows operator id old new
+    → ChangesRows (Close operator id) old new
 unfolding ChangesRows
 close_asked operator id old new e = e
 
 -- what stands after a transaction that changed the rows as a change asks
-module _ {S : Type 0} (g : Ghosts S) (old new : Held S) (w : World) (stood : Stands g old w) (mode : new.in_transaction ≡ false) (rises : doubt (state g old).is_clean ≤ doubt (state g new).is_clean) where
-  stands_changed : (change : Change) (Rows : Tables → Tables → Type 0) → (HasCleanDisk (state g new) → Commits g old new Rows) → (HasCleanDisk (state g old) → IsFitting change w) → IsWithin change
-      → ((one two : Tables) → HasCleanDisk (state g new) → IsContent w → AreTables one w → Rows one two → ChangesRows change one two) → Stands g new (changed_by change w)
-  stands_changed change Rows done fits within asks = record {
-    settled = mode;
-    standing = λ clean live.
-        let made = done clean in
-        let before = stood.standing (omega (arith, rises, clean)) made.was_open in
-        let one = tables_of (state g old).now.trees in
-        let two = tables_of (state g new).now.trees in
-        record {
-          content = change_content change w before.content (fits (omega (arith, rises, clean))) within;
-          desk = made.desk;
-          tables = change_tables change w one two before.content within before.tables (asks one two clean before.content before.tables made.changed);
-        };
-  }
+module _ {S : Type 0} (g : Ghosts S) (old new : Held S) (w : World) (stood : Stands g old w)
+    (mode : new.in_transaction ≡ false) (rises : doubt (state g old).is_clean ≤ doubt
+    (state g new).is_clean)
+  where
+    stands_changed : (change : Change) (Rows : Tables → Tables → Type 0)
+        → (HasCleanDisk (state g new) → Commits g old new Rows)
+        → (HasCleanDisk (state g old) → IsFitting change w) → IsWithin change
+        → ((one two : Tables) → HasCleanDisk (state g new) → IsContent w → AreTables one w
+        → Rows one two
+        → ChangesRows change one two) → Stands g new (changed_by change w)
+    stands_changed change Rows done fits within asks = record {
+      settled = mode;
+      standing = λ clean live.
+          let made = done clean in
+          let before = stood.standing (omega (arith, rises, clean)) made.was_open in
+          let one = tables_of (state g old).now.trees in
+          let two = tables_of (state g new).now.trees in
+          record {
+            content = change_content change w before.content (fits (omega (arith, rises, clean)))
+                within;
+            desk = made.desk;
+            tables = change_tables change w one two before.content within before.tables
+                (asks one two clean before.content before.tables made.changed);
+          };
+    }
 
-  pub stands_enrolled : (name : List ℕ) (ceiling : ℕ) → (HasCleanDisk (state g new) → Commits g old new (PutsOperator name ceiling)) → IsTrue (is_operator_name name) → (HasCleanDisk (state g old) → ceiling ≤ max_priority) → Stands g new (changed_by (Enrol name ceiling) w)
-  stands_enrolled name ceiling done valid low =
-      stands_changed (Enrol name ceiling) (PutsOperator name ceiling) done (λ clean. low_fits name ceiling w (low clean)) (named name ceiling valid)
-      (λ one two clean h t e. enrolled name ceiling w one two h t e)
+    pub stands_enrolled : (name : List ℕ) (ceiling : ℕ)
+        → (HasCleanDisk (state g new) → Commits g old new (PutsOperator name ceiling))
+        → IsTrue (is_operator_name name) → (HasCleanDisk (state g old) → ceiling ≤ max_priority)
+        → Stands g new (changed_by (Enrol name ceiling) w)
+    stands_enrolled name ceiling done valid low =
+        stands_changed (Enrol name ceiling) (PutsOperator name ceiling) done
+        (λ clean. low_fits name ceiling w (low clean)) (named name ceiling valid)
+        (λ one two clean h t e. enrolled name ceiling w one two h t e)
 
-  pub stands_put : (operator : List ℕ) (row : PlanRow) (text : List ℕ) (volumes spans : List Row) → text ≡ id_text row.id → volumes ≡ area_rows (filed_by operator row) → ArePlanSpanRows (filed_by operator row) spans → IsPlan row
-      → (HasCleanDisk (state g new) → Commits g old new (PutsPlan operator text (sql.plan_row operator text row.priority (usage_number row.usage) (aircraft_number row.aircraft)) volumes spans)) → (HasCleanDisk (state g old) → IsFitting (Put operator row) w)
-      → Stands g new (changed_by (Put operator row) w)
-  stands_put operator row text volumes spans is are span_rows plan done fits =
-      stands_changed (Put operator row) (PutsPlan operator (id_text row.id) (plan_row (filed_by operator row)) (area_rows (filed_by operator row)) spans)
-      (λ clean. subst (λ rows. Commits g old new (PutsPlan operator (id_text row.id) (plan_row (filed_by operator row)) rows spans)) are
-      (subst (λ t. Commits g old new (PutsPlan operator t (sql.plan_row operator t row.priority (usage_number row.usage) (aircraft_number row.aircraft)) volumes spans)) is (done clean)))
-      fits (within_put operator row plan) (λ one two clean h t e. put_asked operator row one two (put_is_put (filed_by operator row) w one two spans h plan t span_rows e))
+    pub stands_put : (operator : List ℕ) (row : PlanRow) (text : List ℕ) (volumes spans : List Row)
+        → text
+        ≡ id_text row.id → volumes ≡ area_rows (filed_by operator row)
+        → ArePlanSpanRows (filed_by operator row) spans → IsPlan row
+        → (HasCleanDisk (state g new) → Commits g old new
+        (PutsPlan operator text (sql.plan_row operator text row.priority (usage_number row.usage)
+        (aircraft_number row.aircraft)) volumes spans))
+        → (HasCleanDisk (state g old) → IsFitting (Put operator row) w)
+        → Stands g new (changed_by (Put operator row) w)
+    stands_put operator row text volumes spans is are span_rows plan done fits =
+        stands_changed (Put operator row) (PutsPlan operator (id_text row.id)
+        (plan_row (filed_by operator row))
+        (area_rows (filed_by operator row)) spans)
+        (λ clean. subst (λ rows. Commits g old new (PutsPlan operator (id_text row.id)
+        (plan_row (filed_by operator row)) rows spans)) are
+        (subst (λ t. Commits g old new (PutsPlan operator t
+        (sql.plan_row operator t row.priority (usage_number row.usage) (aircraft_number row.aircraft))
+        volumes spans)) is (done clean)))
+        fits (within_put operator row plan) (λ one two clean h t e. put_asked operator row one two
+        (put_is_put (filed_by operator row) w one two spans h plan t span_rows e))
 
-  pub stands_closed : (operator id : List ℕ) (priority aircraft : ℕ) (heads rest : List Row) (head : Row) → IsId id → column head 2 ≡ Int (pos priority) → column head 4 ≡ Int (pos aircraft)
-      → (HasCleanDisk (state g new) → heads ≡ plan_rows (own_of operator id w)) → heads ≡ head ∷ rest → (HasCleanDisk (state g new) → Commits g old new (ClosesPlan operator (id_text id) priority aircraft))
-      → (HasCleanDisk (state g old) → IsFitting (Close operator id) w) → Stands g new (changed_by (Close operator id) w)
-  stands_closed operator id priority aircraft heads rest head valid at_priority at_aircraft are some done fits =
-      stands_changed (Close operator id) (ClosesPlan operator (id_text id) priority aircraft) done fits (within_close operator id valid)
-      (λ one two clean h t e. close_asked operator id one two (close_is_close operator id head priority aircraft at_priority at_aircraft w one two heads rest h valid t (are clean) some e))
+    pub stands_closed : (operator id : List ℕ) (priority aircraft : ℕ) (heads rest : List Row)
+        (head : Row)
+        → IsId id → column head 2 ≡ Int (pos priority) → column head 4 ≡ Int (pos aircraft)
+        → (HasCleanDisk (state g new) → heads ≡ plan_rows (own_of operator id w)) → heads ≡ head ∷ rest
+        → (HasCleanDisk (state g new) → Commits g old new
+        (ClosesPlan operator (id_text id) priority aircraft))
+        → (HasCleanDisk (state g old) → IsFitting (Close operator id) w)
+        → Stands g new (changed_by (Close operator id) w)
+    stands_closed operator id priority aircraft heads rest head valid at_priority at_aircraft are some
+        done
+        fits =
+        stands_changed (Close operator id) (ClosesPlan operator (id_text id) priority aircraft) done
+        fits
+        (within_close operator id valid)
+        (λ one two clean h t e. close_asked operator id one two
+        (close_is_close operator id head priority aircraft at_priority at_aircraft w one two heads rest
+        h
+        valid t (are clean) some e))
 
-  -- of a change that asks for the ids to be taken out
-  pub stands_cleared : (change : Change) (operator : List ℕ) (ids texts : List (List ℕ)) → IsWithin change → ((one two : Tables) → ClearsRows operator ids one two → ChangesRows change one two) → texts ≡ map id_text ids
-      → (HasCleanDisk (state g new) → Commits g old new (RemovesPlans operator texts)) → (HasCleanDisk (state g old) → IsFitting change w) → Stands g new (changed_by change w)
-  stands_cleared change operator ids texts within asks are done fits =
-      stands_changed change (RemovesPlans operator (map id_text ids)) (λ clean. subst (λ ts. Commits g old new (RemovesPlans operator ts)) are (done clean)) fits within
-      (λ one two clean h t e. asks one two (removal_is_clear operator ids w one two t e))
+    -- of a change that asks for the ids to be taken out
+    pub stands_cleared : (change : Change) (operator : List ℕ) (ids texts : List (List ℕ))
+        → IsWithin change
+        → ((one two : Tables) → ClearsRows operator ids one two → ChangesRows change one two) → texts
+        ≡ map id_text ids
+        → (HasCleanDisk (state g new) → Commits g old new (RemovesPlans operator texts))
+        → (HasCleanDisk (state g old) → IsFitting change w) → Stands g new (changed_by change w)
+    stands_cleared change operator ids texts within asks are done fits =
+        stands_changed change (RemovesPlans operator (map id_text ids))
+        (λ clean. subst (λ ts. Commits g old new (RemovesPlans operator ts)) are (done clean)) fits
+        within
+        (λ one two clean h t e. asks one two (removal_is_clear operator ids w one two t e))

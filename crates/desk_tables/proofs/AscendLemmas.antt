@@ -14,12 +14,19 @@ is_below Equal e = cc
 is_below Greater e = cc
 
 module _ {X : Type 0} (cmp : X → X → Ordering) (total : IsTotalOrder cmp) where
-  ascends_from : (x : X) (xs : List X) → is_below_first cmp x xs ≡ true → IsStrictlySortedBy cmp xs → IsStrictlySortedBy cmp (x ∷ xs)
+  ascends_from : (x : X) (xs : List X) → is_below_first cmp x xs ≡ true → IsStrictlySortedBy cmp xs
+      → IsStrictlySortedBy cmp (x ∷ xs)
   unfolding IsStrictlySortedBy
   ascends_from x [] e s = (tt, tt)
   ascends_from x (y ∷ ys) e s =
-      let first = is_below (cmp x y) e in
-      ((first, all_weaker (λ z. cmp y z ≡ Less) (λ z. cmp x z ≡ Less) (λ z k. total.trans x y z first k) ys s.0), s)
+      let first = is_below (cmp x y) e in (
+        (
+          first,
+          all_weaker (λ z. cmp y z ≡ Less) (λ z. cmp x z ≡ Less) (λ z k. total.trans x y z first k) ys
+              s.0,
+        ),
+        s,
+      )
 
   first_below : (x : X) (xs : List X) → IsStrictlySortedBy cmp (x ∷ xs) → is_below_first cmp x xs ≡ true
   unfolding IsStrictlySortedBy
@@ -30,19 +37,25 @@ module _ {X : Type 0} (cmp : X → X → Ordering) (total : IsTotalOrder cmp) wh
   unfolding IsStrictlySortedBy
   later x xs s = s.1
 
-  pub goes_on : (all left xs : List X) (x : X) → IsStrictlySortedBy cmp all ↔ IsStrictlySortedBy cmp left → left ≡ x ∷ xs → is_below_first cmp x xs ≡ true → IsStrictlySortedBy cmp all ↔ IsStrictlySortedBy cmp xs
+  pub goes_on : (all left xs : List X) (x : X) → IsStrictlySortedBy cmp all
+      ↔ IsStrictlySortedBy cmp left
+      → left ≡ x ∷ xs → is_below_first cmp x xs ≡ true → IsStrictlySortedBy cmp all
+      ↔ IsStrictlySortedBy cmp xs
   goes_on all left xs x h some e = (
     λ s. later x xs (subst (IsStrictlySortedBy cmp) some (h.0 s)),
     λ s. h.1 (subst (IsStrictlySortedBy cmp) (sym some) (ascends_from x xs e s)),
   )
 
-  pub stops : (all left xs : List X) (x : X) → IsStrictlySortedBy cmp all ↔ IsStrictlySortedBy cmp left → left ≡ x ∷ xs → is_below_first cmp x xs ≡ false → IsTrue false ↔ IsStrictlySortedBy cmp all
+  pub stops : (all left xs : List X) (x : X) → IsStrictlySortedBy cmp all ↔ IsStrictlySortedBy cmp left
+      → left
+      ≡ x ∷ xs → is_below_first cmp x xs ≡ false → IsTrue false ↔ IsStrictlySortedBy cmp all
   stops all left xs x h some e = (
     λ t. absurd (true≢false (sym t)),
     λ s. absurd (true≢false (sym (first_below x xs (subst (IsStrictlySortedBy cmp) some (h.0 s))) ∙ e)),
   )
 
-  pub ends : (all left : List X) → IsStrictlySortedBy cmp all ↔ IsStrictlySortedBy cmp left → left ≡ [] → IsTrue true ↔ IsStrictlySortedBy cmp all
+  pub ends : (all left : List X) → IsStrictlySortedBy cmp all ↔ IsStrictlySortedBy cmp left → left ≡ []
+      → IsTrue true ↔ IsStrictlySortedBy cmp all
   unfolding IsStrictlySortedBy
   ends all left h none = (λ t. h.1 (subst (IsStrictlySortedBy cmp) (sym none) tt), λ s. refl)
 

@@ -24,7 +24,9 @@ use Rattle.desk_tables.proofs.ShareLemmas.{has_name, if_listed}
 abbrev world_of : List Listed → List Filed → World
 world_of ls ps = record { operators = ls; plans = ps }
 
-both : {X : Type 0} (P Q R : X → Type 0) → ((x : X) → P x → Q x → R x) → (xs : List X) → AllByRecursion P xs → AllByRecursion Q xs → AllByRecursion R xs
+both : {X : Type 0} (P Q R : X → Type 0) → ((x : X) → P x → Q x → R x) → (xs : List X)
+    → AllByRecursion P xs
+    → AllByRecursion Q xs → AllByRecursion R xs
 both P Q R f [] h k = tt
 both P Q R f (x ∷ xs) h k = (f x h.0 k.0, both P Q R f xs h.1 k.1)
 
@@ -34,29 +36,48 @@ is_equal Equal f = refl
 is_equal Greater f = cc
 
 -- who is listed has an operator's name
-named : (o : List ℕ) (ls : List Listed) → AllByRecursion (λ l. IsTrue (is_operator_name l.name)) ls → has_name o ls ≡ true → IsTrue (is_operator_name o)
+named : (o : List ℕ) (ls : List Listed) → AllByRecursion (λ l. IsTrue (is_operator_name l.name)) ls
+    → has_name o ls ≡ true → IsTrue (is_operator_name o)
 named o [] h e = cc
 named o (l ∷ ls) h e = by_test (is_eq (text_cmp o l.name)) refl e (named o ls h.1) where
-  by_test : (b : Bool) → is_eq (text_cmp o l.name) ≡ b → is_some (cond b (Some l) (find (λ k. is_eq (text_cmp o k.name)) ls)) ≡ true → (has_name o ls ≡ true → IsTrue (is_operator_name o)) → IsTrue (is_operator_name o)
-  by_test true f g ih = subst (λ n. IsTrue (is_operator_name n)) (sym (exact_bytes o l.name (is_equal (text_cmp o l.name) f))) h.0
+  by_test : (b : Bool) → is_eq (text_cmp o l.name) ≡ b
+      → is_some (cond b (Some l) (find (λ k. is_eq (text_cmp o k.name)) ls)) ≡ true
+      → (has_name o ls ≡ true → IsTrue (is_operator_name o)) → IsTrue (is_operator_name o)
+  by_test true f g ih = subst (λ n. IsTrue (is_operator_name n))
+      (sym (exact_bytes o l.name (is_equal (text_cmp o l.name) f))) h.0
   by_test false f g ih = ih g
 
 operators_within : (w : World) → IsContent w → AllByRecursion IsOperator w.operators
-operators_within w h = both (λ l. IsTrue (is_operator_name l.name)) (λ l. l.ceiling ≤ max_priority) IsOperator (λ l name low. record { name = name; ceiling = low }) w.operators h.names h.world.ceilings
+operators_within w h = both (λ l. IsTrue (is_operator_name l.name)) (λ l. l.ceiling ≤ max_priority)
+    IsOperator
+    (λ l name low. record { name = name; ceiling = low }) w.operators h.names h.world.ceilings
 
 filed_within : (w : World) → IsContent w → AllByRecursion IsFiled w.plans
 filed_within w h =
-    both (λ p. IsPlan p.row) (λ p. IsTrue (is_operator_name p.operator) × (p.row.priority ≤ max_priority)) IsFiled (λ p row k. record { operator = k.0; row = row; priority = k.1 }) w.plans h.rows
-    (both (IsListed w) (λ p. p.row.priority ≤ max_priority) (λ p. IsTrue (is_operator_name p.operator) × (p.row.priority ≤ max_priority))
-    (λ p there low. (named p.operator w.operators h.names (if_listed w.operators w.plans p there), low)) w.plans h.world.listed h.world.priorities)
+    both (λ p. IsPlan p.row) (λ p. IsTrue (is_operator_name p.operator)
+    × (p.row.priority ≤ max_priority))
+    IsFiled (λ p row k. record { operator = k.0; row = row; priority = k.1 }) w.plans h.rows
+    (both (IsListed w) (λ p. p.row.priority ≤ max_priority)
+    (λ p. IsTrue (is_operator_name p.operator) × (p.row.priority ≤ max_priority))
+    (λ p there low. (named p.operator w.operators h.names (if_listed w.operators w.plans p there), low))
+    w.plans h.world.listed h.world.priorities)
 
-pub operator_rows_of : (t : Tables) (w : World) → IsContent w → AreRows t w → AreOperatorRows w.operators t.operators
+pub operator_rows_of : (t : Tables) (w : World) → IsContent w → AreRows t w
+    → AreOperatorRows w.operators t.operators
 operator_rows_of t w h are = record { within = operators_within w h; are = are.operator_part }
 
-pub plan_rows_of : (t : Tables) (w : World) → IsContent w → AreRows t w → ArePlanRows w.plans t.plans t.volumes
-plan_rows_of t w h are = record { within = filed_within w h; plans = are.plan_part; areas = are.volume_part }
+pub plan_rows_of : (t : Tables) (w : World) → IsContent w → AreRows t w
+    → ArePlanRows w.plans t.plans t.volumes
+plan_rows_of t w h are = record {
+  within = filed_within w h;
+  plans = are.plan_part;
+  areas = are.volume_part;
+}
 
-module _ (one_shape : (one other : Shape) → HasValidParts one → HasValidParts other → footprint_bytes one ≡ footprint_bytes other → one ≡ other) (t : Tables) (ls : List Listed) (ps : List Filed) (operators : AreOperatorRows ls t.operators) (plans : ArePlanRows ps t.plans t.volumes) where
+module _ (one_shape : (one other : Shape) → HasValidParts one → HasValidParts other
+    → footprint_bytes one
+    ≡ footprint_bytes other → one ≡ other) (t : Tables) (ls : List Listed) (ps : List Filed)
+    (operators : AreOperatorRows ls t.operators) (plans : ArePlanRows ps t.plans t.volumes) where
   pub assembled : AreAgreed ls ps t.spans → IsContent (world_of ls ps) × AreRows t (world_of ls ps)
   assembled are = (
     record {
@@ -65,20 +86,29 @@ module _ (one_shape : (one other : Shape) → HasValidParts one → HasValidPart
         plans = are.keys;
         listed = are.shared.listed;
         rows = are.shared.few;
-        ceilings = all_weaker IsOperator (λ l. l.ceiling ≤ max_priority) (λ l k. k.ceiling) ls operators.within;
-        priorities = all_weaker IsFiled (λ p. p.row.priority ≤ max_priority) (λ p k. k.priority) ps plans.within;
+        ceilings = all_weaker IsOperator (λ l. l.ceiling ≤ max_priority) (λ l k. k.ceiling) ls
+            operators.within;
+        priorities = all_weaker IsFiled (λ p. p.row.priority ≤ max_priority) (λ p k. k.priority) ps
+            plans.within;
       };
-      names = all_weaker IsOperator (λ l. IsTrue (is_operator_name l.name)) (λ l k. k.name) ls operators.within;
+      names = all_weaker IsOperator (λ l. IsTrue (is_operator_name l.name)) (λ l k. k.name) ls
+          operators.within;
       rows = plans_within ps plans.within;
     },
-    record { operator_part = operators.are; plan_part = plans.plans; volume_part = plans.areas; span_part = are.spans },
+    record {
+      operator_part = operators.are;
+      plan_part = plans.plans;
+      volume_part = plans.areas;
+      span_part = are.spans;
+    },
   )
 
   same_operators : (w : World) → AreRows t w → ls ≡ w.operators
   same_operators w are = one_operators ls w.operators (sym operators.are ∙ are.operator_part)
 
   same_plans : (w : World) → IsContent w → AreRows t w → ps ≡ w.plans
-  same_plans w h are = one_plans one_shape ps w.plans (plans_within ps plans.within) h.rows (sym plans.plans ∙ are.plan_part) (sym plans.areas ∙ are.volume_part)
+  same_plans w h are = one_plans one_shape ps w.plans (plans_within ps plans.within) h.rows
+      (sym plans.plans ∙ are.plan_part) (sym plans.areas ∙ are.volume_part)
 
   -- a content with these rows agrees
   pub agreed : (w : World) → IsContent w → AreRows t w → AreAgreed ls ps t.spans
@@ -87,31 +117,53 @@ module _ (one_shape : (one other : Shape) → HasValidParts one → HasValidPart
       let two = sym (same_plans w h are) in record {
         names = subst (IsStrictlySortedBy listed_cmp) one h.world.operators;
         keys = subst (IsStrictlySortedBy filed_cmp) two h.world.plans;
-        shared = subst (λ ks. AreShared ks ps) one (subst (AreShared w.operators) two (record { listed = h.world.listed; few = h.world.rows }));
+        shared = subst (λ ks. AreShared ks ps) one
+            (subst (AreShared w.operators) two (record
+            { listed = h.world.listed; few = h.world.rows }));
         spans = subst (λ qs. AreSpanRows qs t.spans) two are.span_part;
       }
 
 -- the same of what references show
-pub no_plans : (inside t : Tables) (heads volumes : List Row) → inside ≡ t → heads ≡ inside.plans → volumes ≡ inside.volumes
-    → ((ps : List Filed) → IsStrictlySortedBy filed_cmp ps → ArePlanRows ps heads volumes → ⊥) → (w : World) → IsContent w → AreRows t w → ⊥
+pub no_plans : (inside t : Tables) (heads volumes : List Row) → inside ≡ t → heads ≡ inside.plans
+    → volumes
+    ≡ inside.volumes
+    → ((ps : List Filed) → IsStrictlySortedBy filed_cmp ps → ArePlanRows ps heads volumes → ⊥)
+    → (w : World)
+    → IsContent w → AreRows t w → ⊥
 no_plans inside t heads volumes view one two none w h are =
-    none w.plans h.world.plans (subst (λ rs. ArePlanRows w.plans rs volumes) (sym (one ∙ ap (λ x. x.plans) view)) (subst (ArePlanRows w.plans t.plans) (sym (two ∙ ap (λ x. x.volumes) view)) (plan_rows_of t w h are)))
+    none w.plans h.world.plans (subst (λ rs. ArePlanRows w.plans rs volumes)
+    (sym (one ∙ ap (λ x. x.plans) view)) (subst (ArePlanRows w.plans t.plans)
+    (sym (two ∙ ap (λ x. x.volumes) view)) (plan_rows_of t w h are)))
 
 pub no_operators : (inside t : Tables) (rows : List Row) → inside ≡ t → rows ≡ inside.operators
     → ((ls : List Listed) → AreOperatorRows ls rows → ⊥) → (w : World) → IsContent w → AreRows t w → ⊥
 no_operators inside t rows view one none w h are =
-    none w.operators (subst (AreOperatorRows w.operators) (sym (one ∙ ap (λ x. x.operators) view)) (operator_rows_of t w h are))
+    none w.operators (subst (AreOperatorRows w.operators) (sym (one ∙ ap (λ x. x.operators) view))
+    (operator_rows_of t w h are))
 
-module _ (one_shape : (one other : Shape) → HasValidParts one → HasValidParts other → footprint_bytes one ≡ footprint_bytes other → one ≡ other) (inside t : Tables) (operators heads volumes spans : List Row) (ls ks : List Listed) (ps qs : List Filed) (view : inside ≡ t) (one : operators ≡ inside.operators) (two : heads ≡ inside.plans) (three : volumes ≡ inside.volumes) (four : spans ≡ inside.spans) (five : ks ≡ ls) (six : qs ≡ ps) (listed : AreOperatorRows ls operators) (filed : ArePlanRows ps heads volumes) where
+module _ (one_shape : (one other : Shape) → HasValidParts one → HasValidParts other
+    → footprint_bytes one
+    ≡ footprint_bytes other → one ≡ other) (inside t : Tables)
+    (operators heads volumes spans : List Row)
+    (ls ks : List Listed) (ps qs : List Filed) (view : inside ≡ t) (one : operators ≡ inside.operators)
+    (two : heads ≡ inside.plans) (three : volumes ≡ inside.volumes) (four : spans ≡ inside.spans)
+    (five : ks ≡ ls) (six : qs ≡ ps) (listed : AreOperatorRows ls operators)
+    (filed : ArePlanRows ps heads volumes) where
   operators_of : AreOperatorRows ls t.operators
   operators_of = subst (AreOperatorRows ls) (one ∙ ap (λ x. x.operators) view) listed
 
   plans_of : ArePlanRows ps t.plans t.volumes
-  plans_of = subst (λ rs. ArePlanRows ps rs t.volumes) (two ∙ ap (λ x. x.plans) view) (subst (ArePlanRows ps heads) (three ∙ ap (λ x. x.volumes) view) filed)
+  plans_of = subst (λ rs. ArePlanRows ps rs t.volumes) (two ∙ ap (λ x. x.plans) view)
+      (subst (ArePlanRows ps heads) (three ∙ ap (λ x. x.volumes) view) filed)
 
   pub content_if : AreAgreed ks qs spans → IsContent (world_of ls ps) × AreRows t (world_of ls ps)
   content_if are = assembled one_shape t ls ps operators_of plans_of
-      (subst (λ xs. AreAgreed xs ps t.spans) five (subst (λ xs. AreAgreed ks xs t.spans) six (subst (AreAgreed ks qs) (four ∙ ap (λ x. x.spans) view) are)))
+      (subst (λ xs. AreAgreed xs ps t.spans) five (subst (λ xs. AreAgreed ks xs t.spans) six
+      (subst (AreAgreed ks qs) (four ∙ ap (λ x. x.spans) view) are)))
 
   pub none_if : (AreAgreed ks qs spans → ⊥) → (w : World) → IsContent w → AreRows t w → ⊥
-  none_if none w h are = none (subst (λ xs. AreAgreed xs qs spans) (sym five) (subst (λ xs. AreAgreed ls xs spans) (sym six) (subst (AreAgreed ls ps) (sym (four ∙ ap (λ x. x.spans) view)) (agreed one_shape t ls ps operators_of plans_of w h are))))
+  none_if none w h are =
+      none (subst (λ xs. AreAgreed xs qs spans) (sym five)
+      (subst (λ xs. AreAgreed ls xs spans) (sym six)
+      (subst (AreAgreed ls ps) (sym (four ∙ ap (λ x. x.spans) view))
+      (agreed one_shape t ls ps operators_of plans_of w h are))))

@@ -37,17 +37,26 @@ use Rattle.desk_tables.proofs.FilterLemmas.{ArePlans, turned, own_row, other_row
 abbrev HaveSpans : List Filed → List Row → Type 0
 HaveSpans ps spans = (rows : List Row) × AreSpanRows ps rows × IsPermutation rows spans
 
-have_spans : (ps qs : List Filed) (spans : List Row) → IsPermutation ps qs → HaveSpans ps spans → HaveSpans qs spans
+have_spans : (ps qs : List Filed) (spans : List Row) → IsPermutation ps qs → HaveSpans ps spans
+    → HaveSpans qs spans
 have_spans ps qs spans h (rows, are, in_tables) =
-    let there = spans_moved ps qs h rows are in
-    (there.0, there.1, IsPermutation-trans there.0 rows spans (IsPermutation-sym rows there.0 there.2) in_tables)
+    let there = spans_moved ps qs h rows are in (
+      there.0,
+      there.1,
+      IsPermutation-trans there.0 rows spans (IsPermutation-sym rows there.0 there.2)
+          in_tables,
+    )
 
-in_any_order : (tables : Tables) (w : World) (ps : List Filed) → IsPermutation ps w.plans → IsPermutation (operator_rows w) tables.operators
-    → IsPermutation (plan_rows ps) tables.plans → IsPermutation (volume_rows ps) tables.volumes → HaveSpans ps tables.spans → AreTables tables w
+in_any_order : (tables : Tables) (w : World) (ps : List Filed) → IsPermutation ps w.plans
+    → IsPermutation (operator_rows w) tables.operators
+    → IsPermutation (plan_rows ps) tables.plans → IsPermutation (volume_rows ps) tables.volumes
+    → HaveSpans ps tables.spans → AreTables tables w
 in_any_order tables w ps h operators plans volumes spans = record {
   operators = operators;
-  plans = IsPermutation-trans (plan_rows w.plans) (plan_rows ps) tables.plans (IsPermutation-map plan_row w.plans ps back) plans;
-  volumes = IsPermutation-trans (volume_rows w.plans) (volume_rows ps) tables.volumes (IsPermutation-flat_map area_rows w.plans ps back) volumes;
+  plans = IsPermutation-trans (plan_rows w.plans) (plan_rows ps) tables.plans
+      (IsPermutation-map plan_row w.plans ps back) plans;
+  volumes = IsPermutation-trans (volume_rows w.plans) (volume_rows ps) tables.volumes
+      (IsPermutation-flat_map area_rows w.plans ps back) volumes;
   spans = have_spans ps w.plans tables.spans h spans;
 } where
   back : IsPermutation w.plans ps
@@ -56,7 +65,8 @@ in_any_order tables w ps h operators plans volumes spans = record {
 -- ---- a plan put in its place
 
 filed_total : IsTotalOrder filed_cmp
-filed_total = then_total (on_total (λ (p : Filed). p.operator) nat_list_cmp_total) (on_total (λ (p : Filed). p.row.id) nat_list_cmp_total)
+filed_total = then_total (on_total (λ (p : Filed). p.operator) nat_list_cmp_total)
+    (on_total (λ (p : Filed). p.row.id) nat_list_cmp_total)
 
 abbrev other : Filed → Filed → Bool
 other p q = not (is_own p.operator p.row.id q)
@@ -67,28 +77,45 @@ own_at Equal m = refl
 own_at Greater m = refl
 
 other_by : (p q : Filed) (n : Ordering) → filed_cmp p q ≡ n → other p q ≡ not (is_eq n)
-other_by p q n e = ap not (sym (own_at (text_cmp p.operator q.operator) (text_cmp p.row.id q.row.id)) ∙ ap is_eq e)
+other_by p q n e = ap not (sym (own_at (text_cmp p.operator q.operator) (text_cmp p.row.id q.row.id))
+    ∙ ap is_eq e)
 
-pub front : {X : Type 0} (p q : X) (rest more : List X) → IsPermutation (p ∷ rest) more → IsPermutation (p ∷ q ∷ rest) (q ∷ more)
+pub front : {X : Type 0} (p q : X) (rest more : List X) → IsPermutation (p ∷ rest) more
+    → IsPermutation (p ∷ q ∷ rest) (q ∷ more)
 front p q rest more h =
-    IsPermutation-trans (p ∷ q ∷ rest) (q ∷ p ∷ rest) (q ∷ more) (IsPermutation-sym (q ∷ p ∷ rest) (p ∷ q ∷ rest) (IsPermutation-middle (q ∷ []) p rest))
+    IsPermutation-trans (p ∷ q ∷ rest) (q ∷ p ∷ rest) (q ∷ more)
+    (IsPermutation-sym (q ∷ p ∷ rest) (p ∷ q ∷ rest) (IsPermutation-middle (q ∷ []) p rest))
     (IsPermutation-cons q (p ∷ rest) more h)
 
-put_moves : (p : Filed) (ps : List Filed) → IsStrictlySortedBy filed_cmp ps → IsPermutation (p ∷ filter (other p) ps) (put_filed p ps)
+put_moves : (p : Filed) (ps : List Filed) → IsStrictlySortedBy filed_cmp ps
+    → IsPermutation (p ∷ filter (other p) ps) (put_filed p ps)
 unfolding IsStrictlySortedBy
 put_moves p [] s = IsPermutation-refl (p ∷ [])
 put_moves p (q ∷ qs) s = by_order (filed_cmp p q) refl (put_moves p qs s.1) where
   all_other : AllByRecursion (λ r. filed_cmp p r ≡ Less) qs → filter (other p) qs ≡ qs
-  all_other h = filter_all (other p) qs (all_weaker (λ r. filed_cmp p r ≡ Less) (λ r. other p r ≡ true) (λ r e. other_by p r Less e) qs h)
+  all_other h = filter_all (other p) qs (all_weaker (λ r. filed_cmp p r ≡ Less) (λ r. other p r ≡ true)
+      (λ r e. other_by p r Less e) qs h)
 
-  by_order : (n : Ordering) → filed_cmp p q ≡ n → IsPermutation (p ∷ filter (other p) qs) (put_filed p qs) → IsPermutation (p ∷ filter (other p) (q ∷ qs)) (match_ordering n (p ∷ q ∷ qs) (p ∷ qs) (q ∷ put_filed p qs))
+  by_order : (n : Ordering) → filed_cmp p q ≡ n
+      → IsPermutation (p ∷ filter (other p) qs) (put_filed p qs)
+      → IsPermutation (p ∷ filter (other p) (q ∷ qs))
+      (match_ordering n (p ∷ q ∷ qs) (p ∷ qs) (q ∷ put_filed p qs))
   by_order Less e ih =
-      rw (other_by p q Less e, all_other (all_weaker (λ r. filed_cmp q r ≡ Less) (λ r. filed_cmp p r ≡ Less) (λ r h. filed_total.trans p q r e h) qs s.0))
+      rw (
+        other_by p q Less e,
+        all_other (all_weaker (λ r. filed_cmp q r ≡ Less) (λ r. filed_cmp p r ≡ Less)
+            (λ r h. filed_total.trans p q r e h) qs s.0),
+      )
       (IsPermutation-refl (p ∷ q ∷ qs))
   by_order Equal e ih =
-      rw (other_by p q Equal e, all_other (all_weaker (λ r. filed_cmp q r ≡ Less) (λ r. filed_cmp p r ≡ Less) (λ r h. filed_total.congr p q r e ∙ h) qs s.0))
+      rw (
+        other_by p q Equal e,
+        all_other (all_weaker (λ r. filed_cmp q r ≡ Less) (λ r. filed_cmp p r ≡ Less)
+            (λ r h. filed_total.congr p q r e ∙ h) qs s.0),
+      )
       (IsPermutation-refl (p ∷ qs))
-  by_order Greater e ih = rw (other_by p q Greater e) (front p q (filter (other p) qs) (put_filed p qs) ih)
+  by_order Greater e ih = rw (other_by p q Greater e)
+      (front p q (filter (other p) qs) (put_filed p qs) ih)
 
 -- ---- an operator put in its place
 
@@ -96,27 +123,46 @@ abbrev pub named_otherwise : List ℕ → Listed → Bool
 named_otherwise name l = not (is_eq (text_cmp name l.name))
 
 list_moves : (name : List ℕ) (ceiling : ℕ) (ls : List Listed) → IsStrictlySortedBy listed_cmp ls
-    → IsPermutation (record { name = name; ceiling = ceiling } ∷ filter (named_otherwise name) ls) (list_operator name ceiling ls)
+    → IsPermutation (record { name = name; ceiling = ceiling } ∷ filter (named_otherwise name) ls)
+    (list_operator name ceiling ls)
 unfolding IsStrictlySortedBy
 list_moves name ceiling [] s = IsPermutation-refl (record { name = name; ceiling = ceiling } ∷ [])
-list_moves name ceiling (l ∷ ls) s = by_order (text_cmp name l.name) refl (list_moves name ceiling ls s.1) where
-  new : Listed
-  new = record { name = name; ceiling = ceiling }
+list_moves name ceiling (l ∷ ls) s = by_order (text_cmp name l.name) refl
+    (list_moves name ceiling ls s.1)
+  where
+    new : Listed
+    new = record { name = name; ceiling = ceiling }
 
-  all_other : AllByRecursion (λ k. text_cmp name k.name ≡ Less) ls → filter (named_otherwise name) ls ≡ ls
-  all_other h = filter_all (named_otherwise name) ls (all_weaker (λ k. text_cmp name k.name ≡ Less) (λ k. named_otherwise name k ≡ true) (λ k e. ap (λ n. not (is_eq n)) e) ls h)
+    all_other : AllByRecursion (λ k. text_cmp name k.name ≡ Less) ls → filter (named_otherwise name) ls
+        ≡ ls
+    all_other h = filter_all (named_otherwise name) ls
+        (all_weaker (λ k. text_cmp name k.name ≡ Less) (λ k. named_otherwise name k ≡ true)
+        (λ k e. ap (λ n. not (is_eq n)) e) ls h)
 
-  by_order : (n : Ordering) → text_cmp name l.name ≡ n → IsPermutation (new ∷ filter (named_otherwise name) ls) (list_operator name ceiling ls)
-      → IsPermutation (new ∷ filter (named_otherwise name) (l ∷ ls)) (match_ordering n (new ∷ l ∷ ls) (new ∷ ls) (l ∷ list_operator name ceiling ls))
-  by_order Less e ih =
-      rw (e, all_other (all_weaker (λ k. listed_cmp l k ≡ Less) (λ k. text_cmp name k.name ≡ Less) (λ k h. nat_list_cmp_total.trans name l.name k.name e h) ls s.0))
-      (IsPermutation-refl (new ∷ l ∷ ls))
-  by_order Equal e ih =
-      rw (e, all_other (all_weaker (λ k. listed_cmp l k ≡ Less) (λ k. text_cmp name k.name ≡ Less) (λ k h. nat_list_cmp_total.congr name l.name k.name e ∙ h) ls s.0))
-      (IsPermutation-refl (new ∷ ls))
-  by_order Greater e ih = rw e (front new l (filter (named_otherwise name) ls) (list_operator name ceiling ls) ih)
+    by_order : (n : Ordering) → text_cmp name l.name ≡ n
+        → IsPermutation (new ∷ filter (named_otherwise name) ls) (list_operator name ceiling ls)
+        → IsPermutation (new ∷ filter (named_otherwise name) (l ∷ ls))
+        (match_ordering n (new ∷ l ∷ ls) (new ∷ ls) (l ∷ list_operator name ceiling ls))
+    by_order Less e ih =
+        rw (
+          e,
+          all_other (all_weaker (λ k. listed_cmp l k ≡ Less) (λ k. text_cmp name k.name ≡ Less)
+              (λ k h. nat_list_cmp_total.trans name l.name k.name e h) ls s.0),
+        )
+        (IsPermutation-refl (new ∷ l ∷ ls))
+    by_order Equal e ih =
+        rw (
+          e,
+          all_other (all_weaker (λ k. listed_cmp l k ≡ Less) (λ k. text_cmp name k.name ≡ Less)
+              (λ k h. nat_list_cmp_total.congr name l.name k.name e ∙ h) ls s.0),
+        )
+        (IsPermutation-refl (new ∷ ls))
+    by_order Greater e ih =
+        rw e (front new l (filter (named_otherwise name) ls) (list_operator name ceiling ls) ih)
 
-pub operators_filtered : (name : List ℕ) (ls : List Listed) → filter (λ r. not (sql.is_by name r)) (map operator_row ls) ≡ map operator_row (filter (named_otherwise name) ls)
+pub operators_filtered : (name : List ℕ) (ls : List Listed)
+    → filter (λ r. not (sql.is_by name r)) (map operator_row ls)
+    ≡ map operator_row (filter (named_otherwise name) ls)
 operators_filtered name [] = refl
 operators_filtered name (l ∷ ls) =
     (λ i. cond (not (is_eq (value_cmp-Text l.name name i))) (operator_row l ∷ left) left)
@@ -125,11 +171,15 @@ operators_filtered name (l ∷ ls) =
       left : List Row
       left = filter (λ r. not (sql.is_by name r)) (map operator_row ls)
 
-      by_test : (b : Bool) → left ≡ map operator_row (filter (named_otherwise name) ls) → cond b (operator_row l ∷ left) left ≡ map operator_row (cond b (l ∷ filter (named_otherwise name) ls) (filter (named_otherwise name) ls))
+      by_test : (b : Bool) → left ≡ map operator_row (filter (named_otherwise name) ls)
+          → cond b (operator_row l ∷ left) left ≡ map operator_row
+          (cond b (l ∷ filter (named_otherwise name) ls) (filter (named_otherwise name) ls))
       by_test true ih = ap (λ rows. operator_row l ∷ rows) ih
       by_test false ih = ih
 
-enrol_tables : (name : List ℕ) (ceiling : ℕ) (w : World) (old new : Tables) → IsContent w → AreTables old w → EnrolsRows name ceiling old new → AreTables new (with_operator w name ceiling)
+enrol_tables : (name : List ℕ) (ceiling : ℕ) (w : World) (old new : Tables) → IsContent w
+    → AreTables old w
+    → EnrolsRows name ceiling old new → AreTables new (with_operator w name ceiling)
 unfolding with_operator
 enrol_tables name ceiling w old new h t e = record {
   operators = operators;
@@ -143,42 +193,71 @@ enrol_tables name ceiling w old new h t e = record {
   left : List Row → List Row
   left rows = filter (λ r. not (sql.is_by name r)) rows
 
-  listed : IsPermutation (map operator_row (list_operator name ceiling w.operators)) (row ∷ map operator_row (filter (named_otherwise name) w.operators))
-  listed = IsPermutation-map operator_row (list_operator name ceiling w.operators) (record { name = name; ceiling = ceiling } ∷ filter (named_otherwise name) w.operators)
-      (IsPermutation-sym (record { name = name; ceiling = ceiling } ∷ filter (named_otherwise name) w.operators) (list_operator name ceiling w.operators) (list_moves name ceiling w.operators h.world.operators))
+  listed : IsPermutation (map operator_row (list_operator name ceiling w.operators))
+      (row ∷ map operator_row (filter (named_otherwise name) w.operators))
+  listed = IsPermutation-map operator_row (list_operator name ceiling w.operators)
+      (record { name = name; ceiling = ceiling } ∷ filter (named_otherwise name) w.operators)
+      (IsPermutation-sym (record { name = name; ceiling = ceiling }
+      ∷ filter (named_otherwise name) w.operators) (list_operator name ceiling w.operators)
+      (list_moves name ceiling w.operators h.world.operators))
 
-  rows : IsPermutation (row ∷ map operator_row (filter (named_otherwise name) w.operators)) (row ∷ left old.operators)
-  rows = IsPermutation-cons row (map operator_row (filter (named_otherwise name) w.operators)) (left old.operators)
-      (subst (λ xs. IsPermutation xs (left old.operators)) (operators_filtered name w.operators) (IsPermutation-filter (λ r. not (sql.is_by name r)) (operator_rows w) old.operators t.operators))
+  rows : IsPermutation (row ∷ map operator_row (filter (named_otherwise name) w.operators))
+      (row ∷ left old.operators)
+  rows = IsPermutation-cons row (map operator_row (filter (named_otherwise name) w.operators))
+      (left old.operators)
+      (subst (λ xs. IsPermutation xs (left old.operators)) (operators_filtered name w.operators)
+      (IsPermutation-filter (λ r. not (sql.is_by name r)) (operator_rows w) old.operators t.operators))
 
   operators : IsPermutation (map operator_row (list_operator name ceiling w.operators)) new.operators
-  operators = IsPermutation-trans (map operator_row (list_operator name ceiling w.operators)) (row ∷ left old.operators) new.operators
-      (IsPermutation-trans (map operator_row (list_operator name ceiling w.operators)) (row ∷ map operator_row (filter (named_otherwise name) w.operators)) (row ∷ left old.operators) listed rows) e.operators
+  operators = IsPermutation-trans (map operator_row (list_operator name ceiling w.operators))
+      (row ∷ left old.operators) new.operators
+      (IsPermutation-trans (map operator_row (list_operator name ceiling w.operators))
+      (row ∷ map operator_row (filter (named_otherwise name) w.operators)) (row ∷ left old.operators)
+      listed rows) e.operators
 
 -- ---- rows that a test keeps
 
-module _ (test : Filed → Bool) (row_test : Row → Bool) (same : (q : Filed) (r : Row) → IsPlan q.row → row_test (Text q.operator ∷ Text (id_text q.row.id) ∷ r) ≡ test q) (old : Tables) (w : World) (h : IsContent w) (t : AreTables old w) where
+module _ (test : Filed → Bool) (row_test : Row → Bool)
+    (same : (q : Filed) (r : Row) → IsPlan q.row
+    → row_test (Text q.operator ∷ Text (id_text q.row.id) ∷ r)
+    ≡ test q) (old : Tables) (w : World) (h : IsContent w) (t : AreTables old w) where
   pub plans_left : IsPermutation (plan_rows (filter test w.plans)) (filter row_test old.plans)
-  plans_left = subst (λ xs. IsPermutation xs (filter row_test old.plans)) (plans_filtered test row_test same w.plans h.rows) (IsPermutation-filter row_test (plan_rows w.plans) old.plans t.plans)
+  plans_left = subst (λ xs. IsPermutation xs (filter row_test old.plans))
+      (plans_filtered test row_test same w.plans h.rows)
+      (IsPermutation-filter row_test (plan_rows w.plans) old.plans t.plans)
 
   pub volumes_left : IsPermutation (volume_rows (filter test w.plans)) (filter row_test old.volumes)
-  volumes_left = subst (λ xs. IsPermutation xs (filter row_test old.volumes)) (volumes_filtered test row_test same w.plans h.rows) (IsPermutation-filter row_test (volume_rows w.plans) old.volumes t.volumes)
+  volumes_left = subst (λ xs. IsPermutation xs (filter row_test old.volumes))
+      (volumes_filtered test row_test same w.plans h.rows)
+      (IsPermutation-filter row_test (volume_rows w.plans) old.volumes t.volumes)
 
   pub spans_left : HaveSpans (filter test w.plans) (filter row_test old.spans)
-  spans_left = (filter row_test t.spans.0, spans_filtered test row_test same w.plans h.rows t.spans.0 t.spans.1, IsPermutation-filter row_test t.spans.0 old.spans t.spans.2)
+  spans_left = (
+    filter row_test t.spans.0,
+    spans_filtered test row_test same w.plans h.rows t.spans.0
+        t.spans.1,
+    IsPermutation-filter row_test t.spans.0 old.spans t.spans.2,
+  )
 
-put_tables : (o : List ℕ) (row : PlanRow) (w : World) (old new : Tables) → IsContent w → IsPlan row → AreTables old w → PutsRows (filed_by o row) old new
+put_tables : (o : List ℕ) (row : PlanRow) (w : World) (old new : Tables) → IsContent w → IsPlan row
+    → AreTables old w → PutsRows (filed_by o row) old new
     → AreTables new (with_plans w o (put_row row (plans_of o w)))
 unfolding with_plans
 put_tables o row w old new h within t e =
     in_any_order new (record w { plans = replaced o (put_row row (plans_of o w)) w.plans }) qs
-    (subst (IsPermutation qs) (inserted o row w.plans h.world.plans) (put_moves p w.plans h.world.plans))
+    (subst (IsPermutation qs) (inserted o row w.plans h.world.plans)
+    (put_moves p w.plans h.world.plans))
     (IsPermutation-trans (operator_rows w) old.operators new.operators t.operators e.operators)
-    (IsPermutation-trans (plan_rows qs) (plan_row p ∷ filter test old.plans) new.plans (IsPermutation-cons (plan_row p) (plan_rows (filter (other p) w.plans)) (filter test old.plans) (plans_left (other p) test same old w h t)) e.plans)
-    (IsPermutation-trans (volume_rows qs) (area_rows p ++ filter test old.volumes) new.volumes (IsPermutation-append_right (area_rows p) (volume_rows (filter (other p) w.plans)) (filter test old.volumes) (volumes_left (other p) test same old w h t)) e.volumes) (
+    (IsPermutation-trans (plan_rows qs) (plan_row p ∷ filter test old.plans) new.plans
+    (IsPermutation-cons (plan_row p) (plan_rows (filter (other p) w.plans)) (filter test old.plans)
+    (plans_left (other p) test same old w h t)) e.plans)
+    (IsPermutation-trans (volume_rows qs) (area_rows p ++ filter test old.volumes) new.volumes
+    (IsPermutation-append_right (area_rows p) (volume_rows (filter (other p) w.plans))
+    (filter test old.volumes) (volumes_left (other p) test same old w h t)) e.volumes) (
       e.spans.0 ++ left.0,
       (e.spans.0, left.0, refl, e.spans.1, left.1),
-      IsPermutation-trans (e.spans.0 ++ left.0) (e.spans.0 ++ filter test old.spans) new.spans (IsPermutation-append_right e.spans.0 left.0 (filter test old.spans) left.2) e.spans.2,
+      IsPermutation-trans (e.spans.0 ++ left.0) (e.spans.0 ++ filter test old.spans) new.spans
+          (IsPermutation-append_right e.spans.0 left.0 (filter test old.spans) left.2) e.spans.2,
     ) where
       p : Filed
       p = filed_by o row
@@ -189,21 +268,26 @@ put_tables o row w old new h within t e =
       qs : List Filed
       qs = p ∷ filter (other p) w.plans
 
-      same : (q : Filed) (r : Row) → IsPlan q.row → test (Text q.operator ∷ Text (id_text q.row.id) ∷ r) ≡ other p q
+      same : (q : Filed) (r : Row) → IsPlan q.row → test (Text q.operator ∷ Text (id_text q.row.id) ∷ r)
+          ≡ other p q
       same = other_row o row.id within.id
 
       left : HaveSpans (filter (other p) w.plans) (filter test old.spans)
       left = spans_left (other p) test same old w h t
 
-clear_tables : (o : List ℕ) (ids : List (List ℕ)) (w : World) (old new : Tables) → IsContent w → AllByRecursion IsId ids → AreTables old w → ClearsRows o ids old new
+clear_tables : (o : List ℕ) (ids : List (List ℕ)) (w : World) (old new : Tables) → IsContent w
+    → AllByRecursion IsId ids → AreTables old w → ClearsRows o ids old new
     → AreTables new (with_plans w o (clear_rows ids (plans_of o w)))
 unfolding with_plans
 clear_tables o ids w old new h within t e =
     in_any_order new (record w { plans = replaced o (clear_rows ids (plans_of o w)) w.plans }) qs
-    (IsPermutation-same qs (replaced o (clear_rows ids (plans_of o w)) w.plans) (cleared_plans o ids w.plans h.world.plans))
+    (IsPermutation-same qs (replaced o (clear_rows ids (plans_of o w)) w.plans)
+    (cleared_plans o ids w.plans h.world.plans))
     (IsPermutation-trans (operator_rows w) old.operators new.operators t.operators e.operators)
-    (IsPermutation-trans (plan_rows qs) (filter test old.plans) new.plans (plans_left (stays o ids) test same old w h t) e.plans)
-    (IsPermutation-trans (volume_rows qs) (filter test old.volumes) new.volumes (volumes_left (stays o ids) test same old w h t) e.volumes)
+    (IsPermutation-trans (plan_rows qs) (filter test old.plans) new.plans
+    (plans_left (stays o ids) test same old w h t) e.plans)
+    (IsPermutation-trans (volume_rows qs) (filter test old.volumes) new.volumes
+    (volumes_left (stays o ids) test same old w h t) e.volumes)
     (left.0, left.1, IsPermutation-trans left.0 (filter test old.spans) new.spans left.2 e.spans) where
       test : Row → Bool
       test = is_left o ids
@@ -211,7 +295,8 @@ clear_tables o ids w old new h within t e =
       qs : List Filed
       qs = filter (stays o ids) w.plans
 
-      same : (q : Filed) (r : Row) → IsPlan q.row → test (Text q.operator ∷ Text (id_text q.row.id) ∷ r) ≡ stays o ids q
+      same : (q : Filed) (r : Row) → IsPlan q.row → test (Text q.operator ∷ Text (id_text q.row.id) ∷ r)
+          ≡ stays o ids q
       same = left_row o ids within
 
       left : HaveSpans (filter (stays o ids) w.plans) (filter test old.spans)
@@ -219,51 +304,72 @@ clear_tables o ids w old new h within t e =
 
 -- ---- a plan closed
 
-plans_closed : (o id : List ℕ) (ps : List Filed) → IsId id → ArePlans ps → map (closed_if o id) (plan_rows ps) ≡ plan_rows (map (close_filed o id) ps)
+plans_closed : (o id : List ℕ) (ps : List Filed) → IsId id → ArePlans ps
+    → map (closed_if o id) (plan_rows ps)
+    ≡ plan_rows (map (close_filed o id) ps)
 plans_closed o id [] hi h = refl
 plans_closed o id (p ∷ ps) hi h = λ i. one i ∷ plans_closed o id ps hi h.1 i where
-  by_test : (b : Bool) → cond b (with_usage 2 (plan_row p)) (plan_row p) ≡ plan_row (cond b (record { operator = p.operator; row = closed p.row }) p)
+  by_test : (b : Bool) → cond b (with_usage 2 (plan_row p)) (plan_row p)
+      ≡ plan_row (cond b (record { operator = p.operator; row = closed p.row }) p)
   by_test true = refl
   by_test false = refl
 
   one : closed_if o id (plan_row p) ≡ plan_row (close_filed o id p)
-  one = ap (λ b. cond b (with_usage 2 (plan_row p)) (plan_row p)) (own_row o id p (after_key (plan_row p)) hi h.0.id) ∙ by_test (is_own o id p)
+  one = ap (λ b. cond b (with_usage 2 (plan_row p)) (plan_row p))
+      (own_row o id p (after_key (plan_row p)) hi h.0.id) ∙ by_test (is_own o id p)
 
-same_places : (p : Filed) (n : ℕ) (vs : List Block) → volume_rows_from (record { operator = p.operator; row = closed p.row }) n vs ≡ volume_rows_from p n vs
+same_places : (p : Filed) (n : ℕ) (vs : List Block)
+    → volume_rows_from (record { operator = p.operator; row = closed p.row }) n vs
+    ≡ volume_rows_from p n vs
 same_places p n [] = refl
 same_places p n (v ∷ vs) = ap (λ rows. volume_row p n v ∷ rows) (same_places p (n + 1) vs)
 
-volumes_closed : (o id : List ℕ) (ps : List Filed) → volume_rows ps ≡ volume_rows (map (close_filed o id) ps)
+volumes_closed : (o id : List ℕ) (ps : List Filed) → volume_rows ps
+    ≡ volume_rows (map (close_filed o id) ps)
 volumes_closed o id [] = refl
 volumes_closed o id (p ∷ ps) = λ i. by_test (is_own o id p) i ++ volumes_closed o id ps i where
-  by_test : (b : Bool) → area_rows p ≡ area_rows (cond b (record { operator = p.operator; row = closed p.row }) p)
+  by_test : (b : Bool) → area_rows p
+      ≡ area_rows (cond b (record { operator = p.operator; row = closed p.row }) p)
   by_test true = sym (same_places p 0 p.row.area)
   by_test false = refl
 
-spans_closed : (o id : List ℕ) (ps : List Filed) (rows : List Row) → IsId id → ArePlans ps → AreSpanRows ps rows → AreSpanRows (map (close_filed o id) ps) (filter (is_not_of o (id_text id)) rows)
+spans_closed : (o id : List ℕ) (ps : List Filed) (rows : List Row) → IsId id → ArePlans ps
+    → AreSpanRows ps rows → AreSpanRows (map (close_filed o id) ps)
+    (filter (is_not_of o (id_text id)) rows)
 spans_closed o id [] rows hi h e = ap (filter (is_not_of o (id_text id))) e
 spans_closed o id (p ∷ ps) rows hi h (first, rest, are, mine, more) =
-    by_test (is_own o id p) (ap (filter test) are ∙ filter-append test first rest ∙ (λ i. plan_spans_filtered (λ q. not (is_own o id q)) test (other_row o id hi) p h.0 first mine i ++ filter test rest)) (spans_closed o id ps rest hi h.1 more) where
+    by_test (is_own o id p) (ap (filter test) are ∙ filter-append test first rest
+    ∙ (λ i. plan_spans_filtered (λ q. not (is_own o id q)) test (other_row o id hi) p h.0 first mine i
+    ++ filter test rest)) (spans_closed o id ps rest hi h.1 more) where
       test : Row → Bool
       test = is_not_of o (id_text id)
 
-      by_test : (b : Bool) → filter test rows ≡ cond (not b) first [] ++ filter test rest → AreSpanRows (map (close_filed o id) ps) (filter test rest) → AreSpanRows (cond b (record { operator = p.operator; row = closed p.row }) p ∷ map (close_filed o id) ps) (filter test rows)
+      by_test : (b : Bool) → filter test rows ≡ cond (not b) first [] ++ filter test rest
+          → AreSpanRows (map (close_filed o id) ps) (filter test rest)
+          → AreSpanRows (cond b (record { operator = p.operator; row = closed p.row }) p
+          ∷ map (close_filed o id) ps) (filter test rows)
       by_test true e ih = ([], filter test rest, e, refl, ih)
       by_test false e ih = (first, filter test rest, e, mine, ih)
 
-close_tables : (o id : List ℕ) (w : World) (old new : Tables) → IsContent w → IsId id → AreTables old w → ClosesRows o id old new
+close_tables : (o id : List ℕ) (w : World) (old new : Tables) → IsContent w → IsId id → AreTables old w
+    → ClosesRows o id old new
     → AreTables new (with_plans w o (close_row id (plans_of o w)))
 unfolding with_plans
 close_tables o id w old new h within t e =
     in_any_order new (record w { plans = replaced o (close_row id (plans_of o w)) w.plans }) qs
-    (IsPermutation-same qs (replaced o (close_row id (plans_of o w)) w.plans) (closed_plans o id w.plans h.world.plans))
+    (IsPermutation-same qs (replaced o (close_row id (plans_of o w)) w.plans)
+    (closed_plans o id w.plans h.world.plans))
     (IsPermutation-trans (operator_rows w) old.operators new.operators t.operators e.operators)
     (IsPermutation-trans (plan_rows qs) (map (closed_if o id) old.plans) new.plans
-    (subst (λ xs. IsPermutation xs (map (closed_if o id) old.plans)) (plans_closed o id w.plans within h.rows) (IsPermutation-map (closed_if o id) (plan_rows w.plans) old.plans t.plans)) e.plans)
-    (subst (λ xs. IsPermutation xs new.volumes) (volumes_closed o id w.plans) (IsPermutation-trans (volume_rows w.plans) old.volumes new.volumes t.volumes e.volumes)) (
+    (subst (λ xs. IsPermutation xs (map (closed_if o id) old.plans))
+    (plans_closed o id w.plans within h.rows)
+    (IsPermutation-map (closed_if o id) (plan_rows w.plans) old.plans t.plans)) e.plans)
+    (subst (λ xs. IsPermutation xs new.volumes) (volumes_closed o id w.plans)
+    (IsPermutation-trans (volume_rows w.plans) old.volumes new.volumes t.volumes e.volumes)) (
       filter test t.spans.0,
       spans_closed o id w.plans t.spans.0 within h.rows t.spans.1,
-      IsPermutation-trans (filter test t.spans.0) (filter test old.spans) new.spans (IsPermutation-filter test t.spans.0 old.spans t.spans.2) e.spans,
+      IsPermutation-trans (filter test t.spans.0) (filter test old.spans) new.spans
+          (IsPermutation-filter test t.spans.0 old.spans t.spans.2) e.spans,
     ) where
       test : Row → Bool
       test = is_not_of o (id_text id)
@@ -271,53 +377,72 @@ close_tables o id w old new h within t e =
       qs : List Filed
       qs = map (close_filed o id) w.plans
 
-pub change_tables : (change : Change) (w : World) (old new : Tables) → IsContent w → IsWithin change → AreTables old w → ChangesRows change old new → AreTables new (changed_by change w)
+pub change_tables : (change : Change) (w : World) (old new : Tables) → IsContent w → IsWithin change
+    → AreTables old w → ChangesRows change old new → AreTables new (changed_by change w)
 unfolding changed_by IsWithin ChangesRows
-change_tables (Enrol operator ceiling) w old new h within t e = enrol_tables operator ceiling w old new h t e
+change_tables (Enrol operator ceiling) w old new h within t e =
+    enrol_tables operator ceiling w old new h t e
 change_tables (Put operator row) w old new h within t e = put_tables operator row w old new h within t e
-change_tables (Close operator id) w old new h within t e = close_tables operator id w old new h within t e
-change_tables (Clear operator ids) w old new h within t e = clear_tables operator ids.items w old new h within t e
+change_tables (Close operator id) w old new h within t e =
+    close_tables operator id w old new h within t e
+change_tables (Clear operator ids) w old new h within t e =
+    clear_tables operator ids.items w old new h within t e
 
 -- ---- what stays a content
 
-all_listed : (P : Listed → Type 0) (name : List ℕ) (ceiling : ℕ) (ls : List Listed) → P (record { name = name; ceiling = ceiling }) → AllByRecursion P ls → AllByRecursion P (list_operator name ceiling ls)
+all_listed : (P : Listed → Type 0) (name : List ℕ) (ceiling : ℕ) (ls : List Listed)
+    → P (record { name = name; ceiling = ceiling }) → AllByRecursion P ls
+    → AllByRecursion P (list_operator name ceiling ls)
 all_listed P name ceiling [] new h = (new, tt)
-all_listed P name ceiling (l ∷ ls) new h = by_order (text_cmp name l.name) (all_listed P name ceiling ls new h.1) where
-  by_order : (n : Ordering) → AllByRecursion P (list_operator name ceiling ls) → AllByRecursion P (match_ordering n (record { name = name; ceiling = ceiling } ∷ l ∷ ls) (record { name = name; ceiling = ceiling } ∷ ls) (l ∷ list_operator name ceiling ls))
-  by_order Less ih = (new, h)
-  by_order Equal ih = (new, h.1)
-  by_order Greater ih = (h.0, ih)
+all_listed P name ceiling (l ∷ ls) new h = by_order (text_cmp name l.name)
+    (all_listed P name ceiling ls new h.1) where
+      by_order : (n : Ordering) → AllByRecursion P (list_operator name ceiling ls)
+          → AllByRecursion P (match_ordering n (record { name = name; ceiling = ceiling } ∷ l ∷ ls)
+          (record { name = name; ceiling = ceiling } ∷ ls) (l ∷ list_operator name ceiling ls))
+      by_order Less ih = (new, h)
+      by_order Equal ih = (new, h.1)
+      by_order Greater ih = (h.0, ih)
 
-all_put : (P : PlanRow → Type 0) (row : PlanRow) (rows : List PlanRow) → P row → AllByRecursion P rows → AllByRecursion P (put_row row rows)
+all_put : (P : PlanRow → Type 0) (row : PlanRow) (rows : List PlanRow) → P row → AllByRecursion P rows
+    → AllByRecursion P (put_row row rows)
 all_put P row [] new h = (new, tt)
 all_put P row (r ∷ rs) new h = by_order (text_cmp row.id r.id) (all_put P row rs new h.1) where
-  by_order : (n : Ordering) → AllByRecursion P (put_row row rs) → AllByRecursion P (match_ordering n (row ∷ r ∷ rs) (row ∷ rs) (r ∷ put_row row rs))
+  by_order : (n : Ordering) → AllByRecursion P (put_row row rs)
+      → AllByRecursion P (match_ordering n (row ∷ r ∷ rs) (row ∷ rs) (r ∷ put_row row rs))
   by_order Less ih = (new, h)
   by_order Equal ih = (new, h.1)
   by_order Greater ih = (h.0, ih)
 
 own_plans : (o : List ℕ) (ps : List Filed) → ArePlans ps → AllByRecursion IsPlan (rows_by o ps)
-own_plans o ps h = all_map IsPlan (λ p. p.row) (filter (is_by o) ps) (all_filter (λ p. IsPlan p.row) (is_by o) ps h)
+own_plans o ps h = all_map IsPlan (λ p. p.row) (filter (is_by o) ps)
+    (all_filter (λ p. IsPlan p.row) (is_by o) ps h)
 
-all_closed : (id : List ℕ) (rows : List PlanRow) → AllByRecursion IsPlan rows → AllByRecursion IsPlan (close_row id rows)
+all_closed : (id : List ℕ) (rows : List PlanRow) → AllByRecursion IsPlan rows
+    → AllByRecursion IsPlan (close_row id rows)
 all_closed id [] h = tt
 all_closed id (r ∷ rs) h = (by_test (has_id id r), all_closed id rs h.1) where
   by_test : (b : Bool) → IsPlan (cond b (closed r) r)
   by_test true = record { id = h.0.id; volumes = h.0.volumes; each = h.0.each }
   by_test false = h.0
 
-with_rows : (o : List ℕ) (rows : List PlanRow) (w : World) → IsContent w → IsWorld (with_plans w o rows) → AllByRecursion IsPlan rows → IsContent (with_plans w o rows)
+with_rows : (o : List ℕ) (rows : List PlanRow) (w : World) → IsContent w → IsWorld (with_plans w o rows)
+    → AllByRecursion IsPlan rows → IsContent (with_plans w o rows)
 unfolding with_plans
 with_rows o rows w h world all = record {
   world = world;
   names = h.names;
-  rows = all_append ArePlan (filter (is_before o) w.plans) (map (filed_by o) rows ++ filter (is_after o) w.plans) (all_filter ArePlan (is_before o) w.plans h.rows)
-      (all_append ArePlan (map (filed_by o) rows) (filter (is_after o) w.plans) (all_map ArePlan (filed_by o) rows all) (all_filter ArePlan (is_after o) w.plans h.rows));
+  rows = all_append ArePlan (filter (is_before o) w.plans)
+      (map (filed_by o) rows ++ filter (is_after o) w.plans)
+      (all_filter ArePlan (is_before o) w.plans h.rows)
+      (all_append ArePlan (map (filed_by o) rows) (filter (is_after o) w.plans)
+      (all_map ArePlan (filed_by o) rows all) (all_filter ArePlan (is_after o) w.plans h.rows));
 } where
   ArePlan : Filed → Type 0
   ArePlan p = IsPlan p.row
 
-with_name : (name : List ℕ) (ceiling : ℕ) (w : World) → IsContent w → IsWorld (with_operator w name ceiling) → IsTrue (is_operator_name name) → IsContent (with_operator w name ceiling)
+with_name : (name : List ℕ) (ceiling : ℕ) (w : World) → IsContent w
+    → IsWorld (with_operator w name ceiling)
+    → IsTrue (is_operator_name name) → IsContent (with_operator w name ceiling)
 unfolding with_operator
 with_name name ceiling w h world valid = record {
   world = world;
@@ -325,13 +450,20 @@ with_name name ceiling w h world valid = record {
   rows = h.rows;
 }
 
-pub change_content : (change : Change) (w : World) → IsContent w → IsFitting change w → IsWithin change → IsContent (changed_by change w)
+pub change_content : (change : Change) (w : World) → IsContent w → IsFitting change w → IsWithin change
+    → IsContent (changed_by change w)
 unfolding changed_by IsWithin
-change_content (Enrol operator ceiling) w h fits within = with_name operator ceiling w h (kept (Enrol operator ceiling) w h.world fits) within
+change_content (Enrol operator ceiling) w h fits within =
+    with_name operator ceiling w h (kept (Enrol operator ceiling) w h.world fits) within
 change_content (Put operator row) w h fits within =
-    with_rows operator (put_row row (plans_of operator w)) w h (kept (Put operator row) w h.world fits) (all_put IsPlan row (plans_of operator w) within (own_plans operator w.plans h.rows))
+    with_rows operator (put_row row (plans_of operator w)) w h (kept (Put operator row) w h.world fits)
+    (all_put IsPlan row (plans_of operator w) within (own_plans operator w.plans h.rows))
 change_content (Close operator id) w h fits within =
-    with_rows operator (close_row id (plans_of operator w)) w h (kept (Close operator id) w h.world fits) (all_closed id (plans_of operator w) (own_plans operator w.plans h.rows))
+    with_rows operator (close_row id (plans_of operator w)) w h
+    (kept (Close operator id) w h.world fits)
+    (all_closed id (plans_of operator w) (own_plans operator w.plans h.rows))
 change_content (Clear operator ids) w h fits within =
-    with_rows operator (clear_rows ids.items (plans_of operator w)) w h (kept (Clear operator ids) w h.world fits)
-    (all_filter IsPlan (λ r. not (is_named ids.items r)) (plans_of operator w) (own_plans operator w.plans h.rows))
+    with_rows operator (clear_rows ids.items (plans_of operator w)) w h
+    (kept (Clear operator ids) w h.world fits)
+    (all_filter IsPlan (λ r. not (is_named ids.items r)) (plans_of operator w)
+    (own_plans operator w.plans h.rows))

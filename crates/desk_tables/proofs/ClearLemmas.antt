@@ -14,19 +14,26 @@ use Rattle.desk_store.specs.OrderLaws.{all_weaker}
 use Rattle.desk_tables.specs.Tables.{id_text, plan_row, plan_rows, volume_rows_from, area_rows, volume_rows, span_row, AreSpanRowsFrom, ArePlanSpanRows, AreSpanRows, AreTables}
 use Rattle.desk_tables.specs.TableChanges.{ClearsRows, is_left}
 
-texts_any : (operator : List ℕ) (r : Row) (ids : List (List ℕ)) → list_any (λ text. is_of operator text r) (map id_text ids) ≡ list_any (λ id. is_of operator (id_text id) r) ids
+texts_any : (operator : List ℕ) (r : Row) (ids : List (List ℕ))
+    → list_any (λ text. is_of operator text r) (map id_text ids)
+    ≡ list_any (λ id. is_of operator (id_text id) r) ids
 texts_any operator r [] = refl
-texts_any operator r (id ∷ ids) = ap (λ b. is_of operator (id_text id) r || b) (texts_any operator r ids)
+texts_any operator r (id ∷ ids) = ap (λ b. is_of operator (id_text id) r || b)
+    (texts_any operator r ids)
 
-filter_on : (p q : Row → Bool) (rows : List Row) → AllByRecursion (λ r. p r ≡ q r) rows → filter p rows ≡ filter q rows
+filter_on : (p q : Row → Bool) (rows : List Row) → AllByRecursion (λ r. p r ≡ q r) rows → filter p rows
+    ≡ filter q rows
 filter_on p q [] h = refl
 filter_on p q (r ∷ rows) h = λ i. cond (h.0 i) (r ∷ filter_on p q rows h.1 i) (filter_on p q rows h.1 i)
 
-filter_same : (p q : Row → Bool) (rows : List Row) → ((r : Row) → p r ≡ q r) → filter p rows ≡ filter q rows
+filter_same : (p q : Row → Bool) (rows : List Row) → ((r : Row) → p r ≡ q r) → filter p rows
+    ≡ filter q rows
 filter_same p q [] h = refl
-filter_same p q (r ∷ rows) h = λ i. cond (h r i) (r ∷ filter_same p q rows h i) (filter_same p q rows h i)
+filter_same p q (r ∷ rows) h = λ i. cond (h r i) (r ∷ filter_same p q rows h i)
+    (filter_same p q rows h i)
 
-all_append : (P : Row → Type 0) (xs ys : List Row) → AllByRecursion P xs → AllByRecursion P ys → AllByRecursion P (xs ++ ys)
+all_append : (P : Row → Type 0) (xs ys : List Row) → AllByRecursion P xs → AllByRecursion P ys
+    → AllByRecursion P (xs ++ ys)
 all_append P [] ys h k = k
 all_append P (x ∷ xs) ys h k = (h.0, all_append P xs ys h.1 k)
 
@@ -39,78 +46,121 @@ module _ (operator : List ℕ) (has : List ℕ → Bool) where
   abbrev IsPlanned : Row → Type 0
   IsPlanned r = (text : List ℕ) → is_of operator text r ≡ true → has text ≡ true
 
-  planned_any : (r : Row) → IsPlanned r → (texts : List (List ℕ)) → list_any (λ text. is_of operator text r) (filter has texts) ≡ list_any (λ text. is_of operator text r) texts
+  planned_any : (r : Row) → IsPlanned r → (texts : List (List ℕ))
+      → list_any (λ text. is_of operator text r) (filter has texts)
+      ≡ list_any (λ text. is_of operator text r) texts
   planned_any r h [] = refl
-  planned_any r h (text ∷ texts) = by_tests (is_of operator text r) (has text) refl (h text) (planned_any r h texts) where
-    by_tests : (a b : Bool) → is_of operator text r ≡ a → (a ≡ true → b ≡ true) → list_any (λ t. is_of operator t r) (filter has texts) ≡ list_any (λ t. is_of operator t r) texts
-        → list_any (λ t. is_of operator t r) (cond b (text ∷ filter has texts) (filter has texts)) ≡ (a || list_any (λ t. is_of operator t r) texts)
-    by_tests a true e f ih = λ i. e i || ih i
-    by_tests true false e f ih = let no : false ≡ true = f refl in cc
-    by_tests false false e f ih = ih
+  planned_any r h (text ∷ texts) = by_tests (is_of operator text r) (has text) refl (h text)
+      (planned_any r h texts) where
+        by_tests : (a b : Bool) → is_of operator text r ≡ a → (a ≡ true → b ≡ true)
+            → list_any (λ t. is_of operator t r) (filter has texts)
+            ≡ list_any (λ t. is_of operator t r) texts
+            → list_any (λ t. is_of operator t r) (cond b (text ∷ filter has texts) (filter has texts))
+            ≡ (a || list_any (λ t. is_of operator t r) texts)
+        by_tests a true e f ih = λ i. e i || ih i
+        by_tests true false e f ih = let no : false ≡ true = f refl in cc
+        by_tests false false e f ih = ih
 
-  volumes_planned : (p : Filed) → IsPlanned (plan_row p) → (n : ℕ) (vs : List Block) → AllByRecursion IsPlanned (volume_rows_from p n vs)
+  volumes_planned : (p : Filed) → IsPlanned (plan_row p) → (n : ℕ) (vs : List Block)
+      → AllByRecursion IsPlanned (volume_rows_from p n vs)
   volumes_planned p h n [] = tt
   volumes_planned p h n (v ∷ vs) = (h, volumes_planned p h (n + 1) vs)
 
-  all_volumes : (ps : List Filed) → AllByRecursion (λ p. IsPlanned (plan_row p)) ps → AllByRecursion IsPlanned (volume_rows ps)
+  all_volumes : (ps : List Filed) → AllByRecursion (λ p. IsPlanned (plan_row p)) ps
+      → AllByRecursion IsPlanned (volume_rows ps)
   all_volumes [] h = tt
-  all_volumes (p ∷ ps) h = all_append IsPlanned (area_rows p) (volume_rows ps) (volumes_planned p h.0 0 p.row.area) (all_volumes ps h.1)
+  all_volumes (p ∷ ps) h = all_append IsPlanned (area_rows p) (volume_rows ps)
+      (volumes_planned p h.0 0 p.row.area) (all_volumes ps h.1)
 
-  spans_on : (p : Filed) → IsPlanned (plan_row p) → (n : ℕ) (v : Block) (spans : List Span) → AllByRecursion IsPlanned (map (span_row p n v) spans)
+  spans_on : (p : Filed) → IsPlanned (plan_row p) → (n : ℕ) (v : Block) (spans : List Span)
+      → AllByRecursion IsPlanned (map (span_row p n v) spans)
   spans_on p h n v [] = tt
   spans_on p h n v (s ∷ spans) = (h, spans_on p h n v spans)
 
-  spans_from : (p : Filed) → IsPlanned (plan_row p) → (n : ℕ) (vs : List Block) (rows : List Row) → AreSpanRowsFrom p n vs rows → AllByRecursion IsPlanned rows
+  spans_from : (p : Filed) → IsPlanned (plan_row p) → (n : ℕ) (vs : List Block) (rows : List Row)
+      → AreSpanRowsFrom p n vs rows → AllByRecursion IsPlanned rows
   spans_from p h n [] rows e = subst (AllByRecursion IsPlanned) (sym e) tt
   spans_from p h n (v ∷ vs) rows (spans, rest, ranges, are, more) =
-      subst (AllByRecursion IsPlanned) (sym are) (all_append IsPlanned (map (span_row p n v) spans) rest (spans_on p h n v spans) (spans_from p h (n + 1) vs rest more))
+      subst (AllByRecursion IsPlanned) (sym are) (all_append IsPlanned (map (span_row p n v) spans) rest
+      (spans_on p h n v spans) (spans_from p h (n + 1) vs rest more))
 
-  plan_spans : (p : Filed) → IsPlanned (plan_row p) → (rows : List Row) → ArePlanSpanRows p rows → AllByRecursion IsPlanned rows
+  plan_spans : (p : Filed) → IsPlanned (plan_row p) → (rows : List Row) → ArePlanSpanRows p rows
+      → AllByRecursion IsPlanned rows
   plan_spans p h rows are = by_live (is_live p.row.usage) are where
-    by_live : (b : Bool) → MatchBool b (AreSpanRowsFrom p 0 p.row.area rows) (rows ≡ []) → AllByRecursion IsPlanned rows
+    by_live : (b : Bool) → MatchBool b (AreSpanRowsFrom p 0 p.row.area rows) (rows ≡ [])
+        → AllByRecursion IsPlanned rows
     by_live true k = spans_from p h 0 p.row.area rows k
     by_live false k = subst (AllByRecursion IsPlanned) (sym k) tt
 
-  all_spans : (ps : List Filed) → AllByRecursion (λ p. IsPlanned (plan_row p)) ps → (rows : List Row) → AreSpanRows ps rows → AllByRecursion IsPlanned rows
+  all_spans : (ps : List Filed) → AllByRecursion (λ p. IsPlanned (plan_row p)) ps → (rows : List Row)
+      → AreSpanRows ps rows → AllByRecursion IsPlanned rows
   all_spans [] h rows e = subst (AllByRecursion IsPlanned) (sym e) tt
   all_spans (p ∷ ps) h rows (front, rest, are, mine, more) =
-      subst (AllByRecursion IsPlanned) (sym are) (all_append IsPlanned front rest (plan_spans p h.0 front mine) (all_spans ps h.1 rest more))
+      subst (AllByRecursion IsPlanned) (sym are) (all_append IsPlanned front rest
+      (plan_spans p h.0 front mine) (all_spans ps h.1 rest more))
 
   -- rows that are left where the ids with a plan go are those that are left where all ids go
-  left_alike : (ids : List (List ℕ)) (all rows new : List Row) → AllByRecursion IsPlanned all → IsPermutation all rows → new ≡ filter (is_of_none operator (filter has (map id_text ids))) rows → IsPermutation (filter (is_left operator ids) rows) new
+  left_alike : (ids : List (List ℕ)) (all rows new : List Row) → AllByRecursion IsPlanned all
+      → IsPermutation all rows → new ≡ filter (is_of_none operator (filter has (map id_text ids))) rows
+      → IsPermutation (filter (is_left operator ids) rows) new
   left_alike ids all rows new h same is =
       subst (IsPermutation (filter (is_left operator ids) rows)) (sym is)
-      (IsPermutation-trans (filter (is_left operator ids) rows) (filter (is_left operator ids) all) (filter gone rows)
-      (IsPermutation-sym (filter (is_left operator ids) all) (filter (is_left operator ids) rows) (IsPermutation-filter (is_left operator ids) all rows same))
-      (subst (λ xs. IsPermutation xs (filter gone rows)) (filter_on gone (is_left operator ids) all (each all h)) (IsPermutation-filter gone all rows same))) where
-        gone : Row → Bool
-        gone = is_of_none operator (filter has (map id_text ids))
+      (IsPermutation-trans (filter (is_left operator ids) rows) (filter (is_left operator ids) all)
+      (filter gone rows)
+      (IsPermutation-sym (filter (is_left operator ids) all) (filter (is_left operator ids) rows)
+      (IsPermutation-filter (is_left operator ids) all rows same))
+      (subst (λ xs. IsPermutation xs (filter gone rows))
+      (filter_on gone (is_left operator ids) all (each all h))
+      (IsPermutation-filter gone all rows same)))
+    where
+      gone : Row → Bool
+      gone = is_of_none operator (filter has (map id_text ids))
 
-        each : (rows : List Row) → AllByRecursion IsPlanned rows → AllByRecursion (λ r. gone r ≡ is_left operator ids r) rows
-        each [] k = tt
-        each (r ∷ rows) k = (ap not (planned_any r k.0 (map id_text ids) ∙ texts_any operator r ids), each rows k.1)
+      each : (rows : List Row) → AllByRecursion IsPlanned rows
+          → AllByRecursion (λ r. gone r ≡ is_left operator ids r) rows
+      each [] k = tt
+      each (r ∷ rows) k = (
+        ap not (planned_any r k.0 (map id_text ids) ∙ texts_any operator r ids),
+        each
+            rows k.1,
+      )
 
-own_planned : (operator : List ℕ) (ps : List Filed) → AllByRecursion (λ p. (text : List ℕ) → is_of operator text (plan_row p) ≡ true → list_any (is_of operator text) (plan_rows ps) ≡ true) ps
+own_planned : (operator : List ℕ) (ps : List Filed)
+    → AllByRecursion (λ p. (text : List ℕ) → is_of operator text (plan_row p) ≡ true
+    → list_any (is_of operator text) (plan_rows ps) ≡ true) ps
 own_planned operator [] = tt
 own_planned operator (p ∷ ps) = (
   (λ text h. ap (λ b. b || list_any (is_of operator text) (plan_rows ps)) h),
-  all_weaker (λ q. (text : List ℕ) → is_of operator text (plan_row q) ≡ true → list_any (is_of operator text) (plan_rows ps) ≡ true)
-      (λ q. (text : List ℕ) → is_of operator text (plan_row q) ≡ true → list_any (is_of operator text) (plan_rows (p ∷ ps)) ≡ true)
-      (λ q k text h. or_true (is_of operator text (plan_row p)) (list_any (is_of operator text) (plan_rows ps)) (k text h)) ps (own_planned operator ps),
+  all_weaker (λ q. (text : List ℕ) → is_of operator text (plan_row q) ≡ true
+      → list_any (is_of operator text) (plan_rows ps) ≡ true)
+      (λ q. (text : List ℕ) → is_of operator text (plan_row q) ≡ true
+      → list_any (is_of operator text) (plan_rows (p ∷ ps)) ≡ true)
+      (λ q k text h. or_true (is_of operator text (plan_row p))
+      (list_any (is_of operator text) (plan_rows ps)) (k text h)) ps (own_planned operator ps),
 )
 
-pub removal_is_clear : (operator : List ℕ) (ids : List (List ℕ)) (w : World) (old new : Tables) → AreTables old w → RemovesPlans operator (map id_text ids) old new → ClearsRows operator ids old new
+pub removal_is_clear : (operator : List ℕ) (ids : List (List ℕ)) (w : World) (old new : Tables)
+    → AreTables old w → RemovesPlans operator (map id_text ids) old new
+    → ClearsRows operator ids old new
 removal_is_clear operator ids w old new t e = record {
   operators = IsPermutation-same old.operators new.operators (sym (ap (λ x. x.operators) e));
   plans = IsPermutation-same (filter (is_left operator ids) old.plans) new.plans
-      (filter_same (is_left operator ids) (is_of_none operator (map id_text ids)) old.plans (λ r. ap not (sym (texts_any operator r ids))) ∙ sym (ap (λ x. x.plans) e));
-  volumes = left_alike operator has ids (volume_rows w.plans) old.volumes new.volumes (all_volumes operator has w.plans planned) t.volumes (ap (λ x. x.volumes) e);
-  spans = left_alike operator has ids t.spans.0 old.spans new.spans (all_spans operator has w.plans planned t.spans.0 t.spans.1) t.spans.2 (ap (λ x. x.spans) e);
+      (filter_same (is_left operator ids) (is_of_none operator (map id_text ids)) old.plans
+      (λ r. ap not (sym (texts_any operator r ids))) ∙ sym (ap (λ x. x.plans) e));
+  volumes = left_alike operator has ids (volume_rows w.plans) old.volumes new.volumes
+      (all_volumes operator has w.plans planned) t.volumes (ap (λ x. x.volumes) e);
+  spans = left_alike operator has ids t.spans.0 old.spans new.spans
+      (all_spans operator has w.plans planned t.spans.0 t.spans.1) t.spans.2 (ap (λ x. x.spans) e);
 } where
   has : List ℕ → Bool
   has text = list_any (is_of operator text) old.plans
 
-  planned : AllByRecursion (λ p. (text : List ℕ) → is_of operator text (plan_row p) ≡ true → has text ≡ true) w.plans
-  planned = all_weaker (λ q. (text : List ℕ) → is_of operator text (plan_row q) ≡ true → list_any (is_of operator text) (plan_rows w.plans) ≡ true)
+  planned : AllByRecursion (λ p. (text : List ℕ) → is_of operator text (plan_row p) ≡ true → has text
+      ≡ true)
+      w.plans
+  planned = all_weaker (λ q. (text : List ℕ) → is_of operator text (plan_row q) ≡ true
+      → list_any (is_of operator text) (plan_rows w.plans) ≡ true)
       (λ q. (text : List ℕ) → is_of operator text (plan_row q) ≡ true → has text ≡ true)
-      (λ q k text h. sym (list_any-IsPermutation (is_of operator text) (plan_rows w.plans) old.plans t.plans) ∙ k text h) w.plans (own_planned operator w.plans)
+      (λ q k text h. sym (list_any-IsPermutation (is_of operator text) (plan_rows w.plans) old.plans
+      t.plans)
+      ∙ k text h) w.plans (own_planned operator w.plans)

@@ -36,56 +36,83 @@ second true b h = h
 second false b h = cc
 
 -- what a head row says of the plan of a key
-module _ (o id : List ℕ) (head : Row) (priority aircraft : ℕ) (at_priority : column head 2 ≡ Int (pos priority)) (at_aircraft : column head 4 ≡ Int (pos aircraft)) where
-  abbrev closed_row : Row
-  closed_row = sql.plan_row o (id_text id) priority 2 aircraft
+module _ (o id : List ℕ) (head : Row) (priority aircraft : ℕ)
+    (at_priority : column head 2 ≡ Int (pos priority))
+    (at_aircraft : column head 4 ≡ Int (pos aircraft))
+  where
+    abbrev closed_row : Row
+    closed_row = sql.plan_row o (id_text id) priority 2 aircraft
 
-  -- the rows of the key's plan
-  abbrev HaveHead : List Filed → Type 0
-  HaveHead ps = AllByRecursion (λ p. is_own o id p ≡ true → plan_row p ≡ head) ps
+    -- the rows of the key's plan
+    abbrev HaveHead : List Filed → Type 0
+    HaveHead ps = AllByRecursion (λ p. is_own o id p ≡ true → plan_row p ≡ head) ps
 
-  one_closed : (p : Filed) → IsId id → IsId p.row.id → (is_own o id p ≡ true → plan_row p ≡ head) → cond (is_of o (id_text id) (plan_row p)) closed_row (plan_row p) ≡ closed_if o id (plan_row p)
-  one_closed p hi hp is = by_test (is_of o (id_text id) (plan_row p)) refl where
-    own : is_of o (id_text id) (plan_row p) ≡ is_own o id p
-    own = own_row o id p (after_key (plan_row p)) hi hp
+    one_closed : (p : Filed) → IsId id → IsId p.row.id → (is_own o id p ≡ true → plan_row p ≡ head)
+        → cond (is_of o (id_text id) (plan_row p)) closed_row (plan_row p) ≡ closed_if o id (plan_row p)
+    one_closed p hi hp is = by_test (is_of o (id_text id) (plan_row p)) refl where
+      own : is_of o (id_text id) (plan_row p) ≡ is_own o id p
+      own = own_row o id p (after_key (plan_row p)) hi hp
 
-    by_test : (b : Bool) → is_of o (id_text id) (plan_row p) ≡ b → cond (is_of o (id_text id) (plan_row p)) closed_row (plan_row p) ≡ closed_if o id (plan_row p)
-    by_test false e = rw e refl
-    by_test true e =
-        let mine : is_own o id p ≡ true = sym own ∙ e in
-        let row = is mine in
-        let name = same_text o p.operator (first (is_eq (text_cmp o p.operator)) (is_eq (text_cmp id p.row.id)) mine) in
-        let key = same_text id p.row.id (second (is_eq (text_cmp o p.operator)) (is_eq (text_cmp id p.row.id)) mine) in
-        let two = sym (ap (λ r. column r 2) row ∙ at_priority) in
-        let four = sym (ap (λ r. column r 4) row ∙ at_aircraft) in
-        rw e (λ i. Text (name i) ∷ Text (id_text (key i)) ∷ two i ∷ Int (pos 2) ∷ four i ∷ [])
+      by_test : (b : Bool) → is_of o (id_text id) (plan_row p) ≡ b
+          → cond (is_of o (id_text id) (plan_row p)) closed_row (plan_row p)
+          ≡ closed_if o id (plan_row p)
+      by_test false e = rw e refl
+      by_test true e =
+          let mine : is_own o id p ≡ true = sym own ∙ e in
+          let row = is mine in
+          let name = same_text o p.operator (first (is_eq (text_cmp o p.operator))
+          (is_eq (text_cmp id p.row.id)) mine) in
+          let key = same_text id p.row.id (second (is_eq (text_cmp o p.operator))
+          (is_eq (text_cmp id p.row.id))
+          mine) in
+          let two = sym (ap (λ r. column r 2) row ∙ at_priority) in
+          let four = sym (ap (λ r. column r 4) row ∙ at_aircraft) in
+          rw e (λ i. Text (name i) ∷ Text (id_text (key i)) ∷ two i ∷ Int (pos 2) ∷ four i ∷ [])
 
-  all_closed : (ps : List Filed) → IsId id → ArePlans ps → HaveHead ps → map (λ r. cond (is_of o (id_text id) r) closed_row r) (plan_rows ps) ≡ map (closed_if o id) (plan_rows ps)
-  all_closed [] hi h have = refl
-  all_closed (p ∷ ps) hi h have = λ i. one_closed p hi h.0.id have.0 i ∷ all_closed ps hi h.1 have.1 i
+    all_closed : (ps : List Filed) → IsId id → ArePlans ps → HaveHead ps
+        → map (λ r. cond (is_of o (id_text id) r) closed_row r) (plan_rows ps)
+        ≡ map (closed_if o id) (plan_rows ps)
+    all_closed [] hi h have = refl
+    all_closed (p ∷ ps) hi h have = λ i. one_closed p hi h.0.id have.0 i ∷ all_closed ps hi h.1 have.1 i
 
-  have_head : (w : World) (heads rest : List Row) → IsContent w → heads ≡ plan_rows (own_of o id w) → heads ≡ head ∷ rest → HaveHead w.plans
-  have_head w heads rest h are some = all_kept (λ p. plan_row p ≡ head) (is_own o id) w.plans (subst (AllByRecursion (λ p. plan_row p ≡ head)) (sym (one_own o id w.plans h.world.plans)) (by_found (find (is_own o id) w.plans) (sym some ∙ are))) where
-    by_found : (found : Option Filed) → head ∷ rest ≡ plan_rows (one_or_none found) → AllByRecursion (λ p. plan_row p ≡ head) (one_or_none found)
-    by_found None e = tt
-    by_found (Some p) e = let is : plan_row p ≡ head = cc in (is, tt)
+    have_head : (w : World) (heads rest : List Row) → IsContent w → heads ≡ plan_rows (own_of o id w)
+        → heads
+        ≡ head ∷ rest → HaveHead w.plans
+    have_head w heads rest h are some = all_kept (λ p. plan_row p ≡ head) (is_own o id) w.plans
+        (subst (AllByRecursion (λ p. plan_row p ≡ head)) (sym (one_own o id w.plans h.world.plans))
+        (by_found (find (is_own o id) w.plans) (sym some ∙ are))) where
+          by_found : (found : Option Filed) → head ∷ rest ≡ plan_rows (one_or_none found)
+              → AllByRecursion (λ p. plan_row p ≡ head) (one_or_none found)
+          by_found None e = tt
+          by_found (Some p) e = let is : plan_row p ≡ head = cc in (is, tt)
 
-  pub close_is_close : (w : World) (old new : Tables) (heads rest : List Row) → IsContent w → IsId id → AreTables old w → heads ≡ plan_rows (own_of o id w) → heads ≡ head ∷ rest
-      → ClosesPlan o (id_text id) priority aircraft old new → ClosesRows o id old new
-  close_is_close w old new heads rest h hi t are some e = record {
-    operators = IsPermutation-same old.operators new.operators (sym e.operators);
-    plans = IsPermutation-trans (map (closed_if o id) old.plans) (map (closed_if o id) (plan_rows w.plans)) new.plans
-        (IsPermutation-sym (map (closed_if o id) (plan_rows w.plans)) (map (closed_if o id) old.plans) (IsPermutation-map (closed_if o id) (plan_rows w.plans) old.plans t.plans))
-        (IsPermutation-trans (map (closed_if o id) (plan_rows w.plans)) (with_row (is_of o (id_text id)) closed_row old.plans) new.plans
-        (subst (λ xs. IsPermutation xs (with_row (is_of o (id_text id)) closed_row old.plans)) (all_closed w.plans hi h.rows (have_head w heads rest h are some))
-        (IsPermutation-map (λ r. cond (is_of o (id_text id) r) closed_row r) (plan_rows w.plans) old.plans t.plans))
-        e.plans);
-    volumes = IsPermutation-same old.volumes new.volumes (sym e.volumes);
-    spans = IsPermutation-same _ new.spans (sym e.spans);
-  }
+    pub close_is_close : (w : World) (old new : Tables) (heads rest : List Row) → IsContent w → IsId id
+        → AreTables old w → heads ≡ plan_rows (own_of o id w) → heads ≡ head ∷ rest
+        → ClosesPlan o (id_text id) priority aircraft old new → ClosesRows o id old new
+    close_is_close w old new heads rest h hi t are some e = record {
+      operators = IsPermutation-same old.operators new.operators (sym e.operators);
+      plans = IsPermutation-trans (map (closed_if o id) old.plans)
+          (map (closed_if o id) (plan_rows w.plans))
+          new.plans
+          (IsPermutation-sym (map (closed_if o id) (plan_rows w.plans)) (map (closed_if o id) old.plans)
+          (IsPermutation-map (closed_if o id) (plan_rows w.plans) old.plans t.plans))
+          (IsPermutation-trans (map (closed_if o id) (plan_rows w.plans))
+          (with_row (is_of o (id_text id)) closed_row old.plans) new.plans
+          (subst (λ xs. IsPermutation xs (with_row (is_of o (id_text id)) closed_row old.plans))
+          (all_closed w.plans hi h.rows (have_head w heads rest h are some))
+          (IsPermutation-map (λ r. cond (is_of o (id_text id) r) closed_row r) (plan_rows w.plans)
+          old.plans
+          t.plans))
+          e.plans);
+      volumes = IsPermutation-same old.volumes new.volumes (sym e.volumes);
+      spans = IsPermutation-same _ new.spans (sym e.spans);
+    }
 
 -- the same, by the stored plan
-pub plan_closed : (o id : List ℕ) (p : Filed) (w : World) (old new : Tables) → IsContent w → IsId id → AreTables old w → own_of o id w ≡ p ∷ []
-    → ClosesPlan o (id_text id) p.row.priority (aircraft_number p.row.aircraft) old new → ClosesRows o id old new
+pub plan_closed : (o id : List ℕ) (p : Filed) (w : World) (old new : Tables) → IsContent w → IsId id
+    → AreTables old w → own_of o id w ≡ p ∷ []
+    → ClosesPlan o (id_text id) p.row.priority (aircraft_number p.row.aircraft) old new
+    → ClosesRows o id old new
 plan_closed o id p w old new h hi t is e =
-    close_is_close o id (plan_row p) p.row.priority (aircraft_number p.row.aircraft) refl refl w old new (plan_row p ∷ []) [] h hi t (ap plan_rows (sym is)) refl e
+    close_is_close o id (plan_row p) p.row.priority (aircraft_number p.row.aircraft) refl refl w old new
+    (plan_row p ∷ []) [] h hi t (ap plan_rows (sym is)) refl e

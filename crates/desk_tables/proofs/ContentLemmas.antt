@@ -23,7 +23,8 @@ use Rattle.desk_tables.proofs.RowLemmas.{operators_ascend, plans_ascend, volumes
 
 -- ids with one text are one
 pub one_id : (a b : List ℕ) → IsId a → IsId b → id_text a ≡ id_text b → a ≡ b
-one_id a b ha hb e = exact_bytes a b (sym (text_order a b ha hb) ∙ ap (λ t. text_cmp t (id_text b)) e ∙ tied_itself nat_list_cmp_total (id_text b))
+one_id a b ha hb e = exact_bytes a b (sym (text_order a b ha hb) ∙ ap (λ t. text_cmp t (id_text b)) e
+    ∙ tied_itself nat_list_cmp_total (id_text b))
 
 pub one_usage : (u v : Usage) → usage_number u ≡ usage_number v → u ≡ v
 one_usage usage.Planned usage.Planned e = refl
@@ -70,24 +71,33 @@ no_area : (area : List Block) → IsTrue (is_area area) → area ≡ [] → ⊥
 no_area area h e = true≢false (sym h ∙ ap is_area e)
 
 -- a plan's rows begin with the place 0
-first_place : (p : Filed) (area : List Block) (more : List Row) (r : Row) (rest : List Row) → (area ≡ [] → ⊥) → volume_rows_from p 0 area ++ more ≡ r ∷ rest → column r 2 ≡ Int (pos 0)
+first_place : (p : Filed) (area : List Block) (more : List Row) (r : Row) (rest : List Row)
+    → (area ≡ [] → ⊥)
+    → volume_rows_from p 0 area ++ more ≡ r ∷ rest → column r 2 ≡ Int (pos 0)
 first_place p [] more r rest some e = absurd (some refl)
 first_place p (v ∷ vs) more r rest some e =
     let same : volume_row p 0 v ≡ r = cc in
     ap (λ row. column row 2) (sym same)
 
-begins : (ps : List Filed) → ArePlans ps → (r : Row) (rest : List Row) → volume_rows ps ≡ r ∷ rest → column r 2 ≡ Int (pos 0)
+begins : (ps : List Filed) → ArePlans ps → (r : Row) (rest : List Row) → volume_rows ps ≡ r ∷ rest
+    → column r 2 ≡ Int (pos 0)
 begins [] h r rest e = cc
-begins (p ∷ ps) h r rest e = first_place p p.row.area (volume_rows ps) r rest (no_area p.row.area h.0.volumes) e
+begins (p ∷ ps) h r rest e = first_place p p.row.area (volume_rows ps) r rest
+    (no_area p.row.area h.0.volumes)
+    e
 
-not_later : (ps : List Filed) → ArePlans ps → (q : Filed) (n : ℕ) (u : Block) (rest : List Row) → volume_rows ps ≡ volume_row q (n + 1) u ∷ rest → ⊥
+not_later : (ps : List Filed) → ArePlans ps → (q : Filed) (n : ℕ) (u : Block) (rest : List Row)
+    → volume_rows ps ≡ volume_row q (n + 1) u ∷ rest → ⊥
 not_later ps h q n u rest e =
     let place : Int (pos (n + 1)) ≡ Int (pos 0) = begins ps h (volume_row q (n + 1) u) rest e in
     let same : n + 1 ≡ 0 = cc in
     omega (arith, same)
 
-module _ (one_shape : (one other : Shape) → HasValidParts one → HasValidParts other → footprint_bytes one ≡ footprint_bytes other → one ≡ other) where
-  one_block : (p q : Filed) (n : ℕ) (v u : Block) → IsBlock v → IsBlock u → volume_row p n v ≡ volume_row q n u → v ≡ u
+module _ (one_shape : (one other : Shape) → HasValidParts one → HasValidParts other
+    → footprint_bytes one
+    ≡ footprint_bytes other → one ≡ other) where
+  one_block : (p q : Filed) (n : ℕ) (v u : Block) → IsBlock v → IsBlock u → volume_row p n v
+      ≡ volume_row q n u → v ≡ u
   one_block p q n v u hv hu e =
       let lower : v.window.lower ≡ u.window.lower = cc in
       let upper : v.window.upper ≡ u.window.upper = cc in
@@ -100,29 +110,39 @@ module _ (one_shape : (one other : Shape) → HasValidParts one → HasValidPart
       }
 
   -- after the first place, the volumes of two plans end at the same place
-  cut : (p q : Filed) (ps qs : List Filed) → ArePlans ps → ArePlans qs → (n : ℕ) (vs us : List Block) → AllByRecursion IsBlock vs → AllByRecursion IsBlock us
-      → volume_rows_from p (n + 1) vs ++ volume_rows ps ≡ volume_rows_from q (n + 1) us ++ volume_rows qs → (vs ≡ us) × (volume_rows ps ≡ volume_rows qs)
+  cut : (p q : Filed) (ps qs : List Filed) → ArePlans ps → ArePlans qs → (n : ℕ) (vs us : List Block)
+      → AllByRecursion IsBlock vs → AllByRecursion IsBlock us
+      → volume_rows_from p (n + 1) vs ++ volume_rows ps ≡ volume_rows_from q (n + 1) us
+      ++ volume_rows qs
+      → (vs ≡ us) × (volume_rows ps ≡ volume_rows qs)
   cut p q ps qs hp hq n [] [] hv hu e = (refl, e)
   cut p q ps qs hp hq n [] (u ∷ us) hv hu e = absurd (not_later ps hp q n u _ e)
   cut p q ps qs hp hq n (v ∷ vs) [] hv hu e = absurd (not_later qs hq p n v _ (sym e))
   cut p q ps qs hp hq n (v ∷ vs) (u ∷ us) hv hu e =
       let first : volume_row p (n + 1) v ≡ volume_row q (n + 1) u = cc in
-      let rest : volume_rows_from p (n + 1 + 1) vs ++ volume_rows ps ≡ volume_rows_from q (n + 1 + 1) us ++ volume_rows qs = cc in
+      let rest : volume_rows_from p (n + 1 + 1) vs ++ volume_rows ps ≡ volume_rows_from q (n + 1 + 1) us
+      ++ volume_rows qs = cc in
       let more = cut p q ps qs hp hq (n + 1) vs us hv.1 hu.1 rest in
       ((λ i. one_block p q (n + 1) v u hv.0 hu.0 first i ∷ more.0 i), more.1)
 
-  cut_first : (p q : Filed) (ps qs : List Filed) → ArePlans ps → ArePlans qs → (vs us : List Block) → (vs ≡ [] → ⊥) → (us ≡ [] → ⊥)
+  cut_first : (p q : Filed) (ps qs : List Filed) → ArePlans ps → ArePlans qs → (vs us : List Block)
+      → (vs ≡ [] → ⊥) → (us ≡ [] → ⊥)
       → AllByRecursion IsBlock vs → AllByRecursion IsBlock us
-      → volume_rows_from p 0 vs ++ volume_rows ps ≡ volume_rows_from q 0 us ++ volume_rows qs → (vs ≡ us) × (volume_rows ps ≡ volume_rows qs)
+      → volume_rows_from p 0 vs ++ volume_rows ps ≡ volume_rows_from q 0 us ++ volume_rows qs
+      → (vs ≡ us)
+      × (volume_rows ps ≡ volume_rows qs)
   cut_first p q ps qs hp hq [] us sv su hv hu e = absurd (sv refl)
   cut_first p q ps qs hp hq (v ∷ vs) [] sv su hv hu e = absurd (su refl)
   cut_first p q ps qs hp hq (v ∷ vs) (u ∷ us) sv su hv hu e =
       let first : volume_row p 0 v ≡ volume_row q 0 u = cc in
-      let rest : volume_rows_from p (0 + 1) vs ++ volume_rows ps ≡ volume_rows_from q (0 + 1) us ++ volume_rows qs = cc in
+      let rest : volume_rows_from p (0 + 1) vs ++ volume_rows ps ≡ volume_rows_from q (0 + 1) us
+      ++ volume_rows qs = cc in
       let more = cut p q ps qs hp hq 0 vs us hv.1 hu.1 rest in
       ((λ i. one_block p q 0 v u hv.0 hu.0 first i ∷ more.0 i), more.1)
 
-  one_plan : (p q : Filed) → IsPlan p.row → IsPlan q.row → plan_row p ≡ plan_row q → p.row.area ≡ q.row.area → p ≡ q
+  one_plan : (p q : Filed) → IsPlan p.row → IsPlan q.row → plan_row p ≡ plan_row q → p.row.area
+      ≡ q.row.area
+      → p ≡ q
   one_plan p q hp hq e area =
       let operator : p.operator ≡ q.operator = cc in
       let text : id_text p.row.id ≡ id_text q.row.id = cc in
@@ -140,25 +160,35 @@ module _ (one_shape : (one other : Shape) → HasValidParts one → HasValidPart
         };
       }
 
-  pub one_plans : (ps qs : List Filed) → ArePlans ps → ArePlans qs → plan_rows ps ≡ plan_rows qs → volume_rows ps ≡ volume_rows qs → ps ≡ qs
+  pub one_plans : (ps qs : List Filed) → ArePlans ps → ArePlans qs → plan_rows ps ≡ plan_rows qs
+      → volume_rows ps ≡ volume_rows qs → ps ≡ qs
   one_plans [] [] hp hq e f = refl
   one_plans [] (q ∷ qs) hp hq e f = cc
   one_plans (p ∷ ps) [] hp hq e f = cc
   one_plans (p ∷ ps) (q ∷ qs) hp hq e f =
       let first : plan_row p ≡ plan_row q = cc in
       let rest : plan_rows ps ≡ plan_rows qs = cc in
-      let parts = cut_first p q ps qs hp.1 hq.1 p.row.area q.row.area (no_area p.row.area hp.0.volumes) (no_area q.row.area hq.0.volumes) hp.0.each hq.0.each f in
+      let parts = cut_first p q ps qs hp.1 hq.1 p.row.area q.row.area (no_area p.row.area hp.0.volumes)
+      (no_area q.row.area hq.0.volumes) hp.0.each hq.0.each f in
       λ i. one_plan p q hp.0 hq.0 first parts.0 i ∷ one_plans ps qs hp.1 hq.1 rest parts.1 i
 
   same_rows : (xs ys zs : List Row) → IsPermutation xs zs → IsPermutation ys zs → IsPermutation xs ys
   same_rows xs ys zs h k = IsPermutation-trans xs zs ys h (IsPermutation-sym ys zs k)
 
-  pub one_world : (tables : Tables) (v w : World) → IsContent v → IsContent w → AreTables tables v → AreTables tables w → v ≡ w
+  pub one_world : (tables : Tables) (v w : World) → IsContent v → IsContent w → AreTables tables v
+      → AreTables tables w → v ≡ w
   one_world tables v w hv hw tv tw =
-      let operators = one_order (operator_rows v) (operator_rows w) (operators_ascend v.operators hv.world.operators) (operators_ascend w.operators hw.world.operators)
+      let operators = one_order (operator_rows v) (operator_rows w)
+      (operators_ascend v.operators hv.world.operators)
+      (operators_ascend w.operators hw.world.operators)
       (same_rows (operator_rows v) (operator_rows w) tables.operators tv.operators tw.operators) in
-      let plans = one_order (plan_rows v.plans) (plan_rows w.plans) (plans_ascend v.plans hv.rows hv.world.plans) (plans_ascend w.plans hw.rows hw.world.plans)
+      let plans = one_order (plan_rows v.plans) (plan_rows w.plans)
+      (plans_ascend v.plans hv.rows hv.world.plans) (plans_ascend w.plans hw.rows hw.world.plans)
       (same_rows (plan_rows v.plans) (plan_rows w.plans) tables.plans tv.plans tw.plans) in
-      let volumes = one_order (volume_rows v.plans) (volume_rows w.plans) (volumes_ascend v.plans hv.rows hv.world.plans) (volumes_ascend w.plans hw.rows hw.world.plans)
+      let volumes = one_order (volume_rows v.plans) (volume_rows w.plans)
+      (volumes_ascend v.plans hv.rows hv.world.plans) (volumes_ascend w.plans hw.rows hw.world.plans)
       (same_rows (volume_rows v.plans) (volume_rows w.plans) tables.volumes tv.volumes tw.volumes) in
-      λ i. record { operators = one_operators v.operators w.operators operators i; plans = one_plans v.plans w.plans hv.rows hw.rows plans volumes i }
+      λ i. record {
+        operators = one_operators v.operators w.operators operators i;
+        plans = one_plans v.plans w.plans hv.rows hw.rows plans volumes i;
+      }

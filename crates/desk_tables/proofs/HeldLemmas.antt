@@ -42,36 +42,49 @@ use Rattle.desk_tables.proofs.FilterLemmas.{ArePlans, own_row}
 -- ---- the greatest of some elements
 
 swap_greater : (a b c : Option ℕ) → greater a (greater b c) ≡ greater b (greater a c)
-swap_greater a b c = sym (greater_assoc a b c) ∙ ap (λ q. greater q c) (greater_comm a b) ∙ greater_assoc b a c
+swap_greater a b c = sym (greater_assoc a b c) ∙ ap (λ q. greater q c) (greater_comm a b)
+    ∙ greater_assoc b a c
 
 -- it is the same in any order
-pub top_permuted : {A : Type 0} (p : A → Bool) (f : A → ℕ) (xs ys : List A) → IsPermutation xs ys → top_by p f xs ≡ top_by p f ys
-top_permuted {A} p f = along_permutation (λ xs ys. top_by p f xs ≡ top_by p f ys) (λ xs. refl) under turned (λ xs ys zs h k. h ∙ k) where
-  under : (x : A) (xs ys : List A) → top_by p f xs ≡ top_by p f ys → top_by p f (x ∷ xs) ≡ top_by p f (x ∷ ys)
-  under x xs ys h = top_by-cons p f x xs ∙ ap (greater (level_where (p x) (f x))) h ∙ sym (top_by-cons p f x ys)
+pub top_permuted : {A : Type 0} (p : A → Bool) (f : A → ℕ) (xs ys : List A) → IsPermutation xs ys
+    → top_by p f xs ≡ top_by p f ys
+top_permuted {A} p f = along_permutation (λ xs ys. top_by p f xs ≡ top_by p f ys) (λ xs. refl) under
+    turned
+    (λ xs ys zs h k. h ∙ k) where
+      under : (x : A) (xs ys : List A) → top_by p f xs ≡ top_by p f ys → top_by p f (x ∷ xs)
+          ≡ top_by p f (x ∷ ys)
+      under x xs ys h = top_by-cons p f x xs ∙ ap (greater (level_where (p x) (f x))) h
+          ∙ sym (top_by-cons p f x ys)
 
-  turned : (x y : A) (xs : List A) → top_by p f (x ∷ y ∷ xs) ≡ top_by p f (y ∷ x ∷ xs)
-  turned x y xs =
-      top_by-cons p f x (y ∷ xs) ∙ ap (greater (level_where (p x) (f x))) (top_by-cons p f y xs)
-      ∙ swap_greater (level_where (p x) (f x)) (level_where (p y) (f y)) (top_by p f xs)
-      ∙ sym (top_by-cons p f y (x ∷ xs) ∙ ap (greater (level_where (p y) (f y))) (top_by-cons p f x xs))
+      turned : (x y : A) (xs : List A) → top_by p f (x ∷ y ∷ xs) ≡ top_by p f (y ∷ x ∷ xs)
+      turned x y xs =
+          top_by-cons p f x (y ∷ xs) ∙ ap (greater (level_where (p x) (f x))) (top_by-cons p f y xs)
+          ∙ swap_greater (level_where (p x) (f x)) (level_where (p y) (f y)) (top_by p f xs)
+          ∙ sym (top_by-cons p f y (x ∷ xs) ∙ ap (greater (level_where (p y) (f y)))
+          (top_by-cons p f x xs))
 
 -- of those that are wanted, cut
-top_wanted : {A B : Type 0} (want : A → Bool) (cut : A → B) (p : B → Bool) (f : B → ℕ) (xs : List A) → top_by p f (map cut (filter want xs)) ≡ top_by (λ a. want a && p (cut a)) (λ a. f (cut a)) xs
+top_wanted : {A B : Type 0} (want : A → Bool) (cut : A → B) (p : B → Bool) (f : B → ℕ) (xs : List A)
+    → top_by p f (map cut (filter want xs)) ≡ top_by (λ a. want a && p (cut a)) (λ a. f (cut a)) xs
 top_wanted want cut p f [] = refl
-top_wanted {A} {B} want cut p f (x ∷ xs) = by_test (want x) (top_wanted want cut p f xs) ∙ sym (top_by-cons (λ a. want a && p (cut a)) (λ a. f (cut a)) x xs) where
-  others : Option ℕ
-  others = top_by (λ a. want a && p (cut a)) (λ a. f (cut a)) xs
+top_wanted {A} {B} want cut p f (x ∷ xs) = by_test (want x) (top_wanted want cut p f xs)
+    ∙ sym (top_by-cons (λ a. want a && p (cut a)) (λ a. f (cut a)) x xs) where
+      others : Option ℕ
+      others = top_by (λ a. want a && p (cut a)) (λ a. f (cut a)) xs
 
-  by_test : (b : Bool) → top_by p f (map cut (filter want xs)) ≡ others → top_by p f (map cut (cond b (x ∷ filter want xs) (filter want xs))) ≡ greater (level_where (b && p (cut x)) (f (cut x))) others
-  by_test true ih = top_by-cons p f (cut x) (map cut (filter want xs)) ∙ ap (greater (level_where (p (cut x)) (f (cut x)))) ih
-  by_test false ih = ih
+      by_test : (b : Bool) → top_by p f (map cut (filter want xs)) ≡ others
+          → top_by p f (map cut (cond b (x ∷ filter want xs) (filter want xs)))
+          ≡ greater (level_where (b && p (cut x)) (f (cut x))) others
+      by_test true ih = top_by-cons p f (cut x) (map cut (filter want xs))
+          ∙ ap (greater (level_where (p (cut x)) (f (cut x)))) ih
+      by_test false ih = ih
 
 max_itself : (n : ℕ) → max n n ≡ n
 max_itself n = omega arith
 
 -- two of one number
-either_level : (a b : Bool) (n : ℕ) → greater (level_where a n) (level_where b n) ≡ level_where (a || b) n
+either_level : (a b : Bool) (n : ℕ) → greater (level_where a n) (level_where b n)
+    ≡ level_where (a || b) n
 either_level true true n = ap Some (max_itself n)
 either_level true false n = refl
 either_level false b n = refl
@@ -85,15 +98,18 @@ max_left n a b p q = grind (arith, nat_tests)
 max_right : (n a b : ℕ) → nat_le n a ≡ false → nat_le n b ≡ true → max a b ≡ b
 max_right n a b p q = grind (arith, nat_tests)
 
-at_least_greater : (n : ℕ) (a b : Option ℕ) → at_least n (greater a b) ≡ greater (at_least n a) (at_least n b)
+at_least_greater : (n : ℕ) (a b : Option ℕ) → at_least n (greater a b)
+    ≡ greater (at_least n a) (at_least n b)
 at_least_greater n None b = refl
 at_least_greater n (Some a) None = sym (greater_none (at_least n (Some a)))
-at_least_greater n (Some a) (Some b) = ap (λ c. cond c (Some (max a b)) None) (sym (max_reaches n a b)) ∙ by_tests (nat_le n a) (nat_le n b) refl refl where
-  by_tests : (s t : Bool) → nat_le n a ≡ s → nat_le n b ≡ t → cond (s || t) (Some (max a b)) None ≡ greater (cond s (Some a) None) (cond t (Some b) None)
-  by_tests true true p q = refl
-  by_tests true false p q = ap Some (max_left n a b p q)
-  by_tests false true p q = ap Some (max_right n a b p q)
-  by_tests false false p q = refl
+at_least_greater n (Some a) (Some b) = ap (λ c. cond c (Some (max a b)) None) (sym (max_reaches n a b))
+    ∙ by_tests (nat_le n a) (nat_le n b) refl refl where
+      by_tests : (s t : Bool) → nat_le n a ≡ s → nat_le n b ≡ t → cond (s || t) (Some (max a b)) None
+          ≡ greater (cond s (Some a) None) (cond t (Some b) None)
+      by_tests true true p q = refl
+      by_tests true false p q = ap Some (max_left n a b p q)
+      by_tests false true p q = ap Some (max_right n a b p q)
+      by_tests false false p q = refl
 
 at_least_where : (n q : ℕ) (b : Bool) → level_where (nat_le n q && b) q ≡ at_least n (level_where b q)
 at_least_where n q true = by_test (nat_le n q) where
@@ -117,7 +133,8 @@ nat_of v = unsigned_abs (int_of v)
 
 abbrev row_has : Row → Point → Bool
 row_has r x =
-    (is_leaf x.leaf && (nat_le (nat_of (column r 0)) (position_of x.leaf) && nat_le (position_of x.leaf) (nat_of (column r 1))))
+    (is_leaf x.leaf && (nat_le (nat_of (column r 0)) (position_of x.leaf)
+    && nat_le (position_of x.leaf) (nat_of (column r 1))))
     && (int_le (int_of (column r 2)) x.altitude && int_lt x.altitude (int_of (column r 3)))
     && (int_le (int_of (column r 4)) x.second && int_lt x.second (int_of (column r 5)))
 
@@ -126,22 +143,28 @@ row_priority r = nat_of (column r 6)
 
 row_holds_slab : (r : Row) (h : Held) (x : Point) → IsHeldIn r h → row_has r x ≡ slab_has h.slab x
 row_holds_slab r h x is = λ i.
-    (is_leaf x.leaf && (nat_le (nat_of (is.slab.first i)) (position_of x.leaf) && nat_le (position_of x.leaf) (nat_of (is.slab.last i))))
+    (is_leaf x.leaf && (nat_le (nat_of (is.slab.first i)) (position_of x.leaf)
+    && nat_le (position_of x.leaf) (nat_of (is.slab.last i))))
     && (int_le (int_of (is.slab.lower i)) x.altitude && int_lt x.altitude (int_of (is.slab.upper i)))
     && (int_le (int_of (is.slab.start i)) x.second && int_lt x.second (int_of (is.slab.end i)))
 
 -- the slabs that were taken hold what the rows hold
-taken_top : (rows : List Row) (helds : List Held) (x : Point) → HasTakenHelds helds rows → top_held helds x ≡ top_by (λ r. row_has r x) row_priority rows
+taken_top : (rows : List Row) (helds : List Held) (x : Point) → HasTakenHelds helds rows
+    → top_held helds x
+    ≡ top_by (λ r. row_has r x) row_priority rows
 unfolding top_held
 taken_top [] [] x h = refl
 taken_top [] (g ∷ helds) x h = absurd h
 taken_top (r ∷ rows) [] x h = absurd h
 taken_top (r ∷ rows) (g ∷ helds) x h =
     top_by-cons (λ k. slab_has k.slab x) (λ k. k.priority) g helds
-    ∙ (λ i. greater (level_where (sym (row_holds_slab r g x h.0) i) (sym (ap nat_of h.0.priority) i)) (taken_top rows helds x h.1 i))
+    ∙ (λ i. greater (level_where (sym (row_holds_slab r g x h.0) i) (sym (ap nat_of h.0.priority) i))
+    (taken_top rows helds x h.1 i))
     ∙ sym (top_by-cons (λ k. row_has k x) row_priority r rows)
 
-pub one_taken : (helds : List Held) (rows : List Row) (held : Held) (row : Row) → HasTakenHelds helds rows → IsHeldIn row held → HasTakenHelds (helds ++ held ∷ []) (rows ++ row ∷ [])
+pub one_taken : (helds : List Held) (rows : List Row) (held : Held) (row : Row)
+    → HasTakenHelds helds rows
+    → IsHeldIn row held → HasTakenHelds (helds ++ held ∷ []) (rows ++ row ∷ [])
 one_taken [] [] held row h is = (is, tt)
 one_taken [] (r ∷ rows) held row h is = absurd h
 one_taken (g ∷ helds) [] held row h is = absurd h
@@ -168,10 +191,12 @@ not_below : (a b p : ℕ) → leb a p ≡ true → leb p b ≡ true → int_lt (
 not_below a b p h k = grind (arith, nat_tests, ints)
 
 first_reached : (a b p : ℕ) → leb a p ≡ true → leb p b ≡ true → is_at_most (Int (pos a)) (pos b) ≡ true
-first_reached a b p h k = ap is_le (value_cmp-Int (pos a) (pos b)) ∙ at_most_if _ _ (not_below a b p h k)
+first_reached a b p h k = ap is_le (value_cmp-Int (pos a) (pos b))
+    ∙ at_most_if _ _ (not_below a b p h k)
 
 last_reached : (a b p : ℕ) → leb a p ≡ true → leb p b ≡ true → is_at_least (Int (pos b)) (pos a) ≡ true
-last_reached a b p h k = ap is_ge (value_cmp-Int (pos b) (pos a)) ∙ at_least_is _ _ ∙ ap not (not_below a b p h k)
+last_reached a b p h k = ap is_ge (value_cmp-Int (pos b) (pos a)) ∙ at_least_is _ _
+    ∙ ap not (not_below a b p h k)
 
 between : (a b z : ℤ) → int_le a z ≡ true → int_lt z b ≡ true → int_lt a b ≡ true
 between a b z h k = grind (arith, ints)
@@ -183,7 +208,8 @@ lower_reached : (a b z : ℤ) → int_le a z ≡ true → int_lt z b ≡ true �
 lower_reached a b z h k = ap is_lt (value_cmp-Int a b) ∙ less_if _ _ (between a b z h k)
 
 upper_reached : (a b z : ℤ) → int_le a z ≡ true → int_lt z b ≡ true → is_above (Int b) a ≡ true
-upper_reached a b z h k = ap is_gt (value_cmp-Int b a) ∙ greater_if _ _ (not_between a b z h k) (between a b z h k)
+upper_reached a b z h k = ap is_gt (value_cmp-Int b a)
+    ∙ greater_if _ _ (not_between a b z h k) (between a b z h k)
 
 as_nat : (n q : ℕ) → not (int_lt (pos q) (pos n)) ≡ nat_le n q
 as_nat n q = grind (arith, nat_tests, ints)
@@ -211,7 +237,15 @@ is_in s x h =
     let leaves = and_parts (leb s.first (position_of x.leaf)) _ leaf.1 in
     let altitudes = and_parts (int_le s.lower x.altitude) _ ground.1 in
     let seconds = and_parts (int_le s.start x.second) _ parts.1 in
-    record { is = leaf.0; first = leaves.0; last = leaves.1; lower = altitudes.0; upper = altitudes.1; start = seconds.0; end = seconds.1 }
+    record {
+      is = leaf.0;
+      first = leaves.0;
+      last = leaves.1;
+      lower = altitudes.0;
+      upper = altitudes.1;
+      start = seconds.0;
+      end = seconds.1;
+    }
 
 -- the same of a span with a window
 record Touches (s : Span) (v : Block) (e : Slab) : Type 0 where
@@ -222,11 +256,13 @@ record Touches (s : Span) (v : Block) (e : Slab) : Type 0 where
   start : is_below (Int v.window.start) e.end ≡ true
   end : is_above (Int v.window.end) e.start ≡ true
 
-touches : (s : Span) (v : Block) (e : Slab) (x : Point) → IsIn e x → (span_has s (position_of x.leaf) && window_has v.window x) ≡ true → Touches s v e
+touches : (s : Span) (v : Block) (e : Slab) (x : Point) → IsIn e x
+    → (span_has s (position_of x.leaf) && window_has v.window x) ≡ true → Touches s v e
 touches s v e x here h =
     let parts = and_parts (span_has s (position_of x.leaf)) _ h in
     let leaves = and_parts (leb s.first (position_of x.leaf)) _ parts.0 in
-    let times = and_parts (int_le v.window.lower x.altitude && int_lt x.altitude v.window.upper) _ parts.1 in
+    let times = and_parts (int_le v.window.lower x.altitude && int_lt x.altitude v.window.upper) _
+    parts.1 in
     let altitudes = and_parts (int_le v.window.lower x.altitude) _ times.0 in
     let seconds = and_parts (int_le v.window.start x.second) _ times.1 in
     record {
@@ -269,78 +305,115 @@ module _ (o id : List ℕ) (hi : IsId id) (least : ℕ) (e : Slab) (x : Point) (
   regrouped : (l g a t : Bool) → l ≡ true → (((l && g) && a) && t) ≡ (g && (a && t))
   regrouped l g a t h = ap (λ u. ((u && g) && a) && t) h ∙ and_assoc g a t
 
-  another : (p : Filed) (r : Row) → IsPlan p.row → (differs (Text p.operator) (Text o) || differs (Text (id_text p.row.id)) (Text (id_text id))) ≡ not (is_own o id p)
-  another p r hp = either_differs (sql.is_text (Text p.operator) o) (sql.is_text (Text (id_text p.row.id)) (id_text id)) ∙ ap not (own_row o id p r hi hp.id)
+  another : (p : Filed) (r : Row) → IsPlan p.row → (differs (Text p.operator) (Text o)
+      || differs (Text (id_text p.row.id)) (Text (id_text id))) ≡ not (is_own o id p)
+  another p r hp = either_differs (sql.is_text (Text p.operator) o)
+      (sql.is_text (Text (id_text p.row.id)) (id_text id)) ∙ ap not (own_row o id p r hi hp.id)
 
-  span_passes : (p : Filed) (n : ℕ) (v : Block) (s : Span) → IsPlan p.row → passes (span_row p n v s) ≡ (counted p && (span_has s position && window_has v.window x))
+  span_passes : (p : Filed) (n : ℕ) (v : Block) (s : Span) → IsPlan p.row → passes (span_row p n v s)
+      ≡ (counted p && (span_has s position && window_has v.window x))
   span_passes p n v s hp =
       ap (λ b. want (span_row p n v s) && b)
-      (regrouped (is_leaf x.leaf) (span_has s position) (int_le v.window.lower x.altitude && int_lt x.altitude v.window.upper) (int_le v.window.start x.second && int_lt x.second v.window.end) here.is)
+      (regrouped (is_leaf x.leaf) (span_has s position)
+      (int_le v.window.lower x.altitude && int_lt x.altitude v.window.upper)
+      (int_le v.window.start x.second && int_lt x.second v.window.end) here.is)
       ∙ by_point (span_has s position && window_has v.window x) refl where
-        by_point : (t : Bool) → (span_has s position && window_has v.window x) ≡ t → (want (span_row p n v s) && (span_has s position && window_has v.window x)) ≡ (counted p && (span_has s position && window_has v.window x))
+        by_point : (t : Bool) → (span_has s position && window_has v.window x) ≡ t
+            → (want (span_row p n v s) && (span_has s position && window_has v.window x))
+            ≡ (counted p && (span_has s position && window_has v.window x))
         by_point true h =
             let k = touches s v e x here h in
-            λ i. ((k.first i && (k.last i && (k.lower i && (k.upper i && (k.start i && (k.end i && priority_reached least p.row.priority i)))))) && another p (after_key (span_row p n v s)) hp i)
+            λ i. ((k.first i && (k.last i && (k.lower i
+            && (k.upper i && (k.start i && (k.end i && priority_reached least p.row.priority i))))))
+            && another p (after_key (span_row p n v s)) hp i)
             && (span_has s position && window_has v.window x)
         by_point false h =
-            ap (λ t. want (span_row p n v s) && t) h ∙ and-false (want (span_row p n v s)) ∙ sym (ap (λ t. counted p && t) h ∙ and-false (counted p))
+            ap (λ t. want (span_row p n v s) && t) h ∙ and-false (want (span_row p n v s))
+            ∙ sym (ap (λ t. counted p && t) h ∙ and-false (counted p))
 
   no_level : (b : Bool) (n : ℕ) → None ≡ level_where (b && false) n
   no_level b n = sym (ap (λ t. level_where t n) (and-false b))
 
-  on_spans : (p : Filed) (n : ℕ) (v : Block) (spans : List Span) → IsPlan p.row → top (map (span_row p n v) spans) ≡ level_where (counted p && (spans_have spans position && window_has v.window x)) p.row.priority
+  on_spans : (p : Filed) (n : ℕ) (v : Block) (spans : List Span) → IsPlan p.row
+      → top (map (span_row p n v) spans) ≡ level_where
+      (counted p && (spans_have spans position && window_has v.window x)) p.row.priority
   on_spans p n v [] hp = no_level (counted p) p.row.priority
   on_spans p n v (s ∷ spans) hp =
-      top_by-cons passes (λ r. row_priority (held_columns r)) (span_row p n v s) (map (span_row p n v) spans)
-      ∙ (λ i. greater (level_where (span_passes p n v s hp i) p.row.priority) (on_spans p n v spans hp i))
+      top_by-cons passes (λ r. row_priority (held_columns r)) (span_row p n v s)
+      (map (span_row p n v) spans)
+      ∙ (λ i. greater (level_where (span_passes p n v s hp i) p.row.priority)
+      (on_spans p n v spans hp i))
       ∙ either_level _ _ p.row.priority
-      ∙ ap (λ b. level_where b p.row.priority) (both_or (counted p) (span_has s position) (spans_have spans position) (window_has v.window x))
+      ∙ ap (λ b. level_where b p.row.priority) (both_or (counted p) (span_has s position)
+      (spans_have spans position) (window_has v.window x))
 
   -- one span of a volume has the point just where the volume has it
-  on_block : (p : Filed) (n : ℕ) (v : Block) (spans : List Span) → IsPlan p.row → IsRanges (shape_positions v.footprint) spans → top (map (span_row p n v) spans) ≡ level_where (counted p && block_has v x) p.row.priority
+  on_block : (p : Filed) (n : ℕ) (v : Block) (spans : List Span) → IsPlan p.row
+      → IsRanges (shape_positions v.footprint) spans → top (map (span_row p n v) spans)
+      ≡ level_where (counted p && block_has v x) p.row.priority
   on_block p n v spans hp ranges =
       on_spans p n v spans hp
       ∙ ap (λ b. level_where (counted p && (b && window_has v.window x)) p.row.priority)
-      (ranges.positions position ∙ ap (shape_has v.footprint) (leaf_undone x.leaf ((leaf_test x.leaf).0 here.is)))
+      (ranges.positions position ∙ ap (shape_has v.footprint)
+      (leaf_undone x.leaf ((leaf_test x.leaf).0 here.is)))
 
-  on_area : (p : Filed) (n : ℕ) (vs : List Block) (rows : List Row) → IsPlan p.row → AreSpanRowsFrom p n vs rows → top rows ≡ level_where (counted p && area_has vs x) p.row.priority
+  on_area : (p : Filed) (n : ℕ) (vs : List Block) (rows : List Row) → IsPlan p.row
+      → AreSpanRowsFrom p n vs rows → top rows ≡ level_where (counted p && area_has vs x) p.row.priority
   on_area p n [] rows hp are = ap top are ∙ no_level (counted p) p.row.priority
   on_area p n (v ∷ vs) rows hp (spans, rest, ranges, are, more) =
-      ap top are ∙ top_by-append passes (λ r. row_priority (held_columns r)) (map (span_row p n v) spans) rest
+      ap top are ∙ top_by-append passes (λ r. row_priority (held_columns r))
+      (map (span_row p n v) spans) rest
       ∙ (λ i. greater (on_block p n v spans hp ranges i) (on_area p (n + 1) vs rest hp more i))
       ∙ either_level _ _ p.row.priority
-      ∙ ap (λ b. level_where b p.row.priority) (sym (and-or_distrib_left (counted p) (block_has v x) (area_has vs x)))
+      ∙ ap (λ b. level_where b p.row.priority) (sym
+      (and-or_distrib_left (counted p) (block_has v x) (area_has vs x)))
 
-  on_plan : (p : Filed) (rows : List Row) → IsPlan p.row → ArePlanSpanRows p rows → top rows ≡ at_least least (rival_level o id p x)
+  on_plan : (p : Filed) (rows : List Row) → IsPlan p.row → ArePlanSpanRows p rows → top rows
+      ≡ at_least least (rival_level o id p x)
   unfolding rival_level row_holds
   on_plan p rows hp are = by_live (is_live p.row.usage) are where
-    by_live : (l : Bool) → MatchBool l (AreSpanRowsFrom p 0 p.row.area rows) (rows ≡ []) → top rows ≡ at_least least (level_where (not (is_own o id p) && (l && area_has p.row.area x)) p.row.priority)
+    by_live : (l : Bool) → MatchBool l (AreSpanRowsFrom p 0 p.row.area rows) (rows ≡ []) → top rows
+        ≡ at_least least (level_where (not (is_own o id p) && (l && area_has p.row.area x))
+        p.row.priority)
     by_live true k =
         on_area p 0 p.row.area rows hp k
-        ∙ ap (λ b. level_where b p.row.priority) (and_assoc (nat_le least p.row.priority) (not (is_own o id p)) (area_has p.row.area x))
+        ∙ ap (λ b. level_where b p.row.priority) (and_assoc (nat_le least p.row.priority)
+        (not (is_own o id p)) (area_has p.row.area x))
         ∙ at_least_where least p.row.priority (not (is_own o id p) && area_has p.row.area x)
-    by_live false k = ap top k ∙ sym (ap (λ b. at_least least (level_where b p.row.priority)) (and-false (not (is_own o id p))))
+    by_live false k = ap top k
+        ∙ sym (ap (λ b. at_least least (level_where b p.row.priority))
+        (and-false (not (is_own o id p))))
 
-  on_plans : (ps : List Filed) (rows : List Row) → ArePlans ps → AreSpanRows ps rows → top rows ≡ at_least least (rivals_top o id ps x)
+  on_plans : (ps : List Filed) (rows : List Row) → ArePlans ps → AreSpanRows ps rows → top rows
+      ≡ at_least least (rivals_top o id ps x)
   on_plans [] rows h are = ap top are ∙ sym (ap (at_least least) (rivals_top-nil o id x))
   on_plans (p ∷ ps) rows h (front, rest, are, mine, more) =
       ap top are ∙ top_by-append passes (λ r. row_priority (held_columns r)) front rest
       ∙ (λ i. greater (on_plan p front h.0 mine i) (on_plans ps rest h.1 more i))
-      ∙ sym (ap (at_least least) (rivals_top-cons o id p ps x) ∙ at_least_greater least (rival_level o id p x) (rivals_top o id ps x))
+      ∙ sym (ap (at_least least) (rivals_top-cons o id p ps x)
+      ∙ at_least_greater least (rival_level o id p x) (rivals_top o id ps x))
 
   -- the slabs of the rows that are wanted hold at the point what the plans hold there
-  at_point : (tables : Tables) (w : World) (rows : List Row) (helds : List Held) → IsContent w → AreTables tables w
-      → IsPermutation (map held_columns (filter want tables.spans)) rows → HasTakenHelds helds rows → top_held helds x ≡ at_least least (rivals_top o id w.plans x)
+  at_point : (tables : Tables) (w : World) (rows : List Row) (helds : List Held) → IsContent w
+      → AreTables tables w
+      → IsPermutation (map held_columns (filter want tables.spans)) rows → HasTakenHelds helds rows
+      → top_held helds x ≡ at_least least (rivals_top o id w.plans x)
   at_point tables w rows helds h t same taken =
       let (all, are, moved) = t.spans in
       taken_top rows helds x taken
-      ∙ sym (top_permuted (λ r. row_has r x) row_priority (map held_columns (filter want tables.spans)) rows same)
+      ∙ sym (top_permuted (λ r. row_has r x) row_priority (map held_columns (filter want tables.spans))
+      rows
+      same)
       ∙ top_wanted want held_columns (λ r. row_has r x) row_priority tables.spans
       ∙ sym (top_permuted passes (λ r. row_priority (held_columns r)) all tables.spans moved)
       ∙ on_plans w.plans all h.rows are
 
 -- the slabs of the rows that are wanted are those of the plan's rivals
-pub are_rivals : (tables : Tables) (w : World) (o id : List ℕ) (least : ℕ) (extent : Slab) (rows : List Row) (helds : List Held) → IsId id → IsContent w → AreTables tables w
-    → IsPermutation (map held_columns (filter (sql.is_rival o (id_text id) (reach_of extent least)) tables.spans)) rows → HasTakenHelds helds rows → AreRivals w o id least extent helds
+pub are_rivals : (tables : Tables) (w : World) (o id : List ℕ) (least : ℕ) (extent : Slab)
+    (rows : List Row)
+    (helds : List Held) → IsId id → IsContent w → AreTables tables w
+    → IsPermutation (map held_columns (filter (sql.is_rival o (id_text id) (reach_of extent least))
+    tables.spans)) rows → HasTakenHelds helds rows → AreRivals w o id least extent helds
 are_rivals tables w o id least extent rows helds hi h t same taken = λ x inside.
-    at_point o id hi least extent x (is_in extent x inside) tables w rows helds h t same taken ∙ ap (at_least least) (held_by_rivals o id w x)
+    at_point o id hi least extent x (is_in extent x inside) tables w rows helds h t same taken
+    ∙ ap (at_least least) (held_by_rivals o id w x)

@@ -39,17 +39,30 @@ record IsFirst (row : Row) (left : List Row) (ps : List Filed) : Type 0 where
   row_is : row ≡ joined (plan_row plan) (volume_row plan 0 volume)
   left_is : left ≡ joined_from plan 1 rest ++ listing_rows more
 
-first_row : (row : Row) (left : List Row) (ps : List Filed) → ArePlans ps → row ∷ left ≡ listing_rows ps → IsFirst row left ps
+first_row : (row : Row) (left : List Row) (ps : List Filed) → ArePlans ps → row ∷ left ≡ listing_rows ps
+    → IsFirst row left ps
 first_row row left [] h e = cc
 first_row row left (p ∷ more) h e = by_area p.row.area refl e where
-  by_area : (vs : List Block) → vs ≡ p.row.area → row ∷ left ≡ joined_from p 0 vs ++ listing_rows more → IsFirst row left (p ∷ more)
+  by_area : (vs : List Block) → vs ≡ p.row.area → row ∷ left ≡ joined_from p 0 vs ++ listing_rows more
+      → IsFirst row left (p ∷ more)
   by_area [] is f = absurd (no_area p.row.area h.0.volumes (sym is))
-  by_area (v ∷ vs) is f = record { plan = p; more = more; volume = v; rest = vs; are = refl; area = is; row_is = cc; left_is = cc }
+  by_area (v ∷ vs) is f = record {
+    plan = p;
+    more = more;
+    volume = v;
+    rest = vs;
+    are = refl;
+    area = is;
+    row_is = cc;
+    left_is = cc;
+  }
 
 not_later : (row : Row) (left : List Row) (ps : List Filed) → IsFirst row left ps → is_later row ≡ false
 not_later row left ps first = ap is_later first.row_is
 
-no_rows : (p : Filed) (n : ℕ) (vs : List Block) (ps : List Filed) → ArePlans ps → [] ≡ joined_from p n vs ++ listing_rows ps → (vs ≡ []) × (ps ≡ [])
+no_rows : (p : Filed) (n : ℕ) (vs : List Block) (ps : List Filed) → ArePlans ps → []
+    ≡ joined_from p n vs
+    ++ listing_rows ps → (vs ≡ []) × (ps ≡ [])
 no_rows p n [] [] h e = (refl, refl)
 no_rows p n [] (q ∷ qs) h e = absurd (by_area q.row.area refl e) where
   by_area : (us : List Block) → us ≡ q.row.area → [] ≡ joined_from q 0 us ++ listing_rows qs → ⊥
@@ -57,7 +70,8 @@ no_rows p n [] (q ∷ qs) h e = absurd (by_area q.row.area refl e) where
   by_area (u ∷ us) is f = cc
 no_rows p n (v ∷ vs) ps h e = cc
 
-each_at : (xs : List Block) (y : Block) (ys : List Block) → AllByRecursion IsBlock (xs ++ y ∷ ys) → IsBlock y
+each_at : (xs : List Block) (y : Block) (ys : List Block) → AllByRecursion IsBlock (xs ++ y ∷ ys)
+    → IsBlock y
 each_at [] y ys h = h.0
 each_at (x ∷ xs) y ys h = each_at xs y ys h.1
 
@@ -69,66 +83,104 @@ abbrev pub ReadsVolume : Row → Block → Type 0
 ReadsVolume row volume = (v : Block) → IsBlock v → IsVolumeAt row 6 v → volume ≡ v
 
 -- a plan's first row begins it
-begins : (plans : List PlanRow) (head : Head) (volume : Block) (row : Row) (left : List Row) (ps : List Filed) (all : List PlanRow) → ArePlans ps → IsFirst row left ps → ReadsHead row head → ReadsVolume row volume
+begins : (plans : List PlanRow) (head : Head) (volume : Block) (row : Row) (left : List Row)
+    (ps : List Filed)
+    (all : List PlanRow) → ArePlans ps → IsFirst row left ps → ReadsHead row head
+    → ReadsVolume row volume
     → plans ++ map (λ p. p.row) ps ≡ all → IsUnderWay plans head (volume ∷ []) left all
 begins plans head volume row left ps all h first reads_head reads_volume e =
     let are : ArePlans (first.plan ∷ first.more) = subst ArePlans first.are h in
-    let blocks : AllByRecursion IsBlock (first.volume ∷ first.rest) = subst (AllByRecursion IsBlock) (sym first.area) are.0.each in
-    let same : volume ≡ first.volume = reads_volume first.volume blocks.0 (subst (λ r. IsVolumeAt r 6 first.volume) (sym first.row_is) (volume_read first.plan 0 first.volume)) in
+    let blocks : AllByRecursion IsBlock (first.volume ∷ first.rest) =
+    subst (AllByRecursion IsBlock) (sym first.area) are.0.each in
+    let same : volume ≡ first.volume = reads_volume first.volume blocks.0
+    (subst (λ r. IsVolumeAt r 6 first.volume) (sym first.row_is)
+    (volume_read first.plan 0 first.volume))
+    in
     record {
       plan = first.plan;
       rest = first.rest;
       more = first.more;
       begun = omega arith;
       area = ap (λ v. v ∷ first.rest) same ∙ first.area;
-      row = reads_head first.plan.row are.0.id (subst (λ r. IsHead r first.plan.row) (sym first.row_is) (head_read first.plan 0 first.volume));
+      row = reads_head first.plan.row are.0.id (subst (λ r. IsHead r first.plan.row) (sym first.row_is)
+          (head_read first.plan 0 first.volume));
       each = are;
       rows = first.left_is;
       whole = ap (λ qs. plans ++ map (λ p. p.row) qs) (sym first.are) ∙ e;
     }
 
 -- where no volume of the plan under way is left, the plan is whole
-closes : (plans : List PlanRow) (head : Head) (volumes : List Block) (left : List Row) (all : List PlanRow) (way : IsUnderWay plans head volumes left all) → way.rest ≡ []
+closes : (plans : List PlanRow) (head : Head) (volumes : List Block) (left : List Row)
+    (all : List PlanRow)
+    (way : IsUnderWay plans head volumes left all) → way.rest ≡ []
     → closed_plans plans (Some head) volumes ++ map (λ p. p.row) way.more ≡ all
 closes plans head volumes left all way none =
-    let area : volumes ≡ way.plan.row.area = sym (append-nil volumes) ∙ ap (λ vs. volumes ++ vs) (sym none) ∙ way.area in
+    let area : volumes ≡ way.plan.row.area = sym (append-nil volumes)
+    ∙ ap (λ vs. volumes ++ vs) (sym none)
+    ∙ way.area in
     let row : plan_with head volumes ≡ way.plan.row = ap (plan_with head) area ∙ way.row in
-    append_assoc plans (plan_with head volumes ∷ []) (map (λ p. p.row) way.more) ∙ ap (λ r. plans ++ r ∷ map (λ p. p.row) way.more) row ∙ way.whole
+    append_assoc plans (plan_with head volumes ∷ []) (map (λ p. p.row) way.more)
+    ∙ ap (λ r. plans ++ r ∷ map (λ p. p.row) way.more) row ∙ way.whole
 
 -- the next row of the plan under way is a later one
-stays_later : (row : Row) (p : Filed) (n : ℕ) (v : Block) → 1 ≤ n → row ≡ joined (plan_row p) (volume_row p n v) → is_later row ≡ true
+stays_later : (row : Row) (p : Filed) (n : ℕ) (v : Block) → 1 ≤ n → row
+    ≡ joined (plan_row p) (volume_row p n v) → is_later row ≡ true
 stays_later row p n v low is = ap is_later is ∙ above n low
 
-takes_first : (plans : List PlanRow) (old : Option Head) (volumes : List Block) (row : Row) (left : List Row) (ps : List Filed) → ArePlans ps → Leads plans old volumes (row ∷ left) ps → is_later row ≡ false
-    → (head : Head) (volume : Block) → ReadsHead row head → ReadsVolume row volume → Leads (closed_plans plans old volumes) (Some head) (volume ∷ []) left ps
+takes_first : (plans : List PlanRow) (old : Option Head) (volumes : List Block) (row : Row)
+    (left : List Row)
+    (ps : List Filed) → ArePlans ps → Leads plans old volumes (row ∷ left) ps → is_later row ≡ false
+    → (head : Head) (volume : Block) → ReadsHead row head → ReadsVolume row volume
+    → Leads (closed_plans plans old volumes) (Some head) (volume ∷ []) left ps
 takes_first plans None volumes row left ps h leads test head volume reads_head reads_volume =
-    begins plans head volume row left ps (map (λ p. p.row) ps) h (first_row row left ps h leads.1) reads_head reads_volume (ap (λ qs. qs ++ map (λ p. p.row) ps) leads.0)
-takes_first plans (Some old) volumes row left ps h way test head volume reads_head reads_volume = by_rest way.rest refl where
-  by_rest : (rest : List Block) → rest ≡ way.rest → IsUnderWay (closed_plans plans (Some old) volumes) head (volume ∷ []) left (map (λ p. p.row) ps)
-  by_rest [] is =
-      let listing : row ∷ left ≡ listing_rows way.more = way.rows ∙ ap (λ vs. joined_from way.plan (length volumes) vs ++ listing_rows way.more) (sym is) in
-      begins (closed_plans plans (Some old) volumes) head volume row left way.more (map (λ p. p.row) ps) way.each.1 (first_row row left way.more way.each.1 listing) reads_head reads_volume
-      (closes plans old volumes (row ∷ left) (map (λ p. p.row) ps) way (sym is))
-  by_rest (v ∷ vs) is =
-      let listing : row ∷ left ≡ joined_from way.plan (length volumes) (v ∷ vs) ++ listing_rows way.more = way.rows ∙ ap (λ us. joined_from way.plan (length volumes) us ++ listing_rows way.more) (sym is) in
-      absurd (true≢false (sym (stays_later row way.plan (length volumes) v way.begun cc) ∙ test))
+    begins plans head volume row left ps (map (λ p. p.row) ps) h (first_row row left ps h leads.1)
+    reads_head
+    reads_volume (ap (λ qs. qs ++ map (λ p. p.row) ps) leads.0)
+takes_first plans (Some old) volumes row left ps h way test head volume reads_head reads_volume =
+    by_rest way.rest refl where
+      by_rest : (rest : List Block) → rest ≡ way.rest
+          → IsUnderWay (closed_plans plans (Some old) volumes) head
+          (volume ∷ []) left (map (λ p. p.row) ps)
+      by_rest [] is =
+          let listing : row ∷ left ≡ listing_rows way.more = way.rows
+          ∙ ap (λ vs. joined_from way.plan (length volumes) vs ++ listing_rows way.more) (sym is) in
+          begins (closed_plans plans (Some old) volumes) head volume row left way.more
+          (map (λ p. p.row) ps)
+          way.each.1 (first_row row left way.more way.each.1 listing) reads_head reads_volume
+          (closes plans old volumes (row ∷ left) (map (λ p. p.row) ps) way (sym is))
+      by_rest (v ∷ vs) is =
+          let listing : row ∷ left ≡ joined_from way.plan (length volumes) (v ∷ vs)
+          ++ listing_rows way.more =
+          way.rows ∙ ap (λ us. joined_from way.plan (length volumes) us ++ listing_rows way.more)
+          (sym is) in
+          absurd (true≢false (sym (stays_later row way.plan (length volumes) v way.begun cc) ∙ test))
 
-takes_later : (plans : List PlanRow) (old : Option Head) (volumes : List Block) (row : Row) (left : List Row) (ps : List Filed) → ArePlans ps → Leads plans old volumes (row ∷ left) ps → is_later row ≡ true
+takes_later : (plans : List PlanRow) (old : Option Head) (volumes : List Block) (row : Row)
+    (left : List Row)
+    (ps : List Filed) → ArePlans ps → Leads plans old volumes (row ∷ left) ps → is_later row ≡ true
     → (volume : Block) → ReadsVolume row volume → Leads plans old (volumes ++ volume ∷ []) left ps
-takes_later plans None volumes row left ps h leads test volume reads = absurd (true≢false (sym test ∙ not_later row left ps (first_row row left ps h leads.1)))
+takes_later plans None volumes row left ps h leads test volume reads =
+    absurd (true≢false (sym test ∙ not_later row left ps (first_row row left ps h leads.1)))
 takes_later plans (Some head) volumes row left ps h way test volume reads = by_rest way.rest refl where
-  by_rest : (rest : List Block) → rest ≡ way.rest → IsUnderWay plans head (volumes ++ volume ∷ []) left (map (λ p. p.row) ps)
+  by_rest : (rest : List Block) → rest ≡ way.rest → IsUnderWay plans head (volumes ++ volume ∷ []) left
+      (map (λ p. p.row) ps)
   by_rest [] is =
-      let listing : row ∷ left ≡ listing_rows way.more = way.rows ∙ ap (λ vs. joined_from way.plan (length volumes) vs ++ listing_rows way.more) (sym is) in
-      absurd (true≢false (sym test ∙ not_later row left way.more (first_row row left way.more way.each.1 listing)))
+      let listing : row ∷ left ≡ listing_rows way.more = way.rows
+      ∙ ap (λ vs. joined_from way.plan (length volumes) vs ++ listing_rows way.more) (sym is) in
+      absurd (true≢false (sym test ∙ not_later row left way.more
+      (first_row row left way.more way.each.1 listing)))
   by_rest (v ∷ vs) is =
       let n = length volumes in
-      let listing : row ∷ left ≡ joined_from way.plan n (v ∷ vs) ++ listing_rows way.more = way.rows ∙ ap (λ us. joined_from way.plan n us ++ listing_rows way.more) (sym is) in
+      let listing : row ∷ left ≡ joined_from way.plan n (v ∷ vs) ++ listing_rows way.more = way.rows
+      ∙ ap (λ us. joined_from way.plan n us ++ listing_rows way.more) (sym is) in
       let here : row ≡ joined (plan_row way.plan) (volume_row way.plan n v) = cc in
       let there : left ≡ joined_from way.plan (n + 1) vs ++ listing_rows way.more = cc in
       let area : volumes ++ v ∷ vs ≡ way.plan.row.area = ap (λ us. volumes ++ us) is ∙ way.area in
-      let block : IsBlock v = each_at volumes v vs (subst (AllByRecursion IsBlock) (sym area) way.each.0.each) in
-      let same : volume ≡ v = reads v block (subst (λ r. IsVolumeAt r 6 v) (sym here) (volume_read way.plan n v)) in
+      let block : IsBlock v = each_at volumes v vs
+      (subst (AllByRecursion IsBlock) (sym area) way.each.0.each)
+      in
+      let same : volume ≡ v =
+      reads v block (subst (λ r. IsVolumeAt r 6 v) (sym here) (volume_read way.plan n v)) in
       let long : length (volumes ++ volume ∷ []) ≡ n + 1 = length-append volumes (volume ∷ []) in
       record {
         plan = way.plan;
@@ -142,21 +194,33 @@ takes_later plans (Some head) volumes row left ps h way test volume reads = by_r
         whole = way.whole;
       }
 
-module _ (plans : List PlanRow) (old : Option Head) (volumes : List Block) (row : Row) (left : List Row) (ps : List Filed) (h : ArePlans ps) (leads : Leads plans old volumes (row ∷ left) ps)
-    (volume : Block) (reads : ReadsVolume row volume) (now : List PlanRow) (head : Option Head) (begun after : List Block) (pushed : after ≡ begun ++ volume ∷ []) where
-  pub adds_first : is_later row ≡ false → now ≡ closed_plans plans old volumes → IsSomeAnd head (ReadsHead row) → begun ≡ [] → Leads now head after left ps
+module _ (plans : List PlanRow) (old : Option Head) (volumes : List Block) (row : Row) (left : List Row)
+    (ps : List Filed) (h : ArePlans ps) (leads : Leads plans old volumes (row ∷ left) ps)
+    (volume : Block) (reads : ReadsVolume row volume) (now : List PlanRow) (head : Option Head)
+    (begun after : List Block) (pushed : after ≡ begun ++ volume ∷ []) where
+  pub adds_first : is_later row ≡ false → now ≡ closed_plans plans old volumes
+      → IsSomeAnd head (ReadsHead row) → begun ≡ [] → Leads now head after left ps
   adds_first test whole some none =
-      subst (λ vs. Leads now head vs left ps) (sym (pushed ∙ ap (λ vs. vs ++ volume ∷ []) none)) (subst (λ qs. Leads qs head (volume ∷ []) left ps) (sym whole) (by_head head some)) where
-        by_head : (found : Option Head) → IsSomeAnd found (ReadsHead row) → Leads (closed_plans plans old volumes) found (volume ∷ []) left ps
+      subst (λ vs. Leads now head vs left ps) (sym (pushed ∙ ap (λ vs. vs ++ volume ∷ []) none))
+      (subst (λ qs. Leads qs head (volume ∷ []) left ps) (sym whole) (by_head head some)) where
+        by_head : (found : Option Head) → IsSomeAnd found (ReadsHead row)
+            → Leads (closed_plans plans old volumes) found (volume ∷ []) left ps
         by_head None none = absurd none
-        by_head (Some found) reads_head = takes_first plans old volumes row left ps h leads test found volume reads_head reads
+        by_head (Some found) reads_head = takes_first plans old volumes row left ps h leads test found
+            volume
+            reads_head reads
 
-  pub adds_later : is_later row ≡ true → now ≡ plans → head ≡ old → begun ≡ volumes → Leads now head after left ps
+  pub adds_later : is_later row ≡ true → now ≡ plans → head ≡ old → begun ≡ volumes
+      → Leads now head after left ps
   adds_later test plans_are head_is begun_are =
       subst (λ vs. Leads now head vs left ps) (sym (pushed ∙ ap (λ vs. vs ++ volume ∷ []) begun_are))
-      (subst (λ qs. Leads qs head (volumes ++ volume ∷ []) left ps) (sym plans_are) (subst (λ found. Leads plans found (volumes ++ volume ∷ []) left ps) (sym head_is) (takes_later plans old volumes row left ps h leads test volume reads)))
+      (subst (λ qs. Leads qs head (volumes ++ volume ∷ []) left ps) (sym plans_are)
+      (subst (λ found. Leads plans found (volumes ++ volume ∷ []) left ps) (sym head_is)
+      (takes_later plans old volumes row left ps h leads test volume reads)))
 
-pub ended : (plans : List PlanRow) (head : Option Head) (volumes : List Block) (ps : List Filed) → ArePlans ps → Leads plans head volumes [] ps → closed_plans plans head volumes ≡ map (λ p. p.row) ps
+pub ended : (plans : List PlanRow) (head : Option Head) (volumes : List Block) (ps : List Filed)
+    → ArePlans ps
+    → Leads plans head volumes [] ps → closed_plans plans head volumes ≡ map (λ p. p.row) ps
 ended plans None volumes ps h leads = by_plans ps h leads.1 where
   by_plans : (qs : List Filed) → ArePlans qs → [] ≡ listing_rows qs → plans ≡ map (λ p. p.row) qs
   by_plans [] hq e = leads.0
@@ -166,7 +230,9 @@ ended plans None volumes ps h leads = by_plans ps h leads.1 where
     no_first (u ∷ us) is f = cc
 ended plans (Some head) volumes ps h way =
     let none = no_rows way.plan (length volumes) way.rest way.more way.each.1 way.rows in
-    sym (append-nil (closed_plans plans (Some head) volumes)) ∙ ap (λ qs. closed_plans plans (Some head) volumes ++ map (λ p. p.row) qs) (sym none.1) ∙ closes plans head volumes [] (map (λ p. p.row) ps) way none.0
+    sym (append-nil (closed_plans plans (Some head) volumes))
+    ∙ ap (λ qs. closed_plans plans (Some head) volumes ++ map (λ p. p.row) qs) (sym none.1)
+    ∙ closes plans head volumes [] (map (λ p. p.row) ps) way none.0
 
 pub none_yet : HasGathered [] None [] []
 none_yet ps left h e = (refl, e)

@@ -20,7 +20,8 @@ use Rattle.desk_tables.proofs.KeyOrderLemmas.{are_rows, are_tables}
 
 module _ {S : Type 0} (g : Ghosts S) where
   -- what is kept twice is kept
-  pub kept_on : (a b c : Held S) → IsKept g a b → IsKept g b c → doubt (state g b).is_clean ≤ doubt (state g c).is_clean → IsKept g a c
+  pub kept_on : (a b c : Held S) → IsKept g a b → IsKept g b c
+      → doubt (state g b).is_clean ≤ doubt (state g c).is_clean → IsKept g a c
   kept_on a b c one two rises = λ clean live.
       let after = two clean live in
       let before = one (omega (arith, rises, clean)) after.was_open in record {
@@ -30,13 +31,15 @@ module _ {S : Type 0} (g : Ghosts S) where
       }
 
   -- tables that are ready stay so
-  pub ready_on : (a b : Held S) → IsReady g a → IsKept g a b → doubt (state g a).is_clean ≤ doubt (state g b).is_clean → IsReady g b
+  pub ready_on : (a b : Held S) → IsReady g a → IsKept g a b
+      → doubt (state g a).is_clean ≤ doubt (state g b).is_clean → IsReady g b
   ready_on a b ready one rises = λ clean live.
       let before = one clean live in
       subst IsDesk (sym before.now) (ready (omega (arith, rises, clean)) before.was_open)
 
   -- rows of no content are no desk's, also before what was kept
-  none_shown : (a b c : Held S) → IsKept g a b → IsReady g b → IsKept g b c → doubt (state g b).is_clean ≤ doubt (state g c).is_clean
+  none_shown : (a b c : Held S) → IsKept g a b → IsReady g b → IsKept g b c
+      → doubt (state g b).is_clean ≤ doubt (state g c).is_clean
       → (HasCleanDisk (state g c) → AreNoContent (tables_of (state g b).now.trees)) → ShowsNoDesk g a c
   none_shown a b c one ready two rises none = λ clean live.
       let after = two clean live in
@@ -44,30 +47,49 @@ module _ {S : Type 0} (g : Ghosts S) where
       let before = one was after.was_open in
       subst IsNoDesk before.now (inr (record { desk = ready was after.was_open; none = none clean }))
 
-  pub none_of : {V : Type 0} (r : Result V OpenFault) (a b c : Held S) → IsKept g a b → IsReady g b → IsKept g b c → doubt (state g b).is_clean ≤ doubt (state g c).is_clean
-      → (HasCleanDisk (state g c) → IfErr r (λ e. e ≡ NotADesk → AreNoContent (tables_of (state g b).now.trees))) → IfErr r (λ e. e ≡ NotADesk → ShowsNoDesk g a c)
+  pub none_of : {V : Type 0} (r : Result V OpenFault) (a b c : Held S) → IsKept g a b → IsReady g b
+      → IsKept g b c → doubt (state g b).is_clean ≤ doubt (state g c).is_clean
+      → (HasCleanDisk (state g c) → IfErr r (λ e. e ≡ NotADesk
+      → AreNoContent (tables_of (state g b).now.trees)))
+      → IfErr r (λ e. e ≡ NotADesk → ShowsNoDesk g a c)
   none_of (Ok v) a b c one ready two rises none = tt
-  none_of (Err e) a b c one ready two rises none = λ n. none_shown a b c one ready two rises (λ clean. none clean n)
+  none_of (Err e) a b c one ready two rises none =
+      λ n. none_shown a b c one ready two rises (λ clean. none clean n)
 
   -- what SQLite refuses is told as a failure only if the disk failed or the steps did not do
-  failed_if : (a b c : Held S) (error : Error) → (state g a).faults ≤ (state g b).faults → b.step_limit ≡ a.step_limit → IsRefusal g b c error → open_fault_of error ≡ Store → HasFailed g a c
-  failed_if a b c error fewer limit (inl h) told = let e : open_fault_of (SqliteFailure code.OutOfMemory) ≡ Store = subst (λ x. open_fault_of x ≡ Store) h told in cc
+  failed_if : (a b c : Held S) (error : Error) → (state g a).faults ≤ (state g b).faults → b.step_limit
+      ≡ a.step_limit → IsRefusal g b c error → open_fault_of error ≡ Store → HasFailed g a c
+  failed_if a b c error fewer limit (inl h) told =
+      let e : open_fault_of (SqliteFailure code.OutOfMemory)
+      ≡ Store = subst (λ x. open_fault_of x ≡ Store) h told in cc
   failed_if a b c error fewer limit (inr (inl h)) told = inl (omega (arith, h, fewer))
   failed_if a b c error fewer limit (inr (inr h)) told = inr (subst IsSome limit h.1)
 
-  pub blames_reading : (a b c : Held S) (error : Error) → (state g a).faults ≤ (state g b).faults → b.step_limit ≡ a.step_limit
-      → (HasCleanDisk (state g c) → IsTrue (state g c).is_open → IsRefusal g b c error) → BlamesReading g a c (open_fault_of error)
-  blames_reading a b c error fewer limit why clean live told = failed_if a b c error fewer limit (why clean live) told
+  pub blames_reading : (a b c : Held S) (error : Error) → (state g a).faults ≤ (state g b).faults
+      → b.step_limit ≡ a.step_limit
+      → (HasCleanDisk (state g c) → IsTrue (state g c).is_open → IsRefusal g b c error)
+      → BlamesReading g a c (open_fault_of error)
+  blames_reading a b c error fewer limit why clean live told =
+      failed_if a b c error fewer limit (why clean live) told
 
 -- what is read in the order of its keys has the tables' content, or theirs is none
-none_there : (t rows : Tables) → AreSortedByKey t rows → ((w : World) → IsContent w → AreRows rows w → ⊥) → AreNoContent t
+none_there : (t rows : Tables) → AreSortedByKey t rows
+    → ((w : World) → IsContent w → AreRows rows w → ⊥)
+    → AreNoContent t
 none_there t rows lists none = λ w h are. none w h (are_rows t rows w h are lists)
 
 module _ (t rows : Tables) {V : Type 0} where
-  pub have_content : (world : V → World) (r : Result V OpenFault) → AreSortedByKey t rows → IfOk r (λ v. IsContent (world v) × AreRows rows (world v)) → IfOk r (λ v. IsContentOf t (world v))
-  have_content world (Ok v) lists read = record { content = read.0; tables = are_tables t rows (world v) lists read.1 }
+  pub have_content : (world : V → World) (r : Result V OpenFault) → AreSortedByKey t rows
+      → IfOk r (λ v. IsContent (world v) × AreRows rows (world v))
+      → IfOk r (λ v. IsContentOf t (world v))
+  have_content world (Ok v) lists read = record {
+    content = read.0;
+    tables = are_tables t rows (world v) lists read.1;
+  }
   have_content world (Err e) lists read = tt
 
-  pub of_none : (r : Result V OpenFault) → AreSortedByKey t rows → IfErr r (λ e. e ≡ NotADesk → (w : World) → IsContent w → ¬ AreRows rows w) → IfErr r (λ e. e ≡ NotADesk → AreNoContent t)
+  pub of_none : (r : Result V OpenFault) → AreSortedByKey t rows
+      → IfErr r (λ e. e ≡ NotADesk → (w : World) → IsContent w → ¬ AreRows rows w)
+      → IfErr r (λ e. e ≡ NotADesk → AreNoContent t)
   of_none (Ok v) lists none = tt
   of_none (Err e) lists none = λ n. none_there t rows lists (none n)

@@ -23,7 +23,9 @@ rows_append [] ks = refl
 rows_append (l ∷ ls) ks = ap (λ rs. operator_row l ∷ rs) (rows_append ls ks)
 
 -- the first of the rows that are left is this operator's
-pub goes_on : (rows : List Row) (ls : List Listed) (left later : List Row) (row : Row) (l : Listed) → AreListed rows ls left → left ≡ row ∷ later → IsOperator l → row ≡ operator_row l → AreListed rows (ls ++ l ∷ []) later
+pub goes_on : (rows : List Row) (ls : List Listed) (left later : List Row) (row : Row) (l : Listed)
+    → AreListed rows ls left → left ≡ row ∷ later → IsOperator l → row ≡ operator_row l
+    → AreListed rows (ls ++ l ∷ []) later
 goes_on rows ls left later row l h some within is = record {
   within = all_append IsOperator ls (l ∷ []) h.within (within, tt);
   so_far =
@@ -40,17 +42,20 @@ goes_on rows ls left later row l h some within is = record {
       (ks, record { within = there.within.1; are = rest })
 
 -- that row is of no operator
-pub refused : (rows : List Row) (ls : List Listed) (left later : List Row) (row : Row) → AreListed rows ls left → left ≡ row ∷ later → ((l : Listed) → IsOperator l → row ≡ operator_row l → ⊥)
+pub refused : (rows : List Row) (ls : List Listed) (left later : List Row) (row : Row)
+    → AreListed rows ls left → left ≡ row ∷ later → ((l : Listed) → IsOperator l → row ≡ operator_row l → ⊥)
     → (ks : List Listed) → AreOperatorRows ks rows → ⊥
-refused rows ls left later row h some none ks are = let (more, there) = h.remain ks are in by_more more there where
-  by_more : (more : List Listed) → AreOperatorRows more left → ⊥
-  by_more [] there = let nil : row ∷ later ≡ [] = sym some ∙ there.are in cc
-  by_more (m ∷ ms) there =
-      let both : row ∷ later ≡ operator_row m ∷ map operator_row ms = sym some ∙ there.are in
-      let first : row ≡ operator_row m = cc in
-      none m there.within.0 first
+refused rows ls left later row h some none ks are = let (more, there) = h.remain ks are
+    in by_more more there where
+      by_more : (more : List Listed) → AreOperatorRows more left → ⊥
+      by_more [] there = let nil : row ∷ later ≡ [] = sym some ∙ there.are in cc
+      by_more (m ∷ ms) there =
+          let both : row ∷ later ≡ operator_row m ∷ map operator_row ms = sym some ∙ there.are in
+          let first : row ≡ operator_row m = cc in
+          none m there.within.0 first
 
-pub end : (rows : List Row) (ls : List Listed) (left : List Row) → AreListed rows ls left → left ≡ [] → AreOperatorRows ls rows
+pub end : (rows : List Row) (ls : List Listed) (left : List Row) → AreListed rows ls left → left ≡ []
+    → AreOperatorRows ls rows
 end rows ls left h none = record {
   within = h.within;
   are = h.so_far ∙ ap (λ rs. map operator_row ls ++ rs) none ∙ append-nil (map operator_row ls);

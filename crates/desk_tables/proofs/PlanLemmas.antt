@@ -28,33 +28,47 @@ of p r = is_of p.operator (id_text p.row.id) r
 abbrev pub HasKey : Filed → Row → Type 0
 HasKey q r = (more : Row) × (r ≡ Text q.operator ∷ Text (id_text q.row.id) ∷ more)
 
-of_key : (p q : Filed) (r : Row) → IsPlan p.row → IsPlan q.row → HasKey q r → of p r ≡ is_eq (filed_cmp p q)
+of_key : (p q : Filed) (r : Row) → IsPlan p.row → IsPlan q.row → HasKey q r → of p r
+    ≡ is_eq (filed_cmp p q)
 of_key p q r hp hq (more, e) =
     ap (of p) e
-    ∙ (λ i. turned q.operator p.operator i && (ap is_eq (text_order q.row.id p.row.id hq.id hp.id) ∙ turned q.row.id p.row.id) i)
+    ∙ (λ i. turned q.operator p.operator i && (ap is_eq (text_order q.row.id p.row.id hq.id hp.id)
+    ∙ turned q.row.id p.row.id) i)
     ∙ sym (own_at (text_cmp p.operator q.operator) (text_cmp p.row.id q.row.id))
 
-pub all_mine : (p : Filed) (rows : List Row) → IsPlan p.row → AllByRecursion (HasKey p) rows → AllByRecursion (λ r. of p r ≡ true) rows
-all_mine p rows h keyed = all_weaker (HasKey p) (λ r. of p r ≡ true) (λ r k. of_key p p r h h k ∙ ap is_eq (tied_itself filed_total p)) rows keyed
+pub all_mine : (p : Filed) (rows : List Row) → IsPlan p.row → AllByRecursion (HasKey p) rows
+    → AllByRecursion (λ r. of p r ≡ true) rows
+all_mine p rows h keyed = all_weaker (HasKey p) (λ r. of p r ≡ true)
+    (λ r k. of_key p p r h h k ∙ ap is_eq (tied_itself filed_total p)) rows keyed
 
-pub none_mine : (p q : Filed) (rows : List Row) → IsPlan p.row → IsPlan q.row → filed_cmp p q ≡ Less → AllByRecursion (HasKey q) rows → AllByRecursion (λ r. of p r ≡ false) rows
-none_mine p q rows hp hq e keyed = all_weaker (HasKey q) (λ r. of p r ≡ false) (λ r k. of_key p q r hp hq k ∙ ap is_eq e) rows keyed
+pub none_mine : (p q : Filed) (rows : List Row) → IsPlan p.row → IsPlan q.row → filed_cmp p q ≡ Less
+    → AllByRecursion (HasKey q) rows → AllByRecursion (λ r. of p r ≡ false) rows
+none_mine p q rows hp hq e keyed = all_weaker (HasKey q) (λ r. of p r ≡ false)
+    (λ r k. of_key p q r hp hq k ∙ ap is_eq e) rows keyed
 
-pub area_keyed : (p : Filed) (n : ℕ) (vs : List Block) → AllByRecursion (HasKey p) (volume_rows_from p n vs)
+pub area_keyed : (p : Filed) (n : ℕ) (vs : List Block)
+    → AllByRecursion (HasKey p) (volume_rows_from p n vs)
 area_keyed p n [] = tt
 area_keyed p n (v ∷ vs) = ((after_key (volume_row p n v), refl), area_keyed p (n + 1) vs)
 
-volumes_of_others : (p : Filed) (qs : List Filed) → IsPlan p.row → ArePlans qs → AllByRecursion (λ q. filed_cmp p q ≡ Less) qs → AllByRecursion (λ r. of p r ≡ false) (volume_rows qs)
+volumes_of_others : (p : Filed) (qs : List Filed) → IsPlan p.row → ArePlans qs
+    → AllByRecursion (λ q. filed_cmp p q ≡ Less) qs
+    → AllByRecursion (λ r. of p r ≡ false) (volume_rows qs)
 volumes_of_others p [] hp h s = tt
 volumes_of_others p (q ∷ qs) hp h s =
-    all_append (λ r. of p r ≡ false) (area_rows q) (volume_rows qs) (none_mine p q (area_rows q) hp h.0 s.0 (area_keyed q 0 q.row.area)) (volumes_of_others p qs hp h.1 s.1)
+    all_append (λ r. of p r ≡ false) (area_rows q) (volume_rows qs)
+    (none_mine p q (area_rows q) hp h.0 s.0 (area_keyed q 0 q.row.area))
+    (volumes_of_others p qs hp h.1 s.1)
 
 -- ---- the first rows
 
-pub first_rows : {X : Type 0} (test : X → Bool) (xs ys : List X) → AllByRecursion (λ x. test x ≡ true) xs → AllByRecursion (λ y. test y ≡ false) ys → prefix_len test (xs ++ ys) ≡ length xs
+pub first_rows : {X : Type 0} (test : X → Bool) (xs ys : List X)
+    → AllByRecursion (λ x. test x ≡ true) xs
+    → AllByRecursion (λ y. test y ≡ false) ys → prefix_len test (xs ++ ys) ≡ length xs
 first_rows test [] [] h k = refl
 first_rows test [] (y ∷ ys) h k = ap (λ b. cond b (1 + prefix_len test ys) 0) k.0
-first_rows test (x ∷ xs) ys h k = let more = first_rows test xs ys h.1 k in ap (λ b. cond b (1 + prefix_len test (xs ++ ys)) 0) h.0 ∙ omega (arith, more)
+first_rows test (x ∷ xs) ys h k = let more = first_rows test xs ys h.1 k
+    in ap (λ b. cond b (1 + prefix_len test (xs ++ ys)) 0) h.0 ∙ omega (arith, more)
 
 pub rejoined : {X : Type 0} (xs : List X) (n : ℕ) → xs ≡ take n xs ++ drop n xs
 rejoined xs n = sym (take-append-drop n xs)
@@ -69,10 +83,16 @@ pub record AreFiled (heads volumes : List Row) (ps : List Filed) (left rest : Li
   pub within : AllByRecursion IsFiled ps
   pub heads_so_far : heads ≡ plan_rows ps ++ left
   pub areas_so_far : volumes ≡ volume_rows ps ++ rest
-  pub remain : (qs : List Filed) → IsStrictlySortedBy filed_cmp qs → ArePlanRows qs heads volumes → (more : List Filed) × IsStrictlySortedBy filed_cmp more × ArePlanRows more left rest
+  pub remain : (qs : List Filed) → IsStrictlySortedBy filed_cmp qs → ArePlanRows qs heads volumes
+      → (more : List Filed) × IsStrictlySortedBy filed_cmp more × ArePlanRows more left rest
 
 pub begin : (heads volumes : List Row) → AreFiled heads volumes [] heads volumes
-begin heads volumes = record { within = tt; heads_so_far = refl; areas_so_far = refl; remain = λ qs s h. (qs, s, h) }
+begin heads volumes = record {
+  within = tt;
+  heads_so_far = refl;
+  areas_so_far = refl;
+  remain = λ qs s h. (qs, s, h);
+}
 
 heads_append : (ps qs : List Filed) → plan_rows (ps ++ qs) ≡ plan_rows ps ++ plan_rows qs
 heads_append [] qs = refl
@@ -80,11 +100,16 @@ heads_append (p ∷ ps) qs = ap (λ rs. plan_row p ∷ rs) (heads_append ps qs)
 
 areas_append : (ps qs : List Filed) → volume_rows (ps ++ qs) ≡ volume_rows ps ++ volume_rows qs
 areas_append [] qs = refl
-areas_append (p ∷ ps) qs = ap (λ rs. area_rows p ++ rs) (areas_append ps qs) ∙ sym (append_assoc (area_rows p) (volume_rows ps) (volume_rows qs))
+areas_append (p ∷ ps) qs = ap (λ rs. area_rows p ++ rs) (areas_append ps qs)
+    ∙ sym (append_assoc (area_rows p) (volume_rows ps) (volume_rows qs))
 
-module _ (left later rest mine more : List Row) (head : Row) (count : ℕ) (some : left ≡ head ∷ later) (counted : (p : Filed) → head ≡ plan_row p → count ≡ prefix_len (of p) rest) (mine_is : mine ≡ take count rest) (more_is : more ≡ drop count rest) where
+module _ (left later rest mine more : List Row) (head : Row) (count : ℕ) (some : left ≡ head ∷ later)
+    (counted : (p : Filed) → head ≡ plan_row p → count ≡ prefix_len (of p) rest)
+    (mine_is : mine ≡ take count rest) (more_is : more ≡ drop count rest) where
   -- if rows are of plans in order, those of the first are taken
-  first_taken : (q : Filed) (qs : List Filed) → IsStrictlySortedBy filed_cmp (q ∷ qs) → ArePlanRows (q ∷ qs) left rest → (head ≡ plan_row q) × (mine ≡ area_rows q) × ArePlanRows qs later more
+  first_taken : (q : Filed) (qs : List Filed) → IsStrictlySortedBy filed_cmp (q ∷ qs)
+      → ArePlanRows (q ∷ qs) left rest → (head ≡ plan_row q) × (mine ≡ area_rows q)
+      × ArePlanRows qs later more
   unfolding IsStrictlySortedBy
   first_taken q qs s h =
       let both : head ∷ later ≡ plan_row q ∷ plan_rows qs = sym some ∙ h.plans in
@@ -92,7 +117,10 @@ module _ (left later rest mine more : List Row) (head : Row) (count : ℕ) (some
       let heads : later ≡ plan_rows qs = cc in
       let plans = plans_within (q ∷ qs) h.within in
       let here : length (area_rows q) ≡ count =
-      sym (counted q first ∙ ap (prefix_len (of q)) h.areas ∙ first_rows (of q) (area_rows q) (volume_rows qs) (all_mine q (area_rows q) plans.0 (area_keyed q 0 q.row.area)) (volumes_of_others q qs plans.0 plans.1 s.0)) in (
+      sym (counted q first ∙ ap (prefix_len (of q)) h.areas
+      ∙ first_rows (of q) (area_rows q) (volume_rows qs)
+      (all_mine q (area_rows q) plans.0 (area_keyed q 0 q.row.area))
+      (volumes_of_others q qs plans.0 plans.1 s.0)) in (
         first,
         mine_is ∙ ap (take count) h.areas ∙ take_at (area_rows q) (volume_rows qs) count here,
         record {
@@ -102,16 +130,22 @@ module _ (left later rest mine more : List Row) (head : Row) (count : ℕ) (some
         },
       )
 
-  tail : (qs : List Filed) → IsStrictlySortedBy filed_cmp qs → ArePlanRows qs left rest → (those : List Filed) × IsStrictlySortedBy filed_cmp those × ArePlanRows those later more
+  tail : (qs : List Filed) → IsStrictlySortedBy filed_cmp qs → ArePlanRows qs left rest
+      → (those : List Filed)
+      × IsStrictlySortedBy filed_cmp those × ArePlanRows those later more
   unfolding IsStrictlySortedBy
   tail [] s h = let none : head ∷ later ≡ [] = sym some ∙ h.plans in cc
   tail (q ∷ qs) s h = (qs, s.1, (first_taken q qs s h).2)
 
-  not_first : ((p : Filed) → IsFiled p → AreRowsOf p head mine → ⊥) → (qs : List Filed) → IsStrictlySortedBy filed_cmp qs → ArePlanRows qs left rest → ⊥
+  not_first : ((p : Filed) → IsFiled p → AreRowsOf p head mine → ⊥) → (qs : List Filed)
+      → IsStrictlySortedBy filed_cmp qs → ArePlanRows qs left rest → ⊥
   not_first none [] s h = let nil : head ∷ later ≡ [] = sym some ∙ h.plans in cc
-  not_first none (q ∷ qs) s h = let taken = first_taken q qs s h in none q h.within.0 (record { plan = taken.0; area = taken.1 })
+  not_first none (q ∷ qs) s h = let taken = first_taken q qs s h
+      in none q h.within.0 (record { plan = taken.0; area = taken.1 })
 
-  pub goes_on : (heads volumes : List Row) (ps : List Filed) (p : Filed) → AreFiled heads volumes ps left rest → IsFiled p → AreRowsOf p head mine → AreFiled heads volumes (ps ++ p ∷ []) later more
+  pub goes_on : (heads volumes : List Row) (ps : List Filed) (p : Filed)
+      → AreFiled heads volumes ps left rest
+      → IsFiled p → AreRowsOf p head mine → AreFiled heads volumes (ps ++ p ∷ []) later more
   goes_on heads volumes ps p h within are = record {
     within = all_append IsFiled ps (p ∷ []) h.within (within, tt);
     heads_so_far =
@@ -119,17 +153,22 @@ module _ (left later rest mine more : List Row) (head : Row) (count : ℕ) (some
         ∙ sym (append_assoc (plan_rows ps) (plan_row p ∷ []) later)
         ∙ ap (λ rs. rs ++ later) (sym (heads_append ps (p ∷ [])));
     areas_so_far =
-        h.areas_so_far ∙ (λ i. volume_rows ps ++ (rejoined rest count ∙ (λ j. (sym mine_is ∙ are.area) j ++ sym more_is j)) i)
+        h.areas_so_far ∙ (λ i. volume_rows ps ++ (rejoined rest count
+        ∙ (λ j. (sym mine_is ∙ are.area) j ++ sym more_is j)) i)
         ∙ sym (append_assoc (volume_rows ps) (area_rows p) more)
         ∙ ap (λ rs. (volume_rows ps ++ rs) ++ more) (sym (append-nil (area_rows p)))
         ∙ ap (λ rs. rs ++ more) (sym (areas_append ps (p ∷ [])));
     remain = λ qs s k. let (those, sorted, there) = h.remain qs s k in tail those sorted there;
   }
 
-  pub refused : (heads volumes : List Row) (ps : List Filed) → AreFiled heads volumes ps left rest → ((p : Filed) → IsFiled p → AreRowsOf p head mine → ⊥) → (qs : List Filed) → IsStrictlySortedBy filed_cmp qs → ArePlanRows qs heads volumes → ⊥
-  refused heads volumes ps h none qs s k = let (those, sorted, there) = h.remain qs s k in not_first none those sorted there
+  pub refused : (heads volumes : List Row) (ps : List Filed) → AreFiled heads volumes ps left rest
+      → ((p : Filed) → IsFiled p → AreRowsOf p head mine → ⊥) → (qs : List Filed)
+      → IsStrictlySortedBy filed_cmp qs → ArePlanRows qs heads volumes → ⊥
+  refused heads volumes ps h none qs s k = let (those, sorted, there) = h.remain qs s k
+      in not_first none those sorted there
 
-pub end : (heads volumes : List Row) (ps : List Filed) (left rest : List Row) → AreFiled heads volumes ps left rest → left ≡ [] → rest ≡ [] → ArePlanRows ps heads volumes
+pub end : (heads volumes : List Row) (ps : List Filed) (left rest : List Row)
+    → AreFiled heads volumes ps left rest → left ≡ [] → rest ≡ [] → ArePlanRows ps heads volumes
 end heads volumes ps left rest h none_left none_over = record {
   within = h.within;
   plans = h.heads_so_far ∙ ap (λ rs. plan_rows ps ++ rs) none_left ∙ append-nil (plan_rows ps);
@@ -137,9 +176,13 @@ end heads volumes ps left rest h none_left none_over = record {
 }
 
 -- rows of volumes are left over
-pub left_over : (heads volumes : List Row) (ps : List Filed) (left rest : List Row) → AreFiled heads volumes ps left rest → left ≡ [] → (rest ≡ [] → ⊥)
+pub left_over : (heads volumes : List Row) (ps : List Filed) (left rest : List Row)
+    → AreFiled heads volumes ps left rest → left ≡ [] → (rest ≡ [] → ⊥)
     → (qs : List Filed) → IsStrictlySortedBy filed_cmp qs → ArePlanRows qs heads volumes → ⊥
-left_over heads volumes ps left rest h none_left over qs s k = let (those, sorted, there) = h.remain qs s k in by_those those there where
-  by_those : (those : List Filed) → ArePlanRows those left rest → ⊥
-  by_those [] there = over there.areas
-  by_those (q ∷ qs) there = let nil : [] ≡ plan_row q ∷ plan_rows qs = sym none_left ∙ there.plans in cc
+left_over heads volumes ps left rest h none_left over qs s k = let (those, sorted, there) =
+    h.remain qs s k
+    in by_those those there where
+      by_those : (those : List Filed) → ArePlanRows those left rest → ⊥
+      by_those [] there = over there.areas
+      by_those (q ∷ qs) there = let nil : [] ≡ plan_row q ∷ plan_rows qs = sym none_left ∙ there.plans
+          in cc

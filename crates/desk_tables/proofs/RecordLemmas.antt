@@ -18,49 +18,71 @@ use Rattle.desk_tables.specs.Tables.{id_text, volume_row, volume_rows_from, span
 use Rattle.desk_tables.specs.PlanRows.{volume_record, slab_record}
 
 -- two lists that are shown alike are alike at each place
-pub at_both : {A B C : Type 0} (f : A → C) (g : B → C) (xs : List A) (ys : List B) (i : ℕ) (a : A) (b : B) → map f xs ≡ map g ys → i < length ys → f (get_or xs i a) ≡ g (get_or ys i b)
+pub at_both : {A B C : Type 0} (f : A → C) (g : B → C) (xs : List A) (ys : List B) (i : ℕ) (a : A)
+    (b : B)
+    → map f xs ≡ map g ys → i < length ys → f (get_or xs i a) ≡ g (get_or ys i b)
 at_both f g [] [] i a b e h = absurd (omega (arith, h))
 at_both f g [] (y ∷ ys) i a b e h = cc
 at_both f g (x ∷ xs) [] i a b e h = absurd (omega (arith, h))
 at_both f g (x ∷ xs) (y ∷ ys) zero a b e h = cc
-at_both f g (x ∷ xs) (y ∷ ys) (suc i) a b e h = let more : map f xs ≡ map g ys = cc in at_both f g xs ys i a b more (omega (arith, h))
+at_both f g (x ∷ xs) (y ∷ ys) (suc i) a b e h = let more : map f xs ≡ map g ys = cc
+    in at_both f g xs ys i a b more (omega (arith, h))
 
 pub map_append : {A B : Type 0} (f : A → B) (xs ys : List A) → map f (xs ++ ys) ≡ map f xs ++ map f ys
 map_append f [] ys = refl
 map_append f (x ∷ xs) ys = ap (λ zs. f x ∷ zs) (map_append f xs ys)
 
-taken : (vs : List Block) (i : ℕ) (v d : Block) → i < length vs → v ≡ get_or vs i d → take (i + 1) vs ≡ take i vs ++ v ∷ []
+taken : (vs : List Block) (i : ℕ) (v d : Block) → i < length vs → v ≡ get_or vs i d → take (i + 1) vs
+    ≡ take i vs ++ v ∷ []
 taken vs i v d h is = take_more vs i d h ∙ ap (λ u. take i vs ++ u ∷ []) (sym is)
 
 length_taken : (vs : List Block) (i : ℕ) → i < length vs → length (take i vs) ≡ i
 length_taken [] i h = absurd (omega (arith, h))
 length_taken (v ∷ vs) zero h = refl
-length_taken (v ∷ vs) (suc i) h = let more : length (take i vs) ≡ i = length_taken vs i (omega (arith, h)) in omega (arith, more)
+length_taken (v ∷ vs) (suc i) h = let more : length (take i vs) ≡ i =
+    length_taken vs i (omega (arith, h))
+    in omega (arith, more)
 
 -- ---- volumes
 
-volumes_more : (p : Filed) (n : ℕ) (us : List Block) (v : Block) → volume_rows_from p n (us ++ v ∷ []) ≡ volume_rows_from p n us ++ volume_row p (n + length us) v ∷ []
-volumes_more p n [] v = let none : n ≡ n + length {A = Block} [] = omega arith in ap (λ m. volume_row p m v ∷ []) none
+volumes_more : (p : Filed) (n : ℕ) (us : List Block) (v : Block) → volume_rows_from p n (us ++ v ∷ [])
+    ≡ volume_rows_from p n us ++ volume_row p (n + length us) v ∷ []
+volumes_more p n [] v = let none : n ≡ n + length {A = Block} [] = omega arith
+    in ap (λ m. volume_row p m v ∷ []) none
 volumes_more p n (u ∷ us) v =
     let next : (n + 1) + length us ≡ n + length (u ∷ us) = omega arith in
-    ap (λ rows. volume_row p n u ∷ rows) (volumes_more p (n + 1) us v ∙ ap (λ m. volume_rows_from p (n + 1) us ++ volume_row p m v ∷ []) next)
+    ap (λ rows. volume_row p n u ∷ rows) (volumes_more p (n + 1) us v
+    ∙ ap (λ m. volume_rows_from p (n + 1) us ++ volume_row p m v ∷ []) next)
 
-pub volume_put : (p : Filed) (vs : List Block) (i place : ℕ) (v d : Block) (rows : List Row) (row : Row) (text : List ℕ) (asked : List ℕ) → i < length vs → v ≡ get_or vs i d → place ≡ i → text ≡ id_text p.row.id
-    → asked ≡ footprint_bytes v.footprint → rows ≡ volume_rows_from p 0 (take i vs) → row ≡ volume_record p.operator text place v.window asked → rows ++ row ∷ [] ≡ volume_rows_from p 0 (take (i + 1) vs)
+pub volume_put : (p : Filed) (vs : List Block) (i place : ℕ) (v d : Block) (rows : List Row) (row : Row)
+    (text : List ℕ) (asked : List ℕ) → i < length vs → v ≡ get_or vs i d → place ≡ i → text
+    ≡ id_text p.row.id
+    → asked ≡ footprint_bytes v.footprint → rows ≡ volume_rows_from p 0 (take i vs) → row
+    ≡ volume_record p.operator text place v.window asked → rows ++ row ∷ []
+    ≡ volume_rows_from p 0 (take (i + 1) vs)
 volume_put p vs i place v d rows row text asked h is at named bytes before put =
-    let there : place ≡ 0 + length (take i vs) = at ∙ sym (length_taken vs i h) ∙ zeros (length (take i vs)) in
-    (λ j. before j ++ (put ∙ (λ k. volume_record p.operator (named k) (there k) v.window (bytes k))) j ∷ [])
+    let there : place ≡ 0 + length (take i vs) = at ∙ sym (length_taken vs i h)
+    ∙ zeros (length (take i vs)) in
+    (λ j. before j ++ (put ∙ (λ k. volume_record p.operator (named k) (there k) v.window (bytes k))) j
+    ∷ [])
     ∙ sym (volumes_more p 0 (take i vs) v) ∙ ap (volume_rows_from p 0) (sym (taken vs i v d h is)) where
       zeros : (n : ℕ) → n ≡ 0 + n
       zeros n = omega arith
 
 -- ---- spans
 
-spans_more : (p : Filed) (n : ℕ) (us : List Block) (v : Block) (rows : List Row) (spans : List Span) → AreSpanRowsFrom p n us rows → IsRanges (shape_positions v.footprint) spans
+spans_more : (p : Filed) (n : ℕ) (us : List Block) (v : Block) (rows : List Row) (spans : List Span)
+    → AreSpanRowsFrom p n us rows → IsRanges (shape_positions v.footprint) spans
     → AreSpanRowsFrom p n (us ++ v ∷ []) (rows ++ map (span_row p (n + length us) v) spans)
 spans_more p n [] v rows spans e ranges =
-    let none : n + length {A = Block} [] ≡ n = omega arith in
-    (spans, [], ranges, (λ j. e j ++ map (span_row p (none j) v) spans) ∙ sym (append-nil (map (span_row p n v) spans)), refl)
+    let none : n + length {A = Block} [] ≡ n = omega arith in (
+      spans,
+      [],
+      ranges,
+      (λ j. e j ++ map (span_row p (none j) v) spans)
+          ∙ sym (append-nil (map (span_row p n v) spans)),
+      refl,
+    )
 spans_more p n (u ∷ us) v rows spans (first, rest, mine, are, more) ranges =
     let next : (n + 1) + length us ≡ n + length (u ∷ us) = omega arith in
     let added = map (span_row p (n + length (u ∷ us)) v) spans in (
@@ -68,22 +90,37 @@ spans_more p n (u ∷ us) v rows spans (first, rest, mine, are, more) ranges =
       rest ++ added,
       mine,
       ap (λ xs. xs ++ added) are ∙ append_assoc (map (span_row p n u) first) rest added,
-      subst (λ m. AreSpanRowsFrom p (n + 1) (us ++ v ∷ []) (rest ++ map (span_row p m v) spans)) next (spans_more p (n + 1) us v rest spans more ranges),
+      subst (λ m. AreSpanRowsFrom p (n + 1) (us ++ v ∷ []) (rest ++ map (span_row p m v) spans)) next
+          (spans_more p (n + 1) us v rest spans more ranges),
     )
 
-slabs_are : (p : Filed) (place : ℕ) (v : Block) (slabs : List Slab) → AllByRecursion (λ s. slab_window s ≡ v.window) slabs
-    → map (slab_record p.operator (id_text p.row.id) place p.row.priority) slabs ≡ map (span_row p place v) (map span_of slabs)
+slabs_are : (p : Filed) (place : ℕ) (v : Block) (slabs : List Slab)
+    → AllByRecursion (λ s. slab_window s ≡ v.window) slabs
+    → map (slab_record p.operator (id_text p.row.id) place p.row.priority) slabs
+    ≡ map (span_row p place v) (map span_of slabs)
 slabs_are p place v [] h = refl
 slabs_are p place v (s ∷ slabs) h = λ j. one s h.0 j ∷ slabs_are p place v slabs h.1 j where
-  one : (s : Slab) → slab_window s ≡ v.window → slab_record p.operator (id_text p.row.id) place p.row.priority s ≡ span_row p place v (span_of s)
-  one s e = ap (λ w. sql.span_row p.operator (id_text p.row.id) place (pos s.first) (pos s.last) w.lower w.upper w.start w.end p.row.priority) e
+  one : (s : Slab) → slab_window s ≡ v.window → slab_record p.operator (id_text p.row.id) place
+      p.row.priority
+      s ≡ span_row p place v (span_of s)
+  one s e = ap (λ w. sql.span_row p.operator (id_text p.row.id) place (pos s.first) (pos s.last) w.lower
+      w.upper w.start w.end p.row.priority) e
 
-pub spans_put : (p : Filed) (vs : List Block) (i place : ℕ) (v d : Block) (rows more all : List Row) (text : List ℕ) (slabs : List Slab) → i < length vs → v ≡ get_or vs i d → place ≡ i → text ≡ id_text p.row.id
-    → AreVolumeSlabs v slabs → AreSpanRowsFrom p 0 (take i vs) rows → more ≡ map (slab_record p.operator text place p.row.priority) slabs → all ≡ rows ++ more → AreSpanRowsFrom p 0 (take (i + 1) vs) all
+pub spans_put : (p : Filed) (vs : List Block) (i place : ℕ) (v d : Block) (rows more all : List Row)
+    (text : List ℕ) (slabs : List Slab) → i < length vs → v ≡ get_or vs i d → place ≡ i → text
+    ≡ id_text p.row.id
+    → AreVolumeSlabs v slabs → AreSpanRowsFrom p 0 (take i vs) rows → more
+    ≡ map (slab_record p.operator text place p.row.priority) slabs → all ≡ rows ++ more
+    → AreSpanRowsFrom p 0 (take (i + 1) vs) all
 spans_put p vs i place v d rows more all text slabs h is at named are before put whole =
-    let there : place ≡ 0 + length (take i vs) = at ∙ sym (length_taken vs i h) ∙ zeros (length (take i vs)) in
-    let spans_is : more ≡ map (span_row p (0 + length (take i vs)) v) (map span_of slabs) = put ∙ (λ k. map (slab_record p.operator (named k) (there k) p.row.priority) slabs) ∙ slabs_are p (0 + length (take i vs)) v slabs (recursion_from_All (λ s. slab_window s ≡ v.window) slabs are.windows) in
+    let there : place ≡ 0 + length (take i vs) = at ∙ sym (length_taken vs i h)
+    ∙ zeros (length (take i vs)) in
+    let spans_is : more ≡ map (span_row p (0 + length (take i vs)) v) (map span_of slabs) = put
+    ∙ (λ k. map (slab_record p.operator (named k) (there k) p.row.priority) slabs)
+    ∙ slabs_are p (0 + length (take i vs)) v slabs
+    (recursion_from_All (λ s. slab_window s ≡ v.window) slabs are.windows) in
     subst (λ us. AreSpanRowsFrom p 0 us all) (sym (taken vs i v d h is))
-    (subst (AreSpanRowsFrom p 0 (take i vs ++ v ∷ [])) (sym (whole ∙ ap (λ xs. rows ++ xs) spans_is)) (spans_more p 0 (take i vs) v rows (map span_of slabs) before are.ranges)) where
+    (subst (AreSpanRowsFrom p 0 (take i vs ++ v ∷ [])) (sym (whole ∙ ap (λ xs. rows ++ xs) spans_is))
+    (spans_more p 0 (take i vs) v rows (map span_of slabs) before are.ranges)) where
       zeros : (n : ℕ) → n ≡ 0 + n
       zeros n = omega arith

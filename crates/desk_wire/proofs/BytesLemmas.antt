@@ -15,7 +15,10 @@ use Rattle.desk_wire.specs.declared.response.ServerError.{ServerError}
 use Rattle.desk_wire.specs.declared.response.ServerError.TheVariants.{OutOfMemory, Store}
 
 -- the answer and the change of what was pending
-pub done_pending : (w after : World) (moment : ℤ) (asked : Asked) (p : Pending) (answer : List ℕ) → IsPending w moment asked p → answer ≡ reply_text (said_in (reply_in p)) → after ≡ world_committed w p → IsDone w moment (Ok asked) answer after
+pub done_pending : (w after : World) (moment : ℤ) (asked : Asked) (p : Pending) (answer : List ℕ)
+    → IsPending w moment asked p → answer ≡ reply_text (said_in (reply_in p)) → after
+    ≡ world_committed w p
+    → IsDone w moment (Ok asked) answer after
 unfolding text
 done_pending w after moment asked p answer h told left = record {
   told = told ∙ sym (ap text h.told);
@@ -23,37 +26,55 @@ done_pending w after moment asked p answer h told left = record {
 }
 
 -- the answer to a call that has no reply
-pub done_unanswered : (w after : World) (moment : ℤ) (asked : Asked) (reason : Told) (answer : List ℕ) → IsUnanswered w moment asked reason → answer ≡ text reason → after ≡ w → IsDone w moment (Ok asked) answer after
+pub done_unanswered : (w after : World) (moment : ℤ) (asked : Asked) (reason : Told) (answer : List ℕ)
+    → IsUnanswered w moment asked reason → answer ≡ text reason → after ≡ w
+    → IsDone w moment (Ok asked) answer after
 done_unanswered w after moment asked reason answer h told left = record {
   told = told ∙ ap text (sym h.told);
   left = left ∙ sym h.left;
 }
 
 -- where the answer was made and the change committed
-pub done_if_ok : {V E : Type 0} (items : V → List ℕ) (r : Result V E) (w after : World) (moment : ℤ) (asked : Asked) (p : Pending) → IsPending w moment asked p → IfOk r (λ v. items v ≡ reply_text (said_in (reply_in p))) → OnOk r (after ≡ world_committed w p) → IfOk r (λ v. IsDone w moment (Ok asked) (items v) after)
-done_if_ok items (Ok v) w after moment asked p h told left = done_pending w after moment asked p (items v) h told left
+pub done_if_ok : {V E : Type 0} (items : V → List ℕ) (r : Result V E) (w after : World) (moment : ℤ)
+    (asked : Asked) (p : Pending) → IsPending w moment asked p
+    → IfOk r (λ v. items v ≡ reply_text (said_in (reply_in p))) → OnOk r (after ≡ world_committed w p)
+    → IfOk r (λ v. IsDone w moment (Ok asked) (items v) after)
+done_if_ok items (Ok v) w after moment asked p h told left =
+    done_pending w after moment asked p (items v) h told left
 done_if_ok items (Err e) w after moment asked p h told left = tt
 
 -- a reply has the status 200
-pub status_pending : (w : World) (moment : ℤ) (asked : Asked) (p : Pending) → IsPending w moment asked p → 200 ≡ status_for w moment (Ok asked)
+pub status_pending : (w : World) (moment : ℤ) (asked : Asked) (p : Pending) → IsPending w moment asked p
+    → 200
+    ≡ status_for w moment (Ok asked)
 unfolding status
 status_pending w moment asked p h = sym (ap status h.told)
 
-pub status_unanswered : (w : World) (moment : ℤ) (asked : Asked) (reason : Told) → IsUnanswered w moment asked reason → status reason ≡ status_for w moment (Ok asked)
+pub status_unanswered : (w : World) (moment : ℤ) (asked : Asked) (reason : Told)
+    → IsUnanswered w moment asked reason → status reason ≡ status_for w moment (Ok asked)
 status_unanswered w moment asked reason h = sym (ap status h.told)
 
 -- what a request asks, by how it was read
-pub asked_read : (text request : List ℕ) (reading : Reading MessageParts) → reading ≡ message_in text → text ≡ request → or_met reading asked_by ≡ asked request
+pub asked_read : (text request : List ℕ) (reading : Reading MessageParts) → reading ≡ message_in text
+    → text
+    ≡ request → or_met reading asked_by ≡ asked request
 unfolding asked
-asked_read text request reading is same = ap (λ r. or_met r asked_by) is ∙ ap (λ q. or_met (message_in q) asked_by) same
+asked_read text request reading is same = ap (λ r. or_met r asked_by) is
+    ∙ ap (λ q. or_met (message_in q) asked_by) same
 
 -- a request is answered, whether the desk failed or not
-pub answered_so : (w after : World) (given moment : ℤ) (text : List ℕ) (reading : Reading MessageParts) (answer : List ℕ) (e : Option ServerError) → given ≡ moment → reading ≡ message_in text → IsAnsweredSo e w given (or_met reading asked_by) answer after → IsAnswered w moment text answer after
-answered_so w after given moment text reading answer None m r h = inl (subst (λ z. IsDone w z (asked text) answer after) m (subst (λ a. IsDone w given a answer after) (asked_read text text reading r refl) h))
+pub answered_so : (w after : World) (given moment : ℤ) (text : List ℕ) (reading : Reading MessageParts)
+    (answer : List ℕ) (e : Option ServerError) → given ≡ moment → reading ≡ message_in text
+    → IsAnsweredSo e w given (or_met reading asked_by) answer after
+    → IsAnswered w moment text answer after
+answered_so w after given moment text reading answer None m r h =
+    inl (subst (λ z. IsDone w z (asked text) answer after) m
+    (subst (λ a. IsDone w given a answer after) (asked_read text text reading r refl) h))
 answered_so w after given moment text reading answer (Some why) m r h = inr (why, h)
 
 -- want of memory is no fault of the store
-pub no_cause : {V : Type 0} (r : Result V ServerError) (P : Type 0) → IfErr r (λ e. e ≡ OutOfMemory) → IfErr r (λ e. e ≡ Store → P)
+pub no_cause : {V : Type 0} (r : Result V ServerError) (P : Type 0) → IfErr r (λ e. e ≡ OutOfMemory)
+    → IfErr r (λ e. e ≡ Store → P)
 no_cause (Ok v) P h = tt
 no_cause (Err e) P h = λ is. absurd (memory_not_store e h is)
   where

@@ -85,7 +85,8 @@ given_alike e f v w v_after w_after rs ss xs ys i j r g h below under is there a
     ∙ ap Some (same_text (world_at v rs i) (world_at w ss j) r.0 (asked r.1) alike)
     ∙ sym (given_at f w w_after ss ys j r h under there)
 
-pub quiet_take : (o : List ℕ) (n : ℕ) (rs : List Sent) → requests_of o rs ≡ [] → requests_of o (take n rs) ≡ []
+pub quiet_take : (o : List ℕ) (n : ℕ) (rs : List Sent) → requests_of o rs ≡ [] → requests_of o (take n rs)
+    ≡ []
 quiet_take o zero rs none = refl
 quiet_take o (suc n) [] none = refl
 quiet_take o (suc n) (r ∷ rs) none = by_test (is_from o (sender r)) (quiet_take o n rs) none where

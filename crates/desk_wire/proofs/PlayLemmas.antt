@@ -49,19 +49,26 @@ never_500 w moment (Ok a) e = told_status (told_to w a.operator moment a.call) e
 never_500 w moment (Err f) e = fault_differs f e
 
 -- an answer with another status is what is asked
-pub done_by_status : (w after : World) (moment : ℤ) (reading : Reading Asked) (answer : List ℕ) (why : Option ServerError) (status : ℕ) → IsAnsweredSo why w moment reading answer after → status ≡ status_so why w moment reading → status ≢ 500 → IsDone w moment reading answer after
+pub done_by_status : (w after : World) (moment : ℤ) (reading : Reading Asked) (answer : List ℕ)
+    (why : Option ServerError) (status : ℕ) → IsAnsweredSo why w moment reading answer after → status
+    ≡ status_so why w moment reading → status ≢ 500 → IsDone w moment reading answer after
 done_by_status w after moment reading answer None status h is other = h
 done_by_status w after moment reading answer (Some why) status h is other = absurd (other is)
 
 -- an answer with that status says why the desk failed
-failed_by_status : (w after : World) (moment : ℤ) (reading : Reading Asked) (answer : List ℕ) (why : Option ServerError) (status : ℕ) → IsAnsweredSo why w moment reading answer after → status ≡ status_so why w moment reading → status ≡ 500 → (error : ServerError) × IsServerError error w answer after
+failed_by_status : (w after : World) (moment : ℤ) (reading : Reading Asked) (answer : List ℕ)
+    (why : Option ServerError) (status : ℕ) → IsAnsweredSo why w moment reading answer after → status
+    ≡ status_so why w moment reading → status ≡ 500 → (error : ServerError)
+    × IsServerError error w answer after
 failed_by_status w after moment reading answer (Some why) status h is same = (why, h)
-failed_by_status w after moment reading answer None status h is same = absurd (never_500 w moment reading (sym is ∙ same))
+failed_by_status w after moment reading answer None status h is same =
+    absurd (never_500 w moment reading (sym is ∙ same))
 
 concat_one : (xs : List (List ℕ)) (x : List ℕ) → concat (xs ++ x ∷ []) ≡ concat xs ++ x
 concat_one xs x = concat-append xs (x ∷ []) ∙ ap (λ ys. concat xs ++ ys) (append-nil x)
 
-pub none_played : (H : Type 0) (old out : Option (List ℕ)) (w : World) (moment : ℤ) → ArePlayed H 0 old old out out w moment w
+pub none_played : (H : Type 0) (old out : Option (List ℕ)) (w : World) (moment : ℤ)
+    → ArePlayed H 0 old old out out w moment w
 none_played H old out w moment = record {
   requests = [];
   count_is = refl;
@@ -72,7 +79,9 @@ none_played H old out w moment = record {
 }
 
 -- the same under a stronger premise
-pub played_if : (H K : Type 0) (count : ℕ) (old new out now : Option (List ℕ)) (w : World) (moment : ℤ) (after : World) → (K → H) → ArePlayed H count old new out now w moment after → ArePlayed K count old new out now w moment after
+pub played_if : (H K : Type 0) (count : ℕ) (old new out now : Option (List ℕ)) (w : World) (moment : ℤ)
+    (after : World) → (K → H) → ArePlayed H count old new out now w moment after
+    → ArePlayed K count old new out now w moment after
 played_if H K count old new out now w moment after implies h = record {
   requests = h.requests;
   count_is = h.count_is;
@@ -83,34 +92,57 @@ played_if H K count old new out now w moment after implies h = record {
 }
 
 -- the answers, with one more
-pub told_one : (w now after : World) (moment : ℤ) (more : List Sent) (answer request : List ℕ) → IsDone now moment (asked request) answer after → now ≡ world_left w more → concat (answers_to w more) ++ answer ≡ concat (answers_to w (more ++ (moment, request) ∷ []))
+pub told_one : (w now after : World) (moment : ℤ) (more : List Sent) (answer request : List ℕ)
+    → IsDone now moment (asked request) answer after → now ≡ world_left w more
+    → concat (answers_to w more)
+    ++ answer ≡ concat (answers_to w (more ++ (moment, request) ∷ []))
 told_one w now after moment more answer request done left =
-    ap (λ t. concat (answers_to w more) ++ t) (done.told ∙ ap (λ v. text_for v moment (asked request)) left)
+    ap (λ t. concat (answers_to w more) ++ t) (done.told
+    ∙ ap (λ v. text_for v moment (asked request)) left)
     ∙ sym (concat_one (answers_to w more) (text_for (world_left w more) moment (asked request)))
     ∙ ap concat (sym (told_more w more (moment, request)))
 
-pub one_played : (H : Type 0) (count : ℕ) (old mid new out then_out now : Option (List ℕ)) (w : World) (moment : ℤ) (now_world after : World) (code : ℕ) (framed : Bool) → ArePlayed H count old mid out then_out w moment now_world → IsServed H mid new then_out now now_world moment after code framed → code ≢ 500 → framed ≡ true → ArePlayed H (count + 1) old new out now w moment after
+pub one_played : (H : Type 0) (count : ℕ) (old mid new out then_out now : Option (List ℕ)) (w : World)
+    (moment : ℤ) (now_world after : World) (code : ℕ) (framed : Bool)
+    → ArePlayed H count old mid out then_out w moment now_world
+    → IsServed H mid new then_out now now_world moment after code framed → code ≢ 500 → framed ≡ true
+    → ArePlayed H (count + 1) old new out now w moment after
 one_played H count old mid new out then_out now w moment now_world after code framed h s other is =
-    let done : H → IsDone now_world moment (asked s.request) s.answer after = λ p. done_by_status now_world after moment (asked s.request) s.answer s.why code (s.replied.told p) (s.status_is p) other in
+    let done : H → IsDone now_world moment (asked s.request) s.answer after =
+    λ p. done_by_status now_world after moment (asked s.request) s.answer s.why code (s.replied.told p)
+    (s.status_is p) other in
     let more = at_moment moment h.requests in
-    let sent : at_moment moment (h.requests ++ s.request ∷ []) ≡ more ++ (moment, s.request) ∷ [] = map-append (λ r. (moment, r)) h.requests (s.request ∷ []) in
+    let sent : at_moment moment (h.requests ++ s.request ∷ []) ≡ more ++ (moment, s.request) ∷ [] =
+    map-append (λ r. (moment, r)) h.requests (s.request ∷ []) in
     record {
       requests = h.requests ++ s.request ∷ [];
       count_is = length-append h.requests (s.request ∷ []) ∙ ap (λ n. n + 1) h.count_is;
-      whole = All-append IsWhole h.requests (s.request ∷ []) h.whole (All-cons IsWhole s.request [] (record { whole = s.taken.whole; framed = sym s.framed_is ∙ is }) (All-nil IsWhole));
-      taken = subst (Consumes old new) (sym (concat_one h.requests s.request)) (Consumes-trans old mid new (concat h.requests) s.request h.taken s.taken.taken);
+      whole = All-append IsWhole h.requests (s.request ∷ []) h.whole
+          (All-cons IsWhole s.request [] (record
+          { whole = s.taken.whole; framed = sym s.framed_is ∙ is })
+          (All-nil IsWhole));
+      taken = subst (Consumes old new) (sym (concat_one h.requests s.request))
+          (Consumes-trans old mid new (concat h.requests) s.request h.taken s.taken.taken);
       written = λ p.
-          subst (Appends out now) (told_one w now_world after moment more s.answer s.request (done p) (h.left p) ∙ sym (ap (λ rs. concat (answers_to w rs)) sent)) (Appends-trans out then_out now (concat (answers_to w more)) s.answer (h.written p) s.written);
-      left = λ p. (done p).left ∙ ap (λ v. world_after v moment (asked s.request)) (h.left p) ∙ sym (left_more w more (moment, s.request)) ∙ ap (world_left w) (sym sent);
+          subst (Appends out now) (told_one w now_world after moment more s.answer s.request (done p)
+          (h.left p) ∙ sym (ap (λ rs. concat (answers_to w rs)) sent))
+          (Appends-trans out then_out now (concat (answers_to w more)) s.answer (h.written p)
+          s.written);
+      left = λ p. (done p).left ∙ ap (λ v. world_after v moment (asked s.request)) (h.left p)
+          ∙ sym (left_more w more (moment, s.request)) ∙ ap (world_left w) (sym sent);
     }
 
-pub broken_next : (H : Type 0) (old new out now : Option (List ℕ)) (w : World) (moment : ℤ) (after : World) (code : ℕ) (framed : Bool) → IsServed H old new out now w moment after code framed → code ≡ 500 → IsBroken H old new out now w after
+pub broken_next : (H : Type 0) (old new out now : Option (List ℕ)) (w : World) (moment : ℤ)
+    (after : World)
+    (code : ℕ) (framed : Bool) → IsServed H old new out now w moment after code framed → code ≡ 500
+    → IsBroken H old new out now w after
 broken_next H old new out now w moment after code framed s is = record {
   request = s.request;
   taken = s.taken;
   answer = s.answer;
   written = s.written;
-  failed = λ p. failed_by_status w after moment (asked s.request) s.answer s.why code (s.replied.told p) (s.status_is p) is;
+  failed = λ p. failed_by_status w after moment (asked s.request) s.answer s.why code (s.replied.told p)
+      (s.status_is p) is;
 }
 
 pub is_500 : (n : ℕ) → (n == 500) ≡ true → n ≡ 500

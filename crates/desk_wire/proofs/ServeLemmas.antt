@@ -21,40 +21,69 @@ use Rattle.desk_wire.proofs.BytesLemmas.{asked_read}
 use Rattle.desk_wire.proofs.FrontLemmas.{is_request, message_is}
 
 -- a front and its body, as they were received and read
-pub record IsReceived (old new : Option (List ℕ)) (text body : List ℕ) (request : Reading MessageParts) : Type 0 where
+pub record IsReceived (old new : Option (List ℕ)) (text body : List ℕ)
+    (request : Reading MessageParts) : Type
+    0 where
   pub taken : IsTaken old new (text ++ body)
   pub read : request ≡ message_in (text ++ body)
 
-pub received : (old now new : Option (List ℕ)) (text body : List ℕ) (front : Reading FrontParts) (request : Reading MessageParts) → Consumes old now text → IsFront text → front ≡ front_read text → Consumes now new body → length body ≡ size_said front → request ≡ with_body front body → IsReceived old new text body request
+pub received : (old now new : Option (List ℕ)) (text body : List ℕ) (front : Reading FrontParts)
+    (request : Reading MessageParts) → Consumes old now text → IsFront text → front ≡ front_read text
+    → Consumes now new body → length body ≡ size_said front → request ≡ with_body front body
+    → IsReceived old new text body request
 received old now new text body front request first h is next size made =
     let said = size ∙ ap size_said is in
     record {
-      taken = record { whole = is_request text body h said; taken = Consumes-trans old now new text body first next };
+      taken = record {
+        whole = is_request text body h said;
+        taken = Consumes-trans old now new text body first next;
+      };
       read = made ∙ ap (λ f. with_body f body) is ∙ sym (message_is text body h said);
     }
 
-pub replied : (H : Type 0) (w after : World) (given moment : ℤ) (request answer : List ℕ) (reading : Reading MessageParts) (why : Option ServerError) → given ≡ moment → reading ≡ message_in request → (H → IsAnsweredSo why w given (or_met reading asked_by) answer after) → IfSome why (λ error. IsServerError error w answer after) → IsReplied H w moment request answer why after
+pub replied : (H : Type 0) (w after : World) (given moment : ℤ) (request answer : List ℕ)
+    (reading : Reading MessageParts) (why : Option ServerError) → given ≡ moment → reading
+    ≡ message_in request → (H → IsAnsweredSo why w given (or_met reading asked_by) answer after)
+    → IfSome why (λ error. IsServerError error w answer after)
+    → IsReplied H w moment request answer why after
 replied H w after given moment request answer reading why m r told failed = record {
-  told = λ h. subst (λ z. IsAnsweredSo why w z (asked request) answer after) m (subst (λ a. IsAnsweredSo why w given a answer after) (asked_read request request reading r refl) (told h));
+  told = λ h. subst (λ z. IsAnsweredSo why w z (asked request) answer after) m
+      (subst (λ a. IsAnsweredSo why w given a answer after) (asked_read request request reading r refl)
+      (told h));
   failed = failed;
 }
 
-pub status_as : (H : Type 0) (w : World) (given moment : ℤ) (request : List ℕ) (reading : Reading MessageParts) (why : Option ServerError) (status : ℕ) → given ≡ moment → reading ≡ message_in request → (H → status ≡ status_so why w given (or_met reading asked_by)) → H → status ≡ status_so why w moment (asked request)
-status_as H w given moment request reading why status m r is h = is h ∙ ap (λ a. status_so why w given a) (asked_read request request reading r refl) ∙ ap (λ z. status_so why w z (asked request)) m
+pub status_as : (H : Type 0) (w : World) (given moment : ℤ) (request : List ℕ)
+    (reading : Reading MessageParts) (why : Option ServerError) (status : ℕ) → given ≡ moment → reading
+    ≡ message_in request → (H → status ≡ status_so why w given (or_met reading asked_by)) → H → status
+    ≡ status_so why w moment (asked request)
+status_as H w given moment request reading why status m r is h = is h
+    ∙ ap (λ a. status_so why w given a) (asked_read request request reading r refl)
+    ∙ ap (λ z. status_so why w z (asked request)) m
 
-pub framed_as : (request : Result Message WireFault) (bytes : List ℕ) (framed : Bool) → framed ≡ is_ok request → message_read request ≡ message_in bytes → framed ≡ is_framed bytes
+pub framed_as : (request : Result Message WireFault) (bytes : List ℕ) (framed : Bool) → framed
+    ≡ is_ok request
+    → message_read request ≡ message_in bytes → framed ≡ is_framed bytes
 framed_as (Ok m) bytes framed is read = is ∙ ap is_ok read
 framed_as (Err f) bytes framed is read = is ∙ ap is_ok read
 
 -- the exit after a whole answer
-pub served_as : (H : Type 0) (s : Served) (status : ℕ) (framed : Bool) (old new out now : Option (List ℕ)) (w after : World) (moment : ℤ) → s ≡ Answered status framed → IsServed H old new out now w moment after status framed → HasServed H (Ok s) old new out now w moment after
+pub served_as : (H : Type 0) (s : Served) (status : ℕ) (framed : Bool)
+    (old new out now : Option (List ℕ))
+    (w after : World) (moment : ℤ) → s ≡ Answered status framed
+    → IsServed H old new out now w moment after status framed
+    → HasServed H (Ok s) old new out now w moment after
 served_as H s status framed old new out now w after moment is served =
     subst (λ r. HasServed H (Ok r) old new out now w moment after) (sym is) served
 
 -- the exit of a `?` that hands on what stopped the reading
-pub stopped : (H cut : Type 0) (r : Result Served ServeFault) (f : ServeFault) (old new out : Option (List ℕ)) (w : World) (moment : ℤ) → IsErrAnd r (λ e. e ≡ f) → Stops cut f → (cut → IfSome old IsCut) → HasServed H r old new out out w moment w
+pub stopped : (H cut : Type 0) (r : Result Served ServeFault) (f : ServeFault)
+    (old new out : Option (List ℕ))
+    (w : World) (moment : ℤ) → IsErrAnd r (λ e. e ≡ f) → Stops cut f → (cut → IfSome old IsCut)
+    → HasServed H r old new out out w moment w
 stopped H cut (Ok s) f old new out w moment is stops then_cut = absurd is
-stopped H cut (Err e) f old new out w moment is stops then_cut = subst (λ z. HasServed H (Err z) old new out out w moment w) (sym is) (by f stops)
+stopped H cut (Err e) f old new out w moment is stops then_cut =
+    subst (λ z. HasServed H (Err z) old new out out w moment w) (sym is) (by f stops)
   where
     untouched : IsUntouched out out w w
     untouched = record { written = Keeps-refl out; left = refl }
@@ -66,12 +95,26 @@ stopped H cut (Err e) f old new out w moment is stops then_cut = subst (λ z. Ha
     by (Write sent) s = absurd s
 
 -- the exit of a `?` that hands on what stopped the writing
-pub broken : (H : Type 0) (r : Result Served ServeFault) (f : ServeFault) (old new out now : Option (List ℕ)) (w after : World) (moment : ℤ) (request answer : List ℕ) (why : Option ServerError) → IsErrAnd r (λ e. e ≡ f) → BreaksOff answer out now f → IsTaken old new request → IsReplied H w moment request answer why after → HasServed H r old new out now w moment after
+pub broken : (H : Type 0) (r : Result Served ServeFault) (f : ServeFault)
+    (old new out now : Option (List ℕ))
+    (w after : World) (moment : ℤ) (request answer : List ℕ) (why : Option ServerError)
+    → IsErrAnd r (λ e. e ≡ f) → BreaksOff answer out now f → IsTaken old new request
+    → IsReplied H w moment request answer why after → HasServed H r old new out now w moment after
 broken H (Ok s) f old new out now w after moment request answer why is off taken told = absurd is
-broken H (Err e) f old new out now w after moment request answer why is off taken told = subst (λ z. HasServed H (Err z) old new out now w moment after) (sym is) (by f off)
+broken H (Err e) f old new out now w after moment request answer why is off taken told =
+    subst (λ z. HasServed H (Err z) old new out now w moment after) (sym is) (by f off)
   where
-    by : (f : ServeFault) → BreaksOff answer out now f → HasServed H (Err f) old new out now w moment after
+    by : (f : ServeFault) → BreaksOff answer out now f
+        → HasServed H (Err f) old new out now w moment after
     by Read s = absurd s
     by OutOfMemory s = absurd s
     by CutShort s = absurd s
-    by (Write sent) s = record { request = request; taken = taken; answer = answer; why = why; replied = told; short = s.0; written = s.1 }
+    by (Write sent) s = record {
+      request = request;
+      taken = taken;
+      answer = answer;
+      why = why;
+      replied = told;
+      short = s.0;
+      written = s.1;
+    }

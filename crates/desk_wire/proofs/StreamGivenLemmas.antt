@@ -42,23 +42,28 @@ take_in : (n m : ℕ) (stream : List ℕ) → n ≤ m → requests_in n stream �
 unfolding requests_in
 take_in zero m stream h = refl
 take_in (suc n) zero stream h = absurd (omega (arith, h))
-take_in (suc n) (suc m) stream h = by_len (λ rest. take_in n m rest (omega (arith, h))) (request_len stream) where
-  by_framed : (request rest : List ℕ) → requests_in n rest ≡ take n (requests_in m rest) → (b : Bool)
-      → request ∷ (if b then requests_in n rest else []) ≡ request ∷ take n (if b then requests_in m rest else [])
-  by_framed request rest ih true = ap (λ xs. request ∷ xs) ih
-  by_framed request rest ih false = ap (λ xs. request ∷ xs) (take_none n)
+take_in (suc n) (suc m) stream h = by_len (λ rest. take_in n m rest (omega (arith, h)))
+    (request_len stream)
+  where
+    by_framed : (request rest : List ℕ) → requests_in n rest ≡ take n (requests_in m rest) → (b : Bool)
+        → request ∷ (if b then requests_in n rest else []) ≡ request
+        ∷ take n (if b then requests_in m rest else [])
+    by_framed request rest ih true = ap (λ xs. request ∷ xs) ih
+    by_framed request rest ih false = ap (λ xs. request ∷ xs) (take_none n)
 
-  by_len : ((rest : List ℕ) → requests_in n rest ≡ take n (requests_in m rest)) → (o : Option ℕ)
-      → with_next (requests_in n) stream o ≡ take (suc n) (with_next (requests_in m) stream o)
-  by_len ih None = refl
-  by_len ih (Some len) = by_framed (take len stream) (drop len stream) (ih (drop len stream)) (is_framed (take len stream))
+    by_len : ((rest : List ℕ) → requests_in n rest ≡ take n (requests_in m rest)) → (o : Option ℕ)
+        → with_next (requests_in n) stream o ≡ take (suc n) (with_next (requests_in m) stream o)
+    by_len ih None = refl
+    by_len ih (Some len) = by_framed (take len stream) (drop len stream) (ih (drop len stream))
+        (is_framed (take len stream))
 
 -- a request at the front
 first_whole : (next : List ℕ → List (List ℕ)) (r more : List ℕ) → IsRequest r → is_framed r ≡ true
     → with_next next (r ++ more) (request_len (r ++ more)) ≡ r ∷ next more
 first_whole next r more whole framed =
     ap (with_next next (r ++ more)) (request_more r more whole)
-    ∙ (λ i. take-append_seam r more i ∷ (if is_framed (take-append_seam r more i) then next (drop-append_seam r more i) else []))
+    ∙ (λ i. take-append_seam r more i ∷ (if is_framed (take-append_seam r more i)
+    then next (drop-append_seam r more i) else []))
     ∙ ap (λ b. r ∷ (if b then next more else [])) framed
 
 last_one : (r more : List ℕ) → IsRequest r → requests_in 1 (r ++ more) ≡ r ∷ []
@@ -87,14 +92,17 @@ unfolding requests_in
 none_more rs rest = append-nil rs
 
 -- the requests taken are the stream's first
-are_first : (old input : Option (List ℕ)) (rs : List (List ℕ)) (n : ℕ) → AllByRecursion IsWhole rs → length rs ≡ n
+are_first : (old input : Option (List ℕ)) (rs : List (List ℕ)) (n : ℕ) → AllByRecursion IsWhole rs
+    → length rs
+    ≡ n
     → Consumes old input (concat rs) → IfSome old (λ stream. rs ≡ requests_in n stream)
 are_first None input rs n all count taken = tt
 are_first (Some xs) None rs n all count taken = absurd taken
 are_first (Some xs) (Some ys) rs n all count taken =
     sym (ap (requests_in n) taken ∙ cut_is rs ys 0 n all (omega (arith, count)) ∙ none_more rs ys)
 
-is_next : (old input new : Option (List ℕ)) (rs : List (List ℕ)) (next : List ℕ) (n : ℕ) → AllByRecursion IsWhole rs
+is_next : (old input new : Option (List ℕ)) (rs : List (List ℕ)) (next : List ℕ) (n : ℕ)
+    → AllByRecursion IsWhole rs
     → length rs ≡ n → Consumes old input (concat rs) → IsTaken input new next → IsNextIn old n rs next
 is_next None input new rs next n all count taken last = tt
 is_next (Some xs) None new rs next n all count taken last = absurd taken
@@ -104,7 +112,8 @@ is_next (Some xs) (Some ys) (Some zs) rs next n all count taken last =
     ∙ cut_is rs (next ++ zs) 1 (n + 1) all (omega (arith, count))
     ∙ ap (λ tail. rs ++ tail) (last_one next zs last.whole)
 
-next_first : (old : Option (List ℕ)) (n : ℕ) (rs : List (List ℕ)) (next : List ℕ) → IsNextIn old n rs next
+next_first : (old : Option (List ℕ)) (n : ℕ) (rs : List (List ℕ)) (next : List ℕ)
+    → IsNextIn old n rs next
     → IfSome old (λ stream. rs ++ next ∷ [] ≡ requests_in (n + 1) stream)
 next_first None n rs next h = tt
 next_first (Some xs) n rs next h = sym h
@@ -117,30 +126,38 @@ module _ (H : Type 0) (old out : Option (List ℕ)) (w : World) (moment : ℤ) (
       → IsUntouched output now world after → FollowsBy ended []
       → (f : ArePlayed H count old input out output w moment world)
       → (after ≡ world_left w (at_moment moment f.requests)
-      → LeavesBy ended (IsNextIn old count f.requests) (world_left w (at_moment moment f.requests)) moment after)
-      → AreGiven ended count old out now w moment after f.requests (answers_to w (at_moment moment f.requests))
+      → LeavesBy ended (IsNextIn old count f.requests) (world_left w (at_moment moment f.requests))
+      moment
+      after)
+      → AreGiven ended count old out now w moment after f.requests
+      (answers_to w (at_moment moment f.requests))
   given_first ended count input output now world after rest follows f leaves =
       let answers = concat (answers_to w (at_moment moment f.requests)) in
       record {
         count = f.count_is;
-        first = are_first old input f.requests count (recursion_from_All IsWhole f.requests f.whole) f.count_is f.taken;
+        first = are_first old input f.requests count (recursion_from_All IsWhole f.requests f.whole)
+            f.count_is f.taken;
         told = refl;
         more = [];
-        written = subst (Appends out now) (sym (append-nil answers)) (Appends-kept out output now answers (f.written p) rest.written);
+        written = subst (Appends out now) (sym (append-nil answers))
+            (Appends-kept out output now answers (f.written p) rest.written);
         follows = follows;
         left = leaves (rest.left ∙ f.left p);
       }
 
   -- where one more is answered by the desk's failure
   given_broken : (count : ℕ) (input new output now : Option (List ℕ)) (world after : World)
-      → (f : ArePlayed H count old input out output w moment world) → (b : IsBroken H input new output now world after)
-      → AreGiven Broken count old out now w moment after f.requests (answers_to w (at_moment moment f.requests))
+      → (f : ArePlayed H count old input out output w moment world)
+      → (b : IsBroken H input new output now world after)
+      → AreGiven Broken count old out now w moment after f.requests
+      (answers_to w (at_moment moment f.requests))
   given_broken count input new output now world after f b =
       let answers = concat (answers_to w (at_moment moment f.requests)) in
       let why = b.failed p in
       record {
         count = f.count_is;
-        first = are_first old input f.requests count (recursion_from_All IsWhole f.requests f.whole) f.count_is f.taken;
+        first = are_first old input f.requests count (recursion_from_All IsWhole f.requests f.whole)
+            f.count_is f.taken;
         told = refl;
         more = b.answer;
         written = Appends-trans out output now answers b.answer (f.written p) b.written;
@@ -158,7 +175,8 @@ module _ (H : Type 0) (old out : Option (List ℕ)) (w : World) (moment : ℤ) (
   given_off : (count sent_len : ℕ) (input new output now : Option (List ℕ)) (world after : World)
       → (f : ArePlayed H count old input out output w moment world)
       → (b : IsBrokenOff H input new output now world moment after sent_len)
-      → AreGiven (Fault (Write sent_len)) count old out now w moment after f.requests (answers_to w (at_moment moment f.requests))
+      → AreGiven (Fault (Write sent_len)) count old out now w moment after f.requests
+      (answers_to w (at_moment moment f.requests))
   given_off count sent_len input new output now world after f b =
       let answers = concat (answers_to w (at_moment moment f.requests)) in
       let all = recursion_from_All IsWhole f.requests f.whole in
@@ -188,19 +206,24 @@ module _ (H : Type 0) (old out : Option (List ℕ)) (w : World) (moment : ℤ) (
       let more = at_moment moment f.requests in
       let all = recursion_from_All IsWhole f.requests f.whole in
       let done : IsDone world moment (asked s.request) s.answer after =
-      done_by_status world after moment (asked s.request) s.answer s.why u.status (s.replied.told p) (s.status_is p) u.answered in
+      done_by_status world after moment (asked s.request) s.answer s.why u.status (s.replied.told p)
+      (s.status_is p) u.answered in
       let both : at_moment moment (f.requests ++ s.request ∷ []) ≡ more ++ (moment, s.request) ∷ [] =
       map-append (λ r. (moment, r)) f.requests (s.request ∷ []) in
-      let text : concat (answers_to w more) ++ s.answer ≡ concat (answers_to w (at_moment moment (f.requests ++ s.request ∷ []))) =
-      told_one w world after moment more s.answer s.request done (f.left p) ∙ sym (ap (λ rs. concat (answers_to w rs)) both) in
+      let text : concat (answers_to w more) ++ s.answer
+      ≡ concat (answers_to w (at_moment moment (f.requests ++ s.request ∷ []))) =
+      told_one w world after moment more s.answer s.request done (f.left p)
+      ∙ sym (ap (λ rs. concat (answers_to w rs)) both) in
       record {
         count = length-append f.requests (s.request ∷ []) ∙ ap (λ n. n + 1) f.count_is;
-        first = next_first old count f.requests s.request (is_next old input new f.requests s.request count all f.count_is f.taken s.taken);
+        first = next_first old count f.requests s.request
+            (is_next old input new f.requests s.request count all f.count_is f.taken s.taken);
         told = refl;
         more = [];
         written =
             subst (Appends out now) (text ∙ sym (append-nil _))
-            (Appends-trans out output now (concat (answers_to w more)) s.answer (f.written p) s.written);
+            (Appends-trans out output now (concat (answers_to w more)) s.answer (f.written p)
+            s.written);
         follows = refl;
         left =
             done.left ∙ ap (λ v. world_after v moment (asked s.request)) (f.left p)
@@ -211,7 +234,8 @@ module _ (H : Type 0) (old out : Option (List ℕ)) (w : World) (moment : ℤ) (
   Given ended n now after =
       (requests answers : List (List ℕ)) × AreGiven ended n old out now w moment after requests answers
 
-  given_by : (ended : PlayEnd) (count answered : ℕ) (input new output now : Option (List ℕ)) (world after : World)
+  given_by : (ended : PlayEnd) (count answered : ℕ) (input new output now : Option (List ℕ))
+      (world after : World)
       → ArePlayed H count old input out output w moment world
       → EndsBy H ended count answered input new output now world moment after
       → Given ended (told_in_play ended answered) now after
@@ -222,8 +246,12 @@ module _ (H : Type 0) (old out : Option (List ℕ)) (w : World) (moment : ℤ) (
       subst (λ n. Given Limit n now after) (sym last.0)
       (f.requests, _, given_first Limit count input output now world after last.2 refl f (λ e. e))
   given_by Unframed count answered input new output now world after f last =
-      subst (λ n. Given Unframed n now after) (sym last.0)
-      (f.requests ++ last.1.served.request ∷ [], _, given_unframed count input new output now world after f last.1)
+      subst (λ n. Given Unframed n now after) (sym last.0) (
+        f.requests ++ last.1.served.request ∷ [],
+        _,
+        given_unframed count input new output now world after f
+            last.1,
+      )
   given_by Broken count answered input new output now world after f last =
       let less : answered - 1 ≡ count = omega (arith, last.0) in
       subst (λ n. Given Broken n now after) (sym less)
@@ -232,21 +260,36 @@ module _ (H : Type 0) (old out : Option (List ℕ)) (w : World) (moment : ℤ) (
       subst (λ n. Given (Fault (Write sent_len)) n now after) (sym last.0)
       (f.requests, _, given_off count sent_len input new output now world after f last.1)
   given_by (Fault Read) count answered input new output now world after f last =
-      subst (λ n. Given (Fault Read) n now after) (sym last.0)
-      (f.requests, _, given_first (Fault Read) count input output now world after last.1 refl f (λ e. e))
+      subst (λ n. Given (Fault Read) n now after) (sym last.0) (
+        f.requests,
+        _,
+        given_first (Fault Read) count input output now world after last.1 refl f
+            (λ e. e),
+      )
   given_by (Fault CutShort) count answered input new output now world after f last =
-      subst (λ n. Given (Fault CutShort) n now after) (sym last.0)
-      (f.requests, _, given_first (Fault CutShort) count input output now world after last.1.1 refl f (λ e. e))
+      subst (λ n. Given (Fault CutShort) n now after) (sym last.0) (
+        f.requests,
+        _,
+        given_first (Fault CutShort) count input output now world after last.1.1 refl f
+            (λ e. e),
+      )
   given_by (Fault OutOfMemory) count answered input new output now world after f last =
-      subst (λ n. Given (Fault OutOfMemory) n now after) (sym last.0)
-      (f.requests, _, given_first (Fault OutOfMemory) count input output now world after last.1 refl f (λ e. e))
+      subst (λ n. Given (Fault OutOfMemory) n now after) (sym last.0) (
+        f.requests,
+        _,
+        given_first (Fault OutOfMemory) count input output now world after last.1 refl f
+            (λ e. e),
+      )
 
-pub play_given : (H : Type 0) (ended : PlayEnd) (count : ℕ) (old new out now : Option (List ℕ)) (w : World) (moment : ℤ)
+pub play_given : (H : Type 0) (ended : PlayEnd) (count : ℕ) (old new out now : Option (List ℕ))
+    (w : World)
+    (moment : ℤ)
     (after : World) → HasPlayed H ended count old new out now w moment after → H
     → (requests answers : List (List ℕ))
     × AreGiven ended (told_in_play ended count) old out now w moment after requests answers
 play_given H ended count old new out now w moment after h p =
-    given_by H old out w moment p ended h.count count h.input new h.output now h.world after h.first h.last
+    given_by H old out w moment p ended h.count count h.input new h.output now h.world after h.first
+    h.last
 
 -- ---- equal answers
 
@@ -256,19 +299,25 @@ sent_at moment rs i r e = slice_get-map (λ q. (moment, q)) rs i ∙ ap (option_
 
 pub given_same : (e f : PlayEnd) (m n : ℕ) (old out now old_too out_too now_too : Option (List ℕ))
     (v w v_after w_after : World) (moment : ℤ) (rs ss xs ys : List (List ℕ)) (i j : ℕ) (r : List ℕ)
-    → AreGiven e m old out now v moment v_after rs xs → AreGiven f n old_too out_too now_too w moment w_after ss ys
+    → AreGiven e m old out now v moment v_after rs xs
+    → AreGiven f n old_too out_too now_too w moment w_after ss ys
     → slice_get rs i ≡ Some r → slice_get ss j ≡ Some r
-    → LookAlike (sender (moment, r)) (world_at v (at_moment moment rs) i) (world_at w (at_moment moment ss) j)
+    → LookAlike (sender (moment, r)) (world_at v (at_moment moment rs) i)
+    (world_at w (at_moment moment ss) j)
     → slice_get xs i ≡ slice_get ys j
-given_same e f m n old out now old_too out_too now_too v w v_after w_after moment rs ss xs ys i j r g h is there alike =
+given_same e f m n old out now old_too out_too now_too v w v_after w_after moment rs ss xs ys i j r g h
+    is
+    there alike =
     ap (λ zs. slice_get zs i) g.told
-    ∙ headline.decided v w (at_moment moment rs) (at_moment moment ss) i j (moment, r) (sent_at moment rs i r is)
+    ∙ headline.decided v w (at_moment moment rs) (at_moment moment ss) i j (moment, r)
+    (sent_at moment rs i r is)
     (sent_at moment ss j r there) alike
     ∙ sym (ap (λ zs. slice_get zs j) h.told)
 
 -- ---- who sent nothing
 
-take_sent : (moment : ℤ) (n : ℕ) (rs : List (List ℕ)) → at_moment moment (take n rs) ≡ take n (at_moment moment rs)
+take_sent : (moment : ℤ) (n : ℕ) (rs : List (List ℕ)) → at_moment moment (take n rs)
+    ≡ take n (at_moment moment rs)
 take_sent moment zero rs = refl
 take_sent moment (suc n) [] = refl
 take_sent moment (suc n) (r ∷ rs) = ap (λ xs. (moment, r) ∷ xs) (take_sent moment n rs)
@@ -300,7 +349,9 @@ module _ (o stream : List ℕ) (w : World) (moment : ℤ) (count : ℕ)
       ∙ fewer_quiet o moment n (count + 1) stream (omega (arith, h)) none)
 
   -- and that of one more
-  quiet_next : (requests : List (List ℕ)) (next : List ℕ) → requests_in (count + 1) stream ≡ requests ++ next ∷ []
+  quiet_next : (requests : List (List ℕ)) (next : List ℕ) → requests_in (count + 1) stream ≡ requests
+      ++ next
+      ∷ []
       → OwnAlike o (world_after (world_left w (at_moment moment requests)) moment (asked next)) w
   quiet_next requests next is =
       ap (λ v. own v o)
@@ -311,24 +362,36 @@ module _ (o stream : List ℕ) (w : World) (moment : ℤ) (count : ℕ)
 
   quiet_by : (ended : PlayEnd) (requests : List (List ℕ)) (after : World)
       → requests ≡ requests_in (told_in_play ended count) stream
-      → LeavesBy ended (IsNextIn (Some stream) (told_in_play ended count) requests) (world_left w (at_moment moment requests))
+      → LeavesBy ended (IsNextIn (Some stream) (told_in_play ended count) requests)
+      (world_left w (at_moment moment requests))
       moment after
       → OwnAlike o after w
-  quiet_by End requests after is left = ap (λ v. own v o) left ∙ quiet_left count requests (omega arith) is
-  quiet_by Unframed requests after is left = ap (λ v. own v o) left ∙ quiet_left count requests (omega arith) is
-  quiet_by Limit requests after is left = ap (λ v. own v o) left ∙ quiet_left count requests (omega arith) is
-  quiet_by Broken requests after is left = ap (λ v. own v o) left ∙ quiet_left (count - 1) requests (omega arith) is
-  quiet_by (Fault Read) requests after is left = ap (λ v. own v o) left ∙ quiet_left count requests (omega arith) is
-  quiet_by (Fault CutShort) requests after is left = ap (λ v. own v o) left ∙ quiet_left count requests (omega arith) is
-  quiet_by (Fault OutOfMemory) requests after is left = ap (λ v. own v o) left ∙ quiet_left count requests (omega arith) is
+  quiet_by End requests after is left = ap (λ v. own v o) left
+      ∙ quiet_left count requests (omega arith) is
+  quiet_by Unframed requests after is left = ap (λ v. own v o) left
+      ∙ quiet_left count requests (omega arith) is
+  quiet_by Limit requests after is left = ap (λ v. own v o) left
+      ∙ quiet_left count requests (omega arith) is
+  quiet_by Broken requests after is left = ap (λ v. own v o) left
+      ∙ quiet_left (count - 1) requests (omega arith) is
+  quiet_by (Fault Read) requests after is left = ap (λ v. own v o) left
+      ∙ quiet_left count requests (omega arith) is
+  quiet_by (Fault CutShort) requests after is left = ap (λ v. own v o) left
+      ∙ quiet_left count requests (omega arith) is
+  quiet_by (Fault OutOfMemory) requests after is left = ap (λ v. own v o) left
+      ∙ quiet_left count requests (omega arith) is
   quiet_by (Fault (Write sent_len)) requests after is left =
       elim left.2 [
         | inl e ↦ ap (λ v. own v o) e ∙ quiet_next requests left.0 left.1
         | inr e ↦ ap (λ v. own v o) e ∙ quiet_left count requests (omega arith) is
       ]
 
-pub play_quiet : (H : Type 0) (ended : PlayEnd) (count : ℕ) (stream : List ℕ) (new out now : Option (List ℕ)) (w : World)
-    (moment : ℤ) (after : World) (o : List ℕ) → HasPlayed H ended count (Some stream) new out now w moment after → H
+pub play_quiet : (H : Type 0) (ended : PlayEnd) (count : ℕ) (stream : List ℕ)
+    (new out now : Option (List ℕ))
+    (w : World)
+    (moment : ℤ) (after : World) (o : List ℕ) → HasPlayed H ended count (Some stream) new out now w
+    moment
+    after → H
     → requests_of o (at_moment moment (requests_in (count + 1) stream)) ≡ [] → OwnAlike o after w
 play_quiet H ended count stream new out now w moment after o h p none =
     let given = play_given H ended count (Some stream) new out now w moment after h p in

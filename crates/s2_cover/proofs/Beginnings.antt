@@ -40,7 +40,8 @@ same_place a b same = elim (cases_lt a b) [
 ]
 
 -- a number that ends in so many zeros
-aligned_below : (n place : ℕ) → n < 2 ^ 64 → place ≤ 60 → place ≤ trailing_zeros w64 n → n % 2 ^ place ≡ 0
+aligned_below : (n place : ℕ) → n < 2 ^ 64 → place ≤ 60 → place ≤ trailing_zeros w64 n → n % 2 ^ place
+    ≡ 0
 aligned_below zero place fits within zeros =
     let none : 0 ≡ 0 * 2 ^ place + 0 = omega arith in
     ap (λ n. n % 2 ^ place) none ∙ mod-mul-add 0 (2 ^ place) 0 (pow_pos place)
@@ -64,7 +65,8 @@ zeros_of : (n place : ℕ) → n < 2 ^ 64 → place ≤ 60 → n % 2 ^ place ≡
 zeros_of zero place fits within aligned = rw (trailing_of_zero 64) (omega arith)
 zeros_of (suc n) place fits within aligned =
     let bits = bit_at-trailing_zeros w64 (suc n) (omega arith) fits in
-    let whole : suc n ≡ suc n / 2 ^ place * 2 ^ place = omega (arith, div-add-mod' (suc n) (2 ^ place)) in
+    let whole : suc n ≡ suc n / 2 ^ place * 2 ^ place =
+    omega (arith, div-add-mod' (suc n) (2 ^ place)) in
     elim (cases_lt (trailing_zeros w64 (suc n)) place) [
       | inl below ↦
           absurd (omega (
@@ -146,7 +148,8 @@ largest_of first last place below fitting =
       is.aligned,
     ) in
     let lowest : 2 ^ lowest_place id ≡ 2 ^ place = cell.lowest_is ∙ count in
-    let begins : first_leaf id ≡ first = cell.first_is ∙ ap (λ n. first / 2 ^ place * n) count ∙ sym whole in
+    let begins : first_leaf id ≡ first = cell.first_is ∙ ap (λ n. first / 2 ^ place * n) count
+    ∙ sym whole in
     let place_is = same_place (lowest_place id) place lowest in
     record {
       is = record {

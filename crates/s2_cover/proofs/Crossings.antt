@@ -64,28 +64,34 @@ crossed_nowhere set most first upto is = record {
 }
 
 -- cells with the same leaves have the same lowest bit
-same_size : (a b : ℕ) → IsCellId a → IsCellId b → first_leaf a ≡ first_leaf b → last_leaf a ≡ last_leaf b
+same_size : (a b : ℕ) → IsCellId a → IsCellId b → first_leaf a ≡ first_leaf b → last_leaf a
+    ≡ last_leaf b
     → lowest_place a ≡ lowest_place b
 same_size a b valid_a valid_b first last =
     same_place (lowest_place a) (lowest_place b)
     (omega (arith, has_leaves a valid_a, has_leaves b valid_b, first, last))
 
 -- a cell that lies in a block is no larger
-within_place : (id block level first : ℕ) → IsCellId id → IsBlock block level first → first ≤ first_leaf id
+within_place : (id block level first : ℕ) → IsCellId id → IsBlock block level first
+    → first ≤ first_leaf id
     → last_leaf id < first + leaf_count level → lowest_place id ≤ lowest_place block
-within_place id block level first valid is begins ends = elim (cases_lt (lowest_place block) (lowest_place id)) [
-  | inr at_most ↦ at_most
-  | inl less ↦
-      let leaves = has_leaves id valid in
-      let p = first_leaf id in
-      let here : IsTrue (cell_has block p) =
-      has_position block p is.valid (omega (arith, is.begins, begins)) (omega (arith, is.ends, leaves, ends)) in
-      let lies = nested block id p is.valid valid here (first_belongs id valid) (omega (arith, less)) in
-      let same =
-      same_size id block valid is.valid (omega (arith, lies.first, is.begins, begins))
-      (omega (arith, lies.last, is.ends, ends)) in
-      absurd (omega (arith, same, less))
-]
+within_place id block level first valid is begins ends =
+    elim (cases_lt (lowest_place block) (lowest_place id)) [
+      | inr at_most ↦ at_most
+      | inl less ↦
+          let leaves = has_leaves id valid in
+          let p = first_leaf id in
+          let here : IsTrue (cell_has block p) =
+          has_position block p is.valid (omega (arith, is.begins, begins))
+          (omega (arith, is.ends, leaves, ends))
+          in
+          let lies = nested block id p is.valid valid here (first_belongs id valid)
+          (omega (arith, less)) in
+          let same =
+          same_size id block valid is.valid (omega (arith, lies.first, is.begins, begins))
+          (omega (arith, lies.last, is.ends, ends)) in
+          absurd (omega (arith, same, less))
+    ]
 
 -- the cells up to a quarter, and then those in the quarter
 pub crossings_append : (set : ℕ → Bool) (most first middle upto quarter level : ℕ) (one two : List ℕ)
@@ -93,54 +99,62 @@ pub crossings_append : (set : ℕ → Bool) (most first middle upto quarter leve
     → first ≤ middle
     → AreCrossedIn set most first middle one → AreCrossedIn set 60 middle upto two
     → AreCrossedIn set most first upto (one ++ two)
-crossings_append set most first middle upto quarter level one two block place is order before here = record {
-  once = pairs_append one two before.once here.once (λ x y there_x there_y same.
-      let in_x = (before.members x).0 there_x in
-      let in_y = (here.members y).0 there_y in
-      let leaves = has_leaves x in_x.crossed.valid in
-      omega (arith, in_x.ends, in_y.begins, ap first_leaf same, leaves));
-  members = λ id. (
-    λ there. elim (Contains-append_cases one two id there) [
-      | inl early ↦
-          let told = (before.members id).0 early in
-          record {
-            crossed = told.crossed;
-            place = told.place;
-            begins = told.begins;
-            ends = omega (arith, told.ends, is);
-          }
-      | inr late ↦
-          let told = (here.members id).0 late in
-          let at_most =
-          within_place id quarter level middle told.crossed.valid block told.begins (omega (arith, told.ends, is)) in
-          record {
-            crossed = told.crossed;
-            place = omega (arith, at_most, place);
-            begins = omega (arith, told.begins, order);
-            ends = told.ends;
-          }
-    ],
-    λ told. elim (cases_lt (last_leaf id) middle) [
-      | inl early ↦
-          Contains-append_left one two id ((before.members id).1
-          (record { crossed = told.crossed; place = told.place; begins = told.begins; ends = early }))
-      | inr late ↦
-          let p = last_leaf id in
-          let valid = told.crossed.valid in
-          let in_quarter : IsTrue (cell_has quarter p) =
-          has_position quarter p block.valid (omega (arith, block.begins, late))
-          (omega (arith, block.ends, told.ends, is)) in
-          let lies =
-          nested id quarter p valid block.valid (last_belongs id valid) in_quarter (omega (arith, told.place, place)) in
-          Contains-append_right one two id ((here.members id).1 (record {
-            crossed = told.crossed;
-            place = omega (arith, place_of id valid);
-            begins = omega (arith, lies.first, block.begins);
-            ends = told.ends;
-          }))
-    ],
-  );
-}
+crossings_append set most first middle upto quarter level one two block place is order before here =
+    record {
+      once = pairs_append one two before.once here.once (λ x y there_x there_y same.
+          let in_x = (before.members x).0 there_x in
+          let in_y = (here.members y).0 there_y in
+          let leaves = has_leaves x in_x.crossed.valid in
+          omega (arith, in_x.ends, in_y.begins, ap first_leaf same, leaves));
+      members = λ id. (
+        λ there. elim (Contains-append_cases one two id there) [
+          | inl early ↦
+              let told = (before.members id).0 early in
+              record {
+                crossed = told.crossed;
+                place = told.place;
+                begins = told.begins;
+                ends = omega (arith, told.ends, is);
+              }
+          | inr late ↦
+              let told = (here.members id).0 late in
+              let at_most =
+              within_place id quarter level middle told.crossed.valid block told.begins
+              (omega (arith, told.ends, is)) in
+              record {
+                crossed = told.crossed;
+                place = omega (arith, at_most, place);
+                begins = omega (arith, told.begins, order);
+                ends = told.ends;
+              }
+        ],
+        λ told. elim (cases_lt (last_leaf id) middle) [
+          | inl early ↦
+              Contains-append_left one two id ((before.members id).1
+              (record {
+                crossed = told.crossed;
+                place = told.place;
+                begins = told.begins;
+                ends = early;
+              }))
+          | inr late ↦
+              let p = last_leaf id in
+              let valid = told.crossed.valid in
+              let in_quarter : IsTrue (cell_has quarter p) =
+              has_position quarter p block.valid (omega (arith, block.begins, late))
+              (omega (arith, block.ends, told.ends, is)) in
+              let lies =
+              nested id quarter p valid block.valid (last_belongs id valid) in_quarter
+              (omega (arith, told.place, place)) in
+              Contains-append_right one two id ((here.members id).1 (record {
+                crossed = told.crossed;
+                place = omega (arith, place_of id valid);
+                begins = omega (arith, lies.first, block.begins);
+                ends = told.ends;
+              }))
+        ],
+      );
+    }
 
 -- all quarters of a crossed cell, and the cell itself
 pub crossings_whole : (set : ℕ → Bool) (most first upto id level : ℕ) (ids : List ℕ)
@@ -148,7 +162,8 @@ pub crossings_whole : (set : ℕ → Bool) (most first upto id level : ℕ) (ids
     → level < 30 → most ≡ 60 - 2 * (level + 1) → upto ≡ first + leaf_count level → IsCrossed set id
     → AreCrossedIn set most first upto ids → AreCrossedIn set 60 first upto (ids ++ id ∷ [])
 crossings_whole set most first upto id level ids block inner place is crossed below = record {
-  once = pairs_append ids (id ∷ []) below.once (λ i j d less within. absurd (omega (arith, less, within)))
+  once = pairs_append ids (id ∷ []) below.once (λ i j d less within. absurd
+      (omega (arith, less, within)))
       (λ x y there_x there_y same.
       let told = (below.members x).0 there_x in
       let last : id ≡ y = elim (Contains-push_cases [] id y there_y) [
@@ -181,7 +196,9 @@ crossings_whole set most first upto id level ids block inner place is crossed be
           let valid = told.crossed.valid in
           let p = first_leaf x in
           let leaves = has_leaves x valid in
-          let at_most = within_place x id level first valid block told.begins (omega (arith, told.ends, is)) in
+          let at_most = within_place x id level first valid block told.begins
+          (omega (arith, told.ends, is))
+          in
           let here : IsTrue (cell_has id p) =
           has_position id p block.valid (omega (arith, block.begins, told.begins))
           (omega (arith, block.ends, told.ends, is, leaves)) in

@@ -20,9 +20,19 @@ all_or_one set first zero = elim (cases_Bool (set first)) [
   | inr not ↦ inr (record { number = first; low = omega arith; high = omega arith; is = not })
 ]
 all_or_one set first (suc more) = elim (all_or_one set first more) [
-  | inr some ↦ inr (record { number = some.number; low = some.low; high = omega (arith, some.high); is = some.is })
+  | inr some ↦ inr (record {
+    number = some.number;
+    low = some.low;
+    high = omega (arith, some.high);
+    is = some.is;
+  })
   | inl all ↦ elim (cases_Bool (set (first + suc more))) [
-    | inr not ↦ inr (record { number = first + suc more; low = omega arith; high = omega arith; is = not })
+    | inr not ↦ inr (record {
+      number = first + suc more;
+      low = omega arith;
+      high = omega arith;
+      is = not;
+    })
     | inl has ↦ inl (λ p low high. elim (cases_lt p (first + suc more)) [
       | inl less ↦ all p low (omega (arith, less))
       | inr last ↦ let same : p ≡ first + suc more = omega (arith, last, high) in ap set same ∙ has
@@ -41,7 +51,8 @@ HasLaid set upto = (ids : List ℕ) × IsLaid set ids upto
 quarter_place : (level number k : ℕ) → level < 30
     → (4 * number + k) * leaf_count (level + 1) ≡ number * leaf_count level + k * leaf_count (level + 1)
 quarter_place level number k inner =
-    let four : number * leaf_count level ≡ number * (4 * leaf_count (level + 1)) = ap (λ n. number * n) (four_children level inner) in
+    let four : number * leaf_count level ≡ number * (4 * leaf_count (level + 1)) =
+    ap (λ n. number * n) (four_children level inner) in
     omega (arith, four)
 
 -- what a cell's quarters are given, if the cell has a leaf outside the set
@@ -67,27 +78,31 @@ lay_quarter set level number k inner below within outside =
     )
 
 next_quarter : (level number k : ℕ)
-    → (4 * number + k) * leaf_count (level + 1) + leaf_count (level + 1) ≡ (4 * number + (k + 1)) * leaf_count (level + 1)
+    → (4 * number + k) * leaf_count (level + 1) + leaf_count (level + 1)
+    ≡ (4 * number + (k + 1)) * leaf_count (level + 1)
 next_quarter level number k = omega arith
 
 -- a cell whose leaves all belong to the set
 lay_whole : (set : ℕ → Bool) (level number : ℕ) → level ≤ 30
     → number * leaf_count level + leaf_count level ≤ 6 * 2 ^ 60 → IsOpened set (cell_at level number)
     → AllIn (number * leaf_count level) (number * leaf_count level + (leaf_count level - 1)) set true
-    → HasLaid set (number * leaf_count level) → HasLaid set (number * leaf_count level + leaf_count level)
+    → HasLaid set (number * leaf_count level) → HasLaid set
+    (number * leaf_count level + leaf_count level)
 lay_whole set level number at_most within opened all laid =
     let id = cell_at level number in
     let first = number * leaf_count level in
     let block = block_at level number at_most within in
     let largest = block_largest set id level first block opened all in (
       laid.0 ++ id ∷ [],
-      subst (IsLaid set (laid.0 ++ id ∷ [])) block.ends (laid_more set laid.0 first id laid.1 largest block.begins),
+      subst (IsLaid set (laid.0 ++ id ∷ [])) block.ends
+          (laid_more set laid.0 first id laid.1 largest block.begins),
     )
 
 -- a leaf outside the set
 lay_none : (set : ℕ → Bool) (level number : ℕ) → level ≡ 30
     → SomeIn (number * leaf_count level) (number * leaf_count level + (leaf_count level - 1)) set false
-    → HasLaid set (number * leaf_count level) → HasLaid set (number * leaf_count level + leaf_count level)
+    → HasLaid set (number * leaf_count level) → HasLaid set
+    (number * leaf_count level + leaf_count level)
 lay_none set level number last outside laid =
     let none : 30 - level ≡ 0 = omega (arith, last) in
     let one : leaf_count level ≡ 1 = ap (λ n. 4 ^ n) none in
@@ -102,11 +117,13 @@ lay_none set level number last outside laid =
 lay_quarters : (set : ℕ → Bool) (level number : ℕ) → level < 30
     → ((k : ℕ) → k < 4 → HasLaid set ((4 * number + k) * leaf_count (level + 1))
     → HasLaid set ((4 * number + k) * leaf_count (level + 1) + leaf_count (level + 1)))
-    → HasLaid set (number * leaf_count level) → HasLaid set (number * leaf_count level + leaf_count level)
+    → HasLaid set (number * leaf_count level) → HasLaid set
+    (number * leaf_count level + leaf_count level)
 lay_quarters set level number inner lay laid =
     let begins : number * leaf_count level ≡ (4 * number + 0) * leaf_count (level + 1) =
     omega (arith, quarter_place level number 0 inner) in
-    let ends : (4 * number + 4) * leaf_count (level + 1) ≡ number * leaf_count level + leaf_count level =
+    let ends : (4 * number + 4) * leaf_count (level + 1)
+    ≡ number * leaf_count level + leaf_count level =
     omega (arith, quarter_place level number 4 inner, four_children level inner) in
     let step : (k : ℕ) → k < 4 → HasLaid set ((4 * number + k) * leaf_count (level + 1))
     → HasLaid set ((4 * number + (k + 1)) * leaf_count (level + 1)) =
@@ -117,7 +134,8 @@ lay_quarters set level number inner lay laid =
 
 lay_block : (set : ℕ → Bool) (height level number : ℕ) → level + height ≡ 30
     → number * leaf_count level + leaf_count level ≤ 6 * 2 ^ 60 → IsOpened set (cell_at level number)
-    → HasLaid set (number * leaf_count level) → HasLaid set (number * leaf_count level + leaf_count level)
+    → HasLaid set (number * leaf_count level) → HasLaid set
+    (number * leaf_count level + leaf_count level)
 lay_block set zero level number total within opened laid =
     elim (all_or_one set (number * leaf_count level) (leaf_count level - 1)) [
       | inl all ↦ lay_whole set level number (omega (arith, total)) within opened all laid
@@ -130,7 +148,9 @@ lay_block set (suc height) level number total within opened laid =
           let inner : level < 30 = omega (arith, total) in
           lay_quarters set level number inner (λ k below before.
           let given = lay_quarter set level number k inner below within outside in
-          lay_block set height (level + 1) (4 * number + k) (omega (arith, total)) given.0 given.1 before) laid
+          lay_block set height (level + 1) (4 * number + k) (omega (arith, total)) given.0 given.1
+          before)
+          laid
     ]
 
 lay_faces : (set : ℕ → Bool) (faces : ℕ) → faces ≤ 6 → HasLaid set (faces * leaf_count 0)
@@ -140,13 +160,15 @@ lay_faces set (suc faces) most =
     let block = block_at 0 faces (omega arith) within in
     let next : faces * leaf_count 0 + leaf_count 0 ≡ suc faces * leaf_count 0 = omega arith in
     subst (HasLaid set) next
-    (lay_block set 30 0 faces refl within (inl block.level_is) (lay_faces set faces (omega (arith, most))))
+    (lay_block set 30 0 faces refl within (inl block.level_is)
+    (lay_faces set faces (omega (arith, most))))
 
 pub has_canonical : (set : ℕ → Bool) → ((p : ℕ) → IsTrue (set p) → p < 6 * 2 ^ 60)
     → (ids : List ℕ) × (IsCanonical set ids × ((p : ℕ) → leaves_of ids p ≡ set p))
 has_canonical set below =
     let laid = lay_faces set 6 (omega arith) in
-    let within : (p : ℕ) → IsTrue (set p) → p < 6 * leaf_count 0 = λ p has. omega (arith, below p has) in (
+    let within : (p : ℕ) → IsTrue (set p) → p < 6 * leaf_count 0 = λ p has. omega (arith, below p has)
+    in (
       laid.0,
       (
         canonical_when_laid set laid.0 (6 * leaf_count 0) laid.1 within,

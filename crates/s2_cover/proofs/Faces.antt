@@ -65,24 +65,28 @@ pub within_face : (w : WideParts) (p : ℕ) → IsTrue (wide_set w p) → p < la
 within_face w p has = elim (cases_lt p (last_position (whole w.face) + 1)) [
   | inl within ↦ within
   | inr after ↦
-      absurd (both_ways (wide_set w p) (other_face w p (λ same. omega (arith, same, after, whole_first w.face))) has)
+      absurd (both_ways (wide_set w p) (other_face w p
+      (λ same. omega (arith, same, after, whole_first w.face))) has)
 ]
 
 from_face : (w : WideParts) (p : ℕ) → IsTrue (wide_set w p) → first_position (whole w.face) ≤ p
 from_face w p has = elim (cases_lt p (first_position (whole w.face))) [
   | inr from ↦ from
   | inl before ↦
-      absurd (both_ways (wide_set w p) (other_face w p (λ same. omega (arith, same, before, whole_first w.face))) has)
+      absurd (both_ways (wide_set w p) (other_face w p
+      (λ same. omega (arith, same, before, whole_first w.face))) has)
 ]
 
 -- a cell with a leaf of the rectangle lies on its face
 lies_on_face : (w : WideParts) (id p : ℕ) → w.face < 6 → IsCellId id → IsTrue (cell_has id p)
     → IsTrue (wide_set w p)
-    → (first_position (whole w.face) ≤ first_leaf id) × (last_leaf id < last_position (whole w.face) + 1)
+    → (first_position (whole w.face) ≤ first_leaf id)
+    × (last_leaf id < last_position (whole w.face) + 1)
 lies_on_face w id p face valid here has =
     let block = square_block (whole w.face) (whole_is w.face face) in
     let on_face : IsTrue (cell_has (square_id (whole w.face)) p) =
-    has_position (square_id (whole w.face)) p block.valid (omega (arith, block.begins, from_face w p has))
+    has_position (square_id (whole w.face)) p block.valid
+    (omega (arith, block.begins, from_face w p has))
     (omega (arith, block.ends, within_face w p has, some_leaves 0)) in
     let lies =
     nested id (square_id (whole w.face)) p valid block.valid here on_face
@@ -93,7 +97,8 @@ lies_on_face w id p face valid here has =
 
 -- all crossed cells lie on the rectangle's face
 all_crossed : (w : WideParts) (ids : List ℕ) → w.face < 6
-    → AreCrossedIn (wide_set w) 60 (first_position (whole w.face)) (last_position (whole w.face) + 1) ids
+    → AreCrossedIn (wide_set w) 60 (first_position (whole w.face)) (last_position (whole w.face) + 1)
+    ids
     → AreCrossed (wide_set w) ids
 all_crossed w ids face crossed = record {
   once = crossed.once;
@@ -144,7 +149,8 @@ covered w square limit new before ids is none face level walked =
     λ p has. subst (λ s. p < last_position s + 1) (sym is) (within_face w p has) in
     let canonical = canonical_when_laid set ids upto walked.laid within in
     let leaves = leaves_when_laid set ids upto walked.laid within in
-    let long : length ids ≡ length walked.more = ap length (walked.grown ∙ ap (λ b. b ++ walked.more) none) in
+    let long : length ids ≡ length walked.more =
+    ap length (walked.grown ∙ ap (λ b. b ++ walked.more) none) in
     let most =
     most_looks (w.level - square.level) (length walked.more) limit (omega (arith, level))
     (omega (arith, long, walked.few)) in
@@ -158,7 +164,9 @@ covered w square limit new before ids is none face level walked =
         walked.marked,
         (
           all_crossed w walked.marked face
-              (subst (λ s. AreCrossedIn set 60 (first_position s) (last_position s + 1) walked.marked) is walked.crossed),
+              (subst (λ s. AreCrossedIn set 60 (first_position s) (last_position s + 1) walked.marked)
+              is
+              walked.crossed),
           omega (arith, walked.exact),
         ),
       );
@@ -182,9 +190,12 @@ pub covers_footprint : (rect : RectParts) (ids : List ℕ) → IsRect rect
     → IsTrue (leaves_of ids (position_of leaf)) ↔ IsInFootprint rect leaf
 unfolding wide_set
 covers_footprint rect ids is same leaf here =
-    let undone : wide_has (widened rect) (grid_leaf_at (position_of leaf)) ≡ wide_has (widened rect) leaf =
+    let undone : wide_has (widened rect) (grid_leaf_at (position_of leaf))
+    ≡ wide_has (widened rect) leaf =
     ap (wide_has (widened rect)) (leaf_undone leaf here) in
-    let tests : leaves_of ids (position_of leaf) ≡ wide_has (widened rect) leaf = same (position_of leaf) ∙ undone in
+    let tests : leaves_of ids (position_of leaf) ≡ wide_has (widened rect) leaf =
+    same (position_of leaf)
+    ∙ undone in
     let told = footprint_is rect leaf is in (
       λ has. told.0 (sym tests ∙ has),
       λ inside. tests ∙ told.1 inside,
@@ -207,7 +218,8 @@ some_of (id ∷ ids) p has = omega arith
 
 -- so its cover has a cell
 pub some_cells : (r : RectParts) (ids : List ℕ) → IsRect r
-    → ((leaf : GridLeaf) → IsLeaf leaf → IsTrue (leaves_of ids (position_of leaf)) ↔ IsInFootprint r leaf)
+    → ((leaf : GridLeaf) → IsLeaf leaf → IsTrue (leaves_of ids (position_of leaf))
+    ↔ IsInFootprint r leaf)
     → 0 < length ids
 unfolding least_leaf
 some_cells r ids is told =

@@ -74,8 +74,10 @@ footprint_is rect leaf is =
           },
       λ inside.
           let face = on_face (widened rect) leaf (inside.share.same_face ∙ inside.face) in
-          let i = along_is side rect.i_min rect.i_max leaf.i inside.inner.i some inside.i inside.share.same_i in
-          let j = along_is side rect.j_min rect.j_max leaf.j inside.inner.j some inside.j inside.share.same_j in
+          let i = along_is side rect.i_min rect.i_max leaf.i inside.inner.i some inside.i inside.share.same_i
+          in
+          let j = along_is side rect.j_min rect.j_max leaf.j inside.inner.j some inside.j inside.share.same_j
+          in
           ap (λ b. b && (is_along side (rect.i_min / side) (rect.i_max / side) leaf.i
           && is_along side (rect.j_min / side) (rect.j_max / side) leaf.j)) face
           ∙ ap (λ b. b && is_along side (rect.j_min / side) (rect.j_max / side) leaf.j) i ∙ j,

@@ -62,7 +62,8 @@ largest_apart set a b p largest_a largest_b has_a has_b =
         | inl more ↦
             absurd (none_larger set b a p largest_b largest_a.valid largest_a.inside has_b has_a more)
         | inr at_most ↦
-            same_cell a b p largest_a.valid largest_b.valid has_a has_b (omega (arith, at_least, at_most))
+            same_cell a b p largest_a.valid largest_b.valid has_a has_b
+            (omega (arith, at_least, at_most))
       ]
     ]
 
@@ -144,7 +145,8 @@ next_cut span position id cut largest other valid from begins reaches =
       | inr later ↦
           let p = first_leaf other in
           let has_id =
-          has_position id p largest.is.valid (omega (arith, later, largest.is)) (omega (arith, begins)) in
+          has_position id p largest.is.valid (omega (arith, later, largest.is)) (omega (arith, begins))
+          in
           elim (cases_lt (lowest_place id) (lowest_place other)) [
             | inl small ↦
                 let lies =
@@ -211,7 +213,8 @@ laid_more set ids position id laid largest begins =
                 parts ∙ or_left (leaves_of ids p) (leaves_of (id ∷ []) p) (laid.covered p covered has)
             | inr beyond ↦
                 let here : IsTrue (cell_has id p) =
-                has_position id p largest.valid (omega (arith, beyond, begins)) (omega (arith, below)) in
+                has_position id p largest.valid (omega (arith, beyond, begins)) (omega (arith, below))
+                in
                 parts ∙ or_right (leaves_of ids p) (leaves_of (id ∷ []) p)
                 (or_left (cell_has id p) false here)
           ];

@@ -22,8 +22,11 @@ use Rattle.s2_cover.proofs.RangeTests.{or_left, or_right}
 use Rattle.s2_cover.proofs.Uniqueness.{contains_first, contains_later, contains_cases, same_canonical}
 
 -- the numbers of a range, one after the other
-listed : (first n p : ℕ) → first ≤ p → p < first + n → (d : ℕ) → get_or (range_with_len first n) (p - first) d ≡ p
-listed first n p low high d = get_or-range_with_len first n (p - first) d (omega (arith, low, high)) ∙ omega (arith, low)
+listed : (first n p : ℕ) → first ≤ p → p < first + n → (d : ℕ)
+    → get_or (range_with_len first n) (p - first) d
+    ≡ p
+listed first n p low high d = get_or-range_with_len first n (p - first) d (omega (arith, low, high))
+    ∙ omega (arith, low)
 
 rises : (first n : ℕ) → IsStrictlyIncreasing (range_with_len first n)
 rises first n k below =
@@ -37,7 +40,8 @@ rises first n k below =
 within : (n p : ℕ) → p < n → Contains (range_with_len 0 n) p
 within n p below = (
   p,
-  (let long : length (range_with_len 0 n) ≡ n = length-range_with_len 0 n in omega (arith, long, below)),
+  (let long : length (range_with_len 0 n) ≡ n = length-range_with_len 0 n
+      in omega (arith, long, below)),
   get_or-range_with_len 0 n p p below ∙ omega arith,
 )
 
@@ -52,11 +56,13 @@ kept_step test x rest z false is below there = below there
 
 passes : (test : ℕ → Bool) (xs : List ℕ) (z : ℕ) → Contains (filter test xs) z → test z ≡ true
 passes test [] z there = absurd (omega (arith, there.1))
-passes test (x ∷ xs) z there = kept_step test x (filter test xs) z (test x) refl (passes test xs z) there
+passes test (x ∷ xs) z there = kept_step test x (filter test xs) z (test x) refl (passes test xs z)
+    there
 
 keep_step : (test : ℕ → Bool) (x : ℕ) (rest : List ℕ) (z : ℕ) (b : Bool) → test x ≡ b → test z ≡ true
     → (x ≡ z) ⊎ Contains rest z → Contains (cond b (x ∷ rest) rest) z
-keep_step test x rest z true is has (inl same) = subst (Contains (x ∷ rest)) same (contains_first x rest)
+keep_step test x rest z true is has (inl same) =
+    subst (Contains (x ∷ rest)) same (contains_first x rest)
 keep_step test x rest z true is has (inr later) = contains_later x z rest later
 keep_step test x rest z false is has (inl same) = absurd (both_ways (test x) is (ap test same ∙ has))
 keep_step test x rest z false is has (inr later) = later
@@ -68,7 +74,8 @@ or_later x z xs rest on there = elim (contains_cases x z xs there) [
   | inr later ↦ inr (on later)
 ]
 
-keeps : (test : ℕ → Bool) (xs : List ℕ) (z : ℕ) → test z ≡ true → Contains xs z → Contains (filter test xs) z
+keeps : (test : ℕ → Bool) (xs : List ℕ) (z : ℕ) → test z ≡ true → Contains xs z
+    → Contains (filter test xs) z
 keeps test [] z has there = absurd (omega (arith, there.1))
 keeps test (x ∷ xs) z has there =
     keep_step test x (filter test xs) z (test x) refl has
@@ -84,7 +91,8 @@ all_listed set first n all =
     get_or-range_with_len first n k d (omega (arith, below, long)) in
     ap set at ∙ all (first + k) (omega arith) (omega (arith, below, long)))
 
-each_listed : (set : ℕ → Bool) (first n p : ℕ) → list_all set (range_with_len first n) ≡ true → first ≤ p
+each_listed : (set : ℕ → Bool) (first n p : ℕ) → list_all set (range_with_len first n) ≡ true
+    → first ≤ p
     → p < first + n → set p ≡ true
 each_listed set first n p all low high =
     let long : length (range_with_len first n) ≡ n = length-range_with_len first n in
@@ -99,7 +107,8 @@ has_all set id valid all p there =
     each_listed set (first_leaf id) (last_leaf id + 1 - first_leaf id) p all range.0
     (omega (arith, range, ends_below id valid))
 
-has_when_all : (set : ℕ → Bool) (id : ℕ) → IsCellId id → ((p : ℕ) → IsTrue (cell_has id p) → IsTrue (set p))
+has_when_all : (set : ℕ → Bool) (id : ℕ) → IsCellId id
+    → ((p : ℕ) → IsTrue (cell_has id p) → IsTrue (set p))
     → has_cell set id ≡ true
 unfolding has_cell
 has_when_all set id valid all =
@@ -117,8 +126,13 @@ has_not set id valid fails =
           let range = position_in id p valid there in
           all p range.0 (omega (arith, range, ends))) in
           absurd (both_ways (has_cell set id) fails has)
-      | inr some ↦
-          (some.number, (has_position id some.number valid some.low (omega (arith, some.high, ends)), some.is))
+      | inr some ↦ (
+        some.number,
+        (
+          has_position id some.number valid some.low (omega (arith, some.high, ends)),
+          some.is,
+        ),
+      )
     ]
 
 -- the level of a cell with a larger one round it
@@ -183,7 +197,8 @@ filtered set n below = record {
   ascending = IsStrictlyIncreasing-filter (is_largest set) (range_with_len 0 n) (rises 0 n);
   members = λ id. (
     λ there. largest_if set id (passes (is_largest set) (range_with_len 0 n) id there),
-    λ largest. keeps (is_largest set) (range_with_len 0 n) id (if_largest set id largest) (within n id (below id largest)),
+    λ largest. keeps (is_largest set) (range_with_len 0 n) id (if_largest set id largest)
+        (within n id (below id largest)),
   );
 }
 
@@ -194,7 +209,8 @@ list_is set = filtered set (2 ^ 64) (λ id largest. (id_between id largest.valid
 pub same_list : (set : ℕ → Bool) (ids : List ℕ) → IsCanonical set ids → ids ≡ canonical_list set
 same_list set ids canonical = same_canonical set ids (canonical_list set) canonical (list_is set)
 
-pub longer : (set : ℕ → Bool) (limit : ℕ) (fault : CoverFault) → IsRefused set limit fault → IsLonger set limit fault
+pub longer : (set : ℕ → Bool) (limit : ℕ) (fault : CoverFault) → IsRefused set limit fault
+    → IsLonger set limit fault
 longer set limit (TooManyCells looked) refused =
     subst (λ ids. limit < length ids) (same_list set refused.1.0 refused.1.1.0) refused.1.1.1
 longer set limit OutOfMemory refused = tt

@@ -149,7 +149,10 @@ adds cells place span of p =
 pub merged_joined : (cells : List ℕ) (count : ℕ) (spans : List Span) (current span : Span)
     → IsMerged cells count spans current → IsSpanOf cells count span
     → span.first ≤ current.last + 1
-    → IsMerged cells (count + 1) spans (record { first = current.first; last = max current.last span.last })
+    → IsMerged cells (count + 1) spans (record {
+      first = current.first;
+      last = max current.last span.last;
+    })
 merged_joined cells count spans current span merged of near = record {
   ends =
       joined (leaves_of (take count cells)) (leaves_of (take (count + 1) cells)) spans current span

@@ -141,7 +141,8 @@ pub record IsParent (id parent : ℕ) : Type 0 where
 parent_block : (id unit number bit q rest whole share : ℕ) → id ≡ 2 * (number * unit) + unit
     → 0 < unit → bit ≡ 4 * unit → q * (2 * bit) + rest ≡ id → rest < 2 * bit → whole ≡ share * (2 * bit)
     → id < whole
-    → (q * bit ≤ number * unit) × (number * unit + unit ≤ q * bit + bit) × (q * (2 * bit) + 2 * bit ≤ whole)
+    → (q * bit ≤ number * unit) × (number * unit + unit ≤ q * bit + bit)
+    × (q * (2 * bit) + 2 * bit ≤ whole)
 parent_block id unit number bit q rest whole share is positive four split small shares below =
     let product : q * bit ≡ (4 * q) * unit = ap (λ n. q * n) four ∙ omega arith in
     let low : (8 * q) * unit < (2 * number + 2) * unit = omega (arith, product, is, split, positive) in
@@ -192,7 +193,8 @@ parent_is id valid inner =
     ∙ ap (λ n. 6 * (2 ^ (61 - (k + 3)) * n)) eight ∙ omega arith in
     let below : id < 6 * 2 ^ 61 = omega (arith, leaves) in
     let room =
-    parent_block id unit (number_of id) bit q (id % (2 * bit)) (6 * 2 ^ 61) share block.id_is leaves.some
+    parent_block id unit (number_of id) bit q (id % (2 * bit)) (6 * 2 ^ 61) share block.id_is
+    leaves.some
     larger_bit split (mod_below id (2 * bit) (omega (arith, leaves.some, larger_bit))) whole below in
     let parent = parent_of id in
     let fits : parent < 6 * 2 ^ 61 = omega (arith, room, leaves.some, larger_bit) in

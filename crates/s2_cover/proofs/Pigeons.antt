@@ -54,5 +54,6 @@ no_longer R (x ∷ xs) ys up own apart =
           let is = apart x z y (contains_first x xs) (contains_later x z xs there) first.1.1 shared in
           absurd (omega (arith, above_first x z xs up there, is))
     ])
-    (λ a b z there_a there_b. apart a b z (contains_later x a xs there_a) (contains_later x b xs there_b)) in
+    (λ a b z there_a there_b. apart a b z (contains_later x a xs there_a)
+    (contains_later x b xs there_b)) in
     omega (arith, fewer.long, rest)

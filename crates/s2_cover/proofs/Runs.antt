@@ -78,7 +78,12 @@ between_spans : (set : ℕ → Bool) (spans : List Span) (i p : ℕ) → IsRange
 between_spans set spans i p ranges there low high = not_lying set spans p ranges (λ lies.
     elim (cases_lt lies.place i) [
       | inl before ↦
-          omega (arith, ended set spans i lies.place ranges before (omega (arith, there)), lies.range, low)
+          omega (
+            arith,
+            ended set spans i lies.place ranges before (omega (arith, there)),
+            lies.range,
+            low,
+          )
       | inr not_before ↦ elim (cases_lt i lies.place) [
         | inl after ↦
             omega (
@@ -149,4 +154,8 @@ pub all_below : (set : ℕ → Bool) (spans : List Span) (p : ℕ) → IsRanges 
     → IsTrue (set p) → p < end_of spans (length spans)
 all_below set spans p ranges has =
     let lies = lies_at set spans p ranges has in
-    omega (arith, ended set spans (length spans) lies.place ranges lies.within (omega arith), lies.range)
+    omega (
+      arith,
+      ended set spans (length spans) lies.place ranges lies.within (omega arith),
+      lies.range,
+    )

@@ -30,12 +30,19 @@ own_cell set others id valid same largest =
     let is = valid other there in
     elim (cases_lt (lowest_place id) (lowest_place other)) [
       | inl less ↦
-          absurd (none_larger set id other p largest is (λ q has. sym (same q) ∙ has_leaf others other q there has)
+          absurd (none_larger set id other p largest is
+          (λ q has. sym (same q) ∙ has_leaf others other q there has)
           here any.4 less)
       | inr at_least ↦
           let lies = nested other id p is largest.valid any.4 here at_least in
-          let leaves = has_leaves other is in
-          (other, (there, has_position id (first_leaf other) largest.valid lies.first (omega (arith, lies.last, leaves))))
+          let leaves = has_leaves other is in (
+            other,
+            (
+              there,
+              has_position id (first_leaf other) largest.valid lies.first
+                  (omega (arith, lies.last, leaves)),
+            ),
+          )
     ]
 
 pub no_shorter : (set : ℕ → Bool) (ids others : List ℕ) → IsCanonical set ids
@@ -46,4 +53,5 @@ no_shorter set ids others canonical valid same =
     (AllPairs-from_increasing ids canonical.ascending)
     (λ id there. own_cell set others id valid same ((canonical.members id).0 there))
     (λ a b other there_a there_b one two.
-    largest_apart set a b (first_leaf other) ((canonical.members a).0 there_a) ((canonical.members b).0 there_b) one two)
+    largest_apart set a b (first_leaf other) ((canonical.members a).0 there_a)
+    ((canonical.members b).0 there_b) one two)

@@ -17,7 +17,8 @@ use Rattle.s2_cover.proofs.RangeTests.{of_range}
 use Rattle.s2_cover.proofs.SquareCells.{last_below}
 
 pub div_mono : (m n side : ℕ) → 0 < side → m ≤ n → m / side ≤ n / side
-div_mono m n side some order = le-div (m / side) n side some (omega (arith, order, div-mul-le_self m side))
+div_mono m n side some order = le-div (m / side) n side some
+    (omega (arith, order, div-mul-le_self m side))
 
 -- a number whose square comes before the least
 not_low : (side least greatest n : ℕ) → n / side < least → is_along side least greatest n ≡ false
@@ -46,7 +47,8 @@ within_all side least greatest first last some from upto n low high =
 -- a range that begins before the least square and reaches it
 pub across_low : (side least greatest first last : ℕ) → 0 < side → first ≤ last → least ≤ greatest
     → first / side < least → least ≤ last / side
-    → SomeIn first last (is_along side least greatest) true × SomeIn first last (is_along side least greatest) false
+    → SomeIn first last (is_along side least greatest) true
+    × SomeIn first last (is_along side least greatest) false
 across_low side least greatest first last some order bounds before reaches =
     let inner = least * side in
     let low : first ≤ inner = elim (cases_lt inner first) [
@@ -60,7 +62,8 @@ across_low side least greatest first last some order bounds before reaches =
         number = inner;
         low = low;
         high = high;
-        is = of_range least greatest (inner / side) (omega (arith, square)) (omega (arith, square, bounds));
+        is = of_range least greatest (inner / side) (omega (arith, square))
+            (omega (arith, square, bounds));
       },
       record {
         number = first;
@@ -73,7 +76,8 @@ across_low side least greatest first last some order bounds before reaches =
 -- a range that begins in the squares and ends after the greatest
 pub across_high : (side least greatest first last : ℕ) → first ≤ last
     → least ≤ first / side → first / side ≤ greatest → greatest < last / side
-    → SomeIn first last (is_along side least greatest) true × SomeIn first last (is_along side least greatest) false
+    → SomeIn first last (is_along side least greatest) true
+    × SomeIn first last (is_along side least greatest) false
 across_high side least greatest first last order from within beyond = (
   record {
     number = first;
@@ -106,7 +110,8 @@ some_span level quotient first last spans =
 
 -- what two tests of coordinates give together
 abbrev both_tests : WideParts → ℕ → ℕ → Bool
-both_tests w i j = is_along (side_of w.level) w.a_min w.a_max i && is_along (side_of w.level) w.b_min w.b_max j
+both_tests w i j = is_along (side_of w.level) w.a_min w.a_max i
+    && is_along (side_of w.level) w.b_min w.b_max j
 
 pub on_face : (w : WideParts) (leaf : GridLeaf) → leaf.face ≡ w.face → (leaf.face == w.face) ≡ true
 on_face w leaf same = grind (arith, nat_tests)
@@ -135,7 +140,8 @@ point_of w square i_first i_last j_first j_last p is face spans low high =
       i_in = (spans.i leaf.i).0 within.i_within;
       j_in = (spans.j leaf.j).0 within.j_within;
       is = ap (λ b. b && (is_along (side_of w.level) w.a_min w.a_max leaf.i
-          && is_along (side_of w.level) w.b_min w.b_max leaf.j)) (on_face w leaf (within.on_face ∙ face));
+          && is_along (side_of w.level) w.b_min w.b_max leaf.j))
+          (on_face w leaf (within.on_face ∙ face));
     }
 
 -- and each two coordinates of the square are those of a leaf at one of its positions
@@ -180,60 +186,67 @@ saw_both : (w : WideParts) (square : GridSquare) (i_first i_last j_first j_last 
     → Saw i_first i_last (is_along (side_of w.level) w.a_min w.a_max) i_sight
     → Saw j_first j_last (is_along (side_of w.level) w.b_min w.b_max) j_sight
     → Saw (first_position square) (last_position square) (wide_set w) (both i_sight j_sight)
-saw_both w square i_first i_last j_first j_last i_sight j_sight is face spans = by_sights i_sight j_sight where
-  Test : Type 0
-  Test = ℕ → Bool
+saw_both w square i_first i_last j_first j_last i_sight j_sight is face spans =
+    by_sights i_sight j_sight where
+      Test : Type 0
+      Test = ℕ → Bool
 
-  i_test : ℕ → Bool
-  i_test = is_along (side_of w.level) w.a_min w.a_max
+      i_test : ℕ → Bool
+      i_test = is_along (side_of w.level) w.a_min w.a_max
 
-  j_test : ℕ → Bool
-  j_test = is_along (side_of w.level) w.b_min w.b_max
+      j_test : ℕ → Bool
+      j_test = is_along (side_of w.level) w.b_min w.b_max
 
-  all : (b : Bool) → ((i j : ℕ) → IsInRange i_first i_last i → IsInRange j_first j_last j → (i_test i && j_test j) ≡ b)
-      → AllIn (first_position square) (last_position square) (wide_set w) b
-  all b tests p low high =
-      let point = point_of w square i_first i_last j_first j_last p is face spans low high in
-      point.is ∙ tests point.i point.j point.i_in point.j_in
+      all : (b : Bool) → ((i j : ℕ) → IsInRange i_first i_last i → IsInRange j_first j_last j
+          → (i_test i && j_test j) ≡ b)
+          → AllIn (first_position square) (last_position square) (wide_set w) b
+      all b tests p low high =
+          let point = point_of w square i_first i_last j_first j_last p is face spans low high in
+          point.is ∙ tests point.i point.j point.i_in point.j_in
 
-  some : (b : Bool) (i j : ℕ) → i_first ≤ i → i ≤ i_last → j_first ≤ j → j ≤ j_last → (i_test i && j_test j) ≡ b
-      → SomeIn (first_position square) (last_position square) (wide_set w) b
-  some b i j i_low i_high j_low j_high holds =
-      some_at w square i_first i_last j_first j_last i j b is face spans (i_low, i_high) (j_low, j_high) holds
+      some : (b : Bool) (i j : ℕ) → i_first ≤ i → i ≤ i_last → j_first ≤ j → j ≤ j_last
+          → (i_test i && j_test j)
+          ≡ b
+          → SomeIn (first_position square) (last_position square) (wide_set w) b
+      some b i j i_low i_high j_low j_high holds =
+          some_at w square i_first i_last j_first j_last i j b is face spans (i_low, i_high)
+          (j_low, j_high) holds
 
-  i_order : i_first ≤ i_last
-  i_order = some_span square.level square.a i_first i_last spans.i
+      i_order : i_first ≤ i_last
+      i_order = some_span square.level square.a i_first i_last spans.i
 
-  j_order : j_first ≤ j_last
-  j_order = some_span square.level square.b j_first j_last spans.j
+      j_order : j_first ≤ j_last
+      j_order = some_span square.level square.b j_first j_last spans.j
 
-  by_sights : (i_sight j_sight : Sight) → Saw i_first i_last i_test i_sight → Saw j_first j_last j_test j_sight
-      → Saw (first_position square) (last_position square) (wide_set w) (both i_sight j_sight)
-  by_sights Outside j_sight i_saw j_saw = all false (λ i j i_in j_in. ap (λ b. b && j_test j) (i_saw i i_in.0 i_in.1))
-  by_sights Inside Outside i_saw j_saw = all false (λ i j i_in j_in.
-      ap (λ b. b && j_test j) (i_saw i i_in.0 i_in.1) ∙ j_saw j j_in.0 j_in.1)
-  by_sights Inside Inside i_saw j_saw = all true (λ i j i_in j_in.
-      ap (λ b. b && j_test j) (i_saw i i_in.0 i_in.1) ∙ j_saw j j_in.0 j_in.1)
-  by_sights Inside Across i_saw j_saw = (
-    some true i_first j_saw.0.number (omega arith) i_order j_saw.0.low j_saw.0.high
-        (ap (λ b. b && j_test j_saw.0.number) (i_saw i_first (omega arith) i_order) ∙ j_saw.0.is),
-    some false i_first j_saw.1.number (omega arith) i_order j_saw.1.low j_saw.1.high
-        (ap (λ b. b && j_test j_saw.1.number) (i_saw i_first (omega arith) i_order) ∙ j_saw.1.is),
-  )
-  by_sights Across Outside i_saw j_saw = all false (λ i j i_in j_in.
-      ap (λ b. i_test i && b) (j_saw j j_in.0 j_in.1) ∙ and_none (i_test i))
-  by_sights Across Inside i_saw j_saw = (
-    some true i_saw.0.number j_first i_saw.0.low i_saw.0.high (omega arith) j_order
-        (ap (λ b. b && j_test j_first) i_saw.0.is ∙ j_saw j_first (omega arith) j_order),
-    some false i_saw.1.number j_first i_saw.1.low i_saw.1.high (omega arith) j_order
-        (ap (λ b. b && j_test j_first) i_saw.1.is),
-  )
-  by_sights Across Across i_saw j_saw = (
-    some true i_saw.0.number j_saw.0.number i_saw.0.low i_saw.0.high j_saw.0.low j_saw.0.high
-        (ap (λ b. b && j_test j_saw.0.number) i_saw.0.is ∙ j_saw.0.is),
-    some false i_saw.1.number j_saw.0.number i_saw.1.low i_saw.1.high j_saw.0.low j_saw.0.high
-        (ap (λ b. b && j_test j_saw.0.number) i_saw.1.is),
-  )
+      by_sights : (i_sight j_sight : Sight) → Saw i_first i_last i_test i_sight
+          → Saw j_first j_last j_test j_sight
+          → Saw (first_position square) (last_position square) (wide_set w) (both i_sight j_sight)
+      by_sights Outside j_sight i_saw j_saw = all false
+          (λ i j i_in j_in. ap (λ b. b && j_test j) (i_saw i i_in.0 i_in.1))
+      by_sights Inside Outside i_saw j_saw = all false (λ i j i_in j_in.
+          ap (λ b. b && j_test j) (i_saw i i_in.0 i_in.1) ∙ j_saw j j_in.0 j_in.1)
+      by_sights Inside Inside i_saw j_saw = all true (λ i j i_in j_in.
+          ap (λ b. b && j_test j) (i_saw i i_in.0 i_in.1) ∙ j_saw j j_in.0 j_in.1)
+      by_sights Inside Across i_saw j_saw = (
+        some true i_first j_saw.0.number (omega arith) i_order j_saw.0.low j_saw.0.high
+            (ap (λ b. b && j_test j_saw.0.number) (i_saw i_first (omega arith) i_order) ∙ j_saw.0.is),
+        some false i_first j_saw.1.number (omega arith) i_order j_saw.1.low j_saw.1.high
+            (ap (λ b. b && j_test j_saw.1.number) (i_saw i_first (omega arith) i_order) ∙ j_saw.1.is),
+      )
+      by_sights Across Outside i_saw j_saw = all false (λ i j i_in j_in.
+          ap (λ b. i_test i && b) (j_saw j j_in.0 j_in.1) ∙ and_none (i_test i))
+      by_sights Across Inside i_saw j_saw = (
+        some true i_saw.0.number j_first i_saw.0.low i_saw.0.high (omega arith) j_order
+            (ap (λ b. b && j_test j_first) i_saw.0.is ∙ j_saw j_first (omega arith) j_order),
+        some false i_saw.1.number j_first i_saw.1.low i_saw.1.high (omega arith) j_order
+            (ap (λ b. b && j_test j_first) i_saw.1.is),
+      )
+      by_sights Across Across i_saw j_saw = (
+        some true i_saw.0.number j_saw.0.number i_saw.0.low i_saw.0.high j_saw.0.low j_saw.0.high
+            (ap (λ b. b && j_test j_saw.0.number) i_saw.0.is ∙ j_saw.0.is),
+        some false i_saw.1.number j_saw.0.number i_saw.1.low i_saw.1.high j_saw.0.low j_saw.0.high
+            (ap (λ b. b && j_test j_saw.0.number) i_saw.1.is),
+      )
 
 across_cases : (i_sight j_sight : Sight) → both i_sight j_sight ≡ Across
     → (i_sight ≡ Across) ⊎ (j_sight ≡ Across)
@@ -264,19 +277,20 @@ pub square_seen : (w : WideParts) (square : GridSquare) (i_first i_last j_first 
     → Saw j_first j_last (is_along side w.b_min w.b_max) j_sight
     → (j_sight ≡ Across → j_first / side ≢ j_last / side)
     → SawSquare (wide_set w) w.level square (both i_sight j_sight)
-square_seen w square i_first i_last j_first j_last side i_sight j_sight sides is face within spans i_saw i_apart j_saw j_apart = record {
-  saw = saw_both w square i_first i_last j_first j_last i_sight j_sight is face spans
-      (subst (λ s. Saw i_first i_last (is_along s w.a_min w.a_max) i_sight) sides i_saw)
-      (subst (λ s. Saw j_first j_last (is_along s w.b_min w.b_max) j_sight) sides j_saw);
-  above = λ across.
-      let other : square.level ≢ w.level = elim (across_cases i_sight j_sight across) [
-        | inl i_across ↦ never_level square w.level square.a i_first i_last spans.i
-            (subst (λ s. i_first / s ≢ i_last / s) sides (i_apart i_across))
-        | inr j_across ↦ never_level square w.level square.b j_first j_last spans.j
-            (subst (λ s. j_first / s ≢ j_last / s) sides (j_apart j_across))
-      ] in
-      elim (cases_lt square.level w.level) [
-        | inl less ↦ less
-        | inr not_less ↦ absurd (other (omega (arith, within, not_less)))
-      ];
-}
+square_seen w square i_first i_last j_first j_last side i_sight j_sight sides is face within spans i_saw
+    i_apart j_saw j_apart = record {
+      saw = saw_both w square i_first i_last j_first j_last i_sight j_sight is face spans
+          (subst (λ s. Saw i_first i_last (is_along s w.a_min w.a_max) i_sight) sides i_saw)
+          (subst (λ s. Saw j_first j_last (is_along s w.b_min w.b_max) j_sight) sides j_saw);
+      above = λ across.
+          let other : square.level ≢ w.level = elim (across_cases i_sight j_sight across) [
+            | inl i_across ↦ never_level square w.level square.a i_first i_last spans.i
+                (subst (λ s. i_first / s ≢ i_last / s) sides (i_apart i_across))
+            | inr j_across ↦ never_level square w.level square.b j_first j_last spans.j
+                (subst (λ s. j_first / s ≢ j_last / s) sides (j_apart j_across))
+          ] in
+          elim (cases_lt square.level w.level) [
+            | inl less ↦ less
+            | inr not_less ↦ absurd (other (omega (arith, within, not_less)))
+          ];
+    }

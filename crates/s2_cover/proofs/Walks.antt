@@ -53,7 +53,8 @@ walked_outside set levels limit first last old before laid order none few counte
   exact = omega arith;
   more = [];
   grown = sym (append-nil before);
-  laid = laid_upto set before first (last + 1) laid order (λ p low high. none p low (omega (arith, high)));
+  laid = laid_upto set before first (last + 1) laid order
+      (λ p low high. none p low (omega (arith, high)));
   few = few;
   looks = omega arith;
   counted = omega (arith, counted);
@@ -63,24 +64,29 @@ pub walked_inside : (set : ℕ → Bool) (levels limit level first id old : ℕ)
     → IsLaid set before first
     → IsBlock id level first → IsLargest set id → AllIn first (first + (leaf_count level - 1)) set true
     → length before < limit → length before ≤ old
-    → HasWalked set levels limit first (first + (leaf_count level - 1) + 1) before (before ++ id ∷ []) old (old + 1)
+    → HasWalked set levels limit first (first + (leaf_count level - 1) + 1) before (before ++ id ∷ [])
+    old
+    (old + 1)
 walked_inside set levels limit level first id old before laid block largest all room counted =
     let long : length (before ++ id ∷ []) ≡ length before + 1 = length-append before (id ∷ []) in
-    let upto : last_leaf id + 1 ≡ first + (leaf_count level - 1) + 1 = omega (arith, block.ends, some_leaves level) in
+    let upto : last_leaf id + 1 ≡ first + (leaf_count level - 1) + 1 =
+    omega (arith, block.ends, some_leaves level) in
     record {
       marked = [];
       crossed = crossed_none set true 60 first (first + (leaf_count level - 1)) _ all refl;
       exact = omega arith;
       more = id ∷ [];
       grown = refl;
-      laid = subst (IsLaid set (before ++ id ∷ [])) upto (laid_more set before first id laid largest block.begins);
+      laid = subst (IsLaid set (before ++ id ∷ [])) upto
+          (laid_more set before first id laid largest block.begins);
       few = omega (arith, long, room);
       looks = omega arith;
       counted = omega (arith, long, counted);
     }
 
 -- cells that are laid are cells of each canonical list
-laid_within : (set : ℕ → Bool) (laid ids : List ℕ) (upto : ℕ) → IsLaid set laid upto → IsCanonical set ids
+laid_within : (set : ℕ → Bool) (laid ids : List ℕ) (upto : ℕ) → IsLaid set laid upto
+    → IsCanonical set ids
     → length laid ≤ length ids
 laid_within set laid ids upto is canonical =
     no_longer ◌≡◌ laid ids is.ascending
@@ -92,7 +98,8 @@ pub stopped_inside : (set : ℕ → Bool) (limit first id : ℕ) (before : List 
 stopped_inside set limit first id before laid largest begins full ids canonical =
     let long : length (before ++ id ∷ []) ≡ length before + 1 = length-append before (id ∷ []) in
     let most =
-    laid_within set (before ++ id ∷ []) ids (last_leaf id + 1) (laid_more set before first id laid largest begins)
+    laid_within set (before ++ id ∷ []) ids (last_leaf id + 1)
+    (laid_more set before first id laid largest begins)
     canonical in
     omega (arith, long, most, full)
 
@@ -131,21 +138,27 @@ step_looks levels one two all is = ap (λ n. levels * n) is ∙ omega arith
 pub walking_goes_on : (set : ℕ → Bool) (levels limit level first k upto child : ℕ)
     (before cells after : List ℕ) (old looked new : ℕ)
     → IsBlock child (level + 1) (first + k * leaf_count (level + 1))
-    → IsWalking set levels limit (60 - 2 * (level + 1)) first (leaf_count (level + 1)) k before cells old looked
+    → IsWalking set levels limit (60 - 2 * (level + 1)) first (leaf_count (level + 1)) k before cells
+    old
+    looked
     → HasWalked set levels limit (first + k * leaf_count (level + 1)) upto cells after looked new
     → upto ≡ first + (k + 1) * leaf_count (level + 1)
     → IsWalking set levels limit (60 - 2 * (level + 1)) first (leaf_count (level + 1))
     (k + 1) before after old new
-walking_goes_on set levels limit level first k upto child before cells after old looked new block walking walked is =
+walking_goes_on set levels limit level first k upto child before cells after old looked new block
+    walking
+    walked is =
     let long = length-append walking.more walked.more in
-    let products = step_looks levels (length walking.more) (length walked.more) (length (walking.more ++ walked.more)) long in
+    let products = step_looks levels (length walking.more) (length walked.more)
+    (length (walking.more ++ walked.more)) long in
     let count = leaf_count (level + 1) in
     let most = 60 - 2 * (level + 1) in
     let next : upto ≡ first + k * count + count = is ∙ next_place first k count in
     record {
       marked = walking.marked ++ walked.marked;
       crossed = subst (λ n. AreCrossedIn set most first n (walking.marked ++ walked.marked)) is
-          (crossings_append set most first (first + k * count) upto child (level + 1) walking.marked walked.marked block
+          (crossings_append set most first (first + k * count) upto child (level + 1) walking.marked
+          walked.marked block
           block.place next (omega arith) walking.crossed walked.crossed);
       exact = omega (arith, walking.exact, walked.exact, length-append walking.marked walked.marked);
       more = walking.more ++ walked.more;
@@ -163,24 +176,28 @@ walking_goes_on set levels limit level first k upto child before cells after old
 child_sum : (levels above taken left all : ℕ) → above ≡ levels + 1 → all ≡ taken + left → 0 < left
     → 4 + 4 * (levels * taken) + 4 * (levels * left) ≤ 4 * (above * all)
 child_sum levels above taken left all up parts some =
-    let sum : levels * all ≡ levels * taken + levels * left = ap (λ n. levels * n) parts ∙ omega arith in
+    let sum : levels * all ≡ levels * taken + levels * left = ap (λ n. levels * n) parts
+    ∙ omega arith in
     let more : above * all ≡ levels * all + all = ap (λ n. n * all) up ∙ omega arith in
     omega (arith, sum, more, parts, some)
 
 pub child_most : (set : ℕ → Bool) (levels above limit most first count k : ℕ) (before cells : List ℕ)
     (old looked : ℕ)
     → IsWalking set levels limit most first count k before cells old looked → above ≡ levels + 1 → k < 4
-    → looked + looks_for levels (limit + 1 - length cells) ≤ old + looks_for above (limit + 1 - length before)
+    → looked + looks_for levels (limit + 1 - length cells) ≤ old + looks_for above
+    (limit + 1 - length before)
 child_most set levels above limit most first count k before cells old looked walking up below =
     let long : length cells ≡ length before + length walking.more =
     ap length walking.grown ∙ length-append before walking.more in
     let sum =
-    child_sum levels above (length walking.more) (limit + 1 - length cells) (limit + 1 - length before) up
+    child_sum levels above (length walking.more) (limit + 1 - length cells) (limit + 1 - length before)
+    up
     (omega (arith, long, walking.few)) (omega (arith, walking.few)) in
     omega (arith, sum, walking.looks, below)
 
 -- a square with a leaf of the set holds a cell
-more_than_none : (set : ℕ → Bool) (first upto p : ℕ) (before cells more : List ℕ) → IsLaid set before first
+more_than_none : (set : ℕ → Bool) (first upto p : ℕ) (before cells more : List ℕ)
+    → IsLaid set before first
     → IsLaid set cells upto → cells ≡ before ++ more → first ≤ p → p < upto → IsTrue (set p)
     → 0 < length more
 more_than_none set first upto p before cells [] laid all grown low high has =
@@ -200,22 +217,30 @@ last_sum levels above cells up some =
 pub walking_ends : (set : ℕ → Bool) (levels above level limit first k id : ℕ) (before cells : List ℕ)
     (old looked : ℕ)
     → IsBlock id level first
-    → IsWalking set levels limit (60 - 2 * (level + 1)) first (leaf_count (level + 1)) k before cells old looked → k ≡ 4
+    → IsWalking set levels limit (60 - 2 * (level + 1)) first (leaf_count (level + 1)) k before cells
+    old
+    looked → k ≡ 4
     → level < 30 → above ≡ levels + 1 → IsLaid set before first
     → SomeIn first (first + (leaf_count level - 1)) set true
     → SomeIn first (first + (leaf_count level - 1)) set false
     → HasWalked set above limit first (first + (leaf_count level - 1) + 1) before cells old looked
-walking_ends set levels above level limit first k id before cells old looked block walking all inner up laid inside outside =
+walking_ends set levels above level limit first k id before cells old looked block walking all inner up
+    laid
+    inside outside =
     let four = four_children level inner in
-    let product : k * leaf_count (level + 1) ≡ 4 * leaf_count (level + 1) = ap (λ n. n * leaf_count (level + 1)) all in
+    let product : k * leaf_count (level + 1) ≡ 4 * leaf_count (level + 1) =
+    ap (λ n. n * leaf_count (level + 1)) all in
     let last = first + (leaf_count level - 1) + 1 in
-    let upto : first + k * leaf_count (level + 1) ≡ last = omega (arith, four, product, some_leaves level) in
+    let upto : first + k * leaf_count (level + 1) ≡ last =
+    omega (arith, four, product, some_leaves level) in
     let laid_all = subst (IsLaid set cells) upto walking.laid in
     let some =
     more_than_none set first last inside.number before cells walking.more laid laid_all
     walking.grown inside.low (omega (arith, inside.high)) inside.is in
-    let has : (p : ℕ) → first ≤ p → p ≤ first + (leaf_count level - 1) → IsTrue (cell_has id p) = λ p low high.
-    has_position id p block.valid (omega (arith, block.begins, low)) (omega (arith, block.ends, high, some_leaves level)) in
+    let has : (p : ℕ) → first ≤ p → p ≤ first + (leaf_count level - 1) → IsTrue (cell_has id p) =
+    λ p low high.
+    has_position id p block.valid (omega (arith, block.begins, low))
+    (omega (arith, block.ends, high, some_leaves level)) in
     let most = 60 - 2 * (level + 1) in
     let crossed : IsCrossed set id = record {
       valid = block.valid;
@@ -251,8 +276,10 @@ pub child_upto : (child square : GridSquare) (k : ℕ) → child.level ≡ squar
     → last_position child + 1 ≡ first_position square + (k + 1) * leaf_count (square.level + 1)
 child_upto child square k level first =
     let counts : leaf_count child.level ≡ leaf_count (square.level + 1) = ap leaf_count level in
-    let place : k * leaf_count child.level ≡ k * leaf_count (square.level + 1) = ap (λ n. k * n) counts in
-    let next : (k + 1) * leaf_count (square.level + 1) ≡ k * leaf_count (square.level + 1) + leaf_count (square.level + 1) =
+    let place : k * leaf_count child.level ≡ k * leaf_count (square.level + 1) =
+    ap (λ n. k * n) counts in
+    let next : (k + 1) * leaf_count (square.level + 1)
+    ≡ k * leaf_count (square.level + 1) + leaf_count (square.level + 1) =
     omega arith in
     omega (arith, first, place, next, counts, some_leaves child.level)
 
@@ -265,15 +292,18 @@ stopped_later set limit most more (TooManyCells looked) stopped order =
 stopped_later set limit most more OutOfMemory stopped order = tt
 
 -- a fault at a cell that is to be appended
-pub stopped_full : (set : ℕ → Bool) (limit first id looks most : ℕ) (before : List ℕ) (fault : CoverFault)
+pub stopped_full : (set : ℕ → Bool) (limit first id looks most : ℕ) (before : List ℕ)
+    (fault : CoverFault)
     → IsLaid set before first → IsLargest set id → first_leaf id ≡ first → length before < looks
     → looks ≤ most
     → IsFull limit (length before) looks fault → HasStopped set limit most fault
-stopped_full set limit first id looks most before (TooManyCells looked) laid largest begins counted within full = (
-  (omega (arith, full, counted), omega (arith, full.0, within)),
-  stopped_inside set limit first id before laid largest begins full.1,
-)
-stopped_full set limit first id looks most before OutOfMemory laid largest begins counted within full = tt
+stopped_full set limit first id looks most before (TooManyCells looked) laid largest begins counted
+    within full = (
+      (omega (arith, full, counted), omega (arith, full.0, within)),
+      stopped_inside set limit first id before laid largest begins full.1,
+    )
+stopped_full set limit first id looks most before OutOfMemory laid largest begins counted within full =
+    tt
 
 pub if_err : {T : Type 0} (r : Result T CoverFault) (fault : CoverFault) (P : CoverFault → Type 0)
     → IsErrAnd r (λ e. e ≡ fault) → P fault → IfErr r P

@@ -14,9 +14,11 @@ masked n bits is =
     ap (λ x. x % 256) (and_shr n even_mask bits) ∙ and_mod (n / 2 ^ bits) (even_mask / 2 ^ bits) 8
     ∙ rw is (and_mask (n / 2 ^ bits % 256) 4 ∙ mod-mod-pow (n / 2 ^ bits) 4 4)
 
-masked_byte : (n byte : ℕ) → byte < 4 → bit_and n even_mask / 2 ^ (8 * byte) % 256 ≡ n / 2 ^ (8 * byte) % 16
+masked_byte : (n byte : ℕ) → byte < 4 → bit_and n even_mask / 2 ^ (8 * byte) % 256
+    ≡ n / 2 ^ (8 * byte) % 16
 masked_byte n byte below =
-    masked n (8 * byte) (below_four (λ k. even_mask / 2 ^ (8 * k) % 256 ≡ 15) refl refl refl refl byte below)
+    masked n (8 * byte) (below_four (λ k. even_mask / 2 ^ (8 * k) % 256 ≡ 15) refl refl refl refl byte
+    below)
 
 -- each byte is one hex digit
 record HasDigits (n : ℕ) : Type 0 where
@@ -36,7 +38,8 @@ has_digits n = record {
 paired : (a b byte : ℕ) → HasDigits a → HasDigits b → byte < 4
     → (16 * a + b) / 2 ^ (8 * byte) % 256 ≡ 16 * (a / 2 ^ (8 * byte) % 256) + b / 2 ^ (8 * byte) % 256
 paired a b byte a_has b_has below =
-    below_four (λ k. (16 * a + b) / 2 ^ (8 * k) % 256 ≡ 16 * (a / 2 ^ (8 * k) % 256) + b / 2 ^ (8 * k) % 256)
+    below_four (λ k. (16 * a + b) / 2 ^ (8 * k) % 256
+    ≡ 16 * (a / 2 ^ (8 * k) % 256) + b / 2 ^ (8 * k) % 256)
     (omega arith) (omega arith) (omega arith) (omega arith) byte below
 
 pub even_digits_at : (i j byte : ℕ) → byte < 4

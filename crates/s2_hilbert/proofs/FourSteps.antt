@@ -72,15 +72,18 @@ pub fours_go_on : (turn i j step row along digit pair place' row' : ℕ) → ste
     → row' ≡ 256 * turn_at 4 ((row + pair) / 256) ((row + pair) / 16 % 16) ((row + pair) % 16)
     → HasFours turn i j step row along
     → HasFours turn i j (step + 1) row' (256 * along + place')
-fours_go_on turn i j step row along digit pair place' row' sum pair_is pair_below place_is row_is fours =
+fours_go_on turn i j step row along digit pair place' row' sum pair_is pair_below place_is row_is
+    fours =
     let key = is_key row pair fours.row_is fours.walked.turn_below pair_below in
     let high : pair / 16 ≡ i / 2 ^ (4 * digit) % 16 = omega arith in
     let low : pair % 16 ≡ j / 2 ^ (4 * digit) % 16 = omega arith in
     let place_is' = rw (key.turn_is, key.high, key.low, high, low) at place_is in
     let row_is' = rw (key.turn_is, key.high, key.low, high, low) at row_is in
-    let next = walk_four turn i j (2 + 4 * step) (row / 256) along (4 * digit) (omega arith) fours.walked in
+    let next = walk_four turn i j (2 + 4 * step) (row / 256) along (4 * digit) (omega arith)
+    fours.walked in
     let levels : 2 + 4 * (step + 1) ≡ 2 + 4 * step + 4 = omega arith in
-    let turn_is : row' / 256 ≡ turn_at 4 (row / 256) (i / 2 ^ (4 * digit) % 16) (j / 2 ^ (4 * digit) % 16) =
+    let turn_is : row' / 256 ≡ turn_at 4 (row / 256) (i / 2 ^ (4 * digit) % 16)
+    (j / 2 ^ (4 * digit) % 16) =
     omega (arith, row_is') in
     record {
       row_is = omega (arith, row_is');
@@ -117,7 +120,8 @@ found_four turn along step at i j i4 j4 low sum four_is i4_below j4_below found 
     let j_low : j' % 16 ≡ j4 = omega arith in
     let split = split_at step 4 (step + 4) turn i' j' refl in
     let place_is = rw above at found.place_is in
-    let places = rw (i_high, j_high, i_low, j_low, ← found.turn_is, place_is, four_is) at split.places in
+    let places = rw (i_high, j_high, i_low, j_low, ← found.turn_is, place_is, four_is) at split.places
+    in
     let turns = rw (i_high, j_high, i_low, j_low, ← found.turn_is) at split.turns in
     let power : 2 ^ (step + 4) ≡ 16 * 2 ^ step = pow-add 2 step 4 ∙ omega arith in
     record {
@@ -136,7 +140,8 @@ pub record HasFoundFours (turn along step row i j : ℕ) : Type 0 where
 pub found_begin : (turn along first half second whole outer inner : ℕ) → turn < 4 → along < 4 ^ 30
     → first ≡ along / 4 ^ 29 % 4 → half ≡ turned turn first → outer ≡ quadrant_at turn first
     → second ≡ along / 4 ^ 28 % 4 → whole ≡ turned half second → inner ≡ quadrant_at half second
-    → HasFoundFours turn along 0 (256 * whole) (2 * (outer / 2) + inner / 2) (2 * (outer % 2) + inner % 2)
+    → HasFoundFours turn along 0 (256 * whole) (2 * (outer / 2) + inner / 2)
+    (2 * (outer % 2) + inner % 2)
 found_begin turn along first half second whole outer inner turn_low along_low first_is half_is outer_is
     second_is whole_is inner_is =
     let one = search_goes_on turn along 0 turn 0 0 first (omega arith) first_is
@@ -144,7 +149,8 @@ found_begin turn along first half second whole outer inner turn_low along_low fi
     let i : 2 * 0 + outer / 2 ≡ outer / 2 = omega arith in
     let j : 2 * 0 + outer % 2 ≡ outer % 2 = omega arith in
     let one' = rw (← outer_is, i, j, ← half_is) at one in
-    let two = search_goes_on turn along 1 half (outer / 2) (outer % 2) second (omega arith) second_is one' in
+    let two = search_goes_on turn along 1 half (outer / 2) (outer % 2) second (omega arith) second_is
+    one' in
     let row : 256 * whole / 256 ≡ whole = omega arith in
     record {
       row_is = rw row refl;
@@ -157,7 +163,8 @@ pub found_go_on : (turn along step row i j low pair i4 j4 row' : ℕ) → step +
     → row' ≡ 256 * turn_at 4 ((row + pair) / 256) i4 j4
     → HasFoundFours turn along step row i j
     → HasFoundFours turn along (step + 1) row' (16 * i + i4) (16 * j + j4)
-found_go_on turn along step row i j low pair i4 j4 row' sum pair_is place_is i4_below j4_below row_is fours =
+found_go_on turn along step row i j low pair i4 j4 row' sum pair_is place_is i4_below j4_below row_is
+    fours =
     let pair_below : pair < 256 = omega arith in
     let key = is_key row pair fours.row_is fours.found.turn_below pair_below in
     let place_is' = rw (key.turn_is, key.pair_is, pair_is) at place_is in

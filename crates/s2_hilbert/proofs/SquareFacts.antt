@@ -62,7 +62,8 @@ child_facts face level a b k quadrant below is k_below quadrant_is =
     }
 
 -- the positions of the child at place k are the k-th quarter of its parent's
-pub child_leaves : (parent child : GridSquare) (k : ℕ) (leaf : GridLeaf) → IsSquare parent → IsSquare child
+pub child_leaves : (parent child : GridSquare) (k : ℕ) (leaf : GridLeaf) → IsSquare parent
+    → IsSquare child
     → IsLeaf leaf → k < 4 → parent.level < 30 → child.level ≡ parent.level + 1
     → first_position child ≡ first_position parent + k * leaf_count child.level
     → IsWithin leaf child ↔ (IsWithin leaf parent
@@ -72,7 +73,8 @@ child_leaves parent child k leaf parent_is child_is leaf_is k_below inside level
     let positive : 0 < count = four_pow_pos (30 - child.level) in
     let counts : leaf_count parent.level ≡ 4 * count = quarter_count parent.level inside ∙ ap
     (λ l. 4 * leaf_count l) (sym level_is) in
-    let product : (k + 1) * count ≤ 4 * count = mul-le (k + 1) count 4 count (omega arith) (omega arith) in
+    let product : (k + 1) * count ≤ 4 * count =
+    mul-le (k + 1) count 4 count (omega arith) (omega arith) in
     let in_child = square_leaves leaf child leaf_is child_is in
     let in_parent = square_leaves leaf parent leaf_is parent_is in
     let quarter = quotient_range (position_of leaf - first_position parent) count k positive in (
@@ -94,7 +96,8 @@ pub side_room : (level coordinate : ℕ) → level ≤ 30 → coordinate < 2 ^ l
     → coordinate * side_of level + side_of level ≤ 2 ^ 30
 side_room level coordinate at_most below =
     let sum : 30 ≡ level + (30 - level) = omega arith in
-    let whole : 2 ^ 30 ≡ 2 ^ level * side_of level = ap (λ n. 2 ^ n) sum ∙ pow-add 2 level (30 - level) in
+    let whole : 2 ^ 30 ≡ 2 ^ level * side_of level = ap (λ n. 2 ^ n) sum
+    ∙ pow-add 2 level (30 - level) in
     let product : (coordinate + 1) * side_of level ≤ 2 ^ level * side_of level =
     mul-le (coordinate + 1) (side_of level) (2 ^ level) (side_of level) (omega arith) (omega arith) in
     omega (arith, product, whole)
@@ -119,14 +122,21 @@ square_place_is level turn a b below turn_low =
     let some : 0 < side_of level = pow_pos (30 - level) in
     let i : a * side_of level / side_of level ≡ a = mul-div_cancel a some in
     let j : b * side_of level / side_of level ≡ b = mul-div_cancel b some in
-    let inner = turn_at level turn (a * side_of level / side_of level) (b * side_of level / side_of level) in
+    let inner = turn_at level turn (a * side_of level / side_of level)
+    (b * side_of level / side_of level) in
     let inner_low : inner < 4 =
-    turn_below level turn (a * side_of level / side_of level) (b * side_of level / side_of level) turn_low in
-    let low = place (30 - level) inner (a * side_of level % side_of level) (b * side_of level % side_of level) in
+    turn_below level turn (a * side_of level / side_of level) (b * side_of level / side_of level)
+    turn_low in
+    let low = place (30 - level) inner (a * side_of level % side_of level)
+    (b * side_of level % side_of level)
+    in
     let low_below : low < leaf_count level =
-    place_below (30 - level) inner (a * side_of level % side_of level) (b * side_of level % side_of level) inner_low in
+    place_below (30 - level) inner (a * side_of level % side_of level)
+    (b * side_of level % side_of level)
+    inner_low in
     ap (λ p. p / leaf_count level) split.places
-    ∙ div-mul-add (place level turn (a * side_of level / side_of level) (b * side_of level / side_of level))
+    ∙ div-mul-add (place level turn (a * side_of level / side_of level)
+    (b * side_of level / side_of level))
     (leaf_count level) low low_below
     ∙ ap (λ x. place level turn x (b * side_of level / side_of level)) i
     ∙ ap (λ y. place level turn a y) j

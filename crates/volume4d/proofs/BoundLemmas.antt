@@ -212,7 +212,9 @@ one_more slabs count slab bounds more below is so_far join = record {
   round =
       All-more (λ s. IsWithin s more) slabs count slab below
       (All-weaker (λ s. IsWithin s bounds) (λ s. IsWithin s more)
-      (λ s within. within_through s bounds more within (left_in bounds slab more join)) (take count slabs) so_far.round)
+      (λ s within. within_through s bounds more within (left_in bounds slab more join))
+      (take count slabs)
+      so_far.round)
       (subst (λ s. IsWithin s more) is (right_in bounds slab more join));
   least = λ outer all.
       join_least bounds slab more outer join (so_far.least outer all)

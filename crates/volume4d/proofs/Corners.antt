@@ -56,12 +56,14 @@ corner_position_is : (a b : Slab) → corner_position a b ≡ max a.first b.firs
 corner_position_is a b = position_undone (max a.first b.first)
 
 corner_is_leaf : (a b : Slab) → is_leaf (corner_of a b).leaf ≡ true
-corner_is_leaf a b = leaf_at_passes (max a.first b.first) (omega (arith, a.first_is_leaf, b.first_is_leaf))
+corner_is_leaf a b = leaf_at_passes (max a.first b.first)
+    (omega (arith, a.first_is_leaf, b.first_is_leaf))
 
 -- the corner of two slabs that have a point is not above it, and both have it
 corner_up_to : (a b : Slab) (x : Point) → IsIn a x → IsIn b x → IsUpTo (corner_of a b) x
 corner_up_to a b x p q = record {
-  leaf = nat_max_le a.first b.first (corner_position a b) (position_of x.leaf) (corner_position_is a b) p.first q.first;
+  leaf = nat_max_le a.first b.first (corner_position a b) (position_of x.leaf) (corner_position_is a b)
+      p.first q.first;
   altitude = int_max_le a.lower b.lower _ x.altitude refl p.lower q.lower;
   second = int_max_le a.start b.start _ x.second refl p.start q.start;
 }
@@ -102,37 +104,52 @@ then_less Greater p e h = cc
 -- what is not below in any coordinate does not come before
 not_before : (m x : Point) → IsUpTo m x → point_cmp x m ≡ Less → ⊥
 not_before m x u e =
-    not_less_int m.second x.second u.second (then_less _ _ (then_less _ _ e (not_less_leaf (position_of m.leaf) (position_of x.leaf) u.leaf)) (not_less_int m.altitude x.altitude u.altitude))
+    not_less_int m.second x.second u.second (then_less _ _
+    (then_less _ _ e (not_less_leaf (position_of m.leaf) (position_of x.leaf) u.leaf))
+    (not_less_int m.altitude x.altitude u.altitude))
 
 -- a slab has the leaf at each of its positions
-pub slab_has_position : (s : Slab) (p : ℕ) → p < 6 * 2 ^ 60 → slab_has_leaf s (grid_leaf_at p) ≡ (leb s.first p && leb p s.last)
+pub slab_has_position : (s : Slab) (p : ℕ) → p < 6 * 2 ^ 60 → slab_has_leaf s (grid_leaf_at p)
+    ≡ (leb s.first p && leb p s.last)
 slab_has_position s p below = rw (leaf_at_passes p below, position_undone p) refl
 
 -- leaves at two positions stand in the order of the positions
-pub less_position : (p q : ℕ) (rest : Ordering) → (p ≡ q → ⊥) → ltb p q ≡ is_lt (ordering_then (nat_cmp (leaf_id (grid_leaf_at p)) (leaf_id (grid_leaf_at q))) rest)
-less_position p q rest differ = rw (position_undone p, position_undone q) (by_ids (nat_cmp (leaf_id_at p) (leaf_id_at q)) refl) where
-  by_ids : (o : Ordering) → nat_cmp (leaf_id_at p) (leaf_id_at q) ≡ o → ltb p q ≡ is_lt (ordering_then o rest)
-  by_ids Less e = grind (arith, nat_tests)
-  by_ids Equal e = grind (arith, nat_tests)
-  by_ids Greater e = grind (arith, nat_tests)
+pub less_position : (p q : ℕ) (rest : Ordering) → (p ≡ q → ⊥) → ltb p q
+    ≡ is_lt (ordering_then (nat_cmp (leaf_id (grid_leaf_at p)) (leaf_id (grid_leaf_at q))) rest)
+less_position p q rest differ = rw (position_undone p, position_undone q)
+    (by_ids (nat_cmp (leaf_id_at p) (leaf_id_at q)) refl) where
+      by_ids : (o : Ordering) → nat_cmp (leaf_id_at p) (leaf_id_at q) ≡ o → ltb p q
+          ≡ is_lt (ordering_then o rest)
+      by_ids Less e = grind (arith, nat_tests)
+      by_ids Equal e = grind (arith, nat_tests)
+      by_ids Greater e = grind (arith, nat_tests)
 
 -- no point that two slabs share comes before their corner
-pub none_before : (a b : Slab) (m : Point) → m ≡ corner_of a b → (x : Point) → point_cmp x m ≡ Less → (slab_has a x && slab_has b x) ≡ false
+pub none_before : (a b : Slab) (m : Point) → m ≡ corner_of a b → (x : Point) → point_cmp x m ≡ Less
+    → (slab_has a x && slab_has b x) ≡ false
 none_before a b m c x e = false_from_ne_true _ (λ h.
     let parts = and_parts (slab_has a x) (slab_has b x) h in
-    not_before (corner_of a b) x (corner_up_to a b x (IsIn-from_has a x parts.0) (IsIn-from_has b x parts.1)) (ap (point_cmp x) (sym c) ∙ e))
+    not_before (corner_of a b) x (corner_up_to a b x (IsIn-from_has a x parts.0)
+    (IsIn-from_has b x parts.1))
+    (ap (point_cmp x) (sym c) ∙ e))
 
 -- slabs that share a point share their corner
-pub none_left : (a b : Slab) (m : Point) → m ≡ corner_of a b → false ≡ slab_has a m → (x : Point) → (slab_has a x && slab_has b x) ≡ false
+pub none_left : (a b : Slab) (m : Point) → m ≡ corner_of a b → false ≡ slab_has a m → (x : Point)
+    → (slab_has a x && slab_has b x) ≡ false
 none_left a b m c e x = false_from_ne_true _ (λ h.
     let parts = and_parts (slab_has a x) (slab_has b x) h in
-    let here = has-from_IsIn a _ (corner_left a b x (IsIn-from_has a x parts.0) (IsIn-from_has b x parts.1)) in
+    let here = has-from_IsIn a _ (corner_left a b x (IsIn-from_has a x parts.0)
+    (IsIn-from_has b x parts.1))
+    in
     let bad : false ≡ true = e ∙ ap (slab_has a) c ∙ here in cc)
 
-pub none_right : (a b : Slab) (m : Point) → m ≡ corner_of a b → false ≡ slab_has b m → (x : Point) → (slab_has a x && slab_has b x) ≡ false
+pub none_right : (a b : Slab) (m : Point) → m ≡ corner_of a b → false ≡ slab_has b m → (x : Point)
+    → (slab_has a x && slab_has b x) ≡ false
 none_right a b m c e x = false_from_ne_true _ (λ h.
     let parts = and_parts (slab_has a x) (slab_has b x) h in
-    let here = has-from_IsIn b _ (corner_right a b x (IsIn-from_has a x parts.0) (IsIn-from_has b x parts.1)) in
+    let here = has-from_IsIn b _ (corner_right a b x (IsIn-from_has a x parts.0)
+    (IsIn-from_has b x parts.1))
+    in
     let bad : false ≡ true = e ∙ ap (slab_has b) c ∙ here in cc)
 
 -- a slab without the leaf or the altitude and second of a point does not have the point
@@ -142,15 +159,20 @@ leaf_out a m e =
     && (int_le a.start m.second && int_lt m.second a.end)) e
 
 pub time_out : (a : Slab) (m : Point)
-    → false ≡ ((int_le a.lower m.altitude && int_lt m.altitude a.upper) && (int_le a.start m.second && int_lt m.second a.end))
+    → false ≡ ((int_le a.lower m.altitude && int_lt m.altitude a.upper)
+    && (int_le a.start m.second && int_lt m.second a.end))
     → false ≡ slab_has a m
 time_out a m e = sym (false_from_ne_true _ (λ h.
-    let outer = and_parts (slab_has_leaf a m.leaf && (int_le a.lower m.altitude && int_lt m.altitude a.upper)) _ h in
-    let bad : false ≡ true = e ∙ and_from _ _ (and_parts (slab_has_leaf a m.leaf) _ outer.0).1 outer.1 in cc))
+    let outer = and_parts (slab_has_leaf a m.leaf
+    && (int_le a.lower m.altitude && int_lt m.altitude a.upper))
+    _ h in
+    let bad : false ≡ true = e ∙ and_from _ _ (and_parts (slab_has_leaf a m.leaf) _ outer.0).1 outer.1
+    in cc))
 
 -- one with both has it
 pub has_both : (a : Slab) (m : Point) → slab_has_leaf a m.leaf ≡ true
-    → ((int_le a.lower m.altitude && int_lt m.altitude a.upper) && (int_le a.start m.second && int_lt m.second a.end)) ≡ true
+    → ((int_le a.lower m.altitude && int_lt m.altitude a.upper)
+    && (int_le a.start m.second && int_lt m.second a.end)) ≡ true
     → slab_has a m ≡ true
 has_both a m leaf time =
     let parts = and_parts (int_le a.lower m.altitude && int_lt m.altitude a.upper) _ time in
@@ -160,21 +182,29 @@ has_both a m leaf time =
 abbrev pub IsWitness : {A : Type 0} → (A → Bool) → List A → A → Type 0
 IsWitness {A} p xs y = (p y ≡ true) × ((q : A → Bool) → q y ≡ true → list_any q xs ≡ true)
 
-pub any_witness : {A : Type 0} (p : A → Bool) (xs : List A) → list_any p xs ≡ true → (y : A) × IsWitness p xs y
+pub any_witness : {A : Type 0} (p : A → Bool) (xs : List A) → list_any p xs ≡ true → (y : A)
+    × IsWitness p xs y
 any_witness p [] e = cc
 any_witness {A} p (x ∷ xs) e = by_test (any_witness p xs) (p x) refl e where
-  by_test : (list_any p xs ≡ true → (y : A) × IsWitness p xs y) → (b : Bool) → p x ≡ b → (b || list_any p xs) ≡ true → (y : A) × IsWitness p (x ∷ xs) y
+  by_test : (list_any p xs ≡ true → (y : A) × IsWitness p xs y) → (b : Bool) → p x ≡ b
+      → (b || list_any p xs)
+      ≡ true → (y : A) × IsWitness p (x ∷ xs) y
   by_test rest true h e = (x, (h, λ q k. rw k refl))
   by_test rest false h e = let w = rest e in (w.0, (w.1.0, λ q k. or_right (q x) _ (w.1.1 q k)))
 
-share-from_both : (a b : Slab) (x : Point) → slab_has a x ≡ true → slab_has b x ≡ true → share a b ≡ true
+share-from_both : (a b : Slab) (x : Point) → slab_has a x ≡ true → slab_has b x ≡ true → share a b
+    ≡ true
 share-from_both a b x p q =
     let wa = IsIn-from_has a x p in
     let wb = IsIn-from_has b x q in
-    and_from _ _ (has-from_IsIn a _ (corner_left a b x wa wb)) (has-from_IsIn b _ (corner_right a b x wa wb))
+    and_from _ _ (has-from_IsIn a _ (corner_left a b x wa wb))
+    (has-from_IsIn b _ (corner_right a b x wa wb))
 
 -- some slab of each list shares a point just where a point is in both lists
-pub meet_is : (mine theirs : List Slab) (r : Bool) → r ≡ list_any (λ s. list_any (λ t. share s t) theirs) mine → (r ≡ true → (x : Point) × (slabs_have mine x ≡ true) × (slabs_have theirs x ≡ true)) × (((x : Point) × (slabs_have mine x ≡ true) × (slabs_have theirs x ≡ true)) → r ≡ true)
+pub meet_is : (mine theirs : List Slab) (r : Bool) → r
+    ≡ list_any (λ s. list_any (λ t. share s t) theirs) mine
+    → (r ≡ true → (x : Point) × (slabs_have mine x ≡ true) × (slabs_have theirs x ≡ true))
+    × (((x : Point) × (slabs_have mine x ≡ true) × (slabs_have theirs x ≡ true)) → r ≡ true)
 meet_is mine theirs r e = (found, shown) where
   found : r ≡ true → (x : Point) × (slabs_have mine x ≡ true) × (slabs_have theirs x ≡ true)
   found h =
@@ -188,4 +218,5 @@ meet_is mine theirs r e = (found, shown) where
   shown (x, p, q) =
       let a = any_witness (λ s. slab_has s x) mine p in
       let b = any_witness (λ t. slab_has t x) theirs q in
-      e ∙ a.1.1 (λ s. list_any (λ t. share s t) theirs) (b.1.1 (λ t. share a.0 t) (share-from_both a.0 b.0 x a.1.0 b.1.0))
+      e ∙ a.1.1 (λ s. list_any (λ t. share s t) theirs)
+      (b.1.1 (λ t. share a.0 t) (share-from_both a.0 b.0 x a.1.0 b.1.0))

@@ -28,7 +28,8 @@ ordered e is =
     let late = (and_parts _ (int_lt e.start e.end) (and_parts _ _ times.0).0).1 in
     (before e.lower e.upper high, before e.start e.end late)
 
-filled_each : (e : WindowParts) (slabs : List Slab) → is_window e ≡ true → All IsSpan (map span_of slabs)
+filled_each : (e : WindowParts) (slabs : List Slab) → is_window e ≡ true
+    → All IsSpan (map span_of slabs)
     → All (λ s. slab_window s ≡ e) slabs → All IsFilled slabs
 filled_each e [] is spans windows = All-nil IsFilled
 filled_each e (s ∷ rest) is spans windows =

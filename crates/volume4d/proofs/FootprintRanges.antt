@@ -60,8 +60,10 @@ cell_ranges ids spans ranges = ranges_on (cells ids) (leaves_of ids) spans (cell
 rectangle_below : (r : RectParts) (p : ℕ) → p < 6 * 2 ^ 60
     → shape_positions (rectangle r) p ≡ rect_leaves r p
 unfolding wide_set
-rectangle_below r p below = ap (λ b. b && wide_has (widened r) (grid_leaf_at p)) (leaf_at_passes p below)
+rectangle_below r p below = ap (λ b. b && wide_has (widened r) (grid_leaf_at p))
+    (leaf_at_passes p below)
 
 pub rectangle_ranges : (r : RectParts) (spans : List Span) → IsRanges (rect_leaves r) spans
     → IsRanges (shape_positions (rectangle r)) spans
-rectangle_ranges r spans ranges = ranges_on (rectangle r) (rect_leaves r) spans (rectangle_below r) ranges
+rectangle_ranges r spans ranges = ranges_on (rectangle r) (rect_leaves r) spans (rectangle_below r)
+    ranges

@@ -9,12 +9,16 @@ use Rattle.volume4d.specs.Level.{greater}
 use Rattle.volume4d.specs.LevelLaws.{greater_none, level_where, top_by, top_by-cons, top_by-append, is_some_top}
 
 -- the top of one more
-pub top_held_more : (hs : List Held) (i : ℕ) (h : Held) (x : Point) → i < length hs → h ≡ get_or hs i h → top_held (take (i + 1) hs) x ≡ greater (top_held (take i hs) x) (level_where (slab_has h.slab x) h.priority)
+pub top_held_more : (hs : List Held) (i : ℕ) (h : Held) (x : Point) → i < length hs → h ≡ get_or hs i h
+    → top_held (take (i + 1) hs) x ≡ greater (top_held (take i hs) x)
+    (level_where (slab_has h.slab x) h.priority)
 unfolding top_held
 top_held_more hs i h x below is =
-    ap (top_by (λ g. slab_has g.slab x) (λ g. g.priority)) (take_more hs i h below ∙ ap (λ g. take i hs ++ g ∷ []) (sym is))
+    ap (top_by (λ g. slab_has g.slab x) (λ g. g.priority))
+    (take_more hs i h below ∙ ap (λ g. take i hs ++ g ∷ []) (sym is))
     ∙ top_by-append (λ g. slab_has g.slab x) (λ g. g.priority) (take i hs) (h ∷ [])
-    ∙ ap (greater (top_held (take i hs) x)) (top_by-cons (λ g. slab_has g.slab x) (λ g. g.priority) h [] ∙ greater_none (level_where (slab_has h.slab x) h.priority))
+    ∙ ap (greater (top_held (take i hs) x)) (top_by-cons (λ g. slab_has g.slab x) (λ g. g.priority) h []
+    ∙ greater_none (level_where (slab_has h.slab x) h.priority))
 
 -- a point is held just where it has a level
 pub is_some_top_held : (hs : List Held) (x : Point) → is_some (top_held hs x) ≡ helds_have hs x
@@ -26,6 +30,11 @@ unfolding top_held
 top_held_none x = refl
 
 -- the step of a loop that keeps the top
-pub top_step : (hs : List Held) (i : ℕ) (h : Held) (x : Point) (o top : Option ℕ) (b : Bool) → i < length hs → h ≡ get_or hs i h → o ≡ top_held (take i hs) x → b ≡ slab_has h.slab x → top ≡ greater o (level_where b h.priority) → top ≡ top_held (take (i + 1) hs) x
+pub top_step : (hs : List Held) (i : ℕ) (h : Held) (x : Point) (o top : Option ℕ) (b : Bool)
+    → i < length hs
+    → h ≡ get_or hs i h → o ≡ top_held (take i hs) x → b ≡ slab_has h.slab x → top
+    ≡ greater o (level_where b h.priority) → top ≡ top_held (take (i + 1) hs) x
 top_step hs i h x o top b below is so_far test e =
-    e ∙ ap (λ c. greater o (level_where c h.priority)) test ∙ ap (λ q. greater q (level_where (slab_has h.slab x) h.priority)) so_far ∙ sym (top_held_more hs i h x below is)
+    e ∙ ap (λ c. greater o (level_where c h.priority)) test
+    ∙ ap (λ q. greater q (level_where (slab_has h.slab x) h.priority)) so_far
+    ∙ sym (top_held_more hs i h x below is)

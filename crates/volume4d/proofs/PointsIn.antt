@@ -25,8 +25,17 @@ IsIn-from_has s x h =
     let leaves = and_parts (leb s.first (position_of x.leaf)) _ leaf_part.1 in
     let altitudes = and_parts (int_le s.lower x.altitude) _ ground_part.1 in
     let seconds = and_parts (int_le s.start x.second) _ parts.1 in
-    record { is = leaf_part.0; first = leaves.0; last = leaves.1; lower = altitudes.0; upper = altitudes.1; start = seconds.0; end = seconds.1 }
+    record {
+      is = leaf_part.0;
+      first = leaves.0;
+      last = leaves.1;
+      lower = altitudes.0;
+      upper = altitudes.1;
+      start = seconds.0;
+      end = seconds.1;
+    }
 
 pub has-from_IsIn : (s : Slab) (x : Point) → IsIn s x → slab_has s x ≡ true
 has-from_IsIn s x w =
-    and_from _ _ (and_from _ _ (and_from _ _ w.is (and_from _ _ w.first w.last)) (and_from _ _ w.lower w.upper)) (and_from _ _ w.start w.end)
+    and_from _ _ (and_from _ _ (and_from _ _ w.is (and_from _ _ w.first w.last))
+    (and_from _ _ w.lower w.upper)) (and_from _ _ w.start w.end)

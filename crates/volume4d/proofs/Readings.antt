@@ -46,19 +46,24 @@ valid_ids bytes (cells ids) a =
 valid_ids bytes (rectangle r) a = absurd (other_kind bytes r a)
 
 -- the same, by place
-pub valid_id : (bytes : List ℕ) (shape : Shape) (eights : List (List ℕ)) (i : ℕ) → AreBytesOf (1 ∷ bytes) shape
-    → eights ≡ first_chunks 8 (length bytes / 8) bytes → i < length eights → IsCellId (from_be_bytes w64 (get_or eights i []))
+pub valid_id : (bytes : List ℕ) (shape : Shape) (eights : List (List ℕ)) (i : ℕ)
+    → AreBytesOf (1 ∷ bytes) shape
+    → eights ≡ first_chunks 8 (length bytes / 8) bytes → i < length eights
+    → IsCellId (from_be_bytes w64 (get_or eights i []))
 valid_id bytes shape eights i a cut within =
     let valid : All IsCellId (ids_of eights) = rw cut (valid_ids bytes shape a) in
     let place : i < length (ids_of eights) = rw length-map within in
     subst IsCellId (get_or-map (λ eight. from_be_bytes w64 eight) eights i [] 0 within) (valid i 0 place)
 
 -- such bytes, of valid ids, are a footprint's
-pub read : (bytes : List ℕ) → ((i : ℕ) → get_or bytes i 0 < 256) → length bytes % 8 ≡ 0 → IsTrue (within_cells (length bytes / 8))
+pub read : (bytes : List ℕ) → ((i : ℕ) → get_or bytes i 0 < 256) → length bytes % 8 ≡ 0
+    → IsTrue (within_cells (length bytes / 8))
     → All IsCellId (ids_in bytes) → AreBytesOf (1 ∷ bytes) (cells (ids_in bytes))
 read bytes small even few valid =
-    let written : bytes_of (ids_in bytes) ≡ bytes = bytes_again (length bytes / 8) bytes small (omega arith) in
-    let count : length bytes / 8 ≡ length (ids_in bytes) = omega (arith, length-bytes_of (ids_in bytes), ap length written) in
+    let written : bytes_of (ids_in bytes) ≡ bytes =
+    bytes_again (length bytes / 8) bytes small (omega arith) in
+    let count : length bytes / 8 ≡ length (ids_in bytes) =
+    omega (arith, length-bytes_of (ids_in bytes), ap length written) in
     record {
       limits = subst (λ n. IsTrue (within_cells n)) count few;
       valid = valid;
@@ -76,8 +81,10 @@ one_more eights i cell ids more within so_far valid pushed found =
     (rw (pushed, so_far, found.1) (sym next), rw pushed (All-push IsCellId ids cell valid cell_valid))
 
 -- where all eights are read, the ids are a footprint's
-pub all_read : (bytes : List ℕ) (eights : List (List ℕ)) (i : ℕ) (ids : List ℕ) → ((k : ℕ) → get_or bytes k 0 < 256)
-    → length bytes % 8 ≡ 0 → IsTrue (within_cells (length bytes / 8)) → eights ≡ first_chunks 8 (length bytes / 8) bytes
+pub all_read : (bytes : List ℕ) (eights : List (List ℕ)) (i : ℕ) (ids : List ℕ)
+    → ((k : ℕ) → get_or bytes k 0 < 256)
+    → length bytes % 8 ≡ 0 → IsTrue (within_cells (length bytes / 8)) → eights
+    ≡ first_chunks 8 (length bytes / 8) bytes
     → length eights ≤ i → ids ≡ ids_of (take i eights) → All IsCellId ids → AreBytesOf (1 ∷ bytes) (cells ids)
 all_read bytes eights i ids small even few cut ended so_far valid =
     let whole : ids ≡ ids_in bytes = so_far ∙ ap ids_of (take_all i eights ended ∙ cut) in

@@ -20,7 +20,8 @@ use Rattle.volume4d.proofs.Readings.{ids_in-bytes_of}
 abbrev pub number_from : List ℕ → ℕ → ℕ
 number_from bytes place =
     from_be_bytes w32
-    (get_or bytes place 0 ∷ get_or bytes (place + 1) 0 ∷ get_or bytes (place + 2) 0 ∷ get_or bytes (place + 3) 0 ∷ [])
+    (get_or bytes place 0 ∷ get_or bytes (place + 1) 0 ∷ get_or bytes (place + 2) 0
+    ∷ get_or bytes (place + 3) 0 ∷ [])
 
 -- the parts of a rectangle that stand behind the first byte
 abbrev pub parts_in : List ℕ → RectParts
@@ -66,7 +67,8 @@ parts_again r bytes is written =
 
 -- the tests that a rectangle has to pass
 abbrev passes : RectParts → Bool
-passes r = nat_lt r.face 6 && (are_coordinates r && (are_ordered r && is_in_range min_level max_level r.level))
+passes r = nat_lt r.face 6
+    && (are_coordinates r && (are_ordered r && is_in_range min_level max_level r.level))
 
 decided : (a b c d : Bool) (r : RectParts)
     → result_ok (if a then (if b then (if c then (if d then Ok r else Err Level) else Err Order)
@@ -100,7 +102,8 @@ listed zero first xs = []
 listed (suc n) first xs = get_or xs first 0 ∷ listed n (suc first) xs
 
 is_listed : (n first : ℕ) (xs : List ℕ) → length xs ≡ first + n → drop first xs ≡ listed n first xs
-is_listed zero first xs long = nil_from_length (drop first xs) (omega (arith, long, length-drop first xs))
+is_listed zero first xs long = nil_from_length (drop first xs)
+    (omega (arith, long, length-drop first xs))
 is_listed (suc n) first xs long =
     drop-cons xs first 0 (omega (arith, long))
     ∙ ap (λ rest. get_or xs first 0 ∷ rest) (is_listed n (suc first) xs (omega (arith, long)))
@@ -119,11 +122,14 @@ four_small a b c d one two three four (suc (suc (suc (suc i)))) = omega arith
 -- a number read from four bytes has these
 number_again : (bytes : List ℕ) (place : ℕ) → ((i : ℕ) → get_or bytes i 0 < 256)
     → to_be_bytes w32 (number_from bytes place)
-    ≡ get_or bytes place 0 ∷ get_or bytes (place + 1) 0 ∷ get_or bytes (place + 2) 0 ∷ get_or bytes (place + 3) 0 ∷ []
+    ≡ get_or bytes place 0 ∷ get_or bytes (place + 1) 0 ∷ get_or bytes (place + 2) 0
+    ∷ get_or bytes (place + 3) 0 ∷ []
 number_again bytes place small =
-    be_bytes_4 (get_or bytes place 0 ∷ get_or bytes (place + 1) 0 ∷ get_or bytes (place + 2) 0 ∷ get_or bytes (place + 3) 0 ∷ [])
+    be_bytes_4 (get_or bytes place 0 ∷ get_or bytes (place + 1) 0 ∷ get_or bytes (place + 2) 0
+    ∷ get_or bytes (place + 3) 0 ∷ [])
     (number_from bytes place) refl
-    (four_small (get_or bytes place 0) (get_or bytes (place + 1) 0) (get_or bytes (place + 2) 0) (get_or bytes (place + 3) 0)
+    (four_small (get_or bytes place 0) (get_or bytes (place + 1) 0) (get_or bytes (place + 2) 0)
+    (get_or bytes (place + 3) 0)
     (small place) (small (place + 1)) (small (place + 2)) (small (place + 3))) refl
 
 -- the parts read from eighteen bytes have these bytes
@@ -131,7 +137,8 @@ written_again : (bytes : List ℕ) → ((i : ℕ) → get_or bytes i 0 < 256) �
     → footprint_bytes (rectangle (parts_in bytes)) ≡ 2 ∷ bytes
 written_again bytes small long =
     (λ k. 2 ∷ get_or bytes 0 0 ∷ (number_again bytes 1 small k ++ (number_again bytes 5 small k
-    ++ (number_again bytes 9 small k ++ (number_again bytes 13 small k ++ [])))) ++ get_or bytes 17 0 ∷ [])
+    ++ (number_again bytes 9 small k ++ (number_again bytes 13 small k ++ [])))) ++ get_or bytes 17 0
+    ∷ [])
     ∙ ap (λ rest. 2 ∷ rest) (sym (in_places bytes long))
 
 -- what is read from eighteen bytes
@@ -141,7 +148,8 @@ pub read_rect : (bytes : List ℕ) (parts : RectParts) (found : Option RectParts
     → MatchOption found ((shape : Shape) → ¬ AreBytesOf (2 ∷ bytes) shape)
     (λ rect. AreBytesOf (2 ∷ bytes) (rectangle rect))
 read_rect bytes parts found small long same is =
-    subst Found (sym (is ∙ ap (λ r. result_ok (rect_or_fault r)) same ∙ tests)) (elim (cases_Bool (passes r)) [
+    subst Found (sym (is ∙ ap (λ r. result_ok (rect_or_fault r)) same ∙ tests))
+    (elim (cases_Bool (passes r)) [
       | inl holds ↦ subst (λ b. Found (cond b (Some r) None)) (sym holds) (record {
         limits = refl;
         valid = passes_is r holds;
@@ -167,14 +175,16 @@ read_rect bytes parts found small long same is =
           let other : get_or (footprint_bytes (cells ids)) 0 0 ≡ 2 = ap (λ b. get_or b 0 0) a.written in
           absurd (omega (arith, other))
       named (rectangle other) a =
-          subst (λ q. passes q ≡ true) (sym (parts_again other bytes a.valid a.written).1) (is_passes other a.valid)
+          subst (λ q. passes q ≡ true) (sym (parts_again other bytes a.valid a.written).1)
+          (is_passes other a.valid)
 
 -- shapes of valid parts with the same bytes are the same
 pub same_from_bytes : (one other : Shape) → HasValidParts one → HasValidParts other
     → footprint_bytes one ≡ footprint_bytes other → one ≡ other
 same_from_bytes (cells ids) (cells others) valid others_valid same =
     let written : bytes_of ids ≡ bytes_of others = cc in
-    ap cells (sym (ids_in-bytes_of ids (bytes_of others) valid written) ∙ ids_in-bytes_of others (bytes_of others) others_valid refl)
+    ap cells (sym (ids_in-bytes_of ids (bytes_of others) valid written)
+    ∙ ids_in-bytes_of others (bytes_of others) others_valid refl)
 same_from_bytes (cells ids) (rectangle r) valid others_valid same =
     let other : get_or (footprint_bytes (cells ids)) 0 0 ≡ 2 = ap (λ b. get_or b 0 0) same in
     absurd (omega (arith, other))

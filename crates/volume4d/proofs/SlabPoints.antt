@@ -21,7 +21,8 @@ use Rattle.volume4d.specs.Slabs.{AreSlabsOn, AreVolumeSlabs, AreAreaSlabs}
 
 -- a slab by its span of leaves and its window
 slab_by_parts : (s : Slab) (window : WindowParts) (x : Point) → slab_window s ≡ window
-    → slab_has s x ≡ (is_leaf x.leaf && (span_has (span_of s) (position_of x.leaf) && window_has window x))
+    → slab_has s x ≡ (is_leaf x.leaf && (span_has (span_of s) (position_of x.leaf)
+    && window_has window x))
 slab_by_parts s window x same =
     let ground = span_has (span_of s) (position_of x.leaf) in
     let high = int_le s.lower x.altitude && int_lt x.altitude s.upper in
@@ -43,7 +44,9 @@ slabs_by_parts (s ∷ rest) window x same =
     let here = slab_by_parts s window x (All-head (λ t. slab_window t ≡ window) s rest same) in
     let there = slabs_by_parts rest window x (All-tail (λ t. slab_window t ≡ window) s rest same) in
     ap (λ b. b || slabs_have rest x) here
-    ∙ ap (λ b. (is_leaf x.leaf && (span_has (span_of s) (position_of x.leaf) && window_has window x)) || b) there
+    ∙ ap (λ b. (is_leaf x.leaf && (span_has (span_of s) (position_of x.leaf) && window_has window x))
+    || b)
+    there
     ∙ both_or (is_leaf x.leaf) (span_has (span_of s) (position_of x.leaf))
     (spans_have (map span_of rest) (position_of x.leaf)) (window_has window x)
 
@@ -76,7 +79,8 @@ pub volume_points : (v : Block) (slabs : List Slab) → AreVolumeSlabs v slabs �
     → slabs_have slabs x ≡ block_has v x
 volume_points v slabs are x =
     slabs_by_parts slabs v.window x are.windows
-    ∙ ap (λ b. is_leaf x.leaf && (b && window_has v.window x)) (are.ranges.positions (position_of x.leaf))
+    ∙ ap (λ b. is_leaf x.leaf && (b && window_has v.window x))
+    (are.ranges.positions (position_of x.leaf))
     ∙ sym (volume_by_parts v x)
 
 -- the slabs of an area have exactly its points
@@ -92,6 +96,19 @@ area_points (v ∷ vs) slabs (front, rest, whole, here, there) x =
 pub slabs_of_push : (area : List Block) (v : Block) (slabs more : List Slab)
     → AreAreaSlabs area slabs → AreVolumeSlabs v more
     → AreAreaSlabs (area ++ v ∷ []) (slabs ++ more)
-slabs_of_push [] v slabs more are next = (more, [], ap (λ s. s ++ more) are ∙ sym (append-nil more), next, refl)
-slabs_of_push (w ∷ ws) v slabs more (front, rest, whole, here, there) next =
-    (front, rest ++ more, ap (λ s. s ++ more) whole ∙ append_assoc front rest more, here, slabs_of_push ws v rest more there next)
+slabs_of_push [] v slabs more are next = (
+  more,
+  [],
+  ap (λ s. s ++ more) are
+      ∙ sym (append-nil more),
+  next,
+  refl,
+)
+slabs_of_push (w ∷ ws) v slabs more (front, rest, whole, here, there) next = (
+  front,
+  rest ++ more,
+  ap (λ s. s ++ more) whole
+      ∙ append_assoc front rest more,
+  here,
+  slabs_of_push ws v rest more there next,
+)

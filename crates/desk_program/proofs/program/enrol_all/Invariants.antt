@@ -7,7 +7,9 @@ use Rattle.desk_program.proofs.program.enrol_all.Given as goal
 abbrev pub invariant-loop-enrolment : goal.invariant-loop-enrolment
 invariant-loop-enrolment g l =
     record {
-      listed : IsHonest (g.S.PlanStore.doubt l.desk) → with_operators (g.S.PlanStore.content l.desk) (drop l.enrolment-index l.enrolments) ≡ with_operators (g.S.PlanStore.content l.fn.desk) l.enrolments;
+      listed : IsHonest (g.S.PlanStore.doubt l.desk)
+          → with_operators (g.S.PlanStore.content l.desk) (drop l.enrolment-index l.enrolments)
+          ≡ with_operators (g.S.PlanStore.content l.fn.desk) l.enrolments;
       doubt : g.S.PlanStore.doubt l.fn.desk ≤ g.S.PlanStore.doubt l.desk;
       counted : g.S.PlanStore.faults l.fn.desk ≤ g.S.PlanStore.faults l.desk;
     }

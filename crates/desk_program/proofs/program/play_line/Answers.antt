@@ -22,7 +22,11 @@ returns-clause-played g c =
       answered = played.answered;
       status_is = c.conclude-2.ensures ∙ c.done_after.ensures;
       played = λ h.
-          let listed = c.in_default.ensures.ok (was_honest c.play_all-played.ensures.doubt h) ∙ ap (with_operators w) c.deref.ensures.value in
-          subst (λ m. HasPlayed honest played.ended played.answered old new out now (with_operators w c.args.play.now.enrolments.items) m after) (same_moment moment c.requires.moment)
-          (subst (λ v. HasPlayed honest played.ended played.answered old new out now v (to_z w64 (of_z w64 moment)) after) listed c.play_all-played.ensures.played);
+          let listed = c.in_default.ensures.ok (was_honest c.play_all-played.ensures.doubt h)
+          ∙ ap (with_operators w) c.deref.ensures.value in
+          subst (λ m. HasPlayed honest played.ended played.answered old new out now
+          (with_operators w c.args.play.now.enrolments.items) m after)
+          (same_moment moment c.requires.moment)
+          (subst (λ v. HasPlayed honest played.ended played.answered old new out now v
+          (to_z w64 (of_z w64 moment)) after) listed c.play_all-played.ensures.played);
     })

@@ -7,10 +7,16 @@ use Rattle.desk_program.proofs.server.serve_stream.Goals as goal
 
 pub returns-in-None-clause-served : goal.returns-in-None-clause-served
 returns-in-None-clause-served g c = λ honest.
-    one_served (IsHonest (g.S.PlanStore.doubt c.serve_one-served.new.desk)) c.serve_one-served.result _ _ _ _ (g.S.PlanStore.content c.args.desk.now) (to_z w64 (of_z w64 c.args.moment)) (g.S.PlanStore.content c.serve_one-served.new.desk)
-    (subst IsMoment (sym (to_z-of_z w64 c.args.moment c.ranges.moment)) c.requires) honest c.serve_one-served.ensures.served
+    one_served (IsHonest (g.S.PlanStore.doubt c.serve_one-served.new.desk)) c.serve_one-served.result _ _ _ _
+    (g.S.PlanStore.content c.args.desk.now) (to_z w64 (of_z w64 c.args.moment))
+    (g.S.PlanStore.content c.serve_one-served.new.desk)
+    (subst IsMoment (sym (to_z-of_z w64 c.args.moment c.ranges.moment)) c.requires) honest
+    c.serve_one-served.ensures.served
 
 pub returns-in-Some-clause-served : goal.returns-in-Some-clause-served
 returns-in-Some-clause-served g c = λ honest.
-    one_served (IsHonest (g.S.PlanStore.doubt c.serve_one-served.new.desk)) c.serve_one-served.result _ _ _ _ (g.S.PlanStore.content c.args.desk.now) (to_z w64 (of_z w64 c.args.moment)) (g.S.PlanStore.content c.serve_one-served.new.desk)
-    (subst IsMoment (sym (to_z-of_z w64 c.args.moment c.ranges.moment)) c.requires) honest c.serve_one-served.ensures.served
+    one_served (IsHonest (g.S.PlanStore.doubt c.serve_one-served.new.desk)) c.serve_one-served.result _ _ _ _
+    (g.S.PlanStore.content c.args.desk.now) (to_z w64 (of_z w64 c.args.moment))
+    (g.S.PlanStore.content c.serve_one-served.new.desk)
+    (subst IsMoment (sym (to_z-of_z w64 c.args.moment c.ranges.moment)) c.requires) honest
+    c.serve_one-served.ensures.served

@@ -8,7 +8,8 @@ pub returns-then-is_ended-clause-value : goal.returns-then-is_ended-clause-value
 unfolding head_len
 returns-then-is_ended-clause-value c =
     let below : c.loop-n.n < min (length c.args.text.now) head_room + 1 = omega arith in
-    sym (least_found (λ n. ends_head (take n c.args.text.now)) c.loop-n.n _ c.loop-n.invariant (sym c.if-is_ended.ensures) below)
+    sym (least_found (λ n. ends_head (take n c.args.text.now)) c.loop-n.n _ c.loop-n.invariant
+    (sym c.if-is_ended.ensures) below)
 
 pub returns-clause-value : goal.returns-clause-value
 unfolding head_len

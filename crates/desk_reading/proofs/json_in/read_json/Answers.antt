@@ -4,7 +4,8 @@ use Rattle.desk_reading.proofs.JsonLemmas.{body_value-read, body_value-refused}
 use Rattle.desk_reading.proofs.json_in.read_json.Goals as goal
 
 pub returns-in-Ok : goal.returns-in-Ok
-returns-in-Ok c = body_value-read c.args.body.now (view c.in-Ok.value) c.in-Ok.ensures.ok.0 c.in-Ok.ensures.ok.1
+returns-in-Ok c = body_value-read c.args.body.now (view c.in-Ok.value) c.in-Ok.ensures.ok.0
+    c.in-Ok.ensures.ok.1
 
 pub returns-in-Err-2 : goal.returns-in-Err-2
 returns-in-Err-2 c =

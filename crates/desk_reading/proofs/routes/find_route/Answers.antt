@@ -20,7 +20,8 @@ returns-in-Ok c =
     } in
     let found : first route_rows path ≡ Some entry = rw c.requires at c.in-Ok.ensures.found in
     rw c.unwrap_or.ensures
-    (route_of-found path c.get.result _ entry text c.utf8.path refl found (rw c.in-Ok.ensures.path at c.get.ensures))
+    (route_of-found path c.get.result _ entry text c.utf8.path refl found
+    (rw c.in-Ok.ensures.path at c.get.ensures))
 
 pub returns-in-Err : goal.returns-in-Err
 returns-in-Err c =

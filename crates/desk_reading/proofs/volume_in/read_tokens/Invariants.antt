@@ -6,4 +6,5 @@ use Rattle.desk_reading.proofs.EachLemmas.{read_from}
 use Rattle.desk_reading.proofs.volume_in.read_tokens.Given as goal
 
 abbrev pub invariant-loop-item : goal.invariant-loop-item
-invariant-loop-item l = each token_of (items_view l.items) ≡ read_from token_of l.cells.items l.items l.item-index
+invariant-loop-item l = each token_of (items_view l.items)
+    ≡ read_from token_of l.cells.items l.items l.item-index

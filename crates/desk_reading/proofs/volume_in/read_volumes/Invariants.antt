@@ -6,4 +6,5 @@ use Rattle.desk_reading.proofs.EachLemmas.{read_from}
 use Rattle.desk_reading.proofs.volume_in.read_volumes.Given as goal
 
 abbrev pub invariant-loop-item : goal.invariant-loop-item
-invariant-loop-item l = each volume_of (items_view l.items) ≡ read_from volume_of l.volumes.items l.items l.item-index
+invariant-loop-item l = each volume_of (items_view l.items)
+    ≡ read_from volume_of l.volumes.items l.items l.item-index

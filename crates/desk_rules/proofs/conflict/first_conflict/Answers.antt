@@ -3,4 +3,5 @@ use Rattle.desk_rules.proofs.conflict.first_conflict.Goals as goal
 
 pub returns : goal.returns
 returns c = λ area levels priority slabs helds.
-    conflict_by_meeting area levels priority c.args.mine.now c.args.theirs.now slabs helds c.first_meeting.result c.first_meeting.ensures
+    conflict_by_meeting area levels priority c.args.mine.now c.args.theirs.now slabs helds
+    c.first_meeting.result c.first_meeting.ensures

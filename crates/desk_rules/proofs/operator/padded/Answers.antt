@@ -4,4 +4,8 @@ use Rattle.desk_rules.specs.Limits.{max_name_length}
 use Rattle.desk_rules.proofs.operator.padded.Goals as goal
 
 pub returns : goal.returns
-returns c = rw (c.copy_from_slice.ensures.after, drop-replicate {X = ℕ} (length c.args.name.now) max_name_length 0)
+returns c = rw (
+  c.copy_from_slice.ensures.after,
+  drop-replicate {X = ℕ} (length c.args.name.now)
+      max_name_length 0,
+)

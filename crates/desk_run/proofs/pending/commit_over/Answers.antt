@@ -8,4 +8,5 @@ returns-in-None-clause-ok g c = λ honest. rw c.in-None.is refl
 
 pub returns-in_ok-apply-in-Some-clause-ok : goal.returns-in_ok-apply-in-Some-clause-ok
 unfolding world_committed
-returns-in_ok-apply-in-Some-clause-ok g c = λ honest. rw c.in-Some.is (c.in_ok-apply-in-Some.ensures.ok honest)
+returns-in_ok-apply-in-Some-clause-ok g c = λ honest. rw c.in-Some.is
+    (c.in_ok-apply-in-Some.ensures.ok honest)

@@ -21,12 +21,19 @@ loop-moment-preserved g c =
       answered = λ honest.
           let done = answered_is w after call.0 call.1 c.call.result c.in-Ok.outcome
           (subst (λ m. Tells w m call.1 c.call.result) same (c.call.ensures.told honest))
-          (on_ok_weaker c.call.result (λ e. e ∙ ap (λ m. step w call.1.operator m call.1.call) same) (c.call.ensures.ok honest))
+          (on_ok_weaker c.call.result (λ e. e ∙ ap (λ m. step w call.1.operator m call.1.call) same)
+          (c.call.ensures.ok honest))
           c.call.ensures.err (sym c.outcome_of.ensures ∙ c.in-Ok.is) in
-          subst (λ os. AreAnswered (g.S.PlanStore.content c.args.desk.now) calls (n + 1) os after) (sym c.push_reserved.ensures.items)
-          (one_answered (g.S.PlanStore.content c.args.desk.now) w after calls n c.loop-moment.outcomes.items call c.in-Ok.outcome (c.loop-moment.invariant.answered (was_honest c.call.ensures.doubt honest)) c.loop-moment-test.true c.loop-moment-item.is done.0 done.1);
-      count = ap length c.push_reserved.ensures.items ∙ length-append c.loop-moment.outcomes.items (c.in-Ok.outcome ∷ []) ∙ ap (λ k. k + 1) c.loop-moment.invariant.count;
-      room = subst (λ k. length calls ≤ k) (sym c.push_reserved.ensures.capacity) c.loop-moment.invariant.room;
+          subst (λ os. AreAnswered (g.S.PlanStore.content c.args.desk.now) calls (n + 1) os after)
+          (sym c.push_reserved.ensures.items)
+          (one_answered (g.S.PlanStore.content c.args.desk.now) w after calls n c.loop-moment.outcomes.items
+          call c.in-Ok.outcome (c.loop-moment.invariant.answered (was_honest c.call.ensures.doubt honest))
+          c.loop-moment-test.true c.loop-moment-item.is done.0 done.1);
+      count = ap length c.push_reserved.ensures.items
+          ∙ length-append c.loop-moment.outcomes.items (c.in-Ok.outcome ∷ [])
+          ∙ ap (λ k. k + 1) c.loop-moment.invariant.count;
+      room = subst (λ k. length calls ≤ k) (sym c.push_reserved.ensures.capacity)
+          c.loop-moment.invariant.room;
       doubt = omega (arith, c.loop-moment.invariant.doubt, c.call.ensures.doubt);
       counted = omega (arith, c.loop-moment.invariant.counted, c.call.ensures.counted);
     }

@@ -8,7 +8,8 @@ abbrev pub invariant-loop-moment : goal.invariant-loop-moment
 invariant-loop-moment g l =
     record {
       answered :
-          IsHonest (g.S.PlanStore.doubt l.desk) → AreAnswered (g.S.PlanStore.content l.fn.desk) l.calls l.moment-index l.outcomes.items (g.S.PlanStore.content l.desk);
+          IsHonest (g.S.PlanStore.doubt l.desk) → AreAnswered (g.S.PlanStore.content l.fn.desk) l.calls
+          l.moment-index l.outcomes.items (g.S.PlanStore.content l.desk);
       count : length l.outcomes.items ≡ l.moment-index;
       room : length l.calls ≤ l.outcomes.cap;
       doubt : g.S.PlanStore.doubt l.fn.desk ≤ g.S.PlanStore.doubt l.desk;

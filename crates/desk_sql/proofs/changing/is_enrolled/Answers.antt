@@ -6,5 +6,8 @@ use Rattle.desk_sql.proofs.changing.is_enrolled.Goals as goal
 
 pub returns-clause-value : goal.returns-clause-value
 returns-clause-value g c clean =
-    let empty : c.is_empty.result ≡ (length c.in_ok-rows.rows.items == 0) = search (rules, c.is_empty.ensures, c.in_ok-rows.rows.ok) in
-    some_listed (is_by c.args.name.now) (tables_of (state g.S.Store c.args.connection.now).now.trees).operators c.in_ok-rows.rows.items c.is_empty.result empty (c.in_ok-rows.ensures.value clean).same
+    let empty : c.is_empty.result ≡ (length c.in_ok-rows.rows.items == 0) =
+    search (rules, c.is_empty.ensures, c.in_ok-rows.rows.ok) in
+    some_listed (is_by c.args.name.now) (tables_of
+    (state g.S.Store c.args.connection.now).now.trees).operators c.in_ok-rows.rows.items c.is_empty.result
+    empty (c.in_ok-rows.ensures.value clean).same

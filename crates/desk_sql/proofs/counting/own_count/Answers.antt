@@ -14,6 +14,9 @@ returns-clause-value g c clean =
     let new = state g.S.Store c.answer.new.connection in
     let rows = c.in_ok-rows.rows.items in
     let shown = rw c.params-to_sql.ensures at (c.in_ok-rows.ensures.shown clean) in
-    let desk = c.requires.ready (omega (arith, c.answer.ensures.doubt, clean)) (was_open _ _ old new rows shown) in
+    let desk = c.requires.ready (omega (arith, c.answer.ensures.doubt, clean))
+    (was_open _ _ old new rows shown) in
     let n = length (filter (is_by c.args.operator.now) (tables_of old.now.trees).plans) in
-    count_if c.count_in.result c.deref.result.now n (c.deref.ensures.value ∙ plans_counted c.args.operator.now old new rows desk shown) c.count_in.ensures.value c.count_in.ensures.small
+    count_if c.count_in.result c.deref.result.now n
+    (c.deref.ensures.value ∙ plans_counted c.args.operator.now old new rows desk shown)
+    c.count_in.ensures.value c.count_in.ensures.small

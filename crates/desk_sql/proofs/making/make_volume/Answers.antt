@@ -10,5 +10,7 @@ pub returns-clause-done : goal.returns-clause-done
 returns-clause-done g c clean =
     let old = c.args.tx.now.conn.now in
     let new = c.run.new.tx.conn.now in
-    grows g.S.Store old new second_schema third_schema c.requires.at (omega (arith, c.run.ensures.doubt, clean)) (c.in_ok-run.ensures.shown clean)
-    (λ has. creates second_schema volume_text volume_table volume_makes (state g.S.Store old) (state g.S.Store new) has c.in_ok-run.field-0 (c.in_ok-run.ensures.ran clean))
+    grows g.S.Store old new second_schema third_schema c.requires.at
+    (omega (arith, c.run.ensures.doubt, clean)) (c.in_ok-run.ensures.shown clean)
+    (λ has. creates second_schema volume_text volume_table volume_makes (state g.S.Store old)
+    (state g.S.Store new) has c.in_ok-run.field-0 (c.in_ok-run.ensures.ran clean))

@@ -10,5 +10,10 @@ answer-requires-clause-plain g c = volumes_of_is.plain
 
 pub returns-clause-value : goal.returns-clause-value
 returns-clause-value g c clean =
-    if_shown g.S.Store c.args.connection.now c.answer.new.connection (λ v. v.items) _ _ (Lists (2 ∷ []) (filter (is_of c.args.operator.now c.args.id.now) (tables_of (state g.S.Store c.args.connection.now).now.trees).volumes)) c.requires.ready (omega (arith, c.answer.ensures.doubt, clean))
-    (volumes_of c.args.operator.now c.args.id.now (state g.S.Store c.args.connection.now) (state g.S.Store c.answer.new.connection)) c.answer.result (rw (c.params-to_sql.ensures, c.params-to_sql-2.ensures) at (c.answer.ensures.shown clean))
+    if_shown g.S.Store c.args.connection.now c.answer.new.connection (λ v. v.items) _ _
+    (Lists (2 ∷ []) (filter (is_of c.args.operator.now c.args.id.now)
+    (tables_of (state g.S.Store c.args.connection.now).now.trees).volumes)) c.requires.ready
+    (omega (arith, c.answer.ensures.doubt, clean))
+    (volumes_of c.args.operator.now c.args.id.now (state g.S.Store c.args.connection.now)
+    (state g.S.Store c.answer.new.connection)) c.answer.result
+    (rw (c.params-to_sql.ensures, c.params-to_sql-2.ensures) at (c.answer.ensures.shown clean))

@@ -5,4 +5,5 @@ use Rattle.desk_store.proofs.list.count_of.Given as goal
 
 -- those counted and those that are left are all
 abbrev pub invariant-loop-key : goal.invariant-loop-key
-invariant-loop-key l = l.count + length (rows_by l.operator (filed_all l.key-iterator)) ≡ length (rows_by l.operator (filed_all l.plans.entries))
+invariant-loop-key l = l.count + length (rows_by l.operator (filed_all l.key-iterator))
+    ≡ length (rows_by l.operator (filed_all l.plans.entries))

@@ -9,4 +9,7 @@ use Rattle.desk_store.proofs.list.rivals_of.Given as goal
 
 -- at points of the extent, the levels so far and those of the plans that are left are the levels of all
 abbrev pub invariant-loop-key : goal.invariant-loop-key
-invariant-loop-key l = (x : Point) → slab_has l.extent x ≡ true → greater (top_held l.helds.items x) (at_least l.least (rivals_top l.operator l.id (filed_all l.key-iterator) x)) ≡ at_least l.least (rivals_top l.operator l.id (filed_all l.plans.entries) x)
+invariant-loop-key l = (x : Point) → slab_has l.extent x ≡ true
+    → greater (top_held l.helds.items x) (at_least l.least
+    (rivals_top l.operator l.id (filed_all l.key-iterator) x))
+    ≡ at_least l.least (rivals_top l.operator l.id (filed_all l.plans.entries) x)

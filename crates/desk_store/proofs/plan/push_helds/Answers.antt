@@ -9,6 +9,10 @@ loop-slab-preserved c = λ x inside.
     let before = top_held c.args.helds.now.items x in
     let so_far = c.loop-slab.invariant x inside in
     elim c.if-overlap.branch [
-      | then-overlap+in_ok-push w ↦ rw (w.helds-is, w.in_ok-push.ensures.items) (slab_adds c.loop-slab.helds.items slabs c.loop-slab.slab-index c.slab-item.result c.args.priority x before c.loop-slab-test.true c.slab-item.is so_far)
-      | else-overlap w ↦ rw w.helds-is (slab_outside slabs c.loop-slab.slab-index c.slab-item.result c.args.priority x c.overlap.result _ before c.loop-slab-test.true c.slab-item.is w.if-overlap.false (λ e. c.overlap.ensures.1 (x, e, inside)) so_far)
+      | then-overlap+in_ok-push w ↦ rw (w.helds-is, w.in_ok-push.ensures.items)
+          (slab_adds c.loop-slab.helds.items slabs c.loop-slab.slab-index c.slab-item.result c.args.priority x
+          before c.loop-slab-test.true c.slab-item.is so_far)
+      | else-overlap w ↦ rw w.helds-is (slab_outside slabs c.loop-slab.slab-index c.slab-item.result
+          c.args.priority x c.overlap.result _ before c.loop-slab-test.true c.slab-item.is w.if-overlap.false
+          (λ e. c.overlap.ensures.1 (x, e, inside)) so_far)
     ]

@@ -7,4 +7,6 @@ use Rattle.desk_store.proofs.plan.push_helds.Given as goal
 
 -- at points of the extent, the levels before, and the priority where a slab so far has the point
 abbrev pub invariant-loop-slab : goal.invariant-loop-slab
-invariant-loop-slab l = (x : Point) → slab_has l.extent x ≡ true → top_held l.helds.items x ≡ greater (top_held l.fn.helds.items x) (level_where (slabs_have (take l.slab-index l.slabs) x) l.priority)
+invariant-loop-slab l = (x : Point) → slab_has l.extent x ≡ true → top_held l.helds.items x
+    ≡ greater (top_held l.fn.helds.items x) (level_where (slabs_have (take l.slab-index l.slabs) x)
+    l.priority)

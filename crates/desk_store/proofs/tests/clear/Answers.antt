@@ -23,4 +23,9 @@ apply-requires c =
     let one : stored c.args.pair.0 = search rules in
     let two : stored c.args.pair.1 = search rules in
     let other : is_ne (text_cmp c.args.pair.0 c.args.pair.1) ≡ true = search rules in
-    rw c.in_ok-ids.ensures.items (λ _. (search rules, both stored c.args.pair.0 c.args.pair.1 one two, ((unequal (text_cmp c.args.pair.0 c.args.pair.1) other, tt), (tt, tt))))
+    rw c.in_ok-ids.ensures.items
+    (λ _. (
+      search rules,
+      both stored c.args.pair.0 c.args.pair.1 one two,
+      ((unequal (text_cmp c.args.pair.0 c.args.pair.1) other, tt), (tt, tt)),
+    ))

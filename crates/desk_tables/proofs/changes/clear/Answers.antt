@@ -17,7 +17,10 @@ returns-in-Ok-clause-ok g c =
     let new = c.clear_plans.new.connection in
     let operator = c.args.operator.now in
     let texts = map string_bytes c.deref-2.result.now in
-    stands_cleared g.S.Store old new c.args.kept.now.world c.requires.stands c.in-Ok.ensures.mode c.in-Ok.ensures.doubt (Clear operator c.args.ids.now) operator c.args.ids.now.items texts
+    stands_cleared g.S.Store old new c.args.kept.now.world c.requires.stands c.in-Ok.ensures.mode
+    c.in-Ok.ensures.doubt (Clear operator c.args.ids.now) operator c.args.ids.now.items texts
     (subst (AllByRecursion IsId) c.deref.ensures.value c.in_ok-texts.ensures.valid) (λ one two e. e)
-    (ap (map string_bytes) c.deref-2.ensures.value ∙ c.in_ok-texts.ensures.value ∙ ap (map id_text) c.deref.ensures.value)
-    (λ clean. subst (λ name. Commits g.S.Store old new (RemovesPlans name texts)) c.as_str.ensures.value (c.in-Ok.ensures.done clean)) c.requires.fits
+    (ap (map string_bytes) c.deref-2.ensures.value ∙ c.in_ok-texts.ensures.value
+    ∙ ap (map id_text) c.deref.ensures.value)
+    (λ clean. subst (λ name. Commits g.S.Store old new (RemovesPlans name texts)) c.as_str.ensures.value
+    (c.in-Ok.ensures.done clean)) c.requires.fits

@@ -7,11 +7,16 @@ use Rattle.desk_tables.proofs.content.names_ascend.Goals as goal
 
 pub loop-first-preserved : goal.loop-first-preserved
 loop-first-preserved c =
-    goes_on listed_cmp (on_total (λ (l : Listed). l.name) nat_list_cmp_total) c.args.operators.now c.loop-first.left.now c.in-Some.later.now c.in-Some.first.now c.loop-first.invariant c.in-Some.ensures.cases.0 (sym c.if-not-name_is_below.ensures)
+    goes_on listed_cmp (on_total (λ (l : Listed). l.name) nat_list_cmp_total) c.args.operators.now
+    c.loop-first.left.now c.in-Some.later.now c.in-Some.first.now c.loop-first.invariant
+    c.in-Some.ensures.cases.0 (sym c.if-not-name_is_below.ensures)
 
 pub returns-then-not-name_is_below : goal.returns-then-not-name_is_below
 returns-then-not-name_is_below c =
-    stops listed_cmp (on_total (λ (l : Listed). l.name) nat_list_cmp_total) c.args.operators.now c.loop-first.left.now c.in-Some.later.now c.in-Some.first.now c.loop-first.invariant c.in-Some.ensures.cases.0 (sym c.if-not-name_is_below.ensures)
+    stops listed_cmp (on_total (λ (l : Listed). l.name) nat_list_cmp_total) c.args.operators.now
+    c.loop-first.left.now c.in-Some.later.now c.in-Some.first.now c.loop-first.invariant
+    c.in-Some.ensures.cases.0 (sym c.if-not-name_is_below.ensures)
 
 pub returns : goal.returns
-returns c = ends listed_cmp (on_total (λ (l : Listed). l.name) nat_list_cmp_total) c.args.operators.now c.loop-first.left.now c.loop-first.invariant (empty c.loop-first.left.now c.in_default.ensures.cases)
+returns c = ends listed_cmp (on_total (λ (l : Listed). l.name) nat_list_cmp_total) c.args.operators.now
+    c.loop-first.left.now c.loop-first.invariant (empty c.loop-first.left.now c.in_default.ensures.cases)

@@ -16,5 +16,12 @@ returns c =
     let low : SFits w32 c.args.slab.now.lower = search rules in
     let high : SFits w32 c.args.slab.now.upper = search rules in
     let from_lower = simp to_z-of_z at c.from.ensures in
-    let from_upper = simp to_z-of_z at c.from-2.ensures in
-    ((λ t. record { lower = lower_is ∙ ap Int from_lower; upper = upper_is ∙ ap Int from_upper; start = start_is; end = end_is.0 t }), λ h. end_is.1 h.end)
+    let from_upper = simp to_z-of_z at c.from-2.ensures in (
+      (λ t. record {
+        lower = lower_is ∙ ap Int from_lower;
+        upper = upper_is ∙ ap Int from_upper;
+        start = start_is;
+        end = end_is.0 t;
+      }),
+      λ h. end_is.1 h.end,
+    )

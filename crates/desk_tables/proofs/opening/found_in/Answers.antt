@@ -5,8 +5,10 @@ use Rattle.desk_tables.proofs.opening.found_in.Goals as goal
 
 pub returns-clause-value : goal.returns-clause-value
 returns-clause-value g c = λ clean.
-    have_content (tables_of (state g.S.Store c.args.connection.now).now.trees) _ (λ kept. kept.world) c.kept_of.result (c.in_ok-rows.ensures.value clean) c.kept_of.ensures.value
+    have_content (tables_of (state g.S.Store c.args.connection.now).now.trees) _ (λ kept. kept.world)
+    c.kept_of.result (c.in_ok-rows.ensures.value clean) c.kept_of.ensures.value
 
 pub returns-clause-none : goal.returns-clause-none
 returns-clause-none g c = λ clean.
-    of_none (tables_of (state g.S.Store c.args.connection.now).now.trees) _ c.kept_of.result (c.in_ok-rows.ensures.value clean) c.kept_of.ensures.none
+    of_none (tables_of (state g.S.Store c.args.connection.now).now.trees) _ c.kept_of.result
+    (c.in_ok-rows.ensures.value clean) c.kept_of.ensures.none

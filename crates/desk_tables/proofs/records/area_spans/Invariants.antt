@@ -7,4 +7,5 @@ use Rattle.desk_tables.proofs.records.area_spans.Given as goal
 -- the rows of the volumes so far
 abbrev pub invariant-loop-volume : goal.invariant-loop-volume
 invariant-loop-volume l =
-    (l.place ≡ l.volume-index) × AreSpanRowsFrom (filed_by l.operator l.plan) 0 (take l.volume-index l.volumes) (map span_of l.rows.items)
+    (l.place ≡ l.volume-index) × AreSpanRowsFrom (filed_by l.operator l.plan) 0
+    (take l.volume-index l.volumes) (map span_of l.rows.items)

@@ -6,4 +6,5 @@ use Rattle.desk_tables.proofs.records.asked_of.Given as goal
 
 -- the bytes of the volumes so far
 abbrev pub invariant-loop-volume : goal.invariant-loop-volume
-invariant-loop-volume l = AreAskedOf (take l.volume-index l.volumes) (map (λ bytes. bytes.items) l.asked.items) × AllByRecursion IsBlock (take l.volume-index l.volumes)
+invariant-loop-volume l = AreAskedOf (take l.volume-index l.volumes)
+    (map (λ bytes. bytes.items) l.asked.items) × AllByRecursion IsBlock (take l.volume-index l.volumes)

@@ -5,4 +5,5 @@ use Rattle.desk_tables.proofs.records.slab_rows.Given as goal
 
 -- the rows of the slabs so far
 abbrev pub invariant-loop-slab : goal.invariant-loop-slab
-invariant-loop-slab l = map span_of l.rows.items ≡ map (slab_record l.operator l.id l.place l.priority) (take l.slab-index l.slabs)
+invariant-loop-slab l = map span_of l.rows.items ≡ map (slab_record l.operator l.id l.place l.priority)
+    (take l.slab-index l.slabs)

@@ -7,4 +7,5 @@ use Rattle.desk_tables.proofs.records.texts_of.Given as goal
 
 -- the texts of the ids so far
 abbrev pub invariant-loop-id : goal.invariant-loop-id
-invariant-loop-id l = (map string_bytes l.texts.items ≡ map id_text (take l.id-index l.ids)) × AllByRecursion IsId (take l.id-index l.ids)
+invariant-loop-id l = (map string_bytes l.texts.items ≡ map id_text (take l.id-index l.ids))
+    × AllByRecursion IsId (take l.id-index l.ids)

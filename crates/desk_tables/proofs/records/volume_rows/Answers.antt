@@ -13,11 +13,18 @@ loop-volume-preserved c =
     let p = filed_by c.args.operator.now c.args.plan.now in
     let volume = c.volume-item.result in
     let read = c.index-asked-place.result in
-    let same = c.requires.same ∙ ap (map (λ v. footprint_bytes v.footprint)) (sym c.volumes-volumes.ensures.value) in
-    let bytes = c.deref.ensures.value ∙ ap (λ b. b.items) c.index-asked-place.is ∙ ap (λ n. (get_or c.args.asked.now n read).items) c.loop-volume.invariant.0
-    ∙ at_both (λ b. b.items) (λ v. footprint_bytes v.footprint) c.args.asked.now volumes i read volume same c.loop-volume-test.true ∙ ap (λ v. footprint_bytes v.footprint) (sym c.volume-item.is) in (
+    let same = c.requires.same ∙ ap (map (λ v. footprint_bytes v.footprint))
+    (sym c.volumes-volumes.ensures.value) in
+    let bytes = c.deref.ensures.value ∙ ap (λ b. b.items) c.index-asked-place.is
+    ∙ ap (λ n. (get_or c.args.asked.now n read).items) c.loop-volume.invariant.0
+    ∙ at_both (λ b. b.items) (λ v. footprint_bytes v.footprint) c.args.asked.now volumes i read volume same
+    c.loop-volume-test.true ∙ ap (λ v. footprint_bytes v.footprint) (sym c.volume-item.is) in (
       ap (λ n. n + 1) c.loop-volume.invariant.0,
-      ap (map volume_of) c.in_ok-push.ensures.items ∙ map_append volume_of c.loop-volume.rows.items (c.volume_row.result ∷ [])
-          ∙ volume_put p volumes i place c.volume-item.result c.volume-item.result (map volume_of c.loop-volume.rows.items) (volume_of c.volume_row.result) c.args.id.now c.deref.result.now
-          c.loop-volume-test.true c.volume-item.is c.loop-volume.invariant.0 c.requires.named bytes c.loop-volume.invariant.1 c.volume_row.ensures,
+      ap (map volume_of) c.in_ok-push.ensures.items
+          ∙ map_append volume_of c.loop-volume.rows.items (c.volume_row.result ∷ [])
+          ∙ volume_put p volumes i place c.volume-item.result c.volume-item.result
+          (map volume_of c.loop-volume.rows.items) (volume_of c.volume_row.result) c.args.id.now
+          c.deref.result.now
+          c.loop-volume-test.true c.volume-item.is c.loop-volume.invariant.0 c.requires.named bytes
+          c.loop-volume.invariant.1 c.volume_row.ensures,
     )

@@ -7,4 +7,5 @@ use Rattle.desk_tables.proofs.records.volume_rows.Given as goal
 -- the rows of the volumes so far
 abbrev pub invariant-loop-volume : goal.invariant-loop-volume
 invariant-loop-volume l =
-    (l.place ≡ l.volume-index) × (map volume_of l.rows.items ≡ volume_rows_from (filed_by l.operator l.plan) 0 (take l.volume-index l.volumes))
+    (l.place ≡ l.volume-index) × (map volume_of l.rows.items
+    ≡ volume_rows_from (filed_by l.operator l.plan) 0 (take l.volume-index l.volumes))

@@ -6,5 +6,7 @@ use Rattle.desk_wire.proofs.answering.answer.Goals as goal
 
 pub returns-clause-bytes : goal.returns-clause-bytes
 returns-clause-bytes g c = λ honest.
-    answered_so (g.S.PlanStore.content c.args.desk.now) (g.S.PlanStore.content c.answer_request.new.desk) _ c.args.moment c.args.text.now (message_read c.read_message.result) c.in_ok-answer.answer.bytes.items c.in_ok-answer.answer.error
+    answered_so (g.S.PlanStore.content c.args.desk.now) (g.S.PlanStore.content c.answer_request.new.desk) _
+    c.args.moment c.args.text.now (message_read c.read_message.result) c.in_ok-answer.answer.bytes.items
+    c.in_ok-answer.answer.error
     (to_z-of_z w64 c.args.moment c.ranges.moment) c.read_message.ensures (c.in_ok-answer.ensures.bytes honest)

@@ -12,35 +12,46 @@ pub returns-in-Ok-clause-bytes : goal.returns-in-Ok-clause-bytes
 returns-in-Ok-clause-bytes g c = λ honest.
     let w = g.S.PlanStore.content c.args.desk.now in
     let same = to_z-of_z w64 c.args.moment c.ranges.moment in
-    done_if_ok (λ r. r.bytes.items) c.answer_pending.result w (g.S.PlanStore.content c.answer_pending.new.desk) c.args.moment c.args.asked.now c.in-Ok.pending
-    (subst (λ m. IsPending w m c.args.asked.now c.in-Ok.pending) same (c.in-Ok.ensures.value (was_honest c.answer_pending.ensures.doubt honest)))
+    done_if_ok (λ r. r.bytes.items) c.answer_pending.result w
+    (g.S.PlanStore.content c.answer_pending.new.desk) c.args.moment c.args.asked.now c.in-Ok.pending
+    (subst (λ m. IsPending w m c.args.asked.now c.in-Ok.pending) same
+    (c.in-Ok.ensures.value (was_honest c.answer_pending.ensures.doubt honest)))
     c.answer_pending.ensures.bytes
-    (on_ok_weaker c.answer_pending.result (λ e. e ∙ ap (λ v. world_committed v c.in-Ok.pending) c.prepare.ensures.same) (c.answer_pending.ensures.ok honest))
+    (on_ok_weaker c.answer_pending.result (λ e. e ∙ ap (λ v. world_committed v c.in-Ok.pending)
+    c.prepare.ensures.same) (c.answer_pending.ensures.ok honest))
 
 pub returns-in-Ok-clause-status : goal.returns-in-Ok-clause-status
 returns-in-Ok-clause-status g c = λ honest.
     let w = g.S.PlanStore.content c.args.desk.now in
     let same = to_z-of_z w64 c.args.moment c.ranges.moment in
-    IfOk-weaker c.answer_pending.result _ _ (λ r told. told ∙ status_pending w c.args.moment c.args.asked.now c.in-Ok.pending
-    (subst (λ m. IsPending w m c.args.asked.now c.in-Ok.pending) same (c.in-Ok.ensures.value (was_honest c.answer_pending.ensures.doubt honest)))) c.answer_pending.ensures.status
+    IfOk-weaker c.answer_pending.result _ _ (λ r told. told
+    ∙ status_pending w c.args.moment c.args.asked.now c.in-Ok.pending
+    (subst (λ m. IsPending w m c.args.asked.now c.in-Ok.pending) same
+    (c.in-Ok.ensures.value (was_honest c.answer_pending.ensures.doubt honest))))
+    c.answer_pending.ensures.status
 
 pub returns-in-Err-UnknownOperator-clause-bytes : goal.returns-in-Err-UnknownOperator-clause-bytes
 unfolding text
 returns-in-Err-UnknownOperator-clause-bytes g c = λ honest.
     let w = g.S.PlanStore.content c.args.desk.now in
     let fault : Prepares w c.args.moment c.args.asked.now (Err c.in-Err-UnknownOperator.field-0) =
-    subst (λ m. Prepares w m c.args.asked.now (Err c.in-Err-UnknownOperator.field-0)) (to_z-of_z w64 c.args.moment c.ranges.moment) (c.in-Err-UnknownOperator.ensures.value honest) in
+    subst (λ m. Prepares w m c.args.asked.now (Err c.in-Err-UnknownOperator.field-0))
+    (to_z-of_z w64 c.args.moment c.ranges.moment) (c.in-Err-UnknownOperator.ensures.value honest) in
     IfOk-weaker c.refuse.result _ _ (λ r told.
-    done_unanswered w (g.S.PlanStore.content c.prepare.new.self) c.args.moment c.args.asked.now unknown_operator r.bytes.items
-    (rw c.in-Err-UnknownOperator.field-0-is at fault) told c.prepare.ensures.same) c.refuse.ensures.bytes
+    done_unanswered w (g.S.PlanStore.content c.prepare.new.self) c.args.moment c.args.asked.now
+    unknown_operator r.bytes.items
+    (rw c.in-Err-UnknownOperator.field-0-is at fault) told c.prepare.ensures.same)
+    c.refuse.ensures.bytes
 
 pub returns-in-Err-UnknownOperator-clause-status : goal.returns-in-Err-UnknownOperator-clause-status
 unfolding status
 returns-in-Err-UnknownOperator-clause-status g c = λ honest.
     let w = g.S.PlanStore.content c.args.desk.now in
     let fault : Prepares w c.args.moment c.args.asked.now (Err c.in-Err-UnknownOperator.field-0) =
-    subst (λ m. Prepares w m c.args.asked.now (Err c.in-Err-UnknownOperator.field-0)) (to_z-of_z w64 c.args.moment c.ranges.moment) (c.in-Err-UnknownOperator.ensures.value honest) in
-    IfOk-weaker c.refuse.result _ _ (λ r told. told ∙ status_unanswered w c.args.moment c.args.asked.now unknown_operator
+    subst (λ m. Prepares w m c.args.asked.now (Err c.in-Err-UnknownOperator.field-0))
+    (to_z-of_z w64 c.args.moment c.ranges.moment) (c.in-Err-UnknownOperator.ensures.value honest) in
+    IfOk-weaker c.refuse.result _ _ (λ r told. told
+    ∙ status_unanswered w c.args.moment c.args.asked.now unknown_operator
     (rw c.in-Err-UnknownOperator.field-0-is at fault)) c.refuse.ensures.status
 
 pub returns-in-Err-NoSuchPlan-clause-bytes : goal.returns-in-Err-NoSuchPlan-clause-bytes
@@ -48,22 +59,29 @@ unfolding text
 returns-in-Err-NoSuchPlan-clause-bytes g c = λ honest.
     let w = g.S.PlanStore.content c.args.desk.now in
     let fault : Prepares w c.args.moment c.args.asked.now (Err c.in-Err-NoSuchPlan.field-0) =
-    subst (λ m. Prepares w m c.args.asked.now (Err c.in-Err-NoSuchPlan.field-0)) (to_z-of_z w64 c.args.moment c.ranges.moment) (c.in-Err-NoSuchPlan.ensures.value honest) in
+    subst (λ m. Prepares w m c.args.asked.now (Err c.in-Err-NoSuchPlan.field-0))
+    (to_z-of_z w64 c.args.moment c.ranges.moment) (c.in-Err-NoSuchPlan.ensures.value honest) in
     IfOk-weaker c.refuse-in-Err-NoSuchPlan.result _ _ (λ r told.
-    done_unanswered w (g.S.PlanStore.content c.prepare.new.self) c.args.moment c.args.asked.now no_such_plan r.bytes.items
-    (rw c.in-Err-NoSuchPlan.field-0-is at fault) told c.prepare.ensures.same) c.refuse-in-Err-NoSuchPlan.ensures.bytes
+    done_unanswered w (g.S.PlanStore.content c.prepare.new.self) c.args.moment c.args.asked.now
+    no_such_plan
+    r.bytes.items
+    (rw c.in-Err-NoSuchPlan.field-0-is at fault) told c.prepare.ensures.same)
+    c.refuse-in-Err-NoSuchPlan.ensures.bytes
 
 pub returns-in-Err-NoSuchPlan-clause-status : goal.returns-in-Err-NoSuchPlan-clause-status
 unfolding status
 returns-in-Err-NoSuchPlan-clause-status g c = λ honest.
     let w = g.S.PlanStore.content c.args.desk.now in
     let fault : Prepares w c.args.moment c.args.asked.now (Err c.in-Err-NoSuchPlan.field-0) =
-    subst (λ m. Prepares w m c.args.asked.now (Err c.in-Err-NoSuchPlan.field-0)) (to_z-of_z w64 c.args.moment c.ranges.moment) (c.in-Err-NoSuchPlan.ensures.value honest) in
-    IfOk-weaker c.refuse-in-Err-NoSuchPlan.result _ _ (λ r told. told ∙ status_unanswered w c.args.moment c.args.asked.now no_such_plan
+    subst (λ m. Prepares w m c.args.asked.now (Err c.in-Err-NoSuchPlan.field-0))
+    (to_z-of_z w64 c.args.moment c.ranges.moment) (c.in-Err-NoSuchPlan.ensures.value honest) in
+    IfOk-weaker c.refuse-in-Err-NoSuchPlan.result _ _
+    (λ r told. told ∙ status_unanswered w c.args.moment c.args.asked.now no_such_plan
     (rw c.in-Err-NoSuchPlan.field-0-is at fault)) c.refuse-in-Err-NoSuchPlan.ensures.status
 
 pub returns-in-Err-UnknownOperator-clause-cause : goal.returns-in-Err-UnknownOperator-clause-cause
 returns-in-Err-UnknownOperator-clause-cause g c = no_cause c.refuse.result _ c.refuse.ensures.error
 
 pub returns-in-Err-NoSuchPlan-clause-cause : goal.returns-in-Err-NoSuchPlan-clause-cause
-returns-in-Err-NoSuchPlan-clause-cause g c = no_cause c.refuse-in-Err-NoSuchPlan.result _ c.refuse-in-Err-NoSuchPlan.ensures.error
+returns-in-Err-NoSuchPlan-clause-cause g c = no_cause c.refuse-in-Err-NoSuchPlan.result _
+    c.refuse-in-Err-NoSuchPlan.ensures.error

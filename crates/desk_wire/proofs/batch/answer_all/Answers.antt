@@ -10,7 +10,8 @@ use Rattle.desk_wire.proofs.AllLemmas.{HaveAnswers, one_answered, cut_answered, 
 use Rattle.desk_wire.proofs.batch.answer_all.Goals as goal
 
 pub answer_request-answer-requires : goal.answer_request-answer-requires
-answer_request-answer-requires g c = moment_at (λ r. r.0) c.args.requests.now c.loop-moment.moment-index c.loop-moment-item.result c.loop-moment-test.true c.loop-moment-item.is c.requires
+answer_request-answer-requires g c = moment_at (λ r. r.0) c.args.requests.now c.loop-moment.moment-index
+    c.loop-moment-item.result c.loop-moment-test.true c.loop-moment-item.is c.requires
 
 pub loop-moment-preserved : goal.loop-moment-preserved
 loop-moment-preserved g c =
@@ -20,36 +21,58 @@ loop-moment-preserved g c =
     let w = g.S.PlanStore.content c.args.desk.now in
     let now = g.S.PlanStore.content c.loop-moment.desk in
     let after = g.S.PlanStore.content c.answer_request-answer.new.desk in
-    let same = same_moment r.0 (is_moment_at (λ q. q.0) requests n r c.loop-moment-test.true c.loop-moment-item.is c.requires) in
+    let same = same_moment r.0 (is_moment_at (λ q. q.0) requests n r c.loop-moment-test.true
+    c.loop-moment-item.is c.requires) in
     let none = sym c.is_some.ensures ∙ c.if-is_some.false in
     record {
       answered = λ honest.
-          let done = done_so now after _ r.0 c.deref.result.now r.1.items (message_read c.read_message.result) c.in-Ok.field-0.bytes.items c.in-Ok.field-0.error none same c.read_message.ensures c.deref.ensures.value (c.in-Ok.ensures.bytes honest) in
-          subst (λ xs. HaveAnswers (λ q. (q.0, q.1.items)) (λ v. v.items) w requests (n + 1) xs after) (sym c.push_reserved.ensures.items)
-          (one_answered (λ q. (q.0, q.1.items)) (λ v. v.items) w now after requests n c.loop-moment.answers.items r c.in-Ok.field-0.bytes (c.loop-moment.invariant.answered (was_honest c.answer_request-answer.ensures.doubt honest)) c.loop-moment-test.true c.loop-moment-item.is done);
-      count = ap length c.push_reserved.ensures.items ∙ length-append c.loop-moment.answers.items (c.in-Ok.field-0.bytes ∷ []) ∙ ap (λ k. k + 1) c.loop-moment.invariant.count;
-      room = subst (λ k. length requests ≤ k) (sym c.push_reserved.ensures.capacity) c.loop-moment.invariant.room;
+          let done = done_so now after _ r.0 c.deref.result.now r.1.items
+          (message_read c.read_message.result)
+          c.in-Ok.field-0.bytes.items c.in-Ok.field-0.error none same c.read_message.ensures
+          c.deref.ensures.value (c.in-Ok.ensures.bytes honest) in
+          subst (λ xs. HaveAnswers (λ q. (q.0, q.1.items)) (λ v. v.items) w requests (n + 1) xs after)
+          (sym c.push_reserved.ensures.items)
+          (one_answered (λ q. (q.0, q.1.items)) (λ v. v.items) w now after requests n
+          c.loop-moment.answers.items r c.in-Ok.field-0.bytes
+          (c.loop-moment.invariant.answered (was_honest c.answer_request-answer.ensures.doubt honest))
+          c.loop-moment-test.true c.loop-moment-item.is done);
+      count = ap length c.push_reserved.ensures.items
+          ∙ length-append c.loop-moment.answers.items (c.in-Ok.field-0.bytes ∷ [])
+          ∙ ap (λ k. k + 1) c.loop-moment.invariant.count;
+      room = subst (λ k. length requests ≤ k) (sym c.push_reserved.ensures.capacity)
+          c.loop-moment.invariant.room;
       doubt = omega (arith, c.loop-moment.invariant.doubt, c.answer_request-answer.ensures.doubt);
       counted = omega (arith, c.loop-moment.invariant.counted, c.answer_request-answer.ensures.counted);
     }
 
 pub returns-in_default-clause-answers : goal.returns-in_default-clause-answers
 returns-in_default-clause-answers g c = λ honest.
-    cut_answered (λ q. (q.0, q.1.items)) (λ v. v.items) (g.S.PlanStore.content c.args.desk.now) (g.S.PlanStore.content c.loop-moment.desk) (g.S.PlanStore.content c.answer_request-answer.new.desk) c.args.requests.now c.loop-moment.moment-index c.loop-moment.answers.items
-    (c.loop-moment.invariant.answered (was_honest c.answer_request-answer.ensures.doubt honest)) c.loop-moment-test.true c.in_default.ensures.err
+    cut_answered (λ q. (q.0, q.1.items)) (λ v. v.items) (g.S.PlanStore.content c.args.desk.now)
+    (g.S.PlanStore.content c.loop-moment.desk) (g.S.PlanStore.content c.answer_request-answer.new.desk)
+    c.args.requests.now c.loop-moment.moment-index c.loop-moment.answers.items
+    (c.loop-moment.invariant.answered (was_honest c.answer_request-answer.ensures.doubt honest))
+    c.loop-moment-test.true c.in_default.ensures.err
 
 pub returns-then-is_some-clause-answers : goal.returns-then-is_some-clause-answers
 returns-then-is_some-clause-answers g c = λ honest.
     let some = sym c.is_some.ensures ∙ c.if-is_some.true in
     let w = g.S.PlanStore.content c.args.desk.now in
     let after = g.S.PlanStore.content c.answer_request-answer.new.desk in
-    subst (λ xs. AreBroken w (map (λ q. (q.0, q.1.items)) c.args.requests.now) (map (λ v. v.items) xs) after) (sym c.push_reserved.ensures.items)
-    (failed_so (λ q. (q.0, q.1.items)) (λ v. v.items) w (g.S.PlanStore.content c.loop-moment.desk) after _ _ c.args.requests.now c.loop-moment.moment-index c.loop-moment.answers.items c.in-Ok.field-0.bytes c.in-Ok.field-0.error some (c.in-Ok.ensures.bytes honest)
-    (c.loop-moment.invariant.answered (was_honest c.answer_request-answer.ensures.doubt honest)) c.loop-moment-test.true)
+    subst (λ xs. AreBroken w (map (λ q. (q.0, q.1.items)) c.args.requests.now) (map (λ v. v.items) xs)
+    after)
+    (sym c.push_reserved.ensures.items)
+    (failed_so (λ q. (q.0, q.1.items)) (λ v. v.items) w (g.S.PlanStore.content c.loop-moment.desk) after
+    _ _
+    c.args.requests.now c.loop-moment.moment-index c.loop-moment.answers.items c.in-Ok.field-0.bytes
+    c.in-Ok.field-0.error some (c.in-Ok.ensures.bytes honest)
+    (c.loop-moment.invariant.answered (was_honest c.answer_request-answer.ensures.doubt honest))
+    c.loop-moment-test.true)
 
 pub returns-clause-answers : goal.returns-clause-answers
 returns-clause-answers g c = λ honest.
-    all_answered (λ q. (q.0, q.1.items)) (λ v. v.items) (g.S.PlanStore.content c.args.desk.now) (g.S.PlanStore.content c.loop-moment.desk) c.args.requests.now c.loop-moment.moment-index c.loop-moment.answers.items (c.loop-moment.invariant.answered honest) c.loop-moment-test.false
+    all_answered (λ q. (q.0, q.1.items)) (λ v. v.items) (g.S.PlanStore.content c.args.desk.now)
+    (g.S.PlanStore.content c.loop-moment.desk) c.args.requests.now c.loop-moment.moment-index
+    c.loop-moment.answers.items (c.loop-moment.invariant.answered honest) c.loop-moment-test.false
 
 -- an operator that sent nothing owns what it did, by the clause of the answers
 pub returns-in_default-clause-quiet : goal.returns-in_default-clause-quiet

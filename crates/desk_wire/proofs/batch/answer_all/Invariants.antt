@@ -7,7 +7,9 @@ use Rattle.desk_wire.proofs.batch.answer_all.Given as goal
 abbrev pub invariant-loop-moment : goal.invariant-loop-moment
 invariant-loop-moment g l =
     record {
-      answered : IsHonest (g.S.PlanStore.doubt l.desk) → HaveAnswers (λ r. (r.0, r.1.items)) (λ v. v.items) (g.S.PlanStore.content l.fn.desk) l.requests l.moment-index l.answers.items (g.S.PlanStore.content l.desk);
+      answered : IsHonest (g.S.PlanStore.doubt l.desk)
+          → HaveAnswers (λ r. (r.0, r.1.items)) (λ v. v.items) (g.S.PlanStore.content l.fn.desk) l.requests
+          l.moment-index l.answers.items (g.S.PlanStore.content l.desk);
       count : length l.answers.items ≡ l.moment-index;
       room : length l.requests ≤ l.answers.cap;
       doubt : g.S.PlanStore.doubt l.fn.desk ≤ g.S.PlanStore.doubt l.desk;

@@ -22,9 +22,16 @@ returns-then-is_server_error-clause-played g c =
       output = g.W.Write.contents c.loop-before.output;
       world = w;
       first =
-          subst (λ m. ArePlayed honest c.loop-before.before (g.R.Read.remaining c.args.input.now) (g.R.Read.remaining c.loop-before.input) (g.W.Write.contents c.args.output.now) (g.W.Write.contents c.loop-before.output) (g.S.PlanStore.content c.args.desk.now) m w) same
-          (played_if (IsHonest (g.S.PlanStore.doubt c.loop-before.desk)) honest _ _ _ _ _ _ _ _ (was_honest c.serve_next.ensures.doubt) c.loop-before.invariant.played);
-      last = (refl, broken_next honest _ _ _ _ w _ after c.in-Answered.status c.in-Answered.framed served (is_500 c.in-Answered.status (sym c.is_server_error.ensures ∙ c.if-is_server_error.true)));
+          subst (λ m. ArePlayed honest c.loop-before.before (g.R.Read.remaining c.args.input.now)
+          (g.R.Read.remaining c.loop-before.input) (g.W.Write.contents c.args.output.now)
+          (g.W.Write.contents c.loop-before.output) (g.S.PlanStore.content c.args.desk.now) m w) same
+          (played_if (IsHonest (g.S.PlanStore.doubt c.loop-before.desk)) honest _ _ _ _ _ _ _ _
+          (was_honest c.serve_next.ensures.doubt) c.loop-before.invariant.played);
+      last = (
+        refl,
+        broken_next honest _ _ _ _ w _ after c.in-Answered.status c.in-Answered.framed served
+            (is_500 c.in-Answered.status (sym c.is_server_error.ensures ∙ c.if-is_server_error.true)),
+      );
     }
 
 pub loop-before-preserved : goal.loop-before-preserved
@@ -33,9 +40,16 @@ loop-before-preserved g c =
     let w = g.S.PlanStore.content c.loop-before.desk in
     let after = g.S.PlanStore.content c.serve_next.new.desk in
     let served = rw c.in-Answered.is at c.in-Ok.ensures.served in
-    let first = played_if (IsHonest (g.S.PlanStore.doubt c.loop-before.desk)) honest _ _ _ _ _ _ _ _ (was_honest c.serve_next.ensures.doubt) c.loop-before.invariant.played in
+    let first = played_if (IsHonest (g.S.PlanStore.doubt c.loop-before.desk)) honest _ _ _ _ _ _ _ _
+    (was_honest c.serve_next.ensures.doubt) c.loop-before.invariant.played in
     record {
-      played = one_played honest c.loop-before.before (g.R.Read.remaining c.args.input.now) (g.R.Read.remaining c.loop-before.input) (g.R.Read.remaining c.serve_next.new.input) (g.W.Write.contents c.args.output.now) (g.W.Write.contents c.loop-before.output) (g.W.Write.contents c.serve_next.new.output) (g.S.PlanStore.content c.args.desk.now) _ w after c.in-Answered.status c.in-Answered.framed first served (not_500 c.in-Answered.status (sym c.is_server_error.ensures ∙ c.if-is_server_error.false)) c.if-not-framed.false;
+      played = one_played honest c.loop-before.before (g.R.Read.remaining c.args.input.now)
+          (g.R.Read.remaining c.loop-before.input) (g.R.Read.remaining c.serve_next.new.input)
+          (g.W.Write.contents c.args.output.now) (g.W.Write.contents c.loop-before.output)
+          (g.W.Write.contents c.serve_next.new.output) (g.S.PlanStore.content c.args.desk.now) _ w after
+          c.in-Answered.status c.in-Answered.framed first served
+          (not_500 c.in-Answered.status (sym c.is_server_error.ensures ∙ c.if-is_server_error.false))
+          c.if-not-framed.false;
       doubt = omega (arith, c.loop-before.invariant.doubt, c.serve_next.ensures.doubt);
       counted = omega (arith, c.loop-before.invariant.counted, c.serve_next.ensures.counted);
     }

@@ -7,7 +7,9 @@ use Rattle.desk_wire.proofs.play.play_with.Given as goal
 abbrev pub invariant-loop-before : goal.invariant-loop-before
 invariant-loop-before g l =
     record {
-      played : ArePlayed (IsHonest (g.S.PlanStore.doubt l.desk)) l.before (g.R.Read.remaining l.fn.input) (g.R.Read.remaining l.input) (g.W.Write.contents l.fn.output) (g.W.Write.contents l.output) (g.S.PlanStore.content l.fn.desk) l.moment (g.S.PlanStore.content l.desk);
+      played : ArePlayed (IsHonest (g.S.PlanStore.doubt l.desk)) l.before (g.R.Read.remaining l.fn.input)
+          (g.R.Read.remaining l.input) (g.W.Write.contents l.fn.output) (g.W.Write.contents l.output)
+          (g.S.PlanStore.content l.fn.desk) l.moment (g.S.PlanStore.content l.desk);
       doubt : g.S.PlanStore.doubt l.fn.desk ≤ g.S.PlanStore.doubt l.desk;
       counted : g.S.PlanStore.faults l.fn.desk ≤ g.S.PlanStore.faults l.desk;
     }

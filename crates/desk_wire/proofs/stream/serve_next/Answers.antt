@@ -11,49 +11,72 @@ use Rattle.desk_wire.proofs.stream.serve_next.Goals as goal
 pub returns-in_err-body-clause-served : goal.returns-in_err-body-clause-served
 returns-in_err-body-clause-served g c =
     let text = c.in_ok-text.text.items in
-    let some = some_count c.in_ok-text.text.len (length text) c.if-is_empty.ensures (sym c.in_ok-text.text.ok.0) in
+    let some = some_count c.in_ok-text.text.len (length text) c.if-is_empty.ensures
+    (sym c.in_ok-text.text.ok.0) in
     let front = c.front_of-front.ensures ∙ ap front_read c.deref.ensures.value in
     let size = c.size_of.ensures ∙ ap size_said front in
-    stopped _ (IfSome (g.R.Read.remaining c.receive_head.new.input) (λ rest. length rest < c.size_of.result)) c.from_residual-in_err-body.result c.in_err-body.field-0.0 (g.R.Read.remaining c.args.input.now) _ _ _ _
+    stopped _ (IfSome (g.R.Read.remaining c.receive_head.new.input) (λ rest. length rest < c.size_of.result))
+    c.from_residual-in_err-body.result c.in_err-body.field-0.0 (g.R.Read.remaining c.args.input.now) _ _ _
+    _
     c.from_residual-in_err-body.ensures.1 c.in_err-body.ensures.fault
-    (λ short. told_cut_body (g.R.Read.remaining c.args.input.now) (g.R.Read.remaining c.receive_head.new.input) text c.in_ok-text.ensures.taken some (c.in_ok-text.ensures.front some)
+    (λ short. told_cut_body (g.R.Read.remaining c.args.input.now)
+    (g.R.Read.remaining c.receive_head.new.input) text c.in_ok-text.ensures.taken some
+    (c.in_ok-text.ensures.front some)
     (subst (λ n. IfSome (g.R.Read.remaining c.receive_head.new.input) (λ rest. length rest < n)) size short))
 
 pub returns-in_err-write_whole-clause-served : goal.returns-in_err-write_whole-clause-served
 returns-in_err-write_whole-clause-served g c =
     let text = c.in_ok-text.text.items in
     let body = c.in_ok-body.body.items in
-    let some = some_count c.in_ok-text.text.len (length text) c.if-is_empty.ensures (sym c.in_ok-text.text.ok.0) in
+    let some = some_count c.in_ok-text.text.len (length text) c.if-is_empty.ensures
+    (sym c.in_ok-text.text.ok.0) in
     let front = c.front_of-front.ensures ∙ ap front_read c.deref.ensures.value in
-    let message = c.message_of-request.ensures ∙ ap (with_body (front_reading c.front_of-front.result)) c.deref-2.ensures.value in
-    let got = received (g.R.Read.remaining c.args.input.now) (g.R.Read.remaining c.receive_head.new.input) (g.R.Read.remaining c.receive_body.new.input) text body (front_reading c.front_of-front.result) (message_read c.message_of-request.result)
-    c.in_ok-text.ensures.taken (c.in_ok-text.ensures.front some) front c.in_ok-body.ensures.taken (c.in_ok-body.ensures.size ∙ c.size_of.ensures) message in
+    let message = c.message_of-request.ensures ∙ ap (with_body (front_reading c.front_of-front.result))
+    c.deref-2.ensures.value in
+    let got = received (g.R.Read.remaining c.args.input.now) (g.R.Read.remaining c.receive_head.new.input)
+    (g.R.Read.remaining c.receive_body.new.input) text body (front_reading c.front_of-front.result)
+    (message_read c.message_of-request.result)
+    c.in_ok-text.ensures.taken (c.in_ok-text.ensures.front some) front c.in_ok-body.ensures.taken
+    (c.in_ok-body.ensures.size ∙ c.size_of.ensures) message in
     let w = g.S.PlanStore.content c.args.desk.now in
     let after = g.S.PlanStore.content c.answer_request.new.desk in
     let moment = to_z-of_z w64 c.args.moment c.ranges.moment in
     let why = c.in_ok-answer.answer.error in
     let answer = c.in_ok-answer.answer.bytes.items in
-    let told = replied (IsHonest (g.S.PlanStore.doubt c.answer_request.new.desk)) w after _ c.args.moment (text ++ body) answer (message_read c.message_of-request.result) why moment got.read c.in_ok-answer.ensures.bytes c.in_ok-answer.ensures.failed in
+    let told = replied (IsHonest (g.S.PlanStore.doubt c.answer_request.new.desk)) w after _ c.args.moment
+    (text ++ body) answer (message_read c.message_of-request.result) why moment got.read
+    c.in_ok-answer.ensures.bytes c.in_ok-answer.ensures.failed in
     let off = rw c.deref-3.ensures.value at c.in_err-write_whole.ensures.err in
-    broken (IsHonest (g.S.PlanStore.doubt c.answer_request.new.desk)) c.from_residual-in_err-write_whole.result c.in_err-write_whole.field-0.0 _ _ _ _ w after c.args.moment (text ++ body) answer why
+    broken (IsHonest (g.S.PlanStore.doubt c.answer_request.new.desk))
+    c.from_residual-in_err-write_whole.result c.in_err-write_whole.field-0.0 _ _ _ _ w after c.args.moment
+    (text ++ body) answer why
     c.from_residual-in_err-write_whole.ensures.1 off got.taken told
 
 pub returns-clause-served : goal.returns-clause-served
 returns-clause-served g c =
     let text = c.in_ok-text.text.items in
     let body = c.in_ok-body.body.items in
-    let some = some_count c.in_ok-text.text.len (length text) c.if-is_empty.ensures (sym c.in_ok-text.text.ok.0) in
+    let some = some_count c.in_ok-text.text.len (length text) c.if-is_empty.ensures
+    (sym c.in_ok-text.text.ok.0) in
     let front = c.front_of-front.ensures ∙ ap front_read c.deref.ensures.value in
-    let message = c.message_of-request.ensures ∙ ap (with_body (front_reading c.front_of-front.result)) c.deref-2.ensures.value in
-    let got = received (g.R.Read.remaining c.args.input.now) (g.R.Read.remaining c.receive_head.new.input) (g.R.Read.remaining c.receive_body.new.input) text body (front_reading c.front_of-front.result) (message_read c.message_of-request.result)
-    c.in_ok-text.ensures.taken (c.in_ok-text.ensures.front some) front c.in_ok-body.ensures.taken (c.in_ok-body.ensures.size ∙ c.size_of.ensures) message in
+    let message = c.message_of-request.ensures ∙ ap (with_body (front_reading c.front_of-front.result))
+    c.deref-2.ensures.value in
+    let got = received (g.R.Read.remaining c.args.input.now) (g.R.Read.remaining c.receive_head.new.input)
+    (g.R.Read.remaining c.receive_body.new.input) text body (front_reading c.front_of-front.result)
+    (message_read c.message_of-request.result)
+    c.in_ok-text.ensures.taken (c.in_ok-text.ensures.front some) front c.in_ok-body.ensures.taken
+    (c.in_ok-body.ensures.size ∙ c.size_of.ensures) message in
     let w = g.S.PlanStore.content c.args.desk.now in
     let after = g.S.PlanStore.content c.answer_request.new.desk in
     let moment = to_z-of_z w64 c.args.moment c.ranges.moment in
     let why = c.in_ok-answer.answer.error in
     let answer = c.in_ok-answer.answer.bytes.items in
-    let told = replied (IsHonest (g.S.PlanStore.doubt c.answer_request.new.desk)) w after _ c.args.moment (text ++ body) answer (message_read c.message_of-request.result) why moment got.read c.in_ok-answer.ensures.bytes c.in_ok-answer.ensures.failed in
-    served_as (IsHonest (g.S.PlanStore.doubt c.answer_request.new.desk)) c.answered.result c.in_ok-answer.answer.status (is_ok c.message_of-request.result) (g.R.Read.remaining c.args.input.now) _ _ _ w after c.args.moment
+    let told = replied (IsHonest (g.S.PlanStore.doubt c.answer_request.new.desk)) w after _ c.args.moment
+    (text ++ body) answer (message_read c.message_of-request.result) why moment got.read
+    c.in_ok-answer.ensures.bytes c.in_ok-answer.ensures.failed in
+    served_as (IsHonest (g.S.PlanStore.doubt c.answer_request.new.desk)) c.answered.result
+    c.in_ok-answer.answer.status (is_ok c.message_of-request.result) (g.R.Read.remaining c.args.input.now)
+    _ _ _ w after c.args.moment
     c.answered.ensures record {
       request = text ++ body;
       taken = got.taken;
@@ -61,6 +84,8 @@ returns-clause-served g c =
       answer = answer;
       why = why;
       replied = told;
-      status_is = status_as (IsHonest (g.S.PlanStore.doubt c.answer_request.new.desk)) w _ c.args.moment (text ++ body) (message_read c.message_of-request.result) why c.in_ok-answer.answer.status moment got.read c.in_ok-answer.ensures.status;
+      status_is = status_as (IsHonest (g.S.PlanStore.doubt c.answer_request.new.desk)) w _ c.args.moment
+          (text ++ body) (message_read c.message_of-request.result) why c.in_ok-answer.answer.status moment
+          got.read c.in_ok-answer.ensures.status;
       written = rw c.deref-3.ensures.value at c.in_ok-write_whole.ensures.ok;
     }

@@ -17,7 +17,8 @@ pub returns-clause-saw : goal.returns-clause-saw
 returns-clause-saw c = elim c.else-least-low.branch [
   | else-least-low-via-then-least-low+else-high-greatest w ↦
       across_high c.args.side c.args.least c.args.greatest c.args.span.0 c.args.span.1 c.requires.span
-      w.if-least-low.true (omega (arith, c.if-greatest-low.false)) (omega (arith, w.if-high-greatest.false))
+      w.if-least-low.true (omega (arith, c.if-greatest-low.false))
+      (omega (arith, w.if-high-greatest.false))
   | else-least-low-via-else-least-low w ↦
       across_low c.args.side c.args.least c.args.greatest c.args.span.0 c.args.span.1 c.requires.side
       c.requires.span c.requires.order (omega (arith, w.if-least-low.false))

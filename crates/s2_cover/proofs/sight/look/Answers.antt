@@ -23,8 +23,10 @@ returns-clause-saw c =
     let i = c.i_span.result in
     let j = c.j_span.result in
     let sides = subst (λ w. side ≡ side_of w.level) c.wide.view_is c.side_of-side.ensures.value in
-    let i_saw = subst (λ w. Saw i.0 i.1 (is_along side w.a_min w.a_max) c.along.result) c.wide.view_is c.along.ensures.saw in
-    let j_saw = subst (λ w. Saw j.0 j.1 (is_along side w.b_min w.b_max) c.along-2.result) c.wide.view_is c.along-2.ensures.saw in
+    let i_saw = subst (λ w. Saw i.0 i.1 (is_along side w.a_min w.a_max) c.along.result) c.wide.view_is
+    c.along.ensures.saw in
+    let j_saw = subst (λ w. Saw j.0 j.1 (is_along side w.b_min w.b_max) c.along-2.result) c.wide.view_is
+    c.along-2.ensures.saw in
     subst (λ sight. SawSquare (wide_set wide) wide.level square sight) (sym c.both.ensures)
     (square_seen wide square i.0 i.1 j.0 j.1 side c.along.result c.along-2.result sides c.requires.square
     c.requires.face c.requires.level

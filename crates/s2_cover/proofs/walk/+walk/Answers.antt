@@ -18,8 +18,10 @@ returns-in_err-keep-in-Inside-clause-err t c =
     c.in-Inside.ensures.saw.saw in
     let fault = c.in_err-keep-in-Inside.field-0.0 in
     let stopped =
-    stopped_full set c.args.limit (first_position square) (square_id square) c.look.new.looked _ c.args.cells.now.items
-    fault c.requires.laid largest block.begins (omega (arith, c.requires.counted, c.look.ensures.counted))
+    stopped_full set c.args.limit (first_position square) (square_id square) c.look.new.looked _
+    c.args.cells.now.items
+    fault c.requires.laid largest block.begins (omega
+    (arith, c.requires.counted, c.look.ensures.counted))
     (omega (arith, c.look.ensures.counted)) c.in_err-keep-in-Inside.ensures.full in
     if_err c.from_residual.result fault _ c.from_residual.ensures.1 stopped
 
@@ -32,7 +34,8 @@ loop-k-init t c =
     subst (IsWalking (wide_set c.args.wide.now) levels c.args.limit most (first_position square)
     (leaf_count (square.level + 1)) 0 cells cells c.args.looked.now) (sym c.look.ensures.counted)
     (walking_begins (wide_set c.args.wide.now) levels c.args.limit most (first_position square)
-    (leaf_count (square.level + 1)) c.args.looked.now cells c.requires.laid c.requires.few c.requires.counted)
+    (leaf_count (square.level + 1)) c.args.looked.now cells c.requires.laid c.requires.few
+    c.requires.counted)
 
 pub walk-requires : goal.walk-requires
 walk-requires t c =
@@ -44,16 +47,20 @@ walk-requires t c =
     let above = c.in-Across.ensures.saw.above refl in
     let levels : c.args.wide.now.level - child.level ≡ c.args.wide.now.level - square.level - 1 =
     omega (arith, told.level) in
-    let first : first_position child ≡ first_position square + c.loop-k.k * leaf_count (square.level + 1) =
+    let first : first_position child ≡ first_position square + c.loop-k.k * leaf_count
+    (square.level + 1) =
     told.first ∙ ap (λ l. first_position square + c.loop-k.k * leaf_count l) told.level in
     let inner : square.level < 30 = omega (arith, above, c.requires.wide.level) in
     let most =
-    child_most set (c.args.wide.now.level - square.level - 1) (c.args.wide.now.level - square.level) c.args.limit
+    child_most set (c.args.wide.now.level - square.level - 1) (c.args.wide.now.level - square.level)
+    c.args.limit
     (60 - 2 * (square.level + 1)) (first_position square) (leaf_count (square.level + 1)) c.loop-k.k
     c.args.cells.now.items c.loop-k.cells.items
     c.args.looked.now c.loop-k.looked walking (omega (arith, above)) c.loop-k-test.true in
-    let room : c.loop-k.looked + looks_for (c.args.wide.now.level - child.level) (c.args.limit + 1 - length c.loop-k.cells.items) < 2 ^ 64 =
-    subst (λ n. c.loop-k.looked + looks_for n (c.args.limit + 1 - length c.loop-k.cells.items) < 2 ^ 64) (sym levels)
+    let room : c.loop-k.looked + looks_for (c.args.wide.now.level - child.level)
+    (c.args.limit + 1 - length c.loop-k.cells.items) < 2 ^ 64 =
+    subst (λ n. c.loop-k.looked + looks_for n (c.args.limit + 1 - length c.loop-k.cells.items) < 2 ^ 64)
+    (sym levels)
     (omega (arith, most, c.requires.room)) in (
       omega (arith, c.decreases, told.level, above),
       (
@@ -69,9 +76,12 @@ walk-requires t c =
                 (
                   walking.few,
                   (
-                    child_opened set (square_id child) (square_id square) square.level (first_position square) c.loop-k.k
+                    child_opened set (square_id child) (square_id square) square.level
+                        (first_position square)
+                        c.loop-k.k
                         (square_block square c.requires.square) c.loop-k-test.true inner
-                        (child_block child square c.loop-k.k told.square told.level told.first) c.in-Across.ensures.saw.saw.1,
+                        (child_block child square c.loop-k.k told.square told.level told.first)
+                        c.in-Across.ensures.saw.saw.1,
                     (walking.counted, room),
                   ),
                 ),
@@ -91,7 +101,8 @@ returns-in_err-walk-in-Across-clause-err t c =
     let levels : c.args.wide.now.level - child.level ≡ c.args.wide.now.level - square.level - 1 =
     omega (arith, c.child.ensures.level) in
     let most =
-    child_most set (c.args.wide.now.level - square.level - 1) (c.args.wide.now.level - square.level) c.args.limit
+    child_most set (c.args.wide.now.level - square.level - 1) (c.args.wide.now.level - square.level)
+    c.args.limit
     (60 - 2 * (square.level + 1)) (first_position square) (leaf_count (square.level + 1)) c.loop-k.k
     c.args.cells.now.items c.loop-k.cells.items
     c.args.looked.now c.loop-k.looked c.loop-k.invariant (omega (arith, above)) c.loop-k-test.true in
@@ -99,9 +110,14 @@ returns-in_err-walk-in-Across-clause-err t c =
     let stopped = c.in_err-walk-in-Across.ensures.err in
     let left = c.args.limit + 1 - length c.loop-k.cells.items in
     let more =
-    stopped_later set c.args.limit (c.loop-k.looked + looks_for (c.args.wide.now.level - square.level - 1) left) _ fault
-    (subst (λ n. HasStopped set c.args.limit (c.loop-k.looked + looks_for n left) fault) levels stopped) most in
-    if_err c.from_residual-in_err-walk-in-Across.result fault _ c.from_residual-in_err-walk-in-Across.ensures.1 more
+    stopped_later set c.args.limit (c.loop-k.looked + looks_for
+    (c.args.wide.now.level - square.level - 1)
+    left) _ fault
+    (subst (λ n. HasStopped set c.args.limit (c.loop-k.looked + looks_for n left) fault) levels stopped)
+    most
+    in
+    if_err c.from_residual-in_err-walk-in-Across.result fault _
+    c.from_residual-in_err-walk-in-Across.ensures.1 more
 
 pub loop-k-preserved : goal.loop-k-preserved
 loop-k-preserved t c =
@@ -111,11 +127,13 @@ loop-k-preserved t c =
     let told = c.child.ensures in
     let levels : c.args.wide.now.level - child.level ≡ c.args.wide.now.level - square.level - 1 =
     omega (arith, told.level) in
-    let first : first_position child ≡ first_position square + c.loop-k.k * leaf_count (square.level + 1) =
+    let first : first_position child ≡ first_position square + c.loop-k.k * leaf_count
+    (square.level + 1) =
     told.first ∙ ap (λ l. first_position square + c.loop-k.k * leaf_count l) told.level in
     let P : ℕ → ℕ → Type 0 = λ n from. HasWalked set n c.args.limit from (last_position child + 1)
     c.loop-k.cells.items c.walk.new.cells.items c.loop-k.looked c.walk.new.looked in
-    walking_goes_on set (c.args.wide.now.level - square.level - 1) c.args.limit square.level (first_position square)
+    walking_goes_on set (c.args.wide.now.level - square.level - 1) c.args.limit square.level
+    (first_position square)
     c.loop-k.k (last_position child + 1) (square_id child) c.args.cells.now.items c.loop-k.cells.items
     c.walk.new.cells.items c.args.looked.now c.loop-k.looked c.walk.new.looked
     (child_block child square c.loop-k.k told.square told.level told.first) c.loop-k.invariant
@@ -129,9 +147,13 @@ returns-in-Outside-clause-ok t c =
     let square = c.args.square.now in
     let levels = c.args.wide.now.level - square.level in
     let cells = c.args.cells.now.items in
-    subst (HasWalked set levels c.args.limit (first_position square) (last_position square + 1) cells cells c.args.looked.now)
+    subst (HasWalked set levels c.args.limit (first_position square) (last_position square + 1) cells
+    cells
+    c.args.looked.now)
     (sym c.look.ensures.counted)
-    (walked_outside set levels c.args.limit (first_position square) (last_position square) c.args.looked.now cells
+    (walked_outside set levels c.args.limit (first_position square) (last_position square)
+    c.args.looked.now
+    cells
     c.requires.laid (omega arith) c.in-Outside.ensures.saw.saw c.requires.few c.requires.counted)
 
 pub returns-in_ok-keep-in-Inside-clause-ok : goal.returns-in_ok-keep-in-Inside-clause-ok
@@ -150,7 +172,8 @@ returns-in_ok-keep-in-Inside-clause-ok t c =
     c.args.looked.now new in
     subst (λ new. P c.keep.new.cells.items new) (sym c.look.ensures.counted)
     (subst (λ after. P after (c.args.looked.now + 1)) (sym told.kept)
-    (walked_inside set levels c.args.limit square.level (first_position square) (square_id square) c.args.looked.now
+    (walked_inside set levels c.args.limit square.level (first_position square) (square_id square)
+    c.args.looked.now
     cells c.requires.laid block largest c.in-Inside.ensures.saw.saw told.room c.requires.counted))
 
 pub returns-after-loop-k-clause-ok : goal.returns-after-loop-k-clause-ok

@@ -16,7 +16,8 @@ pub walk-requires-clause-laid : goal.walk-requires-clause-laid
 walk-requires-clause-laid c =
     let wide = c.of_rect-wide.result in
     let square = c.of_face-face.ensures ∙ ap whole c.face.ensures in
-    subst (λ ids. IsLaid (wide_set wide) ids (first_position c.of_face-face.result)) (sym c.new-cells.ensures.items)
+    subst (λ ids. IsLaid (wide_set wide) ids (first_position c.of_face-face.result))
+    (sym c.new-cells.ensures.items)
     (subst (λ s. IsLaid (wide_set wide) [] (first_position s)) (sym square) (laid_before wide))
 
 pub walk-requires-clause-opened : goal.walk-requires-clause-opened
@@ -68,7 +69,8 @@ of_canonical-requires c = (found c).own
 
 pub returns-clause-canonical : goal.returns-clause-canonical
 returns-clause-canonical c =
-    subst (IsCanonical (rect_leaves c.args.rect.now)) (sym c.of_canonical.ensures.ids) (found c.before).canonical
+    subst (IsCanonical (rect_leaves c.args.rect.now)) (sym c.of_canonical.ensures.ids)
+    (found c.before).canonical
 
 pub returns-clause-leaves : goal.returns-clause-leaves
 returns-clause-leaves c p =
@@ -92,12 +94,15 @@ pub returns-clause-looked : goal.returns-clause-looked
 returns-clause-looked c =
     let told = (found c.before).looks in
     let long = ap length c.of_canonical.ensures.ids in
-    let looks = c.of_canonical.ensures.looked in (omega (arith, told, long, looks), omega (arith, told, looks))
+    let looks = c.of_canonical.ensures.looked
+    in (omega (arith, told, long, looks), omega (arith, told, looks))
 
 pub returns-clause-exact : goal.returns-clause-exact
 returns-clause-exact c =
-    subst (HasLooked (rect_leaves c.args.rect.now)) (sym c.of_canonical.ensures.looked) (found c.before).exact
+    subst (HasLooked (rect_leaves c.args.rect.now)) (sym c.of_canonical.ensures.looked)
+    (found c.before).exact
 
 pub returns-clause-list : goal.returns-clause-list
 returns-clause-list c =
-    c.of_canonical.ensures.ids ∙ same_list (rect_leaves c.args.rect.now) c.walk.new.cells.items (found c.before).canonical
+    c.of_canonical.ensures.ids ∙ same_list (rect_leaves c.args.rect.now) c.walk.new.cells.items
+    (found c.before).canonical

@@ -18,7 +18,8 @@ pub nonzero_div-result : goal.nonzero_div-result
 nonzero_div-result c = rw c.leaf_count.ensures (omega (arith, four_pow_pos (30 - c.args.level)))
 
 -- the number that is returned is the place
-is_place : (c : goal.After-leaf_count) → c.place_on_face.result / c.leaf_count.result ≡ place c.args.level c.args.turn c.args.a c.args.b
+is_place : (c : goal.After-leaf_count) → c.place_on_face.result / c.leaf_count.result
+    ≡ place c.args.level c.args.turn c.args.a c.args.b
 is_place c =
     rw (c.place_on_face.ensures.value, c.leaf_count.ensures, c.side_of-side.ensures)
     (square_place_is c.args.level c.args.turn c.args.a c.args.b c.requires.level c.requires.turn)

@@ -12,7 +12,9 @@ apply-requires g c = λ honest.
     let counted = c.in_ok-own_count.ensures.value honest in
     let listed = c.in_ok-ceiling.ensures.value (was_honest c.own_count.ensures.doubt honest) in
     let some : IsSome c.in_ok-ceiling.field-0 = search rules in (
-      inr (subst (λ w. length (plans_of o w) < 200) (sym c.own_count.ensures.same) (omega (arith, counted, c.if-branch-lt200.true))),
+      inr (subst (λ w. length (plans_of o w) < 200) (sym c.own_count.ensures.same)
+          (omega (arith, counted, c.if-branch-lt200.true))),
       c.if-row-gt1000.false,
-      subst (λ w. IsSome (ceiling_of o w)) (sym (c.own_count.ensures.same ∙ c.ceiling.ensures.same)) (subst IsSome listed some),
+      subst (λ w. IsSome (ceiling_of o w)) (sym (c.own_count.ensures.same ∙ c.ceiling.ensures.same))
+          (subst IsSome listed some),
     )

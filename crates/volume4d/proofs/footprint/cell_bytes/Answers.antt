@@ -15,7 +15,10 @@ loop-cell-preserved c =
     let more = take_more cells n cell below ∙ ap (λ id. take n cells ++ id ∷ []) (sym c.cell-item.is) in
     record {
       written =
-          c.in_ok-extend_from_slice.ensures.items ∙ (λ k. c.loop-cell.invariant.written k ++ c.id_bytes.ensures.value k)
-          ∙ flat_map_more (λ id. to_be_bytes w64 id) (1 ∷ []) (take n cells) cell ∙ ap (λ ids. 1 ∷ bytes_of ids) (sym more);
-      valid = All-more IsCellId cells n cell below c.loop-cell.invariant.valid (subst IsCellId c.cell-item.is c.id_bytes.ensures.valid);
+          c.in_ok-extend_from_slice.ensures.items ∙ (λ k. c.loop-cell.invariant.written k
+          ++ c.id_bytes.ensures.value k)
+          ∙ flat_map_more (λ id. to_be_bytes w64 id) (1 ∷ []) (take n cells) cell
+          ∙ ap (λ ids. 1 ∷ bytes_of ids) (sym more);
+      valid = All-more IsCellId cells n cell below c.loop-cell.invariant.valid
+          (subst IsCellId c.cell-item.is c.id_bytes.ensures.valid);
     }

@@ -9,10 +9,12 @@ pub returns-clause-ok : goal.returns-clause-ok
 returns-clause-ok c =
     let cells = c.args.cells.now in
     let spans = c.in_ok-ranges.field-0 in
-    let count : within_cells (length cells) ≡ true = grind (arith, c.is_count.ensures, c.if-not-is_count.false) in
+    let count : within_cells (length cells) ≡ true =
+    grind (arith, c.is_count.ensures, c.if-not-is_count.false) in
     let some : 0 < length cells = grind (arith, nat_tests, count) in
     record {
       limits = count;
-      ranges = cell_ranges cells spans (c.in_ok-ranges.ensures.same (leaves_of cells) c.in_ok-normalise.ensures.leaves);
+      ranges = cell_ranges cells spans (c.in_ok-ranges.ensures.same (leaves_of cells)
+          c.in_ok-normalise.ensures.leaves);
       some = c.in_ok-ranges.ensures.some (c.in_ok-normalise.ensures.some some);
     }

@@ -15,7 +15,8 @@ returns c =
       j_max = c.number_at-j_max.result;
       level = get_or bytes 17 0;
     } in
-    read_rect bytes parts c.ok.result (λ k. (c.type_inv.bytes k).fits) c.if-bytes-ne-RECTANGLE_BYTES.false (λ k. record {
+    read_rect bytes parts c.ok.result (λ k. (c.type_inv.bytes k).fits) c.if-bytes-ne-RECTANGLE_BYTES.false
+    (λ k. record {
       face = get_or bytes 0 0;
       i_min = c.number_at-i_min.ensures k;
       i_max = c.number_at-i_max.ensures k;

@@ -5,4 +5,5 @@ use Rattle.volume4d.proofs.meeting.first_in.Given as goal
 
 -- the first point that the slabs so far share with the other
 abbrev pub invariant-loop-slab : goal.invariant-loop-slab
-invariant-loop-slab l = IsFirstPoint (λ x. slabs_have (take l.slab-index l.mine) x && slab_has l.other x) l.first
+invariant-loop-slab l = IsFirstPoint (λ x. slabs_have (take l.slab-index l.mine) x && slab_has l.other x)
+    l.first

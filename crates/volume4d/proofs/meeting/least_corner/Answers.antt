@@ -5,8 +5,10 @@ use Rattle.volume4d.proofs.meeting.least_corner.Goals as goal
 
 pub returns-clause-first : goal.returns-clause-first
 returns-clause-first c = (
-  and_from _ _ (has_both c.args.mine.now c.corner_of-corner.result (sym c.if-not-has_leaf.ensures) (sym c.if-not-has_time.ensures))
-      (has_both c.args.theirs.now c.corner_of-corner.result (sym c.if-not-has_leaf-2.ensures) (sym c.if-not-has_time-2.ensures)),
+  and_from _ _ (has_both c.args.mine.now c.corner_of-corner.result (sym c.if-not-has_leaf.ensures)
+      (sym c.if-not-has_time.ensures))
+      (has_both c.args.theirs.now c.corner_of-corner.result (sym c.if-not-has_leaf-2.ensures)
+      (sym c.if-not-has_time-2.ensures)),
   none_before c.args.mine.now c.args.theirs.now c.corner_of-corner.result c.corner_of-corner.ensures,
 )
 

@@ -11,8 +11,11 @@ loop-held-init c = top_held_none c.args.x.now
 pub loop-held-preserved : goal.loop-held-preserved
 loop-held-preserved c =
     let held = c.held-item.result in
-    top_step c.args.theirs.now c.loop-held.held-index held c.args.x.now c.loop-held.top c.if-has.top c.has.result c.loop-held-test.true c.held-item.is c.loop-held.invariant c.has.ensures
+    top_step c.args.theirs.now c.loop-held.held-index held c.args.x.now c.loop-held.top c.if-has.top
+    c.has.result c.loop-held-test.true c.held-item.is c.loop-held.invariant c.has.ensures
     (elim c.if-has.branch [
-      | then-has w ↦ w.top-is ∙ w.higher.ensures ∙ ap (λ b. greater c.loop-held.top (level_where b held.priority)) (sym w.if-has.true)
-      | else-has w ↦ w.top-is ∙ sym (greater_none c.loop-held.top) ∙ ap (λ b. greater c.loop-held.top (level_where b held.priority)) (sym w.if-has.false)
+      | then-has w ↦ w.top-is ∙ w.higher.ensures ∙ ap
+          (λ b. greater c.loop-held.top (level_where b held.priority)) (sym w.if-has.true)
+      | else-has w ↦ w.top-is ∙ sym (greater_none c.loop-held.top)
+          ∙ ap (λ b. greater c.loop-held.top (level_where b held.priority)) (sym w.if-has.false)
     ])

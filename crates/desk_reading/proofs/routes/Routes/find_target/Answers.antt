@@ -12,4 +12,5 @@ pub returns-in-Ok : goal.returns-in-Ok
 unfolding route_in
 returns-in-Ok c =
     let told = c.in-Ok.ensures.cases in
-    rw (is_utf8-from_IsUtf8 c.args.target.now told.1) (rw (c.read_path.ensures, told.0) at c.find_route.ensures)
+    rw (is_utf8-from_IsUtf8 c.args.target.now told.1)
+    (rw (c.read_path.ensures, told.0) at c.find_route.ensures)

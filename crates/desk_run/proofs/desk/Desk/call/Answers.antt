@@ -11,5 +11,7 @@ returns-clause-ok g c = λ honest.
     let prepared = c.in_ok-pending.ensures.value (was_honest c.commit.ensures.doubt honest) in
     let before = g.S.PlanStore.content c.args.self.now in
     on_ok_weaker c.commit.result
-    (λ done. done ∙ ap (λ w. world_committed w pending) c.prepare.ensures.same ∙ (subst (λ m. IsPending before m c.args.asked.now pending) (to_z-of_z w64 c.args.moment c.ranges.moment) prepared).left)
+    (λ done. done ∙ ap (λ w. world_committed w pending) c.prepare.ensures.same
+    ∙ (subst (λ m. IsPending before m c.args.asked.now pending)
+    (to_z-of_z w64 c.args.moment c.ranges.moment) prepared).left)
     (c.commit.ensures.ok honest)

@@ -16,7 +16,8 @@ returns-in_err-apply-clause-ceiling g c =
 
 pub returns-clause-ok : goal.returns-clause-ok
 unfolding changed_by
-returns-clause-ok g c = λ honest. c.in_ok-apply.ensures.ok honest ∙ ap (λ s. with_operator (g.S.PlanStore.content s) c.args.operator.now c.args.ceiling) c.self.view_is
+returns-clause-ok g c = λ honest. c.in_ok-apply.ensures.ok honest
+    ∙ ap (λ s. with_operator (g.S.PlanStore.content s) c.args.operator.now c.args.ceiling) c.self.view_is
 
 pub returns-clause-ceiling : goal.returns-clause-ceiling
 returns-clause-ceiling g c = (λ e. cc, λ h. absurd (omega arith))

@@ -14,7 +14,9 @@ loop-row-preserved c = λ extent slabs.
     elim c.if-branch.branch [
       | then-branch+in_ok-push w ↦
           ap (λ v. v.items) w.ids-is ∙ w.in_ok-push.ensures.items
-          ∙ id_added extent rows n row old c.loop-row-test.true c.row-item.is (sym found ∙ w.if-branch.true) before
+          ∙ id_added extent rows n row old c.loop-row-test.true c.row-item.is (sym found ∙ w.if-branch.true)
+          before
       | else-branch w ↦
-          ap (λ v. v.items) w.ids-is ∙ id_passed extent rows n row old c.loop-row-test.true c.row-item.is (sym found ∙ w.if-branch.false) before
+          ap (λ v. v.items) w.ids-is ∙ id_passed extent rows n row old c.loop-row-test.true c.row-item.is
+          (sym found ∙ w.if-branch.false) before
     ]

@@ -7,4 +7,5 @@ use Rattle.desk_run.proofs.pending.clear.ids_within.Given as goal
 -- the ids of the plans so far
 abbrev pub invariant-loop-row : goal.invariant-loop-row
 invariant-loop-row l =
-    (extent : Block) → AreSlabsOf l.slabs (extent ∷ []) → l.ids.items ≡ ids_in extent (take l.row-index l.rows)
+    (extent : Block) → AreSlabsOf l.slabs (extent ∷ []) → l.ids.items
+    ≡ ids_in extent (take l.row-index l.rows)

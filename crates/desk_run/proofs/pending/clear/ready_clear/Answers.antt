@@ -10,8 +10,12 @@ pub returns-clause-value : goal.returns-clause-value
 returns-clause-value g c = λ honest.
     let extent = c.args.extent.now in
     let listed = c.in_ok-rows.ensures.value honest in
-    clearing_ready (g.S.PlanStore.content c.args.store.now) c.args.operator.now extent c.in_ok-clearing.field-0
-    (subst (λ rows. IsClearing c.args.operator.now (ids_in extent rows) c.in_ok-clearing.field-0) (c.deref-2.ensures.value ∙ listed)
-    (c.in_ok-clearing.ensures extent (slabs_alone extent c.deref.result.now c.in_ok-slabs.field-0.items c.deref.ensures.value c.in_ok-slabs.ensures.points)))
-    (subst AreInOrder listed (c.in_ok-rows.ensures.order honest)) (subst (λ rows. length rows ≤ max_plans) listed (c.in_ok-rows.ensures.limit honest))
+    clearing_ready (g.S.PlanStore.content c.args.store.now) c.args.operator.now extent
+    c.in_ok-clearing.field-0
+    (subst (λ rows. IsClearing c.args.operator.now (ids_in extent rows) c.in_ok-clearing.field-0)
+    (c.deref-2.ensures.value ∙ listed)
+    (c.in_ok-clearing.ensures extent (slabs_alone extent c.deref.result.now c.in_ok-slabs.field-0.items
+    c.deref.ensures.value c.in_ok-slabs.ensures.points)))
+    (subst AreInOrder listed (c.in_ok-rows.ensures.order honest))
+    (subst (λ rows. length rows ≤ max_plans) listed (c.in_ok-rows.ensures.limit honest))
     (c.requires (was_honest c.own_plans.ensures.doubt honest))

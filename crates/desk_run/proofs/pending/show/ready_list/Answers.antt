@@ -4,4 +4,5 @@ use Rattle.desk_run.proofs.pending.show.ready_list.Goals as goal
 
 pub returns-clause-value : goal.returns-clause-value
 returns-clause-value g c = λ honest.
-    list_ready (g.S.PlanStore.content c.args.store.now) c.args.operator.now c.in_ok-plans.plans.items _ (c.in_ok-plans.ensures.value honest) refl
+    list_ready (g.S.PlanStore.content c.args.store.now) c.args.operator.now c.in_ok-plans.plans.items _
+    (c.in_ok-plans.ensures.value honest) refl

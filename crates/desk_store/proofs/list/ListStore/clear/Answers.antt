@@ -13,7 +13,8 @@ pub count_of-count-requires : goal.count_of-count-requires
 count_of-count-requires c =
     let o = c.args.operator.now in
     let plans = c.self.inside.plans.entries in
-    clear_within c.self.inside.operators.entries plans c.remove_all.new.plans.entries o c.args.ids.now.items c.self.invariant
+    clear_within c.self.inside.operators.entries plans c.remove_all.new.plans.entries o c.args.ids.now.items
+    c.self.invariant
     (c.remove_all.ensures ∙ ap (λ ids. without o ids plans) c.deref.ensures.value)
 
 pub returns : goal.returns
@@ -26,7 +27,9 @@ returns c =
     let more = c.remove_all.new.plans.entries in
     let left = c.remove_all.ensures ∙ ap (λ js. without o js plans) c.deref.ensures.value in
     ap (λ es. world_of es more) c.set_count.ensures
-    ∙ changed (clear_rows ids) c.args.self.now ops (with_count o c.count_of-count.result ops) plans more o c.self.view_is (listed_same o c.count_of-count.result ops) (cleared o ids plans more c.self.invariant.0.plans left)
+    ∙ changed (clear_rows ids) c.args.self.now ops (with_count o c.count_of-count.result ops) plans more o
+    c.self.view_is (listed_same o c.count_of-count.result ops)
+    (cleared o ids plans more c.self.invariant.0.plans left)
 
 pub invariant_of-self : goal.invariant_of-self
 unfolding changed_by
@@ -36,5 +39,7 @@ invariant_of-self c =
     let ops = c.self.inside.operators.entries in
     let plans = c.self.inside.plans.entries in
     let more = c.remove_all.new.plans.entries in
-    rw c.set_count.ensures (clear_kept c.args.self.now ops plans more o c.count_of-count.result (clear_rows ids (plans_of o c.args.self.now)) (Clear o c.args.ids.now) refl c.self.view_is c.self.invariant c.requires
+    rw c.set_count.ensures (clear_kept c.args.self.now ops plans more o c.count_of-count.result
+    (clear_rows ids (plans_of o c.args.self.now)) (Clear o c.args.ids.now) refl c.self.view_is
+    c.self.invariant c.requires
     (ap (λ es. world_of es more) (sym c.set_count.ensures) ∙ returns c) c.count_of-count.ensures)

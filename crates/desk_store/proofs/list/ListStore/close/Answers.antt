@@ -19,8 +19,14 @@ returns c =
     let plans = c.self.inside.plans.entries in
     let sorted = c.get_mut.ensures.ordered in
     elim c.match-get_mut.branch [
-      | in-Some w ↦ ap (λ s. world_of s.operators.entries s.plans.entries) w.self-inside-is ∙ changed (close_row id) c.args.self.now ops ops plans _ o c.self.view_is refl (found_closed o id w.in-Some.plan.now plans _ sorted (sym w.in-Some.ensures.value) ((c.get_mut.follows.holds _).0 ∙ ap (set_value (is_at (key_cmp (o, id))) plans) w.close.ensures))
-      | in_default w ↦ ap (λ s. world_of s.operators.entries s.plans.entries) w.self-inside-is ∙ changed (close_row id) c.args.self.now ops ops plans _ o c.self.view_is refl (none_closed o id plans _ sorted (sym w.in_default.ensures.value) (ap (λ m. m.entries) c.get_mut.follows.holds-at-none))
+      | in-Some w ↦ ap (λ s. world_of s.operators.entries s.plans.entries) w.self-inside-is
+          ∙ changed (close_row id) c.args.self.now ops ops plans _ o c.self.view_is refl
+          (found_closed o id w.in-Some.plan.now plans _ sorted (sym w.in-Some.ensures.value)
+          ((c.get_mut.follows.holds _).0 ∙ ap (set_value (is_at (key_cmp (o, id))) plans) w.close.ensures))
+      | in_default w ↦ ap (λ s. world_of s.operators.entries s.plans.entries) w.self-inside-is
+          ∙ changed (close_row id) c.args.self.now ops ops plans _ o c.self.view_is refl
+          (none_closed o id plans _ sorted (sym w.in_default.ensures.value)
+          (ap (λ m. m.entries) c.get_mut.follows.holds-at-none))
     ]
 
 pub invariant_of-self : goal.invariant_of-self
@@ -29,8 +35,13 @@ invariant_of-self c =
     let id = c.args.id.now in
     let ops = c.self.inside.operators.entries in
     let plans = c.self.inside.plans.entries in
-    let kept = close_kept c.args.self.now ops plans c.match-get_mut.self-inside.plans.entries o id c.self.view_is c.self.invariant c.requires in
+    let kept = close_kept c.args.self.now ops plans c.match-get_mut.self-inside.plans.entries o id
+    c.self.view_is c.self.invariant c.requires in
     elim c.match-get_mut.branch [
-      | in-Some w ↦ let same = ap (λ s. s.operators.entries) w.self-inside-is in rw same (kept (ap (λ es. world_of es c.match-get_mut.self-inside.plans.entries) (sym same) ∙ returns c))
-      | in_default w ↦ let same = ap (λ s. s.operators.entries) w.self-inside-is in rw same (kept (ap (λ es. world_of es c.match-get_mut.self-inside.plans.entries) (sym same) ∙ returns c))
+      | in-Some w ↦ let same = ap (λ s. s.operators.entries) w.self-inside-is
+          in rw same (kept (ap (λ es. world_of es c.match-get_mut.self-inside.plans.entries) (sym same)
+          ∙ returns c))
+      | in_default w ↦ let same = ap (λ s. s.operators.entries) w.self-inside-is
+          in rw same (kept (ap (λ es. world_of es c.match-get_mut.self-inside.plans.entries) (sym same)
+          ∙ returns c))
     ]

@@ -19,7 +19,9 @@ pub returns-in_ok-enrol-in-Enrol-clause-ok : goal.returns-in_ok-enrol-in-Enrol-c
 returns-in_ok-enrol-in-Enrol-clause-ok c = λ _. rw c.in-Enrol.is c.in_ok-enrol-in-Enrol.ensures.ok
 
 pub returns-in_ok-put-in-Put-clause-ok : goal.returns-in_ok-put-in-Put-clause-ok
-returns-in_ok-put-in-Put-clause-ok c = λ _. rw c.in-Put.is (c.in_ok-put-in-Put.ensures.ok ∙ ap (λ row. changed_by (Put c.in-Put.operator row) c.args.self.now) c.in_ok-copy-in-Put.ensures)
+returns-in_ok-put-in-Put-clause-ok c = λ _. rw c.in-Put.is
+    (c.in_ok-put-in-Put.ensures.ok ∙ ap (λ row. changed_by (Put c.in-Put.operator row) c.args.self.now)
+    c.in_ok-copy-in-Put.ensures)
 
 pub returns-in-Close-clause-ok : goal.returns-in-Close-clause-ok
 returns-in-Close-clause-ok c = λ _. rw c.in-Close.is c.close.ensures

@@ -8,10 +8,14 @@ use Rattle.desk_store.proofs.list.ListStorePlanStore.ceiling.Goals as goal
 
 pub returns-clause-value : goal.returns-clause-value
 unfolding ceiling_of
-returns-clause-value c = λ _. c.ceiling_in.ensures ∙ ceiling_found c.args.operator.now c.self.inside.operators.entries ∙ ap (ceiling_of c.args.operator.now) c.self.view_is
+returns-clause-value c = λ _. c.ceiling_in.ensures
+    ∙ ceiling_found c.args.operator.now c.self.inside.operators.entries
+    ∙ ap (ceiling_of c.args.operator.now) c.self.view_is
 
 pub returns-clause-bound : goal.returns-clause-bound
 unfolding ceiling_of
 returns-clause-bound c = λ _.
-    subst (λ found. IfSome found (λ n. n ≤ max_priority)) (sym (c.ceiling_in.ensures ∙ ceiling_found c.args.operator.now c.self.inside.operators.entries))
-    (ceiling_within c.args.operator.now (world_of c.self.inside.operators.entries c.self.inside.plans.entries) c.self.invariant.0)
+    subst (λ found. IfSome found (λ n. n ≤ max_priority))
+    (sym (c.ceiling_in.ensures ∙ ceiling_found c.args.operator.now c.self.inside.operators.entries))
+    (ceiling_within c.args.operator.now (world_of c.self.inside.operators.entries c.self.inside.plans.entries)
+    c.self.invariant.0)

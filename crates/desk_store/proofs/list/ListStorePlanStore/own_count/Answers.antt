@@ -5,4 +5,6 @@ use Rattle.desk_store.proofs.list.ListStorePlanStore.own_count.Goals as goal
 
 pub returns-clause-value : goal.returns-clause-value
 returns-clause-value c = λ _.
-    c.count_in.ensures ∙ count_is c.args.operator.now c.self.inside.operators.entries c.self.inside.plans.entries c.self.invariant ∙ ap (λ w. length (plans_of c.args.operator.now w)) c.self.view_is
+    c.count_in.ensures ∙ count_is c.args.operator.now c.self.inside.operators.entries
+    c.self.inside.plans.entries c.self.invariant
+    ∙ ap (λ w. length (plans_of c.args.operator.now w)) c.self.view_is

@@ -9,7 +9,9 @@ pub returns-clause-value : goal.returns-clause-value
 returns-clause-value c = λ _. c.in_ok-rows_of.ensures ∙ ap (plans_of c.args.operator.now) c.self.view_is
 
 pub returns-clause-order : goal.returns-clause-order
-returns-clause-order c = λ _. subst AreInOrder (sym c.in_ok-rows_of.ensures) (rows_sorted c.args.operator.now (filed_all c.self.inside.plans.entries) c.self.invariant.0.plans)
+returns-clause-order c = λ _. subst AreInOrder (sym c.in_ok-rows_of.ensures)
+    (rows_sorted c.args.operator.now (filed_all c.self.inside.plans.entries) c.self.invariant.0.plans)
 
 pub returns-clause-limit : goal.returns-clause-limit
-returns-clause-limit c = λ _. subst (λ rows. length rows ≤ max_plans) (sym c.in_ok-rows_of.ensures) (c.self.invariant.0.rows c.args.operator.now)
+returns-clause-limit c = λ _. subst (λ rows. length rows ≤ max_plans) (sym c.in_ok-rows_of.ensures)
+    (c.self.invariant.0.rows c.args.operator.now)

@@ -3,4 +3,5 @@ use Rattle.desk_store.specs.World.{stored_of, plans_of}
 use Rattle.desk_store.proofs.list.ListStorePlanStore.plan.Goals as goal
 
 pub returns-clause-value : goal.returns-clause-value
-returns-clause-value c = λ _. c.in_ok-find_plan.ensures ∙ ap (λ w. stored_of c.args.id.now (plans_of c.args.operator.now w)) c.self.view_is
+returns-clause-value c = λ _. c.in_ok-find_plan.ensures
+    ∙ ap (λ w. stored_of c.args.id.now (plans_of c.args.operator.now w)) c.self.view_is

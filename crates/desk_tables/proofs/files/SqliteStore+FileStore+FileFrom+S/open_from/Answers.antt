@@ -5,7 +5,9 @@ use Rattle.desk_tables.proofs.files.SqliteStore+FileStore+FileFrom+S.open_from.G
 
 pub returns-in-Ok-adopt-clause-begins : goal.returns-in-Ok-adopt-clause-begins
 returns-in-Ok-adopt-clause-begins g c =
-    let was : HasCleanDisk (file_state c.in-Ok-adopt.store.held) → HasCleanDisk (file_state c.in-Ok.connection) = λ clean. omega (arith, c.in-Ok-adopt.ensures.doubt, clean) in record {
+    let was : HasCleanDisk (file_state c.in-Ok-adopt.store.held)
+    → HasCleanDisk (file_state c.in-Ok.connection) =
+    λ clean. omega (arith, c.in-Ok-adopt.ensures.doubt, clean) in record {
       found = c.in-Ok.connection;
       opened = λ clean. (c.in-Ok.ensures.opened (was clean), c.in-Ok.ensures.found (was clean));
       begins = c.in-Ok-adopt.ensures.begins;
@@ -13,7 +15,9 @@ returns-in-Ok-adopt-clause-begins g c =
 
 pub returns-in-Ok-clause-fault : goal.returns-in-Ok-clause-fault
 returns-in-Ok-clause-fault g c =
-    let was : HasCleanDisk (file_state c.in-Err-adopt.refused.connection) → HasCleanDisk (file_state c.in-Ok.connection) = λ clean. omega (arith, c.in-Err-adopt.ensures.doubt, clean) in
+    let was : HasCleanDisk (file_state c.in-Err-adopt.refused.connection)
+    → HasCleanDisk (file_state c.in-Ok.connection) =
+    λ clean. omega (arith, c.in-Err-adopt.ensures.doubt, clean) in
     inr (record {
       found = c.in-Ok.connection;
       left = c.in-Err-adopt.refused.connection;
