@@ -4,6 +4,7 @@ use Rattle.std.specs.Ordering.{is_eq}
 use Rattle.std.specs.List.{AllByRecursion, list_any}
 use Rattle.std.proofs.lemmas.List.Sorted.{list_any-IsPermutation}
 use Rattle.std.proofs.lemmas.Cmp.{tied_itself}
+use Rattle.std.proofs.lemmas.Bool.{and_parts}
 use Rattle.sqlite_trees.proofs.ListLemmas.{all-map, all-permutation}
 use Rattle.sqlite_value.proofs.OrderLemmas.{value_cmp-Null, value_cmp-apart, value_cmp_total}
 use Rattle.sqlite.specs.Collation.TheVariants.{Binary}
@@ -113,11 +114,6 @@ same_text v old t h =
 -- the row is of this operator and has this id: in a stored row
 abbrev pub has_key : List ℕ → List ℕ → Row → Bool
 has_key operator id r = is_text (column r 1) operator && is_text (column r 2) id
-
-and_parts : (a b : Bool) → (a && b) ≡ true → (a ≡ true) × (b ≡ true)
-and_parts true true h = (refl, refl)
-and_parts true false h = cc
-and_parts false b h = cc
 
 and_true : (a b c d : Bool) → a ≡ c → b ≡ d → (a && (b && true)) ≡ (c && d)
 and_true a b true true p q = rw (p, q)

@@ -13,15 +13,10 @@ use Rattle.desk_store.specs.declared.list.Enrolment.{Enrolment}
 use Rattle.desk_store.specs.World.{Filed, text_cmp, rows_by, ceiling_of}
 use Rattle.desk_store.specs.Parts.{PlanParts}
 use Rattle.desk_store.specs.Listing.{listed_of, filed_all, world_of, AreCounted, IsStore, with_count}
-use Rattle.desk_store.specs.OrderLaws.{all_weaker}
+use Rattle.desk_store.specs.OrderLaws.{is_equal, all_weaker}
 use Rattle.desk_store.specs.WorldLaws.{unlisted_none}
 use Rattle.desk_store.proofs.EntryLemmas.{Key}
 use Rattle.desk_store.proofs.StoreLemmas.{ceiling_found}
-
-is_equal : (n : Ordering) → is_eq n ≡ true → n ≡ Equal
-is_equal Less f = cc
-is_equal Equal f = refl
-is_equal Greater f = cc
 
 -- the count of an operator that is found
 found_count : (o : List ℕ) (es : List (List ℕ × Enrolment)) (ps : List Filed) (e : Enrolment)

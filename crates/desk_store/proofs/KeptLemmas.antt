@@ -20,7 +20,7 @@ use Rattle.desk_store.specs.Changes.{put_row, closed, close_row, is_named, clear
 use Rattle.desk_store.specs.StoreChange.{changed_by, IsFitting}
 use Rattle.desk_store.specs.Parts.{PlanParts, parts_of, row_of}
 use Rattle.desk_store.specs.Listing.{filed_all, world_of, AreCounted, IsStore, with_count, without}
-use Rattle.desk_store.specs.OrderLaws.{rows_sorted}
+use Rattle.desk_store.specs.OrderLaws.{is_equal, rows_sorted}
 use Rattle.desk_store.specs.WorldLaws.{own_replaced, others_kept, kept, fewer, length-put_stored}
 use Rattle.desk_store.proofs.EntryLemmas.{Key, key_cmp}
 use Rattle.desk_store.proofs.StoreLemmas.{plan_found, stored}
@@ -31,11 +31,6 @@ pub kept_by : (change : Change) (before old after : World) → before ≡ old �
     → IsFitting change old → after ≡ changed_by change old → IsWorld after
 kept_by change before old after same h fits e = subst IsWorld (sym e)
     (kept change old (subst IsWorld same h) fits)
-
-is_equal : (n : Ordering) → is_eq n ≡ true → n ≡ Equal
-is_equal Less f = cc
-is_equal Equal f = refl
-is_equal Greater f = cc
 
 -- the counts where an operator's number of plans stays
 same_counts : (old : World) (ops : List (List ℕ × Enrolment)) (plans more : List (Key × PlanParts))

@@ -261,7 +261,8 @@ replaced_sorted o rows ps s t =
           (λ q f. by_names p q (nat_list_cmp_total.trans p.operator o q.operator (before_name o p e)
           (is_less (text_cmp o q.operator) f))) back (all_kept (is_after o) ps))
 
-is_equal : (n : Ordering) → is_eq n ≡ true → n ≡ Equal
+-- what compares as equal is the ordering Equal
+pub is_equal : (n : Ordering) → is_eq n ≡ true → n ≡ Equal
 is_equal Less f = cc
 is_equal Equal f = refl
 is_equal Greater f = cc

@@ -12,7 +12,7 @@ use Rattle.desk_rules.specs.Name.{is_operator_name}
 use Rattle.sqlite_value.specs.Order.{Row}
 use Rattle.desk_sql.specs.Rows.{Tables}
 use Rattle.desk_store.specs.World.{Filed, Listed, World, text_cmp, listed_cmp, filed_cmp, IsListed}
-use Rattle.desk_store.specs.OrderLaws.{all_weaker}
+use Rattle.desk_store.specs.OrderLaws.{is_equal, all_weaker}
 use Rattle.desk_tables.specs.Tables.{AreSpanRows}
 use Rattle.desk_tables.specs.Content.{IsPlan, IsContent}
 use Rattle.desk_tables.specs.Records.{IsOperator, IsFiled}
@@ -29,11 +29,6 @@ both : {X : Type 0} (P Q R : X → Type 0) → ((x : X) → P x → Q x → R x)
     → AllByRecursion Q xs → AllByRecursion R xs
 both P Q R f [] h k = tt
 both P Q R f (x ∷ xs) h k = (f x h.0 k.0, both P Q R f xs h.1 k.1)
-
-is_equal : (n : Ordering) → is_eq n ≡ true → n ≡ Equal
-is_equal Less f = cc
-is_equal Equal f = refl
-is_equal Greater f = cc
 
 -- who is listed has an operator's name
 named : (o : List ℕ) (ls : List Listed) → AllByRecursion (λ l. IsTrue (is_operator_name l.name)) ls

@@ -12,7 +12,7 @@ use Rattle.sqlite_keyed.proofs.ListLemmas.{IsPermutation-filter, IsPermutation-s
 use Rattle.desk_sql.specs.Rows as sql
 use Rattle.desk_sql.specs.Rows.{Tables, with_row, PutsOperator, ClosesPlan}
 use Rattle.desk_store.specs.World.{Listed, World, text_cmp, listed_cmp}
-use Rattle.desk_store.specs.OrderLaws.{all_weaker}
+use Rattle.desk_store.specs.OrderLaws.{is_equal, all_weaker}
 use Rattle.desk_tables.specs.Tables.{operator_row, operator_rows, AreTables}
 use Rattle.desk_tables.specs.Content.{IsContent}
 use Rattle.desk_tables.specs.TableChanges.{EnrolsRows}
@@ -24,11 +24,6 @@ named name l = is_eq (text_cmp name l.name)
 
 named_row : (name : List ℕ) (l : Listed) → sql.is_by name (operator_row l) ≡ named name l
 named_row name l = ap is_eq (value_cmp-Text l.name name) ∙ turned l.name name
-
-is_equal : (n : Ordering) → is_eq n ≡ true → n ≡ Equal
-is_equal Less f = cc
-is_equal Equal f = refl
-is_equal Greater f = cc
 
 abbrev set_row : List ℕ → Row → Row → Row
 set_row name row r = cond (sql.is_by name r) row r

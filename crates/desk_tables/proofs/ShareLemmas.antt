@@ -12,7 +12,7 @@ use Rattle.std.proofs.lemmas.List.{length-map}
 use Rattle.sqlite_keyed.proofs.ListLemmas.{filter_none}
 use Rattle.desk_rules.specs.Limits.{max_plans}
 use Rattle.desk_store.specs.World.{Filed, Listed, text_cmp, listed_cmp, filed_cmp, is_by, rows_by, ceiling_of, IsListed}
-use Rattle.desk_store.specs.OrderLaws.{all_weaker}
+use Rattle.desk_store.specs.OrderLaws.{is_equal, all_weaker}
 use Rattle.desk_tables.specs.Opening.{AreShared}
 use Rattle.desk_tables.proofs.FilterLemmas.{turned}
 
@@ -60,11 +60,6 @@ shared_if ls ps h = record {
       h.listed;
   few = λ o. subst (λ n. n ≤ max_plans) (sym (count_is o ps)) (h.few o);
 }
-
-is_equal : (n : Ordering) → is_eq n ≡ true → n ≡ Equal
-is_equal Less f = cc
-is_equal Equal f = refl
-is_equal Greater f = cc
 
 -- ---- the first plans are an operator's
 

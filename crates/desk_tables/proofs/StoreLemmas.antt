@@ -21,7 +21,7 @@ use Rattle.desk_sql.specs.Rows.{Tables, IsDesk, Lists, tables_of}
 use Rattle.desk_sql.specs.Effects.{IsKept, IsReady, Commits}
 use Rattle.desk_sql.specs.Making.{no_rows, AreEmpty}
 use Rattle.desk_store.specs.World.{Listed, World, text_cmp, listed_cmp, ceiling_of}
-use Rattle.desk_store.specs.OrderLaws.{all_weaker}
+use Rattle.desk_store.specs.OrderLaws.{is_equal, all_weaker}
 use Rattle.desk_tables.specs.Tables.{operator_row, operator_rows, AreTables}
 use Rattle.desk_tables.specs.Content.{IsContent}
 use Rattle.desk_tables.specs.Lookups.{IsCeilingIn}
@@ -90,11 +90,6 @@ names_filtered name (l ∷ ls) =
 abbrev listed_or_none : Option Listed → List Listed
 listed_or_none None = []
 listed_or_none (Some l) = l ∷ []
-
-is_equal : (n : Ordering) → is_eq n ≡ true → n ≡ Equal
-is_equal Less f = cc
-is_equal Equal f = refl
-is_equal Greater f = cc
 
 one_named : (name : List ℕ) (ls : List Listed) → IsStrictlySortedBy listed_cmp ls
     → filter (named name) ls
