@@ -1,6 +1,6 @@
 //! Plays worked cases of the ground: leaves, tokens, covers, slabs and the bytes of footprints. Each line of
-//! the standard input is a step, and what comes of it is printed, or why it is refused. `play` has the forms of
-//! the lines.
+//! the standard input is a step, and what comes of it is printed, or why it is refused. `play` has the forms
+//! of the lines.
 #![tactic(auto)]
 
 mod covers;
@@ -20,8 +20,8 @@ use std::io::Write;
 // - `normal TOKEN ..`: the cells of the normal form.
 // - `ranges TOKEN ..`: the first and the last leaf of each range of the normal form.
 // - `cover LIMIT FACE I_MIN I_MAX J_MIN J_MAX LEVEL`: the cells of the rectangle's cover.
-// - `area VOLUME + VOLUME ..`: the bounds of the area and its slabs. A volume is `LOWER UPPER START END` and a
-//   footprint, which is `cells TOKEN,..` or `rectangle FACE,I_MIN,I_MAX,J_MIN,J_MAX,LEVEL`.
+// - `area VOLUME + VOLUME ..`: the bounds of the area and its slabs. A volume is `LOWER UPPER START END` and
+//   a footprint, which is `cells TOKEN,..` or `rectangle FACE,I_MIN,I_MAX,J_MIN,J_MAX,LEVEL`.
 // - `bytes FOOTPRINT`: the footprint's bytes.
 // - `read BYTES`: the footprint of these bytes.
 fn play<W: Write>(alloc: Global, line: &str, output: &mut W) -> anyhow::Result<()> {
