@@ -5,9 +5,6 @@ ghost use Rattle.desk_reading.specs.Readings.{GivesIfRoom};
 ghost use Rattle.desk_reading.specs.JsonIn.{whole_of};
 ghost use Rattle.desk_reading.specs.PutIn as spec;
 
-#[cfg(test)]
-mod tests;
-
 use crate::json_in::{array_at, present, read_json, text_at};
 use crate::volume_in::read_area;
 use crate::wire_fault::{ReadError, WireFault};

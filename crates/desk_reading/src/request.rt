@@ -6,9 +6,6 @@ ghost use Rattle.desk_reading.specs.Readings.{GivesIfRoom};
 ghost use Rattle.desk_reading.specs.Messages.{message_shown};
 ghost use Rattle.desk_reading.specs.Requests.{asked, asked_at, asked_by, id_of};
 
-#[cfg(test)]
-mod tests;
-
 use crate::address::{Address, read_address};
 use crate::clear_in::read_clear;
 use crate::message::{Message, read_message};

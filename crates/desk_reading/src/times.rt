@@ -245,32 +245,3 @@ fn shown(civil: CivilTime) -> Option<DateTime>
     )
     .ok()
 }
-
-#[cfg(test)]
-mod tests {
-    use super::*;
-    use std::test::Fail;
-
-    #[test]
-    fn reads_times(rt: HostRuntime) -> Result<(), Fail> {
-        assert_eq!(rt; start_of(b"2026-06-01T14:30:00+02:00"), Some(1_780_317_000));
-        assert_eq!(rt; start_of(b"2026-06-01T12:59:59.5Z"), Some(1_780_318_799));
-        assert_eq!(rt; end_of(b"2026-06-01t12:59:59.50z"), Some(1_780_318_800));
-        assert_eq!(rt;
-            end_of(b"2026-06-01T12:59:59.00-00:00"),
-            Some(1_780_318_799)
-        );
-        Ok(())
-    }
-
-    #[test]
-    fn refuses_times(rt: HostRuntime) -> Result<(), Fail> {
-        assert_eq!(rt; start_of(b"2026-02-30T12:00:00Z"), None);
-        assert_eq!(rt; start_of(b"2026-06-01T23:59:60Z"), None);
-        assert_eq!(rt; start_of(b"2026-06-01T12:00:00.Z"), None);
-        assert_eq!(rt; start_of(b"2026-06-01T12:00:00+24:00"), None);
-        let long = b"2026-06-01T12:59:59.00000000000000000000000000000000000000000000Z";
-        assert_eq!(rt; (long.len(), end_of(long)), (65, None));
-        Ok(())
-    }
-}

@@ -10,7 +10,5 @@ pub mod operator;
 pub mod plan;
 pub mod plan_id;
 pub mod reply;
-#[cfg(test)]
-mod tests;
 pub mod transition;
 pub mod words;

@@ -6,8 +6,6 @@ mod fault;
 pub mod laws;
 mod pending;
 mod run;
-#[cfg(test)]
-mod tests;
 
 pub use desk::Desk;
 pub use desk_rules::call::{Asked, Call};

@@ -6,8 +6,6 @@ mod fault;
 mod list;
 mod plan;
 mod store;
-#[cfg(test)]
-mod tests;
 
 pub use change::Change;
 pub use fault::StoreFault;

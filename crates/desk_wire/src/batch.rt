@@ -7,9 +7,6 @@ ghost use Rattle.desk_wire.specs.AllAnswers.{AreAnswers};
 ghost use Rattle.desk_wire.specs.Moments.{IsMoment};
 ghost use Rattle.desk_wire.specs.TwoRuns.{requests_of};
 
-#[cfg(test)]
-mod tests;
-
 use crate::answering::answer_request;
 use crate::response::Answer;
 use desk_reading::{Routes, read_message};

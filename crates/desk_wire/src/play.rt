@@ -5,9 +5,6 @@ ghost use Rattle.desk_store.specs.Faults.{IsHonest};
 ghost use Rattle.desk_wire.specs.Moments.{IsMoment};
 ghost use Rattle.desk_wire.specs.Playing.{HasPlayed};
 
-#[cfg(test)]
-mod tests;
-
 use crate::stream::{ServeFault, Served, serve_next};
 use desk_reading::Routes;
 use desk_run::Desk;

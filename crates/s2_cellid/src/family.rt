@@ -6,9 +6,6 @@ ghost use Rattle.s2_hilbert.specs.Curve.{position_of, leaf_count};
 ghost use Rattle.s2_cellid.specs.Cell.{IsCellId, level_of, first_leaf};
 ghost use Rattle.s2_cellid.specs.Family.{leaf_id, cell_has_leaf, square_id, parent_id, child_id};
 
-#[cfg(test)]
-mod tests;
-
 use crate::CellId;
 use s2_hilbert::{Leaf, Square, position};
 

@@ -7,8 +7,6 @@ pub mod laws;
 mod rect;
 mod sight;
 mod spans;
-#[cfg(test)]
-mod tests;
 mod walk;
 
 pub use covers::{Cover, normalise};

@@ -10,8 +10,6 @@ mod footprint;
 pub mod laws;
 mod meeting;
 mod slab;
-#[cfg(test)]
-mod tests;
 mod volume;
 mod window;
 

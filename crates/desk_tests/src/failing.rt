@@ -1,0 +1,175 @@
+//! Calls over a store that fails.
+
+ghost use Rattle.std.specs.Prelude.{◌≡◌, ◌≤◌, ◌<◌, ◌-◌, ◌^◌, Err, OnOk, OnErr, IfErr};
+
+use crate::requests::{FIRST_PUT, ID, MOMENT};
+use desk_rules::call::{Asked, Call};
+use desk_rules::operator::Operator;
+use desk_rules::plan::PlanRow;
+use desk_rules::plan_id::PlanId;
+use desk_rules::words::Usage;
+use desk_run::{Desk, DeskFault};
+use desk_store::{Change, ListStore, PlanStore, StoreFault};
+use desk_wire::read_request;
+use std::alloc::Global;
+use std::process::Abort;
+use std::test::Fail;
+use volume4d::{Held, Slab};
+
+/// A store in memory whose calls fail once so many are made.
+#[derive(Drop)]
+struct Failing {
+    list: ListStore,
+    calls_left: u32,
+    fault_count: u64,
+}
+
+/// Fails where no call is left, with the count risen.
+fn fail_at(calls_left: &mut u32, fault_count: &mut u64) -> Result<(), StoreFault>
+    ensures counted { fault_count.old ≤ fault_count.new }
+    ensures cause { IfErr result (λ e. fault_count.new < 2 ^ 64 - 1 → fault_count.old < fault_count.new) }
+{
+    if *calls_left == 0 {
+        *fault_count = fault_count.saturating_add(1);
+        return Err(StoreFault::Store);
+    }
+    *calls_left -= 1;
+    Ok(())
+}
+
+impl PlanStore for Failing {
+    ghost content = { λ s. s.list };
+
+    ghost doubt = { λ _. 0 };
+
+    ghost faults = { λ s. s.fault_count };
+
+    fn ceiling(&mut self, operator: &Operator) -> Result<Option<u32>, StoreFault> {
+        fail_at(&mut self.calls_left, &mut self.fault_count)?;
+        self.list.ceiling(operator)
+    }
+
+    fn plan(&mut self, operator: &Operator, id: &PlanId) -> Result<Option<PlanRow>, StoreFault> {
+        fail_at(&mut self.calls_left, &mut self.fault_count)?;
+        self.list.plan(operator, id)
+    }
+
+    fn own_count(&mut self, operator: &Operator) -> Result<u32, StoreFault> {
+        fail_at(&mut self.calls_left, &mut self.fault_count)?;
+        self.list.own_count(operator)
+    }
+
+    fn own_plans(&mut self, operator: &Operator) -> Result<Vec<PlanRow>, StoreFault> {
+        fail_at(&mut self.calls_left, &mut self.fault_count)?;
+        self.list.own_plans(operator)
+    }
+
+    fn rivals(
+        &mut self,
+        operator: &Operator,
+        id: &PlanId,
+        least: u32,
+        extent: &Slab,
+    ) -> Result<Vec<Held>, StoreFault> {
+        fail_at(&mut self.calls_left, &mut self.fault_count)?;
+        self.list.rivals(operator, id, least, extent)
+    }
+
+    fn apply(&mut self, change: &Change) -> Result<(), StoreFault> {
+        fail_at(&mut self.calls_left, &mut self.fault_count)?;
+        self.list.apply(change)
+    }
+}
+
+/// A desk over a list whose calls fail once so many are made.
+fn desk_over(list: ListStore, calls_left: u32) -> Desk<Failing> {
+    Desk::new(Failing {
+        list,
+        calls_left,
+        fault_count: 0,
+    })
+}
+
+#[test]
+fn an_operator_is_not_enrolled(rt: HostRuntime) -> Result<(), Fail> {
+    let bravo = Operator::try_new(b"bravo").ok_or("a name")?;
+    let mut desk = desk_over(ListStore::new(rt.alloc()), 0);
+    assert_eq!(rt; desk.enrol(&bravo, 9), Err(DeskFault::Store));
+    let mut store = desk.into_store();
+    assert_eq!(rt; store.fault_count, 1);
+    assert_eq!(rt; store.list.ceiling(&bravo), Ok(None));
+    Ok(())
+}
+
+/// The requests of `alfa` to plan, to close that plan, and for the status.
+fn calls_of(alloc: Global) -> Result<Vec<(i64, Asked)>, Fail> {
+    let put = read_request(alloc, FIRST_PUT)?.copy()?;
+    let operator = put.operator;
+    let id = PlanId::try_parse(ID).ok_or("an id")?;
+    let delete = Asked {
+        operator,
+        call: Call::Delete(id),
+    };
+    let status = Asked {
+        operator,
+        call: Call::Status,
+    };
+    Ok(vec![in alloc; (MOMENT, put), (MOMENT, delete), (MOMENT, status)]?)
+}
+
+/// A list in which `alfa` is enrolled.
+fn list_of_alfa(alloc: Global) -> Result<ListStore, Fail> {
+    let alfa = Operator::try_new(b"alfa").ok_or("a name")?;
+    let mut desk = Desk::new(ListStore::new(alloc));
+    desk.enrol(&alfa, 100)?;
+    Ok(desk.into_store())
+}
+
+/// How the plan of `alfa` is used, if it is stored.
+fn usage_in(list: &mut ListStore) -> Result<Option<Usage>, Fail> {
+    let alfa = Operator::try_new(b"alfa").ok_or("a name")?;
+    let id = PlanId::try_parse(ID).ok_or("an id")?;
+    Ok(list.plan(&alfa, &id)?.map(|row| row.usage))
+}
+
+/// Runs the requests at a desk whose store fails once so many calls are made, and compares how many of
+/// them are answered and how the plan is used after.
+fn check_run(
+    rt: &impl Abort,
+    alloc: Global,
+    calls: &[(i64, Asked)],
+    row: (u32, usize, Option<Usage>),
+) -> Result<(), Fail> {
+    let (calls_left, answered, usage) = row;
+    let mut desk = desk_over(list_of_alfa(alloc)?, calls_left);
+    let ran = desk.run(alloc, calls)?.copy()?;
+    assert_eq!(rt; ran.outcomes.len(), answered, "{calls_left}");
+    assert_eq!(rt; ran.stopped.is_some(), answered < 3, "{calls_left}");
+    assert!(rt; matches!(ran.stopped, None | Some(DeskFault::Store)));
+    let mut store = desk.into_store();
+    assert_eq!(rt; store.fault_count, u64::from(answered < 3));
+    assert_eq!(rt; usage_in(&mut store.list)?, usage, "{calls_left}");
+    Ok(())
+}
+
+// A request to plan asks the store for the ceiling, the plan, the count and the rivals, and changes it; one
+// to close a plan asks for the ceiling and the plan, and changes it; one for the status asks for the ceiling.
+#[test]
+fn a_run_stops_where_the_store_fails(rt: HostRuntime) -> Result<(), Fail> {
+    let calls = calls_of(rt.alloc())?;
+    for row in [
+        (0, 0, None),
+        (1, 0, None),
+        (2, 0, None),
+        (3, 0, None),
+        (4, 0, None),
+        (5, 1, Some(Usage::Planned)),
+        (6, 1, Some(Usage::Planned)),
+        (7, 1, Some(Usage::Planned)),
+        (8, 2, Some(Usage::Closed)),
+        (9, 3, Some(Usage::Closed)),
+    ] {
+        check_run(&rt, rt.alloc(), &calls, row)?;
+    }
+    Ok(())
+}

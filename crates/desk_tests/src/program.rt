@@ -1,0 +1,153 @@
+//! Lines carried out over streams in memory: the exit status, and what is printed.
+
+ghost use Rattle.std.specs.Prelude.{IfOk};
+ghost use Rattle.desk_line.specs.Lines.{IsEnrol};
+
+use desk_line::{Enrol, Line, read_words};
+use desk_program::with_desk;
+use desk_rules::operator::Operator;
+use desk_run::Desk;
+use desk_store::{ListStore, PlanStore};
+use std::alloc::Global;
+use std::process::Abort;
+use std::test::Fail;
+
+// What a line came to.
+#[derive(Drop)]
+struct Done {
+    status: u8,
+    output: Vec<u8>,
+    errors: Vec<u8>,
+    desk: Desk<ListStore>,
+}
+
+// What `play --at 0` and two operators come to on these bytes.
+fn play(alloc: Global, bytes: &[u8]) -> Result<Done, Fail> {
+    let mut words = Vec::new(alloc);
+    for word in ["uss_desk", "play", "--at", "0", "alfa=1000", "bravo=7"] {
+        words.push(String::from_str(alloc, word)?)?;
+    }
+    let Ok(Line::Play(play)) = read_words(alloc, &words) else {
+        return Err(Fail::from("no line"));
+    };
+    let line = Line::Play(play);
+    let mut desk = Desk::new(ListStore::new(alloc));
+    let mut input = bytes;
+    let mut output = Vec::new(alloc);
+    let mut errors = Vec::new(alloc);
+    let status = with_desk(
+        alloc,
+        &line,
+        &mut desk,
+        &mut input,
+        &mut output,
+        &mut errors,
+    );
+    Ok(Done {
+        status,
+        output,
+        errors,
+        desk,
+    })
+}
+
+// Each row has an input, the exit status, and what is printed to the two writers.
+fn check_plays(
+    rt: &impl Abort,
+    alloc: Global,
+    rows: &[(&[u8], u8, &[u8], &str)],
+) -> Result<(), Fail> {
+    for (bytes, wanted, text, word) in rows {
+        let done = play(alloc, bytes)?;
+        assert_eq!(rt; done.status, *wanted, "{word}");
+        assert_eq!(rt; done.output.as_slice(), *text);
+        assert_eq!(rt; done.errors.as_slice(), word.as_bytes());
+    }
+    Ok(())
+}
+
+#[test]
+fn says_how_it_ended(rt: HostRuntime) -> Result<(), Fail> {
+    let no_route = b"HTTP/1.1 404 Not Found\r\ncontent-type: application/json\r\n\
+        content-length: 20\r\nconnection: close\r\n\r\n{\"error\":\"no_route\"}"
+        .as_slice();
+    let bad_head = b"HTTP/1.1 400 Bad Request\r\ncontent-type: application/json\r\n\
+        content-length: 20\r\nconnection: close\r\n\r\n{\"error\":\"bad_head\"}"
+        .as_slice();
+    let rows = [
+        (b"GET /plans HTTP/1.1\r\n\r\n".as_slice(), 0, no_route, ""),
+        (b"GET /status", 3, b"", "uss_desk: cut_short\n"),
+        (b"GET\r\n\r\n", 3, bad_head, "uss_desk: unframed\n"),
+    ];
+    check_plays(&rt, rt.alloc(), &rows)
+}
+
+#[test]
+fn enrols_every_name(rt: HostRuntime) -> Result<(), Fail> {
+    let done = play(rt.alloc(), b"")?;
+    let mut store = done.desk.into_store();
+    let alfa = Operator::try_new(b"alfa").ok_or("a name")?;
+    let bravo = Operator::try_new(b"bravo").ok_or("a name")?;
+    assert_eq!(rt; store.ceiling(&alfa)?, Some(1_000));
+    assert_eq!(rt; store.ceiling(&bravo)?, Some(7));
+    Ok(())
+}
+
+// The line of `enrol` for `alfa`.
+fn enrol_alfa(alloc: Global) -> Result<Enrol, Fail>
+    ensures { IfOk result IsEnrol }
+{
+    let mut words = Vec::new(alloc);
+    for word in ["uss_desk", "enrol", "--db", ":memory:", "alfa", "100"] {
+        words.push(String::from_str(alloc, word)?)?;
+    }
+    let Ok(Line::Enrol(enrol)) = read_words(alloc, &words) else {
+        return Err(Fail::from("no line"));
+    };
+    Ok(enrol)
+}
+
+// Enrols `alfa` with a writer that takes so many bytes, and compares the exit status and what is printed to
+// the two writers. The operator is enrolled in any case.
+fn check_enrolment(
+    rt: &impl Abort,
+    alloc: Global,
+    room: usize,
+    wanted: u8,
+    text: &str,
+    word: &str,
+) -> Result<(), Fail> {
+    let line = Line::Enrol(enrol_alfa(alloc)?);
+    let mut desk = Desk::new(ListStore::new(alloc));
+    let mut bytes = [0; 20];
+    let mut output = bytes.get_mut(..room).ok_or("too much room")?;
+    let mut errors = Vec::new(alloc);
+    let status = with_desk(
+        alloc,
+        &line,
+        &mut desk,
+        &mut b"".as_slice(),
+        &mut output,
+        &mut errors,
+    );
+    assert_eq!(rt; status, wanted);
+    let left = output.len();
+    assert_eq!(rt; room.checked_sub(left), Some(text.len()));
+    assert!(rt; bytes.starts_with(text.as_bytes()));
+    assert_eq!(rt; errors.as_slice(), word.as_bytes());
+    let alfa = Operator::try_new(b"alfa").ok_or("a name")?;
+    assert_eq!(rt; desk.into_store().ceiling(&alfa)?, Some(100));
+    Ok(())
+}
+
+// A line that is cut off leaves the operator enrolled.
+#[test]
+fn enrols_before_it_prints(rt: HostRuntime) -> Result<(), Fail> {
+    for (room, wanted, text, word) in [
+        (20, 0, "enrolled alfa 100\n", ""),
+        (8, 4, "enrolled", "uss_desk: write\n"),
+    ] {
+        check_enrolment(&rt, rt.alloc(), room, wanted, text, word)?;
+    }
+    Ok(())
+}
