@@ -16,7 +16,7 @@ use Rattle.sqlite.specs.State.{State, HasCleanDisk, Shown}
 use Rattle.sqlite.specs.Store.{Ghosts}
 use Rattle.sqlite.specs.Held.{Held, state}
 use Rattle.desk_sql.specs.Rows.{IsDesk, is_by, is_of, is_rival, differs, is_at_most, is_at_least, is_below, is_above, held_columns, is_same, joined, has_volume, with_volumes, by_cells, columns, tables_of, Lists}
-use Rattle.desk_sql.specs.declared.rivals.Reach.{Reach}
+use Rattle.desk_sql.specs.declared.reading.rivals.Reach.{Reach}
 use Rattle.desk_sql.specs.Effects.{IsReady}
 use Rattle.desk_sql.specs.Rivals.{rival_params, MayRead, SelectsRivals}
 use Rattle.desk_sql.specs.Schema.{desk_schema}

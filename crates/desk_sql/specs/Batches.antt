@@ -5,8 +5,8 @@ use Rattle.sqlite.specs.Order.{Row}
 use Rattle.sqlite.specs.Store.{Ghosts}
 use Rattle.sqlite.specs.State.{HasCleanDisk}
 use Rattle.sqlite.specs.Held.{Held, state}
-use Rattle.desk_sql.specs.declared.writing.VolumeRecord.{VolumeRecord}
-use Rattle.desk_sql.specs.declared.writing.SpanRecord.{SpanRecord}
+use Rattle.desk_sql.specs.declared.changing.writing.VolumeRecord.{VolumeRecord}
+use Rattle.desk_sql.specs.declared.changing.writing.SpanRecord.{SpanRecord}
 use Rattle.desk_sql.specs.Rows.{IsDesk, Tables, is_of, is_not_of, left_without, volume_row, span_row}
 
 abbrev pub volume_of : VolumeRecord → Row

@@ -9,7 +9,7 @@ use Rattle.sqlite_resolve.specs.declared.compiled.Compiled.{Compiled}
 use Rattle.sqlite_resolve.specs.declared.error.CompileError.{CompileError}
 use Rattle.desk_sql.specs.Schema.{desk_schema}
 use Rattle.desk_sql.specs.Rows.{IsDesk, is_rival, held_columns, tables_of}
-use Rattle.desk_sql.specs.declared.rivals.Reach.{Reach}
+use Rattle.desk_sql.specs.declared.reading.rivals.Reach.{Reach}
 
 -- what the query is given
 abbrev pub rival_params : List ℕ → List ℕ → Reach → Row

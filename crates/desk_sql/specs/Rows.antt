@@ -12,7 +12,7 @@ use Rattle.sqlite.specs.Tree.{Trees, rowid, IsAscending}
 use Rattle.sqlite.specs.View.{is_int}
 use Rattle.sqlite.specs.Effect.{Database}
 use Rattle.desk_sql.specs.Schema.{desk_schema}
-use Rattle.desk_sql.specs.declared.rivals.Reach.{Reach}
+use Rattle.desk_sql.specs.declared.reading.rivals.Reach.{Reach}
 
 -- ---- what a row holds
 

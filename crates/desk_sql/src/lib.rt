@@ -1,30 +1,16 @@
 //! The desk's tables: their schema, and each statement as a function whose contract speaks of rows.
 #![tactic(auto)]
 
-mod answer;
-mod asking;
-mod batch;
 mod changing;
-mod counting;
-mod finding;
-mod making;
-mod matching;
-mod numbers;
+mod opening;
 mod reading;
-mod removing;
-mod rivals;
-mod run;
-mod setting;
-mod taking;
-mod whole;
-mod writing;
 
-pub use changing::{clear_plans, close_plan, is_enrolled, put_operator, put_plan};
-pub use counting::own_count;
-pub use finding::{Found, find_tables};
-pub use making::make_tables;
-pub use reading::{operator_named, own_plans, plan_of, volumes_of};
-pub use rivals::{Reach, rival_spans};
-pub use taking::TakeRow;
-pub use whole::{all_operators, all_plans, all_spans, all_volumes};
-pub use writing::{PlanRecord, SpanRecord, VolumeRecord};
+pub use changing::transactions::{clear_plans, close_plan, is_enrolled, put_operator, put_plan};
+pub use changing::writing::{PlanRecord, SpanRecord, VolumeRecord};
+pub use opening::finding::{Found, find_tables};
+pub use opening::making::make_tables;
+pub use reading::counting::own_count;
+pub use reading::queries::{operator_named, own_plans, plan_of, volumes_of};
+pub use reading::rivals::{Reach, rival_spans};
+pub use reading::taking::TakeRow;
+pub use reading::whole::{all_operators, all_plans, all_spans, all_volumes};

@@ -23,7 +23,7 @@ use Rattle.desk_tables.specs.Content.{IsId, IsBlock}
 use Rattle.volume4d.specs.Volume.{is_area}
 use Rattle.desk_tables.specs.Reading.{IsVolumeAt, IsHead}
 use Rattle.desk_tables.specs.Records.{IsFiled, AreRowsOf, AreNumbersOf, IsKeyed, IsWindowAt, slab_row, row_fault_of}
-use Rattle.desk_tables.specs.declared.exact.RowFault.TheVariants.{NoDesk}
+use Rattle.desk_tables.specs.declared.opening.exact.RowFault.TheVariants.{NoDesk}
 use Rattle.desk_store.specs.declared.fault.StoreFault.{StoreFault}
 use Rattle.desk_store.specs.declared.fault.StoreFault.TheVariants.{OutOfMemory, Store}
 use Rattle.desk_rules.specs.declared.plan.PlanRow.{PlanRow}

@@ -9,7 +9,7 @@ use Rattle.volume4d.specs.Volume.{Block, is_area}
 use Rattle.desk_rules.specs.declared.plan.PlanRow.{PlanRow}
 use Rattle.desk_sql.specs.Rows.{joined}
 use Rattle.desk_store.specs.World.{Filed}
-use Rattle.desk_tables.specs.declared.reading.Head.{Head}
+use Rattle.desk_tables.specs.declared.reading.values.Head.{Head}
 use Rattle.desk_tables.specs.Tables.{plan_row, volume_row}
 use Rattle.desk_tables.specs.Content.{IsId, IsBlock}
 use Rattle.desk_tables.specs.Reading.{IsVolumeAt, IsHead, is_later, joined_from, listing_rows}

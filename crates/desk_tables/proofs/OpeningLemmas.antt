@@ -12,8 +12,8 @@ use Rattle.desk_sql.specs.Rows.{IsDesk, Tables, tables_of}
 use Rattle.desk_sql.specs.Effects.{IsKept, IsReady}
 use Rattle.desk_sql.specs.Refusals.{IsRefusal}
 use Rattle.desk_store.specs.World.{World}
-use Rattle.desk_tables.specs.declared.open.OpenFault.{OpenFault}
-use Rattle.desk_tables.specs.declared.open.OpenFault.TheVariants.{NotADesk, Store}
+use Rattle.desk_tables.specs.declared.opening.open.OpenFault.{OpenFault}
+use Rattle.desk_tables.specs.declared.opening.open.OpenFault.TheVariants.{NotADesk, Store}
 use Rattle.desk_tables.specs.Content.{IsContent}
 use Rattle.desk_tables.specs.Opening.{AreSortedByKey, AreRows, IsContentOf, AreNoContent, ShowsNoDesk, IsNoDesk, HasFailed, BlamesReading, open_fault_of}
 use Rattle.desk_tables.proofs.KeyOrderLemmas.{are_rows, are_tables}

@@ -5,7 +5,7 @@ use Rattle.sqlite_value.specs.Order.{Row}
 use Rattle.volume4d.specs.Volume.{Block}
 use Rattle.desk_rules.specs.declared.plan.PlanRow.{PlanRow}
 use Rattle.desk_store.specs.World.{Filed}
-use Rattle.desk_tables.specs.declared.reading.Head.{Head}
+use Rattle.desk_tables.specs.declared.reading.values.Head.{Head}
 use Rattle.desk_tables.specs.Content.{IsPlan}
 use Rattle.desk_tables.specs.Reading.{joined_from, listing_rows}
 

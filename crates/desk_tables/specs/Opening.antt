@@ -26,10 +26,10 @@ use Rattle.desk_store.specs.World.{Filed, Listed, World, IsListed, text_cmp, lis
 use Rattle.desk_tables.specs.Tables.{operator_row, operator_rows, plan_rows, volume_rows, AreSpanRows}
 use Rattle.desk_tables.specs.Tables.{AreTables}
 use Rattle.desk_tables.specs.Content.{IsContent}
-use Rattle.desk_tables.specs.declared.exact.RowFault.{RowFault}
-use Rattle.desk_tables.specs.declared.exact.RowFault.TheVariants as row
-use Rattle.desk_tables.specs.declared.open.OpenFault.{OpenFault}
-use Rattle.desk_tables.specs.declared.open.OpenFault.TheVariants.{OutOfMemory, Store, NotADesk}
+use Rattle.desk_tables.specs.declared.opening.exact.RowFault.{RowFault}
+use Rattle.desk_tables.specs.declared.opening.exact.RowFault.TheVariants as row
+use Rattle.desk_tables.specs.declared.opening.open.OpenFault.{OpenFault}
+use Rattle.desk_tables.specs.declared.opening.open.OpenFault.TheVariants.{OutOfMemory, Store, NotADesk}
 use Rattle.desk_tables.specs.Records.{IsOperator, IsFiled}
 use Rattle.desk_tables.specs.Store.{IsStanding}
 

@@ -11,8 +11,8 @@ use Rattle.desk_sql.specs.Rows as sql
 use Rattle.desk_store.specs.World.{Filed, Listed}
 use Rattle.desk_store.specs.declared.fault.StoreFault.{StoreFault}
 use Rattle.desk_store.specs.declared.fault.StoreFault.TheVariants as store
-use Rattle.desk_tables.specs.declared.exact.RowFault.{RowFault}
-use Rattle.desk_tables.specs.declared.exact.RowFault.TheVariants.{OutOfMemory, NoDesk}
+use Rattle.desk_tables.specs.declared.opening.exact.RowFault.{RowFault}
+use Rattle.desk_tables.specs.declared.opening.exact.RowFault.TheVariants.{OutOfMemory, NoDesk}
 use Rattle.desk_tables.specs.Tables.{id_text, usage_number, aircraft_number, plan_row, area_rows}
 use Rattle.desk_tables.specs.Content.{IsPlan}
 

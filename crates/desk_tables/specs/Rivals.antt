@@ -5,7 +5,7 @@ use Rattle.sqlite_value.specs.declared.value.Value.TheVariants.{Int}
 use Rattle.sqlite_value.specs.Order.{Row, column}
 use Rattle.volume4d.specs.declared.slab.Slab.{Slab}
 use Rattle.volume4d.specs.declared.slab.Held.{Held}
-use Rattle.desk_sql.specs.declared.rivals.Reach.{Reach}
+use Rattle.desk_sql.specs.declared.reading.rivals.Reach.{Reach}
 
 -- the columns of `span` from `first` to `stop` are a slab's
 pub record IsSlabIn (row : Row) (slab : Slab) : Type 0 where

@@ -5,7 +5,7 @@ ghost use Rattle.std.specs.Borrow.{ftrue};
 ghost use Rattle.desk_store.specs.World.{World};
 ghost use Rattle.desk_store.specs.StoreChange.{changed_by};
 
-use crate::content::Content;
+use crate::opening::content::Content;
 use desk_store::Change;
 use std::marker::Model;
 

@@ -2,8 +2,8 @@
 use Rattle.std.specs.Prelude.{List, ℕ, codes}
 use Rattle.desk_line.specs.declared.failure.Failure.{Failure}
 use Rattle.desk_line.specs.declared.failure.Failure.TheVariants as failure
-use Rattle.desk_tables.specs.declared.open.OpenFault.{OpenFault}
-use Rattle.desk_tables.specs.declared.open.OpenFault.TheVariants as opening
+use Rattle.desk_tables.specs.declared.opening.open.OpenFault.{OpenFault}
+use Rattle.desk_tables.specs.declared.opening.open.OpenFault.TheVariants as opening
 
 -- why a program ends at a database that can't be opened
 abbrev pub open_failure : OpenFault → Failure

@@ -31,7 +31,7 @@ use Rattle.desk_tables.specs.contracts.kept.Kept.of as f
 use Rattle.desk_tables.proofs.kept.Kept.of.Statement as stated
 use Rattle.desk_tables.proofs.kept.Kept.of.Code as code
 use Rattle.desk_tables.specs.contracts.kept.Kept as kept
-use Rattle.desk_tables.specs.contracts.content.Content as content
+use Rattle.desk_tables.specs.contracts.opening.content.Content as content
 
 abbrev stayed : Stays (f.ended).signature.params (f.ended).kept
 stayed = (stay_none_ref (0 ∷ []) tt (plain (λ _. content.the_row)) yes, tt)

@@ -1,9 +1,0 @@
-use Rattle.std.proofs.Common.{◌≡◌, map, take}
-use Rattle.desk_sql.specs.Batches.{volume_of, AddsVolumes}
-use Rattle.desk_sql.proofs.BatchLemmas.{HasAdded}
-use Rattle.desk_sql.proofs.batch.insert_volumes.Given as goal
-
-abbrev pub invariant-rows : goal.invariant-rows
-invariant-rows g l = (l.tx.conn.ghost_name ≡ l.fn.tx.conn.ghost_name)
-    × HasAdded g.S.Store l.fn.tx.conn.now l.tx.conn.now
-    (AddsVolumes (map volume_of (take l.row-index l.rows)))

@@ -1,0 +1,32 @@
+use Rattle.std.proofs.Common.{[], ◌∷◌, ◌++◌, refl, sym, ap, map, take, ◌∙◌, ◌+◌}
+use Rattle.std.specs.String.{string_bytes}
+use Rattle.std.proofs.lemmas.List.{map_more}
+use Rattle.desk_sql.specs.Rows.{RemovesPlan}
+use Rattle.desk_sql.specs.Batches.{RemovesPlans}
+use Rattle.desk_sql.proofs.ClearLemmas.{begins, goes_on, none_removed, one_removed}
+use Rattle.desk_sql.proofs.changing.batch.remove_plans.Goals as goal
+
+pub ids-init : goal.ids-init
+ids-init g c = (
+  refl,
+  begins g.S.Store c.args.tx.now.conn.now
+      (RemovesPlans c.args.operator.now (map string_bytes (take 0 c.args.ids.now)))
+      (none_removed c.args.operator.now) c.requires.ready c.requires.begun,
+)
+
+pub ids-preserved : goal.ids-preserved
+ids-preserved g c =
+    let ids = c.args.ids.now in
+    let at = c.ids.id-index in (
+      c.remove_one.ensures.same_reference ∙ c.ids.invariant.0,
+      goes_on g.S.Store c.args.tx.now.conn.now c.ids.tx.conn.now c.remove_one.new.tx.conn.now
+          (RemovesPlans c.args.operator.now (map string_bytes (take at ids)))
+          (RemovesPlan c.args.operator.now (string_bytes c.id-item.result))
+          (RemovesPlans c.args.operator.now (map string_bytes (take (at + 1) ids)))
+          (one_removed c.args.operator.now (map string_bytes (take at ids)) _
+          (map string_bytes (take (at + 1) ids))
+          (map_more string_bytes ids at _ c.ids-test.true
+          ∙ ap (λ id. map string_bytes (take at ids) ++ id ∷ []) (sym (ap string_bytes c.id-item.is))))
+          c.ids.invariant.1 c.remove_one.ensures.doubt c.remove_one.ensures.faults
+          c.in_ok-remove_one.ensures.done,
+    )

@@ -1,0 +1,23 @@
+use Rattle.std.proofs.Common.{arith}
+use Rattle.sqlite.specs.Held.{state}
+use Rattle.desk_sql.specs.Rows.{plan_row, AddsPlan}
+use Rattle.desk_sql.proofs.WriteLemmas.{makes}
+use Rattle.desk_sql.proofs.InsertLemmas.{insert_plan}
+use Rattle.desk_sql.proofs.changing.writing.insert_plan.Goals as goal
+
+pub returns-clause-done : goal.returns-clause-done
+returns-clause-done g c clean =
+    let old = c.args.tx.now.conn.now in
+    let new = c.run.new.tx.conn.now in
+    makes g.S.Store old new c.requires.ready (omega (arith, c.run.ensures.doubt, clean))
+    (AddsPlan (plan_row c.args.operator.now c.args.id.now c.args.priority c.args.usage c.args.aircraft))
+    (c.in_ok-run.ensures.shown clean)
+    (λ desk. insert_plan c.args.operator.now c.args.id.now c.args.priority c.args.usage c.args.aircraft
+    (state g.S.Store old) (state g.S.Store new) desk c.in_ok-run.field-0
+    (rw (
+      c.params-to_sql.ensures,
+      c.params-to_sql-2.ensures,
+      c.params-to_sql-3.ensures,
+      c.params-to_sql-4.ensures,
+      c.params-to_sql-5.ensures,
+    ) at (c.in_ok-run.ensures.ran clean)))

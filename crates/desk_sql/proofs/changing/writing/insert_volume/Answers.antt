@@ -1,0 +1,39 @@
+use Rattle.std.proofs.Common.{◌≡◌, arith, rules}
+use Rattle.std.proofs.lemmas.Int.{ints, to_z-of_z}
+use Rattle.sqlite_value.specs.Value.{owned}
+use Rattle.sqlite.specs.declared.types.Value.TheVariants.{Int}
+use Rattle.sqlite.specs.Held.{state}
+use Rattle.desk_sql.specs.Rows.{volume_row, AddsVolume}
+use Rattle.desk_sql.proofs.WriteLemmas.{makes}
+use Rattle.desk_sql.proofs.InsertLemmas.{insert_volume}
+use Rattle.desk_sql.proofs.changing.writing.insert_volume.Goals as goal
+
+pub returns-clause-done : goal.returns-clause-done
+returns-clause-done g c clean =
+    let old = c.args.tx.now.conn.now in
+    let new = c.run.new.tx.conn.now in
+    let lower : owned c.params-to_sql-4.result ≡ Int c.args.row.lower =
+    search (rules, ints, to_z-of_z, c.params-to_sql-4.ensures) in
+    let upper : owned c.params-to_sql-5.result ≡ Int c.args.row.upper =
+    search (rules, ints, to_z-of_z, c.params-to_sql-5.ensures) in
+    let start : owned c.params-to_sql-6.result ≡ Int c.args.row.start =
+    search (rules, ints, to_z-of_z, c.params-to_sql-6.ensures) in
+    let stop : owned c.params-to_sql-7.result ≡ Int c.args.row.stop =
+    search (rules, ints, to_z-of_z, c.params-to_sql-7.ensures) in
+    makes g.S.Store old new c.requires.ready (omega (arith, c.run.ensures.doubt, clean))
+    (AddsVolume (volume_row c.args.row.operator.now c.args.row.id.now c.args.row.place c.args.row.lower
+    c.args.row.upper c.args.row.start c.args.row.stop c.args.row.asked.now))
+    (c.in_ok-run.ensures.shown clean)
+    (λ desk. insert_volume c.args.row.operator.now c.args.row.id.now c.args.row.place c.args.row.lower
+    c.args.row.upper c.args.row.start c.args.row.stop c.args.row.asked.now (state g.S.Store old)
+    (state g.S.Store new) desk c.in_ok-run.field-0
+    (rw (
+      c.params-to_sql.ensures,
+      c.params-to_sql-2.ensures,
+      c.params-to_sql-3.ensures,
+      lower,
+      upper,
+      start,
+      stop,
+      c.params-to_sql-8.ensures,
+    ) at (c.in_ok-run.ensures.ran clean)))

@@ -1,0 +1,22 @@
+use Rattle.std.proofs.Common.{arith, length, filter, ◌∙◌}
+use Rattle.sqlite.specs.Held.{state}
+use Rattle.desk_sql.specs.Rows.{is_by, tables_of}
+use Rattle.desk_sql.proofs.CountLemmas.{count_plans_is, plans_counted, count_if}
+use Rattle.desk_sql.proofs.ReadLemmas.{was_open}
+use Rattle.desk_sql.proofs.reading.counting.own_count.Goals as goal
+
+pub answer-requires-clause-plain : goal.answer-requires-clause-plain
+answer-requires-clause-plain g c = count_plans_is.plain
+
+pub returns-clause-value : goal.returns-clause-value
+returns-clause-value g c clean =
+    let old = state g.S.Store c.args.connection.now in
+    let new = state g.S.Store c.answer.new.connection in
+    let rows = c.in_ok-rows.rows.items in
+    let shown = rw c.params-to_sql.ensures at (c.in_ok-rows.ensures.shown clean) in
+    let desk = c.requires.ready (omega (arith, c.answer.ensures.doubt, clean))
+    (was_open _ _ old new rows shown) in
+    let n = length (filter (is_by c.args.operator.now) (tables_of old.now.trees).plans) in
+    count_if c.count_in.result c.deref.result.now n
+    (c.deref.ensures.value ∙ plans_counted c.args.operator.now old new rows desk shown)
+    c.count_in.ensures.value c.count_in.ensures.small

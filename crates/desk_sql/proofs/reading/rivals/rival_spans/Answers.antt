@@ -1,0 +1,51 @@
+use Rattle.std.proofs.Common.{◌≡◌, arith, rules, filter, map, IsPermutation}
+use Rattle.std.proofs.lemmas.Int.{ints, to_z-of_z}
+use Rattle.sqlite_value.specs.Value.{owned}
+use Rattle.sqlite.specs.declared.types.Value.TheVariants.{Int}
+use Rattle.sqlite.specs.Held.{state}
+use Rattle.desk_sql.specs.Rows.{is_rival, held_columns, tables_of}
+use Rattle.desk_sql.specs.Rivals.{rival_params}
+use Rattle.desk_sql.proofs.ReadLemmas.{shown_read}
+use Rattle.desk_sql.proofs.TakingLemmas.{if_handed}
+use Rattle.desk_sql.proofs.reading.rivals.rival_spans.Goals as goal
+
+pub hand_over-requires-clause-plain : goal.hand_over-requires-clause-plain
+hand_over-requires-clause-plain g c = c.rival_spans_text.ensures.plain
+
+pub returns-clause-value : goal.returns-clause-value
+returns-clause-value g c clean =
+    let reach = c.args.reach in
+    let text = c.rival_spans_text.ensures in
+    let last : owned c.params-to_sql.result ≡ Int reach.last =
+    search (rules, ints, to_z-of_z, c.params-to_sql.ensures) in
+    let first : owned c.params-to_sql-2.result ≡ Int reach.first =
+    search (rules, ints, to_z-of_z, c.params-to_sql-2.ensures) in
+    let upper : owned c.params-to_sql-3.result ≡ Int reach.upper =
+    search (rules, ints, to_z-of_z, c.params-to_sql-3.ensures) in
+    let lower : owned c.params-to_sql-4.result ≡ Int reach.lower =
+    search (rules, ints, to_z-of_z, c.params-to_sql-4.ensures) in
+    let stop : owned c.params-to_sql-5.result ≡ Int reach.stop =
+    search (rules, ints, to_z-of_z, c.params-to_sql-5.ensures) in
+    let start : owned c.params-to_sql-6.result ≡ Int reach.start =
+    search (rules, ints, to_z-of_z, c.params-to_sql-6.ensures) in
+    if_handed g.S.Store c.args.connection.now c.hand_over.new.connection _ _
+    (IsPermutation (map held_columns (filter (is_rival c.args.operator.now c.args.id.now reach)
+    (tables_of (state g.S.Store c.args.connection.now).now.trees).spans)))
+    (g.T.TakeRow.has_taken c.hand_over.new.taker) c.requires.ready
+    (omega (arith, c.hand_over.ensures.doubt, clean))
+    (λ rows desk shown. text.rows c.args.operator.now c.args.id.now reach
+    (state g.S.Store c.args.connection.now).now rows desk
+    (shown_read c.rival_spans_text.result.now (rival_params c.args.operator.now c.args.id.now reach)
+    (state g.S.Store c.args.connection.now) (state g.S.Store c.hand_over.new.connection) rows desk.schema
+    text.plain text.unlisted shown)) c.hand_over.result
+    (rw (
+      last,
+      first,
+      upper,
+      lower,
+      stop,
+      start,
+      c.params-to_sql-7.ensures,
+      c.params-to_sql-8.ensures,
+      c.params-to_sql-9.ensures,
+    ) at (c.hand_over.ensures.shown clean))

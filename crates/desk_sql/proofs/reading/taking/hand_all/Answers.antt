@@ -1,0 +1,48 @@
+use Rattle.std.proofs.Common.{arith, refl, inl, ◌∙◌}
+use Rattle.desk_sql.proofs.TakingLemmas.{begins, goes_on, ends, is_left}
+use Rattle.desk_sql.proofs.reading.taking.hand_all.Goals as goal
+
+pub loop-init : goal.loop-init
+loop-init g c = (
+  refl,
+  λ e. e,
+  omega arith,
+  omega arith,
+  begins g.S.Store c.args.rows.now.conn.now
+      (g.T.TakeRow.has_taken c.args.taker.now) c.requires,
+)
+
+pub returns-in_err-hand_next-clause-left : goal.returns-in_err-hand_next-clause-left
+returns-in_err-hand_next-clause-left g c =
+    is_left g.S.Store c.args.rows.now.conn.now c.loop.rows.conn.now c.hand_next.new.rows.conn.now _ _
+    (g.T.TakeRow.has_taken c.hand_next.new.taker) c.loop.invariant.4
+    (λ clean. omega (arith, clean, c.hand_next.ensures.doubt)) c.in_err-hand_next.ensures.left
+
+pub returns-then-not-branch-clause-handed : goal.returns-then-not-branch-clause-handed
+returns-then-not-branch-clause-handed g c =
+    ends g.S.Store c.args.rows.now.conn.now c.loop.rows.conn.now c.hand_next.new.rows.conn.now _ _
+    (g.T.TakeRow.has_taken c.hand_next.new.taker) c.loop.invariant.4
+    (λ clean. omega (arith, clean, c.hand_next.ensures.doubt)) c.in_ok-hand_next.field-0
+    c.if-not-branch.true c.in_ok-hand_next.ensures.handed
+
+pub returns-then-not-branch-clause-left : goal.returns-then-not-branch-clause-left
+returns-then-not-branch-clause-left g c =
+    is_left g.S.Store c.args.rows.now.conn.now c.loop.rows.conn.now c.hand_next.new.rows.conn.now _ _
+    (g.T.TakeRow.has_taken c.hand_next.new.taker) c.loop.invariant.4
+    (λ clean. omega (arith, clean, c.hand_next.ensures.doubt))
+    (λ clean. inl (c.in_ok-hand_next.ensures.same clean))
+
+pub loop-preserved : goal.loop-preserved
+loop-preserved g c = (
+  c.hand_next.ensures.same_reference ∙ c.loop.invariant.0,
+  λ settled. c.hand_next.ensures.mode (c.loop.invariant.1 settled),
+  omega (arith, c.loop.invariant.2, c.hand_next.ensures.doubt),
+  omega (arith, c.loop.invariant.3, c.hand_next.ensures.faults),
+  goes_on g.S.Store c.args.rows.now.conn.now c.loop.rows.conn.now c.hand_next.new.rows.conn.now _ _
+      (g.T.TakeRow.has_taken c.hand_next.new.taker) c.loop.invariant.4
+      (λ clean. omega (arith, clean, c.hand_next.ensures.doubt)) c.in_ok-hand_next.ensures.same
+      c.in_ok-hand_next.field-0 c.if-not-branch.false c.in_ok-hand_next.ensures.handed,
+)
+
+pub returns-clause-left : goal.returns-clause-left
+returns-clause-left g c clean = inl (c.loop.invariant.4.same clean)

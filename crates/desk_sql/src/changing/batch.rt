@@ -1,0 +1,109 @@
+ghost use Rattle.std.specs.Prelude.{◌≡◌, ◌≤◌, OnOk, OnErr, IsTrue, map};
+ghost use Rattle.std.specs.String.{string_bytes};
+ghost use Rattle.sqlite.specs.View.{doubt};
+ghost use Rattle.sqlite.specs.State.{HasCleanDisk, KeepsCommit};
+ghost use Rattle.sqlite.specs.Held.{state};
+ghost use Rattle.desk_sql.specs.Batches.{volume_of, span_of, AddsVolumes, AddsSpans, RemovesPlans, IsUnderWay};
+ghost use Rattle.desk_sql.specs.Effects.{IsReady, Makes};
+ghost use Rattle.desk_sql.specs.Rows.{RemovesPlan};
+
+use crate::changing::removing::remove_plan;
+use crate::changing::writing::{SpanRecord, VolumeRecord, insert_span, insert_volume};
+use sqlite::{Alter, Error, Transaction};
+
+/// Adds these rows to `volume`.
+pub fn insert_volumes<S: Alter>(
+    tx: &mut Transaction<'_, S>,
+    rows: &[VolumeRecord<'_>],
+) -> Result<(), Error>
+    requires under_way { IsUnderWay S.Store tx.old.conn.now }
+    ensures same_reference { tx.new.conn.ghost_name ≡ tx.old.conn.ghost_name }
+    ensures done { HasCleanDisk (state S.Store tx.new.conn.now)
+        → OnOk result (Makes S.Store tx.old.conn.now tx.new.conn.now (AddsVolumes
+        (map volume_of rows.now))) }
+    ensures undone { HasCleanDisk (state S.Store tx.new.conn.now)
+        → OnErr result (KeepsCommit (state S.Store tx.old.conn.now)
+        (state S.Store tx.new.conn.now)) }
+    ensures doubt { doubt (state S.Store tx.old.conn.now).is_clean ≤ doubt
+        (state S.Store tx.new.conn.now).is_clean }
+    ensures faults { (state S.Store tx.old.conn.now).faults ≤
+        (state S.Store tx.new.conn.now).faults }
+{
+    'rows: for row in rows {
+        insert_volume(tx, *row)?;
+    }
+    Ok(())
+}
+
+/// Adds these rows to `span`.
+pub fn insert_spans<S: Alter>(
+    tx: &mut Transaction<'_, S>,
+    rows: &[SpanRecord<'_>],
+) -> Result<(), Error>
+    requires under_way { IsUnderWay S.Store tx.old.conn.now }
+    ensures same_reference { tx.new.conn.ghost_name ≡ tx.old.conn.ghost_name }
+    ensures done { HasCleanDisk (state S.Store tx.new.conn.now)
+        → OnOk result (Makes S.Store tx.old.conn.now tx.new.conn.now (AddsSpans
+        (map span_of rows.now))) }
+    ensures undone { HasCleanDisk (state S.Store tx.new.conn.now)
+        → OnErr result (KeepsCommit (state S.Store tx.old.conn.now)
+        (state S.Store tx.new.conn.now)) }
+    ensures doubt { doubt (state S.Store tx.old.conn.now).is_clean ≤ doubt
+        (state S.Store tx.new.conn.now).is_clean }
+    ensures faults { (state S.Store tx.old.conn.now).faults ≤
+        (state S.Store tx.new.conn.now).faults }
+{
+    'rows: for row in rows {
+        insert_span(tx, *row)?;
+    }
+    Ok(())
+}
+
+/// Removes the plans of these ids, and their volumes and spans with them.
+pub fn remove_plans<S: Alter>(
+    tx: &mut Transaction<'_, S>,
+    operator: &str,
+    ids: &[String],
+) -> Result<(), Error>
+    requires ready { IsReady S.Store tx.old.conn.now }
+    requires begun { IsTrue tx.old.conn.now.in_transaction }
+    ensures same_reference { tx.new.conn.ghost_name ≡ tx.old.conn.ghost_name }
+    ensures done { HasCleanDisk (state S.Store tx.new.conn.now)
+        → OnOk result (IsTrue (state S.Store tx.new.conn.now).is_open
+        → Makes S.Store tx.old.conn.now tx.new.conn.now
+        (RemovesPlans operator.now (map string_bytes ids.now))) }
+    ensures undone { HasCleanDisk (state S.Store tx.new.conn.now)
+        → OnErr result (KeepsCommit (state S.Store tx.old.conn.now)
+        (state S.Store tx.new.conn.now)) }
+    ensures doubt { doubt (state S.Store tx.old.conn.now).is_clean ≤ doubt
+        (state S.Store tx.new.conn.now).is_clean }
+    ensures faults { (state S.Store tx.old.conn.now).faults ≤
+        (state S.Store tx.new.conn.now).faults }
+{
+    'ids: for id in ids {
+        remove_one(tx, operator, id)?;
+    }
+    Ok(())
+}
+
+// Removes the plan of an id, which is a text of its own.
+fn remove_one<S: Alter>(
+    tx: &mut Transaction<'_, S>,
+    operator: &str,
+    id: &String,
+) -> Result<(), Error>
+    requires ready { IsReady S.Store tx.old.conn.now }
+    ensures same_reference { tx.new.conn.ghost_name ≡ tx.old.conn.ghost_name }
+    ensures done { HasCleanDisk (state S.Store tx.new.conn.now)
+        → OnOk result (Makes S.Store tx.old.conn.now tx.new.conn.now
+        (RemovesPlan operator.now (string_bytes id.now))) }
+    ensures undone { HasCleanDisk (state S.Store tx.new.conn.now)
+        → OnErr result (KeepsCommit (state S.Store tx.old.conn.now)
+        (state S.Store tx.new.conn.now)) }
+    ensures doubt { doubt (state S.Store tx.old.conn.now).is_clean ≤ doubt
+        (state S.Store tx.new.conn.now).is_clean }
+    ensures faults { (state S.Store tx.old.conn.now).faults ≤
+        (state S.Store tx.new.conn.now).faults }
+{
+    remove_plan(tx, operator, id)
+}

@@ -1,0 +1,63 @@
+ghost use Rattle.std.specs.Prelude.{◌≡◌, ◌≤◌, OnOk, OnErr};
+ghost use Rattle.sqlite.specs.View.{doubt};
+ghost use Rattle.sqlite.specs.State.{HasCleanDisk, KeepsCommit};
+ghost use Rattle.sqlite.specs.Held.{state};
+ghost use Rattle.desk_sql.specs.Rows.{RemovesPlan, RemovesSpans};
+ghost use Rattle.desk_sql.specs.Effects.{IsReady, Makes};
+
+use crate::changing::run::run;
+use sqlite::{Alter, Error, Transaction, params};
+
+/// Removes a plan, and its volumes and spans with it. Without the plan it changes nothing.
+pub fn remove_plan<S: Alter>(
+    tx: &mut Transaction<'_, S>,
+    operator: &str,
+    id: &str,
+) -> Result<(), Error>
+    requires ready { IsReady S.Store tx.old.conn.now }
+    ensures same_reference { tx.new.conn.ghost_name ≡ tx.old.conn.ghost_name }
+    ensures done { HasCleanDisk (state S.Store tx.new.conn.now)
+        → OnOk result (Makes S.Store tx.old.conn.now tx.new.conn.now
+        (RemovesPlan operator.now id.now)) }
+    ensures undone { HasCleanDisk (state S.Store tx.new.conn.now)
+        → OnErr result (KeepsCommit (state S.Store tx.old.conn.now)
+        (state S.Store tx.new.conn.now)) }
+    ensures doubt { doubt (state S.Store tx.old.conn.now).is_clean ≤ doubt
+        (state S.Store tx.new.conn.now).is_clean }
+    ensures faults { (state S.Store tx.old.conn.now).faults ≤
+        (state S.Store tx.new.conn.now).faults }
+{
+    run(
+        tx,
+        "DELETE FROM plan WHERE operator = ?1 AND id = ?2",
+        params![operator, id],
+    )?;
+    Ok(())
+}
+
+/// Removes the spans of a plan.
+pub fn remove_spans<S: Alter>(
+    tx: &mut Transaction<'_, S>,
+    operator: &str,
+    id: &str,
+) -> Result<(), Error>
+    requires ready { IsReady S.Store tx.old.conn.now }
+    ensures same_reference { tx.new.conn.ghost_name ≡ tx.old.conn.ghost_name }
+    ensures done { HasCleanDisk (state S.Store tx.new.conn.now)
+        → OnOk result (Makes S.Store tx.old.conn.now tx.new.conn.now
+        (RemovesSpans operator.now id.now)) }
+    ensures undone { HasCleanDisk (state S.Store tx.new.conn.now)
+        → OnErr result (KeepsCommit (state S.Store tx.old.conn.now)
+        (state S.Store tx.new.conn.now)) }
+    ensures doubt { doubt (state S.Store tx.old.conn.now).is_clean ≤ doubt
+        (state S.Store tx.new.conn.now).is_clean }
+    ensures faults { (state S.Store tx.old.conn.now).faults ≤
+        (state S.Store tx.new.conn.now).faults }
+{
+    run(
+        tx,
+        "DELETE FROM span WHERE operator = ?1 AND id = ?2",
+        params![operator, id],
+    )?;
+    Ok(())
+}

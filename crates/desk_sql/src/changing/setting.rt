@@ -1,0 +1,66 @@
+ghost use Rattle.std.specs.Prelude.{◌≡◌, ◌≤◌, OnOk, OnErr};
+ghost use Rattle.sqlite.specs.View.{doubt};
+ghost use Rattle.sqlite.specs.State.{HasCleanDisk, KeepsCommit};
+ghost use Rattle.sqlite.specs.Held.{state};
+ghost use Rattle.desk_sql.specs.Rows.{is_by, is_of, operator_row, plan_row, SetsOperators, SetsPlans};
+ghost use Rattle.desk_sql.specs.Effects.{IsReady, Makes};
+
+use crate::changing::run::run;
+use sqlite::{Alter, Error, Transaction, params};
+
+/// Sets the ceiling of the operator with this name, if there is one.
+pub fn set_ceiling<S: Alter>(
+    tx: &mut Transaction<'_, S>,
+    name: &str,
+    ceiling: u32,
+) -> Result<(), Error>
+    requires ready { IsReady S.Store tx.old.conn.now }
+    ensures same_reference { tx.new.conn.ghost_name ≡ tx.old.conn.ghost_name }
+    ensures done { HasCleanDisk (state S.Store tx.new.conn.now)
+        → OnOk result (Makes S.Store tx.old.conn.now tx.new.conn.now (SetsOperators
+        (is_by name.now) (operator_row name.now ceiling))) }
+    ensures undone { HasCleanDisk (state S.Store tx.new.conn.now)
+        → OnErr result (KeepsCommit (state S.Store tx.old.conn.now)
+        (state S.Store tx.new.conn.now)) }
+    ensures doubt { doubt (state S.Store tx.old.conn.now).is_clean ≤ doubt
+        (state S.Store tx.new.conn.now).is_clean }
+    ensures faults { (state S.Store tx.old.conn.now).faults ≤
+        (state S.Store tx.new.conn.now).faults }
+{
+    run(
+        tx,
+        "UPDATE operator SET ceiling = ?2 WHERE name = ?1",
+        params![name, ceiling],
+    )?;
+    Ok(())
+}
+
+/// Sets the row of a plan, if there is one, to the usage Closed with this priority and this state
+/// of the aircraft.
+pub fn set_closed<S: Alter>(
+    tx: &mut Transaction<'_, S>,
+    operator: &str,
+    id: &str,
+    priority: u32,
+    aircraft: u32,
+) -> Result<(), Error>
+    requires ready { IsReady S.Store tx.old.conn.now }
+    ensures same_reference { tx.new.conn.ghost_name ≡ tx.old.conn.ghost_name }
+    ensures done { HasCleanDisk (state S.Store tx.new.conn.now)
+        → OnOk result (Makes S.Store tx.old.conn.now tx.new.conn.now (SetsPlans
+        (is_of operator.now id.now) (plan_row operator.now id.now priority 2 aircraft))) }
+    ensures undone { HasCleanDisk (state S.Store tx.new.conn.now)
+        → OnErr result (KeepsCommit (state S.Store tx.old.conn.now)
+        (state S.Store tx.new.conn.now)) }
+    ensures doubt { doubt (state S.Store tx.old.conn.now).is_clean ≤ doubt
+        (state S.Store tx.new.conn.now).is_clean }
+    ensures faults { (state S.Store tx.old.conn.now).faults ≤
+        (state S.Store tx.new.conn.now).faults }
+{
+    run(
+        tx,
+        "UPDATE plan SET priority = ?3, usage = 2, aircraft = ?4 WHERE operator = ?1 AND id = ?2",
+        params![operator, id, priority, aircraft],
+    )?;
+    Ok(())
+}

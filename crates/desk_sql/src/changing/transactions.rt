@@ -1,0 +1,149 @@
+ghost use Rattle.std.specs.Prelude.{◌≡◌, ◌≤◌, false, OnOk, OnErr, IfOk, IsTrue, map};
+ghost use Rattle.sqlite.specs.View.{doubt};
+ghost use Rattle.sqlite.specs.State.{HasCleanDisk};
+ghost use Rattle.sqlite.specs.Held.{state};
+ghost use Rattle.desk_sql.specs.Rows.{PutsOperator, ClosesPlan, is_by, plan_row, tables_of};
+ghost use Rattle.std.specs.List.{list_any};
+ghost use Rattle.std.specs.String.{string_bytes};
+ghost use Rattle.desk_sql.specs.Batches.{PutsPlan, RemovesPlans, volume_of, span_of};
+ghost use Rattle.desk_sql.specs.Effects.{IsReady, IsKept, Commits};
+
+use crate::changing::batch::{insert_spans, insert_volumes, remove_plans};
+use crate::changing::removing::{remove_plan, remove_spans};
+use crate::changing::setting::{set_ceiling, set_closed};
+use crate::changing::writing::{
+    PlanRecord, SpanRecord, VolumeRecord, insert_operator, insert_plan,
+};
+use crate::reading::queries::operator_named;
+use sqlite::{Alter, Connection, Error};
+
+/// Removes the plans of these ids, and their volumes and spans with them, as one transaction.
+pub fn clear_plans<S: Alter>(
+    connection: &mut Connection<S>,
+    operator: &str,
+    ids: &[String],
+) -> Result<(), Error>
+    requires ready { IsReady S.Store connection.old }
+    requires settled { connection.old.in_transaction ≡ false }
+    ensures done { HasCleanDisk (state S.Store connection.new)
+        → OnOk result (Commits S.Store connection.old connection.new
+        (RemovesPlans operator.now (map string_bytes ids.now))) }
+    ensures kept { OnErr result (IsKept S.Store connection.old connection.new) }
+    ensures mode { connection.new.in_transaction ≡ false }
+    ensures doubt { doubt (state S.Store connection.old).is_clean ≤ doubt
+        (state S.Store connection.new).is_clean }
+    ensures faults { (state S.Store connection.old).faults ≤ (state S.Store connection.new).faults }
+{
+    let _settled = connection.is_autocommit();
+    let mut tx = connection.transaction();
+    remove_plans(&mut tx, operator, ids)?;
+    tx.commit()
+}
+
+/// Puts a plan with its volumes and spans, in place of what there was of it, as one transaction.
+pub fn put_plan<S: Alter>(
+    connection: &mut Connection<S>,
+    plan: PlanRecord<'_>,
+    volumes: &[VolumeRecord<'_>],
+    spans: &[SpanRecord<'_>],
+) -> Result<(), Error>
+    requires ready { IsReady S.Store connection.old }
+    requires settled { connection.old.in_transaction ≡ false }
+    ensures done { HasCleanDisk (state S.Store connection.new)
+        → OnOk result (Commits S.Store connection.old connection.new
+        (PutsPlan plan.entry.operator.now plan.entry.id.now
+        (plan_row plan.entry.operator.now plan.entry.id.now plan.entry.priority plan.entry.usage
+        plan.entry.aircraft) (map volume_of volumes.now) (map span_of spans.now))) }
+    ensures kept { OnErr result (IsKept S.Store connection.old connection.new) }
+    ensures mode { connection.new.in_transaction ≡ false }
+    ensures doubt { doubt (state S.Store connection.old).is_clean ≤ doubt
+        (state S.Store connection.new).is_clean }
+    ensures faults { (state S.Store connection.old).faults ≤ (state S.Store connection.new).faults }
+{
+    let _settled = connection.is_autocommit();
+    let mut tx = connection.transaction();
+    remove_plan(&mut tx, plan.operator, plan.id)?;
+    insert_plan(
+        &mut tx,
+        plan.operator,
+        plan.id,
+        plan.priority,
+        plan.usage,
+        plan.aircraft,
+    )?;
+    insert_volumes(&mut tx, volumes)?;
+    insert_spans(&mut tx, spans)?;
+    tx.commit()
+}
+
+/// Whether there is an operator with this name.
+pub fn is_enrolled<S: Alter>(connection: &mut Connection<S>, name: &str) -> Result<bool, Error>
+    requires ready { IsReady S.Store connection.old }
+    requires settled { connection.old.in_transaction ≡ false }
+    ensures value { HasCleanDisk (state S.Store connection.new)
+        → IfOk result (λ found. found ≡ list_any (is_by name.now) (tables_of
+        (state S.Store connection.old).now.trees).operators) }
+    ensures kept { IsKept S.Store connection.old connection.new }
+    ensures mode { connection.new.in_transaction ≡ false }
+    ensures doubt { doubt (state S.Store connection.old).is_clean ≤ doubt
+        (state S.Store connection.new).is_clean }
+    ensures faults { (state S.Store connection.old).faults ≤ (state S.Store connection.new).faults }
+{
+    let rows = operator_named(connection, name)?;
+    Ok(!rows.is_empty())
+}
+
+/// Sets the ceiling of the operator with this name, or adds the operator, as one transaction.
+pub fn put_operator<S: Alter>(
+    connection: &mut Connection<S>,
+    name: &str,
+    ceiling: u32,
+) -> Result<(), Error>
+    requires ready { IsReady S.Store connection.old }
+    requires settled { connection.old.in_transaction ≡ false }
+    ensures done { HasCleanDisk (state S.Store connection.new)
+        → OnOk result (Commits S.Store connection.old connection.new
+        (PutsOperator name.now ceiling)) }
+    ensures kept { OnErr result (IsKept S.Store connection.old connection.new) }
+    ensures mode { connection.new.in_transaction ≡ false }
+    ensures doubt { doubt (state S.Store connection.old).is_clean ≤ doubt
+        (state S.Store connection.new).is_clean }
+    ensures faults { (state S.Store connection.old).faults ≤ (state S.Store connection.new).faults }
+{
+    let is_there = is_enrolled(connection, name)?;
+    let _settled = connection.is_autocommit();
+    let mut tx = connection.transaction();
+    if is_there {
+        set_ceiling(&mut tx, name, ceiling)?;
+    } else {
+        insert_operator(&mut tx, name, ceiling)?;
+    }
+    tx.commit()
+}
+
+/// Closes a plan, if it is there: its row gets the usage Closed with this priority and this state
+/// of the aircraft, and its spans go. One transaction.
+pub fn close_plan<S: Alter>(
+    connection: &mut Connection<S>,
+    operator: &str,
+    id: &str,
+    priority: u32,
+    aircraft: u32,
+) -> Result<(), Error>
+    requires ready { IsReady S.Store connection.old }
+    requires settled { connection.old.in_transaction ≡ false }
+    ensures done { HasCleanDisk (state S.Store connection.new)
+        → OnOk result (Commits S.Store connection.old connection.new
+        (ClosesPlan operator.now id.now priority aircraft)) }
+    ensures kept { OnErr result (IsKept S.Store connection.old connection.new) }
+    ensures mode { connection.new.in_transaction ≡ false }
+    ensures doubt { doubt (state S.Store connection.old).is_clean ≤ doubt
+        (state S.Store connection.new).is_clean }
+    ensures faults { (state S.Store connection.old).faults ≤ (state S.Store connection.new).faults }
+{
+    let _settled = connection.is_autocommit();
+    let mut tx = connection.transaction();
+    set_closed(&mut tx, operator, id, priority, aircraft)?;
+    remove_spans(&mut tx, operator, id)?;
+    tx.commit()
+}

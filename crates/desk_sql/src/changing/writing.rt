@@ -1,0 +1,179 @@
+ghost use Rattle.std.specs.Prelude.{◌≡◌, ◌≤◌, OnOk, OnErr};
+ghost use Rattle.sqlite.specs.View.{doubt};
+ghost use Rattle.sqlite.specs.State.{HasCleanDisk, KeepsCommit};
+ghost use Rattle.sqlite.specs.Held.{state};
+ghost use Rattle.desk_sql.specs.Rows.{operator_row, plan_row, volume_row, span_row, AddsOperator, AddsPlan, AddsVolume, AddsSpan};
+ghost use Rattle.desk_sql.specs.Effects.{IsReady, Makes};
+
+use crate::changing::run::run;
+use sqlite::{Alter, Error, Transaction, params};
+
+/// A row of `plan`.
+#[derive(Clone, Copy, Debug)]
+pub struct PlanRecord<'a> {
+    pub operator: &'a str,
+    pub id: &'a str,
+    pub priority: u32,
+    pub usage: u32,
+    pub aircraft: u32,
+}
+
+/// A row of `volume`: altitudes in decimetres above the WGS84 ellipsoid, moments in seconds since 1970.
+#[derive(Clone, Copy, Debug)]
+pub struct VolumeRecord<'a> {
+    pub operator: &'a str,
+    pub id: &'a str,
+    pub place: u32,
+    pub lower: i64,
+    pub upper: i64,
+    pub start: i64,
+    pub stop: i64,
+    pub asked: &'a [u8],
+}
+
+/// A row of `span`: leaf positions, altitudes in decimetres above the WGS84 ellipsoid, moments in
+/// seconds since 1970.
+#[derive(Clone, Copy, Debug)]
+pub struct SpanRecord<'a> {
+    pub operator: &'a str,
+    pub id: &'a str,
+    pub place: u32,
+    pub first: i64,
+    pub last: i64,
+    pub lower: i64,
+    pub upper: i64,
+    pub start: i64,
+    pub stop: i64,
+    pub priority: u32,
+}
+
+/// Adds a row to `operator`.
+pub fn insert_operator<S: Alter>(
+    tx: &mut Transaction<'_, S>,
+    name: &str,
+    ceiling: u32,
+) -> Result<(), Error>
+    requires ready { IsReady S.Store tx.old.conn.now }
+    ensures same_reference { tx.new.conn.ghost_name ≡ tx.old.conn.ghost_name }
+    ensures done { HasCleanDisk (state S.Store tx.new.conn.now)
+        → OnOk result (Makes S.Store tx.old.conn.now tx.new.conn.now (AddsOperator
+        (operator_row name.now ceiling))) }
+    ensures undone { HasCleanDisk (state S.Store tx.new.conn.now)
+        → OnErr result (KeepsCommit (state S.Store tx.old.conn.now)
+        (state S.Store tx.new.conn.now)) }
+    ensures doubt { doubt (state S.Store tx.old.conn.now).is_clean ≤ doubt
+        (state S.Store tx.new.conn.now).is_clean }
+    ensures faults { (state S.Store tx.old.conn.now).faults ≤
+        (state S.Store tx.new.conn.now).faults }
+{
+    run(
+        tx,
+        "INSERT INTO operator (name, ceiling) VALUES (?1, ?2)",
+        params![name, ceiling],
+    )?;
+    Ok(())
+}
+
+/// Adds a row to `plan`.
+pub fn insert_plan<S: Alter>(
+    tx: &mut Transaction<'_, S>,
+    operator: &str,
+    id: &str,
+    priority: u32,
+    usage: u32,
+    aircraft: u32,
+) -> Result<(), Error>
+    requires ready { IsReady S.Store tx.old.conn.now }
+    ensures same_reference { tx.new.conn.ghost_name ≡ tx.old.conn.ghost_name }
+    ensures done { HasCleanDisk (state S.Store tx.new.conn.now)
+        → OnOk result (Makes S.Store tx.old.conn.now tx.new.conn.now (AddsPlan
+        (plan_row operator.now id.now priority usage aircraft))) }
+    ensures undone { HasCleanDisk (state S.Store tx.new.conn.now)
+        → OnErr result (KeepsCommit (state S.Store tx.old.conn.now)
+        (state S.Store tx.new.conn.now)) }
+    ensures doubt { doubt (state S.Store tx.old.conn.now).is_clean ≤ doubt
+        (state S.Store tx.new.conn.now).is_clean }
+    ensures faults { (state S.Store tx.old.conn.now).faults ≤
+        (state S.Store tx.new.conn.now).faults }
+{
+    run(
+        tx,
+        "INSERT INTO plan (operator, id, priority, usage, aircraft) VALUES (?1, ?2, ?3, ?4, ?5)",
+        params![operator, id, priority, usage, aircraft],
+    )?;
+    Ok(())
+}
+
+/// Adds a row to `volume`.
+pub fn insert_volume<S: Alter>(
+    tx: &mut Transaction<'_, S>,
+    row: VolumeRecord<'_>,
+) -> Result<(), Error>
+    requires ready { IsReady S.Store tx.old.conn.now }
+    ensures same_reference { tx.new.conn.ghost_name ≡ tx.old.conn.ghost_name }
+    ensures done { HasCleanDisk (state S.Store tx.new.conn.now)
+        → OnOk result (Makes S.Store tx.old.conn.now tx.new.conn.now (AddsVolume
+        (volume_row row.entry.operator.now row.entry.id.now row.entry.place row.entry.lower
+        row.entry.upper row.entry.start row.entry.stop row.entry.asked.now))) }
+    ensures undone { HasCleanDisk (state S.Store tx.new.conn.now)
+        → OnErr result (KeepsCommit (state S.Store tx.old.conn.now)
+        (state S.Store tx.new.conn.now)) }
+    ensures doubt { doubt (state S.Store tx.old.conn.now).is_clean ≤ doubt
+        (state S.Store tx.new.conn.now).is_clean }
+    ensures faults { (state S.Store tx.old.conn.now).faults ≤
+        (state S.Store tx.new.conn.now).faults }
+{
+    run(
+        tx,
+        "INSERT INTO volume (operator, id, place, lower, upper, start, stop, asked) \
+        VALUES (?1, ?2, ?3, ?4, ?5, ?6, ?7, ?8)",
+        params![
+            row.operator,
+            row.id,
+            row.place,
+            row.lower,
+            row.upper,
+            row.start,
+            row.stop,
+            row.asked
+        ],
+    )?;
+    Ok(())
+}
+
+/// Adds a row to `span`.
+pub fn insert_span<S: Alter>(tx: &mut Transaction<'_, S>, row: SpanRecord<'_>) -> Result<(), Error>
+    requires ready { IsReady S.Store tx.old.conn.now }
+    ensures same_reference { tx.new.conn.ghost_name ≡ tx.old.conn.ghost_name }
+    ensures done { HasCleanDisk (state S.Store tx.new.conn.now)
+        → OnOk result (Makes S.Store tx.old.conn.now tx.new.conn.now (AddsSpan
+        (span_row row.entry.operator.now row.entry.id.now row.entry.place row.entry.first
+        row.entry.last row.entry.lower row.entry.upper row.entry.start row.entry.stop
+        row.entry.priority))) }
+    ensures undone { HasCleanDisk (state S.Store tx.new.conn.now)
+        → OnErr result (KeepsCommit (state S.Store tx.old.conn.now)
+        (state S.Store tx.new.conn.now)) }
+    ensures doubt { doubt (state S.Store tx.old.conn.now).is_clean ≤ doubt
+        (state S.Store tx.new.conn.now).is_clean }
+    ensures faults { (state S.Store tx.old.conn.now).faults ≤
+        (state S.Store tx.new.conn.now).faults }
+{
+    run(
+        tx,
+        "INSERT INTO span (operator, id, place, first, last, lower, upper, start, stop, priority) \
+        VALUES (?1, ?2, ?3, ?4, ?5, ?6, ?7, ?8, ?9, ?10)",
+        params![
+            row.operator,
+            row.id,
+            row.place,
+            row.first,
+            row.last,
+            row.lower,
+            row.upper,
+            row.start,
+            row.stop,
+            row.priority
+        ],
+    )?;
+    Ok(())
+}

@@ -1,0 +1,60 @@
+//! What tables a database has.
+
+ghost use Rattle.std.specs.Prelude.{◌≡◌, ◌≤◌, false, IsTrue, IfOk, IfErr};
+ghost use Rattle.sqlite.specs.View.{doubt};
+ghost use Rattle.sqlite.specs.State.{HasCleanDisk};
+ghost use Rattle.sqlite.specs.Held.{state};
+ghost use Rattle.desk_sql.specs.Schema.{blank_schema};
+ghost use Rattle.desk_sql.specs.Making.{IsAt};
+ghost use Rattle.desk_sql.specs.Effects.{IsReady, IsKept};
+ghost use Rattle.desk_sql.specs.Refusals.{IsUnread};
+ghost use Rattle.desk_sql.specs.Finding.{Holds, HasOthers};
+
+use crate::opening::matching::{is_blank_schema, is_desk_schema};
+use crate::opening::numbers::test_tables;
+use sqlite::{Alter, Connection, Error};
+
+/// What tables a database has.
+#[derive(Clone, Copy, Debug, PartialEq, Eq)]
+pub enum Found {
+    /// No table, index or view.
+    Blank,
+    /// Those that `make_tables` makes, and nothing else.
+    Desk,
+    /// Others.
+    Other,
+}
+
+/// What tables the database has. It changes nothing.
+///
+/// # Errors
+///
+/// What a query may fail with. Also `DatabaseCorrupt` if the tables are a desk's, and a rowid in them is no
+/// whole number or comes twice, which no sound database shows: that is no want of memory, and never told as
+/// `Other`.
+pub fn find_tables<S: Alter>(connection: &mut Connection<S>) -> Result<Found, Error>
+    requires settled { connection.old.in_transaction ≡ false }
+    ensures blank { IfOk result (λ found. found ≡ Found.Blank
+        → IsAt S.Store blank_schema connection.new) }
+    ensures desk { IfOk result (λ found. found ≡ Found.Desk → IsReady S.Store connection.new) }
+    ensures other { IfOk result (λ found. found ≡ Found.Other
+        → Holds S.Store connection.new HasOthers) }
+    ensures cause { HasCleanDisk (state S.Store connection.new)
+        → IsTrue (state S.Store connection.new).is_open
+        → IfErr result (IsUnread S.Store connection.old connection.new) }
+    ensures kept { IsKept S.Store connection.old connection.new }
+    ensures mode { connection.new.in_transaction ≡ false }
+    ensures limit { connection.new.step_limit ≡ connection.old.step_limit }
+    ensures doubt { doubt (state S.Store connection.old).is_clean ≤ doubt
+        (state S.Store connection.new).is_clean }
+    ensures faults { (state S.Store connection.old).faults ≤ (state S.Store connection.new).faults }
+{
+    if is_blank_schema(connection.schema()) {
+        return Ok(Found::Blank);
+    }
+    if !is_desk_schema(connection.schema()) {
+        return Ok(Found::Other);
+    }
+    test_tables(connection)?;
+    Ok(Found::Desk)
+}

@@ -1,0 +1,124 @@
+ghost use Rattle.std.specs.Prelude.{◌≡◌, ◌≤◌, false, IsTrue, OnOk, OnErr};
+ghost use Rattle.sqlite.specs.View.{doubt};
+ghost use Rattle.sqlite.specs.State.{HasCleanDisk, KeepsCommit};
+ghost use Rattle.sqlite.specs.Held.{state};
+ghost use Rattle.desk_sql.specs.Schema.{blank_schema, desk_schema};
+ghost use Rattle.desk_sql.specs.Making.{first_schema, second_schema, third_schema, IsAt, Grows, AreEmpty};
+ghost use Rattle.desk_sql.specs.Effects.{IsKept, Commits};
+
+use crate::changing::run::run;
+use sqlite::{Alter, Connection, Error, Transaction};
+
+fn make_operator<S: Alter>(tx: &mut Transaction<'_, S>) -> Result<(), Error>
+    requires at { IsAt S.Store blank_schema tx.old.conn.now }
+    ensures same_reference { tx.new.conn.ghost_name ≡ tx.old.conn.ghost_name }
+    ensures done { HasCleanDisk (state S.Store tx.new.conn.now)
+        → OnOk result (Grows S.Store tx.old.conn.now tx.new.conn.now first_schema) }
+    ensures undone { HasCleanDisk (state S.Store tx.new.conn.now)
+        → OnErr result (KeepsCommit (state S.Store tx.old.conn.now)
+        (state S.Store tx.new.conn.now)) }
+    ensures doubt { doubt (state S.Store tx.old.conn.now).is_clean ≤ doubt
+        (state S.Store tx.new.conn.now).is_clean }
+    ensures faults { (state S.Store tx.old.conn.now).faults ≤
+        (state S.Store tx.new.conn.now).faults }
+{
+    run(
+        tx,
+        "CREATE TABLE operator (name TEXT NOT NULL, ceiling INTEGER NOT NULL, PRIMARY KEY (name)) STRICT",
+        &[],
+    )?;
+    Ok(())
+}
+
+fn make_plan<S: Alter>(tx: &mut Transaction<'_, S>) -> Result<(), Error>
+    requires at { IsAt S.Store first_schema tx.old.conn.now }
+    ensures same_reference { tx.new.conn.ghost_name ≡ tx.old.conn.ghost_name }
+    ensures done { HasCleanDisk (state S.Store tx.new.conn.now)
+        → OnOk result (Grows S.Store tx.old.conn.now tx.new.conn.now second_schema) }
+    ensures undone { HasCleanDisk (state S.Store tx.new.conn.now)
+        → OnErr result (KeepsCommit (state S.Store tx.old.conn.now)
+        (state S.Store tx.new.conn.now)) }
+    ensures doubt { doubt (state S.Store tx.old.conn.now).is_clean ≤ doubt
+        (state S.Store tx.new.conn.now).is_clean }
+    ensures faults { (state S.Store tx.old.conn.now).faults ≤
+        (state S.Store tx.new.conn.now).faults }
+{
+    run(
+        tx,
+        "CREATE TABLE plan (operator TEXT NOT NULL, id TEXT NOT NULL, priority INTEGER NOT NULL, \
+        usage INTEGER NOT NULL, aircraft INTEGER NOT NULL, PRIMARY KEY (operator, id), \
+        FOREIGN KEY (operator) REFERENCES operator (name)) STRICT",
+        &[],
+    )?;
+    Ok(())
+}
+
+fn make_volume<S: Alter>(tx: &mut Transaction<'_, S>) -> Result<(), Error>
+    requires at { IsAt S.Store second_schema tx.old.conn.now }
+    ensures same_reference { tx.new.conn.ghost_name ≡ tx.old.conn.ghost_name }
+    ensures done { HasCleanDisk (state S.Store tx.new.conn.now)
+        → OnOk result (Grows S.Store tx.old.conn.now tx.new.conn.now third_schema) }
+    ensures undone { HasCleanDisk (state S.Store tx.new.conn.now)
+        → OnErr result (KeepsCommit (state S.Store tx.old.conn.now)
+        (state S.Store tx.new.conn.now)) }
+    ensures doubt { doubt (state S.Store tx.old.conn.now).is_clean ≤ doubt
+        (state S.Store tx.new.conn.now).is_clean }
+    ensures faults { (state S.Store tx.old.conn.now).faults ≤
+        (state S.Store tx.new.conn.now).faults }
+{
+    run(
+        tx,
+        "CREATE TABLE volume (operator TEXT NOT NULL, id TEXT NOT NULL, place INTEGER NOT NULL, \
+        lower INTEGER NOT NULL, upper INTEGER NOT NULL, start INTEGER NOT NULL, \
+        stop INTEGER NOT NULL, asked BLOB NOT NULL, PRIMARY KEY (operator, id, place), \
+        FOREIGN KEY (operator, id) REFERENCES plan (operator, id) ON DELETE CASCADE) STRICT",
+        &[],
+    )?;
+    Ok(())
+}
+
+fn make_span<S: Alter>(tx: &mut Transaction<'_, S>) -> Result<(), Error>
+    requires at { IsAt S.Store third_schema tx.old.conn.now }
+    ensures same_reference { tx.new.conn.ghost_name ≡ tx.old.conn.ghost_name }
+    ensures done { HasCleanDisk (state S.Store tx.new.conn.now)
+        → OnOk result (Grows S.Store tx.old.conn.now tx.new.conn.now desk_schema) }
+    ensures undone { HasCleanDisk (state S.Store tx.new.conn.now)
+        → OnErr result (KeepsCommit (state S.Store tx.old.conn.now)
+        (state S.Store tx.new.conn.now)) }
+    ensures doubt { doubt (state S.Store tx.old.conn.now).is_clean ≤ doubt
+        (state S.Store tx.new.conn.now).is_clean }
+    ensures faults { (state S.Store tx.old.conn.now).faults ≤
+        (state S.Store tx.new.conn.now).faults }
+{
+    run(
+        tx,
+        "CREATE TABLE span (operator TEXT NOT NULL, id TEXT NOT NULL, place INTEGER NOT NULL, \
+        first INTEGER NOT NULL, last INTEGER NOT NULL, lower INTEGER NOT NULL, \
+        upper INTEGER NOT NULL, start INTEGER NOT NULL, stop INTEGER NOT NULL, \
+        priority INTEGER NOT NULL, PRIMARY KEY (operator, id, place, first), \
+        FOREIGN KEY (operator, id) REFERENCES plan (operator, id) ON DELETE CASCADE) STRICT",
+        &[],
+    )?;
+    Ok(())
+}
+
+/// Makes the four tables of a desk in a database that has no table, as one transaction.
+pub fn make_tables<S: Alter>(connection: &mut Connection<S>) -> Result<(), Error>
+    requires blank { IsAt S.Store blank_schema connection.old }
+    requires settled { connection.old.in_transaction ≡ false }
+    ensures done { HasCleanDisk (state S.Store connection.new)
+        → OnOk result (Commits S.Store connection.old connection.new AreEmpty) }
+    ensures kept { OnErr result (IsKept S.Store connection.old connection.new) }
+    ensures mode { connection.new.in_transaction ≡ false }
+    ensures doubt { doubt (state S.Store connection.old).is_clean ≤ doubt
+        (state S.Store connection.new).is_clean }
+    ensures faults { (state S.Store connection.old).faults ≤ (state S.Store connection.new).faults }
+{
+    let _settled = connection.is_autocommit();
+    let mut tx = connection.transaction();
+    make_operator(&mut tx)?;
+    make_plan(&mut tx)?;
+    make_volume(&mut tx)?;
+    make_span(&mut tx)?;
+    tx.commit()
+}

@@ -1,0 +1,51 @@
+ghost use Rattle.std.specs.Prelude.{◌≡◌, ◌≤◌, ◌<◌, ◌^◌, [], ◌∷◌, pos, filter, length};
+ghost use Rattle.std.specs.Prelude.{false, IfOk, OnOk, IsTrue};
+ghost use Rattle.sqlite.specs.declared.types.Value.{Value};
+ghost use Rattle.sqlite.specs.declared.types.Value.TheVariants.{Int};
+ghost use Rattle.sqlite.specs.View.{doubt};
+ghost use Rattle.sqlite.specs.State.{HasCleanDisk};
+ghost use Rattle.sqlite.specs.Held.{state};
+ghost use Rattle.desk_sql.specs.Rows.{is_by, tables_of};
+ghost use Rattle.desk_sql.specs.Effects.{IsReady, IsKept};
+
+use crate::reading::answer::answer;
+use sqlite::{Alter, Connection, Error, Row, params};
+
+// The number that is the only column of the only row.
+fn count_in(rows: &[Row]) -> Result<u32, Error>
+    ensures value { IfOk result (λ count.
+        (n : Value) → rows.now ≡ (n ∷ []) ∷ [] → n ≡ Int (pos count)) }
+    ensures small { IfOk result (λ count. count < 2 ^ 32) }
+{
+    match rows.first() {
+        Some(row) => row.get(0),
+        None => Err(Error::QueryReturnedNoRows),
+    }
+}
+
+/// How many plans an operator has.
+///
+/// # Errors
+///
+/// What a query may fail with. Also `IntegralValueOutOfRange` if they are 2 ^ 32 or more.
+pub fn own_count<S: Alter>(connection: &mut Connection<S>, operator: &str) -> Result<u32, Error>
+    requires ready { IsReady S.Store connection.old }
+    requires settled { connection.old.in_transaction ≡ false }
+    ensures value { HasCleanDisk (state S.Store connection.new)
+        → IfOk result (λ count. count ≡ length (filter (is_by operator.now) (tables_of
+        (state S.Store connection.old).now.trees).plans)) }
+    ensures open { HasCleanDisk (state S.Store connection.new)
+        → OnOk result (IsTrue (state S.Store connection.old).is_open) }
+    ensures kept { IsKept S.Store connection.old connection.new }
+    ensures mode { connection.new.in_transaction ≡ false }
+    ensures doubt { doubt (state S.Store connection.old).is_clean ≤ doubt
+        (state S.Store connection.new).is_clean }
+    ensures faults { (state S.Store connection.old).faults ≤ (state S.Store connection.new).faults }
+{
+    let rows = answer(
+        connection,
+        "SELECT COUNT(*) FROM plan WHERE operator = ?1",
+        params![operator],
+    )?;
+    count_in(&rows)
+}

@@ -1,0 +1,83 @@
+//! The spans that may stand in the way of a plan.
+
+ghost use Rattle.std.specs.Prelude.{◌≡◌, ◌≤◌, List, [], false, OnOk, IsTrue, filter, map, IsPermutation};
+ghost use Rattle.sqlite.specs.Order.{Row as Values};
+ghost use Rattle.sqlite.specs.View.{doubt};
+ghost use Rattle.sqlite.specs.State.{HasCleanDisk};
+ghost use Rattle.sqlite.specs.Held.{state};
+ghost use Rattle.desk_sql.specs.Rows.{is_rival, held_columns, tables_of};
+ghost use Rattle.desk_sql.specs.Effects.{IsReady, IsKept};
+ghost use Rattle.desk_sql.specs.Rivals.{SelectsRivals};
+
+use crate::reading::taking::{TakeRow, hand_over};
+use sqlite::{Alter, Connection, Error, params};
+
+/// What spans are asked for: those that share a leaf position of `first..=last`, an altitude of
+/// `lower..upper` (decimetres above the WGS84 ellipsoid) and a moment of `start..stop` (seconds since
+/// 1970), of a priority at least.
+#[derive(Clone, Copy, Debug)]
+pub struct Reach {
+    pub first: i64,
+    pub last: i64,
+    pub lower: i64,
+    pub upper: i64,
+    pub start: i64,
+    pub stop: i64,
+    pub priority: u32,
+}
+
+// The query of the spans that are reached, but for those of one plan.
+#[tactic(auto, using(crate::proofs::StatementLemmas::rival_spans_selected))]
+fn rival_spans_text() -> &'static str
+    ensures { SelectsRivals result.now }
+{
+    "SELECT first, last, lower, upper, start, stop, priority FROM span \
+     WHERE first <= ?1 AND last >= ?2 AND lower < ?3 AND upper > ?4 AND start < ?5 AND stop > ?6 \
+     AND priority >= ?7 AND (operator <> ?8 OR id <> ?9)"
+}
+
+/// Hands over, one at a time and in no order, the columns of `span` from `first` on of each span that is
+/// reached, but for those of the plan of this operator with this id.
+///
+/// # Errors
+///
+/// What a query or the taker may fail with. Nothing is said of what the taker has taken then.
+pub fn rival_spans<S: Alter, T: TakeRow>(
+    connection: &mut Connection<S>,
+    operator: &str,
+    id: &str,
+    reach: Reach,
+    taker: &mut T,
+) -> Result<(), Error>
+    requires ready { IsReady S.Store connection.old }
+    requires settled { connection.old.in_transaction ≡ false }
+    requires fresh { T.has_taken taker.old [] }
+    ensures value { HasCleanDisk (state S.Store connection.new)
+        → OnOk result ((rows : List Values) × IsPermutation
+        (map held_columns (filter (is_rival operator.now id.now reach)
+        (tables_of (state S.Store connection.old).now.trees).spans)) rows × T.has_taken taker.new rows) }
+    ensures open { HasCleanDisk (state S.Store connection.new)
+        → OnOk result (IsTrue (state S.Store connection.old).is_open) }
+    ensures kept { IsKept S.Store connection.old connection.new }
+    ensures mode { connection.new.in_transaction ≡ false }
+    ensures doubt { doubt (state S.Store connection.old).is_clean ≤ doubt
+        (state S.Store connection.new).is_clean }
+    ensures faults { (state S.Store connection.old).faults ≤ (state S.Store connection.new).faults }
+{
+    hand_over(
+        connection,
+        rival_spans_text(),
+        params![
+            reach.last,
+            reach.first,
+            reach.upper,
+            reach.lower,
+            reach.stop,
+            reach.start,
+            reach.priority,
+            operator,
+            id
+        ],
+        taker,
+    )
+}

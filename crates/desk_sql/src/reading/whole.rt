@@ -1,0 +1,115 @@
+//! The rows of whole tables, as an opening reads them.
+
+ghost use Rattle.std.specs.Prelude.{◌≡◌, ◌≤◌, [], ◌∷◌, false, IfOk, IfErr, OnOk, IsTrue};
+ghost use Rattle.sqlite.specs.View.{doubt};
+ghost use Rattle.sqlite.specs.State.{HasCleanDisk};
+ghost use Rattle.sqlite.specs.Held.{state};
+ghost use Rattle.desk_sql.specs.Rows.{tables_of, Lists};
+ghost use Rattle.desk_sql.specs.Effects.{IsReady, IsKept};
+ghost use Rattle.desk_sql.specs.Refusals.{IsRefusal};
+
+use crate::reading::asking::ask;
+use sqlite::{Alter, Connection, Error, Row};
+
+/// The rows `name`, `ceiling` of all operators, by name.
+pub fn all_operators<S: Alter>(connection: &mut Connection<S>) -> Result<Vec<Row>, Error>
+    requires ready { IsReady S.Store connection.old }
+    requires settled { connection.old.in_transaction ≡ false }
+    ensures value { HasCleanDisk (state S.Store connection.new)
+        → IfOk result (λ rows. Lists (0 ∷ []) ((tables_of
+        (state S.Store connection.old).now.trees).operators) rows.items) }
+    ensures open { HasCleanDisk (state S.Store connection.new)
+        → OnOk result (IsTrue (state S.Store connection.old).is_open) }
+    ensures cause { HasCleanDisk (state S.Store connection.new)
+        → IsTrue (state S.Store connection.new).is_open
+        → IfErr result (IsRefusal S.Store connection.old connection.new) }
+    ensures kept { IsKept S.Store connection.old connection.new }
+    ensures mode { connection.new.in_transaction ≡ false }
+    ensures limit { connection.new.step_limit ≡ connection.old.step_limit }
+    ensures doubt { doubt (state S.Store connection.old).is_clean ≤ doubt
+        (state S.Store connection.new).is_clean }
+    ensures faults { (state S.Store connection.old).faults ≤ (state S.Store connection.new).faults }
+{
+    ask(
+        connection,
+        "SELECT name, ceiling FROM operator ORDER BY name",
+    )
+}
+
+/// The rows `operator`, `id`, `priority`, `usage`, `aircraft` of all plans, by operator and id.
+pub fn all_plans<S: Alter>(connection: &mut Connection<S>) -> Result<Vec<Row>, Error>
+    requires ready { IsReady S.Store connection.old }
+    requires settled { connection.old.in_transaction ≡ false }
+    ensures value { HasCleanDisk (state S.Store connection.new)
+        → IfOk result (λ rows. Lists (0 ∷ 1 ∷ []) ((tables_of
+        (state S.Store connection.old).now.trees).plans) rows.items) }
+    ensures open { HasCleanDisk (state S.Store connection.new)
+        → OnOk result (IsTrue (state S.Store connection.old).is_open) }
+    ensures cause { HasCleanDisk (state S.Store connection.new)
+        → IsTrue (state S.Store connection.new).is_open
+        → IfErr result (IsRefusal S.Store connection.old connection.new) }
+    ensures kept { IsKept S.Store connection.old connection.new }
+    ensures mode { connection.new.in_transaction ≡ false }
+    ensures limit { connection.new.step_limit ≡ connection.old.step_limit }
+    ensures doubt { doubt (state S.Store connection.old).is_clean ≤ doubt
+        (state S.Store connection.new).is_clean }
+    ensures faults { (state S.Store connection.old).faults ≤ (state S.Store connection.new).faults }
+{
+    ask(
+        connection,
+        "SELECT operator, id, priority, usage, aircraft FROM plan ORDER BY operator, id",
+    )
+}
+
+/// The rows of all volumes, with the columns of `volumes_of`, by operator, id and place.
+pub fn all_volumes<S: Alter>(connection: &mut Connection<S>) -> Result<Vec<Row>, Error>
+    requires ready { IsReady S.Store connection.old }
+    requires settled { connection.old.in_transaction ≡ false }
+    ensures value { HasCleanDisk (state S.Store connection.new)
+        → IfOk result (λ rows. Lists (0 ∷ 1 ∷ 2 ∷ []) ((tables_of
+        (state S.Store connection.old).now.trees).volumes) rows.items) }
+    ensures open { HasCleanDisk (state S.Store connection.new)
+        → OnOk result (IsTrue (state S.Store connection.old).is_open) }
+    ensures cause { HasCleanDisk (state S.Store connection.new)
+        → IsTrue (state S.Store connection.new).is_open
+        → IfErr result (IsRefusal S.Store connection.old connection.new) }
+    ensures kept { IsKept S.Store connection.old connection.new }
+    ensures mode { connection.new.in_transaction ≡ false }
+    ensures limit { connection.new.step_limit ≡ connection.old.step_limit }
+    ensures doubt { doubt (state S.Store connection.old).is_clean ≤ doubt
+        (state S.Store connection.new).is_clean }
+    ensures faults { (state S.Store connection.old).faults ≤ (state S.Store connection.new).faults }
+{
+    ask(
+        connection,
+        "SELECT operator, id, place, lower, upper, start, stop, asked FROM volume \
+        ORDER BY operator, id, place",
+    )
+}
+
+/// The rows `operator`, `id`, `place`, `first`, `last`, `lower`, `upper`, `start`, `stop`, `priority`
+/// of all spans, by operator, id, place and first.
+pub fn all_spans<S: Alter>(connection: &mut Connection<S>) -> Result<Vec<Row>, Error>
+    requires ready { IsReady S.Store connection.old }
+    requires settled { connection.old.in_transaction ≡ false }
+    ensures value { HasCleanDisk (state S.Store connection.new)
+        → IfOk result (λ rows. Lists (0 ∷ 1 ∷ 2 ∷ 3 ∷ []) ((tables_of
+        (state S.Store connection.old).now.trees).spans) rows.items) }
+    ensures open { HasCleanDisk (state S.Store connection.new)
+        → OnOk result (IsTrue (state S.Store connection.old).is_open) }
+    ensures cause { HasCleanDisk (state S.Store connection.new)
+        → IsTrue (state S.Store connection.new).is_open
+        → IfErr result (IsRefusal S.Store connection.old connection.new) }
+    ensures kept { IsKept S.Store connection.old connection.new }
+    ensures mode { connection.new.in_transaction ≡ false }
+    ensures limit { connection.new.step_limit ≡ connection.old.step_limit }
+    ensures doubt { doubt (state S.Store connection.old).is_clean ≤ doubt
+        (state S.Store connection.new).is_clean }
+    ensures faults { (state S.Store connection.old).faults ≤ (state S.Store connection.new).faults }
+{
+    ask(
+        connection,
+        "SELECT operator, id, place, first, last, lower, upper, start, stop, priority FROM span \
+        ORDER BY operator, id, place, first",
+    )
+}

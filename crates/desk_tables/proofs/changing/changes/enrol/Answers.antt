@@ -1,0 +1,13 @@
+use Rattle.std.proofs.Common.{subst}
+use Rattle.desk_sql.specs.Rows.{PutsOperator}
+use Rattle.desk_sql.specs.Effects.{Commits}
+use Rattle.desk_tables.proofs.AfterLemmas.{stands_enrolled}
+use Rattle.desk_tables.proofs.changing.changes.enrol.Goals as goal
+
+pub returns-in-Ok-clause-ok : goal.returns-in-Ok-clause-ok
+returns-in-Ok-clause-ok g c =
+    stands_enrolled g.S.Store c.args.connection.now c.put_operator.new.connection c.args.kept.now.world
+    c.requires.stands c.in-Ok.ensures.mode c.in-Ok.ensures.doubt c.args.operator.now c.args.ceiling
+    (λ clean. subst (λ name. Commits g.S.Store c.args.connection.now c.put_operator.new.connection
+    (PutsOperator name c.args.ceiling)) c.as_str.ensures.value (c.in-Ok.ensures.done clean))
+    c.as_str.ensures.valid c.requires.low

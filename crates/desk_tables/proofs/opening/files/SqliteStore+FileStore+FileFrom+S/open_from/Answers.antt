@@ -1,0 +1,29 @@
+use Rattle.std.proofs.Common.{arith, inr}
+use Rattle.sqlite.specs.State.{HasCleanDisk}
+use Rattle.sqlite.specs.Files.{file_state}
+use Rattle.desk_tables.proofs.opening.files.SqliteStore+FileStore+FileFrom+S.open_from.Goals as goal
+
+pub returns-in-Ok-adopt-clause-begins : goal.returns-in-Ok-adopt-clause-begins
+returns-in-Ok-adopt-clause-begins g c =
+    let was : HasCleanDisk (file_state c.in-Ok-adopt.store.held)
+    → HasCleanDisk (file_state c.in-Ok.connection) =
+    λ clean. omega (arith, c.in-Ok-adopt.ensures.doubt, clean) in record {
+      found = c.in-Ok.connection;
+      opened = λ clean. (c.in-Ok.ensures.opened (was clean), c.in-Ok.ensures.found (was clean));
+      begins = c.in-Ok-adopt.ensures.begins;
+    }
+
+pub returns-in-Ok-clause-fault : goal.returns-in-Ok-clause-fault
+returns-in-Ok-clause-fault g c =
+    let was : HasCleanDisk (file_state c.in-Err-adopt.refused.connection)
+    → HasCleanDisk (file_state c.in-Ok.connection) =
+    λ clean. omega (arith, c.in-Err-adopt.ensures.doubt, clean) in
+    inr (record {
+      found = c.in-Ok.connection;
+      left = c.in-Err-adopt.refused.connection;
+      opened = λ clean. (c.in-Ok.ensures.opened (was clean), c.in-Ok.ensures.found (was clean));
+      fresh = c.in-Ok.ensures.fresh;
+      none = c.in-Err-adopt.ensures.none;
+      cause = c.in-Err-adopt.ensures.cause;
+      kept = c.in-Err-adopt.ensures.kept;
+    })

@@ -1,0 +1,48 @@
+use Rattle.std.proofs.Common.{[], ◌∷◌, ◌≤◌, length, sym, subst, arith}
+use Rattle.std.specs.List.{filter}
+use Rattle.sqlite.specs.Held.{state}
+use Rattle.desk_sql.specs.Rows as sql
+use Rattle.desk_sql.specs.Rows.{tables_of, with_volumes, Lists}
+use Rattle.desk_rules.specs.Limits.{max_plans}
+use Rattle.desk_store.specs.World.{AreInOrder, is_by}
+use Rattle.desk_store.specs.OrderLaws.{rows_sorted}
+use Rattle.desk_tables.specs.Gathering.{HasGathered}
+use Rattle.desk_tables.proofs.StoreLemmas.{weaker, on_whole}
+use Rattle.desk_tables.proofs.JoinedLemmas.{own_listing, own_plans_are}
+use Rattle.desk_tables.proofs.reading.readers.own_plans.Goals as goal
+
+pub returns-clause-value : goal.returns-clause-value
+returns-clause-value g c = λ clean.
+    on_whole _ c.own_plans-taken.result c.gathered.result c.gathered.ensures.whole
+    (c.own_plans-taken.ensures.open clean) (λ live. on_whole _ c.own_plans-taken.result c.gathered.result
+    c.gathered.ensures.whole (c.own_plans-taken.ensures.value clean) (λ handed.
+    (let standing = c.requires.standing (omega (arith, c.own_plans-taken.ensures.doubt, clean)) live in
+    let tables = tables_of (state g.S.Store c.args.connection.now).now.trees in
+    let (rows, by_name, taken) = handed in
+    let gather = c.own_plans-taken.new.taker in
+    let lists = subst (λ name. Lists (1 ∷ 5 ∷ []) (with_volumes (sql.is_by name) tables) rows)
+    c.as_str.ensures.value by_name in
+    let listing = own_listing tables c.args.kept.now.world c.args.operator.now rows standing.content
+    standing.tables lists in
+    weaker c.gathered.result
+    (λ plans read. read (filter (is_by c.args.operator.now) c.args.kept.now.world.plans)
+    (own_plans_are c.args.kept.now.world c.args.operator.now standing.content)
+    (subst (HasGathered gather.plans.items gather.head gather.volumes.items) listing taken))
+    c.gathered.ensures.value)))
+
+pub returns-clause-order : goal.returns-clause-order
+returns-clause-order g c = λ clean.
+    on_whole _ c.own_plans-taken.result c.gathered.result c.gathered.ensures.whole
+    (c.own_plans-taken.ensures.open clean) (λ live.
+    (let standing = c.requires.standing (omega (arith, c.own_plans-taken.ensures.doubt, clean)) live in
+    weaker c.gathered.result (λ plans are. subst AreInOrder (sym are)
+    (rows_sorted c.args.operator.now c.args.kept.now.world.plans standing.content.world.plans))
+    (returns-clause-value g c clean)))
+
+pub returns-clause-limit : goal.returns-clause-limit
+returns-clause-limit g c = λ clean.
+    on_whole _ c.own_plans-taken.result c.gathered.result c.gathered.ensures.whole
+    (c.own_plans-taken.ensures.open clean) (λ live.
+    (let standing = c.requires.standing (omega (arith, c.own_plans-taken.ensures.doubt, clean)) live in
+    weaker c.gathered.result (λ plans are. subst (λ rows. length rows ≤ max_plans) (sym are)
+    (standing.content.world.rows c.args.operator.now)) (returns-clause-value g c clean)))

@@ -1,0 +1,4 @@
+//! Changing: what a change makes of the rows.
+
+pub(crate) mod changes;
+pub(crate) mod records;

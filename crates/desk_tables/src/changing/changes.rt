@@ -1,0 +1,178 @@
+//! Changes of a store's tables.
+
+ghost use Rattle.std.specs.Prelude.{◌≡◌, ◌≤◌, pos, IfOk, OnOk, OnErr};
+ghost use Rattle.sqlite_value.specs.declared.value.Value.TheVariants.{Int};
+ghost use Rattle.sqlite_value.specs.Order.{column};
+ghost use Rattle.sqlite_trees.specs.View.{doubt};
+ghost use Rattle.sqlite.specs.State.{HasCleanDisk};
+ghost use Rattle.sqlite.specs.Held.{state};
+ghost use Rattle.desk_rules.specs.Limits.{max_priority};
+ghost use Rattle.desk_store.specs.StoreChange.{changed_by, IsFitting};
+ghost use Rattle.desk_store.specs.declared.change.Change.TheVariants as change;
+ghost use Rattle.desk_tables.specs.Store.{Stands};
+
+use crate::changing::records::{
+    aircraft_number, asked_of, span_rows, texts_of, usage_number, volume_rows,
+};
+use crate::kept::Kept;
+use crate::reading::readers::heads;
+use crate::reading::values::{count_at, fault_of};
+use desk_rules::operator::Operator;
+use desk_rules::plan::PlanRow;
+use desk_rules::plan_id::PlanId;
+use desk_sql::{PlanRecord, clear_plans, close_plan, put_operator, put_plan};
+use desk_store::{Change, StoreFault};
+use sqlite::{Connection, Row};
+use sqlite_trees::store::Alter;
+use std::alloc::Global;
+
+/// Makes a change that fits what the store keeps, as one transaction.
+///
+/// # Errors
+///
+/// `OutOfMemory` if memory runs out. `Store` if SQLite refuses the change for another cause, or if
+/// the rows are no plan's. The store then keeps what it kept.
+pub(crate) fn make<S: Alter>(
+    alloc: Global,
+    connection: &mut Connection<S>,
+    kept: &Kept,
+    change: &Change,
+) -> Result<(), StoreFault>
+    requires stands { Stands S.Store connection.old kept.now.world }
+    requires fits { HasCleanDisk (state S.Store connection.old)
+        → IsFitting change.now kept.now.world }
+    ensures ok { OnOk result (Stands S.Store connection.new (changed_by change.now kept.now.world)) }
+    ensures err { OnErr result (Stands S.Store connection.new kept.now.world) }
+    ensures doubt { doubt (state S.Store connection.old).is_clean
+        ≤ doubt (state S.Store connection.new).is_clean }
+{
+    match change {
+        Change::Enrol { operator, ceiling } => enrol(connection, kept, operator, *ceiling),
+        Change::Put { operator, row } => put(alloc, connection, kept, operator, row),
+        Change::Close { operator, id } => close(connection, kept, operator, id),
+        Change::Clear { operator, ids } => clear(alloc, connection, kept, operator, ids),
+    }
+}
+
+/// Lists an operator under a ceiling.
+///
+/// # Errors
+///
+/// `OutOfMemory` if memory runs out. `Store` if SQLite refuses the change for another cause.
+pub(crate) fn enrol<S: Alter>(
+    connection: &mut Connection<S>,
+    kept: &Kept,
+    operator: &Operator,
+    ceiling: u32,
+) -> Result<(), StoreFault>
+    requires stands { Stands S.Store connection.old kept.now.world }
+    requires low { HasCleanDisk (state S.Store connection.old) → ceiling ≤ max_priority }
+    ensures ok { OnOk result (Stands S.Store connection.new
+        (changed_by (change.Enrol operator.now ceiling) kept.now.world)) }
+    ensures err { OnErr result (Stands S.Store connection.new kept.now.world) }
+    ensures doubt { doubt (state S.Store connection.old).is_clean
+        ≤ doubt (state S.Store connection.new).is_clean }
+{
+    match put_operator(connection, operator.as_str(), ceiling) {
+        Ok(()) => Ok(()),
+        Err(e) => Err(fault_of(e)),
+    }
+}
+
+// Stores a plan's row for its id, with its volumes and, while it is live, their spans.
+fn put<S: Alter>(
+    alloc: Global,
+    connection: &mut Connection<S>,
+    kept: &Kept,
+    operator: &Operator,
+    row: &PlanRow,
+) -> Result<(), StoreFault>
+    requires stands { Stands S.Store connection.old kept.now.world }
+    requires fits { HasCleanDisk (state S.Store connection.old)
+        → IsFitting (change.Put operator.now row.now) kept.now.world }
+    ensures ok { OnOk result (Stands S.Store connection.new
+        (changed_by (change.Put operator.now row.now) kept.now.world)) }
+    ensures err { OnErr result (Stands S.Store connection.new kept.now.world) }
+    ensures doubt { doubt (state S.Store connection.old).is_clean
+        ≤ doubt (state S.Store connection.new).is_clean }
+{
+    let mut buffer = [0u8; 36];
+    let id = row.id.encode(&mut buffer);
+    let asked = asked_of(alloc, row.area.volumes())?;
+    let volumes = volume_rows(alloc, operator.as_str(), id, row, &asked)?;
+    let spans = span_rows(alloc, operator.as_str(), id, row)?;
+    let head = PlanRecord {
+        operator: operator.as_str(),
+        id,
+        priority: row.priority,
+        usage: usage_number(row.usage),
+        aircraft: aircraft_number(row.aircraft),
+    };
+    match put_plan(connection, head, &volumes, &spans) {
+        Ok(()) => Ok(()),
+        Err(e) => Err(fault_of(e)),
+    }
+}
+
+// Closes the operator's plan of the id: its spans go, and all else of it but the usage stays.
+fn close<S: Alter>(
+    connection: &mut Connection<S>,
+    kept: &Kept,
+    operator: &Operator,
+    id: &PlanId,
+) -> Result<(), StoreFault>
+    requires stands { Stands S.Store connection.old kept.now.world }
+    requires fits { HasCleanDisk (state S.Store connection.old)
+        → IsFitting (change.Close operator.now id.now) kept.now.world }
+    ensures ok { OnOk result (Stands S.Store connection.new
+        (changed_by (change.Close operator.now id.now) kept.now.world)) }
+    ensures err { OnErr result (Stands S.Store connection.new kept.now.world) }
+    ensures doubt { doubt (state S.Store connection.old).is_clean
+        ≤ doubt (state S.Store connection.new).is_clean }
+{
+    let heads = heads(connection, kept, operator, id)?;
+    let Some(head) = heads.first() else {
+        return Err(StoreFault::Store);
+    };
+    let (priority, aircraft) = numbers_in(head)?;
+    let mut buffer = [0u8; 36];
+    let text = id.encode(&mut buffer);
+    match close_plan(connection, operator.as_str(), text, priority, aircraft) {
+        Ok(()) => Ok(()),
+        Err(e) => Err(fault_of(e)),
+    }
+}
+
+// The priority in the row of a plan, and the number of the state of its aircraft.
+fn numbers_in(head: &Row) -> Result<(u32, u32), StoreFault>
+    ensures priority { IfOk result (λ found. column head.now 2 ≡ Int (pos found.0)) }
+    ensures aircraft { IfOk result (λ found. column head.now 4 ≡ Int (pos found.1)) }
+{
+    let priority = count_at(head, 2)?;
+    let aircraft = count_at(head, 4)?;
+    Ok((priority, aircraft))
+}
+
+// Takes the operator's plans of the ids out.
+fn clear<S: Alter>(
+    alloc: Global,
+    connection: &mut Connection<S>,
+    kept: &Kept,
+    operator: &Operator,
+    ids: &Vec<PlanId>,
+) -> Result<(), StoreFault>
+    requires stands { Stands S.Store connection.old kept.now.world }
+    requires fits { HasCleanDisk (state S.Store connection.old)
+        → IsFitting (change.Clear operator.now ids.now) kept.now.world }
+    ensures ok { OnOk result (Stands S.Store connection.new
+        (changed_by (change.Clear operator.now ids.now) kept.now.world)) }
+    ensures err { OnErr result (Stands S.Store connection.new kept.now.world) }
+    ensures doubt { doubt (state S.Store connection.old).is_clean
+        ≤ doubt (state S.Store connection.new).is_clean }
+{
+    let texts = texts_of(alloc, ids)?;
+    match clear_plans(connection, operator.as_str(), &texts) {
+        Ok(()) => Ok(()),
+        Err(e) => Err(fault_of(e)),
+    }
+}

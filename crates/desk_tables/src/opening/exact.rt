@@ -1,0 +1,327 @@
+//! Rows read exactly: what an operator's row and the rows of a plan stand for, or that they are no
+//! desk's.
+
+ghost use Rattle.std.specs.Prelude.{◌≡◌, ◌≢◌, ◌≤◌, ◌↔◌, ◌++◌, ℕ, List, map, pos, IsTrue, IfOk, IfErr};
+ghost use Rattle.std.specs.Prelude.{MatchOption};
+ghost use Rattle.std.specs.List.{AllZip};
+ghost use Rattle.sqlite_value.specs.declared.value.Value.TheVariants.{Int, Text};
+ghost use Rattle.sqlite_value.specs.Order.{Row as Columns, column};
+ghost use Rattle.volume4d.specs.Slab.{slab_window};
+ghost use Rattle.volume4d.specs.Volume.{Block};
+ghost use Rattle.desk_rules.specs.Name.{is_operator_name};
+ghost use Rattle.desk_store.specs.World.{Filed, Listed};
+ghost use Rattle.desk_tables.specs.Tables.{id_text, operator_row, volume_row, area_rows, ArePlanSpanRows};
+ghost use Rattle.desk_tables.specs.Reading.{IsVolumeAt};
+ghost use Rattle.desk_tables.specs.Records.{IsOperator, IsFiled, AreRowsOf, AreNumbersOf, IsKeyed};
+ghost use Rattle.desk_tables.specs.Records.{IsWindowAt, slab_row};
+
+use crate::reading::values::{area_in, count_at, plan_in};
+use desk_rules::decide::MAX_PRIORITY;
+use desk_rules::operator::Operator;
+use desk_rules::plan::PlanRow;
+use desk_rules::words::Usage;
+use desk_store::StoreFault;
+use s2_cover::laws::one_list_of_ranges;
+use sqlite::Row;
+use sqlite_value::value::ValueRef;
+use std::alloc::{AllocError, Global};
+use std::marker::Model;
+use volume4d::Slab;
+
+// How many columns a row of each table has.
+const OPERATOR_WIDTH: usize = 2;
+
+const PLAN_WIDTH: usize = 5;
+
+const VOLUME_WIDTH: usize = 8;
+
+const SPAN_WIDTH: usize = 10;
+
+/// Why rows are not read.
+#[derive(Clone, Copy, Debug, PartialEq, Eq)]
+pub(crate) enum RowFault {
+    /// A growth was refused.
+    OutOfMemory,
+    /// They are no desk's.
+    NoDesk,
+}
+
+impl From<StoreFault> for RowFault {
+    ghost use Rattle.std.specs.Prelude.{◌≡◌};
+    ghost use Rattle.desk_tables.specs.Records.{row_fault_of};
+
+    ghost from_gives = { λ fault e. e ≡ row_fault_of fault };
+
+    fn from(fault: StoreFault) -> RowFault {
+        match fault {
+            StoreFault::OutOfMemory => RowFault::OutOfMemory,
+            StoreFault::Store => RowFault::NoDesk,
+        }
+    }
+}
+
+/// An operator with its ceiling.
+#[derive(Clone, Copy, Debug)]
+pub(crate) struct ListedOperator {
+    pub operator: Operator,
+    pub ceiling: u32,
+}
+
+impl Model for ListedOperator {
+    ghost use Rattle.desk_store.specs.World.{Listed};
+
+    ghost Value = { Listed };
+
+    ghost view = { λ l. record { name = l.operator; ceiling = l.ceiling } };
+
+    ghost inverse = { λ l. record { operator = l.name; ceiling = l.ceiling } };
+}
+
+/// A plan with its operator.
+#[derive(Debug, Drop)]
+pub(crate) struct FiledPlan {
+    pub operator: Operator,
+    pub row: PlanRow,
+}
+
+impl Model for FiledPlan {
+    ghost use Rattle.desk_store.specs.World.{Filed};
+
+    ghost Value = { Filed };
+
+    ghost view = { λ p. record { operator = p.operator; row = p.row } };
+}
+
+/// The operator whose row in `operator` this is.
+///
+/// # Errors
+///
+/// `OutOfMemory` if memory runs out. `NoDesk` if it is the row of no operator within the limits.
+pub(crate) fn listed_in(row: &Row) -> Result<ListedOperator, RowFault>
+    ensures ok { IfOk result (λ l. IsOperator l × (row.now ≡ operator_row l)) }
+    ensures none { IfErr result (λ e. e ≡ RowFault.NoDesk →
+        (l : Listed) → IsOperator l → row.now ≢ operator_row l) }
+{
+    let Some(operator) = operator_in(row) else {
+        return Err(RowFault::NoDesk);
+    };
+    let ceiling = count_at(row, 1)?;
+    if ceiling > MAX_PRIORITY {
+        return Err(RowFault::NoDesk);
+    }
+    if row.column_count() != OPERATOR_WIDTH {
+        return Err(RowFault::NoDesk);
+    }
+    Ok(ListedOperator { operator, ceiling })
+}
+
+/// The plan whose row in `plan` the first is, and whose rows in `volume`, by place, the others are.
+///
+/// # Errors
+///
+/// `OutOfMemory` if memory runs out. `NoDesk` if they are the rows of no plan within the limits.
+pub(crate) fn filed_in(alloc: Global, head: &Row, volumes: &[Row]) -> Result<FiledPlan, RowFault>
+    ensures ok { IfOk result (λ p. IsFiled p × AreRowsOf p head.now volumes.now) }
+    ensures none { IfErr result (λ e. e ≡ RowFault.NoDesk →
+        (p : Filed) → IsFiled p → ¬ AreRowsOf p head.now volumes.now) }
+{
+    let Some(operator) = operator_in(head) else {
+        return Err(RowFault::NoDesk);
+    };
+    let area = area_in(alloc, volumes, 3)?;
+    let row = plan_in(head, area)?;
+    if row.priority > MAX_PRIORITY {
+        return Err(RowFault::NoDesk);
+    }
+    let plan = FiledPlan { operator, row };
+    if !has_rows(&plan, head, volumes) {
+        return Err(RowFault::NoDesk);
+    }
+    Ok(plan)
+}
+
+/// Whether rows, by place and first position, are those of a plan in `span`.
+///
+/// # Errors
+///
+/// `AllocError` if memory runs out.
+pub(crate) fn are_spans(plan: &FiledPlan, rows: &[Row]) -> Result<bool, AllocError>
+    ensures { IfOk result (λ are. IsTrue are ↔ ArePlanSpanRows plan.now rows.now) }
+{
+    if let Usage::Closed = plan.row.usage {
+        return Ok(rows.is_empty());
+    }
+    one_list_of_ranges();
+    let mut buffer = [0u8; 36];
+    let id = plan.row.id.encode(&mut buffer);
+    let mut rest = rows;
+    for (place, volume) in plan.row.area.volumes().iter().enumerate() {
+        let slabs = volume.slabs()?;
+        let Some(more) = after_slabs(plan, id, place, &slabs, rest) else {
+            return Ok(false);
+        };
+        rest = more;
+    }
+    Ok(rest.is_empty())
+}
+
+// The operator whose name stands in the first column, if it is one's.
+fn operator_in(row: &Row) -> Option<Operator>
+    ensures { MatchOption result
+        ((name : List ℕ) → IsTrue (is_operator_name name) → column row.now 0 ≢ Text name)
+        (λ name. IsTrue (is_operator_name name) × (column row.now 0 ≡ Text name)) }
+{
+    match row.get_ref(0) {
+        Ok(ValueRef::Text(name)) => Operator::try_new(name),
+        _ => None,
+    }
+}
+
+// Whether the rows are just those of a plan whose numbers and volumes stand in them.
+fn has_rows(plan: &FiledPlan, head: &Row, volumes: &[Row]) -> bool
+    requires numbers { AreNumbersOf head.now plan.now.row }
+    requires area { AllZip (λ row v. IsVolumeAt row 3 v) volumes.now plan.now.row.area }
+    ensures { IsTrue result ↔ AreRowsOf plan.now head.now volumes.now }
+{
+    let mut buffer = [0u8; 36];
+    let id = plan.row.id.encode(&mut buffer);
+    if !is_keyed(head, plan.operator.as_str(), id, PLAN_WIDTH) {
+        return false;
+    }
+    are_placed(plan, id, volumes)
+}
+
+// Whether rows in which a plan's volumes stand are just the plan's, at the places 0, 1 and so on.
+fn are_placed(plan: &FiledPlan, id: &str, rows: &[Row]) -> bool
+    requires id { id.now ≡ id_text plan.now.row.id }
+    requires area { AllZip (λ row v. IsVolumeAt row 3 v) rows.now plan.now.row.area }
+    ensures { IsTrue result ↔ (rows.now ≡ area_rows plan.now) }
+{
+    for (place, row) in rows.iter().enumerate() {
+        if !is_placed(plan, id, place, row) {
+            return false;
+        }
+    }
+    true
+}
+
+// Whether a row in which a volume stands is just a plan's, at a place.
+fn is_placed(plan: &FiledPlan, id: &str, place: usize, row: &Row) -> bool
+    requires id { id.now ≡ id_text plan.now.row.id }
+    ensures { (v : Block) → IsVolumeAt row.now 3 v →
+        IsTrue result ↔ (row.now ≡ volume_row plan.now place v) }
+{
+    if !is_keyed(row, plan.operator.as_str(), id, VOLUME_WIDTH) {
+        return false;
+    }
+    is_count_at(row, 2, place as u64)
+}
+
+// The rows after those of the slabs of the volume at a place, or none if they do not begin so.
+fn after_slabs<'r>(
+    plan: &FiledPlan,
+    id: &str,
+    place: usize,
+    slabs: &[Slab],
+    rows: &'r [Row],
+) -> Option<&'r [Row]>
+    requires id { id.now ≡ id_text plan.now.row.id }
+    ensures { MatchOption result
+        ((rest : List Columns) → rows.now ≢ map (slab_row plan.now place) slabs.now ++ rest)
+        (λ rest. rows.now ≡ map (slab_row plan.now place) slabs.now ++ rest.now) }
+{
+    let mut rest = rows;
+    for slab in slabs {
+        let Some((row, more)) = rest.split_first() else {
+            return None;
+        };
+        if !is_slab_row(plan, id, place, slab, row) {
+            return None;
+        }
+        rest = more;
+    }
+    Some(rest)
+}
+
+// Whether a row is that of a slab of the volume at a place.
+fn is_slab_row(plan: &FiledPlan, id: &str, place: usize, slab: &Slab, row: &Row) -> bool
+    requires id { id.now ≡ id_text plan.now.row.id }
+    ensures { IsTrue result ↔ (row.now ≡ slab_row plan.now place slab.now) }
+{
+    if !is_keyed(row, plan.operator.as_str(), id, SPAN_WIDTH) {
+        return false;
+    }
+    if !is_count_at(row, 2, place as u64) {
+        return false;
+    }
+    if !is_count_at(row, 3, slab.first) {
+        return false;
+    }
+    if !is_count_at(row, 4, slab.last) {
+        return false;
+    }
+    if !is_window_at(row, 5, slab) {
+        return false;
+    }
+    is_count_at(row, 9, u64::from(plan.row.priority))
+}
+
+// Whether a row of so many columns begins with an operator's name and the text of an id.
+fn is_keyed(row: &Row, operator: &str, id: &str, width: usize) -> bool
+    ensures { IsTrue result ↔ IsKeyed operator.now id.now width row.now }
+{
+    if row.column_count() != width {
+        return false;
+    }
+    if !is_text_at(row, 0, operator) {
+        return false;
+    }
+    is_text_at(row, 1, id)
+}
+
+// Whether the four columns from a place on are the altitudes and seconds of a slab.
+fn is_window_at(row: &Row, at: usize, slab: &Slab) -> bool
+    requires { at ≤ 5 }
+    ensures { IsTrue result ↔ IsWindowAt row.now at (slab_window slab.now) }
+{
+    if !is_number_at(row, at, i64::from(slab.lower)) {
+        return false;
+    }
+    if !is_number_at(row, at + 1, i64::from(slab.upper)) {
+        return false;
+    }
+    if !is_number_at(row, at + 2, slab.start) {
+        return false;
+    }
+    is_number_at(row, at + 3, slab.end)
+}
+
+// Whether a column is this text.
+fn is_text_at(row: &Row, at: usize, text: &str) -> bool
+    ensures { IsTrue result ↔ (column row.now at ≡ Text text.now) }
+{
+    match row.get_ref(at) {
+        Ok(ValueRef::Text(bytes)) => bytes == text.as_bytes(),
+        _ => false,
+    }
+}
+
+// Whether a column is this number.
+fn is_number_at(row: &Row, at: usize, number: i64) -> bool
+    ensures { IsTrue result ↔ (column row.now at ≡ Int number) }
+{
+    match row.get_ref(at) {
+        Ok(ValueRef::Int(n)) => n == number,
+        _ => false,
+    }
+}
+
+// Whether a column is this count.
+fn is_count_at(row: &Row, at: usize, count: u64) -> bool
+    ensures { IsTrue result ↔ (column row.now at ≡ Int (pos count)) }
+{
+    match row.get_ref(at) {
+        Ok(ValueRef::Int(n)) => u64::try_from(n) == Ok(count),
+        _ => false,
+    }
+}

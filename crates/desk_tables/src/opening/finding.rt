@@ -1,0 +1,129 @@
+//! The world that a database stands for when a store is opened over it.
+
+ghost use Rattle.std.specs.Prelude.{◌≡◌, ◌≢◌, ◌≤◌, [], false, IfOk, IfErr, OnOk, OnErr, IsTrue};
+ghost use Rattle.sqlite_trees.specs.View.{doubt};
+ghost use Rattle.sqlite.specs.State.{HasCleanDisk};
+ghost use Rattle.sqlite.specs.Held.{state};
+ghost use Rattle.desk_sql.specs.Schema.{blank_schema};
+ghost use Rattle.desk_sql.specs.Making.{IsAt};
+ghost use Rattle.desk_sql.specs.Rows.{tables_of};
+ghost use Rattle.desk_sql.specs.Effects.{IsKept, IsReady};
+ghost use Rattle.desk_tables.specs.Store.{Stands};
+ghost use Rattle.desk_store.specs.World.{World};
+ghost use Rattle.desk_tables.specs.Content.{IsContent};
+ghost use Rattle.desk_tables.specs.Opening.{AreSortedByKey, AreRows, IsContentOf, AreNoContent};
+ghost use Rattle.desk_tables.specs.Opening.{BeginsWith, ShowsNoDesk, BlamesReading, BlamesDatabase};
+
+use crate::kept::Kept;
+use crate::opening::content::{TableRows, content_in};
+use crate::opening::open::OpenFault;
+use desk_sql::{Found, all_operators, all_plans, all_spans, all_volumes, find_tables, make_tables};
+use sqlite::Connection;
+use sqlite_trees::store::Alter;
+use std::alloc::Global;
+
+/// The world that the database stands for: that of the rows in a desk's tables. A database with no
+/// table gets a desk's, and its world is empty.
+///
+/// # Errors
+///
+/// `OutOfMemory` if memory runs out. `Store` if SQLite refuses for another cause. `NotADesk` if there
+/// are other tables, or if the rows are those of no content.
+pub(crate) fn world_in<S: Alter>(
+    alloc: Global,
+    connection: &mut Connection<S>,
+) -> Result<Kept, OpenFault>
+    requires settled { connection.old.in_transaction ≡ false }
+    ensures begins { IfOk result (λ kept.
+        BeginsWith S.Store connection.old connection.new kept.world) }
+    ensures stands { IfOk result (λ kept. Stands S.Store connection.new kept.world) }
+    ensures none { IfErr result (λ e. e ≡ OpenFault.NotADesk →
+        ShowsNoDesk S.Store connection.old connection.new) }
+    ensures cause { IfErr result (BlamesDatabase S.Store connection.old connection.new) }
+    ensures kept { OnErr result (IsKept S.Store connection.old connection.new) }
+    ensures doubt { doubt (state S.Store connection.old).is_clean
+        ≤ doubt (state S.Store connection.new).is_clean }
+{
+    match find_tables(connection)? {
+        Found::Blank => made_in(connection),
+        Found::Desk => found_in(alloc, connection),
+        Found::Other => Err(OpenFault::NotADesk),
+    }
+}
+
+/// The empty world, over a database that gets a desk's tables and had none.
+pub(crate) fn made_in<S: Alter>(connection: &mut Connection<S>) -> Result<Kept, OpenFault>
+    requires blank { IsAt S.Store blank_schema connection.old }
+    requires settled { connection.old.in_transaction ≡ false }
+    ensures empty { IfOk result (λ kept. kept.world ≡ record { operators = []; plans = [] }) }
+    ensures stands { IfOk result (λ kept. Stands S.Store connection.new kept.world) }
+    ensures open { HasCleanDisk (state S.Store connection.new) →
+        OnOk result (IsTrue (state S.Store connection.old).is_open) }
+    ensures fault { IfErr result (λ e. e ≢ OpenFault.NotADesk) }
+    ensures kept { OnErr result (IsKept S.Store connection.old connection.new) }
+    ensures doubt { doubt (state S.Store connection.old).is_clean
+        ≤ doubt (state S.Store connection.new).is_clean }
+{
+    make_tables(connection)?;
+    Ok(Kept::new())
+}
+
+// The world whose rows the tables have.
+fn found_in<S: Alter>(alloc: Global, connection: &mut Connection<S>) -> Result<Kept, OpenFault>
+    requires ready { IsReady S.Store connection.old }
+    requires settled { connection.old.in_transaction ≡ false }
+    ensures value { HasCleanDisk (state S.Store connection.new) → IfOk result (λ kept.
+        IsContentOf (tables_of (state S.Store connection.old).now.trees) kept.world) }
+    ensures none { HasCleanDisk (state S.Store connection.new) → IfErr result (λ e.
+        e ≡ OpenFault.NotADesk →
+        AreNoContent (tables_of (state S.Store connection.old).now.trees)) }
+    ensures open { HasCleanDisk (state S.Store connection.new) →
+        OnOk result (IsTrue (state S.Store connection.old).is_open) }
+    ensures cause { IfErr result (BlamesReading S.Store connection.old connection.new) }
+    ensures kept { IsKept S.Store connection.old connection.new }
+    ensures mode { connection.new.in_transaction ≡ false }
+    ensures doubt { doubt (state S.Store connection.old).is_clean
+        ≤ doubt (state S.Store connection.new).is_clean }
+{
+    let rows = rows_in(connection)?;
+    kept_of(alloc, &rows)
+}
+
+// The world whose rows these are.
+fn kept_of(alloc: Global, rows: &TableRows) -> Result<Kept, OpenFault>
+    ensures value { IfOk result (λ kept. IsContent kept.world × AreRows rows.now kept.world) }
+    ensures none { IfErr result (λ e. e ≡ OpenFault.NotADesk →
+        (w : World) → IsContent w → ¬ AreRows rows.now w) }
+    ensures fault { IfErr result (λ e. e ≢ OpenFault.Store) }
+{
+    let content = content_in(alloc, rows)?;
+    Ok(Kept::of(&content))
+}
+
+// The rows of the four tables, each by the columns of its key.
+#[tactic(auto, using(crate::proofs::OpeningLemmas::kept_on, crate::proofs::OpeningLemmas::ready_on))]
+fn rows_in<S: Alter>(connection: &mut Connection<S>) -> Result<TableRows, OpenFault>
+    requires ready { IsReady S.Store connection.old }
+    requires settled { connection.old.in_transaction ≡ false }
+    ensures value { HasCleanDisk (state S.Store connection.new) →
+        IfOk result (AreSortedByKey (tables_of (state S.Store connection.old).now.trees)) }
+    ensures open { HasCleanDisk (state S.Store connection.new) →
+        OnOk result (IsTrue (state S.Store connection.old).is_open) }
+    ensures fault { IfErr result (λ e. e ≢ OpenFault.NotADesk) }
+    ensures cause { IfErr result (BlamesReading S.Store connection.old connection.new) }
+    ensures kept { IsKept S.Store connection.old connection.new }
+    ensures mode { connection.new.in_transaction ≡ false }
+    ensures doubt { doubt (state S.Store connection.old).is_clean
+        ≤ doubt (state S.Store connection.new).is_clean }
+{
+    let operators = all_operators(connection)?;
+    let plans = all_plans(connection)?;
+    let volumes = all_volumes(connection)?;
+    let spans = all_spans(connection)?;
+    Ok(TableRows {
+        operators,
+        plans,
+        volumes,
+        spans,
+    })
+}

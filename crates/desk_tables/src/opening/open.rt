@@ -1,0 +1,148 @@
+//! Stores of plans made over connections.
+
+ghost use Rattle.std.specs.Prelude.{◌≡◌, ◌≤◌, [], false, IfOk, IfErr, MatchResult};
+ghost use Rattle.sqlite_trees.specs.View.{doubt};
+ghost use Rattle.sqlite.specs.Held.{state};
+ghost use Rattle.desk_sql.specs.Schema.{blank_schema};
+ghost use Rattle.desk_sql.specs.Making.{IsAt};
+ghost use Rattle.desk_sql.specs.Effects.{IsKept};
+ghost use Rattle.desk_tables.specs.Opening.{BeginsWith, ShowsNoDesk, BlamesDatabase};
+
+use crate::opening::exact::RowFault;
+use crate::opening::finding::{made_in, world_in};
+use crate::store::SqliteStore;
+use sqlite::{Connection, ErrorCode, MemStore};
+use sqlite_trees::store::Alter;
+use std::alloc::Global;
+use std::error::Error;
+use std::fmt;
+
+/// Why a store over tables cannot be opened.
+#[derive(Clone, Copy, Debug, PartialEq, Eq)]
+pub enum OpenFault {
+    /// A growth was refused.
+    OutOfMemory,
+    /// SQLite refused the database or a statement for another cause.
+    Store,
+    /// There are other tables than a desk's, or their rows are those of no content.
+    NotADesk,
+}
+
+impl fmt::Display for OpenFault {
+    ghost use Rattle.std.specs.Prelude.{Some};
+    ghost use Rattle.desk_tables.specs.Opening.{fault_text};
+
+    ghost output = { λ fault. Some (fault_text fault) };
+
+    fn fmt<W: fmt::Write>(&self, f: &mut fmt::Formatter<W>) -> fmt::Result {
+        f.pad(match self {
+            OpenFault::OutOfMemory => "out of memory",
+            OpenFault::Store => "the database failed",
+            OpenFault::NotADesk => "the tables are not a desk's",
+        })
+    }
+}
+
+impl Error for OpenFault {}
+
+impl From<sqlite::Error> for OpenFault {
+    ghost use Rattle.std.specs.Prelude.{◌≡◌};
+    ghost use Rattle.desk_tables.specs.Opening.{open_fault_of};
+
+    ghost from_gives = { λ error fault. fault ≡ open_fault_of error };
+
+    fn from(error: sqlite::Error) -> OpenFault {
+        match error {
+            sqlite::Error::SqliteFailure(ErrorCode::OutOfMemory) => OpenFault::OutOfMemory,
+            _ => OpenFault::Store,
+        }
+    }
+}
+
+impl From<RowFault> for OpenFault {
+    ghost use Rattle.std.specs.Prelude.{◌≡◌};
+    ghost use Rattle.desk_tables.specs.Opening.{refusal_of};
+
+    ghost from_gives = { λ rows fault. fault ≡ refusal_of rows };
+
+    fn from(rows: RowFault) -> OpenFault {
+        match rows {
+            RowFault::OutOfMemory => OpenFault::OutOfMemory,
+            RowFault::NoDesk => OpenFault::NotADesk,
+        }
+    }
+}
+
+/// Why a connection was not adopted, with the connection.
+#[derive(Drop)]
+pub struct AdoptFault<S: Alter> {
+    /// What kept it from being a store's.
+    pub fault: OpenFault,
+    /// The connection, with the rows that it had.
+    pub connection: Connection<S>,
+}
+
+impl SqliteStore<MemStore> {
+    /// A store of no operators and no plans, in memory.
+    ///
+    /// # Errors
+    ///
+    /// `OutOfMemory` if memory runs out. `Store` if SQLite refuses the tables for another cause.
+    pub fn in_memory(alloc: Global) -> Result<SqliteStore<MemStore>, OpenFault>
+        ensures { IfOk result (λ store. store.world ≡ record { operators = []; plans = [] }) }
+    {
+        match Connection::open_in_memory(alloc) {
+            Ok(connection) => over_blank(alloc, connection),
+            Err(_) => Err(OpenFault::OutOfMemory),
+        }
+    }
+}
+
+impl<S: Alter> SqliteStore<S> {
+    /// The store over a connection. In a database with no table a desk's tables are made, and the
+    /// world is empty. A desk's tables stay as they are, and the world is the content whose rows they
+    /// have. That holds while the disk has returned what was written and no fault has shut the
+    /// connection.
+    ///
+    /// # Errors
+    ///
+    /// The connection, with the rows that it had, and the first of these that applies: `OutOfMemory` if
+    /// memory runs out, `Store` if SQLite refuses for another cause, and `NotADesk` if there are other
+    /// tables than a desk's, or if their rows are those of no content.
+    pub fn adopt(
+        alloc: Global,
+        mut connection: Connection<S>,
+    ) -> Result<SqliteStore<S>, AdoptFault<S>>
+        requires settled { connection.in_transaction ≡ false }
+        ensures begins { IfOk result (λ store.
+            BeginsWith S.Store connection store.held store.world) }
+        ensures none { IfErr result (λ refused. refused.fault ≡ OpenFault.NotADesk →
+            ShowsNoDesk S.Store connection refused.connection) }
+        ensures cause { IfErr result (λ refused.
+            BlamesDatabase S.Store connection refused.connection refused.fault) }
+        ensures kept { IfErr result (λ refused. IsKept S.Store connection refused.connection) }
+        ensures doubt { MatchResult result
+            (λ store. doubt (state S.Store connection).is_clean
+            ≤ doubt (state S.Store store.held).is_clean)
+            (λ refused. doubt (state S.Store connection).is_clean
+            ≤ doubt (state S.Store refused.connection).is_clean) }
+    {
+        match world_in(alloc, &mut connection) {
+            Ok(kept) => Ok(SqliteStore::with(alloc, connection, kept)),
+            Err(fault) => Err(AdoptFault { fault, connection }),
+        }
+    }
+}
+
+// A store of no operators and no plans over a database with no table.
+fn over_blank<S: Alter + Drop>(
+    alloc: Global,
+    mut connection: Connection<S>,
+) -> Result<SqliteStore<S>, OpenFault>
+    requires blank { IsAt S.Store blank_schema connection }
+    requires settled { connection.in_transaction ≡ false }
+    ensures { IfOk result (λ store. store.world ≡ record { operators = []; plans = [] }) }
+{
+    let kept = made_in(&mut connection)?;
+    Ok(SqliteStore::with(alloc, connection, kept))
+}

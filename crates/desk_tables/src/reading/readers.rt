@@ -1,0 +1,255 @@
+//! What a store answers, read from its tables.
+
+ghost use Rattle.std.specs.Prelude.{◌≡◌, ◌≤◌, List, IfOk, IfSome, IsOk, OnOk, length, map};
+ghost use Rattle.std.specs.List.{AllByRecursion, AllZip};
+ghost use Rattle.sqlite_trees.specs.View.{doubt};
+ghost use Rattle.sqlite.specs.State.{HasCleanDisk};
+ghost use Rattle.sqlite.specs.Held.{state};
+ghost use Rattle.desk_rules.specs.Limits.{max_plans, max_priority};
+ghost use Rattle.desk_rules.specs.declared.plan.PlanRow.{PlanRow as Plan};
+ghost use Rattle.desk_store.specs.World.{AreInOrder, Filed, ceiling_of, plans_of, stored_of};
+ghost use Rattle.desk_store.specs.Rivals.{AreRivals};
+ghost use Rattle.desk_tables.specs.Tables.{plan_rows, volume_rows};
+ghost use Rattle.desk_tables.specs.Content.{IsBlock, IsContent, IsId, IsPlan};
+ghost use Rattle.desk_tables.specs.Reading.{IsHead, IsVolumeAt, listing_rows};
+ghost use Rattle.desk_tables.specs.Gathering.{HasGathered};
+ghost use Rattle.desk_tables.specs.Lookups.{own_of};
+ghost use Rattle.desk_tables.specs.Store.{Stands};
+
+use crate::kept::Kept;
+use crate::reading::listing::Gather;
+use crate::reading::rivals::{Rivals, reach_of};
+use crate::reading::values::{area_in, ceiling_in, fault_of, plan_in};
+use desk_rules::operator::Operator;
+use desk_rules::plan::PlanRow;
+use desk_rules::plan_id::PlanId;
+use desk_sql::{
+    operator_named, own_count as plan_count, own_plans as own_listing, plan_of, rival_spans,
+    volumes_of,
+};
+use desk_store::StoreFault;
+use sqlite::{Connection, Error, Row};
+use sqlite_trees::store::Alter;
+use std::alloc::Global;
+use volume4d::{Held, Slab};
+
+/// The operator's ceiling, at most 1,000, or none if it is not enrolled.
+///
+/// # Errors
+///
+/// `OutOfMemory` if memory runs out. `Store` if SQLite refuses the query for another cause, or if
+/// the row has no ceiling.
+pub(crate) fn ceiling<S: Alter>(
+    connection: &mut Connection<S>,
+    kept: &Kept,
+    operator: &Operator,
+) -> Result<Option<u32>, StoreFault>
+    requires { Stands S.Store connection.old kept.now.world }
+    ensures value { HasCleanDisk (state S.Store connection.new) →
+        IfOk result (λ found. found ≡ ceiling_of operator.now kept.now.world) }
+    ensures bound { HasCleanDisk (state S.Store connection.new) →
+        IfOk result (λ found. IfSome found (λ n. n ≤ max_priority)) }
+    ensures stands { Stands S.Store connection.new kept.now.world }
+    ensures doubt { doubt (state S.Store connection.old).is_clean
+        ≤ doubt (state S.Store connection.new).is_clean }
+{
+    match operator_named(connection, operator.as_str()) {
+        Ok(rows) => ceiling_in(&rows),
+        Err(e) => Err(fault_of(e)),
+    }
+}
+
+/// The row of `plan` of the operator's plan of the id, if it is stored.
+///
+/// # Errors
+///
+/// `OutOfMemory` if memory runs out. `Store` if SQLite refuses the query for another cause.
+pub(crate) fn heads<S: Alter>(
+    connection: &mut Connection<S>,
+    kept: &Kept,
+    operator: &Operator,
+    id: &PlanId,
+) -> Result<Vec<Row>, StoreFault>
+    requires { Stands S.Store connection.old kept.now.world }
+    ensures value { HasCleanDisk (state S.Store connection.new) →
+        IfOk result (λ rows. IsContent kept.now.world
+        × (rows.items ≡ plan_rows (own_of operator.now id.now kept.now.world))) }
+    ensures stands { Stands S.Store connection.new kept.now.world }
+    ensures doubt { doubt (state S.Store connection.old).is_clean
+        ≤ doubt (state S.Store connection.new).is_clean }
+{
+    let mut buffer = [0u8; 36];
+    let text = id.encode(&mut buffer);
+    match plan_of(connection, operator.as_str(), text) {
+        Ok(rows) => Ok(rows),
+        Err(e) => Err(fault_of(e)),
+    }
+}
+
+// The rows of `volume` of the operator's plan of the id, by place.
+fn volumes<S: Alter>(
+    connection: &mut Connection<S>,
+    kept: &Kept,
+    operator: &Operator,
+    id: &PlanId,
+) -> Result<Vec<Row>, StoreFault>
+    requires { Stands S.Store connection.old kept.now.world }
+    ensures value { HasCleanDisk (state S.Store connection.new) →
+        IfOk result (λ rows. IsContent kept.now.world
+        × (rows.items ≡ volume_rows (own_of operator.now id.now kept.now.world))) }
+    ensures stands { Stands S.Store connection.new kept.now.world }
+    ensures doubt { doubt (state S.Store connection.old).is_clean
+        ≤ doubt (state S.Store connection.new).is_clean }
+{
+    let mut buffer = [0u8; 36];
+    let text = id.encode(&mut buffer);
+    match volumes_of(connection, operator.as_str(), text) {
+        Ok(rows) => Ok(rows),
+        Err(e) => Err(fault_of(e)),
+    }
+}
+
+/// The operator's plan of the id, or none if it is not stored.
+///
+/// # Errors
+///
+/// `OutOfMemory` if memory runs out. `Store` if SQLite refuses a query for another cause, or if the
+/// rows are no plan's.
+pub(crate) fn plan<S: Alter>(
+    alloc: Global,
+    connection: &mut Connection<S>,
+    kept: &Kept,
+    operator: &Operator,
+    id: &PlanId,
+) -> Result<Option<PlanRow>, StoreFault>
+    requires { Stands S.Store connection.old kept.now.world }
+    ensures value { HasCleanDisk (state S.Store connection.new) →
+        IfOk result (λ row. row ≡ stored_of id.now (plans_of operator.now kept.now.world)) }
+    ensures stands { Stands S.Store connection.new kept.now.world }
+    ensures doubt { doubt (state S.Store connection.old).is_clean
+        ≤ doubt (state S.Store connection.new).is_clean }
+{
+    let heads = heads(connection, kept, operator, id)?;
+    let Some(head) = heads.first() else {
+        return Ok(None);
+    };
+    let rows = volumes(connection, kept, operator, id)?;
+    Ok(Some(plan_of_rows(alloc, head, &rows)?))
+}
+
+// The plan of a row of `plan`, with the volumes of rows of `volume`.
+fn plan_of_rows(alloc: Global, head: &Row, rows: &[Row]) -> Result<PlanRow, StoreFault>
+    ensures value { IfOk result (λ plan. (p : Plan) → IsId p.id → IsHead head.now p
+        → AllByRecursion IsBlock p.area → AllZip (λ row v. IsVolumeAt row 3 v) rows.now p.area
+        → plan ≡ p) }
+{
+    let area = area_in(alloc, rows, 3)?;
+    plan_in(head, area)
+}
+
+// The plans of a listing, if it was taken to its end.
+fn gathered(taken: Result<(), Error>, gather: Gather) -> Result<Vec<PlanRow>, StoreFault>
+    ensures whole { OnOk result (IsOk taken) }
+    ensures value { IfOk result (λ plans. (ps : List Filed)
+        → AllByRecursion (λ p. IsPlan p.row) ps
+        → HasGathered gather.plans.items gather.head gather.volumes.items (listing_rows ps)
+        → plans.items ≡ map (λ p. p.row) ps) }
+{
+    match taken {
+        Ok(()) => gather.finish(),
+        Err(e) => Err(fault_of(e)),
+    }
+}
+
+/// The operator's plans, at most 200, ascending by id, none twice.
+///
+/// # Errors
+///
+/// `OutOfMemory` if memory runs out. `Store` if SQLite refuses the query for another cause, or if
+/// the rows are no plans'.
+pub(crate) fn own_plans<S: Alter>(
+    alloc: Global,
+    connection: &mut Connection<S>,
+    kept: &Kept,
+    operator: &Operator,
+) -> Result<Vec<PlanRow>, StoreFault>
+    requires { Stands S.Store connection.old kept.now.world }
+    ensures value { HasCleanDisk (state S.Store connection.new) →
+        IfOk result (λ rows. rows.items ≡ plans_of operator.now kept.now.world) }
+    ensures order { HasCleanDisk (state S.Store connection.new) →
+        IfOk result (λ rows. AreInOrder rows.items) }
+    ensures limit { HasCleanDisk (state S.Store connection.new) →
+        IfOk result (λ rows. length rows.items ≤ max_plans) }
+    ensures stands { Stands S.Store connection.new kept.now.world }
+    ensures doubt { doubt (state S.Store connection.old).is_clean
+        ≤ doubt (state S.Store connection.new).is_clean }
+{
+    let mut gather = Gather::new(alloc);
+    let taken = own_listing(connection, operator.as_str(), &mut gather);
+    gathered(taken, gather)
+}
+
+/// How many plans the operator has.
+///
+/// # Errors
+///
+/// `OutOfMemory` if memory runs out. `Store` if SQLite refuses the query for another cause.
+pub(crate) fn own_count<S: Alter>(
+    connection: &mut Connection<S>,
+    kept: &Kept,
+    operator: &Operator,
+) -> Result<u32, StoreFault>
+    requires { Stands S.Store connection.old kept.now.world }
+    ensures value { HasCleanDisk (state S.Store connection.new) →
+        IfOk result (λ count. count ≡ length (plans_of operator.now kept.now.world)) }
+    ensures stands { Stands S.Store connection.new kept.now.world }
+    ensures doubt { doubt (state S.Store connection.old).is_clean
+        ≤ doubt (state S.Store connection.new).is_clean }
+{
+    match plan_count(connection, operator.as_str()) {
+        Ok(count) => Ok(count),
+        Err(e) => Err(fault_of(e)),
+    }
+}
+
+// The slabs of spans that were handed over, if all were.
+fn held_by(handed: Result<(), Error>, rivals: Rivals) -> Result<Vec<Held>, StoreFault>
+    ensures whole { OnOk result (IsOk handed) }
+    ensures value { IfOk result (λ helds. helds.items ≡ rivals.helds.items) }
+{
+    match handed {
+        Ok(()) => Ok(rivals.finish()),
+        Err(e) => Err(fault_of(e)),
+    }
+}
+
+/// The slabs that live plans but the operator's own of the id hold, of those of a priority at least,
+/// where they meet an extent.
+///
+/// # Errors
+///
+/// `OutOfMemory` if memory runs out. `Store` if SQLite refuses the query for another cause, or if
+/// a row is no slab's.
+pub(crate) fn rivals<S: Alter>(
+    alloc: Global,
+    connection: &mut Connection<S>,
+    kept: &Kept,
+    operator: &Operator,
+    id: &PlanId,
+    least: u32,
+    extent: &Slab,
+) -> Result<Vec<Held>, StoreFault>
+    requires { Stands S.Store connection.old kept.now.world }
+    ensures value { HasCleanDisk (state S.Store connection.new) → IfOk result (λ helds.
+        AreRivals kept.now.world operator.now id.now least extent.now helds.items) }
+    ensures stands { Stands S.Store connection.new kept.now.world }
+    ensures doubt { doubt (state S.Store connection.old).is_clean
+        ≤ doubt (state S.Store connection.new).is_clean }
+{
+    let mut buffer = [0u8; 36];
+    let text = id.encode(&mut buffer);
+    let mut rivals = Rivals::new(alloc);
+    let reach = reach_of(extent, least);
+    let handed = rival_spans(connection, operator.as_str(), text, reach, &mut rivals);
+    held_by(handed, rivals)
+}

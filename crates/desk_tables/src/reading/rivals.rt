@@ -1,0 +1,108 @@
+//! Held slabs, from rows of `span` that are taken one at a time.
+
+ghost use Rattle.std.specs.Prelude.{◌≡◌, ◌<◌, ◌*◌, ◌^◌, pos, [], IfOk};
+ghost use Rattle.sqlite_value.specs.declared.value.Value.TheVariants.{Int};
+ghost use Rattle.sqlite_value.specs.Order.{column};
+ghost use Rattle.desk_tables.specs.Rivals as spec;
+ghost use Rattle.desk_tables.specs.Rivals.{IsHeldIn, IsSlabIn, HasTakenHelds};
+
+use crate::reading::listing::error_of;
+use crate::reading::values::{count_at, narrow_at, wide_at};
+use desk_sql::{Reach, TakeRow};
+use desk_store::StoreFault;
+use sqlite::{Error, Row};
+use std::alloc::Global;
+use volume4d::{Held, Slab};
+
+// How many leaf positions there are along the curve.
+const POSITIONS: i64 = 6 << 60;
+
+/// The slabs of the rows of `span` that were taken.
+#[derive(Drop)]
+pub(crate) struct Rivals {
+    helds: Vec<Held>,
+}
+
+impl Rivals {
+    /// Of no row yet.
+    pub(crate) fn new(alloc: Global) -> Rivals
+        ensures { HasTakenHelds result.helds.items [] }
+    {
+        Rivals {
+            helds: Vec::new(alloc),
+        }
+    }
+
+    /// One slab for each row, in their order.
+    pub(crate) fn finish(self) -> Vec<Held>
+        ensures { result.items ≡ self.helds.items }
+    {
+        self.helds
+    }
+}
+
+impl TakeRow for Rivals {
+    ghost use Rattle.desk_tables.specs.Rivals.{HasTakenHelds};
+
+    ghost has_taken = { λ r rows. HasTakenHelds r.helds.items rows };
+
+    #[tactic(auto, using(crate::proofs::HeldLemmas::one_taken))]
+    fn take(&mut self, row: &Row) -> Result<(), Error> {
+        match held_in(row) {
+            Ok(held) => Ok(self.helds.push(held)?),
+            Err(e) => Err(error_of(e)),
+        }
+    }
+}
+
+/// The spans that may hold a point of an extent, of a priority at least.
+pub(crate) fn reach_of(extent: &Slab, least: u32) -> Reach
+    ensures { result ≡ spec.reach_of extent.now least }
+{
+    Reach {
+        first: extent.first as i64,
+        last: extent.last as i64,
+        lower: i64::from(extent.lower),
+        upper: i64::from(extent.upper),
+        start: extent.start,
+        stop: extent.end,
+        priority: least,
+    }
+}
+
+// The slab of a row of `span`, of which the columns from `first` on are shown, with its plan's priority.
+fn held_in(row: &Row) -> Result<Held, StoreFault>
+    ensures { IfOk result (λ held. IsHeldIn row.now held) }
+{
+    Ok(Held {
+        slab: slab_in(row)?,
+        priority: count_at(row, 6)?,
+    })
+}
+
+// The slab of such a row.
+fn slab_in(row: &Row) -> Result<Slab, StoreFault>
+    ensures { IfOk result (λ slab. IsSlabIn row.now slab) }
+{
+    Ok(Slab {
+        first: position_at(row, 0)?,
+        last: position_at(row, 1)?,
+        lower: narrow_at(row, 2)?,
+        upper: narrow_at(row, 3)?,
+        start: wide_at(row, 4)?,
+        end: wide_at(row, 5)?,
+    })
+}
+
+// The leaf position in a column.
+fn position_at(row: &Row, at: usize) -> Result<u64, StoreFault>
+    ensures value { IfOk result (λ position. column row.now at ≡ Int (pos position)) }
+    ensures leaf { IfOk result (λ position. position < 6 * 2 ^ 60) }
+{
+    let position = wide_at(row, at)?;
+    if (0..POSITIONS).contains(&position) {
+        Ok(position as u64)
+    } else {
+        Err(StoreFault::Store)
+    }
+}
