@@ -10,9 +10,6 @@ ghost use Rattle.desk_program.specs.Enrolling as enrolling;
 ghost use Rattle.desk_program.specs.Enrolling.{with_operators};
 ghost use Rattle.desk_program.specs.Playing.{IsEnrolled, IsLinePlayed, IsNotPlayed, IsPlayed, status_after};
 
-#[cfg(test)]
-mod tests;
-
 use desk_line::{Enrolment, Failure, Line, Play, conclude};
 use desk_run::{Desk, DeskFault};
 use desk_store::PlanStore;

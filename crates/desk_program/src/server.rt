@@ -9,9 +9,6 @@ ghost use Rattle.desk_line.specs.Lines.{IsServe};
 ghost use Rattle.desk_program.specs.Enrolling.{with_operators};
 ghost use Rattle.desk_program.specs.Serving.{AreServed, listening_line};
 
-#[cfg(test)]
-mod tests;
-
 use crate::program::enrol_all;
 use desk_line::{Failure, Serve, conclude};
 use desk_run::Desk;

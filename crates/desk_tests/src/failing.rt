@@ -2,7 +2,7 @@
 
 ghost use Rattle.std.specs.Prelude.{◌≡◌, ◌≤◌, ◌<◌, ◌-◌, ◌^◌, Err, OnOk, OnErr, IfErr};
 
-use crate::requests::{FIRST_PUT, ID, MOMENT};
+use crate::given::{FIRST_PUT, ID, MOMENT, desk_of_alfa};
 use desk_rules::call::{Asked, Call};
 use desk_rules::operator::Operator;
 use desk_rules::plan::PlanRow;
@@ -117,19 +117,14 @@ fn calls_of(alloc: Global) -> Result<Vec<(i64, Asked)>, Fail> {
     Ok(vec![in alloc; (MOMENT, put), (MOMENT, delete), (MOMENT, status)]?)
 }
 
-/// A list in which `alfa` is enrolled.
-fn list_of_alfa(alloc: Global) -> Result<ListStore, Fail> {
-    let alfa = Operator::try_new(b"alfa").ok_or("a name")?;
-    let mut desk = Desk::new(ListStore::new(alloc));
-    desk.enrol(&alfa, 100)?;
-    Ok(desk.into_store())
-}
-
 /// How the plan of `alfa` is used, if it is stored.
 fn usage_in(list: &mut ListStore) -> Result<Option<Usage>, Fail> {
     let alfa = Operator::try_new(b"alfa").ok_or("a name")?;
     let id = PlanId::try_parse(ID).ok_or("an id")?;
-    Ok(list.plan(&alfa, &id)?.map(|row| row.usage))
+    match list.plan(&alfa, &id)? {
+        Some(row) => Ok(Some(row.usage)),
+        None => Ok(None),
+    }
 }
 
 /// Runs the requests at a desk whose store fails once so many calls are made, and compares how many of
@@ -141,7 +136,7 @@ fn check_run(
     row: (u32, usize, Option<Usage>),
 ) -> Result<(), Fail> {
     let (calls_left, answered, usage) = row;
-    let mut desk = desk_over(list_of_alfa(alloc)?, calls_left);
+    let mut desk = desk_over(desk_of_alfa(alloc)?.into_store(), calls_left);
     let ran = desk.run(alloc, calls)?.copy()?;
     assert_eq!(rt; ran.outcomes.len(), answered, "{calls_left}");
     assert_eq!(rt; ran.stopped.is_some(), answered < 3, "{calls_left}");

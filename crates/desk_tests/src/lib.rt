@@ -1,13 +1,15 @@
-//! Tests of the desk that no stored run can say: a store that fails, a reader that is interrupted, a writer
-//! that is cut off. They stand apart so that the crates under test are proved once and not again with their
-//! tests.
+//! Tests of what no stored run can say: a store that fails, a reader that is interrupted, a writer that is cut
+//! off, clients that hang up. They stand apart so that the crates under test are proved once and not again with
+//! their tests.
 #![tactic(auto)]
 
 #[cfg(test)]
 mod failing;
 #[cfg(test)]
+mod given;
+#[cfg(test)]
 mod program;
 #[cfg(test)]
-mod requests;
+mod server;
 #[cfg(test)]
 mod wire;

@@ -1,27 +1,14 @@
 //! Requests at hand, and of a reader that is interrupted.
 
-use crate::requests::{COMPLETED, FIRST_PUT, MOMENT};
-use desk_rules::operator::Operator;
-use desk_run::{Desk, DeskFault};
-use desk_store::ListStore;
+use crate::given::{COMPLETED, FIRST_PUT, MOMENT, desk_of_alfa};
 use desk_wire::{AnswersEnd, PlayEnd, Played, answer_all, play_all};
-use std::alloc::Global;
 use std::io::{self, ErrorKind, Read};
 use std::test::Fail;
-
-// A desk at which `alfa` is enrolled.
-fn desk_of(alloc: Global) -> Result<Desk<ListStore>, DeskFault> {
-    let mut desk = Desk::new(ListStore::new(alloc));
-    if let Some(alfa) = Operator::try_new(b"alfa") {
-        desk.enrol(&alfa, 100)?;
-    }
-    Ok(desk)
-}
 
 #[test]
 fn answers_a_list(rt: HostRuntime) -> Result<(), Fail> {
     let alloc = rt.alloc();
-    let mut desk = desk_of(alloc)?;
+    let mut desk = desk_of_alfa(alloc)?;
     let request = Vec::from_slice(alloc, FIRST_PUT)?;
     let ran = answer_all(alloc, &mut desk, &[(MOMENT, request)])?;
     assert_eq!(rt; ran.ended, AnswersEnd::All);
@@ -54,7 +41,7 @@ impl<'t> Read for Slow<'t> {
 #[test]
 fn reads_on_after_an_interruption(rt: HostRuntime) -> Result<(), Fail> {
     let alloc = rt.alloc();
-    let mut desk = desk_of(alloc)?;
+    let mut desk = desk_of_alfa(alloc)?;
     let mut written = Vec::new(alloc);
     let mut input = Slow {
         bytes: FIRST_PUT,

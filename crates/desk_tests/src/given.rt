@@ -1,4 +1,9 @@
-//! A request and its answer, written by hand.
+//! A desk, and a request to it with its answer, written by hand.
+
+use desk_rules::operator::Operator;
+use desk_run::{Desk, DeskFault};
+use desk_store::ListStore;
+use std::alloc::Global;
 
 /// The moment of all calls, a Unix second.
 pub const MOMENT: i64 = 1_780_315_000;
@@ -20,3 +25,12 @@ host: desk\r\nx-operator: alfa\r\ncontent-length: 371\r\n\r\n\
 pub const COMPLETED: &[u8] = b"HTTP/1.1 200 OK\r\ncontent-type: application/json\r\n\
 content-length: 73\r\nconnection: close\r\n\r\n\
 {\"flight_plan_status\":\"Planned\",\"notes\":\"\",\"planning_result\":\"Completed\"}";
+
+/// A desk at which `alfa` is enrolled.
+pub fn desk_of_alfa(alloc: Global) -> Result<Desk<ListStore>, DeskFault> {
+    let mut desk = Desk::new(ListStore::new(alloc));
+    if let Some(alfa) = Operator::try_new(b"alfa") {
+        desk.enrol(&alfa, 100)?;
+    }
+    Ok(desk)
+}

@@ -1,0 +1,146 @@
+//! Connections served in one thread: clients write their requests, the desk serves them, clients read.
+
+ghost use Rattle.std.specs.Prelude.{IfOk};
+ghost use Rattle.desk_line.specs.Lines.{IsServe};
+
+use crate::given::{COMPLETED, FIRST_PUT};
+use desk_line::{Line, Serve, read_words};
+use desk_program::serve;
+use desk_run::Desk;
+use desk_store::ListStore;
+use std::alloc::Global;
+use std::cell::Cell;
+use std::io::{self, ErrorKind, Read, Write};
+use std::net::{Ipv4Addr, Net, SocketAddr, TcpListener, TcpStream};
+use std::process::Abort;
+use std::test::Fail;
+use std::time::{Clock, Duration};
+
+// A clock that stands still, so many seconds after the epoch.
+#[derive(Drop)]
+struct Standing(u64);
+
+impl Clock for Standing {
+    fn monotonic(&self) -> io::Result<Duration> {
+        Ok(Duration::from_secs(0))
+    }
+
+    fn since_1970(&self) -> io::Result<Duration> {
+        Ok(Duration::from_secs(self.0))
+    }
+}
+
+// A network whose port is listened at already, so that clients can write before the desk binds it.
+#[derive(Drop)]
+struct Listened {
+    listener: Cell<Option<TcpListener>>,
+}
+
+impl Net for Listened {
+    type Stream = TcpStream;
+
+    type Listener = TcpListener;
+
+    fn bind(&self, _addr: SocketAddr) -> io::Result<TcpListener> {
+        self.listener
+            .replace(None)
+            .ok_or(io::Error::from(ErrorKind::AddrInUse))
+    }
+
+    fn connect(&self, _addr: SocketAddr) -> io::Result<TcpStream> {
+        Err(io::Error::from(ErrorKind::Unsupported))
+    }
+}
+
+// A port that is listened at, and its address.
+fn listen(rt: &HostRuntime) -> Result<(Listened, SocketAddr), Fail> {
+    let listener = TcpListener::bind(rt, (Ipv4Addr::LOCALHOST, 0u16))?;
+    let address = listener.local_addr()?;
+    let listener = Cell::new(Some(listener));
+    Ok((Listened { listener }, address))
+}
+
+// A client of a port that has written these bytes.
+fn client_of(rt: &HostRuntime, address: SocketAddr, bytes: &[u8]) -> Result<TcpStream, Fail> {
+    let mut client = TcpStream::connect(rt, address)?;
+    client.write_all(bytes)?;
+    Ok(client)
+}
+
+// What a client reads to the end.
+fn read_by(alloc: Global, mut client: TcpStream) -> Result<Vec<u8>, Fail> {
+    let mut answer = Vec::new(alloc);
+    client.read_to_end(&mut answer)?;
+    Ok(answer)
+}
+
+// The line `serve --port 1 alfa=100` of so many connections.
+fn serve_line(alloc: Global, connections: &str) -> Result<Serve, Fail>
+    ensures { IfOk result IsServe }
+{
+    let mut words = Vec::new(alloc);
+    for word in [
+        "uss_desk",
+        "serve",
+        "--port",
+        "1",
+        "--requests",
+        connections,
+        "alfa=100",
+    ] {
+        words.push(String::from_str(alloc, word)?)?;
+    }
+    match read_words(alloc, &words) {
+        Ok(Line::Serve(serve)) => Ok(serve),
+        _ => Err(Fail::from("no line")),
+    }
+}
+
+// Serves so many connections at a moment, and compares the word of the failure, if there is one.
+fn check_served(
+    rt: &impl Abort,
+    alloc: Global,
+    net: &Listened,
+    connections: &str,
+    row: (u64, &str),
+) -> Result<(), Fail> {
+    let (second, word) = row;
+    let line = serve_line(alloc, connections)?;
+    let mut desk = Desk::new(ListStore::new(alloc));
+    let mut output = Vec::new(alloc);
+    let mut errors = Vec::new(alloc);
+    let clock = Standing(second);
+    let system = (net, &clock);
+    let status = serve(alloc, system, &line, &mut desk, &mut output, &mut errors);
+    assert_eq!(rt; status, if word.is_empty() { 0 } else { 4 }, "{second}");
+    assert_eq!(rt; output.as_slice(), b"listening 127.0.0.1:1\n".as_slice());
+    assert_eq!(rt; errors.as_slice(), word.as_bytes());
+    Ok(())
+}
+
+// A client hangs up in mid-request; the one after it has its answer.
+#[test]
+fn serves_after_a_cut(rt: HostRuntime) -> Result<(), Fail> {
+    let (net, address) = listen(&rt)?;
+    drop(client_of(&rt, address, &FIRST_PUT[..200])?);
+    let client = client_of(&rt, address, FIRST_PUT)?;
+    check_served(&rt, rt.alloc(), &net, "2", (1_780_315_000, ""))?;
+    assert_eq!(rt; read_by(rt.alloc(), client)?.as_slice(), COMPLETED);
+    Ok(())
+}
+
+// The desk ends where the clock is past the last moment.
+#[test]
+fn takes_moments_in_range(rt: HostRuntime) -> Result<(), Fail> {
+    for row in [
+        (0, ""),
+        (253_370_764_800, ""),
+        (253_370_764_801, "uss_desk: clock\n"),
+    ] {
+        let (net, address) = listen(&rt)?;
+        let client = client_of(&rt, address, FIRST_PUT)?;
+        check_served(&rt, rt.alloc(), &net, "1", row)?;
+        drop(client);
+    }
+    Ok(())
+}
