@@ -2,9 +2,9 @@
 //! which status, and what the lines print that need no desk.
 #![tactic(auto)]
 
+mod command;
 mod failure;
 mod line;
-mod picture;
 mod printed;
 
 pub use failure::{Failure, conclude};

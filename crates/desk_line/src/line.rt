@@ -8,15 +8,15 @@ ghost use Rattle.desk_line.specs.Lines.{file_of, named_file};
 #[cfg(test)]
 mod tests;
 
+use crate::command::make_command;
+use clap::ArgMatches;
 use clap::error::ErrorKind;
-use clap::{Arg, ArgAction, ArgMatches, Command, value_parser};
 use desk_rules::operator::Operator;
 use desk_run::MAX_CEILING;
 use std::alloc::{AllocError, AllocFailed, Global};
-use std::str::FromStr;
 
 /// The last moment, a Unix second.
-const LAST_MOMENT: i64 = 253_370_764_800;
+pub(crate) const LAST_MOMENT: i64 = 253_370_764_800;
 
 /// The word for a database in memory.
 const IN_MEMORY: &str = ":memory:";
@@ -25,7 +25,7 @@ const IN_MEMORY: &str = ":memory:";
 const CEILING_DIGITS: usize = 4;
 
 /// The most connections that are served.
-const MAX_CONNECTIONS: u32 = 1_000_000;
+pub(crate) const MAX_CONNECTIONS: u32 = 1_000_000;
 
 /// What the program is asked to do.
 #[derive(Debug, Drop)]
@@ -158,119 +158,13 @@ pub fn read_words(alloc: Global, words: &[String]) -> Result<Line, WordsFault>
         Some(("play", play)) => Ok(Line::Play(read_play(alloc, play)?)),
         Some(("token", token)) => Ok(Line::Token(read_token(alloc, token)?)),
         Some(("serve", serve)) => Ok(Line::Serve(read_serve(alloc, serve)?)),
-        Some(("cover", cover)) => Ok(Line::Cover(read_cover(cover)?)),
+        Some(("cover", cover)) => match read_cover(cover) {
+            Some(cover) => Ok(Line::Cover(cover)),
+            None => Err(WordsFault::Value),
+        },
         Some(("enrol", enrol)) => Ok(Line::Enrol(read_enrol(alloc, enrol)?)),
         _ => Err(WordsFault::Value),
     }
-}
-
-// The command line that is taken.
-fn make_command<'a>(alloc: Global) -> Result<Command<'a>, AllocError> {
-    Command::new(alloc, "uss_desk")
-        .about("The planning desk of one UAS service supplier")
-        .subcommand_required(true)
-        .subcommand(play_command(alloc)?)?
-        .subcommand(token_command(alloc)?)?
-        .subcommand(serve_command(alloc)?)?
-        .subcommand(cover_command(alloc)?)?
-        .subcommand(enrol_command(alloc)?)
-}
-
-fn play_command<'a>(alloc: Global) -> Result<Command<'a>, AllocError> {
-    let moment = Arg::new(alloc, "moment")
-        .long("at")
-        .value_name("SECOND")
-        .help("The moment of all requests, a Unix second")
-        .required(true)
-        .value_parser(value_parser!(i64).range(0..=LAST_MOMENT));
-    Command::new(alloc, "play")
-        .about("Answers the requests of the standard input")
-        .arg(database_arg(alloc))?
-        .arg(moment)?
-        .arg(enrolments_arg(alloc))
-}
-
-fn token_command<'a>(alloc: Global) -> Result<Command<'a>, AllocError> {
-    let token = Arg::new(alloc, "token")
-        .value_name("TOKEN")
-        .help("A cell of the S2 geometry library, 1 to 16 hex digits")
-        .required(true);
-    Command::new(alloc, "token")
-        .about("Tells a cell's face, its level, and its first and last leaf")
-        .arg(token)
-}
-
-fn serve_command<'a>(alloc: Global) -> Result<Command<'a>, AllocError> {
-    let port = Arg::new(alloc, "port")
-        .long("port")
-        .value_name("N")
-        .help("The port of 127.0.0.1 that is listened at")
-        .required(true)
-        .value_parser(value_parser!(u16).range(1..));
-    let connections = Arg::new(alloc, "connections")
-        .long("requests")
-        .value_name("N")
-        .help("How many connections are served, one request each")
-        .required(true)
-        .value_parser(value_parser!(u32).range(1..=i64::from(MAX_CONNECTIONS)));
-    Command::new(alloc, "serve")
-        .about("Answers one request a connection, at the moment that the clock tells")
-        .arg(database_arg(alloc))?
-        .arg(port)?
-        .arg(connections)?
-        .arg(enrolments_arg(alloc))
-}
-
-fn cover_command<'a>(alloc: Global) -> Result<Command<'a>, AllocError> {
-    let picture = Arg::new(alloc, "picture")
-        .long("svg")
-        .help("Prints a picture (SVG) in place of the tokens")
-        .action(ArgAction::SetTrue);
-    Command::new(alloc, "cover")
-        .about("Tells the cells of a rectangle of leaves, widened to whole squares of the level")
-        .arg(word_arg(alloc, "FACE", "The face, 0 to 5").value_parser(value_parser!(u8)))?
-        .arg(coordinate_arg(alloc, "I_MIN", "The least coordinate i of a leaf"))?
-        .arg(coordinate_arg(alloc, "I_MAX", "The greatest coordinate i"))?
-        .arg(coordinate_arg(alloc, "J_MIN", "The least coordinate j"))?
-        .arg(coordinate_arg(alloc, "J_MAX", "The greatest coordinate j"))?
-        .arg(word_arg(alloc, "LEVEL", "The level, 8 to 24").value_parser(value_parser!(u8)))?
-        .arg(picture)
-}
-
-fn enrol_command<'a>(alloc: Global) -> Result<Command<'a>, AllocError> {
-    Command::new(alloc, "enrol")
-        .about("Enrols an operator in a database, or replaces its ceiling")
-        .arg(database_arg(alloc).required(true))?
-        .arg(word_arg(alloc, "NAME", "The operator's name"))?
-        .arg(word_arg(alloc, "CEILING", "The greatest priority that it may use"))
-}
-
-// The file of operators and plans.
-fn database_arg<'a>(alloc: Global) -> Arg<'a> {
-    Arg::new(alloc, "database")
-        .long("db")
-        .value_name("FILE")
-        .help("The SQLite database of operators and plans, or :memory: for one in memory")
-}
-
-// Operators and their ceilings.
-fn enrolments_arg<'a>(alloc: Global) -> Arg<'a> {
-    Arg::new(alloc, "enrolments")
-        .value_name("NAME=CEILING")
-        .help("An operator, and the greatest priority that it may use")
-        .action(ArgAction::Append)
-}
-
-// A word that has to be there.
-fn word_arg<'a>(alloc: Global, name: &'a str, help: &'a str) -> Arg<'a> {
-    Arg::new(alloc, name)
-        .value_name(name)
-        .help(help)
-        .required(true)
-}
-
-fn coordinate_arg<'a>(alloc: Global, name: &'a str, help: &'a str) -> Arg<'a> {
-    word_arg(alloc, name, help).value_parser(value_parser!(u32))
 }
 
 // The words of `play`.
@@ -292,8 +186,10 @@ fn read_play(alloc: Global, matches: &ArgMatches<'_>) -> Result<Play, WordsFault
 
 // The text of `token`.
 fn read_token(alloc: Global, matches: &ArgMatches<'_>) -> Result<String, WordsFault> {
-    let token = matches.get_str("token").ok_or(WordsFault::Value)?;
-    Ok(String::from_str(alloc, token)?)
+    match matches.get_str("token") {
+        Some(token) => Ok(String::from_str(alloc, token)?),
+        None => Err(WordsFault::Value),
+    }
 }
 
 // The words of `serve`.
@@ -319,14 +215,14 @@ fn read_serve(alloc: Global, matches: &ArgMatches<'_>) -> Result<Serve, WordsFau
 }
 
 // The words of `cover`.
-fn read_cover(matches: &ArgMatches<'_>) -> Result<Cover, WordsFault> {
-    Ok(Cover {
-        face: read_number(matches, "FACE")?,
-        i_min: read_number(matches, "I_MIN")?,
-        i_max: read_number(matches, "I_MAX")?,
-        j_min: read_number(matches, "J_MIN")?,
-        j_max: read_number(matches, "J_MAX")?,
-        level: read_number(matches, "LEVEL")?,
+fn read_cover(matches: &ArgMatches<'_>) -> Option<Cover> {
+    Some(Cover {
+        face: matches.get_one("FACE")?,
+        i_min: matches.get_one("I_MIN")?,
+        i_max: matches.get_one("I_MAX")?,
+        j_min: matches.get_one("J_MIN")?,
+        j_max: matches.get_one("J_MAX")?,
+        level: matches.get_one("LEVEL")?,
         is_picture: matches.get_flag("picture"),
     })
 }
@@ -337,15 +233,20 @@ fn read_enrol(alloc: Global, matches: &ArgMatches<'_>) -> Result<Enrol, WordsFau
     ensures file { IfOk result (λ enrol. file_of enrol.database ≡
         named_file (first_value (found_of matches.now) (codes "database"))) }
 {
-    let name = matches.get_str("NAME").ok_or(WordsFault::Value)?;
-    let ceiling = matches.get_str("CEILING").ok_or(WordsFault::Value)?;
-    let Some(enrolment) = enrolment_by(name, ceiling) else {
+    let Some(enrolment) = read_operator(matches) else {
         return Err(WordsFault::Value);
     };
     Ok(Enrol {
         database: read_database(alloc, matches)?,
         enrolment,
     })
+}
+
+// The operator and its ceiling.
+fn read_operator(matches: &ArgMatches<'_>) -> Option<Enrolment>
+    ensures { IfSome result (λ e. e.ceiling ≤ max_ceiling) }
+{
+    enrolment_by(matches.get_str("NAME")?, matches.get_str("CEILING")?)
 }
 
 // The database that the words name.
@@ -370,14 +271,6 @@ fn database_of(alloc: Global, word: Option<&str>) -> Result<Database, AllocError
             Ok(Database::File(String::from_str(alloc, path)?))
         }
     }
-}
-
-// A number that `clap` has read.
-fn read_number<T: FromStr>(matches: &ArgMatches<'_>, name: &str) -> Result<T, WordsFault>
-where
-    T::Err: Drop,
-{
-    matches.get_one::<T>(name).ok_or(WordsFault::Value)
 }
 
 // The enrolments, in the order given.

@@ -19,7 +19,7 @@ mod tests;
 
 use crate::failure::{Failure, conclude};
 use crate::line::{Cover as CoverWords, Line};
-use crate::picture::picture_of;
+use cover_picture::picture_of;
 use desk_wire::write_whole;
 use s2_cellid::CellId;
 use s2_cover::{Cover, Rect, cover};

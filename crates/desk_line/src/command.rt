@@ -1,0 +1,182 @@
+//! The command line that is taken: its lines and their words as rows, of which `clap` makes help and reads
+//! what is given.
+
+use crate::line::{LAST_MOMENT, MAX_CONNECTIONS};
+use clap::{Arg, ArgAction, Command, value_parser};
+use std::alloc::{AllocError, Global};
+
+// A line: its first word, what it does, and its further words.
+struct Form {
+    name: &'static str,
+    about: &'static str,
+    words: &'static [Word],
+}
+
+// A word of a line. Those of one value are told by their name and what they are.
+enum Word {
+    // The file of operators and plans, which may be left out.
+    Database,
+    // The file, which may not.
+    GivenDatabase,
+    Moment,
+    Port,
+    Connections,
+    // Operators and their ceilings.
+    Enrolments,
+    Token,
+    Text(&'static str, &'static str),
+    Small(&'static str, &'static str),
+    Coordinate(&'static str, &'static str),
+    Picture,
+}
+
+static FORMS: [Form; 5] = [
+    Form {
+        name: "play",
+        about: "Answers the requests of the standard input",
+        words: &[Word::Database, Word::Moment, Word::Enrolments],
+    },
+    Form {
+        name: "token",
+        about: "Tells a cell's face, its level, and its first and last leaf",
+        words: &[Word::Token],
+    },
+    Form {
+        name: "serve",
+        about: "Answers one request a connection, at the moment that the clock tells",
+        words: &[
+            Word::Database,
+            Word::Port,
+            Word::Connections,
+            Word::Enrolments,
+        ],
+    },
+    Form {
+        name: "cover",
+        about: "Tells the cells of a rectangle of leaves, widened to whole squares of the level",
+        words: &[
+            Word::Small("FACE", "The face, 0 to 5"),
+            Word::Coordinate("I_MIN", "The least coordinate i of a leaf"),
+            Word::Coordinate("I_MAX", "The greatest coordinate i"),
+            Word::Coordinate("J_MIN", "The least coordinate j"),
+            Word::Coordinate("J_MAX", "The greatest coordinate j"),
+            Word::Small("LEVEL", "The level, 8 to 24"),
+            Word::Picture,
+        ],
+    },
+    Form {
+        name: "enrol",
+        about: "Enrols an operator in a database, or replaces its ceiling",
+        words: &[
+            Word::GivenDatabase,
+            Word::Text("NAME", "The operator's name"),
+            Word::Text("CEILING", "The greatest priority that it may use"),
+        ],
+    },
+];
+
+/// The command line that is taken.
+pub fn make_command<'a>(alloc: Global) -> Result<Command<'a>, AllocError> {
+    let mut command = Command::new(alloc, "uss_desk")
+        .about("The planning desk of one UAS service supplier")
+        .subcommand_required(true);
+    for form in &FORMS {
+        command = command.subcommand(command_of(alloc, form)?)?;
+    }
+    Ok(command)
+}
+
+// The command of a line.
+fn command_of<'a>(alloc: Global, form: &'static Form) -> Result<Command<'a>, AllocError> {
+    let mut command = Command::new(alloc, form.name).about(form.about);
+    for word in form.words {
+        command = command.arg(arg_of(alloc, word))?;
+    }
+    Ok(command)
+}
+
+fn arg_of<'a>(alloc: Global, word: &Word) -> Arg<'a> {
+    match word {
+        Word::Database => database_arg(alloc),
+        Word::GivenDatabase => database_arg(alloc).required(true),
+        Word::Moment => moment_arg(alloc),
+        Word::Port => port_arg(alloc),
+        Word::Connections => connections_arg(alloc),
+        Word::Enrolments => enrolments_arg(alloc),
+        Word::Token => token_arg(alloc),
+        Word::Text(name, help) => text_arg(alloc, name, help),
+        Word::Small(name, help) => small_arg(alloc, name, help),
+        Word::Coordinate(name, help) => coordinate_arg(alloc, name, help),
+        Word::Picture => picture_arg(alloc),
+    }
+}
+
+fn database_arg<'a>(alloc: Global) -> Arg<'a> {
+    Arg::new(alloc, "database")
+        .long("db")
+        .value_name("FILE")
+        .help("The SQLite database of operators and plans, or :memory: for one in memory")
+}
+
+fn moment_arg<'a>(alloc: Global) -> Arg<'a> {
+    Arg::new(alloc, "moment")
+        .long("at")
+        .value_name("SECOND")
+        .help("The moment of all requests, a Unix second")
+        .required(true)
+        .value_parser(value_parser!(i64).range(0..=LAST_MOMENT))
+}
+
+fn port_arg<'a>(alloc: Global) -> Arg<'a> {
+    Arg::new(alloc, "port")
+        .long("port")
+        .value_name("N")
+        .help("The port of 127.0.0.1 that is listened at")
+        .required(true)
+        .value_parser(value_parser!(u16).range(1..))
+}
+
+fn connections_arg<'a>(alloc: Global) -> Arg<'a> {
+    Arg::new(alloc, "connections")
+        .long("requests")
+        .value_name("N")
+        .help("How many connections are served, one request each")
+        .required(true)
+        .value_parser(value_parser!(u32).range(1..=i64::from(MAX_CONNECTIONS)))
+}
+
+fn enrolments_arg<'a>(alloc: Global) -> Arg<'a> {
+    Arg::new(alloc, "enrolments")
+        .value_name("NAME=CEILING")
+        .help("An operator, and the greatest priority that it may use")
+        .action(ArgAction::Append)
+}
+
+fn token_arg<'a>(alloc: Global) -> Arg<'a> {
+    Arg::new(alloc, "token")
+        .value_name("TOKEN")
+        .help("A cell of the S2 geometry library, 1 to 16 hex digits")
+        .required(true)
+}
+
+fn text_arg<'a>(alloc: Global, name: &'a str, help: &'a str) -> Arg<'a> {
+    Arg::new(alloc, name)
+        .value_name(name)
+        .help(help)
+        .required(true)
+}
+
+fn small_arg<'a>(alloc: Global, name: &'a str, help: &'a str) -> Arg<'a> {
+    text_arg(alloc, name, help).value_parser(value_parser!(u8))
+}
+
+fn coordinate_arg<'a>(alloc: Global, name: &'a str, help: &'a str) -> Arg<'a> {
+    text_arg(alloc, name, help).value_parser(value_parser!(u32))
+}
+
+fn picture_arg<'a>(alloc: Global) -> Arg<'a> {
+    Arg::new(alloc, "picture")
+        .long("svg")
+        .help("Prints a picture (SVG) in place of the tokens")
+        .action(ArgAction::SetTrue)
+}
