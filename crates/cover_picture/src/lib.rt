@@ -6,11 +6,8 @@ ghost use Rattle.std.specs.Prelude.{◌<◌, ◌≤◌};
 
 use s2_cellid::CellId;
 use s2_cover::Rect;
-use s2_hilbert::{LEAF_LEVEL, leaf_at};
+use s2_hilbert::{FACE_SIDE, LEAF_LEVEL, leaf_at};
 use std::alloc::{AllocError, Global};
-
-/// How many leaves a face has along a side.
-const FACE_SIDE: u64 = 1 << LEAF_LEVEL;
 
 /// About how many squares are drawn along a rectangle.
 const SQUARES: u64 = 32;
@@ -140,7 +137,9 @@ fn shown(least: u32, greatest: u32, margin: u64, step: u64) -> (u64, u64)
 {
     let from = floor(u64::from(least).saturating_sub(margin), step);
     let last = u64::from(greatest).saturating_add(margin);
-    let to = floor(last, step).saturating_add(step).min(FACE_SIDE);
+    let to = floor(last, step)
+        .saturating_add(step)
+        .min(u64::from(FACE_SIDE));
     (from, to.saturating_sub(from))
 }
 

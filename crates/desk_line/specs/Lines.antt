@@ -2,6 +2,7 @@
 use Rattle.std.specs.Prelude.{ℕ, List, All, ⊤, ◌≤◌, Option, Some, None, if◌then◌else◌, bytes_eq, codes}
 use Rattle.std.specs.Prelude.{string_bytes}
 use Rattle.std.specs.Int.{IsInRange}
+use Rattle.desk_rules.specs.Limits.{max_priority}
 use Rattle.desk_wire.specs.Moments.{IsMoment}
 use Rattle.desk_line.specs.declared.line.Database.{Database}
 use Rattle.desk_line.specs.declared.line.Database.TheVariants.{InMemory, File}
@@ -11,10 +12,6 @@ use Rattle.desk_line.specs.declared.line.Line.{Line}
 use Rattle.desk_line.specs.declared.line.Line.TheVariants.{Play, Token, Serve, Cover, Enrol}
 use Rattle.desk_line.specs.declared.line.Play.{Play as PlayWords}
 use Rattle.desk_line.specs.declared.line.Serve.{Serve as ServeWords}
-
--- the greatest ceiling
-abbrev pub max_ceiling : ℕ
-max_ceiling = 1000
 
 abbrev pub min_port : ℕ
 min_port = 1
@@ -40,7 +37,7 @@ named_file None = None
 named_file (Some word) = if bytes_eq word (codes ":memory:") then None else Some word
 
 abbrev pub AreEnrolments : List Enrolment → Type 0
-AreEnrolments enrolments = All (λ e. e.ceiling ≤ max_ceiling) enrolments
+AreEnrolments enrolments = All (λ e. e.ceiling ≤ max_priority) enrolments
 
 -- the words of `play`
 pub record IsPlay (play : PlayWords) : Type 0 where
@@ -55,7 +52,7 @@ pub record IsServe (serve : ServeWords) : Type 0 where
 
 -- the words of `enrol`
 abbrev pub IsEnrol : EnrolWords → Type 0
-IsEnrol enrol = enrol.enrolment.ceiling ≤ max_ceiling
+IsEnrol enrol = enrol.enrolment.ceiling ≤ max_priority
 
 -- each number of a line is in its range
 abbrev pub IsLine : Line → Type 0

@@ -10,6 +10,7 @@ use Rattle.s2_cover.specs.Ranges.{IsRanges}
 use Rattle.s2_cover.specs.Rectangles.{RectParts, rect_leaves, rect_or_fault}
 use Rattle.s2_cover.specs.declared.rect.RectFault.{RectFault}
 use Rattle.s2_cover.specs.declared.spans.Span.{Span}
+use Rattle.volume4d.specs.Limits.{max_cover}
 use Rattle.desk_line.specs.declared.failure.Failure.{Failure}
 use Rattle.desk_line.specs.declared.failure.Failure.TheVariants as failure
 use Rattle.desk_line.specs.declared.line.Cover.{Cover as CoverWords}
@@ -28,10 +29,6 @@ cell_line id =
 abbrev pub told_of_token : Result ℕ TokenFault → Result (List ℕ) Failure
 told_of_token (Ok id) = Ok (cell_line id)
 told_of_token (Err fault) = Err (failure.Token fault)
-
--- the greatest number of cells
-abbrev pub max_cells : ℕ
-max_cells = 256
 
 abbrev pub rect_parts : CoverWords → RectParts
 rect_parts words = record {
@@ -58,14 +55,14 @@ cover_lines ids ranges =
 pub record IsCoverText (set : ℕ → Bool) (text : List ℕ) : Type 0 where
   pub ids : List ℕ
   pub canonical : IsCanonical set ids
-  pub few : length ids ≤ max_cells
+  pub few : length ids ≤ max_cover
   pub spans : List Span
   pub ranges : IsRanges set spans
   pub lines : text ≡ cover_lines ids (length spans)
 
 -- the canonical cover of a set of leaves has too many cells
 abbrev pub IsLong : (ℕ → Bool) → Type 0
-IsLong set = (ids : List ℕ) × (IsCanonical set ids × (max_cells < length ids))
+IsLong set = (ids : List ℕ) × (IsCanonical set ids × (max_cover < length ids))
 
 -- what is told of a rectangle: the lines of its cover, a picture, or why there is none
 abbrev pub IsRectTold : Bool → Result RectParts RectFault → Result (List ℕ) Failure → Type 0

@@ -1,9 +1,10 @@
 //! The command line that is taken: its lines and their words as rows, of which `clap` makes help and reads
 //! what is given.
 
-use crate::line::{LAST_MOMENT, MAX_CONNECTIONS};
+use crate::line::MAX_CONNECTIONS;
 use clap::{Arg, ArgAction, Command, value_parser};
 use std::alloc::{AllocError, Global};
+use volume4d::MAX_SECOND;
 
 // A line: its first word, what it does, and its further words.
 struct Form {
@@ -124,7 +125,7 @@ fn moment_arg<'a>(alloc: Global) -> Arg<'a> {
         .value_name("SECOND")
         .help("The moment of all requests, a Unix second")
         .required(true)
-        .value_parser(value_parser!(i64).range(0..=LAST_MOMENT))
+        .value_parser(value_parser!(i64).range(0..=MAX_SECOND))
 }
 
 fn port_arg<'a>(alloc: Global) -> Arg<'a> {

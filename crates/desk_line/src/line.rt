@@ -2,7 +2,8 @@
 
 ghost use Rattle.std.specs.Prelude.{◌≡◌, ◌≤◌, IfOk, IfSome, OnOk, option_map, codes};
 ghost use Rattle.clap.specs.Matches.{found_of, first_value};
-ghost use Rattle.desk_line.specs.Lines.{AreEnrolments, IsEnrol, IsLine, IsPlay, IsServe, max_ceiling};
+ghost use Rattle.desk_rules.specs.Limits.{max_priority};
+ghost use Rattle.desk_line.specs.Lines.{AreEnrolments, IsEnrol, IsLine, IsPlay, IsServe};
 ghost use Rattle.desk_line.specs.Lines.{file_of, named_file};
 
 #[cfg(test)]
@@ -11,12 +12,10 @@ mod tests;
 use crate::command::make_command;
 use clap::ArgMatches;
 use clap::error::ErrorKind;
+use desk_rules::decide::MAX_PRIORITY;
 use desk_rules::operator::Operator;
-use desk_run::MAX_CEILING;
 use std::alloc::{AllocError, AllocFailed, Global};
-
-/// The last moment, a Unix second.
-pub(crate) const LAST_MOMENT: i64 = 253_370_764_800;
+use volume4d::MAX_SECOND;
 
 /// The word for a database in memory.
 const IN_MEMORY: &str = ":memory:";
@@ -174,7 +173,7 @@ fn read_play(alloc: Global, matches: &ArgMatches<'_>) -> Result<Play, WordsFault
         named_file (first_value (found_of matches.now) (codes "database"))) }
 {
     let moment = match matches.get_one::<i64>("moment") {
-        Some(moment @ 0..=LAST_MOMENT) => moment,
+        Some(moment @ 0..=MAX_SECOND) => moment,
         _ => return Err(WordsFault::Value),
     };
     Ok(Play {
@@ -244,7 +243,7 @@ fn read_enrol(alloc: Global, matches: &ArgMatches<'_>) -> Result<Enrol, WordsFau
 
 // The operator and its ceiling.
 fn read_operator(matches: &ArgMatches<'_>) -> Option<Enrolment>
-    ensures { IfSome result (λ e. e.ceiling ≤ max_ceiling) }
+    ensures { IfSome result (λ e. e.ceiling ≤ max_priority) }
 {
     enrolment_by(matches.get_str("NAME")?, matches.get_str("CEILING")?)
 }
@@ -289,7 +288,7 @@ fn read_enrolments(alloc: Global, matches: &ArgMatches<'_>) -> Result<Vec<Enrolm
 
 // An enrolment, `NAME=CEILING`, parted at its first `=`.
 fn enrolment_of(word: &str) -> Option<Enrolment>
-    ensures { IfSome result (λ e. e.ceiling ≤ max_ceiling) }
+    ensures { IfSome result (λ e. e.ceiling ≤ max_priority) }
 {
     let (name, ceiling) = word.split_once('=')?;
     enrolment_by(name, ceiling)
@@ -297,7 +296,7 @@ fn enrolment_of(word: &str) -> Option<Enrolment>
 
 // An enrolment of an operator under a ceiling.
 fn enrolment_by(name: &str, ceiling: &str) -> Option<Enrolment>
-    ensures { IfSome result (λ e. e.ceiling ≤ max_ceiling) }
+    ensures { IfSome result (λ e. e.ceiling ≤ max_priority) }
 {
     Some(Enrolment {
         operator: Operator::try_new(name.as_bytes())?,
@@ -307,7 +306,7 @@ fn enrolment_by(name: &str, ceiling: &str) -> Option<Enrolment>
 
 // A ceiling: 1 to 4 digits, at most 1,000.
 fn ceiling_of(digits: &str) -> Option<u32>
-    ensures { IfSome result (λ ceiling. ceiling ≤ max_ceiling) }
+    ensures { IfSome result (λ ceiling. ceiling ≤ max_priority) }
 {
     if digits.len() > CEILING_DIGITS || !digits.bytes().all(|b| b.is_ascii_digit()) {
         return None;
@@ -315,5 +314,5 @@ fn ceiling_of(digits: &str) -> Option<u32>
     digits
         .parse()
         .ok()
-        .filter(|ceiling| *ceiling <= MAX_CEILING)
+        .filter(|ceiling| *ceiling <= MAX_PRIORITY)
 }

@@ -26,9 +26,7 @@ use s2_cover::{Cover, Rect, cover};
 use s2_hilbert::leaf_at;
 use std::alloc::{AllocError, Global};
 use std::io::Write;
-
-/// The most cells of a rectangle's cover.
-const MAX_CELLS: u32 = 256;
+use volume4d::MAX_COVER;
 
 /// Prints what a line of `token` or `cover` asks for, and answers the exit status. The word of a failure
 /// goes to `errors`; a fault there is passed over.
@@ -106,7 +104,7 @@ fn cover_text(alloc: Global, words: &CoverWords) -> Result<String, Failure>
         words.j_max,
         words.level,
     )?;
-    let cover = cover(alloc, &rect, MAX_CELLS)?;
+    let cover = cover(alloc, &rect, MAX_COVER)?;
     if words.is_picture {
         Ok(picture_of(alloc, &rect, cover.cells())?)
     } else {

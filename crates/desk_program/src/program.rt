@@ -5,7 +5,8 @@ ghost use Rattle.desk_run.specs.Faults.{IsBreakdown};
 ghost use Rattle.desk_store.specs.Faults.{IsHonest};
 ghost use Rattle.desk_line.specs.Exits as spec;
 ghost use Rattle.desk_line.specs.Exits.{exit_status};
-ghost use Rattle.desk_line.specs.Lines.{AreEnrolments, HasDesk, IsLine, IsPlay, max_ceiling};
+ghost use Rattle.desk_rules.specs.Limits.{max_priority};
+ghost use Rattle.desk_line.specs.Lines.{AreEnrolments, HasDesk, IsLine, IsPlay};
 ghost use Rattle.desk_program.specs.Enrolling as enrolling;
 ghost use Rattle.desk_program.specs.Enrolling.{with_operators};
 ghost use Rattle.desk_program.specs.Playing.{IsEnrolled, IsLinePlayed, IsNotPlayed, IsPlayed, status_after};
@@ -89,7 +90,7 @@ fn enrol_line<S: PlanStore, W: Write, E: Write>(
     output: &mut W,
     errors: &mut E,
 ) -> u8
-    requires { enrolment.now.ceiling ≤ max_ceiling }
+    requires { enrolment.now.ceiling ≤ max_priority }
     ensures enrolled { IsEnrolled (IsHonest (S.doubt desk.new)) enrolment.now result
         (W.contents output.old) (W.contents output.new) (S.content desk.old) (S.content desk.new) }
     ensures doubt { S.doubt desk.old ≤ S.doubt desk.new }

@@ -18,9 +18,7 @@ use std::alloc::{AllocError, Global};
 use std::io::{self, ErrorKind, Read, Write};
 use std::net::{Ipv4Addr, Net, Shutdown, TcpListener, TcpStream};
 use std::time::{Clock, Duration, SystemTime};
-
-/// The last moment, a Unix second.
-const LAST_MOMENT: i64 = 253_370_764_800;
+use volume4d::MAX_SECOND;
 
 /// The status of an answer that says that the desk failed.
 const SERVER_ERROR: u16 = 500;
@@ -155,7 +153,7 @@ fn moment_of<C: Clock>(clock: &C) -> Option<i64>
     let time = SystemTime::now(clock).ok()?;
     let since = time.duration_since(SystemTime::UNIX_EPOCH).ok()?;
     match i64::try_from(since.as_secs()) {
-        Ok(moment @ 0..=LAST_MOMENT) => Some(moment),
+        Ok(moment @ 0..=MAX_SECOND) => Some(moment),
         _ => None,
     }
 }
