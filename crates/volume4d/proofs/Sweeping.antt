@@ -1,10 +1,9 @@
 -- The sweep over two lists that ascend.
-use Rattle.std.proofs.Common.{◌≡◌, ℕ, zero, suc, ◌+◌, ◌-◌, ◌*◌, ◌^◌, ◌<◌, ◌≤◌, Bool, true, false, ◌&&◌, ◌||◌, leb, ltb, List, [], ◌∷◌, ◌++◌, length, get_or, take, drop, set, Option, Some, None, refl, sym, ap, ◌∙◌, subst, arith, Less, take-append-drop, length-drop}
-use Rattle.std.specs.List.{list_any, Any}
+use Rattle.std.proofs.Common.{◌≡◌, ℕ, zero, suc, ◌+◌, ◌-◌, ◌<◌, ◌≤◌, Bool, true, false, ◌&&◌, ◌||◌, List, [], ◌∷◌, ◌++◌, length, get_or, take, drop, set, Option, Some, None, refl, sym, ap, ◌∙◌, subst, arith, Less, take-append-drop, length-drop}
+use Rattle.std.specs.List.{list_any}
 use Rattle.std.specs.Ordering.{ordering_then, nat_cmp}
 use Rattle.std.specs.declared.cmp.Ordering.{Ordering}
-use Rattle.std.specs.List.Sorted.{IsNonDecreasingBy}
-use Rattle.std.proofs.Math.Bool.{and-or_distrib_left, and-or_distrib_right}
+use Rattle.std.proofs.Math.Bool.{and-or_distrib_left}
 use Rattle.std.proofs.lemmas.Bool.{and_parts, false_from_ne_true}
 use Rattle.std.proofs.lemmas.Bool.Decides.{nat_tests}
 use Rattle.std.proofs.lemmas.List.{take_more, get_or-drop, get_or_default, get_or_push, length_push}
@@ -14,10 +13,10 @@ use Rattle.s2_hilbert.specs.Curve.{position_of, grid_leaf_at}
 use Rattle.s2_hilbert.specs.CurveLaws.{position_undone}
 use Rattle.s2_cellid.specs.Cell.{leaf_id_at}
 use Rattle.volume4d.specs.declared.slab.Slab.{Slab}
-use Rattle.volume4d.specs.Point.{Point, point_cmp}
+use Rattle.volume4d.specs.Point.{Point}
 use Rattle.volume4d.specs.Slab.{slab_has, slabs_have}
 use Rattle.volume4d.specs.Meeting.{IsFirstPoint}
-use Rattle.volume4d.specs.Sweep.{placed_have, Ascend, IsOver, Adds, IsLate, AreLate}
+use Rattle.volume4d.specs.Sweep.{placed_have, Ascend, IsOver, Adds, IsLate}
 use Rattle.volume4d.proofs.FirstPoints.{first_point_same}
 use Rattle.volume4d.proofs.PointsIn.{IsIn-from_has}
 
@@ -93,9 +92,14 @@ module _ {A : Type 0} (slab_of : A → Slab) where
       let inside : n + one.0 < length list = omega (arith, one.2, length-drop n list) in
       let order = up n (n + one.0) item (omega arith) inside in
       let same : get_or list (n + one.0) item ≡ one.1 =
-          get_or_default list (n + one.0) item one.1 inside ∙ sym there ∙ one.3 in
-      omega (arith, ap (λ a. (slab_of a).first) is, order, ap (λ a. (slab_of a).first) same,
-      begins_up_to (slab_of one.1) x one.4)
+      get_or_default list (n + one.0) item one.1 inside ∙ sym there ∙ one.3 in
+      omega (
+        arith,
+        ap (λ a. (slab_of a).first) is,
+        order,
+        ap (λ a. (slab_of a).first) same,
+        begins_up_to (slab_of one.1) x one.4,
+      )
 
   -- where all that is left comes late, the first point of those so far is the first of all
   pub sweep_stops : (f : Point → Bool) (list : List A) (n : ℕ) (item : A) (o : Option Point)
@@ -144,47 +148,52 @@ module _ {A : Type 0} (slab_of : A → Slab) where
       → IsSweeping mine theirs (n + 1) more rest new
   sweep_goes_on mine theirs n count item lanes left more rest found next new below is up so_far adds cut
       here earlier = record {
-    met = first_point_same _ _ joined new (earlier _ _ so_far.met
-        (first_point_same _ _ own next here));
-    rest = λ x d inside later. still x (from_next x d inside later);
-    up = rw cut (IsNonDecreasingBy-drop (λ s. s.first) count left so_far.up);
-  } where
-    still : (x : Point) → (slab_of item).first ≤ position_of x.leaf
-        → slabs_have mine x ≡ (slabs_have more x || slabs_have rest x)
-    still x later =
-        so_far.rest x item below (omega (arith, ap (λ a. (slab_of a).first) is, later))
-        ∙ ap (λ b. slabs_have lanes x || b) (split x)
-        ∙ or_assoc (slabs_have lanes x) (slabs_have (take count left) x) (slabs_have rest x)
-        ∙ ap (λ b. b || slabs_have rest x) (sym (adds x later))
-      where
-        split : (x : Point) → slabs_have left x
-            ≡ (slabs_have (take count left) x || slabs_have rest x)
-        split x =
-            ap (λ l. slabs_have l x) (sym (take-append-drop count left))
-            ∙ list_any-append (λ s. slab_has s x) (take count left) (drop count left)
-            ∙ ap (λ l. slabs_have (take count left) x || slabs_have l x) (sym cut)
+        met = first_point_same _ _ joined new (earlier _ _ so_far.met
+            (first_point_same _ _ own next here));
+        rest = λ x d inside later. still x (from_next x d inside later);
+        up = rw cut (IsNonDecreasingBy-drop (λ s. s.first) count left so_far.up);
+      } where
+        still : (x : Point) → (slab_of item).first ≤ position_of x.leaf
+            → slabs_have mine x ≡ (slabs_have more x || slabs_have rest x)
+        still x later =
+            so_far.rest x item below (omega (arith, ap (λ a. (slab_of a).first) is, later))
+            ∙ ap (λ b. slabs_have lanes x || b) (split x)
+            ∙ or_assoc (slabs_have lanes x) (slabs_have (take count left) x) (slabs_have rest x)
+            ∙ ap (λ b. b || slabs_have rest x) (sym (adds x later))
+          where
+            split : (x : Point) → slabs_have left x
+                ≡ (slabs_have (take count left) x || slabs_have rest x)
+            split x =
+                ap (λ l. slabs_have l x) (sym (take-append-drop count left))
+                ∙ list_any-append (λ s. slab_has s x) (take count left) (drop count left)
+                ∙ ap (λ l. slabs_have (take count left) x || slabs_have l x) (sym cut)
 
-    from_next : (x : Point) (d : A) → n + 1 < length theirs
-        → (slab_of (get_or theirs (n + 1) d)).first ≤ position_of x.leaf
-        → (slab_of item).first ≤ position_of x.leaf
-    from_next x d inside later =
-        let same = get_or_default theirs n item d below in
-        omega (arith, ap (λ a. (slab_of a).first) is, ap (λ a. (slab_of a).first) same,
-        up n (n + 1) d (omega arith) inside, later)
+        from_next : (x : Point) (d : A) → n + 1 < length theirs
+            → (slab_of (get_or theirs (n + 1) d)).first ≤ position_of x.leaf
+            → (slab_of item).first ≤ position_of x.leaf
+        from_next x d inside later =
+            let same = get_or_default theirs n item d below in
+            omega (
+              arith,
+              ap (λ a. (slab_of a).first) is,
+              ap (λ a. (slab_of a).first) same,
+              up n (n + 1) d (omega arith) inside,
+              later,
+            )
 
-    own : (x : Point) → ((slabs_have more x || slabs_have rest x) && slab_has (slab_of item) x)
-        ≡ (slabs_have mine x && slab_has (slab_of item) x)
-    own x = by_item (slab_has (slab_of item) x) refl where
-      by_item : (b : Bool) → slab_has (slab_of item) x ≡ b
-          → ((slabs_have more x || slabs_have rest x) && b) ≡ (slabs_have mine x && b)
-      by_item true has = ap (λ b. b && true) (sym (still x (begins_up_to (slab_of item) x has)))
-      by_item false has =
-          and_last (slabs_have more x || slabs_have rest x) false ∙ and_last false (slabs_have mine x)
+        own : (x : Point) → ((slabs_have more x || slabs_have rest x) && slab_has (slab_of item) x)
+            ≡ (slabs_have mine x && slab_has (slab_of item) x)
+        own x = by_item (slab_has (slab_of item) x) refl where
+          by_item : (b : Bool) → slab_has (slab_of item) x ≡ b
+              → ((slabs_have more x || slabs_have rest x) && b) ≡ (slabs_have mine x && b)
+          by_item true has = ap (λ b. b && true) (sym (still x (begins_up_to (slab_of item) x has)))
+          by_item false has =
+              and_last (slabs_have more x || slabs_have rest x) false ∙ and_last false (slabs_have mine x)
 
-    joined : (x : Point) → ((slabs_have mine x && placed_have slab_of (take n theirs) x)
-        || (slabs_have mine x && slab_has (slab_of item) x))
-        ≡ (slabs_have mine x && placed_have slab_of (take (n + 1) theirs) x)
-    joined x = one_more_placed slab_of (slabs_have mine) theirs n item x below is
+        joined : (x : Point) → ((slabs_have mine x && placed_have slab_of (take n theirs) x)
+            || (slabs_have mine x && slab_has (slab_of item) x))
+            ≡ (slabs_have mine x && placed_have slab_of (take (n + 1) theirs) x)
+        joined x = one_more_placed slab_of (slabs_have mine) theirs n item x below is
 
 -- one more pair list of all
 pub one_more_of_theirs : {A : Type 0} (slab_of : A → Slab) (f : Point → Bool) (list : List A) (n : ℕ)
@@ -263,6 +272,6 @@ rises_more {A} slab_of list n item number next below is so_far order begins =
           (λ d some. omega (arith, so_far.top d some, order, begins));
       top = λ d some.
           let last : get_or (take n list ++ item ∷ []) (length (take n list ++ item ∷ []) - 1) d ≡ item =
-              last_pushed (take n list) item d
+          last_pushed (take n list) item d
           in omega (arith, ap (λ a. (slab_of a).first) last, begins);
     })

@@ -2,6 +2,7 @@
 
 mod footprints;
 mod meetings;
+mod sweep;
 mod volumes;
 
 use crate::area::Area;

@@ -1,4 +1,4 @@
-use Rattle.std.proofs.Common.{◌&&◌, ap, subst}
+use Rattle.std.proofs.Common.{◌&&◌, subst}
 use Rattle.volume4d.specs.Slab.{slabs_have, helds_have}
 use Rattle.volume4d.specs.Meeting.{IsFirstPoint}
 use Rattle.volume4d.proofs.FirstPoints.{meeting_of_point, none_shared}
