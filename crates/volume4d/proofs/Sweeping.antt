@@ -1,5 +1,5 @@
 -- The sweep over two lists that ascend.
-use Rattle.std.proofs.Common.{◌≡◌, ℕ, zero, suc, ◌+◌, ◌-◌, ◌<◌, ◌≤◌, Bool, true, false, ◌&&◌, ◌||◌, List, [], ◌∷◌, ◌++◌, length, get_or, take, drop, set, Option, Some, None, refl, sym, ap, ◌∙◌, subst, arith, Less, take-append-drop, length-drop}
+use Rattle.std.proofs.Common.{◌≡◌, ℕ, zero, suc, ◌+◌, ◌-◌, ◌<◌, ◌≤◌, Bool, true, false, ◌&&◌, ◌||◌, ltb, List, [], ◌∷◌, ◌++◌, length, get_or, take, drop, set, Option, Some, None, refl, sym, ap, ◌∙◌, subst, arith, Less, take-append-drop, length-drop}
 use Rattle.std.specs.List.{list_any}
 use Rattle.std.specs.Ordering.{ordering_then, nat_cmp}
 use Rattle.std.specs.declared.cmp.Ordering.{Ordering}
@@ -9,14 +9,13 @@ use Rattle.std.proofs.lemmas.Bool.Decides.{nat_tests}
 use Rattle.std.proofs.lemmas.List.{take_more, get_or-drop, get_or_default, get_or_push, length_push}
 use Rattle.std.proofs.lemmas.List.Folds.{list_any-append, list_any_more, Any-from_list_any}
 use Rattle.std.proofs.lemmas.List.Sorted.{IsNonDecreasingBy-push, IsNonDecreasingBy-drop}
-use Rattle.s2_hilbert.specs.Curve.{position_of, grid_leaf_at}
-use Rattle.s2_hilbert.specs.CurveLaws.{position_undone}
+use Rattle.s2_hilbert.specs.Curve.{position_of}
 use Rattle.s2_cellid.specs.Cell.{leaf_id_at}
 use Rattle.volume4d.specs.declared.slab.Slab.{Slab}
 use Rattle.volume4d.specs.Point.{Point}
 use Rattle.volume4d.specs.Slab.{slab_has, slabs_have}
 use Rattle.volume4d.specs.Meeting.{IsFirstPoint}
-use Rattle.volume4d.specs.Sweep.{placed_have, Ascend, IsOver, Adds, IsLate}
+use Rattle.volume4d.specs.Sweep.{placed_have, Ascend, IsOver, Adds, IsLate, AreLate}
 use Rattle.volume4d.proofs.FirstPoints.{first_point_same}
 use Rattle.volume4d.proofs.PointsIn.{IsIn-from_has}
 
@@ -46,12 +45,11 @@ not_less_after a b rest below e = by_ids (nat_cmp (leaf_id_at b) (leaf_id_at a))
   by_ids : (o : Ordering) → nat_cmp (leaf_id_at b) (leaf_id_at a) ≡ o → ordering_then o rest ≡ Less → ⊥
   by_ids o is same = grind (arith, nat_tests)
 
--- no point after the position of one found comes before it
-pub late_after : (pos position : ℕ) (p x : Point) → p.leaf ≡ grid_leaf_at pos
-    → pos < position → position ≤ position_of x.leaf → IsLate (Some p) x
-late_after pos position p x at below later e =
-    not_less_after (position_of p.leaf) (position_of x.leaf) _
-    (omega (arith, ap position_of at, position_undone pos)) e
+-- no point after the position of another comes before it
+pub late_after : (position : ℕ) (p : Point) → ltb (position_of p.leaf) position ≡ true
+    → AreLate position (Some p)
+late_after position p below x later e =
+    not_less_after (position_of p.leaf) (position_of x.leaf) _ (grind (arith, nat_tests, below, later)) e
 
 -- what comes late changes nothing
 found_stays : (f g : Point → Bool) (o : Option Point) → IsFirstPoint f o

@@ -92,24 +92,22 @@ pub fn first_meeting(mine: &[Slab], theirs: &[Held]) -> Option<Meeting>
 }
 
 /// As `first_meeting`, and the number of pairs of slabs that were compared, which tests read.
+#[tactic(auto, using(crate::proofs::FirstPoints::meeting_of_point, crate::proofs::FirstPoints::none_shared,))]
 pub fn first_meeting_counted(mine: &[Slab], theirs: &[Held]) -> (Option<Meeting>, u128)
     ensures { IsFirst (is_shared mine.now theirs.now) (top_held theirs.now) result.0 }
 {
     let mut pairs = 0;
-    let first = first_shared(mine, theirs, &mut pairs);
-    (meeting_of(first, theirs), pairs)
+    match first_held(mine, theirs, &mut pairs) {
+        Some(corner) => (meeting_at(corner, theirs), pairs),
+        None => (None, pairs),
+    }
 }
 
-// The meeting at the first shared point, or `None` if no point is shared.
-fn meeting_of(first: Option<Corner>, theirs: &[Held]) -> Option<Meeting>
-    ensures { (mine : List Slab)
-        → IsFirstPoint (λ x. slabs_have mine x && helds_have theirs.now x) first
-        → IsFirst (is_shared mine theirs.now) (top_held theirs.now) result }
+// The first point that the slabs share with held ones.
+fn first_held(mine: &[Slab], theirs: &[Held], pairs: &mut u128) -> Option<Corner>
+    ensures { IsFirstPoint (λ x. slabs_have mine.now x && helds_have theirs.now x) result }
 {
-    match first {
-        Some(corner) => meeting_at(corner, theirs),
-        None => None,
-    }
+    first_shared(mine, theirs, pairs)
 }
 
 // The meeting at a point, or `None` if nothing holds it.

@@ -1,6 +1,6 @@
 //! The sweep: the first point that two lists of slabs share, found along both lists at once.
 
-ghost use Rattle.std.specs.Prelude.{◌≡◌, ◌≤◌, ◌<◌, ◌&&◌, ◌||◌, false, true, IfSome, IsTrue, length, take};
+ghost use Rattle.std.specs.Prelude.{◌≡◌, ◌≤◌, ◌<◌, ◌&&◌, ◌||◌, nat_lt, false, true, IfSome, IsTrue, length, take};
 ghost use Rattle.std.specs.List.{HoldsAt};
 ghost use Rattle.s2_hilbert.specs.Curve.{position_of};
 ghost use Rattle.volume4d.specs.Point.{Point};
@@ -124,6 +124,7 @@ fn take_in(lanes: &mut [Slab], left: &[Slab], position: u64) -> Option<usize>
 }
 
 // Puts a slab into a lane that is over at the position, if there is one.
+#[tactic(auto, using(crate::proofs::Sweeping::put_adds))]
 fn put(lanes: &mut [Slab], slab: &Slab, position: u64) -> bool
     ensures { IsTrue result → Adds position lanes.old (slab_has slab.now) lanes.new }
 {
@@ -210,13 +211,22 @@ fn is_done(slab: &Slab, other: &Slab, first: &Option<Corner>) -> bool
 }
 
 // Whether a position is after that of the point found.
+#[tactic(auto, using(crate::proofs::Sweeping::late_after))]
 fn is_after(position: u64, first: &Option<Corner>) -> bool
     ensures { IsTrue result → AreLate position first.now }
 {
     match first {
-        Some(corner) => corner.pos < position,
+        Some(corner) => is_beyond(position, corner),
         None => false,
     }
+}
+
+// Whether a position is after that of a point.
+#[tactic(auto, using(s2_hilbert::specs::CurveLaws::position_undone))]
+fn is_beyond(position: u64, corner: &Corner) -> bool
+    ensures { result ≡ nat_lt (position_of corner.now.leaf) position }
+{
+    corner.pos < position
 }
 
 // Whether a slab has no point at the position or after it.
