@@ -118,9 +118,11 @@ fn slabs_of(alloc: Global, volumes: &[Volume]) -> Result<Vec<Slab>, AllocError>
 }
 
 // The same slabs, ascending by their first leaves.
+#[tactic(auto, using(crate::proofs::Filled::filled_again))]
 fn in_order(mut slabs: Vec<Slab>) -> Vec<Slab>
     ensures same { IsPermutation slabs.items result.items }
     ensures order { IsNonDecreasingBy (λ s. s.first) result.items }
+    ensures filled { AreFilled slabs.items → AreFilled result.items }
 {
     slabs.sort_unstable_by_key(|slab| slab.first);
     slabs
