@@ -1,11 +1,11 @@
 -- The first point that two slabs share.
-use Rattle.std.proofs.Common.{◌≡◌, ℕ, ◌*◌, ◌^◌, ◌<◌, ℤ, Bool, true, false, ◌&&◌, ◌||◌, leb, ltb, max, List, [], ◌∷◌, refl, sym, ap, ◌∙◌, arith, Less, Equal, Greater}
+use Rattle.std.proofs.Common.{◌≡◌, ℕ, ◌*◌, ◌^◌, ◌<◌, ℤ, true, false, ◌&&◌, leb, ltb, max, refl, sym, ap, ◌∙◌, arith, Less, Equal, Greater}
 use Rattle.std.specs.Prelude.{int_le, int_lt}
 use Rattle.std.specs.declared.cmp.Ordering.{Ordering}
 use Rattle.std.specs.Ordering.{ordering_then, is_lt, nat_cmp, int_cmp}
 use Rattle.std.specs.Int.{int_max}
 use Rattle.std.proofs.lemmas.Int.{ints}
-use Rattle.std.proofs.lemmas.Bool.{and_parts, and_from, false_from_ne_true, or_right}
+use Rattle.std.proofs.lemmas.Bool.{and_parts, and_from, false_from_ne_true}
 use Rattle.std.proofs.lemmas.Bool.Decides.{nat_tests}
 use Rattle.s2_hilbert.specs.Curve.{position_of, grid_leaf_at}
 use Rattle.s2_hilbert.specs.CurveLaws.{position_undone}
@@ -13,9 +13,8 @@ use Rattle.s2_cellid.specs.Cell.{leaf_id_at}
 use Rattle.s2_cellid.specs.Family.{leaf_id}
 use Rattle.volume4d.specs.declared.slab.Slab.{Slab}
 use Rattle.volume4d.specs.Point.{Point, is_leaf, point_cmp}
-use Rattle.std.specs.List.{list_any}
-use Rattle.volume4d.specs.Slab.{slab_has_leaf, slab_has, slabs_have}
-use Rattle.volume4d.specs.Shared.{corner_of, share}
+use Rattle.volume4d.specs.Slab.{slab_has_leaf, slab_has}
+use Rattle.volume4d.specs.Shared.{corner_of}
 use Rattle.volume4d.proofs.LeafTests.{leaf_at_passes}
 use Rattle.volume4d.proofs.PointsIn.{IsIn, IsIn-from_has, has-from_IsIn}
 
@@ -177,46 +176,3 @@ pub has_both : (a : Slab) (m : Point) → slab_has_leaf a m.leaf ≡ true
 has_both a m leaf time =
     let parts = and_parts (int_le a.lower m.altitude && int_lt m.altitude a.upper) _ time in
     and_from _ _ (and_from _ _ leaf parts.0) parts.1
-
--- an element of the list that passes: every test that it passes, some element passes
-abbrev pub IsWitness : {A : Type 0} → (A → Bool) → List A → A → Type 0
-IsWitness {A} p xs y = (p y ≡ true) × ((q : A → Bool) → q y ≡ true → list_any q xs ≡ true)
-
-pub any_witness : {A : Type 0} (p : A → Bool) (xs : List A) → list_any p xs ≡ true → (y : A)
-    × IsWitness p xs y
-any_witness p [] e = cc
-any_witness {A} p (x ∷ xs) e = by_test (any_witness p xs) (p x) refl e where
-  by_test : (list_any p xs ≡ true → (y : A) × IsWitness p xs y) → (b : Bool) → p x ≡ b
-      → (b || list_any p xs)
-      ≡ true → (y : A) × IsWitness p (x ∷ xs) y
-  by_test rest true h e = (x, (h, λ q k. rw k refl))
-  by_test rest false h e = let w = rest e in (w.0, (w.1.0, λ q k. or_right (q x) _ (w.1.1 q k)))
-
-share-from_both : (a b : Slab) (x : Point) → slab_has a x ≡ true → slab_has b x ≡ true → share a b
-    ≡ true
-share-from_both a b x p q =
-    let wa = IsIn-from_has a x p in
-    let wb = IsIn-from_has b x q in
-    and_from _ _ (has-from_IsIn a _ (corner_left a b x wa wb))
-    (has-from_IsIn b _ (corner_right a b x wa wb))
-
--- some slab of each list shares a point just where a point is in both lists
-pub meet_is : (mine theirs : List Slab) (r : Bool) → r
-    ≡ list_any (λ s. list_any (λ t. share s t) theirs) mine
-    → (r ≡ true → (x : Point) × (slabs_have mine x ≡ true) × (slabs_have theirs x ≡ true))
-    × (((x : Point) × (slabs_have mine x ≡ true) × (slabs_have theirs x ≡ true)) → r ≡ true)
-meet_is mine theirs r e = (found, shown) where
-  found : r ≡ true → (x : Point) × (slabs_have mine x ≡ true) × (slabs_have theirs x ≡ true)
-  found h =
-      let a = any_witness (λ s. list_any (λ t. share s t) theirs) mine (sym e ∙ h) in
-      let b = any_witness (λ t. share a.0 t) theirs a.1.0 in
-      let x = corner_of a.0 b.0 in
-      let parts = and_parts (slab_has a.0 x) (slab_has b.0 x) b.1.0 in
-      (x, a.1.1 (λ s. slab_has s x) parts.0, b.1.1 (λ t. slab_has t x) parts.1)
-
-  shown : ((x : Point) × (slabs_have mine x ≡ true) × (slabs_have theirs x ≡ true)) → r ≡ true
-  shown (x, p, q) =
-      let a = any_witness (λ s. slab_has s x) mine p in
-      let b = any_witness (λ t. slab_has t x) theirs q in
-      e ∙ a.1.1 (λ s. list_any (λ t. share s t) theirs)
-      (b.1.1 (λ t. share a.0 t) (share-from_both a.0 b.0 x a.1.0 b.1.0))

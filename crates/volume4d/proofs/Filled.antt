@@ -5,6 +5,8 @@ use Rattle.std.proofs.lemmas.Int.{ints}
 use Rattle.std.proofs.lemmas.Bool.{and_parts}
 use Rattle.std.proofs.lemmas.List.{length-map, length-append, take_more, take_all}
 use Rattle.std.proofs.lemmas.List.Elements.{All-nil, All-append, All-cons, All-head, All-tail}
+use Rattle.std.specs.List.Sorted.{IsPermutation}
+use Rattle.std.proofs.lemmas.List.Sorted.{All-permutation, length_permutation}
 use Rattle.s2_cover.specs.declared.spans.Span.{Span}
 use Rattle.s2_cover.specs.Ranges.{IsSpan}
 use Rattle.volume4d.specs.declared.slab.Slab.{Slab}
@@ -71,3 +73,11 @@ pub all_volumes : (volumes : List Block) (count : ℕ) (slabs : List Slab) → l
     → AreSoFar (take count volumes) slabs → AreSoFar volumes slabs
 all_volumes volumes count slabs end so_far =
     subst (λ all. AreSoFar all slabs) (take_all count volumes end) so_far
+
+-- in whatever order they stand
+pub filled_again : (slabs others : List Slab) → IsPermutation slabs others → AreFilled slabs
+    → AreFilled others
+filled_again slabs others same filled = record {
+  some = omega (arith, filled.some, length_permutation slabs others same);
+  each = All-permutation IsFilled slabs others same filled.each;
+}

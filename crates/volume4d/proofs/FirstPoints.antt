@@ -2,7 +2,7 @@
 use Rattle.std.proofs.Common.{◌≡◌, ℕ, ◌+◌, ◌<◌, Bool, true, false, ◌&&◌, ◌||◌, List, length, get_or, take, Option, Some, None, refl, sym, ap, ◌∙◌}
 use Rattle.std.specs.Prelude.{is_some}
 use Rattle.std.specs.Option.{option_map}
-use Rattle.std.proofs.Math.Bool.{and-or_distrib_left, and-or_distrib_right}
+use Rattle.std.proofs.Math.Bool.{and-or_distrib_right}
 use Rattle.std.proofs.lemmas.List.Folds.{list_any_more}
 use Rattle.volume4d.specs.declared.slab.Slab.{Slab}
 use Rattle.volume4d.specs.declared.slab.Held.{Held}
@@ -17,18 +17,6 @@ pub first_point_same : (f g : Point → Bool) → ((x : Point) → f x ≡ g x) 
     → IsFirstPoint f o → IsFirstPoint g o
 first_point_same f g same None h = λ x. sym (same x) ∙ h x
 first_point_same f g same (Some p) h = (sym (same p) ∙ h.0, λ x e. sym (same x) ∙ h.1 x e)
-
--- one more held slab
-pub one_more_held : (f : Point → Bool) (hs : List Held) (i : ℕ) (h : Held) (o : Option Point)
-    → i < length hs
-    → h ≡ get_or hs i h
-    → IsFirstPoint (λ x. (f x && helds_have (take i hs) x) || (f x && slab_has h.slab x)) o
-    → IsFirstPoint (λ x. f x && helds_have (take (i + 1) hs) x) o
-one_more_held f hs i h o below is =
-    first_point_same _ _ (λ x. sym (and-or_distrib_left (f x) (helds_have (take i hs) x)
-    (slab_has h.slab x))
-    ∙ ap (λ b. f x && b) (sym (list_any_more (λ g. slab_has g.slab x) hs i h below
-    ∙ ap (λ g. helds_have (take i hs) x || slab_has g.slab x) (sym is)))) o
 
 -- one more slab
 pub one_more_of_mine : (mine : List Slab) (f : Point → Bool) (i : ℕ) (s : Slab) (o : Option Point)

@@ -11,3 +11,4 @@ pub mod BoundLemmas
 pub mod Corners
 pub mod LevelLemmas
 pub mod FirstPoints
+pub mod Sweeping

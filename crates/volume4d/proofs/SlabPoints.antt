@@ -5,6 +5,7 @@ use Rattle.std.proofs.Math.Bool.{and_assoc, and-or_distrib_left, and-or_distrib_
 use Rattle.std.proofs.lemmas.List.{append-nil, append_assoc}
 use Rattle.std.proofs.lemmas.List.Elements.{All-head, All-tail}
 use Rattle.std.proofs.lemmas.List.Folds.{list_any-append}
+use Rattle.std.proofs.lemmas.List.Sorted.{list_any-IsPermutation}
 use Rattle.s2_hilbert.specs.Curve.{position_of}
 use Rattle.s2_hilbert.specs.CurveLaws.{leaf_undone}
 use Rattle.s2_cover.specs.declared.spans.Span.{Span}
@@ -17,7 +18,7 @@ use Rattle.volume4d.specs.Shape.{shape_has, shape_positions}
 use Rattle.volume4d.specs.Volume.{Block, window_has, block_has, area_has}
 use Rattle.volume4d.specs.Slab.{slab_has, slabs_have, span_of, slab_window}
 use Rattle.volume4d.proofs.FootprintRanges.{leaves_alone}
-use Rattle.volume4d.specs.Slabs.{AreSlabsOn, AreVolumeSlabs, AreAreaSlabs}
+use Rattle.volume4d.specs.Slabs.{AreSlabsOn, AreVolumeSlabs, AreAreaSlabs, AreSortedSlabs}
 
 -- a slab by its span of leaves and its window
 slab_by_parts : (s : Slab) (window : WindowParts) (x : Point) → slab_window s ≡ window
@@ -91,6 +92,13 @@ area_points (v ∷ vs) slabs (front, rest, whole, here, there) x =
     ap (λ s. slabs_have s x) whole ∙ list_any-append (λ s. slab_has s x) front rest
     ∙ ap (λ b. b || slabs_have rest x) (volume_points v front here x)
     ∙ ap (λ b. block_has v x || b) (area_points vs rest there x)
+
+-- in whatever order they stand
+pub sorted_points : (area : List Block) (slabs : List Slab) → AreSortedSlabs area slabs → (x : Point)
+    → slabs_have slabs x ≡ area_has area x
+sorted_points area slabs are x =
+    sym (list_any-IsPermutation (λ s. slab_has s x) are.listed slabs are.same)
+    ∙ area_points area are.listed are.of_area x
 
 -- the slabs of one more volume
 pub slabs_of_push : (area : List Block) (v : Block) (slabs more : List Slab)

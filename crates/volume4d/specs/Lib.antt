@@ -13,6 +13,7 @@ pub mod Bounds
 pub mod Slabs
 pub mod Meeting
 pub mod Shared
+pub mod Sweep
 pub mod LevelLaws
 pub mod VolumeLaws
 pub mod Faults

@@ -5,7 +5,7 @@ use Rattle.s2_hilbert.specs.Curve.{grid_leaf_at}
 use Rattle.volume4d.specs.declared.slab.Slab.{Slab}
 use Rattle.volume4d.specs.declared.slab.Held.{Held}
 use Rattle.volume4d.specs.Point.{Point}
-use Rattle.volume4d.specs.Slab.{slab_has, slabs_have, top_held}
+use Rattle.volume4d.specs.Slab.{slabs_have, top_held}
 
 -- a point of one of the slabs and of one of the held ones
 unfoldable pub is_shared : List Slab → List Held → Point → Bool
@@ -18,7 +18,3 @@ corner_of a b = record {
   altitude = int_max a.lower b.lower;
   second = int_max a.start b.start;
 }
-
--- two slabs share a point exactly if both have this one
-abbrev pub share : Slab → Slab → Bool
-share a b = slab_has a (corner_of a b) && slab_has b (corner_of a b)

@@ -1,5 +1,6 @@
 -- The slabs of volumes and of areas.
 use Rattle.std.specs.Prelude.{◌≡◌, List, [], ◌∷◌, ◌++◌, All, map}
+use Rattle.std.specs.List.Sorted.{IsPermutation, IsNonDecreasingBy}
 use Rattle.s2_cover.specs.declared.spans.Span.{Span}
 use Rattle.s2_cover.specs.Ranges.{IsRanges}
 use Rattle.volume4d.specs.declared.slab.Slab.{Slab}
@@ -24,3 +25,10 @@ abbrev pub AreAreaSlabs : List Block → List Slab → Type 0
 AreAreaSlabs [] slabs = slabs ≡ []
 AreAreaSlabs (v ∷ vs) slabs =
     (front rest : List Slab) × (slabs ≡ front ++ rest) × AreVolumeSlabs v front × AreAreaSlabs vs rest
+
+-- the slabs of the volumes of an area, ascending by their first leaves
+pub record AreSortedSlabs (area : List Block) (slabs : List Slab) : Type 0 where
+  pub listed : List Slab
+  pub of_area : AreAreaSlabs area listed
+  pub same : IsPermutation listed slabs
+  pub order : IsNonDecreasingBy (λ s. s.first) slabs

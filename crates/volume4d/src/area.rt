@@ -1,11 +1,12 @@
 //! Areas: the volumes of a plan.
 
 ghost use Rattle.std.specs.Prelude.{◌≡◌, ◌<◌, Some, None, if◌then◌else◌, IsTrue, IfOk, length};
+ghost use Rattle.std.specs.List.Sorted.{IsPermutation, IsNonDecreasingBy};
 ghost use Rattle.volume4d.specs.Limits.{within_volumes};
 ghost use Rattle.volume4d.specs.Point.{Point};
 ghost use Rattle.volume4d.specs.Slab.{slabs_have};
 ghost use Rattle.volume4d.specs.Bounds.{AreFilled, IsBounds};
-ghost use Rattle.volume4d.specs.Slabs.{AreAreaSlabs};
+ghost use Rattle.volume4d.specs.Slabs.{AreAreaSlabs, AreSortedSlabs};
 ghost use Rattle.volume4d.specs.Volume.{is_area, area_has};
 
 use crate::bounds::bounds_of;
@@ -55,19 +56,19 @@ impl Area {
         &self.volumes
     }
 
-    /// The slabs of the volumes, one volume after the other. A point belongs to one of the slabs
+    /// The slabs of the volumes, ascending by their first leaves. A point belongs to one of the slabs
     /// exactly if it belongs to the area.
     ///
     /// # Errors
     ///
     /// `AllocError` if memory runs out.
     pub fn slabs(&self) -> Result<Vec<Slab>, AllocError>
-        ensures ranges { IfOk result (λ slabs. AreAreaSlabs self.now slabs.items) }
+        ensures ranges { IfOk result (λ slabs. AreSortedSlabs self.now slabs.items) }
         ensures points { IfOk result (λ slabs. (x : Point) →
             slabs_have slabs.items x ≡ area_has self.now x) }
         ensures filled { IfOk result (λ slabs. AreFilled slabs.items) }
     {
-        slabs_of(*self.volumes.allocator(), &self.volumes)
+        ascending(*self.volumes.allocator(), &self.volumes)
     }
 
     /// The smallest slab that has all points of the area.
@@ -96,6 +97,14 @@ impl Area {
     }
 }
 
+// The slabs of volumes, ascending by their first leaves.
+fn ascending(alloc: Global, volumes: &[Volume]) -> Result<Vec<Slab>, AllocError>
+    ensures ranges { IfOk result (λ slabs. AreSortedSlabs volumes.now slabs.items) }
+    ensures filled { 0 < length volumes.now → IfOk result (λ slabs. AreFilled slabs.items) }
+{
+    Ok(in_order(slabs_of(alloc, volumes)?))
+}
+
 // The slabs of volumes, one volume after the other.
 fn slabs_of(alloc: Global, volumes: &[Volume]) -> Result<Vec<Slab>, AllocError>
     ensures ranges { IfOk result (λ slabs. AreAreaSlabs volumes.now slabs.items) }
@@ -106,6 +115,17 @@ fn slabs_of(alloc: Global, volumes: &[Volume]) -> Result<Vec<Slab>, AllocError>
         slabs.extend_from_slice(&volume.slabs()?)?;
     }
     Ok(slabs)
+}
+
+// The same slabs, ascending by their first leaves.
+#[tactic(auto, using(crate::proofs::Filled::filled_again))]
+fn in_order(mut slabs: Vec<Slab>) -> Vec<Slab>
+    ensures same { IsPermutation slabs.items result.items }
+    ensures order { IsNonDecreasingBy (λ s. s.first) result.items }
+    ensures filled { AreFilled slabs.items → AreFilled result.items }
+{
+    slabs.sort_unstable_by_key(|slab| slab.first);
+    slabs
 }
 
 // A copy of the list.

@@ -5,11 +5,14 @@
 
 mod area;
 mod bounds;
+mod corner;
 mod fault;
 mod footprint;
 pub mod laws;
 mod meeting;
+mod placed;
 mod slab;
+mod sweep;
 mod volume;
 mod window;
 
@@ -17,7 +20,7 @@ pub use area::{Area, MAX_VOLUMES};
 pub use bounds::bounds_of;
 pub use fault::VolumeFault;
 pub use footprint::{Footprint, MAX_CELLS, MAX_COVER};
-pub use meeting::{Meeting, first_meeting, meet};
+pub use meeting::{Meeting, first_meeting, first_meeting_counted, meet};
 pub use slab::{Held, Slab};
 pub use volume::Volume;
 pub use window::{MAX_SECOND, Window, WindowFault};

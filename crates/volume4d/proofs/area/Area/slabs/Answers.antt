@@ -4,14 +4,14 @@ use Rattle.std.proofs.lemmas.Result.{IfOk-weaker}
 use Rattle.volume4d.specs.Point.{Point}
 use Rattle.volume4d.specs.Volume.{area_has}
 use Rattle.volume4d.specs.Slab.{slabs_have}
-use Rattle.volume4d.proofs.SlabPoints.{area_points}
+use Rattle.volume4d.proofs.SlabPoints.{sorted_points}
 use Rattle.volume4d.proofs.area.Area.slabs.Goals as goal
 
 pub returns-clause-points : goal.returns-clause-points
 returns-clause-points c =
     subst
-    (λ area. IfOk c.slabs_of.result
+    (λ area. IfOk c.ascending.result
     (λ slabs. (x : Point) → slabs_have slabs.items x ≡ area_has area x))
     (c.deref.ensures.value ∙ c.self.view_is)
-    (IfOk-weaker c.slabs_of.result _ _
-    (λ slabs are. area_points c.deref.result.now slabs.items are) c.slabs_of.ensures.ranges)
+    (IfOk-weaker c.ascending.result _ _
+    (λ slabs are. sorted_points c.deref.result.now slabs.items are) c.ascending.ensures.ranges)

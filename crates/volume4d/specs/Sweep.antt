@@ -1,0 +1,35 @@
+-- The words of the sweep over two lists of slabs that ascend by their first leaves.
+use Rattle.std.specs.Prelude.{◌≡◌, ◌≤◌, ◌||◌, ℕ, Bool, false, List, Option, None, Some}
+use Rattle.std.specs.List.{list_any}
+use Rattle.std.specs.List.Sorted.{IsNonDecreasingBy}
+use Rattle.std.specs.declared.cmp.Ordering.TheVariants.{Less}
+use Rattle.s2_hilbert.specs.Curve.{position_of}
+use Rattle.volume4d.specs.declared.slab.Slab.{Slab}
+use Rattle.volume4d.specs.Point.{Point, point_cmp}
+use Rattle.volume4d.specs.Slab.{slab_has, slabs_have}
+
+-- one of those that stand where slabs stand has the point
+abbrev pub placed_have : {A : Type 0} → (A → Slab) → List A → Point → Bool
+placed_have slab_of list x = list_any (λ a. slab_has (slab_of a) x) list
+
+-- their first leaves do not fall along the list
+abbrev pub Ascend : {A : Type 0} → (A → Slab) → List A → Type 0
+Ascend slab_of list = IsNonDecreasingBy (λ a. (slab_of a).first) list
+
+-- the slab has no point with a leaf at the position or after it
+abbrev pub IsOver : ℕ → Slab → Type 0
+IsOver position s = (x : Point) → position ≤ position_of x.leaf → slab_has s x ≡ false
+
+-- from the position on, the new slabs have the points of the old ones and those that pass the test
+abbrev pub Adds : ℕ → List Slab → (Point → Bool) → List Slab → Type 0
+Adds position old passes new =
+    (x : Point) → position ≤ position_of x.leaf → slabs_have new x ≡ (slabs_have old x || passes x)
+
+-- a point was found, and this one does not come before it
+abbrev pub IsLate : Option Point → Point → Type 0
+IsLate None x = ⊥
+IsLate (Some found) x = point_cmp x found ≡ Less → ⊥
+
+-- no point with a leaf at the position or after it comes before the one found
+abbrev pub AreLate : ℕ → Option Point → Type 0
+AreLate position found = (x : Point) → position ≤ position_of x.leaf → IsLate found x

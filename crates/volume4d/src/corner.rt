@@ -1,0 +1,143 @@
+//! Corners: points that slabs may share, and their order.
+
+ghost use Rattle.std.specs.Prelude.{◌≡◌, ◌&&◌, ◌||◌, Bool, int_le, int_lt};
+ghost use Rattle.std.specs.Ordering.{is_lt};
+ghost use Rattle.volume4d.specs.Point.{Point, point_cmp};
+ghost use Rattle.volume4d.specs.Slab.{slab_has_leaf, slab_has};
+ghost use Rattle.volume4d.specs.Meeting.{IsFirstPoint};
+ghost use Rattle.volume4d.specs.Shared as spec;
+
+use crate::slab::Slab;
+use std::marker::Model;
+
+/// A point, as the least corner of a slab.
+#[derive(Clone, Copy, Debug)]
+pub(crate) struct Corner {
+    pub(crate) pos: u64,
+    pub(crate) altitude: i32,
+    pub(crate) second: i64,
+}
+
+impl Model for Corner {
+    ghost use Rattle.std.specs.Prelude.{◌<◌, ◌*◌, ◌^◌};
+    ghost use Rattle.s2_hilbert.specs.Curve.{position_of, grid_leaf_at};
+    ghost use Rattle.s2_hilbert.specs.CurveLaws.{position_undone};
+    ghost use Rattle.volume4d.specs.Point.{Point};
+
+    ghost Value = { Point };
+
+    ghost view = { λ c. record {
+      leaf = grid_leaf_at c.pos;
+      altitude = c.altitude;
+      second = c.second;
+    } };
+
+    ghost invariant = { λ c. c.pos < 6 * 2 ^ 60 };
+
+    ghost inverse = { λ x. record {
+      pos = position_of x.leaf;
+      altitude = x.altitude;
+      second = x.second;
+    } };
+
+    ghost inverse_ok = { λ c _. λ i. record {
+      pos = position_undone c.pos i;
+      altitude = c.altitude;
+      second = c.second;
+    } };
+}
+
+/// The first point that two slabs share.
+pub(crate) fn least_corner(mine: &Slab, theirs: &Slab) -> Option<Corner>
+    ensures { IsFirstPoint (λ x. slab_has mine.now x && slab_has theirs.now x) result }
+{
+    let corner = corner_of(mine, theirs);
+    if !has_leaf(mine, &corner) {
+        return None;
+    }
+    if !has_leaf(theirs, &corner) {
+        return None;
+    }
+    if !has_time(mine, &corner) {
+        return None;
+    }
+    if !has_time(theirs, &corner) {
+        return None;
+    }
+    Some(corner)
+}
+
+// The greater of each of the lower bounds of two slabs. Two slabs that share a point share this
+// one, and it is the first that they share.
+fn corner_of(mine: &Slab, theirs: &Slab) -> Corner
+    ensures { result ≡ spec.corner_of mine.now theirs.now }
+{
+    Corner {
+        pos: mine.first.max(theirs.first),
+        altitude: mine.lower.max(theirs.lower),
+        second: mine.start.max(theirs.start),
+    }
+}
+
+/// Whether a slab has a point.
+pub(crate) fn has(slab: &Slab, x: &Corner) -> bool
+    ensures { result ≡ slab_has slab.now x.now }
+{
+    has_leaf(slab, x) && has_time(slab, x)
+}
+
+// Whether a slab has a point's leaf.
+#[tactic(auto, using(crate::proofs::Corners::slab_has_position))]
+fn has_leaf(slab: &Slab, x: &Corner) -> bool
+    ensures { result ≡ slab_has_leaf slab.now x.now.leaf }
+{
+    slab.first <= x.pos && x.pos <= slab.last
+}
+
+// Whether a slab has a point's altitude and second.
+fn has_time(slab: &Slab, x: &Corner) -> bool
+    ensures { result ≡ ((int_le slab.now.lower x.now.altitude && int_lt x.now.altitude slab.now.upper)
+        && (int_le slab.now.start x.now.second && int_lt x.now.second slab.now.end)) }
+{
+    has_altitude(slab, x.altitude) && has_second(slab, x.second)
+}
+
+// Whether a slab has an altitude.
+fn has_altitude(slab: &Slab, altitude: i32) -> bool
+    ensures { result ≡ (int_le slab.now.lower altitude && int_lt altitude slab.now.upper) }
+{
+    slab.lower <= altitude && altitude < slab.upper
+}
+
+// Whether a slab has a second.
+fn has_second(slab: &Slab, second: i64) -> bool
+    ensures { result ≡ (int_le slab.now.start second && int_lt second slab.now.end) }
+{
+    slab.start <= second && second < slab.end
+}
+
+/// The first of two points, either of which may be missing.
+pub(crate) fn earlier(a: Option<Corner>, b: Option<Corner>) -> Option<Corner>
+    ensures { (f g : Point → Bool) → IsFirstPoint f a → IsFirstPoint g b
+        → IsFirstPoint (λ x. f x || g x) result }
+{
+    match (a, b) {
+        (None, _) => b,
+        (Some(_), None) => a,
+        (Some(x), Some(y)) => { if precedes(&y, &x) { b } else { a } }
+    }
+}
+
+// Whether a point comes before another, by leaf, then altitude, then second.
+#[tactic(auto, using(crate::proofs::Corners::less_position))]
+fn precedes(a: &Corner, b: &Corner) -> bool
+    ensures { result ≡ is_lt (point_cmp a.now b.now) }
+{
+    if a.pos != b.pos {
+        return a.pos < b.pos;
+    }
+    if a.altitude != b.altitude {
+        return a.altitude < b.altitude;
+    }
+    a.second < b.second
+}
