@@ -9,7 +9,6 @@ use desk_program::serve;
 use desk_run::Desk;
 use desk_store::ListStore;
 use std::alloc::Global;
-use std::cell::Cell;
 use std::io::{self, ErrorKind, Read, Write};
 use std::net::{Ipv4Addr, Net, SocketAddr, TcpListener, TcpStream};
 use std::process::Abort;
@@ -31,33 +30,23 @@ impl Clock for Standing {
 }
 
 // A network whose port is listened at already, so that clients can write before the desk binds it.
-#[derive(Drop)]
-struct Listened {
-    listener: Cell<Option<TcpListener>>,
+#[derive(Clone, Copy)]
+struct Listened<'l> {
+    listener: &'l TcpListener,
 }
 
-impl Net for Listened {
+impl Net for Listened<'_> {
     type Stream = TcpStream;
 
     type Listener = TcpListener;
 
     fn bind(&self, _addr: SocketAddr) -> io::Result<TcpListener> {
-        self.listener
-            .replace(None)
-            .ok_or(io::Error::from(ErrorKind::AddrInUse))
+        self.listener.try_clone()
     }
 
     fn connect(&self, _addr: SocketAddr) -> io::Result<TcpStream> {
         Err(io::Error::from(ErrorKind::Unsupported))
     }
-}
-
-// A port that is listened at, and its address.
-fn listen(rt: &HostRuntime) -> Result<(Listened, SocketAddr), Fail> {
-    let listener = TcpListener::bind(rt, (Ipv4Addr::LOCALHOST, 0u16))?;
-    let address = listener.local_addr()?;
-    let listener = Cell::new(Some(listener));
-    Ok((Listened { listener }, address))
 }
 
 // A client of a port that has written these bytes.
@@ -96,11 +85,11 @@ fn serve_line(alloc: Global, connections: &str) -> Result<Serve, Fail>
     }
 }
 
-// Serves so many connections at a moment, and compares the word of the failure, if there is one.
+// Serves so many connections of a port at a moment, and compares the word of the failure, if there is one.
 fn check_served(
     rt: &impl Abort,
     alloc: Global,
-    net: &Listened,
+    net: Listened<'_>,
     connections: &str,
     row: (u64, &str),
 ) -> Result<(), Fail> {
@@ -110,7 +99,7 @@ fn check_served(
     let mut output = Vec::new(alloc);
     let mut errors = Vec::new(alloc);
     let clock = Standing(second);
-    let system = (net, &clock);
+    let system = (&net, &clock);
     let status = serve(alloc, system, &line, &mut desk, &mut output, &mut errors);
     assert_eq!(rt; status, if word.is_empty() { 0 } else { 4 }, "{second}");
     assert_eq!(rt; output.as_slice(), b"listening 127.0.0.1:1\n".as_slice());
@@ -121,10 +110,14 @@ fn check_served(
 // A client hangs up in mid-request; the one after it has its answer.
 #[test]
 fn serves_after_a_cut(rt: HostRuntime) -> Result<(), Fail> {
-    let (net, address) = listen(&rt)?;
+    let listener = TcpListener::bind(&rt, (Ipv4Addr::LOCALHOST, 0u16))?;
+    let address = listener.local_addr()?;
     drop(client_of(&rt, address, &FIRST_PUT[..200])?);
     let client = client_of(&rt, address, FIRST_PUT)?;
-    check_served(&rt, rt.alloc(), &net, "2", (1_780_315_000, ""))?;
+    let net = Listened {
+        listener: &listener,
+    };
+    check_served(&rt, rt.alloc(), net, "2", (1_780_315_000, ""))?;
     assert_eq!(rt; read_by(rt.alloc(), client)?.as_slice(), COMPLETED);
     Ok(())
 }
@@ -137,9 +130,12 @@ fn takes_moments_in_range(rt: HostRuntime) -> Result<(), Fail> {
         (253_370_764_800, ""),
         (253_370_764_801, "uss_desk: clock\n"),
     ] {
-        let (net, address) = listen(&rt)?;
-        let client = client_of(&rt, address, FIRST_PUT)?;
-        check_served(&rt, rt.alloc(), &net, "1", row)?;
+        let listener = TcpListener::bind(&rt, (Ipv4Addr::LOCALHOST, 0u16))?;
+        let client = client_of(&rt, listener.local_addr()?, FIRST_PUT)?;
+        let net = Listened {
+            listener: &listener,
+        };
+        check_served(&rt, rt.alloc(), net, "1", row)?;
         drop(client);
     }
     Ok(())
