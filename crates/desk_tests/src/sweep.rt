@@ -5,6 +5,7 @@ use volume4d::{Held, Meeting, Slab, first_meeting, first_meeting_counted};
 
 // The first of June 2026, noon and one o'clock, as Unix seconds.
 const NOON: i64 = 1_780_315_200;
+
 const ONE: i64 = 1_780_318_800;
 
 // The leaves at some positions, from the ground to 100 m, from noon to one.
