@@ -1,9 +1,9 @@
 //! Lines carried out over streams in memory: the exit status, and what is printed.
 
 ghost use Rattle.std.specs.Prelude.{IfOk};
-ghost use Rattle.desk_line.specs.Lines.{IsEnrol};
+ghost use Rattle.desk_line.specs.Lines.{IsEnrol, IsPlay};
 
-use desk_line::{Enrol, Line, read_words};
+use desk_line::{Database, Enrol, Enrolment, Line, Play};
 use desk_program::with_desk;
 use desk_rules::operator::Operator;
 use desk_run::Desk;
@@ -21,16 +21,28 @@ struct Done {
     desk: Desk<ListStore>,
 }
 
-// What `play --at 0` and two operators come to on these bytes.
-fn play(alloc: Global, bytes: &[u8]) -> Result<Done, Fail> {
-    let mut words = Vec::new(alloc);
-    for word in ["uss_desk", "play", "--at", "0", "alfa=1000", "bravo=7"] {
-        words.push(String::from_str(alloc, word)?)?;
-    }
-    let Ok(Line::Play(play)) = read_words(alloc, &words) else {
-        return Err(Fail::from("no line"));
+// The line of `play` at second 0 for `alfa` and `bravo`.
+fn play_line(alloc: Global) -> Result<Play, Fail>
+    ensures { IfOk result IsPlay }
+{
+    let alfa = Enrolment {
+        operator: Operator::try_new(b"alfa").ok_or("a name")?,
+        ceiling: 1_000,
     };
-    let line = Line::Play(play);
+    let bravo = Enrolment {
+        operator: Operator::try_new(b"bravo").ok_or("a name")?,
+        ceiling: 7,
+    };
+    Ok(Play {
+        database: Database::InMemory,
+        moment: 0,
+        enrolments: vec![in alloc; alfa, bravo]?,
+    })
+}
+
+// What that line comes to on these bytes.
+fn play(alloc: Global, bytes: &[u8]) -> Result<Done, Fail> {
+    let line = Line::Play(play_line(alloc)?);
     let mut desk = Desk::new(ListStore::new(alloc));
     let mut input = bytes;
     let mut output = Vec::new(alloc);
@@ -94,17 +106,16 @@ fn enrols_every_name(rt: HostRuntime) -> Result<(), Fail> {
 }
 
 // The line of `enrol` for `alfa`.
-fn enrol_alfa(alloc: Global) -> Result<Enrol, Fail>
+fn enrol_line() -> Result<Enrol, Fail>
     ensures { IfOk result IsEnrol }
 {
-    let mut words = Vec::new(alloc);
-    for word in ["uss_desk", "enrol", "--db", ":memory:", "alfa", "100"] {
-        words.push(String::from_str(alloc, word)?)?;
-    }
-    let Ok(Line::Enrol(enrol)) = read_words(alloc, &words) else {
-        return Err(Fail::from("no line"));
-    };
-    Ok(enrol)
+    Ok(Enrol {
+        database: Database::InMemory,
+        enrolment: Enrolment {
+            operator: Operator::try_new(b"alfa").ok_or("a name")?,
+            ceiling: 100,
+        },
+    })
 }
 
 // Enrols `alfa` with a writer that takes so many bytes, and compares the exit status and what is printed to
@@ -117,7 +128,7 @@ fn check_enrolment(
     text: &str,
     word: &str,
 ) -> Result<(), Fail> {
-    let line = Line::Enrol(enrol_alfa(alloc)?);
+    let line = Line::Enrol(enrol_line()?);
     let mut desk = Desk::new(ListStore::new(alloc));
     let mut bytes = [0; 20];
     let mut output = bytes.get_mut(..room).ok_or("too much room")?;

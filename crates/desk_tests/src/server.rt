@@ -1,11 +1,13 @@
 //! Connections served in one thread: clients write their requests, the desk serves them, clients read.
 
 ghost use Rattle.std.specs.Prelude.{IfOk};
+ghost use Rattle.std.specs.Int.{IsInRange};
 ghost use Rattle.desk_line.specs.Lines.{IsServe};
 
 use crate::given::{COMPLETED, FIRST_PUT};
-use desk_line::{Line, Serve, read_words};
+use desk_line::{Database, Enrolment, Serve};
 use desk_program::serve;
+use desk_rules::operator::Operator;
 use desk_run::Desk;
 use desk_store::ListStore;
 use std::alloc::Global;
@@ -63,26 +65,21 @@ fn read_by(alloc: Global, mut client: TcpStream) -> Result<Vec<u8>, Fail> {
     Ok(answer)
 }
 
-// The line `serve --port 1 alfa=100` of so many connections.
-fn serve_line(alloc: Global, connections: &str) -> Result<Serve, Fail>
+// The line of `serve` at port 1 for so many connections, with `alfa`.
+fn serve_line(alloc: Global, connections: u32) -> Result<Serve, Fail>
+    requires { IsInRange 1 1000000 connections }
     ensures { IfOk result IsServe }
 {
-    let mut words = Vec::new(alloc);
-    for word in [
-        "uss_desk",
-        "serve",
-        "--port",
-        "1",
-        "--requests",
+    let alfa = Enrolment {
+        operator: Operator::try_new(b"alfa").ok_or("a name")?,
+        ceiling: 100,
+    };
+    Ok(Serve {
+        database: Database::InMemory,
+        port: 1,
         connections,
-        "alfa=100",
-    ] {
-        words.push(String::from_str(alloc, word)?)?;
-    }
-    match read_words(alloc, &words) {
-        Ok(Line::Serve(serve)) => Ok(serve),
-        _ => Err(Fail::from("no line")),
-    }
+        enrolments: vec![in alloc; alfa]?,
+    })
 }
 
 // Serves so many connections of a port at a moment, and compares the word of the failure, if there is one.
@@ -90,9 +87,11 @@ fn check_served(
     rt: &impl Abort,
     alloc: Global,
     net: Listened<'_>,
-    connections: &str,
+    connections: u32,
     row: (u64, &str),
-) -> Result<(), Fail> {
+) -> Result<(), Fail>
+    requires { IsInRange 1 1000000 connections }
+{
     let (second, word) = row;
     let line = serve_line(alloc, connections)?;
     let mut desk = Desk::new(ListStore::new(alloc));
@@ -117,7 +116,7 @@ fn serves_after_a_cut(rt: HostRuntime) -> Result<(), Fail> {
     let net = Listened {
         listener: &listener,
     };
-    check_served(&rt, rt.alloc(), net, "2", (1_780_315_000, ""))?;
+    check_served(&rt, rt.alloc(), net, 2, (1_780_315_000, ""))?;
     assert_eq!(rt; read_by(rt.alloc(), client)?.as_slice(), COMPLETED);
     Ok(())
 }
@@ -135,7 +134,7 @@ fn takes_moments_in_range(rt: HostRuntime) -> Result<(), Fail> {
         let net = Listened {
             listener: &listener,
         };
-        check_served(&rt, rt.alloc(), net, "1", row)?;
+        check_served(&rt, rt.alloc(), net, 1, row)?;
         drop(client);
     }
     Ok(())
