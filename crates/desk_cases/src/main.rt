@@ -17,10 +17,14 @@ mod step;
 use both::Both;
 
 fn main(rt: HostRuntime) -> anyhow::Result<()> {
-    let alloc = rt.alloc();
-    let mut both = Both::new(alloc)?;
+    let mut both = Both::new(rt.alloc())?;
+    play_lines(&rt, &mut both)
+}
+
+// Plays the lines of the standard input.
+fn play_lines(rt: &HostRuntime, both: &mut Both) -> anyhow::Result<()> {
     let mut output = rt.stdout();
-    for line in rt.lines(alloc) {
+    for line in rt.lines(rt.alloc()) {
         both.play(line?.as_str(), &mut output)?;
     }
     both.tell(&mut output)
