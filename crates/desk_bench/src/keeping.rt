@@ -8,21 +8,18 @@ use std::env;
 pub enum Keeping {
     /// In a list.
     List,
-    /// In tables of SQLite in memory.
-    Tables,
     /// In tables of the SQLite database of this path.
     File(String),
 }
 
 impl Keeping {
-    /// The place that the words after the program's name give: `list`, `tables` or `file PATH`.
+    /// The place that the words after the program's name give: `list` or `file PATH`.
     pub fn read(words: &mut env::Args) -> anyhow::Result<Keeping> {
         let word = words.nth(1).context("STORE")?;
         match word.as_str() {
             "list" => Ok(Keeping::List),
-            "tables" => Ok(Keeping::Tables),
             "file" => Ok(Keeping::File(words.next().context("PATH")?)),
-            _ => bail!("STORE is list, tables or file PATH"),
+            _ => bail!("STORE is list or file PATH"),
         }
     }
 }

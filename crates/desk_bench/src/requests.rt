@@ -56,8 +56,7 @@ impl Requests {
         let mut generator = Pcg64::seed_from_u64(1);
         let mut texts = Vec::new(alloc);
         for plan in 0..sizes.plans {
-            let area = random_area(alloc, &mut generator, sizes.volumes, sizes.cells)?;
-            texts.push(request_for(alloc, plan, &area)?)?;
+            texts.push(random_request(alloc, &mut generator, plan, sizes)?)?;
         }
         Ok(Requests {
             texts,
@@ -86,17 +85,32 @@ pub fn operator_name(alloc: Global, number: u32) -> Result<String, AllocError> {
     format!(in alloc; "op{number}")
 }
 
+// A request for a plan over random cells.
+fn random_request(
+    alloc: Global,
+    generator: &mut Pcg64,
+    plan: u32,
+    sizes: Sizes,
+) -> anyhow::Result<Vec<u8>> {
+    let area = random_area(alloc, generator, sizes.volumes, sizes.cells)?;
+    Ok(request_for(alloc, plan, &area)?)
+}
+
 // Tokens of random cells of level 16, in quotation marks with commas between.
 fn random_tokens(alloc: Global, generator: &mut Pcg64, cells: u32) -> anyhow::Result<String> {
     let mut tokens = Vec::new(alloc);
     for _ in 0..cells {
-        let bits = generator.next_u64();
-        let face = bits % 6;
-        let place = bits >> 32;
-        let cell = CellId::from_raw(face << 61 | place << 29 | 1 << 28).context("no cell")?;
-        tokens.push(format!(in alloc; "\"{}\"", cell.token())?)?;
+        let cell = random_cell(generator).context("no cell")?;
+        tokens.push(format!(in alloc; "\"{cell}\"")?)?;
     }
     Ok(tokens.join(alloc, ",")?)
+}
+
+fn random_cell(generator: &mut Pcg64) -> Option<CellId> {
+    let bits = generator.next_u64();
+    let face = bits % 6;
+    let place = bits >> 32;
+    CellId::from_raw(face << 61 | place << 29 | 1 << 28)
 }
 
 // So many volumes with commas between, each of so many random cells.
@@ -108,14 +122,18 @@ fn random_area(
 ) -> anyhow::Result<String> {
     let mut texts = Vec::new(alloc);
     for _ in 0..volumes {
-        let tokens = random_tokens(alloc, generator, cells)?;
-        texts.push(format!(in alloc;
-            "{{\"time_end\":{{\"format\":\"RFC3339\",\"value\":\"2026-06-01T13:00:00Z\"}},\
-            \"time_start\":{{\"format\":\"RFC3339\",\"value\":\"2026-06-01T12:00:00Z\"}},\
-            \"volume\":{{\"altitude_lower\":0,\"altitude_upper\":1000,\"cells\":[{tokens}]}}}}"
-        )?)?;
+        texts.push(volume_text(alloc, &random_tokens(alloc, generator, cells)?)?)?;
     }
     Ok(texts.join(alloc, ",")?)
+}
+
+// A volume of these cells.
+fn volume_text(alloc: Global, tokens: &str) -> Result<String, AllocError> {
+    format!(in alloc;
+        "{{\"time_end\":{{\"format\":\"RFC3339\",\"value\":\"2026-06-01T13:00:00Z\"}},\
+        \"time_start\":{{\"format\":\"RFC3339\",\"value\":\"2026-06-01T12:00:00Z\"}},\
+        \"volume\":{{\"altitude_lower\":0,\"altitude_upper\":1000,\"cells\":[{tokens}]}}}}"
+    )
 }
 
 /// The bytes of the request for a list of an operator's plans.

@@ -47,20 +47,31 @@ pub struct Times {
 impl Times {
     /// Prints what was done on standard output, and how long it took on standard error.
     pub fn print(&self, rt: &HostRuntime, sizes: Sizes) -> anyhow::Result<()> {
+        self.print_counts(rt, sizes)?;
+        self.print_times(rt)
+    }
+
+    fn print_counts(&self, rt: &HostRuntime, sizes: Sizes) -> anyhow::Result<()> {
         let Sizes { plans, cells, .. } = sizes;
         let filed = self.filing.completed;
         let again = self.change.completed;
         println!(rt; "{plans} plans of {cells} cells: {filed} filed, {again} filed again")?;
         println!(rt; "{} listed", self.list.plans)?;
+        Ok(())
+    }
+
+    fn print_times(&self, rt: &HostRuntime) -> anyhow::Result<()> {
+        let Listing {
+            length,
+            nanoseconds,
+            ..
+        } = self.list;
         eprintln!(rt;
             "a PUT while they are filed: {} ns",
             self.filing.nanoseconds
         )?;
         eprintln!(rt; "a PUT among them: {} ns", self.change.nanoseconds)?;
-        eprintln!(rt;
-            "a list of {} bytes: {} ns",
-            self.list.length, self.list.nanoseconds
-        )?;
+        eprintln!(rt; "a list of {length} bytes: {nanoseconds} ns")?;
         Ok(())
     }
 }

@@ -94,6 +94,7 @@ impl<'l> Ask<'l> {
 
     /// The call.
     pub fn call(&self, alloc: Global) -> anyhow::Result<Asked> {
+        let operator = Operator::try_new(self.operator.as_bytes()).context("no operator")?;
         let put = PutCall {
             id: PlanId::try_parse(self.id).context("no id")?,
             style: style_of(self.style).context("no style")?,
@@ -103,7 +104,7 @@ impl<'l> Ask<'l> {
             area: self.area(alloc)?,
         };
         Ok(Asked {
-            operator: Operator::try_new(self.operator.as_bytes()).context("no operator")?,
+            operator,
             call: Call::Put(put),
         })
     }
@@ -151,25 +152,35 @@ impl<'l> Extent<'l> {
 
     /// The volume.
     pub fn volume(&self, alloc: Global) -> anyhow::Result<Volume> {
-        let window = Window::try_new(
+        let window = self.window()?;
+        let cells = Footprint::Cells(self.cell_list(alloc)?);
+        Volume::try_new(alloc, cells, window)
+            .ok()
+            .context("no volume")
+    }
+
+    fn window(&self) -> anyhow::Result<Window> {
+        Window::try_new(
             self.lower.parse()?,
             self.upper.parse()?,
             self.start.parse()?,
             self.end.parse()?,
         )
         .ok()
-        .context("no window")?;
+        .context("no window")
+    }
+
+    fn cell_list(&self, alloc: Global) -> anyhow::Result<Vec<CellId>> {
         let mut cells = Vec::new(alloc);
         for token in self.cells.split(',') {
-            let cell = CellId::from_token(token.as_bytes())
-                .ok()
-                .context("no cell")?;
-            cells.push(cell)?;
+            cells.push(cell_of(token)?)?;
         }
-        Volume::try_new(alloc, Footprint::Cells(cells), window)
-            .ok()
-            .context("no volume")
+        Ok(cells)
     }
+}
+
+fn cell_of(token: &str) -> anyhow::Result<CellId> {
+    CellId::from_token(token.as_bytes()).ok().context("no cell")
 }
 
 fn style_of(word: &str) -> Option<Style> {

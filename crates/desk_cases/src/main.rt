@@ -6,6 +6,7 @@
 #![tactic(auto)]
 
 mod ask;
+mod both;
 mod cases;
 mod empty_store;
 mod pair;
@@ -13,39 +14,18 @@ mod shown;
 mod stage;
 mod step;
 
-use cases::Cases;
-use desk_store::ListStore;
-use desk_tables::SqliteStore;
-use sqlite::MemStore;
-use std::io::Write;
+use both::Both;
 
 fn main(rt: HostRuntime) -> anyhow::Result<()> {
-    let alloc = rt.alloc();
-    let mut listed = Cases::<ListStore>::new(alloc)?;
-    let mut tabled = Cases::<SqliteStore<MemStore>>::new(alloc)?;
+    let mut both = Both::new(rt.alloc())?;
+    play_lines(&rt, &mut both)
+}
+
+// Plays the lines of the standard input.
+fn play_lines(rt: &HostRuntime, both: &mut Both) -> anyhow::Result<()> {
     let mut output = rt.stdout();
-    let mut same: u64 = 0;
-    let mut others: u64 = 0;
-    for line in rt.lines(alloc) {
-        let line = line?;
-        let line = line.as_str();
-        if line.is_empty() || line.starts_with('#') {
-            continue;
-        }
-        let said = listed.said(line)?;
-        output.write_all(&said)?;
-        let also = tabled.said(line)?;
-        if said == also {
-            same = same.saturating_add(1);
-        } else {
-            others = others.saturating_add(1);
-            output.write_all(b"over tables: ")?;
-            output.write_all(&also)?;
-        }
+    for line in rt.lines(rt.alloc()) {
+        both.play(line?.as_str(), &mut output)?;
     }
-    writeln!(
-        output,
-        "over tables: {same} steps are the same, {others} are others"
-    )?;
-    Ok(())
+    both.tell(&mut output)
 }

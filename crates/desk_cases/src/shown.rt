@@ -2,7 +2,7 @@
 
 use desk_rules::plan::PlanRow;
 use desk_rules::reply::{PutReply, Reply, Shown};
-use desk_run::{Outcome, Ran};
+use desk_run::{DeskFault, Outcome, Ran};
 use s2_cover::Rect;
 use std::fmt;
 use volume4d::{Footprint, Meeting};
@@ -14,16 +14,26 @@ pub struct ShownRun<'r>(pub &'r Ran);
 impl fmt::Display for ShownRun<'_> {
     fn fmt<W: fmt::Write>(&self, f: &mut fmt::Formatter<W>) -> fmt::Result {
         for outcome in self.0.outcomes.iter() {
-            match outcome {
-                Outcome::Reply(reply) => show_reply(f, reply)?,
-                Outcome::UnknownOperator => write!(f, "unknown operator")?,
-                Outcome::NoSuchPlan => write!(f, "no such plan")?,
-            }
+            show_outcome(f, outcome)?;
         }
-        match self.0.stopped {
-            Some(fault) => write!(f, "stopped: {fault:?}"),
-            None => Ok(()),
-        }
+        show_stop(f, self.0.stopped)
+    }
+}
+
+// What came of a call.
+fn show_outcome<W: fmt::Write>(f: &mut fmt::Formatter<W>, outcome: &Outcome) -> fmt::Result {
+    match outcome {
+        Outcome::Reply(reply) => show_reply(f, reply),
+        Outcome::UnknownOperator => write!(f, "unknown operator"),
+        Outcome::NoSuchPlan => write!(f, "no such plan"),
+    }
+}
+
+// Why a run ended before its last call, if it did.
+fn show_stop<W: fmt::Write>(f: &mut fmt::Formatter<W>, stopped: Option<DeskFault>) -> fmt::Result {
+    match stopped {
+        Some(fault) => write!(f, "stopped: {fault:?}"),
+        None => Ok(()),
     }
 }
 
@@ -42,10 +52,15 @@ fn show_reply<W: fmt::Write>(f: &mut fmt::Formatter<W>, reply: &Reply) -> fmt::R
 fn show_list<W: fmt::Write>(f: &mut fmt::Formatter<W>, plans: &[Shown]) -> fmt::Result {
     write!(f, "shown {}", plans.len())?;
     for plan in plans {
-        writeln!(f)?;
-        show_plan(f, plan)?;
+        show_listed(f, plan)?;
     }
     Ok(())
+}
+
+// A plan of a list, on a line of its own.
+fn show_listed<W: fmt::Write>(f: &mut fmt::Formatter<W>, plan: &Shown) -> fmt::Result {
+    writeln!(f)?;
+    show_plan(f, plan)
 }
 
 // A plan as it is shown: the status, the stored plan and the conflict.

@@ -9,13 +9,14 @@ use crate::step::Step;
 use anyhow::{Context, bail};
 use desk_rules::call::{Asked, Call};
 use desk_rules::operator::Operator;
+use desk_rules::plan::PlanRow;
 use desk_rules::plan_id::PlanId;
 use desk_rules::reply::Reply;
 use desk_rules::words::PlanResult;
 use desk_run::{Desk, Outcome};
 use desk_wire::answer;
-use std::alloc::Global;
-use std::io::Write;
+use std::alloc::{AllocError, Global};
+use std::io::{self, Write};
 
 /// The last moment, a Unix second.
 const LAST_MOMENT: i64 = 253_370_764_800;
@@ -52,8 +53,9 @@ pub struct Stage<S: EmptyStore> {
 impl<S: EmptyStore> Stage<S> {
     /// An empty desk at the first moment.
     pub fn new(alloc: Global) -> anyhow::Result<Stage<S>> {
+        let store = S::empty(alloc)?;
         Ok(Stage {
-            desk: Desk::new(S::empty(alloc)?),
+            desk: Desk::new(store),
             moment: Moment { second: 0 },
             alloc,
         })
@@ -62,37 +64,50 @@ impl<S: EmptyStore> Stage<S> {
     /// Does what a step says, and prints what comes of it.
     pub fn play<W: Write>(&mut self, step: &Step<'_>, output: &mut W) -> anyhow::Result<()> {
         match step {
-            Step::Case(name) => writeln!(output, "case {name}")?,
-            Step::Desk(enrolments) => self.begin(enrolments)?,
-            Step::At(word) => self.moment = Moment::parse(word).context("no moment")?,
-            Step::Ask(ask) => self.send_ask(ask, output)?,
+            Step::Case(name) => show_case(name, output),
+            Step::Desk(enrolments) => self.begin(enrolments),
+            Step::At(word) => self.set_moment(word),
+            Step::Ask(ask) => self.send_ask(ask, output),
             Step::Request {
                 method,
                 target,
                 operator,
                 body,
-            } => self.send_request(method, target, operator, body, output)?,
-            Step::Raw(text) => self.send_raw(text, output)?,
-            Step::Puts { count, ask } => self.put_many(count, ask, output)?,
-            Step::Plans { operator } => self.show_plans(operator, output)?,
-            _ => {
-                if let Some(asked) = asked_in(self.alloc, step)? {
-                    self.call(asked, output)?;
-                }
-            }
+            } => self.send_request(method, target, operator, body, output),
+            Step::Raw(text) => self.send_raw(text, output),
+            Step::Puts { count, ask } => self.put_many(count, ask, output),
+            Step::Plans { operator } => self.show_plans(operator, output),
+            _ => self.play_call(step, output),
         }
+    }
+
+    fn set_moment(&mut self, word: &str) -> anyhow::Result<()> {
+        self.moment = Moment::parse(word).context("no moment")?;
         Ok(())
+    }
+
+    // Makes the call of a step that makes one.
+    fn play_call<W: Write>(&mut self, step: &Step<'_>, output: &mut W) -> anyhow::Result<()> {
+        match asked_in(self.alloc, step)? {
+            Some(asked) => self.call(asked, output),
+            None => Ok(()),
+        }
     }
 
     // A new desk with these enrolments, `NAME=CEILING ..`.
     fn begin(&mut self, enrolments: &str) -> anyhow::Result<()> {
         self.desk = Desk::new(S::empty(self.alloc)?);
         for enrolment in enrolments.split_whitespace() {
-            let (name, ceiling) = enrolment.split_once('=').context("no enrolment")?;
-            let operator = Operator::try_new(name.as_bytes()).context("no name")?;
-            if self.desk.enrol(&operator, ceiling.parse()?).is_err() {
-                bail!("an enrolment was refused");
-            }
+            self.enrol(enrolment)?;
+        }
+        Ok(())
+    }
+
+    fn enrol(&mut self, enrolment: &str) -> anyhow::Result<()> {
+        let (name, ceiling) = enrolment.split_once('=').context("no enrolment")?;
+        let operator = Operator::try_new(name.as_bytes()).context("no name")?;
+        if self.desk.enrol(&operator, ceiling.parse()?).is_err() {
+            bail!("an enrolment was refused");
         }
         Ok(())
     }
@@ -119,17 +134,7 @@ impl<S: EmptyStore> Stage<S> {
         body: &str,
         output: &mut W,
     ) -> anyhow::Result<()> {
-        let length = body.len();
-        let text = if operator == "-" {
-            format!(in self.alloc;
-                "{method} {target} HTTP/1.1\r\nhost: desk\r\ncontent-length: {length}\r\n\r\n{body}"
-            )?
-        } else {
-            format!(in self.alloc;
-                "{method} {target} HTTP/1.1\r\nhost: desk\r\nx-operator: {operator}\r\n\
-                content-length: {length}\r\n\r\n{body}"
-            )?
-        };
+        let text = request_text(self.alloc, method, target, operator, body)?;
         self.send(text.as_bytes(), output)
     }
 
@@ -154,47 +159,87 @@ impl<S: EmptyStore> Stage<S> {
         ask: &Ask<'_>,
         output: &mut W,
     ) -> anyhow::Result<()> {
-        let count: u16 = count.parse()?;
+        let calls = self.many_calls(count.parse()?, ask)?;
+        let ran = self.desk.run(self.alloc, &calls)?;
+        writeln!(output, "{} completed", count_completed(&ran.outcomes))?;
+        Ok(())
+    }
+
+    fn many_calls(&self, count: u16, ask: &Ask<'_>) -> anyhow::Result<Vec<(i64, Asked)>> {
         let lower: i32 = ask.lower.parse()?;
         let mut calls = Vec::new(self.alloc);
         for number in 0..count {
-            let bottom = lower.saturating_add(10 * i32::from(number));
-            let id = format!(in self.alloc; "00000000-0000-4000-8000-{number:012}")?;
-            let bottom_word = format!(in self.alloc; "{bottom}")?;
-            let top_word = format!(in self.alloc; "{}", bottom.saturating_add(10))?;
-            let ask = Ask {
-                id: &id,
-                lower: &bottom_word,
-                upper: &top_word,
-                ..*ask
-            };
-            calls.push((self.moment.second, ask.call(self.alloc)?))?;
+            let asked = numbered_call(self.alloc, ask, lower, number)?;
+            calls.push((self.moment.second, asked))?;
         }
-        let ran = self.desk.run(self.alloc, &calls)?;
-        let completed = ran
-            .outcomes
-            .iter()
-            .filter(|outcome| is_completed(outcome))
-            .count();
-        writeln!(output, "{completed} completed")?;
-        Ok(())
+        Ok(calls)
     }
 
     // Prints what the store holds of an operator.
     fn show_plans<W: Write>(&mut self, operator: &str, output: &mut W) -> anyhow::Result<()> {
         let operator = Operator::try_new(operator.as_bytes()).context("no name")?;
-        let empty = Desk::new(S::empty(self.alloc)?);
-        let mut store = std::mem::replace(&mut self.desk, empty).into_store();
-        let Ok(rows) = store.own_plans(&operator) else {
-            bail!("the plans can't be read");
-        };
-        self.desk = Desk::new(store);
-        writeln!(output, "{} plans", rows.len())?;
-        for row in rows.iter() {
-            writeln!(output, "{}", ShownPlan(row))?;
-        }
+        let rows = self.stored_plans(&operator)?;
+        show_rows(&rows, output)?;
         Ok(())
     }
+
+    fn stored_plans(&mut self, operator: &Operator) -> anyhow::Result<Vec<PlanRow>> {
+        let empty = Desk::new(S::empty(self.alloc)?);
+        let mut store = std::mem::replace(&mut self.desk, empty).into_store();
+        let rows = store.own_plans(operator);
+        self.desk = Desk::new(store);
+        rows.ok().context("the plans can't be read")
+    }
+}
+
+fn show_case<W: Write>(name: &str, output: &mut W) -> anyhow::Result<()> {
+    writeln!(output, "case {name}")?;
+    Ok(())
+}
+
+// Prints how many plans there are, and each on a line.
+fn show_rows<W: Write>(rows: &[PlanRow], output: &mut W) -> io::Result<()> {
+    writeln!(output, "{} plans", rows.len())?;
+    for row in rows {
+        writeln!(output, "{}", ShownPlan(row))?;
+    }
+    Ok(())
+}
+
+// The bytes of a request, as a text.
+fn request_text(
+    alloc: Global,
+    method: &str,
+    target: &str,
+    operator: &str,
+    body: &str,
+) -> Result<String, AllocError> {
+    let length = body.len();
+    if operator == "-" {
+        format!(in alloc;
+            "{method} {target} HTTP/1.1\r\nhost: desk\r\ncontent-length: {length}\r\n\r\n{body}"
+        )
+    } else {
+        format!(in alloc;
+            "{method} {target} HTTP/1.1\r\nhost: desk\r\nx-operator: {operator}\r\n\
+            content-length: {length}\r\n\r\n{body}"
+        )
+    }
+}
+
+// The call of a plan of ten decimetres, with the id of its number, so many plans above the lowest.
+fn numbered_call(alloc: Global, ask: &Ask<'_>, lower: i32, number: u16) -> anyhow::Result<Asked> {
+    let bottom = lower.saturating_add(10 * i32::from(number));
+    let id = format!(in alloc; "00000000-0000-4000-8000-{number:012}")?;
+    let bottom_word = format!(in alloc; "{bottom}")?;
+    let top_word = format!(in alloc; "{}", bottom.saturating_add(10))?;
+    let ask = Ask {
+        id: &id,
+        lower: &bottom_word,
+        upper: &top_word,
+        ..*ask
+    };
+    ask.call(alloc)
 }
 
 // The call that a step makes, if it makes one.
@@ -221,6 +266,10 @@ fn asked_by(operator: &str, call: Call) -> anyhow::Result<Asked> {
         operator: Operator::try_new(operator.as_bytes()).context("no name")?,
         call,
     })
+}
+
+fn count_completed(outcomes: &[Outcome]) -> usize {
+    outcomes.iter().filter(|it| is_completed(it)).count()
 }
 
 fn is_completed(outcome: &Outcome) -> bool {

@@ -9,20 +9,35 @@ mod step;
 
 use anyhow::Context;
 use stage::Stage;
+use std::alloc::Global;
+use std::io::Write;
 use step::Step;
 
 fn main(rt: HostRuntime) -> anyhow::Result<()> {
+    let mut stage = Stage::new(rt.alloc())?;
+    play_lines(&rt, &mut stage)
+}
+
+// Plays the lines of the standard input.
+fn play_lines(rt: &HostRuntime, stage: &mut Stage) -> anyhow::Result<()> {
     let alloc = rt.alloc();
-    let mut stage = Stage::new(alloc)?;
     let mut output = rt.stdout();
     for line in rt.lines(alloc) {
-        let line = line?;
-        let line = line.as_str();
-        if line.is_empty() || line.starts_with('#') {
-            continue;
-        }
-        let step = Step::parse(alloc, line)?.context("a line of no known form")?;
-        stage.play(&step, &mut output)?;
+        play_line(alloc, line?.as_str(), stage, &mut output)?;
     }
     Ok(())
+}
+
+// Plays a line, which may be empty or a comment.
+fn play_line<W: Write>(
+    alloc: Global,
+    line: &str,
+    stage: &mut Stage,
+    output: &mut W,
+) -> anyhow::Result<()> {
+    if line.is_empty() || line.starts_with('#') {
+        return Ok(());
+    }
+    let step = Step::parse(alloc, line)?.context("a line of no known form")?;
+    stage.play(&step, output)
 }

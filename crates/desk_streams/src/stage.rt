@@ -53,16 +53,23 @@ impl Stage {
     /// Does what a step says, and prints what comes of it.
     pub fn play<W: Write>(&mut self, step: &Step<'_>, output: &mut W) -> anyhow::Result<()> {
         match step {
-            Step::Case(name) => {
-                *self = Stage::new(self.alloc)?;
-                writeln!(output, "case {name}")?;
-            }
-            Step::Feed { count, text } => self.feed(*count, text)?,
-            Step::Byte(byte) => self.stream.push(*byte)?,
-            Step::Play(pace) => self.play_stream(*pace, output)?,
-            Step::Serve(pace) => self.serve(*pace, output)?,
-            Step::Prefixes => self.play_prefixes(output)?,
+            Step::Case(name) => self.begin(name, output),
+            Step::Feed { count, text } => self.feed(*count, text),
+            Step::Byte(byte) => self.feed_byte(*byte),
+            Step::Play(pace) => self.play_stream(*pace, output),
+            Step::Serve(pace) => self.serve(*pace, output),
+            Step::Prefixes => self.play_prefixes(output),
         }
+    }
+
+    fn begin<W: Write>(&mut self, name: &str, output: &mut W) -> anyhow::Result<()> {
+        *self = Stage::new(self.alloc)?;
+        writeln!(output, "case {name}")?;
+        Ok(())
+    }
+
+    fn feed_byte(&mut self, byte: u8) -> anyhow::Result<()> {
+        self.stream.push(byte)?;
         Ok(())
     }
 

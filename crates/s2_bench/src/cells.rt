@@ -86,8 +86,7 @@ impl Numbers {
 
 /// Inputs of `count` places.
 pub fn random_inputs(alloc: Global, count: u32) -> Result<Inputs, AllocError> {
-    let any_rects = random_rects(alloc, count, Form::Any)?;
-    let rows = random_rects(alloc, count, Form::Row)?;
+    let mut numbers = Numbers { state: 1 };
     let mut inputs = Inputs {
         places: Vec::new(alloc),
         leaves: Vec::new(alloc),
@@ -95,44 +94,21 @@ pub fn random_inputs(alloc: Global, count: u32) -> Result<Inputs, AllocError> {
         climbs: Vec::new(alloc),
         tokens: Vec::new(alloc),
         close: Vec::new(alloc),
-        any_rects,
-        rows,
+        any_rects: random_rects(alloc, count, Form::Any)?,
+        rows: random_rects(alloc, count, Form::Row)?,
     };
-    let mut numbers = Numbers { state: 1 };
-    push_places(alloc, count, &mut numbers, &mut inputs)?;
-    push_close(&mut numbers, &mut inputs)?;
-    Ok(inputs)
-}
-
-// Fills the lists of so many places, and of what is round them.
-fn push_places(
-    alloc: Global,
-    count: u32,
-    numbers: &mut Numbers,
-    inputs: &mut Inputs,
-) -> Result<(), AllocError> {
     for _ in 0..count {
         let place = numbers.place();
         let leaf = leaf_at(place.position);
+        let cell = cell_round(leaf, (numbers.next() % 31) as u8);
         inputs.places.push(place)?;
         inputs.leaves.push(leaf)?;
-        push_cell(alloc, leaf, numbers, inputs)?;
+        inputs.cells.push(cell)?;
+        inputs.climbs.push(climb_from(cell, numbers.next()))?;
+        inputs.tokens.push(format!(in alloc; "{cell}")?)?;
     }
-    Ok(())
-}
-
-// Appends a cell round a leaf, its climb and its token.
-fn push_cell(
-    alloc: Global,
-    leaf: Leaf,
-    numbers: &mut Numbers,
-    inputs: &mut Inputs,
-) -> Result<(), AllocError> {
-    let cell = cell_round(leaf, (numbers.next() % 31) as u8);
-    inputs.cells.push(cell)?;
-    inputs.climbs.push(climb_from(cell, numbers.next()))?;
-    inputs.tokens.push(format!(in alloc; "{cell}")?)?;
-    Ok(())
+    push_close(&mut numbers, &mut inputs)?;
+    Ok(inputs)
 }
 
 // The cell with one of the levels down to its own.

@@ -15,9 +15,8 @@ use crate::cells::{Inputs, random_inputs};
 use crate::measures::{LIMIT, MEASURES, Measure};
 use crate::rects::{Form, random_rects};
 use anyhow::Context;
-use s2_cellid::CellId;
 use s2_cover::{Rect, cover};
-use std::alloc::{AllocError, Global};
+use std::alloc::Global;
 use std::env;
 use std::time::{Duration, Instant};
 
@@ -47,44 +46,28 @@ fn time_once(
 fn print_covers(rt: &HostRuntime, count: u32) -> anyhow::Result<()> {
     let alloc = rt.alloc();
     for form in [Form::Any, Form::Row] {
-        let text = covers_text(alloc, &random_rects(alloc, count, form)?)?;
+        let rects = random_rects(alloc, count, form)?;
+        let mut text = String::new(alloc);
+        for rect in &rects {
+            push_cover(alloc, &mut text, rect)?;
+        }
         print!(rt; "{text}")?;
     }
     Ok(())
 }
 
-// Each rectangle with the tokens of its cover, as a line.
-fn covers_text(alloc: Global, rects: &[Rect]) -> anyhow::Result<String> {
-    let mut text = String::new(alloc);
-    for rect in rects {
-        push_parts(alloc, &mut text, rect)?;
-        push_cover(alloc, &mut text, rect)?;
-    }
-    Ok(text)
-}
-
-// Appends the parts of a rectangle.
-fn push_parts(alloc: Global, text: &mut String, rect: &Rect) -> Result<(), AllocError> {
+// Appends a rectangle and the tokens of its cover, as a line.
+fn push_cover(alloc: Global, text: &mut String, rect: &Rect) -> anyhow::Result<()> {
     let (face, level) = (rect.face(), rect.level());
     let (i_min, i_max, j_min, j_max) = (rect.i_min(), rect.i_max(), rect.j_min(), rect.j_max());
     let parts = format!(in alloc; "{face} {i_min} {i_max} {j_min} {j_max} {level}")?;
-    text.push_str(&parts)
-}
-
-// Appends the tokens of a rectangle's cover, and ends the line.
-fn push_cover(alloc: Global, text: &mut String, rect: &Rect) -> anyhow::Result<()> {
-    let cover = cover(alloc, rect, LIMIT)?;
-    push_tokens(text, cover.cells())?;
-    Ok(())
-}
-
-// Appends the tokens of cells, and ends the line.
-fn push_tokens(text: &mut String, cells: &[CellId]) -> Result<(), AllocError> {
-    for cell in cells {
+    text.push_str(&parts)?;
+    for cell in cover(alloc, rect, LIMIT)?.cells() {
         text.push(' ')?;
         text.push_str(cell.token().as_str())?;
     }
-    text.push('\n')
+    text.push('\n')?;
+    Ok(())
 }
 
 // Times all measures, and prints their sums.
@@ -93,33 +76,15 @@ fn time_all(rt: &HostRuntime) -> anyhow::Result<()> {
     let rounds = number(rt, 2)?;
     let mut least = [Duration::MAX; MEASURES.len()];
     for _ in 0..rounds {
-        time_round(rt, &inputs, &mut least)?;
+        for (time, (_, measure)) in least.iter_mut().zip(&MEASURES) {
+            *time = time_once(rt, &inputs, *measure, *time)?;
+        }
     }
     for (time, (name, measure)) in least.iter().zip(&MEASURES) {
-        print_measure(rt, &inputs, name, *measure, *time)?;
+        let sum = measure.sum(rt.alloc(), &inputs)?;
+        println!(rt; "{name} {sum:016x}")?;
+        eprintln!(rt; "{name} {}", picoseconds(*time, measure.calls(&inputs)))?;
     }
-    Ok(())
-}
-
-// Times each measure once.
-fn time_round(rt: &HostRuntime, inputs: &Inputs, least: &mut [Duration]) -> anyhow::Result<()> {
-    for (time, (_, measure)) in least.iter_mut().zip(&MEASURES) {
-        *time = time_once(rt, inputs, *measure, *time)?;
-    }
-    Ok(())
-}
-
-// Prints the sum of a measure, and the least time of its calls.
-fn print_measure(
-    rt: &HostRuntime,
-    inputs: &Inputs,
-    name: &str,
-    measure: Measure,
-    time: Duration,
-) -> anyhow::Result<()> {
-    let sum = measure.sum(rt.alloc(), inputs)?;
-    println!(rt; "{name} {sum:016x}")?;
-    eprintln!(rt; "{name} {}", picoseconds(time, measure.calls(inputs)))?;
     Ok(())
 }
 

@@ -52,22 +52,28 @@ fn random_rect(numbers: &mut Numbers, form: Form) -> Option<Rect> {
         Form::Row => (1, IN_A_ROW),
     };
     let side = SQUARE_SIDE << above;
-    let (i_min, i_max) = coordinates(numbers.next(), wide, side)?;
-    let (j_min, j_max) = coordinates(numbers.next(), high, side)?;
-    let level = (LEVEL - above) as u8;
-    Rect::try_new(face as u8, i_min, i_max, j_min, j_max, level).ok()
+    let (i_min, i_max) = coordinates(numbers.next(), wide, side);
+    let (j_min, j_max) = coordinates(numbers.next(), high, side);
+    Rect::try_new(
+        u8::try_from(face).ok()?,
+        u32::try_from(i_min).ok()?,
+        u32::try_from(i_max).ok()?,
+        u32::try_from(j_min).ok()?,
+        u32::try_from(j_max).ok()?,
+        u8::try_from(LEVEL - above).ok()?,
+    )
+    .ok()
 }
 
-// The least and the greatest coordinate of so many squares, the first of which lies round a place, if
-// they are numbers of 32 bits.
-fn coordinates(place: u64, squares: u64, side: u64) -> Option<(u32, u32)>
+// The least and the greatest coordinate of so many squares, the first of which lies round a place.
+fn coordinates(place: u64, squares: u64, side: u64) -> (u64, u64)
     requires { 0 < side }
 {
     let place = place % FACE_SIDE;
-    let least = place.saturating_sub(place % side);
+    let least = place - place % side;
     let greatest = squares
         .wrapping_mul(side)
         .wrapping_add(least)
         .wrapping_sub(1);
-    Some((u32::try_from(least).ok()?, u32::try_from(greatest).ok()?))
+    (least, greatest)
 }

@@ -5,6 +5,4 @@
 #[cfg(test)]
 mod kept;
 #[cfg(test)]
-mod schema;
-#[cfg(test)]
 mod store;

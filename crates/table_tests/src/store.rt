@@ -1,7 +1,6 @@
 //! A store over tables in memory: what it answers.
 
-ghost use Rattle.std.specs.Prelude.{◌≡◌, false, IsTrue, IfOk};
-ghost use Rattle.sqlite_disk.specs.Memory.{memory_is_usable};
+ghost use Rattle.std.specs.Prelude.{◌≡◌, false, IfOk};
 
 use desk_rules::operator::Operator;
 use desk_rules::plan::PlanRow;
@@ -10,8 +9,7 @@ use desk_rules::words::{Aircraft, Usage};
 use desk_store::{Change, PlanStore};
 use desk_tables::{OpenFault, SqliteStore};
 use s2_cellid::CellId;
-use sqlite::{Alter, Connection, Error, FileStore, Files, MemStore, Options, params};
-use sqlite_disk::Memory;
+use sqlite::{Alter, Connection, Error, MemStore, params};
 use std::alloc::Global;
 use std::test::Fail;
 use volume4d::{Area, Footprint, Volume, Window};
@@ -72,53 +70,6 @@ fn put<S: Alter>(store: &mut SqliteStore<S>, operator: Operator, row: PlanRow) -
         store.apply(&Change::Put { operator, row })?;
     }
     Ok(())
-}
-
-/// A connection over files in memory.
-fn opened(alloc: Global, log: Memory, db: Memory) -> Result<Connection<FileStore<Memory>>, Error>
-    requires { IsTrue (memory_is_usable log) × IsTrue (memory_is_usable db) }
-    ensures { IfOk result (λ connection. connection.in_transaction ≡ false) }
-{
-    match Connection::open_files(alloc, Files { log, db }, Options::new(1)) {
-        Ok(connection) => Ok(connection),
-        Err((error, _)) => Err(error),
-    }
-}
-
-fn adopted(
-    alloc: Global,
-    connection: Connection<FileStore<Memory>>,
-) -> Result<SqliteStore<FileStore<Memory>>, OpenFault>
-    requires { connection.in_transaction ≡ false }
-{
-    match SqliteStore::adopt(alloc, connection) {
-        Ok(store) => Ok(store),
-        Err(refused) => Err(refused.fault),
-    }
-}
-
-/// The database file, once it is closed.
-fn closed(store: SqliteStore<FileStore<Memory>>) -> Result<Memory, Error>
-    ensures { IfOk result (λ db. IsTrue (memory_is_usable db)) }
-{
-    match store.release().close_files() {
-        Ok(Files { log: _, db }) => Ok(db),
-        Err((error, left)) => {
-            drop(left.close());
-            Err(error)
-        }
-    }
-}
-
-/// A file in which an operator has a plan of this id, of priority 10.
-fn file_with_plan(alloc: Global, operator: Operator, id: PlanId) -> Result<Memory, Fail>
-    ensures { IfOk result (λ db. IsTrue (memory_is_usable db)) }
-{
-    let connection = opened(alloc, Memory::new(alloc), Memory::new(alloc))?;
-    let mut store = adopted(alloc, connection)?;
-    enrol(&mut store, operator, 100)?;
-    put(&mut store, operator, row_of(alloc, id, 10, Usage::InUse)?)?;
-    Ok(closed(store)?)
 }
 
 /// A database with a table that is no desk's, and a row.
@@ -194,19 +145,6 @@ fn rivals_are_live_and_not_the_plan_itself(rt: HostRuntime) -> Result<(), Fail> 
     assert_eq!(rt; store.rivals(&bravo, &one, 10, &extent)?.len(), 1);
     assert_eq!(rt; store.rivals(&bravo, &one, 11, &extent)?.len(), 0);
     assert_eq!(rt; store.rivals(&alfa, &one, 0, &extent)?.len(), 0);
-    Ok(())
-}
-
-#[test]
-fn a_plan_is_found_in_files_closed_and_opened_again(rt: HostRuntime) -> Result<(), Fail> {
-    let alloc = rt.alloc();
-    let alfa = operator_of(b"alfa")?;
-    let one = id_of("11111111-1111-4111-8111-111111111111")?;
-    let db = file_with_plan(alloc, alfa, one)?;
-    let connection = opened(alloc, Memory::new(alloc), db)?;
-    let mut store = adopted(alloc, connection)?;
-    let found = store.plan(&alfa, &one)?.ok_or("a plan")?;
-    assert_eq!(rt; found.priority, 10);
     Ok(())
 }
 
