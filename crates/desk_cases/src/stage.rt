@@ -17,9 +17,7 @@ use desk_run::{Desk, Outcome};
 use desk_wire::answer;
 use std::alloc::{AllocError, Global};
 use std::io::{self, Write};
-
-/// The last moment, a Unix second.
-const LAST_MOMENT: i64 = 253_370_764_800;
+use volume4d::MAX_SECOND;
 
 /// A Unix second in the range of moments.
 #[derive(Clone, Copy)]
@@ -35,7 +33,7 @@ impl Moment {
         if second < 0 {
             return None;
         }
-        if second > LAST_MOMENT {
+        if second > MAX_SECOND {
             return None;
         }
         Some(Moment { second })
