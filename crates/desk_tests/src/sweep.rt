@@ -31,22 +31,27 @@ fn held(first: u16, last: u16, priority: u32) -> Held {
 // Whatever their order, the lists first share position 24.
 #[test]
 fn meets_alike_in_any_order(rt: HostRuntime) -> Result<(), Fail> {
-    let mut mine = [slab(40, 49), slab(0, 9), slab(20, 29)];
-    let mut theirs = [
-        held(45, 60, 9),
-        held(25, 25, 3),
-        held(10, 15, 8),
-        held(24, 41, 1),
-    ];
     let first = Some(Meeting {
         pos: 24,
         altitude: 0,
         second: NOON,
         priority: 1,
     });
+    let mine = [slab(40, 49), slab(0, 9), slab(20, 29)];
+    let theirs = [
+        held(45, 60, 9),
+        held(25, 25, 3),
+        held(10, 15, 8),
+        held(24, 41, 1),
+    ];
     assert_eq!(rt; first_meeting(&mine, &theirs), first);
-    mine.sort_unstable_by_key(|slab| slab.first);
-    theirs.sort_unstable_by_key(|held| held.slab.first);
+    let mine = [slab(0, 9), slab(20, 29), slab(40, 49)];
+    let theirs = [
+        held(10, 15, 8),
+        held(24, 41, 1),
+        held(25, 25, 3),
+        held(45, 60, 9),
+    ];
     assert_eq!(rt; first_meeting(&mine, &theirs), first);
     Ok(())
 }
