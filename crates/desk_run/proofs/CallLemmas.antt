@@ -31,18 +31,20 @@ use Rattle.desk_rules.specs.declared.reply.PutReply.{PutReply}
 use Rattle.desk_run.specs.declared.pending.Pending.{Pending}
 use Rattle.desk_run.specs.Verdicts.{Told, replied, unknown_operator, no_such_plan, ruling_alone, put_outcome, put_ruling, plans_left, delete_ruling, shown_in, list_ruling, show_ruling, clear_ruling, enrolled_ruling, ruling_under, verdict, world_with_plans, told_to, step}
 use Rattle.desk_run.specs.Calls.{IsUnanswered, IsReady, Readies, IsPending, Prepares, change_after, world_with, world_committed}
+use Rattle.desk_run.proofs.OutcomeLemmas.{outcome_counts}
 use Rattle.desk_run.proofs.PutLemmas.{change_fits}
 
 -- a verdict by the stored plan, the number of plans and the conflict
 pub verdict_is : (w : World) (o : List ℕ) (put : PutCall) (given moment : ℤ) (ceiling : ℕ)
     (stored : Option PlanRow) (count : ℕ) (meeting : Option Spot) (v : Verdict) → v
     ≡ outcome put given stored count ceiling meeting → given ≡ moment → stored
-    ≡ stored_of put.id (plans_of o w) → count ≡ length (plans_of o w) → meeting
+    ≡ stored_of put.id (plans_of o w) → (stored ≡ None → count ≡ length (plans_of o w)) → meeting
     ≡ conflict put.area (held_at (plans_of o w) (held w o) put.id) put.priority → v
     ≡ put_outcome (own w o) (held w o) ceiling moment put
 unfolding put_outcome own
 verdict_is w o put given moment ceiling stored count meeting v e m s n c = e
-    ∙ (λ i. outcome put (m i) (s i) (n i) ceiling (c i))
+    ∙ outcome_counts put given stored count (length (plans_of o w)) ceiling meeting n
+    ∙ (λ i. outcome put (m i) (s i) (length (plans_of o w)) ceiling (c i))
 
 -- a call to which an answer says no more than a word
 unanswered_by : (w : World) (moment : ℤ) (asked : Asked) (reason : Told)

@@ -1,4 +1,5 @@
 pub mod FaultLemmas
+pub mod OutcomeLemmas
 pub mod PutLemmas
 pub mod CallLemmas
 pub mod RunLemmas

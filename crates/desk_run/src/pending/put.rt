@@ -1,12 +1,15 @@
 //! Requests to plan, decided over a store.
 
-ghost use Rattle.std.specs.Prelude.{◌≡◌, ◌≤◌, length, Some, IfOk, IfErr};
+ghost use Rattle.std.specs.Prelude.{◌≡◌, ◌≤◌, length, Option, Some, None, true, false, cond, IfOk, IfErr};
 ghost use Rattle.desk_store.specs.Faults.{IsHonest, HasRisen};
 ghost use Rattle.desk_rules.specs.Limits.{max_priority};
 ghost use Rattle.std.specs.Option.{option_copied};
 ghost use Rattle.desk_store.specs.World.{own, ceiling_of, plans_of, stored_of, held};
 ghost use Rattle.desk_run.specs.Calls.{Readies, change_after};
-ghost use Rattle.desk_run.specs.Verdicts.{put_ruling, put_outcome_in, row_asked};
+ghost use Rattle.desk_rules.specs.Outcome.{outcome, is_check};
+ghost use Rattle.desk_rules.specs.States.{step_of};
+ghost use Rattle.volume4d.specs.Meeting.{Spot};
+ghost use Rattle.desk_run.specs.Verdicts.{put_ruling, put_outcome_in, row_asked, conflict_in};
 
 use super::Pending;
 use super::conflict::conflict_of;
@@ -16,8 +19,10 @@ use desk_rules::operator::Operator;
 use desk_rules::plan::{PlanRow, PutCall};
 use desk_rules::plan_id::PlanId;
 use desk_rules::reply::{PutReply, Reply};
+use desk_rules::transition::{Step, transition};
 use desk_store::{Change, PlanStore, StoreFault};
 use std::alloc::AllocError;
+use volume4d::Meeting;
 
 // Gets the reply to a request of an operator under a ceiling ready.
 pub fn ready_put<S: PlanStore>(
@@ -78,11 +83,63 @@ fn verdict_on<S: PlanStore>(
         HasRisen (S.faults store.old) (S.faults store.new)) }
 {
     let (stored, own_rows) = plan_and_count(store, operator, &put.id)?;
-    let meeting = conflict_of(store, operator, &put.id, &put.area, put.priority)?;
+    let needed = needs_conflict(put, moment, stored.as_ref(), own_rows, ceiling);
+    let meeting = conflict_if(needed, store, operator, put)?;
     Ok(decide(put, moment, stored.as_ref(), own_rows, ceiling, meeting))
 }
 
-// The operator's plan of the id, and how many plans the operator has.
+// Whether a conflict may change the verdict on a request: nothing else refuses it, and the state table
+// says that it is checked.
+#[tactic(auto, using(crate::proofs::OutcomeLemmas::settled))]
+fn needs_conflict(
+    put: &PutCall,
+    moment: i64,
+    stored: Option<&PlanRow>,
+    own_rows: u32,
+    ceiling: u32,
+) -> bool
+    ensures settled { result ≡ false → (conflict : Option Spot) →
+        outcome put.now moment (option_copied stored.entry) own_rows ceiling conflict
+        ≡ outcome put.now moment (option_copied stored.entry) own_rows ceiling None }
+    ensures unrefused { result ≡ true →
+        (outcome put.now moment (option_copied stored.entry) own_rows ceiling None).note ≡ None }
+    ensures checked { result ≡ true →
+        is_check (step_of (option_copied stored.entry) put.now) ≡ true }
+{
+    let verdict = decide(put, moment, stored, own_rows, ceiling, None);
+    verdict.note.is_none() && is_checked(transition(stored, put))
+}
+
+// Whether a step is a check, which a conflict may refuse.
+fn is_checked(step: Step) -> bool
+    ensures { result ≡ is_check step }
+{
+    matches!(step, Step::Check(_))
+}
+
+// The conflict of the area that a request asks for, read only if it is needed.
+fn conflict_if<S: PlanStore>(
+    needed: bool,
+    store: &mut S,
+    operator: &Operator,
+    put: &PutCall,
+) -> Result<Option<Meeting>, StoreFault>
+    ensures value { IsHonest (S.doubt store.new) → IfOk result (λ meeting.
+        meeting ≡ cond needed (conflict_in (S.content store.old) operator.now put.now.id
+        put.now.area put.now.priority) None) }
+    ensures same { S.content store.new ≡ S.content store.old }
+    ensures doubt { S.doubt store.old ≤ S.doubt store.new }
+    ensures counted { S.faults store.old ≤ S.faults store.new }
+    ensures cause { IfErr result (λ e. e ≡ StoreFault.Store →
+        HasRisen (S.faults store.old) (S.faults store.new)) }
+{
+    if !needed {
+        return Ok(None);
+    }
+    conflict_of(store, operator, &put.id, &put.area, put.priority)
+}
+
+// The operator's plan of the id, and if there is none, how many plans the operator has.
 fn plan_and_count<S: PlanStore>(
     store: &mut S,
     operator: &Operator,
@@ -90,7 +147,7 @@ fn plan_and_count<S: PlanStore>(
 ) -> Result<(Option<PlanRow>, u32), StoreFault>
     ensures stored { IsHonest (S.doubt store.new) → IfOk result (λ own.
         own.0 ≡ stored_of id.now (plans_of operator.now (S.content store.old))) }
-    ensures count { IsHonest (S.doubt store.new) → IfOk result (λ own.
+    ensures count { IsHonest (S.doubt store.new) → IfOk result (λ own. own.0 ≡ None →
         own.1 ≡ length (plans_of operator.now (S.content store.old))) }
     ensures same { S.content store.new ≡ S.content store.old }
     ensures doubt { S.doubt store.old ≤ S.doubt store.new }
@@ -99,6 +156,9 @@ fn plan_and_count<S: PlanStore>(
         HasRisen (S.faults store.old) (S.faults store.new)) }
 {
     let stored = store.plan(operator, id)?;
+    if stored.is_some() {
+        return Ok((stored, 0));
+    }
     let own_rows = store.own_count(operator)?;
     Ok((stored, own_rows))
 }

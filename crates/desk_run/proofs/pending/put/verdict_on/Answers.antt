@@ -1,23 +1,37 @@
-use Rattle.std.proofs.Common.{◌∙◌, ap, w64, to_z, of_z}
+use Rattle.std.proofs.Common.{◌≡◌, ◌∙◌, ap, subst, refl, w64, to_z, of_z, false, cond, Option, None}
 use Rattle.std.proofs.lemmas.Int.{to_z-of_z}
+use Rattle.volume4d.specs.Meeting.{Spot}
 use Rattle.desk_rules.specs.Outcome.{outcome}
 use Rattle.desk_store.specs.FaultLaws.{was_honest}
 use Rattle.desk_run.specs.Verdicts.{conflict_in}
+use Rattle.desk_run.proofs.OutcomeLemmas.{outcome_if_needed}
 use Rattle.desk_run.proofs.CallLemmas.{verdict_is}
 use Rattle.desk_run.proofs.pending.put.verdict_on.Goals as goal
 
 pub returns-clause-verdict : goal.returns-clause-verdict
 returns-clause-verdict g c = λ honest.
     let o = c.args.operator.now in
+    let put = c.args.put.now in
     let before = g.S.PlanStore.content c.args.store.now in
-    let counting = was_honest c.conflict_of.ensures.doubt honest in
-    verdict_is before o c.args.put.now _ c.args.moment c.args.ceiling c.in_ok-stored.stored
-    c.in_ok-stored.own_rows c.in_ok-meeting.meeting c.decide.result
-    (c.decide.ensures ∙ ap (λ s. outcome c.args.put.now (to_z w64 (of_z w64 c.args.moment)) s
-    c.in_ok-stored.own_rows c.args.ceiling c.in_ok-meeting.meeting) c.as_ref.ensures.value)
-    (to_z-of_z w64 c.args.moment c.ranges.moment)
-    (c.in_ok-stored.ensures.stored counting)
-    (c.in_ok-stored.ensures.count counting)
+    let own = c.in_ok-stored in
+    let second = to_z w64 (of_z w64 c.args.moment) in
+    let needed = c.needs_conflict-needed.result in
+    let conflict = conflict_in before o put.id put.area put.priority in
+    let counting = was_honest c.conflict_if.ensures.doubt honest in
+    verdict_is before o put second c.args.moment c.args.ceiling own.stored own.own_rows conflict
+    c.decide.result
+    (c.decide.ensures ∙ ap (λ s. outcome put second s own.own_rows c.args.ceiling
+    c.in_ok-meeting.meeting) c.as_ref-2.ensures.value
+    ∙ outcome_if_needed put second own.stored own.own_rows c.args.ceiling needed conflict
+    c.in_ok-meeting.meeting
+    (subst (λ s. needed ≡ false → (other : Option Spot)
+    → outcome put second s own.own_rows c.args.ceiling other
+    ≡ outcome put second s own.own_rows c.args.ceiling None) c.as_ref.ensures.value
+    c.needs_conflict-needed.ensures.settled)
     (c.in_ok-meeting.ensures.value honest
-    ∙ ap (λ w. conflict_in w o c.args.put.now.id c.args.put.now.area c.args.put.now.priority)
-    c.plan_and_count.ensures.same)
+    ∙ ap (λ w. cond needed (conflict_in w o put.id put.area put.priority) None)
+    c.plan_and_count.ensures.same))
+    (to_z-of_z w64 c.args.moment c.ranges.moment)
+    (own.ensures.stored counting)
+    (own.ensures.count counting)
+    refl

@@ -1,0 +1,149 @@
+-- Outcomes: which of what they are given they don't depend on.
+use Rattle.std.proofs.Common.{◌≡◌, ℕ, ℤ, Bool, true, false, ◌&&◌, not, [], ◌∷◌, Option, Some, None, refl, sym, ap, ◌∙◌}
+use Rattle.std.specs.Prelude.{⊤, nat_le, nat_lt, is_none, is_some, cond}
+use Rattle.desk_rules.specs.declared.plan.PlanRow.{PlanRow}
+use Rattle.desk_rules.specs.declared.plan.PutCall.{PutCall}
+use Rattle.desk_rules.specs.declared.words.Note.{Note}
+use Rattle.desk_rules.specs.declared.words.Note.TheVariants as note
+use Rattle.desk_rules.specs.declared.words.Usage.{Usage}
+use Rattle.desk_rules.specs.declared.words.Usage.TheVariants as usage
+use Rattle.desk_rules.specs.declared.words.Aircraft.{Aircraft}
+use Rattle.desk_rules.specs.declared.words.Aircraft.TheVariants as aircraft
+use Rattle.desk_rules.specs.declared.transition.Step.{Step}
+use Rattle.desk_rules.specs.declared.transition.Step.TheVariants.{Refuse, Check, Report, Shut, Keep}
+use Rattle.volume4d.specs.Meeting.{Spot}
+use Rattle.desk_rules.specs.States.{step_of, step_from_none, step_from_planned, step_from_use, step_from_contingency, step_from_closed, step_from_states, is_offered}
+use Rattle.desk_rules.specs.Outcome.{outcome, note_of, first_note, note_where, refusal_of, is_check, has_ended, is_beyond_horizon, is_stored, shown_conflict, verdict_by}
+use Rattle.desk_rules.specs.Limits.{max_plans}
+
+-- the number of an operator's plans counts only if no plan is stored
+pub outcome_counts : (put : PutCall) (moment : ℤ) (stored : Option PlanRow) (m n ceiling : ℕ)
+    (conflict : Option Spot) → (stored ≡ None → m ≡ n)
+    → outcome put moment stored m ceiling conflict ≡ outcome put moment stored n ceiling conflict
+unfolding outcome note_of
+outcome_counts put moment None m n ceiling conflict same =
+    ap (λ k. outcome put moment None k ceiling conflict) (same refl)
+outcome_counts put moment (Some row) m n ceiling conflict same = refl
+
+-- a step that refuses does so with a note beside which no conflict is shown
+abbrev ShowsNone : Step → Type 0
+ShowsNone (Refuse n) = (conflict : Option Spot) → shown_conflict n conflict ≡ None
+ShowsNone (Check s) = ⊤
+ShowsNone (Report s) = ⊤
+ShowsNone Shut = ⊤
+ShowsNone Keep = ⊤
+
+none_shows_none : (want : Usage) (craft : Aircraft) → ShowsNone (step_from_none want craft)
+none_shows_none usage.Planned aircraft.Nominal = tt
+none_shows_none usage.Planned aircraft.OffNominal = λ c. refl
+none_shows_none usage.Planned aircraft.Contingent = λ c. refl
+none_shows_none usage.InUse aircraft.Nominal = tt
+none_shows_none usage.InUse aircraft.OffNominal = λ c. refl
+none_shows_none usage.InUse aircraft.Contingent = λ c. refl
+none_shows_none usage.Closed craft = λ c. refl
+
+planned_shows_none : (want : Usage) (craft : Aircraft) → ShowsNone (step_from_planned want craft)
+planned_shows_none usage.Planned aircraft.Nominal = tt
+planned_shows_none usage.Planned aircraft.OffNominal = λ c. refl
+planned_shows_none usage.Planned aircraft.Contingent = λ c. refl
+planned_shows_none usage.InUse aircraft.Nominal = tt
+planned_shows_none usage.InUse aircraft.OffNominal = tt
+planned_shows_none usage.InUse aircraft.Contingent = tt
+planned_shows_none usage.Closed craft = tt
+
+use_shows_none : (want : Usage) (craft : Aircraft) → ShowsNone (step_from_use want craft)
+use_shows_none usage.Planned craft = λ c. refl
+use_shows_none usage.InUse aircraft.Nominal = tt
+use_shows_none usage.InUse aircraft.OffNominal = tt
+use_shows_none usage.InUse aircraft.Contingent = tt
+use_shows_none usage.Closed craft = tt
+
+contingency_shows_none : (want : Usage) (craft : Aircraft)
+    → ShowsNone (step_from_contingency want craft)
+contingency_shows_none usage.Planned craft = λ c. refl
+contingency_shows_none usage.InUse aircraft.Nominal = λ c. refl
+contingency_shows_none usage.InUse aircraft.OffNominal = λ c. refl
+contingency_shows_none usage.InUse aircraft.Contingent = tt
+contingency_shows_none usage.Closed craft = tt
+
+closed_shows_none : (want : Usage) → ShowsNone (step_from_closed want)
+closed_shows_none usage.Planned = λ c. refl
+closed_shows_none usage.InUse = λ c. refl
+closed_shows_none usage.Closed = tt
+
+states_show_none : (had : Usage) (stored : Aircraft) (want : Usage) (craft : Aircraft)
+    → ShowsNone (step_from_states had stored want craft)
+states_show_none usage.Planned stored want craft = planned_shows_none want craft
+states_show_none usage.InUse aircraft.Nominal want craft = use_shows_none want craft
+states_show_none usage.InUse aircraft.OffNominal want craft = use_shows_none want craft
+states_show_none usage.InUse aircraft.Contingent want craft = contingency_shows_none want craft
+states_show_none usage.Closed stored want craft = closed_shows_none want
+
+shows_none : (stored : Option PlanRow) (put : PutCall) → ShowsNone (step_of stored put)
+shows_none None put = none_shows_none put.usage put.aircraft
+shows_none (Some row) put = states_show_none row.usage row.aircraft put.usage put.aircraft
+
+-- the first note by the tests of the list of refusals
+abbrev noted : Step → Bool → Bool → Bool → Bool → Bool → Bool → Option Note
+noted next offered ended beyond above full blocked =
+    first_note (note_where (not offered) note.Style
+    ∷ refusal_of next
+    ∷ note_where (is_check next && ended) note.Ended
+    ∷ note_where (is_check next && beyond) note.Horizon
+    ∷ note_where (is_stored next && above) note.Priority
+    ∷ note_where (is_stored next && full) note.PlansLimit
+    ∷ note_where (is_check next && blocked) note.Conflict
+    ∷ [])
+
+-- where a note is first without a conflict, or the step is no check, a conflict changes nothing
+settled_by : (put : PutCall) (stored : Option PlanRow) (conflict : Option Spot) (next : Step)
+    (offered ended beyond above full blocked : Bool) → ShowsNone next
+    → (is_none (noted next offered ended beyond above full false) && is_check next) ≡ false
+    → verdict_by put stored conflict (noted next offered ended beyond above full blocked)
+    ≡ verdict_by put stored None (noted next offered ended beyond above full false)
+settled_by put stored conflict next false ended beyond above full blocked shows e = refl
+settled_by put stored conflict (Refuse n) true ended beyond above full blocked shows e =
+    ap (λ m. record (verdict_by put stored None (Some n)) { meeting = m })
+    (shows conflict ∙ sym (shows None))
+settled_by put stored conflict (Check s) true true beyond above full blocked shows e = refl
+settled_by put stored conflict (Check s) true false true above full blocked shows e = refl
+settled_by put stored conflict (Check s) true false false true full blocked shows e = refl
+settled_by put stored conflict (Check s) true false false false true blocked shows e = refl
+settled_by put stored conflict (Check s) true false false false false blocked shows e = cc
+settled_by put stored conflict (Report s) true ended beyond true full blocked shows e = refl
+settled_by put stored conflict (Report s) true ended beyond false true blocked shows e = refl
+settled_by put stored conflict (Report s) true ended beyond false false blocked shows e = refl
+settled_by put stored conflict Shut true ended beyond above full blocked shows e = refl
+settled_by put stored conflict Keep true ended beyond above full blocked shows e = refl
+
+note_is : (put : PutCall) (stored : Option PlanRow) (conflict : Option Spot) (n : Option Note)
+    → (verdict_by put stored conflict n).note ≡ n
+note_is put stored conflict None = refl
+note_is put stored conflict (Some n) = refl
+
+-- an outcome that is refused with no conflict, or of a request that isn't checked, is the same with any
+pub settled : (put : PutCall) (moment : ℤ) (stored : Option PlanRow) (own_rows ceiling : ℕ)
+    (conflict : Option Spot)
+    → (is_none (outcome put moment stored own_rows ceiling None).note && is_check (step_of stored put))
+    ≡ false
+    → outcome put moment stored own_rows ceiling conflict
+    ≡ outcome put moment stored own_rows ceiling None
+unfolding outcome note_of
+settled put moment stored own_rows ceiling conflict e =
+    settled_by put stored conflict (step_of stored put) (is_offered put.style put.usage put.aircraft)
+    (has_ended put.area moment) (is_beyond_horizon put.area moment) (nat_lt ceiling put.priority)
+    (is_none stored && nat_le max_plans own_rows) (is_some conflict) (shows_none stored put)
+    (ap (λ n. is_none n && is_check (step_of stored put))
+    (sym (note_is put stored None (note_of put moment stored own_rows ceiling false))) ∙ e)
+
+-- a conflict that is asked for only if it is needed gives the outcome with that conflict
+pub outcome_if_needed : (put : PutCall) (moment : ℤ) (stored : Option PlanRow) (own_rows ceiling : ℕ)
+    (needed : Bool) (conflict meeting : Option Spot)
+    → (needed ≡ false → (other : Option Spot) → outcome put moment stored own_rows ceiling other
+    ≡ outcome put moment stored own_rows ceiling None) → meeting ≡ cond needed conflict None
+    → outcome put moment stored own_rows ceiling meeting
+    ≡ outcome put moment stored own_rows ceiling conflict
+outcome_if_needed put moment stored own_rows ceiling true conflict meeting settles is =
+    ap (outcome put moment stored own_rows ceiling) is
+outcome_if_needed put moment stored own_rows ceiling false conflict meeting settles is =
+    ap (outcome put moment stored own_rows ceiling) is ∙ sym (settles refl conflict)
