@@ -193,7 +193,7 @@ module _ {A : Type 0} (slab_of : A → Slab) where
             ≡ (slabs_have mine x && placed_have slab_of (take (n + 1) theirs) x)
         joined x = one_more_placed slab_of (slabs_have mine) theirs n item x below is
 
--- one more pair list of all
+-- one more of theirs, where all are compared
 pub one_more_of_theirs : {A : Type 0} (slab_of : A → Slab) (f : Point → Bool) (list : List A) (n : ℕ)
     (item : A) (o : Option Point) → n < length list → item ≡ get_or list n item
     → IsFirstPoint (λ x. (f x && placed_have slab_of (take n list) x)

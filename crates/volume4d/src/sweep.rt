@@ -13,7 +13,7 @@ use crate::corner::{Corner, earlier, least_corner};
 use crate::placed::Placed;
 use crate::slab::Slab;
 
-// The slabs of a volume never stand over one position, so of an area at most this many do.
+// Two slabs of one volume never stand over one position, so at most this many of an area do.
 const LANES: usize = MAX_VOLUMES;
 
 /// The first point that one of the slabs shares with one of the others. The pairs of slabs compared
