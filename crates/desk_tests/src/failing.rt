@@ -7,6 +7,9 @@ use desk_rules::call::{Asked, Call};
 use desk_rules::operator::Operator;
 use desk_rules::plan::PlanRow;
 use desk_rules::plan_id::PlanId;
+use desk_rules::words::Aircraft::{Nominal, OffNominal};
+use desk_rules::words::Style::{Hypothetical, IfAllowed, InReality};
+use desk_rules::words::Usage::{Closed, InUse, Planned};
 use desk_rules::words::{Aircraft, Style, Usage};
 use desk_run::{Desk, DeskFault};
 use desk_store::{Change, ListStore, PlanStore, StoreFault};
@@ -147,8 +150,8 @@ fn check_run(
     Ok(())
 }
 
-// A request for a new plan asks the store for the ceiling, the plan, the count and the rivals, and changes it;
-// one to delete a plan asks for the ceiling and the plan, and changes it; one for the status asks for the
+// A request for a new plan asks the store for the ceiling, the plan, the count and the rivals, and changes
+// it; one to delete a plan asks for the ceiling and the plan, and changes it; one for the status asks for the
 // ceiling.
 #[test]
 fn a_run_stops_where_the_store_fails(rt: HostRuntime) -> Result<(), Fail> {
@@ -211,43 +214,15 @@ fn check_calls(
 #[test]
 fn a_request_asks_for_no_more_than_it_needs(rt: HostRuntime) -> Result<(), Fail> {
     for row in [
-        (
-            false,
-            (Style::IfAllowed, Usage::Planned, Aircraft::Nominal),
-            5,
-        ),
-        (
-            false,
-            (Style::Hypothetical, Usage::Planned, Aircraft::Nominal),
-            4,
-        ),
-        (
-            false,
-            (Style::IfAllowed, Usage::InUse, Aircraft::OffNominal),
-            3,
-        ),
-        (true, (Style::IfAllowed, Usage::InUse, Aircraft::Nominal), 4),
-        (
-            true,
-            (Style::Hypothetical, Usage::InUse, Aircraft::Nominal),
-            3,
-        ),
-        (
-            true,
-            (Style::InReality, Usage::InUse, Aircraft::OffNominal),
-            3,
-        ),
-        (
-            true,
-            (Style::IfAllowed, Usage::Closed, Aircraft::Nominal),
-            3,
-        ),
-        (true, (Style::InReality, Usage::InUse, Aircraft::Nominal), 2),
-        (
-            true,
-            (Style::IfAllowed, Usage::Planned, Aircraft::OffNominal),
-            2,
-        ),
+        (false, (IfAllowed, Planned, Nominal), 5),
+        (false, (Hypothetical, Planned, Nominal), 4),
+        (false, (IfAllowed, InUse, OffNominal), 3),
+        (true, (IfAllowed, InUse, Nominal), 4),
+        (true, (Hypothetical, InUse, Nominal), 3),
+        (true, (InReality, InUse, OffNominal), 3),
+        (true, (IfAllowed, Closed, Nominal), 3),
+        (true, (InReality, InUse, Nominal), 2),
+        (true, (IfAllowed, Planned, OffNominal), 2),
     ] {
         check_calls(&rt, rt.alloc(), row)?;
     }
