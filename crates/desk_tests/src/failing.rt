@@ -7,7 +7,10 @@ use desk_rules::call::{Asked, Call};
 use desk_rules::operator::Operator;
 use desk_rules::plan::PlanRow;
 use desk_rules::plan_id::PlanId;
-use desk_rules::words::Usage;
+use desk_rules::words::Aircraft::{Nominal, OffNominal};
+use desk_rules::words::Style::{Hypothetical, IfAllowed, InReality};
+use desk_rules::words::Usage::{Closed, InUse, Planned};
+use desk_rules::words::{Aircraft, Style, Usage};
 use desk_run::{Desk, DeskFault};
 use desk_store::{Change, ListStore, PlanStore, StoreFault};
 use desk_wire::read_request;
@@ -147,8 +150,9 @@ fn check_run(
     Ok(())
 }
 
-// A request to plan asks the store for the ceiling, the plan, the count and the rivals, and changes it; one
-// to close a plan asks for the ceiling and the plan, and changes it; one for the status asks for the ceiling.
+// A request for a new plan asks the store for the ceiling, the plan, the count and the rivals, and changes
+// it; one to delete a plan asks for the ceiling and the plan, and changes it; one for the status asks for the
+// ceiling.
 #[test]
 fn a_run_stops_where_the_store_fails(rt: HostRuntime) -> Result<(), Fail> {
     let calls = calls_of(rt.alloc())?;
@@ -165,6 +169,62 @@ fn a_run_stops_where_the_store_fails(rt: HostRuntime) -> Result<(), Fail> {
         (9, 3, Some(Usage::Closed)),
     ] {
         check_run(&rt, rt.alloc(), &calls, row)?;
+    }
+    Ok(())
+}
+
+/// The request of `alfa` to plan, in this style and for these states.
+fn request_for(alloc: Global, states: (Style, Usage, Aircraft)) -> Result<Asked, Fail> {
+    let mut asked = read_request(alloc, FIRST_PUT)?.copy()?;
+    if let Call::Put(put) = &mut asked.call {
+        put.style = states.0;
+        put.usage = states.1;
+        put.aircraft = states.2;
+    }
+    Ok(asked)
+}
+
+/// A list in which `alfa` is enrolled and, if so asked, has the plan.
+fn list_of_alfa(alloc: Global, has_plan: bool) -> Result<ListStore, Fail> {
+    let mut desk = desk_of_alfa(alloc)?;
+    if has_plan {
+        desk.call(alloc, MOMENT, &read_request(alloc, FIRST_PUT)?)?;
+    }
+    Ok(desk.into_store())
+}
+
+/// Makes a request at a desk whose store fails once so many calls are made: it is answered, and no call
+/// is left.
+fn check_calls(
+    rt: &impl Abort,
+    alloc: Global,
+    row: (bool, (Style, Usage, Aircraft), u32),
+) -> Result<(), Fail> {
+    let (has_plan, states, calls) = row;
+    let mut desk = desk_over(list_of_alfa(alloc, has_plan)?, calls);
+    let asked = request_for(alloc, states)?;
+    assert!(rt; desk.call(alloc, MOMENT, &asked).is_ok());
+    assert_eq!(rt; desk.into_store().calls_left, 0);
+    Ok(())
+}
+
+// Each request asks for the ceiling and the plan, and for the number of plans where that plan is not stored.
+// Only one that is checked, and that nothing else refuses, asks for rivals; one that is refused, or that is
+// hypothetical, changes nothing.
+#[test]
+fn a_request_asks_for_no_more_than_it_needs(rt: HostRuntime) -> Result<(), Fail> {
+    for row in [
+        (false, (IfAllowed, Planned, Nominal), 5),
+        (false, (Hypothetical, Planned, Nominal), 4),
+        (false, (IfAllowed, InUse, OffNominal), 3),
+        (true, (IfAllowed, InUse, Nominal), 4),
+        (true, (Hypothetical, InUse, Nominal), 3),
+        (true, (InReality, InUse, OffNominal), 3),
+        (true, (IfAllowed, Closed, Nominal), 3),
+        (true, (InReality, InUse, Nominal), 2),
+        (true, (IfAllowed, Planned, OffNominal), 2),
+    ] {
+        check_calls(&rt, rt.alloc(), row)?;
     }
     Ok(())
 }
