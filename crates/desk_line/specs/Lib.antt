@@ -1,3 +1,4 @@
+-- Read first: Lines, Exits.
 pub mod Exits
 pub mod Lines
 pub mod Printing

@@ -1,3 +1,4 @@
+-- Read first: WireLimits, Messages, Requests.
 pub mod Readings
 pub mod WireLimits
 pub mod Framing

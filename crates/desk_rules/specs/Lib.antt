@@ -1,3 +1,4 @@
+-- Read first: Limits, States, Outcome, Conflict.
 pub mod Limits
 pub mod Name
 pub mod Level

@@ -1,3 +1,4 @@
+-- Read first: Verdicts, Sides, TwoRuns. Files of laws are checked and needn't be read.
 pub mod Faults
 pub mod Verdicts
 pub mod Calls

@@ -1,3 +1,4 @@
+-- Read first: Schema, Rows, Effects.
 pub mod Schema
 pub mod Rows
 pub mod Effects

@@ -1,3 +1,4 @@
+-- Read first: World, Changes, Rivals. Files of laws are checked and needn't be read.
 pub mod World
 pub mod Changes
 pub mod StoreChange

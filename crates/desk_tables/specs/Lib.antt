@@ -1,3 +1,4 @@
+-- Read first: Tables, Content, Opening.
 pub mod Tables
 pub mod PlanRows
 pub mod Content

@@ -1,3 +1,4 @@
+-- Read first: Answer, PlanBody, Replies.
 pub mod Answer
 pub mod PlanWords
 pub mod PlanBody

@@ -1,3 +1,4 @@
+-- Read first: Canonical, Rectangles, Ranges.
 pub mod Canonical
 pub mod CanonicalList
 pub mod Laying

@@ -1,1 +1,2 @@
+-- Read first: Opening.
 pub mod Opening

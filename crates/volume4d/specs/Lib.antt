@@ -1,3 +1,4 @@
+-- Read first: Limits, Point, Shape, Volume, Meeting. Files of laws are checked and needn't be read.
 pub mod Limits
 pub mod Windows
 pub mod Point
