@@ -1,0 +1,68 @@
+"""Runs of the program: bare, or under strace, which refuses and stops what it is told to."""
+import os
+import pathlib
+import subprocess
+import tempfile
+from typing import List, NamedTuple
+
+from faults.scenario import MOMENT, OPERATORS, READING
+
+TOP = pathlib.Path(__file__).resolve().parent.parent.parent
+PROGRAM = os.environ.get("PROGRAM", str(TOP / "crates" / "uss_desk" / "out" / "uss_desk"))
+PATIENCE = 300
+# Each allocation is one mmap of its own: a mapping that is refused is a growth that is refused.
+ONE_MAPPING_EACH = ":".join(
+    f"glibc.malloc.{name}"
+    for name in ("top_pad=0", "trim_threshold=0", "mmap_threshold=1", "mmap_max=1000000", "arena_max=1")
+)
+
+
+class Ran(NamedTuple):
+    """What came of a run: its exit status (less than 0: the signal that ended it), its two outputs, strace's lines."""
+
+    status: int
+    output: bytes
+    errors: str
+    trace: List[str]
+
+
+def play_words(path=None, operators=OPERATORS):
+    """The line of a `play`, in memory or over a file, that enrols operators first."""
+    where = ["--db", path] if path else []
+    return ["play", *where, "--at", MOMENT, *operators]
+
+
+def finish(line, given):
+    """Runs a line to its end, or until patience ends, which is told as status 124."""
+    try:
+        ran = subprocess.run(line, input=given, capture_output=True, timeout=PATIENCE, check=False)
+    except subprocess.TimeoutExpired as late:
+        return Ran(124, late.stdout or b"", f"no end within {PATIENCE} s", [])
+    return Ran(ran.returncode, ran.stdout, ran.stderr.decode(errors="replace"), [])
+
+
+def run(words, given=b""):
+    """Runs the program bare."""
+    return finish([PROGRAM, *words], given)
+
+
+def run_traced(words, given, options):
+    """Runs the program under strace with these options."""
+    with tempfile.TemporaryDirectory(prefix="faults-") as room:
+        trace = pathlib.Path(room) / "trace"
+        ran = finish(["strace", "-qq", "-o", str(trace), *options, PROGRAM, *words], given)
+        lines = trace.read_text(errors="replace").splitlines() if trace.exists() else []
+    return ran._replace(trace=lines)
+
+
+def read_content(path):
+    """What the program answers to a List of each operator, over a file that it opens again."""
+    return run(play_words(path, []), READING)
+
+
+def damage(path):
+    """What SQLite's own tools find wrong with a file, or None."""
+    asked = "PRAGMA integrity_check; PRAGMA foreign_key_check;"
+    ran = subprocess.run(["sqlite3", path, asked], capture_output=True, text=True, timeout=PATIENCE, check=False)
+    said = (ran.stdout + ran.stderr).strip()
+    return None if said == "ok" else f"sqlite3 says {said!r}"

@@ -1,0 +1,138 @@
+"""Growths of memory that are refused: one alone, or each from one on; in memory, over a new file, over a kept one.
+
+glibc is told to make each allocation by one mmap, and strace refuses the Nth mmap and the one by which malloc tries
+again. Growths that move a block by mremap are not reached.
+"""
+import pathlib
+import shutil
+import tempfile
+from typing import Callable, List, NamedTuple, Optional
+
+from faults.judging import MEMORY, contents_after, first_of, wrong_content, wrong_end
+from faults.parts import Part, side_by_side
+from faults.program import ONE_MAPPING_EACH, play_words, run, run_traced
+from faults.scenario import ANSWERS, CONTENTS, ENROLLED, OPERATORS, READING, REQUESTS, STEPS
+
+MAPPINGS = ["-E", f"GLIBC_TUNABLES={ONE_MAPPING_EACH}", "-e", "trace=mmap,munmap,brk", "-e", "inject=brk:error=ENOMEM"]
+
+
+# How many requests make the content of the kept file.
+KEPT = 6
+
+
+class Target(NamedTuple):
+    """What growths are refused to: a run of the program with these requests, and its right answers."""
+
+    name: str
+    given: bytes
+    answers: List[bytes]
+    operators: List[str]
+    file: Optional[pathlib.Path]  # the file that it begins with; None: no file
+    allowed: Callable[[bytes], List[bytes]]  # the contents that may be left after an output
+
+
+class Refused(NamedTuple):
+    """What came of one refusal."""
+
+    number: int
+    is_lasting: bool
+    kind: str
+    complaint: Optional[str]
+
+
+def words_in(target, room):
+    """The line of a run in a folder of its own, and the path of its file or None."""
+    if target.file is None:
+        return play_words(None, target.operators), None
+    path = str(pathlib.Path(room) / "desk.db")
+    if target.file.exists():
+        shutil.copyfile(target.file, path)
+    return play_words(path, target.operators), path
+
+
+def growths(target):
+    """The number of the first mapping that the program itself asks for, and of the last; the loader's come before."""
+    with tempfile.TemporaryDirectory(prefix="faults-") as room:
+        words, _ = words_in(target, room)
+        ran = run_traced(words, target.given, MAPPINGS)
+    calls = [line.split("(")[0] for line in ran.trace]
+    loaded = calls.index("munmap") if "munmap" in calls else 0
+    return calls[:loaded].count("mmap") + 1, calls.count("mmap")
+
+
+def kind_of(ran):
+    """How a run ended, in a word."""
+    if ran.status == 0:
+        return "whole"
+    return ran.errors.strip().replace("uss_desk: ", "ended ") if ran.status == 4 else "crashed"
+
+
+def refuse(target, number, is_lasting):
+    """A run to which one growth is refused, or that one and all later ones."""
+    when = f"{number}+" if is_lasting else f"{number}..{number + 1}"
+    options = [*MAPPINGS, "-e", f"inject=mmap:error=ENOMEM:when={when}"]
+    with tempfile.TemporaryDirectory(prefix="faults-") as room:
+        words, path = words_in(target, room)
+        ran = run_traced(words, target.given, options)
+        was_refused = any(line.startswith("mmap(") and "INJECTED" in line for line in ran.trace)
+        complaint = wrong_end(ran, target.answers, MEMORY, was_refused)
+        if path is not None:
+            complaint = first_of(complaint, wrong_content(path, target.allowed(ran.output)))
+    kind = kind_of(ran) if was_refused else "not refused"
+    return Refused(number, is_lasting, kind, complaint)
+
+
+def lost_500(single, lasting):
+    """A growth whose refusal is answered by a 500 is so too if all later ones are refused: room for it is reserved."""
+    if single.kind == "ended broken" and lasting.kind != "ended broken":
+        return f"one refusal is answered by a 500, and with all later ones it {lasting.kind}"
+    return None
+
+
+def refused_twice(target, number):
+    """Both runs of a number."""
+    return refuse(target, number, False), refuse(target, number, True)
+
+
+def check_target(target, step, processors):
+    """The part of one target: each `step`th growth, and one past the last."""
+    part = Part(f"memory refused {target.name}")
+    first, last = growths(target)
+    numbers = [*range(first, last, step), last + 1]
+    part.count("growths", last + 1 - first)
+    for single, lasting in side_by_side(lambda number: refused_twice(target, number), numbers, processors):
+        part.count("runs", 2)
+        for ran in (single, lasting):
+            part.count(ran.kind)
+        part.add(f"growth {single.number} alone", single.complaint)
+        part.add(f"growth {single.number} and later", first_of(lasting.complaint, lost_500(single, lasting)))
+    refused = part.counts["runs"] - part.counts.get("whole", 0)
+    part.add("in all", None if refused * 2 > part.counts["runs"] else f"only {refused} runs met a refusal")
+    return part.close()
+
+
+def kept_file(path):
+    """Makes a file with the content after the first requests of the scenario, which are all of its plans."""
+    ran = run(play_words(str(path)), b"".join(request for request, *_ in STEPS[:KEPT]))
+    if ran.status != 0:
+        raise RuntimeError(f"{path.name}: status {ran.status}, {ran.errors}")
+
+
+def refusals(processors, is_every):
+    """All parts, each over a sample of the growths or over every one."""
+    with tempfile.TemporaryDirectory(prefix="faults-") as room:
+        none, kept = pathlib.Path(room) / "none.db", pathlib.Path(room) / "kept.db"
+        kept_file(kept)
+        content = CONTENTS[ENROLLED + KEPT]
+        read = [STEPS[KEPT - 1][2], STEPS[KEPT - 1][3]]
+        for target, step in (
+            (Target("in memory", REQUESTS, ANSWERS, OPERATORS, None, exactly_answered), 26),
+            (Target("over a new file", REQUESTS, ANSWERS, OPERATORS, none, exactly_answered), 60),
+            (Target("over a kept file", READING, read, [], kept, lambda _: [content]), 60),
+        ):
+            yield check_target(target, 1 if is_every else step, processors)
+
+
+def exactly_answered(output):
+    """Want of memory leaves just what was answered."""
+    return contents_after(output, 0)
