@@ -1,6 +1,7 @@
 """Runs of the program: bare, or under strace, which refuses and stops what it is told to."""
 import os
 import pathlib
+import shutil
 import subprocess
 import tempfile
 from typing import List, NamedTuple
@@ -10,6 +11,7 @@ from faults.scenario import MOMENT, OPERATORS, READING
 TOP = pathlib.Path(__file__).resolve().parent.parent.parent
 PROGRAM = os.environ.get("PROGRAM", str(TOP / "crates" / "uss_desk" / "out" / "uss_desk"))
 PATIENCE = 300
+WHOLE = "PRAGMA integrity_check; PRAGMA foreign_key_check;"
 # Each allocation is one mmap of its own: a mapping that is refused is a growth that is refused.
 ONE_MAPPING_EACH = ":".join(
     f"glibc.malloc.{name}"
@@ -61,8 +63,10 @@ def read_content(path):
 
 
 def damage(path):
-    """What SQLite's own tools find wrong with a file, or None."""
-    asked = "PRAGMA integrity_check; PRAGMA foreign_key_check;"
-    ran = subprocess.run(["sqlite3", path, asked], capture_output=True, text=True, timeout=PATIENCE, check=False)
-    said = (ran.stdout + ran.stderr).strip()
-    return None if said == "ok" else f"sqlite3 says {said!r}"
+    """What SQLite's own tools find wrong with a copy of a file and of its log, or None."""
+    with tempfile.TemporaryDirectory(prefix="faults-") as room:
+        for name in filter(os.path.exists, (path, f"{path}-wal")):
+            shutil.copy(name, room)
+        ran = finish(["sqlite3", f"{room}/{os.path.basename(path)}", WHOLE], b"")
+    said = ran.output.decode(errors="replace") + ran.errors
+    return None if said == "ok\n" else f"sqlite3 says {said!r}"

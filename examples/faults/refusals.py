@@ -13,7 +13,7 @@ from faults.parts import Part, side_by_side
 from faults.program import ONE_MAPPING_EACH, play_words, run, run_traced
 from faults.scenario import ANSWERS, CONTENTS, ENROLLED, OPERATORS, READING, REQUESTS, STEPS
 
-MAPPINGS = ["-E", f"GLIBC_TUNABLES={ONE_MAPPING_EACH}", "-e", "trace=mmap,munmap,brk", "-e", "inject=brk:error=ENOMEM"]
+EACH_A_MAPPING = ["-E", f"GLIBC_TUNABLES={ONE_MAPPING_EACH}", "-e", "inject=brk:error=ENOMEM"]
 
 
 # How many requests make the content of the kept file.
@@ -54,7 +54,7 @@ def growths(target):
     """The number of the first mapping that the program itself asks for, and of the last; the loader's come before."""
     with tempfile.TemporaryDirectory(prefix="faults-") as room:
         words, _ = words_in(target, room)
-        ran = run_traced(words, target.given, MAPPINGS)
+        ran = run_traced(words, target.given, [*EACH_A_MAPPING, "-e", "trace=mmap,munmap,brk"])
     calls = [line.split("(")[0] for line in ran.trace]
     loaded = calls.index("munmap") if "munmap" in calls else 0
     return calls[:loaded].count("mmap") + 1, calls.count("mmap")
@@ -70,7 +70,8 @@ def kind_of(ran):
 def refuse(target, number, is_lasting):
     """A run to which one growth is refused, or that one and all later ones."""
     when = f"{number}+" if is_lasting else f"{number}..{number + 1}"
-    options = [*MAPPINGS, "-e", f"inject=mmap:error=ENOMEM:when={when}"]
+    injected = f"inject=mmap:error=ENOMEM:when={when}"
+    options = [*EACH_A_MAPPING, "-e", "trace=mmap,brk", "-e", injected]
     with tempfile.TemporaryDirectory(prefix="faults-") as room:
         words, path = words_in(target, room)
         ran = run_traced(words, target.given, options)
@@ -89,25 +90,27 @@ def lost_500(single, lasting):
     return None
 
 
-def refused_twice(target, number):
-    """Both runs of a number."""
-    return refuse(target, number, False), refuse(target, number, True)
+def both(target, number, is_lasting):
+    """The run that is refused a growth alone and, if asked, the one that is refused all later ones too."""
+    single = refuse(target, number, False)
+    return (single, refuse(target, number, True)) if is_lasting else (single,)
 
 
-def check_target(target, step, processors):
-    """The part of one target: each `step`th growth, and one past the last."""
+def check_target(target, step, lasting_step, processors):
+    """The part of one target: each `step`th growth, one past the last, and of these each `lasting_step`th for good."""
     part = Part(f"memory refused {target.name}")
     first, last = growths(target)
-    numbers = [*range(first, last, step), last + 1]
     part.count("growths", last + 1 - first)
-    for single, lasting in side_by_side(lambda number: refused_twice(target, number), numbers, processors):
-        part.count("runs", 2)
-        for ran in (single, lasting):
-            part.count(ran.kind)
+    numbers = list(enumerate([*range(first, last, step), last + 1]))
+    work = lambda item: both(target, item[1], item[0] % lasting_step == 0)
+    for single, *lasting in side_by_side(work, numbers, processors):
         part.add(f"growth {single.number} alone", single.complaint)
-        part.add(f"growth {single.number} and later", first_of(lasting.complaint, lost_500(single, lasting)))
-    refused = part.counts["runs"] - part.counts.get("whole", 0)
-    part.add("in all", None if refused * 2 > part.counts["runs"] else f"only {refused} runs met a refusal")
+        for after in lasting:
+            part.add(f"growth {single.number} and later", first_of(after.complaint, lost_500(single, after)))
+        for ran in (single, *lasting):
+            part.count(ran.kind)
+    refused = part.counts.get("ended broken", 0) + part.counts.get("ended memory", 0)
+    part.add("in all", None if refused * 2 > part.passed else f"only {refused} runs met a refusal")
     return part.close()
 
 
@@ -125,12 +128,12 @@ def refusals(processors, is_every):
         kept_file(kept)
         content = CONTENTS[ENROLLED + KEPT]
         read = [STEPS[KEPT - 1][2], STEPS[KEPT - 1][3]]
-        for target, step in (
-            (Target("in memory", REQUESTS, ANSWERS, OPERATORS, None, exactly_answered), 26),
-            (Target("over a new file", REQUESTS, ANSWERS, OPERATORS, none, exactly_answered), 60),
-            (Target("over a kept file", READING, read, [], kept, lambda _: [content]), 60),
+        for target, step, lasting_step in (
+            (Target("in memory", REQUESTS, ANSWERS, OPERATORS, None, exactly_answered), 16, 5),
+            (Target("over a new file", REQUESTS, ANSWERS, OPERATORS, none, exactly_answered), 67, 4),
+            (Target("over a kept file", READING, read, [], kept, lambda _: [content]), 97, 4),
         ):
-            yield check_target(target, 1 if is_every else step, processors)
+            yield check_target(target, 1 if is_every else step, lasting_step, processors)
 
 
 def exactly_answered(output):
