@@ -12,14 +12,15 @@ use Rattle.sqlite.specs.declared.error.Error.{Error}
 use Rattle.sqlite.specs.declared.error.Error.TheVariants.{SqliteFailure}
 use Rattle.sqlite.specs.declared.error.ErrorCode.TheVariants as code
 use Rattle.sqlite.specs.Clock.{timed}
-use Rattle.sqlite.specs.Effect.{RefusesToRead}
+use Rattle.sqlite.specs.Effect.{Database, RefusesToRead}
 use Rattle.sqlite.specs.Given.{IsPlain}
 use Rattle.sqlite.specs.Listing.{understood, reads_listing, IsSourceOf}
 use Rattle.sqlite.specs.State.{State, HasCleanDisk, HasCause, store_error, IsNoStatement, IsNotRun, FailsToQuery, FailsToShow}
 use Rattle.sqlite.specs.Store.{Ghosts}
 use Rattle.sqlite.specs.Held.{Held, state}
-use Rattle.desk_sql.specs.Schema.{desk_schema}
-use Rattle.desk_sql.specs.Finding.{Holds, HasDeskSchema}
+use Rattle.desk_sql.specs.Schema.{tables_with, HasTables}
+use Rattle.desk_sql.specs.Finding.{Holds}
+use Rattle.desk_sql.proofs.SchemaLemmas.{any_indexes}
 use Rattle.desk_sql.specs.Refusals.{NeverRefuses, IsSureIn, IsSure, IsRefusal}
 
 -- the cause, of two states
@@ -55,12 +56,14 @@ is_statement text old e sure (inr (c, is, inr (inr (timed, _)))) = timed (sure_a
 -- what is read refuses
 by_rows : (text : List ℕ) (old new : State) (c : Compiled) (params : Row) (e : Error)
     (r : Option Returning)
-    → r ≡ None → params ≡ [] → NeverRefuses c.command → old.now.schema ≡ desk_schema
+    → r ≡ None → params ≡ [] → NeverRefuses c.command
+    → old.now.schema ≡ tables_with old.now.schema.indexes
     → reads_listing old.now.schema text ≡ false → FailsToShow old new text c params e r
     → IsCause old new e
 by_rows text old new c params e None none bare never schema unlisted (db, source, refuses, same) =
     let now : db ≡ old.now = subst (λ b. IsSourceOf b old.now db) unlisted source in
-    inr (inr (never old.step_limit db e (ap (λ d. d.schema) now ∙ schema)
+    inr (inr (never old.step_limit db e
+    (subst (λ (d : Database). d.schema ≡ tables_with d.schema.indexes) (sym now) schema)
     (subst (λ ps. RefusesToRead old.step_limit c.command db ps e) bare refuses)))
 by_rows text old new c params e (Some what) none bare never schema unlisted h = absurd cc
 
@@ -71,26 +74,31 @@ was_shown text old new c params e None live h = h.3.0.was_open
 was_shown text old new c params e (Some what) live (inl h) = h.1.0.was_open
 was_shown text old new c params e (Some what) live (inr h) = h.3.was_open live
 
+-- in the schema that there is
+sure_now : (text : List ℕ) (db : Database) → IsSure text → HasTables db
+    → IsSureIn text (understood db.schema text)
+sure_now text db sure has = subst (λ s. IsSureIn text (understood s text)) (sym (any_indexes db has))
+    (sure.means db.schema.indexes)
+
 failed : (text : List ℕ) (old new : State) (e : Error) → IsSure text
-    → (IsTrue old.is_open → old.now.schema ≡ desk_schema) → IsTrue new.is_open
+    → (IsTrue old.is_open → HasTables old.now) → IsTrue new.is_open
     → FailsToQuery text [] old new e → IsCause old new e
 unfolding FailsToQuery IsNotRun
 failed text old new e sure known live (inl (inl h)) =
-    absurd (is_statement text old e (subst (λ s. IsSureIn text (understood s text))
-    (sym (known h.1.0.was_open)) sure.means) h.0)
+    absurd (is_statement text old e (sure_now text old.now sure (known h.1.0.was_open)) h.0)
 failed text old new e sure known live (inl (inr (cause, is, h, back, _))) =
     by_store old new e cause is h (back.was_open live)
 failed text old new e sure known live (inr (c, it, h)) =
-    let schema = known (was_shown text old new c _ e c.returning live h) in
-    let means = sure_at text _ c it.is (subst (λ s. IsSureIn text (understood s text)) (sym schema)
-    sure.means) in
+    let has = known (was_shown text old new c _ e c.returning live h) in
+    let schema = any_indexes old.now has in
+    let means = sure_at text _ c it.is (sure_now text old.now sure has) in
     by_rows text old new c _ e c.returning means.0 (ap (λ formats. timed [] formats it.now) means.1)
     means.4
-    schema (ap (λ s. reads_listing s text) schema ∙ sure.unlisted) h
+    schema (ap (λ s. reads_listing s text) schema ∙ sure.unlisted _) h
 
 -- a query of a connection
 pub refused : {S V : Type 0} (g : Ghosts S) (old new : Held S) (text : List ℕ) → IsSure text
-    → Holds g old HasDeskSchema → HasCleanDisk (state g old) → (r : Result V Error)
+    → Holds g old HasTables → HasCleanDisk (state g old) → (r : Result V Error)
     → IfErr r (FailsToQuery text [] (state g old) (state g new)) → IsTrue (state g new).is_open
     → IfErr r (IsRefusal g old new)
 refused g old new text sure known clean (Ok v) fails live = tt
@@ -101,5 +109,6 @@ plain_in : (text : List ℕ) (r : Result Compiled CompileError) → IsSureIn tex
 plain_in text (Ok c) sure = (sure.0, sure.1)
 plain_in text (Err e) sure = absurd sure
 
-pub sure_plain : (text : List ℕ) → IsSure text → IsPlain (understood desk_schema text)
-sure_plain text sure = plain_in text _ sure.means
+pub sure_plain : (text : List ℕ) → IsSure text → (db : Database) → HasTables db
+    → IsPlain (understood db.schema text)
+sure_plain text sure db has = plain_in text _ (sure_now text db sure has)

@@ -1,11 +1,12 @@
--- What each CREATE TABLE makes.
-use Rattle.std.proofs.Common.{◌≡◌, ℕ, false, List, [], ◌∷◌, ◌++◌, None, Ok, refl, sym, ap, subst, ◌∙◌, true}
+-- What each CREATE makes.
+use Rattle.std.proofs.Common.{◌≡◌, Some, slice_get, ap₂, ℕ, false, List, [], ◌∷◌, ◌++◌, None, Ok, refl, sym, ap, subst, ◌∙◌, true}
 use Rattle.std.specs.List.{AllByRecursion}
 use Rattle.sqlite.specs.Schema.{Schema}
 use Rattle.sqlite.specs.Table.{Table}
-use Rattle.sqlite.specs.Change.{created, next_tree}
-use Rattle.sqlite.specs.Compile.{table_defined_by}
-use Rattle.sqlite.specs.Command.TheVariants.{CreateTable}
+use Rattle.sqlite_schema.specs.declared.schema.Index.{Index}
+use Rattle.sqlite_catalog.specs.Change.{created, indexed, next_tree, KeepsRows}
+use Rattle.sqlite_resolve.specs.Compile.{table_defined_by, index_defined_by}
+use Rattle.sqlite.specs.Command.TheVariants.{CreateTable, CreateIndex}
 use Rattle.sqlite.specs.Effect.{Database}
 use Rattle.sqlite.specs.Does.{Tally, lacks_sequence}
 use Rattle.sqlite.specs.State.{State, HasCleanDisk, Executes, Writes, Shows}
@@ -14,11 +15,13 @@ use Rattle.sqlite.specs.Held.{Held, state}
 use Rattle.sqlite.specs.Listing.{understood}
 use Rattle.sqlite.proofs.Callers.{IsPlain, command_of, statement_of, runs_as}
 use Rattle.sqlite_tied.specs.Compute.{everything}
-use Rattle.desk_sql.specs.Schema.{blank_schema, desk_schema, operator_table, plan_table, volume_table, span_table}
-use Rattle.desk_sql.specs.Making.{first_schema, second_schema, third_schema, HasEmpty, IsAt, Grows, no_rows}
-use Rattle.desk_sql.specs.Rows.{IsDesk, AreNumbered, tables_of}
-use Rattle.desk_sql.proofs.Texts.{operator_text, plan_text, volume_text, span_text}
-use Rattle.desk_sql.proofs.TextLemmas.{operator_is, plan_is, volume_is, span_is}
+use Rattle.desk_sql.specs.Schema.{blank_schema, table_schema, desk_schema, operator_table, plan_table, volume_table, span_table, span_made, span_first}
+use Rattle.desk_sql.specs.Making.{first_schema, second_schema, third_schema, HasEmpty, IsAt, Grows, no_rows, AreSame}
+use Rattle.desk_sql.specs.Rows.{IsDesk, IsUnindexed, AreNumbered, tables_of}
+use Rattle.desk_sql.specs.Effects.{Makes}
+use Rattle.desk_sql.specs.Finding.{Holds}
+use Rattle.desk_sql.proofs.Texts.{operator_text, plan_text, volume_text, span_text, first_text}
+use Rattle.desk_sql.proofs.TextLemmas.{operator_is, plan_is, volume_is, span_is, first_is}
 use Rattle.desk_sql.proofs.NumberLemmas.{all_both}
 use Rattle.desk_sql.proofs.WriteLemmas.{went, same_value}
 
@@ -81,17 +84,19 @@ module _ {S : Type 0} (g : Ghosts S) (old new : Held S) (schema next : Schema) (
 none : AreNumbered []
 none = record { whole = tt; distinct = tt }
 
-pub desk_made : (db : Database) → HasEmpty desk_schema db → IsDesk db × (tables_of db.trees ≡ no_rows)
-desk_made db has = (
-  record {
-    schema = has.schema_is;
+pub unindexed : (db : Database) → HasEmpty table_schema db → IsUnindexed db
+unindexed db has = record {
+  schema = has.schema_is;
+  rows = record {
     operators = subst AreNumbered (sym has.empty.0) none;
     plans = subst AreNumbered (sym has.empty.1.0) none;
     volumes = subst AreNumbered (sym has.empty.1.1.0) none;
     spans = subst AreNumbered (sym has.empty.1.1.1.0) none;
-  },
-  rw (has.empty.0, has.empty.1.0, has.empty.1.1.0, has.empty.1.1.1.0),
-)
+  };
+}
+
+pub tables_made : (db : Database) → HasEmpty table_schema db → tables_of db.trees ≡ no_rows
+tables_made db has = rw (has.empty.0, has.empty.1.0, has.empty.1.1.0, has.empty.1.1.1.0)
 
 pub operator_makes : MakesTable blank_schema operator_text operator_table
 unfolding understood everything
@@ -132,3 +137,78 @@ span_makes = record {
   defined = span_is;
   uncounted = refl;
 }
+
+-- ---- the index
+
+-- a text that makes this index on the table at a place, over this schema
+pub record MakesIndex (schema : Schema) (text : List ℕ) (at : ℕ) (table : Table) (index : Index)
+    : Type 0 where
+  pub is : command_of (understood schema text) ≡ CreateIndex at
+  pub plain : IsPlain (understood schema text)
+  pub whole : statement_of text (understood schema text) ≡ text
+  pub there : slice_get schema.tables at ≡ Some table
+  pub defined : index_defined_by table text ≡ Ok index
+
+indexes : (schema : Schema) (text : List ℕ) (at : ℕ) (table : Table) (index : Index)
+    → MakesIndex schema text at table index → (old new : State) → old.now.schema ≡ schema → (count : ℕ)
+    → Executes text [] old new (Ok count)
+    → (new.now.schema ≡ indexed schema table index) × KeepsRows schema.tables old.now.trees new.now.trees
+indexes schema text at table index known old new has count h =
+    let w = subst (λ t. Writes old new None (CreateIndex at) t [] count) known.whole
+    (runs_as text [] old new schema has (CreateIndex at) known.is known.plain count h) in
+    let there : slice_get old.now.schema.tables at ≡ Some table =
+    ap (λ s. slice_get s.tables at) has ∙ known.there in
+    let made = went (rw there at w.changed) in
+    let first = made.1 in
+    let both : Ok first.index ≡ Ok index = sym first.defined ∙ known.defined in
+    let same : first.index ≡ index = same_value both in
+    let now : new.now ≡ made.0 = ap (λ (p : Tally × Database). p.1) (same_value made.2) in
+    let schema_is : made.0.schema ≡ indexed schema table index =
+    first.is ∙ ap₂ (λ s i. indexed s table i) has same in
+    let rows : KeepsRows schema.tables old.now.trees made.0.trees =
+    subst (λ s. KeepsRows s.tables old.now.trees made.0.trees) has first.rows in (
+      ap (λ d. d.schema) now ∙ schema_is,
+      subst (λ (d : Database). KeepsRows schema.tables old.now.trees d.trees) (sym now) rows,
+    )
+
+pub first_makes : MakesIndex table_schema first_text 3 span_made span_first
+unfolding understood everything
+first_makes = record {
+  is = refl;
+  plain = (refl, refl);
+  whole = refl;
+  there = refl;
+  defined = first_is;
+}
+
+indexed_desk : (old new : Database) → IsUnindexed old → new.schema ≡ desk_schema
+    → KeepsRows table_schema.tables old.trees new.trees
+    → IsDesk new × AreSame (tables_of old.trees) (tables_of new.trees)
+indexed_desk old new was schema kept = (
+  record {
+    schema = schema;
+    operators = subst AreNumbered (sym kept.0) was.rows.operators;
+    plans = subst AreNumbered (sym kept.1.0) was.rows.plans;
+    volumes = subst AreNumbered (sym kept.1.1.0) was.rows.volumes;
+    spans = subst AreNumbered (sym kept.1.1.1.0) was.rows.spans;
+  },
+  rw (kept.0, kept.1.0, kept.1.1.0, kept.1.1.1.0),
+)
+
+pub makes_first : {S : Type 0} (g : Ghosts S) (old new : Held S) → Holds g old IsUnindexed
+    → HasCleanDisk (state g old)
+    → Shows (state g old) (state g new) (state g new).now (state g old).committed true → (count : ℕ)
+    → Executes first_text [] (state g old) (state g new) (Ok count) → Makes g old new AreSame
+makes_first g old new holds clean shows count h =
+    let was = holds clean shows.was_open in
+    let did = indexes table_schema first_text 3 span_made span_first first_makes (state g old) (state g new)
+    was.schema count h in
+    let done = indexed_desk (state g old).now (state g new).now was did.0 did.1 in
+    record {
+      was_open = shows.was_open;
+      is_open = shows.is_open;
+      begun = shows.mode;
+      committed = shows.committed_is;
+      desk = done.0;
+      changed = done.1;
+    }

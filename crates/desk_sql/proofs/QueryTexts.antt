@@ -13,7 +13,9 @@ use Rattle.sqlite_sql.specs.declared.ops.CompareOp.TheVariants.{Eq, Ne, Lt, Le, 
 use Rattle.sqlite_tied.specs.Compute.{everything}
 use Rattle.sqlite.specs.Listing.{understood, reads_listing}
 use Rattle.sqlite.proofs.Callers.{IsPlain, command_of}
-use Rattle.desk_sql.specs.Schema.{desk_schema}
+use Rattle.sqlite.specs.Schema.{Schema}
+use Rattle.sqlite_schema.specs.declared.schema.Index.{Index}
+use Rattle.desk_sql.specs.Schema.{desk_schema, tables_with}
 use Rattle.desk_sql.proofs.Texts.{operator_named_text, all_operators_text, plan_of_text, all_plans_text, volumes_of_text, all_volumes_text, all_spans_text, own_plans_text, rival_spans_text, operator_rowids_text, plan_rowids_text, volume_rowids_text, span_rowids_text}
 
 abbrev pub query_of : Join → List Term → List Term → List (Term × Key) → Query
@@ -29,11 +31,18 @@ query_of from filter project order = record {
   offset = lit (Int (pos 0));
 }
 
--- a text that is this query and no more
-pub record IsQuery (text : List ℕ) (query : Query) (names : List (List ℕ)) : Type 0 where
-  pub is : command_of (understood desk_schema text) ≡ Select (record { lets = []; body = query }) names
-  pub plain : IsPlain (understood desk_schema text)
-  pub unlisted : reads_listing desk_schema text ≡ false
+-- a text that is this query of a schema's tables and no more
+pub record IsQueryIn (schema : Schema) (text : List ℕ) (query : Query) (names : List (List ℕ)) : Type 0 where
+  pub is : command_of (understood schema text) ≡ Select (record { lets = []; body = query }) names
+  pub plain : IsPlain (understood schema text)
+  pub unlisted : reads_listing schema text ≡ false
+
+abbrev pub IsQuery : List ℕ → Query → List (List ℕ) → Type 0
+IsQuery text query names = IsQueryIn desk_schema text query names
+
+-- a text that is this query of the tables, whatever their indexes
+abbrev pub IsWhole : List ℕ → Query → List (List ℕ) → Type 0
+IsWhole text query names = (indexes : List Index) → IsQueryIn (tables_with indexes) text query names
 
 abbrev pub operator_named_query : Query
 operator_named_query = query_of (inner 0 end) (op2 (Compare Eq Binary) (col 1 1) (col 0 0) ∷ [])
@@ -48,10 +57,10 @@ abbrev pub all_operators_query : Query
 all_operators_query = query_of (inner 0 end) ([]) (col 1 1 ∷ col 1 2 ∷ [])
     ((col 1 1, ascending Binary) ∷ [])
 
-pub all_operators_is : IsQuery all_operators_text all_operators_query
+pub all_operators_is : IsWhole all_operators_text all_operators_query
     (codes "name" ∷ codes "ceiling" ∷ [])
 unfolding understood everything
-all_operators_is = record { is = refl; plain = (refl, refl); unlisted = refl }
+all_operators_is indexes = record { is = refl; plain = (refl, refl); unlisted = refl }
 
 abbrev pub plan_of_query : Query
 plan_of_query = query_of (inner 2 end) (op2 (Compare Eq Binary) (col 1 1) (col 0 0)
@@ -68,10 +77,10 @@ abbrev pub all_plans_query : Query
 all_plans_query = query_of (inner 2 end) ([]) (col 1 1 ∷ col 1 2 ∷ col 1 3 ∷ col 1 4 ∷ col 1 5 ∷ [])
     ((col 1 1, ascending Binary) ∷ (col 1 2, ascending Binary) ∷ [])
 
-pub all_plans_is : IsQuery all_plans_text all_plans_query
+pub all_plans_is : IsWhole all_plans_text all_plans_query
     (codes "operator" ∷ codes "id" ∷ codes "priority" ∷ codes "usage" ∷ codes "aircraft" ∷ [])
 unfolding understood everything
-all_plans_is = record { is = refl; plain = (refl, refl); unlisted = refl }
+all_plans_is indexes = record { is = refl; plain = (refl, refl); unlisted = refl }
 
 abbrev pub volumes_of_query : Query
 volumes_of_query = query_of (inner 4 end) (op2 (Compare Eq Binary) (col 1 1) (col 0 0)
@@ -91,11 +100,11 @@ all_volumes_query = query_of (inner 4 end) ([])
     ∷ col 1 7 ∷ col 1 8 ∷ []) ((col 1 1, ascending Binary) ∷ (col 1 2, ascending Binary)
     ∷ (col 1 3, ascending Binary) ∷ [])
 
-pub all_volumes_is : IsQuery all_volumes_text all_volumes_query
+pub all_volumes_is : IsWhole all_volumes_text all_volumes_query
     (codes "operator" ∷ codes "id" ∷ codes "place" ∷ codes "lower" ∷ codes "upper" ∷ codes "start"
     ∷ codes "stop" ∷ codes "asked" ∷ [])
 unfolding understood everything
-all_volumes_is = record { is = refl; plain = (refl, refl); unlisted = refl }
+all_volumes_is indexes = record { is = refl; plain = (refl, refl); unlisted = refl }
 
 abbrev pub all_spans_query : Query
 all_spans_query = query_of (inner 6 end) ([]) (col 1 1 ∷ col 1 2 ∷ col 1 3 ∷ col 1 4 ∷ col 1 5 ∷ col 1 6
@@ -103,11 +112,11 @@ all_spans_query = query_of (inner 6 end) ([]) (col 1 1 ∷ col 1 2 ∷ col 1 3 �
     ((col 1 1, ascending Binary) ∷ (col 1 2, ascending Binary) ∷ (col 1 3, ascending Binary)
     ∷ (col 1 4, ascending Binary) ∷ [])
 
-pub all_spans_is : IsQuery all_spans_text all_spans_query
+pub all_spans_is : IsWhole all_spans_text all_spans_query
     (codes "operator" ∷ codes "id" ∷ codes "place" ∷ codes "first" ∷ codes "last" ∷ codes "lower"
     ∷ codes "upper" ∷ codes "start" ∷ codes "stop" ∷ codes "priority" ∷ [])
 unfolding understood everything
-all_spans_is = record { is = refl; plain = (refl, refl); unlisted = refl }
+all_spans_is indexes = record { is = refl; plain = (refl, refl); unlisted = refl }
 
 abbrev pub own_plans_query : Query
 own_plans_query = query_of (inner 2 (inner 4 end))
@@ -131,7 +140,8 @@ rival_spans_query = query_of (inner 6 end) (compared Le 4 0 ∷ compared Ge 5 1 
     ∷ compared Gt 7 3 ∷ compared Lt 8 4 ∷ compared Gt 9 5 ∷ compared Ge 10 6
     ∷ op2 Or (op2 (Compare Ne Binary) (col 1 1) (col 0 7)) (op2 (Compare Ne Binary) (col 1 2) (col 0 8))
     ∷ [])
-    (col 1 4 ∷ col 1 5 ∷ col 1 6 ∷ col 1 7 ∷ col 1 8 ∷ col 1 9 ∷ col 1 10 ∷ []) ([])
+    (col 1 4 ∷ col 1 5 ∷ col 1 6 ∷ col 1 7 ∷ col 1 8 ∷ col 1 9 ∷ col 1 10 ∷ [])
+    ((col 1 4, ascending Binary) ∷ [])
 
 pub rival_spans_is : IsQuery rival_spans_text rival_spans_query
     (codes "first" ∷ codes "last" ∷ codes "lower" ∷ codes "upper" ∷ codes "start" ∷ codes "stop"
@@ -143,18 +153,18 @@ rival_spans_is = record { is = refl; plain = (refl, refl); unlisted = refl }
 abbrev pub rowids_query : ℕ → Query
 rowids_query tree = query_of (inner tree end) ([]) (col 1 0 ∷ []) ((col 1 0, ascending Binary) ∷ [])
 
-pub operator_rowids_is : IsQuery operator_rowids_text (rowids_query 0) (codes "rowid" ∷ [])
+pub operator_rowids_is : IsWhole operator_rowids_text (rowids_query 0) (codes "rowid" ∷ [])
 unfolding understood everything
-operator_rowids_is = record { is = refl; plain = (refl, refl); unlisted = refl }
+operator_rowids_is indexes = record { is = refl; plain = (refl, refl); unlisted = refl }
 
-pub plan_rowids_is : IsQuery plan_rowids_text (rowids_query 2) (codes "rowid" ∷ [])
+pub plan_rowids_is : IsWhole plan_rowids_text (rowids_query 2) (codes "rowid" ∷ [])
 unfolding understood everything
-plan_rowids_is = record { is = refl; plain = (refl, refl); unlisted = refl }
+plan_rowids_is indexes = record { is = refl; plain = (refl, refl); unlisted = refl }
 
-pub volume_rowids_is : IsQuery volume_rowids_text (rowids_query 4) (codes "rowid" ∷ [])
+pub volume_rowids_is : IsWhole volume_rowids_text (rowids_query 4) (codes "rowid" ∷ [])
 unfolding understood everything
-volume_rowids_is = record { is = refl; plain = (refl, refl); unlisted = refl }
+volume_rowids_is indexes = record { is = refl; plain = (refl, refl); unlisted = refl }
 
-pub span_rowids_is : IsQuery span_rowids_text (rowids_query 6) (codes "rowid" ∷ [])
+pub span_rowids_is : IsWhole span_rowids_text (rowids_query 6) (codes "rowid" ∷ [])
 unfolding understood everything
-span_rowids_is = record { is = refl; plain = (refl, refl); unlisted = refl }
+span_rowids_is indexes = record { is = refl; plain = (refl, refl); unlisted = refl }

@@ -22,6 +22,7 @@ use Rattle.sqlite_resolve.specs.declared.error.CompileError.{CompileError}
 use Rattle.sqlite.specs.Listing.{understood, reads_listing}
 use Rattle.sqlite.specs.Command.TheVariants.{Select}
 use Rattle.sqlite.specs.Effect.{Database, Reads}
+use Rattle.sqlite.specs.Schema.{Schema}
 use Rattle.desk_sql.specs.Schema.{desk_schema}
 use Rattle.sqlite.specs.State.{State, HasCleanDisk, Shown, ShowsRows, FailsToQuery, FailsToShow, IsUnchanged, IsRolledBack, IsNotRun}
 use Rattle.sqlite.specs.Store.{Ghosts}
@@ -31,9 +32,9 @@ use Rattle.sqlite_keyed.proofs.ListLemmas.{map-map}
 use Rattle.sqlite.proofs.Callers.{IsPlain, reads_as, command_of}
 use Rattle.desk_sql.specs.Rows.{is_text, is_same, differs, is_at_most, is_at_least, is_below, is_above}
 use Rattle.desk_sql.specs.Effects.{ShowsAsBefore}
-use Rattle.desk_sql.specs.Finding.{Holds, HasDeskSchema}
+use Rattle.desk_sql.specs.Finding.{Holds}
 use Rattle.desk_sql.specs.Rivals.{MayRead}
-use Rattle.desk_sql.proofs.QueryTexts.{IsQuery, query_of}
+use Rattle.desk_sql.proofs.QueryTexts.{IsQueryIn, query_of}
 
 -- ---- the connection was open, and shows what it showed
 
@@ -87,17 +88,14 @@ module _ {S : Type 0} (g : Ghosts S) (old new : Held S) where
       record { was_open = was; now = back.0 ∙ sym (settled was); committed = back.1 }
 
   module _ {V : Type 0} (items : V → List Row) (text : List ℕ) (params : Row)
-      (known : Holds g old HasDeskSchema) (plain : IsPlain (understood desk_schema text))
+      (plain : Holds g old (λ db. IsPlain (understood db.schema text)))
       (settled : IsTrue (state g old).is_open → (state g old).now ≡ (state g old).committed) where
     pub kept_if : (r : Result V Error) → HasCleanDisk (state g old)
         → IfOk r (λ v. Shown text params (state g old) (state g new) (items v))
         → IfErr r (FailsToQuery text params (state g old) (state g new))
         → IsTrue (state g new).is_open → ShowsAsBefore g old new
     kept_if (Ok v) clean shown _ live =
-        let schema = known clean (was_open text params _ _ _ shown) in
-        if_unchanged (unmoved text params _ _ _
-        (subst (λ s. IsPlain (understood s text)) (sym schema) plain)
-        shown)
+        if_unchanged (unmoved text params _ _ _ (plain clean (was_open text params _ _ _ shown)) shown)
     kept_if (Err e) clean _ fails live = if_either settled live (failed text params _ _ e fails)
 
 -- an answer comes from an open connection alone
@@ -109,56 +107,57 @@ open_if items text params old new (Err e) shown = tt
 
 -- ---- the answer of a query
 
-module _ (text : List ℕ) (from : Join) (terms : List Term) (project : List Term)
+module _ {schema : Schema} (text : List ℕ) (from : Join) (terms : List Term) (project : List Term)
     (order : List (Term × Key))
-    (names : List (List ℕ)) (known : IsQuery text (query_of from terms project order) names) where
-  abbrev query : Query
-  query = query_of from terms project order
+    (names : List (List ℕ)) (known : IsQueryIn schema text (query_of from terms project order) names)
+  where
+    abbrev query : Query
+    query = query_of from terms project order
 
-  pub answered : (params : Row) (old new : State) (rows : List Row) → HasDeskSchema old.now
-      → Shown text params old new rows
-      → IsAnswer query (overlay old.now.trees []) params rows
-  answered params old new rows schema h =
-      (reads_as text params old new desk_schema schema _ known.is known.plain known.unlisted rows
-      h).answer
-      Null
+    pub answered : (params : Row) (old new : State) (rows : List Row) → old.now.schema ≡ schema
+        → Shown text params old new rows
+        → IsAnswer query (overlay old.now.trees []) params rows
+    answered params old new rows has h =
+        (reads_as text params old new schema has _ known.is known.plain known.unlisted rows
+        h).answer
+        Null
 
-  answer_rows : (params : Row) (db : Database) (rows : List Row)
-      → IsAnswer query (overlay db.trees []) params rows
-      → IsPermutation (map (eval_all project) (matches (overlay db.trees []) terms from (params ∷ [])))
-      rows
-  answer_rows params db rows a =
-      let all = matches (overlay db.trees []) terms from (params ∷ []) in
-      let kept : a.kept ≡ map (output query) all = a.distinct ∙ ap (map (output query)) a.grouped in
-      let second : map (λ (o : Output). o.1) a.kept ≡ map (eval_all project) all =
-      ap (map (λ (o : Output). o.1)) kept ∙ map-map (λ (o : Output). o.1) (output query) all in
-      subst (λ xs. IsPermutation xs rows) second
-      (subst (IsPermutation (map (λ (o : Output). o.1) a.kept))
-      (sym a.shown) (IsPermutation-map (λ (o : Output). o.1) a.kept a.ordered a.same))
+    answer_rows : (params : Row) (db : Database) (rows : List Row)
+        → IsAnswer query (overlay db.trees []) params rows
+        → IsPermutation (map (eval_all project) (matches (overlay db.trees []) terms from (params ∷ [])))
+        rows
+    answer_rows params db rows a =
+        let all = matches (overlay db.trees []) terms from (params ∷ []) in
+        let kept : a.kept ≡ map (output query) all = a.distinct ∙ ap (map (output query)) a.grouped in
+        let second : map (λ (o : Output). o.1) a.kept ≡ map (eval_all project) all =
+        ap (map (λ (o : Output). o.1)) kept ∙ map-map (λ (o : Output). o.1) (output query) all in
+        subst (λ xs. IsPermutation xs rows) second
+        (subst (IsPermutation (map (λ (o : Output). o.1) a.kept))
+        (sym a.shown) (IsPermutation-map (λ (o : Output). o.1) a.kept a.ordered a.same))
 
-  pub shows : (params : Row) (old new : State) (rows : List Row) → HasDeskSchema old.now
-      → Shown text params old new rows
-      → IsPermutation (map (eval_all project) (matches (overlay old.now.trees []) terms from
-      (params ∷ [])))
-      rows
-  shows params old new rows schema h = answer_rows params old.now rows
-      (answered params old new rows schema h)
+    pub shows : (params : Row) (old new : State) (rows : List Row) → old.now.schema ≡ schema
+        → Shown text params old new rows
+        → IsPermutation (map (eval_all project) (matches (overlay old.now.trees []) terms from
+        (params ∷ [])))
+        rows
+    shows params old new rows has h = answer_rows params old.now rows
+        (answered params old new rows has h)
 
-  pub may_show : (params : Row) (db : Database) (rows : List Row)
-      → MayRead (understood desk_schema text) db params rows
-      → IsPermutation (map (eval_all project) (matches (overlay db.trees []) terms from (params ∷ [])))
-      rows
-  may_show params db rows h = answer_rows params db rows
-      ((by_command (understood desk_schema text) known.is h).answer Null) where
-        by_command : (r : Result Compiled CompileError) → command_of r
-            ≡ Select (record { lets = []; body = query }) names → MayRead r db params rows
-            → Reads (Select (record { lets = []; body = query }) names) db params rows
-        by_command (Ok c) is read = subst (λ k. Reads k db params rows) is read
-        by_command (Err e) is read = absurd read
+    pub may_show : (params : Row) (db : Database) (rows : List Row)
+        → MayRead (understood schema text) db params rows
+        → IsPermutation (map (eval_all project) (matches (overlay db.trees []) terms from (params ∷ [])))
+        rows
+    may_show params db rows h = answer_rows params db rows
+        ((by_command (understood schema text) known.is h).answer Null) where
+          by_command : (r : Result Compiled CompileError) → command_of r
+              ≡ Select (record { lets = []; body = query }) names → MayRead r db params rows
+              → Reads (Select (record { lets = []; body = query }) names) db params rows
+          by_command (Ok c) is read = subst (λ k. Reads k db params rows) is read
+          by_command (Err e) is read = absurd read
 
 -- what is shown, a text may show
 pub shown_read : (text : List ℕ) (params : Row) (old new : State) (rows : List Row)
-    → HasDeskSchema old.now
+    → old.now.schema ≡ desk_schema
     → IsPlain (understood desk_schema text) → reads_listing desk_schema text ≡ false
     → Shown text params old new rows → MayRead (understood desk_schema text) old.now params rows
 shown_read text params old new rows schema plain unlisted h =

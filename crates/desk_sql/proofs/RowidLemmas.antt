@@ -24,11 +24,13 @@ use Rattle.sqlite_value.proofs.OrderLemmas.{value_cmp_total, value_cmp-Int}
 use Rattle.sqlite.specs.declared.error.Error.{Error}
 use Rattle.sqlite.specs.declared.error.Error.TheVariants.{SqliteFailure}
 use Rattle.sqlite.specs.declared.error.ErrorCode.TheVariants.{DatabaseCorrupt}
-use Rattle.desk_sql.specs.Rows.{AreNumbered, IsDesk, Lists, by_cells}
+use Rattle.desk_sql.specs.Schema.{HasTables}
+use Rattle.desk_sql.specs.Rows.{AreNumbered, AreAllNumbered, Lists, by_cells}
 use Rattle.desk_sql.specs.Refusals.{IsRefusal, IsUnread, IsMisnumbered}
 use Rattle.desk_sql.specs.Effects.{IsKept}
-use Rattle.desk_sql.specs.Finding.{Holds, HasDeskSchema, AreRising, next_above, exceeds}
-use Rattle.desk_sql.proofs.QueryTexts.{IsQuery, rowids_query}
+use Rattle.desk_sql.specs.Finding.{Holds, AreRising, next_above, exceeds}
+use Rattle.desk_sql.proofs.SchemaLemmas.{any_indexes}
+use Rattle.desk_sql.proofs.QueryTexts.{IsWhole, rowids_query}
 use Rattle.desk_sql.proofs.ReadLemmas.{shows, scanned}
 use Rattle.desk_sql.proofs.NumberLemmas.{IsApart, reversed}
 use Rattle.desk_sql.proofs.StatementLemmas.{every, lists}
@@ -182,9 +184,9 @@ numbered_by rows shown same up =
     }
 
 module _ {S : Type 0} (g : Ghosts S) (old new : Held S) (text : List ℕ) (tree : ℕ)
-    (is : IsQuery text (rowids_query tree) (codes "rowid" ∷ []))
+    (is : IsWhole text (rowids_query tree) (codes "rowid" ∷ []))
     (alone : (db : Trees) → overlay db [] tree ≡ db tree) where
-  pub numbered_if : Holds g old HasDeskSchema → (HasCleanDisk (state g new)
+  pub numbered_if : Holds g old HasTables → (HasCleanDisk (state g new)
       → HasCleanDisk (state g old))
       → IsKept g old new → (rows : List Row)
       → (HasCleanDisk (state g new) → Shown text [] (state g old) (state g new) rows) → AreRising rows
@@ -201,8 +203,8 @@ module _ {S : Type 0} (g : Ghosts S) (old new : Held S) (text : List ℕ) (tree 
       subst (λ rows. map (eval_all (col 1 0 ∷ []))
       (flat_map (λ r. cond (list_all (holds ([] ∷ r ∷ [])) []) (([] ∷ r ∷ []) ∷ []) []) rows)
       ≡ map (λ (r : Row). rowid r ∷ []) stored) (sym (alone (state g old).now.trees)) cells in
-      let all = shows text _ _ _ _ _ is [] (state g old) (state g new) rows
-      (known (was clean) before.was_open) (shown clean) in
+      let all = shows text _ _ _ _ _ (is _) [] (state g old) (state g new) rows
+      (any_indexes (state g old).now (known (was clean) before.was_open)) (shown clean) in
       subst (λ (db : Database). AreNumbered (db.trees tree)) (sym before.now)
       (numbered_by stored rows (subst (λ xs. IsPermutation xs rows) all_cells all) up)
 
@@ -269,11 +271,11 @@ rising_by rows shown lists num =
     }
 
 module _ {S : Type 0} (g : Ghosts S) (old new : Held S) (text : List ℕ) (tree : ℕ)
-    (is : IsQuery text (rowids_query tree) (codes "rowid" ∷ []))
+    (is : IsWhole text (rowids_query tree) (codes "rowid" ∷ []))
     (alone : (db : Trees) → overlay db [] tree ≡ db tree) where
-  rises_if : (rows : List Row) → IsDesk (state g old).now → AreNumbered ((state g old).now.trees tree)
+  rises_if : (rows : List Row) → HasTables (state g old).now → AreNumbered ((state g old).now.trees tree)
       → Shown text [] (state g old) (state g new) rows → AreRising rows
-  rises_if rows desk num shown =
+  rises_if rows has num shown =
       let stored = (state g old).now.trees tree in
       let cells = scanned (λ r. [] ∷ r ∷ []) [] (col 1 0 ∷ []) (λ r. rowid r ∷ []) (λ r. true)
       (λ r. refl)
@@ -284,13 +286,13 @@ module _ {S : Type 0} (g : Ghosts S) (old new : Held S) (text : List ℕ) (tree 
       subst (λ rows. map (eval_all (col 1 0 ∷ []))
       (flat_map (λ r. cond (list_all (holds ([] ∷ r ∷ [])) []) (([] ∷ r ∷ []) ∷ []) []) rows)
       ≡ map (λ (r : Row). rowid r ∷ []) stored) (sym (alone (state g old).now.trees)) cells in
-      rising_by stored rows (lists text _ _ _ _ _ is [] (state g old) (state g new) rows desk shown
-      (0 ∷ []) _
+      rising_by stored rows (lists text _ _ _ _ _ (is _) [] (state g old) (state g new) rows
+      (any_indexes (state g old).now has) shown (0 ∷ []) _
       (λ e. refl) (λ x y. refl) all_cells) num
 
   -- why a table is not found to be numbered
-  pub unread_if : {V : Type 0} → Holds g old HasDeskSchema → HasCleanDisk (state g old)
-      → IsTrue (state g old).is_open → (IsDesk (state g old).now
+  pub unread_if : {V : Type 0} → Holds g old HasTables → HasCleanDisk (state g old)
+      → IsTrue (state g old).is_open → (AreAllNumbered (state g old).now.trees
       → AreNumbered ((state g old).now.trees tree))
       → (rows : List Row)
       → Shown text [] (state g old) (state g new) rows → (r : Result V Error)
@@ -302,7 +304,7 @@ module _ {S : Type 0} (g : Ghosts S) (old new : Held S) (text : List ℕ) (tree 
         told,
         record {
           schema = known clean live;
-          unsound = λ desk. broken (rises_if rows desk (numbered desk) shown);
+          unsound = λ legible. broken (rises_if rows legible.schema (numbered legible.rows) shown);
         },
       )
 

@@ -15,27 +15,45 @@ use Rattle.sqlite_value.specs.declared.keys.Key.{Key}
 use Rattle.sqlite.specs.State.{State, HasCleanDisk, Shown}
 use Rattle.sqlite.specs.Store.{Ghosts}
 use Rattle.sqlite.specs.Held.{Held, state}
-use Rattle.desk_sql.specs.Rows.{IsDesk, is_by, is_of, is_rival, differs, is_at_most, is_at_least, is_below, is_above, held_columns, is_same, joined, has_volume, with_volumes, by_cells, columns, tables_of, Lists}
+use Rattle.desk_sql.specs.Rows.{IsDesk, IsLegible, is_by, is_of, is_rival, differs, is_at_most, is_at_least, is_below, is_above, held_columns, is_same, joined, has_volume, with_volumes, by_cells, columns, tables_of, Lists}
 use Rattle.desk_sql.specs.declared.reading.rivals.Reach.{Reach}
 use Rattle.desk_sql.specs.Effects.{IsReady}
 use Rattle.desk_sql.specs.Rivals.{rival_params, MayRead, SelectsRivals}
+use Rattle.sqlite.specs.Schema.{Schema}
 use Rattle.desk_sql.specs.Schema.{desk_schema}
+use Rattle.desk_sql.specs.Finding.{Holds}
 use Rattle.sqlite.specs.Effect.{Database}
 use Rattle.sqlite.specs.Listing.{understood}
 use Rattle.desk_sql.proofs.Texts.{operator_named_text, all_operators_text, plan_of_text, all_plans_text, volumes_of_text, all_volumes_text, all_spans_text, own_plans_text, rival_spans_text}
-use Rattle.desk_sql.proofs.QueryTexts.{IsQuery, query_of, operator_named_is, operator_named_query, all_operators_is, all_operators_query, plan_of_is, plan_of_query, all_plans_is, all_plans_query, volumes_of_is, volumes_of_query, all_volumes_is, all_volumes_query, all_spans_is, all_spans_query, own_plans_is, own_plans_query, rival_spans_is, rival_spans_query}
+use Rattle.desk_sql.proofs.QueryTexts.{IsQueryIn, query_of, operator_named_is, operator_named_query, all_operators_is, all_operators_query, plan_of_is, plan_of_query, all_plans_is, all_plans_query, volumes_of_is, volumes_of_query, all_volumes_is, all_volumes_query, all_spans_is, all_spans_query, own_plans_is, own_plans_query, rival_spans_is, rival_spans_query}
+use Rattle.desk_sql.proofs.SchemaLemmas.{any_indexes}
 use Rattle.desk_sql.proofs.ReadLemmas.{was_open, answered, shows, may_show, scanned, equals_text, equals, either_true, le_number, ge_number, lt_number, gt_number}
 
 -- a value that a desk's rows have, whenever something is shown
-pub if_shown : {S V : Type 0} (g : Ghosts S) (old new : Held S) (items : V → List Row) (text : List ℕ)
-    (params : Row) (P : List Row → Type 0) → IsReady g old → HasCleanDisk (state g old)
-    → ((rows : List Row) → IsDesk (state g old).now → Shown text params (state g old) (state g new) rows
-    → P rows)
-    → (r : Result V Error) → IfOk r (λ v. Shown text params (state g old) (state g new) (items v))
-    → IfOk r (λ v. P (items v))
-if_shown g old new items text params P ready clean gives (Ok v) shown =
-    gives (items v) (ready clean (was_open text params _ _ _ shown)) shown
-if_shown g old new items text params P ready clean gives (Err e) shown = tt
+module _ {S V : Type 0} (g : Ghosts S) (old new : Held S) (items : V → List Row) (text : List ℕ)
+    (params : Row) (P : List Row → Type 0) where
+  if_holds : (Is : Database → Type 0) → Holds g old Is → HasCleanDisk (state g old)
+      → ((rows : List Row) → Is (state g old).now → Shown text params (state g old) (state g new) rows
+      → P rows)
+      → (r : Result V Error) → IfOk r (λ v. Shown text params (state g old) (state g new) (items v))
+      → IfOk r (λ v. P (items v))
+  if_holds Is holds clean gives (Ok v) shown =
+      gives (items v) (holds clean (was_open text params _ _ _ shown)) shown
+  if_holds Is holds clean gives (Err e) shown = tt
+
+  pub if_shown : IsReady g old → HasCleanDisk (state g old)
+      → ((rows : List Row) → IsDesk (state g old).now → Shown text params (state g old) (state g new) rows
+      → P rows)
+      → (r : Result V Error) → IfOk r (λ v. Shown text params (state g old) (state g new) (items v))
+      → IfOk r (λ v. P (items v))
+  if_shown = if_holds IsDesk
+
+  pub if_read : Holds g old IsLegible → HasCleanDisk (state g old)
+      → ((rows : List Row) → IsLegible (state g old).now
+      → Shown text params (state g old) (state g new) rows → P rows)
+      → (r : Result V Error) → IfOk r (λ v. Shown text params (state g old) (state g new) (items v))
+      → IfOk r (λ v. P (items v))
+  if_read = if_holds IsLegible
 
 both_hold : (a : Bool) → (a && true) ≡ a
 both_hold true = refl
@@ -64,10 +82,10 @@ sorted_shown by cells xs compares keys sorted k d low high =
     (sym (keys k none (omega (arith, more))))
     ) ∙ sorted k none low more
 
-module _ (text : List ℕ) (from : Join) (terms : List Term) (project : List Term)
+module _ {schema : Schema} (text : List ℕ) (from : Join) (terms : List Term) (project : List Term)
     (order : List (Term × Key))
-    (names : List (List ℕ)) (known : IsQuery text (query_of from terms project order) names)
-    (params : Row) (old new : State) (rows : List Row) (desk : IsDesk old.now)
+    (names : List (List ℕ)) (known : IsQueryIn schema text (query_of from terms project order) names)
+    (params : Row) (old new : State) (rows : List Row) (has : old.now.schema ≡ schema)
     (h : Shown text params old new rows) (cells : List ℕ) (wanted : List Row) where
   pub lists : ((e : Env) → eval_all (map (λ k. k.0) order) e ≡ map (column (eval_all project e)) cells)
       → ((x y : Row) → key_cmp 0 (map (λ k. k.1) order) (map (column x) cells) (map (column y) cells)
@@ -76,7 +94,7 @@ module _ (text : List ℕ) (from : Join) (terms : List Term) (project : List Ter
       → Lists cells wanted rows
   lists keys compares are =
       let query = query_of from terms project order in
-      let a = answered text from terms project order names known params old new rows desk.schema h in
+      let a = answered text from terms project order names known params old new rows has h in
       let P = λ (o : Output). o.0 ≡ map (column o.1) cells in
       let each : All P (map (output query) a.staged) =
       λ i d low. subst P (sym (get_or-map (output query) a.staged i [] d
@@ -86,7 +104,7 @@ module _ (text : List ℕ) (from : Join) (terms : List Term) (project : List Ter
       (subst (All P) (sym a.distinct) each) in
       record {
         same = subst (λ xs. IsPermutation xs rows) are
-            (shows text from terms project order names known params old new rows desk.schema h);
+            (shows text from terms project order names known params old new rows has h);
         sorted = subst (IsSorted (by_cells cells)) (sym a.shown)
             (sorted_shown (map (λ k. k.1) order) cells a.ordered compares all a.sorted);
       }
@@ -169,17 +187,18 @@ pub operator_named : (name : List ℕ) (old new : State) (rows : List Row) → I
     → Shown operator_named_text (Text name ∷ []) old new rows
     → Lists [] (filter (is_by name) (tables_of old.now.trees).operators) rows
 operator_named name old new rows desk h =
-    lists operator_named_text _ _ _ _ _ operator_named_is (Text name ∷ []) old new rows desk h [] _
+    lists operator_named_text _ _ _ _ _ operator_named_is (Text name ∷ []) old new rows desk.schema h [] _
     (λ e. refl) (λ x y. refl)
     (scanned (λ r. (Text name ∷ []) ∷ r ∷ []) operator_named_query.filter operator_named_query.project
     (columns 2) (is_by name) (λ r. refl) (λ r. both_hold _ ∙ equals_text (column r 1) name)
     (old.now.trees 0))
 
-pub all_operators : (old new : State) (rows : List Row) → IsDesk old.now
+pub all_operators : (old new : State) (rows : List Row) → IsLegible old.now
     → Shown all_operators_text ([]) old new rows
     → Lists (0 ∷ []) ((tables_of old.now.trees).operators) rows
-all_operators old new rows desk h =
-    lists all_operators_text _ _ _ _ _ all_operators_is ([]) old new rows desk h (0 ∷ []) _ (λ e. refl)
+all_operators old new rows legible h =
+    lists all_operators_text _ _ _ _ _ (all_operators_is _) ([]) old new rows
+    (any_indexes old.now legible.schema) h (0 ∷ []) _ (λ e. refl)
     (λ x y. refl)
     (scanned (λ r. [] ∷ r ∷ []) all_operators_query.filter all_operators_query.project (columns 2)
     (λ r. true)
@@ -189,18 +208,19 @@ pub plan_of : (operator : List ℕ) (id : List ℕ) (old new : State) (rows : Li
     → Shown plan_of_text (Text operator ∷ Text id ∷ []) old new rows
     → Lists [] (filter (is_of operator id) (tables_of old.now.trees).plans) rows
 plan_of operator id old new rows desk h =
-    lists plan_of_text _ _ _ _ _ plan_of_is (Text operator ∷ Text id ∷ []) old new rows desk h [] _
+    lists plan_of_text _ _ _ _ _ plan_of_is (Text operator ∷ Text id ∷ []) old new rows desk.schema h [] _
     (λ e. refl) (λ x y. refl)
     (scanned (λ r. (Text operator ∷ Text id ∷ []) ∷ r ∷ []) plan_of_query.filter plan_of_query.project
     (columns 5) (is_of operator id) (λ r. refl)
     (λ r. ap₂ (λ a b. a && b) (equals_text (column r 1) operator)
     (both_hold _ ∙ equals_text (column r 2) id)) (old.now.trees 2))
 
-pub all_plans : (old new : State) (rows : List Row) → IsDesk old.now
+pub all_plans : (old new : State) (rows : List Row) → IsLegible old.now
     → Shown all_plans_text ([]) old new rows
     → Lists (0 ∷ 1 ∷ []) ((tables_of old.now.trees).plans) rows
-all_plans old new rows desk h =
-    lists all_plans_text _ _ _ _ _ all_plans_is ([]) old new rows desk h (0 ∷ 1 ∷ []) _ (λ e. refl)
+all_plans old new rows legible h =
+    lists all_plans_text _ _ _ _ _ (all_plans_is _) ([]) old new rows
+    (any_indexes old.now legible.schema) h (0 ∷ 1 ∷ []) _ (λ e. refl)
     (λ x y. refl)
     (scanned (λ r. [] ∷ r ∷ []) all_plans_query.filter all_plans_query.project (columns 5) (λ r. true)
     (λ r. refl) (λ r. refl) (old.now.trees 2) ∙ every (map (columns 5) (old.now.trees 2)))
@@ -209,7 +229,7 @@ pub volumes_of : (operator : List ℕ) (id : List ℕ) (old new : State) (rows :
     → Shown volumes_of_text (Text operator ∷ Text id ∷ []) old new rows
     → Lists (2 ∷ []) (filter (is_of operator id) (tables_of old.now.trees).volumes) rows
 volumes_of operator id old new rows desk h =
-    lists volumes_of_text _ _ _ _ _ volumes_of_is (Text operator ∷ Text id ∷ []) old new rows desk h
+    lists volumes_of_text _ _ _ _ _ volumes_of_is (Text operator ∷ Text id ∷ []) old new rows desk.schema h
     (2 ∷ [])
     _ (λ e. refl) (λ x y. refl)
     (scanned (λ r. (Text operator ∷ Text id ∷ []) ∷ r ∷ []) volumes_of_query.filter
@@ -218,23 +238,25 @@ volumes_of operator id old new rows desk h =
     (λ r. ap₂ (λ a b. a && b) (equals_text (column r 1) operator)
     (both_hold _ ∙ equals_text (column r 2) id)) (old.now.trees 4))
 
-pub all_volumes : (old new : State) (rows : List Row) → IsDesk old.now
+pub all_volumes : (old new : State) (rows : List Row) → IsLegible old.now
     → Shown all_volumes_text ([]) old new rows → Lists (0 ∷ 1 ∷ 2 ∷ [])
     ((tables_of old.now.trees).volumes)
     rows
-all_volumes old new rows desk h =
-    lists all_volumes_text _ _ _ _ _ all_volumes_is ([]) old new rows desk h (0 ∷ 1 ∷ 2 ∷ []) _
+all_volumes old new rows legible h =
+    lists all_volumes_text _ _ _ _ _ (all_volumes_is _) ([]) old new rows
+    (any_indexes old.now legible.schema) h (0 ∷ 1 ∷ 2 ∷ []) _
     (λ e. refl)
     (λ x y. refl)
     (scanned (λ r. [] ∷ r ∷ []) all_volumes_query.filter all_volumes_query.project (columns 8)
     (λ r. true)
     (λ r. refl) (λ r. refl) (old.now.trees 4) ∙ every (map (columns 8) (old.now.trees 4)))
 
-pub all_spans : (old new : State) (rows : List Row) → IsDesk old.now
+pub all_spans : (old new : State) (rows : List Row) → IsLegible old.now
     → Shown all_spans_text ([]) old new rows
     → Lists (0 ∷ 1 ∷ 2 ∷ 3 ∷ []) ((tables_of old.now.trees).spans) rows
-all_spans old new rows desk h =
-    lists all_spans_text _ _ _ _ _ all_spans_is ([]) old new rows desk h (0 ∷ 1 ∷ 2 ∷ 3 ∷ []) _
+all_spans old new rows legible h =
+    lists all_spans_text _ _ _ _ _ (all_spans_is _) ([]) old new rows
+    (any_indexes old.now legible.schema) h (0 ∷ 1 ∷ 2 ∷ 3 ∷ []) _
     (λ e. refl)
     (λ x y. refl)
     (scanned (λ r. [] ∷ r ∷ []) all_spans_query.filter all_spans_query.project (columns 10) (λ r. true)
@@ -244,7 +266,7 @@ pub own_plans : (operator : List ℕ) (old new : State) (rows : List Row) → Is
     → Shown own_plans_text (Text operator ∷ []) old new rows
     → Lists (1 ∷ 5 ∷ []) (with_volumes (is_by operator) (tables_of old.now.trees)) rows
 own_plans operator old new rows desk h =
-    lists own_plans_text _ _ _ _ _ own_plans_is (Text operator ∷ []) old new rows desk h (1 ∷ 5 ∷ []) _
+    lists own_plans_text _ _ _ _ _ own_plans_is (Text operator ∷ []) old new rows desk.schema h (1 ∷ 5 ∷ []) _
     (λ e. refl) (λ x y. refl)
     (joined_rows (Text operator ∷ []) own_plans_query.filter own_plans_query.project (is_by operator)
     (λ p s. refl) (λ p s. own_test operator p s) (old.now.trees 2) (old.now.trees 4))

@@ -10,11 +10,12 @@ use Rattle.sqlite.specs.Effect.{IsShown}
 use Rattle.sqlite_schema.specs.declared.schema.Schema.{Schema}
 use Rattle.sqlite_tied.specs.Compute.{everything}
 use Rattle.sqlite.specs.Listing.{understood}
-use Rattle.desk_sql.specs.Schema.{desk_schema}
+use Rattle.sqlite_schema.specs.declared.schema.Index.{Index}
+use Rattle.desk_sql.specs.Schema.{tables_with}
 use Rattle.desk_sql.specs.Refusals.{NeverRefuses, IsSure}
 use Rattle.desk_sql.proofs.Texts.{all_operators_text, all_plans_text, all_volumes_text, all_spans_text, operator_rowids_text, plan_rowids_text, volume_rowids_text, span_rowids_text}
 use Rattle.sqlite.proofs.Callers.{command_of}
-use Rattle.desk_sql.proofs.QueryTexts.{IsQuery, query_of, operator_rowids_is, plan_rowids_is, volume_rowids_is, span_rowids_is, all_operators_is, all_plans_is, all_volumes_is, all_spans_is}
+use Rattle.desk_sql.proofs.QueryTexts.{IsWhole, query_of, operator_rowids_is, plan_rowids_is, volume_rowids_is, span_rowids_is, all_operators_is, all_plans_is, all_volumes_is, all_spans_is}
 
 -- the query's types do not fit the tables
 abbrev Misfits : Query → Schema → Trees → Type 0
@@ -23,133 +24,134 @@ Misfits query schema trees = IsShown (λ (r : Row). r) (record { schema = schema
 
 -- nothing in a scan of one table can overflow
 scan_never : (tree : ℕ) (project : List Term) (order : List (Term × Key)) (names : List (List ℕ))
-    → ((trees : Trees) → ¬ Misfits (query_of (inner tree end) [] project order) desk_schema trees)
+    → ((indexes : List Index) (trees : Trees)
+    → ¬ Misfits (query_of (inner tree end) [] project order) (tables_with indexes) trees)
     → NeverRefuses (Select (record { lets = []; body = query_of (inner tree end) [] project order })
     names)
 scan_never tree project order names fits limit db e same (inl h) =
-    absurd (fits db.trees (subst (λ s. Misfits (query_of (inner tree end) [] project order) s db.trees)
-    same
-    h.1))
+    absurd (fits db.schema.indexes db.trees
+    (subst (λ s. Misfits (query_of (inner tree end) [] project order) s db.trees) same h.1))
 scan_never tree project order names fits limit db e same (inr (inl (code, inl h))) = absurd h
 scan_never tree project order names fits limit db e same (inr (inl (code, inr h))) = absurd h.4
 scan_never tree project order names fits limit db e same (inr (inr h)) = h
 
 known_never : (text : List ℕ) (tree : ℕ) (project : List Term) (order : List (Term × Key))
-    (names : List (List ℕ)) → IsQuery text (query_of (inner tree end) [] project order) names
-    → ((trees : Trees) → ¬ Misfits (query_of (inner tree end) [] project order) desk_schema trees)
-    → NeverRefuses (command_of (understood desk_schema text))
-known_never text tree project order names known fits =
-    subst NeverRefuses (sym known.is) (scan_never tree project order names fits)
+    (names : List (List ℕ)) → IsWhole text (query_of (inner tree end) [] project order) names
+    → ((indexes : List Index) (trees : Trees)
+    → ¬ Misfits (query_of (inner tree end) [] project order) (tables_with indexes) trees)
+    → (indexes : List Index) → NeverRefuses (command_of (understood (tables_with indexes) text))
+known_never text tree project order names known fits indexes =
+    subst NeverRefuses (sym (known indexes).is) (scan_never tree project order names fits)
 
 pub operator_rowids_sure : IsSure operator_rowids_text
 unfolding understood everything
 operator_rowids_sure =
     record {
-      means = (
+      means = λ indexes. (
         refl,
         refl,
         refl,
         omega arith,
         known_never _ _ _ _ _ operator_rowids_is
-            (λ trees misfit. true≢false misfit),
+            (λ indexes trees misfit. true≢false misfit) indexes,
       );
-      unlisted = refl;
+      unlisted = λ indexes. refl;
     }
 
 pub plan_rowids_sure : IsSure plan_rowids_text
 unfolding understood everything
 plan_rowids_sure = record {
-  means = (
+  means = λ indexes. (
     refl,
     refl,
     refl,
     omega arith,
     known_never _ _ _ _ _ plan_rowids_is
-        (λ trees misfit. true≢false misfit),
+        (λ indexes trees misfit. true≢false misfit) indexes,
   );
-  unlisted = refl;
+  unlisted = λ indexes. refl;
 }
 
 pub volume_rowids_sure : IsSure volume_rowids_text
 unfolding understood everything
 volume_rowids_sure = record {
-  means = (
+  means = λ indexes. (
     refl,
     refl,
     refl,
     omega arith,
     known_never _ _ _ _ _ volume_rowids_is
-        (λ trees misfit. true≢false misfit),
+        (λ indexes trees misfit. true≢false misfit) indexes,
   );
-  unlisted = refl;
+  unlisted = λ indexes. refl;
 }
 
 pub span_rowids_sure : IsSure span_rowids_text
 unfolding understood everything
 span_rowids_sure = record {
-  means = (
+  means = λ indexes. (
     refl,
     refl,
     refl,
     omega arith,
     known_never _ _ _ _ _ span_rowids_is
-        (λ trees misfit. true≢false misfit),
+        (λ indexes trees misfit. true≢false misfit) indexes,
   );
-  unlisted = refl;
+  unlisted = λ indexes. refl;
 }
 
 pub all_operators_sure : IsSure all_operators_text
 unfolding understood everything
 all_operators_sure = record {
-  means = (
+  means = λ indexes. (
     refl,
     refl,
     refl,
     omega arith,
     known_never _ _ _ _ _ all_operators_is
-        (λ trees misfit. true≢false misfit),
+        (λ indexes trees misfit. true≢false misfit) indexes,
   );
-  unlisted = refl;
+  unlisted = λ indexes. refl;
 }
 
 pub all_plans_sure : IsSure all_plans_text
 unfolding understood everything
 all_plans_sure = record {
-  means = (
+  means = λ indexes. (
     refl,
     refl,
     refl,
     omega arith,
     known_never _ _ _ _ _ all_plans_is
-        (λ trees misfit. true≢false misfit),
+        (λ indexes trees misfit. true≢false misfit) indexes,
   );
-  unlisted = refl;
+  unlisted = λ indexes. refl;
 }
 
 pub all_volumes_sure : IsSure all_volumes_text
 unfolding understood everything
 all_volumes_sure = record {
-  means = (
+  means = λ indexes. (
     refl,
     refl,
     refl,
     omega arith,
     known_never _ _ _ _ _ all_volumes_is
-        (λ trees misfit. true≢false misfit),
+        (λ indexes trees misfit. true≢false misfit) indexes,
   );
-  unlisted = refl;
+  unlisted = λ indexes. refl;
 }
 
 pub all_spans_sure : IsSure all_spans_text
 unfolding understood everything
 all_spans_sure = record {
-  means = (
+  means = λ indexes. (
     refl,
     refl,
     refl,
     omega arith,
     known_never _ _ _ _ _ all_spans_is
-        (λ trees misfit. true≢false misfit),
+        (λ indexes trees misfit. true≢false misfit) indexes,
   );
-  unlisted = refl;
+  unlisted = λ indexes. refl;
 }

@@ -1,9 +1,9 @@
 -- What the texts mean, found by computing.
 use Rattle.std.proofs.Common.{◌≡◌, Ok, refl}
-use Rattle.sqlite.specs.Compile.{table_defined_by}
+use Rattle.sqlite_resolve.specs.Compile.{table_defined_by, index_defined_by}
 use Rattle.sqlite_tied.specs.Compute.{everything}
-use Rattle.desk_sql.specs.Schema.{operator_table, plan_table, volume_table, span_table}
-use Rattle.desk_sql.proofs.Texts.{operator_text, plan_text, volume_text, span_text}
+use Rattle.desk_sql.specs.Schema.{operator_table, plan_table, volume_table, span_table, span_made, span_first}
+use Rattle.desk_sql.proofs.Texts.{operator_text, plan_text, volume_text, span_text, first_text}
 
 pub operator_is : table_defined_by operator_text ≡ Ok operator_table
 unfolding everything
@@ -20,3 +20,7 @@ volume_is = refl
 pub span_is : table_defined_by span_text ≡ Ok span_table
 unfolding everything
 span_is = refl
+
+pub first_is : index_defined_by span_made first_text ≡ Ok span_first
+unfolding everything
+first_is = refl

@@ -14,6 +14,10 @@ volume_text = codes "CREATE TABLE volume (operator TEXT NOT NULL, id TEXT NOT NU
 abbrev pub span_text : List ℕ
 span_text = codes "CREATE TABLE span (operator TEXT NOT NULL, id TEXT NOT NULL, place INTEGER NOT NULL, first INTEGER NOT NULL, last INTEGER NOT NULL, lower INTEGER NOT NULL, upper INTEGER NOT NULL, start INTEGER NOT NULL, stop INTEGER NOT NULL, priority INTEGER NOT NULL, PRIMARY KEY (operator, id, place, first), FOREIGN KEY (operator, id) REFERENCES plan (operator, id) ON DELETE CASCADE) STRICT"
 
+abbrev pub first_text : List ℕ
+first_text = codes
+    "CREATE INDEX span_first ON span (first, last, lower, upper, start, stop, priority, operator, id)"
+
 abbrev pub operator_named_text : List ℕ
 operator_named_text = codes "SELECT name, ceiling FROM operator WHERE name = ?1"
 
@@ -44,7 +48,7 @@ own_plans_text = codes
 
 abbrev pub rival_spans_text : List ℕ
 rival_spans_text = codes
-    "SELECT first, last, lower, upper, start, stop, priority FROM span WHERE first <= ?1 AND last >= ?2 AND lower < ?3 AND upper > ?4 AND start < ?5 AND stop > ?6 AND priority >= ?7 AND (operator <> ?8 OR id <> ?9)"
+    "SELECT first, last, lower, upper, start, stop, priority FROM span WHERE first <= ?1 AND last >= ?2 AND lower < ?3 AND upper > ?4 AND start < ?5 AND stop > ?6 AND priority >= ?7 AND (operator <> ?8 OR id <> ?9) ORDER BY first"
 
 abbrev pub own_count_text : List ℕ
 own_count_text = codes "SELECT count(*) FROM plan WHERE operator = ?1"

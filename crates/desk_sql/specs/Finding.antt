@@ -17,18 +17,15 @@ use Rattle.sqlite.specs.Store.{Ghosts}
 use Rattle.sqlite.specs.State.{HasCleanDisk}
 use Rattle.sqlite.specs.Held.{Held, state}
 use Rattle.sqlite.specs.Effect.{Database}
-use Rattle.desk_sql.specs.Schema.{blank_schema, desk_schema, column_of, table_of}
+use Rattle.desk_sql.specs.Schema.{blank_schema, desk_schema, table_schema, column_of, table_of, span_first}
 
 -- what is shown, if it means something, is so
 abbrev pub Holds : {S : Type 0} → Ghosts S → Held S → (Database → Type 0) → Type 0
 Holds g h Is = HasCleanDisk (state g h) → IsTrue (state g h).is_open → Is (state g h).now
 
-abbrev pub HasDeskSchema : Database → Type 0
-HasDeskSchema db = db.schema ≡ desk_schema
-
--- some tables or other objects, and not those of a desk
+-- some tables or other objects, and not those of a desk, with the index or without it
 abbrev pub HasOthers : Database → Type 0
-HasOthers db = (db.schema ≢ blank_schema) × (db.schema ≢ desk_schema)
+HasOthers db = (db.schema ≢ blank_schema) × ((db.schema ≢ desk_schema) × (db.schema ≢ table_schema))
 
 -- ---- rowids
 
@@ -97,5 +94,12 @@ volume_index = key_index (codes "sqlite_autoindex_volume_1") 4 (1 ∷ 2 ∷ 3 �
 unfoldable pub span_index : Index
 span_index = key_index (codes "sqlite_autoindex_span_1") 6 (1 ∷ 2 ∷ 3 ∷ 4 ∷ [])
 
+-- the indexes of the keys
+abbrev pub key_indexes : List Index
+key_indexes = operator_index ∷ plan_index ∷ volume_index ∷ span_index ∷ []
+
+unfoldable pub first_index : Index
+first_index = record span_first { tree = 8 }
+
 abbrev pub desk_indexes : List Index
-desk_indexes = operator_index ∷ plan_index ∷ volume_index ∷ span_index ∷ []
+desk_indexes = operator_index ∷ plan_index ∷ volume_index ∷ span_index ∷ first_index ∷ []

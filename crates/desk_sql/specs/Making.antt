@@ -31,6 +31,9 @@ no_rows = record { operators = []; plans = []; volumes = []; spans = [] }
 abbrev pub AreEmpty : Tables → Tables → Type 0
 AreEmpty old new = new ≡ no_rows
 
+abbrev pub AreSame : Tables → Tables → Type 0
+AreSame old new = new ≡ old
+
 -- what is shown has these tables alone
 abbrev pub IsAt : {S : Type 0} → Ghosts S → Schema → Held S → Type 0
 IsAt g schema h = HasCleanDisk (state g h) → IsTrue (state g h).is_open → HasEmpty schema (state g h).now

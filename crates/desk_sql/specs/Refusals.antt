@@ -12,13 +12,14 @@ use Rattle.sqlite.specs.Effect.{Database, RefusesToRead}
 use Rattle.sqlite.specs.Listing.{understood, reads_listing}
 use Rattle.sqlite.specs.Store.{Ghosts}
 use Rattle.sqlite.specs.Held.{Held, state}
-use Rattle.desk_sql.specs.Schema.{desk_schema}
-use Rattle.desk_sql.specs.Rows.{IsDesk}
+use Rattle.sqlite_schema.specs.declared.schema.Index.{Index}
+use Rattle.desk_sql.specs.Schema.{tables_with, HasTables}
+use Rattle.desk_sql.specs.Rows.{IsLegible}
 
--- what a command that reads answers with in a desk's tables, if it is refused
+-- what a command that reads answers with in a desk's tables, whatever their indexes, if it is refused
 abbrev pub NeverRefuses : Command → Type 0
 NeverRefuses command =
-    (limit : Option ℕ) (db : Database) (e : Error) → db.schema ≡ desk_schema →
+    (limit : Option ℕ) (db : Database) (e : Error) → db.schema ≡ tables_with db.schema.indexes →
     RefusesToRead limit command db [] e → (e ≡ SqliteFailure code.OperationInterrupted) × IsSome limit
 
 -- one whole statement with no parameters, which shows rows of the tables, whatever they have
@@ -29,13 +30,13 @@ IsSureIn text (Err e) = ⊥
 
 -- a query of a desk's tables that only memory, the disk and a limit on steps refuse
 pub record IsSure (text : List ℕ) : Type 0 where
-  pub means : IsSureIn text (understood desk_schema text)
-  pub unlisted : reads_listing desk_schema text ≡ false
+  pub means : (indexes : List Index) → IsSureIn text (understood (tables_with indexes) text)
+  pub unlisted : (indexes : List Index) → reads_listing (tables_with indexes) text ≡ false
 
 -- a desk's tables, but in one of them a rowid is no whole number, or comes twice
 pub record IsMisnumbered (db : Database) : Type 0 where
-  pub schema : db.schema ≡ desk_schema
-  pub unsound : ¬ IsDesk db
+  pub schema : HasTables db
+  pub unsound : ¬ IsLegible db
 
 module _ {S : Type 0} (g : Ghosts S) (old new : Held S) where
   abbrev pub HasDiskFailed : Type 0

@@ -11,7 +11,7 @@ use Rattle.sqlite.specs.Order.{Row, column, value_cmp}
 use Rattle.sqlite.specs.Tree.{Trees, rowid, IsAscending}
 use Rattle.sqlite.specs.View.{is_int}
 use Rattle.sqlite.specs.Effect.{Database}
-use Rattle.desk_sql.specs.Schema.{desk_schema}
+use Rattle.desk_sql.specs.Schema.{desk_schema, table_schema, HasTables}
 use Rattle.desk_sql.specs.declared.reading.rivals.Reach.{Reach}
 
 -- ---- what a row holds
@@ -200,10 +200,27 @@ pub record Lists (cells : List ℕ) (wanted rows : List Row) : Type 0 where
   pub same : IsPermutation wanted rows
   pub sorted : IsSorted (by_cells cells) rows
 
--- a database with the desk's tables
+-- a database with the desk's tables and their index
 pub record IsDesk (db : Database) : Type 0 where
   pub schema : db.schema ≡ desk_schema
   pub operators : AreNumbered (db.trees 0)
   pub plans : AreNumbered (db.trees 2)
   pub volumes : AreNumbered (db.trees 4)
   pub spans : AreNumbered (db.trees 6)
+
+-- the rows of all four tables
+pub record AreAllNumbered (trees : Trees) : Type 0 where
+  pub operators : AreNumbered (trees 0)
+  pub plans : AreNumbered (trees 2)
+  pub volumes : AreNumbered (trees 4)
+  pub spans : AreNumbered (trees 6)
+
+-- a database with the desk's tables, whose index may be missing
+pub record IsLegible (db : Database) : Type 0 where
+  pub schema : HasTables db
+  pub rows : AreAllNumbered db.trees
+
+-- a database with the desk's tables, whose index is missing
+pub record IsUnindexed (db : Database) : Type 0 where
+  pub schema : db.schema ≡ table_schema
+  pub rows : AreAllNumbered db.trees

@@ -1,5 +1,5 @@
 -- The schema of a desk's database, version 1.
-use Rattle.std.specs.Prelude.{true, false, [], ◌∷◌, List, ℕ, None, codes}
+use Rattle.std.specs.Prelude.{true, false, [], ◌∷◌, List, ℕ, None, codes, ◌≡◌, ◌⊎◌}
 use Rattle.sqlite.specs.Collation.TheVariants.{Binary}
 use Rattle.sqlite.specs.declared.types.Value.TheVariants.{Null}
 use Rattle.sqlite.specs.Table.{Table}
@@ -8,9 +8,11 @@ use Rattle.sqlite.specs.Kind.{Kind}
 use Rattle.sqlite.specs.Kind.TheVariants.{Integer, Text, Blob}
 use Rattle.sqlite_schema.specs.declared.schema.Action.TheVariants.{NoAction, Cascade}
 use Rattle.sqlite_schema.specs.declared.schema.Column.{Column}
+use Rattle.sqlite_schema.specs.declared.schema.Index.{Index}
 use Rattle.sqlite_schema.specs.declared.schema.Reference.{Reference}
 use Rattle.sqlite_value.specs.Keys.{plain}
-use Rattle.sqlite_catalog.specs.Change.{created}
+use Rattle.sqlite_catalog.specs.Change.{created, indexed}
+use Rattle.sqlite.specs.Effect.{Database}
 
 abbrev pub column_of : List ℕ → Kind → Column
 column_of name kind = record {
@@ -92,6 +94,33 @@ blank_schema = record { tables = []; indexes = []; views = [] }
 
 -- the tables made in this order: `operator` is tree 0, `plan` 2, `volume` 4, `span` 6, and their keys'
 -- indexes are the trees between
-abbrev pub desk_schema : Schema
-desk_schema = created (created
+abbrev pub table_schema : Schema
+table_schema = created (created
     (created (created blank_schema operator_table) plan_table) volume_table) span_table
+
+-- spans by their leaves, with all that the query of rivals reads
+abbrev pub span_first : Index
+span_first = record {
+  name = codes "span_first";
+  tree = 0;
+  table = 6;
+  columns = 4 ∷ 5 ∷ 6 ∷ 7 ∷ 8 ∷ 9 ∷ 10 ∷ 1 ∷ 2 ∷ [];
+  order = plain;
+  is_unique = false;
+}
+
+-- `span` as it stands among the tables
+abbrev pub span_made : Table
+span_made = record span_table { tree = 6 }
+
+-- the tables, and the index, which is tree 8
+abbrev pub desk_schema : Schema
+desk_schema = indexed table_schema span_made span_first
+
+-- the tables, with any indexes
+abbrev pub tables_with : List Index → Schema
+tables_with indexes = record { tables = table_schema.tables; indexes = indexes; views = [] }
+
+-- the tables, with the index or without it
+abbrev pub HasTables : Database → Type 0
+HasTables db = (db.schema ≡ desk_schema) ⊎ (db.schema ≡ table_schema)

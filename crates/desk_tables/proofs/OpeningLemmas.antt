@@ -1,5 +1,5 @@
 -- What a store begins with, from what was found.
-use Rattle.std.proofs.Common.{◌≡◌, ◌≤◌, ◌∙◌, sym, subst, arith, inl, inr, IsTrue, Result, Ok, Err, IfOk, IfErr}
+use Rattle.std.proofs.Common.{◌≡◌, ◌≤◌, ◌∙◌, sym, ap, OnOk, OnErr, subst, arith, inl, inr, IsTrue, Result, Ok, Err, IfOk, IfErr}
 use Rattle.std.specs.Prelude.{IsSome}
 use Rattle.sqlite.specs.declared.error.Error.{Error}
 use Rattle.sqlite.specs.declared.error.Error.TheVariants.{SqliteFailure}
@@ -8,14 +8,16 @@ use Rattle.sqlite_trees.specs.declared.store.Store.{Ghosts}
 use Rattle.sqlite_trees.specs.View.{doubt}
 use Rattle.sqlite.specs.State.{HasCleanDisk}
 use Rattle.sqlite.specs.Held.{Held, state}
-use Rattle.desk_sql.specs.Rows.{IsDesk, Tables, tables_of}
-use Rattle.desk_sql.specs.Effects.{IsKept, IsReady}
+use Rattle.sqlite.specs.Effect.{Database}
+use Rattle.desk_sql.specs.Rows.{IsDesk, IsLegible, IsUnindexed, Tables, tables_of}
+use Rattle.desk_sql.specs.Effects.{IsKept}
+use Rattle.desk_sql.specs.Finding.{Holds}
 use Rattle.desk_sql.specs.Refusals.{IsRefusal}
 use Rattle.desk_store.specs.World.{World}
 use Rattle.desk_tables.specs.declared.opening.open.OpenFault.{OpenFault}
 use Rattle.desk_tables.specs.declared.opening.open.OpenFault.TheVariants.{NotADesk, Store}
 use Rattle.desk_tables.specs.Content.{IsContent}
-use Rattle.desk_tables.specs.Opening.{AreSortedByKey, AreRows, IsContentOf, AreNoContent, ShowsNoDesk, IsNoDesk, HasFailed, BlamesReading, open_fault_of}
+use Rattle.desk_tables.specs.Opening.{AreSortedByKey, AreRows, IsContentOf, AreNoContent, WasIndexed, BeginsWith, ShowsNoDesk, IsNoDesk, HasFailed, BlamesReading, open_fault_of}
 use Rattle.desk_tables.proofs.KeyOrderLemmas.{are_rows, are_tables}
 
 module _ {S : Type 0} (g : Ghosts S) where
@@ -30,32 +32,69 @@ module _ {S : Type 0} (g : Ghosts S) where
         committed = after.committed ∙ before.committed;
       }
 
-  -- tables that are ready stay so
-  pub ready_on : (a b : Held S) → IsReady g a → IsKept g a b
-      → doubt (state g a).is_clean ≤ doubt (state g b).is_clean → IsReady g b
-  ready_on a b ready one rises = λ clean live.
+  -- tables that are legible stay so
+  pub legible_on : (a b : Held S) → Holds g a IsLegible → IsKept g a b
+      → doubt (state g a).is_clean ≤ doubt (state g b).is_clean → Holds g b IsLegible
+  legible_on a b legible one rises = λ clean live.
       let before = one clean live in
-      subst IsDesk (sym before.now) (ready (omega (arith, rises, clean)) before.was_open)
+      subst IsLegible (sym before.now) (legible (omega (arith, rises, clean)) before.was_open)
 
   -- rows of no content are no desk's, also before what was kept
-  none_shown : (a b c : Held S) → IsKept g a b → IsReady g b → IsKept g b c
+  none_shown : (a b c : Held S) → IsKept g a b → Holds g b IsLegible → IsKept g b c
       → doubt (state g b).is_clean ≤ doubt (state g c).is_clean
       → (HasCleanDisk (state g c) → AreNoContent (tables_of (state g b).now.trees)) → ShowsNoDesk g a c
-  none_shown a b c one ready two rises none = λ clean live.
+  none_shown a b c one legible two rises none = λ clean live.
       let after = two clean live in
       let was : HasCleanDisk (state g b) = omega (arith, rises, clean) in
       let before = one was after.was_open in
-      subst IsNoDesk before.now (inr (record { desk = ready was after.was_open; none = none clean }))
+      subst IsNoDesk before.now (inr (record { desk = legible was after.was_open; none = none clean }))
 
-  pub none_of : {V : Type 0} (r : Result V OpenFault) (a b c : Held S) → IsKept g a b → IsReady g b
-      → IsKept g b c → doubt (state g b).is_clean ≤ doubt (state g c).is_clean
+  pub none_of : {V : Type 0} (r : Result V OpenFault) (a b c : Held S) → IsKept g a b
+      → Holds g b IsLegible → OnErr r (IsKept g b c) → doubt (state g b).is_clean ≤ doubt (state g c).is_clean
       → (HasCleanDisk (state g c) → IfErr r (λ e. e ≡ NotADesk
       → AreNoContent (tables_of (state g b).now.trees)))
       → IfErr r (λ e. e ≡ NotADesk → ShowsNoDesk g a c)
-  none_of (Ok v) a b c one ready two rises none = tt
-  none_of (Err e) a b c one ready two rises none =
-      λ n. none_shown a b c one ready two rises (λ clean. none clean n)
+  none_of (Ok v) a b c one legible two rises none = tt
+  none_of (Err e) a b c one legible two rises none =
+      λ n. none_shown a b c one legible two rises (λ clean. none clean n)
 
+  -- tables that get their index after what was kept got it since before
+  pub begins_indexed : {V : Type 0} (world : V → World) (r : Result V OpenFault) (a b c : Held S)
+      → IsKept g a b → doubt (state g b).is_clean ≤ doubt (state g c).is_clean
+      → (HasCleanDisk (state g c) → OnOk r (IsTrue (state g b).is_open))
+      → (HasCleanDisk (state g c) → IfOk r (λ v. WasIndexed g b c (world v)))
+      → IfOk r (λ v. BeginsWith g a c (world v))
+  begins_indexed world (Err e) a b c one rises opened was = tt
+  begins_indexed world (Ok v) a b c one rises opened was = λ clean live.
+      let before = one (omega (arith, rises, clean)) (opened clean) in
+      let it = was clean in
+      inr (inr (record {
+        unindexed = subst IsUnindexed before.now it.unindexed;
+        rows = subst (λ (db : Database). IsContentOf (tables_of db.trees) (world v)) before.now it.rows;
+        indexed = it.indexed;
+        same = it.same ∙ ap (λ (db : Database). tables_of db.trees) before.now;
+      }))
+
+pub desk_legible : (db : Database) → IsDesk db → IsLegible db
+desk_legible db desk = record {
+  schema = inl desk.schema;
+  rows = record {
+    operators = desk.operators;
+    plans = desk.plans;
+    volumes = desk.volumes;
+    spans = desk.spans;
+  };
+}
+
+pub unindexed_legible : (db : Database) → IsUnindexed db → IsLegible db
+unindexed_legible db bare = record { schema = inr bare.schema; rows = bare.rows }
+
+pub kept_on_err : {V E A : Type 0} (r : Result V E) → A → OnErr r A
+kept_on_err (Ok v) a = tt
+kept_on_err (Err e) a = a
+
+-- what a refusal is blamed on
+module _ {S : Type 0} (g : Ghosts S) where
   -- what SQLite refuses is told as a failure only if the disk failed or the steps did not do
   failed_if : (a b c : Held S) (error : Error) → (state g a).faults ≤ (state g b).faults → b.step_limit
       ≡ a.step_limit → IsRefusal g b c error → open_fault_of error ≡ Store → HasFailed g a c

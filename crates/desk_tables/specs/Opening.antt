@@ -19,7 +19,7 @@ use Rattle.desk_rules.specs.Limits.{max_plans}
 use Rattle.desk_sql.specs.Schema.{blank_schema}
 use Rattle.desk_sql.specs.Finding.{HasOthers}
 use Rattle.desk_sql.specs.Making.{HasEmpty}
-use Rattle.desk_sql.specs.Rows.{IsDesk, Tables, Lists, tables_of}
+use Rattle.desk_sql.specs.Rows.{IsDesk, IsLegible, IsUnindexed, Tables, Lists, tables_of}
 use Rattle.desk_sql.specs.Refusals.{HasDiskFailed, IsMisnumbered}
 use Rattle.desk_sql.specs.Effects.{ShowsAsBefore}
 use Rattle.desk_store.specs.World.{Filed, Listed, World, IsListed, text_cmp, listed_cmp, filed_cmp, rows_by}
@@ -128,25 +128,32 @@ pub record WasFound {S : Type 0} (g : Ghosts S) (old new : Held S) (w : World) :
   pub standing : IsStanding g old w
   pub kept : ShowsAsBefore g old new
 
--- a desk's schema, and rows of no content
+-- the tables had no index and the rows of the world; they have both
+pub record WasIndexed {S : Type 0} (g : Ghosts S) (old new : Held S) (w : World) : Type 0 where
+  pub unindexed : IsUnindexed (state g old).now
+  pub rows : IsContentOf (tables_of (state g old).now.trees) w
+  pub indexed : IsDesk (state g new).now
+  pub same : tables_of (state g new).now.trees ≡ tables_of (state g old).now.trees
+
+-- a desk's tables, and rows of no content
 pub record HasNoContent (db : Database) : Type 0 where
-  pub desk : IsDesk db
+  pub desk : IsLegible db
   pub none : AreNoContent (tables_of db.trees)
 
 -- the schema is another than a desk's, or the rows are those of no content
 abbrev pub IsNoDesk : Database → Type 0
 IsNoDesk db = HasOthers db ⊎ HasNoContent db
 
--- a desk's tables were to be made, or the rowids of a desk's are not those of a sound one
+-- a desk's tables were to be made, or their index, or the rowids of a desk's are not those of a sound one
 abbrev pub IsUnmade : Database → Type 0
-IsUnmade db = HasEmpty blank_schema db ⊎ IsMisnumbered db
+IsUnmade db = HasEmpty blank_schema db ⊎ (IsUnindexed db ⊎ IsMisnumbered db)
 
 module _ {S : Type 0} (g : Ghosts S) (old new : Held S) where
   -- over a connection that is open and a clean disk, a store of this world begins
   abbrev pub BeginsWith : World → Type 0
   BeginsWith w =
       HasCleanDisk (state g new) → IsTrue (state g new).is_open →
-      BeganBlank (state g old).now w ⊎ WasFound g old new w
+      BeganBlank (state g old).now w ⊎ (WasFound g old new w ⊎ WasIndexed g old new w)
 
   -- what is shown is no desk's
   abbrev pub ShowsNoDesk : Type 0

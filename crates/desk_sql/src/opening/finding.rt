@@ -9,8 +9,9 @@ ghost use Rattle.desk_sql.specs.Making.{IsAt};
 ghost use Rattle.desk_sql.specs.Effects.{IsReady, IsKept};
 ghost use Rattle.desk_sql.specs.Refusals.{IsUnread};
 ghost use Rattle.desk_sql.specs.Finding.{Holds, HasOthers};
+ghost use Rattle.desk_sql.specs.Rows.{IsUnindexed};
 
-use crate::opening::matching::{is_blank_schema, is_desk_schema};
+use crate::opening::matching::{is_blank_schema, is_desk_schema, is_table_schema};
 use crate::opening::numbers::test_tables;
 use sqlite::{Alter, Connection, Error};
 
@@ -19,8 +20,10 @@ use sqlite::{Alter, Connection, Error};
 pub enum Found {
     /// No table, index or view.
     Blank,
-    /// Those that `make_tables` makes, and nothing else.
+    /// What `make_tables` makes, and nothing else.
     Desk,
+    /// That, but for the index over the leaves of spans.
+    Unindexed,
     /// Others.
     Other,
 }
@@ -37,6 +40,8 @@ pub fn find_tables<S: Alter>(connection: &mut Connection<S>) -> Result<Found, Er
     ensures blank { IfOk result (λ found. found ≡ Found.Blank
         → IsAt S.Store blank_schema connection.new) }
     ensures desk { IfOk result (λ found. found ≡ Found.Desk → IsReady S.Store connection.new) }
+    ensures unindexed { IfOk result (λ found. found ≡ Found.Unindexed
+        → Holds S.Store connection.new IsUnindexed) }
     ensures other { IfOk result (λ found. found ≡ Found.Other
         → Holds S.Store connection.new HasOthers) }
     ensures cause { HasCleanDisk (state S.Store connection.new)
@@ -52,9 +57,14 @@ pub fn find_tables<S: Alter>(connection: &mut Connection<S>) -> Result<Found, Er
     if is_blank_schema(connection.schema()) {
         return Ok(Found::Blank);
     }
-    if !is_desk_schema(connection.schema()) {
+    let has_index = is_desk_schema(connection.schema());
+    if !has_index && !is_table_schema(connection.schema()) {
         return Ok(Found::Other);
     }
     test_tables(connection)?;
-    Ok(Found::Desk)
+    Ok(if has_index {
+        Found::Desk
+    } else {
+        Found::Unindexed
+    })
 }

@@ -2,9 +2,12 @@ ghost use Rattle.std.specs.Prelude.{◌≡◌, ◌≤◌, false, IsTrue, OnOk, O
 ghost use Rattle.sqlite.specs.View.{doubt};
 ghost use Rattle.sqlite.specs.State.{HasCleanDisk, KeepsCommit};
 ghost use Rattle.sqlite.specs.Held.{state};
-ghost use Rattle.desk_sql.specs.Schema.{blank_schema, desk_schema};
-ghost use Rattle.desk_sql.specs.Making.{first_schema, second_schema, third_schema, IsAt, Grows, AreEmpty};
-ghost use Rattle.desk_sql.specs.Effects.{IsKept, Commits};
+ghost use Rattle.desk_sql.specs.Schema.{blank_schema, table_schema};
+ghost use Rattle.desk_sql.specs.Making.{first_schema, second_schema, third_schema, IsAt, Grows};
+ghost use Rattle.desk_sql.specs.Making.{AreEmpty, AreSame};
+ghost use Rattle.desk_sql.specs.Rows.{IsUnindexed};
+ghost use Rattle.desk_sql.specs.Finding.{Holds};
+ghost use Rattle.desk_sql.specs.Effects.{IsKept, Commits, Makes};
 
 use crate::changing::run::run;
 use sqlite::{Alter, Connection, Error, Transaction};
@@ -81,7 +84,7 @@ fn make_span<S: Alter>(tx: &mut Transaction<'_, S>) -> Result<(), Error>
     requires at { IsAt S.Store third_schema tx.old.conn.now }
     ensures same_reference { tx.new.conn.ghost_name ≡ tx.old.conn.ghost_name }
     ensures done { HasCleanDisk (state S.Store tx.new.conn.now)
-        → OnOk result (Grows S.Store tx.old.conn.now tx.new.conn.now desk_schema) }
+        → OnOk result (Grows S.Store tx.old.conn.now tx.new.conn.now table_schema) }
     ensures undone { HasCleanDisk (state S.Store tx.new.conn.now)
         → OnErr result (KeepsCommit (state S.Store tx.old.conn.now)
         (state S.Store tx.new.conn.now)) }
@@ -102,7 +105,48 @@ fn make_span<S: Alter>(tx: &mut Transaction<'_, S>) -> Result<(), Error>
     Ok(())
 }
 
-/// Makes the four tables of a desk in a database that has no table, as one transaction.
+// The columns after `last` are those that the query of rivals reads, so that it reads the index alone.
+fn make_first<S: Alter>(tx: &mut Transaction<'_, S>) -> Result<(), Error>
+    requires unindexed { Holds S.Store tx.old.conn.now IsUnindexed }
+    ensures same_reference { tx.new.conn.ghost_name ≡ tx.old.conn.ghost_name }
+    ensures done { HasCleanDisk (state S.Store tx.new.conn.now)
+        → OnOk result (Makes S.Store tx.old.conn.now tx.new.conn.now AreSame) }
+    ensures undone { HasCleanDisk (state S.Store tx.new.conn.now)
+        → OnErr result (KeepsCommit (state S.Store tx.old.conn.now)
+        (state S.Store tx.new.conn.now)) }
+    ensures doubt { doubt (state S.Store tx.old.conn.now).is_clean ≤ doubt
+        (state S.Store tx.new.conn.now).is_clean }
+    ensures faults { (state S.Store tx.old.conn.now).faults ≤
+        (state S.Store tx.new.conn.now).faults }
+{
+    run(
+        tx,
+        "CREATE INDEX span_first ON span \
+        (first, last, lower, upper, start, stop, priority, operator, id)",
+        &[],
+    )?;
+    Ok(())
+}
+
+/// Makes the index over a desk's tables that lack it, as one transaction. Their rows stay.
+pub fn index_tables<S: Alter>(connection: &mut Connection<S>) -> Result<(), Error>
+    requires unindexed { Holds S.Store connection.old IsUnindexed }
+    requires settled { connection.old.in_transaction ≡ false }
+    ensures done { HasCleanDisk (state S.Store connection.new)
+        → OnOk result (Commits S.Store connection.old connection.new AreSame) }
+    ensures kept { OnErr result (IsKept S.Store connection.old connection.new) }
+    ensures mode { connection.new.in_transaction ≡ false }
+    ensures doubt { doubt (state S.Store connection.old).is_clean ≤ doubt
+        (state S.Store connection.new).is_clean }
+    ensures faults { (state S.Store connection.old).faults ≤ (state S.Store connection.new).faults }
+{
+    let _settled = connection.is_autocommit();
+    let mut tx = connection.transaction();
+    make_first(&mut tx)?;
+    tx.commit()
+}
+
+/// Makes the four tables of a desk and their index in a database that has no table, as one transaction.
 pub fn make_tables<S: Alter>(connection: &mut Connection<S>) -> Result<(), Error>
     requires blank { IsAt S.Store blank_schema connection.old }
     requires settled { connection.old.in_transaction ≡ false }
@@ -120,5 +164,6 @@ pub fn make_tables<S: Alter>(connection: &mut Connection<S>) -> Result<(), Error
     make_plan(&mut tx)?;
     make_volume(&mut tx)?;
     make_span(&mut tx)?;
+    make_first(&mut tx)?;
     tx.commit()
 }

@@ -4,10 +4,10 @@ ghost use Rattle.std.specs.Prelude.{◌≡◌, ◌↔◌, ◌<◌, ◌-◌, ◌^
 ghost use Rattle.sqlite_value.specs.Keys.{plain};
 ghost use Rattle.sqlite_schema.specs.declared.schema.Action.TheVariants.{NoAction};
 ghost use Rattle.desk_sql.specs.Schema.{column_of, operator_table, plan_table, volume_table, span_table};
-ghost use Rattle.desk_sql.specs.Schema.{to_operator, to_plan, blank_schema, desk_schema};
+ghost use Rattle.desk_sql.specs.Schema.{to_operator, to_plan, blank_schema, desk_schema, table_schema};
 ghost use Rattle.desk_sql.specs.Finding.{no_stamps, without_extras, plain_table, place_columns};
-ghost use Rattle.desk_sql.specs.Finding.{extent_columns, key_index, desk_indexes, operator_index, plan_index};
-ghost use Rattle.desk_sql.specs.Finding.{volume_index, span_index};
+ghost use Rattle.desk_sql.specs.Finding.{extent_columns, key_index, key_indexes, desk_indexes};
+ghost use Rattle.desk_sql.specs.Finding.{operator_index, plan_index, volume_index, span_index, first_index};
 
 use sqlite_items::Items;
 use sqlite_schema::schema::{Action, Column, Index, Kind, Reference, Schema, Stamps, Table};
@@ -261,7 +261,7 @@ fn is_span_table(table: &Table) -> bool
 }
 
 fn are_desk_tables(tables: &[Table]) -> bool
-    ensures { IsTrue result ↔ (tables.now ≡ desk_schema.tables) }
+    ensures { IsTrue result ↔ (tables.now ≡ table_schema.tables) }
 {
     match tables {
         [operator, plan, volume, span] => {
@@ -320,8 +320,21 @@ fn is_span_index(index: &Index) -> bool
     )
 }
 
-fn are_desk_indexes(indexes: &[Index]) -> bool
-    ensures { IsTrue result ↔ (indexes.now ≡ desk_indexes) }
+/// Whether it is the index over the leaves of spans, made after the tables.
+#[tactic(auto, unfolding(crate::specs::Finding::first_index))]
+fn is_first_index(index: &Index) -> bool
+    ensures { IsTrue result ↔ (index.now ≡ first_index) }
+{
+    is_name(&index.name, b"span_first")
+        && index.tree == 8
+        && index.table == 6
+        && are_places(&index.columns, [4, 5, 6, 7, 8, 9, 10, 1, 2].as_slice())
+        && index.order.digits == 0
+        && !index.is_unique
+}
+
+fn are_key_indexes(indexes: &[Index]) -> bool
+    ensures { IsTrue result ↔ (indexes.now ≡ key_indexes) }
 {
     match indexes {
         [operator, plan, volume, span] => {
@@ -334,6 +347,21 @@ fn are_desk_indexes(indexes: &[Index]) -> bool
     }
 }
 
+fn are_desk_indexes(indexes: &[Index]) -> bool
+    ensures { IsTrue result ↔ (indexes.now ≡ desk_indexes) }
+{
+    match indexes {
+        [operator, plan, volume, span, first] => {
+            is_operator_index(operator)
+                && is_plan_index(plan)
+                && is_volume_index(volume)
+                && is_span_index(span)
+                && is_first_index(first)
+        }
+        _ => false,
+    }
+}
+
 /// Whether there is no table, index or view.
 pub(crate) fn is_blank_schema(schema: &Schema) -> bool
     ensures { IsTrue result ↔ (schema.now ≡ blank_schema) }
@@ -341,7 +369,20 @@ pub(crate) fn is_blank_schema(schema: &Schema) -> bool
     schema.tables.is_empty() && schema.indexes.is_empty() && schema.views.is_empty()
 }
 
-/// Whether the tables are those of a desk, made in its order, and there is no other object.
+/// Whether the tables are those of a desk, made in its order, without its index, and nothing else is there.
+pub(crate) fn is_table_schema(schema: &Schema) -> bool
+    ensures { IsTrue result ↔ (schema.now ≡ table_schema) }
+{
+    if !are_desk_tables(schema.tables.as_slice()) {
+        return false;
+    }
+    if !are_key_indexes(schema.indexes.as_slice()) {
+        return false;
+    }
+    schema.views.is_empty()
+}
+
+/// Whether the tables are those of a desk, made in its order, with its index, and nothing else is there.
 pub(crate) fn is_desk_schema(schema: &Schema) -> bool
     ensures { IsTrue result ↔ (schema.now ≡ desk_schema) }
 {

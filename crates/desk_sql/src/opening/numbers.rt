@@ -5,10 +5,11 @@ ghost use Rattle.sqlite.specs.Tree.{rowid};
 ghost use Rattle.sqlite.specs.View.{doubt};
 ghost use Rattle.sqlite.specs.State.{HasCleanDisk};
 ghost use Rattle.sqlite.specs.Held.{state};
-ghost use Rattle.desk_sql.specs.Rows.{AreNumbered};
-ghost use Rattle.desk_sql.specs.Effects.{IsReady, IsKept};
+ghost use Rattle.desk_sql.specs.Schema.{HasTables};
+ghost use Rattle.desk_sql.specs.Rows.{AreNumbered, IsLegible};
+ghost use Rattle.desk_sql.specs.Effects.{IsKept};
 ghost use Rattle.desk_sql.specs.Refusals.{IsUnread};
-ghost use Rattle.desk_sql.specs.Finding.{Holds, HasDeskSchema, AreRising, next_above};
+ghost use Rattle.desk_sql.specs.Finding.{Holds, AreRising, next_above};
 
 use crate::reading::asking::ask;
 use sqlite::{Alter, Connection, Error, ErrorCode, Row};
@@ -57,7 +58,7 @@ fn test_rising(rows: &[Row]) -> Result<(), Error>
 }
 
 fn test_operators<S: Alter>(connection: &mut Connection<S>) -> Result<(), Error>
-    requires known { Holds S.Store connection.old HasDeskSchema }
+    requires known { Holds S.Store connection.old HasTables }
     requires settled { connection.old.in_transaction ≡ false }
     ensures numbered { OnOk result (Holds S.Store connection.new (λ db. AreNumbered (db.trees 0))) }
     ensures cause { HasCleanDisk (state S.Store connection.new)
@@ -75,7 +76,7 @@ fn test_operators<S: Alter>(connection: &mut Connection<S>) -> Result<(), Error>
 }
 
 fn test_plans<S: Alter>(connection: &mut Connection<S>) -> Result<(), Error>
-    requires known { Holds S.Store connection.old HasDeskSchema }
+    requires known { Holds S.Store connection.old HasTables }
     requires settled { connection.old.in_transaction ≡ false }
     ensures numbered { OnOk result (Holds S.Store connection.new (λ db. AreNumbered (db.trees 2))) }
     ensures cause { HasCleanDisk (state S.Store connection.new)
@@ -93,7 +94,7 @@ fn test_plans<S: Alter>(connection: &mut Connection<S>) -> Result<(), Error>
 }
 
 fn test_volumes<S: Alter>(connection: &mut Connection<S>) -> Result<(), Error>
-    requires known { Holds S.Store connection.old HasDeskSchema }
+    requires known { Holds S.Store connection.old HasTables }
     requires settled { connection.old.in_transaction ≡ false }
     ensures numbered { OnOk result (Holds S.Store connection.new (λ db. AreNumbered (db.trees 4))) }
     ensures cause { HasCleanDisk (state S.Store connection.new)
@@ -111,7 +112,7 @@ fn test_volumes<S: Alter>(connection: &mut Connection<S>) -> Result<(), Error>
 }
 
 fn test_spans<S: Alter>(connection: &mut Connection<S>) -> Result<(), Error>
-    requires known { Holds S.Store connection.old HasDeskSchema }
+    requires known { Holds S.Store connection.old HasTables }
     requires settled { connection.old.in_transaction ≡ false }
     ensures numbered { OnOk result (Holds S.Store connection.new (λ db. AreNumbered (db.trees 6))) }
     ensures cause { HasCleanDisk (state S.Store connection.new)
@@ -134,9 +135,9 @@ fn test_spans<S: Alter>(connection: &mut Connection<S>) -> Result<(), Error>
 ///
 /// `DatabaseCorrupt` if those of a table are not whole numbers, each once; and what a query may fail with.
 pub(crate) fn test_tables<S: Alter>(connection: &mut Connection<S>) -> Result<(), Error>
-    requires known { Holds S.Store connection.old HasDeskSchema }
+    requires known { Holds S.Store connection.old HasTables }
     requires settled { connection.old.in_transaction ≡ false }
-    ensures ready { OnOk result (IsReady S.Store connection.new) }
+    ensures legible { OnOk result (Holds S.Store connection.new IsLegible) }
     ensures cause { HasCleanDisk (state S.Store connection.new)
         → IsTrue (state S.Store connection.new).is_open
         → IfErr result (IsUnread S.Store connection.old connection.new) }

@@ -3,15 +3,16 @@ ghost use Rattle.sqlite.specs.View.{doubt};
 ghost use Rattle.sqlite.specs.State.{HasCleanDisk, Shown};
 ghost use Rattle.sqlite.specs.Held.{state};
 ghost use Rattle.desk_sql.specs.Effects.{IsKept};
-ghost use Rattle.desk_sql.specs.Finding.{Holds, HasDeskSchema};
+ghost use Rattle.desk_sql.specs.Schema.{HasTables};
+ghost use Rattle.desk_sql.specs.Finding.{Holds};
 ghost use Rattle.desk_sql.specs.Refusals.{IsSure, IsRefusal};
 
 use sqlite::{Alter, Connection, Error, Row};
 
-/// All rows of a query with no parameters, where the schema is a desk's. The rows of the tables stay,
-/// whatever is answered.
+/// All rows of a query with no parameters of a desk's tables, with the index or without it. The rows of the
+/// tables stay, whatever is answered.
 pub(crate) fn ask<S: Alter>(connection: &mut Connection<S>, query: &str) -> Result<Vec<Row>, Error>
-    requires known { Holds S.Store connection.old HasDeskSchema }
+    requires known { Holds S.Store connection.old HasTables }
     requires settled { connection.old.in_transaction ≡ false }
     requires sure { IsSure query.now }
     ensures shown { HasCleanDisk (state S.Store connection.new)

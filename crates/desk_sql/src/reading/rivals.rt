@@ -33,10 +33,10 @@ fn rival_spans_text() -> &'static str
 {
     "SELECT first, last, lower, upper, start, stop, priority FROM span \
      WHERE first <= ?1 AND last >= ?2 AND lower < ?3 AND upper > ?4 AND start < ?5 AND stop > ?6 \
-     AND priority >= ?7 AND (operator <> ?8 OR id <> ?9)"
+     AND priority >= ?7 AND (operator <> ?8 OR id <> ?9) ORDER BY first"
 }
 
-/// Hands over, one at a time and in no order, the columns of `span` from `first` on of each span that is
+/// Hands over, one at a time and by `first`, the columns of `span` from `first` on of each span that is
 /// reached, but for those of the plan of this operator with this id.
 ///
 /// # Errors

@@ -4,8 +4,9 @@ ghost use Rattle.std.specs.Prelude.{◌≡◌, ◌≤◌, [], ◌∷◌, false, 
 ghost use Rattle.sqlite.specs.View.{doubt};
 ghost use Rattle.sqlite.specs.State.{HasCleanDisk};
 ghost use Rattle.sqlite.specs.Held.{state};
-ghost use Rattle.desk_sql.specs.Rows.{tables_of, Lists};
-ghost use Rattle.desk_sql.specs.Effects.{IsReady, IsKept};
+ghost use Rattle.desk_sql.specs.Rows.{IsLegible, tables_of, Lists};
+ghost use Rattle.desk_sql.specs.Effects.{IsKept};
+ghost use Rattle.desk_sql.specs.Finding.{Holds};
 ghost use Rattle.desk_sql.specs.Refusals.{IsRefusal};
 
 use crate::reading::asking::ask;
@@ -13,7 +14,7 @@ use sqlite::{Alter, Connection, Error, Row};
 
 /// The rows `name`, `ceiling` of all operators, by name.
 pub fn all_operators<S: Alter>(connection: &mut Connection<S>) -> Result<Vec<Row>, Error>
-    requires ready { IsReady S.Store connection.old }
+    requires legible { Holds S.Store connection.old IsLegible }
     requires settled { connection.old.in_transaction ≡ false }
     ensures value { HasCleanDisk (state S.Store connection.new)
         → IfOk result (λ rows. Lists (0 ∷ []) ((tables_of
@@ -38,7 +39,7 @@ pub fn all_operators<S: Alter>(connection: &mut Connection<S>) -> Result<Vec<Row
 
 /// The rows `operator`, `id`, `priority`, `usage`, `aircraft` of all plans, by operator and id.
 pub fn all_plans<S: Alter>(connection: &mut Connection<S>) -> Result<Vec<Row>, Error>
-    requires ready { IsReady S.Store connection.old }
+    requires legible { Holds S.Store connection.old IsLegible }
     requires settled { connection.old.in_transaction ≡ false }
     ensures value { HasCleanDisk (state S.Store connection.new)
         → IfOk result (λ rows. Lists (0 ∷ 1 ∷ []) ((tables_of
@@ -63,7 +64,7 @@ pub fn all_plans<S: Alter>(connection: &mut Connection<S>) -> Result<Vec<Row>, E
 
 /// The rows of all volumes, with the columns of `volumes_of`, by operator, id and place.
 pub fn all_volumes<S: Alter>(connection: &mut Connection<S>) -> Result<Vec<Row>, Error>
-    requires ready { IsReady S.Store connection.old }
+    requires legible { Holds S.Store connection.old IsLegible }
     requires settled { connection.old.in_transaction ≡ false }
     ensures value { HasCleanDisk (state S.Store connection.new)
         → IfOk result (λ rows. Lists (0 ∷ 1 ∷ 2 ∷ []) ((tables_of
@@ -90,7 +91,7 @@ pub fn all_volumes<S: Alter>(connection: &mut Connection<S>) -> Result<Vec<Row>,
 /// The rows `operator`, `id`, `place`, `first`, `last`, `lower`, `upper`, `start`, `stop`, `priority`
 /// of all spans, by operator, id, place and first.
 pub fn all_spans<S: Alter>(connection: &mut Connection<S>) -> Result<Vec<Row>, Error>
-    requires ready { IsReady S.Store connection.old }
+    requires legible { Holds S.Store connection.old IsLegible }
     requires settled { connection.old.in_transaction ≡ false }
     ensures value { HasCleanDisk (state S.Store connection.new)
         → IfOk result (λ rows. Lists (0 ∷ 1 ∷ 2 ∷ 3 ∷ []) ((tables_of

@@ -6,24 +6,28 @@ ghost use Rattle.sqlite.specs.State.{HasCleanDisk};
 ghost use Rattle.sqlite.specs.Held.{state};
 ghost use Rattle.desk_sql.specs.Schema.{blank_schema};
 ghost use Rattle.desk_sql.specs.Making.{IsAt};
-ghost use Rattle.desk_sql.specs.Rows.{tables_of};
-ghost use Rattle.desk_sql.specs.Effects.{IsKept, IsReady};
+ghost use Rattle.desk_sql.specs.Rows.{IsLegible, IsUnindexed, tables_of};
+ghost use Rattle.desk_sql.specs.Effects.{IsKept};
+ghost use Rattle.desk_sql.specs.Finding.{Holds};
 ghost use Rattle.desk_tables.specs.Store.{Stands};
 ghost use Rattle.desk_store.specs.World.{World};
 ghost use Rattle.desk_tables.specs.Content.{IsContent};
 ghost use Rattle.desk_tables.specs.Opening.{AreSortedByKey, AreRows, IsContentOf, AreNoContent};
-ghost use Rattle.desk_tables.specs.Opening.{BeginsWith, ShowsNoDesk, BlamesReading, BlamesDatabase};
+ghost use Rattle.desk_tables.specs.Opening.{BeginsWith, WasIndexed, ShowsNoDesk};
+ghost use Rattle.desk_tables.specs.Opening.{BlamesReading, BlamesDatabase};
 
 use crate::kept::Kept;
 use crate::opening::content::{TableRows, content_in};
 use crate::opening::open::OpenFault;
-use desk_sql::{Found, all_operators, all_plans, all_spans, all_volumes, find_tables, make_tables};
+use desk_sql::{
+    Found, all_operators, all_plans, all_spans, all_volumes, find_tables, index_tables, make_tables,
+};
 use sqlite::Connection;
 use sqlite_trees::store::Alter;
 use std::alloc::Global;
 
 /// The world that the database stands for: that of the rows in a desk's tables. A database with no
-/// table gets a desk's, and its world is empty.
+/// table gets a desk's, and its world is empty. Tables that lack the index get it.
 ///
 /// # Errors
 ///
@@ -47,6 +51,7 @@ pub(crate) fn world_in<S: Alter>(
     match find_tables(connection)? {
         Found::Blank => made_in(connection),
         Found::Desk => found_in(alloc, connection),
+        Found::Unindexed => indexed_in(alloc, connection),
         Found::Other => Err(OpenFault::NotADesk),
     }
 }
@@ -68,9 +73,30 @@ pub(crate) fn made_in<S: Alter>(connection: &mut Connection<S>) -> Result<Kept, 
     Ok(Kept::new())
 }
 
+// The world whose rows the tables have, which get their index.
+fn indexed_in<S: Alter>(alloc: Global, connection: &mut Connection<S>) -> Result<Kept, OpenFault>
+    requires unindexed { Holds S.Store connection.old IsUnindexed }
+    requires settled { connection.old.in_transaction ≡ false }
+    ensures value { HasCleanDisk (state S.Store connection.new) → IfOk result (λ kept.
+        WasIndexed S.Store connection.old connection.new kept.world) }
+    ensures stands { IfOk result (λ kept. Stands S.Store connection.new kept.world) }
+    ensures none { HasCleanDisk (state S.Store connection.new) → IfErr result (λ e.
+        e ≡ OpenFault.NotADesk →
+        AreNoContent (tables_of (state S.Store connection.old).now.trees)) }
+    ensures open { HasCleanDisk (state S.Store connection.new) →
+        OnOk result (IsTrue (state S.Store connection.old).is_open) }
+    ensures kept { OnErr result (IsKept S.Store connection.old connection.new) }
+    ensures doubt { doubt (state S.Store connection.old).is_clean
+        ≤ doubt (state S.Store connection.new).is_clean }
+{
+    let kept = found_in(alloc, connection)?;
+    index_tables(connection)?;
+    Ok(kept)
+}
+
 // The world whose rows the tables have.
 fn found_in<S: Alter>(alloc: Global, connection: &mut Connection<S>) -> Result<Kept, OpenFault>
-    requires ready { IsReady S.Store connection.old }
+    requires legible { Holds S.Store connection.old IsLegible }
     requires settled { connection.old.in_transaction ≡ false }
     ensures value { HasCleanDisk (state S.Store connection.new) → IfOk result (λ kept.
         IsContentOf (tables_of (state S.Store connection.old).now.trees) kept.world) }
@@ -101,9 +127,9 @@ fn kept_of(alloc: Global, rows: &TableRows) -> Result<Kept, OpenFault>
 }
 
 // The rows of the four tables, each by the columns of its key.
-#[tactic(auto, using(crate::proofs::OpeningLemmas::kept_on, crate::proofs::OpeningLemmas::ready_on))]
+#[tactic(auto, using(crate::proofs::OpeningLemmas::kept_on, crate::proofs::OpeningLemmas::legible_on))]
 fn rows_in<S: Alter>(connection: &mut Connection<S>) -> Result<TableRows, OpenFault>
-    requires ready { IsReady S.Store connection.old }
+    requires legible { Holds S.Store connection.old IsLegible }
     requires settled { connection.old.in_transaction ≡ false }
     ensures value { HasCleanDisk (state S.Store connection.new) →
         IfOk result (AreSortedByKey (tables_of (state S.Store connection.old).now.trees)) }

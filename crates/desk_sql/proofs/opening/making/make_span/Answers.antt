@@ -1,6 +1,6 @@
 use Rattle.std.proofs.Common.{arith}
 use Rattle.sqlite.specs.Held.{state}
-use Rattle.desk_sql.specs.Schema.{desk_schema, span_table}
+use Rattle.desk_sql.specs.Schema.{table_schema, span_table}
 use Rattle.desk_sql.specs.Making.{third_schema}
 use Rattle.desk_sql.proofs.Texts.{span_text}
 use Rattle.desk_sql.proofs.CreateLemmas.{creates, grows, span_makes}
@@ -10,7 +10,8 @@ pub returns-clause-done : goal.returns-clause-done
 returns-clause-done g c clean =
     let old = c.args.tx.now.conn.now in
     let new = c.run.new.tx.conn.now in
-    grows g.S.Store old new third_schema desk_schema c.requires.at (omega (arith, c.run.ensures.doubt, clean))
+    grows g.S.Store old new third_schema table_schema c.requires.at
+    (omega (arith, c.run.ensures.doubt, clean))
     (c.in_ok-run.ensures.shown clean)
     (λ has. creates third_schema span_text span_table span_makes (state g.S.Store old) (state g.S.Store new)
     has c.in_ok-run.field-0 (c.in_ok-run.ensures.ran clean))

@@ -7,7 +7,8 @@ use Rattle.desk_sql.proofs.reading.asking.ask.Goals as goal
 pub returns-clause-kept : goal.returns-clause-kept
 returns-clause-kept g c clean live =
     kept_if g.S.Store c.args.connection.now c.query_all.new.self (λ v. v.items) c.args.query.now _
-    c.requires.known (sure_plain c.args.query.now c.requires.sure)
+    (λ whole live. sure_plain c.args.query.now c.requires.sure (state g.S.Store c.args.connection.now).now
+    (c.requires.known whole live))
     (c.is_autocommit-settled.ensures.settled (rw c.requires.settled at c.is_autocommit-settled.ensures.value))
     c.query_all.result
     (omega (arith, c.query_all.ensures.survives.clean, clean)) (c.query_all.ensures.ok clean)
