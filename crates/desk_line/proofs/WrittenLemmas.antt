@@ -1,5 +1,5 @@
 -- What is written of some bytes, part by part.
-use Rattle.std.proofs.Common.{◌≡◌, ◌∙◌, ap, sym, subst, ℕ, List, [], ◌++◌, Option, take, drop, append-nil, append_assoc, Result, Ok, Err, OnOk, IfErr, refl}
+use Rattle.std.proofs.Common.{◌≡◌, ◌∙◌, ap, sym, ℕ, List, [], ◌++◌, Option, take, drop, append-nil, append_assoc, Result, Ok, Err, OnOk, IfErr, refl}
 use Rattle.std.proofs.lemmas.List.{take-append-drop}
 use Rattle.std.proofs.KnownBytes.{Appends-trans}
 use Rattle.std.specs.Io.KnownBytes.{Appends}

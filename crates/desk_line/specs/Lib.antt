@@ -1,4 +1,6 @@
 pub mod Written
 pub mod Exits
 pub mod Lines
+pub mod Grammar
+pub mod Forms
 pub mod Printing
