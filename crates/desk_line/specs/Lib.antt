@@ -1,4 +1,7 @@
 -- Read first: Lines, Exits.
+pub mod Written
 pub mod Exits
 pub mod Lines
+pub mod Grammar
+pub mod Forms
 pub mod Printing

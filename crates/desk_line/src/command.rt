@@ -1,10 +1,20 @@
 //! The command line that is taken: its lines and their words as rows, of which `clap` makes help and reads
 //! what is given.
 
+ghost use Rattle.std.specs.Prelude.{◌≡◌, IfOk, map};
+ghost use Rattle.clap.specs.Simple.{app_of, shape_of};
+ghost use Rattle.clap.specs.Walk.{rule_of};
+ghost use Rattle.desk_line.specs.Forms.{rule_of_word, shape_of_form};
+ghost use Rattle.desk_line.specs.Grammar as spec;
+ghost use Rattle.desk_line.specs.Grammar.{line_shape, needed, value};
+
 use crate::line::MAX_CONNECTIONS;
 use clap::{Arg, ArgAction, Command, value_parser};
 use std::alloc::{AllocError, Global};
 use volume4d::MAX_SECOND;
+
+// The version, and the kit whose prover and compiler make the program.
+const VERSION: &str = "0.1.0\nrattle-kit-13b logic dac8208d650f15bf";
 
 // A line: its first word, what it does, and its further words.
 struct Form {
@@ -77,26 +87,60 @@ static FORMS: [Form; 5] = [
 ];
 
 /// The command line that is taken.
-pub fn make_command<'a>(alloc: Global) -> Result<Command<'a>, AllocError> {
-    let mut command = Command::new(alloc, "uss_desk")
-        .about("The planning desk of one UAS service supplier")
-        .subcommand_required(true);
-    for form in &FORMS {
+pub fn make_command<'a>(alloc: Global) -> Result<Command<'a>, AllocError>
+    ensures { IfOk result (λ command. app_of command ≡ spec.program) }
+{
+    with_lines(alloc, &FORMS)
+}
+
+// The program, with these lines.
+fn with_lines<'a>(alloc: Global, forms: &'static [Form]) -> Result<Command<'a>, AllocError>
+    ensures { IfOk result (λ command.
+        app_of command ≡ spec.with_lines (map shape_of_form forms.now)) }
+{
+    let mut command = bare_command(alloc);
+    for form in forms {
         command = command.subcommand(command_of(alloc, form)?)?;
     }
     Ok(command)
 }
 
+// The program, with no line.
+fn bare_command<'a>(alloc: Global) -> Command<'a>
+    ensures { app_of result ≡ spec.bare_program }
+{
+    Command::new(alloc, "uss_desk")
+        .about("The planning desk of one UAS service supplier")
+        .version(VERSION)
+        .subcommand_required(true)
+}
+
 // The command of a line.
-fn command_of<'a>(alloc: Global, form: &'static Form) -> Result<Command<'a>, AllocError> {
+fn command_of<'a>(alloc: Global, form: &'static Form) -> Result<Command<'a>, AllocError>
+    ensures { IfOk result (λ command. shape_of command ≡ shape_of_form form.now) }
+{
+    with_words(alloc, form, form.words)
+}
+
+// The command of a line, with these words.
+fn with_words<'a>(
+    alloc: Global,
+    form: &'static Form,
+    words: &'static [Word],
+) -> Result<Command<'a>, AllocError>
+    ensures { IfOk result (λ command.
+        shape_of command ≡ line_shape form.now.name.now (map rule_of_word words.now)) }
+{
     let mut command = Command::new(alloc, form.name).about(form.about);
-    for word in form.words {
+    for word in words {
         command = command.arg(arg_of(alloc, word))?;
     }
     Ok(command)
 }
 
-fn arg_of<'a>(alloc: Global, word: &Word) -> Arg<'a> {
+fn arg_of<'a>(alloc: Global, word: &Word) -> Arg<'a>
+    ensures { rule_of result ≡ rule_of_word word.now }
+{
     match word {
         Word::Database => database_arg(alloc),
         Word::GivenDatabase => database_arg(alloc).required(true),
@@ -112,14 +156,18 @@ fn arg_of<'a>(alloc: Global, word: &Word) -> Arg<'a> {
     }
 }
 
-fn database_arg<'a>(alloc: Global) -> Arg<'a> {
+fn database_arg<'a>(alloc: Global) -> Arg<'a>
+    ensures { rule_of result ≡ spec.database }
+{
     Arg::new(alloc, "database")
         .long("db")
         .value_name("FILE")
         .help("The SQLite database of operators and plans, or :memory: for one in memory")
 }
 
-fn moment_arg<'a>(alloc: Global) -> Arg<'a> {
+fn moment_arg<'a>(alloc: Global) -> Arg<'a>
+    ensures { rule_of result ≡ spec.moment }
+{
     Arg::new(alloc, "moment")
         .long("at")
         .value_name("SECOND")
@@ -128,7 +176,9 @@ fn moment_arg<'a>(alloc: Global) -> Arg<'a> {
         .value_parser(value_parser!(i64).range(0..=MAX_SECOND))
 }
 
-fn port_arg<'a>(alloc: Global) -> Arg<'a> {
+fn port_arg<'a>(alloc: Global) -> Arg<'a>
+    ensures { rule_of result ≡ spec.port }
+{
     Arg::new(alloc, "port")
         .long("port")
         .value_name("N")
@@ -137,7 +187,9 @@ fn port_arg<'a>(alloc: Global) -> Arg<'a> {
         .value_parser(value_parser!(u16).range(1..))
 }
 
-fn connections_arg<'a>(alloc: Global) -> Arg<'a> {
+fn connections_arg<'a>(alloc: Global) -> Arg<'a>
+    ensures { rule_of result ≡ spec.connections }
+{
     Arg::new(alloc, "connections")
         .long("requests")
         .value_name("N")
@@ -146,36 +198,48 @@ fn connections_arg<'a>(alloc: Global) -> Arg<'a> {
         .value_parser(value_parser!(u32).range(1..=i64::from(MAX_CONNECTIONS)))
 }
 
-fn enrolments_arg<'a>(alloc: Global) -> Arg<'a> {
+fn enrolments_arg<'a>(alloc: Global) -> Arg<'a>
+    ensures { rule_of result ≡ spec.enrolments }
+{
     Arg::new(alloc, "enrolments")
         .value_name("NAME=CEILING")
         .help("An operator, and the greatest priority that it may use")
         .action(ArgAction::Append)
 }
 
-fn token_arg<'a>(alloc: Global) -> Arg<'a> {
+fn token_arg<'a>(alloc: Global) -> Arg<'a>
+    ensures { rule_of result ≡ spec.token }
+{
     Arg::new(alloc, "token")
         .value_name("TOKEN")
         .help("A cell of the S2 geometry library, 1 to 16 hex digits")
         .required(true)
 }
 
-fn text_arg<'a>(alloc: Global, name: &'a str, help: &'a str) -> Arg<'a> {
+fn text_arg<'a>(alloc: Global, name: &'a str, help: &'a str) -> Arg<'a>
+    ensures { rule_of result ≡ needed (value name.entry.now) }
+{
     Arg::new(alloc, name)
         .value_name(name)
         .help(help)
         .required(true)
 }
 
-fn small_arg<'a>(alloc: Global, name: &'a str, help: &'a str) -> Arg<'a> {
+fn small_arg<'a>(alloc: Global, name: &'a str, help: &'a str) -> Arg<'a>
+    ensures { rule_of result ≡ spec.small name.entry.now }
+{
     text_arg(alloc, name, help).value_parser(value_parser!(u8))
 }
 
-fn coordinate_arg<'a>(alloc: Global, name: &'a str, help: &'a str) -> Arg<'a> {
+fn coordinate_arg<'a>(alloc: Global, name: &'a str, help: &'a str) -> Arg<'a>
+    ensures { rule_of result ≡ spec.coordinate name.entry.now }
+{
     text_arg(alloc, name, help).value_parser(value_parser!(u32))
 }
 
-fn picture_arg<'a>(alloc: Global) -> Arg<'a> {
+fn picture_arg<'a>(alloc: Global) -> Arg<'a>
+    ensures { rule_of result ≡ spec.picture }
+{
     Arg::new(alloc, "picture")
         .long("svg")
         .help("Prints a picture (SVG) in place of the tokens")

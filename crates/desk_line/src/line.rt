@@ -1,10 +1,23 @@
 //! The command line of the program.
 
-ghost use Rattle.std.specs.Prelude.{◌≡◌, ◌≤◌, IfOk, IfSome, OnOk, option_map, codes};
-ghost use Rattle.clap.specs.Matches.{found_of, first_value};
+ghost use Rattle.std.specs.Prelude.{◌≡◌, ◌≤◌, IfOk, IfSome, Some, map, option_map};
+ghost use Rattle.std.specs.Prelude.{codes, string_bytes};
+ghost use Rattle.std.specs.Char.{is_ascii_digit};
+ghost use Rattle.std.specs.Int.{IsInRange};
+ghost use Rattle.std.specs.List.{list_all};
+ghost use Rattle.clap.specs.Matches.{found_of};
+ghost use Rattle.clap.specs.Simple.{subcommand_of, subcommand_rows_of};
+ghost use Rattle.clap.specs.Walk.{first_of, rows_of};
 ghost use Rattle.desk_rules.specs.Limits.{max_priority};
-ghost use Rattle.desk_line.specs.Lines.{AreEnrolments, IsEnrol, IsLine, IsPlay, IsServe};
-ghost use Rattle.desk_line.specs.Lines.{file_of, named_file};
+ghost use Rattle.desk_wire.specs.Moments.{IsMoment};
+ghost use Rattle.desk_line.specs.Grammar as spec;
+ghost use Rattle.desk_line.specs.Grammar.{AreEnrolmentsGiven, HasGiven, IsCoverGiven, IsEnrolGiven};
+ghost use Rattle.desk_line.specs.Grammar.{IsGiven, IsPlayGiven, IsServeGiven, ceiling_in, enrolment_given};
+ghost use Rattle.desk_line.specs.Grammar.{enrolment_in, file_given, name_of, number_given, second_given};
+ghost use Rattle.desk_line.specs.Grammar.{program};
+ghost use Rattle.desk_line.specs.Lines.{AreEnrolments, IsEnrol, IsLine, IsPlay, IsServe, file_of};
+ghost use Rattle.desk_line.specs.Lines.{max_connections, max_port, min_connections, min_port};
+ghost use Rattle.desk_line.specs.Lines.{named_file};
 
 #[cfg(test)]
 mod tests;
@@ -150,110 +163,212 @@ impl From<clap::Error> for WordsFault {
 ///
 /// `OutOfMemory`; `Words` if `clap` refuses them, or a number is out of range; `Value`.
 pub fn read_words(alloc: Global, words: &[String]) -> Result<Line, WordsFault>
-    ensures { IfOk result IsLine }
+    ensures valid { IfOk result IsLine }
+    ensures given { IfOk result (IsGiven (map string_bytes words.now)) }
 {
-    let matches = make_command(alloc)?.try_get_matches_from(words)?;
+    let matches = matches_of(alloc, words)?;
     match matches.subcommand() {
-        Some(("play", play)) => Ok(Line::Play(read_play(alloc, play)?)),
-        Some(("token", token)) => Ok(Line::Token(read_token(alloc, token)?)),
-        Some(("serve", serve)) => Ok(Line::Serve(read_serve(alloc, serve)?)),
-        Some(("cover", cover)) => match read_cover(cover) {
+        Some((name, given)) => read_line(alloc, name, given),
+        None => Err(WordsFault::Value),
+    }
+}
+
+// What `clap` finds in the words.
+fn matches_of(alloc: Global, words: &[String]) -> Result<ArgMatches<'_>, WordsFault>
+    ensures { IfOk result (λ matches.
+        subcommand_rows_of matches ≡ subcommand_of program (map string_bytes words.now)) }
+{
+    Ok(make_command(alloc)?.try_get_matches_from(words)?)
+}
+
+// The line of this name, by the values that were given.
+fn read_line(alloc: Global, name: &str, given: &ArgMatches<'_>) -> Result<Line, WordsFault>
+    ensures valid { IfOk result IsLine }
+    ensures name { IfOk result (λ line. name_of line ≡ name.now) }
+    ensures given { IfOk result (HasGiven (rows_of (found_of given.now))) }
+{
+    match name {
+        "play" => Ok(Line::Play(read_play(alloc, given)?)),
+        "token" => Ok(Line::Token(read_token(alloc, given)?)),
+        "serve" => Ok(Line::Serve(read_serve(alloc, given)?)),
+        "cover" => match read_cover(given) {
             Some(cover) => Ok(Line::Cover(cover)),
             None => Err(WordsFault::Value),
         },
-        Some(("enrol", enrol)) => Ok(Line::Enrol(read_enrol(alloc, enrol)?)),
+        "enrol" => Ok(Line::Enrol(read_enrol(alloc, given)?)),
         _ => Err(WordsFault::Value),
     }
 }
 
 // The words of `play`.
-fn read_play(alloc: Global, matches: &ArgMatches<'_>) -> Result<Play, WordsFault>
+fn read_play(alloc: Global, given: &ArgMatches<'_>) -> Result<Play, WordsFault>
     ensures valid { IfOk result IsPlay }
-    ensures file { IfOk result (λ play. file_of play.database ≡
-        named_file (first_value (found_of matches.now) (codes "database"))) }
+    ensures given { IfOk result (IsPlayGiven (rows_of (found_of given.now))) }
 {
-    let moment = match matches.get_one::<i64>("moment") {
-        Some(moment @ 0..=MAX_SECOND) => moment,
-        _ => return Err(WordsFault::Value),
+    let Some(moment) = read_moment(given) else {
+        return Err(WordsFault::Value);
     };
     Ok(Play {
-        database: read_database(alloc, matches)?,
+        database: read_database(alloc, given)?,
         moment,
-        enrolments: read_enrolments(alloc, matches)?,
+        enrolments: read_enrolments(alloc, given)?,
     })
 }
 
+// The moment of all requests.
+fn read_moment(given: &ArgMatches<'_>) -> Option<i64>
+    ensures valid { IfSome result IsMoment }
+    ensures given { IfSome result (λ moment.
+        second_given (codes "moment") (rows_of (found_of given.now)) ≡ Some moment) }
+{
+    match read_second(given, "moment") {
+        Some(moment @ 0..=MAX_SECOND) => Some(moment),
+        _ => None,
+    }
+}
+
+// A second, or another number of 64 bits and a sign.
+fn read_second(given: &ArgMatches<'_>, id: &str) -> Option<i64>
+    ensures { IfSome result (λ second.
+        second_given id.now (rows_of (found_of given.now)) ≡ Some second) }
+{
+    given.get_one(id)
+}
+
 // The text of `token`.
-fn read_token(alloc: Global, matches: &ArgMatches<'_>) -> Result<String, WordsFault> {
-    match matches.get_str("token") {
+fn read_token(alloc: Global, given: &ArgMatches<'_>) -> Result<String, WordsFault>
+    ensures { IfOk result (λ token.
+        first_of (codes "token") (rows_of (found_of given.now)) ≡ Some (string_bytes token)) }
+{
+    match text_of(given, "token") {
         Some(token) => Ok(String::from_str(alloc, token)?),
         None => Err(WordsFault::Value),
     }
 }
 
 // The words of `serve`.
-fn read_serve(alloc: Global, matches: &ArgMatches<'_>) -> Result<Serve, WordsFault>
+fn read_serve(alloc: Global, given: &ArgMatches<'_>) -> Result<Serve, WordsFault>
     ensures valid { IfOk result IsServe }
-    ensures file { IfOk result (λ serve. file_of serve.database ≡
-        named_file (first_value (found_of matches.now) (codes "database"))) }
+    ensures given { IfOk result (IsServeGiven (rows_of (found_of given.now))) }
 {
-    let port = match matches.get_one::<u16>("port") {
-        Some(port @ 1..) => port,
-        _ => return Err(WordsFault::Value),
+    let Some(port) = read_port(given) else {
+        return Err(WordsFault::Value);
     };
-    let connections = match matches.get_one::<u32>("connections") {
-        Some(connections @ 1..=MAX_CONNECTIONS) => connections,
-        _ => return Err(WordsFault::Value),
+    let Some(connections) = read_connections(given) else {
+        return Err(WordsFault::Value);
     };
     Ok(Serve {
-        database: read_database(alloc, matches)?,
+        database: read_database(alloc, given)?,
         port,
         connections,
-        enrolments: read_enrolments(alloc, matches)?,
+        enrolments: read_enrolments(alloc, given)?,
     })
+}
+
+// The port that is listened at.
+fn read_port(given: &ArgMatches<'_>) -> Option<u16>
+    ensures valid { IfSome result (IsInRange min_port max_port) }
+    ensures given { IfSome result (λ port.
+        number_given (codes "port") (rows_of (found_of given.now)) ≡ Some port) }
+{
+    match read_short(given, "port") {
+        Some(port @ 1..) => Some(port),
+        _ => None,
+    }
+}
+
+// How many connections are served.
+fn read_connections(given: &ArgMatches<'_>) -> Option<u32>
+    ensures valid { IfSome result (IsInRange min_connections max_connections) }
+    ensures given { IfSome result (λ connections.
+        number_given (codes "connections") (rows_of (found_of given.now)) ≡ Some connections) }
+{
+    match read_number(given, "connections") {
+        Some(connections @ 1..=MAX_CONNECTIONS) => Some(connections),
+        _ => None,
+    }
 }
 
 // The words of `cover`.
-fn read_cover(matches: &ArgMatches<'_>) -> Option<Cover> {
+fn read_cover(given: &ArgMatches<'_>) -> Option<Cover>
+    ensures { IfSome result (IsCoverGiven (rows_of (found_of given.now))) }
+{
     Some(Cover {
-        face: matches.get_one("FACE")?,
-        i_min: matches.get_one("I_MIN")?,
-        i_max: matches.get_one("I_MAX")?,
-        j_min: matches.get_one("J_MIN")?,
-        j_max: matches.get_one("J_MAX")?,
-        level: matches.get_one("LEVEL")?,
-        is_picture: matches.get_flag("picture"),
+        face: read_small(given, "FACE")?,
+        i_min: read_number(given, "I_MIN")?,
+        i_max: read_number(given, "I_MAX")?,
+        j_min: read_number(given, "J_MIN")?,
+        j_max: read_number(given, "J_MAX")?,
+        level: read_small(given, "LEVEL")?,
+        is_picture: is_given(given, "picture"),
     })
 }
 
-// The words of `enrol`.
-fn read_enrol(alloc: Global, matches: &ArgMatches<'_>) -> Result<Enrol, WordsFault>
-    ensures valid { IfOk result IsEnrol }
-    ensures file { IfOk result (λ enrol. file_of enrol.database ≡
-        named_file (first_value (found_of matches.now) (codes "database"))) }
+// A number of 8 bits.
+fn read_small(given: &ArgMatches<'_>, id: &str) -> Option<u8>
+    ensures { IfSome result (λ number.
+        number_given id.now (rows_of (found_of given.now)) ≡ Some number) }
 {
-    let Some(enrolment) = read_operator(matches) else {
+    given.get_one(id)
+}
+
+// A number of 16 bits.
+fn read_short(given: &ArgMatches<'_>, id: &str) -> Option<u16>
+    ensures { IfSome result (λ number.
+        number_given id.now (rows_of (found_of given.now)) ≡ Some number) }
+{
+    given.get_one(id)
+}
+
+// A number of 32 bits.
+fn read_number(given: &ArgMatches<'_>, id: &str) -> Option<u32>
+    ensures { IfSome result (λ number.
+        number_given id.now (rows_of (found_of given.now)) ≡ Some number) }
+{
+    given.get_one(id)
+}
+
+// Whether a flag was given.
+fn is_given(given: &ArgMatches<'_>, id: &str) -> bool
+    ensures { result ≡ spec.is_given id.now (rows_of (found_of given.now)) }
+{
+    given.get_one(id).unwrap_or(false)
+}
+
+// The words of `enrol`.
+fn read_enrol(alloc: Global, given: &ArgMatches<'_>) -> Result<Enrol, WordsFault>
+    ensures valid { IfOk result IsEnrol }
+    ensures given { IfOk result (IsEnrolGiven (rows_of (found_of given.now))) }
+{
+    let Some(enrolment) = read_operator(given) else {
         return Err(WordsFault::Value);
     };
     Ok(Enrol {
-        database: read_database(alloc, matches)?,
+        database: read_database(alloc, given)?,
         enrolment,
     })
 }
 
 // The operator and its ceiling.
-fn read_operator(matches: &ArgMatches<'_>) -> Option<Enrolment>
-    ensures { IfSome result (λ e. e.ceiling ≤ max_priority) }
+fn read_operator(given: &ArgMatches<'_>) -> Option<Enrolment>
+    ensures value { result ≡ enrolment_given (rows_of (found_of given.now)) }
+    ensures small { IfSome result (λ e. e.ceiling ≤ max_priority) }
 {
-    enrolment_by(matches.get_str("NAME")?, matches.get_str("CEILING")?)
+    enrolment_by(text_of(given, "NAME")?, text_of(given, "CEILING")?)
+}
+
+// The text of an argument.
+fn text_of<'a>(given: &ArgMatches<'a>, id: &str) -> Option<&'a str>
+    ensures { option_map (λ text. text.now) result ≡ first_of id.now (rows_of (found_of given.now)) }
+{
+    given.get_str(id)
 }
 
 // The database that the words name.
-fn read_database(alloc: Global, matches: &ArgMatches<'_>) -> Result<Database, AllocError>
-    ensures { IfOk result (λ database. file_of database ≡
-        named_file (first_value (found_of matches.now) (codes "database"))) }
+fn read_database(alloc: Global, given: &ArgMatches<'_>) -> Result<Database, AllocError>
+    ensures { IfOk result (λ database. file_of database ≡ file_given (rows_of (found_of given.now))) }
 {
-    database_of(alloc, matches.get_str("database"))
+    database_of(alloc, text_of(given, "database"))
 }
 
 // The database of a word; one in memory if there is none.
@@ -273,11 +388,22 @@ fn database_of(alloc: Global, word: Option<&str>) -> Result<Database, AllocError
 }
 
 // The enrolments, in the order given.
-fn read_enrolments(alloc: Global, matches: &ArgMatches<'_>) -> Result<Vec<Enrolment>, WordsFault>
-    ensures { IfOk result (λ enrolments. AreEnrolments enrolments.items) }
+fn read_enrolments(alloc: Global, given: &ArgMatches<'_>) -> Result<Vec<Enrolment>, WordsFault>
+    ensures small { IfOk result (λ enrolments. AreEnrolments enrolments.items) }
+    ensures given { IfOk result (λ enrolments.
+        AreEnrolmentsGiven enrolments.items (rows_of (found_of given.now))) }
+{
+    enrolments_of(alloc, given.get_strs("enrolments").unwrap_or(&[]))
+}
+
+// The enrolments of these texts, in their order.
+fn enrolments_of(alloc: Global, words: &[&str]) -> Result<Vec<Enrolment>, WordsFault>
+    ensures small { IfOk result (λ enrolments. AreEnrolments enrolments.items) }
+    ensures given { IfOk result (λ enrolments. map Some enrolments.items
+        ≡ map (λ word. enrolment_in word.now) words.now) }
 {
     let mut enrolments = Vec::new(alloc);
-    for word in matches.get_strs("enrolments").unwrap_or(&[]) {
+    for word in words {
         let Some(enrolment) = enrolment_of(word) else {
             return Err(WordsFault::Value);
         };
@@ -287,8 +413,10 @@ fn read_enrolments(alloc: Global, matches: &ArgMatches<'_>) -> Result<Vec<Enrolm
 }
 
 // An enrolment, `NAME=CEILING`, parted at its first `=`.
+#[tactic(auto, unfolding(crate::specs::Grammar::enrolment_in))]
 fn enrolment_of(word: &str) -> Option<Enrolment>
-    ensures { IfSome result (λ e. e.ceiling ≤ max_priority) }
+    ensures value { result ≡ enrolment_in word.now }
+    ensures small { IfSome result (λ e. e.ceiling ≤ max_priority) }
 {
     let (name, ceiling) = word.split_once('=')?;
     enrolment_by(name, ceiling)
@@ -296,7 +424,8 @@ fn enrolment_of(word: &str) -> Option<Enrolment>
 
 // An enrolment of an operator under a ceiling.
 fn enrolment_by(name: &str, ceiling: &str) -> Option<Enrolment>
-    ensures { IfSome result (λ e. e.ceiling ≤ max_priority) }
+    ensures value { result ≡ spec.enrolment_by name.now ceiling.now }
+    ensures small { IfSome result (λ e. e.ceiling ≤ max_priority) }
 {
     Some(Enrolment {
         operator: Operator::try_new(name.as_bytes())?,
@@ -305,14 +434,37 @@ fn enrolment_by(name: &str, ceiling: &str) -> Option<Enrolment>
 }
 
 // A ceiling: 1 to 4 digits, at most 1,000.
-fn ceiling_of(digits: &str) -> Option<u32>
-    ensures { IfSome result (λ ceiling. ceiling ≤ max_priority) }
+#[tactic(auto, unfolding(crate::specs::Grammar::ceiling_in))]
+fn ceiling_of(text: &str) -> Option<u32>
+    ensures value { result ≡ ceiling_in text.now }
+    ensures small { IfSome result (λ ceiling. ceiling ≤ max_priority) }
 {
-    if digits.len() > CEILING_DIGITS || !digits.bytes().all(|b| b.is_ascii_digit()) {
+    if !are_digits(text) {
         return None;
     }
-    digits
-        .parse()
-        .ok()
-        .filter(|ceiling| *ceiling <= MAX_PRIORITY)
+    match text.parse() {
+        Ok(ceiling) if ceiling <= MAX_PRIORITY => Some(ceiling),
+        _ => None,
+    }
+}
+
+// Whether a text is 1 to 4 digits.
+#[tactic(auto, unfolding(crate::specs::Grammar::are_digits))]
+fn are_digits(text: &str) -> bool
+    ensures { result ≡ spec.are_digits text.now }
+{
+    if text.is_empty() {
+        return false;
+    }
+    if text.len() > CEILING_DIGITS {
+        return false;
+    }
+    all_digits(text.as_bytes())
+}
+
+// Whether all bytes are digits.
+fn all_digits(bytes: &[u8]) -> bool
+    ensures { result ≡ list_all is_ascii_digit bytes.now }
+{
+    bytes.iter().all(|byte| byte.is_ascii_digit())
 }

@@ -1,0 +1,231 @@
+-- Grammar: the words of each line as rules of `clap`, and what each field of a line is by the values that its
+-- arguments have.
+use Rattle.std.specs.Prelude.{◌≡◌, ◌==◌, ◌&&◌, ◌+◌, ℕ, ℤ, Bool, pos, true, false, List, [], ◌∷◌, map, length, take, drop}
+use Rattle.std.specs.Prelude.{codes, string_bytes, nat_lt, nat_le, if◌then◌else◌}
+use Rattle.std.specs.Prelude.{Option, Some, None, option_map, option_and_then, unwrap_or, fold}
+use Rattle.std.specs.Char.{is_ascii_digit}
+use Rattle.std.specs.List.{list_all, position}
+use Rattle.std.specs.Option.{option_map_or}
+use Rattle.std.specs.Str.{bytes_eq}
+use Rattle.std.specs.Str.Parse.{digits_value, signed_digits_value, without_leading_plus}
+use Rattle.clap.specs.Simple.{App, Shape, new_rule, new_shape, subcommand_of, with_subcommand}
+use Rattle.clap.specs.Walk.{Row, Rule, Text, all_of, first_of, one_of}
+use Rattle.clap.specs.declared.builder.action.ArgAction.TheVariants.{Append, SetTrue}
+use Rattle.clap.specs.declared.builder.value_parser.ValueParser.TheVariants.{Signed}
+use Rattle.desk_rules.specs.Limits.{max_priority}
+use Rattle.desk_rules.specs.Name.{is_operator_name}
+use Rattle.volume4d.specs.Limits.{max_second}
+use Rattle.desk_line.specs.Lines.{file_of, max_ceiling_digits, max_connections, max_port}
+use Rattle.desk_line.specs.Lines.{min_connections, min_port, named_file}
+use Rattle.desk_line.specs.declared.line.Cover.{Cover as CoverWords}
+use Rattle.desk_line.specs.declared.line.Enrol.{Enrol as EnrolWords}
+use Rattle.desk_line.specs.declared.line.Enrolment.{Enrolment}
+use Rattle.desk_line.specs.declared.line.Line.{Line}
+use Rattle.desk_line.specs.declared.line.Line.TheVariants as line
+use Rattle.desk_line.specs.declared.line.Play.{Play as PlayWords}
+use Rattle.desk_line.specs.declared.line.Serve.{Serve as ServeWords}
+
+-- ---- the words
+
+-- a value at its place, which may be left out
+abbrev pub value : Text → Rule
+value id = record (new_rule id) { value_names = 1 }
+
+-- `--NAME VALUE`, anywhere in the line
+abbrev pub option : Text → Text → Rule
+option id name = record (value id) { long = Some name }
+
+-- one that has to be there
+abbrev pub needed : Rule → Rule
+needed rule = record rule { required = true }
+
+-- one whose value is a number from `least` to `most`
+abbrev pub number : ℕ → ℤ → Rule → Rule
+number least most rule = record rule { parser = Some (Signed (pos least) most) }
+
+-- one of any number of values
+abbrev pub values : Text → Rule
+values id = record (value id) { action = Some Append }
+
+-- `--NAME`, with no value
+abbrev pub flag : Text → Text → Rule
+flag id name = record (new_rule id) { long = Some name; action = Some SetTrue }
+
+abbrev pub database : Rule
+database = option (codes "database") (codes "db")
+
+abbrev pub moment : Rule
+moment = needed (number 0 max_second (option (codes "moment") (codes "at")))
+
+abbrev pub port : Rule
+port = needed (number min_port (pos max_port) (option (codes "port") (codes "port")))
+
+abbrev pub connections : Rule
+connections =
+    needed (number min_connections (pos max_connections) (option (codes "connections") (codes "requests")))
+
+abbrev pub enrolments : Rule
+enrolments = values (codes "enrolments")
+
+abbrev pub token : Rule
+token = needed (value (codes "token"))
+
+-- a number of 8 bits, and one of 32
+abbrev pub small : Text → Rule
+small id = number 0 (pos 255) (needed (value id))
+
+abbrev pub coordinate : Text → Rule
+coordinate id = number 0 (pos 4294967295) (needed (value id))
+
+abbrev pub picture : Rule
+picture = flag (codes "picture") (codes "svg")
+
+abbrev pub words_of_play : List Rule
+words_of_play = database ∷ moment ∷ enrolments ∷ []
+
+abbrev pub words_of_token : List Rule
+words_of_token = token ∷ []
+
+abbrev pub words_of_serve : List Rule
+words_of_serve = database ∷ port ∷ connections ∷ enrolments ∷ []
+
+abbrev pub words_of_cover : List Rule
+words_of_cover =
+    small (codes "FACE")
+    ∷ coordinate (codes "I_MIN")
+    ∷ coordinate (codes "I_MAX")
+    ∷ coordinate (codes "J_MIN")
+    ∷ coordinate (codes "J_MAX")
+    ∷ small (codes "LEVEL")
+    ∷ picture
+    ∷ []
+
+abbrev pub words_of_enrol : List Rule
+words_of_enrol = needed database ∷ needed (value (codes "NAME")) ∷ needed (value (codes "CEILING")) ∷ []
+
+-- a line: its first word, and its further words
+abbrev pub line_shape : Text → List Rule → Shape
+line_shape name rules = record (new_shape name) { rules = rules }
+
+-- the lines that the program takes
+abbrev pub line_shapes : List Shape
+line_shapes =
+    line_shape (codes "play") words_of_play
+    ∷ line_shape (codes "token") words_of_token
+    ∷ line_shape (codes "serve") words_of_serve
+    ∷ line_shape (codes "cover") words_of_cover
+    ∷ line_shape (codes "enrol") words_of_enrol
+    ∷ []
+
+-- a program that takes no line: `--version` and `--help` are answered
+abbrev pub bare_program : App
+bare_program = record {
+  top = record (new_shape (codes "uss_desk")) { has_version = true; subcommand_required = true };
+  subs = [];
+}
+
+-- the program that takes these lines
+abbrev pub with_lines : List Shape → App
+with_lines lines = fold with_subcommand bare_program lines
+
+abbrev pub program : App
+program = with_lines line_shapes
+
+-- ---- the values
+
+-- the number that was given
+abbrev pub number_given : Text → List Row → Option ℕ
+number_given id rows = option_map (λ text. digits_value 10 (without_leading_plus text)) (one_of id rows)
+
+abbrev pub second_given : Text → List Row → Option ℤ
+second_given id rows = option_map (signed_digits_value 10) (one_of id rows)
+
+-- the flag was given
+abbrev pub is_given : Text → List Row → Bool
+is_given id rows = option_map_or (λ text. bytes_eq text (codes "true")) (one_of id rows) false
+
+abbrev pub file_given : List Row → Option Text
+file_given rows = named_file (first_of (codes "database") rows)
+
+-- 1 to 4 digits
+unfoldable pub are_digits : Text → Bool
+are_digits text =
+    nat_lt 0 (length text) && (nat_le (length text) max_ceiling_digits && list_all is_ascii_digit text)
+
+-- a ceiling: so many digits, and the number that they write is no more than the greatest priority
+unfoldable pub ceiling_in : Text → Option ℕ
+ceiling_in text =
+    if are_digits text && nat_le (digits_value 10 text) max_priority then Some (digits_value 10 text) else None
+
+-- an operator of this name, under this ceiling
+abbrev pub enrolment_by : Text → Text → Option Enrolment
+enrolment_by name ceiling =
+    if is_operator_name name
+    then option_map (λ n. record { operator = name; ceiling = n }) (ceiling_in ceiling) else None
+
+-- `NAME=CEILING`, parted at its first `=`
+abbrev pub is_equals : ℕ → Bool
+is_equals byte = byte == 61
+
+unfoldable pub enrolment_in : Text → Option Enrolment
+enrolment_in text =
+    option_and_then (λ place. enrolment_by (take place text) (drop (place + 1) text)) (position is_equals text)
+
+-- the enrolments are those that were given, in their order
+abbrev pub AreEnrolmentsGiven : List Enrolment → List Row → Type 0
+AreEnrolmentsGiven enrolments rows =
+    map Some enrolments ≡ map enrolment_in (unwrap_or (all_of (codes "enrolments") rows) [])
+
+-- the operator that `enrol` names, under the ceiling that it gives
+abbrev pub enrolment_given : List Row → Option Enrolment
+enrolment_given rows =
+    option_and_then (λ name. option_and_then (enrolment_by name) (first_of (codes "CEILING") rows))
+    (first_of (codes "NAME") rows)
+
+-- ---- the lines
+
+pub record IsPlayGiven (rows : List Row) (play : PlayWords) : Type 0 where
+  pub database : file_of play.database ≡ file_given rows
+  pub moment : second_given (codes "moment") rows ≡ Some play.moment
+  pub enrolments : AreEnrolmentsGiven play.enrolments.items rows
+
+pub record IsServeGiven (rows : List Row) (serve : ServeWords) : Type 0 where
+  pub database : file_of serve.database ≡ file_given rows
+  pub port : number_given (codes "port") rows ≡ Some serve.port
+  pub connections : number_given (codes "connections") rows ≡ Some serve.connections
+  pub enrolments : AreEnrolmentsGiven serve.enrolments.items rows
+
+pub record IsCoverGiven (rows : List Row) (cover : CoverWords) : Type 0 where
+  pub face : number_given (codes "FACE") rows ≡ Some cover.face
+  pub i_min : number_given (codes "I_MIN") rows ≡ Some cover.i_min
+  pub i_max : number_given (codes "I_MAX") rows ≡ Some cover.i_max
+  pub j_min : number_given (codes "J_MIN") rows ≡ Some cover.j_min
+  pub j_max : number_given (codes "J_MAX") rows ≡ Some cover.j_max
+  pub level : number_given (codes "LEVEL") rows ≡ Some cover.level
+  pub picture : is_given (codes "picture") rows ≡ cover.is_picture
+
+pub record IsEnrolGiven (rows : List Row) (enrol : EnrolWords) : Type 0 where
+  pub database : file_of enrol.database ≡ file_given rows
+  pub enrolment : enrolment_given rows ≡ Some enrol.enrolment
+
+-- the first word of a line
+abbrev pub name_of : Line → Text
+name_of (line.Play play) = codes "play"
+name_of (line.Token text) = codes "token"
+name_of (line.Serve serve) = codes "serve"
+name_of (line.Cover cover) = codes "cover"
+name_of (line.Enrol enrol) = codes "enrol"
+
+-- each field of a line has the value that was given
+abbrev pub HasGiven : List Row → Line → Type 0
+HasGiven rows (line.Play play) = IsPlayGiven rows play
+HasGiven rows (line.Token text) = first_of (codes "token") rows ≡ Some (string_bytes text)
+HasGiven rows (line.Serve serve) = IsServeGiven rows serve
+HasGiven rows (line.Cover cover) = IsCoverGiven rows cover
+HasGiven rows (line.Enrol enrol) = IsEnrolGiven rows enrol
+
+-- the line that these words are, the first of them the program's own name
+pub record IsGiven (words : List Text) (line : Line) : Type 0 where
+  pub rows : List Row
+  pub found : subcommand_of program words ≡ Some (name_of line, rows)
+  pub values : HasGiven rows line
