@@ -24,7 +24,8 @@ pub fn conflict_is_found()
 /// The conflict depends only on the greatest priority that others hold at each point, and on the
 /// permitted priorities.
 pub fn same_levels_same_conflict()
-    ensures found { (permitted : List ℕ) (area : List Block) (f g : Point → Option ℕ) (priority : ℕ) →
+    ensures found { (permitted : List ℕ) (area : List Block) (f g : Point → Option ℕ)
+        (priority : ℕ) →
         ((x : Point) → f x ≡ g x) →
         conflict permitted area f priority ≡ conflict permitted area g priority }
     ensures kept { (permitted : List ℕ) (area : List Block) (f g : Point → Option ℕ) (priority : ℕ)

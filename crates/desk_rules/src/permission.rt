@@ -22,8 +22,8 @@ pub struct Permitted {
     count: usize,
 }
 
-/// Why priorities cannot be permitted. If several reasons apply, the first in the order of the variants
-/// is told.
+/// Why priorities cannot be permitted. If several reasons apply, the first in the order of the
+/// variants is told.
 #[derive(Clone, Copy, Debug, PartialEq, Eq)]
 pub enum PermitFault {
     /// There are more than 32 of them.

@@ -1,4 +1,5 @@
 pub mod Faults
+pub mod DeskWorld
 pub mod Verdicts
 pub mod Calls
 pub mod Runs
