@@ -1,5 +1,5 @@
 -- Exits: the status with which the program ends, and the word that it prints.
-use Rattle.std.specs.Prelude.{ℕ, ◌==◌, if◌then◌else◌, List, codes, Option, Some, None, Result, Ok, Err}
+use Rattle.std.specs.Prelude.{◌≡◌, ℕ, ◌==◌, if◌then◌else◌, List, ◌++◌, codes, Option, Some, None, Result, Ok, Err}
 use Rattle.desk_run.specs.declared.fault.DeskFault.{DeskFault}
 use Rattle.desk_run.specs.declared.fault.DeskFault.TheVariants as desk
 use Rattle.desk_wire.specs.declared.play.PlayEnd.{PlayEnd}
@@ -16,6 +16,7 @@ use Rattle.s2_cover.specs.declared.walk.CoverFault.{CoverFault}
 use Rattle.s2_cover.specs.declared.walk.CoverFault.TheVariants as cover
 use Rattle.desk_line.specs.declared.failure.Failure.{Failure}
 use Rattle.desk_line.specs.declared.failure.Failure.TheVariants as failure
+use Rattle.desk_line.specs.Written.{HasBegun}
 
 -- 2 for the words, 3 for the input, 4 for the rest
 abbrev pub failure_status : Failure → ℕ
@@ -64,10 +65,20 @@ failure_word failure.Network = codes "network"
 failure_word failure.Clock = codes "clock"
 failure_word failure.NotADesk = codes "not_a_desk"
 
+-- the line that tells a failure
+abbrev pub failure_line : Failure → List ℕ
+failure_line f = (codes "uss_desk: " ++ failure_word f) ++ codes "\n"
+
 -- 0 if nothing failed
 abbrev pub exit_status : {A : Type 0} → Result A Failure → ℕ
 exit_status (Ok done) = 0
 exit_status (Err failure) = failure_status failure
+
+-- the line of a failure is written, or a beginning of it if the writer takes no more; and nothing if nothing
+-- failed
+abbrev pub IsConcluded : {A : Type 0} → Result A Failure → Option (List ℕ) → Option (List ℕ) → Type 0
+IsConcluded (Ok done) out now = now ≡ out
+IsConcluded (Err f) out now = HasBegun (failure_line f) out now
 
 -- what a request without a whole answer means
 abbrev pub serving_failure : ServeFault → Failure

@@ -1,3 +1,4 @@
+pub mod Written
 pub mod Exits
 pub mod Lines
 pub mod Printing

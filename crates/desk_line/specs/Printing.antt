@@ -17,6 +17,7 @@ use Rattle.desk_line.specs.declared.line.Cover.{Cover as CoverWords}
 use Rattle.desk_line.specs.declared.line.Line.{Line}
 use Rattle.desk_line.specs.declared.line.Line.TheVariants as line
 use Rattle.desk_line.specs.Exits.{failure_status}
+use Rattle.desk_line.specs.Written.{HasBegun}
 
 -- the line that tells a cell: a leaf's token is its id in 16 hex digits
 unfoldable pub cell_line : ℕ → List ℕ
@@ -84,7 +85,12 @@ abbrev pub IsShown : Result (List ℕ) Failure → ℕ → Option (List ℕ) →
 IsShown (Ok text) status out now = (status ≡ 0) × Appends out now text
 IsShown (Err f) status out now = (status ≡ failure_status f) × (now ≡ out)
 
+-- memory ran out and nothing is printed, or a write failed after a beginning of what is told
+abbrev pub IsGivenUp : Line → Option (List ℕ) → Option (List ℕ) → Type 0
+IsGivenUp line out now = (now ≡ out) ⊎ ((text : List ℕ) × IsTold line (Ok text) × HasBegun text out now)
+
 -- what a line prints, and its exit status; 4 if memory ran out or a write failed
 abbrev pub IsPrinted : Line → ℕ → Option (List ℕ) → Option (List ℕ) → Type 0
 IsPrinted line status out now =
-    (status ≡ 4) ⊎ ((told : Result (List ℕ) Failure) × IsTold line told × IsShown told status out now)
+    ((status ≡ 4) × IsGivenUp line out now)
+    ⊎ ((told : Result (List ℕ) Failure) × IsTold line told × IsShown told status out now)

@@ -1,7 +1,9 @@
 //! Why the program did not do all that it was asked: the exit status, and the word that it prints.
 
-ghost use Rattle.std.specs.Prelude.{◌≡◌};
+ghost use Rattle.std.specs.Prelude.{◌≡◌, OnOk};
+ghost use Rattle.std.specs.Io.KnownBytes.{Appends};
 ghost use Rattle.desk_line.specs.Exits as spec;
+ghost use Rattle.desk_line.specs.Written.{HasBegun};
 ghost use Rattle.desk_line.specs.declared.failure.Failure.TheVariants as failure;
 
 use desk_run::DeskFault;
@@ -181,7 +183,8 @@ impl<T: Drop> From<AllocFailed<T>> for Failure {
 /// The exit status of what was done; the word of a failure is printed as `uss_desk: WORD`, and a
 /// fault of the writer is passed over.
 pub fn conclude<E: Write>(errors: &mut E, done: Result<(), Failure>) -> u8
-    ensures { result ≡ spec.exit_status done }
+    ensures status { result ≡ spec.exit_status done }
+    ensures told { spec.IsConcluded done (E.contents errors.old) (E.contents errors.new) }
 {
     match done {
         Ok(()) => 0,
@@ -192,8 +195,21 @@ pub fn conclude<E: Write>(errors: &mut E, done: Result<(), Failure>) -> u8
     }
 }
 
-fn print_failure<E: Write>(errors: &mut E, failure: Failure) {
-    for part in ["uss_desk: ", failure.word(), "\n"] {
-        let _ = write_whole(errors, part.as_bytes());
-    }
+// Prints the line of a failure, as far as the writer takes it.
+fn print_failure<E: Write>(errors: &mut E, failure: Failure)
+    ensures { HasBegun (spec.failure_line failure) (E.contents errors.old) (E.contents errors.new) }
+{
+    let _ = write_failure(errors, failure);
+}
+
+// Writes the line of a failure, up to the first write that fails.
+fn write_failure<E: Write>(errors: &mut E, failure: Failure) -> Result<(), ServeFault>
+    ensures ok { OnOk result (Appends (E.contents errors.old) (E.contents errors.new)
+        (spec.failure_line failure)) }
+    ensures begun { HasBegun (spec.failure_line failure)
+        (E.contents errors.old) (E.contents errors.new) }
+{
+    write_whole(errors, b"uss_desk: ")?;
+    write_whole(errors, failure.word().as_bytes())?;
+    write_whole(errors, b"\n")
 }

@@ -10,8 +10,9 @@ ghost use Rattle.s2_cover.specs.declared.spans.Span.{Span};
 ghost use Rattle.desk_line.specs.Exits.{failure_status};
 ghost use Rattle.desk_line.specs.Lines.{IsPrintable};
 ghost use Rattle.desk_line.specs.Printing as spec;
-ghost use Rattle.desk_line.specs.Printing.{IsCoverText, IsPrinted, IsRectTold, IsTold, rect_parts};
-ghost use Rattle.desk_line.specs.Printing.{told_of_token};
+ghost use Rattle.desk_line.specs.Printing.{IsCoverText, IsGivenUp, IsPrinted, IsRectTold, IsTold};
+ghost use Rattle.desk_line.specs.Printing.{rect_parts, told_of_token};
+ghost use Rattle.desk_line.specs.Written.{HasBegun};
 ghost use Rattle.desk_line.specs.declared.failure.Failure.TheVariants.{Memory};
 
 #[cfg(test)]
@@ -47,10 +48,21 @@ fn print_text<W: Write>(alloc: Global, line: &Line, output: &mut W) -> Result<()
     requires { IsPrintable line.now }
     ensures ok { OnOk result ((text : List ℕ) × IsTold line.now (Ok text)
         × Appends (W.contents output.old) (W.contents output.new) text) }
-    ensures err { IfErr result (λ f. (failure_status f ≡ 4) ⊎ (IsTold line.now (Err f)
-        × (W.contents output.new ≡ W.contents output.old))) }
+    ensures err { IfErr result (λ f. ((failure_status f ≡ 4)
+        × IsGivenUp line.now (W.contents output.old) (W.contents output.new))
+        ⊎ (IsTold line.now (Err f) × (W.contents output.new ≡ W.contents output.old))) }
 {
     let text = text_of(alloc, line)?;
+    write_text(output, &text)
+}
+
+// Writes a text, up to the first write that fails.
+#[tactic(auto, using(crate::proofs::WrittenLemmas::begun_part, crate::proofs::WrittenLemmas::write_failed))]
+fn write_text<W: Write>(output: &mut W, text: &str) -> Result<(), Failure>
+    ensures ok { OnOk result (Appends (W.contents output.old) (W.contents output.new) text.now) }
+    ensures err { IfErr result (λ f. (failure_status f ≡ 4)
+        × HasBegun text.now (W.contents output.old) (W.contents output.new)) }
+{
     write_whole(output, text.as_bytes())?;
     Ok(())
 }

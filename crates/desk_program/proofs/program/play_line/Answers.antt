@@ -20,7 +20,7 @@ returns-clause-played g c =
     inl (record {
       ended = played.ended;
       answered = played.answered;
-      status_is = c.conclude-2.ensures ∙ c.done_after.ensures;
+      status_is = c.conclude-2.ensures.status ∙ c.done_after.ensures;
       played = λ h.
           let listed = c.in_default.ensures.ok (was_honest c.play_all-played.ensures.doubt h)
           ∙ ap (with_operators w) c.deref.ensures.value in
