@@ -1,2 +1,3 @@
 mod ServedLemmas
+mod EnrolLemmas
 mod MomentLemmas

@@ -1,77 +1,177 @@
 -- What connections leave, one after the other.
-use Rattle.std.proofs.Common.{◌≡◌, ◌≤◌, ◌+◌, ℕ, ℤ, List, [], ◌∷◌, ◌++◌, ◌∙◌, Option, None, Some, Result, Ok, Err, refl, ap, sym, arith}
-use Rattle.std.proofs.lemmas.List.{length-append}
+use Rattle.std.proofs.Common.{◌≡◌, ◌≤◌, ◌+◌, ℕ, ℤ, List, [], ◌∷◌, ◌++◌, ◌∙◌, Option, None, Some, Result, Ok, Err, IfErr, length, map, inl, refl, ap, sym, subst, arith}
+use Rattle.std.specs.Result.{IsErrAnd}
+use Rattle.std.proofs.lemmas.List.{length-append, map-append, append_assoc, append-nil}
 use Rattle.std.proofs.lemmas.List.Elements.{All-append, All-cons, All-nil}
 use Rattle.desk_store.specs.World.{World}
-use Rattle.desk_wire.specs.AllAnswers.{Sent, world_left}
-use Rattle.desk_wire.specs.Moments.{IsMoment}
 use Rattle.desk_wire.specs.Serving.{HasServed, IsReplied}
 use Rattle.desk_wire.specs.declared.response.ServerError.{ServerError}
 use Rattle.desk_wire.specs.declared.stream.Served.{Served}
 use Rattle.desk_wire.specs.declared.stream.Served.TheVariants.{Answered, End}
 use Rattle.desk_wire.specs.declared.stream.ServeFault.{ServeFault}
 use Rattle.desk_wire.specs.declared.stream.ServeFault.TheVariants.{Read, Write, CutShort, OutOfMemory}
-use Rattle.desk_program.specs.Serving.{AreServed}
+use Rattle.desk_line.specs.declared.failure.Failure.{Failure}
+use Rattle.desk_line.specs.Exits.{failure_at, failure_status}
+use Rattle.desk_line.specs.declared.line.Serve.{Serve as ServeWords}
+use Rattle.desk_program.specs.Enrolling.{with_operators}
+use Rattle.desk_program.specs.Serving.{AreServed, AreTaken, Arrival, EndsAfter, Exchange, IsAtPort, Takes, failing}
 
--- what is left by requests, and then by others
-left_by_both : (xs : List Sent) (w : World) (ys : List Sent) → world_left w (xs ++ ys)
-    ≡ world_left (world_left w xs) ys
-left_by_both [] w ys = refl
-left_by_both (x ∷ xs) w ys = left_by_both xs _ ys
+-- ---- the connections that are taken
 
--- nothing has changed
-pub none_served : (count : ℕ) (w after : World) → after ≡ w → AreServed count w after
-none_served count w after same =
-    record { requests = []; few = omega arith; moments = All-nil (λ r. IsMoment r.0); left = same }
+pub none_taken : (old new : Option (List Arrival)) → new ≡ old → Takes old new []
+none_taken None new same = tt
+none_taken (Some xs) new same =
+    subst (λ v. Takes (Some xs) v []) (sym same) (sym (append-nil xs))
 
-pub unserved : (count : ℕ) (w : World) → AreServed count w w
-unserved count w = none_served count w w refl
+pub both_taken : (old mid new : Option (List Arrival)) (xs ys : List Arrival) → Takes old mid xs
+    → Takes mid new ys → Takes old new (xs ++ ys)
+both_taken None mid new xs ys first then = tt
+both_taken (Some a) None new xs ys first then = absurd first
+both_taken (Some a) (Some b) None xs ys first then = absurd then
+both_taken (Some a) (Some b) (Some c) xs ys first then =
+    then ∙ ap (λ v. v ++ ys) first ∙ append_assoc a xs ys
 
--- so many connections, and then others
-pub both_served : (m n : ℕ) (v w after : World) → AreServed m v w → AreServed n w after
-    → AreServed (m + n) v after
-both_served m n v w after first then = record {
-  requests = first.requests ++ then.requests;
-  few = omega (arith, length-append first.requests then.requests, first.few, then.few);
-  moments = All-append (λ r. IsMoment r.0) first.requests then.requests first.moments then.moments;
-  left = then.left ∙ ap (λ u. world_left u then.requests) first.left
-      ∙ sym (left_by_both first.requests v then.requests);
+-- ---- what they leave
+
+-- what holds of an answer if a store is honest holds if a store is that was honest before
+replied_then : (H K : Type 0) → (K → H) → (w : World) (moment : ℤ) (request answer : List ℕ)
+    (why : Option ServerError) (after : World) → IsReplied H w moment request answer why after
+    → IsReplied K w moment request answer why after
+replied_then H K by w moment request answer why after replied =
+    record { told = λ k. replied.told (by k); failed = replied.failed }
+
+pub served_then : (H K : Type 0) → (K → H) → (r : Result Served ServeFault)
+    (old new out now : Option (List ℕ)) (w : World) (moment : ℤ) (after : World)
+    → HasServed H r old new out now w moment after → HasServed K r old new out now w moment after
+served_then H K by (Ok (Answered status framed)) old new out now w moment after h = record {
+  request = h.request;
+  taken = h.taken;
+  framed_is = h.framed_is;
+  answer = h.answer;
+  why = h.why;
+  replied = replied_then H K by w moment h.request h.answer h.why after h.replied;
+  status_is = λ k. h.status_is (by k);
+  written = h.written;
 }
+served_then H K by (Ok End) old new out now w moment after h = h
+served_then H K by (Err (Write sent)) old new out now w moment after h = record {
+  request = h.request;
+  taken = h.taken;
+  answer = h.answer;
+  why = h.why;
+  replied = replied_then H K by w moment h.request h.answer h.why after h.replied;
+  short = h.short;
+  written = h.written;
+}
+served_then H K by (Err CutShort) old new out now w moment after h = h
+served_then H K by (Err Read) old new out now w moment after h = h
+served_then H K by (Err OutOfMemory) old new out now w moment after h = h
 
--- an answer was made, if only the desk's own failure
-answered_one : (H : Type 0) (why : Option ServerError) (w : World) (moment : ℤ)
-    (request answer : List ℕ)
-    (after : World) → IsMoment moment → H → IsReplied H w moment request answer why after
-    → AreServed 1 w after
-answered_one H None w moment request answer after m h replied = record {
-  requests = (moment, request) ∷ [];
+all_then : (H K : Type 0) → (K → H) → (xs : List Exchange) (w after : World) → AreServed H xs w after
+    → AreServed K xs w after
+all_then H K by [] w after h = h
+all_then H K by (x ∷ xs) w after h = (
+  h.0,
+  served_then H K by x.served x.arrival.bytes x.unread x.out x.now w x.arrival.moment h.0 h.1,
+  all_then H K by xs h.0 after h.2,
+)
+
+both_served : (H : Type 0) (xs ys : List Exchange) (u v w : World) → AreServed H xs u v
+    → AreServed H ys v w → AreServed H (xs ++ ys) u w
+both_served H [] ys u v w first then = subst (λ z. AreServed H ys z w) first then
+both_served H (x ∷ xs) ys u v w first then =
+    (first.0, first.1, both_served H xs ys first.0 v w first.2 then)
+
+-- ---- both
+
+module _ {A B C : Type 0} where
+  pub both : (H K : Type 0) → (K → H) → (first : Result A Failure) (then : Result B Failure)
+      (whole : Result C Failure) (m k n : ℕ) (a b c : Option (List Arrival)) (u v w : World)
+      → AreTaken H first m a b u v → AreTaken K then k b c v w → m + k ≤ n
+      → ((xs ys : List Exchange) → EndsAfter first m xs → EndsAfter then k ys
+      → EndsAfter whole n (xs ++ ys)) → AreTaken K whole n a c u w
+  both H K by first then whole m k n a b c u v w h t few ends = record {
+    exchanges = h.exchanges ++ t.exchanges;
+    few = omega (arith, length-append h.exchanges t.exchanges, h.few, t.few, few);
+    taken = subst (λ z. Takes a c z) (sym (map-append (λ x. x.arrival) h.exchanges t.exchanges))
+        (both_taken a b c (map (λ x. x.arrival) h.exchanges) (map (λ x. x.arrival) t.exchanges)
+        h.taken t.taken);
+    served = both_served K h.exchanges t.exchanges u v w
+        (all_then H K by h.exchanges u v h.served) t.served;
+    ends = ends h.exchanges t.exchanges h.ends t.ends;
+  }
+
+-- nothing is taken
+pub none : {A : Type 0} (H : Type 0) (done : Result A Failure) (count : ℕ)
+    (old new : Option (List Arrival))
+    (w after : World) → new ≡ old → after ≡ w → EndsAfter done count []
+    → AreTaken H done count old new w after
+none H done count old new w after same left ends = record {
+  exchanges = [];
   few = omega arith;
-  moments = All-cons (λ r. IsMoment r.0) (moment, request) [] m (All-nil (λ r. IsMoment r.0));
-  left = (replied.told h).left;
+  taken = none_taken old new same;
+  served = left;
+  ends = ends;
 }
-answered_one H (Some error) w moment request answer after m h replied =
-    none_served 1 w after (replied.told h).left
 
--- one connection
-pub one_served : (H : Type 0) (result : Result Served ServeFault) (old new out now : Option (List ℕ))
-    (w : World) (moment : ℤ) (after : World) → IsMoment moment → H
-    → HasServed H result old new out now w moment after → AreServed 1 w after
-one_served H (Ok (Answered status framed)) old new out now w moment after m h served =
-    answered_one H served.why w moment served.request served.answer after m h served.replied
-one_served H (Ok End) old new out now w moment after m h served = none_served 1 w after served.1.left
-one_served H (Err (Write sent)) old new out now w moment after m h served =
-    answered_one H served.why w moment served.request served.answer after m h served.replied
-one_served H (Err CutShort) old new out now w moment after m h served =
-    none_served 1 w after served.1.left
-one_served H (Err Read) old new out now w moment after m h served = none_served 1 w after served.left
-one_served H (Err OutOfMemory) old new out now w moment after m h served =
-    none_served 1 w after served.left
+-- one connection is taken
+one_ends : {A : Type 0} (done : Result A Failure) (x : Exchange) → failing done ≡ failure_at x.served
+    → IfErr done (λ f. failure_status f ≡ 4) → EndsAfter done 1 (x ∷ [])
+one_ends (Ok d) x is fault = (
+  refl,
+  All-cons (λ z. failure_at z.served ≡ None) x [] (sym is)
+      (All-nil (λ z. failure_at z.served ≡ None)),
+)
+one_ends (Err f) x is fault = fault
 
--- so many at most are more at most
-pub fewer_served : (m n : ℕ) (v w : World) → m ≤ n → AreServed m v w → AreServed n v w
-fewer_served m n v w h served = record {
-  requests = served.requests;
-  few = omega (arith, h, served.few);
-  moments = served.moments;
-  left = served.left;
+pub one : {A : Type 0} (H : Type 0) (done : Result A Failure) (x : Exchange)
+    (old new : Option (List Arrival)) (w after : World) → Takes old new (x.arrival ∷ [])
+    → HasServed H x.served x.arrival.bytes x.unread x.out x.now w x.arrival.moment after
+    → failing done ≡ failure_at x.served → IfErr done (λ f. failure_status f ≡ 4)
+    → AreTaken H done 1 old new w after
+one H done x old new w after takes served is fault = record {
+  exchanges = x ∷ [];
+  few = omega arith;
+  taken = takes;
+  served = (after, served, refl);
+  ends = one_ends done x is fault;
 }
+
+-- so many connections and then others are so many in all
+pub goes_on : {A B C : Type 0} (d : A) (e : B) (whole : C) (m k : ℕ) (xs ys : List Exchange)
+    → EndsAfter {A = A} (Ok d) m xs → EndsAfter {A = B} (Ok e) k ys
+    → EndsAfter {A = C} (Ok whole) (m + k) (xs ++ ys)
+goes_on d e whole m k xs ys first then = (
+  length-append xs ys ∙ ap (λ n. n + length ys) first.0 ∙ ap (λ n. m + n) then.0,
+  All-append (λ z. failure_at z.served ≡ None) xs ys first.1 then.1,
+)
+
+pub goes_on_by : {A B C : Type 0} (d : A) (e : B) (whole : C) (then : Result B Failure) → then ≡ Ok e
+    → (m k : ℕ) (xs ys : List Exchange) → EndsAfter {A = A} (Ok d) m xs → EndsAfter then k ys
+    → EndsAfter {A = C} (Ok whole) (m + k) (xs ++ ys)
+goes_on_by d e whole then is m k xs ys first last =
+    goes_on d e whole m k xs ys first (subst (λ r. EndsAfter r k ys) is last)
+
+-- a failure is handed on
+pub stops : {A : Type 0} (whole : Result A Failure) (f : Failure) → IsErrAnd whole (λ e. e ≡ f)
+    → failure_status f ≡ 4 → (count : ℕ) (xs : List Exchange) → EndsAfter whole count xs
+stops (Ok d) f is four count xs = absurd is
+stops (Err e) f is four count xs = ap failure_status is ∙ four
+
+pub stops_by : {A B : Type 0} (whole : Result A Failure) (f : Failure) (then : Result B Failure)
+    → IsErrAnd whole (λ e. e ≡ f) → then ≡ Err f → (n k : ℕ) (xs ys : List Exchange)
+    → EndsAfter then k ys → EndsAfter whole n (xs ++ ys)
+stops_by whole f then is was n k xs ys last =
+    stops whole f is (subst (λ r. EndsAfter r k ys) was last) n (xs ++ ys)
+
+-- the operators are listed, and no connection is taken
+pub unserved : {A : Type 0} (H : Type 0) (done : Result A Failure) (f : Failure) (serve : ServeWords)
+    (old new : Option (List Arrival)) (w after : World) → IsErrAnd done (λ e. e ≡ f)
+    → failure_status f ≡ 4 → new ≡ old → (H → after ≡ with_operators w serve.enrolments.items)
+    → IsAtPort H done serve old new w after
+unserved H done f serve old new w after is four same listed = inl (record {
+  begun = after;
+  listed = listed;
+  taken = none H done serve.connections old new after after same refl (stops done f is four
+      serve.connections []);
+})

@@ -10,6 +10,12 @@ abbrev pub with_operators : World → List Enrolment → World
 with_operators w [] = w
 with_operators w (e ∷ es) = with_operators (with_operator w e.operator e.ceiling) es
 
+-- the first operators are listed, and not all of them
+pub record AreListedSoFar (H : Type 0) (es : List Enrolment) (w after : World) : Type 0 where
+  pub count : ℕ
+  pub few : count < length es
+  pub left : H → after ≡ with_operators w (take count es)
+
 -- if the store is honest, the operator is listed under its ceiling, and nothing else is changed
 abbrev pub Lists : Type 0 → Enrolment → World → World → Type 0
 Lists H e w after = H → after ≡ with_operator w e.operator e.ceiling

@@ -1,3 +1,5 @@
 pub mod Enrolling
 pub mod Serving
 pub mod Playing
+pub mod Waiting
+pub mod Running

@@ -10,7 +10,7 @@ use Rattle.desk_line.specs.declared.line.Line.TheVariants as line
 use Rattle.desk_line.specs.declared.line.Play.{Play as PlayWords}
 use Rattle.desk_line.specs.declared.line.Enrolment.{Enrolment}
 use Rattle.desk_line.specs.Exits.{failure_after, failure_status}
-use Rattle.desk_program.specs.Enrolling.{IsCutOff, Lists, enrolled_line, with_operators}
+use Rattle.desk_program.specs.Enrolling.{AreListedSoFar, IsCutOff, Lists, enrolled_line, with_operators}
 
 abbrev pub status_after : Option Failure → ℕ
 status_after None = 0
@@ -26,9 +26,11 @@ pub record IsPlayed (H : Type 0) (play : PlayWords) (status : ℕ) (old new out 
   pub played : H → HasPlayed H ended answered old new out now (with_operators w play.enrolments.items)
       play.moment after
 
--- an operator could not be listed: nothing is read or written
-pub record IsNotPlayed (status : ℕ) (old new out now : Option (List ℕ)) : Type 0 where
+-- an operator could not be listed: those before it are, and nothing is read or written
+pub record IsNotPlayed (H : Type 0) (play : PlayWords) (status : ℕ) (old new out now : Option (List ℕ))
+    (w after : World) : Type 0 where
   pub status_is : status ≡ 4
+  pub listed : AreListedSoFar H play.enrolments.items w after
   pub unread : new ≡ old
   pub unwritten : now ≡ out
 
@@ -45,7 +47,7 @@ abbrev pub IsLinePlayed :
     Type 0 → Line → ℕ → Option (List ℕ) → Option (List ℕ) → Option (List ℕ) → Option (List ℕ)
     → World → World → Type 0
 IsLinePlayed H (line.Play play) status old new out now w after =
-    IsPlayed H play status old new out now w after ⊎ IsNotPlayed status old new out now
+    IsPlayed H play status old new out now w after ⊎ IsNotPlayed H play status old new out now w after
 IsLinePlayed H (line.Token token) status old new out now w after = ⊥
 IsLinePlayed H (line.Serve serve) status old new out now w after = ⊥
 IsLinePlayed H (line.Cover cover) status old new out now w after = ⊥

@@ -2,8 +2,16 @@
 //! requests of an input, and one request a connection at a port.
 #![tactic(auto)]
 
+mod local;
+mod port;
 mod program;
+mod running;
 mod server;
+mod timed;
 
+pub use local::LocalPort;
+pub use port::{Connection, Port};
 pub use program::with_desk;
+pub use running::run_opened;
 pub use server::serve;
+pub use timed::{PATIENCE, Timed};

@@ -1,6 +1,6 @@
 //! What the program does at a desk: enrolments, and the requests of an input.
 
-ghost use Rattle.std.specs.Prelude.{◌≡◌, ◌≤◌, ◌⊎◌, IfErr, IfOk, OnOk, string_bytes};
+ghost use Rattle.std.specs.Prelude.{◌≡◌, ◌≤◌, ◌⊎◌, IfErr, IfOk, OnErr, OnOk, string_bytes};
 ghost use Rattle.desk_run.specs.Faults.{IsBreakdown};
 ghost use Rattle.desk_store.specs.Faults.{IsHonest};
 ghost use Rattle.desk_line.specs.Exits as spec;
@@ -8,7 +8,7 @@ ghost use Rattle.desk_line.specs.Exits.{exit_status};
 ghost use Rattle.desk_rules.specs.Limits.{max_priority};
 ghost use Rattle.desk_line.specs.Lines.{AreEnrolments, HasDesk, IsLine, IsPlay};
 ghost use Rattle.desk_program.specs.Enrolling as enrolling;
-ghost use Rattle.desk_program.specs.Enrolling.{with_operators};
+ghost use Rattle.desk_program.specs.Enrolling.{AreListedSoFar, with_operators};
 ghost use Rattle.desk_program.specs.Playing.{IsEnrolled, IsLinePlayed, IsNotPlayed, IsPlayed, status_after};
 
 use desk_line::{Enrolment, Failure, Line, Play, conclude};
@@ -70,8 +70,9 @@ fn play_line<S: PlanStore, R: Read, W: Write, E: Write>(
     ensures played { IsPlayed (IsHonest (S.doubt desk.new)) play.now result
         (R.remaining input.old) (R.remaining input.new)
         (W.contents output.old) (W.contents output.new) (S.content desk.old) (S.content desk.new)
-        ⊎ IsNotPlayed result (R.remaining input.old) (R.remaining input.new)
-        (W.contents output.old) (W.contents output.new) }
+        ⊎ IsNotPlayed (IsHonest (S.doubt desk.new)) play.now result
+        (R.remaining input.old) (R.remaining input.new)
+        (W.contents output.old) (W.contents output.new) (S.content desk.old) (S.content desk.new) }
     ensures doubt { S.doubt desk.old ≤ S.doubt desk.new }
     ensures counted { S.faults desk.old ≤ S.faults desk.new }
 {
@@ -140,6 +141,8 @@ pub fn enrol_all<S: PlanStore>(
     requires { AreEnrolments enrolments.now }
     ensures ok { IsHonest (S.doubt desk.new) → OnOk result
         (S.content desk.new ≡ with_operators (S.content desk.old) enrolments.now) }
+    ensures err { OnErr result (AreListedSoFar (IsHonest (S.doubt desk.new)) enrolments.now
+        (S.content desk.old) (S.content desk.new)) }
     ensures fault { IfErr result IsBreakdown }
     ensures doubt { S.doubt desk.old ≤ S.doubt desk.new }
     ensures counted { S.faults desk.old ≤ S.faults desk.new }

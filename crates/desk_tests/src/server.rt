@@ -6,7 +6,7 @@ ghost use Rattle.desk_line.specs.Lines.{IsServe};
 
 use crate::given::{COMPLETED, FIRST_PUT};
 use desk_line::{Database, Enrolment, Serve};
-use desk_program::serve;
+use desk_program::{LocalPort, serve};
 use desk_rules::operator::Operator;
 use desk_run::Desk;
 use desk_store::ListStore;
@@ -98,8 +98,8 @@ fn check_served(
     let mut output = Vec::new(alloc);
     let mut errors = Vec::new(alloc);
     let clock = Standing(second);
-    let system = (&net, &clock);
-    let status = serve(alloc, system, &line, &mut desk, &mut output, &mut errors);
+    let mut port = LocalPort::new(&net, &clock);
+    let status = serve(alloc, &mut port, &line, &mut desk, &mut output, &mut errors);
     assert_eq!(rt; status, if word.is_empty() { 0 } else { 4 }, "{second}");
     assert_eq!(rt; output.as_slice(), b"listening 127.0.0.1:1\n".as_slice());
     assert_eq!(rt; errors.as_slice(), word.as_bytes());

@@ -1,15 +1,15 @@
-use Rattle.std.proofs.Common.{◌≡◌, ◌≤◌, drop}
+use Rattle.std.proofs.Common.{◌≡◌, ◌≤◌, take}
 use Rattle.desk_store.specs.Faults.{IsHonest}
 use Rattle.desk_program.specs.Enrolling.{with_operators}
 use Rattle.desk_program.proofs.program.enrol_all.Given as goal
 
--- the others are still to be listed
+-- those before are listed
 abbrev pub invariant-loop-enrolment : goal.invariant-loop-enrolment
 invariant-loop-enrolment g l =
     record {
       listed : IsHonest (g.S.PlanStore.doubt l.desk)
-          → with_operators (g.S.PlanStore.content l.desk) (drop l.enrolment-index l.enrolments)
-          ≡ with_operators (g.S.PlanStore.content l.fn.desk) l.enrolments;
+          → g.S.PlanStore.content l.desk
+          ≡ with_operators (g.S.PlanStore.content l.fn.desk) (take l.enrolment-index l.enrolments);
       doubt : g.S.PlanStore.doubt l.fn.desk ≤ g.S.PlanStore.doubt l.desk;
       counted : g.S.PlanStore.faults l.fn.desk ≤ g.S.PlanStore.faults l.desk;
     }

@@ -1,0 +1,133 @@
+//! A port of 127.0.0.1, with the moments of the clock.
+
+ghost use Rattle.std.specs.Prelude.{◌≡◌, IfErr, IfOk, IfSome};
+ghost use Rattle.std.specs.Time.{system_time_nanos};
+ghost use Rattle.desk_wire.specs.Moments.{IsMoment};
+ghost use Rattle.desk_line.specs.Exits.{failure_status};
+ghost use Rattle.desk_program.specs.Waiting.{moment_at};
+
+use crate::port::{Connection, Port};
+use crate::timed::{Timed, discard_rest};
+use desk_line::Failure;
+use std::alloc::Global;
+use std::io::{BufReader, ErrorKind};
+use std::net::{Ipv4Addr, Net, OpenListener, OpenStream, TcpListener};
+use std::time::{Clock, SystemTime};
+use volume4d::MAX_SECOND;
+
+/// A port of 127.0.0.1, whose connections have the moments of a clock. Each client has `PATIENCE` seconds
+/// to send its request, and as many to take the answer.
+#[derive(Drop)]
+pub struct LocalPort<'s, N: Net, C> {
+    net: &'s N,
+    clock: &'s C,
+    listener: Option<N::Listener>,
+}
+
+impl<'s, N: Net, C: Clock> LocalPort<'s, N, C> {
+    /// A port that is not listened at yet.
+    pub fn new(net: &'s N, clock: &'s C) -> LocalPort<'s, N, C> {
+        LocalPort {
+            net,
+            clock,
+            listener: None,
+        }
+    }
+}
+
+impl<'s, N: Net, C: Clock> Port for LocalPort<'s, N, C> {
+    type Input = BufReader<Timed<'s, N::Stream, C>>;
+
+    type Output = Timed<'s, N::Stream, C>;
+
+    fn listen(&mut self, number: u16) -> Result<(), Failure> {
+        match TcpListener::bind(self.net, (Ipv4Addr::LOCALHOST, number)) {
+            Ok(listener) => {
+                self.listener = Some(listener);
+                Ok(())
+            }
+            Err(_) => Err(Failure::Network),
+        }
+    }
+
+    fn take(
+        &mut self,
+        alloc: Global,
+    ) -> Result<Connection<BufReader<Timed<'s, N::Stream, C>>, Timed<'s, N::Stream, C>>, Failure> {
+        let Some(listener) = &self.listener else {
+            return Err(Failure::Network);
+        };
+        let stream = accept_from(listener)?;
+        connection_of(alloc, self.clock, stream)
+    }
+
+    fn close(
+        &mut self,
+        mut input: BufReader<Timed<'s, N::Stream, C>>,
+        output: Timed<'s, N::Stream, C>,
+        is_whole: bool,
+    ) {
+        if !is_whole {
+            let _ = discard_rest(input.get_mut(), &output);
+        }
+    }
+}
+
+// The stream of the next connection. Those that are given up before they are taken are passed over.
+fn accept_from<L: OpenListener>(listener: &L) -> Result<L::Stream, Failure>
+    ensures { IfErr result (λ f. failure_status f ≡ 4) }
+{
+    for stream in listener.incoming() {
+        match stream {
+            Ok(stream) => return Ok(stream),
+            Err(error) if error.kind() == ErrorKind::ConnectionAborted => {}
+            Err(_) => return Err(Failure::Network),
+        }
+    }
+    Err(Failure::Network)
+}
+
+// The connection of a stream, with the moment of the clock.
+fn connection_of<'s, T, C: Clock>(
+    alloc: Global,
+    clock: &'s C,
+    stream: T,
+) -> Result<Connection<BufReader<Timed<'s, T, C>>, Timed<'s, T, C>>, Failure>
+where
+    T: std::io::Read + std::io::Write + OpenStream + Drop,
+    ensures moment { IfOk result (λ c. IsMoment c.moment) }
+    ensures fault { IfErr result (λ f. failure_status f ≡ 4) }
+{
+    let Some(moment) = moment_of(clock) else {
+        return Err(Failure::Clock);
+    };
+    let Ok(other) = stream.try_clone() else {
+        return Err(Failure::Network);
+    };
+    match BufReader::new(alloc, Timed::new(stream, clock)) {
+        Ok(input) => Ok(Connection {
+            moment,
+            input,
+            output: Timed::new(other, clock),
+        }),
+        Err(_) => Err(Failure::Memory),
+    }
+}
+
+// The moment that the clock tells, if it is in range.
+fn moment_of<C: Clock>(clock: &C) -> Option<i64>
+    ensures { IfSome result IsMoment }
+{
+    moment_in(SystemTime::now(clock).ok()?)
+}
+
+// The moment of a time, if it is in range.
+fn moment_in(time: SystemTime) -> Option<i64>
+    ensures { result ≡ moment_at (system_time_nanos time) }
+{
+    let since = time.duration_since(SystemTime::UNIX_EPOCH).ok()?;
+    match i64::try_from(since.as_secs()) {
+        Ok(moment @ 0..=MAX_SECOND) => Some(moment),
+        _ => None,
+    }
+}

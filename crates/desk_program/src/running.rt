@@ -1,0 +1,71 @@
+//! A line carried out at a desk, over whatever store it was opened.
+
+ghost use Rattle.std.specs.Prelude.{◌≡◌, ◌≤◌, None, IfErr, IfOk};
+ghost use Rattle.std.specs.Option.{IsSomeAnd};
+ghost use Rattle.desk_store.specs.Faults.{IsHonest};
+ghost use Rattle.desk_line.specs.Exits.{failure_status};
+ghost use Rattle.desk_line.specs.Lines.{HasDatabase, IsLine};
+ghost use Rattle.desk_program.specs.Running.{IsCarriedOut};
+
+use crate::port::Port;
+use crate::program::with_desk;
+use crate::server::serve;
+use desk_line::{Failure, Line, conclude};
+use desk_run::Desk;
+use desk_store::PlanStore;
+use std::alloc::Global;
+use std::io::{Read, Write};
+
+/// Does what a line says at the desk that was opened for it, and answers the exit status and the desk. If
+/// none was opened, the word of that failure goes to `errors`.
+pub fn run_opened<S: PlanStore + Drop, P: Port, R: Read, W: Write, E: Write>(
+    alloc: Global,
+    line: &Line,
+    opened: Result<Desk<S>, Failure>,
+    port: &mut P,
+    input: &mut R,
+    output: &mut W,
+    errors: &mut E,
+) -> (u8, Option<Desk<S>>)
+    requires line { IsLine line.now }
+    requires desk { HasDatabase line.now }
+    ensures opened { IfOk opened (λ desk. IsSomeAnd result.1 (λ left.
+        IsCarriedOut (IsHonest (S.doubt left)) line.now result.0 (P.taken port.old) (P.taken port.new)
+        (R.remaining input.old) (R.remaining input.new)
+        (W.contents output.old) (W.contents output.new) (S.content desk) (S.content left)
+        × (S.doubt desk ≤ S.doubt left))) }
+    ensures unopened { IfErr opened (λ f. (result ≡ (failure_status f, None))
+        × (P.taken port.new ≡ P.taken port.old) × (R.remaining input.new ≡ R.remaining input.old)
+        × (W.contents output.new ≡ W.contents output.old)) }
+{
+    match opened {
+        Ok(mut desk) => {
+            let status = run_at(alloc, line, &mut desk, port, input, output, errors);
+            (status, Some(desk))
+        }
+        Err(failure) => (conclude(errors, Err(failure)), None),
+    }
+}
+
+// Does what a line says at a desk, and answers the exit status.
+fn run_at<S: PlanStore, P: Port, R: Read, W: Write, E: Write>(
+    alloc: Global,
+    line: &Line,
+    desk: &mut Desk<S>,
+    port: &mut P,
+    input: &mut R,
+    output: &mut W,
+    errors: &mut E,
+) -> u8
+    requires line { IsLine line.now }
+    requires desk { HasDatabase line.now }
+    ensures done { IsCarriedOut (IsHonest (S.doubt desk.new)) line.now result
+        (P.taken port.old) (P.taken port.new) (R.remaining input.old) (R.remaining input.new)
+        (W.contents output.old) (W.contents output.new) (S.content desk.old) (S.content desk.new) }
+    ensures doubt { S.doubt desk.old ≤ S.doubt desk.new }
+{
+    match line {
+        Line::Serve(words) => serve(alloc, port, words, desk, output, errors),
+        _ => with_desk(alloc, line, desk, input, output, errors),
+    }
+}

@@ -1,0 +1,122 @@
+//! Reads and writes that end in time, so that a client that stalls does not hold the desk.
+
+ghost use Rattle.std.specs.Prelude.{◌≡◌, ◌+◌, ◌≤◌, None, IfSome, IfOk};
+ghost use Rattle.std.specs.Duration.{as_nanos};
+ghost use Rattle.std.specs.Time.{instant_nanos};
+ghost use Rattle.desk_program.specs.Waiting.{patience};
+
+use std::io::{self, ErrorKind, Read, Write};
+use std::net::{OpenStream, Shutdown};
+use std::time::{Clock, Duration, Instant};
+
+/// How many seconds a client has to send its request, and how many to take the answer.
+pub const PATIENCE: u64 = 10;
+
+/// How many milliseconds the rest of a request that was refused is waited for at each read.
+const REST_WAIT: u64 = 500;
+
+/// How many reads the rest of a request that was refused may take.
+const REST_READS: u32 = 100;
+
+/// How many bytes of that rest are read at a time.
+const REST_CHUNK: usize = 4_096;
+
+/// One direction of a connection. All its reads, or all its writes, together have `PATIENCE` seconds from
+/// the first on; then they fail.
+#[derive(Drop)]
+pub struct Timed<'c, T, C> {
+    stream: T,
+    clock: &'c C,
+    end: Option<Instant>,
+}
+
+impl<'c, T, C> Timed<'c, T, C> {
+    /// A direction of a stream, whose time has not begun.
+    pub(crate) fn new(stream: T, clock: &'c C) -> Timed<'c, T, C> {
+        Timed {
+            stream,
+            clock,
+            end: None,
+        }
+    }
+}
+
+impl<T: Read + OpenStream, C: Clock> Read for Timed<'_, T, C> {
+    ghost remaining = { λ s. T.remaining s.stream };
+
+    fn read(&mut self, room: &mut [u8]) -> io::Result<usize> {
+        let left = time_left(self.clock, &mut self.end)?;
+        self.stream.set_read_timeout(Some(left))?;
+        self.stream.read(room)
+    }
+}
+
+impl<T: Write + OpenStream, C: Clock> Write for Timed<'_, T, C> {
+    ghost contents = { λ s. T.contents s.stream };
+
+    fn write(&mut self, bytes: &[u8]) -> io::Result<usize> {
+        let left = time_left(self.clock, &mut self.end)?;
+        self.stream.set_write_timeout(Some(left))?;
+        self.stream.write(bytes)
+    }
+
+    fn flush(&mut self) -> io::Result<()> {
+        self.stream.flush()
+    }
+}
+
+/// Ends the answer to a request that was not read whole, and reads what is left of the request for a
+/// while: a connection that is closed before all was read takes back what was not delivered yet.
+pub(crate) fn discard_rest<T: Read + OpenStream, C: Clock>(
+    input: &mut Timed<'_, T, C>,
+    output: &Timed<'_, T, C>,
+) -> io::Result<()> {
+    output.stream.shutdown(Shutdown::Write)?;
+    let mut chunk = [0u8; REST_CHUNK];
+    for _ in 0..REST_READS {
+        if read_briefly(input, &mut chunk)? == 0 {
+            return Ok(());
+        }
+    }
+    Ok(())
+}
+
+// Reads, and waits but for a short while.
+fn read_briefly<T: Read + OpenStream, C: Clock>(
+    input: &mut Timed<'_, T, C>,
+    room: &mut [u8],
+) -> io::Result<usize> {
+    let left = time_left(input.clock, &mut input.end)?;
+    let wait = left.min(Duration::from_millis(REST_WAIT));
+    input.stream.set_read_timeout(Some(wait))?;
+    input.stream.read(room)
+}
+
+// How long a read or a write may wait that has to end with the others by `end`. Their time begins with the
+// first of them.
+fn time_left<C: Clock>(clock: &C, end: &mut Option<Instant>) -> io::Result<Duration> {
+    let now = Instant::now(clock)?;
+    let last = end.unwrap_or(end_after(now)?);
+    *end = Some(last);
+    left_until(last, now)
+}
+
+// The end of the time that begins now.
+fn end_after(now: Instant) -> io::Result<Instant>
+    ensures { IfOk result (λ end. instant_nanos end ≡ instant_nanos now + patience) }
+{
+    match now.checked_add(Duration::from_secs(PATIENCE)) {
+        Some(end) => Ok(end),
+        None => Err(io::Error::from(ErrorKind::TimedOut)),
+    }
+}
+
+// How long it is until the end.
+fn left_until(end: Instant, now: Instant) -> io::Result<Duration>
+    ensures { IfOk result (λ left. instant_nanos now + as_nanos left ≡ instant_nanos end) }
+{
+    match end.checked_duration_since(now) {
+        Some(left) if !left.is_zero() => Ok(left),
+        _ => Err(io::Error::from(ErrorKind::TimedOut)),
+    }
+}
