@@ -9,6 +9,7 @@ use crate::step::Step;
 use anyhow::{Context, bail};
 use desk_rules::call::{Asked, Call};
 use desk_rules::operator::Operator;
+use desk_rules::permission::Permitted;
 use desk_rules::plan::PlanRow;
 use desk_rules::plan_id::PlanId;
 use desk_rules::reply::Reply;
@@ -45,6 +46,8 @@ impl Moment {
 pub struct Stage<S: EmptyStore> {
     desk: Desk<S>,
     moment: Moment,
+    // those of the desk
+    permitted: Permitted,
     alloc: Global,
 }
 
@@ -55,6 +58,7 @@ impl<S: EmptyStore> Stage<S> {
         Ok(Stage {
             desk: Desk::new(store),
             moment: Moment { second: 0 },
+            permitted: Permitted::none(),
             alloc,
         })
     }
@@ -65,6 +69,7 @@ impl<S: EmptyStore> Stage<S> {
             Step::Case(name) => show_case(name, output),
             Step::Desk(enrolments) => self.begin(enrolments),
             Step::At(word) => self.set_moment(word),
+            Step::Equal(list) => self.set_permitted(list, output),
             Step::Ask(ask) => self.send_ask(ask, output),
             Step::Request {
                 method,
@@ -84,6 +89,20 @@ impl<S: EmptyStore> Stage<S> {
         Ok(())
     }
 
+    // Permits these priorities, or prints why they are refused.
+    fn set_permitted<W: Write>(&mut self, list: &str, output: &mut W) -> anyhow::Result<()> {
+        match Permitted::try_new(&numbers_in(self.alloc, list)?) {
+            Ok(permitted) => self.permit(permitted),
+            Err(fault) => writeln!(output, "refused: {fault}")?,
+        }
+        Ok(())
+    }
+
+    fn permit(&mut self, permitted: Permitted) {
+        self.permitted = permitted;
+        self.desk.permit(permitted);
+    }
+
     // Makes the call of a step that makes one.
     fn play_call<W: Write>(&mut self, step: &Step<'_>, output: &mut W) -> anyhow::Result<()> {
         match asked_in(self.alloc, step)? {
@@ -95,6 +114,7 @@ impl<S: EmptyStore> Stage<S> {
     // A new desk with these enrolments, `NAME=CEILING ..`.
     fn begin(&mut self, enrolments: &str) -> anyhow::Result<()> {
         self.desk = Desk::new(S::empty(self.alloc)?);
+        self.permitted = Permitted::none();
         for enrolment in enrolments.split_whitespace() {
             self.enrol(enrolment)?;
         }
@@ -186,8 +206,18 @@ impl<S: EmptyStore> Stage<S> {
         let mut store = std::mem::replace(&mut self.desk, empty).into_store();
         let rows = store.own_plans(operator);
         self.desk = Desk::new(store);
+        self.desk.permit(self.permitted);
         rows.ok().context("the plans can't be read")
     }
+}
+
+// The numbers of a list, with commas between them.
+fn numbers_in(alloc: Global, list: &str) -> anyhow::Result<Vec<u32>> {
+    let mut numbers = Vec::new(alloc);
+    for word in list.split(',') {
+        numbers.push(word.parse()?)?;
+    }
+    Ok(numbers)
 }
 
 fn show_case<W: Write>(name: &str, output: &mut W) -> anyhow::Result<()> {

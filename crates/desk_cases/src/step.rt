@@ -13,6 +13,8 @@ pub enum Step<'l> {
     Desk(&'l str),
     /// `at SECOND`: the moment of what follows, a Unix second.
     At(&'l str),
+    /// `equal PRIORITY,..`: these priorities are permitted from here on; if they can't be, it is told why.
+    Equal(&'l str),
     /// `ask OPERATOR ID STYLE USAGE AIRCRAFT PRIORITY LOWER UPPER START END CELL,..`: a PUT as bytes.
     Ask(Ask<'l>),
     /// `request METHOD TARGET OPERATOR BODY`: a request as bytes, with a content-length; OPERATOR `-` leaves
@@ -70,6 +72,7 @@ impl<'l> Step<'l> {
             "case" => Some(Step::Case(rest)),
             "desk" => Some(Step::Desk(rest)),
             "at" => Some(Step::At(rest)),
+            "equal" => Some(Step::Equal(rest)),
             "raw" => Some(Step::Raw(rest)),
             "request" => request_of(rest),
             _ => {

@@ -1,4 +1,4 @@
--- Read first: Lines, Exits.
+-- Read first: Written, Grammar, Lines, Exits.
 pub mod Written
 pub mod Exits
 pub mod Lines

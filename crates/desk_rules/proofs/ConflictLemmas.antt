@@ -1,7 +1,7 @@
 -- Conflicts: the search meets what a conflict is, and a conflict is unique.
-use Rattle.std.proofs.Common.{◌≡◌, ℕ, ℤ, Bool, true, false, ◌&&◌, cond, ◌⊎◌, List, Option, Some, None, refl, sym, ap, ◌∙◌, inl, inr, Less, Equal, Greater}
+use Rattle.std.proofs.Common.{◌≡◌, ℕ, ◌+◌, ◌==◌, ℤ, Bool, true, false, not, ◌&&◌, ◌||◌, cond, ◌⊎◌, List, Option, Some, None, refl, sym, ap, ◌∙◌, inl, inr, arith, Less, Equal, Greater}
 use Rattle.std.proofs.Math.Path.{fun_ext}
-use Rattle.std.specs.Prelude.{is_some}
+use Rattle.std.specs.Prelude.{is_some, nat_le, nat_lt}
 use Rattle.std.specs.Option.{option_map, option_and_then}
 use Rattle.std.specs.declared.cmp.Ordering.{Ordering}
 use Rattle.std.specs.Ordering.{ordering_then, ordering_reverse, nat_cmp, int_cmp}
@@ -13,6 +13,7 @@ use Rattle.s2_cellid.specs.Family.{leaf_id}
 use Rattle.volume4d.specs.Point.{Point, is_leaf, point_cmp}
 use Rattle.volume4d.specs.Volume.{Block, area_has}
 use Rattle.desk_rules.specs.Level.{reaches}
+use Rattle.desk_rules.specs.Permission.{is_permitted, blocks, least_blocking}
 use Rattle.volume4d.specs.declared.slab.Slab.{Slab}
 use Rattle.volume4d.specs.declared.slab.Held.{Held}
 use Rattle.volume4d.specs.Slab.{top_held}
@@ -25,6 +26,7 @@ use Rattle.volume4d.specs.PointLaws.{leaf_test}
 use Rattle.volume4d.specs.VolumeLaws.{area_leaf}
 use Rattle.desk_rules.proofs.PointTests.{point_by_position}
 use Rattle.std.proofs.lemmas.Bool.{and_parts, false_from_ne_true}
+use Rattle.std.proofs.lemmas.Bool.Decides.{nat_tests}
 use Rattle.desk_rules.proofs.SearchLemmas.{IsFound, InBoth, BeforePair, IsBelow, IsLess, IsWithinInt, IsLessInt, below_finds, within_finds, pair_finds}
 use Rattle.desk_rules.proofs.Reach.{same_position, same_int, area_reach, before_pair, leaf_total, altitude_total, second_total}
 
@@ -66,20 +68,21 @@ first_point_is area passes inside = step (first_pair _ _ (λ p. passes (point_of
           in let yes = passes_there x e in cc),
     )
 
-only_inside : (area : List Block) (levels : Point → Option ℕ) (priority : ℕ) (x : Point)
-    → is_blocked area levels priority x ≡ true → area_has area x ≡ true
+only_inside : (permitted : List ℕ) (area : List Block) (levels : Point → Option ℕ) (priority : ℕ)
+    (x : Point) → is_blocked permitted area levels priority x ≡ true → area_has area x ≡ true
 unfolding is_blocked
-only_inside area levels priority x e = (and_parts (area_has area x) _ e).0
+only_inside permitted area levels priority x e = (and_parts (area_has area x) _ e).0
 
-has_level : (o : Option ℕ) (priority : ℕ) → reaches o priority ≡ true → (n : ℕ) × (o ≡ Some n)
-has_level None priority e = cc
-has_level (Some n) priority e = (n, refl)
+has_level : (permitted : List ℕ) (o : Option ℕ) (priority : ℕ) → blocks permitted priority o ≡ true
+    → (n : ℕ) × (o ≡ Some n)
+has_level permitted None priority e = cc
+has_level permitted (Some n) priority e = (n, refl)
 
-blocked_level : (area : List Block) (levels : Point → Option ℕ) (priority : ℕ) (x : Point)
-    → is_blocked area levels priority x ≡ true → (n : ℕ) × (levels x ≡ Some n)
+blocked_level : (permitted : List ℕ) (area : List Block) (levels : Point → Option ℕ) (priority : ℕ)
+    (x : Point) → is_blocked permitted area levels priority x ≡ true → (n : ℕ) × (levels x ≡ Some n)
 unfolding is_blocked
-blocked_level area levels priority x e = has_level (levels x) priority
-    (and_parts (area_has area x) _ e).1
+blocked_level permitted area levels priority x e =
+    has_level permitted (levels x) priority (and_parts (area_has area x) _ e).1
 
 -- the first passing point and its level are the first spot
 pub first_spot : (passes : Point → Bool) (levels : Point → Option ℕ)
@@ -92,12 +95,14 @@ first_spot passes levels there (Some p) h =
     rw level.1 (record { here = h.0; level = level.1; first = h.1 })
 
 -- the search meets what a conflict is
-pub conflict_is : (area : List Block) (levels : Point → Option ℕ) (priority : ℕ)
-    → IsConflict area levels priority (conflict area levels priority)
+pub conflict_is : (permitted : List ℕ) (area : List Block) (levels : Point → Option ℕ) (priority : ℕ)
+    → IsConflict permitted area levels priority (conflict permitted area levels priority)
 unfolding conflict
-conflict_is area levels priority =
-    first_spot (is_blocked area levels priority) levels (blocked_level area levels priority) _
-    (first_point_is area (is_blocked area levels priority) (only_inside area levels priority))
+conflict_is permitted area levels priority =
+    first_spot (is_blocked permitted area levels priority) levels
+    (blocked_level permitted area levels priority) _
+    (first_point_is area (is_blocked permitted area levels priority)
+    (only_inside permitted area levels priority))
 
 -- points are in a total order
 then_equal : (o p : Ordering) → ordering_then o p ≡ Equal → (o ≡ Equal) × (p ≡ Equal)
@@ -154,9 +159,10 @@ one_first passes levels None (Some b) leaves p q = let no = p b.point in let yes
 one_first passes levels (Some a) None leaves p q = let no = q a.point in let yes = p.here in cc
 one_first passes levels (Some a) (Some b) leaves p q = ap Some (one_spot passes levels a b leaves p q)
 
-pub blocked_leaves : (area : List Block) (levels : Point → Option ℕ) (priority : ℕ)
-    → OnLeaves (is_blocked area levels priority)
-blocked_leaves area levels priority x e = area_leaf area x (only_inside area levels priority x e)
+pub blocked_leaves : (permitted : List ℕ) (area : List Block) (levels : Point → Option ℕ) (priority : ℕ)
+    → OnLeaves (is_blocked permitted area levels priority)
+blocked_leaves permitted area levels priority x e =
+    area_leaf area x (only_inside permitted area levels priority x e)
 
 is_some_at_least : (o : Option ℕ) (priority : ℕ) → is_some (at_least priority o) ≡ reaches o priority
 is_some_at_least None priority = refl
@@ -171,44 +177,69 @@ level_at_least o priority n = by_test (reaches o priority) where
   by_test true e = e
   by_test false e = cc
 
-shared_is_blocked : (area : List Block) (levels : Point → Option ℕ) (priority : ℕ) (mine : List Slab)
-    (theirs : List Held) → AreSlabsOf mine area → HoldLevels theirs area levels priority → (x : Point)
-    → is_shared mine theirs x ≡ is_blocked area levels priority x
+-- what blocks a plan is what reaches the least priority that does
+permitted_reaches : (priority level : ℕ)
+    → (nat_lt priority level || (level == priority && false)) ≡ nat_le (priority + 1) level
+permitted_reaches priority level = grind (arith, nat_tests)
+
+unpermitted_reaches : (priority level : ℕ)
+    → (nat_lt priority level || (level == priority && true)) ≡ nat_le priority level
+unpermitted_reaches priority level = grind (arith, nat_tests)
+
+blocks_reaches : (permitted : List ℕ) (priority : ℕ) (level : Option ℕ)
+    → blocks permitted priority level ≡ reaches level (least_blocking permitted priority)
+blocks_reaches permitted priority None = refl
+blocks_reaches permitted priority (Some level) = by_test (is_permitted permitted priority) where
+  by_test : (b : Bool) → (nat_lt priority level || (level == priority && not b))
+      ≡ nat_le (cond b (priority + 1) priority) level
+  by_test true = permitted_reaches priority level
+  by_test false = unpermitted_reaches priority level
+
+shared_is_blocked : (permitted : List ℕ) (area : List Block) (levels : Point → Option ℕ) (priority : ℕ)
+    (mine : List Slab) (theirs : List Held) → AreSlabsOf mine area
+    → HoldLevels theirs area levels (least_blocking permitted priority) → (x : Point)
+    → is_shared mine theirs x ≡ is_blocked permitted area levels priority x
 unfolding is_shared is_blocked
-shared_is_blocked area levels priority mine theirs slabs helds x =
+shared_is_blocked permitted area levels priority mine theirs slabs helds x =
     ap (λ b. b && is_some (top_held theirs x)) (slabs x) ∙ by_test (area_has area x) (helds x) where
-      by_test : (b : Bool) → (b ≡ true → top_held theirs x ≡ at_least priority (levels x))
-          → (b && is_some (top_held theirs x)) ≡ (b && reaches (levels x) priority)
-      by_test true h = ap is_some (h refl) ∙ is_some_at_least (levels x) priority
+      least : ℕ
+      least = least_blocking permitted priority
+
+      by_test : (b : Bool) → (b ≡ true → top_held theirs x ≡ at_least least (levels x))
+          → (b && is_some (top_held theirs x)) ≡ (b && blocks permitted priority (levels x))
+      by_test true h = ap is_some (h refl) ∙ is_some_at_least (levels x) least
+          ∙ sym (blocks_reaches permitted priority (levels x))
       by_test false h = refl
 
 -- the first meeting of an area's slabs with what others hold is the area's conflict
-pub conflict_by_meeting : (area : List Block) (levels : Point → Option ℕ) (priority : ℕ)
-    (mine : List Slab)
-    (theirs : List Held) → AreSlabsOf mine area → HoldLevels theirs area levels priority
-    → (m : Option Spot)
-    → IsFirst (is_shared mine theirs) (top_held theirs) m → m ≡ conflict area levels priority
-conflict_by_meeting area levels priority mine theirs slabs helds m h =
-    one_first (is_blocked area levels priority) levels m (conflict area levels priority)
-    (blocked_leaves area levels priority) (kept m h) (conflict_is area levels priority) where
-      same : (x : Point) → is_shared mine theirs x ≡ is_blocked area levels priority x
-      same = shared_is_blocked area levels priority mine theirs slabs helds
+pub conflict_by_meeting : (permitted : List ℕ) (area : List Block) (levels : Point → Option ℕ)
+    (priority : ℕ) (mine : List Slab) (theirs : List Held) → AreSlabsOf mine area
+    → HoldLevels theirs area levels (least_blocking permitted priority) → (m : Option Spot)
+    → IsFirst (is_shared mine theirs) (top_held theirs) m → m ≡ conflict permitted area levels priority
+conflict_by_meeting permitted area levels priority mine theirs slabs helds m h =
+    one_first (is_blocked permitted area levels priority) levels m
+    (conflict permitted area levels priority) (blocked_leaves permitted area levels priority) (kept m h)
+    (conflict_is permitted area levels priority) where
+      same : (x : Point) → is_shared mine theirs x ≡ is_blocked permitted area levels priority x
+      same = shared_is_blocked permitted area levels priority mine theirs slabs helds
 
       kept : (o : Option Spot) → IsFirst (is_shared mine theirs) (top_held theirs) o
-          → IsFirst (is_blocked area levels priority) levels o
+          → IsFirst (is_blocked permitted area levels priority) levels o
       kept None h = λ x. sym (same x) ∙ h x
       kept (Some s) h =
           let here = sym (same s.point) ∙ h.here in
           record {
             here = here;
-            level = level_at_least (levels s.point) priority s.priority
-                (sym (helds s.point (only_inside area levels priority s.point here)) ∙ h.level);
+            level = level_at_least (levels s.point) (least_blocking permitted priority) s.priority
+                (sym (helds s.point (only_inside permitted area levels priority s.point here))
+                ∙ h.level);
             first =
                 λ x l. sym (same x) ∙ h.first x l;
           }
 
 -- equal levels have equal conflicts
-pub conflict_same_levels : (area : List Block) (f g : Point → Option ℕ) (priority : ℕ)
-    → ((x : Point) → f x ≡ g x) → conflict area f priority ≡ conflict area g priority
-conflict_same_levels area f g priority same = ap (λ levels. conflict area levels priority)
-    (fun_ext same)
+pub conflict_same_levels : (permitted : List ℕ) (area : List Block) (f g : Point → Option ℕ)
+    (priority : ℕ) → ((x : Point) → f x ≡ g x)
+    → conflict permitted area f priority ≡ conflict permitted area g priority
+conflict_same_levels permitted area f g priority same =
+    ap (λ levels. conflict permitted area levels priority) (fun_ext same)

@@ -1,6 +1,6 @@
 -- The conflict of a plan, by the strategic conflict detection of ASTM F3548-21: a plan may share
--- points with plans of lower priority, and not with those of higher priority. The standard leaves equal
--- priorities to the regulator; here they block.
+-- points with plans of lower priority, and not with those of higher priority. Those of equal priority
+-- block it too, unless that priority is permitted.
 use Rattle.std.specs.Prelude.{ℕ, ◌+◌, ◌*◌, ◌^◌, ℤ, unsigned_abs, List, Bool, ◌&&◌, cond, Option, None}
 use Rattle.std.specs.Option.{option_map, option_and_then}
 use Rattle.std.specs.List.{sum_by}
@@ -10,18 +10,20 @@ use Rattle.volume4d.specs.Point.{Point}
 use Rattle.volume4d.specs.Shape.{Shape, cells, rectangle}
 use Rattle.volume4d.specs.Volume.{Block, area_has}
 use Rattle.desk_rules.specs.Level.{reaches}
+use Rattle.desk_rules.specs.Permission.{blocks}
 use Rattle.volume4d.specs.Meeting.{Spot, IsFirst}
 use Rattle.desk_rules.specs.Search.{first_below, first_within, first_pair}
 
--- a point of an area is blocked if the greatest priority that others hold there is at least the
--- plan's own
-unfoldable pub is_blocked : List Block → (Point → Option ℕ) → ℕ → Point → Bool
-is_blocked area levels priority x = area_has area x && reaches (levels x) priority
+-- a point of an area is blocked if the greatest priority that others hold there blocks the plan, by the
+-- list of permitted priorities
+unfoldable pub is_blocked : List ℕ → List Block → (Point → Option ℕ) → ℕ → Point → Bool
+is_blocked permitted area levels priority x = area_has area x && blocks permitted priority (levels x)
 
 -- what a conflict is: None if no point is blocked, else the first blocked point, by leaf id, then
 -- altitude, then second, with the greatest priority that others hold there
-abbrev pub IsConflict : List Block → (Point → Option ℕ) → ℕ → Option Spot → Type 0
-IsConflict area levels priority spot = IsFirst (is_blocked area levels priority) levels spot
+abbrev pub IsConflict : List ℕ → List Block → (Point → Option ℕ) → ℕ → Option Spot → Type 0
+IsConflict permitted area levels priority spot =
+    IsFirst (is_blocked permitted area levels priority) levels spot
 
 -- Bounds on the numbers of an area's points, a leaf by its position along the curve: the search below
 -- ends there.
@@ -48,10 +50,10 @@ first_point area passes =
     (λ p. passes (point_of p)))
 
 -- the conflict, as a function: the first blocked point, with the level there
-unfoldable pub conflict : List Block → (Point → Option ℕ) → ℕ → Option Spot
-conflict area levels priority =
+unfoldable pub conflict : List ℕ → List Block → (Point → Option ℕ) → ℕ → Option Spot
+conflict permitted area levels priority =
     option_and_then (λ x. option_map (λ level. record { point = x; priority = level }) (levels x))
-    (first_point area (is_blocked area levels priority))
+    (first_point area (is_blocked permitted area levels priority))
 
 -- a level if it is at least the priority, and else None
 abbrev pub at_least : ℕ → Option ℕ → Option ℕ

@@ -6,6 +6,7 @@ pub mod Plan
 pub mod States
 pub mod Outcome
 pub mod Search
+pub mod Permission
 pub mod Conflict
 pub mod Bridge
 pub mod PlanLaws

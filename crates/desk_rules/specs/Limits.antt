@@ -17,3 +17,7 @@ max_priority = 1000
 -- the greatest time between a request and the start of its plan, in seconds: thirty days
 abbrev pub max_ahead : ℕ
 max_ahead = 2592000
+
+-- the most priorities that may be permitted to plans of equal priority
+abbrev pub max_permitted : ℕ
+max_permitted = 32

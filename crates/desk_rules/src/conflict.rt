@@ -5,6 +5,7 @@ ghost use Rattle.volume4d.specs.Point.{Point};
 ghost use Rattle.volume4d.specs.Volume.{Block};
 ghost use Rattle.desk_rules.specs.Bridge.{AreSlabsOf, HoldLevels};
 ghost use Rattle.desk_rules.specs.Conflict.{conflict};
+ghost use Rattle.desk_rules.specs.Permission.{least_blocking};
 ghost use Rattle.desk_rules.specs.Sharing as spec;
 
 use volume4d::{Held, Meeting, Slab, first_meeting, meet};
@@ -13,12 +14,13 @@ use volume4d::{Held, Meeting, Slab, first_meeting, meet};
 /// blocked.
 ///
 /// `mine` are the area's slabs. `theirs` are slabs of the other plans: at each point of the area their
-/// greatest priority is the greatest of all other plans, if that is at least the area's own priority;
-/// elsewhere they hold nothing.
+/// greatest priority is the greatest of all other plans, if that is at least the least that blocks the
+/// area; elsewhere they hold nothing.
 pub fn first_conflict(mine: &[Slab], theirs: &[Held]) -> Option<Meeting>
-    ensures { (area : List Block) (levels : Point → Option ℕ) (priority : ℕ) →
-        AreSlabsOf mine.now area → HoldLevels theirs.now area levels priority →
-        result ≡ conflict area levels priority }
+    ensures { (permitted : List ℕ) (area : List Block) (levels : Point → Option ℕ) (priority : ℕ) →
+        AreSlabsOf mine.now area →
+        HoldLevels theirs.now area levels (least_blocking permitted priority) →
+        result ≡ conflict permitted area levels priority }
 {
     first_meeting(mine, theirs)
 }

@@ -10,23 +10,27 @@ ghost use Rattle.desk_rules.specs.Sharing.{HaveAPoint, share_a_point};
 
 /// An area has one conflict.
 pub fn one_conflict()
-    ensures { (area : List Block) (levels : Point → Option ℕ) (priority : ℕ) (a b : Option Spot) →
-        IsConflict area levels priority a → IsConflict area levels priority b → a ≡ b }
+    ensures { (permitted : List ℕ) (area : List Block) (levels : Point → Option ℕ) (priority : ℕ)
+        (a b : Option Spot) → IsConflict permitted area levels priority a →
+        IsConflict permitted area levels priority b → a ≡ b }
 {}
 
 /// The definition by a search gives the conflict.
 pub fn conflict_is_found()
-    ensures { (area : List Block) (levels : Point → Option ℕ) (priority : ℕ) →
-        IsConflict area levels priority (conflict area levels priority) }
+    ensures { (permitted : List ℕ) (area : List Block) (levels : Point → Option ℕ) (priority : ℕ) →
+        IsConflict permitted area levels priority (conflict permitted area levels priority) }
 {}
 
-/// The conflict depends only on the greatest priority that others hold at each point.
+/// The conflict depends only on the greatest priority that others hold at each point, and on the
+/// permitted priorities.
 pub fn same_levels_same_conflict()
-    ensures found { (area : List Block) (f g : Point → Option ℕ) (priority : ℕ) →
-        ((x : Point) → f x ≡ g x) → conflict area f priority ≡ conflict area g priority }
-    ensures kept { (area : List Block) (f g : Point → Option ℕ) (priority : ℕ) (spot : Option Spot)
-        → ((x : Point) → f x ≡ g x) → IsConflict area f priority spot
-        → IsConflict area g priority spot }
+    ensures found { (permitted : List ℕ) (area : List Block) (f g : Point → Option ℕ)
+        (priority : ℕ) →
+        ((x : Point) → f x ≡ g x) →
+        conflict permitted area f priority ≡ conflict permitted area g priority }
+    ensures kept { (permitted : List ℕ) (area : List Block) (f g : Point → Option ℕ) (priority : ℕ)
+        (spot : Option Spot) → ((x : Point) → f x ≡ g x) → IsConflict permitted area f priority spot
+        → IsConflict permitted area g priority spot }
 {}
 
 /// The test of a shared point says whether there is one.

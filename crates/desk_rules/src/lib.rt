@@ -1,5 +1,5 @@
 //! The rules of the planning desk, which know of no store: plans and their words, the state table,
-//! conflicts and the order of refusals.
+//! permitted priorities, conflicts and the order of refusals.
 #![tactic(auto)]
 
 pub mod call;
@@ -7,6 +7,7 @@ pub mod conflict;
 pub mod decide;
 pub mod laws;
 pub mod operator;
+pub mod permission;
 pub mod plan;
 pub mod plan_id;
 pub mod reply;

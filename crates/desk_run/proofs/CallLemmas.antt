@@ -29,39 +29,42 @@ use Rattle.desk_rules.specs.Replies.{ReplyParts, said_in}
 use Rattle.desk_rules.specs.Replies as said
 use Rattle.desk_rules.specs.declared.reply.PutReply.{PutReply}
 use Rattle.desk_run.specs.declared.pending.Pending.{Pending}
-use Rattle.desk_run.specs.Verdicts.{Told, replied, unknown_operator, no_such_plan, ruling_alone, put_outcome, put_ruling, plans_left, delete_ruling, shown_in, list_ruling, show_ruling, clear_ruling, enrolled_ruling, ruling_under, verdict, world_with_plans, told_to, step}
+use Rattle.desk_run.specs.DeskWorld.{DeskWorld, held_in}
+use Rattle.desk_run.specs.Verdicts.{Told, Ruling, replied, unknown_operator, no_such_plan, ruling_alone, put_outcome, put_ruling, plans_left, delete_ruling, shown_in, list_ruling, show_ruling, clear_ruling, enrolled_ruling, ruling_under, verdict, world_with_plans, ruling_in, told_to, step}
 use Rattle.desk_run.specs.Calls.{IsUnanswered, IsReady, Readies, IsPending, Prepares, change_after, world_with, world_committed}
 use Rattle.desk_run.proofs.OutcomeLemmas.{outcome_counts}
 use Rattle.desk_run.proofs.PutLemmas.{change_fits}
 
 -- a verdict by the stored plan, the number of plans and the conflict
-pub verdict_is : (w : World) (o : List ℕ) (put : PutCall) (given moment : ℤ) (ceiling : ℕ)
+pub verdict_is : (permitted : List ℕ) (w : World) (o : List ℕ) (put : PutCall) (given moment : ℤ)
+    (ceiling : ℕ)
     (stored : Option PlanRow) (count : ℕ) (meeting : Option Spot) (v : Verdict) → v
     ≡ outcome put given stored count ceiling meeting → given ≡ moment → stored
     ≡ stored_of put.id (plans_of o w) → (stored ≡ None → count ≡ length (plans_of o w)) → meeting
-    ≡ conflict put.area (held_at (plans_of o w) (held w o) put.id) put.priority → v
-    ≡ put_outcome (own w o) (held w o) ceiling moment put
+    ≡ conflict permitted put.area (held_at (plans_of o w) (held w o) put.id) put.priority → v
+    ≡ put_outcome permitted (own w o) (held w o) ceiling moment put
 unfolding put_outcome own
-verdict_is w o put given moment ceiling stored count meeting v e m s n c = e
+verdict_is permitted w o put given moment ceiling stored count meeting v e m s n c = e
     ∙ outcome_counts put given stored count (length (plans_of o w)) ceiling meeting n
     ∙ (λ i. outcome put (m i) (s i) (length (plans_of o w)) ceiling (c i))
 
 -- a call to which an answer says no more than a word
-unanswered_by : (w : World) (moment : ℤ) (asked : Asked) (reason : Told)
-    → verdict (own w asked.operator) (held w asked.operator) moment asked.call ≡ ruling_alone reason
+unanswered_by : (w : DeskWorld) (moment : ℤ) (asked : Asked) (reason : Told)
+    → ruling_in w asked.operator moment asked.call ≡ ruling_alone reason
     → IsUnanswered w moment asked reason
 unfolding told_to step
 unanswered_by w moment asked reason e = record {
   told = ap (λ a. a.told) e;
-  left = ap (λ a. world_with_plans w asked.operator a.plans) e;
+  left = ap (λ a. record w { content = world_with_plans w.content asked.operator a.plans }) e;
 }
 
 -- an operator that is not listed
-pub unlisted_is : (w : World) (moment : ℤ) (asked : Asked) → ceiling_of asked.operator w ≡ None
-    → IsUnanswered w moment asked unknown_operator
+pub unlisted_is : (w : DeskWorld) (moment : ℤ) (asked : Asked)
+    → ceiling_of asked.operator w.content ≡ None → IsUnanswered w moment asked unknown_operator
 unfolding verdict own
 unlisted_is w moment asked e = unanswered_by w moment asked unknown_operator
-    (ap (λ c. ruling_under c (own w asked.operator) (held w asked.operator) moment asked.call) e)
+    (ap (λ c. ruling_under c w.permitted (own w.content asked.operator) (held_in w asked.operator)
+    moment asked.call) e)
 
 -- the change of an effect leaves the plans that the effect leaves
 change_made : (w : World) (o : List ℕ) (put : PutCall) (e : Effect)
@@ -73,52 +76,55 @@ change_made w o put effect.Save = refl
 change_made w o put effect.Shut = refl
 
 -- the reply to a request to plan, and its change, are ready
-pub put_ready : (w : World) (o : List ℕ) (put : PutCall) (given moment : ℤ) (ceiling : ℕ) (v : Verdict)
+pub put_ready : (permitted : List ℕ) (w : World) (o : List ℕ) (put : PutCall) (given moment : ℤ)
+    (ceiling : ℕ) (v : Verdict)
     (r : PutReply) (c : Option Change) → ceiling_of o w ≡ Some ceiling → ceiling ≤ max_priority → v
-    ≡ put_outcome (own w o) (held w o) ceiling given put → given ≡ moment → c
+    ≡ put_outcome permitted (own w o) (held w o) ceiling given put → given ≡ moment → c
     ≡ change_after v.effect o put
     → r ≡ record { result = v.result; status = v.status; note = v.note; meeting = v.meeting }
-    → IsReady w o (put_ruling (put_outcome (own w o) (held w o) ceiling moment put) put (plans_of o w))
-    (record { reply = reply.Answered r; change = c })
-unfolding put_outcome own world_committed
-put_ready w o put given moment ceiling v r c listed low is m change reply_is =
-    let u = put_outcome (own w o) (held w o) ceiling moment put in
-    let v_is : v ≡ u = is ∙ ap (λ t. put_outcome (own w o) (held w o) ceiling t put) m in
+    → IsReady w o (put_ruling (put_outcome permitted (own w o) (held w o) ceiling moment put) put
+    (plans_of o w)) (record { reply = reply.Answered r; change = c })
+unfolding put_outcome own
+put_ready permitted w o put given moment ceiling v r c listed low is m change reply_is =
+    let u = put_outcome permitted (own w o) (held w o) ceiling moment put in
+    let v_is : v ≡ u = is ∙ ap (λ t. put_outcome permitted (own w o) (held w o) ceiling t put) m in
     let c_is : c ≡ change_after u.effect o put = change ∙ ap (λ x. change_after x.effect o put) v_is in
     record {
       told = ap (λ x. (put_ruling x put (plans_of o w)).told) (sym v_is)
           ∙ ap (λ q. replied (said.answered q)) (sym reply_is);
       left = ap (world_with w) c_is ∙ change_made w o put u.effect;
       fits = rw c_is (change_fits w o put moment ceiling
-          (conflict put.area (held_at (plans_of o w) (held w o) put.id) put.priority) listed low);
+          (conflict permitted put.area (held_at (plans_of o w) (held w o) put.id) put.priority) listed
+          low);
     }
 
 -- what is ready for an operator under a ceiling is pending
-pending_from : (w : World) (moment : ℤ) (asked : Asked) (ceiling : ℕ) (p : Pending)
-    → ceiling_of asked.operator w ≡ Some ceiling → IsReady w asked.operator
-    (enrolled_ruling (own w asked.operator) (held w asked.operator) ceiling moment asked.call) p
-    → IsPending w moment asked p
-unfolding told_to step verdict own
+pending_from : (w : DeskWorld) (moment : ℤ) (asked : Asked) (ceiling : ℕ) (p : Pending)
+    → ceiling_of asked.operator w.content ≡ Some ceiling → IsReady w.content asked.operator
+    (enrolled_ruling w.permitted (own w.content asked.operator) (held_in w asked.operator) ceiling moment
+    asked.call) p → IsPending w moment asked p
+unfolding told_to step verdict own world_committed
 pending_from w moment asked ceiling p listed h =
     let o = asked.operator in
+    let under : Option ℕ → Ruling =
+    λ c. ruling_under c w.permitted (own w.content o) (held_in w o) moment asked.call in
     record {
-      told = ap (λ c. (ruling_under c (own w o) (held w o) moment asked.call).told) listed ∙ h.told;
-      left = h.left ∙ sym (ap (λ c. world_with_plans w o
-          (ruling_under c (own w o) (held w o) moment asked.call).plans) listed);
+      told = ap (λ c. (under c).told) listed ∙ h.told;
+      left = ap (λ v. record w { content = v })
+          (h.left ∙ sym (ap (λ c. world_with_plans w.content o (under c).plans) listed));
       fits = h.fits;
     }
 
-pub prepares_from : (w : World) (moment : ℤ) (asked : Asked) (ceiling : ℕ)
-    (r : Result Pending DeskFault)
-    → ceiling_of asked.operator w ≡ Some ceiling → Readies w asked.operator
-    (enrolled_ruling (own w asked.operator) (held w asked.operator) ceiling moment asked.call) r
-    → Prepares w moment asked r
+pub prepares_from : (w : DeskWorld) (moment : ℤ) (asked : Asked) (ceiling : ℕ)
+    (r : Result Pending DeskFault) → ceiling_of asked.operator w.content ≡ Some ceiling
+    → Readies w.content asked.operator (enrolled_ruling w.permitted (own w.content asked.operator)
+    (held_in w asked.operator) ceiling moment asked.call) r → Prepares w moment asked r
 unfolding verdict own
 prepares_from w moment asked ceiling (Ok p) listed h = pending_from w moment asked ceiling p listed h
 prepares_from w moment asked ceiling (Err NoSuchPlan) listed h =
     unanswered_by w moment asked no_such_plan
-    (ap (λ c. ruling_under c (own w asked.operator) (held w asked.operator) moment asked.call) listed
-    ∙ h)
+    (ap (λ c. ruling_under c w.permitted (own w.content asked.operator) (held_in w asked.operator)
+    moment asked.call) listed ∙ h)
 prepares_from w moment asked ceiling (Err OutOfMemory) listed h = tt
 prepares_from w moment asked ceiling (Err Store) listed h = tt
 prepares_from w moment asked ceiling (Err UnknownOperator) listed h = absurd h
@@ -127,36 +133,36 @@ prepares_from w moment asked ceiling (Err Ceiling) listed h = absurd h
 -- a reply that goes with no change is ready
 alone_ready : (w : World) (o : List ℕ) (told : ReplyParts) (r : Reply) → said_in r ≡ told
     → IsReady w o (ruling_alone (replied told)) (record { reply = r; change = None })
-unfolding world_committed
 alone_ready w o told r e = record { told = ap replied (sym e); left = refl; fits = tt }
 
 -- the list of an operator's plans is ready
-pub list_ready : (w : World) (o : List ℕ) (shown : List Shown) (r : Reply) → shown
-    ≡ map (shown_in w o) (plans_of o w) → said_in r ≡ said.plans shown
-    → IsReady w o (list_ruling (plans_of o w) (held w o)) (record { reply = r; change = None })
-list_ready w o shown r is says = alone_ready w o _ r (says ∙ ap said.plans is)
+pub list_ready : (permitted : List ℕ) (w : World) (o : List ℕ) (shown : List Shown) (r : Reply)
+    → shown ≡ map (shown_in permitted w o) (plans_of o w) → said_in r ≡ said.plans shown
+    → IsReady w o (list_ruling permitted (plans_of o w) (held w o)) (record { reply = r; change = None })
+list_ready permitted w o shown r is says = alone_ready w o _ r (says ∙ ap said.plans is)
 
 -- a plan is ready to be shown
-pub show_ready : (w now : World) (o id : List ℕ) (found : Option PlanRow) (row : PlanRow)
-    (shown : Shown)
-    → found ≡ stored_of id (plans_of o w) → found ≡ Some row → now ≡ w → shown ≡ shown_in now o row
-    → IsReady w o (show_ruling (plans_of o w) (held w o) (stored_of id (plans_of o w)))
+pub show_ready : (permitted : List ℕ) (w now : World) (o id : List ℕ) (found : Option PlanRow)
+    (row : PlanRow) (shown : Shown) → found ≡ stored_of id (plans_of o w) → found ≡ Some row → now ≡ w
+    → shown ≡ shown_in permitted now o row
+    → IsReady w o (show_ruling permitted (plans_of o w) (held w o) (stored_of id (plans_of o w)))
     (record { reply = reply.Plan shown; change = None })
-show_ready w now o id found row shown stored is same shown_is =
-    subst (λ r. IsReady w o (show_ruling (plans_of o w) (held w o) r)
+show_ready permitted w now o id found row shown stored is same shown_is =
+    subst (λ r. IsReady w o (show_ruling permitted (plans_of o w) (held w o) r)
     (record { reply = reply.Plan shown; change = None })) (sym is ∙ stored)
-    (alone_ready w o _ (reply.Plan shown) (ap said.plan (shown_is ∙ ap (λ v. shown_in v o row) same)))
+    (alone_ready w o _ (reply.Plan shown)
+    (ap said.plan (shown_is ∙ ap (λ v. shown_in permitted v o row) same)))
 
 -- that the desk is ready
-pub status_ready : (w : World) (moment : ℤ) (asked : Asked) (ceiling : ℕ) → ceiling_of asked.operator w
-    ≡ Some ceiling → asked.call ≡ call.Status → IsPending w moment asked
-    (record { reply = reply.Ready; change = None })
-unfolding enrolled_ruling world_committed
+pub status_ready : (w : DeskWorld) (moment : ℤ) (asked : Asked) (ceiling : ℕ)
+    → ceiling_of asked.operator w.content ≡ Some ceiling → asked.call ≡ call.Status
+    → IsPending w moment asked (record { reply = reply.Ready; change = None })
+unfolding enrolled_ruling
 status_ready w moment asked ceiling listed is =
     pending_from w moment asked ceiling (record { reply = reply.Ready; change = None }) listed
-    (subst (λ c. IsReady w asked.operator (enrolled_ruling (own w asked.operator)
-    (held w asked.operator)
-    ceiling moment c) (record { reply = reply.Ready; change = None })) (sym is)
+    (subst (λ c. IsReady w.content asked.operator (enrolled_ruling w.permitted
+    (own w.content asked.operator) (held_in w asked.operator) ceiling moment c)
+    (record { reply = reply.Ready; change = None })) (sym is)
     (record { told = refl; left = refl; fits = tt }))
 
 -- the closing of a stored plan is ready
@@ -173,7 +179,7 @@ pub delete_ready : (w : World) (o id : List ℕ) (found : Option PlanRow) → fo
       });
       change = Some (change.Close o id);
     })
-unfolding world_committed changed_by IsFitting
+unfolding changed_by IsFitting
 delete_ready w o id None e s listed = cc
 delete_ready w o id (Some row) e s listed =
     subst (λ r. IsReady w o (delete_ruling (plans_of o w) id r)
@@ -189,74 +195,84 @@ delete_ready w o id (Some row) e s listed =
     (record { told = refl; left = refl; fits = (listed, ap is_some (sym e)) })
 
 -- the answers to a request to plan, and to close, are those to the call
-pub put_readies : (w before : World) (given moment : ℤ) (asked : Asked) (put : PutCall) (ceiling : ℕ)
+pub put_readies : (permitted : List ℕ) (w before : World) (given moment : ℤ) (asked : Asked) (put : PutCall)
+    (ceiling : ℕ)
     (r : Result Pending DeskFault) → w ≡ before → given ≡ moment → asked.call ≡ call.Put put
     → Readies w asked.operator
-    (put_ruling (put_outcome (own w asked.operator) (held w asked.operator) ceiling given put) put
+    (put_ruling (put_outcome permitted (own w asked.operator) (held w asked.operator) ceiling given put) put
     (plans_of asked.operator w)) r → Readies before asked.operator
-    (enrolled_ruling (own before asked.operator) (held before asked.operator) ceiling moment asked.call)
+    (enrolled_ruling permitted (own before asked.operator) (held before asked.operator) ceiling moment
+    asked.call)
     r
 unfolding enrolled_ruling own
-put_readies w before given moment asked put ceiling r same m is h =
-    subst (λ v. Readies v asked.operator (enrolled_ruling (own v asked.operator) (held v asked.operator)
+put_readies permitted w before given moment asked put ceiling r same m is h =
+    subst (λ v. Readies v asked.operator (enrolled_ruling permitted (own v asked.operator)
+    (held v asked.operator)
     ceiling moment asked.call) r) same
-    (subst (λ t. Readies w asked.operator (enrolled_ruling (own w asked.operator)
+    (subst (λ t. Readies w asked.operator (enrolled_ruling permitted (own w asked.operator)
     (held w asked.operator)
     ceiling t asked.call) r) m
-    (subst (λ c. Readies w asked.operator (enrolled_ruling (own w asked.operator)
+    (subst (λ c. Readies w asked.operator (enrolled_ruling permitted (own w asked.operator)
     (held w asked.operator)
     ceiling given c) r) (sym is) h))
 
 -- what is ready for a call of a kind is ready for the call
-readies_as : (w before : World) (moment : ℤ) (asked : Asked) (kind : Call) (ceiling : ℕ)
+readies_as : (permitted : List ℕ) (w before : World) (moment : ℤ) (asked : Asked) (kind : Call) (ceiling : ℕ)
     (r : Result Pending DeskFault) → w ≡ before → asked.call ≡ kind
-    → Readies w asked.operator (enrolled_ruling (own w asked.operator) (held w asked.operator) ceiling
+    → Readies w asked.operator (enrolled_ruling permitted (own w asked.operator) (held w asked.operator)
+    ceiling
     moment
-    kind) r → Readies before asked.operator (enrolled_ruling (own before asked.operator)
+    kind) r → Readies before asked.operator (enrolled_ruling permitted (own before asked.operator)
     (held before asked.operator) ceiling moment asked.call) r
-readies_as w before moment asked kind ceiling r same is h =
-    subst (λ v. Readies v asked.operator (enrolled_ruling (own v asked.operator) (held v asked.operator)
+readies_as permitted w before moment asked kind ceiling r same is h =
+    subst (λ v. Readies v asked.operator (enrolled_ruling permitted (own v asked.operator)
+    (held v asked.operator)
     ceiling moment asked.call) r) same
-    (subst (λ c. Readies w asked.operator (enrolled_ruling (own w asked.operator)
+    (subst (λ c. Readies w asked.operator (enrolled_ruling permitted (own w asked.operator)
     (held w asked.operator)
     ceiling moment c) r) (sym is) h)
 
-pub list_readies : (w before : World) (moment : ℤ) (asked : Asked) (ceiling : ℕ)
+pub list_readies : (permitted : List ℕ) (w before : World) (moment : ℤ) (asked : Asked) (ceiling : ℕ)
     (r : Result Pending DeskFault) → w ≡ before → asked.call ≡ call.List
-    → Readies w asked.operator (list_ruling (plans_of asked.operator w) (held w asked.operator)) r
-    → Readies before asked.operator (enrolled_ruling (own before asked.operator)
+    → Readies w asked.operator (list_ruling permitted (plans_of asked.operator w) (held w asked.operator)) r
+    → Readies before asked.operator (enrolled_ruling permitted (own before asked.operator)
     (held before asked.operator)
     ceiling moment asked.call) r
 unfolding enrolled_ruling own
-list_readies w before moment asked ceiling r same is h =
-    readies_as w before moment asked call.List ceiling r same is h
+list_readies permitted w before moment asked ceiling r same is h =
+    readies_as permitted w before moment asked call.List ceiling r same is h
 
-pub show_readies : (w before : World) (moment : ℤ) (asked : Asked) (id : List ℕ) (ceiling : ℕ)
+pub show_readies : (permitted : List ℕ) (w before : World) (moment : ℤ) (asked : Asked) (id : List ℕ)
+    (ceiling : ℕ)
     (r : Result Pending DeskFault) → w ≡ before → asked.call ≡ call.Show id
-    → Readies w asked.operator (show_ruling (plans_of asked.operator w) (held w asked.operator)
+    → Readies w asked.operator (show_ruling permitted (plans_of asked.operator w) (held w asked.operator)
     (stored_of id (plans_of asked.operator w))) r → Readies before asked.operator
-    (enrolled_ruling (own before asked.operator) (held before asked.operator) ceiling moment asked.call)
+    (enrolled_ruling permitted (own before asked.operator) (held before asked.operator) ceiling moment
+    asked.call)
     r
 unfolding enrolled_ruling own
-show_readies w before moment asked id ceiling r same is h =
-    readies_as w before moment asked (call.Show id) ceiling r same is h
+show_readies permitted w before moment asked id ceiling r same is h =
+    readies_as permitted w before moment asked (call.Show id) ceiling r same is h
 
-pub clear_readies : (w before : World) (moment : ℤ) (asked : Asked) (extent : Block) (ceiling : ℕ)
+pub clear_readies : (permitted : List ℕ) (w before : World) (moment : ℤ) (asked : Asked) (extent : Block)
+    (ceiling : ℕ)
     (r : Result Pending DeskFault) → w ≡ before → asked.call ≡ call.Clear extent
     → Readies w asked.operator (clear_ruling (plans_of asked.operator w) extent) r
-    → Readies before asked.operator (enrolled_ruling (own before asked.operator)
+    → Readies before asked.operator (enrolled_ruling permitted (own before asked.operator)
     (held before asked.operator)
     ceiling moment asked.call) r
 unfolding enrolled_ruling own
-clear_readies w before moment asked extent ceiling r same is h =
-    readies_as w before moment asked (call.Clear extent) ceiling r same is h
+clear_readies permitted w before moment asked extent ceiling r same is h =
+    readies_as permitted w before moment asked (call.Clear extent) ceiling r same is h
 
-pub delete_readies : (w before : World) (moment : ℤ) (asked : Asked) (id : List ℕ) (ceiling : ℕ)
+pub delete_readies : (permitted : List ℕ) (w before : World) (moment : ℤ) (asked : Asked) (id : List ℕ)
+    (ceiling : ℕ)
     (r : Result Pending DeskFault) → w ≡ before → asked.call ≡ call.Delete id
     → Readies w asked.operator (delete_ruling (plans_of asked.operator w) id
     (stored_of id (plans_of asked.operator w))) r → Readies before asked.operator
-    (enrolled_ruling (own before asked.operator) (held before asked.operator) ceiling moment asked.call)
+    (enrolled_ruling permitted (own before asked.operator) (held before asked.operator) ceiling moment
+    asked.call)
     r
 unfolding enrolled_ruling own
-delete_readies w before moment asked id ceiling r same is h =
-    readies_as w before moment asked (call.Delete id) ceiling r same is h
+delete_readies permitted w before moment asked id ceiling r same is h =
+    readies_as permitted w before moment asked (call.Delete id) ceiling r same is h

@@ -34,7 +34,7 @@ use Rattle.desk_store.specs.OrderLaws.{all_weaker, all_filter, all_map, sorted_m
 use Rattle.desk_store.specs.WorldLaws.{fewer}
 use Rattle.desk_run.specs.Verdicts.{replied, is_in, clear_ruling}
 use Rattle.desk_run.specs.declared.pending.Pending.{Pending}
-use Rattle.desk_run.specs.Calls.{ids_in, IsClearing, IsReady, world_committed}
+use Rattle.desk_run.specs.Calls.{ids_in, IsClearing, IsReady}
 
 -- an extent's ids, plan by plan
 ids_append : (extent : Block) (rows : List PlanRow) (row : PlanRow)
@@ -224,7 +224,6 @@ pub none_cleared : (w : World) (o : List ℕ) (extent : Block) (ids : List (List
     → ids ≡ ids_in extent (plans_of o w) → length ids ≡ 0
     → IsReady w o (clear_ruling (plans_of o w) extent)
     (record { reply = reply.Cleared 0; change = None })
-unfolding world_committed
 none_cleared w o extent ids is none =
     let rows = plans_of o w in
     let taken : filter (is_in extent) rows ≡ [] =
@@ -262,7 +261,6 @@ pub some_cleared : (w : World) (o : List ℕ) (extent : Block) (ids : List (List
     → IsSome (ceiling_of o w)
     → IsReady w o (clear_ruling (plans_of o w) extent)
     (record { reply = reply.Cleared count; change = Some c })
-unfolding world_committed
 some_cleared w o extent ids count c is some parts counted s few listed =
     let rows = plans_of o w in
     let taken = filter (is_in extent) rows in

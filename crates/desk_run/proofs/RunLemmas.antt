@@ -1,7 +1,7 @@
 -- Runs: the calls answered so far.
 use Rattle.std.proofs.Common.{◌≡◌, ℕ, ℤ, ◌+◌, ◌<◌, List, [], ◌∷◌, ◌++◌, length, take, get_or, map, Result, Ok, Err, inl, inr, OnOk, OnErr, refl, sym, ap, subst, ◌∙◌}
 use Rattle.std.proofs.lemmas.List.{take_more, map-append, length-append}
-use Rattle.desk_store.specs.World.{World}
+use Rattle.desk_run.specs.DeskWorld.{DeskWorld}
 use Rattle.desk_rules.specs.declared.call.Asked.{Asked}
 use Rattle.desk_rules.specs.declared.reply.Reply.{Reply}
 use Rattle.desk_run.specs.declared.fault.DeskFault.{DeskFault}
@@ -14,32 +14,32 @@ use Rattle.desk_run.specs.Runs.{told_in, world_left, told_by, outcome_of, EndsAt
 use Rattle.desk_run.specs.Faults.{IsBreakdown}
 
 -- the first calls are answered
-pub record AreAnswered (w : World) (calls : List (ℤ × Asked)) (n : ℕ) (outcomes : List Outcome)
-    (now : World) : Type 0 where
+pub record AreAnswered (w : DeskWorld) (calls : List (ℤ × Asked)) (n : ℕ) (outcomes : List Outcome)
+    (now : DeskWorld) : Type 0 where
   pub told : map told_by outcomes ≡ told_in w (take n calls)
   pub left : now ≡ world_left w (take n calls)
   pub count : length outcomes ≡ n
 
-pub none_answered : (w now : World) (calls : List (ℤ × Asked)) (outcomes : List Outcome) → outcomes ≡ []
+pub none_answered : (w now : DeskWorld) (calls : List (ℤ × Asked)) (outcomes : List Outcome) → outcomes ≡ []
     → now
     ≡ w → AreAnswered w calls 0 outcomes now
 none_answered w now calls outcomes is same = record
     { told = ap (map told_by) is; left = same; count = ap length is }
 
-told_more : (w : World) (calls : List (ℤ × Asked)) (call : ℤ × Asked) → told_in w (calls ++ call ∷ [])
+told_more : (w : DeskWorld) (calls : List (ℤ × Asked)) (call : ℤ × Asked) → told_in w (calls ++ call ∷ [])
     ≡ told_in w calls ++ told_to (world_left w calls) call.1.operator call.0 call.1.call ∷ []
 told_more w [] call = refl
 told_more w (c ∷ calls) call = ap (λ ts. told_to w c.1.operator c.0 c.1.call ∷ ts)
     (told_more (step w c.1.operator c.0 c.1.call) calls call)
 
-left_more : (w : World) (calls : List (ℤ × Asked)) (call : ℤ × Asked)
+left_more : (w : DeskWorld) (calls : List (ℤ × Asked)) (call : ℤ × Asked)
     → world_left w (calls ++ call ∷ [])
     ≡ step (world_left w calls) call.1.operator call.0 call.1.call
 left_more w [] call = refl
 left_more w (c ∷ calls) call = left_more (step w c.1.operator c.0 c.1.call) calls call
 
 -- one more is
-pub one_answered : (w now after : World) (calls : List (ℤ × Asked)) (n : ℕ) (outcomes : List Outcome)
+pub one_answered : (w now after : DeskWorld) (calls : List (ℤ × Asked)) (n : ℕ) (outcomes : List Outcome)
     (call : ℤ × Asked) (o : Outcome) → AreAnswered w calls n outcomes now → n < length calls → call
     ≡ get_or calls n call → told_to now call.1.operator call.0 call.1.call ≡ told_by o → after
     ≡ step now call.1.operator call.0 call.1.call
@@ -61,7 +61,7 @@ one_answered w now after calls n outcomes call o h below is told left =
     }
 
 -- what was answered was told so, and its step made
-pub answered_is : (w after : World) (moment : ℤ) (asked : Asked) (r : Result Reply DeskFault)
+pub answered_is : (w after : DeskWorld) (moment : ℤ) (asked : Asked) (r : Result Reply DeskFault)
     (o : Outcome)
     → Tells w moment asked r → OnOk r (after ≡ step w asked.operator moment asked.call)
     → OnErr r (after ≡ w)
@@ -80,14 +80,14 @@ answered_is w after moment asked (Err Store) o told ok err is = cc
 answered_is w after moment asked (Err Ceiling) o told ok err is = cc
 
 -- what stops a run changed nothing
-pub stopped_is : (w after : World) (r : Result Reply DeskFault) (fault : DeskFault)
+pub stopped_is : (w after : DeskWorld) (r : Result Reply DeskFault) (fault : DeskFault)
     → OnErr r (after ≡ w)
     → outcome_of r ≡ Err fault → after ≡ w
 stopped_is w after (Ok reply) fault err is = cc
 stopped_is w after (Err e) fault err is = err
 
 -- and is a breakdown
-pub breaks_down : (w : World) (moment : ℤ) (asked : Asked) (r : Result Reply DeskFault)
+pub breaks_down : (w : DeskWorld) (moment : ℤ) (asked : Asked) (r : Result Reply DeskFault)
     (fault : DeskFault)
     → Tells w moment asked r → outcome_of r ≡ Err fault → IsBreakdown fault
 breaks_down w moment asked (Ok reply) fault told is = cc
@@ -98,7 +98,7 @@ breaks_down w moment asked (Err Store) fault told is = inr cc
 breaks_down w moment asked (Err Ceiling) fault told is = absurd told
 
 -- a run of the calls answered
-pub run_is : (w after : World) (calls : List (ℤ × Asked)) (n : ℕ) (ran : Ran)
+pub run_is : (w after : DeskWorld) (calls : List (ℤ × Asked)) (n : ℕ) (ran : Ran)
     → AreAnswered w calls n ran.outcomes.items after → EndsAt ran.stopped n (length calls)
     → IsRun w calls ran after
 run_is w after calls n ran h ends = record {

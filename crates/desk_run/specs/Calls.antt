@@ -16,19 +16,20 @@ use Rattle.desk_rules.specs.declared.call.Asked.{Asked}
 use Rattle.desk_rules.specs.declared.reply.Reply.{Reply}
 use Rattle.desk_rules.specs.declared.reply.Reply.TheVariants.{Cleared}
 use Rattle.desk_rules.specs.Replies.{said_in}
+use Rattle.desk_run.specs.DeskWorld.{DeskWorld}
 use Rattle.desk_run.specs.declared.pending.Pending.{Pending}
 use Rattle.desk_run.specs.declared.fault.DeskFault.{DeskFault}
 use Rattle.desk_run.specs.declared.fault.DeskFault.TheVariants.{OutOfMemory, Store, UnknownOperator, NoSuchPlan, Ceiling}
 use Rattle.desk_run.specs.Verdicts.{Told, Ruling, replied, unknown_operator, no_such_plan, is_in, row_asked, ruling_alone, world_with_plans, told_to, step}
 
 -- a call without a reply: what the caller is told instead, and that the call leaves the world as it was
-pub record IsUnanswered (w : World) (moment : ℤ) (asked : Asked) (reason : Told) : Type 0 where
+pub record IsUnanswered (w : DeskWorld) (moment : ℤ) (asked : Asked) (reason : Told) : Type 0 where
   pub told : told_to w asked.operator moment asked.call ≡ reason
   pub left : step w asked.operator moment asked.call ≡ w
 
 -- a reply is told as it is, and so are an unknown operator and a plan that is not there; of want of
 -- memory, and of a store that failed, nothing is claimed; no other fault comes
-abbrev pub Tells : World → ℤ → Asked → Result Reply DeskFault → Type 0
+abbrev pub Tells : DeskWorld → ℤ → Asked → Result Reply DeskFault → Type 0
 Tells w moment asked (Ok r) = told_to w asked.operator moment asked.call ≡ replied (said_in r)
 Tells w moment asked (Err UnknownOperator) = IsUnanswered w moment asked unknown_operator
 Tells w moment asked (Err NoSuchPlan) = IsUnanswered w moment asked no_such_plan
@@ -51,12 +52,12 @@ abbrev pub reply_in : Pending → Reply
 reply_in p = p.reply
 
 -- what is pending may be committed
-abbrev pub CanCommit : World → Pending → Type 0
-CanCommit w p = Fits w p.change
+abbrev pub CanCommit : DeskWorld → Pending → Type 0
+CanCommit w p = Fits w.content p.change
 
--- the world with what is pending committed
-unfoldable pub world_committed : World → Pending → World
-world_committed w p = world_with w p.change
+-- the desk's world with what is pending committed
+unfoldable pub world_committed : DeskWorld → Pending → DeskWorld
+world_committed w p = record w { content = world_with w.content p.change }
 
 -- a reply that says the same, with a change that asks for the same
 pub record IsSamePending (p copy : Pending) : Type 0 where
@@ -66,8 +67,8 @@ pub record IsSamePending (p copy : Pending) : Type 0 where
 -- what is pending is what an answer to an operator says
 pub record IsReady (w : World) (operator : List ℕ) (a : Ruling) (p : Pending) : Type 0 where
   pub told : a.told ≡ replied (said_in (reply_in p))
-  pub left : world_committed w p ≡ world_with_plans w operator a.plans
-  pub fits : CanCommit w p
+  pub left : world_with w p.change ≡ world_with_plans w operator a.plans
+  pub fits : Fits w p.change
 
 -- where there is one; that there is no such plan, where the answer says so
 abbrev pub Readies : World → List ℕ → Ruling → Result Pending DeskFault → Type 0
@@ -94,12 +95,12 @@ pub record IsClearing (operator : List ℕ) (ids : List (List ℕ)) (p : Pending
   pub asked : MatchOption p.change (ids ≡ []) (λ c. (0 < length ids) × (parts_in c ≡ clear operator ids))
 
 -- what is pending is the reply and the change of the call at the moment, and may be committed
-pub record IsPending (w : World) (moment : ℤ) (asked : Asked) (p : Pending) : Type 0 where
+pub record IsPending (w : DeskWorld) (moment : ℤ) (asked : Asked) (p : Pending) : Type 0 where
   pub told : told_to w asked.operator moment asked.call ≡ replied (said_in (reply_in p))
   pub left : world_committed w p ≡ step w asked.operator moment asked.call
   pub fits : CanCommit w p
 
-abbrev pub Prepares : World → ℤ → Asked → Result Pending DeskFault → Type 0
+abbrev pub Prepares : DeskWorld → ℤ → Asked → Result Pending DeskFault → Type 0
 Prepares w moment asked (Ok p) = IsPending w moment asked p
 Prepares w moment asked (Err UnknownOperator) = IsUnanswered w moment asked unknown_operator
 Prepares w moment asked (Err NoSuchPlan) = IsUnanswered w moment asked no_such_plan

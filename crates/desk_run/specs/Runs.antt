@@ -1,6 +1,6 @@
 -- Runs: calls answered one after the other.
 use Rattle.std.specs.Prelude.{◌≡◌, ◌<◌, ℕ, ℤ, List, [], ◌∷◌, length, take, map, Option, None, Some, Result, Ok, Err}
-use Rattle.desk_store.specs.World.{World}
+use Rattle.desk_run.specs.DeskWorld.{DeskWorld}
 use Rattle.desk_rules.specs.declared.call.Asked.{Asked}
 use Rattle.desk_rules.specs.declared.reply.Reply.{Reply}
 use Rattle.desk_rules.specs.Replies.{said_in}
@@ -13,14 +13,14 @@ use Rattle.desk_run.specs.Faults.{IsBreakdown}
 use Rattle.desk_run.specs.Verdicts.{Told, replied, unknown_operator, no_such_plan, told_to, step}
 
 -- what each caller is told
-abbrev pub told_in : World → List (ℤ × Asked) → List Told
+abbrev pub told_in : DeskWorld → List (ℤ × Asked) → List Told
 told_in w [] = []
 told_in w (call ∷ calls) =
     told_to w call.1.operator call.0 call.1.call
     ∷ told_in (step w call.1.operator call.0 call.1.call) calls
 
 -- the world after all calls
-abbrev pub world_left : World → List (ℤ × Asked) → World
+abbrev pub world_left : DeskWorld → List (ℤ × Asked) → DeskWorld
 world_left w [] = w
 world_left w (call ∷ calls) = world_left (step w call.1.operator call.0 call.1.call) calls
 
@@ -52,7 +52,7 @@ EndsAt (Some fault) answered asked = IsCutShort fault answered asked
 
 -- the calls answered are the first of the list, all of them where nothing stopped the run; the
 -- outcomes, and what is left, are theirs
-pub record IsRun (w : World) (calls : List (ℤ × Asked)) (ran : Ran) (after : World) : Type 0 where
+pub record IsRun (w : DeskWorld) (calls : List (ℤ × Asked)) (ran : Ran) (after : DeskWorld) : Type 0 where
   pub told : map told_by ran.outcomes.items ≡ told_in w (take (length ran.outcomes.items) calls)
   pub left : after ≡ world_left w (take (length ran.outcomes.items) calls)
   pub ends : EndsAt ran.stopped (length ran.outcomes.items) (length calls)

@@ -2,15 +2,17 @@
 use Rattle.std.specs.Prelude.{◌≡◌, ℕ, List, [], ◌∷◌, Bool, true, false, cond, Option, None, Some}
 use Rattle.std.specs.Ordering.{is_eq}
 use Rattle.volume4d.specs.Point.{Point, is_leaf}
-use Rattle.desk_store.specs.World.{World, own, held, text_cmp}
+use Rattle.desk_store.specs.World.{text_cmp}
+use Rattle.desk_run.specs.DeskWorld.{DeskWorld, side, held_in}
 
--- the operator owns the same in two worlds: its ceiling and its plans
-abbrev pub OwnAlike : List ℕ → World → World → Type 0
-OwnAlike o v w = own v o ≡ own w o
+-- the operator owns the same in two worlds, its ceiling and its plans, and the same priorities are
+-- permitted
+abbrev pub OwnAlike : List ℕ → DeskWorld → DeskWorld → Type 0
+OwnAlike o v w = side v o ≡ side w o
 
 -- the greatest priority that other operators hold is the same at each leaf cell, altitude and second
-abbrev pub HoldAlike : List ℕ → World → World → Type 0
-HoldAlike o v w = (x : Point) → is_leaf x.leaf ≡ true → held v o x ≡ held w o x
+abbrev pub HoldAlike : List ℕ → DeskWorld → DeskWorld → Type 0
+HoldAlike o v w = (x : Point) → is_leaf x.leaf ≡ true → held_in v o x ≡ held_in w o x
 
 -- whether a request is the operator's, by the name of its caller, or none
 abbrev pub is_from : List ℕ → Option (List ℕ) → Bool
@@ -25,6 +27,7 @@ beside caller o (r ∷ rs) (x ∷ xs) =
     cond (is_from o (caller r)) (x ∷ beside caller o rs xs) (beside caller o rs xs)
 
 -- something said of each request at the world before it
-abbrev pub along : {R A : Type 0} → (World → R → World) → (World → R → A) → World → List R → List A
+abbrev pub along : {R A : Type 0} → (DeskWorld → R → DeskWorld) → (DeskWorld → R → A) → DeskWorld
+    → List R → List A
 along left f w [] = []
 along left f w (r ∷ rs) = f w r ∷ along left f (left w r) rs

@@ -4,9 +4,10 @@ use Rattle.std.specs.List.{AllZip}
 use Rattle.std.specs.declared.cmp.Ordering.{Ordering}
 use Rattle.std.specs.Ordering.{is_eq}
 use Rattle.std.proofs.lemmas.Map.Lookups.{exact_bytes}
-use Rattle.desk_store.specs.World.{World, Own, own, held, text_cmp}
+use Rattle.desk_store.specs.World.{own, text_cmp}
 use Rattle.desk_store.specs.OrderLaws.{is_equal}
-use Rattle.desk_run.specs.Verdicts.{Told, verdict, own_left, told_to, step}
+use Rattle.desk_run.specs.DeskWorld.{DeskWorld, Side, side, held_in}
+use Rattle.desk_run.specs.Verdicts.{Told, verdict, side_left, told_to, step}
 use Rattle.desk_run.specs.Runs.{told_in, world_left}
 use Rattle.desk_run.specs.Sides.{OwnAlike, HoldAlike, beside, along}
 use Rattle.desk_run.specs.TwoRuns.{Made, caller, left, calls_of, met_by, IsSameFor}
@@ -16,20 +17,20 @@ use Rattle.desk_run.specs.SideLaws.{everywhere, Levels, IsSeenBy, IsKeptBy, afte
 pub same_name : (o name : List ℕ) → is_eq (text_cmp o name) ≡ true → o ≡ name
 same_name o name e = exact_bytes o name (is_equal (text_cmp o name) e)
 
--- what is told, and what is left to its operator, by what that operator owns and what others hold
-abbrev pub tell : Own → Levels → Made → Told
-tell mine levels call = (verdict mine levels call.0 call.1.call).told
+-- what is told, and what is left to its operator, by its side and what others hold
+abbrev pub tell : Side → Levels → Made → Told
+tell mine levels call = (verdict mine.permitted mine.own levels call.0 call.1.call).told
 
-abbrev pub keep : Own → Levels → Made → Own
-keep mine levels call = own_left mine levels call.0 call.1.call
+abbrev pub keep : Side → Levels → Made → Side
+keep mine levels call = side_left mine levels call.0 call.1.call
 
-abbrev pub told_at : World → Made → Told
+abbrev pub told_at : DeskWorld → Made → Told
 told_at w call = told_to w call.1.operator call.0 call.1.call
 
 pub seen : (o : List ℕ) → IsSeenBy caller o told_at tell
 unfolding told_to
 seen o w call e =
-    ap (λ name. (verdict (own w name) (held w name) call.0 call.1.call).told)
+    ap (λ name. (verdict w.permitted (own w.content name) (held_in w name) call.0 call.1.call).told)
     (sym (same_name o call.1.operator e))
 
 pub kept : (o : List ℕ) → IsKeptBy caller o left keep
@@ -37,28 +38,27 @@ kept o = record {
   mine = mine;
   others = λ w call e. others_stay w call.1.operator o call.0 call.1.call e;
 } where
-  mine : IsSeenBy caller o (λ w call. own (left w call) o) keep
+  mine : IsSeenBy caller o (λ w call. side (left w call) o) keep
   mine w call e =
-      subst
-      (λ name. own (step w name call.0 call.1.call) o ≡ own_left (own w o) (held w o) call.0 call.1.call)
+      subst (λ name. side (step w name call.0 call.1.call) o ≡ keep (side w o) (held_in w o) call)
       (same_name o call.1.operator e) (own_stays w o call.0 call.1.call)
 
 -- a call of an operator to which two worlds look alike is told the same
-pub told_alike : (v w : World) (call : Made) → OwnAlike call.1.operator v w → HoldAlike call.1.operator v w
-    → told_at v call ≡ told_at w call
+pub told_alike : (v w : DeskWorld) (call : Made) → OwnAlike call.1.operator v w
+    → HoldAlike call.1.operator v w → told_at v call ≡ told_at w call
 unfolding told_to
 told_alike v w call own_same held_same = λ i.
-    (verdict (own_same i) (everywhere call.1.operator v w held_same i) call.0 call.1.call).told
+    tell (own_same i) (everywhere call.1.operator v w held_same i) call
 
-told_along : (w : World) (calls : List Made) → told_in w calls ≡ along left told_at w calls
+told_along : (w : DeskWorld) (calls : List Made) → told_in w calls ≡ along left told_at w calls
 told_along w [] = refl
 told_along w (call ∷ calls) = ap (λ ts. told_at w call ∷ ts) (told_along (left w call) calls)
 
-left_all : (w : World) (calls : List Made) → world_left w calls ≡ after_all left w calls
+left_all : (w : DeskWorld) (calls : List Made) → world_left w calls ≡ after_all left w calls
 left_all w [] = refl
 left_all w (call ∷ calls) = left_all (left w call) calls
 
-pub same_for : (o : List ℕ) (v w : World) (calls others : List Made) → OwnAlike o v w
+pub same_for : (o : List ℕ) (v w : DeskWorld) (calls others : List Made) → OwnAlike o v w
     → calls_of o calls ≡ calls_of o others → AllZip (HoldAlike o) (met_by o v calls) (met_by o w others)
     → IsSameFor o v calls w others
 same_for o v w calls others own_same asked held = record {
@@ -68,7 +68,7 @@ same_for o v w calls others own_same asked held = record {
       ∙ sym (ap (beside caller o others) (told_along w others));
   owned = same_found caller o left keep (kept o) _ keep (kept o).mine v w calls others own_same asked held;
   at_end =
-      ap (λ u. own u o) (left_all v calls)
+      ap (λ u. side u o) (left_all v calls)
       ∙ same_last caller o left keep (kept o) v w calls others own_same asked held
-      ∙ sym (ap (λ u. own u o) (left_all w others));
+      ∙ sym (ap (λ u. side u o) (left_all w others));
 }

@@ -1,6 +1,6 @@
 -- One operator's part of a run, and what is the same for it in two runs.
 use Rattle.std.specs.Prelude.{◌≡◌, ℕ, ℤ, List, Option, Some}
-use Rattle.desk_store.specs.World.{World, Own, own}
+use Rattle.desk_run.specs.DeskWorld.{DeskWorld, Side, side}
 use Rattle.desk_rules.specs.declared.call.Asked.{Asked}
 use Rattle.desk_run.specs.Verdicts.{Told, step}
 use Rattle.desk_run.specs.Runs.{told_in, world_left}
@@ -14,7 +14,7 @@ abbrev pub caller : Made → Option (List ℕ)
 caller call = Some call.1.operator
 
 -- the world that it leaves
-abbrev pub left : World → Made → World
+abbrev pub left : DeskWorld → Made → DeskWorld
 left w call = step w call.1.operator call.0 call.1.call
 
 -- the operator's calls, in their order
@@ -22,20 +22,20 @@ abbrev pub calls_of : List ℕ → List Made → List Made
 calls_of o calls = beside caller o calls calls
 
 -- what the operator is told
-abbrev pub told_for : List ℕ → World → List Made → List Told
+abbrev pub told_for : List ℕ → DeskWorld → List Made → List Told
 told_for o w calls = beside caller o calls (told_in w calls)
 
 -- the worlds that its calls meet
-abbrev pub met_by : List ℕ → World → List Made → List World
+abbrev pub met_by : List ℕ → DeskWorld → List Made → List DeskWorld
 met_by o w calls = beside caller o calls (along left (λ u call. u) w calls)
 
--- what it owns after each of its calls
-abbrev pub owned_by : List ℕ → World → List Made → List Own
-owned_by o w calls = beside caller o calls (along left (λ u call. own (left u call) o) w calls)
+-- what it owns after each of its calls, and the permitted priorities
+abbrev pub owned_by : List ℕ → DeskWorld → List Made → List Side
+owned_by o w calls = beside caller o calls (along left (λ u call. side (left u call) o) w calls)
 
 -- two runs are the same for an operator: it is told the same, and it owns the same after each of its
 -- calls and at the end
-pub record IsSameFor (o : List ℕ) (v : World) (calls : List Made) (w : World) (others : List Made) :
+pub record IsSameFor (o : List ℕ) (v : DeskWorld) (calls : List Made) (w : DeskWorld) (others : List Made) :
     Type 0 where
   pub told : told_for o v calls ≡ told_for o w others
   pub owned : owned_by o v calls ≡ owned_by o w others

@@ -1,5 +1,5 @@
--- Verdicts: what a desk answers to a call, and what it leaves, by what the operator owns and what
--- others hold.
+-- Verdicts: what a desk answers to a call, and what it leaves, by the permitted priorities, what the
+-- operator owns and what others hold.
 use Rattle.std.specs.Prelude.{ℕ, ℤ, length, List, [], ◌∷◌, map, Bool, not, cond, Option, Some, None}
 use Rattle.std.specs.List.{filter, list_any}
 use Rattle.std.specs.Option.{unwrap_or}
@@ -26,6 +26,7 @@ use Rattle.desk_rules.specs.Replies as said
 use Rattle.desk_rules.specs.Replies.{ReplyParts}
 use Rattle.desk_store.specs.World.{World, Own, own, held, held_at, plans_of, stored_of}
 use Rattle.desk_store.specs.Changes.{put_row, close_row, with_plans}
+use Rattle.desk_run.specs.DeskWorld.{DeskWorld, Side, held_in}
 
 -- what a caller is told: a reply, that the operator is not enrolled, or that it has no such plan
 pub data Told : Type 0 where
@@ -41,20 +42,20 @@ pub record Ruling : Type 0 where
 
 -- the verdict on a request to plan of an operator with a ceiling: the outcome with the conflict of
 -- the area asked
-unfoldable pub put_outcome : Own → (Point → Option ℕ) → ℕ → ℤ → PutCall → Verdict
-put_outcome mine others ceiling moment asked =
+unfoldable pub put_outcome : List ℕ → Own → (Point → Option ℕ) → ℕ → ℤ → PutCall → Verdict
+put_outcome permitted mine others ceiling moment asked =
     outcome asked moment (stored_of asked.id mine.plans) (length mine.plans) ceiling
-    (conflict asked.area (held_at mine.plans others asked.id) asked.priority)
+    (conflict permitted asked.area (held_at mine.plans others asked.id) asked.priority)
 
 -- that in a world
-abbrev pub put_outcome_in : World → List ℕ → ℕ → ℤ → PutCall → Verdict
-put_outcome_in w operator ceiling moment asked =
-    put_outcome (own w operator) (held w operator) ceiling moment asked
+abbrev pub put_outcome_in : List ℕ → World → List ℕ → ℕ → ℤ → PutCall → Verdict
+put_outcome_in permitted w operator ceiling moment asked =
+    put_outcome permitted (own w operator) (held w operator) ceiling moment asked
 
 -- the conflict of an area with a priority in a world, of an operator's plan of an id
-abbrev pub conflict_in : World → List ℕ → List ℕ → List Block → ℕ → Option Spot
-conflict_in w operator id area priority =
-    conflict area (held_at (plans_of operator w) (held w operator) id) priority
+abbrev pub conflict_in : List ℕ → World → List ℕ → List ℕ → List Block → ℕ → Option Spot
+conflict_in permitted w operator id area priority =
+    conflict permitted area (held_at (plans_of operator w) (held w operator) id) priority
 
 -- the plan that a request asks for
 abbrev pub row_asked : PutCall → PlanRow
@@ -99,30 +100,37 @@ delete_ruling rows id (Some row) =
     }
 
 -- the conflict of a live plan's area at its own priority; a closed plan has none
-abbrev pub conflict_shown : List PlanRow → (Point → Option ℕ) → PlanRow → Option Spot
-conflict_shown rows others row =
-    cond (is_live row.usage) (conflict row.area (held_at rows others row.id) row.priority) None
+abbrev pub conflict_shown : List ℕ → List PlanRow → (Point → Option ℕ) → PlanRow → Option Spot
+conflict_shown permitted rows others row =
+    cond (is_live row.usage) (conflict permitted row.area (held_at rows others row.id) row.priority) None
 
 -- a plan as it is shown to its operator, who has these plans beside what others hold
-abbrev pub shown_plan : List PlanRow → (Point → Option ℕ) → PlanRow → Shown
-shown_plan rows others row =
-    record { row = row; status = status_of (Some row); conflict = conflict_shown rows others row }
+abbrev pub shown_plan : List ℕ → List PlanRow → (Point → Option ℕ) → PlanRow → Shown
+shown_plan permitted rows others row =
+    record {
+      row = row;
+      status = status_of (Some row);
+      conflict = conflict_shown permitted rows others row;
+    }
 
 -- these in a world
-abbrev pub conflict_shown_in : World → List ℕ → PlanRow → Option Spot
-conflict_shown_in w operator row = conflict_shown (plans_of operator w) (held w operator) row
+abbrev pub conflict_shown_in : List ℕ → World → List ℕ → PlanRow → Option Spot
+conflict_shown_in permitted w operator row =
+    conflict_shown permitted (plans_of operator w) (held w operator) row
 
-abbrev pub shown_in : World → List ℕ → PlanRow → Shown
-shown_in w operator row = shown_plan (plans_of operator w) (held w operator) row
+abbrev pub shown_in : List ℕ → World → List ℕ → PlanRow → Shown
+shown_in permitted w operator row = shown_plan permitted (plans_of operator w) (held w operator) row
 
 -- all plans of the operator are shown, by id
-abbrev pub list_ruling : List PlanRow → (Point → Option ℕ) → Ruling
-list_ruling rows others = ruling_alone (replied (said.plans (map (shown_plan rows others) rows)))
+abbrev pub list_ruling : List ℕ → List PlanRow → (Point → Option ℕ) → Ruling
+list_ruling permitted rows others =
+    ruling_alone (replied (said.plans (map (shown_plan permitted rows others) rows)))
 
 -- the plan of an id is shown, if there is one
-abbrev pub show_ruling : List PlanRow → (Point → Option ℕ) → Option PlanRow → Ruling
-show_ruling rows others None = ruling_alone no_such_plan
-show_ruling rows others (Some row) = ruling_alone (replied (said.plan (shown_plan rows others row)))
+abbrev pub show_ruling : List ℕ → List PlanRow → (Point → Option ℕ) → Option PlanRow → Ruling
+show_ruling permitted rows others None = ruling_alone no_such_plan
+show_ruling permitted rows others (Some row) =
+    ruling_alone (replied (said.plan (shown_plan permitted rows others row)))
 
 -- a plan, closed or not, that shares a point with an extent
 abbrev pub is_in : Block → PlanRow → Bool
@@ -137,44 +145,57 @@ clear_ruling rows extent =
     }
 
 -- the answer to a call of an operator under a ceiling
-unfoldable pub enrolled_ruling : Own → (Point → Option ℕ) → ℕ → ℤ → Call → Ruling
-enrolled_ruling mine others ceiling moment call.Status = ruling_alone (replied said.ready)
-enrolled_ruling mine others ceiling moment call.List = list_ruling mine.plans others
-enrolled_ruling mine others ceiling moment (call.Show id) =
-    show_ruling mine.plans others (stored_of id mine.plans)
-enrolled_ruling mine others ceiling moment (call.Put asked) =
-    put_ruling (put_outcome mine others ceiling moment asked) asked mine.plans
-enrolled_ruling mine others ceiling moment (call.Delete id) =
+unfoldable pub enrolled_ruling : List ℕ → Own → (Point → Option ℕ) → ℕ → ℤ → Call → Ruling
+enrolled_ruling permitted mine others ceiling moment call.Status = ruling_alone (replied said.ready)
+enrolled_ruling permitted mine others ceiling moment call.List = list_ruling permitted mine.plans others
+enrolled_ruling permitted mine others ceiling moment (call.Show id) =
+    show_ruling permitted mine.plans others (stored_of id mine.plans)
+enrolled_ruling permitted mine others ceiling moment (call.Put asked) =
+    put_ruling (put_outcome permitted mine others ceiling moment asked) asked mine.plans
+enrolled_ruling permitted mine others ceiling moment (call.Delete id) =
     delete_ruling mine.plans id (stored_of id mine.plans)
-enrolled_ruling mine others ceiling moment (call.Clear extent) = clear_ruling mine.plans extent
+enrolled_ruling permitted mine others ceiling moment (call.Clear extent) =
+    clear_ruling mine.plans extent
 
 -- the answer to a call; none is made to an operator that is not enrolled
-abbrev pub ruling_under : Option ℕ → Own → (Point → Option ℕ) → ℤ → Call → Ruling
-ruling_under None mine others moment asked = ruling_alone unknown_operator
-ruling_under (Some ceiling) mine others moment asked = enrolled_ruling mine others ceiling moment asked
+abbrev pub ruling_under : Option ℕ → List ℕ → Own → (Point → Option ℕ) → ℤ → Call → Ruling
+ruling_under None permitted mine others moment asked = ruling_alone unknown_operator
+ruling_under (Some ceiling) permitted mine others moment asked =
+    enrolled_ruling permitted mine others ceiling moment asked
 
-unfoldable pub verdict : Own → (Point → Option ℕ) → ℤ → Call → Ruling
-verdict mine others moment asked = ruling_under mine.ceiling mine others moment asked
+unfoldable pub verdict : List ℕ → Own → (Point → Option ℕ) → ℤ → Call → Ruling
+verdict permitted mine others moment asked =
+    ruling_under mine.ceiling permitted mine others moment asked
 
--- what the operator owns after a call
-unfoldable pub own_left : Own → (Point → Option ℕ) → ℤ → Call → Own
-own_left mine others moment asked =
-    record mine { plans = unwrap_or (verdict mine others moment asked).plans mine.plans }
+-- the operator's side after a call
+abbrev pub own_left : Own → Option (List PlanRow) → Own
+own_left mine plans = record mine { plans = unwrap_or plans mine.plans }
 
--- the world with an operator's plans replaced, where they changed
+unfoldable pub side_left : Side → (Point → Option ℕ) → ℤ → Call → Side
+side_left mine others moment asked =
+    record mine { own = own_left mine.own (verdict mine.permitted mine.own others moment asked).plans }
+
+-- a world with an operator's plans replaced, where they changed
 abbrev pub world_with_plans : World → List ℕ → Option (List PlanRow) → World
 world_with_plans w operator None = w
 world_with_plans w operator (Some rows) = with_plans w operator rows
 
--- a call at a moment: what the caller is told, and the world after it. The world is read through
--- what the operator owns and what others hold alone
-unfoldable pub told_to : World → List ℕ → ℤ → Call → Told
-told_to w operator moment asked = (verdict (own w operator) (held w operator) moment asked).told
+-- the verdict in a desk's world. It is read through the permitted priorities, what the operator owns
+-- and what others hold alone
+abbrev pub ruling_in : DeskWorld → List ℕ → ℤ → Call → Ruling
+ruling_in w operator moment asked =
+    verdict w.permitted (own w.content operator) (held_in w operator) moment asked
 
-unfoldable pub step : World → List ℕ → ℤ → Call → World
+-- a call at a moment: what the caller is told, and the desk's world after it
+unfoldable pub told_to : DeskWorld → List ℕ → ℤ → Call → Told
+told_to w operator moment asked = (ruling_in w operator moment asked).told
+
+unfoldable pub step : DeskWorld → List ℕ → ℤ → Call → DeskWorld
 step w operator moment asked =
-    world_with_plans w operator (verdict (own w operator) (held w operator) moment asked).plans
+    record w {
+      content = world_with_plans w.content operator (ruling_in w operator moment asked).plans;
+    }
 
--- the world after a call of an operator
-abbrev pub step_by : World → ℤ → Asked → World
+-- the desk's world after a call of an operator
+abbrev pub step_by : DeskWorld → ℤ → Asked → DeskWorld
 step_by w moment asked = step w asked.operator moment asked.call

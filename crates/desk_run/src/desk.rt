@@ -1,6 +1,6 @@
 //! The desk: calls answered over a store.
 
-ghost use Rattle.std.specs.Prelude.{◌≡◌, ◌≢◌, ◌≤◌, ◌<◌, ◌↔◌, Err, IfOk, IfErr, OnOk, OnErr};
+ghost use Rattle.std.specs.Prelude.{◌≡◌, ◌≢◌, ◌≤◌, ◌<◌, ◌↔◌, [], Err, IfOk, IfErr, OnOk, OnErr};
 ghost use Rattle.desk_rules.specs.Limits.{max_priority};
 
 use crate::fault::DeskFault;
@@ -8,6 +8,7 @@ use crate::pending::{Pending, commit_over, prepare_over};
 use desk_rules::call::Asked;
 use desk_rules::decide::MAX_PRIORITY;
 use desk_rules::operator::Operator;
+use desk_rules::permission::Permitted;
 use desk_rules::reply::Reply;
 use desk_store::{Change, PlanStore};
 use std::alloc::Global;
@@ -20,35 +21,49 @@ use std::marker::Model;
 #[derive(Drop)]
 pub struct Desk<S: PlanStore> {
     store: S,
+    permitted: Permitted,
 }
 
 impl<S: PlanStore> Model for Desk<S> {
-    ghost Value = { S };
+    ghost use Rattle.desk_run.specs.DeskWorld.{Parts, parts_code};
 
-    ghost coded = { S.code };
+    ghost Value = { Parts S };
 
-    ghost view = { λ d. d.store };
+    ghost coded = { parts_code S.code };
+
+    ghost view = { λ d. record { store = d.store; permitted = d.permitted } };
 }
 
 impl<S: PlanStore> Desk<S> {
-    ghost use Rattle.desk_store.specs.Changes.{with_operator};
     ghost use Rattle.desk_store.specs.Faults.{IsHonest, HasRisen};
+    ghost use Rattle.desk_run.specs.DeskWorld.{enrolled, world_of};
     ghost use Rattle.desk_run.specs.Faults.{IsBreakdown};
     ghost use Rattle.desk_run.specs.Verdicts.{step_by};
     ghost use Rattle.desk_run.specs.Calls.{Tells, Prepares, CanCommit, reply_in, world_committed};
 
-    /// A desk over a store.
+    /// A desk over a store, at which no priority is permitted.
     pub fn new(store: S) -> Desk<S>
-        ensures { result ≡ store }
+        ensures { result ≡ record { store = store; permitted = [] } }
     {
-        Desk { store }
+        Desk {
+            store,
+            permitted: Permitted::none(),
+        }
     }
 
     /// The store.
     pub fn into_store(self) -> S
-        ensures { result ≡ self }
+        ensures { result ≡ self.store }
     {
         self.store
+    }
+
+    /// Permits these priorities, and no others: a plan may share points with others of the same
+    /// priority where that is permitted. The content stays.
+    pub fn permit(&mut self, permitted: Permitted)
+        ensures { self.new ≡ record { store = self.old.store; permitted = permitted } }
+    {
+        self.permitted = permitted;
     }
 
     /// Lists the operator under a ceiling of at most 1,000; its plans stay.
@@ -57,15 +72,16 @@ impl<S: PlanStore> Desk<S> {
     ///
     /// `Ceiling` above 1,000, else `OutOfMemory` or `Store` where the store gave up: nothing changed.
     pub fn enrol(&mut self, operator: &Operator, ceiling: u32) -> Result<(), DeskFault>
-        ensures ok { IsHonest (S.doubt self.new) → OnOk result
-            (S.content self.new ≡ with_operator (S.content self.old) operator.now ceiling) }
-        ensures err { OnErr result (S.content self.new ≡ S.content self.old) }
+        ensures ok { IsHonest (S.doubt self.new.store) → OnOk result
+            (world_of S.content self.new ≡ enrolled (world_of S.content self.old) operator.now
+            ceiling) }
+        ensures err { OnErr result (world_of S.content self.new ≡ world_of S.content self.old) }
         ensures ceiling { (result ≡ Err DeskFault.Ceiling) ↔ (max_priority < ceiling) }
         ensures fault { IfErr result (λ e. (e ≢ DeskFault.Ceiling) → IsBreakdown e) }
-        ensures doubt { S.doubt self.old ≤ S.doubt self.new }
-        ensures counted { S.faults self.old ≤ S.faults self.new }
+        ensures doubt { S.doubt self.old.store ≤ S.doubt self.new.store }
+        ensures counted { S.faults self.old.store ≤ S.faults self.new.store }
         ensures cause { IfErr result (λ e. e ≡ DeskFault.Store →
-            HasRisen (S.faults self.old) (S.faults self.new)) }
+            HasRisen (S.faults self.old.store) (S.faults self.new.store)) }
     {
         if ceiling > MAX_PRIORITY {
             return Err(DeskFault::Ceiling);
@@ -89,15 +105,15 @@ impl<S: PlanStore> Desk<S> {
         moment: i64,
         asked: &Asked,
     ) -> Result<Pending, DeskFault>
-        ensures value { IsHonest (S.doubt self.new) →
-            Prepares (S.content self.old) moment asked.now result }
-        ensures same { S.content self.new ≡ S.content self.old }
-        ensures doubt { S.doubt self.old ≤ S.doubt self.new }
-        ensures counted { S.faults self.old ≤ S.faults self.new }
+        ensures value { IsHonest (S.doubt self.new.store) →
+            Prepares (world_of S.content self.old) moment asked.now result }
+        ensures same { world_of S.content self.new ≡ world_of S.content self.old }
+        ensures doubt { S.doubt self.old.store ≤ S.doubt self.new.store }
+        ensures counted { S.faults self.old.store ≤ S.faults self.new.store }
         ensures cause { IfErr result (λ e. e ≡ DeskFault.Store →
-            HasRisen (S.faults self.old) (S.faults self.new)) }
+            HasRisen (S.faults self.old.store) (S.faults self.new.store)) }
     {
-        prepare_over(alloc, &mut self.store, moment, asked)
+        prepare_over(alloc, &mut self.store, &self.permitted, moment, asked)
     }
 
     /// Makes the change that goes with a reply, and hands the reply back; a refusal drops it.
@@ -106,16 +122,17 @@ impl<S: PlanStore> Desk<S> {
     ///
     /// `OutOfMemory`, or `Store` where the store failed: nothing changed.
     pub fn commit(&mut self, pending: Pending) -> Result<Reply, DeskFault>
-        requires { IsHonest (S.doubt self.old) → CanCommit (S.content self.old) pending }
+        requires { IsHonest (S.doubt self.old.store) → CanCommit (world_of S.content self.old)
+            pending }
         ensures reply { IfOk result (λ reply. reply ≡ reply_in pending) }
-        ensures ok { IsHonest (S.doubt self.new) → OnOk result
-            (S.content self.new ≡ world_committed (S.content self.old) pending) }
-        ensures err { OnErr result (S.content self.new ≡ S.content self.old) }
+        ensures ok { IsHonest (S.doubt self.new.store) → OnOk result
+            (world_of S.content self.new ≡ world_committed (world_of S.content self.old) pending) }
+        ensures err { OnErr result (world_of S.content self.new ≡ world_of S.content self.old) }
         ensures fault { IfErr result (λ e. IsBreakdown e) }
-        ensures doubt { S.doubt self.old ≤ S.doubt self.new }
-        ensures counted { S.faults self.old ≤ S.faults self.new }
+        ensures doubt { S.doubt self.old.store ≤ S.doubt self.new.store }
+        ensures counted { S.faults self.old.store ≤ S.faults self.new.store }
         ensures cause { IfErr result (λ e. e ≡ DeskFault.Store →
-            HasRisen (S.faults self.old) (S.faults self.new)) }
+            HasRisen (S.faults self.old.store) (S.faults self.new.store)) }
     {
         commit_over(&mut self.store, pending)
     }
@@ -126,15 +143,15 @@ impl<S: PlanStore> Desk<S> {
     ///
     /// Those of `prepare`: nothing changed.
     pub fn call(&mut self, alloc: Global, moment: i64, asked: &Asked) -> Result<Reply, DeskFault>
-        ensures told { IsHonest (S.doubt self.new) →
-            Tells (S.content self.old) moment asked.now result }
-        ensures ok { IsHonest (S.doubt self.new) → OnOk result
-            (S.content self.new ≡ step_by (S.content self.old) moment asked.now) }
-        ensures err { OnErr result (S.content self.new ≡ S.content self.old) }
-        ensures doubt { S.doubt self.old ≤ S.doubt self.new }
-        ensures counted { S.faults self.old ≤ S.faults self.new }
+        ensures told { IsHonest (S.doubt self.new.store) →
+            Tells (world_of S.content self.old) moment asked.now result }
+        ensures ok { IsHonest (S.doubt self.new.store) → OnOk result
+            (world_of S.content self.new ≡ step_by (world_of S.content self.old) moment asked.now) }
+        ensures err { OnErr result (world_of S.content self.new ≡ world_of S.content self.old) }
+        ensures doubt { S.doubt self.old.store ≤ S.doubt self.new.store }
+        ensures counted { S.faults self.old.store ≤ S.faults self.new.store }
         ensures cause { IfErr result (λ e. e ≡ DeskFault.Store →
-            HasRisen (S.faults self.old) (S.faults self.new)) }
+            HasRisen (S.faults self.old.store) (S.faults self.new.store)) }
     {
         let pending = self.prepare(alloc, moment, asked)?;
         self.commit(pending)

@@ -7,38 +7,40 @@ ghost use Rattle.desk_rules.specs.declared.call.Call.{Call};
 ghost use Rattle.desk_rules.specs.declared.call.Call.TheVariants.{Delete};
 ghost use Rattle.desk_rules.specs.declared.plan.PlanRow.{PlanRow};
 ghost use Rattle.desk_rules.specs.declared.words.Usage.TheVariants as usage;
+ghost use Rattle.desk_run.specs.DeskWorld.{DeskWorld, side, held_in};
 ghost use Rattle.desk_run.specs.Sides.{HoldAlike, OwnAlike};
 ghost use Rattle.desk_run.specs.TwoRuns.{IsSameFor, Made, calls_of, met_by};
-ghost use Rattle.desk_run.specs.Verdicts.{own_left, step};
-ghost use Rattle.desk_store.specs.World.{World, IsWorld, own, held, plans_of, stored_of, text_cmp};
+ghost use Rattle.desk_run.specs.Verdicts.{side_left, step};
+ghost use Rattle.desk_store.specs.World.{IsWorld, plans_of, stored_of, text_cmp};
 
-/// A request changes no other operator's plans or ceiling.
+/// A request changes no other operator's plans or ceiling, and not the permitted priorities.
 pub fn others_are_kept()
-    ensures { (w : World) (operator other : List ℕ) (moment : ℤ) (call : Call) →
+    ensures { (w : DeskWorld) (operator other : List ℕ) (moment : ℤ) (call : Call) →
         is_eq (text_cmp other operator) ≡ false →
-        own (step w operator moment call) other ≡ own w other }
+        side (step w operator moment call) other ≡ side w other }
 {}
 
-/// What a request leaves its operator is decided by what that operator owns and what others hold.
+/// What a request leaves its operator is decided by what that operator owns, what others hold and the
+/// permitted priorities, which stay.
 pub fn own_is_decided()
-    ensures { (w : World) (operator : List ℕ) (moment : ℤ) (call : Call) →
-        own (step w operator moment call) operator
-        ≡ own_left (own w operator) (held w operator) moment call }
+    ensures { (w : DeskWorld) (operator : List ℕ) (moment : ℤ) (call : Call) →
+        side (step w operator moment call) operator
+        ≡ side_left (side w operator) (held_in w operator) moment call }
 {}
 
 /// Closing a plan that is closed leaves an equal world.
 pub fn closing_a_closed_plan_changes_nothing()
-    ensures { (w : World) (operator id : List ℕ) (moment : ℤ) (row : PlanRow) → IsWorld w →
-        stored_of id (plans_of operator w) ≡ Some row → row.usage ≡ usage.Closed →
+    ensures { (w : DeskWorld) (operator id : List ℕ) (moment : ℤ) (row : PlanRow) → IsWorld w.content →
+        stored_of id (plans_of operator w.content) ≡ Some row → row.usage ≡ usage.Closed →
         step w operator moment (Delete id) ≡ w }
 {}
 
-/// Two runs, from worlds in which an operator owns the same, with the same calls of that operator
-/// in the same order and at the same moments. If others hold the same before each of these calls,
-/// then the operator is told the same and owns the same after each of them and at the end, whatever
-/// calls of others stand between.
+/// Two runs, from worlds in which an operator owns the same and the same priorities are permitted,
+/// with the same calls of that operator in the same order and at the same moments. If others hold the
+/// same before each of these calls, then the operator is told the same and owns the same after each of
+/// them and at the end, whatever calls of others stand between.
 pub fn two_runs()
-    ensures { (operator : List ℕ) (v w : World) (calls others : List Made) →
+    ensures { (operator : List ℕ) (v w : DeskWorld) (calls others : List Made) →
         OwnAlike operator v w → calls_of operator calls ≡ calls_of operator others →
         AllZip (HoldAlike operator) (met_by operator v calls) (met_by operator w others) →
         IsSameFor operator v calls w others }

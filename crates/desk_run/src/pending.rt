@@ -3,12 +3,14 @@
 ghost use Rattle.std.specs.Prelude.{◌≡◌, ◌≤◌, Some, IfOk, IfErr, OnOk, OnErr};
 ghost use Rattle.desk_store.specs.Faults.{IsHonest, HasRisen};
 ghost use Rattle.desk_run.specs.Faults.{IsBreakdown};
-ghost use Rattle.desk_run.specs.Calls.{IsSamePending, Prepares, CanCommit, reply_in, world_committed};
+ghost use Rattle.desk_run.specs.DeskWorld.{with_content};
+ghost use Rattle.desk_run.specs.Calls.{IsSamePending, Prepares, Fits, reply_in, world_with};
 
 use crate::fault::DeskFault;
 use clear::ready_clear;
 use delete::ready_delete;
 use desk_rules::call::{Asked, Call};
+use desk_rules::permission::Permitted;
 use desk_rules::reply::Reply;
 use desk_store::{Change, PlanStore};
 use put::ready_put;
@@ -55,15 +57,16 @@ impl Pending {
     }
 }
 
-// Gets a reply ready over a store.
+// Gets a reply ready over a store, at a desk with these permitted priorities.
 pub fn prepare_over<S: PlanStore>(
     alloc: Global,
     store: &mut S,
+    permitted: &Permitted,
     moment: i64,
     asked: &Asked,
 ) -> Result<Pending, DeskFault>
     ensures value { IsHonest (S.doubt store.new) →
-        Prepares (S.content store.old) moment asked.now result }
+        Prepares (with_content permitted.now (S.content store.old)) moment asked.now result }
     ensures same { S.content store.new ≡ S.content store.old }
     ensures doubt { S.doubt store.old ≤ S.doubt store.new }
     ensures counted { S.faults store.old ≤ S.faults store.new }
@@ -79,9 +82,9 @@ pub fn prepare_over<S: PlanStore>(
             reply: Reply::Ready,
             change: None,
         }),
-        Call::List => ready_list(alloc, store, operator),
-        Call::Show(id) => ready_show(store, operator, id),
-        Call::Put(put) => ready_put(store, moment, operator, put, ceiling),
+        Call::List => ready_list(alloc, store, permitted, operator),
+        Call::Show(id) => ready_show(store, permitted, operator, id),
+        Call::Put(put) => ready_put(store, permitted, moment, operator, put, ceiling),
         Call::Delete(id) => ready_delete(store, operator, id),
         Call::Clear(extent) => ready_clear(alloc, store, operator, extent),
     }
@@ -89,10 +92,10 @@ pub fn prepare_over<S: PlanStore>(
 
 // Makes the change of a pending reply over a store.
 pub fn commit_over<S: PlanStore>(store: &mut S, pending: Pending) -> Result<Reply, DeskFault>
-    requires { IsHonest (S.doubt store.old) → CanCommit (S.content store.old) pending }
+    requires { IsHonest (S.doubt store.old) → Fits (S.content store.old) pending.change }
     ensures reply { IfOk result (λ reply. reply ≡ reply_in pending) }
     ensures ok { IsHonest (S.doubt store.new) → OnOk result
-        (S.content store.new ≡ world_committed (S.content store.old) pending) }
+        (S.content store.new ≡ world_with (S.content store.old) pending.change) }
     ensures err { OnErr result (S.content store.new ≡ S.content store.old) }
     ensures fault { IfErr result (λ e. IsBreakdown e) }
     ensures doubt { S.doubt store.old ≤ S.doubt store.new }

@@ -2,6 +2,7 @@
 
 ghost use Rattle.std.specs.Prelude.{◌≡◌, ◌≤◌, map, Some, IfOk, OnErr};
 ghost use Rattle.desk_store.specs.Faults.{IsHonest, HasRisen};
+ghost use Rattle.desk_run.specs.DeskWorld.{world_of};
 ghost use Rattle.desk_run.specs.Runs as spec;
 ghost use Rattle.desk_run.specs.Runs.{IsRun, told_by};
 
@@ -75,13 +76,13 @@ impl<S: PlanStore> Desk<S> {
     ///
     /// `AllocError` where the room for all outcomes was refused: nothing changed.
     pub fn run(&mut self, alloc: Global, calls: &[(i64, Asked)]) -> Result<Ran, AllocError>
-        ensures ran { IsHonest (S.doubt self.new) → IfOk result (λ ran.
-            IsRun (S.content self.old) calls.now ran (S.content self.new)) }
-        ensures err { OnErr result (S.content self.new ≡ S.content self.old) }
-        ensures doubt { S.doubt self.old ≤ S.doubt self.new }
-        ensures counted { S.faults self.old ≤ S.faults self.new }
+        ensures ran { IsHonest (S.doubt self.new.store) → IfOk result (λ ran.
+            IsRun (world_of S.content self.old) calls.now ran (world_of S.content self.new)) }
+        ensures err { OnErr result (world_of S.content self.new ≡ world_of S.content self.old) }
+        ensures doubt { S.doubt self.old.store ≤ S.doubt self.new.store }
+        ensures counted { S.faults self.old.store ≤ S.faults self.new.store }
         ensures cause { IfOk result (λ ran. ran.stopped ≡ Some DeskFault.Store →
-            HasRisen (S.faults self.old) (S.faults self.new)) }
+            HasRisen (S.faults self.old.store) (S.faults self.new.store)) }
     {
         run_over(alloc, self, calls)
     }
@@ -104,13 +105,13 @@ fn run_over<S: PlanStore>(
     desk: &mut Desk<S>,
     calls: &[(i64, Asked)],
 ) -> Result<Ran, AllocError>
-    ensures ran { IsHonest (S.doubt desk.new) → IfOk result (λ ran.
-        IsRun (S.content desk.old) calls.now ran (S.content desk.new)) }
-    ensures err { OnErr result (S.content desk.new ≡ S.content desk.old) }
-    ensures doubt { S.doubt desk.old ≤ S.doubt desk.new }
-    ensures counted { S.faults desk.old ≤ S.faults desk.new }
+    ensures ran { IsHonest (S.doubt desk.new.store) → IfOk result (λ ran.
+        IsRun (world_of S.content desk.old) calls.now ran (world_of S.content desk.new)) }
+    ensures err { OnErr result (world_of S.content desk.new ≡ world_of S.content desk.old) }
+    ensures doubt { S.doubt desk.old.store ≤ S.doubt desk.new.store }
+    ensures counted { S.faults desk.old.store ≤ S.faults desk.new.store }
     ensures cause { IfOk result (λ ran. ran.stopped ≡ Some DeskFault.Store →
-        HasRisen (S.faults desk.old) (S.faults desk.new)) }
+        HasRisen (S.faults desk.old.store) (S.faults desk.new.store)) }
 {
     let mut outcomes = Vec::with_capacity(alloc, calls.len())?;
     for (moment, asked) in calls {

@@ -1,7 +1,7 @@
 -- Requests that were answered so far.
 use Rattle.std.proofs.Common.{◌≡◌, ℕ, ℤ, ◌+◌, ◌<◌, ◌≤◌, List, [], ◌∷◌, ◌++◌, true, false, Option, Some, None, is_some, length, take, get_or, map, refl, sym, ap, subst, ◌∙◌, arith}
 use Rattle.std.proofs.lemmas.List.{take_more, take_all, take-map, map-append, length-append, length-map}
-use Rattle.desk_store.specs.World.{World}
+use Rattle.desk_run.specs.DeskWorld.{DeskWorld}
 use Rattle.desk_wire.specs.AllAnswers.{Sent, answers_to, world_left, AreFirst, AreAll, AreCut, AreBroken}
 use Rattle.desk_wire.proofs.BytesLemmas.{asked_read}
 use Rattle.desk_wire.specs.Bytes.{text_for, world_after, IsDone, IsServerError, IsAnsweredSo}
@@ -12,13 +12,13 @@ use Rattle.desk_reading.specs.Requests.{asked, asked_by}
 use Rattle.desk_wire.specs.declared.response.ServerError.{ServerError}
 
 -- the first requests are answered, as many as there are answers
-pub record HaveAnswers {R V : Type 0} (shown : R → Sent) (items : V → List ℕ) (w : World)
+pub record HaveAnswers {R V : Type 0} (shown : R → Sent) (items : V → List ℕ) (w : DeskWorld)
     (requests : List R)
-    (n : ℕ) (answers : List V) (now : World) : Type 0 where
+    (n : ℕ) (answers : List V) (now : DeskWorld) : Type 0 where
   pub first : AreFirst w (map shown requests) n (map items answers) now
   pub count : length answers ≡ n
 
-pub none_answered : {R V : Type 0} (shown : R → Sent) (items : V → List ℕ) (w now : World)
+pub none_answered : {R V : Type 0} (shown : R → Sent) (items : V → List ℕ) (w now : DeskWorld)
     (requests : List R)
     (answers : List V) → answers ≡ [] → now ≡ w → HaveAnswers shown items w requests 0 answers now
 none_answered shown items w now requests answers is same = record {
@@ -26,13 +26,13 @@ none_answered shown items w now requests answers is same = record {
   count = ap length is;
 }
 
-pub told_more : (w : World) (requests : List Sent) (r : Sent) → answers_to w (requests ++ r ∷ [])
+pub told_more : (w : DeskWorld) (requests : List Sent) (r : Sent) → answers_to w (requests ++ r ∷ [])
     ≡ answers_to w requests ++ text_for (world_left w requests) r.0 (asked r.1) ∷ []
 told_more w [] r = refl
 told_more w (q ∷ requests) r = ap (λ ts. text_for w q.0 (asked q.1) ∷ ts)
     (told_more (world_after w q.0 (asked q.1)) requests r)
 
-pub left_more : (w : World) (requests : List Sent) (r : Sent) → world_left w (requests ++ r ∷ [])
+pub left_more : (w : DeskWorld) (requests : List Sent) (r : Sent) → world_left w (requests ++ r ∷ [])
     ≡ world_after (world_left w requests) r.0 (asked r.1)
 left_more w [] r = refl
 left_more w (q ∷ requests) r = left_more (world_after w q.0 (asked q.1)) requests r
@@ -47,7 +47,7 @@ take_map shown requests n r below is =
     (sym (take-map shown n requests))
 
 -- one more is answered
-pub one_answered : {R V : Type 0} (shown : R → Sent) (items : V → List ℕ) (w now after : World)
+pub one_answered : {R V : Type 0} (shown : R → Sent) (items : V → List ℕ) (w now after : DeskWorld)
     (requests : List R) (n : ℕ) (answers : List V) (r : R) (answer : V)
     → HaveAnswers shown items w requests n answers now → n < length requests → r ≡ get_or requests n r
     → IsDone now (shown r).0 (asked (shown r).1) (items answer) after
@@ -72,7 +72,7 @@ one_answered shown items w now after requests n answers r answer h below is done
     }
 
 -- all are
-pub all_answered : {R V : Type 0} (shown : R → Sent) (items : V → List ℕ) (w after : World)
+pub all_answered : {R V : Type 0} (shown : R → Sent) (items : V → List ℕ) (w after : DeskWorld)
     (requests : List R) (n : ℕ) (answers : List V) → HaveAnswers shown items w requests n answers after
     → length requests ≤ n → AreAll w (map shown requests) (map items answers) after
 all_answered shown items w after requests n answers h all =
@@ -85,7 +85,7 @@ all_answered shown items w after requests n answers h all =
     }
 
 -- the next is not
-pub cut_answered : {R V : Type 0} (shown : R → Sent) (items : V → List ℕ) (w now after : World)
+pub cut_answered : {R V : Type 0} (shown : R → Sent) (items : V → List ℕ) (w now after : DeskWorld)
     (requests : List R) (n : ℕ) (answers : List V) → HaveAnswers shown items w requests n answers now
     → n < length requests → after ≡ now → AreCut w (map shown requests) (map items answers) after
 cut_answered shown items w now after requests n answers h below same =
@@ -97,7 +97,7 @@ cut_answered shown items w now after requests n answers h below same =
     }
 
 -- the last says why the desk failed
-pub broken_answered : {R V : Type 0} (shown : R → Sent) (items : V → List ℕ) (w now after : World)
+pub broken_answered : {R V : Type 0} (shown : R → Sent) (items : V → List ℕ) (w now after : DeskWorld)
     (requests : List R) (n : ℕ) (answers : List V) (answer : V) (why : ServerError)
     → HaveAnswers shown items w requests n answers now → n < length requests
     → IsServerError why now (items answer) after → AreBroken w (map shown requests)
@@ -112,7 +112,7 @@ broken_answered shown items w now after requests n answers answer why h below gi
 }
 
 -- by whether the desk failed
-pub done_so : (now after : World) (given moment : ℤ) (text request : List ℕ)
+pub done_so : (now after : DeskWorld) (given moment : ℤ) (text request : List ℕ)
     (reading : Reading MessageParts)
     (answer : List ℕ) (e : Option ServerError) → is_some e ≡ false → given ≡ moment → reading
     ≡ message_in text → text ≡ request → IsAnsweredSo e now given (or_met reading asked_by) answer after
@@ -122,7 +122,7 @@ done_so now after given moment text request reading answer None none m r t h =
     (subst (λ z. IsDone now z (or_met reading asked_by) answer after) m h)
 done_so now after given moment text request reading answer (Some why) none m r t h = cc
 
-pub failed_so : {R V : Type 0} (shown : R → Sent) (items : V → List ℕ) (w now after : World) (given : ℤ)
+pub failed_so : {R V : Type 0} (shown : R → Sent) (items : V → List ℕ) (w now after : DeskWorld) (given : ℤ)
     (reading : Reading Asked) (requests : List R) (n : ℕ) (answers : List V) (answer : V)
     (e : Option ServerError) → is_some e ≡ true → IsAnsweredSo e now given reading (items answer) after
     → HaveAnswers shown items w requests n answers now → n < length requests

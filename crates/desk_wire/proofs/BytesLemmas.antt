@@ -2,7 +2,7 @@
 use Rattle.std.proofs.Common.{◌≡◌, ℤ, List, ℕ, Result, Ok, Err, IfOk, IfErr, OnOk, Option, Some, None, inl, inr, subst, refl, sym, ap, ◌∙◌}
 use Rattle.desk_rules.specs.declared.call.Asked.{Asked}
 use Rattle.desk_run.specs.declared.pending.Pending.{Pending}
-use Rattle.desk_store.specs.World.{World}
+use Rattle.desk_run.specs.DeskWorld.{DeskWorld}
 use Rattle.desk_run.specs.Verdicts.{Told}
 use Rattle.desk_run.specs.Calls.{IsPending, IsUnanswered, reply_in, world_committed}
 use Rattle.desk_rules.specs.Replies.{said_in}
@@ -15,7 +15,7 @@ use Rattle.desk_wire.specs.declared.response.ServerError.{ServerError}
 use Rattle.desk_wire.specs.declared.response.ServerError.TheVariants.{OutOfMemory, Store}
 
 -- the answer and the change of what was pending
-pub done_pending : (w after : World) (moment : ℤ) (asked : Asked) (p : Pending) (answer : List ℕ)
+pub done_pending : (w after : DeskWorld) (moment : ℤ) (asked : Asked) (p : Pending) (answer : List ℕ)
     → IsPending w moment asked p → answer ≡ reply_text (said_in (reply_in p)) → after
     ≡ world_committed w p
     → IsDone w moment (Ok asked) answer after
@@ -26,7 +26,7 @@ done_pending w after moment asked p answer h told left = record {
 }
 
 -- the answer to a call that has no reply
-pub done_unanswered : (w after : World) (moment : ℤ) (asked : Asked) (reason : Told) (answer : List ℕ)
+pub done_unanswered : (w after : DeskWorld) (moment : ℤ) (asked : Asked) (reason : Told) (answer : List ℕ)
     → IsUnanswered w moment asked reason → answer ≡ text reason → after ≡ w
     → IsDone w moment (Ok asked) answer after
 done_unanswered w after moment asked reason answer h told left = record {
@@ -35,7 +35,7 @@ done_unanswered w after moment asked reason answer h told left = record {
 }
 
 -- where the answer was made and the change committed
-pub done_if_ok : {V E : Type 0} (items : V → List ℕ) (r : Result V E) (w after : World) (moment : ℤ)
+pub done_if_ok : {V E : Type 0} (items : V → List ℕ) (r : Result V E) (w after : DeskWorld) (moment : ℤ)
     (asked : Asked) (p : Pending) → IsPending w moment asked p
     → IfOk r (λ v. items v ≡ reply_text (said_in (reply_in p))) → OnOk r (after ≡ world_committed w p)
     → IfOk r (λ v. IsDone w moment (Ok asked) (items v) after)
@@ -44,13 +44,13 @@ done_if_ok items (Ok v) w after moment asked p h told left =
 done_if_ok items (Err e) w after moment asked p h told left = tt
 
 -- a reply has the status 200
-pub status_pending : (w : World) (moment : ℤ) (asked : Asked) (p : Pending) → IsPending w moment asked p
+pub status_pending : (w : DeskWorld) (moment : ℤ) (asked : Asked) (p : Pending) → IsPending w moment asked p
     → 200
     ≡ status_for w moment (Ok asked)
 unfolding status
 status_pending w moment asked p h = sym (ap status h.told)
 
-pub status_unanswered : (w : World) (moment : ℤ) (asked : Asked) (reason : Told)
+pub status_unanswered : (w : DeskWorld) (moment : ℤ) (asked : Asked) (reason : Told)
     → IsUnanswered w moment asked reason → status reason ≡ status_for w moment (Ok asked)
 status_unanswered w moment asked reason h = sym (ap status h.told)
 
@@ -63,7 +63,7 @@ asked_read text request reading is same = ap (λ r. or_met r asked_by) is
     ∙ ap (λ q. or_met (message_in q) asked_by) same
 
 -- a request is answered, whether the desk failed or not
-pub answered_so : (w after : World) (given moment : ℤ) (text : List ℕ) (reading : Reading MessageParts)
+pub answered_so : (w after : DeskWorld) (given moment : ℤ) (text : List ℕ) (reading : Reading MessageParts)
     (answer : List ℕ) (e : Option ServerError) → given ≡ moment → reading ≡ message_in text
     → IsAnsweredSo e w given (or_met reading asked_by) answer after
     → IsAnswered w moment text answer after

@@ -4,7 +4,7 @@ use Rattle.std.proofs.Common.{List, [], ◌∷◌, length, take, ◌∙◌, arit
 use Rattle.std.proofs.lemmas.List.{take_all, length-take-le}
 use Rattle.std.proofs.Math.Seq.{take-append_seam, take-length}
 use Rattle.std.specs.List.{slice_get}
-use Rattle.desk_store.specs.World.{World, own}
+use Rattle.desk_run.specs.DeskWorld.{DeskWorld, side}
 use Rattle.desk_reading.specs.Requests.{asked}
 use Rattle.desk_run.specs.Sides.{OwnAlike, is_from}
 use Rattle.desk_wire.specs.declared.batch.AnswersEnd.{AnswersEnd}
@@ -17,11 +17,11 @@ use Rattle.desk_wire.specs.Given.{answered}
 use Rattle.desk_wire.specs.TwoRuns.{requests_of}
 use Rattle.desk_wire.proofs.HeadlineLemmas.{one_each, answer_at, same_text, quiet}
 
-abbrev GivenFirst : AnswersEnd → World → List Sent → List (List ℕ) → World → Type 0
+abbrev GivenFirst : AnswersEnd → DeskWorld → List Sent → List (List ℕ) → DeskWorld → Type 0
 GivenFirst e w rs answers after =
     AreFirst w rs (answered e answers) (take (answered e answers) answers) after
 
-broken_first : (w after : World) (rs : List Sent) (answers : List (List ℕ)) → AreBroken w rs answers after
+broken_first : (w after : DeskWorld) (rs : List Sent) (answers : List (List ℕ)) → AreBroken w rs answers after
     → GivenFirst Broken w rs answers after
 broken_first w after rs answers h =
     let count : length h.before ≡ h.count =
@@ -38,7 +38,7 @@ broken_first w after rs answers h =
       left = h.first.left ∙ ap (λ k. world_left w (take k rs)) (sym (n ∙ count));
     }
 
-pub first_given : (e : AnswersEnd) (w after : World) (rs : List Sent) (answers : List (List ℕ))
+pub first_given : (e : AnswersEnd) (w after : DeskWorld) (rs : List Sent) (answers : List (List ℕ))
     → AreAnswers e w rs answers after → GivenFirst e w rs answers after
 first_given All w after rs answers h =
     let count : length answers ≡ length rs = ap length h.told ∙ one_each w rs in
@@ -66,7 +66,8 @@ take_take [] (suc n) (suc i) below = refl
 take_take (x ∷ xs) (suc n) (suc i) below = ap (λ ys. x ∷ ys) (take_take xs n i (omega (arith, below)))
 
 -- an answer that was given is that to its request at the world before it
-given_at : (e : AnswersEnd) (w after : World) (rs : List Sent) (answers : List (List ℕ)) (i : ℕ) (r : Sent)
+given_at : (e : AnswersEnd) (w after : DeskWorld) (rs : List Sent) (answers : List (List ℕ)) (i : ℕ)
+    (r : Sent)
     → AreAnswers e w rs answers after → i < answered e answers → slice_get rs i ≡ Some r
     → slice_get answers i ≡ Some (text_for (world_at w rs i) r.0 (asked r.1))
 given_at e w after rs answers i r h below is =
@@ -76,7 +77,8 @@ given_at e w after rs answers i r h below is =
     ∙ answer_at w (take n rs) i r (get_take rs n i below ∙ is)
     ∙ ap (λ qs. Some (text_for (world_left w qs) r.0 (asked r.1))) (take_take rs n i below)
 
-pub given_alike : (e f : AnswersEnd) (v w v_after w_after : World) (rs ss : List Sent) (xs ys : List (List ℕ))
+pub given_alike : (e f : AnswersEnd) (v w v_after w_after : DeskWorld) (rs ss : List Sent)
+    (xs ys : List (List ℕ))
     (i j : ℕ) (r : Sent) → AreAnswers e v rs xs v_after → AreAnswers f w ss ys w_after
     → i < answered e xs → j < answered f ys → slice_get rs i ≡ Some r → slice_get ss j ≡ Some r
     → LookAlike (sender r) (world_at v rs i) (world_at w ss j) → slice_get xs i ≡ slice_get ys j
@@ -96,9 +98,10 @@ quiet_take o (suc n) (r ∷ rs) none = by_test (is_from o (sender r)) (quiet_tak
   by_test true ih e = cc
   by_test false ih e = ih e
 
-pub given_quiet : (e : AnswersEnd) (w after : World) (rs : List Sent) (answers : List (List ℕ)) (o : List ℕ)
+pub given_quiet : (e : AnswersEnd) (w after : DeskWorld) (rs : List Sent) (answers : List (List ℕ))
+    (o : List ℕ)
     → AreAnswers e w rs answers after → requests_of o rs ≡ [] → OwnAlike o after w
 given_quiet e w after rs answers o h none =
     let n = answered e answers in
-    ap (λ u. own u o) (first_given e w after rs answers h).left
+    ap (λ u. side u o) (first_given e w after rs answers h).left
     ∙ quiet o w (take n rs) (quiet_take o n rs none)

@@ -4,7 +4,8 @@ use Rattle.std.proofs.Common.{List, [], ◌∷◌, length, refl, sym, ap, ◌∙
 use Rattle.std.specs.List.{AllZip, slice_get}
 use Rattle.std.specs.Ordering.{is_eq}
 use Rattle.desk_rules.specs.declared.call.Asked.{Asked}
-use Rattle.desk_store.specs.World.{World, Own, own, held, text_cmp}
+use Rattle.desk_store.specs.World.{text_cmp}
+use Rattle.desk_run.specs.DeskWorld.{DeskWorld, Side, side, held_in}
 use Rattle.desk_reading.specs.Readings.{Reading}
 use Rattle.desk_reading.specs.Requests.{asked}
 use Rattle.desk_run.specs.Sides.{OwnAlike, HoldAlike, is_from, beside, along}
@@ -12,7 +13,7 @@ use Rattle.desk_run.specs.SideLaws.{Levels, IsSeenBy, IsKeptBy, after_all, every
 use Rattle.desk_run.specs.SideLaws.{same_found, same_last, quiet_is}
 use Rattle.desk_run.specs.StepLaws.{own_stays, others_stay}
 use Rattle.desk_run.specs.TwoRunLaws.{tell, keep, seen, kept, same_name, told_alike}
-use Rattle.desk_run.specs.Verdicts.{own_left, step}
+use Rattle.desk_run.specs.Verdicts.{side_left, step}
 use Rattle.desk_wire.specs.declared.refusal.Refusal.TheVariants.{Fault}
 use Rattle.desk_wire.specs.Bytes.{text, text_for, world_after}
 use Rattle.desk_wire.specs.Refusals.{refusal_text}
@@ -22,39 +23,39 @@ use Rattle.desk_wire.specs.TwoRuns.{left, requests_of, met_by, IsSameFor}
 
 -- the answer to what is asked, and what is left to its operator, by what the operator owns and what others
 -- hold
-abbrev tell_by : Own → Levels → ℤ → Reading Asked → List ℕ
+abbrev tell_by : Side → Levels → ℤ → Reading Asked → List ℕ
 tell_by mine levels moment (Ok a) = text (tell mine levels (moment, a))
 tell_by mine levels moment (Err fault) = refusal_text (Fault fault)
 
-abbrev keep_by : Own → Levels → ℤ → Reading Asked → Own
+abbrev keep_by : Side → Levels → ℤ → Reading Asked → Side
 keep_by mine levels moment (Ok a) = keep mine levels (moment, a)
 keep_by mine levels moment (Err fault) = mine
 
-told_by : (o : List ℕ) (w : World) (moment : ℤ) (reading : Reading Asked)
+told_by : (o : List ℕ) (w : DeskWorld) (moment : ℤ) (reading : Reading Asked)
     → is_from o (operator_in reading) ≡ true
-    → text_for w moment reading ≡ tell_by (own w o) (held w o) moment reading
+    → text_for w moment reading ≡ tell_by (side w o) (held_in w o) moment reading
 told_by o w moment (Ok a) e = ap text (seen o w (moment, a) e)
 told_by o w moment (Err fault) e = cc
 
-kept_by : (o : List ℕ) (w : World) (moment : ℤ) (reading : Reading Asked)
+kept_by : (o : List ℕ) (w : DeskWorld) (moment : ℤ) (reading : Reading Asked)
     → is_from o (operator_in reading) ≡ true
-    → own (world_after w moment reading) o ≡ keep_by (own w o) (held w o) moment reading
+    → side (world_after w moment reading) o ≡ keep_by (side w o) (held_in w o) moment reading
 kept_by o w moment (Ok a) e = (kept o).mine w (moment, a) e
 kept_by o w moment (Err fault) e = refl
 
-others_by : (o : List ℕ) (w : World) (moment : ℤ) (reading : Reading Asked)
+others_by : (o : List ℕ) (w : DeskWorld) (moment : ℤ) (reading : Reading Asked)
     → is_from o (operator_in reading) ≡ false → OwnAlike o (world_after w moment reading) w
 others_by o w moment (Ok a) e = (kept o).others w (moment, a) e
 others_by o w moment (Err fault) e = refl
 
 -- the same of requests
-abbrev tell_sent : Own → Levels → Sent → List ℕ
+abbrev tell_sent : Side → Levels → Sent → List ℕ
 tell_sent mine levels r = tell_by mine levels r.0 (asked r.1)
 
-abbrev keep_sent : Own → Levels → Sent → Own
+abbrev keep_sent : Side → Levels → Sent → Side
 keep_sent mine levels r = keep_by mine levels r.0 (asked r.1)
 
-abbrev text_at : World → Sent → List ℕ
+abbrev text_at : DeskWorld → Sent → List ℕ
 text_at w r = text_for w r.0 (asked r.1)
 
 seen_sent : (o : List ℕ) → IsSeenBy sender o text_at tell_sent
@@ -66,15 +67,15 @@ kept_sent o = record {
   others = λ w r e. others_by o w r.0 (asked r.1) e;
 }
 
-answers_along : (w : World) (rs : List Sent) → answers_to w rs ≡ along left text_at w rs
+answers_along : (w : DeskWorld) (rs : List Sent) → answers_to w rs ≡ along left text_at w rs
 answers_along w [] = refl
 answers_along w (r ∷ rs) = ap (λ xs. text_at w r ∷ xs) (answers_along (left w r) rs)
 
-left_all : (w : World) (rs : List Sent) → world_left w rs ≡ after_all left w rs
+left_all : (w : DeskWorld) (rs : List Sent) → world_left w rs ≡ after_all left w rs
 left_all w [] = refl
 left_all w (r ∷ rs) = left_all (left w r) rs
 
-pub same_for : (o : List ℕ) (v w : World) (rs ss : List Sent) → OwnAlike o v w
+pub same_for : (o : List ℕ) (v w : DeskWorld) (rs ss : List Sent) → OwnAlike o v w
     → requests_of o rs ≡ requests_of o ss → AllZip (HoldAlike o) (met_by o v rs) (met_by o w ss)
     → IsSameFor o v rs w ss
 same_for o v w rs ss mine asked held = record {
@@ -84,62 +85,63 @@ same_for o v w rs ss mine asked held = record {
       ∙ sym (ap (beside sender o ss) (answers_along w ss));
   owned = same_found sender o left keep_sent kept _ keep_sent kept.mine v w rs ss mine asked held;
   at_end =
-      ap (λ u. own u o) (left_all v rs)
+      ap (λ u. side u o) (left_all v rs)
       ∙ same_last sender o left keep_sent kept v w rs ss mine asked held
-      ∙ sym (ap (λ u. own u o) (left_all w ss));
+      ∙ sym (ap (λ u. side u o) (left_all w ss));
 } where
   kept : IsKeptBy sender o left keep_sent
   kept = kept_sent o
 
 -- an operator that sends nothing owns what it did
-pub quiet : (o : List ℕ) (w : World) (rs : List Sent) → requests_of o rs ≡ [] → OwnAlike o (world_left w rs) w
+pub quiet : (o : List ℕ) (w : DeskWorld) (rs : List Sent) → requests_of o rs ≡ [] → OwnAlike o
+    (world_left w rs) w
 quiet o w rs none =
-    ap (λ u. own u o) (left_all w rs) ∙ quiet_is sender o left keep_sent (kept_sent o) w rs none
+    ap (λ u. side u o) (left_all w rs) ∙ quiet_is sender o left keep_sent (kept_sent o) w rs none
 
 -- each request has an answer, that at the world before it
-pub one_each : (w : World) (rs : List Sent) → length (answers_to w rs) ≡ length rs
+pub one_each : (w : DeskWorld) (rs : List Sent) → length (answers_to w rs) ≡ length rs
 one_each w [] = refl
 one_each w (r ∷ rs) = ap suc (one_each (left w r) rs)
 
-pub answer_at : (w : World) (rs : List Sent) (i : ℕ) (r : Sent) → slice_get rs i ≡ Some r
+pub answer_at : (w : DeskWorld) (rs : List Sent) (i : ℕ) (r : Sent) → slice_get rs i ≡ Some r
     → slice_get (answers_to w rs) i ≡ Some (text_at (world_at w rs i) r)
 answer_at w [] i r e = cc
 answer_at w (q ∷ rs) zero r e = let same : q ≡ r = cc in ap (λ s. Some (text_at w s)) same
 answer_at w (q ∷ rs) (suc k) r e = answer_at (left w q) rs k r e
 
-world_next : (w : World) (rs : List Sent) (i : ℕ) (r : Sent) → slice_get rs i ≡ Some r
+world_next : (w : DeskWorld) (rs : List Sent) (i : ℕ) (r : Sent) → slice_get rs i ≡ Some r
     → world_at w rs (i + 1) ≡ left (world_at w rs i) r
 world_next w rs i r e =
     let next : i + 1 ≡ suc i = omega arith in
     ap (world_at w rs) next ∙ by_place w rs i e where
-      by_place : (w : World) (rs : List Sent) (i : ℕ) → slice_get rs i ≡ Some r
+      by_place : (w : DeskWorld) (rs : List Sent) (i : ℕ) → slice_get rs i ≡ Some r
           → world_at w rs (suc i) ≡ left (world_at w rs i) r
       by_place w [] i e = cc
       by_place w (q ∷ rs) zero e = let same : q ≡ r = cc in ap (left w) same
       by_place w (q ∷ rs) (suc k) e = by_place (left w q) rs k e
 
 -- worlds that look alike to the operator give the same answer, and leave it the same
-pub same_text : (v w : World) (moment : ℤ) (reading : Reading Asked) → LookAlike (operator_in reading) v w
+pub same_text : (v w : DeskWorld) (moment : ℤ) (reading : Reading Asked) → LookAlike (operator_in reading) v w
     → text_for v moment reading ≡ text_for w moment reading
 same_text v w moment (Ok a) alike = ap text (told_alike v w (moment, a) alike.0 alike.1)
 same_text v w moment (Err fault) alike = refl
 
-same_left : (v w : World) (moment : ℤ) (reading : Reading Asked) → LookAlike (operator_in reading) v w
+same_left : (v w : DeskWorld) (moment : ℤ) (reading : Reading Asked) → LookAlike (operator_in reading) v w
     → OwnsAlike (operator_in reading) (world_after v moment reading) (world_after w moment reading)
 same_left v w moment (Ok a) alike =
     own_stays v a.operator moment a.call
-    ∙ (λ i. own_left (alike.0 i) (everywhere a.operator v w alike.1 i) moment a.call)
+    ∙ (λ i. side_left (alike.0 i) (everywhere a.operator v w alike.1 i) moment a.call)
     ∙ sym (own_stays w a.operator moment a.call)
 same_left v w moment (Err fault) alike = tt
 
 -- the answer to a fault
-fault_text : (v w : World) (m n : ℤ) (reading : Reading Asked) → operator_in reading ≡ None
+fault_text : (v w : DeskWorld) (m n : ℤ) (reading : Reading Asked) → operator_in reading ≡ None
     → text_for v m reading ≡ text_for w n reading
 fault_text v w m n (Ok a) nobody = cc
 fault_text v w m n (Err fault) nobody = refl
 
 -- whom the request does not name
-unnamed : (o : List ℕ) (w : World) (moment : ℤ) (reading : Reading Asked) → operator_in reading ≢ Some o
+unnamed : (o : List ℕ) (w : DeskWorld) (moment : ℤ) (reading : Reading Asked) → operator_in reading ≢ Some o
     → OwnAlike o (world_after w moment reading) w
 unnamed o w moment (Ok a) other = by_test (is_eq (text_cmp o a.operator)) refl where
   by_test : (b : Bool) → is_eq (text_cmp o a.operator) ≡ b → OwnAlike o (step w a.operator moment a.call) w
@@ -163,9 +165,9 @@ headline = record {
       ∙ ap (λ bytes. text_for (world_at w ss j) s.0 (asked bytes)) same)
       ∙ sym (answer_at w ss j s f);
   others = λ w rs i r o e other.
-      ap (λ u. own u o) (world_next w rs i r e) ∙ unnamed o (world_at w rs i) r.0 (asked r.1) other;
+      ap (λ u. side u o) (world_next w rs i r e) ∙ unnamed o (world_at w rs i) r.0 (asked r.1) other;
 } where
-  owns_next : (name : Option (List ℕ)) {v v' w w' : World} → v' ≡ v → w' ≡ w → OwnsAlike name v w
+  owns_next : (name : Option (List ℕ)) {v v' w w' : DeskWorld} → v' ≡ v → w' ≡ w → OwnsAlike name v w
       → OwnsAlike name v' w'
   owns_next None left_v left_w h = tt
-  owns_next (Some o) left_v left_w h = ap (λ u. own u o) left_v ∙ h ∙ sym (ap (λ u. own u o) left_w)
+  owns_next (Some o) left_v left_w h = ap (λ u. side u o) left_v ∙ h ∙ sym (ap (λ u. side u o) left_w)

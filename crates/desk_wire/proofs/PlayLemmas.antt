@@ -14,7 +14,7 @@ use Rattle.desk_reading.specs.declared.wire_fault.WireFault.{WireFault}
 use Rattle.desk_reading.specs.declared.wire_fault.WireFault.TheVariants as fault
 use Rattle.desk_rules.specs.declared.call.Asked.{Asked}
 use Rattle.desk_run.specs.Verdicts.{Told, replied, unknown_operator, no_such_plan, told_to}
-use Rattle.desk_store.specs.World.{World}
+use Rattle.desk_run.specs.DeskWorld.{DeskWorld}
 use Rattle.desk_wire.specs.declared.response.ServerError.{ServerError}
 use Rattle.desk_wire.specs.AllAnswers.{Sent, answers_to, world_left}
 use Rattle.desk_wire.specs.Bytes.{IsAnsweredSo, IsDone, IsServerError, status, status_for, status_so, text_for, world_after}
@@ -44,19 +44,19 @@ fault_differs fault.BadMember e = absurd (omega (arith, e))
 fault_differs fault.BadVolume e = absurd (omega (arith, e))
 fault_differs fault.TooManyCells e = absurd (omega (arith, e))
 
-never_500 : (w : World) (moment : ℤ) (reading : Reading Asked) → status_for w moment reading ≢ 500
+never_500 : (w : DeskWorld) (moment : ℤ) (reading : Reading Asked) → status_for w moment reading ≢ 500
 never_500 w moment (Ok a) e = told_status (told_to w a.operator moment a.call) e
 never_500 w moment (Err f) e = fault_differs f e
 
 -- an answer with another status is what is asked
-pub done_by_status : (w after : World) (moment : ℤ) (reading : Reading Asked) (answer : List ℕ)
+pub done_by_status : (w after : DeskWorld) (moment : ℤ) (reading : Reading Asked) (answer : List ℕ)
     (why : Option ServerError) (status : ℕ) → IsAnsweredSo why w moment reading answer after → status
     ≡ status_so why w moment reading → status ≢ 500 → IsDone w moment reading answer after
 done_by_status w after moment reading answer None status h is other = h
 done_by_status w after moment reading answer (Some why) status h is other = absurd (other is)
 
 -- an answer with that status says why the desk failed
-failed_by_status : (w after : World) (moment : ℤ) (reading : Reading Asked) (answer : List ℕ)
+failed_by_status : (w after : DeskWorld) (moment : ℤ) (reading : Reading Asked) (answer : List ℕ)
     (why : Option ServerError) (status : ℕ) → IsAnsweredSo why w moment reading answer after → status
     ≡ status_so why w moment reading → status ≡ 500 → (error : ServerError)
     × IsServerError error w answer after
@@ -67,7 +67,7 @@ failed_by_status w after moment reading answer None status h is same =
 concat_one : (xs : List (List ℕ)) (x : List ℕ) → concat (xs ++ x ∷ []) ≡ concat xs ++ x
 concat_one xs x = concat-append xs (x ∷ []) ∙ ap (λ ys. concat xs ++ ys) (append-nil x)
 
-pub none_played : (H : Type 0) (old out : Option (List ℕ)) (w : World) (moment : ℤ)
+pub none_played : (H : Type 0) (old out : Option (List ℕ)) (w : DeskWorld) (moment : ℤ)
     → ArePlayed H 0 old old out out w moment w
 none_played H old out w moment = record {
   requests = [];
@@ -79,8 +79,8 @@ none_played H old out w moment = record {
 }
 
 -- the same under a stronger premise
-pub played_if : (H K : Type 0) (count : ℕ) (old new out now : Option (List ℕ)) (w : World) (moment : ℤ)
-    (after : World) → (K → H) → ArePlayed H count old new out now w moment after
+pub played_if : (H K : Type 0) (count : ℕ) (old new out now : Option (List ℕ)) (w : DeskWorld) (moment : ℤ)
+    (after : DeskWorld) → (K → H) → ArePlayed H count old new out now w moment after
     → ArePlayed K count old new out now w moment after
 played_if H K count old new out now w moment after implies h = record {
   requests = h.requests;
@@ -92,7 +92,7 @@ played_if H K count old new out now w moment after implies h = record {
 }
 
 -- the answers, with one more
-pub told_one : (w now after : World) (moment : ℤ) (more : List Sent) (answer request : List ℕ)
+pub told_one : (w now after : DeskWorld) (moment : ℤ) (more : List Sent) (answer request : List ℕ)
     → IsDone now moment (asked request) answer after → now ≡ world_left w more
     → concat (answers_to w more)
     ++ answer ≡ concat (answers_to w (more ++ (moment, request) ∷ []))
@@ -102,8 +102,8 @@ told_one w now after moment more answer request done left =
     ∙ sym (concat_one (answers_to w more) (text_for (world_left w more) moment (asked request)))
     ∙ ap concat (sym (told_more w more (moment, request)))
 
-pub one_played : (H : Type 0) (count : ℕ) (old mid new out then_out now : Option (List ℕ)) (w : World)
-    (moment : ℤ) (now_world after : World) (code : ℕ) (framed : Bool)
+pub one_played : (H : Type 0) (count : ℕ) (old mid new out then_out now : Option (List ℕ)) (w : DeskWorld)
+    (moment : ℤ) (now_world after : DeskWorld) (code : ℕ) (framed : Bool)
     → ArePlayed H count old mid out then_out w moment now_world
     → IsServed H mid new then_out now now_world moment after code framed → code ≢ 500 → framed ≡ true
     → ArePlayed H (count + 1) old new out now w moment after
@@ -132,8 +132,8 @@ one_played H count old mid new out then_out now w moment now_world after code fr
           ∙ sym (left_more w more (moment, s.request)) ∙ ap (world_left w) (sym sent);
     }
 
-pub broken_next : (H : Type 0) (old new out now : Option (List ℕ)) (w : World) (moment : ℤ)
-    (after : World)
+pub broken_next : (H : Type 0) (old new out now : Option (List ℕ)) (w : DeskWorld) (moment : ℤ)
+    (after : DeskWorld)
     (code : ℕ) (framed : Bool) → IsServed H old new out now w moment after code framed → code ≡ 500
     → IsBroken H old new out now w after
 broken_next H old new out now w moment after code framed s is = record {

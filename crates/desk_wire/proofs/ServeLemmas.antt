@@ -8,7 +8,7 @@ use Rattle.desk_reading.specs.Readings.{Reading, or_met}
 use Rattle.desk_reading.specs.Requests.{asked, asked_by}
 use Rattle.desk_reading.specs.declared.message.Message.{Message}
 use Rattle.desk_reading.specs.declared.wire_fault.WireFault.{WireFault}
-use Rattle.desk_store.specs.World.{World}
+use Rattle.desk_run.specs.DeskWorld.{DeskWorld}
 use Rattle.desk_wire.specs.declared.response.ServerError.{ServerError}
 use Rattle.desk_wire.specs.declared.stream.Served.{Served}
 use Rattle.desk_wire.specs.declared.stream.Served.TheVariants.{Answered}
@@ -41,7 +41,7 @@ received old now new text body front request first h is next size made =
       read = made ∙ ap (λ f. with_body f body) is ∙ sym (message_is text body h said);
     }
 
-pub replied : (H : Type 0) (w after : World) (given moment : ℤ) (request answer : List ℕ)
+pub replied : (H : Type 0) (w after : DeskWorld) (given moment : ℤ) (request answer : List ℕ)
     (reading : Reading MessageParts) (why : Option ServerError) → given ≡ moment → reading
     ≡ message_in request → (H → IsAnsweredSo why w given (or_met reading asked_by) answer after)
     → IfSome why (λ error. IsServerError error w answer after)
@@ -53,7 +53,7 @@ replied H w after given moment request answer reading why m r told failed = reco
   failed = failed;
 }
 
-pub status_as : (H : Type 0) (w : World) (given moment : ℤ) (request : List ℕ)
+pub status_as : (H : Type 0) (w : DeskWorld) (given moment : ℤ) (request : List ℕ)
     (reading : Reading MessageParts) (why : Option ServerError) (status : ℕ) → given ≡ moment → reading
     ≡ message_in request → (H → status ≡ status_so why w given (or_met reading asked_by)) → H → status
     ≡ status_so why w moment (asked request)
@@ -70,7 +70,7 @@ framed_as (Err f) bytes framed is read = is ∙ ap is_ok read
 -- the exit after a whole answer
 pub served_as : (H : Type 0) (s : Served) (status : ℕ) (framed : Bool)
     (old new out now : Option (List ℕ))
-    (w after : World) (moment : ℤ) → s ≡ Answered status framed
+    (w after : DeskWorld) (moment : ℤ) → s ≡ Answered status framed
     → IsServed H old new out now w moment after status framed
     → HasServed H (Ok s) old new out now w moment after
 served_as H s status framed old new out now w after moment is served =
@@ -79,7 +79,7 @@ served_as H s status framed old new out now w after moment is served =
 -- the exit of a `?` that hands on what stopped the reading
 pub stopped : (H cut : Type 0) (r : Result Served ServeFault) (f : ServeFault)
     (old new out : Option (List ℕ))
-    (w : World) (moment : ℤ) → IsErrAnd r (λ e. e ≡ f) → Stops cut f → (cut → IfSome old IsCut)
+    (w : DeskWorld) (moment : ℤ) → IsErrAnd r (λ e. e ≡ f) → Stops cut f → (cut → IfSome old IsCut)
     → HasServed H r old new out out w moment w
 stopped H cut (Ok s) f old new out w moment is stops then_cut = absurd is
 stopped H cut (Err e) f old new out w moment is stops then_cut =
@@ -97,7 +97,7 @@ stopped H cut (Err e) f old new out w moment is stops then_cut =
 -- the exit of a `?` that hands on what stopped the writing
 pub broken : (H : Type 0) (r : Result Served ServeFault) (f : ServeFault)
     (old new out now : Option (List ℕ))
-    (w after : World) (moment : ℤ) (request answer : List ℕ) (why : Option ServerError)
+    (w after : DeskWorld) (moment : ℤ) (request answer : List ℕ) (why : Option ServerError)
     → IsErrAnd r (λ e. e ≡ f) → BreaksOff answer out now f → IsTaken old new request
     → IsReplied H w moment request answer why after → HasServed H r old new out now w moment after
 broken H (Ok s) f old new out now w after moment request answer why is off taken told = absurd is

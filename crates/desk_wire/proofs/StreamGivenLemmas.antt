@@ -10,7 +10,7 @@ use Rattle.std.specs.Prelude.{IfSome, if◌then◌else◌}
 use Rattle.std.specs.List.{AllByRecursion, concat, slice_get}
 use Rattle.std.specs.Option.{option_map}
 use Rattle.std.specs.Io.KnownBytes.{Appends, Consumes}
-use Rattle.desk_store.specs.World.{World, own}
+use Rattle.desk_run.specs.DeskWorld.{DeskWorld, side}
 use Rattle.desk_reading.specs.Requests.{asked}
 use Rattle.desk_run.specs.Sides.{OwnAlike}
 use Rattle.desk_wire.specs.declared.play.PlayEnd.{PlayEnd}
@@ -120,9 +120,9 @@ next_first (Some xs) n rs next h = sym h
 
 -- ---- what was written for them
 
-module _ (H : Type 0) (old out : Option (List ℕ)) (w : World) (moment : ℤ) (p : H) where
+module _ (H : Type 0) (old out : Option (List ℕ)) (w : DeskWorld) (moment : ℤ) (p : H) where
   -- where nothing more is taken and written
-  given_first : (ended : PlayEnd) (count : ℕ) (input output now : Option (List ℕ)) (world after : World)
+  given_first : (ended : PlayEnd) (count : ℕ) (input output now : Option (List ℕ)) (world after : DeskWorld)
       → IsUntouched output now world after → FollowsBy ended []
       → (f : ArePlayed H count old input out output w moment world)
       → (after ≡ world_left w (at_moment moment f.requests)
@@ -146,7 +146,7 @@ module _ (H : Type 0) (old out : Option (List ℕ)) (w : World) (moment : ℤ) (
       }
 
   -- where one more is answered by the desk's failure
-  given_broken : (count : ℕ) (input new output now : Option (List ℕ)) (world after : World)
+  given_broken : (count : ℕ) (input new output now : Option (List ℕ)) (world after : DeskWorld)
       → (f : ArePlayed H count old input out output w moment world)
       → (b : IsBroken H input new output now world after)
       → AreGiven Broken count old out now w moment after f.requests
@@ -166,13 +166,13 @@ module _ (H : Type 0) (old out : Option (List ℕ)) (w : World) (moment : ℤ) (
       }
 
   -- what an answer that was broken off leaves
-  left_off : (world after : World) (request answer : List ℕ) (why : Option ServerError)
+  left_off : (world after : DeskWorld) (request answer : List ℕ) (why : Option ServerError)
       → IsAnsweredSo why world moment (asked request) answer after
       → (after ≡ world_after world moment (asked request)) ⊎ (after ≡ world)
   left_off world after request answer None h = inl h.left
   left_off world after request answer (Some error) h = inr h.left
 
-  given_off : (count sent_len : ℕ) (input new output now : Option (List ℕ)) (world after : World)
+  given_off : (count sent_len : ℕ) (input new output now : Option (List ℕ)) (world after : DeskWorld)
       → (f : ArePlayed H count old input out output w moment world)
       → (b : IsBrokenOff H input new output now world moment after sent_len)
       → AreGiven (Fault (Write sent_len)) count old out now w moment after f.requests
@@ -196,7 +196,7 @@ module _ (H : Type 0) (old out : Option (List ℕ)) (w : World) (moment : ℤ) (
       }
 
   -- where one more is answered, after which the place of the next is unknown
-  given_unframed : (count : ℕ) (input new output now : Option (List ℕ)) (world after : World)
+  given_unframed : (count : ℕ) (input new output now : Option (List ℕ)) (world after : DeskWorld)
       → (f : ArePlayed H count old input out output w moment world)
       → (u : IsUnframed H input new output now world moment after)
       → AreGiven Unframed (count + 1) old out now w moment after (f.requests ++ u.served.request ∷ [])
@@ -230,12 +230,12 @@ module _ (H : Type 0) (old out : Option (List ℕ)) (w : World) (moment : ℤ) (
             ∙ sym (left_more w more (moment, s.request)) ∙ ap (world_left w) (sym both);
       }
 
-  abbrev Given : PlayEnd → ℕ → Option (List ℕ) → World → Type 0
+  abbrev Given : PlayEnd → ℕ → Option (List ℕ) → DeskWorld → Type 0
   Given ended n now after =
       (requests answers : List (List ℕ)) × AreGiven ended n old out now w moment after requests answers
 
   given_by : (ended : PlayEnd) (count answered : ℕ) (input new output now : Option (List ℕ))
-      (world after : World)
+      (world after : DeskWorld)
       → ArePlayed H count old input out output w moment world
       → EndsBy H ended count answered input new output now world moment after
       → Given ended (told_in_play ended answered) now after
@@ -282,9 +282,9 @@ module _ (H : Type 0) (old out : Option (List ℕ)) (w : World) (moment : ℤ) (
       )
 
 pub play_given : (H : Type 0) (ended : PlayEnd) (count : ℕ) (old new out now : Option (List ℕ))
-    (w : World)
+    (w : DeskWorld)
     (moment : ℤ)
-    (after : World) → HasPlayed H ended count old new out now w moment after → H
+    (after : DeskWorld) → HasPlayed H ended count old new out now w moment after → H
     → (requests answers : List (List ℕ))
     × AreGiven ended (told_in_play ended count) old out now w moment after requests answers
 play_given H ended count old new out now w moment after h p =
@@ -298,7 +298,7 @@ sent_at : (moment : ℤ) (rs : List (List ℕ)) (i : ℕ) (r : List ℕ) → sli
 sent_at moment rs i r e = slice_get-map (λ q. (moment, q)) rs i ∙ ap (option_map (λ q. (moment, q))) e
 
 pub given_same : (e f : PlayEnd) (m n : ℕ) (old out now old_too out_too now_too : Option (List ℕ))
-    (v w v_after w_after : World) (moment : ℤ) (rs ss xs ys : List (List ℕ)) (i j : ℕ) (r : List ℕ)
+    (v w v_after w_after : DeskWorld) (moment : ℤ) (rs ss xs ys : List (List ℕ)) (i j : ℕ) (r : List ℕ)
     → AreGiven e m old out now v moment v_after rs xs
     → AreGiven f n old_too out_too now_too w moment w_after ss ys
     → slice_get rs i ≡ Some r → slice_get ss j ≡ Some r
@@ -338,7 +338,7 @@ told_upto Broken count = omega arith
 told_upto Limit count = omega arith
 told_upto (Fault fault) count = omega arith
 
-module _ (o stream : List ℕ) (w : World) (moment : ℤ) (count : ℕ)
+module _ (o stream : List ℕ) (w : DeskWorld) (moment : ℤ) (count : ℕ)
     (none : requests_of o (at_moment moment (requests_in (count + 1) stream)) ≡ []) where
   -- the world that the first requests leave
   quiet_left : (n : ℕ) (requests : List (List ℕ)) → n ≤ count → requests ≡ requests_in n stream
@@ -354,42 +354,42 @@ module _ (o stream : List ℕ) (w : World) (moment : ℤ) (count : ℕ)
       ∷ []
       → OwnAlike o (world_after (world_left w (at_moment moment requests)) moment (asked next)) w
   quiet_next requests next is =
-      ap (λ v. own v o)
+      ap (λ v. side v o)
       (sym (left_more w (at_moment moment requests) (moment, next))
       ∙ ap (world_left w) (sym (map-append (λ r. (moment, r)) requests (next ∷ []))))
       ∙ quiet o w (at_moment moment (requests ++ next ∷ []))
       (ap (λ rs. requests_of o (at_moment moment rs)) (sym is) ∙ none)
 
-  quiet_by : (ended : PlayEnd) (requests : List (List ℕ)) (after : World)
+  quiet_by : (ended : PlayEnd) (requests : List (List ℕ)) (after : DeskWorld)
       → requests ≡ requests_in (told_in_play ended count) stream
       → LeavesBy ended (IsNextIn (Some stream) (told_in_play ended count) requests)
       (world_left w (at_moment moment requests))
       moment after
       → OwnAlike o after w
-  quiet_by End requests after is left = ap (λ v. own v o) left
+  quiet_by End requests after is left = ap (λ v. side v o) left
       ∙ quiet_left count requests (omega arith) is
-  quiet_by Unframed requests after is left = ap (λ v. own v o) left
+  quiet_by Unframed requests after is left = ap (λ v. side v o) left
       ∙ quiet_left count requests (omega arith) is
-  quiet_by Limit requests after is left = ap (λ v. own v o) left
+  quiet_by Limit requests after is left = ap (λ v. side v o) left
       ∙ quiet_left count requests (omega arith) is
-  quiet_by Broken requests after is left = ap (λ v. own v o) left
+  quiet_by Broken requests after is left = ap (λ v. side v o) left
       ∙ quiet_left (count - 1) requests (omega arith) is
-  quiet_by (Fault Read) requests after is left = ap (λ v. own v o) left
+  quiet_by (Fault Read) requests after is left = ap (λ v. side v o) left
       ∙ quiet_left count requests (omega arith) is
-  quiet_by (Fault CutShort) requests after is left = ap (λ v. own v o) left
+  quiet_by (Fault CutShort) requests after is left = ap (λ v. side v o) left
       ∙ quiet_left count requests (omega arith) is
-  quiet_by (Fault OutOfMemory) requests after is left = ap (λ v. own v o) left
+  quiet_by (Fault OutOfMemory) requests after is left = ap (λ v. side v o) left
       ∙ quiet_left count requests (omega arith) is
   quiet_by (Fault (Write sent_len)) requests after is left =
       elim left.2 [
-        | inl e ↦ ap (λ v. own v o) e ∙ quiet_next requests left.0 left.1
-        | inr e ↦ ap (λ v. own v o) e ∙ quiet_left count requests (omega arith) is
+        | inl e ↦ ap (λ v. side v o) e ∙ quiet_next requests left.0 left.1
+        | inr e ↦ ap (λ v. side v o) e ∙ quiet_left count requests (omega arith) is
       ]
 
 pub play_quiet : (H : Type 0) (ended : PlayEnd) (count : ℕ) (stream : List ℕ)
     (new out now : Option (List ℕ))
-    (w : World)
-    (moment : ℤ) (after : World) (o : List ℕ) → HasPlayed H ended count (Some stream) new out now w
+    (w : DeskWorld)
+    (moment : ℤ) (after : DeskWorld) (o : List ℕ) → HasPlayed H ended count (Some stream) new out now w
     moment
     after → H
     → requests_of o (at_moment moment (requests_in (count + 1) stream)) ≡ [] → OwnAlike o after w

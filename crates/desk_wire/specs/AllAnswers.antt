@@ -1,6 +1,6 @@
 -- The answers to requests, one after the other.
 use Rattle.std.specs.Prelude.{◌≡◌, ◌<◌, ℕ, ℤ, List, [], ◌∷◌, ◌++◌, length, take}
-use Rattle.desk_store.specs.World.{World}
+use Rattle.desk_run.specs.DeskWorld.{DeskWorld}
 use Rattle.desk_wire.specs.declared.batch.AnswersEnd.{AnswersEnd}
 use Rattle.desk_wire.specs.declared.batch.AnswersEnd.TheVariants.{All, Broken, NoMemory}
 use Rattle.desk_wire.specs.declared.response.ServerError.{ServerError}
@@ -13,33 +13,35 @@ abbrev pub Sent : Type 0
 Sent = ℤ × List ℕ
 
 -- each answer is that to what the request asks, at the world that those before it leave
-abbrev pub answers_to : World → List Sent → List (List ℕ)
+abbrev pub answers_to : DeskWorld → List Sent → List (List ℕ)
 answers_to w [] = []
 answers_to w (r ∷ rs) = text_for w r.0 (asked r.1) ∷ answers_to (world_after w r.0 (asked r.1)) rs
 
 -- what all of them leave
-abbrev pub world_left : World → List Sent → World
+abbrev pub world_left : DeskWorld → List Sent → DeskWorld
 world_left w [] = w
 world_left w (r ∷ rs) = world_left (world_after w r.0 (asked r.1)) rs
 
 -- the first requests are answered, and no more
-pub record AreFirst (w : World) (requests : List Sent) (n : ℕ) (answers : List (List ℕ))
-    (after : World) : Type 0 where
+pub record AreFirst (w : DeskWorld) (requests : List Sent) (n : ℕ) (answers : List (List ℕ))
+    (after : DeskWorld) : Type 0 where
   pub told : answers ≡ answers_to w (take n requests)
   pub left : after ≡ world_left w (take n requests)
 
 -- all are answered
-pub record AreAll (w : World) (requests : List Sent) (answers : List (List ℕ)) (after : World) : Type 0 where
+pub record AreAll (w : DeskWorld) (requests : List Sent) (answers : List (List ℕ)) (after : DeskWorld) :
+    Type 0 where
   pub told : answers ≡ answers_to w requests
   pub left : after ≡ world_left w requests
 
 -- memory ran out before the answer to one of them
-pub record AreCut (w : World) (requests : List Sent) (answers : List (List ℕ)) (after : World) : Type 0 where
+pub record AreCut (w : DeskWorld) (requests : List Sent) (answers : List (List ℕ)) (after : DeskWorld) :
+    Type 0 where
   pub first : AreFirst w requests (length answers) answers after
   pub cut : length answers < length requests
 
 -- the last answer says why the desk failed, and its request changed nothing
-pub record AreBroken (w : World) (requests : List Sent) (answers : List (List ℕ)) (after : World)
+pub record AreBroken (w : DeskWorld) (requests : List Sent) (answers : List (List ℕ)) (after : DeskWorld)
     : Type 0 where
   pub why : ServerError
   pub count : ℕ
@@ -49,7 +51,7 @@ pub record AreBroken (w : World) (requests : List Sent) (answers : List (List �
   pub cut : count < length requests
 
 -- by why there are no more
-abbrev pub AreAnswers : AnswersEnd → World → List Sent → List (List ℕ) → World → Type 0
+abbrev pub AreAnswers : AnswersEnd → DeskWorld → List Sent → List (List ℕ) → DeskWorld → Type 0
 AreAnswers All w requests answers after = AreAll w requests answers after
 AreAnswers Broken w requests answers after = AreBroken w requests answers after
 AreAnswers NoMemory w requests answers after = AreCut w requests answers after

@@ -9,7 +9,7 @@ use Rattle.desk_wire.specs.declared.refusal.Refusal.TheVariants.{Fault, UnknownO
 use Rattle.desk_wire.specs.declared.response.ServerError.{ServerError}
 use Rattle.desk_wire.specs.Refusals.{refusal_status, refusal_text, server_error_text}
 use Rattle.desk_run.specs.Verdicts.{Told, replied, unknown_operator, no_such_plan, told_to, step}
-use Rattle.desk_store.specs.World.{World}
+use Rattle.desk_run.specs.DeskWorld.{DeskWorld}
 
 -- the text of what a caller is told
 unfoldable pub text : Told → List ℕ
@@ -24,43 +24,44 @@ status unknown_operator = refusal_status UnknownOperator
 status no_such_plan = refusal_status NoSuchPlan
 
 -- the answer to what is asked at a moment, or to the fault that was met
-abbrev pub text_for : World → ℤ → Reading Asked → List ℕ
+abbrev pub text_for : DeskWorld → ℤ → Reading Asked → List ℕ
 text_for w moment (Ok a) = text (told_to w a.operator moment a.call)
 text_for w moment (Err fault) = refusal_text (Fault fault)
 
 -- its status code
-abbrev pub status_for : World → ℤ → Reading Asked → ℕ
+abbrev pub status_for : DeskWorld → ℤ → Reading Asked → ℕ
 status_for w moment (Ok a) = status (told_to w a.operator moment a.call)
 status_for w moment (Err fault) = fault_status fault
 
 -- what it leaves: a fault leaves all as it was
-abbrev pub world_after : World → ℤ → Reading Asked → World
+abbrev pub world_after : DeskWorld → ℤ → Reading Asked → DeskWorld
 world_after w moment (Ok a) = step w a.operator moment a.call
 world_after w moment (Err fault) = w
 
 -- the answer, and what is left, are those of what is asked
-pub record IsDone (w : World) (moment : ℤ) (reading : Reading Asked) (answer : List ℕ)
-    (after : World) : Type 0 where
+pub record IsDone (w : DeskWorld) (moment : ℤ) (reading : Reading Asked) (answer : List ℕ)
+    (after : DeskWorld) : Type 0 where
   pub told : answer ≡ text_for w moment reading
   pub left : after ≡ world_after w moment reading
 
 -- the desk failed: the answer says why, and all is as it was
-pub record IsServerError (why : ServerError) (w : World) (answer : List ℕ) (after : World) : Type 0 where
+pub record IsServerError (why : ServerError) (w : DeskWorld) (answer : List ℕ)
+    (after : DeskWorld) : Type 0 where
   pub told : answer ≡ server_error_text why
   pub left : after ≡ w
 
 -- the answer to what is asked, and what it leaves, by whether the desk failed
-abbrev pub IsAnsweredSo : Option ServerError → World → ℤ → Reading Asked → List ℕ → World → Type 0
+abbrev pub IsAnsweredSo : Option ServerError → DeskWorld → ℤ → Reading Asked → List ℕ → DeskWorld → Type 0
 IsAnsweredSo None w moment reading answer after = IsDone w moment reading answer after
 IsAnsweredSo (Some why) w moment reading answer after = IsServerError why w answer after
 
 -- the status code of that answer
-abbrev pub status_so : Option ServerError → World → ℤ → Reading Asked → ℕ
+abbrev pub status_so : Option ServerError → DeskWorld → ℤ → Reading Asked → ℕ
 status_so None w moment reading = status_for w moment reading
 status_so (Some why) w moment reading = 500
 
 -- the answer to a request, and what it leaves
-abbrev pub IsAnswered : World → ℤ → List ℕ → List ℕ → World → Type 0
+abbrev pub IsAnswered : DeskWorld → ℤ → List ℕ → List ℕ → DeskWorld → Type 0
 IsAnswered w moment request answer after =
     IsDone w moment (asked request) answer after
     ⊎ ((why : ServerError) × IsServerError why w answer after)

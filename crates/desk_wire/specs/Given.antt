@@ -3,7 +3,7 @@
 use Rattle.std.specs.Prelude.{◌≡◌, ◌⊎◌, ◌-◌, ◌+◌, ℕ, ℤ, List, [], ◌∷◌, ◌++◌, length, Option, IfSome}
 use Rattle.std.specs.List.{concat}
 use Rattle.std.specs.Io.KnownBytes.{Appends}
-use Rattle.desk_store.specs.World.{World}
+use Rattle.desk_run.specs.DeskWorld.{DeskWorld}
 use Rattle.desk_reading.specs.Requests.{asked}
 use Rattle.desk_wire.specs.declared.batch.AnswersEnd.{AnswersEnd}
 use Rattle.desk_wire.specs.declared.batch.AnswersEnd.TheVariants.{All, Broken, NoMemory}
@@ -45,7 +45,7 @@ FollowsBy (play.Fault OutOfMemory) more = more ≡ []
 
 -- what is left, by the world that the requests leave: that world; or, if the next answer was broken off, what
 -- its request leaves, unless that answer said that the desk failed
-abbrev pub LeavesBy : PlayEnd → (List ℕ → Type 0) → World → ℤ → World → Type 0
+abbrev pub LeavesBy : PlayEnd → (List ℕ → Type 0) → DeskWorld → ℤ → DeskWorld → Type 0
 LeavesBy play.End IsNext w moment after = after ≡ w
 LeavesBy play.Unframed IsNext w moment after = after ≡ w
 LeavesBy play.Limit IsNext w moment after = after ≡ w
@@ -62,8 +62,8 @@ IsNextIn old n requests next = IfSome old (λ stream. requests_in (n + 1) stream
 
 -- the first n requests of a stream, all sent at one moment, have these answers, which are written one after
 -- the other
-pub record AreGiven (ended : PlayEnd) (n : ℕ) (old out now : Option (List ℕ)) (w : World) (moment : ℤ)
-    (after : World) (requests answers : List (List ℕ)) : Type 0 where
+pub record AreGiven (ended : PlayEnd) (n : ℕ) (old out now : Option (List ℕ)) (w : DeskWorld) (moment : ℤ)
+    (after : DeskWorld) (requests answers : List (List ℕ)) : Type 0 where
   pub count : length requests ≡ n
   pub first : IfSome old (λ stream. requests ≡ requests_in n stream)
   pub told : answers ≡ answers_to w (at_moment moment requests)

@@ -26,14 +26,15 @@
 --
 --   "own plans and ceiling": `own`, compared by `OwnAlike`. "The greatest priority that other operators
 --   hold at each leaf cell, altitude and second": `held` at each point of a leaf, compared by `HoldAlike`.
---   The two together are `LookAlike`.
+--   The two together are `LookAlike`. The list of permitted priorities is part of the desk, set by its
+--   keeper and by no request: worlds that look alike have the same list, and a request leaves it.
 --
 --   "no other operator's request changes this operator's plans": after a request, every operator but the
 --   one that it names owns what it did before, its ceiling too (`others`).
 use Rattle.std.specs.Prelude.{◌≡◌, ◌≢◌, ◌+◌, ℕ, List, Option, None, Some, Ok, Err, length, take, ⊤}
 use Rattle.std.specs.List.{slice_get}
 use Rattle.desk_rules.specs.declared.call.Asked.{Asked}
-use Rattle.desk_store.specs.World.{World}
+use Rattle.desk_run.specs.DeskWorld.{DeskWorld}
 use Rattle.desk_reading.specs.Readings.{Reading}
 use Rattle.desk_reading.specs.Requests.{asked}
 use Rattle.desk_run.specs.Sides.{OwnAlike, HoldAlike}
@@ -49,33 +50,33 @@ sender r = operator_in (asked r.1)
 
 -- two worlds look alike to an operator: it owns the same, and others hold the same at each leaf cell,
 -- altitude and second; to nobody, any two do
-abbrev pub LookAlike : Option (List ℕ) → World → World → Type 0
+abbrev pub LookAlike : Option (List ℕ) → DeskWorld → DeskWorld → Type 0
 LookAlike None v w = ⊤
 LookAlike (Some o) v w = OwnAlike o v w × HoldAlike o v w
 
 -- the operator, if there is one, owns the same
-abbrev pub OwnsAlike : Option (List ℕ) → World → World → Type 0
+abbrev pub OwnsAlike : Option (List ℕ) → DeskWorld → DeskWorld → Type 0
 OwnsAlike None v w = ⊤
 OwnsAlike (Some o) v w = OwnAlike o v w
 
 -- the world after the first n requests: the one before the request at place n, counted from 0
-abbrev pub world_at : World → List Sent → ℕ → World
+abbrev pub world_at : DeskWorld → List Sent → ℕ → DeskWorld
 world_at w rs n = world_left w (take n rs)
 
 -- v and w are worlds, rs and ss lists of requests, i and j places in them, r and s requests, o an operator
 pub record Headline : Type 0 where
-  pub each : (w : World) (rs : List Sent) → length (answers_to w rs) ≡ length rs
-  pub decided : (v w : World) (rs ss : List Sent) (i j : ℕ) (r : Sent)
+  pub each : (w : DeskWorld) (rs : List Sent) → length (answers_to w rs) ≡ length rs
+  pub decided : (v w : DeskWorld) (rs ss : List Sent) (i j : ℕ) (r : Sent)
       → slice_get rs i ≡ Some r → slice_get ss j ≡ Some r
       → LookAlike (sender r) (world_at v rs i) (world_at w ss j)
       → slice_get (answers_to v rs) i ≡ slice_get (answers_to w ss) j
-  pub owned : (v w : World) (rs ss : List Sent) (i j : ℕ) (r : Sent)
+  pub owned : (v w : DeskWorld) (rs ss : List Sent) (i j : ℕ) (r : Sent)
       → slice_get rs i ≡ Some r → slice_get ss j ≡ Some r
       → LookAlike (sender r) (world_at v rs i) (world_at w ss j)
       → OwnsAlike (sender r) (world_at v rs (i + 1)) (world_at w ss (j + 1))
-  pub nobodys : (v w : World) (rs ss : List Sent) (i j : ℕ) (r s : Sent)
+  pub nobodys : (v w : DeskWorld) (rs ss : List Sent) (i j : ℕ) (r s : Sent)
       → slice_get rs i ≡ Some r → slice_get ss j ≡ Some s → r.1 ≡ s.1 → sender r ≡ None
       → slice_get (answers_to v rs) i ≡ slice_get (answers_to w ss) j
-  pub others : (w : World) (rs : List Sent) (i : ℕ) (r : Sent) (o : List ℕ)
+  pub others : (w : DeskWorld) (rs : List Sent) (i : ℕ) (r : Sent) (o : List ℕ)
       → slice_get rs i ≡ Some r → sender r ≢ Some o
       → OwnAlike o (world_at w rs (i + 1)) (world_at w rs i)

@@ -2,7 +2,7 @@
 use Rattle.std.specs.Prelude.{◌≡◌, ◌≢◌, ℕ, ℤ, ◌+◌, true, false, List, length, map, All, Option, Err}
 use Rattle.std.specs.List.{concat}
 use Rattle.std.specs.Io.KnownBytes.{Appends, Consumes, IsAtEnd}
-use Rattle.desk_store.specs.World.{World}
+use Rattle.desk_run.specs.DeskWorld.{DeskWorld}
 use Rattle.desk_wire.specs.declared.play.PlayEnd.{PlayEnd}
 use Rattle.desk_wire.specs.declared.play.PlayEnd.TheVariants.{End, Unframed, Broken, Limit, Fault}
 use Rattle.desk_wire.specs.declared.response.ServerError.{ServerError}
@@ -26,8 +26,8 @@ pub record IsWhole (request : List ℕ) : Type 0 where
 
 -- so many requests are taken one after the other, and, if the store is honest, their answers are
 -- written and what they leave is left
-pub record ArePlayed (H : Type 0) (count : ℕ) (old new out now : Option (List ℕ)) (w : World)
-    (moment : ℤ) (after : World) : Type 0 where
+pub record ArePlayed (H : Type 0) (count : ℕ) (old new out now : Option (List ℕ)) (w : DeskWorld)
+    (moment : ℤ) (after : DeskWorld) : Type 0 where
   pub requests : List (List ℕ)
   pub count_is : length requests ≡ count
   pub whole : All IsWhole requests
@@ -36,7 +36,7 @@ pub record ArePlayed (H : Type 0) (count : ℕ) (old new out now : Option (List 
   pub left : H → after ≡ world_left w (at_moment moment requests)
 
 -- one more request is taken, and its answer is that the desk failed
-pub record IsBroken (H : Type 0) (old new out now : Option (List ℕ)) (w after : World) : Type 0 where
+pub record IsBroken (H : Type 0) (old new out now : Option (List ℕ)) (w after : DeskWorld) : Type 0 where
   pub request : List ℕ
   pub taken : IsTaken old new request
   pub answer : List ℕ
@@ -44,8 +44,8 @@ pub record IsBroken (H : Type 0) (old new out now : Option (List ℕ)) (w after 
   pub failed : H → (why : ServerError) × IsServerError why w answer after
 
 -- one more request has the answer to what it asks, and the place of the next is unknown
-pub record IsUnframed (H : Type 0) (old new out now : Option (List ℕ)) (w : World) (moment : ℤ)
-    (after : World) : Type 0 where
+pub record IsUnframed (H : Type 0) (old new out now : Option (List ℕ)) (w : DeskWorld) (moment : ℤ)
+    (after : DeskWorld) : Type 0 where
   pub status : ℕ
   pub served : IsServed H old new out now w moment after status false
   pub answered : status ≢ 500
@@ -53,7 +53,7 @@ pub record IsUnframed (H : Type 0) (old new out now : Option (List ℕ)) (w : Wo
 -- what comes after the first requests, by why the run ended; the number of requests that are answered
 abbrev pub EndsBy :
     Type 0 → PlayEnd → ℕ → ℕ → Option (List ℕ) → Option (List ℕ) → Option (List ℕ) → Option (List ℕ)
-    → World → ℤ → World → Type 0
+    → DeskWorld → ℤ → DeskWorld → Type 0
 EndsBy H End count answered old new out now w moment after =
     (answered ≡ count) × IsAtEnd old × IsUntouched out now w after
 EndsBy H Unframed count answered old new out now w moment after =
@@ -67,10 +67,10 @@ EndsBy H (Fault fault) count answered old new out now w moment after =
 
 -- the first requests are answered in their order, and then the run ends
 pub record HasPlayed (H : Type 0) (ended : PlayEnd) (answered : ℕ)
-    (old new out now : Option (List ℕ)) (w : World) (moment : ℤ) (after : World) : Type 0 where
+    (old new out now : Option (List ℕ)) (w : DeskWorld) (moment : ℤ) (after : DeskWorld) : Type 0 where
   pub count : ℕ
   pub input : Option (List ℕ)
   pub output : Option (List ℕ)
-  pub world : World
+  pub world : DeskWorld
   pub first : ArePlayed H count old input out output w moment world
   pub last : EndsBy H ended count answered input new output now world moment after

@@ -2,7 +2,7 @@
 use Rattle.std.specs.Prelude.{◌≡◌, ◌<◌, ◌++◌, ℕ, ℤ, ⊤, List, length, take, codes, decimal, Bool, Option, IfSome, Result, Ok, Err}
 use Rattle.std.specs.Io.KnownBytes.{Appends, Consumes, IsAtEnd, Keeps}
 use Rattle.desk_reading.specs.Requests.{asked}
-use Rattle.desk_store.specs.World.{World}
+use Rattle.desk_run.specs.DeskWorld.{DeskWorld}
 use Rattle.desk_wire.specs.declared.response.ServerError.{ServerError}
 use Rattle.desk_wire.specs.declared.stream.Served.{Served}
 use Rattle.desk_wire.specs.declared.stream.Served.TheVariants.{Answered, End}
@@ -12,7 +12,7 @@ use Rattle.desk_wire.specs.Bytes.{IsAnsweredSo, IsServerError, status_so}
 use Rattle.desk_wire.specs.Streams.{IsCut, IsRequest, is_framed}
 
 -- nothing is written, and all is as it was
-pub record IsUntouched (out now : Option (List ℕ)) (w after : World) : Type 0 where
+pub record IsUntouched (out now : Option (List ℕ)) (w after : DeskWorld) : Type 0 where
   pub written : Keeps out now
   pub left : after ≡ w
 
@@ -22,14 +22,14 @@ pub record IsTaken (old new : Option (List ℕ)) (request : List ℕ) : Type 0 w
   pub taken : Consumes old new request
 
 -- the answer to a request, if the store is honest; an answer that the desk failed is so in any case
-pub record IsReplied (H : Type 0) (w : World) (moment : ℤ) (request answer : List ℕ)
-    (why : Option ServerError) (after : World) : Type 0 where
+pub record IsReplied (H : Type 0) (w : DeskWorld) (moment : ℤ) (request answer : List ℕ)
+    (why : Option ServerError) (after : DeskWorld) : Type 0 where
   pub told : H → IsAnsweredSo why w moment (asked request) answer after
   pub failed : IfSome why (λ error. IsServerError error w answer after)
 
 -- one request is taken, answered, and the answer written
-pub record IsServed (H : Type 0) (old new out now : Option (List ℕ)) (w : World) (moment : ℤ)
-    (after : World) (status : ℕ) (framed : Bool) : Type 0 where
+pub record IsServed (H : Type 0) (old new out now : Option (List ℕ)) (w : DeskWorld) (moment : ℤ)
+    (after : DeskWorld) (status : ℕ) (framed : Bool) : Type 0 where
   pub request : List ℕ
   pub taken : IsTaken old new request
   pub framed_is : framed ≡ is_framed request
@@ -40,8 +40,8 @@ pub record IsServed (H : Type 0) (old new out now : Option (List ℕ)) (w : Worl
   pub written : Appends out now answer
 
 -- the same, but only the first bytes of the answer are written
-pub record IsBrokenOff (H : Type 0) (old new out now : Option (List ℕ)) (w : World) (moment : ℤ)
-    (after : World) (sent : ℕ) : Type 0 where
+pub record IsBrokenOff (H : Type 0) (old new out now : Option (List ℕ)) (w : DeskWorld) (moment : ℤ)
+    (after : DeskWorld) (sent : ℕ) : Type 0 where
   pub request : List ℕ
   pub taken : IsTaken old new request
   pub answer : List ℕ
@@ -67,7 +67,7 @@ BreaksOff bytes out now OutOfMemory = ⊥
 -- what comes of one request of a stream
 abbrev pub HasServed :
     Type 0 → Result Served ServeFault → Option (List ℕ) → Option (List ℕ) → Option (List ℕ)
-    → Option (List ℕ) → World → ℤ → World → Type 0
+    → Option (List ℕ) → DeskWorld → ℤ → DeskWorld → Type 0
 HasServed H (Ok (Answered status framed)) old new out now w moment after =
     IsServed H old new out now w moment after status framed
 HasServed H (Ok End) old new out now w moment after = IsAtEnd old × IsUntouched out now w after

@@ -5,6 +5,7 @@ ghost use Rattle.desk_reading.specs.Messages.{message_read, message_shown};
 ghost use Rattle.desk_reading.specs.Readings.{or_met};
 ghost use Rattle.desk_reading.specs.Requests.{asked_by};
 ghost use Rattle.desk_store.specs.Faults.{IsHonest, HasRisen};
+ghost use Rattle.desk_run.specs.DeskWorld.{world_of};
 ghost use Rattle.desk_run.specs.Calls.{CanCommit, reply_in, world_committed};
 ghost use Rattle.desk_wire.specs.Moments.{IsMoment};
 ghost use Rattle.desk_rules.specs.Replies.{said_in};
@@ -45,11 +46,12 @@ pub fn answer<S: PlanStore>(
     text: &[u8],
 ) -> Result<Vec<u8>, AllocError>
     requires { IsMoment moment }
-    ensures bytes { IsHonest (S.doubt desk.new) → IfOk result (λ bytes.
-        IsAnswered (S.content desk.old) moment text.now bytes.items (S.content desk.new)) }
-    ensures err { OnErr result (S.content desk.new ≡ S.content desk.old) }
-    ensures doubt { S.doubt desk.old ≤ S.doubt desk.new }
-    ensures counted { S.faults desk.old ≤ S.faults desk.new }
+    ensures bytes { IsHonest (S.doubt desk.new.store) → IfOk result (λ bytes.
+        IsAnswered (world_of S.content desk.old) moment text.now bytes.items
+        (world_of S.content desk.new)) }
+    ensures err { OnErr result (world_of S.content desk.new ≡ world_of S.content desk.old) }
+    ensures doubt { S.doubt desk.old.store ≤ S.doubt desk.new.store }
+    ensures counted { S.faults desk.old.store ≤ S.faults desk.new.store }
 {
     let routes = Routes::try_new(alloc)?;
     let answer = answer_request(alloc, &routes, desk, moment, &read_message(text))?;
@@ -69,18 +71,21 @@ pub fn answer_request<S: PlanStore>(
     request: &Result<Message<'_>, WireFault>,
 ) -> Result<Answer, AllocError>
     requires { IsMoment moment }
-    ensures bytes { IsHonest (S.doubt desk.new) → IfOk result (λ answer.
-        IsAnsweredSo answer.error (S.content desk.old) moment
-        (or_met (message_read request.now) asked_by) answer.bytes.items (S.content desk.new)) }
-    ensures status { IsHonest (S.doubt desk.new) → IfOk result (λ answer. answer.status
-        ≡ status_so answer.error (S.content desk.old) moment (or_met (message_read request.now) asked_by)) }
+    ensures bytes { IsHonest (S.doubt desk.new.store) → IfOk result (λ answer.
+        IsAnsweredSo answer.error (world_of S.content desk.old) moment
+        (or_met (message_read request.now) asked_by) answer.bytes.items
+        (world_of S.content desk.new)) }
+    ensures status { IsHonest (S.doubt desk.new.store) → IfOk result (λ answer. answer.status
+        ≡ status_so answer.error (world_of S.content desk.old) moment
+        (or_met (message_read request.now) asked_by)) }
     ensures failed { IfOk result (λ answer. IfSome answer.error (λ why.
-        IsServerError why (S.content desk.old) answer.bytes.items (S.content desk.new))) }
-    ensures err { OnErr result (S.content desk.new ≡ S.content desk.old) }
-    ensures doubt { S.doubt desk.old ≤ S.doubt desk.new }
-    ensures counted { S.faults desk.old ≤ S.faults desk.new }
+        IsServerError why (world_of S.content desk.old) answer.bytes.items
+        (world_of S.content desk.new))) }
+    ensures err { OnErr result (world_of S.content desk.new ≡ world_of S.content desk.old) }
+    ensures doubt { S.doubt desk.old.store ≤ S.doubt desk.new.store }
+    ensures counted { S.faults desk.old.store ≤ S.faults desk.new.store }
     ensures cause { IfOk result (λ answer. answer.error ≡ Some ServerError.Store →
-        HasRisen (S.faults desk.old) (S.faults desk.new)) }
+        HasRisen (S.faults desk.old.store) (S.faults desk.new.store)) }
 {
     let mut room = Vec::with_capacity(alloc, ANSWER_ROOM)?;
     match respond(alloc, routes, desk, moment, request) {
@@ -109,15 +114,17 @@ fn respond<S: PlanStore>(
     request: &Result<Message<'_>, WireFault>,
 ) -> Result<Response, ServerError>
     requires { IsMoment moment }
-    ensures bytes { IsHonest (S.doubt desk.new) → IfOk result (λ r. IsDone (S.content desk.old) moment
-        (or_met (message_read request.now) asked_by) r.bytes.items (S.content desk.new)) }
-    ensures status { IsHonest (S.doubt desk.new) → IfOk result (λ r. r.status
-        ≡ status_for (S.content desk.old) moment (or_met (message_read request.now) asked_by)) }
-    ensures err { OnErr result (S.content desk.new ≡ S.content desk.old) }
-    ensures doubt { S.doubt desk.old ≤ S.doubt desk.new }
-    ensures counted { S.faults desk.old ≤ S.faults desk.new }
+    ensures bytes { IsHonest (S.doubt desk.new.store) → IfOk result
+        (λ r. IsDone (world_of S.content desk.old) moment
+        (or_met (message_read request.now) asked_by) r.bytes.items (world_of S.content desk.new)) }
+    ensures status { IsHonest (S.doubt desk.new.store) → IfOk result (λ r. r.status
+        ≡ status_for (world_of S.content desk.old) moment
+        (or_met (message_read request.now) asked_by)) }
+    ensures err { OnErr result (world_of S.content desk.new ≡ world_of S.content desk.old) }
+    ensures doubt { S.doubt desk.old.store ≤ S.doubt desk.new.store }
+    ensures counted { S.faults desk.old.store ≤ S.faults desk.new.store }
     ensures cause { IfErr result (λ e. e ≡ ServerError.Store →
-        HasRisen (S.faults desk.old) (S.faults desk.new)) }
+        HasRisen (S.faults desk.old.store) (S.faults desk.new.store)) }
 {
     match request {
         Ok(message) => answer_message(alloc, routes, desk, moment, message),
@@ -134,15 +141,16 @@ fn answer_message<S: PlanStore>(
     message: &Message<'_>,
 ) -> Result<Response, ServerError>
     requires { IsMoment moment }
-    ensures bytes { IsHonest (S.doubt desk.new) → IfOk result (λ r. IsDone (S.content desk.old) moment
-        (asked_by (message_shown message.now)) r.bytes.items (S.content desk.new)) }
-    ensures status { IsHonest (S.doubt desk.new) → IfOk result (λ r. r.status
-        ≡ status_for (S.content desk.old) moment (asked_by (message_shown message.now))) }
-    ensures err { OnErr result (S.content desk.new ≡ S.content desk.old) }
-    ensures doubt { S.doubt desk.old ≤ S.doubt desk.new }
-    ensures counted { S.faults desk.old ≤ S.faults desk.new }
+    ensures bytes { IsHonest (S.doubt desk.new.store) → IfOk result
+        (λ r. IsDone (world_of S.content desk.old) moment
+        (asked_by (message_shown message.now)) r.bytes.items (world_of S.content desk.new)) }
+    ensures status { IsHonest (S.doubt desk.new.store) → IfOk result (λ r. r.status
+        ≡ status_for (world_of S.content desk.old) moment (asked_by (message_shown message.now))) }
+    ensures err { OnErr result (world_of S.content desk.new ≡ world_of S.content desk.old) }
+    ensures doubt { S.doubt desk.old.store ≤ S.doubt desk.new.store }
+    ensures counted { S.faults desk.old.store ≤ S.faults desk.new.store }
     ensures cause { IfErr result (λ e. e ≡ ServerError.Store →
-        HasRisen (S.faults desk.old) (S.faults desk.new)) }
+        HasRisen (S.faults desk.old.store) (S.faults desk.new.store)) }
 {
     match read_asked(alloc, routes, message) {
         Ok(asked) => answer_call(alloc, desk, moment, &asked),
@@ -159,15 +167,16 @@ fn answer_call<S: PlanStore>(
     asked: &Asked,
 ) -> Result<Response, ServerError>
     requires { IsMoment moment }
-    ensures bytes { IsHonest (S.doubt desk.new) → IfOk result (λ r.
-        IsDone (S.content desk.old) moment (Ok asked.now) r.bytes.items (S.content desk.new)) }
-    ensures status { IsHonest (S.doubt desk.new) → IfOk result (λ r.
-        r.status ≡ status_for (S.content desk.old) moment (Ok asked.now)) }
-    ensures err { OnErr result (S.content desk.new ≡ S.content desk.old) }
-    ensures doubt { S.doubt desk.old ≤ S.doubt desk.new }
-    ensures counted { S.faults desk.old ≤ S.faults desk.new }
+    ensures bytes { IsHonest (S.doubt desk.new.store) → IfOk result (λ r.
+        IsDone (world_of S.content desk.old) moment (Ok asked.now) r.bytes.items
+        (world_of S.content desk.new)) }
+    ensures status { IsHonest (S.doubt desk.new.store) → IfOk result (λ r.
+        r.status ≡ status_for (world_of S.content desk.old) moment (Ok asked.now)) }
+    ensures err { OnErr result (world_of S.content desk.new ≡ world_of S.content desk.old) }
+    ensures doubt { S.doubt desk.old.store ≤ S.doubt desk.new.store }
+    ensures counted { S.faults desk.old.store ≤ S.faults desk.new.store }
     ensures cause { IfErr result (λ e. e ≡ ServerError.Store →
-        HasRisen (S.faults desk.old) (S.faults desk.new)) }
+        HasRisen (S.faults desk.old.store) (S.faults desk.new.store)) }
 {
     match desk.prepare(alloc, moment, asked) {
         Ok(pending) => answer_pending(alloc, desk, pending),
@@ -184,17 +193,17 @@ fn answer_pending<S: PlanStore>(
     desk: &mut Desk<S>,
     pending: Pending,
 ) -> Result<Response, ServerError>
-    requires { IsHonest (S.doubt desk.old) → CanCommit (S.content desk.old) pending }
+    requires { IsHonest (S.doubt desk.old.store) → CanCommit (world_of S.content desk.old) pending }
     ensures bytes { IfOk result (λ r. r.bytes.items
         ≡ reply_text (said_in (reply_in pending))) }
     ensures status { IfOk result (λ r. r.status ≡ 200) }
-    ensures ok { IsHonest (S.doubt desk.new) → OnOk result
-        (S.content desk.new ≡ world_committed (S.content desk.old) pending) }
-    ensures err { OnErr result (S.content desk.new ≡ S.content desk.old) }
-    ensures doubt { S.doubt desk.old ≤ S.doubt desk.new }
-    ensures counted { S.faults desk.old ≤ S.faults desk.new }
+    ensures ok { IsHonest (S.doubt desk.new.store) → OnOk result
+        (world_of S.content desk.new ≡ world_committed (world_of S.content desk.old) pending) }
+    ensures err { OnErr result (world_of S.content desk.new ≡ world_of S.content desk.old) }
+    ensures doubt { S.doubt desk.old.store ≤ S.doubt desk.new.store }
+    ensures counted { S.faults desk.old.store ≤ S.faults desk.new.store }
     ensures cause { IfErr result (λ e. e ≡ ServerError.Store →
-        HasRisen (S.faults desk.old) (S.faults desk.new)) }
+        HasRisen (S.faults desk.old.store) (S.faults desk.new.store)) }
 {
     let bytes = reply_answer(alloc, pending.reply())?;
     match desk.commit(pending) {

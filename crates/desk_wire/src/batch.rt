@@ -2,6 +2,7 @@
 
 ghost use Rattle.std.specs.Prelude.{◌≡◌, ◌≤◌, ℕ, List, [], All, IfOk, OnErr, map};
 ghost use Rattle.desk_store.specs.Faults.{IsHonest};
+ghost use Rattle.desk_run.specs.DeskWorld.{world_of};
 ghost use Rattle.desk_run.specs.Sides.{OwnAlike};
 ghost use Rattle.desk_wire.specs.AllAnswers.{AreAnswers};
 ghost use Rattle.desk_wire.specs.Moments.{IsMoment};
@@ -76,15 +77,15 @@ pub fn answer_all<S: PlanStore>(
     requests: &[(i64, Vec<u8>)],
 ) -> Result<Answers, AllocError>
     requires { All (λ request. IsMoment request.0) requests.now }
-    ensures answers { IsHonest (S.doubt desk.new) → IfOk result (λ a.
-        AreAnswers a.ended (S.content desk.old) (map (λ r. (r.0, r.1.items)) requests.now)
-        (map (λ v. v.items) a.answers.items) (S.content desk.new)) }
-    ensures quiet { IsHonest (S.doubt desk.new) → IfOk result (λ _. (operator : List ℕ) →
+    ensures answers { IsHonest (S.doubt desk.new.store) → IfOk result (λ a.
+        AreAnswers a.ended (world_of S.content desk.old) (map (λ r. (r.0, r.1.items)) requests.now)
+        (map (λ v. v.items) a.answers.items) (world_of S.content desk.new)) }
+    ensures quiet { IsHonest (S.doubt desk.new.store) → IfOk result (λ _. (operator : List ℕ) →
         requests_of operator (map (λ r. (r.0, r.1.items)) requests.now) ≡ [] →
-        OwnAlike operator (S.content desk.new) (S.content desk.old)) }
-    ensures err { OnErr result (S.content desk.new ≡ S.content desk.old) }
-    ensures doubt { S.doubt desk.old ≤ S.doubt desk.new }
-    ensures counted { S.faults desk.old ≤ S.faults desk.new }
+        OwnAlike operator (world_of S.content desk.new) (world_of S.content desk.old)) }
+    ensures err { OnErr result (world_of S.content desk.new ≡ world_of S.content desk.old) }
+    ensures doubt { S.doubt desk.old.store ≤ S.doubt desk.new.store }
+    ensures counted { S.faults desk.old.store ≤ S.faults desk.new.store }
 {
     let routes = Routes::try_new(alloc)?;
     let mut answers = Vec::with_capacity(alloc, requests.len())?;

@@ -3,7 +3,7 @@
 ghost use Rattle.std.specs.Prelude.{◌≡◌, ◌<◌, ◌+◌, ◌++◌, ℕ, ℤ, List, [], Option, Some, length, take};
 ghost use Rattle.std.specs.List.{AllZip, slice_get};
 ghost use Rattle.desk_store.specs.Faults.{IsHonest};
-ghost use Rattle.desk_store.specs.World.{World};
+ghost use Rattle.desk_run.specs.DeskWorld.{DeskWorld};
 ghost use Rattle.desk_run.specs.Sides.{HoldAlike, OwnAlike};
 ghost use Rattle.desk_wire.specs.declared.batch.AnswersEnd.{AnswersEnd};
 ghost use Rattle.desk_wire.specs.declared.play.PlayEnd.{PlayEnd};
@@ -27,7 +27,7 @@ pub fn headline()
 /// then their answers are equal byte for byte, and the operator owns the same after each of them and
 /// at the end, whatever requests of others stand between.
 pub fn two_runs()
-    ensures { (operator : List ℕ) (v w : World) (requests others : List Sent) →
+    ensures { (operator : List ℕ) (v w : DeskWorld) (requests others : List Sent) →
         OwnAlike operator v w → requests_of operator requests ≡ requests_of operator others →
         AllZip (HoldAlike operator) (met_by operator v requests) (met_by operator w others) →
         IsSameFor operator v requests w others }
@@ -38,17 +38,17 @@ pub fn two_runs()
 /// answered in two lists at worlds that look alike to its operator, was given equal bytes. `quiet`: an
 /// operator that sent nothing owns what it did.
 pub fn answers_given()
-    ensures first { (end : AnswersEnd) (w after : World) (requests : List Sent)
+    ensures first { (end : AnswersEnd) (w after : DeskWorld) (requests : List Sent)
         (answers : List (List ℕ)) → AreAnswers end w requests answers after →
         AreFirst w requests (answered end answers) (take (answered end answers) answers) after }
-    ensures decided { (e f : AnswersEnd) (v w v_after w_after : World) (rs ss : List Sent)
+    ensures decided { (e f : AnswersEnd) (v w v_after w_after : DeskWorld) (rs ss : List Sent)
         (xs ys : List (List ℕ)) (i j : ℕ) (r : Sent) →
         AreAnswers e v rs xs v_after → AreAnswers f w ss ys w_after →
         i < answered e xs → j < answered f ys →
         slice_get rs i ≡ Some r → slice_get ss j ≡ Some r →
         LookAlike (sender r) (world_at v rs i) (world_at w ss j) →
         slice_get xs i ≡ slice_get ys j }
-    ensures quiet { (end : AnswersEnd) (w after : World) (requests : List Sent)
+    ensures quiet { (end : AnswersEnd) (w after : DeskWorld) (requests : List Sent)
         (answers : List (List ℕ)) (operator : List ℕ) → AreAnswers end w requests answers after →
         requests_of operator requests ≡ [] → OwnAlike operator after w }
 {}
@@ -60,19 +60,19 @@ pub fn answers_given()
 /// operator that sent nothing owns what it did.
 pub fn stream_given()
     ensures first { (ended : PlayEnd) (doubt count : ℕ) (old new out now : Option (List ℕ))
-        (w : World) (moment : ℤ) (after : World) →
+        (w : DeskWorld) (moment : ℤ) (after : DeskWorld) →
         HasPlayed (IsHonest doubt) ended count old new out now w moment after → IsHonest doubt →
         (requests answers : List (List ℕ)) ×
         AreGiven ended (told_in_play ended count) old out now w moment after requests answers }
     ensures decided { (e f : PlayEnd) (m n : ℕ) (old out now old_too out_too now_too : Option (List ℕ))
-        (v w v_after w_after : World) (moment : ℤ) (rs ss xs ys : List (List ℕ)) (i j : ℕ)
+        (v w v_after w_after : DeskWorld) (moment : ℤ) (rs ss xs ys : List (List ℕ)) (i j : ℕ)
         (r : List ℕ) → AreGiven e m old out now v moment v_after rs xs →
         AreGiven f n old_too out_too now_too w moment w_after ss ys →
         slice_get rs i ≡ Some r → slice_get ss j ≡ Some r →
         LookAlike (sender (moment, r)) (world_at v (at_moment moment rs) i)
         (world_at w (at_moment moment ss) j) → slice_get xs i ≡ slice_get ys j }
     ensures quiet { (ended : PlayEnd) (doubt count : ℕ) (stream : List ℕ)
-        (new out now : Option (List ℕ)) (w : World) (moment : ℤ) (after : World)
+        (new out now : Option (List ℕ)) (w : DeskWorld) (moment : ℤ) (after : DeskWorld)
         (operator : List ℕ) →
         HasPlayed (IsHonest doubt) ended count (Some stream) new out now w moment after →
         IsHonest doubt →

@@ -2,6 +2,7 @@
 
 ghost use Rattle.std.specs.Prelude.{◌≡◌, ◌≤◌, ◌==◌};
 ghost use Rattle.desk_store.specs.Faults.{IsHonest};
+ghost use Rattle.desk_run.specs.DeskWorld.{world_of};
 ghost use Rattle.desk_wire.specs.Moments.{IsMoment};
 ghost use Rattle.desk_wire.specs.Playing.{HasPlayed};
 
@@ -50,12 +51,12 @@ pub fn play_all<S: PlanStore, R: Read, W: Write>(
     output: &mut W,
 ) -> Played
     requires { IsMoment moment }
-    ensures played { HasPlayed (IsHonest (S.doubt desk.new)) result.ended result.answered
+    ensures played { HasPlayed (IsHonest (S.doubt desk.new.store)) result.ended result.answered
         (R.remaining input.old) (R.remaining input.new)
         (W.contents output.old) (W.contents output.new)
-        (S.content desk.old) moment (S.content desk.new) }
-    ensures doubt { S.doubt desk.old ≤ S.doubt desk.new }
-    ensures counted { S.faults desk.old ≤ S.faults desk.new }
+        (world_of S.content desk.old) moment (world_of S.content desk.new) }
+    ensures doubt { S.doubt desk.old.store ≤ S.doubt desk.new.store }
+    ensures counted { S.faults desk.old.store ≤ S.faults desk.new.store }
 {
     match Routes::try_new(alloc) {
         Ok(routes) => play_with(alloc, &routes, desk, moment, input, output),
@@ -76,12 +77,12 @@ fn play_with<S: PlanStore, R: Read, W: Write>(
     output: &mut W,
 ) -> Played
     requires { IsMoment moment }
-    ensures played { HasPlayed (IsHonest (S.doubt desk.new)) result.ended result.answered
+    ensures played { HasPlayed (IsHonest (S.doubt desk.new.store)) result.ended result.answered
         (R.remaining input.old) (R.remaining input.new)
         (W.contents output.old) (W.contents output.new)
-        (S.content desk.old) moment (S.content desk.new) }
-    ensures doubt { S.doubt desk.old ≤ S.doubt desk.new }
-    ensures counted { S.faults desk.old ≤ S.faults desk.new }
+        (world_of S.content desk.old) moment (world_of S.content desk.new) }
+    ensures doubt { S.doubt desk.old.store ≤ S.doubt desk.new.store }
+    ensures counted { S.faults desk.old.store ≤ S.faults desk.new.store }
 {
     for before in 0..MAX_ANSWERED {
         let served = match serve_next(alloc, routes, desk, moment, input, output) {

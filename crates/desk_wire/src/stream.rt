@@ -6,6 +6,7 @@ ghost use Rattle.std.specs.Result.{is_ok};
 ghost use Rattle.std.specs.Io.KnownBytes.{Appends, Consumes, IsAtEnd, ReadConsumes};
 ghost use Rattle.desk_reading.specs.Messages.{message_read};
 ghost use Rattle.desk_store.specs.Faults.{IsHonest};
+ghost use Rattle.desk_run.specs.DeskWorld.{world_of};
 ghost use Rattle.desk_wire.specs.Moments.{IsMoment};
 ghost use Rattle.desk_wire.specs.Serving.{BreaksOff, HasServed, Stops};
 ghost use Rattle.desk_wire.specs.Streams.{IsCut, IsFront, byte_list, front_read, front_reading, size_said, with_body};
@@ -93,12 +94,12 @@ pub fn serve_one<S: PlanStore, R: Read, W: Write>(
     output: &mut W,
 ) -> Result<Served, ServeFault>
     requires { IsMoment moment }
-    ensures served { HasServed (IsHonest (S.doubt desk.new)) result
+    ensures served { HasServed (IsHonest (S.doubt desk.new.store)) result
         (R.remaining input.old) (R.remaining input.new)
         (W.contents output.old) (W.contents output.new)
-        (S.content desk.old) moment (S.content desk.new) }
-    ensures doubt { S.doubt desk.old ≤ S.doubt desk.new }
-    ensures counted { S.faults desk.old ≤ S.faults desk.new }
+        (world_of S.content desk.old) moment (world_of S.content desk.new) }
+    ensures doubt { S.doubt desk.old.store ≤ S.doubt desk.new.store }
+    ensures counted { S.faults desk.old.store ≤ S.faults desk.new.store }
 {
     let routes = Routes::try_new(alloc)?;
     serve_next(alloc, &routes, desk, moment, input, output)
@@ -114,12 +115,12 @@ pub fn serve_next<S: PlanStore, R: Read, W: Write>(
     output: &mut W,
 ) -> Result<Served, ServeFault>
     requires { IsMoment moment }
-    ensures served { HasServed (IsHonest (S.doubt desk.new)) result
+    ensures served { HasServed (IsHonest (S.doubt desk.new.store)) result
         (R.remaining input.old) (R.remaining input.new)
         (W.contents output.old) (W.contents output.new)
-        (S.content desk.old) moment (S.content desk.new) }
-    ensures doubt { S.doubt desk.old ≤ S.doubt desk.new }
-    ensures counted { S.faults desk.old ≤ S.faults desk.new }
+        (world_of S.content desk.old) moment (world_of S.content desk.new) }
+    ensures doubt { S.doubt desk.old.store ≤ S.doubt desk.new.store }
+    ensures counted { S.faults desk.old.store ≤ S.faults desk.new.store }
 {
     let mut reads = MAX_READS;
     let text = receive_head(alloc, input, &mut reads)?;

@@ -16,6 +16,7 @@ use super::conflict::conflict_of;
 use crate::fault::DeskFault;
 use desk_rules::decide::{Effect, Verdict, decide};
 use desk_rules::operator::Operator;
+use desk_rules::permission::Permitted;
 use desk_rules::plan::{PlanRow, PutCall};
 use desk_rules::plan_id::PlanId;
 use desk_rules::reply::{PutReply, Reply};
@@ -27,6 +28,7 @@ use volume4d::Meeting;
 // Gets the reply to a request of an operator under a ceiling ready.
 pub fn ready_put<S: PlanStore>(
     store: &mut S,
+    permitted: &Permitted,
     moment: i64,
     operator: &Operator,
     put: &PutCall,
@@ -36,7 +38,8 @@ pub fn ready_put<S: PlanStore>(
         ceiling_of operator.now (S.content store.old) ≡ Some ceiling }
     requires low { IsHonest (S.doubt store.old) → ceiling ≤ max_priority }
     ensures value { IsHonest (S.doubt store.new) → Readies (S.content store.old) operator.now
-        (put_ruling (put_outcome_in (S.content store.old) operator.now ceiling moment put.now)
+        (put_ruling
+        (put_outcome_in permitted.now (S.content store.old) operator.now ceiling moment put.now)
         put.now (plans_of operator.now (S.content store.old))) result }
     ensures same { S.content store.new ≡ S.content store.old }
     ensures doubt { S.doubt store.old ≤ S.doubt store.new }
@@ -44,7 +47,7 @@ pub fn ready_put<S: PlanStore>(
     ensures cause { IfErr result (λ e. e ≡ DeskFault.Store →
         HasRisen (S.faults store.old) (S.faults store.new)) }
 {
-    let verdict = verdict_on(store, moment, operator, put, ceiling)?;
+    let verdict = verdict_on(store, permitted, moment, operator, put, ceiling)?;
     let change = change_for(verdict.effect, operator, put)?;
     let reply = Reply::Answered(reply_of(&verdict));
     Ok(Pending { reply, change })
@@ -69,13 +72,15 @@ fn reply_of(verdict: &Verdict) -> PutReply
 // The verdict on a request of an operator under a ceiling.
 fn verdict_on<S: PlanStore>(
     store: &mut S,
+    permitted: &Permitted,
     moment: i64,
     operator: &Operator,
     put: &PutCall,
     ceiling: u32,
 ) -> Result<Verdict, StoreFault>
     ensures verdict { IsHonest (S.doubt store.new) → IfOk result (λ v.
-        v ≡ put_outcome_in (S.content store.old) operator.now ceiling moment put.now) }
+        v ≡ put_outcome_in permitted.now (S.content store.old) operator.now ceiling moment
+        put.now) }
     ensures same { S.content store.new ≡ S.content store.old }
     ensures doubt { S.doubt store.old ≤ S.doubt store.new }
     ensures counted { S.faults store.old ≤ S.faults store.new }
@@ -84,7 +89,7 @@ fn verdict_on<S: PlanStore>(
 {
     let (stored, own_rows) = plan_and_count(store, operator, &put.id)?;
     let needed = needs_conflict(put, moment, stored.as_ref(), own_rows, ceiling);
-    let meeting = conflict_if(needed, store, operator, put)?;
+    let meeting = conflict_if(needed, store, permitted, operator, put)?;
     Ok(decide(put, moment, stored.as_ref(), own_rows, ceiling, meeting))
 }
 
@@ -121,12 +126,13 @@ fn is_checked(step: Step) -> bool
 fn conflict_if<S: PlanStore>(
     needed: bool,
     store: &mut S,
+    permitted: &Permitted,
     operator: &Operator,
     put: &PutCall,
 ) -> Result<Option<Meeting>, StoreFault>
     ensures value { IsHonest (S.doubt store.new) → IfOk result (λ meeting.
-        meeting ≡ cond needed (conflict_in (S.content store.old) operator.now put.now.id
-        put.now.area put.now.priority) None) }
+        meeting ≡ cond needed (conflict_in permitted.now (S.content store.old) operator.now
+        put.now.id put.now.area put.now.priority) None) }
     ensures same { S.content store.new ≡ S.content store.old }
     ensures doubt { S.doubt store.old ≤ S.doubt store.new }
     ensures counted { S.faults store.old ≤ S.faults store.new }
@@ -136,7 +142,7 @@ fn conflict_if<S: PlanStore>(
     if !needed {
         return Ok(None);
     }
-    conflict_of(store, operator, &put.id, &put.area, put.priority)
+    conflict_of(store, permitted, operator, &put.id, &put.area, put.priority)
 }
 
 // The operator's plan of the id, and if there is none, how many plans the operator has.

@@ -11,6 +11,7 @@ use super::conflict::conflict_of;
 use crate::fault::DeskFault;
 use desk_rules::decide::status_of;
 use desk_rules::operator::Operator;
+use desk_rules::permission::Permitted;
 use desk_rules::plan::PlanRow;
 use desk_rules::plan_id::PlanId;
 use desk_rules::reply::{Reply, Shown};
@@ -22,10 +23,11 @@ use volume4d::Meeting;
 pub fn ready_list<S: PlanStore>(
     alloc: Global,
     store: &mut S,
+    permitted: &Permitted,
     operator: &Operator,
 ) -> Result<Pending, DeskFault>
     ensures value { IsHonest (S.doubt store.new) → Readies (S.content store.old) operator.now
-        (list_ruling (plans_of operator.now (S.content store.old))
+        (list_ruling permitted.now (plans_of operator.now (S.content store.old))
         (held (S.content store.old) operator.now)) result }
     ensures same { S.content store.new ≡ S.content store.old }
     ensures doubt { S.doubt store.old ≤ S.doubt store.new }
@@ -33,7 +35,7 @@ pub fn ready_list<S: PlanStore>(
     ensures cause { IfErr result (λ e. e ≡ DeskFault.Store →
         HasRisen (S.faults store.old) (S.faults store.new)) }
 {
-    let plans = own_shown(alloc, store, operator)?;
+    let plans = own_shown(alloc, store, permitted, operator)?;
     Ok(Pending {
         reply: Reply::Plans(plans),
         change: None,
@@ -44,10 +46,11 @@ pub fn ready_list<S: PlanStore>(
 fn own_shown<S: PlanStore>(
     alloc: Global,
     store: &mut S,
+    permitted: &Permitted,
     operator: &Operator,
 ) -> Result<Vec<Shown>, StoreFault>
     ensures value { IsHonest (S.doubt store.new) → IfOk result (λ plans.
-        plans.items ≡ map (shown_in (S.content store.old) operator.now)
+        plans.items ≡ map (shown_in permitted.now (S.content store.old) operator.now)
         (plans_of operator.now (S.content store.old))) }
     ensures same { S.content store.new ≡ S.content store.old }
     ensures doubt { S.doubt store.old ≤ S.doubt store.new }
@@ -56,17 +59,18 @@ fn own_shown<S: PlanStore>(
         HasRisen (S.faults store.old) (S.faults store.new)) }
 {
     let rows = store.own_plans(operator)?;
-    shown_all(alloc, store, operator, &rows)
+    shown_all(alloc, store, permitted, operator, &rows)
 }
 
 // Gets the showing of an enrolled operator's plan ready.
 pub fn ready_show<S: PlanStore>(
     store: &mut S,
+    permitted: &Permitted,
     operator: &Operator,
     id: &PlanId,
 ) -> Result<Pending, DeskFault>
     ensures value { IsHonest (S.doubt store.new) → Readies (S.content store.old) operator.now
-        (show_ruling (plans_of operator.now (S.content store.old))
+        (show_ruling permitted.now (plans_of operator.now (S.content store.old))
         (held (S.content store.old) operator.now)
         (stored_of id.now (plans_of operator.now (S.content store.old)))) result }
     ensures same { S.content store.new ≡ S.content store.old }
@@ -78,7 +82,7 @@ pub fn ready_show<S: PlanStore>(
     let Some(row) = store.plan(operator, id)? else {
         return Err(DeskFault::NoSuchPlan);
     };
-    let plan = shown(store, operator, &row)?;
+    let plan = shown(store, permitted, operator, &row)?;
     Ok(Pending {
         reply: Reply::Plan(plan),
         change: None,
@@ -89,11 +93,12 @@ pub fn ready_show<S: PlanStore>(
 fn shown_all<S: PlanStore>(
     alloc: Global,
     store: &mut S,
+    permitted: &Permitted,
     operator: &Operator,
     rows: &[PlanRow],
 ) -> Result<Vec<Shown>, StoreFault>
     ensures value { IsHonest (S.doubt store.new) → IfOk result (λ plans.
-        plans.items ≡ map (shown_in (S.content store.old) operator.now) rows.now) }
+        plans.items ≡ map (shown_in permitted.now (S.content store.old) operator.now) rows.now) }
     ensures same { S.content store.new ≡ S.content store.old }
     ensures doubt { S.doubt store.old ≤ S.doubt store.new }
     ensures counted { S.faults store.old ≤ S.faults store.new }
@@ -102,7 +107,7 @@ fn shown_all<S: PlanStore>(
 {
     let mut plans = Vec::new(alloc);
     for row in rows {
-        plans.push(shown(store, operator, row)?)?;
+        plans.push(shown(store, permitted, operator, row)?)?;
     }
     Ok(plans)
 }
@@ -110,18 +115,19 @@ fn shown_all<S: PlanStore>(
 // A plan of the operator as it is shown.
 fn shown<S: PlanStore>(
     store: &mut S,
+    permitted: &Permitted,
     operator: &Operator,
     row: &PlanRow,
 ) -> Result<Shown, StoreFault>
     ensures value { IsHonest (S.doubt store.new) → IfOk result (λ shown.
-        shown ≡ shown_in (S.content store.old) operator.now row.now) }
+        shown ≡ shown_in permitted.now (S.content store.old) operator.now row.now) }
     ensures same { S.content store.new ≡ S.content store.old }
     ensures doubt { S.doubt store.old ≤ S.doubt store.new }
     ensures counted { S.faults store.old ≤ S.faults store.new }
     ensures cause { IfErr result (λ e. e ≡ StoreFault.Store →
         HasRisen (S.faults store.old) (S.faults store.new)) }
 {
-    let conflict = shown_conflict(store, operator, row)?;
+    let conflict = shown_conflict(store, permitted, operator, row)?;
     Ok(Shown {
         row: row.copy()?,
         status: status_of(Some(row)),
@@ -132,11 +138,12 @@ fn shown<S: PlanStore>(
 // The conflict of a live plan of the operator at its own priority; a closed plan has none.
 fn shown_conflict<S: PlanStore>(
     store: &mut S,
+    permitted: &Permitted,
     operator: &Operator,
     row: &PlanRow,
 ) -> Result<Option<Meeting>, StoreFault>
     ensures value { IsHonest (S.doubt store.new) → IfOk result (λ conflict.
-        conflict ≡ conflict_shown_in (S.content store.old) operator.now row.now) }
+        conflict ≡ conflict_shown_in permitted.now (S.content store.old) operator.now row.now) }
     ensures same { S.content store.new ≡ S.content store.old }
     ensures doubt { S.doubt store.old ≤ S.doubt store.new }
     ensures counted { S.faults store.old ≤ S.faults store.new }
@@ -146,5 +153,5 @@ fn shown_conflict<S: PlanStore>(
     if !row.usage.is_live() {
         return Ok(None);
     }
-    conflict_of(store, operator, &row.id, &row.area, row.priority)
+    conflict_of(store, permitted, operator, &row.id, &row.area, row.priority)
 }

@@ -8,5 +8,5 @@ pub returns-clause-found : goal.returns-clause-found
 returns-clause-found c = conflict_same_levels
 
 pub returns-clause-kept : goal.returns-clause-kept
-returns-clause-kept c = λ area f g priority spot same h. subst
-    (λ levels. IsConflict area levels priority spot) (fun_ext same) h
+returns-clause-kept c = λ permitted area f g priority spot same h. subst
+    (λ levels. IsConflict permitted area levels priority spot) (fun_ext same) h

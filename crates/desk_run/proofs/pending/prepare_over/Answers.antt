@@ -2,49 +2,55 @@ use Rattle.std.proofs.Common.{sym, ◌∙◌, w64}
 use Rattle.std.proofs.lemmas.Int.{to_z-of_z}
 use Rattle.desk_store.specs.FaultLaws.{was_honest}
 use Rattle.desk_run.proofs.CallLemmas.{unlisted_is, status_ready, prepares_from, list_readies, show_readies, put_readies, delete_readies, clear_readies}
+use Rattle.desk_run.specs.DeskWorld.{with_content}
 use Rattle.desk_run.proofs.pending.prepare_over.Goals as goal
 
 pub returns-in_default-clause-value : goal.returns-in_default-clause-value
 returns-in_default-clause-value g c = λ honest.
-    unlisted_is (g.S.PlanStore.content c.args.store.now) c.args.moment c.args.asked.now
+    unlisted_is (with_content c.args.permitted.now (g.S.PlanStore.content c.args.store.now)) c.args.moment
+    c.args.asked.now
     (sym (c.in_ok-ceiling.ensures.value honest) ∙ c.in_default.is)
 
 pub returns-in-Status-clause-value : goal.returns-in-Status-clause-value
 returns-in-Status-clause-value g c = λ honest.
-    status_ready (g.S.PlanStore.content c.args.store.now) c.args.moment c.args.asked.now
+    status_ready (with_content c.args.permitted.now (g.S.PlanStore.content c.args.store.now)) c.args.moment
+    c.args.asked.now
     c.in-Some.ceiling
     (sym (c.in_ok-ceiling.ensures.value honest) ∙ c.in-Some.is) c.in-Status.is
 
 pub returns-in-Put-clause-value : goal.returns-in-Put-clause-value
 returns-in-Put-clause-value g c = λ honest.
     let listing = was_honest c.ready_put.ensures.doubt honest in
-    let before = g.S.PlanStore.content c.args.store.now in
+    let before = with_content c.args.permitted.now (g.S.PlanStore.content c.args.store.now) in
     let asked = c.args.asked.now in
     prepares_from before c.args.moment asked c.in-Some.ceiling c.ready_put.result
     (sym (c.in_ok-ceiling.ensures.value listing) ∙ c.in-Some.is)
-    (put_readies (g.S.PlanStore.content c.ceiling.new.self) before _ c.args.moment asked c.in-Put.put
+    (put_readies before.permitted (g.S.PlanStore.content c.ceiling.new.self) before.content _ c.args.moment
+    asked c.in-Put.put
     c.in-Some.ceiling c.ready_put.result c.ceiling.ensures.same
     (to_z-of_z w64 c.args.moment c.ranges.moment) c.in-Put.is (c.ready_put.ensures.value honest))
 
 pub returns-in-Delete-clause-value : goal.returns-in-Delete-clause-value
 returns-in-Delete-clause-value g c = λ honest.
     let listing = was_honest c.ready_delete.ensures.doubt honest in
-    let before = g.S.PlanStore.content c.args.store.now in
+    let before = with_content c.args.permitted.now (g.S.PlanStore.content c.args.store.now) in
     let asked = c.args.asked.now in
     prepares_from before c.args.moment asked c.in-Some.ceiling c.ready_delete.result
     (sym (c.in_ok-ceiling.ensures.value listing) ∙ c.in-Some.is)
-    (delete_readies (g.S.PlanStore.content c.ceiling.new.self) before c.args.moment asked c.in-Delete.id
+    (delete_readies before.permitted (g.S.PlanStore.content c.ceiling.new.self) before.content c.args.moment
+    asked c.in-Delete.id
     c.in-Some.ceiling c.ready_delete.result c.ceiling.ensures.same
     c.in-Delete.is (c.ready_delete.ensures.value honest))
 
 pub returns-in-List-clause-value : goal.returns-in-List-clause-value
 returns-in-List-clause-value g c = λ honest.
     let listing = was_honest c.ready_list.ensures.doubt honest in
-    let before = g.S.PlanStore.content c.args.store.now in
+    let before = with_content c.args.permitted.now (g.S.PlanStore.content c.args.store.now) in
     let asked = c.args.asked.now in
     prepares_from before c.args.moment asked c.in-Some.ceiling c.ready_list.result
     (sym (c.in_ok-ceiling.ensures.value listing) ∙ c.in-Some.is)
-    (list_readies (g.S.PlanStore.content c.ceiling.new.self) before c.args.moment asked
+    (list_readies before.permitted (g.S.PlanStore.content c.ceiling.new.self) before.content c.args.moment
+    asked
     c.in-Some.ceiling
     c.ready_list.result c.ceiling.ensures.same
     c.in-List.is (c.ready_list.ensures.value honest))
@@ -52,22 +58,24 @@ returns-in-List-clause-value g c = λ honest.
 pub returns-in-Show-clause-value : goal.returns-in-Show-clause-value
 returns-in-Show-clause-value g c = λ honest.
     let listing = was_honest c.ready_show.ensures.doubt honest in
-    let before = g.S.PlanStore.content c.args.store.now in
+    let before = with_content c.args.permitted.now (g.S.PlanStore.content c.args.store.now) in
     let asked = c.args.asked.now in
     prepares_from before c.args.moment asked c.in-Some.ceiling c.ready_show.result
     (sym (c.in_ok-ceiling.ensures.value listing) ∙ c.in-Some.is)
-    (show_readies (g.S.PlanStore.content c.ceiling.new.self) before c.args.moment asked c.in-Show.id
+    (show_readies before.permitted (g.S.PlanStore.content c.ceiling.new.self) before.content c.args.moment
+    asked c.in-Show.id
     c.in-Some.ceiling c.ready_show.result c.ceiling.ensures.same
     c.in-Show.is (c.ready_show.ensures.value honest))
 
 pub returns-in-Clear-clause-value : goal.returns-in-Clear-clause-value
 returns-in-Clear-clause-value g c = λ honest.
     let listing = was_honest c.ready_clear.ensures.doubt honest in
-    let before = g.S.PlanStore.content c.args.store.now in
+    let before = with_content c.args.permitted.now (g.S.PlanStore.content c.args.store.now) in
     let asked = c.args.asked.now in
     prepares_from before c.args.moment asked c.in-Some.ceiling c.ready_clear.result
     (sym (c.in_ok-ceiling.ensures.value listing) ∙ c.in-Some.is)
-    (clear_readies (g.S.PlanStore.content c.ceiling.new.self) before c.args.moment asked
+    (clear_readies before.permitted (g.S.PlanStore.content c.ceiling.new.self) before.content c.args.moment
+    asked
     c.in-Clear.extent
     c.in-Some.ceiling c.ready_clear.result c.ceiling.ensures.same
     c.in-Clear.is (c.ready_clear.ensures.value honest))

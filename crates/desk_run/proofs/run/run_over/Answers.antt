@@ -5,18 +5,19 @@ use Rattle.std.proofs.lemmas.Result.{on_ok_weaker}
 use Rattle.desk_store.specs.FaultLaws.{was_honest}
 use Rattle.desk_run.specs.Calls.{Tells}
 use Rattle.desk_run.specs.Verdicts.{step}
+use Rattle.desk_run.specs.DeskWorld.{world_of}
 use Rattle.desk_run.proofs.RunLemmas.{AreAnswered, one_answered, answered_is}
 use Rattle.desk_run.proofs.run.run_over.Goals as goal
 
 pub loop-moment-preserved : goal.loop-moment-preserved
 loop-moment-preserved g c =
-    let w = g.S.PlanStore.content c.loop-moment.desk in
+    let w = world_of g.S.PlanStore.content c.loop-moment.desk in
     let calls = c.args.calls.now in
     let n = c.loop-moment.moment-index in
     let call = c.loop-moment-item.result in
     let fits : SFits w64 call.0 = search rules in
     let same = to_z-of_z w64 call.0 fits in
-    let after = g.S.PlanStore.content c.call.new.self in
+    let after = world_of g.S.PlanStore.content c.call.new.self in
     record {
       answered = λ honest.
           let done = answered_is w after call.0 call.1 c.call.result c.in-Ok.outcome
@@ -24,9 +25,10 @@ loop-moment-preserved g c =
           (on_ok_weaker c.call.result (λ e. e ∙ ap (λ m. step w call.1.operator m call.1.call) same)
           (c.call.ensures.ok honest))
           c.call.ensures.err (sym c.outcome_of.ensures ∙ c.in-Ok.is) in
-          subst (λ os. AreAnswered (g.S.PlanStore.content c.args.desk.now) calls (n + 1) os after)
+          subst (λ os. AreAnswered (world_of g.S.PlanStore.content c.args.desk.now) calls (n + 1) os after)
           (sym c.push_reserved.ensures.items)
-          (one_answered (g.S.PlanStore.content c.args.desk.now) w after calls n c.loop-moment.outcomes.items
+          (one_answered (world_of g.S.PlanStore.content c.args.desk.now) w after calls n
+          c.loop-moment.outcomes.items
           call c.in-Ok.outcome (c.loop-moment.invariant.answered (was_honest c.call.ensures.doubt honest))
           c.loop-moment-test.true c.loop-moment-item.is done.0 done.1);
       count = ap length c.push_reserved.ensures.items

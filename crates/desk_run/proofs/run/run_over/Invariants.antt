@@ -1,5 +1,6 @@
 use Rattle.std.proofs.Common.{◌≡◌, ◌≤◌, length}
 use Rattle.desk_store.specs.Faults.{IsHonest}
+use Rattle.desk_run.specs.DeskWorld.{world_of}
 use Rattle.desk_run.proofs.RunLemmas.{AreAnswered}
 use Rattle.desk_run.proofs.run.run_over.Given as goal
 
@@ -8,10 +9,11 @@ abbrev pub invariant-loop-moment : goal.invariant-loop-moment
 invariant-loop-moment g l =
     record {
       answered :
-          IsHonest (g.S.PlanStore.doubt l.desk) → AreAnswered (g.S.PlanStore.content l.fn.desk) l.calls
-          l.moment-index l.outcomes.items (g.S.PlanStore.content l.desk);
+          IsHonest (g.S.PlanStore.doubt l.desk.store) → AreAnswered
+          (world_of g.S.PlanStore.content l.fn.desk) l.calls
+          l.moment-index l.outcomes.items (world_of g.S.PlanStore.content l.desk);
       count : length l.outcomes.items ≡ l.moment-index;
       room : length l.calls ≤ l.outcomes.cap;
-      doubt : g.S.PlanStore.doubt l.fn.desk ≤ g.S.PlanStore.doubt l.desk;
-      counted : g.S.PlanStore.faults l.fn.desk ≤ g.S.PlanStore.faults l.desk;
+      doubt : g.S.PlanStore.doubt l.fn.desk.store ≤ g.S.PlanStore.doubt l.desk.store;
+      counted : g.S.PlanStore.faults l.fn.desk.store ≤ g.S.PlanStore.faults l.desk.store;
     }

@@ -2,6 +2,7 @@ use Rattle.std.proofs.Common.{Err, ◌∙◌, ap, subst, w64}
 use Rattle.std.proofs.lemmas.Int.{to_z-of_z}
 use Rattle.std.proofs.lemmas.Result.{IfOk-weaker, on_ok_weaker}
 use Rattle.desk_store.specs.FaultLaws.{was_honest}
+use Rattle.desk_run.specs.DeskWorld.{world_of}
 use Rattle.desk_run.specs.Calls.{IsPending, Prepares, world_committed}
 use Rattle.desk_run.specs.Verdicts.{unknown_operator, no_such_plan}
 use Rattle.desk_wire.specs.Bytes.{status, text}
@@ -10,10 +11,10 @@ use Rattle.desk_wire.proofs.answering.answer_call.Goals as goal
 
 pub returns-in-Ok-clause-bytes : goal.returns-in-Ok-clause-bytes
 returns-in-Ok-clause-bytes g c = λ honest.
-    let w = g.S.PlanStore.content c.args.desk.now in
+    let w = world_of g.S.PlanStore.content c.args.desk.now in
     let same = to_z-of_z w64 c.args.moment c.ranges.moment in
     done_if_ok (λ r. r.bytes.items) c.answer_pending.result w
-    (g.S.PlanStore.content c.answer_pending.new.desk) c.args.moment c.args.asked.now c.in-Ok.pending
+    (world_of g.S.PlanStore.content c.answer_pending.new.desk) c.args.moment c.args.asked.now c.in-Ok.pending
     (subst (λ m. IsPending w m c.args.asked.now c.in-Ok.pending) same
     (c.in-Ok.ensures.value (was_honest c.answer_pending.ensures.doubt honest)))
     c.answer_pending.ensures.bytes
@@ -22,7 +23,7 @@ returns-in-Ok-clause-bytes g c = λ honest.
 
 pub returns-in-Ok-clause-status : goal.returns-in-Ok-clause-status
 returns-in-Ok-clause-status g c = λ honest.
-    let w = g.S.PlanStore.content c.args.desk.now in
+    let w = world_of g.S.PlanStore.content c.args.desk.now in
     let same = to_z-of_z w64 c.args.moment c.ranges.moment in
     IfOk-weaker c.answer_pending.result _ _ (λ r told. told
     ∙ status_pending w c.args.moment c.args.asked.now c.in-Ok.pending
@@ -33,12 +34,12 @@ returns-in-Ok-clause-status g c = λ honest.
 pub returns-in-Err-UnknownOperator-clause-bytes : goal.returns-in-Err-UnknownOperator-clause-bytes
 unfolding text
 returns-in-Err-UnknownOperator-clause-bytes g c = λ honest.
-    let w = g.S.PlanStore.content c.args.desk.now in
+    let w = world_of g.S.PlanStore.content c.args.desk.now in
     let fault : Prepares w c.args.moment c.args.asked.now (Err c.in-Err-UnknownOperator.field-0) =
     subst (λ m. Prepares w m c.args.asked.now (Err c.in-Err-UnknownOperator.field-0))
     (to_z-of_z w64 c.args.moment c.ranges.moment) (c.in-Err-UnknownOperator.ensures.value honest) in
     IfOk-weaker c.refuse.result _ _ (λ r told.
-    done_unanswered w (g.S.PlanStore.content c.prepare.new.self) c.args.moment c.args.asked.now
+    done_unanswered w (world_of g.S.PlanStore.content c.prepare.new.self) c.args.moment c.args.asked.now
     unknown_operator r.bytes.items
     (rw c.in-Err-UnknownOperator.field-0-is at fault) told c.prepare.ensures.same)
     c.refuse.ensures.bytes
@@ -46,7 +47,7 @@ returns-in-Err-UnknownOperator-clause-bytes g c = λ honest.
 pub returns-in-Err-UnknownOperator-clause-status : goal.returns-in-Err-UnknownOperator-clause-status
 unfolding status
 returns-in-Err-UnknownOperator-clause-status g c = λ honest.
-    let w = g.S.PlanStore.content c.args.desk.now in
+    let w = world_of g.S.PlanStore.content c.args.desk.now in
     let fault : Prepares w c.args.moment c.args.asked.now (Err c.in-Err-UnknownOperator.field-0) =
     subst (λ m. Prepares w m c.args.asked.now (Err c.in-Err-UnknownOperator.field-0))
     (to_z-of_z w64 c.args.moment c.ranges.moment) (c.in-Err-UnknownOperator.ensures.value honest) in
@@ -57,12 +58,12 @@ returns-in-Err-UnknownOperator-clause-status g c = λ honest.
 pub returns-in-Err-NoSuchPlan-clause-bytes : goal.returns-in-Err-NoSuchPlan-clause-bytes
 unfolding text
 returns-in-Err-NoSuchPlan-clause-bytes g c = λ honest.
-    let w = g.S.PlanStore.content c.args.desk.now in
+    let w = world_of g.S.PlanStore.content c.args.desk.now in
     let fault : Prepares w c.args.moment c.args.asked.now (Err c.in-Err-NoSuchPlan.field-0) =
     subst (λ m. Prepares w m c.args.asked.now (Err c.in-Err-NoSuchPlan.field-0))
     (to_z-of_z w64 c.args.moment c.ranges.moment) (c.in-Err-NoSuchPlan.ensures.value honest) in
     IfOk-weaker c.refuse-in-Err-NoSuchPlan.result _ _ (λ r told.
-    done_unanswered w (g.S.PlanStore.content c.prepare.new.self) c.args.moment c.args.asked.now
+    done_unanswered w (world_of g.S.PlanStore.content c.prepare.new.self) c.args.moment c.args.asked.now
     no_such_plan
     r.bytes.items
     (rw c.in-Err-NoSuchPlan.field-0-is at fault) told c.prepare.ensures.same)
@@ -71,7 +72,7 @@ returns-in-Err-NoSuchPlan-clause-bytes g c = λ honest.
 pub returns-in-Err-NoSuchPlan-clause-status : goal.returns-in-Err-NoSuchPlan-clause-status
 unfolding status
 returns-in-Err-NoSuchPlan-clause-status g c = λ honest.
-    let w = g.S.PlanStore.content c.args.desk.now in
+    let w = world_of g.S.PlanStore.content c.args.desk.now in
     let fault : Prepares w c.args.moment c.args.asked.now (Err c.in-Err-NoSuchPlan.field-0) =
     subst (λ m. Prepares w m c.args.asked.now (Err c.in-Err-NoSuchPlan.field-0))
     (to_z-of_z w64 c.args.moment c.ranges.moment) (c.in-Err-NoSuchPlan.ensures.value honest) in

@@ -2,6 +2,7 @@ use Rattle.std.proofs.Common.{◌≤◌, ◌+◌, ◌∙◌, [], ◌∷◌, map,
 use Rattle.std.proofs.lemmas.List.{length-append}
 use Rattle.desk_reading.specs.Messages.{message_read}
 use Rattle.desk_store.specs.FaultLaws.{was_honest}
+use Rattle.desk_run.specs.DeskWorld.{world_of}
 use Rattle.desk_wire.specs.AllAnswers.{AreBroken}
 use Rattle.desk_wire.proofs.MomentLemmas.{moment_at, is_moment_at, same_moment}
 use Rattle.desk_wire.specs.declared.batch.AnswersEnd.TheVariants.{All, Broken, NoMemory}
@@ -18,9 +19,9 @@ loop-moment-preserved g c =
     let requests = c.args.requests.now in
     let n = c.loop-moment.moment-index in
     let r = c.loop-moment-item.result in
-    let w = g.S.PlanStore.content c.args.desk.now in
-    let now = g.S.PlanStore.content c.loop-moment.desk in
-    let after = g.S.PlanStore.content c.answer_request-answer.new.desk in
+    let w = world_of g.S.PlanStore.content c.args.desk.now in
+    let now = world_of g.S.PlanStore.content c.loop-moment.desk in
+    let after = world_of g.S.PlanStore.content c.answer_request-answer.new.desk in
     let same = same_moment r.0 (is_moment_at (λ q. q.0) requests n r c.loop-moment-test.true
     c.loop-moment-item.is c.requires) in
     let none = sym c.is_some.ensures ∙ c.if-is_some.false in
@@ -47,8 +48,9 @@ loop-moment-preserved g c =
 
 pub returns-in_default-clause-answers : goal.returns-in_default-clause-answers
 returns-in_default-clause-answers g c = λ honest.
-    cut_answered (λ q. (q.0, q.1.items)) (λ v. v.items) (g.S.PlanStore.content c.args.desk.now)
-    (g.S.PlanStore.content c.loop-moment.desk) (g.S.PlanStore.content c.answer_request-answer.new.desk)
+    cut_answered (λ q. (q.0, q.1.items)) (λ v. v.items) (world_of g.S.PlanStore.content c.args.desk.now)
+    (world_of g.S.PlanStore.content c.loop-moment.desk)
+    (world_of g.S.PlanStore.content c.answer_request-answer.new.desk)
     c.args.requests.now c.loop-moment.moment-index c.loop-moment.answers.items
     (c.loop-moment.invariant.answered (was_honest c.answer_request-answer.ensures.doubt honest))
     c.loop-moment-test.true c.in_default.ensures.err
@@ -56,12 +58,13 @@ returns-in_default-clause-answers g c = λ honest.
 pub returns-then-is_some-clause-answers : goal.returns-then-is_some-clause-answers
 returns-then-is_some-clause-answers g c = λ honest.
     let some = sym c.is_some.ensures ∙ c.if-is_some.true in
-    let w = g.S.PlanStore.content c.args.desk.now in
-    let after = g.S.PlanStore.content c.answer_request-answer.new.desk in
+    let w = world_of g.S.PlanStore.content c.args.desk.now in
+    let after = world_of g.S.PlanStore.content c.answer_request-answer.new.desk in
     subst (λ xs. AreBroken w (map (λ q. (q.0, q.1.items)) c.args.requests.now) (map (λ v. v.items) xs)
     after)
     (sym c.push_reserved.ensures.items)
-    (failed_so (λ q. (q.0, q.1.items)) (λ v. v.items) w (g.S.PlanStore.content c.loop-moment.desk) after
+    (failed_so (λ q. (q.0, q.1.items)) (λ v. v.items) w (world_of g.S.PlanStore.content c.loop-moment.desk)
+    after
     _ _
     c.args.requests.now c.loop-moment.moment-index c.loop-moment.answers.items c.in-Ok.field-0.bytes
     c.in-Ok.field-0.error some (c.in-Ok.ensures.bytes honest)
@@ -70,8 +73,8 @@ returns-then-is_some-clause-answers g c = λ honest.
 
 pub returns-clause-answers : goal.returns-clause-answers
 returns-clause-answers g c = λ honest.
-    all_answered (λ q. (q.0, q.1.items)) (λ v. v.items) (g.S.PlanStore.content c.args.desk.now)
-    (g.S.PlanStore.content c.loop-moment.desk) c.args.requests.now c.loop-moment.moment-index
+    all_answered (λ q. (q.0, q.1.items)) (λ v. v.items) (world_of g.S.PlanStore.content c.args.desk.now)
+    (world_of g.S.PlanStore.content c.loop-moment.desk) c.args.requests.now c.loop-moment.moment-index
     c.loop-moment.answers.items (c.loop-moment.invariant.answered honest) c.loop-moment-test.false
 
 -- an operator that sent nothing owns what it did, by the clause of the answers

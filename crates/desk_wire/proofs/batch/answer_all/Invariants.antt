@@ -1,5 +1,6 @@
 use Rattle.std.proofs.Common.{◌≡◌, ◌≤◌, length}
 use Rattle.desk_store.specs.Faults.{IsHonest}
+use Rattle.desk_run.specs.DeskWorld.{world_of}
 use Rattle.desk_wire.proofs.AllLemmas.{HaveAnswers}
 use Rattle.desk_wire.proofs.batch.answer_all.Given as goal
 
@@ -7,11 +8,12 @@ use Rattle.desk_wire.proofs.batch.answer_all.Given as goal
 abbrev pub invariant-loop-moment : goal.invariant-loop-moment
 invariant-loop-moment g l =
     record {
-      answered : IsHonest (g.S.PlanStore.doubt l.desk)
-          → HaveAnswers (λ r. (r.0, r.1.items)) (λ v. v.items) (g.S.PlanStore.content l.fn.desk) l.requests
-          l.moment-index l.answers.items (g.S.PlanStore.content l.desk);
+      answered : IsHonest (g.S.PlanStore.doubt l.desk.store)
+          → HaveAnswers (λ r. (r.0, r.1.items)) (λ v. v.items) (world_of g.S.PlanStore.content l.fn.desk)
+          l.requests
+          l.moment-index l.answers.items (world_of g.S.PlanStore.content l.desk);
       count : length l.answers.items ≡ l.moment-index;
       room : length l.requests ≤ l.answers.cap;
-      doubt : g.S.PlanStore.doubt l.fn.desk ≤ g.S.PlanStore.doubt l.desk;
-      counted : g.S.PlanStore.faults l.fn.desk ≤ g.S.PlanStore.faults l.desk;
+      doubt : g.S.PlanStore.doubt l.fn.desk.store ≤ g.S.PlanStore.doubt l.desk.store;
+      counted : g.S.PlanStore.faults l.fn.desk.store ≤ g.S.PlanStore.faults l.desk.store;
     }

@@ -1,5 +1,6 @@
 use Rattle.std.proofs.Common.{◌≤◌}
 use Rattle.desk_store.specs.Faults.{IsHonest}
+use Rattle.desk_run.specs.DeskWorld.{world_of}
 use Rattle.desk_wire.specs.Playing.{ArePlayed}
 use Rattle.desk_wire.proofs.play.play_with.Given as goal
 
@@ -7,9 +8,10 @@ use Rattle.desk_wire.proofs.play.play_with.Given as goal
 abbrev pub invariant-loop-before : goal.invariant-loop-before
 invariant-loop-before g l =
     record {
-      played : ArePlayed (IsHonest (g.S.PlanStore.doubt l.desk)) l.before (g.R.Read.remaining l.fn.input)
+      played : ArePlayed (IsHonest (g.S.PlanStore.doubt l.desk.store)) l.before
+          (g.R.Read.remaining l.fn.input)
           (g.R.Read.remaining l.input) (g.W.Write.contents l.fn.output) (g.W.Write.contents l.output)
-          (g.S.PlanStore.content l.fn.desk) l.moment (g.S.PlanStore.content l.desk);
-      doubt : g.S.PlanStore.doubt l.fn.desk ≤ g.S.PlanStore.doubt l.desk;
-      counted : g.S.PlanStore.faults l.fn.desk ≤ g.S.PlanStore.faults l.desk;
+          (world_of g.S.PlanStore.content l.fn.desk) l.moment (world_of g.S.PlanStore.content l.desk);
+      doubt : g.S.PlanStore.doubt l.fn.desk.store ≤ g.S.PlanStore.doubt l.desk.store;
+      counted : g.S.PlanStore.faults l.fn.desk.store ≤ g.S.PlanStore.faults l.desk.store;
     }

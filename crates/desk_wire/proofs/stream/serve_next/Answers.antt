@@ -3,6 +3,7 @@ use Rattle.std.specs.Result.{is_ok}
 use Rattle.std.proofs.lemmas.Int.{to_z-of_z}
 use Rattle.desk_reading.specs.Messages.{message_read}
 use Rattle.desk_store.specs.Faults.{IsHonest}
+use Rattle.desk_run.specs.DeskWorld.{world_of}
 use Rattle.desk_wire.specs.Streams.{front_read, front_reading, size_said, with_body}
 use Rattle.desk_wire.proofs.FrontLemmas.{some_count, told_cut_body}
 use Rattle.desk_wire.proofs.ServeLemmas.{broken, framed_as, received, replied, served_as, status_as, stopped}
@@ -38,16 +39,17 @@ returns-in_err-write_whole-clause-served g c =
     (message_read c.message_of-request.result)
     c.in_ok-text.ensures.taken (c.in_ok-text.ensures.front some) front c.in_ok-body.ensures.taken
     (c.in_ok-body.ensures.size ∙ c.size_of.ensures) message in
-    let w = g.S.PlanStore.content c.args.desk.now in
-    let after = g.S.PlanStore.content c.answer_request.new.desk in
+    let w = world_of g.S.PlanStore.content c.args.desk.now in
+    let after = world_of g.S.PlanStore.content c.answer_request.new.desk in
     let moment = to_z-of_z w64 c.args.moment c.ranges.moment in
     let why = c.in_ok-answer.answer.error in
     let answer = c.in_ok-answer.answer.bytes.items in
-    let told = replied (IsHonest (g.S.PlanStore.doubt c.answer_request.new.desk)) w after _ c.args.moment
+    let told = replied (IsHonest (g.S.PlanStore.doubt c.answer_request.new.desk.store)) w after _
+    c.args.moment
     (text ++ body) answer (message_read c.message_of-request.result) why moment got.read
     c.in_ok-answer.ensures.bytes c.in_ok-answer.ensures.failed in
     let off = rw c.deref-3.ensures.value at c.in_err-write_whole.ensures.err in
-    broken (IsHonest (g.S.PlanStore.doubt c.answer_request.new.desk))
+    broken (IsHonest (g.S.PlanStore.doubt c.answer_request.new.desk.store))
     c.from_residual-in_err-write_whole.result c.in_err-write_whole.field-0.0 _ _ _ _ w after c.args.moment
     (text ++ body) answer why
     c.from_residual-in_err-write_whole.ensures.1 off got.taken told
@@ -66,15 +68,16 @@ returns-clause-served g c =
     (message_read c.message_of-request.result)
     c.in_ok-text.ensures.taken (c.in_ok-text.ensures.front some) front c.in_ok-body.ensures.taken
     (c.in_ok-body.ensures.size ∙ c.size_of.ensures) message in
-    let w = g.S.PlanStore.content c.args.desk.now in
-    let after = g.S.PlanStore.content c.answer_request.new.desk in
+    let w = world_of g.S.PlanStore.content c.args.desk.now in
+    let after = world_of g.S.PlanStore.content c.answer_request.new.desk in
     let moment = to_z-of_z w64 c.args.moment c.ranges.moment in
     let why = c.in_ok-answer.answer.error in
     let answer = c.in_ok-answer.answer.bytes.items in
-    let told = replied (IsHonest (g.S.PlanStore.doubt c.answer_request.new.desk)) w after _ c.args.moment
+    let told = replied (IsHonest (g.S.PlanStore.doubt c.answer_request.new.desk.store)) w after _
+    c.args.moment
     (text ++ body) answer (message_read c.message_of-request.result) why moment got.read
     c.in_ok-answer.ensures.bytes c.in_ok-answer.ensures.failed in
-    served_as (IsHonest (g.S.PlanStore.doubt c.answer_request.new.desk)) c.answered.result
+    served_as (IsHonest (g.S.PlanStore.doubt c.answer_request.new.desk.store)) c.answered.result
     c.in_ok-answer.answer.status (is_ok c.message_of-request.result) (g.R.Read.remaining c.args.input.now)
     _ _ _ w after c.args.moment
     c.answered.ensures record {
@@ -84,7 +87,7 @@ returns-clause-served g c =
       answer = answer;
       why = why;
       replied = told;
-      status_is = status_as (IsHonest (g.S.PlanStore.doubt c.answer_request.new.desk)) w _ c.args.moment
+      status_is = status_as (IsHonest (g.S.PlanStore.doubt c.answer_request.new.desk.store)) w _ c.args.moment
           (text ++ body) (message_read c.message_of-request.result) why c.in_ok-answer.answer.status moment
           got.read c.in_ok-answer.ensures.status;
       written = rw c.deref-3.ensures.value at c.in_ok-write_whole.ensures.ok;

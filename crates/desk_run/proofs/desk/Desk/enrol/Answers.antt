@@ -1,7 +1,7 @@
 use Rattle.std.proofs.Common.{◌∙◌, ap, arith}
 use Rattle.std.proofs.lemmas.Result.{err_from_is_err_and}
-use Rattle.desk_store.specs.Changes.{with_operator}
 use Rattle.desk_store.specs.StoreChange.{changed_by, IsFitting}
+use Rattle.desk_run.specs.DeskWorld.{enrolled, with_content, world_of}
 use Rattle.desk_run.proofs.FaultLemmas.{never_ceiling}
 use Rattle.desk_run.proofs.desk.Desk.enrol.Goals as goal
 
@@ -16,8 +16,10 @@ returns-in_err-apply-clause-ceiling g c =
 
 pub returns-clause-ok : goal.returns-clause-ok
 unfolding changed_by
-returns-clause-ok g c = λ honest. c.in_ok-apply.ensures.ok honest
-    ∙ ap (λ s. with_operator (g.S.PlanStore.content s) c.args.operator.now c.args.ceiling) c.self.view_is
+returns-clause-ok g c = λ honest.
+    ap (with_content c.self.inside.permitted) (c.in_ok-apply.ensures.ok honest)
+    ∙ ap (λ d. enrolled (world_of g.S.PlanStore.content d) c.args.operator.now c.args.ceiling)
+    c.self.view_is
 
 pub returns-clause-ceiling : goal.returns-clause-ceiling
 returns-clause-ceiling g c = (λ e. cc, λ h. absurd (omega arith))

@@ -16,9 +16,10 @@ returns-clause-verdict g c = λ honest.
     let own = c.in_ok-stored in
     let second = to_z w64 (of_z w64 c.args.moment) in
     let needed = c.needs_conflict-needed.result in
-    let conflict = conflict_in before o put.id put.area put.priority in
+    let permitted = c.args.permitted.now in
+    let conflict = conflict_in permitted before o put.id put.area put.priority in
     let counting = was_honest c.conflict_if.ensures.doubt honest in
-    verdict_is before o put second c.args.moment c.args.ceiling own.stored own.own_rows conflict
+    verdict_is permitted before o put second c.args.moment c.args.ceiling own.stored own.own_rows conflict
     c.decide.result
     (c.decide.ensures ∙ ap (λ s. outcome put second s own.own_rows c.args.ceiling
     c.in_ok-meeting.meeting) c.as_ref-2.ensures.value
@@ -29,7 +30,7 @@ returns-clause-verdict g c = λ honest.
     ≡ outcome put second s own.own_rows c.args.ceiling None) c.as_ref.ensures.value
     c.needs_conflict-needed.ensures.settled)
     (c.in_ok-meeting.ensures.value honest
-    ∙ ap (λ w. cond needed (conflict_in w o put.id put.area put.priority) None)
+    ∙ ap (λ w. cond needed (conflict_in permitted w o put.id put.area put.priority) None)
     c.plan_and_count.ensures.same))
     (to_z-of_z w64 c.args.moment c.ranges.moment)
     (own.ensures.stored counting)

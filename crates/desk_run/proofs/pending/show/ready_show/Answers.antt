@@ -4,7 +4,8 @@ use Rattle.desk_run.proofs.pending.show.ready_show.Goals as goal
 
 pub returns-clause-value : goal.returns-clause-value
 returns-clause-value g c = λ honest.
-    show_ready (g.S.PlanStore.content c.args.store.now) (g.S.PlanStore.content c.plan.new.self)
+    show_ready c.args.permitted.now (g.S.PlanStore.content c.args.store.now)
+    (g.S.PlanStore.content c.plan.new.self)
     c.args.operator.now c.args.id.now c.in_ok-row.field-0 c.in-Some.row c.in_ok-plan.plan
     (c.in_ok-row.ensures.value (was_honest c.shown.ensures.doubt honest)) c.in-Some.is c.plan.ensures.same
     (c.in_ok-plan.ensures.value honest)

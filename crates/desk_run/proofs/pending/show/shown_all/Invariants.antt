@@ -9,7 +9,8 @@ invariant-loop-row g l =
     record {
       shown :
           IsHonest (g.S.PlanStore.doubt l.store) → l.plans.items
-          ≡ map (shown_in (g.S.PlanStore.content l.fn.store) l.operator) (take l.row-index l.rows);
+          ≡ map (shown_in l.permitted (g.S.PlanStore.content l.fn.store) l.operator)
+          (take l.row-index l.rows);
       same : g.S.PlanStore.content l.store ≡ g.S.PlanStore.content l.fn.store;
       doubt : g.S.PlanStore.doubt l.fn.store ≤ g.S.PlanStore.doubt l.store;
       counted : g.S.PlanStore.faults l.fn.store ≤ g.S.PlanStore.faults l.store;

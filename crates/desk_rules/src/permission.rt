@@ -1,0 +1,138 @@
+//! Equal priorities by permission.
+
+ghost use Rattle.std.specs.Prelude.{◌≡◌, ◌-◌, ◌≤◌, ◌++◌, length, replicate, IsTrue, []};
+ghost use Rattle.desk_rules.specs.Limits.{max_permitted, max_priority};
+ghost use Rattle.desk_rules.specs.Permission as spec;
+ghost use Rattle.desk_rules.specs.Permission.{is_permitted, permitted_in};
+
+use crate::decide::MAX_PRIORITY;
+use std::error::Error;
+use std::fmt;
+use std::marker::Model;
+
+/// The most priorities that may be permitted.
+pub const MAX_PERMITTED: usize = 32;
+
+/// The priorities that are permitted: a plan of such a priority may share points with others of the
+/// same priority. ASTM F3548-21 leaves it to the regulator which these are.
+#[derive(Clone, Copy, Debug)]
+pub struct Permitted {
+    // the priorities, ascending, and zeros after them
+    priorities: [u32; MAX_PERMITTED],
+    count: usize,
+}
+
+/// Why priorities cannot be permitted. If several reasons apply, the first in the order of the
+/// variants is told.
+#[derive(Clone, Copy, Debug, PartialEq, Eq)]
+pub enum PermitFault {
+    /// There are more than 32 of them.
+    TooMany,
+    /// One is above 1,000.
+    Range,
+    /// They do not ascend, or one is there twice.
+    Order,
+}
+
+impl Model for Permitted {
+    ghost use Rattle.std.specs.Prelude.{◌≡◌, ℕ, ◌-◌, ◌≤◌, ◌++◌, List, length, take, replicate, IsTrue};
+    ghost use Rattle.desk_rules.specs.Limits.{max_permitted};
+    ghost use Rattle.desk_rules.specs.Permission.{are_priorities};
+
+    ghost Value = { List ℕ };
+
+    ghost view = { λ p. take p.count p.priorities };
+
+    ghost invariant = { λ p. (length p.priorities ≡ max_permitted) × (p.count ≤ max_permitted)
+        × IsTrue (are_priorities (take p.count p.priorities))
+        × (p.priorities ≡ take p.count p.priorities ++ replicate (max_permitted - p.count) 0) };
+
+    ghost inverse = { λ permitted. record {
+      priorities = permitted ++ replicate (max_permitted - length permitted) 0;
+      count = length permitted;
+    } };
+}
+
+impl Permitted {
+    /// No priority is permitted: equal priorities block each other.
+    pub fn none() -> Permitted
+        ensures { result ≡ [] }
+    {
+        Permitted {
+            priorities: [0; MAX_PERMITTED],
+            count: 0,
+        }
+    }
+
+    /// These priorities are permitted.
+    ///
+    /// # Errors
+    ///
+    /// `TooMany`; `Range`; `Order`.
+    pub fn try_new(priorities: &[u32]) -> Result<Permitted, PermitFault>
+        ensures { result ≡ permitted_in priorities.now }
+    {
+        if priorities.len() > MAX_PERMITTED {
+            return Err(PermitFault::TooMany);
+        }
+        if !are_priorities(priorities) {
+            return Err(PermitFault::Range);
+        }
+        if !are_ascending(priorities) {
+            return Err(PermitFault::Order);
+        }
+        Ok(Permitted {
+            priorities: padded(priorities),
+            count: priorities.len(),
+        })
+    }
+
+    /// Whether a priority is permitted.
+    pub fn has(&self, priority: u32) -> bool
+        ensures value { result ≡ is_permitted self.now priority }
+        ensures low { IsTrue result → priority ≤ max_priority }
+    {
+        self.priorities[..self.count].contains(&priority)
+    }
+}
+
+impl fmt::Display for PermitFault {
+    ghost use Rattle.std.specs.Prelude.{Some};
+    ghost use Rattle.desk_rules.specs.Permission.{permit_fault_text};
+
+    ghost output = { λ fault. Some (permit_fault_text fault) };
+
+    fn fmt<W: fmt::Write>(&self, f: &mut fmt::Formatter<W>) -> fmt::Result {
+        f.pad(match self {
+            PermitFault::TooMany => "at most 32 priorities are permitted",
+            PermitFault::Range => "a priority is above 1,000",
+            PermitFault::Order => "the priorities do not ascend",
+        })
+    }
+}
+
+impl Error for PermitFault {}
+
+// Whether each is a priority that a plan may have.
+fn are_priorities(priorities: &[u32]) -> bool
+    ensures { result ≡ spec.are_priorities priorities.now }
+{
+    priorities.iter().all(|priority| *priority <= MAX_PRIORITY)
+}
+
+// Whether each is less than the next.
+fn are_ascending(priorities: &[u32]) -> bool
+    ensures { result ≡ spec.are_ascending priorities.now }
+{
+    priorities.is_sorted_by(|low, high| low < high)
+}
+
+// The priorities, and zeros after them.
+fn padded(priorities: &[u32]) -> [u32; MAX_PERMITTED]
+    requires { length priorities.now ≤ max_permitted }
+    ensures { result ≡ priorities.now ++ replicate (max_permitted - length priorities.now) 0 }
+{
+    let mut all = [0u32; MAX_PERMITTED];
+    all[..priorities.len()].copy_from_slice(priorities);
+    all
+}
