@@ -41,7 +41,7 @@ def judged(path, ran, answers, contents):
 
 
 def lives_of(desk, count, chance, path):
-    """One life that isn't killed, which tells how long one takes, and then `count` that are. Yields what came of each."""
+    """One life that isn't killed, which tells how long one takes, and then `count` that are: what came of each."""
     requests, answers, contents = load(chance, {}, REQUESTS)
     started = time.monotonic()
     ran = live(path, OPERATORS, requests, 300)

@@ -3,6 +3,7 @@
 glibc is told to make each allocation by one mmap, and strace refuses the Nth mmap and the one by which malloc tries
 again. Growths that move a block by mremap are not reached.
 """
+import os
 import pathlib
 import shutil
 import tempfile
@@ -45,8 +46,9 @@ def words_in(target, room):
     if target.file is None:
         return play_words(None, target.operators), None
     path = str(pathlib.Path(room) / "desk.db")
-    if target.file.exists():
-        shutil.copyfile(target.file, path)
+    for end in ("", "-wal"):
+        if os.path.exists(f"{target.file}{end}"):
+            shutil.copyfile(f"{target.file}{end}", f"{path}{end}")
     return play_words(path, target.operators), path
 
 
