@@ -3,6 +3,7 @@
 ghost use Rattle.std.specs.Prelude.{◌≡◌, ◌≤◌, IfOk, IfSome, OnOk, option_map, codes};
 ghost use Rattle.clap.specs.Matches.{found_of, first_value};
 ghost use Rattle.desk_rules.specs.Limits.{max_priority};
+ghost use Rattle.desk_line.specs.Equal.{ArePermittedBy};
 ghost use Rattle.desk_line.specs.Lines.{AreEnrolments, IsEnrol, IsLine, IsPlay, IsServe};
 ghost use Rattle.desk_line.specs.Lines.{file_of, named_file};
 
@@ -10,10 +11,12 @@ ghost use Rattle.desk_line.specs.Lines.{file_of, named_file};
 mod tests;
 
 use crate::command::make_command;
+use crate::equal::permitted_by;
 use clap::ArgMatches;
 use clap::error::ErrorKind;
 use desk_rules::decide::MAX_PRIORITY;
 use desk_rules::operator::Operator;
+use desk_rules::permission::Permitted;
 use std::alloc::{AllocError, AllocFailed, Global};
 use volume4d::MAX_SECOND;
 
@@ -57,6 +60,8 @@ pub struct Play {
     pub database: Database,
     /// The moment of all requests, a Unix second from 0 to 253,370,764,800.
     pub moment: i64,
+    /// The priorities at which plans of equal priority may overlap.
+    pub permitted: Permitted,
     /// The operators, in the order given; a name may be there twice.
     pub enrolments: Vec<Enrolment>,
 }
@@ -70,6 +75,8 @@ pub struct Serve {
     pub port: u16,
     /// How many connections are served, 1 to 1,000,000.
     pub connections: u32,
+    /// The priorities at which plans of equal priority may overlap.
+    pub permitted: Permitted,
     /// The operators, in the order given; a name may be there twice.
     pub enrolments: Vec<Enrolment>,
 }
@@ -118,7 +125,8 @@ pub enum WordsFault {
     OutOfMemory,
     /// Help was asked for, or the words have none of the forms that help shows.
     Words(clap::Error),
-    /// A name, a ceiling or a `NAME=CEILING` is malformed, or the ceiling is above 1,000.
+    /// A name, a ceiling or a `NAME=CEILING` is malformed, or the ceiling is above 1,000; or a list of equal
+    /// priorities is malformed or can't be permitted.
     Value,
 }
 
@@ -171,6 +179,8 @@ fn read_play(alloc: Global, matches: &ArgMatches<'_>) -> Result<Play, WordsFault
     ensures valid { IfOk result IsPlay }
     ensures file { IfOk result (λ play. file_of play.database ≡
         named_file (first_value (found_of matches.now) (codes "database"))) }
+    ensures equal { IfOk result (λ play.
+        ArePermittedBy (first_value (found_of matches.now) (codes "equal")) play.permitted) }
 {
     let moment = match matches.get_one::<i64>("moment") {
         Some(moment @ 0..=MAX_SECOND) => moment,
@@ -179,6 +189,7 @@ fn read_play(alloc: Global, matches: &ArgMatches<'_>) -> Result<Play, WordsFault
     Ok(Play {
         database: read_database(alloc, matches)?,
         moment,
+        permitted: read_permitted(alloc, matches)?,
         enrolments: read_enrolments(alloc, matches)?,
     })
 }
@@ -196,6 +207,8 @@ fn read_serve(alloc: Global, matches: &ArgMatches<'_>) -> Result<Serve, WordsFau
     ensures valid { IfOk result IsServe }
     ensures file { IfOk result (λ serve. file_of serve.database ≡
         named_file (first_value (found_of matches.now) (codes "database"))) }
+    ensures equal { IfOk result (λ serve.
+        ArePermittedBy (first_value (found_of matches.now) (codes "equal")) serve.permitted) }
 {
     let port = match matches.get_one::<u16>("port") {
         Some(port @ 1..) => port,
@@ -209,6 +222,7 @@ fn read_serve(alloc: Global, matches: &ArgMatches<'_>) -> Result<Serve, WordsFau
         database: read_database(alloc, matches)?,
         port,
         connections,
+        permitted: read_permitted(alloc, matches)?,
         enrolments: read_enrolments(alloc, matches)?,
     })
 }
@@ -270,6 +284,14 @@ fn database_of(alloc: Global, word: Option<&str>) -> Result<Database, AllocError
             Ok(Database::File(String::from_str(alloc, path)?))
         }
     }
+}
+
+// The priorities at which plans may overlap.
+fn read_permitted(alloc: Global, matches: &ArgMatches<'_>) -> Result<Permitted, WordsFault>
+    ensures { IfOk result
+        (ArePermittedBy (first_value (found_of matches.now) (codes "equal"))) }
+{
+    permitted_by(alloc, matches.get_str("equal"))
 }
 
 // The enrolments, in the order given.
