@@ -1,4 +1,4 @@
 pub mod WrittenLemmas
 pub mod GivenLemmas
 pub mod CommandLemmas
-pub mod CeilingLemmas
+pub mod EqualLemmas

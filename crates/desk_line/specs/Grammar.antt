@@ -1,10 +1,9 @@
 -- Grammar: the words of each line as rules of `clap`, and what each field of a line is by the values that its
 -- arguments have.
-use Rattle.std.specs.Prelude.{◌≡◌, ◌==◌, ◌&&◌, ◌+◌, ℕ, ℤ, Bool, pos, true, false, List, [], ◌∷◌, map, length, take, drop}
-use Rattle.std.specs.Prelude.{codes, string_bytes, nat_lt, nat_le, if◌then◌else◌}
+use Rattle.std.specs.Prelude.{◌≡◌, ◌==◌, ◌+◌, ℕ, ℤ, Bool, pos, true, false, List, [], ◌∷◌, map, length, take, drop}
+use Rattle.std.specs.Prelude.{codes, string_bytes, if◌then◌else◌}
 use Rattle.std.specs.Prelude.{Option, Some, None, option_map, option_and_then, unwrap_or, fold}
-use Rattle.std.specs.Char.{is_ascii_digit}
-use Rattle.std.specs.List.{list_all, position}
+use Rattle.std.specs.List.{position}
 use Rattle.std.specs.Option.{option_map_or}
 use Rattle.std.specs.Str.{bytes_eq}
 use Rattle.std.specs.Str.Parse.{digits_value, signed_digits_value, without_leading_plus}
@@ -12,10 +11,10 @@ use Rattle.clap.specs.Simple.{App, Shape, new_rule, new_shape, subcommand_of, wi
 use Rattle.clap.specs.Walk.{Row, Rule, Text, all_of, first_of, one_of}
 use Rattle.clap.specs.declared.builder.action.ArgAction.TheVariants.{Append, SetTrue}
 use Rattle.clap.specs.declared.builder.value_parser.ValueParser.TheVariants.{Signed}
-use Rattle.desk_rules.specs.Limits.{max_priority}
 use Rattle.desk_rules.specs.Name.{is_operator_name}
 use Rattle.volume4d.specs.Limits.{max_second}
-use Rattle.desk_line.specs.Lines.{file_of, max_ceiling_digits, max_connections, max_port}
+use Rattle.desk_line.specs.Equal.{ArePermittedBy, priority_in}
+use Rattle.desk_line.specs.Lines.{file_of, max_connections, max_port}
 use Rattle.desk_line.specs.Lines.{min_connections, min_port, named_file}
 use Rattle.desk_line.specs.declared.line.Cover.{Cover as CoverWords}
 use Rattle.desk_line.specs.declared.line.Enrol.{Enrol as EnrolWords}
@@ -64,6 +63,9 @@ abbrev pub connections : Rule
 connections =
     needed (number min_connections (pos max_connections) (option (codes "connections") (codes "requests")))
 
+abbrev pub equal : Rule
+equal = option (codes "equal") (codes "equal")
+
 abbrev pub enrolments : Rule
 enrolments = values (codes "enrolments")
 
@@ -81,13 +83,13 @@ abbrev pub picture : Rule
 picture = flag (codes "picture") (codes "svg")
 
 abbrev pub words_of_play : List Rule
-words_of_play = database ∷ moment ∷ enrolments ∷ []
+words_of_play = database ∷ moment ∷ equal ∷ enrolments ∷ []
 
 abbrev pub words_of_token : List Rule
 words_of_token = token ∷ []
 
 abbrev pub words_of_serve : List Rule
-words_of_serve = database ∷ port ∷ connections ∷ enrolments ∷ []
+words_of_serve = database ∷ port ∷ connections ∷ equal ∷ enrolments ∷ []
 
 abbrev pub words_of_cover : List Rule
 words_of_cover =
@@ -147,21 +149,11 @@ is_given id rows = option_map_or (λ text. bytes_eq text (codes "true")) (one_of
 abbrev pub file_given : List Row → Option Text
 file_given rows = named_file (first_of (codes "database") rows)
 
--- 1 to 4 digits
-unfoldable pub are_digits : Text → Bool
-are_digits text =
-    nat_lt 0 (length text) && (nat_le (length text) max_ceiling_digits && list_all is_ascii_digit text)
-
--- a ceiling: so many digits, and the number that they write is no more than the greatest priority
-unfoldable pub ceiling_in : Text → Option ℕ
-ceiling_in text =
-    if are_digits text && nat_le (digits_value 10 text) max_priority then Some (digits_value 10 text) else None
-
 -- an operator of this name, under this ceiling
 abbrev pub enrolment_by : Text → Text → Option Enrolment
 enrolment_by name ceiling =
     if is_operator_name name
-    then option_map (λ n. record { operator = name; ceiling = n }) (ceiling_in ceiling) else None
+    then option_map (λ n. record { operator = name; ceiling = n }) (priority_in ceiling) else None
 
 -- `NAME=CEILING`, parted at its first `=`
 abbrev pub is_equals : ℕ → Bool
@@ -187,12 +179,14 @@ enrolment_given rows =
 pub record IsPlayGiven (rows : List Row) (play : PlayWords) : Type 0 where
   pub database : file_of play.database ≡ file_given rows
   pub moment : second_given (codes "moment") rows ≡ Some play.moment
+  pub permitted : ArePermittedBy (first_of (codes "equal") rows) play.permitted
   pub enrolments : AreEnrolmentsGiven play.enrolments.items rows
 
 pub record IsServeGiven (rows : List Row) (serve : ServeWords) : Type 0 where
   pub database : file_of serve.database ≡ file_given rows
   pub port : number_given (codes "port") rows ≡ Some serve.port
   pub connections : number_given (codes "connections") rows ≡ Some serve.connections
+  pub permitted : ArePermittedBy (first_of (codes "equal") rows) serve.permitted
   pub enrolments : AreEnrolmentsGiven serve.enrolments.items rows
 
 pub record IsCoverGiven (rows : List Row) (cover : CoverWords) : Type 0 where

@@ -1,6 +1,7 @@
 -- Read first: Written, Grammar, Lines, Exits.
 pub mod Written
 pub mod Exits
+pub mod Equal
 pub mod Lines
 pub mod Grammar
 pub mod Forms

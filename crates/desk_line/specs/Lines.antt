@@ -26,10 +26,6 @@ min_connections = 1
 abbrev pub max_connections : ℕ
 max_connections = 1000000
 
--- the most digits of a ceiling
-abbrev pub max_ceiling_digits : ℕ
-max_ceiling_digits = 4
-
 -- the file of a database; none if it is in memory
 abbrev pub file_of : Database → Option (List ℕ)
 file_of InMemory = None

@@ -32,6 +32,8 @@ enum Word {
     Moment,
     Port,
     Connections,
+    // The priorities at which plans may overlap.
+    Equal,
     // Operators and their ceilings.
     Enrolments,
     Token,
@@ -45,7 +47,7 @@ static FORMS: [Form; 5] = [
     Form {
         name: "play",
         about: "Answers the requests of the standard input",
-        words: &[Word::Database, Word::Moment, Word::Enrolments],
+        words: &[Word::Database, Word::Moment, Word::Equal, Word::Enrolments],
     },
     Form {
         name: "token",
@@ -59,6 +61,7 @@ static FORMS: [Form; 5] = [
             Word::Database,
             Word::Port,
             Word::Connections,
+            Word::Equal,
             Word::Enrolments,
         ],
     },
@@ -147,6 +150,7 @@ fn arg_of<'a>(alloc: Global, word: &Word) -> Arg<'a>
         Word::Moment => moment_arg(alloc),
         Word::Port => port_arg(alloc),
         Word::Connections => connections_arg(alloc),
+        Word::Equal => equal_arg(alloc),
         Word::Enrolments => enrolments_arg(alloc),
         Word::Token => token_arg(alloc),
         Word::Text(name, help) => text_arg(alloc, name, help),
@@ -196,6 +200,17 @@ fn connections_arg<'a>(alloc: Global) -> Arg<'a>
         .help("How many connections are served, one request each")
         .required(true)
         .value_parser(value_parser!(u32).range(1..=i64::from(MAX_CONNECTIONS)))
+}
+
+fn equal_arg<'a>(alloc: Global) -> Arg<'a>
+    ensures { rule_of result ≡ spec.equal }
+{
+    Arg::new(alloc, "equal")
+        .long("equal")
+        .value_name("LIST")
+        .help(
+            "Priorities at which plans of equal priority may overlap, ascending, with commas between",
+        )
 }
 
 fn enrolments_arg<'a>(alloc: Global) -> Arg<'a>

@@ -3,6 +3,7 @@
 #![tactic(auto)]
 
 mod command;
+mod equal;
 mod failure;
 mod line;
 mod printed;

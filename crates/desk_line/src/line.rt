@@ -2,17 +2,16 @@
 
 ghost use Rattle.std.specs.Prelude.{◌≡◌, ◌≤◌, IfOk, IfSome, Some, map, option_map};
 ghost use Rattle.std.specs.Prelude.{codes, string_bytes};
-ghost use Rattle.std.specs.Char.{is_ascii_digit};
 ghost use Rattle.std.specs.Int.{IsInRange};
-ghost use Rattle.std.specs.List.{list_all};
 ghost use Rattle.clap.specs.Matches.{found_of};
 ghost use Rattle.clap.specs.Simple.{subcommand_of, subcommand_rows_of};
 ghost use Rattle.clap.specs.Walk.{first_of, rows_of};
 ghost use Rattle.desk_rules.specs.Limits.{max_priority};
+ghost use Rattle.desk_line.specs.Equal.{ArePermittedBy};
 ghost use Rattle.desk_wire.specs.Moments.{IsMoment};
 ghost use Rattle.desk_line.specs.Grammar as spec;
 ghost use Rattle.desk_line.specs.Grammar.{AreEnrolmentsGiven, HasGiven, IsCoverGiven, IsEnrolGiven};
-ghost use Rattle.desk_line.specs.Grammar.{IsGiven, IsPlayGiven, IsServeGiven, ceiling_in, enrolment_given};
+ghost use Rattle.desk_line.specs.Grammar.{IsGiven, IsPlayGiven, IsServeGiven, enrolment_given};
 ghost use Rattle.desk_line.specs.Grammar.{enrolment_in, file_given, name_of, number_given, second_given};
 ghost use Rattle.desk_line.specs.Grammar.{program};
 ghost use Rattle.desk_line.specs.Lines.{AreEnrolments, IsEnrol, IsLine, IsPlay, IsServe, file_of};
@@ -23,18 +22,16 @@ ghost use Rattle.desk_line.specs.Lines.{named_file};
 mod tests;
 
 use crate::command::make_command;
+use crate::equal::{permitted_by, priority_of};
 use clap::ArgMatches;
 use clap::error::ErrorKind;
-use desk_rules::decide::MAX_PRIORITY;
 use desk_rules::operator::Operator;
+use desk_rules::permission::Permitted;
 use std::alloc::{AllocError, AllocFailed, Global};
 use volume4d::MAX_SECOND;
 
 /// The word for a database in memory.
 const IN_MEMORY: &str = ":memory:";
-
-/// The most digits of a ceiling.
-const CEILING_DIGITS: usize = 4;
 
 /// The most connections that are served.
 pub(crate) const MAX_CONNECTIONS: u32 = 1_000_000;
@@ -70,6 +67,8 @@ pub struct Play {
     pub database: Database,
     /// The moment of all requests, a Unix second from 0 to 253,370,764,800.
     pub moment: i64,
+    /// The priorities at which plans of equal priority may overlap.
+    pub permitted: Permitted,
     /// The operators, in the order given; a name may be there twice.
     pub enrolments: Vec<Enrolment>,
 }
@@ -83,6 +82,8 @@ pub struct Serve {
     pub port: u16,
     /// How many connections are served, 1 to 1,000,000.
     pub connections: u32,
+    /// The priorities at which plans of equal priority may overlap.
+    pub permitted: Permitted,
     /// The operators, in the order given; a name may be there twice.
     pub enrolments: Vec<Enrolment>,
 }
@@ -131,7 +132,8 @@ pub enum WordsFault {
     OutOfMemory,
     /// Help was asked for, or the words have none of the forms that help shows.
     Words(clap::Error),
-    /// A name, a ceiling or a `NAME=CEILING` is malformed, or the ceiling is above 1,000.
+    /// A name, a ceiling or a `NAME=CEILING` is malformed, or the ceiling is above 1,000; or a list of equal
+    /// priorities is malformed or can't be permitted.
     Value,
 }
 
@@ -211,6 +213,7 @@ fn read_play(alloc: Global, given: &ArgMatches<'_>) -> Result<Play, WordsFault>
     Ok(Play {
         database: read_database(alloc, given)?,
         moment,
+        permitted: read_permitted(alloc, given)?,
         enrolments: read_enrolments(alloc, given)?,
     })
 }
@@ -261,6 +264,7 @@ fn read_serve(alloc: Global, given: &ArgMatches<'_>) -> Result<Serve, WordsFault
         database: read_database(alloc, given)?,
         port,
         connections,
+        permitted: read_permitted(alloc, given)?,
         enrolments: read_enrolments(alloc, given)?,
     })
 }
@@ -387,6 +391,13 @@ fn database_of(alloc: Global, word: Option<&str>) -> Result<Database, AllocError
     }
 }
 
+// The priorities at which plans may overlap.
+fn read_permitted(alloc: Global, given: &ArgMatches<'_>) -> Result<Permitted, WordsFault>
+    ensures { IfOk result (ArePermittedBy (first_of (codes "equal") (rows_of (found_of given.now)))) }
+{
+    permitted_by(alloc, text_of(given, "equal"))
+}
+
 // The enrolments, in the order given.
 fn read_enrolments(alloc: Global, given: &ArgMatches<'_>) -> Result<Vec<Enrolment>, WordsFault>
     ensures small { IfOk result (λ enrolments. AreEnrolments enrolments.items) }
@@ -429,42 +440,6 @@ fn enrolment_by(name: &str, ceiling: &str) -> Option<Enrolment>
 {
     Some(Enrolment {
         operator: Operator::try_new(name.as_bytes())?,
-        ceiling: ceiling_of(ceiling)?,
+        ceiling: priority_of(ceiling)?,
     })
-}
-
-// A ceiling: 1 to 4 digits, at most 1,000.
-#[tactic(auto, unfolding(crate::specs::Grammar::ceiling_in))]
-fn ceiling_of(text: &str) -> Option<u32>
-    ensures value { result ≡ ceiling_in text.now }
-    ensures small { IfSome result (λ ceiling. ceiling ≤ max_priority) }
-{
-    if !are_digits(text) {
-        return None;
-    }
-    match text.parse() {
-        Ok(ceiling) if ceiling <= MAX_PRIORITY => Some(ceiling),
-        _ => None,
-    }
-}
-
-// Whether a text is 1 to 4 digits.
-#[tactic(auto, unfolding(crate::specs::Grammar::are_digits))]
-fn are_digits(text: &str) -> bool
-    ensures { result ≡ spec.are_digits text.now }
-{
-    if text.is_empty() {
-        return false;
-    }
-    if text.len() > CEILING_DIGITS {
-        return false;
-    }
-    all_digits(text.as_bytes())
-}
-
-// Whether all bytes are digits.
-fn all_digits(bytes: &[u8]) -> bool
-    ensures { result ≡ list_all is_ascii_digit bytes.now }
-{
-    bytes.iter().all(|byte| byte.is_ascii_digit())
 }

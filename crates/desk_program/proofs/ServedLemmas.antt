@@ -3,7 +3,7 @@ use Rattle.std.proofs.Common.{◌≡◌, ◌≤◌, ◌+◌, ℕ, ℤ, List, [],
 use Rattle.std.specs.Result.{IsErrAnd}
 use Rattle.std.proofs.lemmas.List.{length-append, map-append, append_assoc, append-nil}
 use Rattle.std.proofs.lemmas.List.Elements.{All-append, All-cons, All-nil}
-use Rattle.desk_store.specs.World.{World}
+use Rattle.desk_run.specs.DeskWorld.{DeskWorld}
 use Rattle.desk_wire.specs.Serving.{HasServed, IsReplied}
 use Rattle.desk_wire.specs.declared.response.ServerError.{ServerError}
 use Rattle.desk_wire.specs.declared.stream.Served.{Served}
@@ -13,7 +13,7 @@ use Rattle.desk_wire.specs.declared.stream.ServeFault.TheVariants.{Read, Write, 
 use Rattle.desk_line.specs.declared.failure.Failure.{Failure}
 use Rattle.desk_line.specs.Exits.{failure_at, failure_status}
 use Rattle.desk_line.specs.declared.line.Serve.{Serve as ServeWords}
-use Rattle.desk_program.specs.Enrolling.{with_operators}
+use Rattle.desk_program.specs.Enrolling.{permitting, with_operators}
 use Rattle.desk_program.specs.Serving.{AreServed, AreTaken, Arrival, EndsAfter, Exchange, IsAtPort, Takes, failing}
 
 -- ---- the connections that are taken
@@ -34,14 +34,14 @@ both_taken (Some a) (Some b) (Some c) xs ys first then =
 -- ---- what they leave
 
 -- what holds of an answer if a store is honest holds if a store is that was honest before
-replied_then : (H K : Type 0) → (K → H) → (w : World) (moment : ℤ) (request answer : List ℕ)
-    (why : Option ServerError) (after : World) → IsReplied H w moment request answer why after
+replied_then : (H K : Type 0) → (K → H) → (w : DeskWorld) (moment : ℤ) (request answer : List ℕ)
+    (why : Option ServerError) (after : DeskWorld) → IsReplied H w moment request answer why after
     → IsReplied K w moment request answer why after
 replied_then H K by w moment request answer why after replied =
     record { told = λ k. replied.told (by k); failed = replied.failed }
 
 pub served_then : (H K : Type 0) → (K → H) → (r : Result Served ServeFault)
-    (old new out now : Option (List ℕ)) (w : World) (moment : ℤ) (after : World)
+    (old new out now : Option (List ℕ)) (w : DeskWorld) (moment : ℤ) (after : DeskWorld)
     → HasServed H r old new out now w moment after → HasServed K r old new out now w moment after
 served_then H K by (Ok (Answered status framed)) old new out now w moment after h = record {
   request = h.request;
@@ -67,7 +67,7 @@ served_then H K by (Err CutShort) old new out now w moment after h = h
 served_then H K by (Err Read) old new out now w moment after h = h
 served_then H K by (Err OutOfMemory) old new out now w moment after h = h
 
-all_then : (H K : Type 0) → (K → H) → (xs : List Exchange) (w after : World) → AreServed H xs w after
+all_then : (H K : Type 0) → (K → H) → (xs : List Exchange) (w after : DeskWorld) → AreServed H xs w after
     → AreServed K xs w after
 all_then H K by [] w after h = h
 all_then H K by (x ∷ xs) w after h = (
@@ -76,7 +76,7 @@ all_then H K by (x ∷ xs) w after h = (
   all_then H K by xs h.0 after h.2,
 )
 
-both_served : (H : Type 0) (xs ys : List Exchange) (u v w : World) → AreServed H xs u v
+both_served : (H : Type 0) (xs ys : List Exchange) (u v w : DeskWorld) → AreServed H xs u v
     → AreServed H ys v w → AreServed H (xs ++ ys) u w
 both_served H [] ys u v w first then = subst (λ z. AreServed H ys z w) first then
 both_served H (x ∷ xs) ys u v w first then =
@@ -86,7 +86,7 @@ both_served H (x ∷ xs) ys u v w first then =
 
 module _ {A B C : Type 0} where
   pub both : (H K : Type 0) → (K → H) → (first : Result A Failure) (then : Result B Failure)
-      (whole : Result C Failure) (m k n : ℕ) (a b c : Option (List Arrival)) (u v w : World)
+      (whole : Result C Failure) (m k n : ℕ) (a b c : Option (List Arrival)) (u v w : DeskWorld)
       → AreTaken H first m a b u v → AreTaken K then k b c v w → m + k ≤ n
       → ((xs ys : List Exchange) → EndsAfter first m xs → EndsAfter then k ys
       → EndsAfter whole n (xs ++ ys)) → AreTaken K whole n a c u w
@@ -104,7 +104,7 @@ module _ {A B C : Type 0} where
 -- nothing is taken
 pub none : {A : Type 0} (H : Type 0) (done : Result A Failure) (count : ℕ)
     (old new : Option (List Arrival))
-    (w after : World) → new ≡ old → after ≡ w → EndsAfter done count []
+    (w after : DeskWorld) → new ≡ old → after ≡ w → EndsAfter done count []
     → AreTaken H done count old new w after
 none H done count old new w after same left ends = record {
   exchanges = [];
@@ -125,7 +125,7 @@ one_ends (Ok d) x is fault = (
 one_ends (Err f) x is fault = fault
 
 pub one : {A : Type 0} (H : Type 0) (done : Result A Failure) (x : Exchange)
-    (old new : Option (List Arrival)) (w after : World) → Takes old new (x.arrival ∷ [])
+    (old new : Option (List Arrival)) (w after : DeskWorld) → Takes old new (x.arrival ∷ [])
     → HasServed H x.served x.arrival.bytes x.unread x.out x.now w x.arrival.moment after
     → failing done ≡ failure_at x.served → IfErr done (λ f. failure_status f ≡ 4)
     → AreTaken H done 1 old new w after
@@ -166,8 +166,9 @@ stops_by whole f then is was n k xs ys last =
 
 -- the operators are listed, and no connection is taken
 pub unserved : {A : Type 0} (H : Type 0) (done : Result A Failure) (f : Failure) (serve : ServeWords)
-    (old new : Option (List Arrival)) (w after : World) → IsErrAnd done (λ e. e ≡ f)
-    → failure_status f ≡ 4 → new ≡ old → (H → after ≡ with_operators w serve.enrolments.items)
+    (old new : Option (List Arrival)) (w after : DeskWorld) → IsErrAnd done (λ e. e ≡ f)
+    → failure_status f ≡ 4 → new ≡ old → (H → after ≡ with_operators (permitting w serve.permitted)
+    serve.enrolments.items)
     → IsAtPort H done serve old new w after
 unserved H done f serve old new w after is four same listed = inl (record {
   begun = after;

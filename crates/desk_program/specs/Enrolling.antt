@@ -1,24 +1,27 @@
 -- Enrolling: the world in which operators are listed, and the line that tells of one.
 use Rattle.std.specs.Prelude.{◌≡◌, ◌<◌, ℕ, List, [], ◌∷◌, ◌++◌, length, take, codes, decimal, Option}
 use Rattle.std.specs.Io.KnownBytes.{Appends}
-use Rattle.desk_store.specs.Changes.{with_operator}
-use Rattle.desk_store.specs.World.{World}
+use Rattle.desk_run.specs.DeskWorld.{DeskWorld, enrolled}
 use Rattle.desk_line.specs.declared.line.Enrolment.{Enrolment}
 
+-- these priorities are permitted, and no others
+abbrev pub permitting : DeskWorld → List ℕ → DeskWorld
+permitting w permitted = record w { permitted = permitted }
+
 -- each operator under its ceiling, in the order given: a name given twice has its last ceiling
-abbrev pub with_operators : World → List Enrolment → World
+abbrev pub with_operators : DeskWorld → List Enrolment → DeskWorld
 with_operators w [] = w
-with_operators w (e ∷ es) = with_operators (with_operator w e.operator e.ceiling) es
+with_operators w (e ∷ es) = with_operators (enrolled w e.operator e.ceiling) es
 
 -- the first operators are listed, and not all of them
-pub record AreListedSoFar (H : Type 0) (es : List Enrolment) (w after : World) : Type 0 where
+pub record AreListedSoFar (H : Type 0) (es : List Enrolment) (w after : DeskWorld) : Type 0 where
   pub count : ℕ
   pub few : count < length es
   pub left : H → after ≡ with_operators w (take count es)
 
 -- if the store is honest, the operator is listed under its ceiling, and nothing else is changed
-abbrev pub Lists : Type 0 → Enrolment → World → World → Type 0
-Lists H e w after = H → after ≡ with_operator w e.operator e.ceiling
+abbrev pub Lists : Type 0 → Enrolment → DeskWorld → DeskWorld → Type 0
+Lists H e w after = H → after ≡ enrolled w e.operator e.ceiling
 
 -- the line that is printed of it
 unfoldable pub enrolled_line : Enrolment → List ℕ

@@ -1,7 +1,7 @@
 -- Running: what comes of a line that is carried out at a desk.
 use Rattle.std.specs.Prelude.{◌≡◌, ℕ, List, Option}
 use Rattle.std.specs.Io.KnownBytes.{Appends}
-use Rattle.desk_store.specs.World.{World}
+use Rattle.desk_run.specs.DeskWorld.{DeskWorld}
 use Rattle.desk_line.specs.declared.line.Line.{Line}
 use Rattle.desk_line.specs.declared.line.Line.TheVariants as line
 use Rattle.desk_program.specs.Playing.{IsLinePlayed}
@@ -11,7 +11,7 @@ use Rattle.desk_program.specs.Serving.{Arrival, IsLineServed, listening_line}
 -- the connections taken before and after
 abbrev pub IsCarriedOut :
     Type 0 → Line → ℕ → Option (List Arrival) → Option (List Arrival) → Option (List ℕ) → Option (List ℕ)
-    → Option (List ℕ) → Option (List ℕ) → World → World → Type 0
+    → Option (List ℕ) → Option (List ℕ) → DeskWorld → DeskWorld → Type 0
 IsCarriedOut H (line.Play play) status from to old new out now w after =
     (to ≡ from) × IsLinePlayed H (line.Play play) status old new out now w after
 IsCarriedOut H (line.Enrol enrol) status from to old new out now w after =

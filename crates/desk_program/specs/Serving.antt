@@ -1,13 +1,13 @@
 -- Serving: what a desk at a port prints, and what its connections leave.
 use Rattle.std.specs.Prelude.{◌≡◌, ◌≤◌, ◌⊎◌, ⊤, ℕ, ℤ, List, [], ◌∷◌, ◌++◌, All, map, length, codes, decimal, Option, Some, None, Result, Ok, Err}
-use Rattle.desk_store.specs.World.{World}
+use Rattle.desk_run.specs.DeskWorld.{DeskWorld}
 use Rattle.desk_wire.specs.Serving.{HasServed}
 use Rattle.desk_wire.specs.declared.stream.Served.{Served}
 use Rattle.desk_wire.specs.declared.stream.ServeFault.{ServeFault}
 use Rattle.desk_line.specs.declared.failure.Failure.{Failure}
 use Rattle.desk_line.specs.declared.line.Serve.{Serve as ServeWords}
 use Rattle.desk_line.specs.Exits.{exit_status, failure_at, failure_status}
-use Rattle.desk_program.specs.Enrolling.{AreListedSoFar, with_operators}
+use Rattle.desk_program.specs.Enrolling.{AreListedSoFar, permitting, with_operators}
 
 -- what is printed when the port is listened at
 abbrev pub listening_line : ℕ → List ℕ
@@ -38,10 +38,10 @@ pub record Exchange : Type 0 where
   pub served : Result Served ServeFault
 
 -- the requests of connections are served one after the other, each at the moment of its connection
-abbrev pub AreServed : Type 0 → List Exchange → World → World → Type 0
+abbrev pub AreServed : Type 0 → List Exchange → DeskWorld → DeskWorld → Type 0
 AreServed H [] w after = after ≡ w
 AreServed H (x ∷ xs) w after =
-    (between : World)
+    (between : DeskWorld)
     × HasServed H x.served x.arrival.bytes x.unread x.out x.now w x.arrival.moment between
     × AreServed H xs between after
 
@@ -59,36 +59,36 @@ EndsAfter (Err failure) count exchanges = failure_status failure ≡ 4
 
 -- connections are taken, at most so many, and what is left is what their requests leave
 pub record AreTaken {A : Type 0} (H : Type 0) (done : Result A Failure) (count : ℕ)
-    (old new : Option (List Arrival)) (w after : World) : Type 0 where
+    (old new : Option (List Arrival)) (w after : DeskWorld) : Type 0 where
   pub exchanges : List Exchange
   pub few : length exchanges ≤ count
   pub taken : Takes old new (map (λ x. x.arrival) exchanges)
   pub served : AreServed H exchanges w after
   pub ends : EndsAfter done count exchanges
 
--- the operators are listed, and then connections are taken
+-- the line's priorities are permitted and its operators listed, and then connections are taken
 pub record HasBegun {A : Type 0} (H : Type 0) (done : Result A Failure) (serve : ServeWords)
-    (old new : Option (List Arrival)) (w after : World) : Type 0 where
-  pub begun : World
-  pub listed : H → begun ≡ with_operators w serve.enrolments.items
+    (old new : Option (List Arrival)) (w after : DeskWorld) : Type 0 where
+  pub begun : DeskWorld
+  pub listed : H → begun ≡ with_operators (permitting w serve.permitted) serve.enrolments.items
   pub taken : AreTaken H done serve.connections old new begun after
 
 -- an operator could not be listed: those before it are, and no connection is taken
 pub record IsNotBegun {A : Type 0} (H : Type 0) (done : Result A Failure) (serve : ServeWords)
-    (old new : Option (List Arrival)) (w after : World) : Type 0 where
+    (old new : Option (List Arrival)) (w after : DeskWorld) : Type 0 where
   pub status_is : exit_status done ≡ 4
   pub untaken : new ≡ old
-  pub listed : AreListedSoFar H serve.enrolments.items w after
+  pub listed : AreListedSoFar H serve.enrolments.items (permitting w serve.permitted) after
 
 abbrev pub IsAtPort :
     {A : Type 0} → Type 0 → Result A Failure → ServeWords → Option (List Arrival) → Option (List Arrival)
-    → World → World → Type 0
+    → DeskWorld → DeskWorld → Type 0
 IsAtPort H done serve old new w after =
     HasBegun H done serve old new w after ⊎ IsNotBegun H done serve old new w after
 
 -- a line of `serve` is carried out, and the exit status tells how that ended
 pub record IsLineServed (H : Type 0) (serve : ServeWords) (status : ℕ)
-    (old new : Option (List Arrival)) (w after : World) : Type 0 where
+    (old new : Option (List Arrival)) (w after : DeskWorld) : Type 0 where
   pub done : Result ⊤ Failure
   pub status_is : status ≡ exit_status done
   pub came : IsAtPort H done serve old new w after

@@ -1,6 +1,7 @@
 //! What the program does at a desk: enrolments, and the requests of an input.
 
 ghost use Rattle.std.specs.Prelude.{◌≡◌, ◌≤◌, ◌⊎◌, IfErr, IfOk, OnErr, OnOk, string_bytes};
+ghost use Rattle.desk_run.specs.DeskWorld.{world_of};
 ghost use Rattle.desk_run.specs.Faults.{IsBreakdown};
 ghost use Rattle.desk_store.specs.Faults.{IsHonest};
 ghost use Rattle.desk_line.specs.Exits as spec;
@@ -8,10 +9,11 @@ ghost use Rattle.desk_line.specs.Exits.{exit_status};
 ghost use Rattle.desk_rules.specs.Limits.{max_priority};
 ghost use Rattle.desk_line.specs.Lines.{AreEnrolments, HasDesk, IsLine, IsPlay};
 ghost use Rattle.desk_program.specs.Enrolling as enrolling;
-ghost use Rattle.desk_program.specs.Enrolling.{AreListedSoFar, with_operators};
+ghost use Rattle.desk_program.specs.Enrolling.{AreListedSoFar, permitting, with_operators};
 ghost use Rattle.desk_program.specs.Playing.{IsEnrolled, IsLinePlayed, IsNotPlayed, IsPlayed, status_after};
 
 use desk_line::{Enrolment, Failure, Line, Play, conclude};
+use desk_rules::permission::Permitted;
 use desk_run::{Desk, DeskFault};
 use desk_store::PlanStore;
 use desk_wire::{PlayEnd, play_all, write_whole};
@@ -30,12 +32,12 @@ pub fn with_desk<S: PlanStore, R: Read, W: Write, E: Write>(
 ) -> u8
     requires line { IsLine line.now }
     requires desk { HasDesk line.now }
-    ensures played { IsLinePlayed (IsHonest (S.doubt desk.new)) line.now result
+    ensures played { IsLinePlayed (IsHonest (S.doubt desk.new.store)) line.now result
         (R.remaining input.old) (R.remaining input.new)
         (W.contents output.old) (W.contents output.new)
-        (S.content desk.old) (S.content desk.new) }
-    ensures doubt { S.doubt desk.old ≤ S.doubt desk.new }
-    ensures counted { S.faults desk.old ≤ S.faults desk.new }
+        (world_of S.content desk.old) (world_of S.content desk.new) }
+    ensures doubt { S.doubt desk.old.store ≤ S.doubt desk.new.store }
+    ensures counted { S.faults desk.old.store ≤ S.faults desk.new.store }
 {
     match line {
         Line::Play(play) => play_line(alloc, play, desk, input, output, errors),
@@ -57,7 +59,7 @@ fn failure_after(ended: PlayEnd) -> Option<Failure>
     }
 }
 
-// Enrols the operators, and answers the requests of the input.
+// Permits the line's priorities, enrols its operators, and answers the requests of the input.
 fn play_line<S: PlanStore, R: Read, W: Write, E: Write>(
     alloc: Global,
     play: &Play,
@@ -67,16 +69,18 @@ fn play_line<S: PlanStore, R: Read, W: Write, E: Write>(
     errors: &mut E,
 ) -> u8
     requires { IsPlay play.now }
-    ensures played { IsPlayed (IsHonest (S.doubt desk.new)) play.now result
+    ensures played { IsPlayed (IsHonest (S.doubt desk.new.store)) play.now result
         (R.remaining input.old) (R.remaining input.new)
-        (W.contents output.old) (W.contents output.new) (S.content desk.old) (S.content desk.new)
-        ⊎ IsNotPlayed (IsHonest (S.doubt desk.new)) play.now result
+        (W.contents output.old) (W.contents output.new) (world_of S.content desk.old)
+        (world_of S.content desk.new)
+        ⊎ IsNotPlayed (IsHonest (S.doubt desk.new.store)) play.now result
         (R.remaining input.old) (R.remaining input.new)
-        (W.contents output.old) (W.contents output.new) (S.content desk.old) (S.content desk.new) }
-    ensures doubt { S.doubt desk.old ≤ S.doubt desk.new }
-    ensures counted { S.faults desk.old ≤ S.faults desk.new }
+        (W.contents output.old) (W.contents output.new) (world_of S.content desk.old)
+        (world_of S.content desk.new) }
+    ensures doubt { S.doubt desk.old.store ≤ S.doubt desk.new.store }
+    ensures counted { S.faults desk.old.store ≤ S.faults desk.new.store }
 {
-    if let Err(fault) = enrol_all(desk, &play.enrolments) {
+    if let Err(fault) = set_up(desk, &play.permitted, &play.enrolments) {
         return conclude(errors, Err(Failure::from(fault)));
     }
     let played = play_all(alloc, desk, play.moment, input, output);
@@ -92,10 +96,11 @@ fn enrol_line<S: PlanStore, W: Write, E: Write>(
     errors: &mut E,
 ) -> u8
     requires { enrolment.now.ceiling ≤ max_priority }
-    ensures enrolled { IsEnrolled (IsHonest (S.doubt desk.new)) enrolment.now result
-        (W.contents output.old) (W.contents output.new) (S.content desk.old) (S.content desk.new) }
-    ensures doubt { S.doubt desk.old ≤ S.doubt desk.new }
-    ensures counted { S.faults desk.old ≤ S.faults desk.new }
+    ensures enrolled { IsEnrolled (IsHonest (S.doubt desk.new.store)) enrolment.now result
+        (W.contents output.old) (W.contents output.new) (world_of S.content desk.old)
+        (world_of S.content desk.new) }
+    ensures doubt { S.doubt desk.old.store ≤ S.doubt desk.new.store }
+    ensures counted { S.faults desk.old.store ≤ S.faults desk.new.store }
 {
     let Ok(text) = enrolled_text(alloc, enrolment) else {
         return conclude(errors, Err(Failure::Memory));
@@ -129,23 +134,43 @@ fn done_after(ended: PlayEnd) -> Result<(), Failure>
     }
 }
 
-/// Enrols the operators in the order given, so that a name given twice has its last ceiling.
+/// Permits these priorities and no others, and enrols the operators in the order given, so that a name
+/// given twice has its last ceiling.
 ///
 /// # Errors
 ///
-/// The first fault of an enrolment, `OutOfMemory` or `Store`; those before it stand.
-pub fn enrol_all<S: PlanStore>(
+/// The first fault of an enrolment, `OutOfMemory` or `Store`; the priorities are permitted, and the
+/// operators before it enrolled.
+pub fn set_up<S: PlanStore>(
     desk: &mut Desk<S>,
+    permitted: &Permitted,
     enrolments: &[Enrolment],
 ) -> Result<(), DeskFault>
     requires { AreEnrolments enrolments.now }
-    ensures ok { IsHonest (S.doubt desk.new) → OnOk result
-        (S.content desk.new ≡ with_operators (S.content desk.old) enrolments.now) }
-    ensures err { OnErr result (AreListedSoFar (IsHonest (S.doubt desk.new)) enrolments.now
-        (S.content desk.old) (S.content desk.new)) }
+    ensures ok { IsHonest (S.doubt desk.new.store) → OnOk result (world_of S.content desk.new ≡
+        with_operators (permitting (world_of S.content desk.old) permitted.now) enrolments.now) }
+    ensures err { OnErr result (AreListedSoFar (IsHonest (S.doubt desk.new.store)) enrolments.now
+        (permitting (world_of S.content desk.old) permitted.now) (world_of S.content desk.new)) }
     ensures fault { IfErr result IsBreakdown }
-    ensures doubt { S.doubt desk.old ≤ S.doubt desk.new }
-    ensures counted { S.faults desk.old ≤ S.faults desk.new }
+    ensures doubt { S.doubt desk.old.store ≤ S.doubt desk.new.store }
+    ensures counted { S.faults desk.old.store ≤ S.faults desk.new.store }
+{
+    desk.permit(*permitted);
+    enrol_all(desk, enrolments)
+}
+
+// Enrols the operators in the order given, so that a name given twice has its last ceiling. At a fault of
+// an enrolment, `OutOfMemory` or `Store`, those before it stand.
+fn enrol_all<S: PlanStore>(desk: &mut Desk<S>, enrolments: &[Enrolment]) -> Result<(), DeskFault>
+    requires { AreEnrolments enrolments.now }
+    ensures ok { IsHonest (S.doubt desk.new.store) → OnOk result
+        (world_of S.content desk.new ≡ with_operators (world_of S.content desk.old)
+        enrolments.now) }
+    ensures err { OnErr result (AreListedSoFar (IsHonest (S.doubt desk.new.store)) enrolments.now
+        (world_of S.content desk.old) (world_of S.content desk.new)) }
+    ensures fault { IfErr result IsBreakdown }
+    ensures doubt { S.doubt desk.old.store ≤ S.doubt desk.new.store }
+    ensures counted { S.faults desk.old.store ≤ S.faults desk.new.store }
 {
     for enrolment in enrolments {
         desk.enrol(&enrolment.operator, enrolment.ceiling)?;

@@ -5,6 +5,7 @@ ghost use Rattle.std.specs.Option.{IsSomeAnd};
 ghost use Rattle.desk_store.specs.Faults.{IsHonest};
 ghost use Rattle.desk_line.specs.Exits.{failure_status};
 ghost use Rattle.desk_line.specs.Lines.{HasDatabase, IsLine};
+ghost use Rattle.desk_run.specs.DeskWorld.{world_of};
 ghost use Rattle.desk_program.specs.Running.{IsCarriedOut};
 
 use crate::port::Port;
@@ -30,10 +31,11 @@ pub fn run_opened<S: PlanStore + Drop, P: Port, R: Read, W: Write, E: Write>(
     requires line { IsLine line.now }
     requires desk { HasDatabase line.now }
     ensures opened { IfOk opened (λ desk. IsSomeAnd result.1 (λ left.
-        IsCarriedOut (IsHonest (S.doubt left)) line.now result.0 (P.taken port.old) (P.taken port.new)
+        IsCarriedOut (IsHonest (S.doubt left.store)) line.now result.0 (P.taken port.old) (P.taken port.new)
         (R.remaining input.old) (R.remaining input.new)
-        (W.contents output.old) (W.contents output.new) (S.content desk) (S.content left)
-        × (S.doubt desk ≤ S.doubt left))) }
+        (W.contents output.old) (W.contents output.new) (world_of S.content desk)
+        (world_of S.content left)
+        × (S.doubt desk.store ≤ S.doubt left.store))) }
     ensures unopened { IfErr opened (λ f. (result ≡ (failure_status f, None))
         × (P.taken port.new ≡ P.taken port.old) × (R.remaining input.new ≡ R.remaining input.old)
         × (W.contents output.new ≡ W.contents output.old)) }
@@ -59,10 +61,11 @@ fn run_at<S: PlanStore, P: Port, R: Read, W: Write, E: Write>(
 ) -> u8
     requires line { IsLine line.now }
     requires desk { HasDatabase line.now }
-    ensures done { IsCarriedOut (IsHonest (S.doubt desk.new)) line.now result
+    ensures done { IsCarriedOut (IsHonest (S.doubt desk.new.store)) line.now result
         (P.taken port.old) (P.taken port.new) (R.remaining input.old) (R.remaining input.new)
-        (W.contents output.old) (W.contents output.new) (S.content desk.old) (S.content desk.new) }
-    ensures doubt { S.doubt desk.old ≤ S.doubt desk.new }
+        (W.contents output.old) (W.contents output.new) (world_of S.content desk.old)
+        (world_of S.content desk.new) }
+    ensures doubt { S.doubt desk.old.store ≤ S.doubt desk.new.store }
 {
     match line {
         Line::Serve(words) => serve(alloc, port, words, desk, output, errors),

@@ -5,10 +5,11 @@ ghost use Rattle.std.specs.Io.KnownBytes.{Appends};
 ghost use Rattle.desk_store.specs.Faults.{IsHonest};
 ghost use Rattle.desk_line.specs.Exits.{failure_at, failure_status};
 ghost use Rattle.desk_line.specs.Lines.{IsServe};
+ghost use Rattle.desk_run.specs.DeskWorld.{world_of};
 ghost use Rattle.desk_program.specs.Serving.{AreTaken, IsLineServed, IsAtPort, listening_line, failing};
 
 use crate::port::{Connection, Port};
-use crate::program::enrol_all;
+use crate::program::set_up;
 use desk_line::{Failure, Serve, conclude};
 use desk_run::Desk;
 use desk_store::PlanStore;
@@ -30,17 +31,18 @@ pub fn serve<S: PlanStore, P: Port, W: Write, E: Write>(
     errors: &mut E,
 ) -> u8
     requires { IsServe line.now }
-    ensures served { IsLineServed (IsHonest (S.doubt desk.new)) line.now result
-        (P.taken port.old) (P.taken port.new) (S.content desk.old) (S.content desk.new) }
+    ensures served { IsLineServed (IsHonest (S.doubt desk.new.store)) line.now result
+        (P.taken port.old) (P.taken port.new) (world_of S.content desk.old)
+        (world_of S.content desk.new) }
     ensures listening { result ≡ 0 → Appends (W.contents output.old) (W.contents output.new)
         (listening_line line.now.port) }
-    ensures doubt { S.doubt desk.old ≤ S.doubt desk.new }
-    ensures counted { S.faults desk.old ≤ S.faults desk.new }
+    ensures doubt { S.doubt desk.old.store ≤ S.doubt desk.new.store }
+    ensures counted { S.faults desk.old.store ≤ S.faults desk.new.store }
 {
     conclude(errors, serve_line(alloc, port, line, desk, output))
 }
 
-// Enrols the operators, and serves connections at the port.
+// Permits the line's priorities, enrols its operators, and serves connections at the port.
 fn serve_line<S: PlanStore, P: Port, W: Write>(
     alloc: Global,
     port: &mut P,
@@ -49,14 +51,15 @@ fn serve_line<S: PlanStore, P: Port, W: Write>(
     output: &mut W,
 ) -> Result<(), Failure>
     requires { IsServe line.now }
-    ensures served { IsAtPort (IsHonest (S.doubt desk.new)) result line.now
-        (P.taken port.old) (P.taken port.new) (S.content desk.old) (S.content desk.new) }
+    ensures served { IsAtPort (IsHonest (S.doubt desk.new.store)) result line.now
+        (P.taken port.old) (P.taken port.new) (world_of S.content desk.old)
+        (world_of S.content desk.new) }
     ensures listening { OnOk result (Appends (W.contents output.old) (W.contents output.new)
         (listening_line line.now.port)) }
-    ensures doubt { S.doubt desk.old ≤ S.doubt desk.new }
-    ensures counted { S.faults desk.old ≤ S.faults desk.new }
+    ensures doubt { S.doubt desk.old.store ≤ S.doubt desk.new.store }
+    ensures counted { S.faults desk.old.store ≤ S.faults desk.new.store }
 {
-    enrol_all(desk, &line.enrolments)?;
+    set_up(desk, &line.permitted, &line.enrolments)?;
     listen(alloc, port, line.port, output)?;
     let routes = Routes::try_new(alloc)?;
     serve_connections(alloc, &routes, port, line.connections, desk)
@@ -95,10 +98,11 @@ fn serve_connections<S: PlanStore, P: Port>(
     count: u32,
     desk: &mut Desk<S>,
 ) -> Result<(), Failure>
-    ensures served { AreTaken (IsHonest (S.doubt desk.new)) result count
-        (P.taken port.old) (P.taken port.new) (S.content desk.old) (S.content desk.new) }
-    ensures doubt { S.doubt desk.old ≤ S.doubt desk.new }
-    ensures counted { S.faults desk.old ≤ S.faults desk.new }
+    ensures served { AreTaken (IsHonest (S.doubt desk.new.store)) result count
+        (P.taken port.old) (P.taken port.new) (world_of S.content desk.old)
+        (world_of S.content desk.new) }
+    ensures doubt { S.doubt desk.old.store ≤ S.doubt desk.new.store }
+    ensures counted { S.faults desk.old.store ≤ S.faults desk.new.store }
 {
     for before in 0..count {
         serve_connection(alloc, routes, port, desk)?;
@@ -113,10 +117,11 @@ fn serve_connection<S: PlanStore, P: Port>(
     port: &mut P,
     desk: &mut Desk<S>,
 ) -> Result<(), Failure>
-    ensures served { AreTaken (IsHonest (S.doubt desk.new)) result 1
-        (P.taken port.old) (P.taken port.new) (S.content desk.old) (S.content desk.new) }
-    ensures doubt { S.doubt desk.old ≤ S.doubt desk.new }
-    ensures counted { S.faults desk.old ≤ S.faults desk.new }
+    ensures served { AreTaken (IsHonest (S.doubt desk.new.store)) result 1
+        (P.taken port.old) (P.taken port.new) (world_of S.content desk.old)
+        (world_of S.content desk.new) }
+    ensures doubt { S.doubt desk.old.store ≤ S.doubt desk.new.store }
+    ensures counted { S.faults desk.old.store ≤ S.faults desk.new.store }
 {
     let mut client = port.take(alloc)?;
     let served = serve_next(

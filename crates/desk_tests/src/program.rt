@@ -6,6 +6,7 @@ ghost use Rattle.desk_line.specs.Lines.{IsEnrol, IsPlay};
 use desk_line::{Database, Enrol, Enrolment, Line, Play};
 use desk_program::with_desk;
 use desk_rules::operator::Operator;
+use desk_rules::permission::Permitted;
 use desk_run::Desk;
 use desk_store::{ListStore, PlanStore};
 use std::alloc::Global;
@@ -36,6 +37,7 @@ fn play_line(alloc: Global) -> Result<Play, Fail>
     Ok(Play {
         database: Database::InMemory,
         moment: 0,
+        permitted: Permitted::none(),
         enrolments: vec![in alloc; alfa, bravo]?,
     })
 }

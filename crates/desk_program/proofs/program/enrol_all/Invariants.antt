@@ -1,5 +1,6 @@
 use Rattle.std.proofs.Common.{◌≡◌, ◌≤◌, take}
 use Rattle.desk_store.specs.Faults.{IsHonest}
+use Rattle.desk_run.specs.DeskWorld.{world_of}
 use Rattle.desk_program.specs.Enrolling.{with_operators}
 use Rattle.desk_program.proofs.program.enrol_all.Given as goal
 
@@ -7,9 +8,9 @@ use Rattle.desk_program.proofs.program.enrol_all.Given as goal
 abbrev pub invariant-loop-enrolment : goal.invariant-loop-enrolment
 invariant-loop-enrolment g l =
     record {
-      listed : IsHonest (g.S.PlanStore.doubt l.desk)
-          → g.S.PlanStore.content l.desk
-          ≡ with_operators (g.S.PlanStore.content l.fn.desk) (take l.enrolment-index l.enrolments);
-      doubt : g.S.PlanStore.doubt l.fn.desk ≤ g.S.PlanStore.doubt l.desk;
-      counted : g.S.PlanStore.faults l.fn.desk ≤ g.S.PlanStore.faults l.desk;
+      listed : IsHonest (g.S.PlanStore.doubt l.desk.store)
+          → world_of g.S.PlanStore.content l.desk
+          ≡ with_operators (world_of g.S.PlanStore.content l.fn.desk) (take l.enrolment-index l.enrolments);
+      doubt : g.S.PlanStore.doubt l.fn.desk.store ≤ g.S.PlanStore.doubt l.desk.store;
+      counted : g.S.PlanStore.faults l.fn.desk.store ≤ g.S.PlanStore.faults l.desk.store;
     }

@@ -1,21 +1,23 @@
 use Rattle.std.proofs.Common.{ap, ◌∙◌, inl, subst, to_z, of_z, w64}
 use Rattle.desk_store.specs.Faults.{IsHonest}
 use Rattle.desk_store.specs.FaultLaws.{was_honest}
+use Rattle.desk_run.specs.DeskWorld.{world_of}
 use Rattle.desk_wire.specs.Playing.{HasPlayed}
-use Rattle.desk_program.specs.Enrolling.{with_operators}
+use Rattle.desk_program.specs.Enrolling.{permitting, with_operators}
 use Rattle.desk_program.proofs.MomentLemmas.{same_moment}
 use Rattle.desk_program.proofs.program.play_line.Goals as goal
 
 pub returns-clause-played : goal.returns-clause-played
 returns-clause-played g c =
-    let honest = IsHonest (g.S.PlanStore.doubt c.play_all-played.new.desk) in
+    let honest = IsHonest (g.S.PlanStore.doubt c.play_all-played.new.desk.store) in
     let played = c.play_all-played.result in
     let old = g.R.Read.remaining c.args.input.now in
     let new = g.R.Read.remaining c.play_all-played.new.input in
     let out = g.W.Write.contents c.args.output.now in
     let now = g.W.Write.contents c.play_all-played.new.output in
-    let w = g.S.PlanStore.content c.args.desk.now in
-    let after = g.S.PlanStore.content c.play_all-played.new.desk in
+    let w = world_of g.S.PlanStore.content c.args.desk.now in
+    let permitted = permitting w c.args.play.now.permitted in
+    let after = world_of g.S.PlanStore.content c.play_all-played.new.desk in
     let moment = c.args.play.now.moment in
     inl (record {
       ended = played.ended;
@@ -23,9 +25,9 @@ returns-clause-played g c =
       status_is = c.conclude-2.ensures.status ∙ c.done_after.ensures;
       played = λ h.
           let listed = c.in_default.ensures.ok (was_honest c.play_all-played.ensures.doubt h)
-          ∙ ap (with_operators w) c.deref.ensures.value in
+          ∙ ap (with_operators permitted) c.deref.ensures.value in
           subst (λ m. HasPlayed honest played.ended played.answered old new out now
-          (with_operators w c.args.play.now.enrolments.items) m after)
+          (with_operators permitted c.args.play.now.enrolments.items) m after)
           (same_moment moment c.requires.moment)
           (subst (λ v. HasPlayed honest played.ended played.answered old new out now v
           (to_z w64 (of_z w64 moment)) after) listed c.play_all-played.ensures.played);

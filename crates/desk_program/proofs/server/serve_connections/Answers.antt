@@ -6,8 +6,8 @@ use Rattle.desk_program.proofs.server.serve_connections.Goals as goal
 
 pub returns-in_err-serve_connection-clause-served : goal.returns-in_err-serve_connection-clause-served
 returns-in_err-serve_connection-clause-served g c =
-    both (IsHonest (g.S.PlanStore.doubt c.loop-before.desk))
-    (IsHonest (g.S.PlanStore.doubt c.serve_connection.new.desk))
+    both (IsHonest (g.S.PlanStore.doubt c.loop-before.desk.store))
+    (IsHonest (g.S.PlanStore.doubt c.serve_connection.new.desk.store))
     (was_honest c.serve_connection.ensures.doubt) (Ok tt) c.serve_connection.result c.from_residual.result
     c.loop-before.before 1 c.args.count _ _ _ _ _ _ c.loop-before.invariant.served
     c.serve_connection.ensures.served (omega (arith, c.loop-before-test.true))
@@ -17,8 +17,8 @@ returns-in_err-serve_connection-clause-served g c =
 
 pub loop-before-preserved : goal.loop-before-preserved
 loop-before-preserved g c = record {
-  served = both (IsHonest (g.S.PlanStore.doubt c.loop-before.desk))
-      (IsHonest (g.S.PlanStore.doubt c.serve_connection.new.desk))
+  served = both (IsHonest (g.S.PlanStore.doubt c.loop-before.desk.store))
+      (IsHonest (g.S.PlanStore.doubt c.serve_connection.new.desk.store))
       (was_honest c.serve_connection.ensures.doubt) (Ok tt) c.serve_connection.result (Ok tt)
       c.loop-before.before 1 (c.loop-before.before + 1) _ _ _ _ _ _ c.loop-before.invariant.served
       c.serve_connection.ensures.served (omega arith)

@@ -1,5 +1,6 @@
 use Rattle.std.proofs.Common.{◌≤◌, Ok}
 use Rattle.desk_store.specs.Faults.{IsHonest}
+use Rattle.desk_run.specs.DeskWorld.{world_of}
 use Rattle.desk_program.specs.Serving.{AreTaken}
 use Rattle.desk_program.proofs.server.serve_connections.Given as goal
 
@@ -7,9 +8,9 @@ use Rattle.desk_program.proofs.server.serve_connections.Given as goal
 abbrev pub invariant-loop-before : goal.invariant-loop-before
 invariant-loop-before g l =
     record {
-      served : AreTaken {A = Unit {0}} (IsHonest (g.S.PlanStore.doubt l.desk)) (Ok tt) l.before
+      served : AreTaken {A = Unit {0}} (IsHonest (g.S.PlanStore.doubt l.desk.store)) (Ok tt) l.before
           (g.P.Port.taken l.fn.port) (g.P.Port.taken l.port)
-          (g.S.PlanStore.content l.fn.desk) (g.S.PlanStore.content l.desk);
-      doubt : g.S.PlanStore.doubt l.fn.desk ≤ g.S.PlanStore.doubt l.desk;
-      counted : g.S.PlanStore.faults l.fn.desk ≤ g.S.PlanStore.faults l.desk;
+          (world_of g.S.PlanStore.content l.fn.desk) (world_of g.S.PlanStore.content l.desk);
+      doubt : g.S.PlanStore.doubt l.fn.desk.store ≤ g.S.PlanStore.doubt l.desk.store;
+      counted : g.S.PlanStore.faults l.fn.desk.store ≤ g.S.PlanStore.faults l.desk.store;
     }

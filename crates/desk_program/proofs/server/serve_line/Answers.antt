@@ -2,38 +2,41 @@ use Rattle.std.proofs.Common.{◌∙◌, ap, inl, refl, subst}
 use Rattle.desk_store.specs.Faults.{IsHonest}
 use Rattle.desk_store.specs.FaultLaws.{was_honest}
 use Rattle.desk_line.specs.declared.failure.Failure.TheVariants as failure
-use Rattle.desk_program.specs.Enrolling.{with_operators}
+use Rattle.desk_run.specs.DeskWorld.{world_of}
+use Rattle.desk_program.specs.Enrolling.{permitting, with_operators}
 use Rattle.desk_program.specs.Serving.{AreTaken}
 use Rattle.desk_program.proofs.ServedLemmas.{unserved}
 use Rattle.desk_program.proofs.server.serve_line.Goals as goal
 
 pub returns-in_err-listen-clause-served : goal.returns-in_err-listen-clause-served
 returns-in_err-listen-clause-served g c =
-    unserved (IsHonest (g.S.PlanStore.doubt c.enrol_all.new.desk)) c.from_residual-in_err-listen.result
-    c.in_err-listen.field-0.0 c.args.line.now _ _ (g.S.PlanStore.content c.args.desk.now)
-    (g.S.PlanStore.content c.enrol_all.new.desk) c.from_residual-in_err-listen.ensures.1
+    unserved (IsHonest (g.S.PlanStore.doubt c.set_up.new.desk.store)) c.from_residual-in_err-listen.result
+    c.in_err-listen.field-0.0 c.args.line.now _ _ (world_of g.S.PlanStore.content c.args.desk.now)
+    (world_of g.S.PlanStore.content c.set_up.new.desk) c.from_residual-in_err-listen.ensures.1
     c.in_err-listen.ensures.fault c.in_err-listen.ensures.same
-    (λ h. c.in_ok-enrol_all.ensures.ok h
-    ∙ ap (with_operators (g.S.PlanStore.content c.args.desk.now)) c.deref.ensures.value)
+    (λ h. c.in_ok-set_up.ensures.ok h
+    ∙ ap (with_operators (permitting (world_of g.S.PlanStore.content c.args.desk.now)
+    c.args.line.now.permitted)) c.deref.ensures.value)
 
 pub returns-in_err-routes-clause-served : goal.returns-in_err-routes-clause-served
 returns-in_err-routes-clause-served g c =
-    unserved (IsHonest (g.S.PlanStore.doubt c.enrol_all.new.desk)) c.from_residual-in_err-routes.result
-    failure.Memory c.args.line.now _ _ (g.S.PlanStore.content c.args.desk.now)
-    (g.S.PlanStore.content c.enrol_all.new.desk) c.from_residual-in_err-routes.ensures.1 refl
-    c.in_ok-listen.ensures.same (λ h. c.in_ok-enrol_all.ensures.ok h
-    ∙ ap (with_operators (g.S.PlanStore.content c.args.desk.now)) c.deref.ensures.value)
+    unserved (IsHonest (g.S.PlanStore.doubt c.set_up.new.desk.store)) c.from_residual-in_err-routes.result
+    failure.Memory c.args.line.now _ _ (world_of g.S.PlanStore.content c.args.desk.now)
+    (world_of g.S.PlanStore.content c.set_up.new.desk) c.from_residual-in_err-routes.ensures.1 refl
+    c.in_ok-listen.ensures.same (λ h. c.in_ok-set_up.ensures.ok h
+    ∙ ap (with_operators (permitting (world_of g.S.PlanStore.content c.args.desk.now)
+    c.args.line.now.permitted)) c.deref.ensures.value)
 
 pub returns-clause-served : goal.returns-clause-served
 returns-clause-served g c =
-    let honest = IsHonest (g.S.PlanStore.doubt c.serve_connections.new.desk) in
-    let w = g.S.PlanStore.content c.args.desk.now in
-    let begun = g.S.PlanStore.content c.enrol_all.new.desk in
-    let after = g.S.PlanStore.content c.serve_connections.new.desk in
+    let honest = IsHonest (g.S.PlanStore.doubt c.serve_connections.new.desk.store) in
+    let w = world_of g.S.PlanStore.content c.args.desk.now in
+    let begun = world_of g.S.PlanStore.content c.set_up.new.desk in
+    let after = world_of g.S.PlanStore.content c.serve_connections.new.desk in
     inl (record {
       begun = begun;
-      listed = λ h. c.in_ok-enrol_all.ensures.ok (was_honest c.serve_connections.ensures.doubt h)
-          ∙ ap (with_operators w) c.deref.ensures.value;
+      listed = λ h. c.in_ok-set_up.ensures.ok (was_honest c.serve_connections.ensures.doubt h)
+          ∙ ap (with_operators (permitting w c.args.line.now.permitted)) c.deref.ensures.value;
       taken = subst (λ v. AreTaken honest c.serve_connections.result c.args.line.now.connections v
           (g.P.Port.taken c.serve_connections.new.port) begun after) c.in_ok-listen.ensures.same
           c.serve_connections.ensures.served;
