@@ -50,7 +50,10 @@ def lives_of(desk, count, chance, path):
     yield f"desk {desk}, life 0", ran, complaint, answered
     for number in range(1, count + 1):
         requests, answers, contents = load(chance, content, REQUESTS)
+        started = time.monotonic()
         ran = live(path, [], requests, chance.uniform(0, whole))
+        if ran.status == 0:
+            whole = min(whole, time.monotonic() - started)
         complaint, content, answered = judged(path, ran, answers, contents)
         yield f"desk {desk}, life {number}", ran, complaint, answered
         if complaint:
