@@ -7,8 +7,8 @@ use Rattle.desk_line.specs.declared.line.Line.TheVariants as line
 use Rattle.desk_program.specs.Playing.{IsLinePlayed}
 use Rattle.desk_program.specs.Serving.{Arrival, IsLineServed, listening_line}
 
--- `play` and `enrol` take no connection; `serve` reads no input, and prints that it listens. `from` and `to` are
--- the connections taken before and after
+-- `play` and `enrol` take no connection; `serve` reads no input, and prints that it listens. `from` and `to`
+-- are the connections taken before and after
 abbrev pub IsCarriedOut :
     Type 0 → Line → ℕ → Option (List Arrival) → Option (List Arrival) → Option (List ℕ) → Option (List ℕ)
     → Option (List ℕ) → Option (List ℕ) → DeskWorld → DeskWorld → Type 0

@@ -1,5 +1,4 @@
--- Opening: what a database that can't be opened means, and its word.
-use Rattle.std.specs.Prelude.{List, ℕ, codes}
+-- Opening: what a database that can't be opened means.
 use Rattle.desk_line.specs.declared.failure.Failure.{Failure}
 use Rattle.desk_line.specs.declared.failure.Failure.TheVariants as failure
 use Rattle.desk_tables.specs.declared.opening.open.OpenFault.{OpenFault}
@@ -10,9 +9,3 @@ abbrev pub open_failure : OpenFault → Failure
 open_failure opening.OutOfMemory = failure.Memory
 open_failure opening.Store = failure.Store
 open_failure opening.NotADesk = failure.NotADesk
-
--- the word that is printed
-abbrev pub open_word : OpenFault → List ℕ
-open_word opening.OutOfMemory = codes "memory"
-open_word opening.Store = codes "store"
-open_word opening.NotADesk = codes "not_a_desk"

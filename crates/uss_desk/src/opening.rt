@@ -1,19 +1,46 @@
-//! Why a database can't be opened: the failure with which the program ends, and its word.
+//! Desks over databases, or why a database can't be opened.
 
-ghost use Rattle.std.specs.Prelude.{◌≡◌};
-ghost use Rattle.desk_line.specs.Exits.{failure_word};
+ghost use Rattle.std.specs.Prelude.{◌≡◌, [], IfErr, IfOk};
+ghost use Rattle.sqlite_wal.specs.Files.{image_at};
+ghost use Rattle.desk_tables.specs.Files.{OpensIn};
 ghost use Rattle.uss_desk.specs.Opening as spec;
 
 use desk_line::Failure;
-use desk_tables::OpenFault;
+use desk_run::Desk;
+use desk_tables::{OpenFault, SqliteStore};
+use sqlite::{FileFrom, FileStore, MemStore, Start};
+use std::alloc::Global;
 
-/// The word that is printed of a database that can't be opened: that of the failure with which the
-/// program ends.
-pub fn open_word(fault: &OpenFault) -> &'static str
-    ensures value { result.now ≡ spec.open_word fault.now }
-    ensures failure { result.now ≡ failure_word (spec.open_failure fault.now) }
+/// A desk of no operators and no plans, in memory.
+///
+/// # Errors
+///
+/// That of `open_failure`.
+pub fn open_in_memory(alloc: Global) -> Result<Desk<SqliteStore<MemStore>>, Failure>
+    ensures { IfOk result (λ desk. desk.world ≡ record { operators = []; plans = [] }) }
 {
-    open_failure(fault).word()
+    match SqliteStore::in_memory(alloc) {
+        Ok(store) => Ok(Desk::new(store)),
+        Err(fault) => Err(open_failure(&fault)),
+    }
+}
+
+/// The desk over the database in the files at a path; `start` stands for what the files held.
+///
+/// # Errors
+///
+/// That of `open_failure`.
+pub fn open_file<F: Start>(
+    rt: &HostRuntime,
+    path: &str,
+    start: F,
+) -> Result<Desk<SqliteStore<FileStore<FileFrom<F>>>>, Failure>
+    ensures { IfOk result (λ desk. OpensIn (image_at F.Start) desk.held desk.world) }
+{
+    match SqliteStore::open_from(rt, path, start) {
+        Ok(store) => Ok(Desk::new(store)),
+        Err(fault) => Err(open_failure(&fault)),
+    }
 }
 
 /// The failure with which the program ends if a database can't be opened.

@@ -1,0 +1,89 @@
+//! A line carried out, whatever the files held, and whatever the streams and the port are.
+
+ghost use Rattle.std.specs.Prelude.{◌≡◌, None, IsSome};
+ghost use Rattle.desk_line.specs.Lines.{HasDatabase, IsLine, file_of};
+
+use crate::opening::{open_file, open_in_memory};
+use desk_line::{Database, Line, print_line};
+use desk_program::{Port, run_opened};
+use desk_run::Desk;
+use desk_tables::SqliteStore;
+use sqlite::{FileFrom, FileStore, MemStore, Start};
+use std::io::{Read, Write};
+
+/// A desk in memory.
+pub type MemoryDesk = Desk<SqliteStore<MemStore>>;
+
+/// A desk over the database in files, where `F` stands for what they held.
+pub type FileDesk<F> = Desk<SqliteStore<FileStore<FileFrom<F>>>>;
+
+/// Does what a line says, and answers the exit status and the desk at which it was done, if there was one.
+pub fn run_line<F: Start, P: Port, R: Read, W: Write, E: Write>(
+    rt: &HostRuntime,
+    line: &Line,
+    start: F,
+    port: &mut P,
+    input: &mut R,
+    output: &mut W,
+    errors: &mut E,
+) -> (u8, Option<MemoryDesk>, Option<FileDesk<F>>)
+    requires { IsLine line.now }
+{
+    match line {
+        Line::Play(play) => run_at(rt, &play.database, line, start, port, input, output, errors),
+        Line::Enrol(enrol) => run_at(
+            rt,
+            &enrol.database,
+            line,
+            start,
+            port,
+            input,
+            output,
+            errors,
+        ),
+        Line::Serve(serve) => run_at(
+            rt,
+            &serve.database,
+            line,
+            start,
+            port,
+            input,
+            output,
+            errors,
+        ),
+        Line::Token(_) | Line::Cover(_) => {
+            (print_line(rt.alloc(), line, output, errors), None, None)
+        }
+    }
+}
+
+// Does what a line says at a desk over a database.
+fn run_at<F: Start, P: Port, R: Read, W: Write, E: Write>(
+    rt: &HostRuntime,
+    database: &Database,
+    line: &Line,
+    start: F,
+    port: &mut P,
+    input: &mut R,
+    output: &mut W,
+    errors: &mut E,
+) -> (u8, Option<MemoryDesk>, Option<FileDesk<F>>)
+    requires line { IsLine line.now }
+    requires desk { HasDatabase line.now }
+    ensures memory { file_of database.now ≡ None → result.2 ≡ None }
+    ensures file { IsSome (file_of database.now) → result.1 ≡ None }
+{
+    let alloc = rt.alloc();
+    match database {
+        Database::InMemory => {
+            let opened = open_in_memory(alloc);
+            let (status, desk) = run_opened(alloc, line, opened, port, input, output, errors);
+            (status, desk, None)
+        }
+        Database::File(path) => {
+            let opened = open_file(rt, path, start);
+            let (status, desk) = run_opened(alloc, line, opened, port, input, output, errors);
+            (status, None, desk)
+        }
+    }
+}
