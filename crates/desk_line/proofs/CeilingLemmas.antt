@@ -18,8 +18,10 @@ digit_range c h = grind (arith, nat_tests)
 all_digits : (ds : List ℕ) → list_all is_ascii_digit ds ≡ true → AllDigits 10 ds
 all_digits [] h = tt
 all_digits (c ∷ cs) h =
-    let range = digit_range c (first (is_ascii_digit c) (list_all is_ascii_digit cs) h) in
-    (omega (arith, range, digit_value_digit c range), all_digits cs (second (is_ascii_digit c) (list_all is_ascii_digit cs) h))
+    let range = digit_range c (first (is_ascii_digit c) (list_all is_ascii_digit cs) h) in (
+      omega (arith, range, digit_value_digit c range),
+      all_digits cs (second (is_ascii_digit c) (list_all is_ascii_digit cs) h),
+    )
 
 no_plus : (ds : List ℕ) → list_all is_ascii_digit ds ≡ true → without_leading_plus ds ≡ ds
 no_plus [] h = refl
@@ -39,7 +41,8 @@ digits_in text h =
 numeral : (text : List ℕ) → are_digits text ≡ true → IsNumeral 10 text
 unfolding are_digits
 numeral text h =
-    let some : nat_lt 0 (length text) ≡ true = first (nat_lt 0 (length text)) (is_short text && list_all is_ascii_digit text) h in
+    let some : nat_lt 0 (length text) ≡ true =
+    first (nat_lt 0 (length text)) (is_short text && list_all is_ascii_digit text) h in
     (grind (arith, nat_tests), all_digits text (digits_in text h))
 
 plain : (text : List ℕ) → are_digits text ≡ true → without_leading_plus text ≡ text

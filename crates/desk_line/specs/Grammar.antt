@@ -155,7 +155,8 @@ are_digits text =
 -- a ceiling: so many digits, and the number that they write is no more than the greatest priority
 unfoldable pub ceiling_in : Text → Option ℕ
 ceiling_in text =
-    if are_digits text && nat_le (digits_value 10 text) max_priority then Some (digits_value 10 text) else None
+    if are_digits text && nat_le (digits_value 10 text) max_priority
+    then Some (digits_value 10 text) else None
 
 -- an operator of this name, under this ceiling
 abbrev pub enrolment_by : Text → Text → Option Enrolment
@@ -169,7 +170,8 @@ is_equals byte = byte == 61
 
 unfoldable pub enrolment_in : Text → Option Enrolment
 enrolment_in text =
-    option_and_then (λ place. enrolment_by (take place text) (drop (place + 1) text)) (position is_equals text)
+    option_and_then (λ place. enrolment_by (take place text) (drop (place + 1) text))
+    (position is_equals text)
 
 -- the enrolments are those that were given, in their order
 abbrev pub AreEnrolmentsGiven : List Enrolment → List Row → Type 0

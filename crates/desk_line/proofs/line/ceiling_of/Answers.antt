@@ -9,8 +9,8 @@ returns-in-Ok-clause-value c =
 
 pub returns-in_default-clause-value : goal.returns-in_default-clause-value
 returns-in_default-clause-value c =
-    ceiling_too_great c.args.text.now c.in-Ok.ceiling (sym c.if-not-are_digits.ensures) c.in-Ok.ensures.value.0.1
-    c.if-ceiling-le-MAX_PRIORITY.false
+    ceiling_too_great c.args.text.now c.in-Ok.ceiling (sym c.if-not-are_digits.ensures)
+    c.in-Ok.ensures.value.0.1 c.if-ceiling-le-MAX_PRIORITY.false
 
 pub returns-in_default-2-clause-value : goal.returns-in_default-2-clause-value
 returns-in_default-2-clause-value c =
