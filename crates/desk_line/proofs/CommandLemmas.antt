@@ -31,7 +31,8 @@ pub simple_local : (a b c d e f g h i x : Bool)
     → (a && (b && (c && (d && (e && (f && (g && (h && (i && not x))))))))) ≡ true → x ≡ false
 simple_local a b c d e f g h i x is =
     not_false x
-    (second i _ (second h _ (second g _ (second f _ (second e _ (second d _ (second c _ (second b _ (second a _ is)))))))))
+    (second i _ (second h _ (second g _ (second f _ (second e _ (second d _
+    (second c _ (second b _ (second a _ is)))))))))
 
 pub word_simple : (w : Word) → (rule_of_word w).is_simple ≡ true
 word_simple word.Database = refl
@@ -59,7 +60,8 @@ pub lines_more : (forms : List Form) (i : ℕ) (d : Form) → i < length forms
     ≡ with_subcommand (with_lines (map shape_of_form (take i forms))) (shape_of_form (get_or forms i d))
 lines_more forms i d below =
     ap with_lines (map_more shape_of_form forms i d below)
-    ∙ fold_push with_subcommand bare_program (map shape_of_form (take i forms)) (shape_of_form (get_or forms i d))
+    ∙ fold_push with_subcommand bare_program (map shape_of_form (take i forms))
+    (shape_of_form (get_or forms i d))
 
 -- `clap` says of the program what it finds in words
 pub program_is_simple : is_simple program ≡ true

@@ -13,7 +13,8 @@ use Rattle.desk_line.specs.declared.line.Enrolment.{Enrolment}
 some_none : {A B : Type 0} (x : A) → Some x ≡ None → B
 some_none x h = cc
 
-pub number_read : {E : Type 0} (M N : Text → Result ℕ E → Type 0) (k : ℕ) (f : Found) (id : Text) (r : Option ℕ)
+pub number_read : {E : Type 0} (M N : Text → Result ℕ E → Type 0) (k : ℕ)
+    (f : Found) (id : Text) (r : Option ℕ)
     → (one_text f id ≡ None → r ≡ None)
     → ((t : Text) → one_text f id ≡ Some t → ReadsOne (λ s x. ParsesUnsigned k 10 s x × M s x × N s x) t r)
     → IfSome r (λ n. number_given id (rows_of f) ≡ Some n)
@@ -48,7 +49,8 @@ flag_text : (E : Type 0) (t : Text) (r : Option Bool) → ReadsOne (ParsesBool {
     → unwrap_or r false ≡ bytes_eq t (codes "true")
 flag_text E t (Some true) h = rw h refl
 flag_text E t (Some false) h = rw h refl
-flag_text E t None h = false_if_not (bytes_eq t (codes "true")) (λ e. h.1.0 ((bytes_eq-Decides t (codes "true")).0 e))
+flag_text E t None h =
+    false_if_not (bytes_eq t (codes "true")) (λ e. h.1.0 ((bytes_eq-Decides t (codes "true")).0 e))
 
 pub flag_read : (E : Type 0) (f : Found) (id : Text) (r : Option Bool)
     → (one_text f id ≡ None → r ≡ None)

@@ -10,7 +10,8 @@ use Rattle.desk_line.specs.Exits.{failure_status, serving_failure}
 use Rattle.desk_line.specs.Written.{HasBegun}
 
 -- all of it
-pub begun_whole : (bytes : List ℕ) (out now : Option (List ℕ)) → Appends out now bytes → HasBegun bytes out now
+pub begun_whole : (bytes : List ℕ) (out now : Option (List ℕ)) → Appends out now bytes
+    → HasBegun bytes out now
 begun_whole bytes out now h = record {
   begun = bytes;
   rest = [];

@@ -161,7 +161,8 @@ is_equals byte = byte == 61
 
 unfoldable pub enrolment_in : Text → Option Enrolment
 enrolment_in text =
-    option_and_then (λ place. enrolment_by (take place text) (drop (place + 1) text)) (position is_equals text)
+    option_and_then (λ place. enrolment_by (take place text) (drop (place + 1) text))
+    (position is_equals text)
 
 -- the enrolments are those that were given, in their order
 abbrev pub AreEnrolmentsGiven : List Enrolment → List Row → Type 0

@@ -5,4 +5,5 @@ use Rattle.desk_line.specs.Grammar.{line_shape}
 use Rattle.desk_line.proofs.command.with_words.Given as goal
 
 abbrev pub invariant-loop-word : goal.invariant-loop-word
-invariant-loop-word l = shape_of l.command ≡ line_shape l.form.name.now (map rule_of_word (take l.word-index l.words))
+invariant-loop-word l =
+    shape_of l.command ≡ line_shape l.form.name.now (map rule_of_word (take l.word-index l.words))

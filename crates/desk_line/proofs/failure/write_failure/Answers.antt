@@ -12,7 +12,8 @@ returns-in_err-write_whole-clause-begun g c =
 
 pub returns-in_err-write_whole-2-clause-begun : goal.returns-in_err-write_whole-2-clause-begun
 returns-in_err-write_whole-2-clause-begun g c =
-    let word : c.as_bytes.result.now ≡ failure_word c.args.failure = c.as_bytes.ensures.value ∙ c.word.ensures in
+    let word : c.as_bytes.result.now ≡ failure_word c.args.failure =
+    c.as_bytes.ensures.value ∙ c.word.ensures in
     let now = g.E.Write.contents c.write_whole.new.output in
     let after = g.E.Write.contents c.write_whole-2.new.output in
     begun_next (codes "uss_desk: ") (failure_word c.args.failure ++ codes "\n") _ now after
@@ -22,7 +23,8 @@ returns-in_err-write_whole-2-clause-begun g c =
 
 pub returns-clause-begun : goal.returns-clause-begun
 returns-clause-begun g c =
-    let word : c.as_bytes.result.now ≡ failure_word c.args.failure = c.as_bytes.ensures.value ∙ c.word.ensures in
+    let word : c.as_bytes.result.now ≡ failure_word c.args.failure =
+    c.as_bytes.ensures.value ∙ c.word.ensures in
     let now = g.E.Write.contents c.write_whole.new.output in
     let after = g.E.Write.contents c.write_whole-2.new.output in
     let last = g.E.Write.contents c.write_whole-3.new.output in

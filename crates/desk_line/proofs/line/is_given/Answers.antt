@@ -6,4 +6,5 @@ use Rattle.desk_line.proofs.line.is_given.Goals as goal
 pub returns : goal.returns
 returns c =
     c.unwrap_or.ensures
-    ∙ flag_read _ (found_of c.args.given.now) c.args.id.now c.get_one.result c.get_one.ensures.none c.get_one.ensures.value
+    ∙ flag_read _ (found_of c.args.given.now) c.args.id.now c.get_one.result
+    c.get_one.ensures.none c.get_one.ensures.value

@@ -11,5 +11,6 @@ pub returns-in-Some-0-to-253370764800-clause-given : goal.returns-in-Some-0-to-2
 returns-in-Some-0-to-253370764800-clause-given c =
     let m = c.in-Some-0-to-253370764800.moment in
     let within : IsMoment m = search (rules, ints) in
-    subst (λ z. second_given (codes "moment") (rows_of (found_of c.args.given.now)) ≡ Some z) (sym (same_moment m within))
+    subst (λ z. second_given (codes "moment") (rows_of (found_of c.args.given.now)) ≡ Some z)
+    (sym (same_moment m within))
     c.in-Some-0-to-253370764800.ensures
