@@ -17,7 +17,8 @@ use std::alloc::Global;
 ///
 /// That of `open_failure`.
 pub fn open_in_memory(alloc: Global) -> Result<Desk<SqliteStore<MemStore>>, Failure>
-    ensures { IfOk result (λ desk. desk.world ≡ record { operators = []; plans = [] }) }
+    ensures empty { IfOk result (λ desk. desk.store.world ≡ record { operators = []; plans = [] }) }
+    ensures none { IfOk result (λ desk. desk.permitted ≡ []) }
 {
     match SqliteStore::in_memory(alloc) {
         Ok(store) => Ok(Desk::new(store)),
@@ -35,7 +36,8 @@ pub fn open_file<F: Start>(
     path: &str,
     start: F,
 ) -> Result<Desk<SqliteStore<FileStore<FileFrom<F>>>>, Failure>
-    ensures { IfOk result (λ desk. OpensIn (image_at F.Start) desk.held desk.world) }
+    ensures begins { IfOk result (λ desk. OpensIn (image_at F.Start) desk.store.held desk.store.world) }
+    ensures none { IfOk result (λ desk. desk.permitted ≡ []) }
 {
     match SqliteStore::open_from(rt, path, start) {
         Ok(store) => Ok(Desk::new(store)),
