@@ -1,7 +1,7 @@
 //! Plays a pseudo-random history of requests at a desk over a list and at a desk over tables in memory. The
-//! arguments are the seed and the number of requests. Prints how many answers are 500 and how many are another
-//! over tables, which are none, and whether many requests were taken and many refused for a conflict, so that
-//! the history is one in which a desk has something to decide.
+//! arguments are the seed and the number of requests. Prints how many answers are 500, and how many are
+//! another over tables, which are none; and whether many requests were taken and many refused for a
+//! conflict, so that the history is one in which a desk has something to decide.
 #![tactic(auto)]
 
 mod draws;
