@@ -1,5 +1,5 @@
 -- What each query shows.
-use Rattle.std.proofs.Common.{◌≡◌, ℕ, ◌<◌, ◌+◌, List, [], ◌∷◌, ◌++◌, length, map, filter, refl, sym, ap, subst, ◌∙◌, Result, Ok, Err, IfOk, Bool, ap₂, true, false, ◌&&◌, ◌||◌, cond, pos, All, arith, slice_index_or}
+use Rattle.std.proofs.Common.{◌≡◌, ℕ, ℤ, ◌<◌, ◌+◌, List, [], ◌∷◌, ◌++◌, length, map, filter, refl, sym, ap, subst, ◌∙◌, Result, Ok, Err, IfOk, Bool, ap₂, true, false, ◌&&◌, ◌||◌, cond, pos, All, arith, slice_index_or}
 use Rattle.std.specs.Ordering.{is_lt}
 use Rattle.std.specs.List.{flat_map, list_all}
 use Rattle.std.specs.List.Sorted.{IsPermutation, IsSorted}
@@ -15,7 +15,7 @@ use Rattle.sqlite_value.specs.declared.keys.Key.{Key}
 use Rattle.sqlite.specs.State.{State, HasCleanDisk, Shown}
 use Rattle.sqlite.specs.Store.{Ghosts}
 use Rattle.sqlite.specs.Held.{Held, state}
-use Rattle.desk_sql.specs.Rows.{IsDesk, IsLegible, is_by, is_of, is_rival, differs, is_at_most, is_at_least, is_below, is_above, held_columns, is_same, joined, has_volume, with_volumes, by_cells, columns, tables_of, Lists}
+use Rattle.desk_sql.specs.Rows.{IsDesk, IsLegible, is_by, is_of, is_wanted, differs, is_at_most, is_at_least, is_below, is_above, held_columns, is_same, joined, has_volume, with_volumes, by_cells, columns, tables_of, Lists}
 use Rattle.desk_sql.specs.declared.reading.rivals.Reach.{Reach}
 use Rattle.desk_sql.specs.Effects.{IsReady}
 use Rattle.desk_sql.specs.Rivals.{rival_params, MayRead, SelectsRivals}
@@ -284,32 +284,35 @@ and_last true true false d e f g h = refl
 and_last true false c d e f g h = refl
 and_last false b c d e f g h = refl
 
-rival_test : (operator id : List ℕ) (reach : Reach) (s : Row)
-    → list_all (holds (rival_params operator id reach ∷ s ∷ [])) rival_spans_query.filter
-    ≡ is_rival operator id reach (columns 10 s)
-rival_test operator id reach s =
-    (λ i. le_number (column s 4) reach.last i && (ge_number (column s 5) reach.first i
+rival_test : (operator id : List ℕ) (reach : Reach) (low : ℤ) (s : Row)
+    → list_all (holds (rival_params operator id reach low ∷ s ∷ [])) rival_spans_query.filter
+    ≡ is_wanted operator id reach low (columns 10 s)
+rival_test operator id reach low s =
+    (λ i. ge_number (column s 4) low i && (le_number (column s 4) reach.last i
+    && (ge_number (column s 5) reach.first i
     && (lt_number (column s 6) reach.upper i && (gt_number (column s 7) reach.lower i
     && (lt_number (column s 8) reach.stop i && (gt_number (column s 9) reach.start i
     && (ge_number (column s 10) (pos reach.priority) i
-    && (either_true (column s 1) (column s 2) operator id i && true))))))))
-    ∙ and_last (is_at_most (column s 4) reach.last) (is_at_least (column s 5) reach.first)
+    && (either_true (column s 1) (column s 2) operator id i && true)))))))))
+    ∙ ap (λ b. is_at_least (column s 4) low && b)
+    (and_last (is_at_most (column s 4) reach.last) (is_at_least (column s 5) reach.first)
     (is_below (column s 6) reach.upper) (is_above (column s 7) reach.lower)
     (is_below (column s 8) reach.stop) (is_above (column s 9) reach.start)
     (is_at_least (column s 10) (pos reach.priority))
-    (differs (column s 1) (Text operator) || differs (column s 2) (Text id))
+    (differs (column s 1) (Text operator) || differs (column s 2) (Text id)))
 
-rival_rows : (operator id : List ℕ) (reach : Reach) (db : Database) (rows : List Row) → IsDesk db
-    → MayRead (understood desk_schema rival_spans_text) db (rival_params operator id reach) rows
-    → IsPermutation (map held_columns (filter (is_rival operator id reach) (tables_of db.trees).spans))
+rival_rows : (operator id : List ℕ) (reach : Reach) (low : ℤ) (db : Database) (rows : List Row)
+    → IsDesk db
+    → MayRead (understood desk_schema rival_spans_text) db (rival_params operator id reach low) rows
+    → IsPermutation (map held_columns (filter (is_wanted operator id reach low) (tables_of db.trees).spans))
     rows
-rival_rows operator id reach db rows desk h =
-    let params = rival_params operator id reach in
+rival_rows operator id reach low db rows desk h =
+    let params = rival_params operator id reach low in
     subst (λ xs. IsPermutation xs rows)
     (one_plan (eval_all rival_spans_query.project) (λ s. params ∷ s ∷ [])
     (λ s. list_all (holds (params ∷ s ∷ [])) rival_spans_query.filter) (columns 10)
-    (is_rival operator id reach) held_columns (λ s. refl) true
-    (λ s. rival_test operator id reach s ∙ sym (both_hold _)) (db.trees 6))
+    (is_wanted operator id reach low) held_columns (λ s. refl) true
+    (λ s. rival_test operator id reach low s ∙ sym (both_hold _)) (db.trees 6))
     (may_show rival_spans_text _ _ _ _ _ rival_spans_is params db rows h)
 
 pub rival_spans_selected : SelectsRivals rival_spans_text

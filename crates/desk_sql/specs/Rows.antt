@@ -186,6 +186,10 @@ is_rival operator id reach span =
     is_reached reach span
     && (differs (column span 0) (Text operator) || differs (column span 1) (Text id))
 
+-- one that begins at a leaf position or later
+abbrev pub is_wanted : List ℕ → List ℕ → Reach → ℤ → Row → Bool
+is_wanted operator id reach low span = is_at_least (column span 3) low && is_rival operator id reach span
+
 -- a span's columns from `first` on
 abbrev pub held_columns : Row → Row
 held_columns span = drop 3 span

@@ -5,7 +5,7 @@ ghost use Rattle.sqlite.specs.Order.{Row as Values};
 ghost use Rattle.sqlite.specs.View.{doubt};
 ghost use Rattle.sqlite.specs.State.{HasCleanDisk};
 ghost use Rattle.sqlite.specs.Held.{state};
-ghost use Rattle.desk_sql.specs.Rows.{is_rival, held_columns, tables_of};
+ghost use Rattle.desk_sql.specs.Rows.{is_wanted, held_columns, tables_of};
 ghost use Rattle.desk_sql.specs.Effects.{IsReady, IsKept};
 ghost use Rattle.desk_sql.specs.Rivals.{SelectsRivals};
 
@@ -32,12 +32,13 @@ fn rival_spans_text() -> &'static str
     ensures { SelectsRivals result.now }
 {
     "SELECT first, last, lower, upper, start, stop, priority FROM span \
-     WHERE first <= ?1 AND last >= ?2 AND lower < ?3 AND upper > ?4 AND start < ?5 AND stop > ?6 \
-     AND priority >= ?7 AND (operator <> ?8 OR id <> ?9) ORDER BY first"
+     WHERE first >= ?10 AND first <= ?1 AND last >= ?2 AND lower < ?3 AND upper > ?4 \
+     AND start < ?5 AND stop > ?6 AND priority >= ?7 AND (operator <> ?8 OR id <> ?9) ORDER BY first"
 }
 
 /// Hands over, one at a time and by `first`, the columns of `span` from `first` on of each span that is
-/// reached, but for those of the plan of this operator with this id.
+/// reached and begins at the leaf position `low` or later, but for those of the plan of this operator with
+/// this id. Rows that begin before `low`, or after the reach, are not looked at.
 ///
 /// # Errors
 ///
@@ -47,6 +48,7 @@ pub fn rival_spans<S: Alter, T: TakeRow>(
     operator: &str,
     id: &str,
     reach: Reach,
+    low: i64,
     taker: &mut T,
 ) -> Result<(), Error>
     requires ready { IsReady S.Store connection.old }
@@ -54,7 +56,7 @@ pub fn rival_spans<S: Alter, T: TakeRow>(
     requires fresh { T.has_taken taker.old [] }
     ensures value { HasCleanDisk (state S.Store connection.new)
         → OnOk result ((rows : List Values) × IsPermutation
-        (map held_columns (filter (is_rival operator.now id.now reach)
+        (map held_columns (filter (is_wanted operator.now id.now reach low)
         (tables_of (state S.Store connection.old).now.trees).spans)) rows × T.has_taken taker.new rows) }
     ensures open { HasCleanDisk (state S.Store connection.new)
         → OnOk result (IsTrue (state S.Store connection.old).is_open) }
@@ -76,7 +78,8 @@ pub fn rival_spans<S: Alter, T: TakeRow>(
             reach.start,
             reach.priority,
             operator,
-            id
+            id,
+            low
         ],
         taker,
     )

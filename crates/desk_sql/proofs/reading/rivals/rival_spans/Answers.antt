@@ -3,7 +3,7 @@ use Rattle.std.proofs.lemmas.Int.{ints, to_z-of_z}
 use Rattle.sqlite_value.specs.Value.{owned}
 use Rattle.sqlite.specs.declared.types.Value.TheVariants.{Int}
 use Rattle.sqlite.specs.Held.{state}
-use Rattle.desk_sql.specs.Rows.{is_rival, held_columns, tables_of}
+use Rattle.desk_sql.specs.Rows.{is_wanted, held_columns, tables_of}
 use Rattle.desk_sql.specs.Rivals.{rival_params}
 use Rattle.desk_sql.proofs.ReadLemmas.{shown_read}
 use Rattle.desk_sql.proofs.TakingLemmas.{if_handed}
@@ -28,14 +28,17 @@ returns-clause-value g c clean =
     search (rules, ints, to_z-of_z, c.params-to_sql-5.ensures) in
     let start : owned c.params-to_sql-6.result ≡ Int reach.start =
     search (rules, ints, to_z-of_z, c.params-to_sql-6.ensures) in
+    let low : owned c.params-to_sql-10.result ≡ Int c.args.low =
+    search (rules, ints, to_z-of_z, c.params-to_sql-10.ensures) in
     if_handed g.S.Store c.args.connection.now c.hand_over.new.connection _ _
-    (IsPermutation (map held_columns (filter (is_rival c.args.operator.now c.args.id.now reach)
+    (IsPermutation (map held_columns
+    (filter (is_wanted c.args.operator.now c.args.id.now reach c.args.low)
     (tables_of (state g.S.Store c.args.connection.now).now.trees).spans)))
     (g.T.TakeRow.has_taken c.hand_over.new.taker) c.requires.ready
     (omega (arith, c.hand_over.ensures.doubt, clean))
-    (λ rows desk shown. text.rows c.args.operator.now c.args.id.now reach
+    (λ rows desk shown. text.rows c.args.operator.now c.args.id.now reach c.args.low
     (state g.S.Store c.args.connection.now).now rows desk
-    (shown_read c.rival_spans_text.result.now (rival_params c.args.operator.now c.args.id.now reach)
+    (shown_read c.rival_spans_text.result.now (rival_params c.args.operator.now c.args.id.now reach c.args.low)
     (state g.S.Store c.args.connection.now) (state g.S.Store c.hand_over.new.connection) rows desk.schema
     text.plain text.unlisted shown)) c.hand_over.result
     (rw (
@@ -48,4 +51,5 @@ returns-clause-value g c clean =
       c.params-to_sql-7.ensures,
       c.params-to_sql-8.ensures,
       c.params-to_sql-9.ensures,
+      low,
     ) at (c.hand_over.ensures.shown clean))
