@@ -26,3 +26,4 @@ pub mod AssemblyLemmas
 pub mod OpeningLemmas
 pub mod UnreadLemmas
 pub mod ExactLemmas
+pub mod ShortLemmas

@@ -8,6 +8,7 @@ pub mod Gathering
 pub mod Lookups
 pub mod Rivals
 pub mod Store
+pub mod Lengths
 pub mod Records
 pub mod Opening
 pub mod Files

@@ -3,6 +3,7 @@
 ghost use Rattle.std.specs.Prelude.{◌≡◌, ◌≤◌, IfErr};
 ghost use Rattle.desk_store.specs.Faults.{HasRisen};
 ghost use Rattle.desk_tables.specs.Store.{Stands};
+ghost use Rattle.desk_tables.specs.Lengths.{Bounds};
 
 use crate::changing::changes;
 use crate::kept::Kept;
@@ -25,6 +26,8 @@ use volume4d::{Held, Slab};
 pub struct SqliteStore<S: Alter> {
     connection: Connection<S>,
     kept: Kept,
+    // the last leaf of no span of a live plan is more positions after its first; it falls at an opening alone
+    longest: u64,
     // how many faults of its own it has met, up to the type's last value
     faults: u64,
     alloc: Global,
@@ -32,6 +35,7 @@ pub struct SqliteStore<S: Alter> {
 
 impl<S: Alter> Model for SqliteStore<S> {
     ghost use Rattle.desk_tables.specs.Store.{Shown, shown_code, Stands};
+    ghost use Rattle.desk_tables.specs.Lengths.{Bounds};
 
     ghost Value = { Shown S };
 
@@ -43,18 +47,25 @@ impl<S: Alter> Model for SqliteStore<S> {
       faults = s.faults;
     } };
 
-    ghost invariant = { λ s. Stands S.Store s.connection s.kept.world };
+    ghost invariant = { λ s. Stands S.Store s.connection s.kept.world × Bounds s.longest s.kept.world };
 }
 
 impl<S: Alter> SqliteStore<S> {
-    /// A store over a connection, with the world that its rows are.
-    pub(crate) fn with(alloc: Global, connection: Connection<S>, kept: Kept) -> SqliteStore<S>
-        requires { Stands S.Store connection kept.world }
+    /// A store over a connection, with the world that its rows are, in which no span is longer.
+    pub(crate) fn with(
+        alloc: Global,
+        connection: Connection<S>,
+        kept: Kept,
+        longest: u64,
+    ) -> SqliteStore<S>
+        requires stands { Stands S.Store connection kept.world }
+        requires bounded { Bounds longest kept.world }
         ensures { result ≡ record { held = connection; world = kept.world; faults = 0 } }
     {
         SqliteStore {
             connection,
             kept,
+            longest,
             faults: 0,
             alloc,
         }
@@ -106,16 +117,24 @@ impl<S: Alter> PlanStore for SqliteStore<S> {
         least: u32,
         extent: &Slab,
     ) -> Result<Vec<Held>, StoreFault> {
-        let alloc = self.alloc;
-        let connection = &mut self.connection;
-        let answer = readers::rivals(alloc, connection, &self.kept, operator, id, least, extent);
+        let answer = readers::rivals(
+            self.alloc,
+            &mut self.connection,
+            &self.kept,
+            operator,
+            id,
+            least,
+            extent,
+            self.longest,
+        );
         counted(&mut self.faults, answer)
     }
 
     fn apply(&mut self, change: &Change) -> Result<(), StoreFault> {
         match changes::make(self.alloc, &mut self.connection, &self.kept, change) {
-            Ok(()) => {
+            Ok(longest) => {
                 self.kept = Kept::after(&self.kept, change);
+                self.longest = self.longest.max(longest);
                 Ok(())
             }
             Err(e) => counted(&mut self.faults, Err(e)),

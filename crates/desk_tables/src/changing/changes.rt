@@ -1,6 +1,6 @@
 //! Changes of a store's tables.
 
-ghost use Rattle.std.specs.Prelude.{◌≡◌, ◌≤◌, pos, IfOk, OnOk, OnErr};
+ghost use Rattle.std.specs.Prelude.{◌≡◌, ◌≤◌, ◌<◌, ◌^◌, pos, IfOk, OnOk, OnErr};
 ghost use Rattle.sqlite_value.specs.declared.value.Value.TheVariants.{Int};
 ghost use Rattle.sqlite_value.specs.Order.{column};
 ghost use Rattle.sqlite_trees.specs.View.{doubt};
@@ -10,9 +10,10 @@ ghost use Rattle.desk_rules.specs.Limits.{max_priority};
 ghost use Rattle.desk_store.specs.StoreChange.{changed_by, IsFitting};
 ghost use Rattle.desk_store.specs.declared.change.Change.TheVariants as change;
 ghost use Rattle.desk_tables.specs.Store.{Stands};
+ghost use Rattle.desk_tables.specs.Lengths.{IsShortPlan, BringsShort};
 
 use crate::changing::records::{
-    aircraft_number, asked_of, span_rows, texts_of, usage_number, volume_rows,
+    aircraft_number, asked_of, longest_of, span_rows, texts_of, usage_number, volume_rows,
 };
 use crate::kept::Kept;
 use crate::reading::readers::heads;
@@ -22,11 +23,13 @@ use desk_rules::plan::PlanRow;
 use desk_rules::plan_id::PlanId;
 use desk_sql::{PlanRecord, clear_plans, close_plan, put_operator, put_plan};
 use desk_store::{Change, StoreFault};
+use s2_cover::laws::one_list_of_ranges;
 use sqlite::{Connection, Row};
 use sqlite_trees::store::Alter;
 use std::alloc::Global;
 
-/// Makes a change that fits what the store keeps, as one transaction.
+/// Makes a change that fits what the store keeps, as one transaction. The answer is how many positions the
+/// last leaf of a span that it brings is after its first, at most.
 ///
 /// # Errors
 ///
@@ -37,21 +40,23 @@ pub(crate) fn make<S: Alter>(
     connection: &mut Connection<S>,
     kept: &Kept,
     change: &Change,
-) -> Result<(), StoreFault>
+) -> Result<u64, StoreFault>
     requires stands { Stands S.Store connection.old kept.now.world }
     requires fits { HasCleanDisk (state S.Store connection.old)
         → IsFitting change.now kept.now.world }
     ensures ok { OnOk result (Stands S.Store connection.new (changed_by change.now kept.now.world)) }
     ensures err { OnErr result (Stands S.Store connection.new kept.now.world) }
+    ensures short { IfOk result (λ longest. BringsShort longest change.now × (longest < 2 ^ 63)) }
     ensures doubt { doubt (state S.Store connection.old).is_clean
         ≤ doubt (state S.Store connection.new).is_clean }
 {
     match change {
-        Change::Enrol { operator, ceiling } => enrol(connection, kept, operator, *ceiling),
-        Change::Put { operator, row } => put(alloc, connection, kept, operator, row),
-        Change::Close { operator, id } => close(connection, kept, operator, id),
-        Change::Clear { operator, ids } => clear(alloc, connection, kept, operator, ids),
+        Change::Enrol { operator, ceiling } => enrol(connection, kept, operator, *ceiling)?,
+        Change::Put { operator, row } => return put(alloc, connection, kept, operator, row),
+        Change::Close { operator, id } => close(connection, kept, operator, id)?,
+        Change::Clear { operator, ids } => clear(alloc, connection, kept, operator, ids)?,
     }
+    Ok(0)
 }
 
 /// Lists an operator under a ceiling.
@@ -79,20 +84,22 @@ pub(crate) fn enrol<S: Alter>(
     }
 }
 
-// Stores a plan's row for its id, with its volumes and, while it is live, their spans.
+// Stores a plan's row for its id, with its volumes and, while it is live, their spans. The answer is how many
+// positions the last leaf of one of these is after its first, at most.
 fn put<S: Alter>(
     alloc: Global,
     connection: &mut Connection<S>,
     kept: &Kept,
     operator: &Operator,
     row: &PlanRow,
-) -> Result<(), StoreFault>
+) -> Result<u64, StoreFault>
     requires stands { Stands S.Store connection.old kept.now.world }
     requires fits { HasCleanDisk (state S.Store connection.old)
         → IsFitting (change.Put operator.now row.now) kept.now.world }
     ensures ok { OnOk result (Stands S.Store connection.new
         (changed_by (change.Put operator.now row.now) kept.now.world)) }
     ensures err { OnErr result (Stands S.Store connection.new kept.now.world) }
+    ensures short { IfOk result (λ longest. IsShortPlan longest row.now × (longest < 2 ^ 63)) }
     ensures doubt { doubt (state S.Store connection.old).is_clean
         ≤ doubt (state S.Store connection.new).is_clean }
 {
@@ -108,8 +115,9 @@ fn put<S: Alter>(
         usage: usage_number(row.usage),
         aircraft: aircraft_number(row.aircraft),
     };
+    one_list_of_ranges();
     match put_plan(connection, head, &volumes, &spans) {
-        Ok(()) => Ok(()),
+        Ok(()) => Ok(longest_of(&spans)),
         Err(e) => Err(fault_of(e)),
     }
 }

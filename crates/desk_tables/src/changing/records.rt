@@ -1,6 +1,6 @@
 //! The rows of a plan, as they are put into the tables.
 
-ghost use Rattle.std.specs.Prelude.{◌≡◌, IfOk, map};
+ghost use Rattle.std.specs.Prelude.{◌≡◌, ◌≤◌, ◌<◌, ◌+◌, ◌^◌, ℕ, pos, IfOk, map};
 ghost use Rattle.std.specs.List.{AllByRecursion};
 ghost use Rattle.std.specs.String.{string_bytes};
 ghost use Rattle.volume4d.specs.FootprintBytes.{footprint_bytes};
@@ -9,6 +9,7 @@ ghost use Rattle.desk_store.specs.Changes.{filed_by};
 ghost use Rattle.desk_tables.specs.Tables as spec;
 ghost use Rattle.desk_tables.specs.Tables.{id_text, area_rows, ArePlanSpanRows, AreSpanRowsFrom};
 ghost use Rattle.desk_tables.specs.Content.{IsId, IsBlock};
+ghost use Rattle.desk_tables.specs.Lengths.{IsNear};
 ghost use Rattle.desk_tables.specs.PlanRows.{volume_record, slab_record, AreAskedOf};
 
 use desk_rules::plan::PlanRow;
@@ -225,5 +226,37 @@ fn slab_row<'a>(
         start: slab.start,
         stop: slab.end,
         priority,
+    }
+}
+
+/// How many positions the last leaf of a span is after its first, at most.
+pub(crate) fn longest_of(spans: &[SpanRecord<'_>]) -> u64
+    ensures near { AllByRecursion (IsNear result) (map span_of spans.now) }
+    ensures small { result < 2 ^ 63 }
+{
+    let mut longest = 0;
+    for span in spans {
+        longest = longest.max(record_length(span));
+    }
+    longest
+}
+
+// How many positions the last leaf of a span is after its first.
+fn record_length(span: &SpanRecord<'_>) -> u64
+    ensures near { IsNear result (span_of span.now) }
+    ensures small { result < 2 ^ 63 }
+{
+    length_of(span.first, span.last)
+}
+
+/// How many positions a last leaf is after a first, or 0 if they are no leaves in order.
+pub(crate) fn length_of(first: i64, last: i64) -> u64
+    ensures near { (a b : ℕ) → first ≡ pos a → last ≡ pos b → b ≤ a + result }
+    ensures small { result < 2 ^ 63 }
+{
+    if 0 <= first && first < last {
+        (last - first) as u64
+    } else {
+        0
     }
 }

@@ -1,6 +1,7 @@
 //! The world that a database stands for when a store is opened over it.
 
-ghost use Rattle.std.specs.Prelude.{◌≡◌, ◌≢◌, ◌≤◌, [], false, IfOk, IfErr, OnOk, OnErr, IsTrue};
+ghost use Rattle.std.specs.Prelude.{◌≡◌, ◌≢◌, ◌≤◌, ◌<◌, ◌^◌, [], false, IfOk, IfErr, OnOk, OnErr, IsTrue};
+ghost use Rattle.std.specs.List.{AllByRecursion};
 ghost use Rattle.sqlite_trees.specs.View.{doubt};
 ghost use Rattle.sqlite.specs.State.{HasCleanDisk};
 ghost use Rattle.sqlite.specs.Held.{state};
@@ -12,22 +13,27 @@ ghost use Rattle.desk_sql.specs.Finding.{Holds};
 ghost use Rattle.desk_tables.specs.Store.{Stands};
 ghost use Rattle.desk_store.specs.World.{World};
 ghost use Rattle.desk_tables.specs.Content.{IsContent};
+ghost use Rattle.desk_tables.specs.Lengths.{Bounds, IsNear};
 ghost use Rattle.desk_tables.specs.Opening.{AreSortedByKey, AreRows, IsContentOf, AreNoContent};
 ghost use Rattle.desk_tables.specs.Opening.{BeginsWith, WasIndexed, ShowsNoDesk};
 ghost use Rattle.desk_tables.specs.Opening.{BlamesReading, BlamesDatabase};
 
+use crate::changing::records::length_of;
 use crate::kept::Kept;
 use crate::opening::content::{TableRows, content_in};
 use crate::opening::open::OpenFault;
 use desk_sql::{
     Found, all_operators, all_plans, all_spans, all_volumes, find_tables, index_tables, make_tables,
 };
-use sqlite::Connection;
+use s2_cover::laws::one_list_of_ranges;
+use sqlite::{Connection, Row};
 use sqlite_trees::store::Alter;
+use sqlite_value::value::ValueRef;
 use std::alloc::Global;
 
-/// The world that the database stands for: that of the rows in a desk's tables. A database with no
-/// table gets a desk's, and its world is empty. Tables that lack the index get it.
+/// The world that the database stands for: that of the rows in a desk's tables; and how many positions the
+/// last leaf of a span in it is after its first, at most. A database with no table gets a desk's, and its
+/// world is empty. Tables that lack the index get it.
 ///
 /// # Errors
 ///
@@ -36,11 +42,12 @@ use std::alloc::Global;
 pub(crate) fn world_in<S: Alter>(
     alloc: Global,
     connection: &mut Connection<S>,
-) -> Result<Kept, OpenFault>
+) -> Result<(Kept, u64), OpenFault>
     requires settled { connection.old.in_transaction ≡ false }
-    ensures begins { IfOk result (λ kept.
-        BeginsWith S.Store connection.old connection.new kept.world) }
-    ensures stands { IfOk result (λ kept. Stands S.Store connection.new kept.world) }
+    ensures begins { IfOk result (λ found.
+        BeginsWith S.Store connection.old connection.new found.0.world) }
+    ensures stands { IfOk result (λ found. Stands S.Store connection.new found.0.world) }
+    ensures bounded { IfOk result (λ found. Bounds found.1 found.0.world) }
     ensures none { IfErr result (λ e. e ≡ OpenFault.NotADesk →
         ShowsNoDesk S.Store connection.old connection.new) }
     ensures cause { IfErr result (BlamesDatabase S.Store connection.old connection.new) }
@@ -49,7 +56,7 @@ pub(crate) fn world_in<S: Alter>(
         ≤ doubt (state S.Store connection.new).is_clean }
 {
     match find_tables(connection)? {
-        Found::Blank => made_in(connection),
+        Found::Blank => Ok((made_in(connection)?, 0)),
         Found::Desk => found_in(alloc, connection),
         Found::Unindexed => indexed_in(alloc, connection),
         Found::Other => Err(OpenFault::NotADesk),
@@ -74,12 +81,16 @@ pub(crate) fn made_in<S: Alter>(connection: &mut Connection<S>) -> Result<Kept, 
 }
 
 // The world whose rows the tables have, which get their index.
-fn indexed_in<S: Alter>(alloc: Global, connection: &mut Connection<S>) -> Result<Kept, OpenFault>
+fn indexed_in<S: Alter>(
+    alloc: Global,
+    connection: &mut Connection<S>,
+) -> Result<(Kept, u64), OpenFault>
     requires unindexed { Holds S.Store connection.old IsUnindexed }
     requires settled { connection.old.in_transaction ≡ false }
-    ensures value { HasCleanDisk (state S.Store connection.new) → IfOk result (λ kept.
-        WasIndexed S.Store connection.old connection.new kept.world) }
-    ensures stands { IfOk result (λ kept. Stands S.Store connection.new kept.world) }
+    ensures value { HasCleanDisk (state S.Store connection.new) → IfOk result (λ found.
+        WasIndexed S.Store connection.old connection.new found.0.world) }
+    ensures stands { IfOk result (λ found. Stands S.Store connection.new found.0.world) }
+    ensures bounded { IfOk result (λ found. Bounds found.1 found.0.world) }
     ensures none { HasCleanDisk (state S.Store connection.new) → IfErr result (λ e.
         e ≡ OpenFault.NotADesk →
         AreNoContent (tables_of (state S.Store connection.old).now.trees)) }
@@ -89,17 +100,18 @@ fn indexed_in<S: Alter>(alloc: Global, connection: &mut Connection<S>) -> Result
     ensures doubt { doubt (state S.Store connection.old).is_clean
         ≤ doubt (state S.Store connection.new).is_clean }
 {
-    let kept = found_in(alloc, connection)?;
+    let found = found_in(alloc, connection)?;
     index_tables(connection)?;
-    Ok(kept)
+    Ok(found)
 }
 
 // The world whose rows the tables have.
-fn found_in<S: Alter>(alloc: Global, connection: &mut Connection<S>) -> Result<Kept, OpenFault>
+fn found_in<S: Alter>(alloc: Global, connection: &mut Connection<S>) -> Result<(Kept, u64), OpenFault>
     requires legible { Holds S.Store connection.old IsLegible }
     requires settled { connection.old.in_transaction ≡ false }
-    ensures value { HasCleanDisk (state S.Store connection.new) → IfOk result (λ kept.
-        IsContentOf (tables_of (state S.Store connection.old).now.trees) kept.world) }
+    ensures value { HasCleanDisk (state S.Store connection.new) → IfOk result (λ found.
+        IsContentOf (tables_of (state S.Store connection.old).now.trees) found.0.world) }
+    ensures bounded { IfOk result (λ found. Bounds found.1 found.0.world) }
     ensures none { HasCleanDisk (state S.Store connection.new) → IfErr result (λ e.
         e ≡ OpenFault.NotADesk →
         AreNoContent (tables_of (state S.Store connection.old).now.trees)) }
@@ -115,15 +127,42 @@ fn found_in<S: Alter>(alloc: Global, connection: &mut Connection<S>) -> Result<K
     kept_of(alloc, &rows)
 }
 
+// How many positions the last leaf of a row of `span` is after its first, at most.
+fn longest_in(rows: &[Row]) -> u64
+    ensures near { AllByRecursion (IsNear result) rows.now }
+    ensures small { result < 2 ^ 63 }
+{
+    let mut longest = 0;
+    let mut left = rows;
+    while let Some((row, later)) = left.split_first() {
+        longest = longest.max(length_in(row));
+        left = later;
+    }
+    longest
+}
+
+// How many positions the last leaf of a row of `span` is after its first.
+fn length_in(row: &Row) -> u64
+    ensures near { IsNear result row.now }
+    ensures small { result < 2 ^ 63 }
+{
+    match (row.get_ref(3), row.get_ref(4)) {
+        (Ok(ValueRef::Int(first)), Ok(ValueRef::Int(last))) => length_of(first, last),
+        _ => 0,
+    }
+}
+
 // The world whose rows these are.
-fn kept_of(alloc: Global, rows: &TableRows) -> Result<Kept, OpenFault>
-    ensures value { IfOk result (λ kept. IsContent kept.world × AreRows rows.now kept.world) }
+fn kept_of(alloc: Global, rows: &TableRows) -> Result<(Kept, u64), OpenFault>
+    ensures value { IfOk result (λ found. IsContent found.0.world × AreRows rows.now found.0.world) }
+    ensures bounded { IfOk result (λ found. Bounds found.1 found.0.world) }
     ensures none { IfErr result (λ e. e ≡ OpenFault.NotADesk →
         (w : World) → IsContent w → ¬ AreRows rows.now w) }
     ensures fault { IfErr result (λ e. e ≢ OpenFault.Store) }
 {
+    one_list_of_ranges();
     let content = content_in(alloc, rows)?;
-    Ok(Kept::of(&content))
+    Ok((Kept::of(&content), longest_in(&rows.spans)))
 }
 
 // The rows of the four tables, each by the columns of its key.

@@ -128,7 +128,7 @@ impl<S: Alter> SqliteStore<S> {
             ≤ doubt (state S.Store refused.connection).is_clean) }
     {
         match world_in(alloc, &mut connection) {
-            Ok(kept) => Ok(SqliteStore::with(alloc, connection, kept)),
+            Ok((kept, longest)) => Ok(SqliteStore::with(alloc, connection, kept, longest)),
             Err(fault) => Err(AdoptFault { fault, connection }),
         }
     }
@@ -144,5 +144,5 @@ fn over_blank<S: Alter + Drop>(
     ensures { IfOk result (λ store. store.world ≡ record { operators = []; plans = [] }) }
 {
     let kept = made_in(&mut connection)?;
-    Ok(SqliteStore::with(alloc, connection, kept))
+    Ok(SqliteStore::with(alloc, connection, kept, 0))
 }

@@ -15,10 +15,11 @@ ghost use Rattle.desk_tables.specs.Reading.{IsHead, IsVolumeAt, listing_rows};
 ghost use Rattle.desk_tables.specs.Gathering.{HasGathered};
 ghost use Rattle.desk_tables.specs.Lookups.{own_of};
 ghost use Rattle.desk_tables.specs.Store.{Stands};
+ghost use Rattle.desk_tables.specs.Lengths.{Bounds};
 
 use crate::kept::Kept;
 use crate::reading::listing::Gather;
-use crate::reading::rivals::{Rivals, reach_of};
+use crate::reading::rivals::{Rivals, low_of, reach_of};
 use crate::reading::values::{area_in, ceiling_in, fault_of, plan_in};
 use desk_rules::operator::Operator;
 use desk_rules::plan::PlanRow;
@@ -224,7 +225,8 @@ fn held_by(handed: Result<(), Error>, rivals: Rivals) -> Result<Vec<Held>, Store
 }
 
 /// The slabs that live plans but the operator's own of the id hold, of those of a priority at least,
-/// where they meet an extent.
+/// where they meet an extent. The last leaf of no span of a live plan is more than `longest` positions after
+/// its first, so that no row is read that begins further before the extent.
 ///
 /// # Errors
 ///
@@ -238,8 +240,10 @@ pub(crate) fn rivals<S: Alter>(
     id: &PlanId,
     least: u32,
     extent: &Slab,
+    longest: u64,
 ) -> Result<Vec<Held>, StoreFault>
-    requires { Stands S.Store connection.old kept.now.world }
+    requires stands { Stands S.Store connection.old kept.now.world }
+    requires bounded { Bounds longest kept.now.world }
     ensures value { HasCleanDisk (state S.Store connection.new) → IfOk result (λ helds.
         AreRivals kept.now.world operator.now id.now least extent.now helds.items) }
     ensures stands { Stands S.Store connection.new kept.now.world }
@@ -250,6 +254,7 @@ pub(crate) fn rivals<S: Alter>(
     let text = id.encode(&mut buffer);
     let mut rivals = Rivals::new(alloc);
     let reach = reach_of(extent, least);
-    let handed = rival_spans(connection, operator.as_str(), text, reach, &mut rivals);
+    let low = low_of(extent, longest);
+    let handed = rival_spans(connection, operator.as_str(), text, reach, low, &mut rivals);
     held_by(handed, rivals)
 }

@@ -5,7 +5,7 @@ use Rattle.desk_tables.proofs.opening.finding.found_in.Goals as goal
 
 pub returns-clause-value : goal.returns-clause-value
 returns-clause-value g c = λ clean.
-    have_content (tables_of (state g.S.Store c.args.connection.now).now.trees) _ (λ kept. kept.world)
+    have_content (tables_of (state g.S.Store c.args.connection.now).now.trees) _ (λ found. found.0.world)
     c.kept_of.result (c.in_ok-rows.ensures.value clean) c.kept_of.ensures.value
 
 pub returns-clause-none : goal.returns-clause-none

@@ -27,6 +27,6 @@ returns-in-Unindexed-clause-none g c =
 
 pub returns-in-Unindexed-clause-begins : goal.returns-in-Unindexed-clause-begins
 returns-in-Unindexed-clause-begins g c =
-    begins_indexed g.S.Store (λ kept. kept.world) c.indexed_in.result c.args.connection.now
+    begins_indexed g.S.Store (λ found. found.0.world) c.indexed_in.result c.args.connection.now
     c.find_tables.new.connection c.indexed_in.new.connection c.in_ok-find_tables.ensures.kept
     c.indexed_in.ensures.doubt c.indexed_in.ensures.open c.indexed_in.ensures.value
