@@ -136,8 +136,8 @@ abbrev compared : CompareOp → ℕ → ℕ → Term
 compared op at param = op2 (Compare op Binary) (col 1 at) (col 0 param)
 
 abbrev pub rival_spans_query : Query
-rival_spans_query = query_of (inner 6 end) (compared Ge 4 9 ∷ compared Le 4 0 ∷ compared Ge 5 1 ∷ compared Lt 6 2
-    ∷ compared Gt 7 3 ∷ compared Lt 8 4 ∷ compared Gt 9 5 ∷ compared Ge 10 6
+rival_spans_query = query_of (inner 6 end) (compared Ge 4 9 ∷ compared Le 4 0 ∷ compared Ge 5 1
+    ∷ compared Lt 6 2 ∷ compared Gt 7 3 ∷ compared Lt 8 4 ∷ compared Gt 9 5 ∷ compared Ge 10 6
     ∷ op2 Or (op2 (Compare Ne Binary) (col 1 1) (col 0 7)) (op2 (Compare Ne Binary) (col 1 2) (col 0 8))
     ∷ [])
     (col 1 4 ∷ col 1 5 ∷ col 1 6 ∷ col 1 7 ∷ col 1 8 ∷ col 1 9 ∷ col 1 10 ∷ [])

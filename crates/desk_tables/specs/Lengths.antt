@@ -19,7 +19,8 @@ IsShort longest span = span.last ≤ span.first + longest
 
 abbrev pub IsShortBlock : ℕ → Block → Type 0
 IsShortBlock longest v =
-    (spans : List Span) → IsRanges (shape_positions v.footprint) spans → AllByRecursion (IsShort longest) spans
+    (spans : List Span) → IsRanges (shape_positions v.footprint) spans
+    → AllByRecursion (IsShort longest) spans
 
 -- a closed plan has no spans
 abbrev pub IsShortPlan : ℕ → PlanRow → Type 0

@@ -106,7 +106,10 @@ fn indexed_in<S: Alter>(
 }
 
 // The world whose rows the tables have.
-fn found_in<S: Alter>(alloc: Global, connection: &mut Connection<S>) -> Result<(Kept, u64), OpenFault>
+fn found_in<S: Alter>(
+    alloc: Global,
+    connection: &mut Connection<S>,
+) -> Result<(Kept, u64), OpenFault>
     requires legible { Holds S.Store connection.old IsLegible }
     requires settled { connection.old.in_transaction ≡ false }
     ensures value { HasCleanDisk (state S.Store connection.new) → IfOk result (λ found.

@@ -70,8 +70,8 @@ pub(crate) fn reach_of(extent: &Slab, least: u32) -> Reach
     }
 }
 
-/// Where a span begins at the earliest that may hold a point of an extent, if the last leaf of no span is more
-/// than `longest` positions after its first.
+/// Where a span begins at the earliest that may hold a point of an extent, if the last leaf of no span is
+/// more than `longest` positions after its first.
 pub(crate) fn low_of(extent: &Slab, longest: u64) -> i64
     requires { longest < 2 ^ 63 }
     ensures { result ≡ spec.low_of extent.now longest }

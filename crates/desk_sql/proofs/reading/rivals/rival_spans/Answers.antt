@@ -38,7 +38,8 @@ returns-clause-value g c clean =
     (omega (arith, c.hand_over.ensures.doubt, clean))
     (λ rows desk shown. text.rows c.args.operator.now c.args.id.now reach c.args.low
     (state g.S.Store c.args.connection.now).now rows desk
-    (shown_read c.rival_spans_text.result.now (rival_params c.args.operator.now c.args.id.now reach c.args.low)
+    (shown_read c.rival_spans_text.result.now
+    (rival_params c.args.operator.now c.args.id.now reach c.args.low)
     (state g.S.Store c.args.connection.now) (state g.S.Store c.hand_over.new.connection) rows desk.schema
     text.plain text.unlisted shown)) c.hand_over.result
     (rw (

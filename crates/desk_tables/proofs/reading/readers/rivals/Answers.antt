@@ -20,7 +20,8 @@ returns-clause-value g c = λ clean.
     (let w = c.args.kept.now.world in
     let o = c.args.operator.now in
     let id = c.args.id.now in
-    let standing = c.requires.stands.standing (omega (arith, c.rival_spans-handed.ensures.doubt, clean)) live in
+    let standing =
+    c.requires.stands.standing (omega (arith, c.rival_spans-handed.ensures.doubt, clean)) live in
     let tables = tables_of (state g.S.Store c.args.connection.now).now.trees in
     let (rows, by_texts, taken) = handed in
     let rivals = c.rival_spans-handed.new.taker in

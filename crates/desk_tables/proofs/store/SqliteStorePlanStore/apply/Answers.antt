@@ -12,6 +12,6 @@ invariant_of-self g c =
     let after = sym c.after-self-inside.ensures in (
       subst (Stands g.S.Store c.make.new.connection) after c.in-Ok.ensures.ok,
       subst (Bounds next) after (bounds_after longest brought next c.args.change.now
-      c.self.inside.kept.world c.self.invariant.1 c.in-Ok.ensures.short.0 c.in-Ok.ensures.short.1
-      c.max-self-inside.ensures),
+          c.self.inside.kept.world c.self.invariant.1 c.in-Ok.ensures.short.0 c.in-Ok.ensures.short.1
+          c.max-self-inside.ensures),
     )
