@@ -1,6 +1,6 @@
 -- What a text of SQL selects, changes or makes.
-use Rattle.std.specs.Prelude.{◌≡◌, false, ℕ, List, [], ◌∷◌, length, Option, None, Result, Ok, Err}
-use Rattle.sqlite.specs.declared.types.Value.TheVariants.{Text}
+use Rattle.std.specs.Prelude.{◌≡◌, false, ℕ, pos, List, [], ◌∷◌, length, Option, None, Result, Ok, Err}
+use Rattle.sqlite.specs.declared.types.Value.TheVariants.{Int, Text}
 use Rattle.sqlite.specs.Order.{Row}
 use Rattle.sqlite.specs.Schema.{Schema}
 use Rattle.sqlite.specs.declared.run.Mode.{Mode}
@@ -14,8 +14,9 @@ use Rattle.sqlite_sql.specs.Aggregate.{count}
 use Rattle.sqlite_schema.specs.declared.schema.Keys.TheVariants.{Enforced}
 use Rattle.sqlite_resolve.specs.declared.compiled.Compiled.{Compiled}
 use Rattle.sqlite_resolve.specs.declared.error.CompileError.{CompileError}
+use Rattle.desk_sql.specs.declared.changing.writing.PlanRecord.{PlanRecord}
 use Rattle.desk_sql.specs.Schema.{desk_schema}
-use Rattle.desk_sql.specs.Rows.{IsDesk, Tables, tables_of, Lists}
+use Rattle.desk_sql.specs.Rows.{IsDesk, Tables, tables_of, operator_row, plan_row, Lists}
 use Rattle.desk_sql.specs.Making.{HasEmpty}
 use Rattle.desk_sql.specs.Rivals.{MayRead}
 
@@ -32,6 +33,27 @@ pub record Key : Type 0 where
 
 abbrev pub key_row : Key → Row
 key_row key = Text key.operator ∷ Text key.id ∷ []
+
+-- an operator's name and its ceiling
+pub record Ceiling : Type 0 where
+  pub name : List ℕ
+  pub ceiling : ℕ
+
+abbrev pub ceiling_row : Ceiling → Row
+ceiling_row c = operator_row c.name c.ceiling
+
+abbrev pub row_of : PlanRecord → Row
+row_of p = plan_row p.operator.now p.id.now p.priority p.usage p.aircraft
+
+-- which plan is closed, and its priority and state of the aircraft
+pub record Closing : Type 0 where
+  pub operator : List ℕ
+  pub id : List ℕ
+  pub priority : ℕ
+  pub aircraft : ℕ
+
+abbrev pub closing_row : Closing → Row
+closing_row c = Text c.operator ∷ Text c.id ∷ Int (pos c.priority) ∷ Int (pos c.aircraft) ∷ []
 
 -- ---- what a query shows
 
