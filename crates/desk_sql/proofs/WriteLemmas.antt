@@ -106,6 +106,16 @@ is_writing (Ok c) command is writing plain = subst IsWrite (sym is) writing
 is_writing (Err e) command is writing plain = absurd plain
 
 -- a text that is this command may do what the command does
+pub does_command : (text : List ℕ) (r : Result Compiled CompileError) (params : Row) (limit : Option ℕ)
+    (old new : Database) (command : Command) → command_of r ≡ command
+    → MayWrite text r params limit old new
+    → (tally : Tally) × Does limit enforced params old (statement_of text r) None command (Ok (tally, new))
+does_command text (Ok c) params limit old new command is h = (
+  h.0,
+  subst (λ k. Does limit enforced params old (text_of text c) None k (Ok (h.0, new))) is h.1,
+)
+does_command text (Err e) params limit old new command is h = absurd h
+
 module _ (text : List ℕ) (params : Row) (limit : Option ℕ) (old new : Database) where
   abbrev pub May : Type 0
   May = MayWrite text (understood desk_schema text) params limit old new
@@ -117,20 +127,12 @@ module _ (text : List ℕ) (params : Row) (limit : Option ℕ) (old new : Databa
 
   pub did : IsDesk old → (command : Command) → IsCommand text command → May → Did command
   did desk command known may =
-      let it = by_command (understood desk_schema text) known.is may in (
+      let it = does_command text (understood desk_schema text) params limit old new command known.is may
+      in (
         it.0,
         subst (λ s. Does limit enforced params (record old { schema = s })
             (statement_of text (understood desk_schema text)) None command (Ok (it.0, new))) desk.schema it.1,
-      ) where
-      by_command : (r : Result Compiled CompileError) → command_of r ≡ command
-          → MayWrite text r params limit old new
-          → (tally : Tally) × Does limit enforced params old (statement_of text r) None command
-          (Ok (tally, new))
-      by_command (Ok c) is h = (
-        h.0,
-        subst (λ k. Does limit enforced params old (text_of text c) None k (Ok (h.0, new))) is h.1,
       )
-      by_command (Err e) is h = absurd h
 
 pub changes_by : {Given : Type 0} (text : List ℕ) (params : Given → Row)
     (Change : Given → Tables → Tables → Type 0) (command : Command) → IsCommand text command

@@ -15,9 +15,9 @@ use Rattle.sqlite_schema.specs.declared.schema.Keys.TheVariants.{Enforced}
 use Rattle.sqlite_resolve.specs.declared.compiled.Compiled.{Compiled}
 use Rattle.sqlite_resolve.specs.declared.error.CompileError.{CompileError}
 use Rattle.desk_sql.specs.declared.changing.writing.PlanRecord.{PlanRecord}
-use Rattle.desk_sql.specs.Schema.{desk_schema}
-use Rattle.desk_sql.specs.Rows.{IsDesk, Tables, tables_of, operator_row, plan_row, Lists}
-use Rattle.desk_sql.specs.Making.{HasEmpty}
+use Rattle.desk_sql.specs.Schema.{desk_schema, table_schema}
+use Rattle.desk_sql.specs.Rows.{IsDesk, IsUnindexed, Tables, tables_of, operator_row, plan_row, Lists}
+use Rattle.desk_sql.specs.Making.{HasEmpty, AreSame}
 use Rattle.desk_sql.specs.Rivals.{MayRead}
 
 -- ---- what a text is given, as its parameters in turn
@@ -105,3 +105,11 @@ pub record Extends (text : List ℕ) (schema next : Schema) : Type 0 where
   pub writes : IsWriting (understood schema text)
   pub tables : (limit : Option ℕ) (old new : Database) → HasEmpty schema old
       → MayWrite text (understood schema text) [] limit old new → HasEmpty next new
+
+-- a text that shows nothing, and makes the index of a desk's tables that lack it
+pub record AddsIndex (text : List ℕ) : Type 0 where
+  pub plain : IsPlain (understood table_schema text)
+  pub writes : IsWriting (understood table_schema text)
+  pub tables : (limit : Option ℕ) (old new : Database) → IsUnindexed old
+      → MayWrite text (understood table_schema text) [] limit old new
+      → IsDesk new × AreSame (tables_of old.trees) (tables_of new.trees)
