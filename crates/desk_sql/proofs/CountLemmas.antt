@@ -111,7 +111,10 @@ pub only_row : (row : Row) (rows : List Row) → IsPermutation (row ∷ []) rows
 only_row row rows same = one_permutation row rows same
 
 unsorted : (row : Row) → Lists [] (row ∷ []) (row ∷ [])
-unsorted row = record { same = IsPermutation-refl (row ∷ []); sorted = λ k d low high. absurd (omega (arith, high)) }
+unsorted row = record {
+  same = IsPermutation-refl (row ∷ []);
+  sorted = λ k d low high. absurd (omega (arith, high));
+}
 
 -- the answer is one row, of the number of the operator's plans
 pub own_count_selected :

@@ -1,5 +1,5 @@
 -- What each INSERT adds.
-use Rattle.std.proofs.Common.{◌≡◌, ℕ, ℤ, pos, List, [], ◌∷◌, map, Ok, refl, sym, ap, ap₂, subst, ◌∙◌, cond, true, false, Option}
+use Rattle.std.proofs.Common.{◌≡◌, ℕ, ℤ, pos, List, [], ◌∷◌, map, refl, sym, ap, ap₂, subst, ◌∙◌, cond, true, false, Option}
 use Rattle.std.specs.List.Sorted.{IsPermutation}
 use Rattle.std.proofs.lemmas.List.Sorted.{IsPermutation-map}
 use Rattle.sqlite.specs.Order.{Row}
@@ -83,7 +83,8 @@ module _ (name : List ℕ) (ceiling : ℕ) (limit : Option ℕ) (old new : Datab
       × AddsOperator (operator_row name ceiling) (tables_of old.trees) (tables_of new.trees)
   insert_operator desk h =
       let db = old.trees in
-      let d = did insert_operator_text operator_params limit old new desk (Insert 0 (Values insert_operator_terms 3)) insert_operator_is h in
+      let d = did insert_operator_text operator_params limit old new desk
+      (Insert 0 (Values insert_operator_terms 3)) insert_operator_is h in
       let it = rows_written (task_at limit operator_params operator_table.name
       operator_table.columns
       operator_table.primary operator_table.references 0) (Insert 0 (Values insert_operator_terms 3)) db
@@ -132,7 +133,8 @@ plan_added row new old now shown schema a desk =
       ),
     )
 
-module _ (operator : List ℕ) (id : List ℕ) (priority : ℕ) (usage : ℕ) (aircraft : ℕ) (limit : Option ℕ) (old new : Database)
+module _ (operator : List ℕ) (id : List ℕ) (priority : ℕ) (usage : ℕ) (aircraft : ℕ)
+    (limit : Option ℕ) (old new : Database)
   where
     abbrev plan_params : Row
     plan_params = Text operator ∷ Text id ∷ Int (pos priority) ∷ Int (pos usage) ∷ Int (pos aircraft)
@@ -159,7 +161,8 @@ module _ (operator : List ℕ) (id : List ℕ) (priority : ℕ) (usage : ℕ) (a
         (tables_of new.trees)
     insert_plan desk h =
         let db = old.trees in
-        let d = did insert_plan_text plan_params limit old new desk (Insert 1 (Values insert_plan_terms 6)) insert_plan_is h in
+        let d = did insert_plan_text plan_params limit old new desk
+        (Insert 1 (Values insert_plan_terms 6)) insert_plan_is h in
         let it = rows_written (task_at limit plan_params plan_table.name plan_table.columns
         plan_table.primary plan_table.references 2) (Insert 1 (Values insert_plan_terms 6)) db d.0
         new
@@ -236,7 +239,8 @@ module _ (operator : List ℕ) (id : List ℕ) (place : ℕ) (lower : ℤ) (uppe
       (tables_of new.trees)
   insert_volume desk h =
       let db = old.trees in
-      let d = did insert_volume_text volume_params limit old new desk (Insert 2 (Values insert_volume_terms 9)) insert_volume_is h in
+      let d = did insert_volume_text volume_params limit old new desk
+      (Insert 2 (Values insert_volume_terms 9)) insert_volume_is h in
       let it = rows_written (task_at limit volume_params volume_table.name volume_table.columns
       volume_table.primary volume_table.references 4) (Insert 2 (Values insert_volume_terms 9)) db d.0
       new d.1 in
@@ -312,7 +316,8 @@ module _ (operator : List ℕ) (id : List ℕ) (place : ℕ) (first : ℤ) (last
       (tables_of old.trees) (tables_of new.trees)
   insert_span desk h =
       let db = old.trees in
-      let d = did insert_span_text span_params limit old new desk (Insert 3 (Values insert_span_terms 11)) insert_span_is h in
+      let d = did insert_span_text span_params limit old new desk
+      (Insert 3 (Values insert_span_terms 11)) insert_span_is h in
       let it = rows_written (task_at limit span_params span_table.name span_table.columns
       span_table.primary span_table.references 6) (Insert 3 (Values insert_span_terms 11)) db d.0
       new

@@ -35,11 +35,7 @@ pub fn remove_plan<S: Alter>(
     ensures faults { (state S.Store tx.old.conn.now).faults ≤
         (state S.Store tx.new.conn.now).faults }
 {
-    run(
-        tx,
-        remove_plan_text(),
-        params![operator, id],
-    )?;
+    run(tx, remove_plan_text(), params![operator, id])?;
     Ok(())
 }
 
@@ -69,10 +65,6 @@ pub fn remove_spans<S: Alter>(
     ensures faults { (state S.Store tx.old.conn.now).faults ≤
         (state S.Store tx.new.conn.now).faults }
 {
-    run(
-        tx,
-        remove_spans_text(),
-        params![operator, id],
-    )?;
+    run(tx, remove_spans_text(), params![operator, id])?;
     Ok(())
 }

@@ -35,11 +35,7 @@ pub fn set_ceiling<S: Alter>(
     ensures faults { (state S.Store tx.old.conn.now).faults ≤
         (state S.Store tx.new.conn.now).faults }
 {
-    run(
-        tx,
-        set_ceiling_text(),
-        params![name, ceiling],
-    )?;
+    run(tx, set_ceiling_text(), params![name, ceiling])?;
     Ok(())
 }
 

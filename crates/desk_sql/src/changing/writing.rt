@@ -75,11 +75,7 @@ pub fn insert_operator<S: Alter>(
     ensures faults { (state S.Store tx.old.conn.now).faults ≤
         (state S.Store tx.new.conn.now).faults }
 {
-    run(
-        tx,
-        insert_operator_text(),
-        params![name, ceiling],
-    )?;
+    run(tx, insert_operator_text(), params![name, ceiling])?;
     Ok(())
 }
 

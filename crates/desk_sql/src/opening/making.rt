@@ -33,11 +33,7 @@ fn make_operator<S: Alter>(tx: &mut Transaction<'_, S>) -> Result<(), Error>
     ensures faults { (state S.Store tx.old.conn.now).faults ≤
         (state S.Store tx.new.conn.now).faults }
 {
-    run(
-        tx,
-        make_operator_text(),
-        &[],
-    )?;
+    run(tx, make_operator_text(), &[])?;
     Ok(())
 }
 
@@ -63,11 +59,7 @@ fn make_plan<S: Alter>(tx: &mut Transaction<'_, S>) -> Result<(), Error>
     ensures faults { (state S.Store tx.old.conn.now).faults ≤
         (state S.Store tx.new.conn.now).faults }
 {
-    run(
-        tx,
-        make_plan_text(),
-        &[],
-    )?;
+    run(tx, make_plan_text(), &[])?;
     Ok(())
 }
 
@@ -94,11 +86,7 @@ fn make_volume<S: Alter>(tx: &mut Transaction<'_, S>) -> Result<(), Error>
     ensures faults { (state S.Store tx.old.conn.now).faults ≤
         (state S.Store tx.new.conn.now).faults }
 {
-    run(
-        tx,
-        make_volume_text(),
-        &[],
-    )?;
+    run(tx, make_volume_text(), &[])?;
     Ok(())
 }
 
@@ -126,11 +114,7 @@ fn make_span<S: Alter>(tx: &mut Transaction<'_, S>) -> Result<(), Error>
     ensures faults { (state S.Store tx.old.conn.now).faults ≤
         (state S.Store tx.new.conn.now).faults }
 {
-    run(
-        tx,
-        make_span_text(),
-        &[],
-    )?;
+    run(tx, make_span_text(), &[])?;
     Ok(())
 }
 
@@ -156,11 +140,7 @@ fn make_first<S: Alter>(tx: &mut Transaction<'_, S>) -> Result<(), Error>
     ensures faults { (state S.Store tx.old.conn.now).faults ≤
         (state S.Store tx.new.conn.now).faults }
 {
-    run(
-        tx,
-        make_first_text(),
-        &[],
-    )?;
+    run(tx, make_first_text(), &[])?;
     Ok(())
 }
 

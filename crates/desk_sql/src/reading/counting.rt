@@ -50,10 +50,6 @@ pub fn own_count<S: Alter>(connection: &mut Connection<S>, operator: &str) -> Re
         (state S.Store connection.new).is_clean }
     ensures faults { (state S.Store connection.old).faults ≤ (state S.Store connection.new).faults }
 {
-    let rows = answer(
-        connection,
-        own_count_text(),
-        params![operator],
-    )?;
+    let rows = answer(connection, own_count_text(), params![operator])?;
     count_in(&rows)
 }

@@ -36,11 +36,7 @@ pub fn operator_named<S: Alter>(
         (state S.Store connection.new).is_clean }
     ensures faults { (state S.Store connection.old).faults ≤ (state S.Store connection.new).faults }
 {
-    answer(
-        connection,
-        operator_named_text(),
-        params![name],
-    )
+    answer(connection, operator_named_text(), params![name])
 }
 
 #[tactic(auto, using(crate::proofs::StatementLemmas::plan_of_selected))]
@@ -70,11 +66,7 @@ pub fn plan_of<S: Alter>(
         (state S.Store connection.new).is_clean }
     ensures faults { (state S.Store connection.old).faults ≤ (state S.Store connection.new).faults }
 {
-    answer(
-        connection,
-        plan_of_text(),
-        params![operator, id],
-    )
+    answer(connection, plan_of_text(), params![operator, id])
 }
 
 #[tactic(auto, using(crate::proofs::StatementLemmas::volumes_of_selected))]
@@ -106,11 +98,7 @@ pub fn volumes_of<S: Alter>(
         (state S.Store connection.new).is_clean }
     ensures faults { (state S.Store connection.old).faults ≤ (state S.Store connection.new).faults }
 {
-    answer(
-        connection,
-        volumes_of_text(),
-        params![operator, id],
-    )
+    answer(connection, volumes_of_text(), params![operator, id])
 }
 
 #[tactic(auto, using(crate::proofs::StatementLemmas::own_plans_selected))]
@@ -148,10 +136,5 @@ pub fn own_plans<S: Alter, T: TakeRow>(
         (state S.Store connection.new).is_clean }
     ensures faults { (state S.Store connection.old).faults ≤ (state S.Store connection.new).faults }
 {
-    hand_over(
-        connection,
-        own_plans_text(),
-        params![operator],
-        taker,
-    )
+    hand_over(connection, own_plans_text(), params![operator], taker)
 }

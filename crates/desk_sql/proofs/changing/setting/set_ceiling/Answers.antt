@@ -12,6 +12,7 @@ returns-clause-done g c clean =
     (SetsOperators (is_by c.args.name.now) (operator_row c.args.name.now c.args.ceiling))
     (c.in_ok-run.ensures.shown clean)
     (λ desk. changed _ _ _ c.set_ceiling_text.ensures
-    (record { name = c.args.name.now; ceiling = c.args.ceiling }) (state g.S.Store old) (state g.S.Store new) desk
+    (record { name = c.args.name.now; ceiling = c.args.ceiling }) (state g.S.Store old)
+    (state g.S.Store new) desk
     c.in_ok-run.field-0 (rw (c.params-to_sql.ensures, c.params-to_sql-2.ensures) at
     (c.in_ok-run.ensures.ran clean)))

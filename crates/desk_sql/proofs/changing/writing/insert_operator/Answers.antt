@@ -11,6 +11,7 @@ returns-clause-done g c clean =
     makes g.S.Store old new c.requires.ready (omega (arith, c.run.ensures.doubt, clean))
     (AddsOperator (operator_row c.args.name.now c.args.ceiling)) (c.in_ok-run.ensures.shown clean)
     (λ desk. changed _ _ _ c.insert_operator_text.ensures
-    (record { name = c.args.name.now; ceiling = c.args.ceiling }) (state g.S.Store old) (state g.S.Store new) desk
+    (record { name = c.args.name.now; ceiling = c.args.ceiling }) (state g.S.Store old)
+    (state g.S.Store new) desk
     c.in_ok-run.field-0 (rw (c.params-to_sql.ensures, c.params-to_sql-2.ensures) at
     (c.in_ok-run.ensures.ran clean)))

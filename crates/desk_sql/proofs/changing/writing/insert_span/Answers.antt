@@ -27,7 +27,8 @@ returns-clause-done g c clean =
     (AddsSpan (span_row c.args.row.operator.now c.args.row.id.now c.args.row.place c.args.row.first
     c.args.row.last c.args.row.lower c.args.row.upper c.args.row.start c.args.row.stop
     c.args.row.priority)) (c.in_ok-run.ensures.shown clean)
-    (λ desk. changed _ _ _ c.insert_span_text.ensures c.args.row (state g.S.Store old) (state g.S.Store new) desk c.in_ok-run.field-0
+    (λ desk. changed _ _ _ c.insert_span_text.ensures c.args.row (state g.S.Store old)
+    (state g.S.Store new) desk c.in_ok-run.field-0
     (rw (
       c.params-to_sql.ensures,
       c.params-to_sql-2.ensures,

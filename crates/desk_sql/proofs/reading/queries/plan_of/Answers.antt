@@ -14,7 +14,8 @@ returns-clause-value g c clean =
     (Lists [] (filter (is_of c.args.operator.now c.args.id.now)
     (tables_of (state g.S.Store c.args.connection.now).now.trees).plans)) c.requires.ready
     (omega (arith, c.answer.ensures.doubt, clean))
-    (selected _ _ _ _ c.plan_of_text.ensures (record { operator = c.args.operator.now; id = c.args.id.now })
+    (selected _ _ _ _ c.plan_of_text.ensures
+    (record { operator = c.args.operator.now; id = c.args.id.now })
     (state g.S.Store c.args.connection.now)
     (state g.S.Store c.answer.new.connection)) c.answer.result
     (rw (c.params-to_sql.ensures, c.params-to_sql-2.ensures) at (c.answer.ensures.shown clean))
