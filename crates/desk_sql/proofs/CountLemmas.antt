@@ -5,7 +5,7 @@ use Rattle.std.proofs.Math.Nat.{min-eq_left, min-eq_right, le_of_lt}
 use Rattle.std.proofs.lemmas.Bool.{cases_lt}
 use Rattle.std.specs.List.Sorted.{IsPermutation}
 use Rattle.std.proofs.lemmas.List.{length-map}
-use Rattle.std.proofs.lemmas.List.Sorted.{length_permutation}
+use Rattle.std.proofs.lemmas.List.Sorted.{length_permutation, IsPermutation-refl}
 use Rattle.sqlite_tied.specs.Compute.{everything}
 use Rattle.sqlite_tied.specs.Listing.{count_rows, first_column}
 use Rattle.sqlite.specs.Listing.{understood}
@@ -23,13 +23,12 @@ use Rattle.sqlite_sql.specs.declared.ops.CompareOp.TheVariants.{Eq}
 use Rattle.sqlite_sql.specs.declared.aggregate.AggregateOp.TheVariants.{CountRows}
 use Rattle.sqlite_sql.specs.Aggregate.{count}
 use Rattle.sqlite_sql.specs.Group.{Grouping, IsSummary, value_over}
-use Rattle.sqlite.specs.State.{State, Shown}
-use Rattle.sqlite.proofs.Callers.{one_permutation, reads_as}
-use Rattle.desk_sql.specs.Schema.{desk_schema}
-use Rattle.desk_sql.specs.Rows.{IsDesk, is_by, columns, tables_of}
+use Rattle.sqlite.proofs.Callers.{one_permutation}
+use Rattle.desk_sql.specs.Rows.{is_by, columns, tables_of, Lists}
+use Rattle.desk_sql.specs.Statements.{Selects, counted, name_row}
 use Rattle.desk_sql.proofs.Texts.{count_plans_text}
 use Rattle.desk_sql.proofs.QueryTexts.{IsQuery, query_of}
-use Rattle.desk_sql.proofs.ReadLemmas.{scanned, equals_text}
+use Rattle.desk_sql.proofs.ReadLemmas.{scanned, equals_text, may_answer}
 
 abbrev by_operator : List Term
 by_operator = op2 (Compare Eq Binary) (col 1 1) (col 0 0) ∷ []
@@ -85,8 +84,8 @@ module _ (params : Row) (db : Trees) (rows : List Row) (a : IsAnswer count_plans
     kept_one = a.distinct ∙ ap (map (output count_plans_query))
         (a.grouped.having ∙ ap (λ rs. filter (λ env. true) (map (λ r. params ∷ r ∷ []) rs)) summed)
 
-    counted : rows ≡ (count (length found) ∷ []) ∷ []
-    counted =
+    answer_is : rows ≡ (count (length found) ∷ []) ∷ []
+    answer_is =
         let one = one_permutation ([], count (length found) ∷ []) a.ordered
         (subst (λ k. IsPermutation k a.ordered) kept_one a.same) in
         a.shown ∙ ap (λ os. map (λ (o : Output). o.1) os) one
@@ -107,15 +106,29 @@ found_plans operator db =
     ∙ ap length (scanned (λ r. (Text operator ∷ []) ∷ r ∷ []) by_operator all_columns (columns 5)
     (is_by operator) (λ r. refl) (λ r. both_hold _ ∙ equals_text (column r 1) operator) (db 2))
 
+-- one row that is listed is the whole answer
+pub only_row : (row : Row) (rows : List Row) → IsPermutation (row ∷ []) rows → rows ≡ row ∷ []
+only_row row rows same = one_permutation row rows same
+
+unsorted : (row : Row) → Lists [] (row ∷ []) (row ∷ [])
+unsorted row = record {
+  same = IsPermutation-refl (row ∷ []);
+  sorted = λ k d low high. absurd (omega (arith, high));
+}
+
 -- the answer is one row, of the number of the operator's plans
-pub plans_counted : (operator : List ℕ) (old new : State) (rows : List Row) → IsDesk old.now
-    → Shown count_plans_text (Text operator ∷ []) old new rows
-    → rows ≡ (count (length (filter (is_by operator) (tables_of old.now.trees).plans)) ∷ []) ∷ []
-plans_counted operator old new rows desk h =
-    let a = (reads_as count_plans_text (Text operator ∷ []) old new desk_schema desk.schema _
-    count_plans_is.is count_plans_is.plain count_plans_is.unlisted rows h).answer Null in
-    counted (Text operator ∷ []) (overlay old.now.trees []) rows a
-    ∙ ap (λ n. (count n ∷ []) ∷ []) (found_plans operator old.now.trees)
+pub own_count_selected :
+    Selects count_plans_text name_row [] (λ name t. counted (filter (is_by name) t.plans))
+own_count_selected = record {
+  plain = count_plans_is.plain;
+  unlisted = count_plans_is.unlisted;
+  rows = λ name db rows desk h.
+      let one : counted (filter (is_by name) (tables_of db.trees).plans) ≡ rows =
+      sym (answer_is (name_row name) (overlay db.trees []) rows
+      (may_answer count_plans_text count_plans_query _ count_plans_is (name_row name) db rows h)
+      ∙ ap (λ n. (count n ∷ []) ∷ []) (found_plans name db.trees)) in
+      subst (Lists [] (counted (filter (is_by name) (tables_of db.trees).plans))) one (unsorted _);
+}
 
 -- a count that fits 32 bits is exact
 exact_count : (n m : ℕ) → m < 2 ^ 32 → count n ≡ Int (pos m) → m ≡ n

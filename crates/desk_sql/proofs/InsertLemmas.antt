@@ -1,5 +1,5 @@
 -- What each INSERT adds.
-use Rattle.std.proofs.Common.{◌≡◌, ℕ, ℤ, pos, List, [], ◌∷◌, map, Ok, refl, sym, ap, ap₂, subst, ◌∙◌, cond, true, false}
+use Rattle.std.proofs.Common.{◌≡◌, ℕ, ℤ, pos, List, [], ◌∷◌, map, refl, sym, ap, ap₂, subst, ◌∙◌, cond, true, false, Option}
 use Rattle.std.specs.List.Sorted.{IsPermutation}
 use Rattle.std.proofs.lemmas.List.Sorted.{IsPermutation-map}
 use Rattle.sqlite.specs.Order.{Row}
@@ -14,13 +14,14 @@ use Rattle.sqlite.specs.Rowids.TheVariants.{Chosen}
 use Rattle.sqlite.specs.Source.TheVariants.{Values}
 use Rattle.sqlite.specs.Command.TheVariants.{Insert}
 use Rattle.sqlite.specs.Effect.{Database}
-use Rattle.sqlite.specs.State.{State, Executes}
 use Rattle.desk_sql.specs.Schema.{desk_schema, operator_table, plan_table, volume_table, span_table}
 use Rattle.desk_sql.specs.Rows.{IsDesk, AreNumbered, columns, tables_of, operator_row, plan_row, volume_row, span_row, AddsOperator, AddsPlan, AddsVolume, AddsSpan}
+use Rattle.desk_sql.specs.Batches.{volume_of, span_of}
+use Rattle.desk_sql.specs.Statements.{Changes, ceiling_row, row_of}
 use Rattle.desk_sql.proofs.NumberLemmas.{numbered_put, put_adds}
 use Rattle.desk_sql.proofs.Texts.{insert_operator_text, insert_plan_text, insert_volume_text, insert_span_text}
 use Rattle.desk_sql.proofs.CommandTexts.{insert_operator_is, insert_operator_terms, insert_plan_is, insert_plan_terms, insert_volume_is, insert_volume_terms, insert_span_is, insert_span_terms}
-use Rattle.desk_sql.proofs.WriteLemmas.{inserts, rows_written, task_at, insert_applies, Adds, adds, cast_int}
+use Rattle.desk_sql.proofs.WriteLemmas.{May, did, changes_by, rows_written, task_at, insert_applies, Adds, adds, cast_int}
 
 same : (v : Value) → v ≡ v
 same v = refl
@@ -60,7 +61,7 @@ operator_added row new old now shown schema a desk =
       ),
     )
 
-module _ (name : List ℕ) (ceiling : ℕ) (old new : State) where
+module _ (name : List ℕ) (ceiling : ℕ) (limit : Option ℕ) (old new : Database) where
   abbrev operator_params : Row
   operator_params = Text name ∷ Int (pos ceiling) ∷ []
 
@@ -78,28 +79,26 @@ module _ (name : List ℕ) (ceiling : ℕ) (old new : State) where
       [ true ↦ refl | false ↦ refl ] in
       numbered ∙ then (same (Text name)) (then (cast_int (pos ceiling)) (refl))
 
-  pub insert_operator : IsDesk old.now → (count : ℕ)
-      → Executes insert_operator_text operator_params old new (Ok count) → IsDesk new.now
-      × AddsOperator (operator_row name ceiling) (tables_of old.now.trees) (tables_of new.now.trees)
-  insert_operator desk count h =
-      let db = old.now.trees in
-      let d = inserts insert_operator_text operator_params old new desk 0
-      (Values insert_operator_terms 3)
-      insert_operator_is count h in
-      let it = rows_written (task_at old.step_limit operator_params operator_table.name
+  pub insert_operator : IsDesk old → May insert_operator_text operator_params limit old new → IsDesk new
+      × AddsOperator (operator_row name ceiling) (tables_of old.trees) (tables_of new.trees)
+  insert_operator desk h =
+      let db = old.trees in
+      let d = did insert_operator_text operator_params limit old new desk
+      (Insert 0 (Values insert_operator_terms 3)) insert_operator_is h in
+      let it = rows_written (task_at limit operator_params operator_table.name
       operator_table.columns
       operator_table.primary operator_table.references 0) (Insert 0 (Values insert_operator_terms 3)) db
-      d.0 new.now d.1 in
-      let done = insert_applies old.step_limit operator_params operator_table.name
+      d.0 new d.1 in
+      let done = insert_applies limit operator_params operator_table.name
       operator_table.columns
       operator_table.primary operator_table.references 0 insert_operator_terms 3 db it.0
       (Null ∷ operator_params) refl it.1 in
       let a = adds operator_table.name operator_table.columns operator_table.primary
       operator_table.references
       0 db it.0.trees (Null ∷ operator_params) done in
-      let now : it.0.trees ≡ new.now.trees = sym (ap (λ (d : Database). d.trees) it.2) in
+      let now : it.0.trees ≡ new.trees = sym (ap (λ (d : Database). d.trees) it.2) in
       operator_added (operator_row name ceiling) (with_rowid Chosen (db 0)
-      (cast_row operator_table (Null ∷ operator_params))) old.now new.now (operator_cells (db 0))
+      (cast_row operator_table (Null ∷ operator_params))) old new (operator_cells (db 0))
       (ap (λ (d : Database). d.schema) it.2)
       (subst (Adds 0 (with_rowid Chosen (db 0) (cast_row operator_table (Null ∷ operator_params))) db)
       now a)
@@ -134,7 +133,8 @@ plan_added row new old now shown schema a desk =
       ),
     )
 
-module _ (operator : List ℕ) (id : List ℕ) (priority : ℕ) (usage : ℕ) (aircraft : ℕ) (old new : State)
+module _ (operator : List ℕ) (id : List ℕ) (priority : ℕ) (usage : ℕ) (aircraft : ℕ)
+    (limit : Option ℕ) (old new : Database)
   where
     abbrev plan_params : Row
     plan_params = Text operator ∷ Text id ∷ Int (pos priority) ∷ Int (pos usage) ∷ Int (pos aircraft)
@@ -155,29 +155,27 @@ module _ (operator : List ℕ) (id : List ℕ) (priority : ℕ) (usage : ℕ) (a
         (then (cast_int (pos priority)) (then (cast_int (pos usage))
         (then (cast_int (pos aircraft)) (refl)))))
 
-    pub insert_plan : IsDesk old.now → (count : ℕ)
-        → Executes insert_plan_text plan_params old new (Ok count)
-        → IsDesk new.now × AddsPlan (plan_row operator id priority usage aircraft)
-        (tables_of old.now.trees)
-        (tables_of new.now.trees)
-    insert_plan desk count h =
-        let db = old.now.trees in
-        let d = inserts insert_plan_text plan_params old new desk 1 (Values insert_plan_terms 6)
-        insert_plan_is
-        count h in
-        let it = rows_written (task_at old.step_limit plan_params plan_table.name plan_table.columns
+    pub insert_plan : IsDesk old → May insert_plan_text plan_params limit old new
+        → IsDesk new × AddsPlan (plan_row operator id priority usage aircraft)
+        (tables_of old.trees)
+        (tables_of new.trees)
+    insert_plan desk h =
+        let db = old.trees in
+        let d = did insert_plan_text plan_params limit old new desk
+        (Insert 1 (Values insert_plan_terms 6)) insert_plan_is h in
+        let it = rows_written (task_at limit plan_params plan_table.name plan_table.columns
         plan_table.primary plan_table.references 2) (Insert 1 (Values insert_plan_terms 6)) db d.0
-        new.now
+        new
         d.1 in
-        let done = insert_applies old.step_limit plan_params plan_table.name plan_table.columns
+        let done = insert_applies limit plan_params plan_table.name plan_table.columns
         plan_table.primary plan_table.references 2 insert_plan_terms 6 db it.0 (Null ∷ plan_params) refl
         it.1 in
         let a = adds plan_table.name plan_table.columns plan_table.primary plan_table.references 2 db
         it.0.trees
         (Null ∷ plan_params) done in
-        let now : it.0.trees ≡ new.now.trees = sym (ap (λ (d : Database). d.trees) it.2) in
+        let now : it.0.trees ≡ new.trees = sym (ap (λ (d : Database). d.trees) it.2) in
         plan_added (plan_row operator id priority usage aircraft)
-        (with_rowid Chosen (db 2) (cast_row plan_table (Null ∷ plan_params))) old.now new.now
+        (with_rowid Chosen (db 2) (cast_row plan_table (Null ∷ plan_params))) old new
         (plan_cells (db 2)) (ap (λ (d : Database). d.schema) it.2)
         (subst (Adds 2 (with_rowid Chosen (db 2) (cast_row plan_table (Null ∷ plan_params))) db) now a)
         desk
@@ -214,7 +212,7 @@ volume_added row new old now shown schema a desk =
     )
 
 module _ (operator : List ℕ) (id : List ℕ) (place : ℕ) (lower : ℤ) (upper : ℤ) (start : ℤ) (stop : ℤ)
-    (asked : List ℕ) (old new : State) where
+    (asked : List ℕ) (limit : Option ℕ) (old new : Database) where
   abbrev volume_params : Row
   volume_params = Text operator ∷ Text id ∷ Int (pos place) ∷ Int lower ∷ Int upper ∷ Int start
       ∷ Int stop
@@ -236,27 +234,26 @@ module _ (operator : List ℕ) (id : List ℕ) (place : ℕ) (lower : ℤ) (uppe
       (then (cast_int upper) (then (cast_int start)
       (then (cast_int stop) (then (same (Blob asked)) (refl))))))))
 
-  pub insert_volume : IsDesk old.now → (count : ℕ)
-      → Executes insert_volume_text volume_params old new (Ok count) → IsDesk new.now
-      × AddsVolume (volume_row operator id place lower upper start stop asked) (tables_of old.now.trees)
-      (tables_of new.now.trees)
-  insert_volume desk count h =
-      let db = old.now.trees in
-      let d = inserts insert_volume_text volume_params old new desk 2 (Values insert_volume_terms 9)
-      insert_volume_is count h in
-      let it = rows_written (task_at old.step_limit volume_params volume_table.name volume_table.columns
+  pub insert_volume : IsDesk old → May insert_volume_text volume_params limit old new → IsDesk new
+      × AddsVolume (volume_row operator id place lower upper start stop asked) (tables_of old.trees)
+      (tables_of new.trees)
+  insert_volume desk h =
+      let db = old.trees in
+      let d = did insert_volume_text volume_params limit old new desk
+      (Insert 2 (Values insert_volume_terms 9)) insert_volume_is h in
+      let it = rows_written (task_at limit volume_params volume_table.name volume_table.columns
       volume_table.primary volume_table.references 4) (Insert 2 (Values insert_volume_terms 9)) db d.0
-      new.now d.1 in
-      let done = insert_applies old.step_limit volume_params volume_table.name volume_table.columns
+      new d.1 in
+      let done = insert_applies limit volume_params volume_table.name volume_table.columns
       volume_table.primary volume_table.references 4 insert_volume_terms 9 db it.0
       (Null ∷ volume_params)
       refl it.1 in
       let a = adds volume_table.name volume_table.columns volume_table.primary volume_table.references 4
       db
       it.0.trees (Null ∷ volume_params) done in
-      let now : it.0.trees ≡ new.now.trees = sym (ap (λ (d : Database). d.trees) it.2) in
+      let now : it.0.trees ≡ new.trees = sym (ap (λ (d : Database). d.trees) it.2) in
       volume_added (volume_row operator id place lower upper start stop asked)
-      (with_rowid Chosen (db 4) (cast_row volume_table (Null ∷ volume_params))) old.now new.now
+      (with_rowid Chosen (db 4) (cast_row volume_table (Null ∷ volume_params))) old new
       (volume_cells (db 4)) (ap (λ (d : Database). d.schema) it.2)
       (subst (Adds 4 (with_rowid Chosen (db 4) (cast_row volume_table (Null ∷ volume_params))) db) now
       a) desk
@@ -291,7 +288,7 @@ span_added row new old now shown schema a desk =
     )
 
 module _ (operator : List ℕ) (id : List ℕ) (place : ℕ) (first : ℤ) (last : ℤ) (lower : ℤ) (upper : ℤ)
-    (start : ℤ) (stop : ℤ) (priority : ℕ) (old new : State) where
+    (start : ℤ) (stop : ℤ) (priority : ℕ) (limit : Option ℕ) (old new : Database) where
   abbrev span_params : Row
   span_params = Text operator ∷ Text id ∷ Int (pos place) ∷ Int first ∷ Int last ∷ Int lower ∷ Int upper
       ∷ Int start ∷ Int stop ∷ Int (pos priority) ∷ []
@@ -313,29 +310,46 @@ module _ (operator : List ℕ) (id : List ℕ) (place : ℕ) (first : ℤ) (last
       (then (cast_int upper) (then (cast_int start)
       (then (cast_int stop) (then (cast_int (pos priority)) (refl))))))))))
 
-  pub insert_span : IsDesk old.now → (count : ℕ)
-      → Executes insert_span_text span_params old new (Ok count)
-      → IsDesk new.now × AddsSpan (span_row operator id place first last lower upper start stop
+  pub insert_span : IsDesk old → May insert_span_text span_params limit old new
+      → IsDesk new × AddsSpan (span_row operator id place first last lower upper start stop
       priority)
-      (tables_of old.now.trees) (tables_of new.now.trees)
-  insert_span desk count h =
-      let db = old.now.trees in
-      let d = inserts insert_span_text span_params old new desk 3 (Values insert_span_terms 11)
-      insert_span_is
-      count h in
-      let it = rows_written (task_at old.step_limit span_params span_table.name span_table.columns
+      (tables_of old.trees) (tables_of new.trees)
+  insert_span desk h =
+      let db = old.trees in
+      let d = did insert_span_text span_params limit old new desk
+      (Insert 3 (Values insert_span_terms 11)) insert_span_is h in
+      let it = rows_written (task_at limit span_params span_table.name span_table.columns
       span_table.primary span_table.references 6) (Insert 3 (Values insert_span_terms 11)) db d.0
-      new.now
+      new
       d.1 in
-      let done = insert_applies old.step_limit span_params span_table.name span_table.columns
+      let done = insert_applies limit span_params span_table.name span_table.columns
       span_table.primary span_table.references 6 insert_span_terms 11 db it.0 (Null ∷ span_params) refl
       it.1 in
       let a = adds span_table.name span_table.columns span_table.primary span_table.references 6 db
       it.0.trees
       (Null ∷ span_params) done in
-      let now : it.0.trees ≡ new.now.trees = sym (ap (λ (d : Database). d.trees) it.2) in
+      let now : it.0.trees ≡ new.trees = sym (ap (λ (d : Database). d.trees) it.2) in
       span_added (span_row operator id place first last lower upper start stop priority)
-      (with_rowid Chosen (db 6) (cast_row span_table (Null ∷ span_params))) old.now new.now
+      (with_rowid Chosen (db 6) (cast_row span_table (Null ∷ span_params))) old new
       (span_cells (db 6)) (ap (λ (d : Database). d.schema) it.2)
       (subst (Adds 6 (with_rowid Chosen (db 6) (cast_row span_table (Null ∷ span_params))) db) now a)
       desk
+
+pub insert_operator_changes : Changes insert_operator_text ceiling_row (λ c. AddsOperator (ceiling_row c))
+insert_operator_changes = changes_by insert_operator_text ceiling_row _ _ insert_operator_is tt
+    (λ c limit old new desk h. insert_operator c.name c.ceiling limit old new desk h)
+
+pub insert_plan_changes : Changes insert_plan_text row_of (λ p. AddsPlan (row_of p))
+insert_plan_changes = changes_by insert_plan_text row_of _ _ insert_plan_is tt
+    (λ p limit old new desk h. insert_plan p.operator.now p.id.now p.priority p.usage p.aircraft limit old
+    new desk h)
+
+pub insert_volume_changes : Changes insert_volume_text volume_of (λ v. AddsVolume (volume_of v))
+insert_volume_changes = changes_by insert_volume_text volume_of _ _ insert_volume_is tt
+    (λ v limit old new desk h. insert_volume v.operator.now v.id.now v.place v.lower v.upper v.start v.stop
+    v.asked.now limit old new desk h)
+
+pub insert_span_changes : Changes insert_span_text span_of (λ s. AddsSpan (span_of s))
+insert_span_changes = changes_by insert_span_text span_of _ _ insert_span_is tt
+    (λ s limit old new desk h. insert_span s.operator.now s.id.now s.place s.first s.last s.lower s.upper
+    s.start s.stop s.priority limit old new desk h)

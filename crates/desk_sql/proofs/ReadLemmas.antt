@@ -30,10 +30,11 @@ use Rattle.sqlite.specs.Held.{Held, state}
 use Rattle.sqlite_value.proofs.OrderLemmas.{value_cmp-Null, value_cmp-apart}
 use Rattle.sqlite_keyed.proofs.ListLemmas.{map-map}
 use Rattle.sqlite.proofs.Callers.{IsPlain, reads_as, command_of}
-use Rattle.desk_sql.specs.Rows.{is_text, is_same, differs, is_at_most, is_at_least, is_below, is_above}
+use Rattle.desk_sql.specs.Rows.{IsDesk, Tables, tables_of, Lists, is_text, is_same, differs, is_at_most, is_at_least, is_below, is_above}
 use Rattle.desk_sql.specs.Effects.{ShowsAsBefore}
 use Rattle.desk_sql.specs.Finding.{Holds}
 use Rattle.desk_sql.specs.Rivals.{MayRead}
+use Rattle.desk_sql.specs.Statements.{Selects}
 use Rattle.desk_sql.proofs.QueryTexts.{IsQueryIn, query_of}
 
 -- ---- the connection was open, and shows what it showed
@@ -107,6 +108,18 @@ open_if items text params old new (Err e) shown = tt
 
 -- ---- the answer of a query
 
+-- what a text that is this query may show is its answer
+pub may_answer : {schema : Schema} (text : List ℕ) (query : Query) (names : List (List ℕ))
+    → IsQueryIn schema text query names → (params : Row) (db : Database) (rows : List Row)
+    → MayRead (understood schema text) db params rows → IsAnswer query (overlay db.trees []) params rows
+may_answer {schema} text query names known params db rows h =
+    (by_command (understood schema text) known.is h).answer Null where
+      by_command : (r : Result Compiled CompileError) → command_of r
+          ≡ Select (record { lets = []; body = query }) names → MayRead r db params rows
+          → Reads (Select (record { lets = []; body = query }) names) db params rows
+      by_command (Ok c) is read = subst (λ k. Reads k db params rows) is read
+      by_command (Err e) is read = absurd read
+
 module _ {schema : Schema} (text : List ℕ) (from : Join) (terms : List Term) (project : List Term)
     (order : List (Term × Key))
     (names : List (List ℕ)) (known : IsQueryIn schema text (query_of from terms project order) names)
@@ -122,7 +135,7 @@ module _ {schema : Schema} (text : List ℕ) (from : Join) (terms : List Term) (
         h).answer
         Null
 
-    answer_rows : (params : Row) (db : Database) (rows : List Row)
+    pub answer_rows : (params : Row) (db : Database) (rows : List Row)
         → IsAnswer query (overlay db.trees []) params rows
         → IsPermutation (map (eval_all project) (matches (overlay db.trees []) terms from (params ∷ [])))
         rows
@@ -148,12 +161,7 @@ module _ {schema : Schema} (text : List ℕ) (from : Join) (terms : List Term) (
         → IsPermutation (map (eval_all project) (matches (overlay db.trees []) terms from (params ∷ [])))
         rows
     may_show params db rows h = answer_rows params db rows
-        ((by_command (understood schema text) known.is h).answer Null) where
-          by_command : (r : Result Compiled CompileError) → command_of r
-              ≡ Select (record { lets = []; body = query }) names → MayRead r db params rows
-              → Reads (Select (record { lets = []; body = query }) names) db params rows
-          by_command (Ok c) is read = subst (λ k. Reads k db params rows) is read
-          by_command (Err e) is read = absurd read
+        (may_answer text query names known params db rows h)
 
 -- what is shown, a text may show
 pub shown_read : (text : List ℕ) (params : Row) (old new : State) (rows : List Row)
@@ -168,6 +176,14 @@ shown_read text params old new rows schema plain unlisted h =
           → MayRead r old.now params rows
       by_command (Ok c) is read = read
       by_command (Err e) is read = absurd is
+
+-- what is shown was selected
+pub selected : {Given : Type 0} (text : List ℕ) (params : Given → Row) (cells : List ℕ)
+    (wanted : Given → Tables → List Row) → Selects text params cells wanted → (given : Given)
+    → (old new : State) (rows : List Row) → IsDesk old.now → Shown text (params given) old new rows
+    → Lists cells (wanted given (tables_of old.now.trees)) rows
+selected text params cells wanted known given old new rows desk h = known.rows given old.now rows desk
+    (shown_read text (params given) old new rows desk.schema known.plain known.unlisted h)
 
 kept_first : {E : Type 0} (f : E → Row) (e : E) (x : Row) → f e ≡ x → (a b : Bool) → a ≡ b
     → (es : List E) (xs : List Row) → map f es ≡ xs → map f (cond a (e ∷ []) [] ++ es)

@@ -1,5 +1,5 @@
 -- What each DELETE leaves.
-use Rattle.std.proofs.Common.{◌≡◌, ℕ, Bool, true, false, not, cond, ◌&&◌, List, [], ◌∷◌, map, filter, Ok, refl, sym, ap, ap₂, subst, ◌∙◌}
+use Rattle.std.proofs.Common.{◌≡◌, ℕ, Bool, true, false, not, cond, ◌&&◌, List, [], ◌∷◌, map, filter, Ok, refl, sym, ap, ap₂, subst, ◌∙◌, Option}
 use Rattle.std.specs.List.{AllByRecursion, list_any, list_all}
 use Rattle.sqlite_trees.proofs.ListLemmas.{filter-map}
 use Rattle.sqlite_keyed.proofs.ListLemmas.{filter_same}
@@ -11,7 +11,6 @@ use Rattle.sqlite.specs.Table.{Table}
 use Rattle.sqlite.specs.Edit.{row_at, taken_by}
 use Rattle.sqlite.specs.Command.TheVariants.{Delete}
 use Rattle.sqlite.specs.Effect.{Database}
-use Rattle.sqlite.specs.State.{State, Executes}
 use Rattle.sqlite.proofs.Callers.{one_step}
 use Rattle.sqlite_rules.specs.Calls.{ids_of}
 use Rattle.sqlite_rules.specs.Action.{Settles, pairs}
@@ -19,11 +18,12 @@ use Rattle.sqlite_schema.specs.declared.program.Program.{Program}
 use Rattle.sqlite_schema.specs.declared.schema.Keys.TheVariants.{Enforced}
 use Rattle.desk_sql.specs.Schema.{desk_schema, plan_table, span_table}
 use Rattle.desk_sql.specs.Rows.{IsDesk, AreNumbered, is_of, is_not_of, columns, tables_of, RemovesPlan, RemovesSpans}
+use Rattle.desk_sql.specs.Statements.{Changes, key_row}
 use Rattle.desk_sql.proofs.Texts.{remove_spans_text, remove_plan_text}
 use Rattle.desk_sql.proofs.CommandTexts.{remove_spans_is, remove_spans_query, remove_plan_is, remove_plan_query}
 use Rattle.desk_sql.proofs.ReadLemmas.{equals_text}
 use Rattle.desk_sql.proofs.NumberLemmas.{removed, numbered_kept, any_map}
-use Rattle.desk_sql.proofs.WriteLemmas.{deletes, rows_written, task_at}
+use Rattle.desk_sql.proofs.WriteLemmas.{May, did, changes_by, rows_written, task_at}
 use Rattle.desk_sql.proofs.DeleteLemmas.{delete_edit, delete_finds}
 use Rattle.desk_sql.proofs.CascadeLemmas.{has_key, some, span_works, plan_works, stepped, delete_on, volumes_at, spans_at, child_of, children_are, all_lost, olds_pass, olds_some, ended, both_go}
 
@@ -56,31 +56,31 @@ tables_are : (next : Trees) (operators plans volumes spans : List Row) → map (
     → tables_of next ≡ record { operators = operators; plans = plans; volumes = volumes; spans = spans }
 tables_are next operators plans volumes spans a b c d = rw (a, b, c, d)
 
-module _ (operator id : List ℕ) (old new : State) where
+module _ (operator id : List ℕ) (limit : Option ℕ) (old new : Database) where
   abbrev params : Row
   params = Text operator ∷ Text id ∷ []
 
-  pub remove_spans : IsDesk old.now → (count : ℕ) → Executes remove_spans_text params old new (Ok count)
-      → IsDesk new.now × RemovesSpans operator id (tables_of old.now.trees) (tables_of new.now.trees)
-  remove_spans desk count h =
-      let db = old.now.trees in
+  pub remove_spans : IsDesk old → May remove_spans_text params limit old new
+      → IsDesk new × RemovesSpans operator id (tables_of old.trees) (tables_of new.trees)
+  remove_spans desk h =
+      let db = old.trees in
       let q : Program = record { lets = []; body = remove_spans_query } in
-      let d = deletes remove_spans_text params old new desk 3 q remove_spans_is count h in
-      let it = rows_written (task_at old.step_limit params span_table.name span_table.columns
-      span_table.primary span_table.references 6) (Delete 3 q) db d.0 new.now d.1 in
-      let f = delete_finds old.step_limit params span_table.name span_table.columns span_table.primary
+      let d = did remove_spans_text params limit old new desk (Delete 3 q) remove_spans_is h in
+      let it = rows_written (task_at limit params span_table.name span_table.columns
+      span_table.primary span_table.references 6) (Delete 3 q) db d.0 new d.1 in
+      let f = delete_finds limit params span_table.name span_table.columns span_table.primary
       span_table.references 6 db remove_spans_query.filter (has_key operator id) it.0 refl
       (by_key operator id) it.1 in
-      let edit = delete_edit old.step_limit params span_table.name span_table.columns span_table.primary
+      let edit = delete_edit limit params span_table.name span_table.columns span_table.primary
       span_table.references 6 db f.found in
       let step = one_step desk_schema Enforced db it.0.trees edit (span_works 0 (taken_by db edit))
       f.writes
       in
-      let now : new.now.trees ≡ it.0.trees = ap (λ (d : Database). d.trees) it.2 in
-      let e0 : new.now.trees 0 ≡ db 0 = ap (λ (t : Trees). t 0) now ∙ step.tables.0 (λ e. cc) in
-      let e2 : new.now.trees 2 ≡ db 2 = ap (λ (t : Trees). t 2) now ∙ step.tables.1.0 (λ e. cc) in
-      let e4 : new.now.trees 4 ≡ db 4 = ap (λ (t : Trees). t 4) now ∙ step.tables.1.1.0 (λ e. cc) in
-      let e6 : new.now.trees 6 ≡ filter (λ r. not (has_key operator id r)) (db 6) =
+      let now : new.trees ≡ it.0.trees = ap (λ (d : Database). d.trees) it.2 in
+      let e0 : new.trees 0 ≡ db 0 = ap (λ (t : Trees). t 0) now ∙ step.tables.0 (λ e. cc) in
+      let e2 : new.trees 2 ≡ db 2 = ap (λ (t : Trees). t 2) now ∙ step.tables.1.0 (λ e. cc) in
+      let e4 : new.trees 4 ≡ db 4 = ap (λ (t : Trees). t 4) now ∙ step.tables.1.1.0 (λ e. cc) in
+      let e6 : new.trees 6 ≡ filter (λ r. not (has_key operator id r)) (db 6) =
       ap (λ (t : Trees). t 6) now ∙ step.rows ∙ removed (has_key operator id) (db 6) f.found desk.spans
       f.are in (
         record {
@@ -91,9 +91,9 @@ module _ (operator id : List ℕ) (old new : State) where
           spans = subst AreNumbered (sym e6) (numbered_kept (λ r. not (has_key operator id r)) (db 6)
               desk.spans);
         },
-        tables_are new.now.trees _ _ _ _ (ap (map (columns 2)) e0) (ap (map (columns 5)) e2)
+        tables_are new.trees _ _ _ _ (ap (map (columns 2)) e0) (ap (map (columns 5)) e2)
             (ap (map (columns 8)) e4) (shown_cut 0 (columns 10) operator id true (db 6)
-            (new.now.trees 6) e6),
+            (new.trees 6) e6),
       )
 
 -- ---- a plan
@@ -141,24 +141,23 @@ module _ (operator id : List ℕ) (olds : List Row) (all : AllByRecursion
         spans = volumes.others.1.1.1.0 (λ e. cc) ∙ spans.rows ∙ goes spans_at is (mid 6);
       }
 
-module _ (operator id : List ℕ) (old new : State) where
+module _ (operator id : List ℕ) (limit : Option ℕ) (old new : Database) where
   abbrev plan_params : Row
   plan_params = Text operator ∷ Text id ∷ []
 
-  pub remove_plan : IsDesk old.now → (count : ℕ)
-      → Executes remove_plan_text plan_params old new (Ok count)
-      → IsDesk new.now × RemovesPlan operator id (tables_of old.now.trees) (tables_of new.now.trees)
-  remove_plan desk count h =
-      let db = old.now.trees in
+  pub remove_plan : IsDesk old → May remove_plan_text plan_params limit old new
+      → IsDesk new × RemovesPlan operator id (tables_of old.trees) (tables_of new.trees)
+  remove_plan desk h =
+      let db = old.trees in
       let q : Program = record { lets = []; body = remove_plan_query } in
-      let d = deletes remove_plan_text plan_params old new desk 1 q remove_plan_is count h in
-      let it = rows_written (task_at old.step_limit plan_params plan_table.name plan_table.columns
-      plan_table.primary plan_table.references 2) (Delete 1 q) db d.0 new.now d.1 in
-      let f = delete_finds old.step_limit plan_params plan_table.name plan_table.columns
+      let d = did remove_plan_text plan_params limit old new desk (Delete 1 q) remove_plan_is h in
+      let it = rows_written (task_at limit plan_params plan_table.name plan_table.columns
+      plan_table.primary plan_table.references 2) (Delete 1 q) db d.0 new d.1 in
+      let f = delete_finds limit plan_params plan_table.name plan_table.columns
       plan_table.primary
       plan_table.references 2 db remove_plan_query.filter (has_key operator id) it.0 refl
       (by_key operator id) it.1 in
-      let edit = delete_edit old.step_limit plan_params plan_table.name plan_table.columns
+      let edit = delete_edit limit plan_params plan_table.name plan_table.columns
       plan_table.primary
       plan_table.references 2 db f.found in
       let step = stepped (Settles desk_schema Enforced) db edit 0 [] it.0.trees f.writes in
@@ -177,14 +176,14 @@ module _ (operator id : List ℕ) (old new : State) where
       (plan_works olds b (all_lost operator id olds all ∙ is)) step.2 in
       let left = all_left operator id olds all mid next (subst AreNumbered (sym m4) desk.volumes)
       (subst AreNumbered (sym m6) desk.spans) b is settled in
-      let now : new.now.trees ≡ next = ap (λ (d : Database). d.trees) it.2 in
-      let e0 : new.now.trees 0 ≡ db 0 = ap (λ (t : Trees). t 0) now ∙ left.operators ∙ m0 in
-      let e2 : new.now.trees 2 ≡ filter (λ r. not (has_key operator id r)) (db 2) =
+      let now : new.trees ≡ next = ap (λ (d : Database). d.trees) it.2 in
+      let e0 : new.trees 0 ≡ db 0 = ap (λ (t : Trees). t 0) now ∙ left.operators ∙ m0 in
+      let e2 : new.trees 2 ≡ filter (λ r. not (has_key operator id r)) (db 2) =
       ap (λ (t : Trees). t 2) now ∙ left.plans ∙ m2 in
-      let e4 : new.now.trees 4 ≡ cond b (filter (λ r. not (has_key operator id r)) (db 4)) (db 4) =
+      let e4 : new.trees 4 ≡ cond b (filter (λ r. not (has_key operator id r)) (db 4)) (db 4) =
       ap (λ (t : Trees). t 4) now ∙ left.volumes ∙ ap
       (λ rows. cond b (filter (λ r. not (has_key operator id r)) rows) rows) m4 in
-      let e6 : new.now.trees 6 ≡ cond b (filter (λ r. not (has_key operator id r)) (db 6)) (db 6) =
+      let e6 : new.trees 6 ≡ cond b (filter (λ r. not (has_key operator id r)) (db 6)) (db 6) =
       ap (λ (t : Trees). t 6) now ∙ left.spans ∙ ap
       (λ rows. cond b (filter (λ r. not (has_key operator id r)) rows) rows) m6 in
       let shown : b ≡ list_any (is_of operator id) (map (columns 5) (db 2)) =
@@ -194,17 +193,25 @@ module _ (operator id : List ℕ) (old new : State) where
           operators = subst AreNumbered (sym e0) desk.operators;
           plans = subst AreNumbered (sym e2) (numbered_kept (λ r. not (has_key operator id r)) (db 2)
               desk.plans);
-          volumes = numbered_cut (λ r. not (has_key operator id r)) b (db 4) (new.now.trees 4) e4
+          volumes = numbered_cut (λ r. not (has_key operator id r)) b (db 4) (new.trees 4) e4
               desk.volumes;
-          spans = numbered_cut (λ r. not (has_key operator id r)) b (db 6) (new.now.trees 6) e6
+          spans = numbered_cut (λ r. not (has_key operator id r)) b (db 6) (new.trees 6) e6
               desk.spans;
         },
-        tables_are new.now.trees _ _ _ _ (ap (map (columns 2)) e0)
-            (shown_cut 0 (columns 5) operator id true (db 2) (new.now.trees 2) e2)
-            (shown_cut 0 (columns 8) operator id b (db 4) (new.now.trees 4) e4
+        tables_are new.trees _ _ _ _ (ap (map (columns 2)) e0)
+            (shown_cut 0 (columns 5) operator id true (db 2) (new.trees 2) e2)
+            (shown_cut 0 (columns 8) operator id b (db 4) (new.trees 4) e4
             ∙ ap (λ c. cond c (filter (is_not_of operator id) (map (columns 8) (db 4)))
             (map (columns 8) (db 4))) shown)
-            (shown_cut 0 (columns 10) operator id b (db 6) (new.now.trees 6) e6
+            (shown_cut 0 (columns 10) operator id b (db 6) (new.trees 6) e6
             ∙ ap (λ c. cond c (filter (is_not_of operator id) (map (columns 10) (db 6)))
             (map (columns 10) (db 6))) shown),
       )
+
+pub remove_plan_changes : Changes remove_plan_text key_row (λ key. RemovesPlan key.operator key.id)
+remove_plan_changes = changes_by remove_plan_text key_row _ _ remove_plan_is tt
+    (λ key limit old new desk h. remove_plan key.operator key.id limit old new desk h)
+
+pub remove_spans_changes : Changes remove_spans_text key_row (λ key. RemovesSpans key.operator key.id)
+remove_spans_changes = changes_by remove_spans_text key_row _ _ remove_spans_is tt
+    (λ key limit old new desk h. remove_spans key.operator key.id limit old new desk h)

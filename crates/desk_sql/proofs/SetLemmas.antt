@@ -1,5 +1,5 @@
 -- What each UPDATE sets.
-use Rattle.std.proofs.Common.{◌≡◌, ℕ, pos, Bool, true, false, ◌&&◌, List, [], ◌∷◌, map, Ok, refl, sym, ap, ap₂, subst, ◌∙◌, true≢false, IsPermutation}
+use Rattle.std.proofs.Common.{◌≡◌, ℕ, pos, Bool, true, false, ◌&&◌, List, [], ◌∷◌, map, refl, sym, ap, ap₂, subst, ◌∙◌, true≢false, IsPermutation, Option}
 use Rattle.std.specs.Ordering.{is_eq}
 use Rattle.std.proofs.lemmas.Map.Text.{is_eq-slice_cmp}
 use Rattle.std.proofs.lemmas.Slice.Eq.{bytes_eq-Decides}
@@ -14,15 +14,15 @@ use Rattle.sqlite.specs.Cast.{cast}
 use Rattle.sqlite.specs.Kind.TheVariants as kind
 use Rattle.sqlite.specs.Command.TheVariants.{Update}
 use Rattle.sqlite.specs.Effect.{Database}
-use Rattle.sqlite.specs.State.{State, Executes}
 use Rattle.sqlite_schema.specs.declared.program.Program.{Program}
 use Rattle.desk_sql.specs.Schema.{operator_table, plan_table}
 use Rattle.desk_sql.specs.Rows.{IsDesk, AreNumbered, is_text, is_by, is_of, columns, tables_of, operator_row, plan_row, with_row, SetsOperators, SetsPlans}
+use Rattle.desk_sql.specs.Statements.{Changes, ceiling_row, closing_row}
 use Rattle.desk_sql.proofs.Texts.{set_ceiling_text, close_plan_text}
 use Rattle.desk_sql.proofs.CommandTexts.{set_ceiling_is, set_ceiling_query, close_plan_is, close_plan_query}
 use Rattle.desk_sql.proofs.ReadLemmas.{equals_text}
 use Rattle.desk_sql.proofs.InsertLemmas.{tables_operator, tables_plan}
-use Rattle.desk_sql.proofs.WriteLemmas.{updates, rows_written, task_at, cast_int}
+use Rattle.desk_sql.proofs.WriteLemmas.{May, did, changes_by, rows_written, task_at, cast_int}
 use Rattle.desk_sql.proofs.UpdateLemmas.{update_sets, changes, operator_quiet, plan_quiet, update_edit}
 
 text_same : (v : Value) (t : List ℕ) → is_text v t ≡ true → v ≡ Text t
@@ -44,40 +44,39 @@ both_hold false = refl
 then : {a b : Value} {xs ys : Row} → a ≡ b → xs ≡ ys → a ∷ xs ≡ b ∷ ys
 then p q = ap₂ (λ x xs. x ∷ xs) p q
 
-module _ (name : List ℕ) (ceiling : ℕ) (old new : State) where
+module _ (name : List ℕ) (ceiling : ℕ) (limit : Option ℕ) (old new : Database) where
   abbrev ceiling_params : Row
   ceiling_params = Text name ∷ Int (pos ceiling) ∷ []
 
-  pub set_ceiling : IsDesk old.now → (count : ℕ)
-      → Executes set_ceiling_text ceiling_params old new (Ok count)
-      → IsDesk new.now × SetsOperators (is_by name) (operator_row name ceiling)
-      (tables_of old.now.trees)
-      (tables_of new.now.trees)
-  set_ceiling desk count h =
-      let db = old.now.trees in
+  pub set_ceiling : IsDesk old → May set_ceiling_text ceiling_params limit old new
+      → IsDesk new × SetsOperators (is_by name) (operator_row name ceiling)
+      (tables_of old.trees)
+      (tables_of new.trees)
+  set_ceiling desk h =
+      let db = old.trees in
       let q : Program = record { lets = []; body = set_ceiling_query } in
-      let d = updates set_ceiling_text ceiling_params old new desk 0 q set_ceiling_is count h in
-      let it = rows_written (task_at old.step_limit ceiling_params operator_table.name
+      let d = did set_ceiling_text ceiling_params limit old new desk (Update 0 q) set_ceiling_is h in
+      let it = rows_written (task_at limit ceiling_params operator_table.name
       operator_table.columns
-      operator_table.primary operator_table.references 0) (Update 0 q) db d.0 new.now d.1 in
+      operator_table.primary operator_table.references 0) (Update 0 q) db d.0 new d.1 in
       let wanted = λ (r : Row). is_text (column r 1) name in
       let source = λ (r : Row). rowid r ∷ rowid r ∷ column r 1 ∷ Int (pos ceiling) ∷ [] in
-      let s = update_sets old.step_limit ceiling_params operator_table.name operator_table.columns
+      let s = update_sets limit ceiling_params operator_table.name operator_table.columns
       operator_table.primary operator_table.references 0 db
       set_ceiling_query.filter set_ceiling_query.project wanted source it.0 refl (λ r. refl)
       (λ r. both_hold _ ∙ equals_text (column r 1) name) it.1 in
-      let c = changes old.step_limit ceiling_params operator_table.name operator_table.columns
+      let c = changes limit ceiling_params operator_table.name operator_table.columns
       operator_table.primary operator_table.references 0 db wanted (is_by name) (columns 2) source
       (operator_row name ceiling) it.0.trees desk.operators (λ r. refl) (λ r. refl)
       (λ r is. then (ap (cast kind.Text) (text_same (column r 1) name is))
       (then (cast_int (pos ceiling)) refl)) (λ found.
-      let edit = update_edit old.step_limit ceiling_params operator_table.name operator_table.columns
+      let edit = update_edit limit ceiling_params operator_table.name operator_table.columns
       operator_table.primary operator_table.references 0 db found in
       operator_quiet (taken_by db edit) edit.news) s in
-      let now : new.now.trees ≡ it.0.trees = ap (λ (d : Database). d.trees) it.2 in
-      let e2 : new.now.trees 2 ≡ db 2 = ap (λ (t : Trees). t 2) now ∙ c.others.1.0 (λ e. cc) in
-      let e4 : new.now.trees 4 ≡ db 4 = ap (λ (t : Trees). t 4) now ∙ c.others.1.1.0 (λ e. cc) in
-      let e6 : new.now.trees 6 ≡ db 6 = ap (λ (t : Trees). t 6) now ∙ c.others.1.1.1.0 (λ e. cc) in (
+      let now : new.trees ≡ it.0.trees = ap (λ (d : Database). d.trees) it.2 in
+      let e2 : new.trees 2 ≡ db 2 = ap (λ (t : Trees). t 2) now ∙ c.others.1.0 (λ e. cc) in
+      let e4 : new.trees 4 ≡ db 4 = ap (λ (t : Trees). t 4) now ∙ c.others.1.1.0 (λ e. cc) in
+      let e6 : new.trees 6 ≡ db 6 = ap (λ (t : Trees). t 6) now ∙ c.others.1.1.1.0 (λ e. cc) in (
         record {
           schema = ap (λ (d : Database). d.schema) it.2;
           operators = subst (λ (t : Trees). AreNumbered (t 0)) (sym now) c.num;
@@ -89,35 +88,34 @@ module _ (name : List ℕ) (ceiling : ℕ) (old new : State) where
           subst (λ (t : Trees). IsPermutation (with_row (is_by name) (operator_row name ceiling)
               (map (columns 2) (db 0))) (map (columns 2) (t 0))) (sym now) c.rows,
           tables_operator db
-              new.now.trees e2 e4 e6,
+              new.trees e2 e4 e6,
         ),
       )
 
-module _ (operator id : List ℕ) (priority aircraft : ℕ) (old new : State) where
+module _ (operator id : List ℕ) (priority aircraft : ℕ) (limit : Option ℕ) (old new : Database) where
   abbrev close_params : Row
   close_params = Text operator ∷ Text id ∷ Int (pos priority) ∷ Int (pos aircraft) ∷ []
 
-  pub close_plan : IsDesk old.now → (count : ℕ)
-      → Executes close_plan_text close_params old new (Ok count)
-      → IsDesk new.now × SetsPlans (is_of operator id) (plan_row operator id priority 2 aircraft)
-      (tables_of old.now.trees) (tables_of new.now.trees)
-  close_plan desk count h =
-      let db = old.now.trees in
+  pub close_plan : IsDesk old → May close_plan_text close_params limit old new
+      → IsDesk new × SetsPlans (is_of operator id) (plan_row operator id priority 2 aircraft)
+      (tables_of old.trees) (tables_of new.trees)
+  close_plan desk h =
+      let db = old.trees in
       let q : Program = record { lets = []; body = close_plan_query } in
-      let d = updates close_plan_text close_params old new desk 1 q close_plan_is count h in
-      let it = rows_written (task_at old.step_limit close_params plan_table.name plan_table.columns
-      plan_table.primary plan_table.references 2) (Update 1 q) db d.0 new.now d.1 in
+      let d = did close_plan_text close_params limit old new desk (Update 1 q) close_plan_is h in
+      let it = rows_written (task_at limit close_params plan_table.name plan_table.columns
+      plan_table.primary plan_table.references 2) (Update 1 q) db d.0 new d.1 in
       let wanted = λ (r : Row). is_text (column r 1) operator && is_text (column r 2) id in
       let source = λ (r : Row). rowid r ∷ rowid r ∷ column r 1 ∷ column r 2 ∷ Int (pos priority)
       ∷ Int (pos 2)
       ∷ Int (pos aircraft) ∷ [] in
-      let s = update_sets old.step_limit close_params plan_table.name plan_table.columns
+      let s = update_sets limit close_params plan_table.name plan_table.columns
       plan_table.primary
       plan_table.references 2 db
       close_plan_query.filter close_plan_query.project wanted source it.0 refl (λ r. refl)
       (λ r. ap₂ (λ a b. a && b) (equals_text (column r 1) operator)
       (both_hold _ ∙ equals_text (column r 2) id)) it.1 in
-      let c = changes old.step_limit close_params plan_table.name plan_table.columns plan_table.primary
+      let c = changes limit close_params plan_table.name plan_table.columns plan_table.primary
       plan_table.references 2 db wanted (is_of operator id) (columns 5) source
       (plan_row operator id priority 2 aircraft) it.0.trees desk.plans (λ r. refl) (λ r. refl)
       (λ r is.
@@ -125,12 +123,12 @@ module _ (operator id : List ℕ) (priority aircraft : ℕ) (old new : State) wh
       then (ap (cast kind.Text) (text_same (column r 1) operator parts.0))
       (then (ap (cast kind.Text) (text_same (column r 2) id parts.1))
       (then (cast_int (pos priority)) (then (cast_int (pos 2)) (then (cast_int (pos aircraft)) refl)))))
-      (plan_quiet old.step_limit close_params plan_table.name plan_table.columns plan_table.primary
+      (plan_quiet limit close_params plan_table.name plan_table.columns plan_table.primary
       plan_table.references db) s in
-      let now : new.now.trees ≡ it.0.trees = ap (λ (d : Database). d.trees) it.2 in
-      let e0 : new.now.trees 0 ≡ db 0 = ap (λ (t : Trees). t 0) now ∙ c.others.0 (λ e. cc) in
-      let e4 : new.now.trees 4 ≡ db 4 = ap (λ (t : Trees). t 4) now ∙ c.others.1.1.0 (λ e. cc) in
-      let e6 : new.now.trees 6 ≡ db 6 = ap (λ (t : Trees). t 6) now ∙ c.others.1.1.1.0 (λ e. cc) in (
+      let now : new.trees ≡ it.0.trees = ap (λ (d : Database). d.trees) it.2 in
+      let e0 : new.trees 0 ≡ db 0 = ap (λ (t : Trees). t 0) now ∙ c.others.0 (λ e. cc) in
+      let e4 : new.trees 4 ≡ db 4 = ap (λ (t : Trees). t 4) now ∙ c.others.1.1.0 (λ e. cc) in
+      let e6 : new.trees 6 ≡ db 6 = ap (λ (t : Trees). t 6) now ∙ c.others.1.1.1.0 (λ e. cc) in (
         record {
           schema = ap (λ (d : Database). d.schema) it.2;
           operators = subst AreNumbered (sym e0) desk.operators;
@@ -143,6 +141,16 @@ module _ (operator id : List ℕ) (priority aircraft : ℕ) (old new : State) wh
               (plan_row operator id priority 2 aircraft) (map (columns 5) (db 2)))
               (map (columns 5) (t 2)))
               (sym now) c.rows,
-          tables_plan db new.now.trees e0 e4 e6,
+          tables_plan db new.trees e0 e4 e6,
         ),
       )
+
+pub set_ceiling_changes : Changes set_ceiling_text ceiling_row
+    (λ c. SetsOperators (is_by c.name) (ceiling_row c))
+set_ceiling_changes = changes_by set_ceiling_text ceiling_row _ _ set_ceiling_is tt
+    (λ c limit old new desk h. set_ceiling c.name c.ceiling limit old new desk h)
+
+pub set_closed_changes : Changes close_plan_text closing_row
+    (λ c. SetsPlans (is_of c.operator c.id) (plan_row c.operator c.id c.priority 2 c.aircraft))
+set_closed_changes = changes_by close_plan_text closing_row _ _ close_plan_is tt
+    (λ c limit old new desk h. close_plan c.operator c.id c.priority c.aircraft limit old new desk h)

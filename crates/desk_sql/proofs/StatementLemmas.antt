@@ -9,25 +9,26 @@ use Rattle.sqlite.specs.Order.{Row, column}
 use Rattle.sqlite.specs.declared.types.Value.TheVariants.{Text}
 use Rattle.sqlite.specs.declared.error.Error.{Error}
 use Rattle.sqlite.specs.Term.{Term, Env, eval_all, holds}
-use Rattle.sqlite.specs.Query.{Join, Output, output, key_cmp, matches}
+use Rattle.sqlite.specs.Query.{Join, Output, IsAnswer, output, key_cmp, matches}
 use Rattle.sqlite.specs.Program.{overlay}
 use Rattle.sqlite_value.specs.declared.keys.Key.{Key}
 use Rattle.sqlite.specs.State.{State, HasCleanDisk, Shown}
 use Rattle.sqlite.specs.Store.{Ghosts}
 use Rattle.sqlite.specs.Held.{Held, state}
-use Rattle.desk_sql.specs.Rows.{IsDesk, IsLegible, is_by, is_of, is_wanted, differs, is_at_most, is_at_least, is_below, is_above, held_columns, is_same, joined, has_volume, with_volumes, by_cells, columns, tables_of, Lists}
+use Rattle.desk_sql.specs.Rows.{IsDesk, IsLegible, is_by, is_of, is_wanted, differs, is_at_most, is_at_least, is_below, is_above, held_columns, is_same, joined, has_volume, with_volumes, by_cells, columns, Tables, tables_of, Lists}
 use Rattle.desk_sql.specs.declared.reading.rivals.Reach.{Reach}
 use Rattle.desk_sql.specs.Effects.{IsReady}
 use Rattle.desk_sql.specs.Rivals.{rival_params, MayRead, SelectsRivals}
+use Rattle.desk_sql.specs.Statements.{Selects, name_row, key_row}
 use Rattle.sqlite.specs.Schema.{Schema}
 use Rattle.desk_sql.specs.Schema.{desk_schema}
 use Rattle.desk_sql.specs.Finding.{Holds}
 use Rattle.sqlite.specs.Effect.{Database}
 use Rattle.sqlite.specs.Listing.{understood}
 use Rattle.desk_sql.proofs.Texts.{operator_named_text, all_operators_text, plan_of_text, all_plans_text, volumes_of_text, all_volumes_text, all_spans_text, own_plans_text, rival_spans_text}
-use Rattle.desk_sql.proofs.QueryTexts.{IsQueryIn, query_of, operator_named_is, operator_named_query, all_operators_is, all_operators_query, plan_of_is, plan_of_query, all_plans_is, all_plans_query, volumes_of_is, volumes_of_query, all_volumes_is, all_volumes_query, all_spans_is, all_spans_query, own_plans_is, own_plans_query, rival_spans_is, rival_spans_query}
+use Rattle.desk_sql.proofs.QueryTexts.{IsQueryIn, IsQuery, query_of, operator_named_is, operator_named_query, all_operators_is, all_operators_query, plan_of_is, plan_of_query, all_plans_is, all_plans_query, volumes_of_is, volumes_of_query, all_volumes_is, all_volumes_query, all_spans_is, all_spans_query, own_plans_is, own_plans_query, rival_spans_is, rival_spans_query}
 use Rattle.desk_sql.proofs.SchemaLemmas.{any_indexes}
-use Rattle.desk_sql.proofs.ReadLemmas.{was_open, answered, shows, may_show, scanned, equals_text, equals, either_true, le_number, ge_number, lt_number, gt_number}
+use Rattle.desk_sql.proofs.ReadLemmas.{was_open, answered, answer_rows, may_answer, may_show, scanned, equals_text, equals, either_true, le_number, ge_number, lt_number, gt_number}
 
 -- a value that a desk's rows have, whenever something is shown
 module _ {S V : Type 0} (g : Ghosts S) (old new : Held S) (items : V → List Row) (text : List ℕ)
@@ -85,16 +86,17 @@ sorted_shown by cells xs compares keys sorted k d low high =
 module _ {schema : Schema} (text : List ℕ) (from : Join) (terms : List Term) (project : List Term)
     (order : List (Term × Key))
     (names : List (List ℕ)) (known : IsQueryIn schema text (query_of from terms project order) names)
-    (params : Row) (old new : State) (rows : List Row) (has : old.now.schema ≡ schema)
-    (h : Shown text params old new rows) (cells : List ℕ) (wanted : List Row) where
-  pub lists : ((e : Env) → eval_all (map (λ k. k.0) order) e ≡ map (column (eval_all project e)) cells)
+    (params : Row) (cells : List ℕ) where
+  -- a query that lists just these rows, in the order of these columns
+  listed : (db : Database) (rows wanted : List Row)
+      → IsAnswer (query_of from terms project order) (overlay db.trees []) params rows
+      → ((e : Env) → eval_all (map (λ k. k.0) order) e ≡ map (column (eval_all project e)) cells)
       → ((x y : Row) → key_cmp 0 (map (λ k. k.1) order) (map (column x) cells) (map (column y) cells)
       ≡ by_cells cells x y)
-      → map (eval_all project) (matches (overlay old.now.trees []) terms from (params ∷ [])) ≡ wanted
+      → map (eval_all project) (matches (overlay db.trees []) terms from (params ∷ [])) ≡ wanted
       → Lists cells wanted rows
-  lists keys compares are =
+  listed db rows wanted a keys compares are =
       let query = query_of from terms project order in
-      let a = answered text from terms project order names known params old new rows has h in
       let P = λ (o : Output). o.0 ≡ map (column o.1) cells in
       let each : All P (map (output query) a.staged) =
       λ i d low. subst P (sym (get_or-map (output query) a.staged i [] d
@@ -104,10 +106,42 @@ module _ {schema : Schema} (text : List ℕ) (from : Join) (terms : List Term) (
       (subst (All P) (sym a.distinct) each) in
       record {
         same = subst (λ xs. IsPermutation xs rows) are
-            (shows text from terms project order names known params old new rows has h);
+            (answer_rows text from terms project order names known params db rows a);
         sorted = subst (IsSorted (by_cells cells)) (sym a.shown)
             (sorted_shown (map (λ k. k.1) order) cells a.ordered compares all a.sorted);
       }
+
+module _ {schema : Schema} (text : List ℕ) (from : Join) (terms : List Term) (project : List Term)
+    (order : List (Term × Key))
+    (names : List (List ℕ)) (known : IsQueryIn schema text (query_of from terms project order) names)
+    (params : Row) (old new : State) (rows : List Row) (has : old.now.schema ≡ schema)
+    (h : Shown text params old new rows) (cells : List ℕ) (wanted : List Row) where
+  pub lists : ((e : Env) → eval_all (map (λ k. k.0) order) e ≡ map (column (eval_all project e)) cells)
+      → ((x y : Row) → key_cmp 0 (map (λ k. k.1) order) (map (column x) cells) (map (column y) cells)
+      ≡ by_cells cells x y)
+      → map (eval_all project) (matches (overlay old.now.trees []) terms from (params ∷ [])) ≡ wanted
+      → Lists cells wanted rows
+  lists = listed text from terms project order names known params cells old.now rows wanted
+      (answered text from terms project order names known params old new rows has h)
+
+module _ (text : List ℕ) (from : Join) (terms : List Term) (project : List Term) (order : List (Term × Key))
+    (names : List (List ℕ)) (known : IsQuery text (query_of from terms project order) names)
+    {Given : Type 0} (params : Given → Row) (cells : List ℕ) (wanted : Given → Tables → List Row) where
+  selects : ((e : Env) → eval_all (map (λ k. k.0) order) e ≡ map (column (eval_all project e)) cells)
+      → ((x y : Row) → key_cmp 0 (map (λ k. k.1) order) (map (column x) cells) (map (column y) cells)
+      ≡ by_cells cells x y)
+      → ((given : Given) (db : Database)
+      → map (eval_all project) (matches (overlay db.trees []) terms from (params given ∷ []))
+      ≡ wanted given (tables_of db.trees)) → Selects text params cells wanted
+  selects keys compares are = record {
+    plain = known.plain;
+    unlisted = known.unlisted;
+    rows = λ given db rows desk h.
+        listed text from terms project order names known (params given) cells db rows
+        (wanted given (tables_of db.trees))
+        (may_answer text (query_of from terms project order) names known (params given) db rows h) keys
+        compares (are given db);
+  }
 
 -- ---- joins
 
@@ -183,60 +217,54 @@ own_test operator p s =
     ∙ and_later (is_same (column s 1) (column p 1)) (is_same (column s 2) (column p 2))
     (is_by operator (columns 5 p))
 
-pub operator_named : (name : List ℕ) (old new : State) (rows : List Row) → IsDesk old.now
-    → Shown operator_named_text (Text name ∷ []) old new rows
-    → Lists [] (filter (is_by name) (tables_of old.now.trees).operators) rows
-operator_named name old new rows desk h =
-    lists operator_named_text _ _ _ _ _ operator_named_is (Text name ∷ []) old new rows desk.schema h [] _
-    (λ e. refl) (λ x y. refl)
-    (scanned (λ r. (Text name ∷ []) ∷ r ∷ []) operator_named_query.filter operator_named_query.project
-    (columns 2) (is_by name) (λ r. refl) (λ r. both_hold _ ∙ equals_text (column r 1) name)
-    (old.now.trees 0))
+pub operator_named_selected :
+    Selects operator_named_text name_row [] (λ name t. filter (is_by name) t.operators)
+operator_named_selected =
+    selects operator_named_text _ _ _ _ _ operator_named_is name_row [] _ (λ e. refl) (λ x y. refl)
+    (λ name db. scanned (λ r. name_row name ∷ r ∷ []) operator_named_query.filter
+    operator_named_query.project (columns 2) (is_by name) (λ r. refl)
+    (λ r. both_hold _ ∙ equals_text (column r 1) name) (db.trees 0))
 
 pub all_operators : (old new : State) (rows : List Row) → IsLegible old.now
     → Shown all_operators_text ([]) old new rows
     → Lists (0 ∷ []) ((tables_of old.now.trees).operators) rows
 all_operators old new rows legible h =
     lists all_operators_text _ _ _ _ _ (all_operators_is _) ([]) old new rows
-    (any_indexes old.now legible.schema) h (0 ∷ []) _ (λ e. refl)
+    (any_indexes old.now legible.schema) h (0 ∷ []) _
+    (λ e. refl)
     (λ x y. refl)
     (scanned (λ r. [] ∷ r ∷ []) all_operators_query.filter all_operators_query.project (columns 2)
     (λ r. true)
     (λ r. refl) (λ r. refl) (old.now.trees 0) ∙ every (map (columns 2) (old.now.trees 0)))
 
-pub plan_of : (operator : List ℕ) (id : List ℕ) (old new : State) (rows : List Row) → IsDesk old.now
-    → Shown plan_of_text (Text operator ∷ Text id ∷ []) old new rows
-    → Lists [] (filter (is_of operator id) (tables_of old.now.trees).plans) rows
-plan_of operator id old new rows desk h =
-    lists plan_of_text _ _ _ _ _ plan_of_is (Text operator ∷ Text id ∷ []) old new rows desk.schema h [] _
-    (λ e. refl) (λ x y. refl)
-    (scanned (λ r. (Text operator ∷ Text id ∷ []) ∷ r ∷ []) plan_of_query.filter plan_of_query.project
-    (columns 5) (is_of operator id) (λ r. refl)
-    (λ r. ap₂ (λ a b. a && b) (equals_text (column r 1) operator)
-    (both_hold _ ∙ equals_text (column r 2) id)) (old.now.trees 2))
+pub plan_of_selected :
+    Selects plan_of_text key_row [] (λ key t. filter (is_of key.operator key.id) t.plans)
+plan_of_selected =
+    selects plan_of_text _ _ _ _ _ plan_of_is key_row [] _ (λ e. refl) (λ x y. refl)
+    (λ key db. scanned (λ r. key_row key ∷ r ∷ []) plan_of_query.filter plan_of_query.project
+    (columns 5) (is_of key.operator key.id) (λ r. refl)
+    (λ r. ap₂ (λ a b. a && b) (equals_text (column r 1) key.operator)
+    (both_hold _ ∙ equals_text (column r 2) key.id)) (db.trees 2))
 
 pub all_plans : (old new : State) (rows : List Row) → IsLegible old.now
     → Shown all_plans_text ([]) old new rows
     → Lists (0 ∷ 1 ∷ []) ((tables_of old.now.trees).plans) rows
 all_plans old new rows legible h =
     lists all_plans_text _ _ _ _ _ (all_plans_is _) ([]) old new rows
-    (any_indexes old.now legible.schema) h (0 ∷ 1 ∷ []) _ (λ e. refl)
+    (any_indexes old.now legible.schema) h (0 ∷ 1 ∷ []) _
+    (λ e. refl)
     (λ x y. refl)
     (scanned (λ r. [] ∷ r ∷ []) all_plans_query.filter all_plans_query.project (columns 5) (λ r. true)
     (λ r. refl) (λ r. refl) (old.now.trees 2) ∙ every (map (columns 5) (old.now.trees 2)))
 
-pub volumes_of : (operator : List ℕ) (id : List ℕ) (old new : State) (rows : List Row) → IsDesk old.now
-    → Shown volumes_of_text (Text operator ∷ Text id ∷ []) old new rows
-    → Lists (2 ∷ []) (filter (is_of operator id) (tables_of old.now.trees).volumes) rows
-volumes_of operator id old new rows desk h =
-    lists volumes_of_text _ _ _ _ _ volumes_of_is (Text operator ∷ Text id ∷ []) old new rows desk.schema h
-    (2 ∷ [])
-    _ (λ e. refl) (λ x y. refl)
-    (scanned (λ r. (Text operator ∷ Text id ∷ []) ∷ r ∷ []) volumes_of_query.filter
-    volumes_of_query.project
-    (columns 8) (is_of operator id) (λ r. refl)
-    (λ r. ap₂ (λ a b. a && b) (equals_text (column r 1) operator)
-    (both_hold _ ∙ equals_text (column r 2) id)) (old.now.trees 4))
+pub volumes_of_selected :
+    Selects volumes_of_text key_row (2 ∷ []) (λ key t. filter (is_of key.operator key.id) t.volumes)
+volumes_of_selected =
+    selects volumes_of_text _ _ _ _ _ volumes_of_is key_row (2 ∷ []) _ (λ e. refl) (λ x y. refl)
+    (λ key db. scanned (λ r. key_row key ∷ r ∷ []) volumes_of_query.filter volumes_of_query.project
+    (columns 8) (is_of key.operator key.id) (λ r. refl)
+    (λ r. ap₂ (λ a b. a && b) (equals_text (column r 1) key.operator)
+    (both_hold _ ∙ equals_text (column r 2) key.id)) (db.trees 4))
 
 pub all_volumes : (old new : State) (rows : List Row) → IsLegible old.now
     → Shown all_volumes_text ([]) old new rows → Lists (0 ∷ 1 ∷ 2 ∷ [])
@@ -262,14 +290,12 @@ all_spans old new rows legible h =
     (scanned (λ r. [] ∷ r ∷ []) all_spans_query.filter all_spans_query.project (columns 10) (λ r. true)
     (λ r. refl) (λ r. refl) (old.now.trees 6) ∙ every (map (columns 10) (old.now.trees 6)))
 
-pub own_plans : (operator : List ℕ) (old new : State) (rows : List Row) → IsDesk old.now
-    → Shown own_plans_text (Text operator ∷ []) old new rows
-    → Lists (1 ∷ 5 ∷ []) (with_volumes (is_by operator) (tables_of old.now.trees)) rows
-own_plans operator old new rows desk h =
-    lists own_plans_text _ _ _ _ _ own_plans_is (Text operator ∷ []) old new rows desk.schema h (1 ∷ 5 ∷ []) _
-    (λ e. refl) (λ x y. refl)
-    (joined_rows (Text operator ∷ []) own_plans_query.filter own_plans_query.project (is_by operator)
-    (λ p s. refl) (λ p s. own_test operator p s) (old.now.trees 2) (old.now.trees 4))
+pub own_plans_selected :
+    Selects own_plans_text name_row (1 ∷ 5 ∷ []) (λ name. with_volumes (is_by name))
+own_plans_selected =
+    selects own_plans_text _ _ _ _ _ own_plans_is name_row (1 ∷ 5 ∷ []) _ (λ e. refl) (λ x y. refl)
+    (λ name db. joined_rows (name_row name) own_plans_query.filter own_plans_query.project (is_by name)
+    (λ p s. refl) (λ p s. own_test name p s) (db.trees 2) (db.trees 4))
 
 -- ---- the spans that may stand in the way of a plan
 

@@ -14,26 +14,28 @@ use Rattle.sqlite.specs.Table.{Table}
 use Rattle.sqlite.specs.Edit.{edit_of, is_taken, with_rowid, Applies}
 use Rattle.sqlite.specs.Rowids.TheVariants.{Chosen}
 use Rattle.sqlite.specs.Command.{Command}
-use Rattle.sqlite.specs.Command.TheVariants.{Insert, Update, Delete}
-use Rattle.sqlite.specs.Source.{Source}
+use Rattle.sqlite.specs.Command.TheVariants.{Select, Insert, InsertOr, Update, Delete, CreateTable, CreateIndex, DropTable, DropIndex, Begin, Commit, Rollback, Savepoint, Release, RollbackTo, Rows, Nothing, CreateView, DropView}
 use Rattle.sqlite.specs.Source.TheVariants.{Values}
 use Rattle.sqlite_schema.specs.declared.schema.Column.{Column}
 use Rattle.sqlite_schema.specs.declared.schema.Reference.{Reference}
 use Rattle.sqlite_schema.specs.declared.schema.Keys.TheVariants.{Enforced}
-use Rattle.sqlite_schema.specs.declared.program.Program.{Program}
-use Rattle.sqlite.specs.declared.run.Mode.{Mode}
+use Rattle.sqlite_schema.specs.declared.schema.Schema.{Schema}
+use Rattle.sqlite_resolve.specs.declared.compiled.Compiled.{Compiled}
+use Rattle.sqlite_resolve.specs.declared.error.CompileError.{CompileError}
+use Rattle.sqlite.specs.Calls.{IsWrite}
 use Rattle.sqlite.specs.Effect.{Database, value_rows}
 use Rattle.sqlite.specs.Does.{Tally, Does, OnRows, WritesRows}
 use Rattle.sqlite.specs.Rows.{Written, Task, Inserts}
-use Rattle.sqlite.specs.State.{State, HasCleanDisk, Executes, Writes, Shows}
+use Rattle.sqlite.specs.State.{State, HasCleanDisk, Executes, Runs, Writes, Shows, text_of}
 use Rattle.sqlite.specs.Store.{Ghosts}
 use Rattle.sqlite.specs.Held.{Held, state}
 use Rattle.sqlite.specs.Listing.{understood}
-use Rattle.sqlite.proofs.Callers.{statement_of, runs_as, one_step}
+use Rattle.sqlite.proofs.Callers.{IsPlain, command_of, statement_of, runs_as, one_step}
 use Rattle.sqlite_rules.proofs.ActionLemmas.{no_works}
 use Rattle.desk_sql.specs.Schema.{desk_schema, table_of}
 use Rattle.desk_sql.specs.Rows.{IsDesk, Tables, tables_of}
 use Rattle.desk_sql.specs.Effects.{IsReady, Makes}
+use Rattle.desk_sql.specs.Statements.{IsWriting, MayWrite, Changes, enforced}
 use Rattle.desk_sql.proofs.CommandTexts.{IsCommand}
 
 -- a part that gave a value did not stop on the way
@@ -46,42 +48,102 @@ went (inr on) = on
 pub same_value : {B E : Type 0} {a b : B} → ◌≡◌ {A = Result B E} (Ok a) (Ok b) → a ≡ b
 same_value e = cc
 
-abbrev pub enforced : Mode
-enforced = record { keys = Enforced; in_doubt = false; may_wait = false }
-
 -- ---- from the text to what is done
 
-module _ (text : List ℕ) (params : Row) (old new : State) (desk : IsDesk old.now) where
+-- what ran, if it is a command that writes, wrote
+runs_writes : (old new : State) (command : Command) (text : List ℕ) (params : Row) (count : ℕ)
+    → IsWrite command → Runs old new None command text params count
+    → Writes old new None command text params count
+runs_writes old new (Select q names) text params count writing h = absurd writing
+runs_writes old new (Insert at from) text params count writing h = h
+runs_writes old new (InsertOr at how from clauses) text params count writing h = h
+runs_writes old new (Update at q) text params count writing h = h
+runs_writes old new (Delete at q) text params count writing h = h
+runs_writes old new CreateTable text params count writing h = h
+runs_writes old new (CreateIndex at) text params count writing h = h
+runs_writes old new (DropTable at) text params count writing h = h
+runs_writes old new (DropIndex at) text params count writing h = h
+runs_writes old new Begin text params count writing h = absurd writing
+runs_writes old new Commit text params count writing h = absurd writing
+runs_writes old new Rollback text params count writing h = absurd writing
+runs_writes old new (Savepoint name) text params count writing h = absurd writing
+runs_writes old new (Release name) text params count writing h = absurd writing
+runs_writes old new (RollbackTo name) text params count writing h = absurd writing
+runs_writes old new (Rows values width names) text params count writing h = absurd writing
+runs_writes old new Nothing text params count writing h = absurd writing
+runs_writes old new CreateView text params count writing h = h
+runs_writes old new (DropView at) text params count writing h = h
+
+-- what a text did, it may do
+pub ran : (text : List ℕ) (params : Row) (old new : State) (schema : Schema) → old.now.schema ≡ schema
+    → IsPlain (understood schema text) → IsWriting (understood schema text) → (count : ℕ)
+    → Executes text params old new (Ok count)
+    → MayWrite text (understood schema text) params old.step_limit old.now new.now
+ran text params old new schema has plain writing count h =
+    by_command (understood schema text) writing (runs_as text params old new schema has
+    (command_of (understood schema text)) refl plain count h) where
+      by_command : (r : Result Compiled CompileError) → IsWriting r
+          → Runs old new None (command_of r) (statement_of text r) params count
+          → MayWrite text r params old.step_limit old.now new.now
+      by_command (Ok c) w runs =
+          let writes = runs_writes old new c.command (text_of text c) params count w runs in
+          (writes.tally, writes.changed)
+      by_command (Err e) w runs = absurd w
+
+-- what ran changed the tables so
+pub changed : {Given : Type 0} (text : List ℕ) (params : Given → Row)
+    (Change : Given → Tables → Tables → Type 0) → Changes text params Change → (given : Given)
+    → (old new : State) → IsDesk old.now → (count : ℕ) → Executes text (params given) old new (Ok count)
+    → IsDesk new.now × Change given (tables_of old.now.trees) (tables_of new.now.trees)
+changed text params Change known given old new desk count h =
+    known.tables given old.step_limit old.now new.now desk
+    (ran text (params given) old new desk_schema desk.schema known.plain known.writes count h)
+
+pub is_writing : (r : Result Compiled CompileError) (command : Command) → command_of r ≡ command
+    → IsWrite command → IsPlain r → IsWriting r
+is_writing (Ok c) command is writing plain = subst IsWrite (sym is) writing
+is_writing (Err e) command is writing plain = absurd plain
+
+-- a text that is this command may do what the command does
+pub does_command : (text : List ℕ) (r : Result Compiled CompileError) (params : Row) (limit : Option ℕ)
+    (old new : Database) (command : Command) → command_of r ≡ command
+    → MayWrite text r params limit old new
+    → (tally : Tally) × Does limit enforced params old (statement_of text r) None command (Ok (tally, new))
+does_command text (Ok c) params limit old new command is h = (
+  h.0,
+  subst (λ k. Does limit enforced params old (text_of text c) None k (Ok (h.0, new))) is h.1,
+)
+does_command text (Err e) params limit old new command is h = absurd h
+
+module _ (text : List ℕ) (params : Row) (limit : Option ℕ) (old new : Database) where
+  abbrev pub May : Type 0
+  May = MayWrite text (understood desk_schema text) params limit old new
+
   abbrev pub Did : Command → Type 0
-  Did command = (tally : Tally) × Does old.step_limit enforced params
-      (record { schema = desk_schema; trees = old.now.trees })
-      (statement_of text (understood desk_schema text)) None command (Ok (tally, new.now))
+  Did command = (tally : Tally) × Does limit enforced params
+      (record { schema = desk_schema; trees = old.trees })
+      (statement_of text (understood desk_schema text)) None command (Ok (tally, new))
 
-  did : (command : Command) (count : ℕ) → Writes old new None command
-      (statement_of text (understood desk_schema text)) params count → Did command
-  did command count w = (
-    w.tally,
-    subst (λ s. Does old.step_limit enforced params (record old.now { schema = s })
-        (statement_of text (understood desk_schema text)) None command (Ok (w.tally, new.now)))
-        desk.schema
-        w.changed,
-  )
+  pub did : IsDesk old → (command : Command) → IsCommand text command → May → Did command
+  did desk command known may =
+      let it = does_command text (understood desk_schema text) params limit old new command known.is may
+      in (
+        it.0,
+        subst (λ s. Does limit enforced params (record old { schema = s })
+            (statement_of text (understood desk_schema text)) None command (Ok (it.0, new))) desk.schema it.1,
+      )
 
-  pub inserts : (at : ℕ) (from : Source) → IsCommand text (Insert at from) → (count : ℕ)
-      → Executes text params old new (Ok count) → Did (Insert at from)
-  inserts at from known count h = did (Insert at from) count
-      (runs_as text params old new desk_schema desk.schema (Insert at from) known.is known.plain count
-      h)
-
-  pub deletes : (at : ℕ) (q : Program) → IsCommand text (Delete at q) → (count : ℕ)
-      → Executes text params old new (Ok count) → Did (Delete at q)
-  deletes at q known count h = did (Delete at q) count
-      (runs_as text params old new desk_schema desk.schema (Delete at q) known.is known.plain count h)
-
-  pub updates : (at : ℕ) (q : Program) → IsCommand text (Update at q) → (count : ℕ)
-      → Executes text params old new (Ok count) → Did (Update at q)
-  updates at q known count h = did (Update at q) count
-      (runs_as text params old new desk_schema desk.schema (Update at q) known.is known.plain count h)
+pub changes_by : {Given : Type 0} (text : List ℕ) (params : Given → Row)
+    (Change : Given → Tables → Tables → Type 0) (command : Command) → IsCommand text command
+    → IsWrite command → ((given : Given) (limit : Option ℕ) (old new : Database) → IsDesk old
+    → May text (params given) limit old new
+    → IsDesk new × Change given (tables_of old.trees) (tables_of new.trees))
+    → Changes text params Change
+changes_by text params Change command known writing gives = record {
+  plain = known.plain;
+  writes = is_writing (understood desk_schema text) command known.is writing known.plain;
+  tables = gives;
+}
 
 -- what it writes is what is there then
 pub rows_written : (task : Task) (command : Command) (db : Trees) (tally : Tally) (now : Database)

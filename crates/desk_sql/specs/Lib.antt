@@ -8,3 +8,4 @@ pub mod Finding
 pub mod Refusals
 pub mod Taking
 pub mod Rivals
+pub mod Statements

@@ -4,9 +4,17 @@ ghost use Rattle.sqlite.specs.State.{HasCleanDisk, KeepsCommit};
 ghost use Rattle.sqlite.specs.Held.{state};
 ghost use Rattle.desk_sql.specs.Rows.{RemovesPlan, RemovesSpans};
 ghost use Rattle.desk_sql.specs.Effects.{IsReady, Makes};
+ghost use Rattle.desk_sql.specs.Statements.{Changes, key_row};
 
 use crate::changing::run::run;
 use sqlite::{Alter, Error, Transaction, params};
+
+#[tactic(auto, using(crate::proofs::RemoveLemmas::remove_plan_changes))]
+fn remove_plan_text() -> &'static str
+    ensures { Changes result.now key_row (λ key. RemovesPlan key.operator key.id) }
+{
+    "DELETE FROM plan WHERE operator = ?1 AND id = ?2"
+}
 
 /// Removes a plan, and its volumes and spans with it. Without the plan it changes nothing.
 pub fn remove_plan<S: Alter>(
@@ -27,12 +35,15 @@ pub fn remove_plan<S: Alter>(
     ensures faults { (state S.Store tx.old.conn.now).faults ≤
         (state S.Store tx.new.conn.now).faults }
 {
-    run(
-        tx,
-        "DELETE FROM plan WHERE operator = ?1 AND id = ?2",
-        params![operator, id],
-    )?;
+    run(tx, remove_plan_text(), params![operator, id])?;
     Ok(())
+}
+
+#[tactic(auto, using(crate::proofs::RemoveLemmas::remove_spans_changes))]
+fn remove_spans_text() -> &'static str
+    ensures { Changes result.now key_row (λ key. RemovesSpans key.operator key.id) }
+{
+    "DELETE FROM span WHERE operator = ?1 AND id = ?2"
 }
 
 /// Removes the spans of a plan.
@@ -54,10 +65,6 @@ pub fn remove_spans<S: Alter>(
     ensures faults { (state S.Store tx.old.conn.now).faults ≤
         (state S.Store tx.new.conn.now).faults }
 {
-    run(
-        tx,
-        "DELETE FROM span WHERE operator = ?1 AND id = ?2",
-        params![operator, id],
-    )?;
+    run(tx, remove_spans_text(), params![operator, id])?;
     Ok(())
 }

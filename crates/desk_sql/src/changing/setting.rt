@@ -4,9 +4,17 @@ ghost use Rattle.sqlite.specs.State.{HasCleanDisk, KeepsCommit};
 ghost use Rattle.sqlite.specs.Held.{state};
 ghost use Rattle.desk_sql.specs.Rows.{is_by, is_of, operator_row, plan_row, SetsOperators, SetsPlans};
 ghost use Rattle.desk_sql.specs.Effects.{IsReady, Makes};
+ghost use Rattle.desk_sql.specs.Statements.{Changes, ceiling_row, closing_row};
 
 use crate::changing::run::run;
 use sqlite::{Alter, Error, Transaction, params};
+
+#[tactic(auto, using(crate::proofs::SetLemmas::set_ceiling_changes))]
+fn set_ceiling_text() -> &'static str
+    ensures { Changes result.now ceiling_row (λ c. SetsOperators (is_by c.name) (ceiling_row c)) }
+{
+    "UPDATE operator SET ceiling = ?2 WHERE name = ?1"
+}
 
 /// Sets the ceiling of the operator with this name, if there is one.
 pub fn set_ceiling<S: Alter>(
@@ -27,12 +35,16 @@ pub fn set_ceiling<S: Alter>(
     ensures faults { (state S.Store tx.old.conn.now).faults ≤
         (state S.Store tx.new.conn.now).faults }
 {
-    run(
-        tx,
-        "UPDATE operator SET ceiling = ?2 WHERE name = ?1",
-        params![name, ceiling],
-    )?;
+    run(tx, set_ceiling_text(), params![name, ceiling])?;
     Ok(())
+}
+
+#[tactic(auto, using(crate::proofs::SetLemmas::set_closed_changes))]
+fn set_closed_text() -> &'static str
+    ensures { Changes result.now closing_row (λ c. SetsPlans (is_of c.operator c.id)
+        (plan_row c.operator c.id c.priority 2 c.aircraft)) }
+{
+    "UPDATE plan SET priority = ?3, usage = 2, aircraft = ?4 WHERE operator = ?1 AND id = ?2"
 }
 
 /// Sets the row of a plan, if there is one, to the usage Closed with this priority and this state
@@ -59,7 +71,7 @@ pub fn set_closed<S: Alter>(
 {
     run(
         tx,
-        "UPDATE plan SET priority = ?3, usage = 2, aircraft = ?4 WHERE operator = ?1 AND id = ?2",
+        set_closed_text(),
         params![operator, id, priority, aircraft],
     )?;
     Ok(())

@@ -4,6 +4,8 @@ ghost use Rattle.sqlite.specs.State.{HasCleanDisk, KeepsCommit};
 ghost use Rattle.sqlite.specs.Held.{state};
 ghost use Rattle.desk_sql.specs.Rows.{operator_row, plan_row, volume_row, span_row, AddsOperator, AddsPlan, AddsVolume, AddsSpan};
 ghost use Rattle.desk_sql.specs.Effects.{IsReady, Makes};
+ghost use Rattle.desk_sql.specs.Batches.{volume_of, span_of};
+ghost use Rattle.desk_sql.specs.Statements.{Changes, ceiling_row, row_of};
 
 use crate::changing::run::run;
 use sqlite::{Alter, Error, Transaction, params};
@@ -47,6 +49,13 @@ pub struct SpanRecord<'a> {
     pub priority: u32,
 }
 
+#[tactic(auto, using(crate::proofs::InsertLemmas::insert_operator_changes))]
+fn insert_operator_text() -> &'static str
+    ensures { Changes result.now ceiling_row (λ c. AddsOperator (ceiling_row c)) }
+{
+    "INSERT INTO operator (name, ceiling) VALUES (?1, ?2)"
+}
+
 /// Adds a row to `operator`.
 pub fn insert_operator<S: Alter>(
     tx: &mut Transaction<'_, S>,
@@ -66,12 +75,15 @@ pub fn insert_operator<S: Alter>(
     ensures faults { (state S.Store tx.old.conn.now).faults ≤
         (state S.Store tx.new.conn.now).faults }
 {
-    run(
-        tx,
-        "INSERT INTO operator (name, ceiling) VALUES (?1, ?2)",
-        params![name, ceiling],
-    )?;
+    run(tx, insert_operator_text(), params![name, ceiling])?;
     Ok(())
+}
+
+#[tactic(auto, using(crate::proofs::InsertLemmas::insert_plan_changes))]
+fn insert_plan_text() -> &'static str
+    ensures { Changes result.now row_of (λ p. AddsPlan (row_of p)) }
+{
+    "INSERT INTO plan (operator, id, priority, usage, aircraft) VALUES (?1, ?2, ?3, ?4, ?5)"
 }
 
 /// Adds a row to `plan`.
@@ -98,10 +110,18 @@ pub fn insert_plan<S: Alter>(
 {
     run(
         tx,
-        "INSERT INTO plan (operator, id, priority, usage, aircraft) VALUES (?1, ?2, ?3, ?4, ?5)",
+        insert_plan_text(),
         params![operator, id, priority, usage, aircraft],
     )?;
     Ok(())
+}
+
+#[tactic(auto, using(crate::proofs::InsertLemmas::insert_volume_changes))]
+fn insert_volume_text() -> &'static str
+    ensures { Changes result.now volume_of (λ v. AddsVolume (volume_of v)) }
+{
+    "INSERT INTO volume (operator, id, place, lower, upper, start, stop, asked) \
+     VALUES (?1, ?2, ?3, ?4, ?5, ?6, ?7, ?8)"
 }
 
 /// Adds a row to `volume`.
@@ -125,8 +145,7 @@ pub fn insert_volume<S: Alter>(
 {
     run(
         tx,
-        "INSERT INTO volume (operator, id, place, lower, upper, start, stop, asked) \
-        VALUES (?1, ?2, ?3, ?4, ?5, ?6, ?7, ?8)",
+        insert_volume_text(),
         params![
             row.operator,
             row.id,
@@ -139,6 +158,14 @@ pub fn insert_volume<S: Alter>(
         ],
     )?;
     Ok(())
+}
+
+#[tactic(auto, using(crate::proofs::InsertLemmas::insert_span_changes))]
+fn insert_span_text() -> &'static str
+    ensures { Changes result.now span_of (λ s. AddsSpan (span_of s)) }
+{
+    "INSERT INTO span (operator, id, place, first, last, lower, upper, start, stop, priority) \
+     VALUES (?1, ?2, ?3, ?4, ?5, ?6, ?7, ?8, ?9, ?10)"
 }
 
 /// Adds a row to `span`.
@@ -160,8 +187,7 @@ pub fn insert_span<S: Alter>(tx: &mut Transaction<'_, S>, row: SpanRecord<'_>) -
 {
     run(
         tx,
-        "INSERT INTO span (operator, id, place, first, last, lower, upper, start, stop, priority) \
-        VALUES (?1, ?2, ?3, ?4, ?5, ?6, ?7, ?8, ?9, ?10)",
+        insert_span_text(),
         params![
             row.operator,
             row.id,

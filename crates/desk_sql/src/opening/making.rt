@@ -8,9 +8,17 @@ ghost use Rattle.desk_sql.specs.Making.{AreEmpty, AreSame};
 ghost use Rattle.desk_sql.specs.Rows.{IsUnindexed};
 ghost use Rattle.desk_sql.specs.Finding.{Holds};
 ghost use Rattle.desk_sql.specs.Effects.{IsKept, Commits, Makes};
+ghost use Rattle.desk_sql.specs.Statements.{Extends, AddsIndex};
 
 use crate::changing::run::run;
 use sqlite::{Alter, Connection, Error, Transaction};
+
+#[tactic(auto, using(crate::proofs::CreateLemmas::operator_extends))]
+fn make_operator_text() -> &'static str
+    ensures { Extends result.now blank_schema first_schema }
+{
+    "CREATE TABLE operator (name TEXT NOT NULL, ceiling INTEGER NOT NULL, PRIMARY KEY (name)) STRICT"
+}
 
 fn make_operator<S: Alter>(tx: &mut Transaction<'_, S>) -> Result<(), Error>
     requires at { IsAt S.Store blank_schema tx.old.conn.now }
@@ -25,12 +33,17 @@ fn make_operator<S: Alter>(tx: &mut Transaction<'_, S>) -> Result<(), Error>
     ensures faults { (state S.Store tx.old.conn.now).faults ≤
         (state S.Store tx.new.conn.now).faults }
 {
-    run(
-        tx,
-        "CREATE TABLE operator (name TEXT NOT NULL, ceiling INTEGER NOT NULL, PRIMARY KEY (name)) STRICT",
-        &[],
-    )?;
+    run(tx, make_operator_text(), &[])?;
     Ok(())
+}
+
+#[tactic(auto, using(crate::proofs::CreateLemmas::plan_extends))]
+fn make_plan_text() -> &'static str
+    ensures { Extends result.now first_schema second_schema }
+{
+    "CREATE TABLE plan (operator TEXT NOT NULL, id TEXT NOT NULL, priority INTEGER NOT NULL, \
+     usage INTEGER NOT NULL, aircraft INTEGER NOT NULL, PRIMARY KEY (operator, id), \
+     FOREIGN KEY (operator) REFERENCES operator (name)) STRICT"
 }
 
 fn make_plan<S: Alter>(tx: &mut Transaction<'_, S>) -> Result<(), Error>
@@ -46,14 +59,18 @@ fn make_plan<S: Alter>(tx: &mut Transaction<'_, S>) -> Result<(), Error>
     ensures faults { (state S.Store tx.old.conn.now).faults ≤
         (state S.Store tx.new.conn.now).faults }
 {
-    run(
-        tx,
-        "CREATE TABLE plan (operator TEXT NOT NULL, id TEXT NOT NULL, priority INTEGER NOT NULL, \
-        usage INTEGER NOT NULL, aircraft INTEGER NOT NULL, PRIMARY KEY (operator, id), \
-        FOREIGN KEY (operator) REFERENCES operator (name)) STRICT",
-        &[],
-    )?;
+    run(tx, make_plan_text(), &[])?;
     Ok(())
+}
+
+#[tactic(auto, using(crate::proofs::CreateLemmas::volume_extends))]
+fn make_volume_text() -> &'static str
+    ensures { Extends result.now second_schema third_schema }
+{
+    "CREATE TABLE volume (operator TEXT NOT NULL, id TEXT NOT NULL, place INTEGER NOT NULL, \
+     lower INTEGER NOT NULL, upper INTEGER NOT NULL, start INTEGER NOT NULL, \
+     stop INTEGER NOT NULL, asked BLOB NOT NULL, PRIMARY KEY (operator, id, place), \
+     FOREIGN KEY (operator, id) REFERENCES plan (operator, id) ON DELETE CASCADE) STRICT"
 }
 
 fn make_volume<S: Alter>(tx: &mut Transaction<'_, S>) -> Result<(), Error>
@@ -69,15 +86,19 @@ fn make_volume<S: Alter>(tx: &mut Transaction<'_, S>) -> Result<(), Error>
     ensures faults { (state S.Store tx.old.conn.now).faults ≤
         (state S.Store tx.new.conn.now).faults }
 {
-    run(
-        tx,
-        "CREATE TABLE volume (operator TEXT NOT NULL, id TEXT NOT NULL, place INTEGER NOT NULL, \
-        lower INTEGER NOT NULL, upper INTEGER NOT NULL, start INTEGER NOT NULL, \
-        stop INTEGER NOT NULL, asked BLOB NOT NULL, PRIMARY KEY (operator, id, place), \
-        FOREIGN KEY (operator, id) REFERENCES plan (operator, id) ON DELETE CASCADE) STRICT",
-        &[],
-    )?;
+    run(tx, make_volume_text(), &[])?;
     Ok(())
+}
+
+#[tactic(auto, using(crate::proofs::CreateLemmas::span_extends))]
+fn make_span_text() -> &'static str
+    ensures { Extends result.now third_schema table_schema }
+{
+    "CREATE TABLE span (operator TEXT NOT NULL, id TEXT NOT NULL, place INTEGER NOT NULL, \
+     first INTEGER NOT NULL, last INTEGER NOT NULL, lower INTEGER NOT NULL, \
+     upper INTEGER NOT NULL, start INTEGER NOT NULL, stop INTEGER NOT NULL, \
+     priority INTEGER NOT NULL, PRIMARY KEY (operator, id, place, first), \
+     FOREIGN KEY (operator, id) REFERENCES plan (operator, id) ON DELETE CASCADE) STRICT"
 }
 
 fn make_span<S: Alter>(tx: &mut Transaction<'_, S>) -> Result<(), Error>
@@ -93,19 +114,19 @@ fn make_span<S: Alter>(tx: &mut Transaction<'_, S>) -> Result<(), Error>
     ensures faults { (state S.Store tx.old.conn.now).faults ≤
         (state S.Store tx.new.conn.now).faults }
 {
-    run(
-        tx,
-        "CREATE TABLE span (operator TEXT NOT NULL, id TEXT NOT NULL, place INTEGER NOT NULL, \
-        first INTEGER NOT NULL, last INTEGER NOT NULL, lower INTEGER NOT NULL, \
-        upper INTEGER NOT NULL, start INTEGER NOT NULL, stop INTEGER NOT NULL, \
-        priority INTEGER NOT NULL, PRIMARY KEY (operator, id, place, first), \
-        FOREIGN KEY (operator, id) REFERENCES plan (operator, id) ON DELETE CASCADE) STRICT",
-        &[],
-    )?;
+    run(tx, make_span_text(), &[])?;
     Ok(())
 }
 
 // The columns after `last` are those that the query of rivals reads, so that it reads the index alone.
+#[tactic(auto, using(crate::proofs::CreateLemmas::first_adds))]
+fn make_first_text() -> &'static str
+    ensures { AddsIndex result.now }
+{
+    "CREATE INDEX span_first ON span \
+     (first, last, lower, upper, start, stop, priority, operator, id)"
+}
+
 fn make_first<S: Alter>(tx: &mut Transaction<'_, S>) -> Result<(), Error>
     requires unindexed { Holds S.Store tx.old.conn.now IsUnindexed }
     ensures same_reference { tx.new.conn.ghost_name ≡ tx.old.conn.ghost_name }
@@ -119,12 +140,7 @@ fn make_first<S: Alter>(tx: &mut Transaction<'_, S>) -> Result<(), Error>
     ensures faults { (state S.Store tx.old.conn.now).faults ≤
         (state S.Store tx.new.conn.now).faults }
 {
-    run(
-        tx,
-        "CREATE INDEX span_first ON span \
-        (first, last, lower, upper, start, stop, priority, operator, id)",
-        &[],
-    )?;
+    run(tx, make_first_text(), &[])?;
     Ok(())
 }
 

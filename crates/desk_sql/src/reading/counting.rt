@@ -7,6 +7,7 @@ ghost use Rattle.sqlite.specs.State.{HasCleanDisk};
 ghost use Rattle.sqlite.specs.Held.{state};
 ghost use Rattle.desk_sql.specs.Rows.{is_by, tables_of};
 ghost use Rattle.desk_sql.specs.Effects.{IsReady, IsKept};
+ghost use Rattle.desk_sql.specs.Statements.{Selects, counted, name_row};
 
 use crate::reading::answer::answer;
 use sqlite::{Alter, Connection, Error, Row, params};
@@ -21,6 +22,13 @@ fn count_in(rows: &[Row]) -> Result<u32, Error>
         Some(row) => row.get(0),
         None => Err(Error::QueryReturnedNoRows),
     }
+}
+
+#[tactic(auto, using(crate::proofs::CountLemmas::own_count_selected))]
+fn own_count_text() -> &'static str
+    ensures { Selects result.now name_row [] (λ name t. counted (filter (is_by name) t.plans)) }
+{
+    "SELECT COUNT(*) FROM plan WHERE operator = ?1"
 }
 
 /// How many plans an operator has.
@@ -42,10 +50,6 @@ pub fn own_count<S: Alter>(connection: &mut Connection<S>, operator: &str) -> Re
         (state S.Store connection.new).is_clean }
     ensures faults { (state S.Store connection.old).faults ≤ (state S.Store connection.new).faults }
 {
-    let rows = answer(
-        connection,
-        "SELECT COUNT(*) FROM plan WHERE operator = ?1",
-        params![operator],
-    )?;
+    let rows = answer(connection, own_count_text(), params![operator])?;
     count_in(&rows)
 }

@@ -5,10 +5,18 @@ ghost use Rattle.sqlite.specs.State.{HasCleanDisk};
 ghost use Rattle.sqlite.specs.Held.{state};
 ghost use Rattle.desk_sql.specs.Rows.{is_by, is_of, tables_of, with_volumes, Lists};
 ghost use Rattle.desk_sql.specs.Effects.{IsReady, IsKept};
+ghost use Rattle.desk_sql.specs.Statements.{Selects, name_row, key_row};
 
 use crate::reading::answer::answer;
 use crate::reading::taking::{TakeRow, hand_over};
 use sqlite::{Alter, Connection, Error, Row, params};
+
+#[tactic(auto, using(crate::proofs::StatementLemmas::operator_named_selected))]
+fn operator_named_text() -> &'static str
+    ensures { Selects result.now name_row [] (λ name t. filter (is_by name) t.operators) }
+{
+    "SELECT name, ceiling FROM operator WHERE name = ?1"
+}
 
 /// The row `name`, `ceiling` of the operator with this name.
 pub fn operator_named<S: Alter>(
@@ -28,11 +36,15 @@ pub fn operator_named<S: Alter>(
         (state S.Store connection.new).is_clean }
     ensures faults { (state S.Store connection.old).faults ≤ (state S.Store connection.new).faults }
 {
-    answer(
-        connection,
-        "SELECT name, ceiling FROM operator WHERE name = ?1",
-        params![name],
-    )
+    answer(connection, operator_named_text(), params![name])
+}
+
+#[tactic(auto, using(crate::proofs::StatementLemmas::plan_of_selected))]
+fn plan_of_text() -> &'static str
+    ensures { Selects result.now key_row []
+        (λ key t. filter (is_of key.operator key.id) t.plans) }
+{
+    "SELECT operator, id, priority, usage, aircraft FROM plan WHERE operator = ?1 AND id = ?2"
 }
 
 /// The row `operator`, `id`, `priority`, `usage`, `aircraft` of the plan of this operator with this id.
@@ -54,11 +66,16 @@ pub fn plan_of<S: Alter>(
         (state S.Store connection.new).is_clean }
     ensures faults { (state S.Store connection.old).faults ≤ (state S.Store connection.new).faults }
 {
-    answer(
-        connection,
-        "SELECT operator, id, priority, usage, aircraft FROM plan WHERE operator = ?1 AND id = ?2",
-        params![operator, id],
-    )
+    answer(connection, plan_of_text(), params![operator, id])
+}
+
+#[tactic(auto, using(crate::proofs::StatementLemmas::volumes_of_selected))]
+fn volumes_of_text() -> &'static str
+    ensures { Selects result.now key_row (2 ∷ [])
+        (λ key t. filter (is_of key.operator key.id) t.volumes) }
+{
+    "SELECT operator, id, place, lower, upper, start, stop, asked FROM volume \
+     WHERE operator = ?1 AND id = ?2 ORDER BY place"
 }
 
 /// The rows `operator`, `id`, `place`, `lower`, `upper`, `start`, `stop`, `asked` of the volumes of a
@@ -81,12 +98,17 @@ pub fn volumes_of<S: Alter>(
         (state S.Store connection.new).is_clean }
     ensures faults { (state S.Store connection.old).faults ≤ (state S.Store connection.new).faults }
 {
-    answer(
-        connection,
-        "SELECT operator, id, place, lower, upper, start, stop, asked FROM volume \
-         WHERE operator = ?1 AND id = ?2 ORDER BY place",
-        params![operator, id],
-    )
+    answer(connection, volumes_of_text(), params![operator, id])
+}
+
+#[tactic(auto, using(crate::proofs::StatementLemmas::own_plans_selected))]
+fn own_plans_text() -> &'static str
+    ensures { Selects result.now name_row (1 ∷ 5 ∷ []) (λ name. with_volumes (is_by name)) }
+{
+    "SELECT plan.operator, plan.id, plan.priority, plan.usage, plan.aircraft, volume.place, \
+     volume.lower, volume.upper, volume.start, volume.stop, volume.asked \
+     FROM plan JOIN volume ON volume.operator = plan.operator AND volume.id = plan.id \
+     WHERE plan.operator = ?1 ORDER BY plan.id, volume.place"
 }
 
 /// Hands over, one at a time, each plan of an operator with each of its volumes: the columns of `plan`,
@@ -114,13 +136,5 @@ pub fn own_plans<S: Alter, T: TakeRow>(
         (state S.Store connection.new).is_clean }
     ensures faults { (state S.Store connection.old).faults ≤ (state S.Store connection.new).faults }
 {
-    hand_over(
-        connection,
-        "SELECT plan.operator, plan.id, plan.priority, plan.usage, plan.aircraft, volume.place, \
-         volume.lower, volume.upper, volume.start, volume.stop, volume.asked \
-         FROM plan JOIN volume ON volume.operator = plan.operator AND volume.id = plan.id \
-         WHERE plan.operator = ?1 ORDER BY plan.id, volume.place",
-        params![operator],
-        taker,
-    )
+    hand_over(connection, own_plans_text(), params![operator], taker)
 }

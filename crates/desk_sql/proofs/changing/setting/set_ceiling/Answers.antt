@@ -1,8 +1,7 @@
 use Rattle.std.proofs.Common.{arith}
 use Rattle.sqlite.specs.Held.{state}
 use Rattle.desk_sql.specs.Rows.{SetsOperators, is_by, operator_row}
-use Rattle.desk_sql.proofs.WriteLemmas.{makes}
-use Rattle.desk_sql.proofs.SetLemmas as lemma
+use Rattle.desk_sql.proofs.WriteLemmas.{makes, changed}
 use Rattle.desk_sql.proofs.changing.setting.set_ceiling.Goals as goal
 
 pub returns-clause-done : goal.returns-clause-done
@@ -12,6 +11,8 @@ returns-clause-done g c clean =
     makes g.S.Store old new c.requires.ready (omega (arith, c.run.ensures.doubt, clean))
     (SetsOperators (is_by c.args.name.now) (operator_row c.args.name.now c.args.ceiling))
     (c.in_ok-run.ensures.shown clean)
-    (λ desk. lemma.set_ceiling c.args.name.now c.args.ceiling (state g.S.Store old) (state g.S.Store new) desk
+    (λ desk. changed _ _ _ c.set_ceiling_text.ensures
+    (record { name = c.args.name.now; ceiling = c.args.ceiling }) (state g.S.Store old)
+    (state g.S.Store new) desk
     c.in_ok-run.field-0 (rw (c.params-to_sql.ensures, c.params-to_sql-2.ensures) at
     (c.in_ok-run.ensures.ran clean)))

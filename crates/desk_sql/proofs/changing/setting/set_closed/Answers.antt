@@ -1,8 +1,7 @@
 use Rattle.std.proofs.Common.{arith}
 use Rattle.sqlite.specs.Held.{state}
 use Rattle.desk_sql.specs.Rows.{SetsPlans, is_of, plan_row}
-use Rattle.desk_sql.proofs.WriteLemmas.{makes}
-use Rattle.desk_sql.proofs.SetLemmas as lemma
+use Rattle.desk_sql.proofs.WriteLemmas.{makes, changed}
 use Rattle.desk_sql.proofs.changing.setting.set_closed.Goals as goal
 
 pub returns-clause-done : goal.returns-clause-done
@@ -13,7 +12,13 @@ returns-clause-done g c clean =
     (SetsPlans (is_of c.args.operator.now c.args.id.now)
     (plan_row c.args.operator.now c.args.id.now c.args.priority 2 c.args.aircraft))
     (c.in_ok-run.ensures.shown clean)
-    (λ desk. lemma.close_plan c.args.operator.now c.args.id.now c.args.priority c.args.aircraft
+    (λ desk. changed _ _ _ c.set_closed_text.ensures
+    (record {
+      operator = c.args.operator.now;
+      id = c.args.id.now;
+      priority = c.args.priority;
+      aircraft = c.args.aircraft;
+    })
     (state g.S.Store old) (state g.S.Store new) desk c.in_ok-run.field-0
     (rw (
       c.params-to_sql.ensures,

@@ -1,8 +1,7 @@
 use Rattle.std.proofs.Common.{arith}
 use Rattle.sqlite.specs.Held.{state}
 use Rattle.desk_sql.specs.Rows.{operator_row, AddsOperator}
-use Rattle.desk_sql.proofs.WriteLemmas.{makes}
-use Rattle.desk_sql.proofs.InsertLemmas.{insert_operator}
+use Rattle.desk_sql.proofs.WriteLemmas.{makes, changed}
 use Rattle.desk_sql.proofs.changing.writing.insert_operator.Goals as goal
 
 pub returns-clause-done : goal.returns-clause-done
@@ -11,6 +10,8 @@ returns-clause-done g c clean =
     let new = c.run.new.tx.conn.now in
     makes g.S.Store old new c.requires.ready (omega (arith, c.run.ensures.doubt, clean))
     (AddsOperator (operator_row c.args.name.now c.args.ceiling)) (c.in_ok-run.ensures.shown clean)
-    (λ desk. insert_operator c.args.name.now c.args.ceiling (state g.S.Store old) (state g.S.Store new) desk
+    (λ desk. changed _ _ _ c.insert_operator_text.ensures
+    (record { name = c.args.name.now; ceiling = c.args.ceiling }) (state g.S.Store old)
+    (state g.S.Store new) desk
     c.in_ok-run.field-0 (rw (c.params-to_sql.ensures, c.params-to_sql-2.ensures) at
     (c.in_ok-run.ensures.ran clean)))

@@ -1,8 +1,7 @@
 use Rattle.std.proofs.Common.{arith}
 use Rattle.sqlite.specs.Held.{state}
 use Rattle.desk_sql.specs.Rows.{plan_row, AddsPlan}
-use Rattle.desk_sql.proofs.WriteLemmas.{makes}
-use Rattle.desk_sql.proofs.InsertLemmas.{insert_plan}
+use Rattle.desk_sql.proofs.WriteLemmas.{makes, changed}
 use Rattle.desk_sql.proofs.changing.writing.insert_plan.Goals as goal
 
 pub returns-clause-done : goal.returns-clause-done
@@ -12,7 +11,14 @@ returns-clause-done g c clean =
     makes g.S.Store old new c.requires.ready (omega (arith, c.run.ensures.doubt, clean))
     (AddsPlan (plan_row c.args.operator.now c.args.id.now c.args.priority c.args.usage c.args.aircraft))
     (c.in_ok-run.ensures.shown clean)
-    (λ desk. insert_plan c.args.operator.now c.args.id.now c.args.priority c.args.usage c.args.aircraft
+    (λ desk. changed _ _ _ c.insert_plan_text.ensures
+    (record {
+      operator = c.args.operator;
+      id = c.args.id;
+      priority = c.args.priority;
+      usage = c.args.usage;
+      aircraft = c.args.aircraft;
+    })
     (state g.S.Store old) (state g.S.Store new) desk c.in_ok-run.field-0
     (rw (
       c.params-to_sql.ensures,

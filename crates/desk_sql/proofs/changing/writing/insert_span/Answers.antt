@@ -4,8 +4,7 @@ use Rattle.sqlite_value.specs.Value.{owned}
 use Rattle.sqlite.specs.declared.types.Value.TheVariants.{Int}
 use Rattle.sqlite.specs.Held.{state}
 use Rattle.desk_sql.specs.Rows.{span_row, AddsSpan}
-use Rattle.desk_sql.proofs.WriteLemmas.{makes}
-use Rattle.desk_sql.proofs.InsertLemmas.{insert_span}
+use Rattle.desk_sql.proofs.WriteLemmas.{makes, changed}
 use Rattle.desk_sql.proofs.changing.writing.insert_span.Goals as goal
 
 pub returns-clause-done : goal.returns-clause-done
@@ -28,9 +27,8 @@ returns-clause-done g c clean =
     (AddsSpan (span_row c.args.row.operator.now c.args.row.id.now c.args.row.place c.args.row.first
     c.args.row.last c.args.row.lower c.args.row.upper c.args.row.start c.args.row.stop
     c.args.row.priority)) (c.in_ok-run.ensures.shown clean)
-    (λ desk. insert_span c.args.row.operator.now c.args.row.id.now c.args.row.place c.args.row.first
-    c.args.row.last c.args.row.lower c.args.row.upper c.args.row.start c.args.row.stop c.args.row.priority
-    (state g.S.Store old) (state g.S.Store new) desk c.in_ok-run.field-0
+    (λ desk. changed _ _ _ c.insert_span_text.ensures c.args.row (state g.S.Store old)
+    (state g.S.Store new) desk c.in_ok-run.field-0
     (rw (
       c.params-to_sql.ensures,
       c.params-to_sql-2.ensures,

@@ -4,8 +4,7 @@ use Rattle.sqlite_value.specs.Value.{owned}
 use Rattle.sqlite.specs.declared.types.Value.TheVariants.{Int}
 use Rattle.sqlite.specs.Held.{state}
 use Rattle.desk_sql.specs.Rows.{volume_row, AddsVolume}
-use Rattle.desk_sql.proofs.WriteLemmas.{makes}
-use Rattle.desk_sql.proofs.InsertLemmas.{insert_volume}
+use Rattle.desk_sql.proofs.WriteLemmas.{makes, changed}
 use Rattle.desk_sql.proofs.changing.writing.insert_volume.Goals as goal
 
 pub returns-clause-done : goal.returns-clause-done
@@ -24,8 +23,7 @@ returns-clause-done g c clean =
     (AddsVolume (volume_row c.args.row.operator.now c.args.row.id.now c.args.row.place c.args.row.lower
     c.args.row.upper c.args.row.start c.args.row.stop c.args.row.asked.now))
     (c.in_ok-run.ensures.shown clean)
-    (λ desk. insert_volume c.args.row.operator.now c.args.row.id.now c.args.row.place c.args.row.lower
-    c.args.row.upper c.args.row.start c.args.row.stop c.args.row.asked.now (state g.S.Store old)
+    (λ desk. changed _ _ _ c.insert_volume_text.ensures c.args.row (state g.S.Store old)
     (state g.S.Store new) desk c.in_ok-run.field-0
     (rw (
       c.params-to_sql.ensures,

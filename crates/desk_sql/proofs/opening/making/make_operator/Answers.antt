@@ -1,9 +1,8 @@
 use Rattle.std.proofs.Common.{arith}
 use Rattle.sqlite.specs.Held.{state}
-use Rattle.desk_sql.specs.Schema.{blank_schema, operator_table}
+use Rattle.desk_sql.specs.Schema.{blank_schema}
 use Rattle.desk_sql.specs.Making.{first_schema}
-use Rattle.desk_sql.proofs.Texts.{operator_text}
-use Rattle.desk_sql.proofs.CreateLemmas.{creates, grows, operator_makes}
+use Rattle.desk_sql.proofs.CreateLemmas.{extended, grows}
 use Rattle.desk_sql.proofs.opening.making.make_operator.Goals as goal
 
 pub returns-clause-done : goal.returns-clause-done
@@ -12,5 +11,5 @@ returns-clause-done g c clean =
     let new = c.run.new.tx.conn.now in
     grows g.S.Store old new blank_schema first_schema c.requires.at
     (omega (arith, c.run.ensures.doubt, clean)) (c.in_ok-run.ensures.shown clean)
-    (λ has. creates blank_schema operator_text operator_table operator_makes (state g.S.Store old)
-    (state g.S.Store new) has c.in_ok-run.field-0 (c.in_ok-run.ensures.ran clean))
+    (λ has. extended _ _ _ c.make_operator_text.ensures (state g.S.Store old) (state g.S.Store new) has
+    c.in_ok-run.field-0 (c.in_ok-run.ensures.ran clean))

@@ -1,9 +1,8 @@
 use Rattle.std.proofs.Common.{arith}
 use Rattle.sqlite.specs.Held.{state}
-use Rattle.desk_sql.specs.Schema.{table_schema, span_table}
+use Rattle.desk_sql.specs.Schema.{table_schema}
 use Rattle.desk_sql.specs.Making.{third_schema}
-use Rattle.desk_sql.proofs.Texts.{span_text}
-use Rattle.desk_sql.proofs.CreateLemmas.{creates, grows, span_makes}
+use Rattle.desk_sql.proofs.CreateLemmas.{extended, grows}
 use Rattle.desk_sql.proofs.opening.making.make_span.Goals as goal
 
 pub returns-clause-done : goal.returns-clause-done
@@ -13,5 +12,5 @@ returns-clause-done g c clean =
     grows g.S.Store old new third_schema table_schema c.requires.at
     (omega (arith, c.run.ensures.doubt, clean))
     (c.in_ok-run.ensures.shown clean)
-    (λ has. creates third_schema span_text span_table span_makes (state g.S.Store old) (state g.S.Store new)
-    has c.in_ok-run.field-0 (c.in_ok-run.ensures.ran clean))
+    (λ has. extended _ _ _ c.make_span_text.ensures (state g.S.Store old) (state g.S.Store new) has
+    c.in_ok-run.field-0 (c.in_ok-run.ensures.ran clean))

@@ -1,9 +1,7 @@
 use Rattle.std.proofs.Common.{arith}
 use Rattle.sqlite.specs.Held.{state}
-use Rattle.desk_sql.specs.Schema.{volume_table}
 use Rattle.desk_sql.specs.Making.{second_schema, third_schema}
-use Rattle.desk_sql.proofs.Texts.{volume_text}
-use Rattle.desk_sql.proofs.CreateLemmas.{creates, grows, volume_makes}
+use Rattle.desk_sql.proofs.CreateLemmas.{extended, grows}
 use Rattle.desk_sql.proofs.opening.making.make_volume.Goals as goal
 
 pub returns-clause-done : goal.returns-clause-done
@@ -12,5 +10,5 @@ returns-clause-done g c clean =
     let new = c.run.new.tx.conn.now in
     grows g.S.Store old new second_schema third_schema c.requires.at
     (omega (arith, c.run.ensures.doubt, clean)) (c.in_ok-run.ensures.shown clean)
-    (λ has. creates second_schema volume_text volume_table volume_makes (state g.S.Store old)
-    (state g.S.Store new) has c.in_ok-run.field-0 (c.in_ok-run.ensures.ran clean))
+    (λ has. extended _ _ _ c.make_volume_text.ensures (state g.S.Store old) (state g.S.Store new) has
+    c.in_ok-run.field-0 (c.in_ok-run.ensures.ran clean))

@@ -1,12 +1,12 @@
 use Rattle.std.proofs.Common.{arith, length, filter, ◌∙◌}
 use Rattle.sqlite.specs.Held.{state}
 use Rattle.desk_sql.specs.Rows.{is_by, tables_of}
-use Rattle.desk_sql.proofs.CountLemmas.{count_plans_is, plans_counted, count_if}
-use Rattle.desk_sql.proofs.ReadLemmas.{was_open}
+use Rattle.desk_sql.proofs.CountLemmas.{only_row, count_if}
+use Rattle.desk_sql.proofs.ReadLemmas.{was_open, selected}
 use Rattle.desk_sql.proofs.reading.counting.own_count.Goals as goal
 
 pub answer-requires-clause-plain : goal.answer-requires-clause-plain
-answer-requires-clause-plain g c = count_plans_is.plain
+answer-requires-clause-plain g c = c.own_count_text.ensures.plain
 
 pub returns-clause-value : goal.returns-clause-value
 returns-clause-value g c clean =
@@ -18,5 +18,6 @@ returns-clause-value g c clean =
     (was_open _ _ old new rows shown) in
     let n = length (filter (is_by c.args.operator.now) (tables_of old.now.trees).plans) in
     count_if c.count_in.result c.deref.result.now n
-    (c.deref.ensures.value ∙ plans_counted c.args.operator.now old new rows desk shown)
+    (c.deref.ensures.value ∙ only_row _ rows
+    (selected _ _ _ _ c.own_count_text.ensures c.args.operator.now old new rows desk shown).same)
     c.count_in.ensures.value c.count_in.ensures.small

@@ -1,13 +1,12 @@
 use Rattle.std.proofs.Common.{arith, [], ◌∷◌}
 use Rattle.sqlite.specs.Held.{state}
 use Rattle.desk_sql.specs.Rows.{is_by, with_volumes, tables_of, Lists}
-use Rattle.desk_sql.proofs.QueryTexts.{own_plans_is}
-use Rattle.desk_sql.proofs.StatementLemmas.{own_plans}
+use Rattle.desk_sql.proofs.ReadLemmas.{selected}
 use Rattle.desk_sql.proofs.TakingLemmas.{if_handed}
 use Rattle.desk_sql.proofs.reading.queries.own_plans.Goals as goal
 
 pub hand_over-requires-clause-plain : goal.hand_over-requires-clause-plain
-hand_over-requires-clause-plain g c = own_plans_is.plain
+hand_over-requires-clause-plain g c = c.own_plans_text.ensures.plain
 
 pub returns-clause-value : goal.returns-clause-value
 returns-clause-value g c clean =
@@ -16,6 +15,7 @@ returns-clause-value g c clean =
     (tables_of (state g.S.Store c.args.connection.now).now.trees)))
     (g.T.TakeRow.has_taken c.hand_over.new.taker) c.requires.ready
     (omega (arith, c.hand_over.ensures.doubt, clean))
-    (own_plans c.args.operator.now (state g.S.Store c.args.connection.now)
+    (selected _ _ _ _ c.own_plans_text.ensures c.args.operator.now
+    (state g.S.Store c.args.connection.now)
     (state g.S.Store c.hand_over.new.connection)) c.hand_over.result
     (rw c.params-to_sql.ensures at (c.hand_over.ensures.shown clean))

@@ -1,12 +1,12 @@
 use Rattle.std.proofs.Common.{arith, filter, []}
 use Rattle.sqlite.specs.Held.{state}
 use Rattle.desk_sql.specs.Rows.{is_of, tables_of, Lists}
-use Rattle.desk_sql.proofs.QueryTexts.{plan_of_is}
-use Rattle.desk_sql.proofs.StatementLemmas.{if_shown, plan_of}
+use Rattle.desk_sql.proofs.ReadLemmas.{selected}
+use Rattle.desk_sql.proofs.StatementLemmas.{if_shown}
 use Rattle.desk_sql.proofs.reading.queries.plan_of.Goals as goal
 
 pub answer-requires-clause-plain : goal.answer-requires-clause-plain
-answer-requires-clause-plain g c = plan_of_is.plain
+answer-requires-clause-plain g c = c.plan_of_text.ensures.plain
 
 pub returns-clause-value : goal.returns-clause-value
 returns-clause-value g c clean =
@@ -14,6 +14,8 @@ returns-clause-value g c clean =
     (Lists [] (filter (is_of c.args.operator.now c.args.id.now)
     (tables_of (state g.S.Store c.args.connection.now).now.trees).plans)) c.requires.ready
     (omega (arith, c.answer.ensures.doubt, clean))
-    (plan_of c.args.operator.now c.args.id.now (state g.S.Store c.args.connection.now)
+    (selected _ _ _ _ c.plan_of_text.ensures
+    (record { operator = c.args.operator.now; id = c.args.id.now })
+    (state g.S.Store c.args.connection.now)
     (state g.S.Store c.answer.new.connection)) c.answer.result
     (rw (c.params-to_sql.ensures, c.params-to_sql-2.ensures) at (c.answer.ensures.shown clean))

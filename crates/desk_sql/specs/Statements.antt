@@ -1,0 +1,115 @@
+-- What a text of SQL selects, changes or makes.
+use Rattle.std.specs.Prelude.{◌≡◌, false, ℕ, pos, List, [], ◌∷◌, length, Option, None, Result, Ok, Err}
+use Rattle.sqlite.specs.declared.types.Value.TheVariants.{Int, Text}
+use Rattle.sqlite.specs.Order.{Row}
+use Rattle.sqlite.specs.Schema.{Schema}
+use Rattle.sqlite.specs.declared.run.Mode.{Mode}
+use Rattle.sqlite.specs.Effect.{Database}
+use Rattle.sqlite.specs.Does.{Tally, Does}
+use Rattle.sqlite.specs.Calls.{IsWrite}
+use Rattle.sqlite.specs.State.{text_of}
+use Rattle.sqlite.specs.Given.{IsPlain}
+use Rattle.sqlite.specs.Listing.{understood, reads_listing}
+use Rattle.sqlite_sql.specs.Aggregate.{count}
+use Rattle.sqlite_schema.specs.declared.schema.Keys.TheVariants.{Enforced}
+use Rattle.sqlite_resolve.specs.declared.compiled.Compiled.{Compiled}
+use Rattle.sqlite_resolve.specs.declared.error.CompileError.{CompileError}
+use Rattle.desk_sql.specs.declared.changing.writing.PlanRecord.{PlanRecord}
+use Rattle.desk_sql.specs.Schema.{desk_schema, table_schema}
+use Rattle.desk_sql.specs.Rows.{IsDesk, IsUnindexed, Tables, tables_of, operator_row, plan_row, Lists}
+use Rattle.desk_sql.specs.Making.{HasEmpty, AreSame}
+use Rattle.desk_sql.specs.Rivals.{MayRead}
+
+-- ---- what a text is given, as its parameters in turn
+
+-- an operator's name
+abbrev pub name_row : List ℕ → Row
+name_row name = Text name ∷ []
+
+-- which plan
+pub record Key : Type 0 where
+  pub operator : List ℕ
+  pub id : List ℕ
+
+abbrev pub key_row : Key → Row
+key_row key = Text key.operator ∷ Text key.id ∷ []
+
+-- an operator's name and its ceiling
+pub record Ceiling : Type 0 where
+  pub name : List ℕ
+  pub ceiling : ℕ
+
+abbrev pub ceiling_row : Ceiling → Row
+ceiling_row c = operator_row c.name c.ceiling
+
+abbrev pub row_of : PlanRecord → Row
+row_of p = plan_row p.operator.now p.id.now p.priority p.usage p.aircraft
+
+-- which plan is closed, and its priority and state of the aircraft
+pub record Closing : Type 0 where
+  pub operator : List ℕ
+  pub id : List ℕ
+  pub priority : ℕ
+  pub aircraft : ℕ
+
+abbrev pub closing_row : Closing → Row
+closing_row c = Text c.operator ∷ Text c.id ∷ Int (pos c.priority) ∷ Int (pos c.aircraft) ∷ []
+
+-- ---- what a query shows
+
+-- a text that changes nothing, and of a desk's tables shows just the rows that are wanted for what it is
+-- given, in the order of these columns
+pub record Selects {Given : Type 0} (text : List ℕ) (params : Given → Row) (cells : List ℕ)
+    (wanted : Given → Tables → List Row) : Type 0
+  where
+    pub plain : IsPlain (understood desk_schema text)
+    pub unlisted : reads_listing desk_schema text ≡ false
+    pub rows : (given : Given) (db : Database) (shown : List Row) → IsDesk db
+        → MayRead (understood desk_schema text) db (params given) shown
+        → Lists cells (wanted given (tables_of db.trees)) shown
+
+-- one row, of how many rows there are
+abbrev pub counted : List Row → List Row
+counted rows = (count (length rows) ∷ []) ∷ []
+
+-- ---- what a statement writes
+
+-- each foreign key is tested at the end of each statement
+abbrev pub enforced : Mode
+enforced = record { keys = Enforced; in_doubt = false; may_wait = false }
+
+-- a compiled text that writes
+abbrev pub IsWriting : Result Compiled CompileError → Type 0
+IsWriting (Ok c) = IsWrite c.command
+IsWriting (Err e) = ⊥
+
+-- a compiled text that may make the second database of the first, with so many steps
+abbrev pub MayWrite : List ℕ → Result Compiled CompileError → Row → Option ℕ → Database → Database → Type 0
+MayWrite text (Ok c) params limit old new =
+    (tally : Tally) × Does limit enforced params old (text_of text c) None c.command (Ok (tally, new))
+MayWrite text (Err e) params limit old new = ⊥
+
+-- a text that shows nothing, and changes a desk's tables so for what it is given
+pub record Changes {Given : Type 0} (text : List ℕ) (params : Given → Row)
+    (Change : Given → Tables → Tables → Type 0) : Type 0
+  where
+    pub plain : IsPlain (understood desk_schema text)
+    pub writes : IsWriting (understood desk_schema text)
+    pub tables : (given : Given) (limit : Option ℕ) (old new : Database) → IsDesk old
+        → MayWrite text (understood desk_schema text) (params given) limit old new
+        → IsDesk new × Change given (tables_of old.trees) (tables_of new.trees)
+
+-- a text that shows nothing, and makes of the empty tables of one schema those of the next
+pub record Extends (text : List ℕ) (schema next : Schema) : Type 0 where
+  pub plain : IsPlain (understood schema text)
+  pub writes : IsWriting (understood schema text)
+  pub tables : (limit : Option ℕ) (old new : Database) → HasEmpty schema old
+      → MayWrite text (understood schema text) [] limit old new → HasEmpty next new
+
+-- a text that shows nothing, and makes the index of a desk's tables that lack it
+pub record AddsIndex (text : List ℕ) : Type 0 where
+  pub plain : IsPlain (understood table_schema text)
+  pub writes : IsWriting (understood table_schema text)
+  pub tables : (limit : Option ℕ) (old new : Database) → IsUnindexed old
+      → MayWrite text (understood table_schema text) [] limit old new
+      → IsDesk new × AreSame (tables_of old.trees) (tables_of new.trees)
