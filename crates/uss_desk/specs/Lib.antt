@@ -1,2 +1,3 @@
--- Read first: Opening.
+-- Read first: Running, Opening.
 pub mod Opening
+pub mod Running

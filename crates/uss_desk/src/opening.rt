@@ -4,6 +4,7 @@ ghost use Rattle.std.specs.Prelude.{◌≡◌, [], IfErr, IfOk};
 ghost use Rattle.sqlite_wal.specs.Files.{image_at};
 ghost use Rattle.desk_tables.specs.Files.{OpensIn};
 ghost use Rattle.uss_desk.specs.Opening as spec;
+ghost use Rattle.uss_desk.specs.Opening.{IsOpenedIn, IsOpenFailure};
 
 use desk_line::Failure;
 use desk_run::Desk;
@@ -19,6 +20,7 @@ use std::alloc::Global;
 pub fn open_in_memory(alloc: Global) -> Result<Desk<SqliteStore<MemStore>>, Failure>
     ensures empty { IfOk result (λ desk. desk.store.world ≡ record { operators = []; plans = [] }) }
     ensures none { IfOk result (λ desk. desk.permitted ≡ []) }
+    ensures failure { IfErr result IsOpenFailure }
 {
     match SqliteStore::in_memory(alloc) {
         Ok(store) => Ok(Desk::new(store)),
@@ -38,6 +40,7 @@ pub fn open_file<F: Start>(
 ) -> Result<Desk<SqliteStore<FileStore<FileFrom<F>>>>, Failure>
     ensures begins { IfOk result (λ desk. OpensIn (image_at F.Start) desk.store.held desk.store.world) }
     ensures none { IfOk result (λ desk. desk.permitted ≡ []) }
+    ensures opened { IsOpenedIn (image_at F.Start) result }
 {
     match SqliteStore::open_from(rt, path, start) {
         Ok(store) => Ok(Desk::new(store)),

@@ -1,7 +1,8 @@
 //! A line carried out, whatever the files held, and whatever the streams and the port are.
 
-ghost use Rattle.std.specs.Prelude.{◌≡◌, None, IsSome};
-ghost use Rattle.desk_line.specs.Lines.{HasDatabase, IsLine, file_of};
+ghost use Rattle.sqlite_wal.specs.Files.{image_at};
+ghost use Rattle.desk_line.specs.Lines.{HasDatabase, IsLine};
+ghost use Rattle.uss_desk.specs.Running.{IsDone, IsRunOver};
 
 use crate::opening::{open_file, open_in_memory};
 use desk_line::{Database, Line, print_line};
@@ -28,6 +29,9 @@ pub fn run_line<F: Start, P: Port, R: Read, W: Write, E: Write>(
     errors: &mut E,
 ) -> (u8, Option<MemoryDesk>, Option<FileDesk<F>>)
     requires { IsLine line.now }
+    ensures { IsDone (image_at F.Start) line.now result.0 result.1 result.2
+        (P.taken port.old) (P.taken port.new) (R.remaining input.old) (R.remaining input.new)
+        (W.contents output.old) (W.contents output.new) }
 {
     match line {
         Line::Play(play) => run_at(rt, &play.database, line, start, port, input, output, errors),
@@ -70,8 +74,9 @@ fn run_at<F: Start, P: Port, R: Read, W: Write, E: Write>(
 ) -> (u8, Option<MemoryDesk>, Option<FileDesk<F>>)
     requires line { IsLine line.now }
     requires desk { HasDatabase line.now }
-    ensures memory { file_of database.now ≡ None → result.2 ≡ None }
-    ensures file { IsSome (file_of database.now) → result.1 ≡ None }
+    ensures { IsRunOver (image_at F.Start) database.now line.now result.0 result.1 result.2
+        (P.taken port.old) (P.taken port.new) (R.remaining input.old) (R.remaining input.new)
+        (W.contents output.old) (W.contents output.new) }
 {
     let alloc = rt.alloc();
     match database {
