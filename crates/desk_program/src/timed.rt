@@ -1,6 +1,6 @@
 //! Reads and writes that end in time, so that a client that stalls does not hold the desk.
 
-ghost use Rattle.std.specs.Prelude.{◌≡◌, ◌+◌, ◌≤◌, None, IfSome, IfOk};
+ghost use Rattle.std.specs.Prelude.{◌≡◌, ◌+◌, ◌≤◌, ℕ, None, Some, IfSome, IfOk, IsSomeAnd};
 ghost use Rattle.std.specs.Duration.{as_nanos};
 ghost use Rattle.std.specs.Time.{instant_nanos};
 ghost use Rattle.desk_program.specs.Waiting.{patience};
@@ -93,8 +93,13 @@ fn read_briefly<T: Read + OpenStream, C: Clock>(
 }
 
 // How long a read or a write may wait that has to end with the others by `end`. Their time begins with the
-// first of them.
-fn time_left<C: Clock>(clock: &C, end: &mut Option<Instant>) -> io::Result<Duration> {
+// first of them, and no later one puts its end off.
+fn time_left<C: Clock>(clock: &C, end: &mut Option<Instant>) -> io::Result<Duration>
+    ensures kept { IfSome end.old (λ last. end.new ≡ Some last) }
+    ensures first { end.old ≡ None → IfOk result (λ left. as_nanos left ≡ patience) }
+    ensures left { IfOk result (λ left. IsSomeAnd end.new (λ last.
+        (now : ℕ) × (now + as_nanos left ≡ instant_nanos last))) }
+{
     let now = Instant::now(clock)?;
     let last = end.unwrap_or(end_after(now)?);
     *end = Some(last);
