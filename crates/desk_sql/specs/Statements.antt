@@ -81,7 +81,7 @@ pub record SelectsAll (text : List ℕ) (cells : List ℕ) (wanted : Trees → L
 abbrev pub rowids : List Row → List Row
 rowids rows = map (λ r. rowid r ∷ []) rows
 
--- one row, of how many rows there are
+-- one row, of how many rows there are (SQL stops to count at 2 ^ 63 - 1)
 abbrev pub counted : List Row → List Row
 counted rows = (count (length rows) ∷ []) ∷ []
 
