@@ -1,5 +1,5 @@
 -- Why a query of whole tables is refused.
-use Rattle.std.proofs.Common.{◌≡◌, ◌⊎◌, inl, inr, ℕ, List, [], length, None, Some, Option, Ok, Err, Result, sym, ap, subst, ◌∙◌, IsTrue, false, true≢false, IfErr}
+use Rattle.std.proofs.Common.{◌≡◌, ◌⊎◌, inl, inr, ℕ, List, [], length, None, Some, Option, Ok, Err, Result, refl, sym, ap, subst, ◌∙◌, IsTrue, false, true≢false, IfErr}
 use Rattle.std.specs.Prelude.{IsSome}
 use Rattle.sqlite_disk.specs.Disk.{MoreFaults}
 use Rattle.sqlite.specs.Order.{Row}
@@ -15,12 +15,16 @@ use Rattle.sqlite.specs.Clock.{timed}
 use Rattle.sqlite.specs.Effect.{Database, RefusesToRead}
 use Rattle.sqlite.specs.Given.{IsPlain}
 use Rattle.sqlite.specs.Listing.{understood, reads_listing, IsSourceOf}
-use Rattle.sqlite.specs.State.{State, HasCleanDisk, HasCause, store_error, IsNoStatement, IsNotRun, FailsToQuery, FailsToShow}
+use Rattle.sqlite.specs.State.{State, HasCleanDisk, Shown, HasCause, store_error, IsNoStatement, IsNotRun, FailsToQuery, FailsToShow}
 use Rattle.sqlite.specs.Store.{Ghosts}
 use Rattle.sqlite.specs.Held.{Held, state}
 use Rattle.desk_sql.specs.Schema.{tables_with, HasTables}
 use Rattle.desk_sql.specs.Finding.{Holds}
 use Rattle.desk_sql.proofs.SchemaLemmas.{any_indexes}
+use Rattle.sqlite.specs.Tree.{Trees}
+use Rattle.desk_sql.specs.Rows.{Lists}
+use Rattle.desk_sql.specs.Statements.{SelectsAll}
+use Rattle.desk_sql.proofs.ReadLemmas.{shown_read}
 use Rattle.desk_sql.specs.Refusals.{NeverRefuses, IsSureIn, IsSure, IsRefusal}
 
 -- the cause, of two states
@@ -112,3 +116,11 @@ plain_in text (Err e) sure = absurd sure
 pub sure_plain : (text : List ℕ) → IsSure text → (db : Database) → HasTables db
     → IsPlain (understood db.schema text)
 sure_plain text sure db has = plain_in text _ (sure_now text db sure has)
+
+-- what is shown was selected
+pub all_selected : (text : List ℕ) (cells : List ℕ) (wanted : Trees → List Row)
+    → SelectsAll text cells wanted → (old new : State) (rows : List Row) → HasTables old.now
+    → Shown text [] old new rows → Lists cells (wanted old.now.trees) rows
+all_selected text cells wanted known old new rows has h = known.rows old.now rows has
+    (shown_read text [] old new rows refl (sure_plain text known.sure old.now has)
+    (ap (λ s. reads_listing s text) (any_indexes old.now has) ∙ known.sure.unlisted _) h)

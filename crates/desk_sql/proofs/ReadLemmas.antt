@@ -23,7 +23,6 @@ use Rattle.sqlite.specs.Listing.{understood, reads_listing}
 use Rattle.sqlite.specs.Command.TheVariants.{Select}
 use Rattle.sqlite.specs.Effect.{Database, Reads}
 use Rattle.sqlite.specs.Schema.{Schema}
-use Rattle.desk_sql.specs.Schema.{desk_schema}
 use Rattle.sqlite.specs.State.{State, HasCleanDisk, Shown, ShowsRows, FailsToQuery, FailsToShow, IsUnchanged, IsRolledBack, IsNotRun}
 use Rattle.sqlite.specs.Store.{Ghosts}
 use Rattle.sqlite.specs.Held.{Held, state}
@@ -127,14 +126,6 @@ module _ {schema : Schema} (text : List ℕ) (from : Join) (terms : List Term) (
     abbrev query : Query
     query = query_of from terms project order
 
-    pub answered : (params : Row) (old new : State) (rows : List Row) → old.now.schema ≡ schema
-        → Shown text params old new rows
-        → IsAnswer query (overlay old.now.trees []) params rows
-    answered params old new rows has h =
-        (reads_as text params old new schema has _ known.is known.plain known.unlisted rows
-        h).answer
-        Null
-
     pub answer_rows : (params : Row) (db : Database) (rows : List Row)
         → IsAnswer query (overlay db.trees []) params rows
         → IsPermutation (map (eval_all project) (matches (overlay db.trees []) terms from (params ∷ [])))
@@ -148,14 +139,6 @@ module _ {schema : Schema} (text : List ℕ) (from : Join) (terms : List Term) (
         (subst (IsPermutation (map (λ (o : Output). o.1) a.kept))
         (sym a.shown) (IsPermutation-map (λ (o : Output). o.1) a.kept a.ordered a.same))
 
-    pub shows : (params : Row) (old new : State) (rows : List Row) → old.now.schema ≡ schema
-        → Shown text params old new rows
-        → IsPermutation (map (eval_all project) (matches (overlay old.now.trees []) terms from
-        (params ∷ [])))
-        rows
-    shows params old new rows has h = answer_rows params old.now rows
-        (answered params old new rows has h)
-
     pub may_show : (params : Row) (db : Database) (rows : List Row)
         → MayRead (understood schema text) db params rows
         → IsPermutation (map (eval_all project) (matches (overlay db.trees []) terms from (params ∷ [])))
@@ -164,13 +147,13 @@ module _ {schema : Schema} (text : List ℕ) (from : Join) (terms : List Term) (
         (may_answer text query names known params db rows h)
 
 -- what is shown, a text may show
-pub shown_read : (text : List ℕ) (params : Row) (old new : State) (rows : List Row)
-    → old.now.schema ≡ desk_schema
-    → IsPlain (understood desk_schema text) → reads_listing desk_schema text ≡ false
-    → Shown text params old new rows → MayRead (understood desk_schema text) old.now params rows
-shown_read text params old new rows schema plain unlisted h =
-    by_command (understood desk_schema text) plain (reads_as text params old new desk_schema schema
-    (command_of (understood desk_schema text)) refl plain unlisted rows h) where
+pub shown_read : {schema : Schema} (text : List ℕ) (params : Row) (old new : State) (rows : List Row)
+    → old.now.schema ≡ schema
+    → IsPlain (understood schema text) → reads_listing schema text ≡ false
+    → Shown text params old new rows → MayRead (understood schema text) old.now params rows
+shown_read {schema} text params old new rows same plain unlisted h =
+    by_command (understood schema text) plain (reads_as text params old new schema same
+    (command_of (understood schema text)) refl plain unlisted rows h) where
       by_command : (r : Result Compiled CompileError) → IsPlain r
           → Reads (command_of r) old.now params rows
           → MayRead r old.now params rows

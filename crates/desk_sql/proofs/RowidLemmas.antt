@@ -11,7 +11,6 @@ use Rattle.sqlite.specs.declared.types.Value.{Value}
 use Rattle.sqlite.specs.declared.types.Value.TheVariants.{Null, Int, Real, Text, Blob}
 use Rattle.sqlite.specs.Tree.{rowid, Trees, IsAscending, IsTable}
 use Rattle.sqlite.specs.View.{is_int}
-use Rattle.sqlite.specs.Query.{inner, end, matches}
 use Rattle.sqlite.specs.Term.{col, eval_all, holds}
 use Rattle.sqlite.specs.Program.{overlay}
 use Rattle.sqlite.specs.State.{HasCleanDisk, Shown}
@@ -26,14 +25,17 @@ use Rattle.sqlite.specs.declared.error.Error.TheVariants.{SqliteFailure}
 use Rattle.sqlite.specs.declared.error.ErrorCode.TheVariants.{DatabaseCorrupt}
 use Rattle.desk_sql.specs.Schema.{HasTables}
 use Rattle.desk_sql.specs.Rows.{AreNumbered, AreAllNumbered, Lists, by_cells}
-use Rattle.desk_sql.specs.Refusals.{IsRefusal, IsUnread, IsMisnumbered}
+use Rattle.desk_sql.specs.Refusals.{IsRefusal, IsUnread, IsMisnumbered, IsSure}
+use Rattle.desk_sql.specs.Statements.{SelectsAll, rowids}
 use Rattle.desk_sql.specs.Effects.{IsKept}
 use Rattle.desk_sql.specs.Finding.{Holds, AreRising, next_above, exceeds}
-use Rattle.desk_sql.proofs.SchemaLemmas.{any_indexes}
-use Rattle.desk_sql.proofs.QueryTexts.{IsWhole, rowids_query}
-use Rattle.desk_sql.proofs.ReadLemmas.{shows, scanned}
+use Rattle.desk_sql.proofs.Texts.{operator_rowids_text, plan_rowids_text, volume_rowids_text, span_rowids_text}
+use Rattle.desk_sql.proofs.QueryTexts.{IsWhole, rowids_query, operator_rowids_is, plan_rowids_is, volume_rowids_is, span_rowids_is}
+use Rattle.desk_sql.proofs.SureTexts.{operator_rowids_sure, plan_rowids_sure, volume_rowids_sure, span_rowids_sure}
+use Rattle.desk_sql.proofs.ReadLemmas.{scanned}
+use Rattle.desk_sql.proofs.AskLemmas.{all_selected}
 use Rattle.desk_sql.proofs.NumberLemmas.{IsApart, reversed}
-use Rattle.desk_sql.proofs.StatementLemmas.{every, lists}
+use Rattle.desk_sql.proofs.StatementLemmas.{every, selects_all}
 
 -- ---- the walk along the rows
 
@@ -183,9 +185,32 @@ numbered_by rows shown same up =
           (to_distinct shown apart)));
     }
 
+-- the query of the rowids of the table in a tree
+rowids_selected : (text : List ℕ) (tree : ℕ) → IsWhole text (rowids_query tree) (codes "rowid" ∷ [])
+    → IsSure text → ((db : Trees) → overlay db [] tree ≡ db tree)
+    → SelectsAll text (0 ∷ []) (λ db. rowids (db tree))
+rowids_selected text tree is sure alone =
+    selects_all text _ _ _ _ _ is sure (0 ∷ []) _ (λ e. refl) (λ x y. refl)
+    (λ db. subst (λ rows. map (eval_all (col 1 0 ∷ []))
+    (flat_map (λ r. cond (list_all (holds ([] ∷ r ∷ [])) []) (([] ∷ r ∷ []) ∷ []) []) rows)
+    ≡ rowids (db tree)) (sym (alone db))
+    (scanned (λ r. [] ∷ r ∷ []) [] (col 1 0 ∷ []) (λ r. rowid r ∷ []) (λ r. true) (λ r. refl)
+    (λ r. refl) (db tree) ∙ every (rowids (db tree))))
+
+pub operator_rowids_selected : SelectsAll operator_rowids_text (0 ∷ []) (λ db. rowids (db 0))
+operator_rowids_selected = rowids_selected _ 0 operator_rowids_is operator_rowids_sure (λ db. refl)
+
+pub plan_rowids_selected : SelectsAll plan_rowids_text (0 ∷ []) (λ db. rowids (db 2))
+plan_rowids_selected = rowids_selected _ 2 plan_rowids_is plan_rowids_sure (λ db. refl)
+
+pub volume_rowids_selected : SelectsAll volume_rowids_text (0 ∷ []) (λ db. rowids (db 4))
+volume_rowids_selected = rowids_selected _ 4 volume_rowids_is volume_rowids_sure (λ db. refl)
+
+pub span_rowids_selected : SelectsAll span_rowids_text (0 ∷ []) (λ db. rowids (db 6))
+span_rowids_selected = rowids_selected _ 6 span_rowids_is span_rowids_sure (λ db. refl)
+
 module _ {S : Type 0} (g : Ghosts S) (old new : Held S) (text : List ℕ) (tree : ℕ)
-    (is : IsWhole text (rowids_query tree) (codes "rowid" ∷ []))
-    (alone : (db : Trees) → overlay db [] tree ≡ db tree) where
+    (selects : SelectsAll text (0 ∷ []) (λ db. rowids (db tree))) where
   pub numbered_if : Holds g old HasTables → (HasCleanDisk (state g new)
       → HasCleanDisk (state g old))
       → IsKept g old new → (rows : List Row)
@@ -193,20 +218,10 @@ module _ {S : Type 0} (g : Ghosts S) (old new : Held S) (text : List ℕ) (tree 
       → Holds g new (λ (db : Database). AreNumbered (db.trees tree))
   numbered_if known was kept rows shown up clean live =
       let before = kept clean live in
-      let stored = (state g old).now.trees tree in
-      let cells = scanned (λ r. [] ∷ r ∷ []) [] (col 1 0 ∷ []) (λ r. rowid r ∷ []) (λ r. true)
-      (λ r. refl)
-      (λ r. refl) stored ∙ every (map (λ (r : Row). rowid r ∷ []) stored) in
-      let all_cells : map (eval_all (col 1 0 ∷ []))
-      (matches (overlay (state g old).now.trees []) [] (inner tree end) ([] ∷ []))
-      ≡ map (λ (r : Row). rowid r ∷ []) stored =
-      subst (λ rows. map (eval_all (col 1 0 ∷ []))
-      (flat_map (λ r. cond (list_all (holds ([] ∷ r ∷ [])) []) (([] ∷ r ∷ []) ∷ []) []) rows)
-      ≡ map (λ (r : Row). rowid r ∷ []) stored) (sym (alone (state g old).now.trees)) cells in
-      let all = shows text _ _ _ _ _ (is _) [] (state g old) (state g new) rows
-      (any_indexes (state g old).now (known (was clean) before.was_open)) (shown clean) in
+      let all = all_selected text _ _ selects (state g old) (state g new) rows
+      (known (was clean) before.was_open) (shown clean) in
       subst (λ (db : Database). AreNumbered (db.trees tree)) (sym before.now)
-      (numbered_by stored rows (subst (λ xs. IsPermutation xs rows) all_cells all) up)
+      (numbered_by ((state g old).now.trees tree) rows all.same up)
 
 -- what a later call keeps
 pub still : {S : Type 0} (g : Ghosts S) (old new : Held S) (Is : Database → Type 0) → Holds g old Is
@@ -271,24 +286,12 @@ rising_by rows shown lists num =
     }
 
 module _ {S : Type 0} (g : Ghosts S) (old new : Held S) (text : List ℕ) (tree : ℕ)
-    (is : IsWhole text (rowids_query tree) (codes "rowid" ∷ []))
-    (alone : (db : Trees) → overlay db [] tree ≡ db tree) where
+    (selects : SelectsAll text (0 ∷ []) (λ db. rowids (db tree))) where
   rises_if : (rows : List Row) → HasTables (state g old).now → AreNumbered ((state g old).now.trees tree)
       → Shown text [] (state g old) (state g new) rows → AreRising rows
   rises_if rows has num shown =
-      let stored = (state g old).now.trees tree in
-      let cells = scanned (λ r. [] ∷ r ∷ []) [] (col 1 0 ∷ []) (λ r. rowid r ∷ []) (λ r. true)
-      (λ r. refl)
-      (λ r. refl) stored ∙ every (map (λ (r : Row). rowid r ∷ []) stored) in
-      let all_cells : map (eval_all (col 1 0 ∷ []))
-      (matches (overlay (state g old).now.trees []) [] (inner tree end) ([] ∷ []))
-      ≡ map (λ (r : Row). rowid r ∷ []) stored =
-      subst (λ rows. map (eval_all (col 1 0 ∷ []))
-      (flat_map (λ r. cond (list_all (holds ([] ∷ r ∷ [])) []) (([] ∷ r ∷ []) ∷ []) []) rows)
-      ≡ map (λ (r : Row). rowid r ∷ []) stored) (sym (alone (state g old).now.trees)) cells in
-      rising_by stored rows (lists text _ _ _ _ _ (is _) [] (state g old) (state g new) rows
-      (any_indexes (state g old).now has) shown (0 ∷ []) _
-      (λ e. refl) (λ x y. refl) all_cells) num
+      rising_by ((state g old).now.trees tree) rows
+      (all_selected text _ _ selects (state g old) (state g new) rows has shown) num
 
   -- why a table is not found to be numbered
   pub unread_if : {V : Type 0} → Holds g old HasTables → HasCleanDisk (state g old)

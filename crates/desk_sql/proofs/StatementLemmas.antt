@@ -12,23 +12,27 @@ use Rattle.sqlite.specs.Term.{Term, Env, eval_all, holds}
 use Rattle.sqlite.specs.Query.{Join, Output, IsAnswer, output, key_cmp, matches}
 use Rattle.sqlite.specs.Program.{overlay}
 use Rattle.sqlite_value.specs.declared.keys.Key.{Key}
-use Rattle.sqlite.specs.State.{State, HasCleanDisk, Shown}
+use Rattle.sqlite.specs.State.{HasCleanDisk, Shown}
 use Rattle.sqlite.specs.Store.{Ghosts}
 use Rattle.sqlite.specs.Held.{Held, state}
-use Rattle.desk_sql.specs.Rows.{IsDesk, IsLegible, is_by, is_of, is_wanted, differs, is_at_most, is_at_least, is_below, is_above, held_columns, is_same, joined, has_volume, with_volumes, by_cells, columns, Tables, tables_of, Lists}
+use Rattle.desk_sql.specs.Rows.{IsDesk, IsLegible, is_by, is_of, is_wanted, differs, is_at_most, is_at_least, is_below, is_above, held_columns, is_same, joined, has_volume, with_volumes, by_cells, columns, tables_of, Lists}
 use Rattle.desk_sql.specs.declared.reading.rivals.Reach.{Reach}
 use Rattle.desk_sql.specs.Effects.{IsReady}
 use Rattle.desk_sql.specs.Rivals.{rival_params, MayRead, SelectsRivals}
-use Rattle.desk_sql.specs.Statements.{Selects, name_row, key_row}
 use Rattle.sqlite.specs.Schema.{Schema}
 use Rattle.desk_sql.specs.Schema.{desk_schema}
 use Rattle.desk_sql.specs.Finding.{Holds}
 use Rattle.sqlite.specs.Effect.{Database}
 use Rattle.sqlite.specs.Listing.{understood}
+use Rattle.sqlite.specs.Tree.{Trees}
+use Rattle.desk_sql.specs.Rows.{Tables}
+use Rattle.desk_sql.specs.Refusals.{IsSure}
+use Rattle.desk_sql.specs.Statements.{Selects, SelectsAll, name_row, key_row}
+use Rattle.desk_sql.proofs.SureTexts.{all_operators_sure, all_plans_sure, all_volumes_sure, all_spans_sure}
 use Rattle.desk_sql.proofs.Texts.{operator_named_text, all_operators_text, plan_of_text, all_plans_text, volumes_of_text, all_volumes_text, all_spans_text, own_plans_text, rival_spans_text}
-use Rattle.desk_sql.proofs.QueryTexts.{IsQueryIn, IsQuery, query_of, operator_named_is, operator_named_query, all_operators_is, all_operators_query, plan_of_is, plan_of_query, all_plans_is, all_plans_query, volumes_of_is, volumes_of_query, all_volumes_is, all_volumes_query, all_spans_is, all_spans_query, own_plans_is, own_plans_query, rival_spans_is, rival_spans_query}
+use Rattle.desk_sql.proofs.QueryTexts.{IsQueryIn, IsQuery, IsWhole, query_of, operator_named_is, operator_named_query, all_operators_is, all_operators_query, plan_of_is, plan_of_query, all_plans_is, all_plans_query, volumes_of_is, volumes_of_query, all_volumes_is, all_volumes_query, all_spans_is, all_spans_query, own_plans_is, own_plans_query, rival_spans_is, rival_spans_query}
 use Rattle.desk_sql.proofs.SchemaLemmas.{any_indexes}
-use Rattle.desk_sql.proofs.ReadLemmas.{was_open, answered, answer_rows, may_answer, may_show, scanned, equals_text, equals, either_true, le_number, ge_number, lt_number, gt_number}
+use Rattle.desk_sql.proofs.ReadLemmas.{was_open, answer_rows, may_answer, may_show, scanned, equals_text, equals, either_true, le_number, ge_number, lt_number, gt_number}
 
 -- a value that a desk's rows have, whenever something is shown
 module _ {S V : Type 0} (g : Ghosts S) (old new : Held S) (items : V → List Row) (text : List ℕ)
@@ -111,19 +115,6 @@ module _ {schema : Schema} (text : List ℕ) (from : Join) (terms : List Term) (
             (sorted_shown (map (λ k. k.1) order) cells a.ordered compares all a.sorted);
       }
 
-module _ {schema : Schema} (text : List ℕ) (from : Join) (terms : List Term) (project : List Term)
-    (order : List (Term × Key))
-    (names : List (List ℕ)) (known : IsQueryIn schema text (query_of from terms project order) names)
-    (params : Row) (old new : State) (rows : List Row) (has : old.now.schema ≡ schema)
-    (h : Shown text params old new rows) (cells : List ℕ) (wanted : List Row) where
-  pub lists : ((e : Env) → eval_all (map (λ k. k.0) order) e ≡ map (column (eval_all project e)) cells)
-      → ((x y : Row) → key_cmp 0 (map (λ k. k.1) order) (map (column x) cells) (map (column y) cells)
-      ≡ by_cells cells x y)
-      → map (eval_all project) (matches (overlay old.now.trees []) terms from (params ∷ [])) ≡ wanted
-      → Lists cells wanted rows
-  lists = listed text from terms project order names known params cells old.now rows wanted
-      (answered text from terms project order names known params old new rows has h)
-
 module _ (text : List ℕ) (from : Join) (terms : List Term) (project : List Term) (order : List (Term × Key))
     (names : List (List ℕ)) (known : IsQuery text (query_of from terms project order) names)
     {Given : Type 0} (params : Given → Row) (cells : List ℕ) (wanted : Given → Tables → List Row) where
@@ -141,6 +132,25 @@ module _ (text : List ℕ) (from : Join) (terms : List Term) (project : List Ter
         (wanted given (tables_of db.trees))
         (may_answer text (query_of from terms project order) names known (params given) db rows h) keys
         compares (are given db);
+  }
+
+module _ (text : List ℕ) (from : Join) (terms : List Term) (project : List Term) (order : List (Term × Key))
+    (names : List (List ℕ)) (known : IsWhole text (query_of from terms project order) names)
+    (sure : IsSure text) (cells : List ℕ) (wanted : Trees → List Row) where
+  pub selects_all :
+      ((e : Env) → eval_all (map (λ k. k.0) order) e ≡ map (column (eval_all project e)) cells)
+      → ((x y : Row) → key_cmp 0 (map (λ k. k.1) order) (map (column x) cells) (map (column y) cells)
+      ≡ by_cells cells x y)
+      → ((db : Trees) → map (eval_all project) (matches (overlay db []) terms from ([] ∷ [])) ≡ wanted db)
+      → SelectsAll text cells wanted
+  selects_all keys compares are = record {
+    sure = sure;
+    rows = λ db rows has h.
+        let here = known db.schema.indexes in
+        listed text from terms project order names here [] cells db rows (wanted db.trees)
+        (may_answer text (query_of from terms project order) names here [] db rows
+        (subst (λ s. MayRead (understood s text) db [] rows) (any_indexes db has) h))
+        keys compares (are db.trees);
   }
 
 -- ---- joins
@@ -225,17 +235,12 @@ operator_named_selected =
     operator_named_query.project (columns 2) (is_by name) (λ r. refl)
     (λ r. both_hold _ ∙ equals_text (column r 1) name) (db.trees 0))
 
-pub all_operators : (old new : State) (rows : List Row) → IsLegible old.now
-    → Shown all_operators_text ([]) old new rows
-    → Lists (0 ∷ []) ((tables_of old.now.trees).operators) rows
-all_operators old new rows legible h =
-    lists all_operators_text _ _ _ _ _ (all_operators_is _) ([]) old new rows
-    (any_indexes old.now legible.schema) h (0 ∷ []) _
-    (λ e. refl)
-    (λ x y. refl)
-    (scanned (λ r. [] ∷ r ∷ []) all_operators_query.filter all_operators_query.project (columns 2)
-    (λ r. true)
-    (λ r. refl) (λ r. refl) (old.now.trees 0) ∙ every (map (columns 2) (old.now.trees 0)))
+pub all_operators_selected : SelectsAll all_operators_text (0 ∷ []) (λ db. (tables_of db).operators)
+all_operators_selected =
+    selects_all all_operators_text _ _ _ _ _ all_operators_is all_operators_sure (0 ∷ []) _
+    (λ e. refl) (λ x y. refl)
+    (λ db. scanned (λ r. [] ∷ r ∷ []) all_operators_query.filter all_operators_query.project (columns 2)
+    (λ r. true) (λ r. refl) (λ r. refl) (db 0) ∙ every (map (columns 2) (db 0)))
 
 pub plan_of_selected :
     Selects plan_of_text key_row [] (λ key t. filter (is_of key.operator key.id) t.plans)
@@ -246,16 +251,12 @@ plan_of_selected =
     (λ r. ap₂ (λ a b. a && b) (equals_text (column r 1) key.operator)
     (both_hold _ ∙ equals_text (column r 2) key.id)) (db.trees 2))
 
-pub all_plans : (old new : State) (rows : List Row) → IsLegible old.now
-    → Shown all_plans_text ([]) old new rows
-    → Lists (0 ∷ 1 ∷ []) ((tables_of old.now.trees).plans) rows
-all_plans old new rows legible h =
-    lists all_plans_text _ _ _ _ _ (all_plans_is _) ([]) old new rows
-    (any_indexes old.now legible.schema) h (0 ∷ 1 ∷ []) _
-    (λ e. refl)
-    (λ x y. refl)
-    (scanned (λ r. [] ∷ r ∷ []) all_plans_query.filter all_plans_query.project (columns 5) (λ r. true)
-    (λ r. refl) (λ r. refl) (old.now.trees 2) ∙ every (map (columns 5) (old.now.trees 2)))
+pub all_plans_selected : SelectsAll all_plans_text (0 ∷ 1 ∷ []) (λ db. (tables_of db).plans)
+all_plans_selected =
+    selects_all all_plans_text _ _ _ _ _ all_plans_is all_plans_sure (0 ∷ 1 ∷ []) _
+    (λ e. refl) (λ x y. refl)
+    (λ db. scanned (λ r. [] ∷ r ∷ []) all_plans_query.filter all_plans_query.project (columns 5)
+    (λ r. true) (λ r. refl) (λ r. refl) (db 2) ∙ every (map (columns 5) (db 2)))
 
 pub volumes_of_selected :
     Selects volumes_of_text key_row (2 ∷ []) (λ key t. filter (is_of key.operator key.id) t.volumes)
@@ -266,29 +267,19 @@ volumes_of_selected =
     (λ r. ap₂ (λ a b. a && b) (equals_text (column r 1) key.operator)
     (both_hold _ ∙ equals_text (column r 2) key.id)) (db.trees 4))
 
-pub all_volumes : (old new : State) (rows : List Row) → IsLegible old.now
-    → Shown all_volumes_text ([]) old new rows → Lists (0 ∷ 1 ∷ 2 ∷ [])
-    ((tables_of old.now.trees).volumes)
-    rows
-all_volumes old new rows legible h =
-    lists all_volumes_text _ _ _ _ _ (all_volumes_is _) ([]) old new rows
-    (any_indexes old.now legible.schema) h (0 ∷ 1 ∷ 2 ∷ []) _
-    (λ e. refl)
-    (λ x y. refl)
-    (scanned (λ r. [] ∷ r ∷ []) all_volumes_query.filter all_volumes_query.project (columns 8)
-    (λ r. true)
-    (λ r. refl) (λ r. refl) (old.now.trees 4) ∙ every (map (columns 8) (old.now.trees 4)))
+pub all_volumes_selected : SelectsAll all_volumes_text (0 ∷ 1 ∷ 2 ∷ []) (λ db. (tables_of db).volumes)
+all_volumes_selected =
+    selects_all all_volumes_text _ _ _ _ _ all_volumes_is all_volumes_sure (0 ∷ 1 ∷ 2 ∷ []) _
+    (λ e. refl) (λ x y. refl)
+    (λ db. scanned (λ r. [] ∷ r ∷ []) all_volumes_query.filter all_volumes_query.project (columns 8)
+    (λ r. true) (λ r. refl) (λ r. refl) (db 4) ∙ every (map (columns 8) (db 4)))
 
-pub all_spans : (old new : State) (rows : List Row) → IsLegible old.now
-    → Shown all_spans_text ([]) old new rows
-    → Lists (0 ∷ 1 ∷ 2 ∷ 3 ∷ []) ((tables_of old.now.trees).spans) rows
-all_spans old new rows legible h =
-    lists all_spans_text _ _ _ _ _ (all_spans_is _) ([]) old new rows
-    (any_indexes old.now legible.schema) h (0 ∷ 1 ∷ 2 ∷ 3 ∷ []) _
-    (λ e. refl)
-    (λ x y. refl)
-    (scanned (λ r. [] ∷ r ∷ []) all_spans_query.filter all_spans_query.project (columns 10) (λ r. true)
-    (λ r. refl) (λ r. refl) (old.now.trees 6) ∙ every (map (columns 10) (old.now.trees 6)))
+pub all_spans_selected : SelectsAll all_spans_text (0 ∷ 1 ∷ 2 ∷ 3 ∷ []) (λ db. (tables_of db).spans)
+all_spans_selected =
+    selects_all all_spans_text _ _ _ _ _ all_spans_is all_spans_sure (0 ∷ 1 ∷ 2 ∷ 3 ∷ []) _
+    (λ e. refl) (λ x y. refl)
+    (λ db. scanned (λ r. [] ∷ r ∷ []) all_spans_query.filter all_spans_query.project (columns 10)
+    (λ r. true) (λ r. refl) (λ r. refl) (db 6) ∙ every (map (columns 10) (db 6)))
 
 pub own_plans_selected :
     Selects own_plans_text name_row (1 ∷ 5 ∷ []) (λ name. with_volumes (is_by name))

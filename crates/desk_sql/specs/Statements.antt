@@ -1,8 +1,9 @@
 -- What a text of SQL selects, changes or makes.
-use Rattle.std.specs.Prelude.{◌≡◌, false, ℕ, pos, List, [], ◌∷◌, length, Option, None, Result, Ok, Err}
+use Rattle.std.specs.Prelude.{◌≡◌, false, ℕ, pos, List, [], ◌∷◌, length, map, Option, None, Result, Ok, Err}
 use Rattle.sqlite.specs.declared.types.Value.TheVariants.{Int, Text}
 use Rattle.sqlite.specs.Order.{Row}
 use Rattle.sqlite.specs.Schema.{Schema}
+use Rattle.sqlite.specs.Tree.{Trees, rowid}
 use Rattle.sqlite.specs.declared.run.Mode.{Mode}
 use Rattle.sqlite.specs.Effect.{Database}
 use Rattle.sqlite.specs.Does.{Tally, Does}
@@ -15,8 +16,9 @@ use Rattle.sqlite_schema.specs.declared.schema.Keys.TheVariants.{Enforced}
 use Rattle.sqlite_resolve.specs.declared.compiled.Compiled.{Compiled}
 use Rattle.sqlite_resolve.specs.declared.error.CompileError.{CompileError}
 use Rattle.desk_sql.specs.declared.changing.writing.PlanRecord.{PlanRecord}
-use Rattle.desk_sql.specs.Schema.{desk_schema, table_schema}
+use Rattle.desk_sql.specs.Schema.{desk_schema, table_schema, HasTables}
 use Rattle.desk_sql.specs.Rows.{IsDesk, IsUnindexed, Tables, tables_of, operator_row, plan_row, Lists}
+use Rattle.desk_sql.specs.Refusals.{IsSure}
 use Rattle.desk_sql.specs.Making.{HasEmpty, AreSame}
 use Rattle.desk_sql.specs.Rivals.{MayRead}
 
@@ -68,7 +70,18 @@ pub record Selects {Given : Type 0} (text : List ℕ) (params : Given → Row) (
         → MayRead (understood desk_schema text) db (params given) shown
         → Lists cells (wanted given (tables_of db.trees)) shown
 
--- one row, of how many rows there are
+-- a text that only memory, the disk and a limit on steps refuse, and that shows just these rows of a desk's
+-- tables, with the index or without it, in the order of these columns
+pub record SelectsAll (text : List ℕ) (cells : List ℕ) (wanted : Trees → List Row) : Type 0 where
+  pub sure : IsSure text
+  pub rows : (db : Database) (shown : List Row) → HasTables db
+      → MayRead (understood db.schema text) db [] shown → Lists cells (wanted db.trees) shown
+
+-- the rowids of the rows of a tree
+abbrev pub rowids : List Row → List Row
+rowids rows = map (λ r. rowid r ∷ []) rows
+
+-- one row, of how many rows there are (SQL stops to count at 2 ^ 63 - 1)
 abbrev pub counted : List Row → List Row
 counted rows = (count (length rows) ∷ []) ∷ []
 

@@ -1,6 +1,6 @@
 //! Whether the rowids of the tables are whole numbers, none of them twice.
 
-ghost use Rattle.std.specs.Prelude.{◌≡◌, ◌≤◌, ◌↔◌, false, IsTrue, OnOk, OnErr, IfErr};
+ghost use Rattle.std.specs.Prelude.{◌≡◌, ◌≤◌, ◌↔◌, [], ◌∷◌, false, IsTrue, OnOk, OnErr, IfErr};
 ghost use Rattle.sqlite.specs.Tree.{rowid};
 ghost use Rattle.sqlite.specs.View.{doubt};
 ghost use Rattle.sqlite.specs.State.{HasCleanDisk};
@@ -9,6 +9,7 @@ ghost use Rattle.desk_sql.specs.Schema.{HasTables};
 ghost use Rattle.desk_sql.specs.Rows.{AreNumbered, IsLegible};
 ghost use Rattle.desk_sql.specs.Effects.{IsKept};
 ghost use Rattle.desk_sql.specs.Refusals.{IsUnread};
+ghost use Rattle.desk_sql.specs.Statements.{SelectsAll, rowids};
 ghost use Rattle.desk_sql.specs.Finding.{Holds, AreRising, next_above};
 
 use crate::reading::asking::ask;
@@ -57,6 +58,13 @@ fn test_rising(rows: &[Row]) -> Result<(), Error>
     }
 }
 
+#[tactic(auto, using(crate::proofs::RowidLemmas::operator_rowids_selected))]
+fn operator_rowids_text() -> &'static str
+    ensures { SelectsAll result.now (0 ∷ []) (λ db. rowids (db 0)) }
+{
+    "SELECT rowid FROM operator ORDER BY rowid"
+}
+
 fn test_operators<S: Alter>(connection: &mut Connection<S>) -> Result<(), Error>
     requires known { Holds S.Store connection.old HasTables }
     requires settled { connection.old.in_transaction ≡ false }
@@ -71,8 +79,15 @@ fn test_operators<S: Alter>(connection: &mut Connection<S>) -> Result<(), Error>
         (state S.Store connection.new).is_clean }
     ensures faults { (state S.Store connection.old).faults ≤ (state S.Store connection.new).faults }
 {
-    let rows = ask(connection, "SELECT rowid FROM operator ORDER BY rowid")?;
+    let rows = ask(connection, operator_rowids_text())?;
     test_rising(&rows)
+}
+
+#[tactic(auto, using(crate::proofs::RowidLemmas::plan_rowids_selected))]
+fn plan_rowids_text() -> &'static str
+    ensures { SelectsAll result.now (0 ∷ []) (λ db. rowids (db 2)) }
+{
+    "SELECT rowid FROM plan ORDER BY rowid"
 }
 
 fn test_plans<S: Alter>(connection: &mut Connection<S>) -> Result<(), Error>
@@ -89,8 +104,15 @@ fn test_plans<S: Alter>(connection: &mut Connection<S>) -> Result<(), Error>
         (state S.Store connection.new).is_clean }
     ensures faults { (state S.Store connection.old).faults ≤ (state S.Store connection.new).faults }
 {
-    let rows = ask(connection, "SELECT rowid FROM plan ORDER BY rowid")?;
+    let rows = ask(connection, plan_rowids_text())?;
     test_rising(&rows)
+}
+
+#[tactic(auto, using(crate::proofs::RowidLemmas::volume_rowids_selected))]
+fn volume_rowids_text() -> &'static str
+    ensures { SelectsAll result.now (0 ∷ []) (λ db. rowids (db 4)) }
+{
+    "SELECT rowid FROM volume ORDER BY rowid"
 }
 
 fn test_volumes<S: Alter>(connection: &mut Connection<S>) -> Result<(), Error>
@@ -107,8 +129,15 @@ fn test_volumes<S: Alter>(connection: &mut Connection<S>) -> Result<(), Error>
         (state S.Store connection.new).is_clean }
     ensures faults { (state S.Store connection.old).faults ≤ (state S.Store connection.new).faults }
 {
-    let rows = ask(connection, "SELECT rowid FROM volume ORDER BY rowid")?;
+    let rows = ask(connection, volume_rowids_text())?;
     test_rising(&rows)
+}
+
+#[tactic(auto, using(crate::proofs::RowidLemmas::span_rowids_selected))]
+fn span_rowids_text() -> &'static str
+    ensures { SelectsAll result.now (0 ∷ []) (λ db. rowids (db 6)) }
+{
+    "SELECT rowid FROM span ORDER BY rowid"
 }
 
 fn test_spans<S: Alter>(connection: &mut Connection<S>) -> Result<(), Error>
@@ -125,7 +154,7 @@ fn test_spans<S: Alter>(connection: &mut Connection<S>) -> Result<(), Error>
         (state S.Store connection.new).is_clean }
     ensures faults { (state S.Store connection.old).faults ≤ (state S.Store connection.new).faults }
 {
-    let rows = ask(connection, "SELECT rowid FROM span ORDER BY rowid")?;
+    let rows = ask(connection, span_rowids_text())?;
     test_rising(&rows)
 }
 

@@ -8,9 +8,17 @@ ghost use Rattle.desk_sql.specs.Rows.{IsLegible, tables_of, Lists};
 ghost use Rattle.desk_sql.specs.Effects.{IsKept};
 ghost use Rattle.desk_sql.specs.Finding.{Holds};
 ghost use Rattle.desk_sql.specs.Refusals.{IsRefusal};
+ghost use Rattle.desk_sql.specs.Statements.{SelectsAll};
 
 use crate::reading::asking::ask;
 use sqlite::{Alter, Connection, Error, Row};
+
+#[tactic(auto, using(crate::proofs::StatementLemmas::all_operators_selected))]
+fn all_operators_text() -> &'static str
+    ensures { SelectsAll result.now (0 ∷ []) (λ db. (tables_of db).operators) }
+{
+    "SELECT name, ceiling FROM operator ORDER BY name"
+}
 
 /// The rows `name`, `ceiling` of all operators, by name.
 pub fn all_operators<S: Alter>(connection: &mut Connection<S>) -> Result<Vec<Row>, Error>
@@ -31,10 +39,14 @@ pub fn all_operators<S: Alter>(connection: &mut Connection<S>) -> Result<Vec<Row
         (state S.Store connection.new).is_clean }
     ensures faults { (state S.Store connection.old).faults ≤ (state S.Store connection.new).faults }
 {
-    ask(
-        connection,
-        "SELECT name, ceiling FROM operator ORDER BY name",
-    )
+    ask(connection, all_operators_text())
+}
+
+#[tactic(auto, using(crate::proofs::StatementLemmas::all_plans_selected))]
+fn all_plans_text() -> &'static str
+    ensures { SelectsAll result.now (0 ∷ 1 ∷ []) (λ db. (tables_of db).plans) }
+{
+    "SELECT operator, id, priority, usage, aircraft FROM plan ORDER BY operator, id"
 }
 
 /// The rows `operator`, `id`, `priority`, `usage`, `aircraft` of all plans, by operator and id.
@@ -56,10 +68,15 @@ pub fn all_plans<S: Alter>(connection: &mut Connection<S>) -> Result<Vec<Row>, E
         (state S.Store connection.new).is_clean }
     ensures faults { (state S.Store connection.old).faults ≤ (state S.Store connection.new).faults }
 {
-    ask(
-        connection,
-        "SELECT operator, id, priority, usage, aircraft FROM plan ORDER BY operator, id",
-    )
+    ask(connection, all_plans_text())
+}
+
+#[tactic(auto, using(crate::proofs::StatementLemmas::all_volumes_selected))]
+fn all_volumes_text() -> &'static str
+    ensures { SelectsAll result.now (0 ∷ 1 ∷ 2 ∷ []) (λ db. (tables_of db).volumes) }
+{
+    "SELECT operator, id, place, lower, upper, start, stop, asked FROM volume \
+     ORDER BY operator, id, place"
 }
 
 /// The rows of all volumes, with the columns of `volumes_of`, by operator, id and place.
@@ -81,11 +98,15 @@ pub fn all_volumes<S: Alter>(connection: &mut Connection<S>) -> Result<Vec<Row>,
         (state S.Store connection.new).is_clean }
     ensures faults { (state S.Store connection.old).faults ≤ (state S.Store connection.new).faults }
 {
-    ask(
-        connection,
-        "SELECT operator, id, place, lower, upper, start, stop, asked FROM volume \
-        ORDER BY operator, id, place",
-    )
+    ask(connection, all_volumes_text())
+}
+
+#[tactic(auto, using(crate::proofs::StatementLemmas::all_spans_selected))]
+fn all_spans_text() -> &'static str
+    ensures { SelectsAll result.now (0 ∷ 1 ∷ 2 ∷ 3 ∷ []) (λ db. (tables_of db).spans) }
+{
+    "SELECT operator, id, place, first, last, lower, upper, start, stop, priority FROM span \
+     ORDER BY operator, id, place, first"
 }
 
 /// The rows `operator`, `id`, `place`, `first`, `last`, `lower`, `upper`, `start`, `stop`, `priority`
@@ -108,9 +129,5 @@ pub fn all_spans<S: Alter>(connection: &mut Connection<S>) -> Result<Vec<Row>, E
         (state S.Store connection.new).is_clean }
     ensures faults { (state S.Store connection.old).faults ≤ (state S.Store connection.new).faults }
 {
-    ask(
-        connection,
-        "SELECT operator, id, place, first, last, lower, upper, start, stop, priority FROM span \
-        ORDER BY operator, id, place, first",
-    )
+    ask(connection, all_spans_text())
 }

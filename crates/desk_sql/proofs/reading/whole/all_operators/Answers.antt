@@ -1,20 +1,21 @@
 use Rattle.std.proofs.Common.{arith, [], ◌∷◌}
 use Rattle.sqlite.specs.Held.{state}
 use Rattle.desk_sql.specs.Rows.{tables_of, Lists}
-use Rattle.desk_sql.proofs.SureTexts.{all_operators_sure}
-use Rattle.desk_sql.proofs.StatementLemmas.{if_read, all_operators}
+use Rattle.desk_sql.proofs.AskLemmas.{all_selected}
+use Rattle.desk_sql.proofs.StatementLemmas.{if_read}
 use Rattle.desk_sql.proofs.reading.whole.all_operators.Goals as goal
 
 pub ask-requires-clause-sure : goal.ask-requires-clause-sure
-ask-requires-clause-sure g c = all_operators_sure
+ask-requires-clause-sure g c = c.all_operators_text.ensures.sure
 
 pub returns-clause-value : goal.returns-clause-value
 returns-clause-value g c clean =
     if_read g.S.Store c.args.connection.now c.ask.new.connection (λ v. v.items) _ _
     (Lists (0 ∷ []) ((tables_of (state g.S.Store c.args.connection.now).now.trees).operators))
     c.requires.legible (omega (arith, c.ask.ensures.doubt, clean))
-    (all_operators (state g.S.Store c.args.connection.now) (state g.S.Store c.ask.new.connection))
-    c.ask.result (c.ask.ensures.shown clean)
+    (λ rows legible shown. all_selected _ _ _ c.all_operators_text.ensures
+    (state g.S.Store c.args.connection.now) (state g.S.Store c.ask.new.connection) rows legible.schema
+    shown) c.ask.result (c.ask.ensures.shown clean)
 
 pub ask-requires-clause-known : goal.ask-requires-clause-known
 ask-requires-clause-known g c clean live = (c.requires.legible clean live).schema

@@ -1,19 +1,21 @@
 use Rattle.std.proofs.Common.{arith, [], ◌∷◌}
 use Rattle.sqlite.specs.Held.{state}
 use Rattle.desk_sql.specs.Rows.{tables_of, Lists}
-use Rattle.desk_sql.proofs.SureTexts.{all_volumes_sure}
-use Rattle.desk_sql.proofs.StatementLemmas.{if_read, all_volumes}
+use Rattle.desk_sql.proofs.AskLemmas.{all_selected}
+use Rattle.desk_sql.proofs.StatementLemmas.{if_read}
 use Rattle.desk_sql.proofs.reading.whole.all_volumes.Goals as goal
 
 pub ask-requires-clause-sure : goal.ask-requires-clause-sure
-ask-requires-clause-sure g c = all_volumes_sure
+ask-requires-clause-sure g c = c.all_volumes_text.ensures.sure
 
 pub returns-clause-value : goal.returns-clause-value
 returns-clause-value g c clean =
     if_read g.S.Store c.args.connection.now c.ask.new.connection (λ v. v.items) _ _
     (Lists (0 ∷ 1 ∷ 2 ∷ []) ((tables_of (state g.S.Store c.args.connection.now).now.trees).volumes))
     c.requires.legible (omega (arith, c.ask.ensures.doubt, clean))
-    (all_volumes (state g.S.Store c.args.connection.now) (state g.S.Store c.ask.new.connection)) c.ask.result
+    (λ rows legible shown. all_selected _ _ _ c.all_volumes_text.ensures
+    (state g.S.Store c.args.connection.now) (state g.S.Store c.ask.new.connection) rows legible.schema
+    shown) c.ask.result
     (c.ask.ensures.shown clean)
 
 pub ask-requires-clause-known : goal.ask-requires-clause-known
