@@ -1,7 +1,6 @@
 -- What others hold, plan by plan.
-use Rattle.std.proofs.Common.{◌≡◌, ℕ, ◌+◌, ◌<◌, Bool, true, false, ◌&&◌, ◌||◌, cond, not, List, [], ◌∷◌, ◌++◌, length, get_or, take, map, Option, Some, None, refl, sym, ap, ◌∙◌, arith}
+use Rattle.std.proofs.Common.{◌≡◌, ℕ, ◌+◌, ◌<◌, Bool, true, false, ◌&&◌, ◌||◌, cond, not, List, [], ◌∷◌, ◌++◌, length, get_or, take, Option, Some, None, refl, sym, ap, ◌∙◌, arith}
 use Rattle.std.specs.Prelude.{nat_le, max}
-use Rattle.std.specs.List.{filter}
 use Rattle.std.proofs.lemmas.Bool.Decides.{nat_tests}
 use Rattle.std.proofs.lemmas.List.Folds.{list_any_more}
 use Rattle.desk_rules.specs.declared.plan.PlanRow.{PlanRow}
@@ -11,7 +10,7 @@ use Rattle.volume4d.specs.Point.{Point}
 use Rattle.volume4d.specs.Volume.{area_has}
 use Rattle.volume4d.specs.Slab.{slab_has, slabs_have, top_held}
 use Rattle.volume4d.specs.Level.{greater}
-use Rattle.volume4d.specs.LevelLaws.{greater_none, greater_assoc, greater_comm, level_where, top_held-push, top_held-nil}
+use Rattle.volume4d.specs.LevelLaws.{greater_none, greater_assoc, level_where, top_held-push, top_held-nil}
 use Rattle.desk_rules.specs.PlanLaws.{top_priority-cons, top_priority-nil}
 use Rattle.desk_rules.specs.Plan.{is_live, row_holds, top_priority}
 use Rattle.desk_rules.specs.Conflict.{at_least}

@@ -1,7 +1,10 @@
 //! A store in memory.
 
 ghost use Rattle.std.specs.Prelude.{◌≡◌, ◌≤◌, ◌&&◌, length, [], IfOk, OnOk, OnErr};
+ghost use Rattle.std.specs.List.Sorted.{IsNonDecreasingBy};
 ghost use Rattle.std.specs.Ordering.{is_eq};
+ghost use Rattle.volume4d.specs.Point.{Point};
+ghost use Rattle.volume4d.specs.Slab.{top_held};
 ghost use Rattle.desk_rules.specs.Conflict.{at_least};
 ghost use Rattle.desk_rules.specs.Limits.{max_plans};
 ghost use Rattle.desk_store.specs.World.{text_cmp, rows_by, stored_of};
@@ -243,7 +246,7 @@ fn rows_of(alloc: Global, plans: &Plans, operator: &Operator) -> Result<Vec<Plan
 }
 
 // The slabs that all live plans hold but the operator's own of the id, from a priority on, where
-// they meet the extent.
+// they meet the extent; ascending by their first leaves, so that they are met in one pass.
 fn rivals_of(
     alloc: Global,
     plans: &Plans,
@@ -261,7 +264,16 @@ fn rivals_of(
             push_rival(&mut helds, operator, id, least, extent, key, plan)?;
         }
     }
-    Ok(helds)
+    Ok(in_order(helds))
+}
+
+// The same slabs, ascending by their first leaves.
+fn in_order(mut helds: Vec<Held>) -> Vec<Held>
+    ensures same { (x : Point) → top_held result.items x ≡ top_held helds.items x }
+    ensures order { IsNonDecreasingBy (λ h. h.slab.first) result.items }
+{
+    helds.sort_unstable_by_key(|held| held.slab.first);
+    helds
 }
 
 // Appends the slabs that a plan holds and that meet the extent, unless it is the operator's own of

@@ -42,5 +42,7 @@ loop-key-preserved-in-Continue-1 c = λ x inside.
 
 pub returns : goal.returns
 returns c = λ x inside.
-    rivals_end c.args.least c.args.operator.now c.args.id.now (filed_all c.loop-key.key-iterator) x _ _
+    c.in_order.ensures.same x
+    ∙ rivals_end c.args.least c.args.operator.now c.args.id.now
+    (filed_all c.loop-key.key-iterator) x _ _
     (ap filed_all c.in-None.ensures.steps.0) (c.loop-key.invariant x inside)
