@@ -30,11 +30,10 @@ unfolding top_held
 top_held_none x = refl
 
 -- the step of a loop that keeps the top
-pub top_step : (hs : List Held) (i : ℕ) (h : Held) (x : Point) (o top : Option ℕ) (b : Bool)
+pub top_step : (hs : List Held) (i : ℕ) (h : Held) (x : Point) (o top : Option ℕ)
     → i < length hs
-    → h ≡ get_or hs i h → o ≡ top_held (take i hs) x → b ≡ slab_has h.slab x → top
-    ≡ greater o (level_where b h.priority) → top ≡ top_held (take (i + 1) hs) x
-top_step hs i h x o top b below is so_far test e =
-    e ∙ ap (λ c. greater o (level_where c h.priority)) test
-    ∙ ap (λ q. greater q (level_where (slab_has h.slab x) h.priority)) so_far
+    → h ≡ get_or hs i h → o ≡ top_held (take i hs) x → top
+    ≡ greater o (level_where (slab_has h.slab x) h.priority) → top ≡ top_held (take (i + 1) hs) x
+top_step hs i h x o top below is so_far e =
+    e ∙ ap (λ q. greater q (level_where (slab_has h.slab x) h.priority)) so_far
     ∙ sym (top_held_more hs i h x below is)

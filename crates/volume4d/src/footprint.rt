@@ -213,6 +213,16 @@ fn rect_of(bytes: &[u8]) -> Option<Rect>
     if bytes.len() != RECTANGLE_BYTES {
         return None;
     }
+    rect_in(bytes)
+}
+
+// The rectangle of these 18 bytes, or `None` if its numbers are not those of one.
+fn rect_in(bytes: &[u8]) -> Option<Rect>
+    requires { length bytes.now ≡ 18 }
+    ensures { MatchOption result
+        ((shape : Shape) → ¬ AreBytesOf (2 ∷ bytes.now) shape)
+        (λ rect. AreBytesOf (2 ∷ bytes.now) (shapes.rectangle rect)) }
+{
     let (i_min, i_max) = (number_at(bytes, 1), number_at(bytes, 5));
     let (j_min, j_max) = (number_at(bytes, 9), number_at(bytes, 13));
     Rect::try_new(bytes[0], i_min, i_max, j_min, j_max, bytes[17]).ok()

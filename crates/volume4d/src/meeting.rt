@@ -5,8 +5,9 @@ ghost use Rattle.std.specs.Option.{option_map};
 ghost use Rattle.s2_cellid.specs.Family.{leaf_id};
 ghost use Rattle.volume4d.specs.declared.slab.Slab.{Slab};
 ghost use Rattle.volume4d.specs.Point.{Point};
-ghost use Rattle.volume4d.specs.Slab.{slabs_have, helds_have, top_held};
+ghost use Rattle.volume4d.specs.Slab.{slab_has, slabs_have, helds_have, top_held};
 ghost use Rattle.volume4d.specs.Level.{greater};
+ghost use Rattle.volume4d.specs.LevelLaws.{level_where};
 ghost use Rattle.volume4d.specs.Meeting.{IsFirst, IsFirstPoint};
 ghost use Rattle.volume4d.specs.Shared.{is_shared};
 
@@ -132,9 +133,18 @@ fn top_at(theirs: &[Held], x: &Corner) -> Option<u32>
 {
     let mut top = None;
     for held in theirs {
-        if has(&held.slab, x) {
-            top = Some(higher(top, held.priority));
-        }
+        top = raised(top, held, x);
+    }
+    top
+}
+
+// The greater of a priority that may be missing and of what a held slab has at a point.
+fn raised(top: Option<u32>, held: &Held, x: &Corner) -> Option<u32>
+    ensures { result
+        ≡ greater top (level_where (slab_has held.now.slab x.now) held.now.priority) }
+{
+    if has(&held.slab, x) {
+        return Some(higher(top, held.priority));
     }
     top
 }

@@ -2,7 +2,7 @@ use Rattle.std.proofs.Common.{◌∙◌, ap, get_or}
 use Rattle.std.specs.Result.{result_ok}
 use Rattle.s2_cover.specs.Rectangles.{RectParts}
 use Rattle.volume4d.proofs.RectReadings.{read_rect}
-use Rattle.volume4d.proofs.footprint.rect_of.Goals as goal
+use Rattle.volume4d.proofs.footprint.rect_in.Goals as goal
 
 pub returns : goal.returns
 returns c =
@@ -15,7 +15,7 @@ returns c =
       j_max = c.number_at-j_max.result;
       level = get_or bytes 17 0;
     } in
-    read_rect bytes parts c.ok.result (λ k. (c.type_inv.bytes k).fits) c.if-bytes-ne-RECTANGLE_BYTES.false
+    read_rect bytes parts c.ok.result (λ k. (c.type_inv.bytes k).fits) c.requires
     (λ k. record {
       face = get_or bytes 0 0;
       i_min = c.number_at-i_min.ensures k;
