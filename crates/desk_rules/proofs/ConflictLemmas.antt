@@ -16,10 +16,10 @@ use Rattle.desk_rules.specs.Level.{reaches}
 use Rattle.desk_rules.specs.Permission.{is_permitted, blocks, least_blocking}
 use Rattle.volume4d.specs.declared.slab.Slab.{Slab}
 use Rattle.volume4d.specs.declared.slab.Held.{Held}
-use Rattle.volume4d.specs.Slab.{top_held}
+use Rattle.volume4d.specs.Slab.{top_held, slabs_have}
 use Rattle.volume4d.specs.Shared.{is_shared}
 use Rattle.volume4d.specs.Meeting.{Spot, IsFirst, IsFirstPoint, IsFirstSpot}
-use Rattle.desk_rules.specs.Bridge.{AreSlabsOf, HoldLevels}
+use Rattle.desk_rules.specs.Bridge.{AreSlabsOf, HoldLevels, HoldLevelsAmong, is_blocked_among}
 use Rattle.desk_rules.specs.Search.{first_pair}
 use Rattle.desk_rules.specs.Conflict.{is_blocked, IsConflict, first_point, point_of, conflict, at_least}
 use Rattle.volume4d.specs.PointLaws.{leaf_test}
@@ -195,13 +195,13 @@ blocks_reaches permitted priority (Some level) = by_test (is_permitted permitted
   by_test true = permitted_reaches priority level
   by_test false = unpermitted_reaches priority level
 
-shared_is_blocked : (permitted : List ℕ) (area : List Block) (levels : Point → Option ℕ) (priority : ℕ)
-    (mine : List Slab) (theirs : List Held) → AreSlabsOf mine area
-    → HoldLevels theirs area levels (least_blocking permitted priority) → (x : Point)
-    → is_shared mine theirs x ≡ is_blocked permitted area levels priority x
-unfolding is_shared is_blocked
-shared_is_blocked permitted area levels priority mine theirs slabs helds x =
-    ap (λ b. b && is_some (top_held theirs x)) (slabs x) ∙ by_test (area_has area x) (helds x) where
+shared_is_blocked : (permitted : List ℕ) (levels : Point → Option ℕ) (priority : ℕ)
+    (mine : List Slab) (theirs : List Held)
+    → HoldLevelsAmong theirs mine levels (least_blocking permitted priority) → (x : Point)
+    → is_shared mine theirs x ≡ is_blocked_among permitted mine levels priority x
+unfolding is_shared is_blocked_among
+shared_is_blocked permitted levels priority mine theirs helds x =
+    by_test (slabs_have mine x) (helds x) where
       least : ℕ
       least = least_blocking permitted priority
 
@@ -211,31 +211,70 @@ shared_is_blocked permitted area levels priority mine theirs slabs helds x =
           ∙ sym (blocks_reaches permitted priority (levels x))
       by_test false h = refl
 
+only_among : (permitted : List ℕ) (mine : List Slab) (levels : Point → Option ℕ) (priority : ℕ)
+    (x : Point) → is_blocked_among permitted mine levels priority x ≡ true → slabs_have mine x ≡ true
+unfolding is_blocked_among
+only_among permitted mine levels priority x e = (and_parts (slabs_have mine x) _ e).0
+
+-- the first meeting of slabs with what others hold is the first blocked point among them
+pub first_among : (permitted : List ℕ) (levels : Point → Option ℕ) (priority : ℕ) (mine : List Slab)
+    (theirs : List Held) → HoldLevelsAmong theirs mine levels (least_blocking permitted priority)
+    → (m : Option Spot) → IsFirst (is_shared mine theirs) (top_held theirs) m
+    → IsFirst (is_blocked_among permitted mine levels priority) levels m
+first_among permitted levels priority mine theirs helds m = kept m where
+  same : (x : Point) → is_shared mine theirs x ≡ is_blocked_among permitted mine levels priority x
+  same = shared_is_blocked permitted levels priority mine theirs helds
+
+  kept : (o : Option Spot) → IsFirst (is_shared mine theirs) (top_held theirs) o
+      → IsFirst (is_blocked_among permitted mine levels priority) levels o
+  kept None h = λ x. sym (same x) ∙ h x
+  kept (Some s) h =
+      let here = sym (same s.point) ∙ h.here in
+      record {
+        here = here;
+        level = level_at_least (levels s.point) (least_blocking permitted priority) s.priority
+            (sym (helds s.point (only_among permitted mine levels priority s.point here)) ∙ h.level);
+        first = λ x l. sym (same x) ∙ h.first x l;
+      }
+
+among_is_of_area : (permitted : List ℕ) (area : List Block) (levels : Point → Option ℕ) (priority : ℕ)
+    (mine : List Slab) → AreSlabsOf mine area → (x : Point)
+    → is_blocked_among permitted mine levels priority x ≡ is_blocked permitted area levels priority x
+unfolding is_blocked is_blocked_among
+among_is_of_area permitted area levels priority mine slabs x =
+    ap (λ b. b && blocks permitted priority (levels x)) (slabs x)
+
+-- a first point that passes is the first of an equal test
+pub first_again : (passes others : Point → Bool) (levels : Point → Option ℕ) (m : Option Spot)
+    → ((x : Point) → passes x ≡ others x) → IsFirst passes levels m → IsFirst others levels m
+first_again passes others levels None same h = λ x. sym (same x) ∙ h x
+first_again passes others levels (Some s) same h = record {
+  here = sym (same s.point) ∙ h.here;
+  level = h.level;
+  first = λ x l. sym (same x) ∙ h.first x l;
+}
+
+-- the first blocked point among an area's slabs is the area's conflict
+pub conflict_among : (permitted : List ℕ) (area : List Block) (levels : Point → Option ℕ)
+    (priority : ℕ) (mine : List Slab) → AreSlabsOf mine area → (m : Option Spot)
+    → IsFirst (is_blocked_among permitted mine levels priority) levels m
+    → m ≡ conflict permitted area levels priority
+conflict_among permitted area levels priority mine slabs m h =
+    one_first (is_blocked permitted area levels priority) levels m
+    (conflict permitted area levels priority) (blocked_leaves permitted area levels priority)
+    (first_again (is_blocked_among permitted mine levels priority)
+    (is_blocked permitted area levels priority) levels m
+    (among_is_of_area permitted area levels priority mine slabs) h)
+    (conflict_is permitted area levels priority)
+
 -- the first meeting of an area's slabs with what others hold is the area's conflict
 pub conflict_by_meeting : (permitted : List ℕ) (area : List Block) (levels : Point → Option ℕ)
     (priority : ℕ) (mine : List Slab) (theirs : List Held) → AreSlabsOf mine area
     → HoldLevels theirs area levels (least_blocking permitted priority) → (m : Option Spot)
     → IsFirst (is_shared mine theirs) (top_held theirs) m → m ≡ conflict permitted area levels priority
 conflict_by_meeting permitted area levels priority mine theirs slabs helds m h =
-    one_first (is_blocked permitted area levels priority) levels m
-    (conflict permitted area levels priority) (blocked_leaves permitted area levels priority) (kept m h)
-    (conflict_is permitted area levels priority) where
-      same : (x : Point) → is_shared mine theirs x ≡ is_blocked permitted area levels priority x
-      same = shared_is_blocked permitted area levels priority mine theirs slabs helds
-
-      kept : (o : Option Spot) → IsFirst (is_shared mine theirs) (top_held theirs) o
-          → IsFirst (is_blocked permitted area levels priority) levels o
-      kept None h = λ x. sym (same x) ∙ h x
-      kept (Some s) h =
-          let here = sym (same s.point) ∙ h.here in
-          record {
-            here = here;
-            level = level_at_least (levels s.point) (least_blocking permitted priority) s.priority
-                (sym (helds s.point (only_inside permitted area levels priority s.point here))
-                ∙ h.level);
-            first =
-                λ x l. sym (same x) ∙ h.first x l;
-          }
+    conflict_among permitted area levels priority mine slabs m
+    (first_among permitted levels priority mine theirs (λ x has. helds x (sym (slabs x) ∙ has)) m h)
 
 -- equal levels have equal conflicts
 pub conflict_same_levels : (permitted : List ℕ) (area : List Block) (f g : Point → Option ℕ)

@@ -4,7 +4,9 @@
 ghost use Rattle.std.specs.Prelude.{◌≡◌, ◌↔◌, ℕ, List, Option, true};
 ghost use Rattle.volume4d.specs.Point.{Point};
 ghost use Rattle.volume4d.specs.Volume.{Block};
-ghost use Rattle.volume4d.specs.Meeting.{Spot};
+ghost use Rattle.volume4d.specs.Meeting.{Spot, IsFirst};
+ghost use Rattle.volume4d.specs.declared.slab.Slab.{Slab};
+ghost use Rattle.desk_rules.specs.Bridge.{AreSlabsOf, is_blocked_among};
 ghost use Rattle.desk_rules.specs.Conflict.{IsConflict, conflict};
 ghost use Rattle.desk_rules.specs.Sharing.{HaveAPoint, share_a_point};
 
@@ -19,6 +21,14 @@ pub fn one_conflict()
 pub fn conflict_is_found()
     ensures { (permitted : List ℕ) (area : List Block) (levels : Point → Option ℕ) (priority : ℕ) →
         IsConflict permitted area levels priority (conflict permitted area levels priority) }
+{}
+
+/// The first blocked point among an area's slabs is its conflict.
+pub fn conflict_among_slabs()
+    ensures { (permitted : List ℕ) (area : List Block) (levels : Point → Option ℕ) (priority : ℕ)
+        (slabs : List Slab) → AreSlabsOf slabs area → (spot : Option Spot) →
+        IsFirst (is_blocked_among permitted slabs levels priority) levels spot →
+        spot ≡ conflict permitted area levels priority }
 {}
 
 /// The conflict depends only on the greatest priority that others hold at each point, and on the
