@@ -4,3 +4,4 @@ pub mod PutLemmas
 pub mod CallLemmas
 pub mod RunLemmas
 pub mod ClearLemmas
+pub mod ClusterLemmas

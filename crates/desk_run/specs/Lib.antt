@@ -3,6 +3,7 @@ pub mod Faults
 pub mod DeskWorld
 pub mod Verdicts
 pub mod Calls
+pub mod Clusters
 pub mod Runs
 pub mod StepLaws
 pub mod Sides

@@ -12,3 +12,4 @@ pub mod Corners
 pub mod LevelLemmas
 pub mod FirstPoints
 pub mod Sweeping
+pub mod ClusterLemmas

@@ -39,7 +39,7 @@ and_last false false = refl
 begins_up_to : (s : Slab) (x : Point) → slab_has s x ≡ true → s.first ≤ position_of x.leaf
 begins_up_to s x h = let first = (IsIn-from_has s x h).first in grind (arith, nat_tests)
 
-not_less_after : (a b : ℕ) (rest : Ordering) → a < b
+pub not_less_after : (a b : ℕ) (rest : Ordering) → a < b
     → ordering_then (nat_cmp (leaf_id_at b) (leaf_id_at a)) rest ≡ Less → ⊥
 not_less_after a b rest below e = by_ids (nat_cmp (leaf_id_at b) (leaf_id_at a)) refl e where
   by_ids : (o : Ordering) → nat_cmp (leaf_id_at b) (leaf_id_at a) ≡ o → ordering_then o rest ≡ Less → ⊥
@@ -81,7 +81,7 @@ module _ {A : Type 0} (slab_of : A → Slab) where
       ∙ list_any-append (λ a. slab_has (slab_of a) x) (take n list) (drop n list)
 
   -- all points of an ascending list from a place on are at or after the first leaf of the slab there
-  later_begin : (list : List A) (n : ℕ) (item : A) (x : Point) → n < length list
+  pub later_begin : (list : List A) (n : ℕ) (item : A) (x : Point) → n < length list
       → item ≡ get_or list n item → Ascend slab_of list → placed_have slab_of (drop n list) x ≡ true
       → (slab_of item).first ≤ position_of x.leaf
   later_begin list n item x below is up has =

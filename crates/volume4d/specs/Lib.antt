@@ -15,6 +15,7 @@ pub mod Slabs
 pub mod Meeting
 pub mod Shared
 pub mod Sweep
+pub mod Clusters
 pub mod LevelLaws
 pub mod VolumeLaws
 pub mod Faults

@@ -5,6 +5,7 @@
 
 mod area;
 mod bounds;
+mod clusters;
 mod corner;
 mod fault;
 mod footprint;
@@ -18,6 +19,7 @@ mod window;
 
 pub use area::{Area, MAX_VOLUMES};
 pub use bounds::bounds_of;
+pub use clusters::split_cluster;
 pub use fault::VolumeFault;
 pub use footprint::{Footprint, MAX_CELLS, MAX_COVER};
 pub use meeting::{Meeting, first_meeting, first_meeting_counted, meet};

@@ -2,15 +2,23 @@
 
 ghost use Rattle.std.specs.Prelude.{◌≡◌, ◌≤◌, IfOk, IfErr};
 ghost use Rattle.desk_store.specs.Faults.{IsHonest, HasRisen};
+ghost use Rattle.volume4d.specs.Bounds.{AreFilled};
+ghost use Rattle.volume4d.specs.Sweep.{Ascend};
 ghost use Rattle.desk_rules.specs.Permission.{least_blocking};
 ghost use Rattle.desk_run.specs.Verdicts.{conflict_in};
+ghost use Rattle.desk_run.specs.Clusters.{IsFirstAmong};
 
 use desk_rules::conflict::first_conflict;
+use desk_rules::laws::conflict_among_slabs;
 use desk_rules::operator::Operator;
 use desk_rules::permission::Permitted;
 use desk_rules::plan_id::PlanId;
 use desk_store::{PlanStore, StoreFault};
-use volume4d::{Area, Meeting, bounds_of};
+use volume4d::{Area, Meeting, Slab, bounds_of, split_cluster};
+
+// A gap between two slabs is wide if it is more than this part of the way from the first to the last: so
+// a plan has at most this many clusters and one.
+const GAPS: u64 = 64;
 
 // The conflict of an area with a priority, of the operator's plan of the id.
 pub fn conflict_of<S: PlanStore>(
@@ -31,9 +39,72 @@ pub fn conflict_of<S: PlanStore>(
         HasRisen (S.faults store.old) (S.faults store.new)) }
 {
     let mine = area.slabs()?;
-    let extent = bounds_of(&mine);
+    conflict_among_slabs();
+    first_among(store, permitted, operator, id, &mine, priority)
+}
+
+// The first blocked point among slabs that ascend. Those that lie far apart are asked for apart, so that
+// what others hold between them isn't read, and nothing is read after the first blocked point.
+fn first_among<S: PlanStore>(
+    store: &mut S,
+    permitted: &Permitted,
+    operator: &Operator,
+    id: &PlanId,
+    slabs: &[Slab],
+    priority: u32,
+) -> Result<Option<Meeting>, StoreFault>
+    requires filled { AreFilled slabs.now }
+    requires order { Ascend (λ s. s) slabs.now }
+    ensures value { IsHonest (S.doubt store.new) → IfOk result
+        (IsFirstAmong permitted.now (S.content store.old) operator.now id.now slabs.now priority) }
+    ensures same { S.content store.new ≡ S.content store.old }
+    ensures doubt { S.doubt store.old ≤ S.doubt store.new }
+    ensures counted { S.faults store.old ≤ S.faults store.new }
+    ensures cause { IfErr result (λ e. e ≡ StoreFault.Store →
+        HasRisen (S.faults store.old) (S.faults store.new)) }
+{
+    let gap = wide_gap(slabs);
+    let mut rest = slabs;
+    while !rest.is_empty() {
+        let (cluster, later) = split_cluster(rest, gap);
+        let meeting = first_in(store, permitted, operator, id, cluster, priority)?;
+        if meeting.is_some() {
+            return Ok(meeting);
+        }
+        rest = later;
+    }
+    Ok(None)
+}
+
+// How wide a gap between slabs has to be that they are asked for apart.
+fn wide_gap(slabs: &[Slab]) -> u64 {
+    match slabs {
+        [first, .., last] => last.first.saturating_sub(first.first) / GAPS,
+        _ => 0,
+    }
+}
+
+// The first blocked point among slabs that lie close to each other.
+fn first_in<S: PlanStore>(
+    store: &mut S,
+    permitted: &Permitted,
+    operator: &Operator,
+    id: &PlanId,
+    cluster: &[Slab],
+    priority: u32,
+) -> Result<Option<Meeting>, StoreFault>
+    requires { AreFilled cluster.now }
+    ensures value { IsHonest (S.doubt store.new) → IfOk result
+        (IsFirstAmong permitted.now (S.content store.old) operator.now id.now cluster.now priority) }
+    ensures same { S.content store.new ≡ S.content store.old }
+    ensures doubt { S.doubt store.old ≤ S.doubt store.new }
+    ensures counted { S.faults store.old ≤ S.faults store.new }
+    ensures cause { IfErr result (λ e. e ≡ StoreFault.Store →
+        HasRisen (S.faults store.old) (S.faults store.new)) }
+{
+    let extent = bounds_of(cluster);
     let theirs = store.rivals(operator, id, least_of(permitted, priority), &extent)?;
-    Ok(first_conflict(&mine, &theirs))
+    Ok(first_conflict(cluster, &theirs))
 }
 
 // The least priority that blocks a plan of a priority where others hold it.

@@ -1,0 +1,26 @@
+use Rattle.std.proofs.Common.{◌≡◌, ◌≤◌, Option, length}
+use Rattle.std.specs.List.{All}
+use Rattle.volume4d.specs.Bounds.{IsFilled}
+use Rattle.volume4d.specs.Sweep.{Ascend}
+use Rattle.volume4d.specs.Meeting.{Spot}
+use Rattle.desk_store.specs.Faults.{IsHonest}
+use Rattle.desk_run.specs.Clusters.{IsFirstAmong}
+use Rattle.desk_run.proofs.pending.conflict.first_among.Given as goal
+
+-- no point of the slabs before the rest is blocked, and the store has changed nothing
+abbrev pub invariant-loop : goal.invariant-loop
+invariant-loop g l =
+    record {
+      rest :
+          IsHonest (g.S.PlanStore.doubt l.store) → (spot : Option Spot)
+          → IsFirstAmong l.permitted (g.S.PlanStore.content l.fn.store) l.operator l.id l.rest l.priority spot
+          → IsFirstAmong l.permitted (g.S.PlanStore.content l.fn.store) l.operator l.id l.slabs l.priority spot;
+      filled : All IsFilled l.rest;
+      order : Ascend (λ s. s) l.rest;
+      same : g.S.PlanStore.content l.store ≡ g.S.PlanStore.content l.fn.store;
+      doubt : g.S.PlanStore.doubt l.fn.store ≤ g.S.PlanStore.doubt l.store;
+      counted : g.S.PlanStore.faults l.fn.store ≤ g.S.PlanStore.faults l.store;
+    }
+
+abbrev pub decreases-loop : goal.decreases-loop
+decreases-loop g l = length l.rest

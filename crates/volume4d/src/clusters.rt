@@ -1,0 +1,47 @@
+//! Clusters: slabs that lie close to each other along the S2 curve.
+
+ghost use Rattle.std.specs.Prelude.{◌<◌, ◌≤◌, IsTrue, length, take, drop};
+ghost use Rattle.volume4d.specs.Clusters.{AreInTurn, IsCluster};
+ghost use Rattle.volume4d.specs.Sweep.{Ascend};
+
+use crate::slab::Slab;
+
+/// Slabs that ascend by their first leaves, one or more, in two parts: those before the first gap of
+/// more leaves than `gap`, and those after it, which may be none. No point of the second part comes
+/// before one of the first. (How wide a gap has to be is a matter of speed.)
+#[tactic(auto, using(crate::proofs::ClusterLemmas::cluster_at))]
+pub fn split_cluster(slabs: &[Slab], gap: u64) -> (&[Slab], &[Slab])
+    requires some { 0 < length slabs.now }
+    requires order { Ascend (λ s. s) slabs.now }
+    ensures { IsCluster slabs.now result.0.now result.1.now }
+{
+    slabs.split_at(cluster_len(slabs, gap))
+}
+
+// How many slabs stand before the first wide gap.
+fn cluster_len(slabs: &[Slab], gap: u64) -> usize
+    requires some { 0 < length slabs.now }
+    requires order { Ascend (λ s. s) slabs.now }
+    ensures some { 0 < result }
+    ensures within { result ≤ length slabs.now }
+    ensures in_turn { AreInTurn (take result slabs.now) (drop result slabs.now) }
+{
+    let mut reach = slabs[0].first;
+    for (place, slab) in slabs.iter().enumerate() {
+        if is_far(reach, slab.first, gap) {
+            return place;
+        }
+        reach = reach.max(slab.last);
+    }
+    slabs.len()
+}
+
+// Whether a position lies after another, with a gap between them.
+fn is_far(reach: u64, first: u64, gap: u64) -> bool
+    ensures { IsTrue result → reach < first }
+{
+    if first <= reach {
+        return false;
+    }
+    first - reach > gap
+}
