@@ -1,5 +1,5 @@
 -- The first blocked point of a list of slabs, from its first cluster and the rest.
-use Rattle.std.proofs.Common.{◌≡◌, ℕ, ◌+◌, ◌-◌, ◌<◌, ◌≤◌, Bool, true, false, ◌&&◌, ◌||◌, List, [], ◌∷◌, length, take, drop, Option, Some, None, refl, sym, ap, ◌∙◌, subst, arith, inl, inr, length-take, length-drop}
+use Rattle.std.proofs.Common.{◌≡◌, ℕ, ◌+◌, ◌-◌, ◌<◌, ◌≤◌, Bool, true, false, ◌&&◌, ◌||◌, ◌⊎◌, List, [], ◌∷◌, length, take, drop, Option, Some, None, is_some, refl, sym, ap, ◌∙◌, subst, arith, inl, inr, length-take, length-drop}
 use Rattle.std.specs.List.{All}
 use Rattle.std.specs.declared.cmp.Ordering.TheVariants.{Less}
 use Rattle.std.proofs.lemmas.Bool.{and_parts, or_cases, or_right, false_from_ne_true}
@@ -17,37 +17,40 @@ use Rattle.desk_rules.specs.Bridge.{is_blocked_among}
 
 module _ (permitted : List ℕ) (levels : Point → Option ℕ) (priority : ℕ)
     (slabs cluster later : List Slab) (split : IsCluster slabs cluster later) where
-  among : List Slab → Point → Bool
+  abbrev pub among : List Slab → Point → Bool
   among list = is_blocked_among permitted list levels priority
 
+  blocked : Point → Bool
+  blocked x = blocks permitted priority (levels x)
+
   is_of : (list : List Slab) (x : Point)
-      → among list x ≡ (slabs_have list x && blocks permitted priority (levels x))
-  unfolding is_blocked_among
+      → among list x ≡ (slabs_have list x && blocked x)
+  unfolding is_blocked_among blocked
   is_of list x = refl
 
   in_either : (x : Point) → among slabs x ≡ true → (among cluster x ≡ true) ⊎ (among later x ≡ true)
   in_either x e =
-      let both = and_parts (slabs_have slabs x) _ (sym (is_of slabs x) ∙ e) in
+      let both = and_parts (slabs_have slabs x) (blocked x) (sym (is_of slabs x) ∙ e) in
       elim (or_cases (slabs_have cluster x) (slabs_have later x) (sym (split.points x) ∙ both.0)) [
-        | inl h ↦ inl (is_of cluster x ∙ ap (λ b. b && _) h ∙ both.1)
-        | inr h ↦ inr (is_of later x ∙ ap (λ b. b && _) h ∙ both.1)
+        | inl h ↦ inl (is_of cluster x ∙ ap (λ b. b && blocked x) h ∙ both.1)
+        | inr h ↦ inr (is_of later x ∙ ap (λ b. b && blocked x) h ∙ both.1)
       ]
 
   of_cluster : (x : Point) → among cluster x ≡ true → among slabs x ≡ true
   of_cluster x e =
-      let both = and_parts (slabs_have cluster x) _ (sym (is_of cluster x) ∙ e) in
-      is_of slabs x ∙ ap (λ b. b && _) (split.points x ∙ ap (λ b. b || _) both.0) ∙ both.1
+      let both = and_parts (slabs_have cluster x) (blocked x) (sym (is_of cluster x) ∙ e) in
+      is_of slabs x ∙ ap (λ b. b && blocked x) (split.points x ∙ ap (λ b. b || slabs_have later x) both.0) ∙ both.1
 
   of_later : (x : Point) → among later x ≡ true → among slabs x ≡ true
   of_later x e =
-      let both = and_parts (slabs_have later x) _ (sym (is_of later x) ∙ e) in
-      is_of slabs x ∙ ap (λ b. b && _) (split.points x ∙ or_right (slabs_have cluster x) _ both.0) ∙ both.1
+      let both = and_parts (slabs_have later x) (blocked x) (sym (is_of later x) ∙ e) in
+      is_of slabs x ∙ ap (λ b. b && blocked x) (split.points x ∙ or_right (slabs_have cluster x) (slabs_have later x) both.0) ∙ both.1
 
   has_cluster : (x : Point) → among cluster x ≡ true → slabs_have cluster x ≡ true
-  has_cluster x e = (and_parts (slabs_have cluster x) _ (sym (is_of cluster x) ∙ e)).0
+  has_cluster x e = (and_parts (slabs_have cluster x) (blocked x) (sym (is_of cluster x) ∙ e)).0
 
   has_later : (x : Point) → among later x ≡ true → slabs_have later x ≡ true
-  has_later x e = (and_parts (slabs_have later x) _ (sym (is_of later x) ∙ e)).0
+  has_later x e = (and_parts (slabs_have later x) (blocked x) (sym (is_of later x) ∙ e)).0
 
   -- what is met in the cluster is met first
   pub met_in_cluster : (spot : Spot) → IsFirst (among cluster) levels (Some spot)
@@ -97,3 +100,20 @@ module _ (permitted : List ℕ) (levels : Point → Option ℕ) (priority : ℕ)
   pub later_is_less : length later < length slabs
   later_is_less =
       omega (arith, split.some, split.within, ap length split.later_is, length-drop split.count slabs)
+
+  pub met : (o : Option Spot) → is_some o ≡ true → IsFirst (among cluster) levels o
+      → IsFirst (among slabs) levels o
+  met None is first = cc
+  met (Some spot) is first = met_in_cluster spot first
+
+  pub passed : (o : Option Spot) → is_some o ≡ false → IsFirst (among cluster) levels o
+      → (next : Option Spot) → IsFirst (among later) levels next → IsFirst (among slabs) levels next
+  passed None is first = met_later first
+  passed (Some spot) is first = cc
+
+-- no point is blocked among no slabs
+pub none_among : (permitted : List ℕ) (levels : Point → Option ℕ) (priority : ℕ) (slabs : List Slab)
+    → length slabs ≡ 0 → (x : Point) → is_blocked_among permitted slabs levels priority x ≡ false
+unfolding is_blocked_among
+none_among permitted levels priority [] is x = refl
+none_among permitted levels priority (s ∷ ss) is x = cc

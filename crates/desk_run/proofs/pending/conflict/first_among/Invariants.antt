@@ -8,8 +8,8 @@ use Rattle.desk_run.specs.Clusters.{IsFirstAmong}
 use Rattle.desk_run.proofs.pending.conflict.first_among.Given as goal
 
 -- no point of the slabs before the rest is blocked, and the store has changed nothing
-abbrev pub invariant-loop : goal.invariant-loop
-invariant-loop g l =
+abbrev pub invariant-loop-rest : goal.invariant-loop-rest
+invariant-loop-rest g l =
     record {
       rest :
           IsHonest (g.S.PlanStore.doubt l.store) → (spot : Option Spot)
@@ -22,5 +22,5 @@ invariant-loop g l =
       counted : g.S.PlanStore.faults l.fn.store ≤ g.S.PlanStore.faults l.store;
     }
 
-abbrev pub decreases-loop : goal.decreases-loop
-decreases-loop g l = length l.rest
+abbrev pub decreases-loop-rest : goal.decreases-loop-rest
+decreases-loop-rest g l = length l.rest
