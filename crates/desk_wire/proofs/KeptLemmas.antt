@@ -1,6 +1,7 @@
 -- What may be found of requests of a stream.
 use Rattle.std.proofs.Common.{◌≡◌, ◌≢◌, ◌+◌, ◌-◌, ℕ, ℤ, ◌⊎◌, inl, inr, refl, sym, ap, subst, ◌∙◌, arith, List, [], ◌∷◌, ◌++◌, Option, Some, None, Result, Ok, Err}
-use Rattle.std.proofs.lemmas.List.{map-append}
+use Rattle.std.proofs.Common.{true, false, is_some, length, map, take, get_or, ◌<◌}
+use Rattle.std.proofs.lemmas.List.{length-append, length-map, map-append}
 use Rattle.std.proofs.lemmas.List.Elements.{recursion_from_All}
 use Rattle.std.specs.Io.KnownBytes.{Appends, Consumes}
 use Rattle.std.specs.Result.{IsErrAnd}
@@ -17,14 +18,14 @@ use Rattle.desk_wire.specs.declared.response.ServerError.{ServerError}
 use Rattle.desk_wire.specs.declared.stream.Served.{Served}
 use Rattle.desk_wire.specs.declared.stream.ServeFault.{ServeFault}
 use Rattle.desk_wire.specs.declared.stream.ServeFault.TheVariants.{Read, Write, CutShort, OutOfMemory}
-use Rattle.desk_wire.specs.AllAnswers.{answers_to, world_left}
+use Rattle.desk_wire.specs.AllAnswers.{Sent, answers_to, world_left}
 use Rattle.desk_wire.specs.Bytes.{status_so, world_after}
-use Rattle.desk_wire.specs.Given.{AreGiven, IsNextIn, told_in_play}
-use Rattle.desk_wire.specs.Kept.{FindsBy, IsCertain, IsFoundAfter, IsKept, IsLeftBy, IsOldOrNext}
+use Rattle.desk_wire.specs.Given.{AreGiven, IsNextIn, answered, told_in_play}
+use Rattle.desk_wire.specs.Kept.{FindsBy, IsCertain, IsFoundAfter, IsFoundIn, IsKept, IsLeftBy, IsOldOrNext}
 use Rattle.desk_wire.specs.Playing.{ArePlayed, EndsBy, IsWhole, at_moment}
 use Rattle.desk_wire.specs.Serving.{BreaksOff, IsTaken}
 use Rattle.desk_wire.specs.Streams.{requests_in}
-use Rattle.desk_wire.proofs.AllLemmas.{left_more}
+use Rattle.desk_wire.proofs.AllLemmas.{HaveAnswers, left_more, take_map}
 use Rattle.desk_wire.proofs.BytesLemmas.{left_read}
 use Rattle.desk_wire.proofs.StreamGivenLemmas.{given_broken, given_first, given_off, given_unframed, is_next}
 
@@ -41,8 +42,12 @@ left_served before now old new given moment w reading request same taken read cr
         → before found ⊎ IsLeftBy (IsTaken old new) w moment found
     by (inl is) = inl is
     by (inr is) =
-        inr (request, taken, is
-        ∙ ap (λ v. Some v.content) (left_read w given moment request reading same read))
+        inr (
+          request,
+          taken,
+          is
+              ∙ ap (λ v. Some v.content) (left_read w given moment request reading same read),
+        )
 
 -- an answer with another status than 500 is no failure of the desk
 pub no_failure : (w : DeskWorld) (moment : ℤ) (reading : Reading Asked) (why : Option ServerError)
@@ -83,10 +88,12 @@ next_in : (H : Type 0) (count : ℕ) (old input new out output : Option (List �
 next_in H count old input new out output w moment world found p f (inl is) =
     inl (is ∙ ap (λ v. Some v.content) (f.left p))
 next_in H count old input new out output w moment world found p f (inr next) =
-    inr (next.0,
-    is_next old input new f.requests next.0 count (recursion_from_All IsWhole f.requests f.whole) f.count_is
-    f.taken next.1,
-    next.2 ∙ ap (λ v. Some (world_after v moment (asked next.0)).content) (f.left p))
+    inr (
+      next.0,
+      is_next old input new f.requests next.0 count (recursion_from_All IsWhole f.requests f.whole) f.count_is
+          f.taken next.1,
+      next.2 ∙ ap (λ v. Some (world_after v moment (asked next.0)).content) (f.left p),
+    )
 
 -- what is found at the end of a run: what is left, if that is certain
 abbrev pub FindsLast : PlayEnd → (List ℕ → Type 0) → DeskWorld → ℤ → DeskWorld → Option World → Type 0
@@ -232,3 +239,36 @@ found_after ended n stream out now w moment after found k = by ended k.finds
     by (Fault CutShort) is = first is
     by (Fault OutOfMemory) is = either is
     by (Fault (Write sent)) is = either is
+
+-- ---- the requests of a list
+
+pub is_none_by : {A : Type 0} (e : Option A) → is_some e ≡ false → e ≡ None
+is_none_by None none = refl
+is_none_by (Some x) none = cc
+
+pub found_settled : {R V : Type 0} (shown : R → Sent) (items : V → List ℕ) (w now : DeskWorld)
+    (requests : List R) (n : ℕ) (answers : List V) (found : Option World)
+    → HaveAnswers shown items w requests n answers now → found ≡ Some now.content
+    → IsFoundIn w (map shown requests) n found
+found_settled shown items w now requests n answers found h is =
+    inl (is ∙ ap (λ v. Some v.content) h.first.left)
+
+pub found_next : {R V : Type 0} (shown : R → Sent) (items : V → List ℕ) (w now : DeskWorld)
+    (requests : List R) (n : ℕ) (answers : List V) (r : R) (before : Option World → Type 0)
+    (given moment : ℤ) (request : List ℕ) (reading : Reading MessageParts) (found : Option World)
+    → HaveAnswers shown items w requests n answers now → n < length requests → r ≡ get_or requests n r
+    → shown r ≡ (moment, request) → given ≡ moment → reading ≡ message_in request
+    → (before found → found ≡ Some now.content)
+    → before found ⊎ (found ≡ Some (world_after now given (or_met reading asked_by)).content)
+    → IsFoundIn w (map shown requests) n found
+found_next shown items w now requests n answers r before given moment request reading found h below place
+    sent same read only (inl is) =
+    found_settled shown items w now requests n answers found h (only is)
+found_next shown items w now requests n answers r before given moment request reading found h below place
+    sent same read only (inr is) =
+    let first = take n (map shown requests) in
+    inr (is ∙ ap (λ v. Some v.content) (left_read now given moment request reading same read
+    ∙ ap (λ v. world_after v moment (asked request)) h.first.left
+    ∙ sym (left_more w first (moment, request))
+    ∙ ap (λ s. world_left w (first ++ s ∷ [])) (sym sent)
+    ∙ ap (world_left w) (sym (take_map shown requests n r below place))))

@@ -122,7 +122,8 @@ next_first (Some xs) n rs next h = sym h
 
 module _ (H : Type 0) (old out : Option (List ℕ)) (w : DeskWorld) (moment : ℤ) (p : H) where
   -- where nothing more is taken and written
-  pub given_first : (ended : PlayEnd) (count : ℕ) (input output now : Option (List ℕ)) (world after : DeskWorld)
+  pub given_first : (ended : PlayEnd) (count : ℕ) (input output now : Option (List ℕ))
+      (world after : DeskWorld)
       → IsUntouched output now world after → FollowsBy ended []
       → (f : ArePlayed H count old input out output w moment world)
       → (after ≡ world_left w (at_moment moment f.requests)

@@ -10,9 +10,10 @@ use Rattle.desk_wire.specs.declared.stream.Served.{Served}
 use Rattle.desk_wire.specs.declared.stream.Served.TheVariants as served
 use Rattle.desk_wire.specs.declared.stream.ServeFault.{ServeFault}
 use Rattle.desk_wire.specs.declared.stream.ServeFault.TheVariants.{Read, Write, CutShort, OutOfMemory}
-use Rattle.desk_wire.specs.AllAnswers.{world_left}
+use Rattle.desk_wire.specs.AllAnswers.{Sent, world_left}
 use Rattle.desk_wire.specs.Bytes.{world_after}
-use Rattle.desk_wire.specs.Given.{AreGiven, IsNextIn, told_in_play}
+use Rattle.desk_wire.specs.Given.{AreGiven, IsNextIn}
+use Rattle.desk_wire.specs.Headline.{world_at}
 use Rattle.desk_wire.specs.Playing.{at_moment}
 use Rattle.desk_wire.specs.Streams.{requests_in}
 
@@ -54,11 +55,16 @@ pub record IsKept (ended : PlayEnd) (n : ℕ) (old out now : Option (List ℕ)) 
   pub given : AreGiven ended n old out now w moment after requests answers
   pub finds : FindsBy ended (IsNextIn old n requests) (world_left w (at_moment moment requests)) moment found
 
+-- after n answers, what is found is what the first n requests of a list left, or what the first n + 1 left
+abbrev pub IsFoundIn : DeskWorld → List Sent → ℕ → Option World → Type 0
+IsFoundIn w requests n found = (found ≡ Some (world_at w requests n).content)
+    ⊎ (found ≡ Some (world_at w requests (n + 1)).content)
+
 -- the content that the first n requests of a stream leave
 abbrev pub content_after : DeskWorld → ℤ → List ℕ → ℕ → World
 content_after w moment stream n = (world_left w (at_moment moment (requests_in n stream))).content
 
--- after n answers, what is found is what the first n requests left, or what the first n + 1 left
+-- the same of the requests of a stream
 abbrev pub IsFoundAfter : DeskWorld → ℤ → List ℕ → ℕ → Option World → Type 0
 IsFoundAfter w moment stream n found = (found ≡ Some (content_after w moment stream n))
     ⊎ (found ≡ Some (content_after w moment stream (n + 1)))

@@ -114,5 +114,6 @@ returns-in-Err-UnknownOperator-clause-kept g c = λ honest.
 
 pub returns-in-Err-NoSuchPlan-clause-kept : goal.returns-in-Err-NoSuchPlan-clause-kept
 returns-in-Err-NoSuchPlan-clause-kept g c = λ honest.
-    whatever c.refuse-in-Err-NoSuchPlan.result (λ settled. still_settled (c.prepare.ensures.crash honest) settled
+    whatever c.refuse-in-Err-NoSuchPlan.result (λ settled.
+    still_settled (c.prepare.ensures.crash honest) settled
     (ap (λ v. v.content) c.prepare.ensures.same))

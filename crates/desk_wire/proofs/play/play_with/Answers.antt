@@ -13,7 +13,12 @@ use Rattle.desk_wire.proofs.PlayLemmas.{none_played, one_played, broken_next, pl
 use Rattle.desk_wire.proofs.play.play_with.Goals as goal
 
 pub loop-before-init : goal.loop-before-init
-loop-before-init g c = record { played = none_played _ _ _ _ _; settled = λ honest h. h; doubt = omega arith; counted = omega arith }
+loop-before-init g c = record {
+  played = none_played _ _ _ _ _;
+  settled = λ honest h. h;
+  doubt = omega arith;
+  counted = omega arith;
+}
 
 pub returns-then-is_server_error-clause-played : goal.returns-then-is_server_error-clause-played
 returns-then-is_server_error-clause-played g c =
@@ -71,7 +76,8 @@ returns-in-Err-clause-kept g c = λ p settled found may.
     let w = world_of g.S.PlanStore.content c.loop-before.desk in
     let after = world_of g.S.PlanStore.content c.serve_next.new.desk in
     let here = c.loop-before.invariant.settled (was_honest c.serve_next.ensures.doubt p) settled in
-    kept_so honest (Fault c.in-Err.fault) c.loop-before.before c.loop-before.before (g.R.Read.remaining c.args.input.now)
+    kept_so honest (Fault c.in-Err.fault) c.loop-before.before c.loop-before.before
+    (g.R.Read.remaining c.args.input.now)
     (g.R.Read.remaining c.loop-before.input) (g.R.Read.remaining c.serve_next.new.input)
     (g.W.Write.contents c.args.output.now) (g.W.Write.contents c.loop-before.output)
     (g.W.Write.contents c.serve_next.new.output) (world_of g.S.PlanStore.content c.args.desk.now) w after
@@ -110,16 +116,19 @@ returns-then-is_server_error-clause-kept g c = λ p settled found may.
     let after = world_of g.S.PlanStore.content c.serve_next.new.desk in
     let here = c.loop-before.invariant.settled (was_honest c.serve_next.ensures.doubt p) settled in
     let served = rw c.in-Answered.is at c.in-Ok.ensures.served in
-    kept_so honest Broken c.loop-before.before (c.loop-before.before + 1) (g.R.Read.remaining c.args.input.now)
+    kept_so honest Broken c.loop-before.before (c.loop-before.before + 1)
+    (g.R.Read.remaining c.args.input.now)
     (g.R.Read.remaining c.loop-before.input) (g.R.Read.remaining c.serve_next.new.input)
     (g.W.Write.contents c.args.output.now) (g.W.Write.contents c.loop-before.output)
     (g.W.Write.contents c.serve_next.new.output) (world_of g.S.PlanStore.content c.args.desk.now) w after
     (to_z w64 (of_z w64 c.args.moment)) c.args.moment found p
     (to_z-of_z w64 c.args.moment c.ranges.moment)
     (played_if (IsHonest (g.S.PlanStore.doubt c.loop-before.desk.store)) honest _ _ _ _ _ _ _ _
-    (was_honest c.serve_next.ensures.doubt) c.loop-before.invariant.played)
-    (refl, broken_next honest _ _ _ _ w _ after c.in-Answered.status c.in-Answered.framed served
-    (is_500 c.in-Answered.status (sym c.is_server_error.ensures ∙ c.if-is_server_error.true)))
+    (was_honest c.serve_next.ensures.doubt) c.loop-before.invariant.played) (
+      refl,
+      broken_next honest _ _ _ _ w _ after c.in-Answered.status c.in-Answered.framed served
+          (is_500 c.in-Answered.status (sym c.is_server_error.ensures ∙ c.if-is_server_error.true)),
+    )
     (old_or_next (g.S.PlanStore.may_leave c.loop-before.desk.store) w _ _ found (here found)
     (c.in-Ok.ensures.crash p found may))
 
@@ -131,19 +140,22 @@ returns-then-not-framed-clause-kept g c = λ p settled found may.
     let here = c.loop-before.invariant.settled (was_honest c.serve_next.ensures.doubt p) settled in
     let served = rw c.in-Answered.is at c.in-Ok.ensures.served in
     let other = not_500 c.in-Answered.status (sym c.is_server_error.ensures ∙ c.if-is_server_error.false) in
-    kept_so honest Unframed c.loop-before.before (c.loop-before.before + 1) (g.R.Read.remaining c.args.input.now)
+    kept_so honest Unframed c.loop-before.before (c.loop-before.before + 1)
+    (g.R.Read.remaining c.args.input.now)
     (g.R.Read.remaining c.loop-before.input) (g.R.Read.remaining c.serve_next.new.input)
     (g.W.Write.contents c.args.output.now) (g.W.Write.contents c.loop-before.output)
     (g.W.Write.contents c.serve_next.new.output) (world_of g.S.PlanStore.content c.args.desk.now) w after
     (to_z w64 (of_z w64 c.args.moment)) c.args.moment found p
     (to_z-of_z w64 c.args.moment c.ranges.moment)
     (played_if (IsHonest (g.S.PlanStore.doubt c.loop-before.desk.store)) honest _ _ _ _ _ _ _ _
-    (was_honest c.serve_next.ensures.doubt) c.loop-before.invariant.played)
-    (refl, record {
-      status = c.in-Answered.status;
-      served = rw c.if-not-framed.true at served;
-      answered = other;
-    })
+    (was_honest c.serve_next.ensures.doubt) c.loop-before.invariant.played) (
+      refl,
+      record {
+        status = c.in-Answered.status;
+        served = rw c.if-not-framed.true at served;
+        answered = other;
+      },
+    )
     ((rw c.in-Answered.is at c.in-Ok.ensures.kept) p other here found may)
 
 pub returns-clause-kept : goal.returns-clause-kept
@@ -157,9 +169,12 @@ returns-clause-kept g c = λ p settled found may.
     (g.W.Write.contents c.args.output.now) (g.W.Write.contents c.loop-before.output)
     (g.W.Write.contents c.loop-before.output) (world_of g.S.PlanStore.content c.args.desk.now) w w
     (to_z w64 (of_z w64 c.args.moment)) c.args.moment found p
-    (to_z-of_z w64 c.args.moment c.ranges.moment) c.loop-before.invariant.played
-    (count, sym count, record {
-      written = Keeps-refl (g.W.Write.contents c.loop-before.output);
-      left = refl;
-    })
+    (to_z-of_z w64 c.args.moment c.ranges.moment) c.loop-before.invariant.played (
+      count,
+      sym count,
+      record {
+        written = Keeps-refl (g.W.Write.contents c.loop-before.output);
+        left = refl;
+      },
+    )
     (c.loop-before.invariant.settled p settled found may)
