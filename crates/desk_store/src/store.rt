@@ -38,7 +38,7 @@ pub trait PlanStore {
     ghost faults: { Self → ℕ };
 
     /// What a start may find if the program ends here, at a crash or otherwise: a content, where None stands
-    /// for what is no desk's. A clause that speaks of it holds of a crash within the call too.
+    /// for what is no desk's. A clause that speaks of it is read as said of a crash within the call too.
     ghost may_leave: { Self → Option World → Type 0 };
 
     /// The operator's ceiling, at most 1,000, or none where it is not enrolled.

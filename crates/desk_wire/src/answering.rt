@@ -39,7 +39,8 @@ struct Response {
 /// # Errors
 ///
 /// `AllocError` if the room for the routes or for an answer was refused: nothing changed. If a later
-/// growth was refused, or the store failed, the answer says so, and nothing changed.
+/// growth was refused, or the store failed, the answer says so, and nothing changed; but the next start
+/// may find the change made.
 pub fn answer<S: PlanStore>(
     alloc: Global,
     desk: &mut Desk<S>,

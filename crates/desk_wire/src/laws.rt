@@ -83,8 +83,9 @@ pub fn stream_given()
 {}
 
 /// Kept: what a start may find of the desk, whatever ended the run over a stream (the clause `kept` of
-/// `play_all`): the content that the answered requests left, or the content that these and the next one
-/// left. After n answers other than a 500 these are the first n requests of the stream.
+/// `play_all`, of a desk whose content was kept when the run began): the content that the answered requests
+/// left, or the content that these and the next one left. After n answers other than a 500 these are the
+/// first n requests of the stream.
 pub fn kept()
     ensures { (ended : PlayEnd) (n : ℕ) (stream : List ℕ) (out now : Option (List ℕ)) (w : DeskWorld)
         (moment : ℤ) (after : DeskWorld) (found : Option World) →

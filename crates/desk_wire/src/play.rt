@@ -37,7 +37,7 @@ pub enum PlayEnd {
     End,
     /// The place of the next request is unknown.
     Unframed,
-    /// The last answer has status 500.
+    /// The last answer has status 500. The next start may find the change of its request made.
     Broken,
     /// 1,000,000 requests were answered.
     Limit,
