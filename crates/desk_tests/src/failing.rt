@@ -47,6 +47,8 @@ impl PlanStore for Failing {
 
     ghost faults = { λ s. s.fault_count };
 
+    ghost may_leave = { λ _ _. ⊥ };
+
     fn ceiling(&mut self, operator: &Operator) -> Result<Option<u32>, StoreFault> {
         fail_at(&mut self.calls_left, &mut self.fault_count)?;
         self.list.ceiling(operator)

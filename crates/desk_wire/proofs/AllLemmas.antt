@@ -37,7 +37,7 @@ pub left_more : (w : DeskWorld) (requests : List Sent) (r : Sent) → world_left
 left_more w [] r = refl
 left_more w (q ∷ requests) r = left_more (world_after w q.0 (asked q.1)) requests r
 
-take_map : {R : Type 0} (shown : R → Sent) (requests : List R) (n : ℕ) (r : R) → n < length requests → r
+pub take_map : {R : Type 0} (shown : R → Sent) (requests : List R) (n : ℕ) (r : R) → n < length requests → r
     ≡ get_or requests n r → take (n + 1) (map shown requests) ≡ take n (map shown requests) ++ shown r
     ∷ []
 take_map shown requests n r below is =

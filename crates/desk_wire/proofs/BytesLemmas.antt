@@ -10,7 +10,7 @@ use Rattle.desk_writing.specs.Replies.{reply_text}
 use Rattle.desk_reading.specs.Messages.{MessageParts, message_in}
 use Rattle.desk_reading.specs.Readings.{Reading, or_met}
 use Rattle.desk_reading.specs.Requests.{asked, asked_by}
-use Rattle.desk_wire.specs.Bytes.{IsAnswered, IsAnsweredSo, IsDone, status, status_for, text}
+use Rattle.desk_wire.specs.Bytes.{IsAnswered, IsAnsweredSo, IsDone, status, status_for, text, world_after}
 use Rattle.desk_wire.specs.declared.response.ServerError.{ServerError}
 use Rattle.desk_wire.specs.declared.response.ServerError.TheVariants.{OutOfMemory, Store}
 
@@ -62,6 +62,13 @@ unfolding asked
 asked_read text request reading is same = ap (λ r. or_met r asked_by) is
     ∙ ap (λ q. or_met (message_in q) asked_by) same
 
+-- what a request leaves, by how it was read
+pub left_read : (w : DeskWorld) (given moment : ℤ) (text : List ℕ) (reading : Reading MessageParts)
+    → given ≡ moment → reading ≡ message_in text
+    → world_after w given (or_met reading asked_by) ≡ world_after w moment (asked text)
+left_read w given moment text reading m r = ap (λ z. world_after w z (or_met reading asked_by)) m
+    ∙ ap (world_after w moment) (asked_read text text reading r refl)
+
 -- a request is answered, whether the desk failed or not
 pub answered_so : (w after : DeskWorld) (given moment : ℤ) (text : List ℕ) (reading : Reading MessageParts)
     (answer : List ℕ) (e : Option ServerError) → given ≡ moment → reading ≡ message_in text
@@ -80,3 +87,8 @@ no_cause (Err e) P h = λ is. absurd (memory_not_store e h is)
   where
     memory_not_store : (e : ServerError) → e ≡ OutOfMemory → e ≡ Store → ⊥
     memory_not_store e a b = cc
+
+-- what holds whatever the result is
+pub whatever : {V E : Type 0} (r : Result V E) {P : Type 0} → P → OnOk r P
+whatever (Ok v) h = h
+whatever (Err e) h = tt

@@ -8,3 +8,4 @@ pub mod PlayLemmas
 pub mod HeadlineLemmas
 pub mod GivenLemmas
 pub mod StreamGivenLemmas
+pub mod KeptLemmas

@@ -101,7 +101,7 @@ are_first (Some xs) None rs n all count taken = absurd taken
 are_first (Some xs) (Some ys) rs n all count taken =
     sym (ap (requests_in n) taken ∙ cut_is rs ys 0 n all (omega (arith, count)) ∙ none_more rs ys)
 
-is_next : (old input new : Option (List ℕ)) (rs : List (List ℕ)) (next : List ℕ) (n : ℕ)
+pub is_next : (old input new : Option (List ℕ)) (rs : List (List ℕ)) (next : List ℕ) (n : ℕ)
     → AllByRecursion IsWhole rs
     → length rs ≡ n → Consumes old input (concat rs) → IsTaken input new next → IsNextIn old n rs next
 is_next None input new rs next n all count taken last = tt
@@ -122,7 +122,8 @@ next_first (Some xs) n rs next h = sym h
 
 module _ (H : Type 0) (old out : Option (List ℕ)) (w : DeskWorld) (moment : ℤ) (p : H) where
   -- where nothing more is taken and written
-  given_first : (ended : PlayEnd) (count : ℕ) (input output now : Option (List ℕ)) (world after : DeskWorld)
+  pub given_first : (ended : PlayEnd) (count : ℕ) (input output now : Option (List ℕ))
+      (world after : DeskWorld)
       → IsUntouched output now world after → FollowsBy ended []
       → (f : ArePlayed H count old input out output w moment world)
       → (after ≡ world_left w (at_moment moment f.requests)
@@ -146,7 +147,7 @@ module _ (H : Type 0) (old out : Option (List ℕ)) (w : DeskWorld) (moment : �
       }
 
   -- where one more is answered by the desk's failure
-  given_broken : (count : ℕ) (input new output now : Option (List ℕ)) (world after : DeskWorld)
+  pub given_broken : (count : ℕ) (input new output now : Option (List ℕ)) (world after : DeskWorld)
       → (f : ArePlayed H count old input out output w moment world)
       → (b : IsBroken H input new output now world after)
       → AreGiven Broken count old out now w moment after f.requests
@@ -172,7 +173,7 @@ module _ (H : Type 0) (old out : Option (List ℕ)) (w : DeskWorld) (moment : �
   left_off world after request answer None h = inl h.left
   left_off world after request answer (Some error) h = inr h.left
 
-  given_off : (count sent_len : ℕ) (input new output now : Option (List ℕ)) (world after : DeskWorld)
+  pub given_off : (count sent_len : ℕ) (input new output now : Option (List ℕ)) (world after : DeskWorld)
       → (f : ArePlayed H count old input out output w moment world)
       → (b : IsBrokenOff H input new output now world moment after sent_len)
       → AreGiven (Fault (Write sent_len)) count old out now w moment after f.requests
@@ -196,7 +197,7 @@ module _ (H : Type 0) (old out : Option (List ℕ)) (w : DeskWorld) (moment : �
       }
 
   -- where one more is answered, after which the place of the next is unknown
-  given_unframed : (count : ℕ) (input new output now : Option (List ℕ)) (world after : DeskWorld)
+  pub given_unframed : (count : ℕ) (input new output now : Option (List ℕ)) (world after : DeskWorld)
       → (f : ArePlayed H count old input out output w moment world)
       → (u : IsUnframed H input new output now world moment after)
       → AreGiven Unframed (count + 1) old out now w moment after (f.requests ++ u.served.request ∷ [])

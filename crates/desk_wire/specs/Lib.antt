@@ -9,3 +9,4 @@ pub mod Playing
 pub mod Headline
 pub mod TwoRuns
 pub mod Given
+pub mod Kept

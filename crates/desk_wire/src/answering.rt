@@ -1,16 +1,17 @@
 //! Requests answered at a desk, from bytes to bytes.
 
-ghost use Rattle.std.specs.Prelude.{◌≡◌, ◌≤◌, IfErr, IfOk, IfSome, OnOk, OnErr, Ok, Some};
+ghost use Rattle.std.specs.Prelude.{◌≡◌, ◌≤◌, IfErr, IfOk, IfSome, OnOk, OnErr, Ok, None, Some};
 ghost use Rattle.desk_reading.specs.Messages.{message_read, message_shown};
 ghost use Rattle.desk_reading.specs.Readings.{or_met};
-ghost use Rattle.desk_reading.specs.Requests.{asked_by};
+ghost use Rattle.desk_reading.specs.Requests.{asked, asked_by};
+ghost use Rattle.desk_store.specs.Crashes.{LeavesOldOr};
 ghost use Rattle.desk_store.specs.Faults.{IsHonest, HasRisen};
-ghost use Rattle.desk_run.specs.DeskWorld.{world_of};
+ghost use Rattle.desk_run.specs.DeskWorld.{IsSettled, world_of};
 ghost use Rattle.desk_run.specs.Calls.{CanCommit, reply_in, world_committed};
 ghost use Rattle.desk_wire.specs.Moments.{IsMoment};
 ghost use Rattle.desk_rules.specs.Replies.{said_in};
 ghost use Rattle.desk_writing.specs.Replies.{reply_text};
-ghost use Rattle.desk_wire.specs.Bytes.{IsAnswered, IsAnsweredSo, IsDone, IsServerError, status_for, status_so};
+ghost use Rattle.desk_wire.specs.Bytes.{IsAnswered, IsAnsweredSo, IsDone, IsServerError, status_for, status_so, world_after};
 ghost use Rattle.desk_wire.specs.Refusals.{refusal_status, refusal_text};
 
 use crate::refusal::Refusal;
@@ -38,7 +39,8 @@ struct Response {
 /// # Errors
 ///
 /// `AllocError` if the room for the routes or for an answer was refused: nothing changed. If a later
-/// growth was refused, or the store failed, the answer says so, and nothing changed.
+/// growth was refused, or the store failed, the answer says so, and nothing changed; but the next start
+/// may find the change made.
 pub fn answer<S: PlanStore>(
     alloc: Global,
     desk: &mut Desk<S>,
@@ -50,6 +52,9 @@ pub fn answer<S: PlanStore>(
         IsAnswered (world_of S.content desk.old) moment text.now bytes.items
         (world_of S.content desk.new)) }
     ensures err { OnErr result (world_of S.content desk.new ≡ world_of S.content desk.old) }
+    ensures crash { IsHonest (S.doubt desk.new.store) → LeavesOldOr
+        (world_after (world_of S.content desk.old) moment (asked text.now)).content
+        (S.may_leave desk.old.store) (S.may_leave desk.new.store) }
     ensures doubt { S.doubt desk.old.store ≤ S.doubt desk.new.store }
     ensures counted { S.faults desk.old.store ≤ S.faults desk.new.store }
 {
@@ -82,6 +87,12 @@ pub fn answer_request<S: PlanStore>(
         IsServerError why (world_of S.content desk.old) answer.bytes.items
         (world_of S.content desk.new))) }
     ensures err { OnErr result (world_of S.content desk.new ≡ world_of S.content desk.old) }
+    ensures crash { IsHonest (S.doubt desk.new.store) → LeavesOldOr
+        (world_after (world_of S.content desk.old) moment
+        (or_met (message_read request.now) asked_by)).content
+        (S.may_leave desk.old.store) (S.may_leave desk.new.store) }
+    ensures kept { IsHonest (S.doubt desk.new.store) → IfOk result (λ answer. answer.error ≡ None →
+        IsSettled S.content S.may_leave desk.old → IsSettled S.content S.may_leave desk.new) }
     ensures doubt { S.doubt desk.old.store ≤ S.doubt desk.new.store }
     ensures counted { S.faults desk.old.store ≤ S.faults desk.new.store }
     ensures cause { IfOk result (λ answer. answer.error ≡ Some ServerError.Store →
@@ -121,6 +132,12 @@ fn respond<S: PlanStore>(
         ≡ status_for (world_of S.content desk.old) moment
         (or_met (message_read request.now) asked_by)) }
     ensures err { OnErr result (world_of S.content desk.new ≡ world_of S.content desk.old) }
+    ensures crash { IsHonest (S.doubt desk.new.store) → LeavesOldOr
+        (world_after (world_of S.content desk.old) moment
+        (or_met (message_read request.now) asked_by)).content
+        (S.may_leave desk.old.store) (S.may_leave desk.new.store) }
+    ensures kept { IsHonest (S.doubt desk.new.store) → OnOk result
+        (IsSettled S.content S.may_leave desk.old → IsSettled S.content S.may_leave desk.new) }
     ensures doubt { S.doubt desk.old.store ≤ S.doubt desk.new.store }
     ensures counted { S.faults desk.old.store ≤ S.faults desk.new.store }
     ensures cause { IfErr result (λ e. e ≡ ServerError.Store →
@@ -147,6 +164,11 @@ fn answer_message<S: PlanStore>(
     ensures status { IsHonest (S.doubt desk.new.store) → IfOk result (λ r. r.status
         ≡ status_for (world_of S.content desk.old) moment (asked_by (message_shown message.now))) }
     ensures err { OnErr result (world_of S.content desk.new ≡ world_of S.content desk.old) }
+    ensures crash { IsHonest (S.doubt desk.new.store) → LeavesOldOr
+        (world_after (world_of S.content desk.old) moment (asked_by (message_shown message.now))).content
+        (S.may_leave desk.old.store) (S.may_leave desk.new.store) }
+    ensures kept { IsHonest (S.doubt desk.new.store) → OnOk result
+        (IsSettled S.content S.may_leave desk.old → IsSettled S.content S.may_leave desk.new) }
     ensures doubt { S.doubt desk.old.store ≤ S.doubt desk.new.store }
     ensures counted { S.faults desk.old.store ≤ S.faults desk.new.store }
     ensures cause { IfErr result (λ e. e ≡ ServerError.Store →
@@ -173,6 +195,11 @@ fn answer_call<S: PlanStore>(
     ensures status { IsHonest (S.doubt desk.new.store) → IfOk result (λ r.
         r.status ≡ status_for (world_of S.content desk.old) moment (Ok asked.now)) }
     ensures err { OnErr result (world_of S.content desk.new ≡ world_of S.content desk.old) }
+    ensures crash { IsHonest (S.doubt desk.new.store) → LeavesOldOr
+        (world_after (world_of S.content desk.old) moment (Ok asked.now)).content
+        (S.may_leave desk.old.store) (S.may_leave desk.new.store) }
+    ensures kept { IsHonest (S.doubt desk.new.store) → OnOk result
+        (IsSettled S.content S.may_leave desk.old → IsSettled S.content S.may_leave desk.new) }
     ensures doubt { S.doubt desk.old.store ≤ S.doubt desk.new.store }
     ensures counted { S.faults desk.old.store ≤ S.faults desk.new.store }
     ensures cause { IfErr result (λ e. e ≡ ServerError.Store →
@@ -200,6 +227,11 @@ fn answer_pending<S: PlanStore>(
     ensures ok { IsHonest (S.doubt desk.new.store) → OnOk result
         (world_of S.content desk.new ≡ world_committed (world_of S.content desk.old) pending) }
     ensures err { OnErr result (world_of S.content desk.new ≡ world_of S.content desk.old) }
+    ensures crash { IsHonest (S.doubt desk.new.store) → LeavesOldOr
+        (world_committed (world_of S.content desk.old) pending).content
+        (S.may_leave desk.old.store) (S.may_leave desk.new.store) }
+    ensures kept { IsHonest (S.doubt desk.new.store) → OnOk result
+        (IsSettled S.content S.may_leave desk.old → IsSettled S.content S.may_leave desk.new) }
     ensures doubt { S.doubt desk.old.store ≤ S.doubt desk.new.store }
     ensures counted { S.faults desk.old.store ≤ S.faults desk.new.store }
     ensures cause { IfErr result (λ e. e ≡ ServerError.Store →

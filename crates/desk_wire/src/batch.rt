@@ -1,10 +1,13 @@
 //! Batches: the answers to requests that are all at hand.
 
-ghost use Rattle.std.specs.Prelude.{◌≡◌, ◌≤◌, ℕ, List, [], All, IfOk, OnErr, map};
+ghost use Rattle.std.specs.Prelude.{◌≡◌, ◌≤◌, ℕ, List, [], All, Option, IfOk, OnErr, map};
+ghost use Rattle.desk_store.specs.World.{World};
 ghost use Rattle.desk_store.specs.Faults.{IsHonest};
-ghost use Rattle.desk_run.specs.DeskWorld.{world_of};
+ghost use Rattle.desk_run.specs.DeskWorld.{IsSettled, world_of};
 ghost use Rattle.desk_run.specs.Sides.{OwnAlike};
 ghost use Rattle.desk_wire.specs.AllAnswers.{AreAnswers};
+ghost use Rattle.desk_wire.specs.Given.{answered};
+ghost use Rattle.desk_wire.specs.Kept.{IsFoundIn};
 ghost use Rattle.desk_wire.specs.Moments.{IsMoment};
 ghost use Rattle.desk_wire.specs.TwoRuns.{requests_of};
 
@@ -83,6 +86,11 @@ pub fn answer_all<S: PlanStore>(
     ensures quiet { IsHonest (S.doubt desk.new.store) → IfOk result (λ _. (operator : List ℕ) →
         requests_of operator (map (λ r. (r.0, r.1.items)) requests.now) ≡ [] →
         OwnAlike operator (world_of S.content desk.new) (world_of S.content desk.old)) }
+    ensures kept { IsHonest (S.doubt desk.new.store) → IfOk result (λ a.
+        IsSettled S.content S.may_leave desk.old →
+        (found : Option World) → S.may_leave desk.new.store found →
+        IsFoundIn (world_of S.content desk.old) (map (λ r. (r.0, r.1.items)) requests.now)
+        (answered a.ended (map (λ v. v.items) a.answers.items)) found) }
     ensures err { OnErr result (world_of S.content desk.new ≡ world_of S.content desk.old) }
     ensures doubt { S.doubt desk.old.store ≤ S.doubt desk.new.store }
     ensures counted { S.faults desk.old.store ≤ S.faults desk.new.store }

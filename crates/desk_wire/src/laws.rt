@@ -2,6 +2,7 @@
 
 ghost use Rattle.std.specs.Prelude.{◌≡◌, ◌<◌, ◌+◌, ◌++◌, ℕ, ℤ, List, [], Option, Some, length, take};
 ghost use Rattle.std.specs.List.{AllZip, slice_get};
+ghost use Rattle.desk_store.specs.World.{World};
 ghost use Rattle.desk_store.specs.Faults.{IsHonest};
 ghost use Rattle.desk_run.specs.DeskWorld.{DeskWorld};
 ghost use Rattle.desk_run.specs.Sides.{HoldAlike, OwnAlike};
@@ -10,6 +11,7 @@ ghost use Rattle.desk_wire.specs.declared.play.PlayEnd.{PlayEnd};
 ghost use Rattle.desk_wire.specs.AllAnswers.{AreAnswers, AreFirst, Sent};
 ghost use Rattle.desk_wire.specs.Given.{answered, AreGiven, told_in_play};
 ghost use Rattle.desk_wire.specs.Headline.{Headline, LookAlike, sender, world_at};
+ghost use Rattle.desk_wire.specs.Kept.{IsFoundAfter, IsKept};
 ghost use Rattle.desk_wire.specs.Playing.{HasPlayed, at_moment};
 ghost use Rattle.desk_wire.specs.Streams.{IsRequest, request_len, requests_in};
 ghost use Rattle.desk_wire.specs.TwoRuns.{IsSameFor, met_by, requests_of};
@@ -78,6 +80,17 @@ pub fn stream_given()
         IsHonest doubt →
         requests_of operator (at_moment moment (requests_in (count + 1) stream)) ≡ [] →
         OwnAlike operator after w }
+{}
+
+/// Kept: what a start may find of the desk, whatever ended the run over a stream (the clause `kept` of
+/// `play_all`, of a desk whose content was kept when the run began): the content that the answered requests
+/// left, or the content that these and the next one left. After n answers other than a 500 these are the
+/// first n requests of the stream.
+pub fn kept()
+    ensures { (ended : PlayEnd) (n : ℕ) (stream : List ℕ) (out now : Option (List ℕ)) (w : DeskWorld)
+        (moment : ℤ) (after : DeskWorld) (found : Option World) →
+        IsKept ended n (Some stream) out now w moment after found →
+        IsFoundAfter w moment stream n found }
 {}
 
 /// Whatever follows a request in a stream, the request is the stream's first: so what is taken of a

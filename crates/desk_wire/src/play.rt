@@ -1,8 +1,11 @@
 //! Runs over a stream: requests served one after the other.
 
-ghost use Rattle.std.specs.Prelude.{◌≡◌, ◌≤◌, ◌==◌};
+ghost use Rattle.std.specs.Prelude.{◌≡◌, ◌≤◌, ◌==◌, Option};
+ghost use Rattle.desk_store.specs.World.{World};
 ghost use Rattle.desk_store.specs.Faults.{IsHonest};
-ghost use Rattle.desk_run.specs.DeskWorld.{world_of};
+ghost use Rattle.desk_run.specs.DeskWorld.{IsSettled, world_of};
+ghost use Rattle.desk_wire.specs.Given.{told_in_play};
+ghost use Rattle.desk_wire.specs.Kept.{IsKept};
 ghost use Rattle.desk_wire.specs.Moments.{IsMoment};
 ghost use Rattle.desk_wire.specs.Playing.{HasPlayed};
 
@@ -34,7 +37,7 @@ pub enum PlayEnd {
     End,
     /// The place of the next request is unknown.
     Unframed,
-    /// The last answer has status 500.
+    /// The last answer has status 500. The next start may find the change of its request made.
     Broken,
     /// 1,000,000 requests were answered.
     Limit,
@@ -55,6 +58,11 @@ pub fn play_all<S: PlanStore, R: Read, W: Write>(
         (R.remaining input.old) (R.remaining input.new)
         (W.contents output.old) (W.contents output.new)
         (world_of S.content desk.old) moment (world_of S.content desk.new) }
+    ensures kept { IsHonest (S.doubt desk.new.store) → IsSettled S.content S.may_leave desk.old →
+        (found : Option World) → S.may_leave desk.new.store found →
+        IsKept result.ended (told_in_play result.ended result.answered) (R.remaining input.old)
+        (W.contents output.old) (W.contents output.new)
+        (world_of S.content desk.old) moment (world_of S.content desk.new) found }
     ensures doubt { S.doubt desk.old.store ≤ S.doubt desk.new.store }
     ensures counted { S.faults desk.old.store ≤ S.faults desk.new.store }
 {
@@ -81,6 +89,11 @@ fn play_with<S: PlanStore, R: Read, W: Write>(
         (R.remaining input.old) (R.remaining input.new)
         (W.contents output.old) (W.contents output.new)
         (world_of S.content desk.old) moment (world_of S.content desk.new) }
+    ensures kept { IsHonest (S.doubt desk.new.store) → IsSettled S.content S.may_leave desk.old →
+        (found : Option World) → S.may_leave desk.new.store found →
+        IsKept result.ended (told_in_play result.ended result.answered) (R.remaining input.old)
+        (W.contents output.old) (W.contents output.new)
+        (world_of S.content desk.old) moment (world_of S.content desk.new) found }
     ensures doubt { S.doubt desk.old.store ≤ S.doubt desk.new.store }
     ensures counted { S.faults desk.old.store ≤ S.faults desk.new.store }
 {

@@ -1,14 +1,16 @@
 //! Connections: requests read from a stream, and their answers written to one.
 
-ghost use Rattle.std.specs.Prelude.{◌≡◌, ◌≤◌, ◌<◌, ◌+◌, [], length, take, IfErr, IfOk, IfSome, OnOk, None};
+ghost use Rattle.std.specs.Prelude.{◌≡◌, ◌≤◌, ◌<◌, ◌+◌, [], length, take, ◌⊎◌, Option, IfErr, IfOk, IfSome, OnOk, None};
 ghost use Rattle.std.specs.Io.{ReadsAtMost};
 ghost use Rattle.std.specs.Result.{is_ok};
 ghost use Rattle.std.specs.Io.KnownBytes.{Appends, Consumes, IsAtEnd, ReadConsumes};
 ghost use Rattle.desk_reading.specs.Messages.{message_read};
+ghost use Rattle.desk_store.specs.World.{World};
 ghost use Rattle.desk_store.specs.Faults.{IsHonest};
-ghost use Rattle.desk_run.specs.DeskWorld.{world_of};
+ghost use Rattle.desk_run.specs.DeskWorld.{IsSettled, world_of};
+ghost use Rattle.desk_wire.specs.Kept.{IsCertain, IsLeftBy};
 ghost use Rattle.desk_wire.specs.Moments.{IsMoment};
-ghost use Rattle.desk_wire.specs.Serving.{BreaksOff, HasServed, Stops};
+ghost use Rattle.desk_wire.specs.Serving.{BreaksOff, HasServed, IsTaken, Stops};
 ghost use Rattle.desk_wire.specs.Streams.{IsCut, IsFront, byte_list, front_read, front_reading, size_said, with_body};
 ghost use Rattle.desk_wire.specs.declared.stream.ServeFault.TheVariants as serve_fault;
 
@@ -98,6 +100,12 @@ pub fn serve_one<S: PlanStore, R: Read, W: Write>(
         (R.remaining input.old) (R.remaining input.new)
         (W.contents output.old) (W.contents output.new)
         (world_of S.content desk.old) moment (world_of S.content desk.new) }
+    ensures crash { IsHonest (S.doubt desk.new.store) → (found : Option World) →
+        S.may_leave desk.new.store found → S.may_leave desk.old.store found
+        ⊎ IsLeftBy (IsTaken (R.remaining input.old) (R.remaining input.new))
+        (world_of S.content desk.old) moment found }
+    ensures kept { IsHonest (S.doubt desk.new.store) → IsCertain result →
+        IsSettled S.content S.may_leave desk.old → IsSettled S.content S.may_leave desk.new }
     ensures doubt { S.doubt desk.old.store ≤ S.doubt desk.new.store }
     ensures counted { S.faults desk.old.store ≤ S.faults desk.new.store }
 {
@@ -119,6 +127,12 @@ pub fn serve_next<S: PlanStore, R: Read, W: Write>(
         (R.remaining input.old) (R.remaining input.new)
         (W.contents output.old) (W.contents output.new)
         (world_of S.content desk.old) moment (world_of S.content desk.new) }
+    ensures crash { IsHonest (S.doubt desk.new.store) → (found : Option World) →
+        S.may_leave desk.new.store found → S.may_leave desk.old.store found
+        ⊎ IsLeftBy (IsTaken (R.remaining input.old) (R.remaining input.new))
+        (world_of S.content desk.old) moment found }
+    ensures kept { IsHonest (S.doubt desk.new.store) → IsCertain result →
+        IsSettled S.content S.may_leave desk.old → IsSettled S.content S.may_leave desk.new }
     ensures doubt { S.doubt desk.old.store ≤ S.doubt desk.new.store }
     ensures counted { S.faults desk.old.store ≤ S.faults desk.new.store }
 {

@@ -2,6 +2,7 @@
 
 ghost use Rattle.std.specs.Prelude.{◌≡◌, ◌≤◌, IfOk, IfErr};
 ghost use Rattle.desk_store.specs.Faults.{IsHonest, HasRisen};
+ghost use Rattle.desk_store.specs.Crashes.{LeavesNoMore};
 ghost use Rattle.volume4d.specs.Bounds.{AreFilled};
 ghost use Rattle.volume4d.specs.Sweep.{Ascend};
 ghost use Rattle.desk_rules.specs.Permission.{least_blocking};
@@ -33,6 +34,8 @@ pub fn conflict_of<S: PlanStore>(
         meeting ≡ conflict_in permitted.now (S.content store.old) operator.now id.now area.now
         priority) }
     ensures same { S.content store.new ≡ S.content store.old }
+    ensures crash { IsHonest (S.doubt store.new) →
+        LeavesNoMore (S.may_leave store.old) (S.may_leave store.new) }
     ensures doubt { S.doubt store.old ≤ S.doubt store.new }
     ensures counted { S.faults store.old ≤ S.faults store.new }
     ensures cause { IfErr result (λ e. e ≡ StoreFault.Store →
@@ -58,6 +61,8 @@ fn first_among<S: PlanStore>(
     ensures value { IsHonest (S.doubt store.new) → IfOk result
         (IsFirstAmong permitted.now (S.content store.old) operator.now id.now slabs.now priority) }
     ensures same { S.content store.new ≡ S.content store.old }
+    ensures crash { IsHonest (S.doubt store.new) →
+        LeavesNoMore (S.may_leave store.old) (S.may_leave store.new) }
     ensures doubt { S.doubt store.old ≤ S.doubt store.new }
     ensures counted { S.faults store.old ≤ S.faults store.new }
     ensures cause { IfErr result (λ e. e ≡ StoreFault.Store →
@@ -97,6 +102,8 @@ fn first_in<S: PlanStore>(
     ensures value { IsHonest (S.doubt store.new) → IfOk result
         (IsFirstAmong permitted.now (S.content store.old) operator.now id.now cluster.now priority) }
     ensures same { S.content store.new ≡ S.content store.old }
+    ensures crash { IsHonest (S.doubt store.new) →
+        LeavesNoMore (S.may_leave store.old) (S.may_leave store.new) }
     ensures doubt { S.doubt store.old ≤ S.doubt store.new }
     ensures counted { S.faults store.old ≤ S.faults store.new }
     ensures cause { IfErr result (λ e. e ≡ StoreFault.Store →

@@ -1,8 +1,9 @@
-use Rattle.std.proofs.Common.{w64}
+use Rattle.std.proofs.Common.{ap, w64}
 use Rattle.std.proofs.lemmas.Int.{to_z-of_z}
 use Rattle.desk_reading.specs.Messages.{message_read}
+use Rattle.desk_run.specs.CrashLaws.{old_or_changed}
 use Rattle.desk_run.specs.DeskWorld.{world_of}
-use Rattle.desk_wire.proofs.BytesLemmas.{answered_so}
+use Rattle.desk_wire.proofs.BytesLemmas.{answered_so, left_read}
 use Rattle.desk_wire.proofs.answering.answer.Goals as goal
 
 pub returns-clause-bytes : goal.returns-clause-bytes
@@ -12,3 +13,17 @@ returns-clause-bytes g c = λ honest.
     c.args.moment c.args.text.now (message_read c.read_message.result) c.in_ok-answer.answer.bytes.items
     c.in_ok-answer.answer.error
     (to_z-of_z w64 c.args.moment c.ranges.moment) c.read_message.ensures (c.in_ok-answer.ensures.bytes honest)
+
+pub returns-in_err-answer-clause-crash : goal.returns-in_err-answer-clause-crash
+returns-in_err-answer-clause-crash g c = λ honest.
+    old_or_changed (λ found before. before) (c.answer_request.ensures.crash honest)
+    (ap (λ v. v.content) (left_read (world_of g.S.PlanStore.content c.args.desk.now) _ c.args.moment
+    c.args.text.now (message_read c.read_message.result) (to_z-of_z w64 c.args.moment c.ranges.moment)
+    c.read_message.ensures))
+
+pub returns-clause-crash : goal.returns-clause-crash
+returns-clause-crash g c = λ honest.
+    old_or_changed (λ found before. before) (c.answer_request.ensures.crash honest)
+    (ap (λ v. v.content) (left_read (world_of g.S.PlanStore.content c.args.desk.now) _ c.args.moment
+    c.args.text.now (message_read c.read_message.result) (to_z-of_z w64 c.args.moment c.ranges.moment)
+    c.read_message.ensures))

@@ -2,11 +2,12 @@ use Rattle.std.proofs.Common.{Err, ◌∙◌, ap, subst, w64}
 use Rattle.std.proofs.lemmas.Int.{to_z-of_z}
 use Rattle.std.proofs.lemmas.Result.{IfOk-weaker, on_ok_weaker}
 use Rattle.desk_store.specs.FaultLaws.{was_honest}
+use Rattle.desk_run.specs.CrashLaws.{old_or_changed, still_settled}
 use Rattle.desk_run.specs.DeskWorld.{world_of}
 use Rattle.desk_run.specs.Calls.{IsPending, Prepares, world_committed}
 use Rattle.desk_run.specs.Verdicts.{unknown_operator, no_such_plan}
 use Rattle.desk_wire.specs.Bytes.{status, text}
-use Rattle.desk_wire.proofs.BytesLemmas.{done_if_ok, done_unanswered, no_cause, status_pending, status_unanswered}
+use Rattle.desk_wire.proofs.BytesLemmas.{done_if_ok, done_unanswered, no_cause, status_pending, status_unanswered, whatever}
 use Rattle.desk_wire.proofs.answering.answer_call.Goals as goal
 
 pub returns-in-Ok-clause-bytes : goal.returns-in-Ok-clause-bytes
@@ -86,3 +87,33 @@ returns-in-Err-UnknownOperator-clause-cause g c = no_cause c.refuse.result _ c.r
 pub returns-in-Err-NoSuchPlan-clause-cause : goal.returns-in-Err-NoSuchPlan-clause-cause
 returns-in-Err-NoSuchPlan-clause-cause g c = no_cause c.refuse-in-Err-NoSuchPlan.result _
     c.refuse-in-Err-NoSuchPlan.ensures.error
+
+-- what may be found is what might have been before, or the content with what was pending
+pub returns-in-Ok-clause-crash : goal.returns-in-Ok-clause-crash
+returns-in-Ok-clause-crash g c = λ honest.
+    let w = world_of g.S.PlanStore.content c.args.desk.now in
+    let pending = c.in-Ok.pending in
+    let before = was_honest c.answer_pending.ensures.doubt honest in
+    let prepared = subst (λ m. IsPending w m c.args.asked.now pending)
+    (to_z-of_z w64 c.args.moment c.ranges.moment) (c.in-Ok.ensures.value before) in
+    old_or_changed (c.prepare.ensures.crash before) (c.answer_pending.ensures.crash honest)
+    (ap (λ v. (world_committed v pending).content) c.prepare.ensures.same
+    ∙ ap (λ v. v.content) prepared.left)
+
+pub returns-in-Ok-clause-kept : goal.returns-in-Ok-clause-kept
+returns-in-Ok-clause-kept g c = λ honest.
+    on_ok_weaker c.answer_pending.result (λ keeps settled. keeps
+    (still_settled (c.prepare.ensures.crash (was_honest c.answer_pending.ensures.doubt honest)) settled
+    (ap (λ v. v.content) c.prepare.ensures.same)))
+    (c.answer_pending.ensures.kept honest)
+
+pub returns-in-Err-UnknownOperator-clause-kept : goal.returns-in-Err-UnknownOperator-clause-kept
+returns-in-Err-UnknownOperator-clause-kept g c = λ honest.
+    whatever c.refuse.result (λ settled. still_settled (c.prepare.ensures.crash honest) settled
+    (ap (λ v. v.content) c.prepare.ensures.same))
+
+pub returns-in-Err-NoSuchPlan-clause-kept : goal.returns-in-Err-NoSuchPlan-clause-kept
+returns-in-Err-NoSuchPlan-clause-kept g c = λ honest.
+    whatever c.refuse-in-Err-NoSuchPlan.result (λ settled.
+    still_settled (c.prepare.ensures.crash honest) settled
+    (ap (λ v. v.content) c.prepare.ensures.same))

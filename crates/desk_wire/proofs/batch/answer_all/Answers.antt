@@ -1,5 +1,5 @@
-use Rattle.std.proofs.Common.{◌≤◌, ◌+◌, ◌∙◌, [], ◌∷◌, map, sym, ap, subst, length, arith}
-use Rattle.std.proofs.lemmas.List.{length-append}
+use Rattle.std.proofs.Common.{◌≡◌, ◌≤◌, ◌+◌, ◌-◌, ◌∙◌, refl, [], ◌∷◌, map, sym, ap, subst, length, arith}
+use Rattle.std.proofs.lemmas.List.{length-append, length-map}
 use Rattle.desk_reading.specs.Messages.{message_read}
 use Rattle.desk_store.specs.FaultLaws.{was_honest}
 use Rattle.desk_run.specs.DeskWorld.{world_of}
@@ -7,7 +7,9 @@ use Rattle.desk_wire.specs.AllAnswers.{AreBroken}
 use Rattle.desk_wire.proofs.MomentLemmas.{moment_at, is_moment_at, same_moment}
 use Rattle.desk_wire.specs.declared.batch.AnswersEnd.TheVariants.{All, Broken, NoMemory}
 use Rattle.desk_wire.proofs.GivenLemmas.{given_quiet}
+use Rattle.desk_wire.specs.Kept.{IsFoundIn}
 use Rattle.desk_wire.proofs.AllLemmas.{HaveAnswers, one_answered, cut_answered, all_answered, done_so, failed_so}
+use Rattle.desk_wire.proofs.KeptLemmas.{found_next, found_settled, is_none_by}
 use Rattle.desk_wire.proofs.batch.answer_all.Goals as goal
 
 pub answer_request-answer-requires : goal.answer_request-answer-requires
@@ -37,6 +39,8 @@ loop-moment-preserved g c =
           c.loop-moment.answers.items r c.in-Ok.field-0.bytes
           (c.loop-moment.invariant.answered (was_honest c.answer_request-answer.ensures.doubt honest))
           c.loop-moment-test.true c.loop-moment-item.is done);
+      settled = λ honest h. c.in-Ok.ensures.kept honest (is_none_by c.in-Ok.field-0.error none)
+          (c.loop-moment.invariant.settled (was_honest c.answer_request-answer.ensures.doubt honest) h);
       count = ap length c.push_reserved.ensures.items
           ∙ length-append c.loop-moment.answers.items (c.in-Ok.field-0.bytes ∷ [])
           ∙ ap (λ k. k + 1) c.loop-moment.invariant.count;
@@ -89,3 +93,65 @@ returns-then-is_some-clause-quiet g c = λ honest o none.
 pub returns-clause-quiet : goal.returns-clause-quiet
 returns-clause-quiet g c = λ honest o none.
     given_quiet All _ _ _ _ o (returns-clause-answers g c honest) none
+
+-- what is found is what the answered requests left, or these and the next one
+pub returns-in_default-clause-kept : goal.returns-in_default-clause-kept
+returns-in_default-clause-kept g c = λ honest settled found may.
+    let requests = c.args.requests.now in
+    let n = c.loop-moment.moment-index in
+    let r = c.loop-moment-item.result in
+    let w = world_of g.S.PlanStore.content c.args.desk.now in
+    let now = world_of g.S.PlanStore.content c.loop-moment.desk in
+    let old = was_honest c.answer_request-answer.ensures.doubt honest in
+    let same = same_moment r.0 (is_moment_at (λ q. q.0) requests n r c.loop-moment-test.true
+    c.loop-moment-item.is c.requires) in
+    let finds = found_next (λ q. (q.0, q.1.items)) (λ v. v.items) w now requests n
+    c.loop-moment.answers.items r
+    (g.S.PlanStore.may_leave c.loop-moment.desk.store) _ r.0 c.deref.result.now
+    (message_read c.read_message.result) found (c.loop-moment.invariant.answered old)
+    c.loop-moment-test.true c.loop-moment-item.is (ap (λ t. (r.0, t)) (sym c.deref.ensures.value)) same
+    c.read_message.ensures (c.loop-moment.invariant.settled old settled found)
+    (c.answer_request-answer.ensures.crash honest found may) in
+    let count : n ≡ length (map (λ v. v.items) c.loop-moment.answers.items) =
+    sym (length-map c.loop-moment.answers.items (λ v. v.items) ∙ c.loop-moment.invariant.count) in
+    subst (λ k. IsFoundIn w (map (λ q. (q.0, q.1.items)) requests) k found) count finds
+
+pub returns-then-is_some-clause-kept : goal.returns-then-is_some-clause-kept
+returns-then-is_some-clause-kept g c = λ honest settled found may.
+    let requests = c.args.requests.now in
+    let n = c.loop-moment.moment-index in
+    let r = c.loop-moment-item.result in
+    let w = world_of g.S.PlanStore.content c.args.desk.now in
+    let now = world_of g.S.PlanStore.content c.loop-moment.desk in
+    let old = was_honest c.answer_request-answer.ensures.doubt honest in
+    let same = same_moment r.0 (is_moment_at (λ q. q.0) requests n r c.loop-moment-test.true
+    c.loop-moment-item.is c.requires) in
+    let finds = found_next (λ q. (q.0, q.1.items)) (λ v. v.items) w now requests n
+    c.loop-moment.answers.items r
+    (g.S.PlanStore.may_leave c.loop-moment.desk.store) _ r.0 c.deref.result.now
+    (message_read c.read_message.result) found (c.loop-moment.invariant.answered old)
+    c.loop-moment-test.true c.loop-moment-item.is (ap (λ t. (r.0, t)) (sym c.deref.ensures.value)) same
+    c.read_message.ensures (c.loop-moment.invariant.settled old settled found)
+    (c.answer_request-answer.ensures.crash honest found may) in
+    let size = ap length c.push_reserved.ensures.items
+    ∙ length-append c.loop-moment.answers.items (c.in-Ok.field-0.bytes ∷ []) in
+    let count : n ≡ length (map (λ v. v.items) c.push_reserved.new.self.items) - 1 =
+    omega (
+      arith,
+      size,
+      c.loop-moment.invariant.count,
+      length-map c.push_reserved.new.self.items (λ v. v.items),
+    ) in
+    subst (λ k. IsFoundIn w (map (λ q. (q.0, q.1.items)) requests) k found) count finds
+
+pub returns-clause-kept : goal.returns-clause-kept
+returns-clause-kept g c = λ honest settled found may.
+    let w = world_of g.S.PlanStore.content c.args.desk.now in
+    let requests = c.args.requests.now in
+    let count : c.loop-moment.moment-index ≡ length (map (λ v. v.items) c.loop-moment.answers.items) =
+    sym (length-map c.loop-moment.answers.items (λ v. v.items) ∙ c.loop-moment.invariant.count) in
+    subst (λ k. IsFoundIn w (map (λ q. (q.0, q.1.items)) requests) k found) count
+    (found_settled (λ q. (q.0, q.1.items)) (λ v. v.items) w
+    (world_of g.S.PlanStore.content c.loop-moment.desk) requests c.loop-moment.moment-index
+    c.loop-moment.answers.items found (c.loop-moment.invariant.answered honest)
+    (c.loop-moment.invariant.settled honest settled found may))

@@ -1,6 +1,6 @@
 use Rattle.std.proofs.Common.{◌≡◌, ◌≤◌, length}
 use Rattle.desk_store.specs.Faults.{IsHonest}
-use Rattle.desk_run.specs.DeskWorld.{world_of}
+use Rattle.desk_run.specs.DeskWorld.{IsSettled, world_of}
 use Rattle.desk_wire.proofs.AllLemmas.{HaveAnswers}
 use Rattle.desk_wire.proofs.batch.answer_all.Given as goal
 
@@ -12,6 +12,9 @@ invariant-loop-moment g l =
           → HaveAnswers (λ r. (r.0, r.1.items)) (λ v. v.items) (world_of g.S.PlanStore.content l.fn.desk)
           l.requests
           l.moment-index l.answers.items (world_of g.S.PlanStore.content l.desk);
+      settled : IsHonest (g.S.PlanStore.doubt l.desk.store)
+          → IsSettled g.S.PlanStore.content g.S.PlanStore.may_leave l.fn.desk
+          → IsSettled g.S.PlanStore.content g.S.PlanStore.may_leave l.desk;
       count : length l.answers.items ≡ l.moment-index;
       room : length l.requests ≤ l.answers.cap;
       doubt : g.S.PlanStore.doubt l.fn.desk.store ≤ g.S.PlanStore.doubt l.desk.store;

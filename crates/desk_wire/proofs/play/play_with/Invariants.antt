@@ -1,6 +1,6 @@
 use Rattle.std.proofs.Common.{◌≤◌}
 use Rattle.desk_store.specs.Faults.{IsHonest}
-use Rattle.desk_run.specs.DeskWorld.{world_of}
+use Rattle.desk_run.specs.DeskWorld.{IsSettled, world_of}
 use Rattle.desk_wire.specs.Playing.{ArePlayed}
 use Rattle.desk_wire.proofs.play.play_with.Given as goal
 
@@ -12,6 +12,9 @@ invariant-loop-before g l =
           (g.R.Read.remaining l.fn.input)
           (g.R.Read.remaining l.input) (g.W.Write.contents l.fn.output) (g.W.Write.contents l.output)
           (world_of g.S.PlanStore.content l.fn.desk) l.moment (world_of g.S.PlanStore.content l.desk);
+      settled : IsHonest (g.S.PlanStore.doubt l.desk.store)
+          → IsSettled g.S.PlanStore.content g.S.PlanStore.may_leave l.fn.desk
+          → IsSettled g.S.PlanStore.content g.S.PlanStore.may_leave l.desk;
       doubt : g.S.PlanStore.doubt l.fn.desk.store ≤ g.S.PlanStore.doubt l.desk.store;
       counted : g.S.PlanStore.faults l.fn.desk.store ≤ g.S.PlanStore.faults l.desk.store;
     }

@@ -1,4 +1,4 @@
-use Rattle.std.proofs.Common.{◌<◌, ◌++◌, IfSome, w64, refl, sym, ap, subst, ◌∙◌, length}
+use Rattle.std.proofs.Common.{◌<◌, ◌++◌, IfSome, Ok, w64, refl, sym, ap, subst, ◌∙◌, length}
 use Rattle.std.specs.Result.{is_ok}
 use Rattle.std.proofs.lemmas.Int.{to_z-of_z}
 use Rattle.desk_reading.specs.Messages.{message_read}
@@ -6,6 +6,8 @@ use Rattle.desk_store.specs.Faults.{IsHonest}
 use Rattle.desk_run.specs.DeskWorld.{world_of}
 use Rattle.desk_wire.specs.Streams.{front_read, front_reading, size_said, with_body}
 use Rattle.desk_wire.proofs.FrontLemmas.{some_count, told_cut_body}
+use Rattle.desk_wire.specs.Kept.{IsCertain}
+use Rattle.desk_wire.proofs.KeptLemmas.{left_served, no_failure, uncertain_memory, uncertain_write}
 use Rattle.desk_wire.proofs.ServeLemmas.{broken, framed_as, received, replied, served_as, status_as, stopped}
 use Rattle.desk_wire.proofs.stream.serve_next.Goals as goal
 
@@ -92,3 +94,83 @@ returns-clause-served g c =
           got.read c.in_ok-answer.ensures.status;
       written = rw c.deref-3.ensures.value at c.in_ok-write_whole.ensures.ok;
     }
+
+-- what may be found is what might have been before, or what the request that was taken leaves
+pub returns-in_err-answer-clause-crash : goal.returns-in_err-answer-clause-crash
+returns-in_err-answer-clause-crash g c = λ honest.
+    let text = c.in_ok-text.text.items in
+    let body = c.in_ok-body.body.items in
+    let some = some_count c.in_ok-text.text.len (length text) c.if-is_empty.ensures
+    (sym c.in_ok-text.text.ok.0) in
+    let front = c.front_of-front.ensures ∙ ap front_read c.deref.ensures.value in
+    let message = c.message_of-request.ensures ∙ ap (with_body (front_reading c.front_of-front.result))
+    c.deref-2.ensures.value in
+    let got = received (g.R.Read.remaining c.args.input.now) (g.R.Read.remaining c.receive_head.new.input)
+    (g.R.Read.remaining c.receive_body.new.input) text body (front_reading c.front_of-front.result)
+    (message_read c.message_of-request.result)
+    c.in_ok-text.ensures.taken (c.in_ok-text.ensures.front some) front c.in_ok-body.ensures.taken
+    (c.in_ok-body.ensures.size ∙ c.size_of.ensures) message in
+    left_served (g.S.PlanStore.may_leave c.args.desk.now.store)
+    (g.S.PlanStore.may_leave c.answer_request.new.desk.store) (g.R.Read.remaining c.args.input.now)
+    (g.R.Read.remaining c.receive_body.new.input) _ c.args.moment
+    (world_of g.S.PlanStore.content c.args.desk.now) (message_read c.message_of-request.result)
+    (text ++ body) (to_z-of_z w64 c.args.moment c.ranges.moment) got.taken got.read
+    (c.answer_request.ensures.crash honest)
+
+pub returns-in_err-write_whole-clause-crash : goal.returns-in_err-write_whole-clause-crash
+returns-in_err-write_whole-clause-crash g c = λ honest.
+    let text = c.in_ok-text.text.items in
+    let body = c.in_ok-body.body.items in
+    let some = some_count c.in_ok-text.text.len (length text) c.if-is_empty.ensures
+    (sym c.in_ok-text.text.ok.0) in
+    let front = c.front_of-front.ensures ∙ ap front_read c.deref.ensures.value in
+    let message = c.message_of-request.ensures ∙ ap (with_body (front_reading c.front_of-front.result))
+    c.deref-2.ensures.value in
+    let got = received (g.R.Read.remaining c.args.input.now) (g.R.Read.remaining c.receive_head.new.input)
+    (g.R.Read.remaining c.receive_body.new.input) text body (front_reading c.front_of-front.result)
+    (message_read c.message_of-request.result)
+    c.in_ok-text.ensures.taken (c.in_ok-text.ensures.front some) front c.in_ok-body.ensures.taken
+    (c.in_ok-body.ensures.size ∙ c.size_of.ensures) message in
+    left_served (g.S.PlanStore.may_leave c.args.desk.now.store)
+    (g.S.PlanStore.may_leave c.answer_request.new.desk.store) (g.R.Read.remaining c.args.input.now)
+    (g.R.Read.remaining c.receive_body.new.input) _ c.args.moment
+    (world_of g.S.PlanStore.content c.args.desk.now) (message_read c.message_of-request.result)
+    (text ++ body) (to_z-of_z w64 c.args.moment c.ranges.moment) got.taken got.read
+    (c.answer_request.ensures.crash honest)
+
+pub returns-clause-crash : goal.returns-clause-crash
+returns-clause-crash g c = λ honest.
+    let text = c.in_ok-text.text.items in
+    let body = c.in_ok-body.body.items in
+    let some = some_count c.in_ok-text.text.len (length text) c.if-is_empty.ensures
+    (sym c.in_ok-text.text.ok.0) in
+    let front = c.front_of-front.ensures ∙ ap front_read c.deref.ensures.value in
+    let message = c.message_of-request.ensures ∙ ap (with_body (front_reading c.front_of-front.result))
+    c.deref-2.ensures.value in
+    let got = received (g.R.Read.remaining c.args.input.now) (g.R.Read.remaining c.receive_head.new.input)
+    (g.R.Read.remaining c.receive_body.new.input) text body (front_reading c.front_of-front.result)
+    (message_read c.message_of-request.result)
+    c.in_ok-text.ensures.taken (c.in_ok-text.ensures.front some) front c.in_ok-body.ensures.taken
+    (c.in_ok-body.ensures.size ∙ c.size_of.ensures) message in
+    left_served (g.S.PlanStore.may_leave c.args.desk.now.store)
+    (g.S.PlanStore.may_leave c.answer_request.new.desk.store) (g.R.Read.remaining c.args.input.now)
+    (g.R.Read.remaining c.receive_body.new.input) _ c.args.moment
+    (world_of g.S.PlanStore.content c.args.desk.now) (message_read c.message_of-request.result)
+    (text ++ body) (to_z-of_z w64 c.args.moment c.ranges.moment) got.taken got.read
+    (c.answer_request.ensures.crash honest)
+
+-- the answer is whole and no 500, or what stopped it leaves its change uncertain
+pub returns-in_err-answer-clause-kept : goal.returns-in_err-answer-clause-kept
+returns-in_err-answer-clause-kept g c = λ honest certain.
+    absurd (uncertain_memory _ c.from_residual-in_err-answer.ensures.1 certain)
+
+pub returns-in_err-write_whole-clause-kept : goal.returns-in_err-write_whole-clause-kept
+returns-in_err-write_whole-clause-kept g c = λ honest certain.
+    absurd (uncertain_write c.from_residual-in_err-write_whole.result c.in_err-write_whole.field-0.0 _ _ _
+    c.from_residual-in_err-write_whole.ensures.1 c.in_err-write_whole.ensures.err certain)
+
+pub returns-clause-kept : goal.returns-clause-kept
+returns-clause-kept g c = λ honest certain.
+    let other = subst (λ s. IsCertain (Ok s)) c.answered.ensures certain in
+    c.in_ok-answer.ensures.kept honest
+    (no_failure _ _ _ _ _ (c.in_ok-answer.ensures.status honest) other)

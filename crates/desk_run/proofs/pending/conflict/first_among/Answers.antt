@@ -45,6 +45,9 @@ loop-rest-preserved g c =
       order = later_order c.args.permitted.now levels c.args.priority rest cluster later split
           so_far.order;
       same = c.in_ok-meeting.ensures.same ∙ so_far.same;
+      crash = λ honest found may.
+          so_far.crash (omega (arith, honest, c.in_ok-meeting.ensures.doubt)) found
+          (c.in_ok-meeting.ensures.crash honest found may);
       doubt = omega (arith, c.in_ok-meeting.ensures.doubt, so_far.doubt);
       counted = omega (arith, c.in_ok-meeting.ensures.counted, so_far.counted);
     }

@@ -4,6 +4,7 @@ use Rattle.volume4d.specs.Bounds.{IsFilled}
 use Rattle.volume4d.specs.Sweep.{Ascend}
 use Rattle.volume4d.specs.Meeting.{Spot}
 use Rattle.desk_store.specs.Faults.{IsHonest}
+use Rattle.desk_store.specs.Crashes.{LeavesNoMore}
 use Rattle.desk_run.specs.Clusters.{IsFirstAmong}
 use Rattle.desk_run.proofs.pending.conflict.first_among.Given as goal
 
@@ -18,6 +19,9 @@ invariant-loop-rest g l =
       filled : All IsFilled l.rest;
       order : Ascend (λ s. s) l.rest;
       same : g.S.PlanStore.content l.store ≡ g.S.PlanStore.content l.fn.store;
+      crash :
+          IsHonest (g.S.PlanStore.doubt l.store) → LeavesNoMore (g.S.PlanStore.may_leave l.fn.store)
+          (g.S.PlanStore.may_leave l.store);
       doubt : g.S.PlanStore.doubt l.fn.store ≤ g.S.PlanStore.doubt l.store;
       counted : g.S.PlanStore.faults l.fn.store ≤ g.S.PlanStore.faults l.store;
     }

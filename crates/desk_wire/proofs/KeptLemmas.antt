@@ -1,0 +1,274 @@
+-- What may be found of requests of a stream.
+use Rattle.std.proofs.Common.{◌≡◌, ◌≢◌, ◌+◌, ◌-◌, ℕ, ℤ, ◌⊎◌, inl, inr, refl, sym, ap, subst, ◌∙◌, arith, List, [], ◌∷◌, ◌++◌, Option, Some, None, Result, Ok, Err}
+use Rattle.std.proofs.Common.{true, false, is_some, length, map, take, get_or, ◌<◌}
+use Rattle.std.proofs.lemmas.List.{length-append, length-map, map-append}
+use Rattle.std.proofs.lemmas.List.Elements.{recursion_from_All}
+use Rattle.std.specs.Io.KnownBytes.{Appends, Consumes}
+use Rattle.std.specs.Result.{IsErrAnd}
+use Rattle.desk_store.specs.World.{World}
+use Rattle.desk_store.specs.Crashes.{LeavesOldOr}
+use Rattle.desk_reading.specs.Messages.{MessageParts, message_in}
+use Rattle.desk_reading.specs.Readings.{Reading, or_met}
+use Rattle.desk_reading.specs.Requests.{asked, asked_by}
+use Rattle.desk_rules.specs.declared.call.Asked.{Asked}
+use Rattle.desk_run.specs.DeskWorld.{DeskWorld}
+use Rattle.desk_wire.specs.declared.play.PlayEnd.{PlayEnd}
+use Rattle.desk_wire.specs.declared.play.PlayEnd.TheVariants.{End, Unframed, Broken, Limit, Fault}
+use Rattle.desk_wire.specs.declared.response.ServerError.{ServerError}
+use Rattle.desk_wire.specs.declared.stream.Served.{Served}
+use Rattle.desk_wire.specs.declared.stream.ServeFault.{ServeFault}
+use Rattle.desk_wire.specs.declared.stream.ServeFault.TheVariants.{Read, Write, CutShort, OutOfMemory}
+use Rattle.desk_wire.specs.AllAnswers.{Sent, answers_to, world_left}
+use Rattle.desk_wire.specs.Bytes.{status_so, world_after}
+use Rattle.desk_wire.specs.Given.{AreGiven, IsNextIn, answered, told_in_play}
+use Rattle.desk_wire.specs.Kept.{FindsBy, IsCertain, IsFoundAfter, IsFoundIn, IsKept, IsLeftBy, IsOldOrNext}
+use Rattle.desk_wire.specs.Playing.{ArePlayed, EndsBy, IsWhole, at_moment}
+use Rattle.desk_wire.specs.Serving.{BreaksOff, IsTaken}
+use Rattle.desk_wire.specs.Streams.{requests_in}
+use Rattle.desk_wire.proofs.AllLemmas.{HaveAnswers, left_more, take_map}
+use Rattle.desk_wire.proofs.BytesLemmas.{left_read}
+use Rattle.desk_wire.proofs.StreamGivenLemmas.{given_broken, given_first, given_off, given_unframed, is_next}
+
+-- the request that was taken, and what it leaves
+pub left_served : (before now : Option World → Type 0) (old new : Option (List ℕ)) (given moment : ℤ)
+    (w : DeskWorld) (reading : Reading MessageParts) (request : List ℕ) → given ≡ moment
+    → IsTaken old new request → reading ≡ message_in request
+    → LeavesOldOr (world_after w given (or_met reading asked_by)).content before now
+    → (found : Option World) → now found → before found ⊎ IsLeftBy (IsTaken old new) w moment found
+left_served before now old new given moment w reading request same taken read crash found may =
+    by (crash found may)
+  where
+    by : before found ⊎ (found ≡ Some (world_after w given (or_met reading asked_by)).content)
+        → before found ⊎ IsLeftBy (IsTaken old new) w moment found
+    by (inl is) = inl is
+    by (inr is) =
+        inr (
+          request,
+          taken,
+          is
+              ∙ ap (λ v. Some v.content) (left_read w given moment request reading same read),
+        )
+
+-- an answer with another status than 500 is no failure of the desk
+pub no_failure : (w : DeskWorld) (moment : ℤ) (reading : Reading Asked) (why : Option ServerError)
+    (status : ℕ) → status ≡ status_so why w moment reading → status ≢ 500 → why ≡ None
+no_failure w moment reading None status is other = refl
+no_failure w moment reading (Some why) status is other = absurd (other is)
+
+-- want of memory, and an answer that was broken off, leave it uncertain
+pub uncertain_memory : (r : Result Served ServeFault) → IsErrAnd r (λ e. e ≡ OutOfMemory) → IsCertain r → ⊥
+uncertain_memory (Ok s) is certain = absurd is
+uncertain_memory (Err e) is certain = subst (λ f. IsCertain (Err f)) is certain
+
+pub uncertain_write : (r : Result Served ServeFault) (f : ServeFault) (answer : List ℕ)
+    (out now : Option (List ℕ)) → IsErrAnd r (λ e. e ≡ f) → BreaksOff answer out now f → IsCertain r → ⊥
+uncertain_write (Ok s) f answer out now is off certain = absurd is
+uncertain_write (Err e) f answer out now is off certain =
+    by f off (subst (λ z. IsCertain (Err z)) is certain)
+  where
+    by : (f : ServeFault) → BreaksOff answer out now f → IsCertain (Err f) → ⊥
+    by Read s h = s
+    by OutOfMemory s h = s
+    by CutShort s h = s
+    by (Write sent) s h = h
+
+-- what is found once what was settled may have one request more
+pub old_or_next : (before : Option World → Type 0) (w : DeskWorld) (IsNext : List ℕ → Type 0) (moment : ℤ)
+    (found : Option World) → (before found → found ≡ Some w.content)
+    → before found ⊎ IsLeftBy IsNext w moment found → IsOldOrNext IsNext w moment found
+old_or_next before w IsNext moment found only (inl is) = inl (only is)
+old_or_next before w IsNext moment found only (inr next) = inr next
+
+-- the place of the next request
+next_in : (H : Type 0) (count : ℕ) (old input new out output : Option (List ℕ)) (w : DeskWorld) (moment : ℤ)
+    (world : DeskWorld) (found : Option World) → H
+    → (f : ArePlayed H count old input out output w moment world)
+    → IsOldOrNext (IsTaken input new) world moment found
+    → IsOldOrNext (IsNextIn old count f.requests) (world_left w (at_moment moment f.requests)) moment found
+next_in H count old input new out output w moment world found p f (inl is) =
+    inl (is ∙ ap (λ v. Some v.content) (f.left p))
+next_in H count old input new out output w moment world found p f (inr next) =
+    inr (
+      next.0,
+      is_next old input new f.requests next.0 count (recursion_from_All IsWhole f.requests f.whole) f.count_is
+          f.taken next.1,
+      next.2 ∙ ap (λ v. Some (world_after v moment (asked next.0)).content) (f.left p),
+    )
+
+-- what is found at the end of a run: what is left, if that is certain
+abbrev pub FindsLast : PlayEnd → (List ℕ → Type 0) → DeskWorld → ℤ → DeskWorld → Option World → Type 0
+FindsLast End IsNext world moment after found = found ≡ Some after.content
+FindsLast Unframed IsNext world moment after found = found ≡ Some after.content
+FindsLast Limit IsNext world moment after found = found ≡ Some after.content
+FindsLast Broken IsNext world moment after found = IsOldOrNext IsNext world moment found
+FindsLast (Fault Read) IsNext world moment after found = found ≡ Some after.content
+FindsLast (Fault CutShort) IsNext world moment after found = found ≡ Some after.content
+FindsLast (Fault OutOfMemory) IsNext world moment after found = IsOldOrNext IsNext world moment found
+FindsLast (Fault (Write sent)) IsNext world moment after found = IsOldOrNext IsNext world moment found
+
+-- by what stopped the last request
+pub fault_last : (before : Option World → Type 0) (world after : DeskWorld) (IsNext : List ℕ → Type 0)
+    (moment : ℤ) (found : Option World) (fault : ServeFault)
+    → (IsCertain (Err fault) → found ≡ Some after.content) → (before found → found ≡ Some world.content)
+    → before found ⊎ IsLeftBy IsNext world moment found
+    → FindsLast (Fault fault) IsNext world moment after found
+fault_last before world after IsNext moment found Read certain only left = certain tt
+fault_last before world after IsNext moment found CutShort certain only left = certain tt
+fault_last before world after IsNext moment found OutOfMemory certain only left =
+    old_or_next before world IsNext moment found only left
+fault_last before world after IsNext moment found (Write sent) certain only left =
+    old_or_next before world IsNext moment found only left
+
+module _ (H : Type 0) (old out : Option (List ℕ)) (w : DeskWorld) (moment : ℤ) (p : H) where
+  abbrev Kept : PlayEnd → ℕ → Option (List ℕ) → DeskWorld → Option World → Type 0
+  Kept ended n now after found = IsKept ended n old out now w moment after found
+
+  kept_by : (ended : PlayEnd) (count answered : ℕ) (input new output now : Option (List ℕ))
+      (world after : DeskWorld) (found : Option World)
+      → ArePlayed H count old input out output w moment world
+      → EndsBy H ended count answered input new output now world moment after
+      → FindsLast ended (IsTaken input new) world moment after found
+      → Kept ended (told_in_play ended answered) now after found
+  kept_by End count answered input new output now world after found f last is =
+      let given = given_first H old out w moment p End count input output now world after last.2 refl f
+      (λ e. e) in
+      subst (λ n. Kept End n now after found) (sym last.0) (record {
+        requests = f.requests;
+        answers = answers_to w (at_moment moment f.requests);
+        given = given;
+        finds = is ∙ ap (λ v. Some v.content) given.left;
+      })
+  kept_by Limit count answered input new output now world after found f last is =
+      let given = given_first H old out w moment p Limit count input output now world after last.2 refl f
+      (λ e. e) in
+      subst (λ n. Kept Limit n now after found) (sym last.0) (record {
+        requests = f.requests;
+        answers = answers_to w (at_moment moment f.requests);
+        given = given;
+        finds = is ∙ ap (λ v. Some v.content) given.left;
+      })
+  kept_by Unframed count answered input new output now world after found f last is =
+      let given = given_unframed H old out w moment p count input new output now world after f last.1 in
+      subst (λ n. Kept Unframed n now after found) (sym last.0) (record {
+        requests = f.requests ++ last.1.served.request ∷ [];
+        answers = answers_to w (at_moment moment (f.requests ++ last.1.served.request ∷ []));
+        given = given;
+        finds = is ∙ ap (λ v. Some v.content) given.left;
+      })
+  kept_by Broken count answered input new output now world after found f last is =
+      let less : answered - 1 ≡ count = omega (arith, last.0) in
+      subst (λ n. Kept Broken n now after found) (sym less) (record {
+        requests = f.requests;
+        answers = answers_to w (at_moment moment f.requests);
+        given = given_broken H old out w moment p count input new output now world after f last.1;
+        finds = next_in H count old input new out output w moment world found p f is;
+      })
+  kept_by (Fault (Write sent_len)) count answered input new output now world after found f last is =
+      subst (λ n. Kept (Fault (Write sent_len)) n now after found) (sym last.0) (record {
+        requests = f.requests;
+        answers = answers_to w (at_moment moment f.requests);
+        given = given_off H old out w moment p count sent_len input new output now world after f last.1;
+        finds = next_in H count old input new out output w moment world found p f is;
+      })
+  kept_by (Fault OutOfMemory) count answered input new output now world after found f last is =
+      subst (λ n. Kept (Fault OutOfMemory) n now after found) (sym last.0) (record {
+        requests = f.requests;
+        answers = answers_to w (at_moment moment f.requests);
+        given = given_first H old out w moment p (Fault OutOfMemory) count input output now world after
+            last.1 refl f (λ e. e);
+        finds = next_in H count old input new out output w moment world found p f is;
+      })
+  kept_by (Fault Read) count answered input new output now world after found f last is =
+      let given = given_first H old out w moment p (Fault Read) count input output now world after last.1
+      refl f (λ e. e) in
+      subst (λ n. Kept (Fault Read) n now after found) (sym last.0) (record {
+        requests = f.requests;
+        answers = answers_to w (at_moment moment f.requests);
+        given = given;
+        finds = is ∙ ap (λ v. Some v.content) given.left;
+      })
+  kept_by (Fault CutShort) count answered input new output now world after found f last is =
+      let given = given_first H old out w moment p (Fault CutShort) count input output now world after
+      last.1.1 refl f (λ e. e) in
+      subst (λ n. Kept (Fault CutShort) n now after found) (sym last.0) (record {
+        requests = f.requests;
+        answers = answers_to w (at_moment moment f.requests);
+        given = given;
+        finds = is ∙ ap (λ v. Some v.content) given.left;
+      })
+
+-- the same, by the moment that the call was given
+pub kept_so : (H : Type 0) (ended : PlayEnd) (count answered : ℕ)
+    (old input new out output now : Option (List ℕ)) (w world after : DeskWorld) (given moment : ℤ)
+    (found : Option World) → H → given ≡ moment
+    → ArePlayed H count old input out output w given world
+    → EndsBy H ended count answered input new output now world given after
+    → FindsLast ended (IsTaken input new) world given after found
+    → IsKept ended (told_in_play ended answered) old out now w moment after found
+kept_so H ended count answered old input new out output now w world after given moment found p same f last
+    is =
+    subst (λ m. IsKept ended (told_in_play ended answered) old out now w m after found) same
+    (kept_by H old out w given p ended count answered input new output now world after found f last is)
+
+-- what is found, by the number of requests that a known stream has answered
+pub found_after : (ended : PlayEnd) (n : ℕ) (stream : List ℕ) (out now : Option (List ℕ)) (w : DeskWorld)
+    (moment : ℤ) (after : DeskWorld) (found : Option World)
+    → IsKept ended n (Some stream) out now w moment after found → IsFoundAfter w moment stream n found
+found_after ended n stream out now w moment after found k = by ended k.finds
+  where
+    first : found ≡ Some (world_left w (at_moment moment k.requests)).content
+        → IsFoundAfter w moment stream n found
+    first is = inl (is ∙ ap (λ rs. Some (world_left w (at_moment moment rs)).content) k.given.first)
+
+    either : IsOldOrNext (IsNextIn (Some stream) n k.requests) (world_left w (at_moment moment k.requests))
+        moment found → IsFoundAfter w moment stream n found
+    either (inl is) = first is
+    either (inr next) =
+        inr (next.2
+        ∙ ap (λ v. Some v.content) (sym (left_more w (at_moment moment k.requests) (moment, next.0))
+        ∙ ap (world_left w) (sym (map-append (λ r. (moment, r)) k.requests (next.0 ∷ []))))
+        ∙ ap (λ rs. Some (world_left w (at_moment moment rs)).content) (sym next.1))
+
+    by : (ended : PlayEnd) → FindsBy ended (IsNextIn (Some stream) n k.requests)
+        (world_left w (at_moment moment k.requests)) moment found → IsFoundAfter w moment stream n found
+    by End is = first is
+    by Unframed is = first is
+    by Limit is = first is
+    by Broken is = either is
+    by (Fault Read) is = first is
+    by (Fault CutShort) is = first is
+    by (Fault OutOfMemory) is = either is
+    by (Fault (Write sent)) is = either is
+
+-- ---- the requests of a list
+
+pub is_none_by : {A : Type 0} (e : Option A) → is_some e ≡ false → e ≡ None
+is_none_by None none = refl
+is_none_by (Some x) none = cc
+
+pub found_settled : {R V : Type 0} (shown : R → Sent) (items : V → List ℕ) (w now : DeskWorld)
+    (requests : List R) (n : ℕ) (answers : List V) (found : Option World)
+    → HaveAnswers shown items w requests n answers now → found ≡ Some now.content
+    → IsFoundIn w (map shown requests) n found
+found_settled shown items w now requests n answers found h is =
+    inl (is ∙ ap (λ v. Some v.content) h.first.left)
+
+pub found_next : {R V : Type 0} (shown : R → Sent) (items : V → List ℕ) (w now : DeskWorld)
+    (requests : List R) (n : ℕ) (answers : List V) (r : R) (before : Option World → Type 0)
+    (given moment : ℤ) (request : List ℕ) (reading : Reading MessageParts) (found : Option World)
+    → HaveAnswers shown items w requests n answers now → n < length requests → r ≡ get_or requests n r
+    → shown r ≡ (moment, request) → given ≡ moment → reading ≡ message_in request
+    → (before found → found ≡ Some now.content)
+    → before found ⊎ (found ≡ Some (world_after now given (or_met reading asked_by)).content)
+    → IsFoundIn w (map shown requests) n found
+found_next shown items w now requests n answers r before given moment request reading found h below place
+    sent same read only (inl is) =
+    found_settled shown items w now requests n answers found h (only is)
+found_next shown items w now requests n answers r before given moment request reading found h below place
+    sent same read only (inr is) =
+    let first = take n (map shown requests) in
+    inr (is ∙ ap (λ v. Some v.content) (left_read now given moment request reading same read
+    ∙ ap (λ v. world_after v moment (asked request)) h.first.left
+    ∙ sym (left_more w first (moment, request))
+    ∙ ap (λ s. world_left w (first ++ s ∷ [])) (sym sent)
+    ∙ ap (world_left w) (sym (take_map shown requests n r below place))))

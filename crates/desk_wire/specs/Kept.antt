@@ -1,0 +1,70 @@
+-- Kept: what a start may find of the requests of a stream, whatever ended the program that served them. It
+-- is the content that the answered requests left, or the content that these and the next one left.
+use Rattle.std.specs.Prelude.{◌≡◌, ◌≢◌, ◌⊎◌, ◌+◌, ℕ, ℤ, ⊤, List, Option, Some, Result, Ok, Err}
+use Rattle.desk_store.specs.World.{World}
+use Rattle.desk_reading.specs.Requests.{asked}
+use Rattle.desk_run.specs.DeskWorld.{DeskWorld}
+use Rattle.desk_wire.specs.declared.play.PlayEnd.{PlayEnd}
+use Rattle.desk_wire.specs.declared.play.PlayEnd.TheVariants.{End, Unframed, Broken, Limit, Fault}
+use Rattle.desk_wire.specs.declared.stream.Served.{Served}
+use Rattle.desk_wire.specs.declared.stream.Served.TheVariants as served
+use Rattle.desk_wire.specs.declared.stream.ServeFault.{ServeFault}
+use Rattle.desk_wire.specs.declared.stream.ServeFault.TheVariants.{Read, Write, CutShort, OutOfMemory}
+use Rattle.desk_wire.specs.AllAnswers.{Sent, world_left}
+use Rattle.desk_wire.specs.Bytes.{world_after}
+use Rattle.desk_wire.specs.Given.{AreGiven, IsNextIn}
+use Rattle.desk_wire.specs.Headline.{world_at}
+use Rattle.desk_wire.specs.Playing.{at_moment}
+use Rattle.desk_wire.specs.Streams.{requests_in}
+
+-- what is found is the content that the next request leaves
+abbrev pub IsLeftBy : (List ℕ → Type 0) → DeskWorld → ℤ → Option World → Type 0
+IsLeftBy IsNext w moment found =
+    (next : List ℕ) × IsNext next × (found ≡ Some (world_after w moment (asked next)).content)
+
+-- the content that is there, or the one that the next request leaves
+abbrev pub IsOldOrNext : (List ℕ → Type 0) → DeskWorld → ℤ → Option World → Type 0
+IsOldOrNext IsNext w moment found = (found ≡ Some w.content) ⊎ IsLeftBy IsNext w moment found
+
+-- one request was answered whole and not by a 500, or no whole request was read: so its change is kept, or
+-- there is none
+abbrev pub IsCertain : Result Served ServeFault → Type 0
+IsCertain (Ok (served.Answered status framed)) = status ≢ 500
+IsCertain (Ok served.End) = ⊤
+IsCertain (Err Read) = ⊤
+IsCertain (Err CutShort) = ⊤
+IsCertain (Err OutOfMemory) = ⊥
+IsCertain (Err (Write sent)) = ⊥
+
+-- by why a run ended: the change of a request whose answer is a 500, or isn't whole, may be found or not
+abbrev pub FindsBy : PlayEnd → (List ℕ → Type 0) → DeskWorld → ℤ → Option World → Type 0
+FindsBy End IsNext w moment found = found ≡ Some w.content
+FindsBy Unframed IsNext w moment found = found ≡ Some w.content
+FindsBy Limit IsNext w moment found = found ≡ Some w.content
+FindsBy Broken IsNext w moment found = IsOldOrNext IsNext w moment found
+FindsBy (Fault Read) IsNext w moment found = found ≡ Some w.content
+FindsBy (Fault CutShort) IsNext w moment found = found ≡ Some w.content
+FindsBy (Fault OutOfMemory) IsNext w moment found = IsOldOrNext IsNext w moment found
+FindsBy (Fault (Write sent)) IsNext w moment found = IsOldOrNext IsNext w moment found
+
+-- the first requests of a stream have their answers, which were written; and what is found
+pub record IsKept (ended : PlayEnd) (n : ℕ) (old out now : Option (List ℕ)) (w : DeskWorld) (moment : ℤ)
+    (after : DeskWorld) (found : Option World) : Type 0 where
+  pub requests : List (List ℕ)
+  pub answers : List (List ℕ)
+  pub given : AreGiven ended n old out now w moment after requests answers
+  pub finds : FindsBy ended (IsNextIn old n requests) (world_left w (at_moment moment requests)) moment found
+
+-- after n answers, what is found is what the first n requests of a list left, or what the first n + 1 left
+abbrev pub IsFoundIn : DeskWorld → List Sent → ℕ → Option World → Type 0
+IsFoundIn w requests n found = (found ≡ Some (world_at w requests n).content)
+    ⊎ (found ≡ Some (world_at w requests (n + 1)).content)
+
+-- the content that the first n requests of a stream leave
+abbrev pub content_after : DeskWorld → ℤ → List ℕ → ℕ → World
+content_after w moment stream n = (world_left w (at_moment moment (requests_in n stream))).content
+
+-- the same of the requests of a stream
+abbrev pub IsFoundAfter : DeskWorld → ℤ → List ℕ → ℕ → Option World → Type 0
+IsFoundAfter w moment stream n found = (found ≡ Some (content_after w moment stream n))
+    ⊎ (found ≡ Some (content_after w moment stream (n + 1)))
