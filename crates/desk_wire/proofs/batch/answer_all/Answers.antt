@@ -1,4 +1,4 @@
-use Rattle.std.proofs.Common.{◌≡◌, ◌≤◌, ◌+◌, ◌-◌, ◌∙◌, refl, [], ◌∷◌, map, sym, ap, subst, length, arith}
+use Rattle.std.proofs.Common.{◌≡◌, ◌≤◌, ◌+◌, ◌-◌, ◌∙◌, [], ◌∷◌, map, sym, ap, subst, length, arith}
 use Rattle.std.proofs.lemmas.List.{length-append, length-map}
 use Rattle.desk_reading.specs.Messages.{message_read}
 use Rattle.desk_store.specs.FaultLaws.{was_honest}

@@ -1,4 +1,4 @@
-use Rattle.std.proofs.Common.{◌≡◌, ◌+◌, Ok, false, of_z, to_z, w64, refl, sym, subst, ◌∙◌, arith, rules}
+use Rattle.std.proofs.Common.{◌≡◌, ◌+◌, of_z, to_z, w64, refl, sym, subst, ◌∙◌, arith, rules}
 use Rattle.std.proofs.KnownBytes.{Keeps-refl}
 use Rattle.std.proofs.lemmas.Int.{to_z-of_z}
 use Rattle.desk_store.specs.Faults.{IsHonest}
@@ -7,7 +7,6 @@ use Rattle.desk_run.specs.DeskWorld.{world_of}
 use Rattle.desk_wire.specs.declared.play.PlayEnd.TheVariants.{End, Unframed, Broken, Limit, Fault}
 use Rattle.desk_wire.specs.declared.stream.Served.TheVariants as outcome
 use Rattle.desk_wire.specs.Playing.{ArePlayed}
-use Rattle.desk_wire.specs.Serving.{IsServed}
 use Rattle.desk_wire.proofs.KeptLemmas.{fault_last, kept_so, old_or_next}
 use Rattle.desk_wire.proofs.PlayLemmas.{none_played, one_played, broken_next, played_if, is_500, not_500}
 use Rattle.desk_wire.proofs.play.play_with.Goals as goal
