@@ -4,6 +4,7 @@ use Rattle.std.specs.Coded.{Coded, code_by, coded×, coded_list, coded_ℕ}
 use Rattle.volume4d.specs.Point.{Point}
 use Rattle.desk_store.specs.World.{World, Own, own, held}
 use Rattle.desk_store.specs.Changes.{with_operator}
+use Rattle.desk_store.specs.Crashes.{LeavesOnly}
 
 -- a store, and the permitted priorities
 pub record Parts (S : Type 0) : Type 0 where
@@ -42,3 +43,7 @@ held_in w operator = held w.content operator
 -- the world with the operator listed under a ceiling
 abbrev pub enrolled : DeskWorld → List ℕ → ℕ → DeskWorld
 enrolled w name ceiling = record w { content = with_operator w.content name ceiling }
+
+-- what the desk's store holds is what a start finds, and nothing else
+abbrev pub IsSettled : {S : Type 0} → (S → World) → (S → Option World → Type 0) → Parts S → Type 0
+IsSettled content may_leave d = LeavesOnly (content d.store) (may_leave d.store)

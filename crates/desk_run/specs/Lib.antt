@@ -1,6 +1,7 @@
 -- Read first: Verdicts, Sides, TwoRuns. Files of laws are checked and needn't be read.
 pub mod Faults
 pub mod DeskWorld
+pub mod CrashLaws
 pub mod Verdicts
 pub mod Calls
 pub mod Runs

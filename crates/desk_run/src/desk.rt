@@ -18,6 +18,9 @@ use std::marker::Model;
 ///
 /// What a call answers, and what it changes, is claimed where the store is honest as the call ends. That
 /// a fault leaves the content as it was holds whether the store is honest or not.
+///
+/// What a crash leaves is the content before the call in which it came or the one after it; once the call
+/// has answered, the one after it.
 #[derive(Drop)]
 pub struct Desk<S: PlanStore> {
     store: S,
@@ -36,7 +39,8 @@ impl<S: PlanStore> Model for Desk<S> {
 
 impl<S: PlanStore> Desk<S> {
     ghost use Rattle.desk_store.specs.Faults.{IsHonest, HasRisen};
-    ghost use Rattle.desk_run.specs.DeskWorld.{enrolled, world_of};
+    ghost use Rattle.desk_store.specs.Crashes.{LeavesNoMore, LeavesOldOr};
+    ghost use Rattle.desk_run.specs.DeskWorld.{IsSettled, enrolled, world_of};
     ghost use Rattle.desk_run.specs.Faults.{IsBreakdown};
     ghost use Rattle.desk_run.specs.Verdicts.{step_by};
     ghost use Rattle.desk_run.specs.Calls.{Tells, Prepares, CanCommit, reply_in, world_committed};
@@ -76,6 +80,11 @@ impl<S: PlanStore> Desk<S> {
             (world_of S.content self.new ≡ enrolled (world_of S.content self.old) operator.now
             ceiling) }
         ensures err { OnErr result (world_of S.content self.new ≡ world_of S.content self.old) }
+        ensures crash { IsHonest (S.doubt self.new.store) →
+            LeavesOldOr (enrolled (world_of S.content self.old) operator.now ceiling).content
+            (S.may_leave self.old.store) (S.may_leave self.new.store) }
+        ensures kept { IsHonest (S.doubt self.new.store) → OnOk result
+            (IsSettled S.content S.may_leave self.new) }
         ensures ceiling { (result ≡ Err DeskFault.Ceiling) ↔ (max_priority < ceiling) }
         ensures fault { IfErr result (λ e. (e ≢ DeskFault.Ceiling) → IsBreakdown e) }
         ensures doubt { S.doubt self.old.store ≤ S.doubt self.new.store }
@@ -108,6 +117,8 @@ impl<S: PlanStore> Desk<S> {
         ensures value { IsHonest (S.doubt self.new.store) →
             Prepares (world_of S.content self.old) moment asked.now result }
         ensures same { world_of S.content self.new ≡ world_of S.content self.old }
+        ensures crash { IsHonest (S.doubt self.new.store) →
+            LeavesNoMore (S.may_leave self.old.store) (S.may_leave self.new.store) }
         ensures doubt { S.doubt self.old.store ≤ S.doubt self.new.store }
         ensures counted { S.faults self.old.store ≤ S.faults self.new.store }
         ensures cause { IfErr result (λ e. e ≡ DeskFault.Store →
@@ -128,6 +139,11 @@ impl<S: PlanStore> Desk<S> {
         ensures ok { IsHonest (S.doubt self.new.store) → OnOk result
             (world_of S.content self.new ≡ world_committed (world_of S.content self.old) pending) }
         ensures err { OnErr result (world_of S.content self.new ≡ world_of S.content self.old) }
+        ensures crash { IsHonest (S.doubt self.new.store) →
+            LeavesOldOr (world_committed (world_of S.content self.old) pending).content
+            (S.may_leave self.old.store) (S.may_leave self.new.store) }
+        ensures kept { IsHonest (S.doubt self.new.store) → OnOk result
+            (IsSettled S.content S.may_leave self.old → IsSettled S.content S.may_leave self.new) }
         ensures fault { IfErr result (λ e. IsBreakdown e) }
         ensures doubt { S.doubt self.old.store ≤ S.doubt self.new.store }
         ensures counted { S.faults self.old.store ≤ S.faults self.new.store }
@@ -148,6 +164,11 @@ impl<S: PlanStore> Desk<S> {
         ensures ok { IsHonest (S.doubt self.new.store) → OnOk result
             (world_of S.content self.new ≡ step_by (world_of S.content self.old) moment asked.now) }
         ensures err { OnErr result (world_of S.content self.new ≡ world_of S.content self.old) }
+        ensures crash { IsHonest (S.doubt self.new.store) →
+            LeavesOldOr (step_by (world_of S.content self.old) moment asked.now).content
+            (S.may_leave self.old.store) (S.may_leave self.new.store) }
+        ensures kept { IsHonest (S.doubt self.new.store) → OnOk result
+            (IsSettled S.content S.may_leave self.old → IsSettled S.content S.may_leave self.new) }
         ensures doubt { S.doubt self.old.store ≤ S.doubt self.new.store }
         ensures counted { S.faults self.old.store ≤ S.faults self.new.store }
         ensures cause { IfErr result (λ e. e ≡ DeskFault.Store →

@@ -2,6 +2,7 @@
 
 ghost use Rattle.std.specs.Prelude.{◌≡◌, ◌≤◌, Some, IfOk, IfErr, OnOk, OnErr};
 ghost use Rattle.desk_store.specs.Faults.{IsHonest, HasRisen};
+ghost use Rattle.desk_store.specs.Crashes.{LeavesNoMore, LeavesOldOr, LeavesOnly};
 ghost use Rattle.desk_run.specs.Faults.{IsBreakdown};
 ghost use Rattle.desk_run.specs.DeskWorld.{with_content};
 ghost use Rattle.desk_run.specs.Calls.{IsSamePending, Prepares, Fits, reply_in, world_with};
@@ -68,6 +69,8 @@ pub fn prepare_over<S: PlanStore>(
     ensures value { IsHonest (S.doubt store.new) →
         Prepares (with_content permitted.now (S.content store.old)) moment asked.now result }
     ensures same { S.content store.new ≡ S.content store.old }
+    ensures crash { IsHonest (S.doubt store.new) →
+        LeavesNoMore (S.may_leave store.old) (S.may_leave store.new) }
     ensures doubt { S.doubt store.old ≤ S.doubt store.new }
     ensures counted { S.faults store.old ≤ S.faults store.new }
     ensures cause { IfErr result (λ e. e ≡ DeskFault.Store →
@@ -97,6 +100,12 @@ pub fn commit_over<S: PlanStore>(store: &mut S, pending: Pending) -> Result<Repl
     ensures ok { IsHonest (S.doubt store.new) → OnOk result
         (S.content store.new ≡ world_with (S.content store.old) pending.change) }
     ensures err { OnErr result (S.content store.new ≡ S.content store.old) }
+    ensures crash { IsHonest (S.doubt store.new) →
+        LeavesOldOr (world_with (S.content store.old) pending.change) (S.may_leave store.old)
+        (S.may_leave store.new) }
+    ensures kept { IsHonest (S.doubt store.new) → OnOk result
+        (LeavesOnly (S.content store.old) (S.may_leave store.old) →
+        LeavesOnly (S.content store.new) (S.may_leave store.new)) }
     ensures fault { IfErr result (λ e. IsBreakdown e) }
     ensures doubt { S.doubt store.old ≤ S.doubt store.new }
     ensures counted { S.faults store.old ≤ S.faults store.new }

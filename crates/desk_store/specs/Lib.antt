@@ -11,5 +11,6 @@ pub mod Rivals
 pub mod RivalLaws
 pub mod Faults
 pub mod FaultLaws
+pub mod Crashes
 pub mod Parts
 pub mod Listing

@@ -35,6 +35,7 @@ pub struct Enrolment {
 }
 
 /// Operators and plans in ordered lists in memory. It is always honest, and meets no fault of its own.
+/// Nothing of it is left for another start, so nothing is found.
 #[derive(Drop)]
 pub struct ListStore {
     operators: BTreeMap<Operator, Enrolment>,
@@ -75,6 +76,8 @@ impl PlanStore for ListStore {
     ghost doubt = { λ _. 0 };
 
     ghost faults = { λ _. 0 };
+
+    ghost may_leave = { λ _ _. ⊥ };
 
     fn ceiling(&mut self, operator: &Operator) -> Result<Option<u32>, StoreFault> {
         Ok(ceiling_in(&self.operators, operator))

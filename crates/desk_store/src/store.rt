@@ -1,6 +1,6 @@
 //! Stores of plans, as a desk uses them.
 
-ghost use Rattle.std.specs.Prelude.{◌≡◌, ◌≤◌, ℕ, length, IfOk, IfErr, IfSome, OnOk, OnErr};
+ghost use Rattle.std.specs.Prelude.{◌≡◌, ◌≤◌, ℕ, length, Option, IfOk, IfErr, IfSome, OnOk, OnErr};
 ghost use Rattle.desk_store.specs.World.{World, AreInOrder, ceiling_of, plans_of, stored_of};
 ghost use Rattle.desk_store.specs.Rivals.{AreRivals};
 ghost use Rattle.desk_rules.specs.Limits.{max_plans, max_priority};
@@ -17,9 +17,15 @@ use volume4d::{Held, Slab};
 /// A store may lie on a disk, which may lose or change what was written. What a call answers is
 /// claimed where the store is honest as the call ends. That a reader, or a call that answers a fault,
 /// leaves the content as it was holds whether the store is honest or not.
+///
+/// What a crash leaves is claimed where the store is honest as well: a reader leaves what might have been
+/// found before it; a change leaves that or the changed content, and the changed content alone once it is
+/// made. A change that answers a fault may be found made at the next start, though it shows the content
+/// that it had.
 pub trait PlanStore {
     ghost use Rattle.desk_store.specs.StoreChange.{changed_by, IsFitting};
     ghost use Rattle.desk_store.specs.Faults.{IsHonest, HasRisen};
+    ghost use Rattle.desk_store.specs.Crashes.{LeavesNoMore, LeavesOldOr, LeavesOnly};
 
     /// The operators and plans that the store holds.
     ghost content: { Self → World };
@@ -31,6 +37,10 @@ pub trait PlanStore {
     /// It never falls.
     ghost faults: { Self → ℕ };
 
+    /// What a start may find if the program ends here, at a crash or otherwise: a content, where None stands
+    /// for what is no desk's. A clause that speaks of it holds of a crash within the call too.
+    ghost may_leave: { Self → Option World → Type 0 };
+
     /// The operator's ceiling, at most 1,000, or none where it is not enrolled.
     fn ceiling(&mut self, operator: &Operator) -> Result<Option<u32>, StoreFault>
         ensures value { IsHonest (doubt self.new) →
@@ -38,6 +48,8 @@ pub trait PlanStore {
         ensures bound { IsHonest (doubt self.new) →
             IfOk result (λ ceiling. IfSome ceiling (λ n. n ≤ max_priority)) }
         ensures same { content self.new ≡ content self.old }
+        ensures crash { IsHonest (doubt self.new) →
+            LeavesNoMore (may_leave self.old) (may_leave self.new) }
         ensures doubt { doubt self.old ≤ doubt self.new }
         ensures counted { faults self.old ≤ faults self.new }
         ensures cause { IfErr result (λ e. e ≡ StoreFault.Store →
@@ -48,6 +60,8 @@ pub trait PlanStore {
         ensures value { IsHonest (doubt self.new) →
             IfOk result (λ row. row ≡ stored_of id.now (plans_of operator.now (content self.old))) }
         ensures same { content self.new ≡ content self.old }
+        ensures crash { IsHonest (doubt self.new) →
+            LeavesNoMore (may_leave self.old) (may_leave self.new) }
         ensures doubt { doubt self.old ≤ doubt self.new }
         ensures counted { faults self.old ≤ faults self.new }
         ensures cause { IfErr result (λ e. e ≡ StoreFault.Store →
@@ -58,6 +72,8 @@ pub trait PlanStore {
         ensures value { IsHonest (doubt self.new) →
             IfOk result (λ count. count ≡ length (plans_of operator.now (content self.old))) }
         ensures same { content self.new ≡ content self.old }
+        ensures crash { IsHonest (doubt self.new) →
+            LeavesNoMore (may_leave self.old) (may_leave self.new) }
         ensures doubt { doubt self.old ≤ doubt self.new }
         ensures counted { faults self.old ≤ faults self.new }
         ensures cause { IfErr result (λ e. e ≡ StoreFault.Store →
@@ -71,6 +87,8 @@ pub trait PlanStore {
         ensures limit { IsHonest (doubt self.new) →
             IfOk result (λ rows. length rows.items ≤ max_plans) }
         ensures same { content self.new ≡ content self.old }
+        ensures crash { IsHonest (doubt self.new) →
+            LeavesNoMore (may_leave self.old) (may_leave self.new) }
         ensures doubt { doubt self.old ≤ doubt self.new }
         ensures counted { faults self.old ≤ faults self.new }
         ensures cause { IfErr result (λ e. e ≡ StoreFault.Store →
@@ -89,6 +107,8 @@ pub trait PlanStore {
         ensures value { IsHonest (doubt self.new) → IfOk result (λ helds.
             AreRivals (content self.old) operator.now id.now least extent.now helds.items) }
         ensures same { content self.new ≡ content self.old }
+        ensures crash { IsHonest (doubt self.new) →
+            LeavesNoMore (may_leave self.old) (may_leave self.new) }
         ensures doubt { doubt self.old ≤ doubt self.new }
         ensures counted { faults self.old ≤ faults self.new }
         ensures cause { IfErr result (λ e. e ≡ StoreFault.Store →
@@ -101,6 +121,11 @@ pub trait PlanStore {
         ensures ok { IsHonest (doubt self.new) →
             OnOk result (content self.new ≡ changed_by change.now (content self.old)) }
         ensures err { OnErr result (content self.new ≡ content self.old) }
+        ensures crash { IsHonest (doubt self.new) →
+            LeavesOldOr (changed_by change.now (content self.old)) (may_leave self.old)
+            (may_leave self.new) }
+        ensures kept { IsHonest (doubt self.new) →
+            OnOk result (LeavesOnly (content self.new) (may_leave self.new)) }
         ensures doubt { doubt self.old ≤ doubt self.new }
         ensures counted { faults self.old ≤ faults self.new }
         ensures cause { IfErr result (λ e. e ≡ StoreFault.Store →

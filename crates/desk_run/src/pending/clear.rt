@@ -2,6 +2,7 @@
 
 ghost use Rattle.std.specs.Prelude.{◌≡◌, ◌≤◌, ◌<◌, ◌^◌, ◌∷◌, [], length, IsSome, IfOk, IfErr};
 ghost use Rattle.desk_store.specs.Faults.{IsHonest, HasRisen};
+ghost use Rattle.desk_store.specs.Crashes.{LeavesNoMore};
 ghost use Rattle.desk_store.specs.World.{ceiling_of, plans_of};
 ghost use Rattle.desk_rules.specs.Bridge.{AreSlabsOf};
 ghost use Rattle.volume4d.specs.Volume.{Block};
@@ -31,6 +32,8 @@ pub fn ready_clear<S: PlanStore>(
     ensures value { IsHonest (S.doubt store.new) → Readies (S.content store.old) operator.now
         (clear_ruling (plans_of operator.now (S.content store.old)) extent.now) result }
     ensures same { S.content store.new ≡ S.content store.old }
+    ensures crash { IsHonest (S.doubt store.new) →
+        LeavesNoMore (S.may_leave store.old) (S.may_leave store.new) }
     ensures doubt { S.doubt store.old ≤ S.doubt store.new }
     ensures counted { S.faults store.old ≤ S.faults store.new }
     ensures cause { IfErr result (λ e. e ≡ DeskFault.Store →

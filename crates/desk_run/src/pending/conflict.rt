@@ -2,6 +2,7 @@
 
 ghost use Rattle.std.specs.Prelude.{◌≡◌, ◌≤◌, IfOk, IfErr};
 ghost use Rattle.desk_store.specs.Faults.{IsHonest, HasRisen};
+ghost use Rattle.desk_store.specs.Crashes.{LeavesNoMore};
 ghost use Rattle.desk_rules.specs.Permission.{least_blocking};
 ghost use Rattle.desk_run.specs.Verdicts.{conflict_in};
 
@@ -25,6 +26,8 @@ pub fn conflict_of<S: PlanStore>(
         meeting ≡ conflict_in permitted.now (S.content store.old) operator.now id.now area.now
         priority) }
     ensures same { S.content store.new ≡ S.content store.old }
+    ensures crash { IsHonest (S.doubt store.new) →
+        LeavesNoMore (S.may_leave store.old) (S.may_leave store.new) }
     ensures doubt { S.doubt store.old ≤ S.doubt store.new }
     ensures counted { S.faults store.old ≤ S.faults store.new }
     ensures cause { IfErr result (λ e. e ≡ StoreFault.Store →

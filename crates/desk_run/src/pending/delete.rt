@@ -2,6 +2,7 @@
 
 ghost use Rattle.std.specs.Prelude.{◌≡◌, ◌≤◌, IsSome, IfErr};
 ghost use Rattle.desk_store.specs.Faults.{IsHonest, HasRisen};
+ghost use Rattle.desk_store.specs.Crashes.{LeavesNoMore};
 ghost use Rattle.desk_store.specs.World.{ceiling_of, plans_of, stored_of};
 ghost use Rattle.desk_run.specs.Calls.{Readies};
 ghost use Rattle.desk_run.specs.Verdicts.{delete_ruling};
@@ -26,6 +27,8 @@ pub fn ready_delete<S: PlanStore>(
         (delete_ruling (plans_of operator.now (S.content store.old)) id.now
         (stored_of id.now (plans_of operator.now (S.content store.old)))) result }
     ensures same { S.content store.new ≡ S.content store.old }
+    ensures crash { IsHonest (S.doubt store.new) →
+        LeavesNoMore (S.may_leave store.old) (S.may_leave store.new) }
     ensures doubt { S.doubt store.old ≤ S.doubt store.new }
     ensures counted { S.faults store.old ≤ S.faults store.new }
     ensures cause { IfErr result (λ e. e ≡ DeskFault.Store →

@@ -2,6 +2,7 @@
 
 ghost use Rattle.std.specs.Prelude.{◌≡◌, ◌≤◌, length, Option, Some, None, true, false, cond, IfOk, IfErr};
 ghost use Rattle.desk_store.specs.Faults.{IsHonest, HasRisen};
+ghost use Rattle.desk_store.specs.Crashes.{LeavesNoMore};
 ghost use Rattle.desk_rules.specs.Limits.{max_priority};
 ghost use Rattle.std.specs.Option.{option_copied};
 ghost use Rattle.desk_store.specs.World.{own, ceiling_of, plans_of, stored_of, held};
@@ -42,6 +43,8 @@ pub fn ready_put<S: PlanStore>(
         (put_outcome_in permitted.now (S.content store.old) operator.now ceiling moment put.now)
         put.now (plans_of operator.now (S.content store.old))) result }
     ensures same { S.content store.new ≡ S.content store.old }
+    ensures crash { IsHonest (S.doubt store.new) →
+        LeavesNoMore (S.may_leave store.old) (S.may_leave store.new) }
     ensures doubt { S.doubt store.old ≤ S.doubt store.new }
     ensures counted { S.faults store.old ≤ S.faults store.new }
     ensures cause { IfErr result (λ e. e ≡ DeskFault.Store →
@@ -82,6 +85,8 @@ fn verdict_on<S: PlanStore>(
         v ≡ put_outcome_in permitted.now (S.content store.old) operator.now ceiling moment
         put.now) }
     ensures same { S.content store.new ≡ S.content store.old }
+    ensures crash { IsHonest (S.doubt store.new) →
+        LeavesNoMore (S.may_leave store.old) (S.may_leave store.new) }
     ensures doubt { S.doubt store.old ≤ S.doubt store.new }
     ensures counted { S.faults store.old ≤ S.faults store.new }
     ensures cause { IfErr result (λ e. e ≡ StoreFault.Store →
@@ -134,6 +139,8 @@ fn conflict_if<S: PlanStore>(
         meeting ≡ cond needed (conflict_in permitted.now (S.content store.old) operator.now
         put.now.id put.now.area put.now.priority) None) }
     ensures same { S.content store.new ≡ S.content store.old }
+    ensures crash { IsHonest (S.doubt store.new) →
+        LeavesNoMore (S.may_leave store.old) (S.may_leave store.new) }
     ensures doubt { S.doubt store.old ≤ S.doubt store.new }
     ensures counted { S.faults store.old ≤ S.faults store.new }
     ensures cause { IfErr result (λ e. e ≡ StoreFault.Store →
@@ -156,6 +163,8 @@ fn plan_and_count<S: PlanStore>(
     ensures count { IsHonest (S.doubt store.new) → IfOk result (λ own. own.0 ≡ None →
         own.1 ≡ length (plans_of operator.now (S.content store.old))) }
     ensures same { S.content store.new ≡ S.content store.old }
+    ensures crash { IsHonest (S.doubt store.new) →
+        LeavesNoMore (S.may_leave store.old) (S.may_leave store.new) }
     ensures doubt { S.doubt store.old ≤ S.doubt store.new }
     ensures counted { S.faults store.old ≤ S.faults store.new }
     ensures cause { IfErr result (λ e. e ≡ StoreFault.Store →

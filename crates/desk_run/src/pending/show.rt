@@ -2,6 +2,7 @@
 
 ghost use Rattle.std.specs.Prelude.{◌≡◌, ◌≤◌, map, IfOk, IfErr};
 ghost use Rattle.desk_store.specs.Faults.{IsHonest, HasRisen};
+ghost use Rattle.desk_store.specs.Crashes.{LeavesNoMore};
 ghost use Rattle.desk_store.specs.World.{held, plans_of, stored_of};
 ghost use Rattle.desk_run.specs.Calls.{Readies};
 ghost use Rattle.desk_run.specs.Verdicts.{conflict_shown_in, list_ruling, show_ruling, shown_in};
@@ -30,6 +31,8 @@ pub fn ready_list<S: PlanStore>(
         (list_ruling permitted.now (plans_of operator.now (S.content store.old))
         (held (S.content store.old) operator.now)) result }
     ensures same { S.content store.new ≡ S.content store.old }
+    ensures crash { IsHonest (S.doubt store.new) →
+        LeavesNoMore (S.may_leave store.old) (S.may_leave store.new) }
     ensures doubt { S.doubt store.old ≤ S.doubt store.new }
     ensures counted { S.faults store.old ≤ S.faults store.new }
     ensures cause { IfErr result (λ e. e ≡ DeskFault.Store →
@@ -53,6 +56,8 @@ fn own_shown<S: PlanStore>(
         plans.items ≡ map (shown_in permitted.now (S.content store.old) operator.now)
         (plans_of operator.now (S.content store.old))) }
     ensures same { S.content store.new ≡ S.content store.old }
+    ensures crash { IsHonest (S.doubt store.new) →
+        LeavesNoMore (S.may_leave store.old) (S.may_leave store.new) }
     ensures doubt { S.doubt store.old ≤ S.doubt store.new }
     ensures counted { S.faults store.old ≤ S.faults store.new }
     ensures cause { IfErr result (λ e. e ≡ StoreFault.Store →
@@ -74,6 +79,8 @@ pub fn ready_show<S: PlanStore>(
         (held (S.content store.old) operator.now)
         (stored_of id.now (plans_of operator.now (S.content store.old)))) result }
     ensures same { S.content store.new ≡ S.content store.old }
+    ensures crash { IsHonest (S.doubt store.new) →
+        LeavesNoMore (S.may_leave store.old) (S.may_leave store.new) }
     ensures doubt { S.doubt store.old ≤ S.doubt store.new }
     ensures counted { S.faults store.old ≤ S.faults store.new }
     ensures cause { IfErr result (λ e. e ≡ DeskFault.Store →
@@ -100,6 +107,8 @@ fn shown_all<S: PlanStore>(
     ensures value { IsHonest (S.doubt store.new) → IfOk result (λ plans.
         plans.items ≡ map (shown_in permitted.now (S.content store.old) operator.now) rows.now) }
     ensures same { S.content store.new ≡ S.content store.old }
+    ensures crash { IsHonest (S.doubt store.new) →
+        LeavesNoMore (S.may_leave store.old) (S.may_leave store.new) }
     ensures doubt { S.doubt store.old ≤ S.doubt store.new }
     ensures counted { S.faults store.old ≤ S.faults store.new }
     ensures cause { IfErr result (λ e. e ≡ StoreFault.Store →
@@ -122,6 +131,8 @@ fn shown<S: PlanStore>(
     ensures value { IsHonest (S.doubt store.new) → IfOk result (λ shown.
         shown ≡ shown_in permitted.now (S.content store.old) operator.now row.now) }
     ensures same { S.content store.new ≡ S.content store.old }
+    ensures crash { IsHonest (S.doubt store.new) →
+        LeavesNoMore (S.may_leave store.old) (S.may_leave store.new) }
     ensures doubt { S.doubt store.old ≤ S.doubt store.new }
     ensures counted { S.faults store.old ≤ S.faults store.new }
     ensures cause { IfErr result (λ e. e ≡ StoreFault.Store →
@@ -145,6 +156,8 @@ fn shown_conflict<S: PlanStore>(
     ensures value { IsHonest (S.doubt store.new) → IfOk result (λ conflict.
         conflict ≡ conflict_shown_in permitted.now (S.content store.old) operator.now row.now) }
     ensures same { S.content store.new ≡ S.content store.old }
+    ensures crash { IsHonest (S.doubt store.new) →
+        LeavesNoMore (S.may_leave store.old) (S.may_leave store.new) }
     ensures doubt { S.doubt store.old ≤ S.doubt store.new }
     ensures counted { S.faults store.old ≤ S.faults store.new }
     ensures cause { IfErr result (λ e. e ≡ StoreFault.Store →

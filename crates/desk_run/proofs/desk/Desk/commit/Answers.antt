@@ -1,5 +1,6 @@
-use Rattle.std.proofs.Common.{◌∙◌, ap}
+use Rattle.std.proofs.Common.{◌∙◌, ap, subst}
 use Rattle.std.proofs.lemmas.Result.{on_ok_weaker}
+use Rattle.desk_store.specs.Crashes.{LeavesOldOr}
 use Rattle.desk_run.specs.Calls.{world_committed}
 use Rattle.desk_run.specs.DeskWorld.{with_content, world_of}
 use Rattle.desk_run.proofs.desk.Desk.commit.Goals as goal
@@ -12,3 +13,10 @@ returns-clause-ok g c = λ honest.
     (λ done. ap (with_content c.self.inside.permitted) done
     ∙ ap (λ d. world_committed (world_of g.S.PlanStore.content d) c.args.pending) c.self.view_is)
     (c.commit_over.ensures.ok honest)
+
+pub returns-clause-crash : goal.returns-clause-crash
+unfolding world_committed
+returns-clause-crash g c = λ honest.
+    subst (λ d. LeavesOldOr (world_committed (world_of g.S.PlanStore.content d) c.args.pending).content
+    (g.S.PlanStore.may_leave d.store) (g.S.PlanStore.may_leave c.commit_over.new.store))
+    c.self.view_is (c.commit_over.ensures.crash honest)

@@ -1,5 +1,6 @@
-use Rattle.std.proofs.Common.{◌∙◌, ap, arith}
+use Rattle.std.proofs.Common.{◌∙◌, ap, subst, arith}
 use Rattle.std.proofs.lemmas.Result.{err_from_is_err_and}
+use Rattle.desk_store.specs.Crashes.{LeavesOldOr}
 use Rattle.desk_store.specs.StoreChange.{changed_by, IsFitting}
 use Rattle.desk_run.specs.DeskWorld.{enrolled, with_content, world_of}
 use Rattle.desk_run.proofs.FaultLemmas.{never_ceiling}
@@ -23,3 +24,19 @@ returns-clause-ok g c = λ honest.
 
 pub returns-clause-ceiling : goal.returns-clause-ceiling
 returns-clause-ceiling g c = (λ e. cc, λ h. absurd (omega arith))
+
+pub returns-clause-crash : goal.returns-clause-crash
+unfolding changed_by
+returns-clause-crash g c = λ honest.
+    subst (λ d. LeavesOldOr (enrolled (world_of g.S.PlanStore.content d) c.args.operator.now
+    c.args.ceiling).content
+    (g.S.PlanStore.may_leave d.store) (g.S.PlanStore.may_leave c.apply.new.self))
+    c.self.view_is (c.apply.ensures.crash honest)
+
+pub returns-in_err-apply-clause-crash : goal.returns-in_err-apply-clause-crash
+unfolding changed_by
+returns-in_err-apply-clause-crash g c = λ honest.
+    subst (λ d. LeavesOldOr (enrolled (world_of g.S.PlanStore.content d) c.args.operator.now
+    c.args.ceiling).content
+    (g.S.PlanStore.may_leave d.store) (g.S.PlanStore.may_leave c.apply.new.self))
+    c.self.view_is (c.apply.ensures.crash honest)

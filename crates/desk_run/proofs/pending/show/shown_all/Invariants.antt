@@ -1,5 +1,6 @@
 use Rattle.std.proofs.Common.{◌≡◌, ◌≤◌, map, take}
 use Rattle.desk_store.specs.Faults.{IsHonest}
+use Rattle.desk_store.specs.Crashes.{LeavesNoMore}
 use Rattle.desk_run.specs.Verdicts.{shown_in}
 use Rattle.desk_run.proofs.pending.show.shown_all.Given as goal
 
@@ -12,6 +13,9 @@ invariant-loop-row g l =
           ≡ map (shown_in l.permitted (g.S.PlanStore.content l.fn.store) l.operator)
           (take l.row-index l.rows);
       same : g.S.PlanStore.content l.store ≡ g.S.PlanStore.content l.fn.store;
+      crash :
+          IsHonest (g.S.PlanStore.doubt l.store) → LeavesNoMore (g.S.PlanStore.may_leave l.fn.store)
+          (g.S.PlanStore.may_leave l.store);
       doubt : g.S.PlanStore.doubt l.fn.store ≤ g.S.PlanStore.doubt l.store;
       counted : g.S.PlanStore.faults l.fn.store ≤ g.S.PlanStore.faults l.store;
     }
