@@ -1,5 +1,5 @@
 -- Why a query of whole tables is refused.
-use Rattle.std.proofs.Common.{◌≡◌, ◌⊎◌, inl, inr, ℕ, List, [], length, None, Some, Option, Ok, Err, Result, refl, sym, ap, subst, ◌∙◌, IsTrue, false, true≢false, IfErr}
+use Rattle.std.proofs.Common.{◌≡◌, arith, ◌⊎◌, inl, inr, ℕ, List, [], length, None, Some, Option, Ok, Err, Result, refl, sym, ap, subst, ◌∙◌, IsTrue, false, true≢false, IfErr}
 use Rattle.std.specs.Prelude.{IsSome}
 use Rattle.sqlite_disk.specs.Disk.{MoreFaults}
 use Rattle.sqlite.specs.Order.{Row}
@@ -15,7 +15,7 @@ use Rattle.sqlite.specs.Clock.{timed}
 use Rattle.sqlite.specs.Effect.{Database, RefusesToRead}
 use Rattle.sqlite.specs.Given.{IsPlain}
 use Rattle.sqlite.specs.Listing.{understood, reads_listing, IsSourceOf}
-use Rattle.sqlite.specs.State.{State, HasCleanDisk, Shown, HasCause, store_error, IsNoStatement, IsNotRun, FailsToQuery, FailsToShow}
+use Rattle.sqlite.specs.State.{State, IsUnchanged, Survives, HasCleanDisk, Shown, HasCause, store_error, IsNoStatement, IsNotRun, FailsToQuery, FailsToShow}
 use Rattle.sqlite.specs.Store.{Ghosts}
 use Rattle.sqlite.specs.Held.{Held, state}
 use Rattle.desk_sql.specs.Schema.{tables_with, HasTables}
@@ -108,6 +108,33 @@ pub refused : {S V : Type 0} (g : Ghosts S) (old new : Held S) (text : List ℕ)
 refused g old new text sure known clean (Ok v) fails live = tt
 refused g old new text sure known clean (Err e) fails live =
     failed text (state g old) (state g new) e sure (known clean) live fails
+
+-- a text that is not prepared is not run
+pub refused_unprepared : {S : Type 0} (g : Ghosts S) (old new : Held S) (text : List ℕ) → IsSure text
+    → Holds g old HasTables → HasCleanDisk (state g old) → (e : Error)
+    → IsNotRun (state g old) (state g new) text [] e → IsTrue (state g new).is_open
+    → IsRefusal g old new e
+unfolding FailsToQuery
+refused_unprepared g old new text sure known clean e not_run live =
+    failed text (state g old) (state g new) e sure (known clean) live (inl not_run)
+
+-- a query that was prepared before
+pub refused_after : {S V : Type 0} (g : Ghosts S) (old mid new : Held S) (sql text : List ℕ)
+    → IsSure sql → Holds g old HasTables → HasCleanDisk (state g old) → HasCleanDisk (state g mid)
+    → IsUnchanged (state g old) (state g mid) → text ≡ sql
+    → Survives (state g old) (state g mid) (λ _. ⊥) → (r : Result V Error)
+    → IfErr r (FailsToQuery text [] (state g mid) (state g new)) → IsTrue (state g new).is_open
+    → IfErr r (IsRefusal g old new)
+refused_after g old mid new sql text sure known start early same is last (Ok v) fails live = tt
+refused_after {V = V} g old mid new sql text sure known start early same is last (Err e) fails live =
+    let has : HasTables (state g mid).now = subst HasTables (sym same.0.now_is)
+    (known start same.0.was_open) in
+    elim (refused {V = V} g mid new sql sure (λ clean live. has) early (Err e)
+    (subst (λ t. FailsToQuery t [] (state g mid) (state g new) e) is fails) live) [
+      | inl memory ↦ inl memory
+      | inr (inl disk) ↦ inr (inl (omega (arith, last.counts, disk)))
+      | inr (inr steps) ↦ inr (inr (steps.0, subst IsSome last.limit steps.1))
+    ]
 
 plain_in : (text : List ℕ) (r : Result Compiled CompileError) → IsSureIn text r → IsPlain r
 plain_in text (Ok c) sure = (sure.0, sure.1)

@@ -1,14 +1,16 @@
 -- A loop that adds a row at each turn.
-use Rattle.std.proofs.Common.{◌≡◌, ℕ, ◌≤◌, List, [], ◌∷◌, ◌++◌, refl, sym, ap, subst, ◌∙◌, arith, append_assoc}
+use Rattle.std.proofs.Common.{◌≡◌, inl, inr, IsTrue, ℕ, ◌≤◌, List, [], ◌∷◌, ◌++◌, refl, sym, ap, subst, ◌∙◌, arith, append_assoc}
 use Rattle.std.specs.List.Sorted.{IsPermutation}
 use Rattle.std.proofs.lemmas.List.Sorted.{IsPermutation-refl, IsPermutation-cons, IsPermutation-trans, IsPermutation-middle}
 use Rattle.sqlite.specs.Order.{Row}
 use Rattle.sqlite.specs.View.{doubt}
 use Rattle.sqlite.specs.Store.{Ghosts}
-use Rattle.sqlite.specs.State.{HasCleanDisk}
+use Rattle.sqlite.specs.State.{State, HasCleanDisk, IsUnchanged, IsNotRun, KeepsCommit, Survives}
+use Rattle.sqlite.specs.Effect.{Database}
+use Rattle.sqlite.specs.declared.error.Error.{Error}
 use Rattle.sqlite.specs.Held.{Held, state}
-use Rattle.desk_sql.specs.Rows.{Tables, tables_of, RemovesPlan, AddsPlan, AddsVolume, AddsSpan}
-use Rattle.desk_sql.specs.Effects.{Makes}
+use Rattle.desk_sql.specs.Rows.{IsDesk, Tables, tables_of, RemovesPlan, AddsPlan, AddsVolume, AddsSpan}
+use Rattle.desk_sql.specs.Effects.{IsReady, Makes, Spares}
 use Rattle.desk_sql.specs.Batches.{AddsVolumes, AddsSpans, IsUnderWay, PutsPlan}
 
 pub record HasAdded {S : Type 0} (g : Ghosts S) (old now : Held S)
@@ -16,6 +18,7 @@ pub record HasAdded {S : Type 0} (g : Ghosts S) (old now : Held S)
     0 where
   pub doubted : doubt (state g old).is_clean ≤ doubt (state g now).is_clean
   pub counted : (state g old).faults ≤ (state g now).faults
+  pub spared : Spares g old now
   pub made : HasCleanDisk (state g now) → Makes g old now Changes
 
 pub begins : {S : Type 0} (g : Ghosts S) (old : Held S) (Changes : Tables → Tables → Type 0)
@@ -23,6 +26,7 @@ pub begins : {S : Type 0} (g : Ghosts S) (old : Held S) (Changes : Tables → Ta
 begins g old Changes none under = record {
   doubted = omega arith;
   counted = omega arith;
+  spared = λ clean db left. left;
   made = λ clean. let h = under clean in record {
     was_open = h.0;
     is_open = h.0;
@@ -38,11 +42,12 @@ pub goes_on : {S : Type 0} (g : Ghosts S) (old mid new : Held S)
     → ((a b c : Tables) → Before a b → Step b c → After a c)
     → HasAdded g old mid Before
     → doubt (state g mid).is_clean ≤ doubt (state g new).is_clean
-    → (state g mid).faults ≤ (state g new).faults → (HasCleanDisk (state g new) → Makes g mid new Step)
-    → HasAdded g old new After
-goes_on g old mid new Before Step After joins so_far doubted counted step = record {
+    → (state g mid).faults ≤ (state g new).faults → Spares g mid new
+    → (HasCleanDisk (state g new) → Makes g mid new Step) → HasAdded g old new After
+goes_on g old mid new Before Step After joins so_far doubted counted spared step = record {
   doubted = omega (arith, so_far.doubted, doubted);
   counted = omega (arith, so_far.counted, counted);
+  spared = λ clean db left. so_far.spared (omega (arith, doubted, clean)) db (spared clean db left);
   made = λ clean.
       let last = step clean in
       let first = so_far.made (omega (arith, doubted, clean)) in
@@ -55,6 +60,40 @@ goes_on g old mid new Before Step After joins so_far doubted counted step = reco
         changed = joins (tables_of (state g old).now.trees) (tables_of (state g mid).now.trees)
             (tables_of (state g new).now.trees) first.changed last.changed;
       };
+}
+
+-- a loop before which a text was prepared, so that the connection is open
+pub begins_prepared : {S : Type 0} (g : Ghosts S) (old now : Held S) (Changes : Tables → Tables → Type 0)
+    → ((t : Tables) → Changes t t) → IsReady g old → IsTrue old.in_transaction
+    → (HasCleanDisk (state g now) → IsUnchanged (state g old) (state g now))
+    → Survives (state g old) (state g now) (λ _. ⊥) → HasAdded g old now Changes
+begins_prepared g old now Changes none ready begun same last = record {
+  doubted = last.clean;
+  counted = last.counts;
+  spared = λ clean db left. elim (last.crash clean db left) [ inl it ↦ it | inr never ↦ absurd never ];
+  made = λ clean.
+      let h = (same clean).0 in
+      record {
+        was_open = h.was_open;
+        is_open = h.is_open;
+        begun = subst (λ b. IsTrue b) (sym h.mode) begun;
+        committed = h.committed_is;
+        desk = subst IsDesk (sym h.now_is) (ready (omega (arith, last.clean, clean)) h.was_open);
+        changed = subst (λ (db : Database). Changes (tables_of (state g old).now.trees)
+            (tables_of db.trees)) (sym h.now_is) (none (tables_of (state g old).now.trees));
+      };
+}
+
+pub keeps_unprepared : (old new : State) (text : List ℕ) (params : Row) (e : Error)
+    → IsNotRun old new text params e → KeepsCommit old new
+unfolding IsNotRun
+keeps_unprepared old new text params e (inl h) = record {
+  was_open = λ live. h.1.0.was_open;
+  committed = λ live. h.1.0.committed_is;
+}
+keeps_unprepared old new text params e (inr h) = record {
+  was_open = λ live. h.3.was_open live;
+  committed = λ live. (h.3.undone live).1;
 }
 
 more_added : (rows : List Row) (row : Row) (old mid new : List Row) → IsPermutation (rows ++ old) mid

@@ -22,3 +22,4 @@ pub mod ClearLemmas
 pub mod SureTexts
 pub mod AskLemmas
 pub mod TakingLemmas
+pub mod LeavingLemmas

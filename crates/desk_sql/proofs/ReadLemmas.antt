@@ -53,7 +53,7 @@ unchanged_if : (old new : State) (text : List ℕ) (c : Compiled) (params : Row)
 unchanged_if old new text c params rows None none h = h.3
 unchanged_if old new text c params rows (Some what) none h = cc
 
-unmoved : (text : List ℕ) (params : Row) (old new : State) (rows : List Row)
+pub unmoved : (text : List ℕ) (params : Row) (old new : State) (rows : List Row)
     → IsPlain (understood old.now.schema text) → Shown text params old new rows → IsUnchanged old new
 unfolding Shown
 unmoved text params old new rows plain h = unchanged_if old new text h.0 _ rows h.0.returning
@@ -73,6 +73,12 @@ unfolding FailsToQuery IsNotRun
 failed text params old new e (inl (inl h)) = inl h.1
 failed text params old new e (inl (inr h)) = inr h.3
 failed text params old new e (inr h) = failed_to_show old new text h.0 _ e h.0.returning h.2
+
+pub unprepared : (text : List ℕ) (params : Row) (old new : State) (e : Error)
+    → IsNotRun old new text params e → IsUnchanged old new ⊎ IsRolledBack old new
+unfolding IsNotRun
+unprepared text params old new e (inl h) = inl h.1
+unprepared text params old new e (inr h) = inr h.3
 
 module _ {S : Type 0} (g : Ghosts S) (old new : Held S) where
   if_unchanged : IsUnchanged (state g old) (state g new) → ShowsAsBefore g old new

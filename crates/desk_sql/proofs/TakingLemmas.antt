@@ -26,7 +26,7 @@ unchanged_itself s live = (
   refl,
 )
 
-rolled_back : (a b c : State) → IsUnchanged a b → IsRolledBack b c → IsRolledBack a c
+pub rolled_back : (a b c : State) → IsUnchanged a b → IsRolledBack b c → IsRolledBack a c
 rolled_back a b c same back = record {
   was_open = λ live. same.0.was_open;
   undone = λ live. (let e = back.undone live in (e.0 ∙ same.0.committed_is, e.1 ∙ same.0.committed_is));
@@ -51,7 +51,7 @@ shown_rows first mid new sql c params rows None none same h = (
 )
 shown_rows first mid new sql c params rows (Some what) none same h = cc
 
-shown_from : (sql : List ℕ) (params : Row) (first mid new : State) (rows : List Row)
+pub shown_from : (sql : List ℕ) (params : Row) (first mid new : State) (rows : List Row)
     → IsPlain (understood first.now.schema sql) → IsUnchanged first mid → Shown sql params mid new rows
     → Shown sql params first new rows
 unfolding Shown

@@ -1,8 +1,10 @@
 -- What a call asks of a connection, and what it leaves.
-use Rattle.std.specs.Prelude.{◌≡◌, IsTrue}
+use Rattle.std.specs.Prelude.{◌≡◌, ◌⊎◌, IsTrue}
+use Rattle.sqlite.specs.Tree.{Trees}
 use Rattle.sqlite.specs.Store.{Ghosts}
 use Rattle.sqlite.specs.State.{HasCleanDisk}
 use Rattle.sqlite.specs.Held.{Held, state}
+use Rattle.desk_sql.specs.Schema.{desk_schema}
 use Rattle.desk_sql.specs.Rows.{IsDesk, Tables, tables_of}
 
 -- what is shown means something, and is a desk's
@@ -35,3 +37,24 @@ module _ {S : Type 0} (g : Ghosts S) (old new : Held S) where
     pub settled : (state g new).now ≡ (state g new).committed
     pub desk : IsDesk (state g new).now
     pub changed : Changes (tables_of (state g old).now.trees) (tables_of (state g new).now.trees)
+
+-- ---- what a crash leaves
+
+-- a desk's trees, whose tables are those that the connection showed, changed so
+pub record IsMadeOf {S : Type 0} (g : Ghosts S) (old : Held S) (Changes : Tables → Tables → Type 0)
+    (db : Trees) : Type 0
+  where
+    pub was_open : IsTrue (state g old).is_open
+    pub desk : IsDesk (record { schema = desk_schema; trees = db })
+    pub changed : Changes (tables_of (state g old).now.trees) (tables_of db)
+
+module _ {S : Type 0} (g : Ghosts S) (old new : Held S) where
+  -- a crash leaves what it could leave before
+  abbrev pub Spares : Type 0
+  Spares = HasCleanDisk (state g new) → (db : Trees)
+      → (state g new).may_leave db → (state g old).may_leave db
+
+  -- a crash leaves what it could leave before, or the tables changed so as a whole
+  abbrev pub MayMake : (Tables → Tables → Type 0) → Type 0
+  MayMake Changes = HasCleanDisk (state g new) → (db : Trees)
+      → (state g new).may_leave db → (state g old).may_leave db ⊎ IsMadeOf g old Changes db

@@ -4,10 +4,10 @@ ghost use Rattle.sqlite.specs.View.{doubt};
 ghost use Rattle.sqlite.specs.State.{HasCleanDisk, KeepsCommit};
 ghost use Rattle.sqlite.specs.Held.{state};
 ghost use Rattle.desk_sql.specs.Batches.{volume_of, span_of, AddsVolumes, AddsSpans, RemovesPlans, IsUnderWay};
-ghost use Rattle.desk_sql.specs.Effects.{IsReady, Makes};
+ghost use Rattle.desk_sql.specs.Effects.{IsReady, Makes, Spares};
 ghost use Rattle.desk_sql.specs.Rows.{RemovesPlan};
 
-use crate::changing::removing::remove_plan;
+use crate::changing::removing::{remove_plan, remove_plan_text};
 use crate::changing::writing::{SpanRecord, VolumeRecord, insert_span, insert_volume};
 use sqlite::{Alter, Error, Transaction};
 
@@ -28,6 +28,7 @@ pub fn insert_volumes<S: Alter>(
         (state S.Store tx.new.conn.now).is_clean }
     ensures faults { (state S.Store tx.old.conn.now).faults ≤
         (state S.Store tx.new.conn.now).faults }
+    ensures spared { Spares S.Store tx.old.conn.now tx.new.conn.now }
 {
     'rows: for row in rows {
         insert_volume(tx, *row)?;
@@ -52,6 +53,7 @@ pub fn insert_spans<S: Alter>(
         (state S.Store tx.new.conn.now).is_clean }
     ensures faults { (state S.Store tx.old.conn.now).faults ≤
         (state S.Store tx.new.conn.now).faults }
+    ensures spared { Spares S.Store tx.old.conn.now tx.new.conn.now }
 {
     'rows: for row in rows {
         insert_span(tx, *row)?;
@@ -69,8 +71,7 @@ pub fn remove_plans<S: Alter>(
     requires begun { IsTrue tx.old.conn.now.in_transaction }
     ensures same_reference { tx.new.conn.ghost_name ≡ tx.old.conn.ghost_name }
     ensures done { HasCleanDisk (state S.Store tx.new.conn.now)
-        → OnOk result (IsTrue (state S.Store tx.new.conn.now).is_open
-        → Makes S.Store tx.old.conn.now tx.new.conn.now
+        → OnOk result (Makes S.Store tx.old.conn.now tx.new.conn.now
         (RemovesPlans operator.now (map string_bytes ids.now))) }
     ensures undone { HasCleanDisk (state S.Store tx.new.conn.now)
         → OnErr result (KeepsCommit (state S.Store tx.old.conn.now)
@@ -79,7 +80,10 @@ pub fn remove_plans<S: Alter>(
         (state S.Store tx.new.conn.now).is_clean }
     ensures faults { (state S.Store tx.old.conn.now).faults ≤
         (state S.Store tx.new.conn.now).faults }
+    ensures spared { Spares S.Store tx.old.conn.now tx.new.conn.now }
 {
+    // Refused on a connection that is shut, also if there are no ids.
+    let _statement = tx.prepare(remove_plan_text())?;
     'ids: for id in ids {
         remove_one(tx, operator, id)?;
     }
@@ -104,6 +108,7 @@ fn remove_one<S: Alter>(
         (state S.Store tx.new.conn.now).is_clean }
     ensures faults { (state S.Store tx.old.conn.now).faults ≤
         (state S.Store tx.new.conn.now).faults }
+    ensures spared { Spares S.Store tx.old.conn.now tx.new.conn.now }
 {
     remove_plan(tx, operator, id)
 }

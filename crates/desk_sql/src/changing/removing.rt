@@ -3,14 +3,14 @@ ghost use Rattle.sqlite.specs.View.{doubt};
 ghost use Rattle.sqlite.specs.State.{HasCleanDisk, KeepsCommit};
 ghost use Rattle.sqlite.specs.Held.{state};
 ghost use Rattle.desk_sql.specs.Rows.{RemovesPlan, RemovesSpans};
-ghost use Rattle.desk_sql.specs.Effects.{IsReady, Makes};
+ghost use Rattle.desk_sql.specs.Effects.{IsReady, Makes, Spares};
 ghost use Rattle.desk_sql.specs.Statements.{Changes, key_row};
 
 use crate::changing::run::run;
 use sqlite::{Alter, Error, Transaction, params};
 
 #[tactic(auto, using(crate::proofs::RemoveLemmas::remove_plan_changes))]
-fn remove_plan_text() -> &'static str
+pub(crate) fn remove_plan_text() -> &'static str
     ensures { Changes result.now key_row (λ key. RemovesPlan key.operator key.id) }
 {
     "DELETE FROM plan WHERE operator = ?1 AND id = ?2"
@@ -34,6 +34,7 @@ pub fn remove_plan<S: Alter>(
         (state S.Store tx.new.conn.now).is_clean }
     ensures faults { (state S.Store tx.old.conn.now).faults ≤
         (state S.Store tx.new.conn.now).faults }
+    ensures spared { Spares S.Store tx.old.conn.now tx.new.conn.now }
 {
     run(tx, remove_plan_text(), params![operator, id])?;
     Ok(())
@@ -64,6 +65,7 @@ pub fn remove_spans<S: Alter>(
         (state S.Store tx.new.conn.now).is_clean }
     ensures faults { (state S.Store tx.old.conn.now).faults ≤
         (state S.Store tx.new.conn.now).faults }
+    ensures spared { Spares S.Store tx.old.conn.now tx.new.conn.now }
 {
     run(tx, remove_spans_text(), params![operator, id])?;
     Ok(())

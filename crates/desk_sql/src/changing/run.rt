@@ -3,6 +3,7 @@ ghost use Rattle.sqlite.specs.Values.{bound};
 ghost use Rattle.sqlite.specs.View.{doubt};
 ghost use Rattle.sqlite.specs.State.{HasCleanDisk, Executes, Shows, KeepsCommit};
 ghost use Rattle.sqlite.specs.Held.{state};
+ghost use Rattle.desk_sql.specs.Effects.{Spares};
 
 use sqlite::{Alter, Error, Transaction};
 use sqlite_value::value::ValueRef;
@@ -27,6 +28,7 @@ pub(crate) fn run<S: Alter>(
         (state S.Store tx.new.conn.now).is_clean }
     ensures faults { (state S.Store tx.old.conn.now).faults ≤
         (state S.Store tx.new.conn.now).faults }
+    ensures spared { Spares S.Store tx.old.conn.now tx.new.conn.now }
 {
     tx.execute(statement, params)
 }

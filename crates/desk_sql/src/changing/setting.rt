@@ -3,7 +3,7 @@ ghost use Rattle.sqlite.specs.View.{doubt};
 ghost use Rattle.sqlite.specs.State.{HasCleanDisk, KeepsCommit};
 ghost use Rattle.sqlite.specs.Held.{state};
 ghost use Rattle.desk_sql.specs.Rows.{is_by, is_of, operator_row, plan_row, SetsOperators, SetsPlans};
-ghost use Rattle.desk_sql.specs.Effects.{IsReady, Makes};
+ghost use Rattle.desk_sql.specs.Effects.{IsReady, Makes, Spares};
 ghost use Rattle.desk_sql.specs.Statements.{Changes, ceiling_row, closing_row};
 
 use crate::changing::run::run;
@@ -34,6 +34,7 @@ pub fn set_ceiling<S: Alter>(
         (state S.Store tx.new.conn.now).is_clean }
     ensures faults { (state S.Store tx.old.conn.now).faults ≤
         (state S.Store tx.new.conn.now).faults }
+    ensures spared { Spares S.Store tx.old.conn.now tx.new.conn.now }
 {
     run(tx, set_ceiling_text(), params![name, ceiling])?;
     Ok(())
@@ -68,6 +69,7 @@ pub fn set_closed<S: Alter>(
         (state S.Store tx.new.conn.now).is_clean }
     ensures faults { (state S.Store tx.old.conn.now).faults ≤
         (state S.Store tx.new.conn.now).faults }
+    ensures spared { Spares S.Store tx.old.conn.now tx.new.conn.now }
 {
     run(
         tx,

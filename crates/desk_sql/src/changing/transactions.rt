@@ -6,7 +6,7 @@ ghost use Rattle.desk_sql.specs.Rows.{PutsOperator, ClosesPlan, is_by, plan_row,
 ghost use Rattle.std.specs.List.{list_any};
 ghost use Rattle.std.specs.String.{string_bytes};
 ghost use Rattle.desk_sql.specs.Batches.{PutsPlan, RemovesPlans, volume_of, span_of};
-ghost use Rattle.desk_sql.specs.Effects.{IsReady, IsKept, Commits};
+ghost use Rattle.desk_sql.specs.Effects.{IsReady, IsKept, Commits, MayMake, Spares};
 
 use crate::changing::batch::{insert_spans, insert_volumes, remove_plans};
 use crate::changing::removing::{remove_plan, remove_spans};
@@ -33,6 +33,8 @@ pub fn clear_plans<S: Alter>(
     ensures doubt { doubt (state S.Store connection.old).is_clean ≤ doubt
         (state S.Store connection.new).is_clean }
     ensures faults { (state S.Store connection.old).faults ≤ (state S.Store connection.new).faults }
+    ensures crash { MayMake S.Store connection.old connection.new
+        (RemovesPlans operator.now (map string_bytes ids.now)) }
 {
     let _settled = connection.is_autocommit();
     let mut tx = connection.transaction();
@@ -59,6 +61,10 @@ pub fn put_plan<S: Alter>(
     ensures doubt { doubt (state S.Store connection.old).is_clean ≤ doubt
         (state S.Store connection.new).is_clean }
     ensures faults { (state S.Store connection.old).faults ≤ (state S.Store connection.new).faults }
+    ensures crash { MayMake S.Store connection.old connection.new
+        (PutsPlan plan.entry.operator.now plan.entry.id.now
+        (plan_row plan.entry.operator.now plan.entry.id.now plan.entry.priority plan.entry.usage
+        plan.entry.aircraft) (map volume_of volumes.now) (map span_of spans.now)) }
 {
     let _settled = connection.is_autocommit();
     let mut tx = connection.transaction();
@@ -88,6 +94,7 @@ pub fn is_enrolled<S: Alter>(connection: &mut Connection<S>, name: &str) -> Resu
     ensures doubt { doubt (state S.Store connection.old).is_clean ≤ doubt
         (state S.Store connection.new).is_clean }
     ensures faults { (state S.Store connection.old).faults ≤ (state S.Store connection.new).faults }
+    ensures spared { Spares S.Store connection.old connection.new }
 {
     let rows = operator_named(connection, name)?;
     Ok(!rows.is_empty())
@@ -109,6 +116,8 @@ pub fn put_operator<S: Alter>(
     ensures doubt { doubt (state S.Store connection.old).is_clean ≤ doubt
         (state S.Store connection.new).is_clean }
     ensures faults { (state S.Store connection.old).faults ≤ (state S.Store connection.new).faults }
+    ensures crash { MayMake S.Store connection.old connection.new
+        (PutsOperator name.now ceiling) }
 {
     let is_there = is_enrolled(connection, name)?;
     let _settled = connection.is_autocommit();
@@ -140,6 +149,8 @@ pub fn close_plan<S: Alter>(
     ensures doubt { doubt (state S.Store connection.old).is_clean ≤ doubt
         (state S.Store connection.new).is_clean }
     ensures faults { (state S.Store connection.old).faults ≤ (state S.Store connection.new).faults }
+    ensures crash { MayMake S.Store connection.old connection.new
+        (ClosesPlan operator.now id.now priority aircraft) }
 {
     let _settled = connection.is_autocommit();
     let mut tx = connection.transaction();

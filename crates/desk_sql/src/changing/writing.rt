@@ -3,7 +3,7 @@ ghost use Rattle.sqlite.specs.View.{doubt};
 ghost use Rattle.sqlite.specs.State.{HasCleanDisk, KeepsCommit};
 ghost use Rattle.sqlite.specs.Held.{state};
 ghost use Rattle.desk_sql.specs.Rows.{operator_row, plan_row, volume_row, span_row, AddsOperator, AddsPlan, AddsVolume, AddsSpan};
-ghost use Rattle.desk_sql.specs.Effects.{IsReady, Makes};
+ghost use Rattle.desk_sql.specs.Effects.{IsReady, Makes, Spares};
 ghost use Rattle.desk_sql.specs.Batches.{volume_of, span_of};
 ghost use Rattle.desk_sql.specs.Statements.{Changes, ceiling_row, row_of};
 
@@ -74,6 +74,7 @@ pub fn insert_operator<S: Alter>(
         (state S.Store tx.new.conn.now).is_clean }
     ensures faults { (state S.Store tx.old.conn.now).faults ≤
         (state S.Store tx.new.conn.now).faults }
+    ensures spared { Spares S.Store tx.old.conn.now tx.new.conn.now }
 {
     run(tx, insert_operator_text(), params![name, ceiling])?;
     Ok(())
@@ -107,6 +108,7 @@ pub fn insert_plan<S: Alter>(
         (state S.Store tx.new.conn.now).is_clean }
     ensures faults { (state S.Store tx.old.conn.now).faults ≤
         (state S.Store tx.new.conn.now).faults }
+    ensures spared { Spares S.Store tx.old.conn.now tx.new.conn.now }
 {
     run(
         tx,
@@ -142,6 +144,7 @@ pub fn insert_volume<S: Alter>(
         (state S.Store tx.new.conn.now).is_clean }
     ensures faults { (state S.Store tx.old.conn.now).faults ≤
         (state S.Store tx.new.conn.now).faults }
+    ensures spared { Spares S.Store tx.old.conn.now tx.new.conn.now }
 {
     run(
         tx,
@@ -184,6 +187,7 @@ pub fn insert_span<S: Alter>(tx: &mut Transaction<'_, S>, row: SpanRecord<'_>) -
         (state S.Store tx.new.conn.now).is_clean }
     ensures faults { (state S.Store tx.old.conn.now).faults ≤
         (state S.Store tx.new.conn.now).faults }
+    ensures spared { Spares S.Store tx.old.conn.now tx.new.conn.now }
 {
     run(
         tx,

@@ -6,7 +6,7 @@ ghost use Rattle.sqlite.specs.State.{HasCleanDisk};
 ghost use Rattle.sqlite.specs.Held.{state};
 ghost use Rattle.desk_sql.specs.Schema.{blank_schema};
 ghost use Rattle.desk_sql.specs.Making.{IsAt};
-ghost use Rattle.desk_sql.specs.Effects.{IsReady, IsKept};
+ghost use Rattle.desk_sql.specs.Effects.{IsReady, IsKept, Spares};
 ghost use Rattle.desk_sql.specs.Refusals.{IsUnread};
 ghost use Rattle.desk_sql.specs.Finding.{Holds, HasOthers};
 ghost use Rattle.desk_sql.specs.Rows.{IsUnindexed};
@@ -53,6 +53,7 @@ pub fn find_tables<S: Alter>(connection: &mut Connection<S>) -> Result<Found, Er
     ensures doubt { doubt (state S.Store connection.old).is_clean ≤ doubt
         (state S.Store connection.new).is_clean }
     ensures faults { (state S.Store connection.old).faults ≤ (state S.Store connection.new).faults }
+    ensures spared { Spares S.Store connection.old connection.new }
 {
     if is_blank_schema(connection.schema()) {
         return Ok(Found::Blank);

@@ -7,7 +7,7 @@ ghost use Rattle.desk_sql.specs.Making.{first_schema, second_schema, third_schem
 ghost use Rattle.desk_sql.specs.Making.{AreEmpty, AreSame};
 ghost use Rattle.desk_sql.specs.Rows.{IsUnindexed};
 ghost use Rattle.desk_sql.specs.Finding.{Holds};
-ghost use Rattle.desk_sql.specs.Effects.{IsKept, Commits, Makes};
+ghost use Rattle.desk_sql.specs.Effects.{IsKept, Commits, Makes, MayMake, Spares};
 ghost use Rattle.desk_sql.specs.Statements.{Extends, AddsIndex};
 
 use crate::changing::run::run;
@@ -32,6 +32,7 @@ fn make_operator<S: Alter>(tx: &mut Transaction<'_, S>) -> Result<(), Error>
         (state S.Store tx.new.conn.now).is_clean }
     ensures faults { (state S.Store tx.old.conn.now).faults ≤
         (state S.Store tx.new.conn.now).faults }
+    ensures spared { Spares S.Store tx.old.conn.now tx.new.conn.now }
 {
     run(tx, make_operator_text(), &[])?;
     Ok(())
@@ -58,6 +59,7 @@ fn make_plan<S: Alter>(tx: &mut Transaction<'_, S>) -> Result<(), Error>
         (state S.Store tx.new.conn.now).is_clean }
     ensures faults { (state S.Store tx.old.conn.now).faults ≤
         (state S.Store tx.new.conn.now).faults }
+    ensures spared { Spares S.Store tx.old.conn.now tx.new.conn.now }
 {
     run(tx, make_plan_text(), &[])?;
     Ok(())
@@ -85,6 +87,7 @@ fn make_volume<S: Alter>(tx: &mut Transaction<'_, S>) -> Result<(), Error>
         (state S.Store tx.new.conn.now).is_clean }
     ensures faults { (state S.Store tx.old.conn.now).faults ≤
         (state S.Store tx.new.conn.now).faults }
+    ensures spared { Spares S.Store tx.old.conn.now tx.new.conn.now }
 {
     run(tx, make_volume_text(), &[])?;
     Ok(())
@@ -113,6 +116,7 @@ fn make_span<S: Alter>(tx: &mut Transaction<'_, S>) -> Result<(), Error>
         (state S.Store tx.new.conn.now).is_clean }
     ensures faults { (state S.Store tx.old.conn.now).faults ≤
         (state S.Store tx.new.conn.now).faults }
+    ensures spared { Spares S.Store tx.old.conn.now tx.new.conn.now }
 {
     run(tx, make_span_text(), &[])?;
     Ok(())
@@ -139,6 +143,7 @@ fn make_first<S: Alter>(tx: &mut Transaction<'_, S>) -> Result<(), Error>
         (state S.Store tx.new.conn.now).is_clean }
     ensures faults { (state S.Store tx.old.conn.now).faults ≤
         (state S.Store tx.new.conn.now).faults }
+    ensures spared { Spares S.Store tx.old.conn.now tx.new.conn.now }
 {
     run(tx, make_first_text(), &[])?;
     Ok(())
@@ -155,6 +160,7 @@ pub fn index_tables<S: Alter>(connection: &mut Connection<S>) -> Result<(), Erro
     ensures doubt { doubt (state S.Store connection.old).is_clean ≤ doubt
         (state S.Store connection.new).is_clean }
     ensures faults { (state S.Store connection.old).faults ≤ (state S.Store connection.new).faults }
+    ensures crash { MayMake S.Store connection.old connection.new AreSame }
 {
     let _settled = connection.is_autocommit();
     let mut tx = connection.transaction();
@@ -173,6 +179,7 @@ pub fn make_tables<S: Alter>(connection: &mut Connection<S>) -> Result<(), Error
     ensures doubt { doubt (state S.Store connection.old).is_clean ≤ doubt
         (state S.Store connection.new).is_clean }
     ensures faults { (state S.Store connection.old).faults ≤ (state S.Store connection.new).faults }
+    ensures crash { MayMake S.Store connection.old connection.new AreEmpty }
 {
     let _settled = connection.is_autocommit();
     let mut tx = connection.transaction();

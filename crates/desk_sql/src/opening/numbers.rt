@@ -7,7 +7,7 @@ ghost use Rattle.sqlite.specs.State.{HasCleanDisk};
 ghost use Rattle.sqlite.specs.Held.{state};
 ghost use Rattle.desk_sql.specs.Schema.{HasTables};
 ghost use Rattle.desk_sql.specs.Rows.{AreNumbered, IsLegible};
-ghost use Rattle.desk_sql.specs.Effects.{IsKept};
+ghost use Rattle.desk_sql.specs.Effects.{IsKept, Spares};
 ghost use Rattle.desk_sql.specs.Refusals.{IsUnread};
 ghost use Rattle.desk_sql.specs.Statements.{SelectsAll, rowids};
 ghost use Rattle.desk_sql.specs.Finding.{Holds, AreRising, next_above};
@@ -78,6 +78,7 @@ fn test_operators<S: Alter>(connection: &mut Connection<S>) -> Result<(), Error>
     ensures doubt { doubt (state S.Store connection.old).is_clean ≤ doubt
         (state S.Store connection.new).is_clean }
     ensures faults { (state S.Store connection.old).faults ≤ (state S.Store connection.new).faults }
+    ensures spared { Spares S.Store connection.old connection.new }
 {
     let rows = ask(connection, operator_rowids_text())?;
     test_rising(&rows)
@@ -103,6 +104,7 @@ fn test_plans<S: Alter>(connection: &mut Connection<S>) -> Result<(), Error>
     ensures doubt { doubt (state S.Store connection.old).is_clean ≤ doubt
         (state S.Store connection.new).is_clean }
     ensures faults { (state S.Store connection.old).faults ≤ (state S.Store connection.new).faults }
+    ensures spared { Spares S.Store connection.old connection.new }
 {
     let rows = ask(connection, plan_rowids_text())?;
     test_rising(&rows)
@@ -128,6 +130,7 @@ fn test_volumes<S: Alter>(connection: &mut Connection<S>) -> Result<(), Error>
     ensures doubt { doubt (state S.Store connection.old).is_clean ≤ doubt
         (state S.Store connection.new).is_clean }
     ensures faults { (state S.Store connection.old).faults ≤ (state S.Store connection.new).faults }
+    ensures spared { Spares S.Store connection.old connection.new }
 {
     let rows = ask(connection, volume_rowids_text())?;
     test_rising(&rows)
@@ -153,6 +156,7 @@ fn test_spans<S: Alter>(connection: &mut Connection<S>) -> Result<(), Error>
     ensures doubt { doubt (state S.Store connection.old).is_clean ≤ doubt
         (state S.Store connection.new).is_clean }
     ensures faults { (state S.Store connection.old).faults ≤ (state S.Store connection.new).faults }
+    ensures spared { Spares S.Store connection.old connection.new }
 {
     let rows = ask(connection, span_rowids_text())?;
     test_rising(&rows)
@@ -176,6 +180,7 @@ pub(crate) fn test_tables<S: Alter>(connection: &mut Connection<S>) -> Result<()
     ensures doubt { doubt (state S.Store connection.old).is_clean ≤ doubt
         (state S.Store connection.new).is_clean }
     ensures faults { (state S.Store connection.old).faults ≤ (state S.Store connection.new).faults }
+    ensures spared { Spares S.Store connection.old connection.new }
 {
     test_operators(connection)?;
     test_plans(connection)?;

@@ -6,7 +6,7 @@ ghost use Rattle.sqlite.specs.Held.{state};
 ghost use Rattle.sqlite.specs.Given.{IsPlain};
 ghost use Rattle.sqlite.specs.Listing.{understood};
 ghost use Rattle.desk_sql.specs.Schema.{desk_schema};
-ghost use Rattle.desk_sql.specs.Effects.{IsReady, IsKept};
+ghost use Rattle.desk_sql.specs.Effects.{IsReady, IsKept, Spares};
 
 use sqlite::{Alter, Connection, Error, Row};
 use sqlite_value::value::ValueRef;
@@ -30,7 +30,10 @@ pub(crate) fn answer<S: Alter>(
     ensures doubt { doubt (state S.Store connection.old).is_clean ≤ doubt
         (state S.Store connection.new).is_clean }
     ensures faults { (state S.Store connection.old).faults ≤ (state S.Store connection.new).faults }
+    ensures spared { Spares S.Store connection.old connection.new }
 {
     let _settled = connection.is_autocommit();
-    connection.query_all(query, params)
+    // Refused on a connection that is shut, whose schema is not known.
+    let statement = connection.prepare(query)?;
+    statement.query_all(connection, params)
 }

@@ -2,7 +2,7 @@ ghost use Rattle.std.specs.Prelude.{◌≡◌, ◌≤◌, [], false, IfOk, IfErr
 ghost use Rattle.sqlite.specs.View.{doubt};
 ghost use Rattle.sqlite.specs.State.{HasCleanDisk, Shown};
 ghost use Rattle.sqlite.specs.Held.{state};
-ghost use Rattle.desk_sql.specs.Effects.{IsKept};
+ghost use Rattle.desk_sql.specs.Effects.{IsKept, Spares};
 ghost use Rattle.desk_sql.specs.Schema.{HasTables};
 ghost use Rattle.desk_sql.specs.Finding.{Holds};
 ghost use Rattle.desk_sql.specs.Refusals.{IsSure, IsRefusal};
@@ -29,7 +29,10 @@ pub(crate) fn ask<S: Alter>(connection: &mut Connection<S>, query: &str) -> Resu
     ensures doubt { doubt (state S.Store connection.old).is_clean ≤ doubt
         (state S.Store connection.new).is_clean }
     ensures faults { (state S.Store connection.old).faults ≤ (state S.Store connection.new).faults }
+    ensures spared { Spares S.Store connection.old connection.new }
 {
     let _settled = connection.is_autocommit();
-    connection.query_all(query, &[])
+    // Refused on a connection that is shut, whose schema is not known.
+    let statement = connection.prepare(query)?;
+    statement.query_all(connection, &[])
 }

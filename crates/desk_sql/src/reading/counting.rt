@@ -6,7 +6,7 @@ ghost use Rattle.sqlite.specs.View.{doubt};
 ghost use Rattle.sqlite.specs.State.{HasCleanDisk};
 ghost use Rattle.sqlite.specs.Held.{state};
 ghost use Rattle.desk_sql.specs.Rows.{is_by, tables_of};
-ghost use Rattle.desk_sql.specs.Effects.{IsReady, IsKept};
+ghost use Rattle.desk_sql.specs.Effects.{IsReady, IsKept, Spares};
 ghost use Rattle.desk_sql.specs.Statements.{Selects, counted, name_row};
 
 use crate::reading::answer::answer;
@@ -49,6 +49,7 @@ pub fn own_count<S: Alter>(connection: &mut Connection<S>, operator: &str) -> Re
     ensures doubt { doubt (state S.Store connection.old).is_clean ≤ doubt
         (state S.Store connection.new).is_clean }
     ensures faults { (state S.Store connection.old).faults ≤ (state S.Store connection.new).faults }
+    ensures spared { Spares S.Store connection.old connection.new }
 {
     let rows = answer(connection, own_count_text(), params![operator])?;
     count_in(&rows)

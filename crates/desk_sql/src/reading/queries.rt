@@ -4,7 +4,7 @@ ghost use Rattle.sqlite.specs.View.{doubt};
 ghost use Rattle.sqlite.specs.State.{HasCleanDisk};
 ghost use Rattle.sqlite.specs.Held.{state};
 ghost use Rattle.desk_sql.specs.Rows.{is_by, is_of, tables_of, with_volumes, Lists};
-ghost use Rattle.desk_sql.specs.Effects.{IsReady, IsKept};
+ghost use Rattle.desk_sql.specs.Effects.{IsReady, IsKept, Spares};
 ghost use Rattle.desk_sql.specs.Statements.{Selects, name_row, key_row};
 
 use crate::reading::answer::answer;
@@ -35,6 +35,7 @@ pub fn operator_named<S: Alter>(
     ensures doubt { doubt (state S.Store connection.old).is_clean ≤ doubt
         (state S.Store connection.new).is_clean }
     ensures faults { (state S.Store connection.old).faults ≤ (state S.Store connection.new).faults }
+    ensures spared { Spares S.Store connection.old connection.new }
 {
     answer(connection, operator_named_text(), params![name])
 }
@@ -65,6 +66,7 @@ pub fn plan_of<S: Alter>(
     ensures doubt { doubt (state S.Store connection.old).is_clean ≤ doubt
         (state S.Store connection.new).is_clean }
     ensures faults { (state S.Store connection.old).faults ≤ (state S.Store connection.new).faults }
+    ensures spared { Spares S.Store connection.old connection.new }
 {
     answer(connection, plan_of_text(), params![operator, id])
 }
@@ -97,6 +99,7 @@ pub fn volumes_of<S: Alter>(
     ensures doubt { doubt (state S.Store connection.old).is_clean ≤ doubt
         (state S.Store connection.new).is_clean }
     ensures faults { (state S.Store connection.old).faults ≤ (state S.Store connection.new).faults }
+    ensures spared { Spares S.Store connection.old connection.new }
 {
     answer(connection, volumes_of_text(), params![operator, id])
 }
@@ -135,6 +138,7 @@ pub fn own_plans<S: Alter, T: TakeRow>(
     ensures doubt { doubt (state S.Store connection.old).is_clean ≤ doubt
         (state S.Store connection.new).is_clean }
     ensures faults { (state S.Store connection.old).faults ≤ (state S.Store connection.new).faults }
+    ensures spared { Spares S.Store connection.old connection.new }
 {
     hand_over(connection, own_plans_text(), params![operator], taker)
 }

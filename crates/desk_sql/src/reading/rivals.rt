@@ -6,7 +6,7 @@ ghost use Rattle.sqlite.specs.View.{doubt};
 ghost use Rattle.sqlite.specs.State.{HasCleanDisk};
 ghost use Rattle.sqlite.specs.Held.{state};
 ghost use Rattle.desk_sql.specs.Rows.{is_wanted, held_columns, tables_of};
-ghost use Rattle.desk_sql.specs.Effects.{IsReady, IsKept};
+ghost use Rattle.desk_sql.specs.Effects.{IsReady, IsKept, Spares};
 ghost use Rattle.desk_sql.specs.Rivals.{SelectsRivals};
 
 use crate::reading::taking::{TakeRow, hand_over};
@@ -65,6 +65,7 @@ pub fn rival_spans<S: Alter, T: TakeRow>(
     ensures doubt { doubt (state S.Store connection.old).is_clean ≤ doubt
         (state S.Store connection.new).is_clean }
     ensures faults { (state S.Store connection.old).faults ≤ (state S.Store connection.new).faults }
+    ensures spared { Spares S.Store connection.old connection.new }
 {
     hand_over(
         connection,

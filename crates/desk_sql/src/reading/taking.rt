@@ -9,7 +9,7 @@ ghost use Rattle.sqlite.specs.Held.{state};
 ghost use Rattle.sqlite.specs.Given.{IsPlain};
 ghost use Rattle.sqlite.specs.Listing.{understood};
 ghost use Rattle.desk_sql.specs.Schema.{desk_schema};
-ghost use Rattle.desk_sql.specs.Effects.{IsReady, IsKept};
+ghost use Rattle.desk_sql.specs.Effects.{IsReady, IsKept, Spares};
 ghost use Rattle.desk_sql.specs.Taking.{HandsOver, HandsAll, IsLeft};
 
 use sqlite::{Alter, Connection, Error, ErrorCode, Row, Rows};
@@ -50,6 +50,7 @@ fn hand_next<S: Alter, T: TakeRow>(rows: &mut Rows<'_, S>, taker: &mut T) -> Res
         (state S.Store rows.new.conn.now).is_clean }
     ensures faults { (state S.Store rows.old.conn.now).faults
         ≤ (state S.Store rows.new.conn.now).faults }
+    ensures spared { Spares S.Store rows.old.conn.now rows.new.conn.now }
 {
     rows.advance()?;
     match rows.get() {
@@ -81,6 +82,7 @@ fn hand_all<S: Alter, T: TakeRow>(rows: &mut Rows<'_, S>, taker: &mut T) -> Resu
         (state S.Store rows.new.conn.now).is_clean }
     ensures faults { (state S.Store rows.old.conn.now).faults
         ≤ (state S.Store rows.new.conn.now).faults }
+    ensures spared { Spares S.Store rows.old.conn.now rows.new.conn.now }
 {
     for _ in 0..u64::MAX {
         if !hand_next(rows, taker)? {
@@ -116,8 +118,11 @@ pub(crate) fn hand_over<S: Alter, T: TakeRow>(
     ensures doubt { doubt (state S.Store connection.old).is_clean ≤ doubt
         (state S.Store connection.new).is_clean }
     ensures faults { (state S.Store connection.old).faults ≤ (state S.Store connection.new).faults }
+    ensures spared { Spares S.Store connection.old connection.new }
 {
     let _settled = connection.is_autocommit();
-    let mut rows = connection.query(query, params)?;
+    // Refused on a connection that is shut, whose schema is not known.
+    let statement = connection.prepare(query)?;
+    let mut rows = connection.query_prepared(&statement, params)?;
     hand_all(&mut rows, taker)
 }

@@ -5,7 +5,7 @@ ghost use Rattle.sqlite.specs.View.{doubt};
 ghost use Rattle.sqlite.specs.State.{HasCleanDisk};
 ghost use Rattle.sqlite.specs.Held.{state};
 ghost use Rattle.desk_sql.specs.Rows.{IsLegible, tables_of, Lists};
-ghost use Rattle.desk_sql.specs.Effects.{IsKept};
+ghost use Rattle.desk_sql.specs.Effects.{IsKept, Spares};
 ghost use Rattle.desk_sql.specs.Finding.{Holds};
 ghost use Rattle.desk_sql.specs.Refusals.{IsRefusal};
 ghost use Rattle.desk_sql.specs.Statements.{SelectsAll};
@@ -38,6 +38,7 @@ pub fn all_operators<S: Alter>(connection: &mut Connection<S>) -> Result<Vec<Row
     ensures doubt { doubt (state S.Store connection.old).is_clean ≤ doubt
         (state S.Store connection.new).is_clean }
     ensures faults { (state S.Store connection.old).faults ≤ (state S.Store connection.new).faults }
+    ensures spared { Spares S.Store connection.old connection.new }
 {
     ask(connection, all_operators_text())
 }
@@ -67,6 +68,7 @@ pub fn all_plans<S: Alter>(connection: &mut Connection<S>) -> Result<Vec<Row>, E
     ensures doubt { doubt (state S.Store connection.old).is_clean ≤ doubt
         (state S.Store connection.new).is_clean }
     ensures faults { (state S.Store connection.old).faults ≤ (state S.Store connection.new).faults }
+    ensures spared { Spares S.Store connection.old connection.new }
 {
     ask(connection, all_plans_text())
 }
@@ -97,6 +99,7 @@ pub fn all_volumes<S: Alter>(connection: &mut Connection<S>) -> Result<Vec<Row>,
     ensures doubt { doubt (state S.Store connection.old).is_clean ≤ doubt
         (state S.Store connection.new).is_clean }
     ensures faults { (state S.Store connection.old).faults ≤ (state S.Store connection.new).faults }
+    ensures spared { Spares S.Store connection.old connection.new }
 {
     ask(connection, all_volumes_text())
 }
@@ -128,6 +131,7 @@ pub fn all_spans<S: Alter>(connection: &mut Connection<S>) -> Result<Vec<Row>, E
     ensures doubt { doubt (state S.Store connection.old).is_clean ≤ doubt
         (state S.Store connection.new).is_clean }
     ensures faults { (state S.Store connection.old).faults ≤ (state S.Store connection.new).faults }
+    ensures spared { Spares S.Store connection.old connection.new }
 {
     ask(connection, all_spans_text())
 }

@@ -1,17 +1,28 @@
-use Rattle.std.proofs.Common.{[], ◌∷◌, ◌++◌, refl, sym, ap, map, take, ◌∙◌, ◌+◌}
+use Rattle.std.proofs.Common.{[], ◌∷◌, ◌++◌, refl, sym, ap, map, take, rules, ◌∙◌, ◌+◌}
+use Rattle.sqlite.specs.State.{KeepsCommit}
+use Rattle.sqlite.specs.Held.{state}
 use Rattle.std.specs.String.{string_bytes}
 use Rattle.std.proofs.lemmas.List.{map_more}
 use Rattle.desk_sql.specs.Rows.{RemovesPlan}
 use Rattle.desk_sql.specs.Batches.{RemovesPlans}
-use Rattle.desk_sql.proofs.ClearLemmas.{begins, goes_on, none_removed, one_removed}
+use Rattle.desk_sql.proofs.BatchLemmas.{begins_prepared, goes_on, keeps_unprepared}
+use Rattle.desk_sql.proofs.ClearLemmas.{none_removed, one_removed}
 use Rattle.desk_sql.proofs.changing.batch.remove_plans.Goals as goal
+
+pub returns-in_err-_statement-clause-undone : goal.returns-in_err-_statement-clause-undone
+returns-in_err-_statement-clause-undone g c clean =
+    let it : KeepsCommit (state g.S.Store c.args.tx.now.conn.now)
+    (state g.S.Store c.prepare.new.self.conn.now) =
+    keeps_unprepared _ _ _ [] _ (c.in_err-_statement.ensures.err clean []) in
+    search (rules, it)
 
 pub ids-init : goal.ids-init
 ids-init g c = (
-  refl,
-  begins g.S.Store c.args.tx.now.conn.now
+  c.prepare.ensures.same_reference,
+  begins_prepared g.S.Store c.args.tx.now.conn.now c.prepare.new.self.conn.now
       (RemovesPlans c.args.operator.now (map string_bytes (take 0 c.args.ids.now)))
-      (none_removed c.args.operator.now) c.requires.ready c.requires.begun,
+      (none_removed c.args.operator.now) c.requires.ready c.requires.begun
+      (λ clean. (c.in_ok-_statement.ensures.ok clean).1) c.prepare.ensures.survives,
 )
 
 pub ids-preserved : goal.ids-preserved
@@ -28,5 +39,6 @@ ids-preserved g c =
           (map_more string_bytes ids at _ c.ids-test.true
           ∙ ap (λ id. map string_bytes (take at ids) ++ id ∷ []) (sym (ap string_bytes c.id-item.is))))
           c.ids.invariant.1 c.remove_one.ensures.doubt c.remove_one.ensures.faults
+          c.remove_one.ensures.spared
           c.in_ok-remove_one.ensures.done,
     )

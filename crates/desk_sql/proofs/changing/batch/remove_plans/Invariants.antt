@@ -1,10 +1,10 @@
 use Rattle.std.proofs.Common.{◌≡◌, map, take}
 use Rattle.std.specs.String.{string_bytes}
 use Rattle.desk_sql.specs.Batches.{RemovesPlans}
-use Rattle.desk_sql.proofs.ClearLemmas.{HasRemoved}
+use Rattle.desk_sql.proofs.BatchLemmas.{HasAdded}
 use Rattle.desk_sql.proofs.changing.batch.remove_plans.Given as goal
 
 abbrev pub invariant-ids : goal.invariant-ids
 invariant-ids g l = (l.tx.conn.ghost_name ≡ l.fn.tx.conn.ghost_name)
-    × HasRemoved g.S.Store l.fn.tx.conn.now l.tx.conn.now
+    × HasAdded g.S.Store l.fn.tx.conn.now l.tx.conn.now
     (RemovesPlans l.operator (map string_bytes (take l.id-index l.ids)))

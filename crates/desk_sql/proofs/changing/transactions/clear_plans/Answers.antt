@@ -1,10 +1,11 @@
 use Rattle.std.proofs.Common.{◌≡◌, rules, map, arith, subst, OnOk}
+use Rattle.std.proofs.lemmas.Result.{on_ok_weaker}
 use Rattle.std.specs.String.{string_bytes}
 use Rattle.sqlite.specs.State.{HasCleanDisk}
 use Rattle.sqlite.specs.Held.{state}
 use Rattle.desk_sql.specs.Batches.{RemovesPlans}
-use Rattle.desk_sql.specs.Effects.{Commits}
-use Rattle.desk_sql.proofs.ClearLemmas.{committed, on_ok}
+use Rattle.desk_sql.specs.Effects.{Commits, MayMake}
+use Rattle.desk_sql.proofs.LeavingLemmas.{may_make, committed}
 use Rattle.desk_sql.proofs.changing.transactions.clear_plans.Goals as goal
 
 pub returns-clause-done : goal.returns-clause-done
@@ -13,8 +14,17 @@ returns-clause-done g c =
     let same : c.commit.new.self.0 ≡ c.connection-2-1.given.0 = search rules in
     subst (λ held. HasCleanDisk (state g.S.Store held)
     → OnOk c.commit.result (Commits g.S.Store c.args.connection.now held changes)) same
-    (λ clean. on_ok c.commit.result
+    (λ clean. on_ok_weaker c.commit.result
     (λ shown. committed g.S.Store c.args.connection.now c.transaction-tx.result.conn.now
     c.remove_plans.new.tx.conn.now c.commit.new.self.0 changes c.transaction-tx.ensures.begun
     (c.in_ok-remove_plans.ensures.done (omega (arith, c.commit.ensures.survives.clean, clean))) shown.1)
     (c.commit.ensures.ok clean))
+
+pub returns-clause-crash : goal.returns-clause-crash
+returns-clause-crash g c =
+    let changes = RemovesPlans c.args.operator.now (map string_bytes c.args.ids.now) in
+    let same : c.commit.new.self.0 ≡ c.connection-2-1.given.0 = search rules in
+    subst (λ held. MayMake g.S.Store c.args.connection.now held changes) same
+    (may_make g.S.Store c.args.connection.now c.transaction-tx.result.conn.now
+    c.remove_plans.new.tx.conn.now c.commit.new.self.0 changes c.transaction-tx.ensures.begun
+    c.in_ok-remove_plans.ensures.done c.remove_plans.ensures.spared c.commit.ensures.survives)

@@ -1,26 +1,73 @@
-use Rattle.std.proofs.Common.{arith}
-use Rattle.desk_sql.proofs.ReadLemmas.{kept_if, open_if}
-use Rattle.desk_sql.proofs.AskLemmas.{refused, sure_plain}
+use Rattle.std.proofs.Common.{[], rules, arith}
+use Rattle.sqlite.specs.State.{HasCleanDisk}
 use Rattle.sqlite.specs.Held.{state}
+use Rattle.desk_sql.specs.Refusals.{IsRefusal}
+use Rattle.desk_sql.proofs.ReadLemmas.{open_if, if_either, unprepared}
+use Rattle.desk_sql.proofs.AskLemmas.{refused_unprepared, refused_after, sure_plain}
+use Rattle.desk_sql.proofs.LeavingLemmas.{shown_after, kept_by_query, spared_after}
 use Rattle.desk_sql.proofs.reading.asking.ask.Goals as goal
 
-pub returns-clause-kept : goal.returns-clause-kept
-returns-clause-kept g c clean live =
-    kept_if g.S.Store c.args.connection.now c.query_all.new.self (λ v. v.items) c.args.query.now _
-    (λ whole live. sure_plain c.args.query.now c.requires.sure (state g.S.Store c.args.connection.now).now
-    (c.requires.known whole live))
+pub returns-in_err-statement-clause-kept : goal.returns-in_err-statement-clause-kept
+returns-in_err-statement-clause-kept g c clean live =
+    if_either g.S.Store c.args.connection.now c.prepare.new.self
     (c.is_autocommit-settled.ensures.settled (rw c.requires.settled at c.is_autocommit-settled.ensures.value))
-    c.query_all.result
-    (omega (arith, c.query_all.ensures.survives.clean, clean)) (c.query_all.ensures.ok clean)
-    (c.query_all.ensures.err clean) live
+    live (unprepared _ _ _ _ _ (c.in_err-statement.ensures.err clean []))
+
+pub returns-in_err-statement-clause-cause : goal.returns-in_err-statement-clause-cause
+returns-in_err-statement-clause-cause g c clean live =
+    let it : IsRefusal g.S.Store c.args.connection.now c.prepare.new.self _ =
+    refused_unprepared g.S.Store c.args.connection.now c.prepare.new.self c.args.query.now c.requires.sure
+    c.requires.known (omega (arith, c.prepare.ensures.survives.clean, clean)) _
+    (c.in_err-statement.ensures.err clean []) live in
+    search (rules, it)
+
+pub returns-clause-shown : goal.returns-clause-shown
+returns-clause-shown g c clean =
+    let early : HasCleanDisk (state g.S.Store c.prepare.new.self) =
+    omega (arith, c.query_all.ensures.survives.clean, clean) in
+    let start : HasCleanDisk (state g.S.Store c.args.connection.now) =
+    omega (arith, c.prepare.ensures.survives.clean, early) in
+    let it = c.in_ok-statement.ensures.ok early in
+    shown_after g.S.Store c.args.connection.now c.prepare.new.self c.query_all.new.conn
+    c.args.query.now c.in_ok-statement.statement.text [] start
+    (λ live. sure_plain c.args.query.now c.requires.sure (state g.S.Store c.args.connection.now).now
+    (c.requires.known start live)) it.1 it.0
+    (λ v. v.items) c.query_all.result (c.query_all.ensures.ok clean)
 
 pub returns-clause-open : goal.returns-clause-open
 returns-clause-open g c clean =
     open_if (λ v. v.items) c.args.query.now _ (state g.S.Store c.args.connection.now)
-    (state g.S.Store c.query_all.new.self) c.query_all.result (c.query_all.ensures.ok clean)
+    (state g.S.Store c.query_all.new.conn) c.query_all.result (returns-clause-shown g c clean)
+
+pub returns-clause-kept : goal.returns-clause-kept
+returns-clause-kept g c clean live =
+    let early : HasCleanDisk (state g.S.Store c.prepare.new.self) =
+    omega (arith, c.query_all.ensures.survives.clean, clean) in
+    let start : HasCleanDisk (state g.S.Store c.args.connection.now) =
+    omega (arith, c.prepare.ensures.survives.clean, early) in
+    let it = c.in_ok-statement.ensures.ok early in
+    kept_by_query g.S.Store c.args.connection.now c.prepare.new.self c.query_all.new.conn
+    c.args.query.now c.in_ok-statement.statement.text [] start
+    (λ live. sure_plain c.args.query.now c.requires.sure (state g.S.Store c.args.connection.now).now
+    (c.requires.known start live)) it.1 it.0
+    (c.is_autocommit-settled.ensures.settled (rw c.requires.settled at c.is_autocommit-settled.ensures.value))
+    (λ v. v.items) c.query_all.result (c.query_all.ensures.ok clean) (c.query_all.ensures.err clean) live
 
 pub returns-clause-cause : goal.returns-clause-cause
 returns-clause-cause g c clean live =
-    refused g.S.Store c.args.connection.now c.query_all.new.self c.args.query.now c.requires.sure
-    c.requires.known (omega (arith, c.query_all.ensures.survives.clean, clean)) c.query_all.result
-    (c.query_all.ensures.err clean) live
+    let early : HasCleanDisk (state g.S.Store c.prepare.new.self) =
+    omega (arith, c.query_all.ensures.survives.clean, clean) in
+    let start : HasCleanDisk (state g.S.Store c.args.connection.now) =
+    omega (arith, c.prepare.ensures.survives.clean, early) in
+    let it = c.in_ok-statement.ensures.ok early in
+    refused_after g.S.Store c.args.connection.now c.prepare.new.self c.query_all.new.conn
+    c.args.query.now c.in_ok-statement.statement.text c.requires.sure c.requires.known start early
+    it.1 it.0 c.prepare.ensures.survives c.query_all.result (c.query_all.ensures.err clean) live
+
+pub returns-clause-spared : goal.returns-clause-spared
+returns-clause-spared g c =
+    spared_after g.S.Store c.args.connection.now c.prepare.new.self c.query_all.new.conn
+    c.args.query.now c.in_ok-statement.statement.text []
+    (λ whole live. sure_plain c.args.query.now c.requires.sure (state g.S.Store c.args.connection.now).now
+    (c.requires.known whole live))
+    c.in_ok-statement.ensures.ok c.prepare.ensures.survives c.query_all.ensures.survives

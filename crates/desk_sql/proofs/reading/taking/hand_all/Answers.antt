@@ -8,6 +8,7 @@ loop-init g c = (
   λ e. e,
   omega arith,
   omega arith,
+  λ clean db left. left,
   begins g.S.Store c.args.rows.now.conn.now
       (g.T.TakeRow.has_taken c.args.taker.now) c.requires,
 )
@@ -15,20 +16,20 @@ loop-init g c = (
 pub returns-in_err-hand_next-clause-left : goal.returns-in_err-hand_next-clause-left
 returns-in_err-hand_next-clause-left g c =
     is_left g.S.Store c.args.rows.now.conn.now c.loop.rows.conn.now c.hand_next.new.rows.conn.now _ _
-    (g.T.TakeRow.has_taken c.hand_next.new.taker) c.loop.invariant.4
+    (g.T.TakeRow.has_taken c.hand_next.new.taker) c.loop.invariant.5
     (λ clean. omega (arith, clean, c.hand_next.ensures.doubt)) c.in_err-hand_next.ensures.left
 
 pub returns-then-not-branch-clause-handed : goal.returns-then-not-branch-clause-handed
 returns-then-not-branch-clause-handed g c =
     ends g.S.Store c.args.rows.now.conn.now c.loop.rows.conn.now c.hand_next.new.rows.conn.now _ _
-    (g.T.TakeRow.has_taken c.hand_next.new.taker) c.loop.invariant.4
+    (g.T.TakeRow.has_taken c.hand_next.new.taker) c.loop.invariant.5
     (λ clean. omega (arith, clean, c.hand_next.ensures.doubt)) c.in_ok-hand_next.field-0
     c.if-not-branch.true c.in_ok-hand_next.ensures.handed
 
 pub returns-then-not-branch-clause-left : goal.returns-then-not-branch-clause-left
 returns-then-not-branch-clause-left g c =
     is_left g.S.Store c.args.rows.now.conn.now c.loop.rows.conn.now c.hand_next.new.rows.conn.now _ _
-    (g.T.TakeRow.has_taken c.hand_next.new.taker) c.loop.invariant.4
+    (g.T.TakeRow.has_taken c.hand_next.new.taker) c.loop.invariant.5
     (λ clean. omega (arith, clean, c.hand_next.ensures.doubt))
     (λ clean. inl (c.in_ok-hand_next.ensures.same clean))
 
@@ -38,11 +39,13 @@ loop-preserved g c = (
   λ settled. c.hand_next.ensures.mode (c.loop.invariant.1 settled),
   omega (arith, c.loop.invariant.2, c.hand_next.ensures.doubt),
   omega (arith, c.loop.invariant.3, c.hand_next.ensures.faults),
+  λ clean db left. c.loop.invariant.4 (omega (arith, c.hand_next.ensures.doubt, clean)) db
+      (c.hand_next.ensures.spared clean db left),
   goes_on g.S.Store c.args.rows.now.conn.now c.loop.rows.conn.now c.hand_next.new.rows.conn.now _ _
-      (g.T.TakeRow.has_taken c.hand_next.new.taker) c.loop.invariant.4
+      (g.T.TakeRow.has_taken c.hand_next.new.taker) c.loop.invariant.5
       (λ clean. omega (arith, clean, c.hand_next.ensures.doubt)) c.in_ok-hand_next.ensures.same
       c.in_ok-hand_next.field-0 c.if-not-branch.false c.in_ok-hand_next.ensures.handed,
 )
 
 pub returns-clause-left : goal.returns-clause-left
-returns-clause-left g c clean = inl (c.loop.invariant.4.same clean)
+returns-clause-left g c clean = inl (c.loop.invariant.5.same clean)

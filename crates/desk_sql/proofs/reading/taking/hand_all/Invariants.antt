@@ -1,6 +1,7 @@
 use Rattle.std.proofs.Common.{◌≡◌, ◌≤◌, false}
 use Rattle.sqlite.specs.View.{doubt}
 use Rattle.sqlite.specs.Held.{state}
+use Rattle.desk_sql.specs.Effects.{Spares}
 use Rattle.desk_sql.proofs.TakingLemmas.{IsUnderWay}
 use Rattle.desk_sql.proofs.reading.taking.hand_all.Given as goal
 
@@ -10,5 +11,6 @@ invariant-loop g l =
     × (l.fn.rows.conn.now.in_transaction ≡ false → l.rows.conn.now.in_transaction ≡ false)
     × (doubt (state g.S.Store l.fn.rows.conn.now).is_clean ≤ doubt (state g.S.Store l.rows.conn.now).is_clean)
     × ((state g.S.Store l.fn.rows.conn.now).faults ≤ (state g.S.Store l.rows.conn.now).faults)
+    × Spares g.S.Store l.fn.rows.conn.now l.rows.conn.now
     × IsUnderWay g.S.Store l.fn.rows.conn.now l.rows.conn.now (g.T.TakeRow.has_taken l.fn.taker)
     (g.T.TakeRow.has_taken l.taker)

@@ -3,26 +3,43 @@ use Rattle.sqlite.specs.Values.{bound}
 use Rattle.sqlite.specs.Order.{Row}
 use Rattle.sqlite.specs.State.{HasCleanDisk, Shown}
 use Rattle.sqlite.specs.Held.{state}
-use Rattle.desk_sql.specs.Effects.{ShowsAsBefore}
-use Rattle.desk_sql.proofs.ReadLemmas.{failed, if_either}
-use Rattle.desk_sql.proofs.TakingLemmas.{begun, shown_if, left_then, open_on}
+use Rattle.desk_sql.specs.Effects.{ShowsAsBefore, Spares}
+use Rattle.desk_sql.proofs.ReadLemmas.{if_either, unprepared}
+use Rattle.desk_sql.proofs.TakingLemmas.{open_on}
+use Rattle.desk_sql.proofs.LeavingLemmas.{begun_after, was_prepared, handed_after, kept_after, kept_refused, spared_handed, spared_then}
 use Rattle.desk_sql.proofs.reading.taking.hand_over.Goals as goal
+
+pub returns-in_err-statement-clause-kept : goal.returns-in_err-statement-clause-kept
+returns-in_err-statement-clause-kept g c clean live =
+    if_either g.S.Store c.args.connection.now c.prepare.new.self
+    (c.is_autocommit-settled.ensures.settled (rw c.requires.settled at c.is_autocommit-settled.ensures.value))
+    live (unprepared _ _ _ _ _ (c.in_err-statement.ensures.err clean (bound c.args.params.now)))
 
 pub returns-in_err-rows-clause-kept : goal.returns-in_err-rows-clause-kept
 returns-in_err-rows-clause-kept g c clean live =
-    let old = c.args.connection.now in
-    let new = c.query.follows.lender-at-none in
+    let new = c.query_prepared.follows.lender-at-none in
     let settled = c.is_autocommit-settled.ensures.settled
     (rw c.requires.settled at c.is_autocommit-settled.ensures.value) in
-    let refused = rw c.in_err-rows.was at c.query.follows.holds-at-none in
-    if_either g.S.Store old new settled live (failed c.args.query.now (bound c.args.params.now) _ _ _
-    (refused.err clean))
+    let refused = rw c.in_err-rows.was at c.query_prepared.follows.holds-at-none in
+    kept_refused g.S.Store c.args.query.now c.in_ok-statement.statement.text (bound c.args.params.now)
+    c.args.connection.now c.prepare.new.self c.requires.ready c.requires.plain
+    c.in_ok-statement.ensures.ok c.prepare.ensures.survives new refused.survives clean settled live _
+    (refused.err clean)
+
+pub returns-in_err-rows-clause-spared : goal.returns-in_err-rows-clause-spared
+returns-in_err-rows-clause-spared g c =
+    let refused = rw c.in_err-rows.was at c.query_prepared.follows.holds-at-none in
+    spared_handed g.S.Store c.args.query.now c.in_ok-statement.statement.text (bound c.args.params.now)
+    c.args.connection.now c.prepare.new.self c.requires.ready c.requires.plain
+    c.in_ok-statement.ensures.ok c.prepare.ensures.survives c.query_prepared.follows.lender-at-none
+    refused.survives
 
 pub hand_all-requires : goal.hand_all-requires
 hand_all-requires g c clean =
-    (begun g.S.Store c.args.query.now (bound c.args.params.now) c.args.connection.now c.requires.ready
-    c.requires.plain (omega (arith, clean, c.in_ok-rows.ensures.survives.clean))
-    c.in_ok-rows.rows.conn.now (c.in_ok-rows.ensures.begun clean)).1.0.is_open
+    (begun_after g.S.Store c.args.query.now c.in_ok-statement.statement.text (bound c.args.params.now)
+    c.args.connection.now c.prepare.new.self c.requires.ready c.requires.plain
+    c.in_ok-statement.ensures.ok c.prepare.ensures.survives c.in_ok-rows.rows.conn.now clean
+    c.in_ok-rows.ensures.survives (c.in_ok-rows.ensures.begun clean)).0.is_open
 
 pub returns-clause-shown : goal.returns-clause-shown
 returns-clause-shown g c =
@@ -34,9 +51,10 @@ returns-clause-shown g c =
     ((all : List Row) × Shown c.args.query.now (bound c.args.params.now) (state g.S.Store old)
     (state g.S.Store new) all × has all) = λ clean.
     (let early : HasCleanDisk (state g.S.Store first) = omega (arith, clean, c.hand_all.ensures.doubt) in
-    shown_if g.S.Store c.args.query.now (bound c.args.params.now) old c.requires.ready
-    c.requires.plain (omega (arith, early, c.in_ok-rows.ensures.survives.clean)) first new
-    (c.in_ok-rows.ensures.begun early)
+    handed_after g.S.Store c.args.query.now c.in_ok-statement.statement.text (bound c.args.params.now)
+    old c.prepare.new.self c.requires.ready c.requires.plain c.in_ok-statement.ensures.ok
+    c.prepare.ensures.survives first early c.in_ok-rows.ensures.survives
+    (c.in_ok-rows.ensures.begun early) new
     (g.T.TakeRow.has_taken c.args.taker.now) has c.requires.fresh c.hand_all.result
     (c.hand_all.ensures.handed clean)) in
     search rules
@@ -50,9 +68,10 @@ returns-clause-open g c =
     (IsTrue (state g.S.Store old).is_open) = λ clean.
     (let early : HasCleanDisk (state g.S.Store first) = omega (arith, clean, c.hand_all.ensures.doubt) in
     open_on c.hand_all.result (state g.S.Store old)
-    (begun g.S.Store c.args.query.now (bound c.args.params.now) old c.requires.ready
-    c.requires.plain (omega (arith, early, c.in_ok-rows.ensures.survives.clean)) first
-    (c.in_ok-rows.ensures.begun early)).1.0.was_open) in
+    (was_prepared g.S.Store c.args.query.now c.in_ok-statement.statement.text
+    (bound c.args.params.now) old c.prepare.new.self c.requires.ready c.requires.plain
+    c.in_ok-statement.ensures.ok c.prepare.ensures.survives first early c.in_ok-rows.ensures.survives
+    (c.in_ok-rows.ensures.begun early))) in
     search rules
 
 pub returns-clause-kept : goal.returns-clause-kept
@@ -65,8 +84,21 @@ returns-clause-kept g c =
     let it : HasCleanDisk (state g.S.Store new) → IsTrue (state g.S.Store new).is_open
     → ShowsAsBefore g.S.Store old new = λ clean live.
     (let early : HasCleanDisk (state g.S.Store first) = omega (arith, clean, c.hand_all.ensures.doubt) in
-    if_either g.S.Store old new settled live
-    (left_then g.S.Store c.args.query.now (bound c.args.params.now) old c.requires.ready
-    c.requires.plain (omega (arith, early, c.in_ok-rows.ensures.survives.clean)) first new
-    (c.in_ok-rows.ensures.begun early) (c.hand_all.ensures.left clean))) in
+    kept_after g.S.Store c.args.query.now c.in_ok-statement.statement.text (bound c.args.params.now)
+    old c.prepare.new.self c.requires.ready c.requires.plain c.in_ok-statement.ensures.ok
+    c.prepare.ensures.survives first early c.in_ok-rows.ensures.survives
+    (c.in_ok-rows.ensures.begun early) new settled live (c.hand_all.ensures.left clean)) in
+    search rules
+
+pub returns-clause-spared : goal.returns-clause-spared
+returns-clause-spared g c =
+    let old = c.args.connection.now in
+    let first = c.in_ok-rows.rows.conn.now in
+    let new = c.hand_all.new.rows.conn.now in
+    let it : Spares g.S.Store old new =
+    spared_then g.S.Store old first new c.hand_all.ensures.doubt
+    (spared_handed g.S.Store c.args.query.now c.in_ok-statement.statement.text
+    (bound c.args.params.now) old c.prepare.new.self c.requires.ready c.requires.plain
+    c.in_ok-statement.ensures.ok c.prepare.ensures.survives first c.in_ok-rows.ensures.survives)
+    c.hand_all.ensures.spared in
     search rules
