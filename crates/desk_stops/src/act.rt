@@ -16,11 +16,19 @@ use volume4d::{Area, Footprint, Volume, Window};
 /// EXTENT is `LOWER UPPER START END TOKEN`: decimetres, Unix seconds and a cell.
 #[derive(Debug, Drop)]
 pub enum Act {
-    /// `store enrol OPERATOR CEILING`, `store put OPERATOR ID PRIORITY EXTENT`, `store close OPERATOR ID`,
-    /// `store clear OPERATOR ID ID`.
+    /// `store enrol OPERATOR CEILING`, `store put OPERATOR ID PRIORITY EXTENT`, `store close OPERATOR ID`.
     Apply(Change),
+    /// `store clear OPERATOR ID ID`.
+    ClearBoth {
+        operator: Operator,
+        one: PlanId,
+        other: PlanId,
+    },
     /// `desk enrol OPERATOR CEILING`.
-    Enrol { operator: Operator, ceiling: u32 },
+    Enrol {
+        operator: Operator,
+        ceiling: u32,
+    },
     /// `desk put OPERATOR ID PRIORITY EXTENT`, `desk delete OPERATOR ID`, `desk clear OPERATOR EXTENT`.
     Call(Asked),
 }
@@ -29,6 +37,11 @@ impl Act {
     /// The change that some words ask.
     pub fn parse(alloc: Global, words: &[&str]) -> anyhow::Result<Act> {
         match words {
+            ["store", "clear", operator, one, other] => Ok(Act::ClearBoth {
+                operator: operator_of(operator)?,
+                one: id_of(one)?,
+                other: id_of(other)?,
+            }),
             ["store", kind, operator, words @ ..] => {
                 let operator = operator_of(operator)?;
                 Ok(Act::Apply(change_of(alloc, kind, operator, words)?))
@@ -66,10 +79,6 @@ fn change_of(
         ("close", [id]) => Ok(Change::Close {
             operator,
             id: id_of(id)?,
-        }),
-        ("clear", [one, other]) => Ok(Change::Clear {
-            operator,
-            ids: vec![in alloc; id_of(one)?, id_of(other)?]?,
         }),
         _ => None.context("a change of no known form"),
     }
@@ -127,19 +136,16 @@ fn volume_of(alloc: Global, extent: &[&str]) -> anyhow::Result<Volume> {
 }
 
 fn window_of(lower: &str, upper: &str, start: &str, end: &str) -> anyhow::Result<Window> {
-    Window::try_new(
-        lower.parse()?,
-        upper.parse()?,
-        start.parse()?,
-        end.parse()?,
-    )
-    .ok()
-    .context("no window")
+    Window::try_new(lower.parse()?, upper.parse()?, start.parse()?, end.parse()?)
+        .ok()
+        .context("no window")
 }
 
 // The footprint of one cell.
 fn footprint_of(alloc: Global, token: &str) -> anyhow::Result<Footprint> {
-    let cell = CellId::from_token(token.as_bytes()).ok().context("no cell")?;
+    let cell = CellId::from_token(token.as_bytes())
+        .ok()
+        .context("no cell")?;
     Ok(Footprint::Cells(vec![in alloc; cell]?))
 }
 

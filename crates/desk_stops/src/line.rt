@@ -9,6 +9,8 @@ use std::alloc::Global;
 pub enum Line {
     /// `given CHANGE`: the change is made, and is there for all that follows.
     Given(Act),
+    /// `open`: the files are stopped while they are opened.
+    Open,
     /// `stop NAME CHANGE`: the change is stopped at each call of the disk, and is not there for what follows.
     Stop { name: String, act: Act },
 }
@@ -22,6 +24,7 @@ impl Line {
         let words: Vec<&str> = text.split(' ').collect(alloc)?;
         match words.as_slice() {
             ["given", change @ ..] => Ok(Some(Line::Given(Act::parse(alloc, change)?))),
+            ["open"] => Ok(Some(Line::Open)),
             ["stop", name, change @ ..] => Ok(Some(Line::Stop {
                 name: name.to_string(alloc)?,
                 act: Act::parse(alloc, change)?,

@@ -20,32 +20,42 @@ pub struct Stop {
 /// When a stop came.
 #[derive(Clone, Copy, Debug, PartialEq, Eq)]
 pub enum Came {
-    Opening,
+    /// Before the change was answered.
     Unanswered,
+    /// After it was answered.
     Answered,
     /// There were fewer calls.
     Never,
 }
 
+/// Opens files of which one stops: what is left, or None if they open before that.
+pub fn open_stopped(alloc: Global, image: &Image, stop: Stop) -> anyhow::Result<Option<Content>> {
+    match open(alloc, image.stopping(alloc, stop.stopped, stop.calls)?) {
+        Ok(_) => Ok(None),
+        Err(files) => Ok(Some(content_left(alloc, files, stop.left)?)),
+    }
+}
+
 /// Makes a change over files of which one stops: when that came, and what is left.
-pub fn play_stopped(
+pub fn change_stopped(
     alloc: Global,
     image: &Image,
     act: &Act,
     stop: Stop,
 ) -> anyhow::Result<(Came, Content)> {
     let files = image.stopping(alloc, stop.stopped, stop.calls)?;
-    let (came, files) = play_over(alloc, files, act)?;
-    let image = Image::left(alloc, files, stop.left)?;
-    Ok((came, content_of(alloc, &image)?))
+    let (came, files) = change_over(alloc, files, act)?;
+    Ok((came, content_left(alloc, files, stop.left)?))
+}
+
+// What files hold after a stop.
+fn content_left(alloc: Global, files: FusedFiles, left: Left) -> anyhow::Result<Content> {
+    let image = Image::left(alloc, files, left)?;
+    content_of(alloc, &image)
 }
 
 // Makes a change over files: when one stopped, and the files.
-fn play_over(
-    alloc: Global,
-    files: FusedFiles,
-    act: &Act,
-) -> anyhow::Result<(Came, FusedFiles)> {
+fn change_over(alloc: Global, files: FusedFiles, act: &Act) -> anyhow::Result<(Came, FusedFiles)> {
     match open(alloc, files) {
         Ok(store) => {
             let (store, answered) = make(alloc, store, act)?;
@@ -53,7 +63,7 @@ fn play_over(
             let came = when(is_stopped(&mut files), answered);
             Ok((came, files))
         }
-        Err(files) => Ok((Came::Opening, files)),
+        Err(files) => Ok((Came::Unanswered, files)),
     }
 }
 

@@ -4,8 +4,8 @@ use crate::act::Act;
 use crate::content::Content;
 use crate::disk::{Image, Left, Stopped};
 use crate::line::Line;
-use crate::round::{Came, Stop, content_of, image_after, play_stopped};
-use crate::tally::Counts;
+use crate::round::{Stop, change_stopped, content_of, image_after, open_stopped};
+use crate::tally::{Counts, Edges, Sums};
 use anyhow::bail;
 use std::alloc::Global;
 use std::io::Write;
@@ -25,65 +25,88 @@ const WAYS: [(Stopped, Left); 4] = [
 #[derive(Drop)]
 pub struct Trial {
     image: Image,
+    // how many calls of each file it takes to open them, or less
+    opening: Opening,
     alloc: Global,
+}
+
+#[derive(Clone, Copy, Debug)]
+struct Opening {
+    log: u64,
+    database: u64,
 }
 
 impl Trial {
     /// Files with no bytes.
-    pub fn new(alloc: Global) -> anyhow::Result<Trial> {
-        Ok(Trial {
+    pub fn new(alloc: Global) -> Trial {
+        Trial {
             image: Image::empty(alloc),
+            opening: Opening::unknown(),
             alloc,
-        })
+        }
     }
 
     /// Does what a line says, and prints what came of it.
     pub fn play<W: Write>(&mut self, line: &Line, output: &mut W) -> anyhow::Result<()> {
         match line {
             Line::Given(act) => self.change(act),
+            Line::Open => self.open(output),
             Line::Stop { name, act } => self.stop(name, act, output),
         }
     }
 
     fn change(&mut self, act: &Act) -> anyhow::Result<()> {
         self.image = image_after(self.alloc, &self.image, act)?;
+        self.opening = Opening::unknown();
         Ok(())
+    }
+
+    // Stops the files while they are opened, in each way.
+    fn open<W: Write>(&mut self, output: &mut W) -> anyhow::Result<()> {
+        let before = content_of(self.alloc, &self.image)?;
+        writeln!(output, "opening: {} plans", before.plans())?;
+        for (stopped, left) in WAYS {
+            let counts = self.stop_opening(&before, stopped, left)?;
+            writeln!(output, "  {stopped}, {left}: {counts}")?;
+            self.opening.set(stopped, counts.all());
+        }
+        Ok(())
+    }
+
+    // Stops the files at each call of one of them until they are open.
+    fn stop_opening(
+        &self,
+        before: &Content,
+        stopped: Stopped,
+        left: Left,
+    ) -> anyhow::Result<Counts> {
+        let mut counts = Counts::new();
+        for calls in 0..MOST_CALLS {
+            let stop = Stop {
+                stopped,
+                left,
+                calls,
+            };
+            match open_stopped(self.alloc, &self.image, stop)? {
+                Some(content) => counts.count(&content, before, before),
+                None => return Ok(counts),
+            }
+        }
+        bail!("there is no end of calls")
     }
 
     // Stops a change in each way.
     fn stop<W: Write>(&self, name: &str, act: &Act, output: &mut W) -> anyhow::Result<()> {
         let edges = Edges::of(self.alloc, &self.image, act)?;
-        writeln!(
-            output,
-            "{name}: {} plans, then {}",
-            edges.before.plans(),
-            edges.after.plans()
-        )?;
+        writeln!(output, "{name}: {edges}")?;
         for (stopped, left) in WAYS {
-            self.stop_so(act, &edges, stopped, left, output)?;
+            let sums = self.stop_each(act, &edges, stopped, left)?;
+            writeln!(output, "  {stopped}, {left}: {sums}")?;
         }
         Ok(())
     }
 
-    // Stops a change in one way.
-    fn stop_so<W: Write>(
-        &self,
-        act: &Act,
-        edges: &Edges,
-        stopped: Stopped,
-        left: Left,
-        output: &mut W,
-    ) -> anyhow::Result<()> {
-        let sums = self.stop_each(act, edges, stopped, left)?;
-        writeln!(
-            output,
-            "  {stopped}, {left}: opening {}; unanswered {}; answered {}",
-            sums.opening, sums.unanswered, sums.answered
-        )?;
-        Ok(())
-    }
-
-    // Stops a change at each call of a file.
+    // Stops a change at each call of a file, from the first at which the files are open.
     fn stop_each(
         &self,
         act: &Act,
@@ -92,65 +115,40 @@ impl Trial {
         left: Left,
     ) -> anyhow::Result<Sums> {
         let mut sums = Sums::new();
-        for calls in 0..MOST_CALLS {
+        for calls in self.opening.of(stopped)..MOST_CALLS {
             let stop = Stop {
                 stopped,
                 left,
                 calls,
             };
-            let (came, content) = play_stopped(self.alloc, &self.image, act, stop)?;
+            let (came, content) = change_stopped(self.alloc, &self.image, act, stop)?;
             if !sums.count(came, &content, edges) {
                 return Ok(sums);
             }
         }
-        bail!("there is no end of calls");
+        bail!("there is no end of calls")
     }
 }
 
-// The contents before a change and after it.
-#[derive(Drop)]
-struct Edges {
-    before: Content,
-    after: Content,
-}
-
-impl Edges {
-    fn of(alloc: Global, image: &Image, act: &Act) -> anyhow::Result<Edges> {
-        let before = content_of(alloc, image)?;
-        let after = content_of(alloc, &image_after(alloc, image, act)?)?;
-        if before == after {
-            bail!("a change that changes nothing");
-        }
-        Ok(Edges { before, after })
-    }
-}
-
-// Stops by when they came.
-#[derive(Clone, Copy, Debug)]
-struct Sums {
-    opening: Counts,
-    unanswered: Counts,
-    answered: Counts,
-}
-
-impl Sums {
-    fn new() -> Sums {
-        Sums {
-            opening: Counts::new(),
-            unanswered: Counts::new(),
-            answered: Counts::new(),
+impl Opening {
+    fn unknown() -> Opening {
+        Opening {
+            log: 0,
+            database: 0,
         }
     }
 
-    // Counts a stop, unless it never came.
-    fn count(&mut self, came: Came, content: &Content, edges: &Edges) -> bool {
-        let counts = match came {
-            Came::Opening => &mut self.opening,
-            Came::Unanswered => &mut self.unanswered,
-            Came::Answered => &mut self.answered,
-            Came::Never => return false,
-        };
-        counts.count(content, &edges.before, &edges.after);
-        true
+    fn of(&self, stopped: Stopped) -> u64 {
+        match stopped {
+            Stopped::Log => self.log,
+            Stopped::Database => self.database,
+        }
+    }
+
+    fn set(&mut self, stopped: Stopped, calls: u64) {
+        match stopped {
+            Stopped::Log => self.log = calls,
+            Stopped::Database => self.database = calls,
+        }
     }
 }
