@@ -109,22 +109,57 @@ pub const LISTS: [Request; 2] = [
 pub const CALLS: [Asked; 14] = [
     Asked::Enrol("alfa"),
     Asked::Enrol("bravo"),
-    Asked::Answer(put("alfa", FIRST, 10, ALFAS_CELL)),
-    Asked::Answer(put("bravo", FIRST, 10, BRAVOS_FACE)),
-    Asked::Answer(put("bravo", FIRST, 20, BRAVOS_FACE)),
-    Asked::Answer(put("alfa", SECOND, 10, ALFAS_STRIP)),
+    Asked::Answer(Request::Put {
+        operator: "alfa",
+        id: FIRST,
+        priority: 10,
+        volume: ALFAS_CELL,
+    }),
+    Asked::Answer(Request::Put {
+        operator: "bravo",
+        id: FIRST,
+        priority: 10,
+        volume: BRAVOS_FACE,
+    }),
+    Asked::Answer(Request::Put {
+        operator: "bravo",
+        id: FIRST,
+        priority: 20,
+        volume: BRAVOS_FACE,
+    }),
+    Asked::Answer(Request::Put {
+        operator: "alfa",
+        id: SECOND,
+        priority: 10,
+        volume: ALFAS_STRIP,
+    }),
     Asked::Answer(Request::List { operator: "alfa" }),
     Asked::Answer(Request::Show {
         operator: "alfa",
         id: FIRST,
     }),
     Asked::AnswerBoth(
-        put("alfa", SECOND, 10, ALFAS_STRIP),
+        Request::Put {
+            operator: "alfa",
+            id: SECOND,
+            priority: 10,
+            volume: ALFAS_STRIP,
+        },
         Request::List { operator: "bravo" },
     ),
-    Asked::Answer(put("alfa", FIRST, 25, ALFAS_CELL)),
+    Asked::Answer(Request::Put {
+        operator: "alfa",
+        id: FIRST,
+        priority: 25,
+        volume: ALFAS_CELL,
+    }),
     Asked::RunBoth(
-        put("alfa", FIRST, 25, ALFAS_CELL),
+        Request::Put {
+            operator: "alfa",
+            id: FIRST,
+            priority: 25,
+            volume: ALFAS_CELL,
+        },
         Request::Delete {
             operator: "bravo",
             id: SECOND,
@@ -140,15 +175,6 @@ pub const CALLS: [Asked; 14] = [
     }),
     Asked::Answer(Request::Status { operator: "bravo" }),
 ];
-
-const fn put(operator: &'static str, id: &'static str, priority: u32, volume: Extent) -> Request {
-    Request::Put {
-        operator,
-        id,
-        priority,
-        volume,
-    }
-}
 
 impl Request {
     /// The bytes of the request.

@@ -16,10 +16,10 @@ returns-clause-value g c = λ honest yes.
     let other = c.args.other.now in
     let w = g.S.PlanStore.content c.fits_close-2.new.store in
     let first = c.in_ok-fits_close.ensures.value (was_honest c.fits_close-2.ensures.doubt honest)
-        c.if-not-branch.false in
+    c.if-not-branch.false in
     let second = c.in_ok-fits_close-2.ensures.value honest c.if-not-branch-2.false in
     let kept = subst (λ w. IsSome (stored_of one (plans_of o w))) (sym c.fits_close-2.ensures.same)
-        first.1 in
+    first.1 in
     let differ : is_eq (text_cmp one other) ≡ false = search rules in (
       second.0,
       All-cons (λ id. IsSome (stored_of id (plans_of o w))) one (other ∷ []) kept
