@@ -10,6 +10,8 @@ from faults.scenario import MOMENT, OPERATORS, READING
 
 TOP = pathlib.Path(__file__).resolve().parent.parent.parent
 PROGRAM = os.environ.get("PROGRAM", str(TOP / "crates" / "uss_desk" / "out" / "uss_desk"))
+# Makes calls that grow, and makes each again if it was refused.
+CALLS = TOP / "crates" / "desk_refusals"
 PATIENCE = 300
 WHOLE = "PRAGMA integrity_check; PRAGMA foreign_key_check;"
 # Each allocation is one mmap of its own: a mapping that is refused is a growth that is refused.
@@ -48,11 +50,11 @@ def run(words, given=b""):
     return finish([PROGRAM, *words], given)
 
 
-def run_traced(words, given, options):
-    """Runs the program under strace with these options."""
+def run_traced(words, given, options, program=PROGRAM):
+    """Runs the program, or another one, under strace with these options."""
     with tempfile.TemporaryDirectory(prefix="faults-") as room:
         trace = pathlib.Path(room) / "trace"
-        ran = finish(["strace", "-qq", "-o", str(trace), *options, PROGRAM, *words], given)
+        ran = finish(["strace", "-qq", "-o", str(trace), *options, program, *words], given)
         lines = trace.read_text(errors="replace").splitlines() if trace.exists() else []
     return ran._replace(trace=lines)
 
