@@ -1,15 +1,16 @@
 -- What stands after a change was committed.
-use Rattle.std.proofs.Common.{◌≡◌, ℕ, pos, ◌≤◌, false, List, ◌∷◌, map, arith, IsTrue, subst}
+use Rattle.std.proofs.Common.{◌≡◌, inl, inr, ℕ, pos, ◌≤◌, false, List, ◌∷◌, map, arith, IsTrue, subst}
 use Rattle.sqlite_trees.specs.declared.store.Store.{Ghosts}
 use Rattle.sqlite_trees.specs.View.{doubt}
 use Rattle.sqlite.specs.State.{HasCleanDisk}
+use Rattle.sqlite.specs.Tree.{Trees}
 use Rattle.sqlite.specs.Held.{Held, state}
 use Rattle.sqlite_value.specs.declared.value.Value.TheVariants.{Int}
 use Rattle.sqlite_value.specs.Order.{Row, column}
 use Rattle.desk_sql.specs.Rows as sql
 use Rattle.desk_sql.specs.Rows.{Tables, PutsOperator, ClosesPlan, tables_of}
 use Rattle.desk_sql.specs.Batches.{PutsPlan, RemovesPlans}
-use Rattle.desk_sql.specs.Effects.{Commits}
+use Rattle.desk_sql.specs.Effects.{Commits, MayMake, IsMadeOf, Spares}
 use Rattle.desk_rules.specs.Limits.{max_priority}
 use Rattle.desk_rules.specs.Name.{is_operator_name}
 use Rattle.desk_store.specs.World.{World}
@@ -23,6 +24,7 @@ use Rattle.desk_tables.specs.Tables.{id_text, usage_number, aircraft_number, pla
 use Rattle.desk_tables.specs.Lookups.{own_of}
 use Rattle.desk_tables.specs.TableChanges.{ChangesRows, PutsRows, ClosesRows, ClearsRows, IsWithin}
 use Rattle.desk_tables.specs.Store.{Stands}
+use Rattle.desk_tables.specs.Leaving.{HasWorld, MayHave}
 use Rattle.desk_tables.proofs.ChangeLemmas.{change_tables, change_content}
 use Rattle.desk_tables.proofs.SetLemmas.{operator_is_put}
 use Rattle.desk_tables.proofs.PutLemmas.{put_is_put}
@@ -155,3 +157,88 @@ module _ {S : Type 0} (g : Ghosts S) (old new : Held S) (w : World) (stood : Sta
         (λ clean. subst (λ ts. Commits g old new (RemovesPlans operator ts)) are (done clean)) fits
         within
         (λ one two clean h t e. asks one two (removal_is_clear operator ids w one two t e))
+
+-- ---- what a crash leaves of such a transaction
+
+-- a reader before it leaves no more than before
+pub left_before : {S : Type 0} (g : Ghosts S) (old mid new : Held S) (w : World)
+    → doubt (state g mid).is_clean ≤ doubt (state g new).is_clean → Spares g old mid → MayHave g mid new w
+    → MayHave g old new w
+left_before g old mid new w rises spared last clean db left = elim (last clean db left) [
+  | inl before ↦ inl (spared (omega (arith, rises, clean)) db before)
+  | inr has ↦ inr has
+]
+
+module _ {S : Type 0} (g : Ghosts S) (old new : Held S) (w : World) (stood : Stands g old w)
+    (rises : doubt (state g old).is_clean ≤ doubt (state g new).is_clean) where
+  left_changed : (change : Change) (Rows : Tables → Tables → Type 0) → MayMake g old new Rows
+      → (HasCleanDisk (state g old) → IsFitting change w) → IsWithin change
+      → ((one two : Tables) → HasCleanDisk (state g new) → IsContent w → AreTables one w
+      → Rows one two → ChangesRows change one two) → MayHave g old new (changed_by change w)
+  left_changed change Rows makes fits within asks clean db left = elim (makes clean db left) [
+    | inl before ↦ inl before
+    | inr made ↦ inr (has_changed clean db made)
+  ] where
+    has_changed : HasCleanDisk (state g new) → (db : Trees) → IsMadeOf g old Rows db
+        → HasWorld db (changed_by change w)
+    has_changed clean db made =
+        let start : HasCleanDisk (state g old) = omega (arith, rises, clean) in
+        let before = stood.standing start made.was_open in
+        let one = tables_of (state g old).now.trees in
+        let two = tables_of db in
+        record {
+          content = change_content change w before.content (fits start) within;
+          desk = made.desk;
+          tables = change_tables change w one two before.content within before.tables
+              (asks one two clean before.content before.tables made.changed);
+        }
+
+  pub left_enrolled : (name : List ℕ) (ceiling : ℕ) → MayMake g old new (PutsOperator name ceiling)
+      → IsTrue (is_operator_name name) → (HasCleanDisk (state g old) → ceiling ≤ max_priority)
+      → MayHave g old new (changed_by (Enrol name ceiling) w)
+  left_enrolled name ceiling makes valid low =
+      left_changed (Enrol name ceiling) (PutsOperator name ceiling) makes
+      (λ clean. low_fits name ceiling w (low clean)) (named name ceiling valid)
+      (λ one two clean h t e. enrolled name ceiling w one two h t e)
+
+  pub left_put : (operator : List ℕ) (row : PlanRow) (text : List ℕ) (volumes spans : List Row)
+      → text ≡ id_text row.id → volumes ≡ area_rows (filed_by operator row)
+      → ArePlanSpanRows (filed_by operator row) spans → IsPlan row
+      → MayMake g old new (PutsPlan operator text
+      (sql.plan_row operator text row.priority (usage_number row.usage)
+      (aircraft_number row.aircraft)) volumes spans)
+      → (HasCleanDisk (state g old) → IsFitting (Put operator row) w)
+      → MayHave g old new (changed_by (Put operator row) w)
+  left_put operator row text volumes spans is are span_rows plan makes fits =
+      left_changed (Put operator row) (PutsPlan operator (id_text row.id)
+      (plan_row (filed_by operator row)) (area_rows (filed_by operator row)) spans)
+      (subst (λ rows. MayMake g old new (PutsPlan operator (id_text row.id)
+      (plan_row (filed_by operator row)) rows spans)) are
+      (subst (λ t. MayMake g old new (PutsPlan operator t
+      (sql.plan_row operator t row.priority (usage_number row.usage) (aircraft_number row.aircraft))
+      volumes spans)) is makes))
+      fits (within_put operator row plan) (λ one two clean h t e. put_asked operator row one two
+      (put_is_put (filed_by operator row) w one two spans h plan t span_rows e))
+
+  pub left_closed : (operator id : List ℕ) (priority aircraft : ℕ) (heads rest : List Row) (head : Row)
+      → IsId id → column head 2 ≡ Int (pos priority) → column head 4 ≡ Int (pos aircraft)
+      → (HasCleanDisk (state g new) → heads ≡ plan_rows (own_of operator id w)) → heads ≡ head ∷ rest
+      → MayMake g old new (ClosesPlan operator (id_text id) priority aircraft)
+      → (HasCleanDisk (state g old) → IsFitting (Close operator id) w)
+      → MayHave g old new (changed_by (Close operator id) w)
+  left_closed operator id priority aircraft heads rest head valid at_priority at_aircraft are some makes
+      fits =
+      left_changed (Close operator id) (ClosesPlan operator (id_text id) priority aircraft) makes fits
+      (within_close operator id valid)
+      (λ one two clean h t e. close_asked operator id one two
+      (close_is_close operator id head priority aircraft at_priority at_aircraft w one two heads rest h
+      valid t (are clean) some e))
+
+  pub left_cleared : (change : Change) (operator : List ℕ) (ids texts : List (List ℕ)) → IsWithin change
+      → ((one two : Tables) → ClearsRows operator ids one two → ChangesRows change one two)
+      → texts ≡ map id_text ids → MayMake g old new (RemovesPlans operator texts)
+      → (HasCleanDisk (state g old) → IsFitting change w) → MayHave g old new (changed_by change w)
+  left_cleared change operator ids texts within asks are makes fits =
+      left_changed change (RemovesPlans operator (map id_text ids))
+      (subst (λ ts. MayMake g old new (RemovesPlans operator ts)) are makes) fits within
+      (λ one two clean h t e. asks one two (removal_is_clear operator ids w one two t e))

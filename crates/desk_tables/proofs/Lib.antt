@@ -27,3 +27,4 @@ pub mod OpeningLemmas
 pub mod UnreadLemmas
 pub mod ExactLemmas
 pub mod ShortLemmas
+pub mod LeavingLemmas

@@ -12,3 +12,4 @@ pub mod Lengths
 pub mod Records
 pub mod Opening
 pub mod Files
+pub mod Leaving

@@ -4,9 +4,11 @@ ghost use Rattle.std.specs.Prelude.{◌≡◌, ◌≤◌, IfErr};
 ghost use Rattle.desk_store.specs.Faults.{HasRisen};
 ghost use Rattle.desk_tables.specs.Store.{Stands};
 ghost use Rattle.desk_tables.specs.Lengths.{Bounds};
+ghost use Rattle.desk_tables.specs.Leaving.{IsSettledAt};
 
 use crate::changing::changes;
 use crate::kept::Kept;
+use crate::laws::one_content;
 use crate::reading::readers;
 use desk_rules::operator::Operator;
 use desk_rules::plan::PlanRow;
@@ -60,8 +62,11 @@ impl<S: Alter> SqliteStore<S> {
     ) -> SqliteStore<S>
         requires stands { Stands S.Store connection kept.world }
         requires bounded { Bounds longest kept.world }
-        ensures { result ≡ record { held = connection; world = kept.world; faults = 0 } }
+        ensures value { result ≡ record { held = connection; world = kept.world; faults = 0 } }
+        ensures left { IsSettledAt S.Store connection kept.world }
     {
+        let _settled = connection.is_autocommit();
+        one_content();
         SqliteStore {
             connection,
             kept,
@@ -83,12 +88,15 @@ impl<S: Alter> SqliteStore<S> {
 impl<S: Alter> PlanStore for SqliteStore<S> {
     ghost use Rattle.sqlite_trees.specs.View.{doubt};
     ghost use Rattle.sqlite.specs.Held.{state};
+    ghost use Rattle.desk_tables.specs.Leaving.{MayLeave};
 
     ghost content = { λ s. s.world };
 
     ghost doubt = { λ s. doubt (state S.Store s.held).is_clean };
 
     ghost faults = { λ s. s.faults };
+
+    ghost may_leave = { λ s found. MayLeave S.Store s.held found };
 
     fn ceiling(&mut self, operator: &Operator) -> Result<Option<u32>, StoreFault> {
         let answer = readers::ceiling(&mut self.connection, &self.kept, operator);
@@ -131,6 +139,7 @@ impl<S: Alter> PlanStore for SqliteStore<S> {
     }
 
     fn apply(&mut self, change: &Change) -> Result<(), StoreFault> {
+        one_content();
         match changes::make(self.alloc, &mut self.connection, &self.kept, change) {
             Ok(longest) => {
                 self.kept = Kept::after(&self.kept, change);

@@ -1,6 +1,6 @@
 //! Changes of a store's tables.
 
-ghost use Rattle.std.specs.Prelude.{◌≡◌, ◌≤◌, ◌<◌, ◌^◌, pos, IfOk, OnOk, OnErr};
+ghost use Rattle.std.specs.Prelude.{◌≡◌, ◌≤◌, ◌<◌, ◌^◌, pos, IfOk, OnOk, OnErr, IsTrue};
 ghost use Rattle.sqlite_value.specs.declared.value.Value.TheVariants.{Int};
 ghost use Rattle.sqlite_value.specs.Order.{column};
 ghost use Rattle.sqlite_trees.specs.View.{doubt};
@@ -11,6 +11,7 @@ ghost use Rattle.desk_store.specs.StoreChange.{changed_by, IsFitting};
 ghost use Rattle.desk_store.specs.declared.change.Change.TheVariants as change;
 ghost use Rattle.desk_tables.specs.Store.{Stands};
 ghost use Rattle.desk_tables.specs.Lengths.{IsShortPlan, BringsShort};
+ghost use Rattle.desk_tables.specs.Leaving.{MayHave};
 
 use crate::changing::records::{
     aircraft_number, asked_of, longest_of, span_rows, texts_of, usage_number, volume_rows,
@@ -49,6 +50,12 @@ pub(crate) fn make<S: Alter>(
     ensures short { IfOk result (λ longest. BringsShort longest change.now × (longest < 2 ^ 63)) }
     ensures doubt { doubt (state S.Store connection.old).is_clean
         ≤ doubt (state S.Store connection.new).is_clean }
+    ensures crash { MayHave S.Store connection.old connection.new
+        (changed_by change.now kept.now.world) }
+    ensures open { HasCleanDisk (state S.Store connection.new)
+        → OnOk result (IsTrue (state S.Store connection.new).is_open) }
+    ensures committed { HasCleanDisk (state S.Store connection.new) → OnOk result
+        ((state S.Store connection.new).now ≡ (state S.Store connection.new).committed) }
 {
     match change {
         Change::Enrol { operator, ceiling } => enrol(connection, kept, operator, *ceiling)?,
@@ -77,6 +84,12 @@ pub(crate) fn enrol<S: Alter>(
     ensures err { OnErr result (Stands S.Store connection.new kept.now.world) }
     ensures doubt { doubt (state S.Store connection.old).is_clean
         ≤ doubt (state S.Store connection.new).is_clean }
+    ensures crash { MayHave S.Store connection.old connection.new
+        (changed_by (change.Enrol operator.now ceiling) kept.now.world) }
+    ensures open { HasCleanDisk (state S.Store connection.new)
+        → OnOk result (IsTrue (state S.Store connection.new).is_open) }
+    ensures committed { HasCleanDisk (state S.Store connection.new) → OnOk result
+        ((state S.Store connection.new).now ≡ (state S.Store connection.new).committed) }
 {
     match put_operator(connection, operator.as_str(), ceiling) {
         Ok(()) => Ok(()),
@@ -102,6 +115,12 @@ fn put<S: Alter>(
     ensures short { IfOk result (λ longest. IsShortPlan longest row.now × (longest < 2 ^ 63)) }
     ensures doubt { doubt (state S.Store connection.old).is_clean
         ≤ doubt (state S.Store connection.new).is_clean }
+    ensures crash { MayHave S.Store connection.old connection.new
+        (changed_by (change.Put operator.now row.now) kept.now.world) }
+    ensures open { HasCleanDisk (state S.Store connection.new)
+        → OnOk result (IsTrue (state S.Store connection.new).is_open) }
+    ensures committed { HasCleanDisk (state S.Store connection.new) → OnOk result
+        ((state S.Store connection.new).now ≡ (state S.Store connection.new).committed) }
 {
     let mut buffer = [0u8; 36];
     let id = row.id.encode(&mut buffer);
@@ -137,6 +156,12 @@ fn close<S: Alter>(
     ensures err { OnErr result (Stands S.Store connection.new kept.now.world) }
     ensures doubt { doubt (state S.Store connection.old).is_clean
         ≤ doubt (state S.Store connection.new).is_clean }
+    ensures crash { MayHave S.Store connection.old connection.new
+        (changed_by (change.Close operator.now id.now) kept.now.world) }
+    ensures open { HasCleanDisk (state S.Store connection.new)
+        → OnOk result (IsTrue (state S.Store connection.new).is_open) }
+    ensures committed { HasCleanDisk (state S.Store connection.new) → OnOk result
+        ((state S.Store connection.new).now ≡ (state S.Store connection.new).committed) }
 {
     let heads = heads(connection, kept, operator, id)?;
     let Some(head) = heads.first() else {
@@ -177,6 +202,12 @@ fn clear<S: Alter>(
     ensures err { OnErr result (Stands S.Store connection.new kept.now.world) }
     ensures doubt { doubt (state S.Store connection.old).is_clean
         ≤ doubt (state S.Store connection.new).is_clean }
+    ensures crash { MayHave S.Store connection.old connection.new
+        (changed_by (change.Clear operator.now ids.now) kept.now.world) }
+    ensures open { HasCleanDisk (state S.Store connection.new)
+        → OnOk result (IsTrue (state S.Store connection.new).is_open) }
+    ensures committed { HasCleanDisk (state S.Store connection.new) → OnOk result
+        ((state S.Store connection.new).now ≡ (state S.Store connection.new).committed) }
 {
     let texts = texts_of(alloc, ids)?;
     match clear_plans(connection, operator.as_str(), &texts) {

@@ -7,6 +7,7 @@ ghost use Rattle.desk_sql.specs.Schema.{blank_schema};
 ghost use Rattle.desk_sql.specs.Making.{IsAt};
 ghost use Rattle.desk_sql.specs.Effects.{IsKept};
 ghost use Rattle.desk_tables.specs.Opening.{BeginsWith, ShowsNoDesk, BlamesDatabase};
+ghost use Rattle.desk_tables.specs.Leaving.{IsSettledAt};
 
 use crate::opening::exact::RowFault;
 use crate::opening::finding::{made_in, world_in};
@@ -116,6 +117,7 @@ impl<S: Alter> SqliteStore<S> {
         requires settled { connection.in_transaction ≡ false }
         ensures begins { IfOk result (λ store.
             BeginsWith S.Store connection store.held store.world) }
+        ensures left { IfOk result (λ store. IsSettledAt S.Store store.held store.world) }
         ensures none { IfErr result (λ refused. refused.fault ≡ OpenFault.NotADesk →
             ShowsNoDesk S.Store connection refused.connection) }
         ensures cause { IfErr result (λ refused.

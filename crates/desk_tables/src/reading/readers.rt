@@ -16,6 +16,7 @@ ghost use Rattle.desk_tables.specs.Gathering.{HasGathered};
 ghost use Rattle.desk_tables.specs.Lookups.{own_of};
 ghost use Rattle.desk_tables.specs.Store.{Stands};
 ghost use Rattle.desk_tables.specs.Lengths.{Bounds};
+ghost use Rattle.desk_sql.specs.Effects.{Spares};
 
 use crate::kept::Kept;
 use crate::reading::listing::Gather;
@@ -53,6 +54,7 @@ pub(crate) fn ceiling<S: Alter>(
     ensures stands { Stands S.Store connection.new kept.now.world }
     ensures doubt { doubt (state S.Store connection.old).is_clean
         ≤ doubt (state S.Store connection.new).is_clean }
+    ensures spared { Spares S.Store connection.old connection.new }
 {
     match operator_named(connection, operator.as_str()) {
         Ok(rows) => ceiling_in(&rows),
@@ -78,6 +80,7 @@ pub(crate) fn heads<S: Alter>(
     ensures stands { Stands S.Store connection.new kept.now.world }
     ensures doubt { doubt (state S.Store connection.old).is_clean
         ≤ doubt (state S.Store connection.new).is_clean }
+    ensures spared { Spares S.Store connection.old connection.new }
 {
     let mut buffer = [0u8; 36];
     let text = id.encode(&mut buffer);
@@ -101,6 +104,7 @@ fn volumes<S: Alter>(
     ensures stands { Stands S.Store connection.new kept.now.world }
     ensures doubt { doubt (state S.Store connection.old).is_clean
         ≤ doubt (state S.Store connection.new).is_clean }
+    ensures spared { Spares S.Store connection.old connection.new }
 {
     let mut buffer = [0u8; 36];
     let text = id.encode(&mut buffer);
@@ -129,6 +133,7 @@ pub(crate) fn plan<S: Alter>(
     ensures stands { Stands S.Store connection.new kept.now.world }
     ensures doubt { doubt (state S.Store connection.old).is_clean
         ≤ doubt (state S.Store connection.new).is_clean }
+    ensures spared { Spares S.Store connection.old connection.new }
 {
     let heads = heads(connection, kept, operator, id)?;
     let Some(head) = heads.first() else {
@@ -184,6 +189,7 @@ pub(crate) fn own_plans<S: Alter>(
     ensures stands { Stands S.Store connection.new kept.now.world }
     ensures doubt { doubt (state S.Store connection.old).is_clean
         ≤ doubt (state S.Store connection.new).is_clean }
+    ensures spared { Spares S.Store connection.old connection.new }
 {
     let mut gather = Gather::new(alloc);
     let taken = own_listing(connection, operator.as_str(), &mut gather);
@@ -206,6 +212,7 @@ pub(crate) fn own_count<S: Alter>(
     ensures stands { Stands S.Store connection.new kept.now.world }
     ensures doubt { doubt (state S.Store connection.old).is_clean
         ≤ doubt (state S.Store connection.new).is_clean }
+    ensures spared { Spares S.Store connection.old connection.new }
 {
     match plan_count(connection, operator.as_str()) {
         Ok(count) => Ok(count),
@@ -249,6 +256,7 @@ pub(crate) fn rivals<S: Alter>(
     ensures stands { Stands S.Store connection.new kept.now.world }
     ensures doubt { doubt (state S.Store connection.old).is_clean
         ≤ doubt (state S.Store connection.new).is_clean }
+    ensures spared { Spares S.Store connection.old connection.new }
 {
     let mut buffer = [0u8; 36];
     let text = id.encode(&mut buffer);

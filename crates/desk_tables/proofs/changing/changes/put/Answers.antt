@@ -2,14 +2,14 @@ use Rattle.std.proofs.Common.{ap, sym, subst, ◌∙◌, map}
 use Rattle.std.specs.List.{AllByRecursion}
 use Rattle.desk_sql.specs.Rows as sql
 use Rattle.desk_sql.specs.Batches.{PutsPlan, volume_of, span_of}
-use Rattle.desk_sql.specs.Effects.{Commits}
+use Rattle.desk_sql.specs.Effects.{Commits, MayMake}
 use Rattle.desk_store.specs.Changes.{filed_by}
 use Rattle.desk_tables.specs.Tables.{usage_number, aircraft_number, area_rows, ArePlanSpanRows}
 use Rattle.desk_tables.specs.Content.{IsBlock}
 use Rattle.desk_tables.specs.Lengths.{IsNear}
 use Rattle.desk_tables.proofs.ParseLemmas.{parsed_id}
 use Rattle.desk_tables.proofs.ShortLemmas.{plan_near}
-use Rattle.desk_tables.proofs.AfterLemmas.{stands_put}
+use Rattle.desk_tables.proofs.AfterLemmas.{stands_put, left_put}
 use Rattle.desk_tables.proofs.changing.changes.put.Goals as goal
 
 pub returns-in-Ok-clause-ok : goal.returns-in-Ok-clause-ok
@@ -57,3 +57,67 @@ returns-in-Ok-clause-short g c =
           c.deref-in-Ok.ensures.value c.longest_of.ensures.near),
       c.longest_of.ensures.small,
     )
+
+pub returns-in-Ok-clause-crash : goal.returns-in-Ok-clause-crash
+returns-in-Ok-clause-crash g c =
+    let old = c.args.connection.now in
+    let new = c.put_plan.new.connection in
+    let operator = c.args.operator.now in
+    let row = c.args.row.now in
+    let text = c.encode-id.result.now in
+    let volumes = map volume_of c.deref-2.result.now in
+    let spans = map span_of c.deref-3.result.now in
+    left_put g.S.Store old new c.args.kept.now.world c.requires.stands c.put_plan.ensures.doubt operator
+    row text volumes spans c.encode-id.ensures.text
+    (ap (map volume_of) c.deref-2.ensures.value ∙ c.in_ok-volumes.ensures
+    ∙ ap (λ name. area_rows (filed_by name row)) c.as_str.ensures.value)
+    (subst (ArePlanSpanRows (filed_by operator row)) (sym (ap (map span_of) c.deref-3.ensures.value))
+    (subst (λ name. ArePlanSpanRows (filed_by name row) (map span_of c.in_ok-spans.spans.items))
+    c.as_str-2.ensures.value c.in_ok-spans.ensures))
+    (record {
+      id = parsed_id text row.id c.encode-id.ensures.parsed;
+      volumes = c.volumes.ensures.limits;
+      each = subst (AllByRecursion IsBlock) c.volumes.ensures.value c.in_ok-asked.ensures.valid;
+    })
+    (subst (λ name. MayMake g.S.Store old new
+    (PutsPlan name text (sql.plan_row name text row.priority (usage_number row.usage)
+    (aircraft_number row.aircraft)) volumes spans)) c.as_str-3.ensures.value
+    (subst (λ usage. MayMake g.S.Store old new (PutsPlan c.as_str-3.result.now text
+    (sql.plan_row c.as_str-3.result.now text row.priority usage (aircraft_number row.aircraft)) volumes
+    spans)) c.usage_number.ensures
+    (subst (λ aircraft. MayMake g.S.Store old new (PutsPlan c.as_str-3.result.now text
+    (sql.plan_row c.as_str-3.result.now text row.priority c.usage_number.result aircraft) volumes spans))
+    c.aircraft_number.ensures c.put_plan.ensures.crash)))
+    c.requires.fits
+
+pub returns-in-Err-clause-crash : goal.returns-in-Err-clause-crash
+returns-in-Err-clause-crash g c =
+    let old = c.args.connection.now in
+    let new = c.put_plan.new.connection in
+    let operator = c.args.operator.now in
+    let row = c.args.row.now in
+    let text = c.encode-id.result.now in
+    let volumes = map volume_of c.deref-2.result.now in
+    let spans = map span_of c.deref-3.result.now in
+    left_put g.S.Store old new c.args.kept.now.world c.requires.stands c.put_plan.ensures.doubt operator
+    row text volumes spans c.encode-id.ensures.text
+    (ap (map volume_of) c.deref-2.ensures.value ∙ c.in_ok-volumes.ensures
+    ∙ ap (λ name. area_rows (filed_by name row)) c.as_str.ensures.value)
+    (subst (ArePlanSpanRows (filed_by operator row)) (sym (ap (map span_of) c.deref-3.ensures.value))
+    (subst (λ name. ArePlanSpanRows (filed_by name row) (map span_of c.in_ok-spans.spans.items))
+    c.as_str-2.ensures.value c.in_ok-spans.ensures))
+    (record {
+      id = parsed_id text row.id c.encode-id.ensures.parsed;
+      volumes = c.volumes.ensures.limits;
+      each = subst (AllByRecursion IsBlock) c.volumes.ensures.value c.in_ok-asked.ensures.valid;
+    })
+    (subst (λ name. MayMake g.S.Store old new
+    (PutsPlan name text (sql.plan_row name text row.priority (usage_number row.usage)
+    (aircraft_number row.aircraft)) volumes spans)) c.as_str-3.ensures.value
+    (subst (λ usage. MayMake g.S.Store old new (PutsPlan c.as_str-3.result.now text
+    (sql.plan_row c.as_str-3.result.now text row.priority usage (aircraft_number row.aircraft)) volumes
+    spans)) c.usage_number.ensures
+    (subst (λ aircraft. MayMake g.S.Store old new (PutsPlan c.as_str-3.result.now text
+    (sql.plan_row c.as_str-3.result.now text row.priority c.usage_number.result aircraft) volumes spans))
+    c.aircraft_number.ensures c.put_plan.ensures.crash)))
+    c.requires.fits

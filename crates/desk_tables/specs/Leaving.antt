@@ -1,0 +1,53 @@
+-- What a crash leaves of a store over tables, and what a start reads in it.
+use Rattle.std.specs.Prelude.{◌⊎◌, Option, Some, None, IsTrue}
+use Rattle.sqlite_trees.specs.declared.store.Store.{Ghosts}
+use Rattle.sqlite_disk.specs.declared.Disk as disk
+use Rattle.sqlite_wal.specs.Recovery.{Image}
+use Rattle.sqlite_store.specs.declared.store.FileStore.{FileStore}
+use Rattle.sqlite_store.specs.FileStore as file
+use Rattle.sqlite.specs.Tree.{Trees}
+use Rattle.sqlite.specs.State.{HasCleanDisk}
+use Rattle.sqlite.specs.Held.{Held, state, AreDatabases}
+use Rattle.desk_sql.specs.Schema.{desk_schema}
+use Rattle.desk_sql.specs.Rows.{IsDesk, tables_of}
+use Rattle.desk_store.specs.World.{World}
+use Rattle.desk_store.specs.Crashes.{LeavesOnly}
+use Rattle.desk_tables.specs.Tables.{AreTables}
+use Rattle.desk_tables.specs.Content.{IsContent}
+
+-- the trees are a desk's, and their rows are those of the content
+pub record HasWorld (db : Trees) (w : World) : Type 0 where
+  pub content : IsContent w
+  pub desk : IsDesk (record { schema = desk_schema; trees = db })
+  pub tables : AreTables (tables_of db) w
+
+-- what trees are read as: a content, or None if they are no desk's
+abbrev pub ReadsAs : Trees → Option World → Type 0
+ReadsAs db None = (w : World) → ¬ HasWorld db w
+ReadsAs db (Some w) = HasWorld db w
+
+module _ {S : Type 0} (g : Ghosts S) where
+  -- what may be found if the program ends here
+  abbrev pub MayLeave : Held S → Option World → Type 0
+  MayLeave h found = (db : Trees) × (state g h).may_leave db × ReadsAs db found
+
+  -- a crash leaves what it could leave before, or the rows of this content
+  abbrev pub MayHave : Held S → Held S → World → Type 0
+  MayHave old new w = HasCleanDisk (state g new) → (db : Trees)
+      → (state g new).may_leave db → (state g old).may_leave db ⊎ HasWorld db w
+
+  -- while the connection is open, a crash leaves this content and nothing else
+  abbrev pub IsSettledAt : Held S → World → Type 0
+  IsSettledAt h w = HasCleanDisk (state g h) → IsTrue (state g h).is_open → LeavesOnly w (MayLeave h)
+
+-- ---- over files
+
+module _ {D : Type 0} {g : disk.Ghosts D} where
+  -- what the crate sqlite keeps of each connection, and says in no clause
+  pub record IsConnected (h : Held (FileStore D g)) : Type 0 where
+    pub numbered : IsTrue (file.view h.store).is_numbered
+    pub sound : AreDatabases (file.recovers h.store)
+
+  -- what a crash may leave in the files
+  abbrev pub MayHold : Held (FileStore D g) → Image → Type 0
+  MayHold h = (file.state h.store).may_leave
