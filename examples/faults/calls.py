@@ -12,6 +12,8 @@ PROGRAM = str(CALLS / "out" / "desk_refusals")
 STRETCHES = ("ground", "over a list", "over tables")
 # How many growths of each stretch the sample takes, at least.
 SAMPLE = 60
+# What a run says on standard error: how many calls were refused.
+KINDS = {"0 refused": "done without the growth", "1 refused": "refused once"}
 
 
 def stretches():
@@ -53,8 +55,8 @@ def calls(processors, is_every):
         part.count("growths", len(numbers))
         sample = numbers if is_every else numbers[:: max(1, len(numbers) // SAMPLE)]
         for number, (told, complaint) in zip(sample, side_by_side(lambda at: refuse(at, right), sample, processors)):
-            part.count(told or "said nothing")
+            part.count(KINDS.get(told, "refused otherwise"))
             part.add(f"growth {number}", complaint)
-        told = part.counts.get("1 refused", 0)
+        told = part.counts.get("refused once", 0)
         part.add("in all", None if told * 2 > part.passed else f"only {told} runs met a refusal")
         yield part.close()
