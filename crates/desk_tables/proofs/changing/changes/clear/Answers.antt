@@ -40,9 +40,9 @@ returns-in-Ok-clause-crash g c =
     (subst (λ name. MayMake g.S.Store old new (RemovesPlans name texts)) c.as_str.ensures.value
     c.clear_plans.ensures.crash) c.requires.fits
 
-pub returns-in-Err-clause-crash : goal.returns-in-Err-clause-crash
+pub returns-clause-crash : goal.returns-clause-crash
 unfolding ChangesRows IsWithin
-returns-in-Err-clause-crash g c =
+returns-clause-crash g c =
     let old = c.args.connection.now in
     let new = c.clear_plans.new.connection in
     let operator = c.args.operator.now in

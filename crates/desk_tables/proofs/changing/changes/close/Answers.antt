@@ -49,8 +49,8 @@ returns-in-Ok-clause-crash g c =
     c.as_str.ensures.value c.close_plan.ensures.crash))
     (λ clean. c.requires.fits (omega (arith, c.heads.ensures.doubt, clean))))
 
-pub returns-in-Err-clause-crash : goal.returns-in-Err-clause-crash
-returns-in-Err-clause-crash g c =
+pub returns-clause-crash : goal.returns-clause-crash
+returns-clause-crash g c =
     let old = c.heads.new.connection in
     let new = c.close_plan.new.connection in
     let operator = c.args.operator.now in

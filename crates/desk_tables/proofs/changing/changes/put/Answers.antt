@@ -90,8 +90,8 @@ returns-in-Ok-clause-crash g c =
     c.aircraft_number.ensures c.put_plan.ensures.crash)))
     c.requires.fits
 
-pub returns-in-Err-clause-crash : goal.returns-in-Err-clause-crash
-returns-in-Err-clause-crash g c =
+pub returns-clause-crash : goal.returns-clause-crash
+returns-clause-crash g c =
     let old = c.args.connection.now in
     let new = c.put_plan.new.connection in
     let operator = c.args.operator.now in

@@ -1,7 +1,11 @@
 use Rattle.std.proofs.Common.{sym, subst}
+use Rattle.desk_store.specs.StoreChange.{changed_by}
+use Rattle.desk_store.specs.Crashes.{LeavesOldOr, LeavesOnly}
 use Rattle.desk_tables.specs.Store.{Stands}
 use Rattle.desk_tables.specs.Lengths.{Bounds}
+use Rattle.desk_tables.specs.Leaving.{MayLeave}
 use Rattle.desk_tables.proofs.ShortLemmas.{bounds_after}
+use Rattle.desk_tables.proofs.LeavingLemmas.{leaves_or_changed, leaves_what_stands}
 use Rattle.desk_tables.proofs.store.SqliteStorePlanStore.apply.Goals as goal
 
 pub invariant_of-self : goal.invariant_of-self
@@ -15,3 +19,30 @@ invariant_of-self g c =
           c.self.inside.kept.world c.self.invariant.1 c.in-Ok.ensures.short.0 c.in-Ok.ensures.short.1
           c.max-self-inside.ensures),
     )
+
+pub returns-in-Ok-clause-crash : goal.returns-in-Ok-clause-crash
+returns-in-Ok-clause-crash g c = λ honest.
+    let new = c.make.new.connection in
+    let change = c.args.change.now in
+    subst (λ s. LeavesOldOr (changed_by change s.world) (MayLeave g.S.Store s.held)
+    (MayLeave g.S.Store new)) c.self.view_is
+    (leaves_or_changed c.one_content.ensures g.S.Store c.self.inside.connection new
+    (changed_by change c.self.inside.kept.world) c.make.ensures.crash honest)
+
+pub returns-in-Ok-clause-kept : goal.returns-in-Ok-clause-kept
+returns-in-Ok-clause-kept g c = λ honest.
+    let new = c.make.new.connection in
+    let live = c.in-Ok.ensures.open honest in
+    subst (λ w. LeavesOnly w (MayLeave g.S.Store new)) (sym c.after-self-inside.ensures)
+    (leaves_what_stands c.one_content.ensures g.S.Store new
+    (changed_by c.args.change.now c.self.inside.kept.world) c.in-Ok.ensures.ok honest live
+    (c.in-Ok.ensures.committed honest) (λ db may. g.met.S.Store.settled new.store db live may))
+
+pub returns-in-Err-clause-crash : goal.returns-in-Err-clause-crash
+returns-in-Err-clause-crash g c = λ honest.
+    let new = c.make.new.connection in
+    let change = c.args.change.now in
+    subst (λ s. LeavesOldOr (changed_by change s.world) (MayLeave g.S.Store s.held)
+    (MayLeave g.S.Store new)) c.self.view_is
+    (leaves_or_changed c.one_content.ensures g.S.Store c.self.inside.connection new
+    (changed_by change c.self.inside.kept.world) c.make.ensures.crash honest)

@@ -1,0 +1,12 @@
+use Rattle.std.proofs.Common.{ap, not, ◌∙◌}
+use Rattle.desk_tables.proofs.LeavingLemmas.{leaves_what_stands}
+use Rattle.desk_tables.proofs.store.SqliteStore.with.Goals as goal
+
+pub returns-clause-left : goal.returns-clause-left
+returns-clause-left g c = λ clean live.
+    let connection = c.args.connection in
+    leaves_what_stands c.one_content.ensures g.S.Store connection c.args.kept.world c.requires.stands
+    clean live
+    (c.is_autocommit-settled.ensures.settled
+    (c.is_autocommit-settled.ensures.value ∙ ap not c.requires.stands.settled) live)
+    (λ db may. g.met.S.Store.settled connection.store db live may)
