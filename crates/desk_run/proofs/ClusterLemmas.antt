@@ -39,12 +39,15 @@ module _ (permitted : List ℕ) (levels : Point → Option ℕ) (priority : ℕ)
   of_cluster : (x : Point) → among cluster x ≡ true → among slabs x ≡ true
   of_cluster x e =
       let both = and_parts (slabs_have cluster x) (blocked x) (sym (is_of cluster x) ∙ e) in
-      is_of slabs x ∙ ap (λ b. b && blocked x) (split.points x ∙ ap (λ b. b || slabs_have later x) both.0) ∙ both.1
+      is_of slabs x
+      ∙ ap (λ b. b && blocked x) (split.points x ∙ ap (λ b. b || slabs_have later x) both.0) ∙ both.1
 
   of_later : (x : Point) → among later x ≡ true → among slabs x ≡ true
   of_later x e =
       let both = and_parts (slabs_have later x) (blocked x) (sym (is_of later x) ∙ e) in
-      is_of slabs x ∙ ap (λ b. b && blocked x) (split.points x ∙ or_right (slabs_have cluster x) (slabs_have later x) both.0) ∙ both.1
+      is_of slabs x
+      ∙ ap (λ b. b && blocked x)
+      (split.points x ∙ or_right (slabs_have cluster x) (slabs_have later x) both.0) ∙ both.1
 
   has_cluster : (x : Point) → among cluster x ≡ true → slabs_have cluster x ≡ true
   has_cluster x e = (and_parts (slabs_have cluster x) (blocked x) (sym (is_of cluster x) ∙ e)).0

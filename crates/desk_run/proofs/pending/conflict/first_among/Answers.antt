@@ -15,8 +15,8 @@ returns-then-is_some-clause-value g c = λ honest.
     let cluster = c.split_cluster.result.0.now in
     let meeting = c.in_ok-meeting.meeting in
     let first = subst
-        (λ v. IsFirstAmong c.args.permitted.now v operator id cluster c.args.priority meeting) so_far.same
-        (c.in_ok-meeting.ensures.value honest) in
+    (λ v. IsFirstAmong c.args.permitted.now v operator id cluster c.args.priority meeting) so_far.same
+    (c.in_ok-meeting.ensures.value honest) in
     so_far.rest (omega (arith, honest, c.in_ok-meeting.ensures.doubt)) meeting
     (met c.args.permitted.now levels c.args.priority c.loop-rest.rest.now cluster
     c.split_cluster.result.1.now c.split_cluster.ensures meeting (sym c.if-is_some.ensures) first)

@@ -14,8 +14,10 @@ invariant-loop-rest g l =
     record {
       rest :
           IsHonest (g.S.PlanStore.doubt l.store) → (spot : Option Spot)
-          → IsFirstAmong l.permitted (g.S.PlanStore.content l.fn.store) l.operator l.id l.rest l.priority spot
-          → IsFirstAmong l.permitted (g.S.PlanStore.content l.fn.store) l.operator l.id l.slabs l.priority spot;
+          → IsFirstAmong l.permitted (g.S.PlanStore.content l.fn.store) l.operator l.id l.rest l.priority
+          spot
+          → IsFirstAmong l.permitted (g.S.PlanStore.content l.fn.store) l.operator l.id l.slabs l.priority
+          spot;
       filled : All IsFilled l.rest;
       order : Ascend (λ s. s) l.rest;
       same : g.S.PlanStore.content l.store ≡ g.S.PlanStore.content l.fn.store;
