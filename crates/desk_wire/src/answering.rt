@@ -1,6 +1,6 @@
 //! Requests answered at a desk, from bytes to bytes.
 
-ghost use Rattle.std.specs.Prelude.{◌≡◌, ◌≤◌, IfErr, IfOk, IfSome, OnOk, OnErr, Ok, None, Some};
+ghost use Rattle.std.specs.Prelude.{◌≡◌, ◌≢◌, ◌≤◌, IfErr, IfOk, IfSome, IsSome, OnOk, OnErr, Ok, None, Some};
 ghost use Rattle.desk_reading.specs.Messages.{message_read, message_shown};
 ghost use Rattle.desk_reading.specs.Readings.{or_met};
 ghost use Rattle.desk_reading.specs.Requests.{asked, asked_by};
@@ -83,6 +83,7 @@ pub fn answer_request<S: PlanStore>(
     ensures status { IsHonest (S.doubt desk.new.store) → IfOk result (λ answer. answer.status
         ≡ status_so answer.error (world_of S.content desk.old) moment
         (or_met (message_read request.now) asked_by)) }
+    ensures blamed { IfOk result (λ answer. answer.status ≡ 500 → IsSome answer.error) }
     ensures failed { IfOk result (λ answer. IfSome answer.error (λ why.
         IsServerError why (world_of S.content desk.old) answer.bytes.items
         (world_of S.content desk.new))) }
@@ -131,6 +132,7 @@ fn respond<S: PlanStore>(
     ensures status { IsHonest (S.doubt desk.new.store) → IfOk result (λ r. r.status
         ≡ status_for (world_of S.content desk.old) moment
         (or_met (message_read request.now) asked_by)) }
+    ensures sound { IfOk result (λ r. r.status ≢ 500) }
     ensures err { OnErr result (world_of S.content desk.new ≡ world_of S.content desk.old) }
     ensures crash { IsHonest (S.doubt desk.new.store) → LeavesOldOr
         (world_after (world_of S.content desk.old) moment
@@ -163,6 +165,7 @@ fn answer_message<S: PlanStore>(
         (asked_by (message_shown message.now)) r.bytes.items (world_of S.content desk.new)) }
     ensures status { IsHonest (S.doubt desk.new.store) → IfOk result (λ r. r.status
         ≡ status_for (world_of S.content desk.old) moment (asked_by (message_shown message.now))) }
+    ensures sound { IfOk result (λ r. r.status ≢ 500) }
     ensures err { OnErr result (world_of S.content desk.new ≡ world_of S.content desk.old) }
     ensures crash { IsHonest (S.doubt desk.new.store) → LeavesOldOr
         (world_after (world_of S.content desk.old) moment (asked_by (message_shown message.now))).content
@@ -194,6 +197,7 @@ fn answer_call<S: PlanStore>(
         (world_of S.content desk.new)) }
     ensures status { IsHonest (S.doubt desk.new.store) → IfOk result (λ r.
         r.status ≡ status_for (world_of S.content desk.old) moment (Ok asked.now)) }
+    ensures sound { IfOk result (λ r. r.status ≢ 500) }
     ensures err { OnErr result (world_of S.content desk.new ≡ world_of S.content desk.old) }
     ensures crash { IsHonest (S.doubt desk.new.store) → LeavesOldOr
         (world_after (world_of S.content desk.old) moment (Ok asked.now)).content
@@ -224,6 +228,7 @@ fn answer_pending<S: PlanStore>(
     ensures bytes { IfOk result (λ r. r.bytes.items
         ≡ reply_text (said_in (reply_in pending))) }
     ensures status { IfOk result (λ r. r.status ≡ 200) }
+    ensures sound { IfOk result (λ r. r.status ≢ 500) }
     ensures ok { IsHonest (S.doubt desk.new.store) → OnOk result
         (world_of S.content desk.new ≡ world_committed (world_of S.content desk.old) pending) }
     ensures err { OnErr result (world_of S.content desk.new ≡ world_of S.content desk.old) }
@@ -253,6 +258,7 @@ fn answer_pending<S: PlanStore>(
 fn refuse(alloc: Global, refusal: Refusal) -> Result<Response, ServerError>
     ensures bytes { IfOk result (λ r. r.bytes.items ≡ refusal_text refusal) }
     ensures status { IfOk result (λ r. r.status ≡ refusal_status refusal) }
+    ensures sound { IfOk result (λ r. r.status ≢ 500) }
     ensures error { IfErr result (λ e. e ≡ ServerError.OutOfMemory) }
 {
     let bytes = error_answer(alloc, refusal.status(), refusal.allow(), refusal.word())?;

@@ -92,6 +92,7 @@ returns-clause-served g c =
       status_is = status_as (IsHonest (g.S.PlanStore.doubt c.answer_request.new.desk.store)) w _ c.args.moment
           (text ++ body) (message_read c.message_of-request.result) why c.in_ok-answer.answer.status moment
           got.read c.in_ok-answer.ensures.status;
+      blamed = c.in_ok-answer.ensures.blamed;
       written = rw c.deref-3.ensures.value at c.in_ok-write_whole.ensures.ok;
     }
 

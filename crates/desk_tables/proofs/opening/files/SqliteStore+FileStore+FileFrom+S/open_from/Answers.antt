@@ -1,6 +1,7 @@
-use Rattle.std.proofs.Common.{arith, inr}
+use Rattle.std.proofs.Common.{arith, sym, ◌∙◌}
 use Rattle.sqlite.specs.State.{HasCleanDisk}
 use Rattle.sqlite.specs.Files.{file_state}
+use Rattle.desk_tables.proofs.OpeningLemmas.{never_no_desk}
 use Rattle.desk_tables.proofs.opening.files.SqliteStore+FileStore+FileFrom+S.open_from.Goals as goal
 
 pub returns-in-Ok-adopt-clause-begins : goal.returns-in-Ok-adopt-clause-begins
@@ -18,12 +19,14 @@ returns-in-Ok-clause-fault g c =
     let was : HasCleanDisk (file_state c.in-Err-adopt.refused.connection)
     → HasCleanDisk (file_state c.in-Ok.connection) =
     λ clean. omega (arith, c.in-Err-adopt.ensures.doubt, clean) in
-    inr (record {
+    λ none. record {
       found = c.in-Ok.connection;
       left = c.in-Err-adopt.refused.connection;
       opened = λ clean. (c.in-Ok.ensures.opened (was clean), c.in-Ok.ensures.found (was clean));
       fresh = c.in-Ok.ensures.fresh;
-      none = c.in-Err-adopt.ensures.none;
-      cause = c.in-Err-adopt.ensures.cause;
+      none = c.in-Err-adopt.ensures.none none;
       kept = c.in-Err-adopt.ensures.kept;
-    })
+    }
+
+pub returns-in-Err-clause-fault : goal.returns-in-Err-clause-fault
+returns-in-Err-clause-fault g c = λ none. absurd (never_no_desk c.in-Err.error (sym c.from.ensures ∙ none))
