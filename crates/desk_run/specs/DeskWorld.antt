@@ -1,10 +1,10 @@
 -- Desks: what a desk's store keeps, and the priorities that are permitted at the desk.
-use Rattle.std.specs.Prelude.{◌≡◌, ℕ, List, Option, refl}
+use Rattle.std.specs.Prelude.{◌≡◌, ◌⊎◌, ℕ, List, Option, refl}
 use Rattle.std.specs.Coded.{Coded, code_by, coded×, coded_list, coded_ℕ}
 use Rattle.volume4d.specs.Point.{Point}
 use Rattle.desk_store.specs.World.{World, Own, own, held}
 use Rattle.desk_store.specs.Changes.{with_operator}
-use Rattle.desk_store.specs.Crashes.{LeavesOnly}
+use Rattle.desk_store.specs.Crashes.{LeavesNoMore, LeavesOnly}
 
 -- a store, and the permitted priorities
 pub record Parts (S : Type 0) : Type 0 where
@@ -47,3 +47,10 @@ enrolled w name ceiling = record w { content = with_operator w.content name ceil
 -- what the desk's store holds is what a start finds, and nothing else
 abbrev pub IsSettled : {S : Type 0} → (S → World) → (S → Option World → Type 0) → Parts S → Type 0
 IsSettled content may_leave d = LeavesOnly (content d.store) (may_leave d.store)
+
+-- the desk is settled; or its world is what it was, and no more may be found than before
+abbrev pub IsSettledOrSame :
+    {S : Type 0} → (S → World) → (S → Option World → Type 0) → Parts S → Parts S → Type 0
+IsSettledOrSame content may_leave old new = IsSettled content may_leave new
+    ⊎ ((world_of content new ≡ world_of content old)
+    × LeavesNoMore (may_leave old.store) (may_leave new.store))

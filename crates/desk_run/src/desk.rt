@@ -40,7 +40,7 @@ impl<S: PlanStore> Model for Desk<S> {
 impl<S: PlanStore> Desk<S> {
     ghost use Rattle.desk_store.specs.Faults.{IsHonest, HasRisen};
     ghost use Rattle.desk_store.specs.Crashes.{LeavesNoMore, LeavesOldOr};
-    ghost use Rattle.desk_run.specs.DeskWorld.{IsSettled, enrolled, world_of};
+    ghost use Rattle.desk_run.specs.DeskWorld.{IsSettled, IsSettledOrSame, enrolled, world_of};
     ghost use Rattle.desk_run.specs.Faults.{IsBreakdown};
     ghost use Rattle.desk_run.specs.Verdicts.{step_by};
     ghost use Rattle.desk_run.specs.Calls.{Tells, Prepares, CanCommit, reply_in, world_committed};
@@ -144,6 +144,8 @@ impl<S: PlanStore> Desk<S> {
             (S.may_leave self.old.store) (S.may_leave self.new.store) }
         ensures kept { IsHonest (S.doubt self.new.store) → OnOk result
             (IsSettled S.content S.may_leave self.old → IsSettled S.content S.may_leave self.new) }
+        ensures settled { IsHonest (S.doubt self.new.store) → OnOk result
+            (IsSettledOrSame S.content S.may_leave self.old self.new) }
         ensures fault { IfErr result (λ e. IsBreakdown e) }
         ensures doubt { S.doubt self.old.store ≤ S.doubt self.new.store }
         ensures counted { S.faults self.old.store ≤ S.faults self.new.store }
@@ -169,6 +171,8 @@ impl<S: PlanStore> Desk<S> {
             (S.may_leave self.old.store) (S.may_leave self.new.store) }
         ensures kept { IsHonest (S.doubt self.new.store) → OnOk result
             (IsSettled S.content S.may_leave self.old → IsSettled S.content S.may_leave self.new) }
+        ensures settled { IsHonest (S.doubt self.new.store) → OnOk result
+            (IsSettledOrSame S.content S.may_leave self.old self.new) }
         ensures doubt { S.doubt self.old.store ≤ S.doubt self.new.store }
         ensures counted { S.faults self.old.store ≤ S.faults self.new.store }
         ensures cause { IfErr result (λ e. e ≡ DeskFault.Store →

@@ -1,6 +1,6 @@
 //! Replies that are ready, and the changes that go with them.
 
-ghost use Rattle.std.specs.Prelude.{◌≡◌, ◌≤◌, Some, IfOk, IfErr, OnOk, OnErr};
+ghost use Rattle.std.specs.Prelude.{◌≡◌, ◌≤◌, ◌⊎◌, Some, IfOk, IfErr, OnOk, OnErr};
 ghost use Rattle.desk_store.specs.Faults.{IsHonest, HasRisen};
 ghost use Rattle.desk_store.specs.Crashes.{LeavesNoMore, LeavesOldOr, LeavesOnly};
 ghost use Rattle.desk_run.specs.Faults.{IsBreakdown};
@@ -106,6 +106,10 @@ pub fn commit_over<S: PlanStore>(store: &mut S, pending: Pending) -> Result<Repl
     ensures kept { IsHonest (S.doubt store.new) → OnOk result
         (LeavesOnly (S.content store.old) (S.may_leave store.old) →
         LeavesOnly (S.content store.new) (S.may_leave store.new)) }
+    ensures settled { IsHonest (S.doubt store.new) → OnOk result
+        (LeavesOnly (S.content store.new) (S.may_leave store.new)
+        ⊎ ((S.content store.new ≡ S.content store.old)
+        × LeavesNoMore (S.may_leave store.old) (S.may_leave store.new))) }
     ensures fault { IfErr result (λ e. IsBreakdown e) }
     ensures doubt { S.doubt store.old ≤ S.doubt store.new }
     ensures counted { S.faults store.old ≤ S.faults store.new }

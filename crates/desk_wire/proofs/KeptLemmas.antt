@@ -1,11 +1,11 @@
 -- What may be found of requests of a stream.
-use Rattle.std.proofs.Common.{◌≡◌, ◌≢◌, ◌-◌, ℕ, ℤ, ◌⊎◌, inl, inr, refl, sym, ap, subst, ◌∙◌, arith, List, [], ◌∷◌, ◌++◌, Option, Some, None, Result, Ok, Err}
+use Rattle.std.proofs.Common.{◌≡◌, ◌≢◌, ◌-◌, Bool, IfSome, ℕ, ℤ, ◌⊎◌, inl, inr, refl, sym, ap, subst, ◌∙◌, arith, List, [], ◌∷◌, ◌++◌, Option, Some, None, Result, Ok, Err}
 use Rattle.std.proofs.Common.{false, is_some, length, map, take, get_or, ◌<◌}
 use Rattle.std.proofs.lemmas.List.{map-append}
 use Rattle.std.proofs.lemmas.List.Elements.{recursion_from_All}
 use Rattle.std.specs.Result.{IsErrAnd}
 use Rattle.desk_store.specs.World.{World}
-use Rattle.desk_store.specs.Crashes.{LeavesOldOr}
+use Rattle.desk_store.specs.Crashes.{LeavesNoMore, LeavesOldOr, LeavesOnly}
 use Rattle.desk_reading.specs.Messages.{MessageParts, message_in}
 use Rattle.desk_reading.specs.Readings.{Reading, or_met}
 use Rattle.desk_reading.specs.Requests.{asked, asked_by}
@@ -15,12 +15,13 @@ use Rattle.desk_wire.specs.declared.play.PlayEnd.{PlayEnd}
 use Rattle.desk_wire.specs.declared.play.PlayEnd.TheVariants.{End, Unframed, Broken, Limit, Fault}
 use Rattle.desk_wire.specs.declared.response.ServerError.{ServerError}
 use Rattle.desk_wire.specs.declared.stream.Served.{Served}
+use Rattle.desk_wire.specs.declared.stream.Served.TheVariants.{Answered}
 use Rattle.desk_wire.specs.declared.stream.ServeFault.{ServeFault}
 use Rattle.desk_wire.specs.declared.stream.ServeFault.TheVariants.{Read, Write, CutShort, OutOfMemory}
 use Rattle.desk_wire.specs.AllAnswers.{Sent, answers_to, world_left}
-use Rattle.desk_wire.specs.Bytes.{status_so, world_after}
+use Rattle.desk_wire.specs.Bytes.{IsServerError, status_so, world_after}
 use Rattle.desk_wire.specs.Given.{IsNextIn, answered, told_in_play}
-use Rattle.desk_wire.specs.Kept.{FindsBy, IsCertain, IsFoundAfter, IsFoundIn, IsKept, IsLeftBy, IsOldOrNext}
+use Rattle.desk_wire.specs.Kept.{FindsBy, IsCertain, IsFoundAfter, IsFoundIn, IsFoundNow, IsKept, IsLeftBy, IsOldOrNext}
 use Rattle.desk_wire.specs.Playing.{ArePlayed, EndsBy, IsWhole, at_moment}
 use Rattle.desk_wire.specs.Serving.{BreaksOff, IsTaken}
 use Rattle.desk_wire.proofs.AllLemmas.{HaveAnswers, left_more, take_map}
@@ -69,6 +70,46 @@ uncertain_write (Err e) f answer out now is off certain =
     by OutOfMemory s h = s
     by CutShort s h = s
     by (Write sent) s h = h
+
+-- what is found if the content stays, and if the answer was or was not that the desk failed
+module _ (r : Result Served ServeFault) (before now : Option World → Type 0) (IsNext : List ℕ → Type 0)
+    (moment : ℤ) (w after : DeskWorld) where
+  abbrev LeavesNext : Type 0
+  LeavesNext = (found : Option World) → now found → before found ⊎ IsLeftBy IsNext w moment found
+
+  abbrev Finds : Type 0
+  Finds = (found : Option World) → now found → IsFoundNow r before IsNext w moment after found
+
+  pub found_failed : after ≡ w → ¬ IsCertain r → LeavesNext → Finds
+  found_failed same unsure crash found may = by (crash found may)
+    where
+      by : before found ⊎ IsLeftBy IsNext w moment found → IsFoundNow r before IsNext w moment after found
+      by (inl is) = inr (same, inl is)
+      by (inr next) = inr (same, inr (unsure, next))
+
+  pub found_answered : (error : Option ServerError) (answer : List ℕ)
+      → (error ≡ None → LeavesOnly after.content now ⊎ ((after ≡ w) × LeavesNoMore before now))
+      → IfSome error (λ why. IsServerError why w answer after) → IfSome error (λ why. ¬ IsCertain r)
+      → LeavesNext → Finds
+  found_answered None answer settled failed unsure crash found may = by (settled refl)
+    where
+      by : LeavesOnly after.content now ⊎ ((after ≡ w) × LeavesNoMore before now)
+          → IsFoundNow r before IsNext w moment after found
+      by (inl only) = inl (only found may)
+      by (inr p) = inr (p.0, inl (p.1 found may))
+  found_answered (Some why) answer settled failed unsure crash found may =
+      found_failed failed.left unsure crash found may
+
+pub unsure_500 : (s : Served) (status : ℕ) (framed : Bool) (w : DeskWorld) (moment : ℤ)
+    (reading : Reading Asked) (why : Option ServerError) → s ≡ Answered status framed
+    → status ≡ status_so why w moment reading → IfSome why (λ error. ¬ IsCertain (Ok s))
+unsure_500 s status framed w moment reading None is said = tt
+unsure_500 s status framed w moment reading (Some why) is said =
+    λ certain. subst (λ z. IsCertain (Ok z)) is certain said
+
+pub if_some_all : (why : Option ServerError) {P : Type 0} → P → IfSome why (λ error. P)
+if_some_all None p = tt
+if_some_all (Some error) p = p
 
 -- what is found once what was settled may have one request more
 pub old_or_next : (before : Option World → Type 0) (w : DeskWorld) (IsNext : List ℕ → Type 0) (moment : ℤ)

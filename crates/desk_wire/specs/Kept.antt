@@ -36,6 +36,14 @@ IsCertain (Err CutShort) = ⊤
 IsCertain (Err OutOfMemory) = ⊥
 IsCertain (Err (Write sent)) = ⊥
 
+-- what is found after one request: the content that is left; or, if that is what was there before, what might
+-- have been found before, or what the request would have left, if its change isn't certain
+abbrev pub IsFoundNow :
+    Result Served ServeFault → (Option World → Type 0) → (List ℕ → Type 0) → DeskWorld → ℤ → DeskWorld
+    → Option World → Type 0
+IsFoundNow served before IsNext w moment after found = (found ≡ Some after.content)
+    ⊎ ((after ≡ w) × (before found ⊎ ((¬ IsCertain served) × IsLeftBy IsNext w moment found)))
+
 -- by why a run ended: the change of a request whose answer is a 500, or isn't whole, may be found or not
 abbrev pub FindsBy : PlayEnd → (List ℕ → Type 0) → DeskWorld → ℤ → Option World → Type 0
 FindsBy End IsNext w moment found = found ≡ Some w.content

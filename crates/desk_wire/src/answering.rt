@@ -6,7 +6,7 @@ ghost use Rattle.desk_reading.specs.Readings.{or_met};
 ghost use Rattle.desk_reading.specs.Requests.{asked, asked_by};
 ghost use Rattle.desk_store.specs.Crashes.{LeavesOldOr};
 ghost use Rattle.desk_store.specs.Faults.{IsHonest, HasRisen};
-ghost use Rattle.desk_run.specs.DeskWorld.{IsSettled, world_of};
+ghost use Rattle.desk_run.specs.DeskWorld.{IsSettled, IsSettledOrSame, world_of};
 ghost use Rattle.desk_run.specs.Calls.{CanCommit, reply_in, world_committed};
 ghost use Rattle.desk_wire.specs.Moments.{IsMoment};
 ghost use Rattle.desk_rules.specs.Replies.{said_in};
@@ -94,6 +94,8 @@ pub fn answer_request<S: PlanStore>(
         (S.may_leave desk.old.store) (S.may_leave desk.new.store) }
     ensures kept { IsHonest (S.doubt desk.new.store) → IfOk result (λ answer. answer.error ≡ None →
         IsSettled S.content S.may_leave desk.old → IsSettled S.content S.may_leave desk.new) }
+    ensures settled { IsHonest (S.doubt desk.new.store) → IfOk result (λ answer.
+        answer.error ≡ None → IsSettledOrSame S.content S.may_leave desk.old desk.new) }
     ensures doubt { S.doubt desk.old.store ≤ S.doubt desk.new.store }
     ensures counted { S.faults desk.old.store ≤ S.faults desk.new.store }
     ensures cause { IfOk result (λ answer. answer.error ≡ Some ServerError.Store →
@@ -140,6 +142,8 @@ fn respond<S: PlanStore>(
         (S.may_leave desk.old.store) (S.may_leave desk.new.store) }
     ensures kept { IsHonest (S.doubt desk.new.store) → OnOk result
         (IsSettled S.content S.may_leave desk.old → IsSettled S.content S.may_leave desk.new) }
+    ensures settled { IsHonest (S.doubt desk.new.store) → OnOk result
+        (IsSettledOrSame S.content S.may_leave desk.old desk.new) }
     ensures doubt { S.doubt desk.old.store ≤ S.doubt desk.new.store }
     ensures counted { S.faults desk.old.store ≤ S.faults desk.new.store }
     ensures cause { IfErr result (λ e. e ≡ ServerError.Store →
@@ -172,6 +176,8 @@ fn answer_message<S: PlanStore>(
         (S.may_leave desk.old.store) (S.may_leave desk.new.store) }
     ensures kept { IsHonest (S.doubt desk.new.store) → OnOk result
         (IsSettled S.content S.may_leave desk.old → IsSettled S.content S.may_leave desk.new) }
+    ensures settled { IsHonest (S.doubt desk.new.store) → OnOk result
+        (IsSettledOrSame S.content S.may_leave desk.old desk.new) }
     ensures doubt { S.doubt desk.old.store ≤ S.doubt desk.new.store }
     ensures counted { S.faults desk.old.store ≤ S.faults desk.new.store }
     ensures cause { IfErr result (λ e. e ≡ ServerError.Store →
@@ -204,6 +210,8 @@ fn answer_call<S: PlanStore>(
         (S.may_leave desk.old.store) (S.may_leave desk.new.store) }
     ensures kept { IsHonest (S.doubt desk.new.store) → OnOk result
         (IsSettled S.content S.may_leave desk.old → IsSettled S.content S.may_leave desk.new) }
+    ensures settled { IsHonest (S.doubt desk.new.store) → OnOk result
+        (IsSettledOrSame S.content S.may_leave desk.old desk.new) }
     ensures doubt { S.doubt desk.old.store ≤ S.doubt desk.new.store }
     ensures counted { S.faults desk.old.store ≤ S.faults desk.new.store }
     ensures cause { IfErr result (λ e. e ≡ ServerError.Store →
@@ -237,6 +245,8 @@ fn answer_pending<S: PlanStore>(
         (S.may_leave desk.old.store) (S.may_leave desk.new.store) }
     ensures kept { IsHonest (S.doubt desk.new.store) → OnOk result
         (IsSettled S.content S.may_leave desk.old → IsSettled S.content S.may_leave desk.new) }
+    ensures settled { IsHonest (S.doubt desk.new.store) → OnOk result
+        (IsSettledOrSame S.content S.may_leave desk.old desk.new) }
     ensures doubt { S.doubt desk.old.store ≤ S.doubt desk.new.store }
     ensures counted { S.faults desk.old.store ≤ S.faults desk.new.store }
     ensures cause { IfErr result (λ e. e ≡ ServerError.Store →

@@ -8,7 +8,7 @@ ghost use Rattle.desk_reading.specs.Messages.{message_read};
 ghost use Rattle.desk_store.specs.World.{World};
 ghost use Rattle.desk_store.specs.Faults.{IsHonest};
 ghost use Rattle.desk_run.specs.DeskWorld.{IsSettled, world_of};
-ghost use Rattle.desk_wire.specs.Kept.{IsCertain, IsLeftBy};
+ghost use Rattle.desk_wire.specs.Kept.{IsCertain, IsFoundNow, IsLeftBy};
 ghost use Rattle.desk_wire.specs.Moments.{IsMoment};
 ghost use Rattle.desk_wire.specs.Serving.{BreaksOff, HasServed, IsTaken, Stops};
 ghost use Rattle.desk_wire.specs.Streams.{IsCut, IsFront, byte_list, front_read, front_reading, size_said, with_body};
@@ -106,6 +106,10 @@ pub fn serve_one<S: PlanStore, R: Read, W: Write>(
         (world_of S.content desk.old) moment found }
     ensures kept { IsHonest (S.doubt desk.new.store) → IsCertain result →
         IsSettled S.content S.may_leave desk.old → IsSettled S.content S.may_leave desk.new }
+    ensures found { IsHonest (S.doubt desk.new.store) → (found : Option World) →
+        S.may_leave desk.new.store found → IsFoundNow result (S.may_leave desk.old.store)
+        (IsTaken (R.remaining input.old) (R.remaining input.new))
+        (world_of S.content desk.old) moment (world_of S.content desk.new) found }
     ensures doubt { S.doubt desk.old.store ≤ S.doubt desk.new.store }
     ensures counted { S.faults desk.old.store ≤ S.faults desk.new.store }
 {
@@ -133,6 +137,10 @@ pub fn serve_next<S: PlanStore, R: Read, W: Write>(
         (world_of S.content desk.old) moment found }
     ensures kept { IsHonest (S.doubt desk.new.store) → IsCertain result →
         IsSettled S.content S.may_leave desk.old → IsSettled S.content S.may_leave desk.new }
+    ensures found { IsHonest (S.doubt desk.new.store) → (found : Option World) →
+        S.may_leave desk.new.store found → IsFoundNow result (S.may_leave desk.old.store)
+        (IsTaken (R.remaining input.old) (R.remaining input.new))
+        (world_of S.content desk.old) moment (world_of S.content desk.new) found }
     ensures doubt { S.doubt desk.old.store ≤ S.doubt desk.new.store }
     ensures counted { S.faults desk.old.store ≤ S.faults desk.new.store }
 {

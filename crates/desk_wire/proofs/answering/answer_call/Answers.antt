@@ -1,8 +1,8 @@
-use Rattle.std.proofs.Common.{Err, ◌∙◌, ap, subst, w64}
+use Rattle.std.proofs.Common.{Err, ◌∙◌, ap, inr, subst, w64}
 use Rattle.std.proofs.lemmas.Int.{to_z-of_z}
 use Rattle.std.proofs.lemmas.Result.{IfOk-weaker, on_ok_weaker}
 use Rattle.desk_store.specs.FaultLaws.{was_honest}
-use Rattle.desk_run.specs.CrashLaws.{old_or_changed, still_settled}
+use Rattle.desk_run.specs.CrashLaws.{old_or_changed, settled_after, still_settled}
 use Rattle.desk_run.specs.DeskWorld.{world_of}
 use Rattle.desk_run.specs.Calls.{IsPending, Prepares, world_committed}
 use Rattle.desk_run.specs.Verdicts.{unknown_operator, no_such_plan}
@@ -117,3 +117,19 @@ returns-in-Err-NoSuchPlan-clause-kept g c = λ honest.
     whatever c.refuse-in-Err-NoSuchPlan.result (λ settled.
     still_settled (c.prepare.ensures.crash honest) settled
     (ap (λ v. v.content) c.prepare.ensures.same))
+
+-- nothing but a commit changes the content
+pub returns-in-Ok-clause-settled : goal.returns-in-Ok-clause-settled
+returns-in-Ok-clause-settled g c = λ honest.
+    on_ok_weaker c.answer_pending.result
+    (settled_after g.S.PlanStore.content g.S.PlanStore.may_leave _ _ _
+    (c.prepare.ensures.crash (was_honest c.answer_pending.ensures.doubt honest)) c.prepare.ensures.same)
+    (c.answer_pending.ensures.settled honest)
+
+pub returns-in-Err-UnknownOperator-clause-settled : goal.returns-in-Err-UnknownOperator-clause-settled
+returns-in-Err-UnknownOperator-clause-settled g c = λ honest.
+    whatever c.refuse.result (inr (c.prepare.ensures.same, c.prepare.ensures.crash honest))
+
+pub returns-in-Err-NoSuchPlan-clause-settled : goal.returns-in-Err-NoSuchPlan-clause-settled
+returns-in-Err-NoSuchPlan-clause-settled g c = λ honest.
+    whatever c.refuse-in-Err-NoSuchPlan.result (inr (c.prepare.ensures.same, c.prepare.ensures.crash honest))

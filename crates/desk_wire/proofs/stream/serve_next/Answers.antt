@@ -7,7 +7,8 @@ use Rattle.desk_run.specs.DeskWorld.{world_of}
 use Rattle.desk_wire.specs.Streams.{front_read, front_reading, size_said, with_body}
 use Rattle.desk_wire.proofs.FrontLemmas.{some_count, told_cut_body}
 use Rattle.desk_wire.specs.Kept.{IsCertain}
-use Rattle.desk_wire.proofs.KeptLemmas.{left_served, no_failure, uncertain_memory, uncertain_write}
+use Rattle.desk_wire.specs.Serving.{IsTaken}
+use Rattle.desk_wire.proofs.KeptLemmas.{found_answered, found_failed, if_some_all, left_served, no_failure, uncertain_memory, uncertain_write, unsure_500}
 use Rattle.desk_wire.proofs.ServeLemmas.{broken, framed_as, received, replied, served_as, status_as, stopped}
 use Rattle.desk_wire.proofs.stream.serve_next.Goals as goal
 
@@ -175,3 +176,40 @@ returns-clause-kept g c = λ honest certain.
     let other = subst (λ s. IsCertain (Ok s)) c.answered.ensures certain in
     c.in_ok-answer.ensures.kept honest
     (no_failure _ _ _ _ _ (c.in_ok-answer.ensures.status honest) other)
+
+-- the content is settled, or it stays and no more may be found, or the answer is that the desk failed
+pub returns-in_err-answer-clause-found : goal.returns-in_err-answer-clause-found
+returns-in_err-answer-clause-found g c = λ honest.
+    found_failed c.from_residual-in_err-answer.result (g.S.PlanStore.may_leave c.args.desk.now.store)
+    (g.S.PlanStore.may_leave c.answer_request.new.desk.store)
+    (IsTaken (g.R.Read.remaining c.args.input.now) (g.R.Read.remaining c.receive_body.new.input))
+    c.args.moment (world_of g.S.PlanStore.content c.args.desk.now)
+    (world_of g.S.PlanStore.content c.answer_request.new.desk) c.in_err-answer.ensures.err
+    (uncertain_memory _ c.from_residual-in_err-answer.ensures.1)
+    (returns-in_err-answer-clause-crash g c honest)
+
+pub returns-in_err-write_whole-clause-found : goal.returns-in_err-write_whole-clause-found
+returns-in_err-write_whole-clause-found g c = λ honest.
+    found_answered c.from_residual-in_err-write_whole.result
+    (g.S.PlanStore.may_leave c.args.desk.now.store)
+    (g.S.PlanStore.may_leave c.answer_request.new.desk.store)
+    (IsTaken (g.R.Read.remaining c.args.input.now) (g.R.Read.remaining c.receive_body.new.input))
+    c.args.moment (world_of g.S.PlanStore.content c.args.desk.now)
+    (world_of g.S.PlanStore.content c.answer_request.new.desk) c.in_ok-answer.answer.error _
+    (c.in_ok-answer.ensures.settled honest) c.in_ok-answer.ensures.failed
+    (if_some_all c.in_ok-answer.answer.error
+    (uncertain_write c.from_residual-in_err-write_whole.result c.in_err-write_whole.field-0.0 _ _ _
+    c.from_residual-in_err-write_whole.ensures.1 c.in_err-write_whole.ensures.err))
+    (returns-in_err-write_whole-clause-crash g c honest)
+
+pub returns-clause-found : goal.returns-clause-found
+returns-clause-found g c = λ honest.
+    found_answered (Ok c.answered.result) (g.S.PlanStore.may_leave c.args.desk.now.store)
+    (g.S.PlanStore.may_leave c.answer_request.new.desk.store)
+    (IsTaken (g.R.Read.remaining c.args.input.now) (g.R.Read.remaining c.receive_body.new.input))
+    c.args.moment (world_of g.S.PlanStore.content c.args.desk.now)
+    (world_of g.S.PlanStore.content c.answer_request.new.desk) c.in_ok-answer.answer.error _
+    (c.in_ok-answer.ensures.settled honest) c.in_ok-answer.ensures.failed
+    (unsure_500 _ _ _ _ _ _ c.in_ok-answer.answer.error c.answered.ensures
+    (c.in_ok-answer.ensures.status honest))
+    (returns-clause-crash g c honest)

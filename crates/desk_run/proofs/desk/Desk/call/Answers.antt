@@ -3,7 +3,7 @@ use Rattle.std.proofs.lemmas.Int.{to_z-of_z}
 use Rattle.std.proofs.lemmas.Result.{on_ok_weaker}
 use Rattle.desk_store.specs.FaultLaws.{was_honest}
 use Rattle.desk_run.specs.Calls.{IsPending, world_committed}
-use Rattle.desk_run.specs.CrashLaws.{old_or_changed, still_settled}
+use Rattle.desk_run.specs.CrashLaws.{old_or_changed, settled_after, still_settled}
 use Rattle.desk_run.specs.DeskWorld.{world_of}
 use Rattle.desk_run.proofs.desk.Desk.call.Goals as goal
 
@@ -36,3 +36,10 @@ returns-clause-kept g c = λ honest.
     (still_settled (c.prepare.ensures.crash (was_honest c.commit.ensures.doubt honest)) settled
     (ap (λ w. w.content) c.prepare.ensures.same)))
     (c.commit.ensures.kept honest)
+
+pub returns-clause-settled : goal.returns-clause-settled
+returns-clause-settled g c = λ honest.
+    on_ok_weaker c.commit.result
+    (settled_after g.S.PlanStore.content g.S.PlanStore.may_leave _ _ _
+    (c.prepare.ensures.crash (was_honest c.commit.ensures.doubt honest)) c.prepare.ensures.same)
+    (c.commit.ensures.settled honest)

@@ -2,6 +2,7 @@ use Rattle.std.proofs.Common.{◌∙◌, ap, subst}
 use Rattle.std.proofs.lemmas.Result.{on_ok_weaker}
 use Rattle.desk_store.specs.Crashes.{LeavesOldOr}
 use Rattle.desk_run.specs.Calls.{world_committed}
+use Rattle.desk_run.specs.CrashLaws.{settled_desk}
 use Rattle.desk_run.specs.DeskWorld.{with_content, world_of}
 use Rattle.desk_run.proofs.desk.Desk.commit.Goals as goal
 
@@ -20,3 +21,9 @@ returns-clause-crash g c = λ honest.
     subst (λ d. LeavesOldOr (world_committed (world_of g.S.PlanStore.content d) c.args.pending).content
     (g.S.PlanStore.may_leave d.store) (g.S.PlanStore.may_leave c.commit_over.new.store))
     c.self.view_is (c.commit_over.ensures.crash honest)
+
+pub returns-clause-settled : goal.returns-clause-settled
+returns-clause-settled g c = λ honest.
+    on_ok_weaker c.commit_over.result
+    (settled_desk g.S.PlanStore.content g.S.PlanStore.may_leave _ _ c.commit_over.new.store c.self.view_is)
+    (c.commit_over.ensures.settled honest)
