@@ -14,6 +14,7 @@ use Rattle.desk_store.specs.World.{World}
 use Rattle.desk_store.specs.Crashes.{LeavesOnly}
 use Rattle.desk_tables.specs.Tables.{AreTables}
 use Rattle.desk_tables.specs.Content.{IsContent}
+use Rattle.desk_tables.specs.Files.{FindsFirst}
 
 -- the trees are a desk's, and their rows are those of the content
 pub record HasWorld (db : Trees) (w : World) : Type 0 where
@@ -51,3 +52,12 @@ module _ {D : Type 0} {g : disk.Ghosts D} where
   -- what a crash may leave in the files
   abbrev pub MayHold : Held (FileStore D g) → Image → Type 0
   MayHold h = (file.state h.store).may_leave
+
+-- files hold what a crash may have left of a connection, and a start finds the database in them
+pub record IsFoundAfter {D E : Type 0} {g : disk.Ghosts D} {k : disk.Ghosts E}
+    (last : Held (FileStore D g)) (found : Held (FileStore E k)) : Type 0
+  where
+    pub connected : IsConnected last
+    pub image : Image
+    pub left : MayHold last image
+    pub first : FindsFirst image found
