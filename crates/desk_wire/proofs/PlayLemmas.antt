@@ -9,41 +9,14 @@ use Rattle.std.specs.List.{concat}
 use Rattle.std.specs.Io.KnownBytes.{Appends, Consumes}
 use Rattle.desk_reading.specs.Requests.{asked}
 use Rattle.desk_reading.specs.Readings.{Reading}
-use Rattle.desk_reading.specs.FaultWords.{fault_status}
-use Rattle.desk_reading.specs.declared.wire_fault.WireFault.{WireFault}
-use Rattle.desk_reading.specs.declared.wire_fault.WireFault.TheVariants as fault
 use Rattle.desk_rules.specs.declared.call.Asked.{Asked}
 use Rattle.desk_run.specs.DeskWorld.{DeskWorld}
-use Rattle.desk_wire.specs.declared.refusal.Refusal.{Refusal}
-use Rattle.desk_wire.specs.declared.refusal.Refusal.TheVariants.{Fault, UnknownOperator, NoSuchPlan}
 use Rattle.desk_wire.specs.declared.response.ServerError.{ServerError}
-use Rattle.desk_wire.specs.Refusals.{refusal_status}
 use Rattle.desk_wire.specs.AllAnswers.{Sent, answers_to, world_left}
 use Rattle.desk_wire.specs.Bytes.{IsAnsweredSo, IsDone, IsServerError, status_so, text_for, world_after}
 use Rattle.desk_wire.specs.Playing.{ArePlayed, IsBroken, IsWhole, at_moment}
 use Rattle.desk_wire.specs.Serving.{IsServed}
 use Rattle.desk_wire.proofs.AllLemmas.{told_more, left_more}
-
--- no answer but the desk's own failure has the status 500
-fault_differs : (f : WireFault) → fault_status f ≢ 500
-fault_differs fault.HeadTooLarge e = absurd (omega (arith, e))
-fault_differs fault.BadHead e = absurd (omega (arith, e))
-fault_differs fault.TransferEncoding e = absurd (omega (arith, e))
-fault_differs fault.ContentLength e = absurd (omega (arith, e))
-fault_differs fault.BodyTooLarge e = absurd (omega (arith, e))
-fault_differs fault.NoRoute e = absurd (omega (arith, e))
-fault_differs (fault.Method route) e = absurd (omega (arith, e))
-fault_differs fault.BadOperator e = absurd (omega (arith, e))
-fault_differs fault.BadPlanId e = absurd (omega (arith, e))
-fault_differs fault.BadJson e = absurd (omega (arith, e))
-fault_differs fault.BadMember e = absurd (omega (arith, e))
-fault_differs fault.BadVolume e = absurd (omega (arith, e))
-fault_differs fault.TooManyCells e = absurd (omega (arith, e))
-
-pub refusal_differs : (r : Refusal) → refusal_status r ≢ 500
-refusal_differs (Fault f) e = fault_differs f e
-refusal_differs UnknownOperator e = absurd (omega (arith, e))
-refusal_differs NoSuchPlan e = absurd (omega (arith, e))
 
 -- an answer with another status is what is asked
 pub done_by_status : (w after : DeskWorld) (moment : ℤ) (reading : Reading Asked) (answer : List ℕ)
@@ -57,7 +30,10 @@ failed_by_status : (w after : DeskWorld) (answer : List ℕ) (why : Option Serve
     → IfSome why (λ error. IsServerError error w answer after) → IsSome why
     → (error : ServerError) × IsServerError error w answer after
 failed_by_status w after answer (Some why) h is = (why, h)
-failed_by_status w after answer None h is = absurd is
+failed_by_status w after answer None h is = absurd (of_none is)
+  where
+    of_none : IsSome {T = ServerError} None → ⊥
+    of_none some = cc
 
 concat_one : (xs : List (List ℕ)) (x : List ℕ) → concat (xs ++ x ∷ []) ≡ concat xs ++ x
 concat_one xs x = concat-append xs (x ∷ []) ∙ ap (λ ys. concat xs ++ ys) (append-nil x)

@@ -27,6 +27,3 @@ returns-in-Ok-clause-fault g c =
       none = c.in-Err-adopt.ensures.none none;
       kept = c.in-Err-adopt.ensures.kept;
     }
-
-pub returns-in-Err-clause-fault : goal.returns-in-Err-clause-fault
-returns-in-Err-clause-fault g c = λ none. absurd (never_no_desk c.in-Err.error (sym c.from.ensures ∙ none))
