@@ -27,3 +27,6 @@ returns-in-Ok-clause-fault g c =
       none = c.in-Err-adopt.ensures.none none;
       kept = c.in-Err-adopt.ensures.kept;
     }
+
+pub returns-clause-fault : goal.returns-clause-fault
+returns-clause-fault g c = λ none. absurd (never_no_desk c.in-Err.error (sym c.from.ensures ∙ none))
