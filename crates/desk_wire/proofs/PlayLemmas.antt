@@ -29,7 +29,7 @@ told_status (replied r) e = absurd (omega (arith, e))
 told_status unknown_operator e = absurd (omega (arith, e))
 told_status no_such_plan e = absurd (omega (arith, e))
 
-fault_differs : (f : WireFault) → fault_status f ≢ 500
+pub fault_differs : (f : WireFault) → fault_status f ≢ 500
 fault_differs fault.HeadTooLarge e = absurd (omega (arith, e))
 fault_differs fault.BadHead e = absurd (omega (arith, e))
 fault_differs fault.TransferEncoding e = absurd (omega (arith, e))

@@ -1,6 +1,6 @@
 //! Requests answered at a desk, from bytes to bytes.
 
-ghost use Rattle.std.specs.Prelude.{◌≡◌, ◌≤◌, IfErr, IfOk, IfSome, OnOk, OnErr, Ok, None, Some};
+ghost use Rattle.std.specs.Prelude.{◌≡◌, ◌≢◌, ◌≤◌, IfErr, IfOk, IfSome, OnOk, OnErr, Ok, None, Some};
 ghost use Rattle.desk_reading.specs.Messages.{message_read, message_shown};
 ghost use Rattle.desk_reading.specs.Readings.{or_met};
 ghost use Rattle.desk_reading.specs.Requests.{asked, asked_by};
@@ -95,6 +95,7 @@ pub fn answer_request<S: PlanStore>(
         IsSettled S.content S.may_leave desk.old → IsSettled S.content S.may_leave desk.new) }
     ensures doubt { S.doubt desk.old.store ≤ S.doubt desk.new.store }
     ensures counted { S.faults desk.old.store ≤ S.faults desk.new.store }
+    ensures gave_up { IfOk result (λ answer. answer.status ≡ 500 → answer.error ≢ None) }
     ensures cause { IfOk result (λ answer. answer.error ≡ Some ServerError.Store →
         HasRisen (S.faults desk.old.store) (S.faults desk.new.store)) }
 {
@@ -140,6 +141,7 @@ fn respond<S: PlanStore>(
         (IsSettled S.content S.may_leave desk.old → IsSettled S.content S.may_leave desk.new) }
     ensures doubt { S.doubt desk.old.store ≤ S.doubt desk.new.store }
     ensures counted { S.faults desk.old.store ≤ S.faults desk.new.store }
+    ensures other { IfOk result (λ r. r.status ≢ 500) }
     ensures cause { IfErr result (λ e. e ≡ ServerError.Store →
         HasRisen (S.faults desk.old.store) (S.faults desk.new.store)) }
 {
@@ -171,6 +173,7 @@ fn answer_message<S: PlanStore>(
         (IsSettled S.content S.may_leave desk.old → IsSettled S.content S.may_leave desk.new) }
     ensures doubt { S.doubt desk.old.store ≤ S.doubt desk.new.store }
     ensures counted { S.faults desk.old.store ≤ S.faults desk.new.store }
+    ensures other { IfOk result (λ r. r.status ≢ 500) }
     ensures cause { IfErr result (λ e. e ≡ ServerError.Store →
         HasRisen (S.faults desk.old.store) (S.faults desk.new.store)) }
 {
@@ -202,6 +205,7 @@ fn answer_call<S: PlanStore>(
         (IsSettled S.content S.may_leave desk.old → IsSettled S.content S.may_leave desk.new) }
     ensures doubt { S.doubt desk.old.store ≤ S.doubt desk.new.store }
     ensures counted { S.faults desk.old.store ≤ S.faults desk.new.store }
+    ensures other { IfOk result (λ r. r.status ≢ 500) }
     ensures cause { IfErr result (λ e. e ≡ ServerError.Store →
         HasRisen (S.faults desk.old.store) (S.faults desk.new.store)) }
 {
@@ -234,6 +238,7 @@ fn answer_pending<S: PlanStore>(
         (IsSettled S.content S.may_leave desk.old → IsSettled S.content S.may_leave desk.new) }
     ensures doubt { S.doubt desk.old.store ≤ S.doubt desk.new.store }
     ensures counted { S.faults desk.old.store ≤ S.faults desk.new.store }
+    ensures other { IfOk result (λ r. r.status ≢ 500) }
     ensures cause { IfErr result (λ e. e ≡ ServerError.Store →
         HasRisen (S.faults desk.old.store) (S.faults desk.new.store)) }
 {
@@ -253,6 +258,7 @@ fn answer_pending<S: PlanStore>(
 fn refuse(alloc: Global, refusal: Refusal) -> Result<Response, ServerError>
     ensures bytes { IfOk result (λ r. r.bytes.items ≡ refusal_text refusal) }
     ensures status { IfOk result (λ r. r.status ≡ refusal_status refusal) }
+    ensures other { IfOk result (λ r. r.status ≢ 500) }
     ensures error { IfErr result (λ e. e ≡ ServerError.OutOfMemory) }
 {
     let bytes = error_answer(alloc, refusal.status(), refusal.allow(), refusal.word())?;
