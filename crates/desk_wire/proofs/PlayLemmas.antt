@@ -1,5 +1,5 @@
 -- Requests of a stream that are played so far, and one more.
-use Rattle.std.proofs.Common.{◌≡◌, ◌≢◌, ◌==◌, ℕ, ℤ, ◌+◌, Bool, true, false, List, [], ◌∷◌, ◌++◌, Option, Some, None, IfSome, IsSome, Ok, Err, refl, sym, ap, subst, ◌∙◌, arith, append-nil, length-append}
+use Rattle.std.proofs.Common.{◌≡◌, ◌≢◌, ◌==◌, ℕ, ℤ, ◌+◌, Bool, true, false, List, [], ◌∷◌, ◌++◌, Option, Some, None, IfSome, Ok, Err, refl, sym, ap, subst, ◌∙◌, arith, append-nil, length-append}
 use Rattle.std.proofs.lemmas.List.{map-append}
 use Rattle.std.proofs.lemmas.Bool.Decides.{nat_tests}
 use Rattle.std.proofs.KnownBytes.{Appends-nil, Appends-trans, Consumes-nil, Consumes-trans}
@@ -27,13 +27,10 @@ done_by_status w after moment reading answer (Some why) status h is other = absu
 
 -- an answer with that status says why the desk failed
 failed_by_status : (w after : DeskWorld) (answer : List ℕ) (why : Option ServerError)
-    → IfSome why (λ error. IsServerError error w answer after) → IsSome why
+    → IfSome why (λ error. IsServerError error w answer after) → why ≢ None
     → (error : ServerError) × IsServerError error w answer after
 failed_by_status w after answer (Some why) h is = (why, h)
-failed_by_status w after answer None h is = absurd (of_none is)
-  where
-    of_none : IsSome {T = ServerError} None → ⊥
-    of_none some = cc
+failed_by_status w after answer None h is = absurd (is refl)
 
 concat_one : (xs : List (List ℕ)) (x : List ℕ) → concat (xs ++ x ∷ []) ≡ concat xs ++ x
 concat_one xs x = concat-append xs (x ∷ []) ∙ ap (λ ys. concat xs ++ ys) (append-nil x)
@@ -112,7 +109,7 @@ broken_next H old new out now w moment after code framed s is = record {
   taken = s.taken;
   answer = s.answer;
   written = s.written;
-  failed = failed_by_status w after s.answer s.why s.replied.failed (s.blamed is);
+  failed = failed_by_status w after s.answer s.why s.replied.failed (s.gave_up is);
 }
 
 pub is_500 : (n : ℕ) → (n == 500) ≡ true → n ≡ 500

@@ -1,6 +1,6 @@
 //! Requests answered at a desk, from bytes to bytes.
 
-ghost use Rattle.std.specs.Prelude.{◌≡◌, ◌≢◌, ◌≤◌, IfErr, IfOk, IfSome, IsSome, OnOk, OnErr, Ok, None, Some};
+ghost use Rattle.std.specs.Prelude.{◌≡◌, ◌≢◌, ◌≤◌, IfErr, IfOk, IfSome, OnOk, OnErr, Ok, None, Some};
 ghost use Rattle.desk_reading.specs.Messages.{message_read, message_shown};
 ghost use Rattle.desk_reading.specs.Readings.{or_met};
 ghost use Rattle.desk_reading.specs.Requests.{asked, asked_by};
@@ -83,7 +83,6 @@ pub fn answer_request<S: PlanStore>(
     ensures status { IsHonest (S.doubt desk.new.store) → IfOk result (λ answer. answer.status
         ≡ status_so answer.error (world_of S.content desk.old) moment
         (or_met (message_read request.now) asked_by)) }
-    ensures blamed { IfOk result (λ answer. answer.status ≡ 500 → IsSome answer.error) }
     ensures failed { IfOk result (λ answer. IfSome answer.error (λ why.
         IsServerError why (world_of S.content desk.old) answer.bytes.items
         (world_of S.content desk.new))) }
@@ -98,6 +97,7 @@ pub fn answer_request<S: PlanStore>(
         answer.error ≡ None → IsSettledOrSame S.content S.may_leave desk.old desk.new) }
     ensures doubt { S.doubt desk.old.store ≤ S.doubt desk.new.store }
     ensures counted { S.faults desk.old.store ≤ S.faults desk.new.store }
+    ensures gave_up { IfOk result (λ answer. answer.status ≡ 500 → answer.error ≢ None) }
     ensures cause { IfOk result (λ answer. answer.error ≡ Some ServerError.Store →
         HasRisen (S.faults desk.old.store) (S.faults desk.new.store)) }
 {
@@ -134,7 +134,6 @@ fn respond<S: PlanStore>(
     ensures status { IsHonest (S.doubt desk.new.store) → IfOk result (λ r. r.status
         ≡ status_for (world_of S.content desk.old) moment
         (or_met (message_read request.now) asked_by)) }
-    ensures sound { IfOk result (λ r. r.status ≢ 500) }
     ensures err { OnErr result (world_of S.content desk.new ≡ world_of S.content desk.old) }
     ensures crash { IsHonest (S.doubt desk.new.store) → LeavesOldOr
         (world_after (world_of S.content desk.old) moment
@@ -146,6 +145,7 @@ fn respond<S: PlanStore>(
         (IsSettledOrSame S.content S.may_leave desk.old desk.new) }
     ensures doubt { S.doubt desk.old.store ≤ S.doubt desk.new.store }
     ensures counted { S.faults desk.old.store ≤ S.faults desk.new.store }
+    ensures other { IfOk result (λ r. r.status ≢ 500) }
     ensures cause { IfErr result (λ e. e ≡ ServerError.Store →
         HasRisen (S.faults desk.old.store) (S.faults desk.new.store)) }
 {
@@ -169,7 +169,6 @@ fn answer_message<S: PlanStore>(
         (asked_by (message_shown message.now)) r.bytes.items (world_of S.content desk.new)) }
     ensures status { IsHonest (S.doubt desk.new.store) → IfOk result (λ r. r.status
         ≡ status_for (world_of S.content desk.old) moment (asked_by (message_shown message.now))) }
-    ensures sound { IfOk result (λ r. r.status ≢ 500) }
     ensures err { OnErr result (world_of S.content desk.new ≡ world_of S.content desk.old) }
     ensures crash { IsHonest (S.doubt desk.new.store) → LeavesOldOr
         (world_after (world_of S.content desk.old) moment (asked_by (message_shown message.now))).content
@@ -180,6 +179,7 @@ fn answer_message<S: PlanStore>(
         (IsSettledOrSame S.content S.may_leave desk.old desk.new) }
     ensures doubt { S.doubt desk.old.store ≤ S.doubt desk.new.store }
     ensures counted { S.faults desk.old.store ≤ S.faults desk.new.store }
+    ensures other { IfOk result (λ r. r.status ≢ 500) }
     ensures cause { IfErr result (λ e. e ≡ ServerError.Store →
         HasRisen (S.faults desk.old.store) (S.faults desk.new.store)) }
 {
@@ -203,7 +203,6 @@ fn answer_call<S: PlanStore>(
         (world_of S.content desk.new)) }
     ensures status { IsHonest (S.doubt desk.new.store) → IfOk result (λ r.
         r.status ≡ status_for (world_of S.content desk.old) moment (Ok asked.now)) }
-    ensures sound { IfOk result (λ r. r.status ≢ 500) }
     ensures err { OnErr result (world_of S.content desk.new ≡ world_of S.content desk.old) }
     ensures crash { IsHonest (S.doubt desk.new.store) → LeavesOldOr
         (world_after (world_of S.content desk.old) moment (Ok asked.now)).content
@@ -214,6 +213,7 @@ fn answer_call<S: PlanStore>(
         (IsSettledOrSame S.content S.may_leave desk.old desk.new) }
     ensures doubt { S.doubt desk.old.store ≤ S.doubt desk.new.store }
     ensures counted { S.faults desk.old.store ≤ S.faults desk.new.store }
+    ensures other { IfOk result (λ r. r.status ≢ 500) }
     ensures cause { IfErr result (λ e. e ≡ ServerError.Store →
         HasRisen (S.faults desk.old.store) (S.faults desk.new.store)) }
 {
@@ -236,7 +236,6 @@ fn answer_pending<S: PlanStore>(
     ensures bytes { IfOk result (λ r. r.bytes.items
         ≡ reply_text (said_in (reply_in pending))) }
     ensures status { IfOk result (λ r. r.status ≡ 200) }
-    ensures sound { IfOk result (λ r. r.status ≢ 500) }
     ensures ok { IsHonest (S.doubt desk.new.store) → OnOk result
         (world_of S.content desk.new ≡ world_committed (world_of S.content desk.old) pending) }
     ensures err { OnErr result (world_of S.content desk.new ≡ world_of S.content desk.old) }
@@ -249,6 +248,7 @@ fn answer_pending<S: PlanStore>(
         (IsSettledOrSame S.content S.may_leave desk.old desk.new) }
     ensures doubt { S.doubt desk.old.store ≤ S.doubt desk.new.store }
     ensures counted { S.faults desk.old.store ≤ S.faults desk.new.store }
+    ensures other { IfOk result (λ r. r.status ≢ 500) }
     ensures cause { IfErr result (λ e. e ≡ ServerError.Store →
         HasRisen (S.faults desk.old.store) (S.faults desk.new.store)) }
 {
@@ -268,7 +268,7 @@ fn answer_pending<S: PlanStore>(
 fn refuse(alloc: Global, refusal: Refusal) -> Result<Response, ServerError>
     ensures bytes { IfOk result (λ r. r.bytes.items ≡ refusal_text refusal) }
     ensures status { IfOk result (λ r. r.status ≡ refusal_status refusal) }
-    ensures sound { IfOk result (λ r. r.status ≢ 500) }
+    ensures other { IfOk result (λ r. r.status ≢ 500) }
     ensures error { IfErr result (λ e. e ≡ ServerError.OutOfMemory) }
 {
     let bytes = error_answer(alloc, refusal.status(), refusal.allow(), refusal.word())?;
