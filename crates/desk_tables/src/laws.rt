@@ -19,7 +19,7 @@ ghost use Rattle.desk_tables.specs.Lookups.{own_of};
 ghost use Rattle.desk_tables.specs.TableChanges.{ChangesRows, EnrolsRows, PutsRows};
 ghost use Rattle.desk_tables.specs.TableChanges.{ClosesRows, ClearsRows, IsWithin};
 ghost use Rattle.desk_tables.specs.Store.{IsStanding};
-ghost use Rattle.desk_tables.specs.Leaving.{MayLeave, IsFoundAfter};
+ghost use Rattle.desk_tables.specs.Leaving.{MayLeave, IsFoundAfter, BeginsAfter, IsRefusedAfter};
 
 use sqlite_disk::Disk;
 use volume4d::laws::one_shape;
@@ -95,18 +95,24 @@ pub fn a_start_finds_what_may_be_left<D: Disk, E: Disk>()
         → ∥ MayLeave over_files last (Some w) ∥₁ }
 {}
 
-/// So where a crash leaves one content alone, as it does once a change is answered, the start finds it.
-pub fn a_start_finds_what_was_left<D: Disk, E: Disk>()
-    ensures { (last : Held (FileStore D D.Disk)) (found : Held (FileStore E E.Disk))
-        (w other : World) → LeavesOnly w (MayLeave over_files last) → IsFoundAfter last found
-        → IsStanding over_files found other → other ≡ w }
+/// Where a crash leaves one content alone, as it does once a change is answered: over such files a store
+/// begins with it, and once they are opened, memory and the disk alone keep it from that.
+pub fn a_store_begins_with_what_was_left<D: Disk, E: Disk>()
+    ensures begins { (last : Held (FileStore D D.Disk)) (new : Held (FileStore E E.Disk))
+        (w other : World) → LeavesOnly w (MayLeave over_files last) → BeginsAfter last new other
+        → other ≡ w }
+    ensures taken { (last : Held (FileStore D D.Disk)) (w : World)
+        → LeavesOnly w (MayLeave over_files last) → ¬ IsRefusedAfter last E.Disk }
 {}
 
-/// And after a crash in the midst of a change it finds the content before the change, or that after it.
-pub fn a_start_finds_the_old_or_the_new<D: Disk, E: Disk>()
-    ensures { (old last : Held (FileStore D D.Disk)) (found : Held (FileStore E E.Disk))
+/// And after a crash in the midst of a change it begins with the content before the change, or that after it.
+pub fn a_store_begins_with_the_old_or_the_new<D: Disk, E: Disk>()
+    ensures begins { (old last : Held (FileStore D D.Disk)) (new : Held (FileStore E E.Disk))
         (before after other : World) → LeavesOnly before (MayLeave over_files old)
         → LeavesOldOr after (MayLeave over_files old) (MayLeave over_files last)
-        → IsFoundAfter last found → IsStanding over_files found other
-        → ∥ (other ≡ before) ⊎ (other ≡ after) ∥₁ }
+        → BeginsAfter last new other → ∥ (other ≡ before) ⊎ (other ≡ after) ∥₁ }
+    ensures taken { (old last : Held (FileStore D D.Disk)) (before after : World)
+        → LeavesOnly before (MayLeave over_files old)
+        → LeavesOldOr after (MayLeave over_files old) (MayLeave over_files last)
+        → ¬ IsRefusedAfter last E.Disk }
 {}
