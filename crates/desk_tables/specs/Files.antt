@@ -12,7 +12,7 @@ use Rattle.desk_store.specs.World.{World}
 use Rattle.desk_tables.specs.declared.opening.open.OpenFault.{OpenFault}
 use Rattle.desk_tables.specs.declared.opening.open.OpenFault.TheVariants.{NotADesk}
 use Rattle.desk_tables.specs.Store.{Shown}
-use Rattle.desk_tables.specs.Opening.{BeginsWith, ShowsNoDesk}
+use Rattle.desk_tables.specs.Opening.{BeginsWith, ShowsNoDesk, BlamesDatabase}
 
 -- the files that there are where nothing was
 abbrev pub no_files : Image
@@ -29,20 +29,21 @@ module _ {D : Type 0} {g : disk.Ghosts D} where
     pub opened : HasCleanDisk (file_state h) → FindsFirst image found
     pub begins : BeginsWith (over_files {D = D} {g = g}) found h w
 
-module _ {D : Type 0} (g : disk.Ghosts D) (image : Image) where
-  -- a connection finds the database of the files, and what it shows is no desk's
-  pub record HoldsNoDesk : Type 0 where
+module _ {D : Type 0} (g : disk.Ghosts D) (image : Image) (e : OpenFault) where
+  -- a connection finds the database of the files, and what it shows says why it is no store's
+  pub record IsRefusedIn : Type 0 where
     pub found : Held (FileStore D g)
     pub left : Held (FileStore D g)
     pub opened : HasCleanDisk (file_state left) → FindsFirst image found
     pub fresh : IsNew found
-    pub none : ShowsNoDesk (over_files {D = D} {g = g}) found left
+    pub none : e ≡ NotADesk → ShowsNoDesk (over_files {D = D} {g = g}) found left
+    pub cause : BlamesDatabase (over_files {D = D} {g = g}) found left e
     pub kept : IsKept (over_files {D = D} {g = g}) found left
 
-  -- that the files hold no desk is told only if they hold none. Of another fault nothing is said: files may
-  -- be refused before anything in them is read
-  abbrev pub FailsAs : OpenFault → Type 0
-  FailsAs e = e ≡ NotADesk → HoldsNoDesk
+  -- that the files hold no desk is told only of what a connection found in them. Of another fault nothing is
+  -- said: files may be refused before anything in them is read
+  abbrev pub FailsAs : Type 0
+  FailsAs = e ≡ NotADesk → IsRefusedIn
 
 -- a store over files, or why there is none
 abbrev pub Opened : (D : Type 0) → disk.Ghosts D → Type 0

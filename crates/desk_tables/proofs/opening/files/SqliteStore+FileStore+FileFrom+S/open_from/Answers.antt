@@ -24,7 +24,8 @@ returns-in-Ok-clause-fault g c =
       left = c.in-Err-adopt.refused.connection;
       opened = λ clean. (c.in-Ok.ensures.opened (was clean), c.in-Ok.ensures.found (was clean));
       fresh = c.in-Ok.ensures.fresh;
-      none = c.in-Err-adopt.ensures.none none;
+      none = c.in-Err-adopt.ensures.none;
+      cause = c.in-Err-adopt.ensures.cause;
       kept = c.in-Err-adopt.ensures.kept;
     }
 
