@@ -1,6 +1,8 @@
-use Rattle.std.proofs.Common.{◌+◌, Ok, arith}
+use Rattle.std.proofs.Common.{◌≡◌, ◌+◌, Ok, arith, subst}
 use Rattle.desk_store.specs.Faults.{IsHonest}
 use Rattle.desk_store.specs.FaultLaws.{was_honest}
+use Rattle.desk_run.specs.DeskWorld.{world_of}
+use Rattle.desk_program.specs.Keeping.{AreKept}
 use Rattle.desk_program.proofs.KeepingLemmas.{both_kept}
 use Rattle.desk_program.proofs.ServedLemmas.{goes_on_by, stops_by}
 use Rattle.desk_program.proofs.server.serve_connections.Goals as goal
@@ -31,3 +33,13 @@ loop-before-preserved g c = record {
   doubt = omega (arith, c.loop-before.invariant.doubt, c.serve_connection.ensures.doubt);
   counted = omega (arith, c.loop-before.invariant.counted, c.serve_connection.ensures.counted);
 }
+
+pub returns-clause-kept : goal.returns-clause-kept
+returns-clause-kept g c =
+    let all : c.loop-before.before ≡ c.args.count =
+    omega (arith, c.loop-before-test.false, c.loop-before.auto.before-end) in
+    subst (λ n. AreKept {A = Unit {0}} (IsHonest (g.S.PlanStore.doubt c.loop-before.desk.store)) (Ok tt) n
+    (g.P.Port.taken c.args.port.now) (g.P.Port.taken c.loop-before.port)
+    (world_of g.S.PlanStore.content c.args.desk.now) (world_of g.S.PlanStore.content c.loop-before.desk)
+    (g.S.PlanStore.may_leave c.args.desk.now.store) (g.S.PlanStore.may_leave c.loop-before.desk.store)) all
+    c.loop-before.invariant.kept
