@@ -1,3 +1,4 @@
 mod ServedLemmas
 mod EnrolLemmas
 mod MomentLemmas
+mod KeepingLemmas

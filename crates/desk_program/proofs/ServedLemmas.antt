@@ -1,7 +1,7 @@
 -- What connections leave, one after the other.
-use Rattle.std.proofs.Common.{◌≡◌, ◌≤◌, ◌+◌, ℕ, ℤ, List, [], ◌∷◌, ◌++◌, ◌∙◌, Option, None, Some, Result, Ok, Err, IfErr, length, map, inl, refl, ap, sym, subst, arith}
+use Rattle.std.proofs.Common.{◌≡◌, ◌+◌, ℕ, ℤ, List, [], ◌∷◌, ◌++◌, ◌∙◌, Option, None, Some, Result, Ok, Err, IfErr, length, inl, refl, ap, sym, subst, arith}
 use Rattle.std.specs.Result.{IsErrAnd}
-use Rattle.std.proofs.lemmas.List.{length-append, map-append, append_assoc, append-nil}
+use Rattle.std.proofs.lemmas.List.{length-append, append_assoc, append-nil}
 use Rattle.std.proofs.lemmas.List.Elements.{All-append, All-cons, All-nil}
 use Rattle.desk_run.specs.DeskWorld.{DeskWorld}
 use Rattle.desk_wire.specs.Serving.{HasServed, IsReplied}
@@ -68,7 +68,7 @@ served_then H K by (Err CutShort) old new out now w moment after h = h
 served_then H K by (Err Read) old new out now w moment after h = h
 served_then H K by (Err OutOfMemory) old new out now w moment after h = h
 
-all_then : (H K : Type 0) → (K → H) → (xs : List Exchange) (w after : DeskWorld) → AreServed H xs w after
+pub all_then : (H K : Type 0) → (K → H) → (xs : List Exchange) (w after : DeskWorld) → AreServed H xs w after
     → AreServed K xs w after
 all_then H K by [] w after h = h
 all_then H K by (x ∷ xs) w after h = (
@@ -77,30 +77,13 @@ all_then H K by (x ∷ xs) w after h = (
   all_then H K by xs h.0 after h.2,
 )
 
-both_served : (H : Type 0) (xs ys : List Exchange) (u v w : DeskWorld) → AreServed H xs u v
+pub both_served : (H : Type 0) (xs ys : List Exchange) (u v w : DeskWorld) → AreServed H xs u v
     → AreServed H ys v w → AreServed H (xs ++ ys) u w
 both_served H [] ys u v w first then = subst (λ z. AreServed H ys z w) first then
 both_served H (x ∷ xs) ys u v w first then =
     (first.0, first.1, both_served H xs ys first.0 v w first.2 then)
 
 -- ---- both
-
-module _ {A B C : Type 0} where
-  pub both : (H K : Type 0) → (K → H) → (first : Result A Failure) (then : Result B Failure)
-      (whole : Result C Failure) (m k n : ℕ) (a b c : Option (List Arrival)) (u v w : DeskWorld)
-      → AreTaken H first m a b u v → AreTaken K then k b c v w → m + k ≤ n
-      → ((xs ys : List Exchange) → EndsAfter first m xs → EndsAfter then k ys
-      → EndsAfter whole n (xs ++ ys)) → AreTaken K whole n a c u w
-  both H K by first then whole m k n a b c u v w h t few ends = record {
-    exchanges = h.exchanges ++ t.exchanges;
-    few = omega (arith, length-append h.exchanges t.exchanges, h.few, t.few, few);
-    taken = subst (λ z. Takes a c z) (sym (map-append (λ x. x.arrival) h.exchanges t.exchanges))
-        (both_taken a b c (map (λ x. x.arrival) h.exchanges) (map (λ x. x.arrival) t.exchanges)
-        h.taken t.taken);
-    served = both_served K h.exchanges t.exchanges u v w
-        (all_then H K by h.exchanges u v h.served) t.served;
-    ends = ends h.exchanges t.exchanges h.ends t.ends;
-  }
 
 -- nothing is taken
 pub none : {A : Type 0} (H : Type 0) (done : Result A Failure) (count : ℕ)
@@ -116,7 +99,7 @@ none H done count old new w after same left ends = record {
 }
 
 -- one connection is taken
-one_ends : {A : Type 0} (done : Result A Failure) (x : Exchange) → failing done ≡ failure_at x.served
+pub one_ends : {A : Type 0} (done : Result A Failure) (x : Exchange) → failing done ≡ failure_at x.served
     → IfErr done (λ f. failure_status f ≡ 4) → EndsAfter done 1 (x ∷ [])
 one_ends (Ok d) x is fault = (
   refl,
@@ -124,19 +107,6 @@ one_ends (Ok d) x is fault = (
       (All-nil (λ z. failure_at z.served ≡ None)),
 )
 one_ends (Err f) x is fault = fault
-
-pub one : {A : Type 0} (H : Type 0) (done : Result A Failure) (x : Exchange)
-    (old new : Option (List Arrival)) (w after : DeskWorld) → Takes old new (x.arrival ∷ [])
-    → HasServed H x.served x.arrival.bytes x.unread x.out x.now w x.arrival.moment after
-    → failing done ≡ failure_at x.served → IfErr done (λ f. failure_status f ≡ 4)
-    → AreTaken H done 1 old new w after
-one H done x old new w after takes served is fault = record {
-  exchanges = x ∷ [];
-  few = omega arith;
-  taken = takes;
-  served = (after, served, refl);
-  ends = one_ends done x is fault;
-}
 
 -- so many connections and then others are so many in all
 pub goes_on : {A B C : Type 0} (d : A) (e : B) (whole : C) (m k : ℕ) (xs ys : List Exchange)

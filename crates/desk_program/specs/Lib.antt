@@ -3,4 +3,5 @@ pub mod Enrolling
 pub mod Serving
 pub mod Playing
 pub mod Waiting
+pub mod Keeping
 pub mod Running

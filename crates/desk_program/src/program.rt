@@ -1,15 +1,17 @@
 //! What the program does at a desk: enrolments, and the requests of an input.
 
-ghost use Rattle.std.specs.Prelude.{◌≡◌, ◌≤◌, ◌⊎◌, IfErr, IfOk, OnErr, OnOk, string_bytes};
-ghost use Rattle.desk_run.specs.DeskWorld.{world_of};
+ghost use Rattle.std.specs.Prelude.{◌≡◌, ◌≤◌, ◌⊎◌, Option, IfErr, IfOk, OnErr, OnOk, string_bytes};
+ghost use Rattle.desk_run.specs.DeskWorld.{IsSettled, world_of};
 ghost use Rattle.desk_run.specs.Faults.{IsBreakdown};
 ghost use Rattle.desk_store.specs.Faults.{IsHonest};
+ghost use Rattle.desk_store.specs.World.{World};
 ghost use Rattle.desk_line.specs.Exits as spec;
 ghost use Rattle.desk_line.specs.Exits.{exit_status};
 ghost use Rattle.desk_rules.specs.Limits.{max_priority};
 ghost use Rattle.desk_line.specs.Lines.{AreEnrolments, HasDesk, IsLine, IsPlay};
 ghost use Rattle.desk_program.specs.Enrolling as enrolling;
 ghost use Rattle.desk_program.specs.Enrolling.{AreListedSoFar, permitting, with_operators};
+ghost use Rattle.desk_program.specs.Keeping.{AreKeptSoFar, FindsEnrolled, IsLinePlayKept, IsPlayKept};
 ghost use Rattle.desk_program.specs.Playing.{IsEnrolled, IsLinePlayed, IsNotPlayed, IsPlayed, status_after};
 
 use desk_line::{Enrolment, Failure, Line, Play, conclude};
@@ -36,6 +38,12 @@ pub fn with_desk<S: PlanStore, R: Read, W: Write, E: Write>(
         (R.remaining input.old) (R.remaining input.new)
         (W.contents output.old) (W.contents output.new)
         (world_of S.content desk.old) (world_of S.content desk.new) }
+    ensures kept { IsHonest (S.doubt desk.new.store) → IsSettled S.content S.may_leave desk.old →
+        (found : Option World) → S.may_leave desk.new.store found →
+        IsLinePlayKept (IsHonest (S.doubt desk.new.store)) line.now result
+        (R.remaining input.old) (R.remaining input.new)
+        (W.contents output.old) (W.contents output.new)
+        (world_of S.content desk.old) (world_of S.content desk.new) found }
     ensures doubt { S.doubt desk.old.store ≤ S.doubt desk.new.store }
     ensures counted { S.faults desk.old.store ≤ S.faults desk.new.store }
 {
@@ -77,6 +85,12 @@ fn play_line<S: PlanStore, R: Read, W: Write, E: Write>(
         (R.remaining input.old) (R.remaining input.new)
         (W.contents output.old) (W.contents output.new) (world_of S.content desk.old)
         (world_of S.content desk.new) }
+    ensures kept { IsHonest (S.doubt desk.new.store) → IsSettled S.content S.may_leave desk.old →
+        (found : Option World) → S.may_leave desk.new.store found →
+        IsPlayKept (IsHonest (S.doubt desk.new.store)) play.now result
+        (R.remaining input.old) (R.remaining input.new)
+        (W.contents output.old) (W.contents output.new)
+        (world_of S.content desk.old) (world_of S.content desk.new) found }
     ensures doubt { S.doubt desk.old.store ≤ S.doubt desk.new.store }
     ensures counted { S.faults desk.old.store ≤ S.faults desk.new.store }
 {
@@ -99,6 +113,10 @@ fn enrol_line<S: PlanStore, W: Write, E: Write>(
     ensures enrolled { IsEnrolled (IsHonest (S.doubt desk.new.store)) enrolment.now result
         (W.contents output.old) (W.contents output.new) (world_of S.content desk.old)
         (world_of S.content desk.new) }
+    ensures kept { IsHonest (S.doubt desk.new.store) → IsSettled S.content S.may_leave desk.old →
+        (found : Option World) → S.may_leave desk.new.store found →
+        FindsEnrolled enrolment.now result (W.contents output.old) (W.contents output.new)
+        (world_of S.content desk.old) found }
     ensures doubt { S.doubt desk.old.store ≤ S.doubt desk.new.store }
     ensures counted { S.faults desk.old.store ≤ S.faults desk.new.store }
 {
@@ -151,6 +169,12 @@ pub fn set_up<S: PlanStore>(
         with_operators (permitting (world_of S.content desk.old) permitted.now) enrolments.now) }
     ensures err { OnErr result (AreListedSoFar (IsHonest (S.doubt desk.new.store)) enrolments.now
         (permitting (world_of S.content desk.old) permitted.now) (world_of S.content desk.new)) }
+    ensures kept { IsHonest (S.doubt desk.new.store) → IsSettled S.content S.may_leave desk.old →
+        OnOk result (IsSettled S.content S.may_leave desk.new) }
+    ensures crash { IsHonest (S.doubt desk.new.store) → IsSettled S.content S.may_leave desk.old →
+        OnErr result ((found : Option World) → S.may_leave desk.new.store found →
+        AreKeptSoFar (IsHonest (S.doubt desk.new.store)) enrolments.now
+        (permitting (world_of S.content desk.old) permitted.now) (world_of S.content desk.new) found) }
     ensures fault { IfErr result IsBreakdown }
     ensures doubt { S.doubt desk.old.store ≤ S.doubt desk.new.store }
     ensures counted { S.faults desk.old.store ≤ S.faults desk.new.store }
@@ -168,6 +192,12 @@ fn enrol_all<S: PlanStore>(desk: &mut Desk<S>, enrolments: &[Enrolment]) -> Resu
         enrolments.now) }
     ensures err { OnErr result (AreListedSoFar (IsHonest (S.doubt desk.new.store)) enrolments.now
         (world_of S.content desk.old) (world_of S.content desk.new)) }
+    ensures kept { IsHonest (S.doubt desk.new.store) → IsSettled S.content S.may_leave desk.old →
+        OnOk result (IsSettled S.content S.may_leave desk.new) }
+    ensures crash { IsHonest (S.doubt desk.new.store) → IsSettled S.content S.may_leave desk.old →
+        OnErr result ((found : Option World) → S.may_leave desk.new.store found →
+        AreKeptSoFar (IsHonest (S.doubt desk.new.store)) enrolments.now
+        (world_of S.content desk.old) (world_of S.content desk.new) found) }
     ensures fault { IfErr result IsBreakdown }
     ensures doubt { S.doubt desk.old.store ≤ S.doubt desk.new.store }
     ensures counted { S.faults desk.old.store ≤ S.faults desk.new.store }

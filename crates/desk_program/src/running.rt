@@ -1,11 +1,13 @@
 //! A line carried out at a desk, over whatever store it was opened.
 
-ghost use Rattle.std.specs.Prelude.{◌≡◌, ◌≤◌, None, IfErr, IfOk};
+ghost use Rattle.std.specs.Prelude.{◌≡◌, ◌≤◌, Option, None, IfErr, IfOk};
 ghost use Rattle.std.specs.Option.{IsSomeAnd};
 ghost use Rattle.desk_store.specs.Faults.{IsHonest};
+ghost use Rattle.desk_store.specs.World.{World};
 ghost use Rattle.desk_line.specs.Exits.{failure_status};
 ghost use Rattle.desk_line.specs.Lines.{HasDatabase, IsLine};
-ghost use Rattle.desk_run.specs.DeskWorld.{world_of};
+ghost use Rattle.desk_run.specs.DeskWorld.{IsSettled, world_of};
+ghost use Rattle.desk_program.specs.Keeping.{IsLineKept};
 ghost use Rattle.desk_program.specs.Running.{IsCarriedOut};
 
 use crate::port::Port;
@@ -36,6 +38,12 @@ pub fn run_opened<S: PlanStore + Drop, P: Port, R: Read, W: Write, E: Write>(
         (W.contents output.old) (W.contents output.new) (world_of S.content desk)
         (world_of S.content left)
         × (S.doubt desk.store ≤ S.doubt left.store))) }
+    ensures kept { IfOk opened (λ desk. IsSomeAnd result.1 (λ left. IsHonest (S.doubt left.store) →
+        IsSettled S.content S.may_leave desk → (found : Option World) → S.may_leave left.store found →
+        IsLineKept (IsHonest (S.doubt left.store)) line.now result.0 (P.taken port.old) (P.taken port.new)
+        (R.remaining input.old) (R.remaining input.new)
+        (W.contents output.old) (W.contents output.new) (world_of S.content desk)
+        (world_of S.content left) found)) }
     ensures unopened { IfErr opened (λ f. (result ≡ (failure_status f, None))
         × (P.taken port.new ≡ P.taken port.old) × (R.remaining input.new ≡ R.remaining input.old)
         × (W.contents output.new ≡ W.contents output.old)) }
@@ -65,6 +73,12 @@ fn run_at<S: PlanStore, P: Port, R: Read, W: Write, E: Write>(
         (P.taken port.old) (P.taken port.new) (R.remaining input.old) (R.remaining input.new)
         (W.contents output.old) (W.contents output.new) (world_of S.content desk.old)
         (world_of S.content desk.new) }
+    ensures kept { IsHonest (S.doubt desk.new.store) → IsSettled S.content S.may_leave desk.old →
+        (found : Option World) → S.may_leave desk.new.store found →
+        IsLineKept (IsHonest (S.doubt desk.new.store)) line.now result
+        (P.taken port.old) (P.taken port.new) (R.remaining input.old) (R.remaining input.new)
+        (W.contents output.old) (W.contents output.new) (world_of S.content desk.old)
+        (world_of S.content desk.new) found }
     ensures doubt { S.doubt desk.old.store ≤ S.doubt desk.new.store }
 {
     match line {

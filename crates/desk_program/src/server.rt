@@ -1,11 +1,13 @@
 //! The desk at a port: one request a connection, one connection after the other.
 
-ghost use Rattle.std.specs.Prelude.{◌≡◌, ◌≤◌, ◌⊎◌, IfOk, IfErr, IfSome, OnOk, string_bytes};
+ghost use Rattle.std.specs.Prelude.{◌≡◌, ◌≤◌, ◌⊎◌, Option, IfOk, IfErr, IfSome, OnOk, string_bytes};
 ghost use Rattle.std.specs.Io.KnownBytes.{Appends};
 ghost use Rattle.desk_store.specs.Faults.{IsHonest};
+ghost use Rattle.desk_store.specs.World.{World};
 ghost use Rattle.desk_line.specs.Exits.{failure_at, failure_status};
 ghost use Rattle.desk_line.specs.Lines.{IsServe};
-ghost use Rattle.desk_run.specs.DeskWorld.{world_of};
+ghost use Rattle.desk_run.specs.DeskWorld.{IsSettled, world_of};
+ghost use Rattle.desk_program.specs.Keeping.{AreKept, IsPortKept, IsServeKept};
 ghost use Rattle.desk_program.specs.Serving.{AreTaken, IsLineServed, IsAtPort, listening_line, failing};
 
 use crate::port::{Connection, Port};
@@ -34,6 +36,10 @@ pub fn serve<S: PlanStore, P: Port, W: Write, E: Write>(
     ensures served { IsLineServed (IsHonest (S.doubt desk.new.store)) line.now result
         (P.taken port.old) (P.taken port.new) (world_of S.content desk.old)
         (world_of S.content desk.new) }
+    ensures kept { IsHonest (S.doubt desk.new.store) → IsSettled S.content S.may_leave desk.old →
+        (found : Option World) → S.may_leave desk.new.store found →
+        IsServeKept (IsHonest (S.doubt desk.new.store)) line.now result (P.taken port.old)
+        (P.taken port.new) (world_of S.content desk.old) (world_of S.content desk.new) found }
     ensures listening { result ≡ 0 → Appends (W.contents output.old) (W.contents output.new)
         (listening_line line.now.port) }
     ensures doubt { S.doubt desk.old.store ≤ S.doubt desk.new.store }
@@ -54,6 +60,10 @@ fn serve_line<S: PlanStore, P: Port, W: Write>(
     ensures served { IsAtPort (IsHonest (S.doubt desk.new.store)) result line.now
         (P.taken port.old) (P.taken port.new) (world_of S.content desk.old)
         (world_of S.content desk.new) }
+    ensures kept { IsHonest (S.doubt desk.new.store) → IsSettled S.content S.may_leave desk.old →
+        (found : Option World) → S.may_leave desk.new.store found →
+        IsPortKept (IsHonest (S.doubt desk.new.store)) result line.now (P.taken port.old)
+        (P.taken port.new) (world_of S.content desk.old) (world_of S.content desk.new) found }
     ensures listening { OnOk result (Appends (W.contents output.old) (W.contents output.new)
         (listening_line line.now.port)) }
     ensures doubt { S.doubt desk.old.store ≤ S.doubt desk.new.store }
@@ -101,6 +111,9 @@ fn serve_connections<S: PlanStore, P: Port>(
     ensures served { AreTaken (IsHonest (S.doubt desk.new.store)) result count
         (P.taken port.old) (P.taken port.new) (world_of S.content desk.old)
         (world_of S.content desk.new) }
+    ensures kept { AreKept (IsHonest (S.doubt desk.new.store)) result count
+        (P.taken port.old) (P.taken port.new) (world_of S.content desk.old)
+        (world_of S.content desk.new) (S.may_leave desk.old.store) (S.may_leave desk.new.store) }
     ensures doubt { S.doubt desk.old.store ≤ S.doubt desk.new.store }
     ensures counted { S.faults desk.old.store ≤ S.faults desk.new.store }
 {
@@ -120,6 +133,9 @@ fn serve_connection<S: PlanStore, P: Port>(
     ensures served { AreTaken (IsHonest (S.doubt desk.new.store)) result 1
         (P.taken port.old) (P.taken port.new) (world_of S.content desk.old)
         (world_of S.content desk.new) }
+    ensures kept { AreKept (IsHonest (S.doubt desk.new.store)) result 1
+        (P.taken port.old) (P.taken port.new) (world_of S.content desk.old)
+        (world_of S.content desk.new) (S.may_leave desk.old.store) (S.may_leave desk.new.store) }
     ensures doubt { S.doubt desk.old.store ≤ S.doubt desk.new.store }
     ensures counted { S.faults desk.old.store ≤ S.faults desk.new.store }
 {

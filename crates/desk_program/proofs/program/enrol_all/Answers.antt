@@ -1,9 +1,11 @@
 use Rattle.std.proofs.Common.{◌∙◌, ◌++◌, ◌∷◌, [], ap, sym, arith, take}
 use Rattle.std.proofs.lemmas.List.{take_more}
+use Rattle.desk_store.specs.Faults.{IsHonest}
 use Rattle.desk_store.specs.FaultLaws.{was_honest}
 use Rattle.desk_run.specs.DeskWorld.{enrolled, world_of}
 use Rattle.desk_program.specs.Enrolling.{with_operators}
 use Rattle.desk_program.proofs.EnrolLemmas.{one_more}
+use Rattle.desk_program.proofs.KeepingLemmas.{kept_so_far, on_err}
 use Rattle.desk_program.proofs.program.enrol_all.Goals as goal
 
 pub loop-enrolment-preserved : goal.loop-enrolment-preserved
@@ -19,6 +21,27 @@ loop-enrolment-preserved g c =
           ∙ sym (one_more (take index es) w e)
           ∙ ap (λ x. with_operators w (take index es ++ x ∷ [])) c.enrolment-item.is
           ∙ ap (with_operators w) (sym (take_more es index e c.loop-enrolment-test.true));
+      settled = λ h was. c.in_ok-enrol.ensures.kept h;
       doubt = omega (arith, c.loop-enrolment.invariant.doubt, c.enrol.ensures.doubt);
       counted = omega (arith, c.loop-enrolment.invariant.counted, c.enrol.ensures.counted);
     }
+
+pub returns-in_err-enrol-clause-crash : goal.returns-in_err-enrol-clause-crash
+returns-in_err-enrol-clause-crash g c = λ p settled.
+    let index = c.loop-enrolment.enrolment-index in
+    let es = c.args.enrolments.now in
+    let e = c.enrolment-item.result in
+    let w = world_of g.S.PlanStore.content c.args.desk.now in
+    let v = world_of g.S.PlanStore.content c.loop-enrolment.desk in
+    let before = was_honest c.enrol.ensures.doubt p in
+    let listed = c.loop-enrolment.invariant.listed in
+    on_err c.from_residual.result
+    (kept_so_far (IsHonest (g.S.PlanStore.doubt c.enrol.new.self.store)) es w v
+    (world_of g.S.PlanStore.content c.enrol.new.self) e index
+    (g.S.PlanStore.may_leave c.loop-enrolment.desk.store) (g.S.PlanStore.may_leave c.enrol.new.self.store)
+    c.loop-enrolment-test.true (λ h. c.in_err-enrol.ensures.err)
+    (λ h. listed (was_honest c.enrol.ensures.doubt h))
+    (ap (λ x. enrolled x e.operator e.ceiling) (listed before) ∙ sym (one_more (take index es) w e)
+    ∙ ap (λ x. with_operators w (take index es ++ x ∷ [])) c.enrolment-item.is
+    ∙ ap (with_operators w) (sym (take_more es index e c.loop-enrolment-test.true)))
+    (c.loop-enrolment.invariant.settled before settled) (c.enrol.ensures.crash p) p)

@@ -1,6 +1,6 @@
 use Rattle.std.proofs.Common.{◌≡◌, ◌≤◌, take}
 use Rattle.desk_store.specs.Faults.{IsHonest}
-use Rattle.desk_run.specs.DeskWorld.{world_of}
+use Rattle.desk_run.specs.DeskWorld.{IsSettled, world_of}
 use Rattle.desk_program.specs.Enrolling.{with_operators}
 use Rattle.desk_program.proofs.program.enrol_all.Given as goal
 
@@ -11,6 +11,9 @@ invariant-loop-enrolment g l =
       listed : IsHonest (g.S.PlanStore.doubt l.desk.store)
           → world_of g.S.PlanStore.content l.desk
           ≡ with_operators (world_of g.S.PlanStore.content l.fn.desk) (take l.enrolment-index l.enrolments);
+      settled : IsHonest (g.S.PlanStore.doubt l.desk.store)
+          → IsSettled g.S.PlanStore.content g.S.PlanStore.may_leave l.fn.desk
+          → IsSettled g.S.PlanStore.content g.S.PlanStore.may_leave l.desk;
       doubt : g.S.PlanStore.doubt l.fn.desk.store ≤ g.S.PlanStore.doubt l.desk.store;
       counted : g.S.PlanStore.faults l.fn.desk.store ≤ g.S.PlanStore.faults l.desk.store;
     }

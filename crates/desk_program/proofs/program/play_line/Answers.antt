@@ -4,6 +4,7 @@ use Rattle.desk_store.specs.FaultLaws.{was_honest}
 use Rattle.desk_run.specs.DeskWorld.{world_of}
 use Rattle.desk_wire.specs.Playing.{HasPlayed}
 use Rattle.desk_program.specs.Enrolling.{permitting, with_operators}
+use Rattle.desk_program.proofs.KeepingLemmas.{run_kept}
 use Rattle.desk_program.proofs.MomentLemmas.{same_moment}
 use Rattle.desk_program.proofs.program.play_line.Goals as goal
 
@@ -32,3 +33,20 @@ returns-clause-played g c =
           (subst (λ v. HasPlayed honest played.ended played.answered old new out now v
           (to_z w64 (of_z w64 moment)) after) listed c.play_all-played.ensures.played);
     })
+
+pub returns-clause-kept : goal.returns-clause-kept
+returns-clause-kept g c = λ p settled found may.
+    let before = was_honest c.play_all-played.ensures.doubt p in
+    let played = c.play_all-played.result in
+    let w = world_of g.S.PlanStore.content c.args.desk.now in
+    run_kept (IsHonest (g.S.PlanStore.doubt c.play_all-played.new.desk.store)) c.args.play.now _ played.ended
+    played.answered (g.R.Read.remaining c.args.input.now)
+    (g.R.Read.remaining c.play_all-played.new.input) (g.W.Write.contents c.args.output.now)
+    (g.W.Write.contents c.play_all-played.new.output) w (world_of g.S.PlanStore.content c.set_up.new.desk)
+    (world_of g.S.PlanStore.content c.play_all-played.new.desk) _
+    (c.conclude-2.ensures.status ∙ c.done_after.ensures)
+    (same_moment c.args.play.now.moment c.requires.moment)
+    (λ h. c.in_default.ensures.ok (was_honest c.play_all-played.ensures.doubt h)
+    ∙ ap (with_operators (permitting w c.args.play.now.permitted)) c.deref.ensures.value)
+    c.play_all-played.ensures.played p found
+    (c.play_all-played.ensures.kept p (c.in_default.ensures.kept before settled) found may)

@@ -1,29 +1,45 @@
-use Rattle.std.proofs.Common.{◌+◌, Ok, arith}
+use Rattle.std.proofs.Common.{◌≡◌, ◌+◌, Ok, arith, subst}
 use Rattle.desk_store.specs.Faults.{IsHonest}
 use Rattle.desk_store.specs.FaultLaws.{was_honest}
-use Rattle.desk_program.proofs.ServedLemmas.{both, goes_on_by, stops_by}
+use Rattle.desk_run.specs.DeskWorld.{world_of}
+use Rattle.desk_program.specs.Keeping.{AreKept}
+use Rattle.desk_program.proofs.KeepingLemmas.{both_kept}
+use Rattle.desk_program.proofs.ServedLemmas.{goes_on_by, stops_by}
 use Rattle.desk_program.proofs.server.serve_connections.Goals as goal
 
-pub returns-in_err-serve_connection-clause-served : goal.returns-in_err-serve_connection-clause-served
-returns-in_err-serve_connection-clause-served g c =
-    both (IsHonest (g.S.PlanStore.doubt c.loop-before.desk.store))
+pub returns-in_err-serve_connection-clause-kept : goal.returns-in_err-serve_connection-clause-kept
+returns-in_err-serve_connection-clause-kept g c =
+    both_kept (IsHonest (g.S.PlanStore.doubt c.loop-before.desk.store))
     (IsHonest (g.S.PlanStore.doubt c.serve_connection.new.desk.store))
     (was_honest c.serve_connection.ensures.doubt) (Ok tt) c.serve_connection.result c.from_residual.result
-    c.loop-before.before 1 c.args.count _ _ _ _ _ _ c.loop-before.invariant.served
-    c.serve_connection.ensures.served (omega (arith, c.loop-before-test.true))
+    c.loop-before.before 1 c.args.count _ _ _ _ _ _ _ _ _ c.loop-before.invariant.kept
+    c.serve_connection.ensures.kept (omega (arith, c.loop-before-test.true))
     (λ xs ys first then. stops_by c.from_residual.result c.in_err-serve_connection.field-0.0
     c.serve_connection.result c.from_residual.ensures.1 c.in_err-serve_connection.was c.args.count 1 xs ys
     then)
 
+pub returns-in_err-serve_connection-clause-served : goal.returns-in_err-serve_connection-clause-served
+returns-in_err-serve_connection-clause-served g c = (returns-in_err-serve_connection-clause-kept g c).taken
+
 pub loop-before-preserved : goal.loop-before-preserved
 loop-before-preserved g c = record {
-  served = both (IsHonest (g.S.PlanStore.doubt c.loop-before.desk.store))
+  kept = both_kept (IsHonest (g.S.PlanStore.doubt c.loop-before.desk.store))
       (IsHonest (g.S.PlanStore.doubt c.serve_connection.new.desk.store))
       (was_honest c.serve_connection.ensures.doubt) (Ok tt) c.serve_connection.result (Ok tt)
-      c.loop-before.before 1 (c.loop-before.before + 1) _ _ _ _ _ _ c.loop-before.invariant.served
-      c.serve_connection.ensures.served (omega arith)
+      c.loop-before.before 1 (c.loop-before.before + 1) _ _ _ _ _ _ _ _ _ c.loop-before.invariant.kept
+      c.serve_connection.ensures.kept (omega arith)
       (λ xs ys. goes_on_by (tt {0}) c.in_ok-serve_connection.field-0 (tt {0}) c.serve_connection.result
       c.in_ok-serve_connection.was c.loop-before.before 1 xs ys);
   doubt = omega (arith, c.loop-before.invariant.doubt, c.serve_connection.ensures.doubt);
   counted = omega (arith, c.loop-before.invariant.counted, c.serve_connection.ensures.counted);
 }
+
+pub returns-clause-kept : goal.returns-clause-kept
+returns-clause-kept g c =
+    let all : c.loop-before.before ≡ c.args.count =
+    omega (arith, c.loop-before-test.false, c.loop-before.auto.before-end) in
+    subst (λ n. AreKept {A = Unit {0}} (IsHonest (g.S.PlanStore.doubt c.loop-before.desk.store)) (Ok tt) n
+    (g.P.Port.taken c.args.port.now) (g.P.Port.taken c.loop-before.port)
+    (world_of g.S.PlanStore.content c.args.desk.now) (world_of g.S.PlanStore.content c.loop-before.desk)
+    (g.S.PlanStore.may_leave c.args.desk.now.store) (g.S.PlanStore.may_leave c.loop-before.desk.store)) all
+    c.loop-before.invariant.kept

@@ -5,6 +5,7 @@ use Rattle.desk_line.specs.declared.failure.Failure.TheVariants as failure
 use Rattle.desk_run.specs.DeskWorld.{world_of}
 use Rattle.desk_program.specs.Enrolling.{permitting, with_operators}
 use Rattle.desk_program.specs.Serving.{AreTaken}
+use Rattle.desk_program.proofs.KeepingLemmas.{port_kept, unserved_kept}
 use Rattle.desk_program.proofs.ServedLemmas.{unserved}
 use Rattle.desk_program.proofs.server.serve_line.Goals as goal
 
@@ -41,3 +42,41 @@ returns-clause-served g c =
           (g.P.Port.taken c.serve_connections.new.port) begun after) c.in_ok-listen.ensures.same
           c.serve_connections.ensures.served;
     })
+
+pub returns-in_err-listen-clause-kept : goal.returns-in_err-listen-clause-kept
+returns-in_err-listen-clause-kept g c = λ p settled.
+    unserved_kept (IsHonest (g.S.PlanStore.doubt c.set_up.new.desk.store))
+    c.from_residual-in_err-listen.result c.args.line.now (world_of g.S.PlanStore.content c.args.desk.now)
+    (world_of g.S.PlanStore.content c.set_up.new.desk) (world_of g.S.PlanStore.content c.set_up.new.desk)
+    (g.S.PlanStore.may_leave c.set_up.new.desk.store) (g.S.PlanStore.may_leave c.set_up.new.desk.store) p
+    (λ h. c.in_ok-set_up.ensures.ok h
+    ∙ ap (with_operators (permitting (world_of g.S.PlanStore.content c.args.desk.now)
+    c.args.line.now.permitted)) c.deref.ensures.value) (c.in_ok-set_up.ensures.kept p settled)
+    c.in_err-listen.field-0.0 _ _ c.from_residual-in_err-listen.ensures.1 c.in_err-listen.ensures.fault
+    c.in_err-listen.ensures.same refl (λ found may. may)
+
+pub returns-in_err-routes-clause-kept : goal.returns-in_err-routes-clause-kept
+returns-in_err-routes-clause-kept g c = λ p settled.
+    unserved_kept (IsHonest (g.S.PlanStore.doubt c.set_up.new.desk.store))
+    c.from_residual-in_err-routes.result c.args.line.now (world_of g.S.PlanStore.content c.args.desk.now)
+    (world_of g.S.PlanStore.content c.set_up.new.desk) (world_of g.S.PlanStore.content c.set_up.new.desk)
+    (g.S.PlanStore.may_leave c.set_up.new.desk.store) (g.S.PlanStore.may_leave c.set_up.new.desk.store) p
+    (λ h. c.in_ok-set_up.ensures.ok h
+    ∙ ap (with_operators (permitting (world_of g.S.PlanStore.content c.args.desk.now)
+    c.args.line.now.permitted)) c.deref.ensures.value) (c.in_ok-set_up.ensures.kept p settled)
+    failure.Memory _ _ c.from_residual-in_err-routes.ensures.1 refl c.in_ok-listen.ensures.same refl
+    (λ found may. may)
+
+pub returns-clause-kept : goal.returns-clause-kept
+returns-clause-kept g c = λ p settled.
+    let listed = was_honest c.serve_connections.ensures.doubt p in
+    port_kept (IsHonest (g.S.PlanStore.doubt c.serve_connections.new.desk.store)) c.serve_connections.result
+    c.args.line.now (world_of g.S.PlanStore.content c.args.desk.now)
+    (world_of g.S.PlanStore.content c.set_up.new.desk)
+    (world_of g.S.PlanStore.content c.serve_connections.new.desk)
+    (g.S.PlanStore.may_leave c.set_up.new.desk.store)
+    (g.S.PlanStore.may_leave c.serve_connections.new.desk.store) p
+    (λ h. c.in_ok-set_up.ensures.ok (was_honest c.serve_connections.ensures.doubt h)
+    ∙ ap (with_operators (permitting (world_of g.S.PlanStore.content c.args.desk.now)
+    c.args.line.now.permitted)) c.deref.ensures.value) (c.in_ok-set_up.ensures.kept listed settled)
+    _ _ _ c.in_ok-listen.ensures.same c.serve_connections.ensures.kept

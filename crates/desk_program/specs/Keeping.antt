@@ -1,0 +1,108 @@
+-- Keeping: what a start may find of a desk's content, whatever ended the program that carried out a line
+-- there.
+use Rattle.std.specs.Prelude.{◌≡◌, ◌⊎◌, ◌+◌, ⊤, ℕ, List, [], ◌∷◌, take, Option, Some, Result}
+use Rattle.desk_store.specs.World.{World}
+use Rattle.desk_run.specs.DeskWorld.{DeskWorld, enrolled}
+use Rattle.desk_wire.specs.Given.{told_in_play}
+use Rattle.desk_wire.specs.Kept.{IsCertain, IsKept, IsLeftBy}
+use Rattle.desk_wire.specs.Serving.{IsTaken}
+use Rattle.desk_line.specs.declared.failure.Failure.{Failure}
+use Rattle.desk_line.specs.declared.line.Enrolment.{Enrolment}
+use Rattle.desk_line.specs.declared.line.Line.{Line}
+use Rattle.desk_line.specs.declared.line.Line.TheVariants as line
+use Rattle.desk_line.specs.declared.line.Play.{Play as PlayWords}
+use Rattle.desk_line.specs.declared.line.Serve.{Serve as ServeWords}
+use Rattle.desk_line.specs.Exits.{exit_status}
+use Rattle.desk_program.specs.Enrolling.{AreListedSoFar, permitting, with_operators}
+use Rattle.desk_program.specs.Playing.{IsNotPlayed, IsPlayed}
+use Rattle.desk_program.specs.Serving.{AreTaken, Arrival, Exchange, HasBegun, IsNotBegun}
+
+-- the first operators are listed, and not all of them; what is found has these, or these and the next one
+pub record AreKeptSoFar (H : Type 0) (es : List Enrolment) (w after : DeskWorld) (found : Option World) :
+    Type 0 where
+  pub listed : AreListedSoFar H es w after
+  pub finds : (found ≡ Some (with_operators w (take listed.count es)).content)
+      ⊎ (found ≡ Some (with_operators w (take (listed.count + 1) es)).content)
+
+-- what is found has the operator listed; or it is what was there before, and nothing was printed
+abbrev pub FindsEnrolled :
+    Enrolment → ℕ → Option (List ℕ) → Option (List ℕ) → DeskWorld → Option World → Type 0
+FindsEnrolled e status out now w found = (found ≡ Some (enrolled w e.operator e.ceiling).content)
+    ⊎ ((status ≡ 4) × (now ≡ out) × (found ≡ Some w.content))
+
+-- the requests of the input are played, and what is found is theirs; or an operator could not be listed
+abbrev pub IsPlayKept :
+    Type 0 → PlayWords → ℕ → Option (List ℕ) → Option (List ℕ) → Option (List ℕ) → Option (List ℕ)
+    → DeskWorld → DeskWorld → Option World → Type 0
+IsPlayKept H play status old new out now w after found =
+    ((run : IsPlayed H play status old new out now w after)
+    × IsKept run.ended (told_in_play run.ended run.answered) old out now
+    (with_operators (permitting w play.permitted) play.enrolments.items) play.moment after found)
+    ⊎ (IsNotPlayed H play status old new out now w after
+    × AreKeptSoFar H play.enrolments.items (permitting w play.permitted) after found)
+
+-- by the line that is carried out, by reading and writing alone
+abbrev pub IsLinePlayKept :
+    Type 0 → Line → ℕ → Option (List ℕ) → Option (List ℕ) → Option (List ℕ) → Option (List ℕ)
+    → DeskWorld → DeskWorld → Option World → Type 0
+IsLinePlayKept H (line.Play play) status old new out now w after found =
+    IsPlayKept H play status old new out now w after found
+IsLinePlayKept H (line.Enrol enrol) status old new out now w after found =
+    FindsEnrolled enrol.enrolment status out now w found
+IsLinePlayKept H (line.Token token) status old new out now w after found = ⊥
+IsLinePlayKept H (line.Serve serve) status old new out now w after found = ⊥
+IsLinePlayKept H (line.Cover cover) status old new out now w after found = ⊥
+
+-- what is found is what the request of a connection would leave of a world, and its answer was a 500 or is
+-- not whole
+abbrev pub IsLeftUncertain : DeskWorld → Option World → Exchange → Type 0
+IsLeftUncertain w found x = (¬ IsCertain x.served)
+    × IsLeftBy (IsTaken x.arrival.bytes x.unread) w x.arrival.moment found
+
+-- the same of one of these connections
+abbrev pub IsLeftByOne : DeskWorld → Option World → List Exchange → Type 0
+IsLeftByOne w found [] = ⊥
+IsLeftByOne w found (x ∷ xs) = IsLeftUncertain w found x ⊎ IsLeftByOne w found xs
+
+-- what is found after connections is what their requests left, or what one of these would leave of that, whose
+-- answer was a 500 or is not whole
+abbrev pub IsFoundServed : List Exchange → DeskWorld → Option World → Type 0
+IsFoundServed xs after found = (found ≡ Some after.content) ⊎ IsLeftByOne after found xs
+
+-- connections are taken, and that is what is found, where `now` says what may be found now; or, if their
+-- requests left all as it was, what might have been found before
+pub record AreKept {A : Type 0} (H : Type 0) (done : Result A Failure) (count : ℕ)
+    (old new : Option (List Arrival)) (w after : DeskWorld) (before now : Option World → Type 0) :
+    Type 0 where
+  pub taken : AreTaken H done count old new w after
+  pub finds : H → (found : Option World) → now found
+      → IsFoundServed taken.exchanges after found ⊎ ((after ≡ w) × before found)
+
+-- connections are taken once all operators are listed, or an operator could not be listed
+abbrev pub IsPortKept :
+    {A : Type 0} → Type 0 → Result A Failure → ServeWords → Option (List Arrival) → Option (List Arrival)
+    → DeskWorld → DeskWorld → Option World → Type 0
+IsPortKept H done serve old new w after found =
+    ((port : HasBegun H done serve old new w after) × IsFoundServed port.taken.exchanges after found)
+    ⊎ (IsNotBegun H done serve old new w after
+    × AreKeptSoFar H serve.enrolments.items (permitting w serve.permitted) after found)
+
+-- a line of `serve` is carried out, and that is what is found
+pub record IsServeKept (H : Type 0) (serve : ServeWords) (status : ℕ)
+    (old new : Option (List Arrival)) (w after : DeskWorld) (found : Option World) : Type 0 where
+  pub done : Result ⊤ Failure
+  pub status_is : status ≡ exit_status done
+  pub kept : IsPortKept H done serve old new w after found
+
+-- by the line that is carried out at a desk. `from` and `to` are the connections taken before and after
+abbrev pub IsLineKept :
+    Type 0 → Line → ℕ → Option (List Arrival) → Option (List Arrival) → Option (List ℕ) → Option (List ℕ)
+    → Option (List ℕ) → Option (List ℕ) → DeskWorld → DeskWorld → Option World → Type 0
+IsLineKept H (line.Play play) status from to old new out now w after found =
+    IsLinePlayKept H (line.Play play) status old new out now w after found
+IsLineKept H (line.Enrol enrol) status from to old new out now w after found =
+    IsLinePlayKept H (line.Enrol enrol) status old new out now w after found
+IsLineKept H (line.Serve serve) status from to old new out now w after found =
+    IsServeKept H serve status from to w after found
+IsLineKept H (line.Token token) status from to old new out now w after found = ⊥
+IsLineKept H (line.Cover cover) status from to old new out now w after found = ⊥
