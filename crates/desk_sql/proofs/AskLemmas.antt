@@ -28,13 +28,13 @@ use Rattle.desk_sql.proofs.ReadLemmas.{shown_read}
 use Rattle.desk_sql.specs.Refusals.{NeverRefuses, IsSureIn, IsSure, IsRefusal}
 
 -- the cause, of two states
-abbrev IsCause : State → State → Error → Type 0
+abbrev pub IsCause : State → State → Error → Type 0
 IsCause old new e = (e ≡ SqliteFailure code.OutOfMemory)
     ⊎ (MoreFaults old.faults new.faults ⊎ ((e ≡ SqliteFailure code.OperationInterrupted)
     × IsSome old.step_limit))
 
 -- the store failed
-by_store : (old new : State) (e : Error) (cause : StoreError) → e ≡ store_error cause
+pub by_store : (old new : State) (e : Error) (cause : StoreError) → e ≡ store_error cause
     → HasCause old new ⊥ cause → IsTrue old.is_open → IsCause old new e
 by_store old new e OutOfMemory is h live = inl is
 by_store old new e Io is h live = inr (inl h)
@@ -71,7 +71,7 @@ by_rows text old new c params e None none bare never schema unlisted (db, source
     (subst (λ ps. RefusesToRead old.step_limit c.command db ps e) bare refuses)))
 by_rows text old new c params e (Some what) none bare never schema unlisted h = absurd cc
 
-was_shown : (text : List ℕ) (old new : State) (c : Compiled) (params : Row) (e : Error)
+pub was_shown : (text : List ℕ) (old new : State) (c : Compiled) (params : Row) (e : Error)
     (r : Option Returning)
     → IsTrue new.is_open → FailsToShow old new text c params e r → IsTrue old.is_open
 was_shown text old new c params e None live h = h.3.0.was_open

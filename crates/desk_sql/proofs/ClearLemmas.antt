@@ -1,5 +1,5 @@
 -- A loop that removes a plan at each turn.
-use Rattle.std.proofs.Common.{◌≡◌, ℕ, ◌≤◌, Bool, true, false, not, cond, ◌&&◌, Result, Ok, Err, OnOk, ◌||◌, List, [], ◌∷◌, ◌++◌, refl, sym, ap, subst, ◌∙◌, arith, IsTrue, Less, Equal, Greater}
+use Rattle.std.proofs.Common.{◌≡◌, ℕ, Bool, true, false, not, cond, ◌&&◌, ◌||◌, List, [], ◌∷◌, ◌++◌, refl, sym, ap, subst, ◌∙◌, Less, Equal, Greater}
 use Rattle.std.specs.List.{filter, list_any}
 use Rattle.std.specs.declared.cmp.Ordering.{Ordering}
 use Rattle.std.specs.Ordering.{is_eq}
@@ -9,13 +9,7 @@ use Rattle.sqlite_value.specs.declared.value.Value.{Value}
 use Rattle.sqlite_value.specs.declared.value.Value.TheVariants.{Text}
 use Rattle.sqlite_value.proofs.OrderLemmas.{value_cmp_total}
 use Rattle.sqlite.specs.Order.{Row, column, value_cmp}
-use Rattle.sqlite.specs.View.{doubt}
-use Rattle.sqlite.specs.Effect.{Database}
-use Rattle.sqlite.specs.Store.{Ghosts}
-use Rattle.sqlite.specs.State.{HasCleanDisk, KeepsCommit, Shows}
-use Rattle.sqlite.specs.Held.{Held, state}
-use Rattle.desk_sql.specs.Rows.{IsDesk, Tables, tables_of, is_text, is_by, is_of, is_not_of, left_without, RemovesPlan}
-use Rattle.desk_sql.specs.Effects.{IsReady, Makes, Commits}
+use Rattle.desk_sql.specs.Rows.{Tables, is_text, is_by, is_of, is_not_of, left_without, RemovesPlan}
 use Rattle.desk_sql.specs.Batches.{RemovesPlans, is_of_none, ids_there}
 
 -- ---- ids that a row has

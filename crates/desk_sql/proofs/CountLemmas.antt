@@ -1,5 +1,5 @@
 -- How many plans an operator has.
-use Rattle.std.proofs.Common.{◌≡◌, ◌⊎◌, inl, inr, ℕ, Bool, true, false, ◌&&◌, ◌<◌, ◌≤◌, ◌^◌, pos, List, [], ◌∷◌, ◌∙◌, length, map, filter, min, ap, sym, subst, codes, refl, arith, Some, Result, Ok, Err, IfOk}
+use Rattle.std.proofs.Common.{◌≡◌, ◌⊎◌, inl, inr, ℕ, Bool, true, false, ◌&&◌, ◌<◌, ◌≤◌, ◌^◌, pos, List, [], ◌∷◌, ◌∙◌, length, map, filter, min, ap, sym, subst, codes, refl, arith, None, Some, slice_index_or, Result, Ok, Err, IfOk, IfErr, ◌≢◌}
 use Rattle.std.specs.List.{AllZip}
 use Rattle.std.proofs.Math.Nat.{min-eq_left, min-eq_right, le_of_lt}
 use Rattle.std.proofs.lemmas.Bool.{cases_lt}
@@ -14,6 +14,8 @@ use Rattle.sqlite.specs.Order.{Row, column}
 use Rattle.sqlite.specs.declared.types.Value.{Value}
 use Rattle.sqlite.specs.declared.types.Value.TheVariants.{Int, Text, Null}
 use Rattle.sqlite.specs.declared.error.Error.{Error}
+use Rattle.sqlite.specs.declared.error.Error.TheVariants.{SqliteFailure}
+use Rattle.sqlite.specs.declared.error.ErrorCode.TheVariants as code
 use Rattle.sqlite.specs.Term.{Term, Env, lit, col, op2, eval, eval_all}
 use Rattle.sqlite.specs.Query.{Query, Output, output, inner, end, matches, IsAnswer}
 use Rattle.sqlite.specs.Program.{overlay}
@@ -22,7 +24,7 @@ use Rattle.sqlite_sql.specs.declared.ops.BinaryOp.TheVariants.{Compare}
 use Rattle.sqlite_sql.specs.declared.ops.CompareOp.TheVariants.{Eq}
 use Rattle.sqlite_sql.specs.declared.aggregate.AggregateOp.TheVariants.{CountRows}
 use Rattle.sqlite_sql.specs.Aggregate.{count}
-use Rattle.sqlite_sql.specs.Group.{Grouping, IsSummary, value_over}
+use Rattle.sqlite_sql.specs.Group.{Aggregate, Grouping, IsSummary, Overflows, value_over}
 use Rattle.sqlite.proofs.Callers.{one_permutation}
 use Rattle.desk_sql.specs.Rows.{is_by, columns, tables_of, Lists}
 use Rattle.desk_sql.specs.Statements.{Selects, counted, name_row}
@@ -42,14 +44,21 @@ count_plans_is = record { is = refl; plain = (refl, refl); unlisted = refl }
 
 -- ---- the one row
 
+abbrev the_count : Aggregate
+the_count = record { op = CountRows; distinct = false; collation = Binary; argument = lit Null }
+
 abbrev by_count : Grouping
-by_count = record {
-  keys = [];
-  collations = [];
-  aggregates = record
-      { op = CountRows; distinct = false; collation = Binary; argument = lit Null } ∷ [];
-  having = [];
-}
+by_count = record { keys = []; collations = []; aggregates = the_count ∷ []; having = [] }
+
+-- a count has a value, whatever is counted
+pub counts_never : (all : List Env) → ¬ Overflows (Some by_count) all
+counts_never all (groups, grouping, (k, group, low, at, (i, a, below, is, none))) =
+    let first : i ≡ 0 = omega (arith, below) in
+    let same : the_count ≡ a = subst (λ j. slice_index_or (the_count ∷ []) j a ≡ a) first is in
+    absurd (never_none group (subst (λ b. value_over group b ≡ None) (sym same) none))
+  where
+    never_none : (g : List Env) → ¬ (value_over g the_count ≡ None)
+    never_none g e = cc
 
 one_value : (group : List Env) (values : Row) → AllZip (λ a v. value_over group a ≡ Some v)
     by_count.aggregates values → values ≡ count (length group) ∷ []
@@ -147,3 +156,16 @@ pub count_if : (r : Result ℕ Error) (rows : List Row) (n : ℕ) → rows ≡ (
     → IfOk r (λ m. m ≡ n)
 count_if (Ok m) rows n are reads low = exact_count n m low (reads (count n) are)
 count_if (Err e) rows n are reads low = tt
+
+-- a count that is not read is one that 32 bits do not hold
+pub many_if : (r : Result ℕ Error) (rows : List Row) (n : ℕ) (P : Error → Type 0)
+    → rows ≡ (count n ∷ []) ∷ []
+    → IfErr r (λ e. e ≢ SqliteFailure code.OutOfMemory → (m : ℕ) → m < 2 ^ 32
+    → rows ≢ (Int (pos m) ∷ []) ∷ [])
+    → IfErr r (λ e. e ≢ SqliteFailure code.OutOfMemory → P e ⊎ (2 ^ 32 ≤ n))
+many_if (Ok m) rows n P are none = tt
+many_if (Err e) rows n P are none = λ other. elim (cases_lt n (2 ^ 32)) [
+  | inl few ↦ absurd (none other n few (are ∙ ap (λ k. (Int (pos k) ∷ []) ∷ [])
+      (min-eq_left (omega (arith, few)))))
+  | inr many ↦ inr many
+]

@@ -1,6 +1,5 @@
 -- What a crash leaves, after a text was prepared and after a transaction.
-use Rattle.std.proofs.Common.{◌≡◌, ◌⊎◌, inl, inr, true, false, List, [], ℕ, ◌≤◌, Result, Ok, Err, IfOk, IfErr, OnOk, IsTrue, refl, sym, ap, subst, ◌∙◌, arith}
-use Rattle.sqlite_disk.specs.Disk.{MoreFaults}
+use Rattle.std.proofs.Common.{◌≡◌, ◌⊎◌, inl, inr, true, false, List, [], ℕ, ◌≤◌, Result, Ok, Err, IfOk, IfErr, OnOk, IsTrue, sym, subst, ◌∙◌, arith}
 use Rattle.sqlite.specs.Order.{Row}
 use Rattle.sqlite.specs.Tree.{Trees}
 use Rattle.sqlite.specs.Effect.{Database, IsDatabase}
@@ -8,13 +7,13 @@ use Rattle.sqlite.specs.View.{doubt}
 use Rattle.sqlite.specs.declared.error.Error.{Error}
 use Rattle.sqlite.specs.Store.{Ghosts}
 use Rattle.sqlite.specs.Held.{Held, state}
-use Rattle.sqlite.specs.Given.{IsPlain, HasBegun, HasGiven}
+use Rattle.sqlite.specs.Given.{IsPlain, HasBegun}
 use Rattle.sqlite.specs.Listing.{understood}
-use Rattle.sqlite.specs.State.{HasCleanDisk, Survives, CommitsShowing, Shown, Shows, FailsToQuery, IsNotRun, IsUnchanged, IsRolledBack, KeepsCommit}
+use Rattle.sqlite.specs.State.{HasCleanDisk, Survives, CommitsShowing, Shown, Shows, FailsToQuery, IsUnchanged, IsRolledBack}
 use Rattle.sqlite.proofs.Callers.{never_commits, unchanged_then}
 use Rattle.desk_sql.specs.Schema.{desk_schema}
 use Rattle.desk_sql.specs.Rows.{IsDesk, Tables, tables_of}
-use Rattle.desk_sql.specs.Effects.{IsReady, Makes, Commits, IsMadeOf, MayMake, Spares, ShowsAsBefore}
+use Rattle.desk_sql.specs.Effects.{IsReady, Makes, Commits, MayMake, Spares, ShowsAsBefore}
 use Rattle.desk_sql.specs.Finding.{Holds}
 use Rattle.desk_sql.proofs.ReadLemmas.{failed, if_either, unmoved}
 use Rattle.desk_sql.specs.Taking.{HandsAll, IsLeft}
@@ -98,12 +97,12 @@ module _ {S : Type 0} (g : Ghosts S) (sql text : List ℕ) (params : Row) (old m
     (ready : IsReady g old) (plain : IsPlain (understood desk_schema sql))
     (prepared : IsPrepared g old mid sql text)
     (survives : Survives (state g old) (state g mid) (λ _. ⊥)) where
-  ready_mid : IsReady g mid
+  pub ready_mid : IsReady g mid
   ready_mid early live =
       let same = (prepared early).1 in
       subst IsDesk (sym same.0.now_is) (ready (omega (arith, survives.clean, early)) same.0.was_open)
 
-  plain_text : HasCleanDisk (state g mid) → IsPlain (understood desk_schema text)
+  pub plain_text : HasCleanDisk (state g mid) → IsPlain (understood desk_schema text)
   plain_text early = subst (λ t. IsPlain (understood desk_schema t)) (sym (prepared early).0) plain
 
   plain_old : HasCleanDisk (state g old) → IsTrue (state g old).is_open

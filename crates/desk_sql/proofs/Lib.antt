@@ -23,3 +23,5 @@ pub mod SureTexts
 pub mod AskLemmas
 pub mod TakingLemmas
 pub mod LeavingLemmas
+pub mod HandLemmas
+pub mod Sure

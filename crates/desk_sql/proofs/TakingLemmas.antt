@@ -1,13 +1,16 @@
 -- Rows that are handed over one at a time.
-use Rattle.std.proofs.Common.{◌≡◌, inl, inr, ℕ, Bool, true, false, List, [], ◌∷◌, ◌++◌, Option, Some, None, Result, Ok, Err, OnOk, IsTrue, refl, sym, subst, ◌∙◌}
+use Rattle.std.proofs.Common.{◌≡◌, ◌≤◌, ◌+◌, ◌-◌, ◌^◌, inl, inr, ℕ, length, length-append, arith, Bool, true, false, List, [], ◌∷◌, ◌++◌, Option, Some, None, Result, Ok, Err, IfErr, OnOk, IsTrue, refl, sym, subst, ◌∙◌}
+use Rattle.std.specs.Result.{IsErrAnd}
 use Rattle.sqlite.specs.Order.{Row}
 use Rattle.sqlite.specs.declared.error.Error.{Error}
+use Rattle.sqlite.specs.declared.error.Error.TheVariants.{SqliteFailure}
+use Rattle.sqlite.specs.declared.error.ErrorCode.TheVariants as code
 use Rattle.sqlite_schema.specs.declared.schema.Schema.{Schema}
 use Rattle.sqlite_schema.specs.declared.command.Returning.{Returning}
 use Rattle.sqlite_resolve.specs.declared.compiled.Compiled.{Compiled}
 use Rattle.sqlite.specs.Store.{Ghosts}
 use Rattle.sqlite.specs.Held.{Held, state}
-use Rattle.sqlite.specs.Given.{HasGiven, HasBegun, IsPlain}
+use Rattle.sqlite.specs.Given.{Advances, HasGiven, HasBegun, IsPlain}
 use Rattle.sqlite.specs.Effect.{Database}
 use Rattle.sqlite.specs.Listing.{understood, reads_listing, IsSourceOf}
 use Rattle.sqlite.specs.State.{State, HasCleanDisk, Shown, ShowsRows, IsUnchanged, IsRolledBack}
@@ -16,7 +19,7 @@ use Rattle.desk_sql.specs.Schema.{desk_schema}
 use Rattle.desk_sql.specs.Rows.{IsDesk}
 use Rattle.desk_sql.specs.Effects.{IsReady}
 use Rattle.desk_sql.proofs.ReadLemmas.{was_open}
-use Rattle.desk_sql.specs.Taking.{HandsOver, HandsAll, IsLeft}
+use Rattle.desk_sql.specs.Taking.{FailsNext, FailsToHandAll, HandsOver, HandsAll, IsLeft, Refusing}
 
 pub unchanged_itself : (s : State) → IsTrue s.is_open → IsUnchanged s s
 unchanged_itself s live = (
@@ -66,35 +69,36 @@ shown_from sql params first mid new rows plain same h =
 
 -- nothing has changed since the start, and what was handed over since then begins the answer
 pub record IsUnderWay {S : Type 0} (g : Ghosts S) (old now : Held S)
-    (had has : List Row → Type 0) : Type 0
+    (had has : List Row → Type 0) (rounds : ℕ) : Type 0
   where
     pub same : HasCleanDisk (state g now) → IsUnchanged (state g old) (state g now)
     pub handed :
         HasCleanDisk (state g now) → (sql : List ℕ) (params : Row) (given : List Row)
         → HasGiven g sql params old given → had given
         → (all : List Row) × HasGiven g sql params now all × has all
+        × (length all ≡ length given + rounds)
 
 module _ {S : Type 0} (g : Ghosts S) where
   pub begins : (old : Held S) (had : List Row → Type 0)
-      → (HasCleanDisk (state g old) → IsTrue (state g old).is_open) → IsUnderWay g old old had had
+      → (HasCleanDisk (state g old) → IsTrue (state g old).is_open) → IsUnderWay g old old had had 0
   begins old had live = record {
     same = λ clean. unchanged_itself (state g old) (live clean);
-    handed = λ clean sql params given h t. (given, h, t);
+    handed = λ clean sql params given h t. (given, h, t, omega arith);
   }
 
   module _ (old now new : Held S) (had has does : List Row → Type 0)
-      (way : IsUnderWay g old now had has)
+      (rounds : ℕ) (way : IsUnderWay g old now had has rounds)
       (clean : HasCleanDisk (state g new) → HasCleanDisk (state g now)) where
     pub goes_on : (HasCleanDisk (state g new) → IsUnchanged (state g now) (state g new)) → (more : Bool)
         → more ≡ true → (HasCleanDisk (state g new) → HandsOver g now new has does more)
-        → IsUnderWay g old new had does
+        → IsUnderWay g old new had does (rounds + 1)
     goes_on same true is hands = record {
       same = λ c. unchanged_then (state g old) (state g now) (state g new) (way.same (clean c))
           (same c);
-      handed = λ c sql params given h t. (let (all, gave, took) = way.handed (clean c) sql params given
-          h t
+      handed = λ c sql params given h t. (let (all, gave, took, count) = way.handed (clean c) sql params
+          given h t
           in let (row, gives, takes) = hands c sql params all gave took
-          in (all ++ row ∷ [], gives, takes));
+          in (all ++ row ∷ [], gives, takes, omega (arith, count, length-append all (row ∷ []))));
     }
     goes_on same false is hands = cc
 
@@ -103,7 +107,7 @@ module _ {S : Type 0} (g : Ghosts S) where
         → HasCleanDisk (state g new) → HandsAll g old new had does
     ends true is hands = cc
     ends false is hands = λ c sql params given plain h t.
-        let (all, gave, took) = way.handed (clean c) sql params given h t in
+        let (all, gave, took, count) = way.handed (clean c) sql params given h t in
         let (shown, takes) = hands c sql params all gave took in (
           all,
           shown_from sql params (state g old) (state g now) (state g new) all plain (way.same (clean c))
@@ -118,6 +122,58 @@ module _ {S : Type 0} (g : Ghosts S) where
           same)
       | inr back ↦ inr (rolled_back (state g old) (state g now) (state g new) (way.same (clean c)) back)
     ]
+
+    -- what fails now is a failure since the start
+    pub fails_now : (refuses : Refusing) → (state g old).faults ≤ (state g now).faults
+        → now.step_limit ≡ old.step_limit → (e : Error)
+        → FailsNext g now new (λ row e. (taken : List Row) → has taken → refuses taken row e) e
+        → HasCleanDisk (state g new) → FailsToHandAll g old new had refuses e
+    fails_now refuses faults limit e (inl fails) c sql params given h t =
+        let (all, gave, took, count) = way.handed (clean c) sql params given h t in
+        inl (record {
+          now = now;
+          clean = clean c;
+          same = way.same (clean c);
+          faults = faults;
+          limit = limit;
+          fails = fails sql params all gave;
+        })
+    fails_now refuses faults limit e (inr (row, refused, same, gives)) c sql params given h t =
+        let (all, gave, took, count) = way.handed (clean c) sql params given h t in
+        inr (
+          unchanged_then (state g old) (state g now) (state g new) (way.same (clean c)) same,
+          inl (all, row, gives sql params all gave, refused all took),
+        )
+
+  -- so many rounds, each with a row
+  pub too_many : (old now : Held S) (had has : List Row → Type 0) (rounds : ℕ) (refuses : Refusing)
+      → IsUnderWay g old now had has rounds → 2 ^ 64 - 1 ≤ rounds → HasCleanDisk (state g now)
+      → FailsToHandAll g old now had refuses (SqliteFailure code.TooBig)
+  too_many old now had has rounds refuses way many c sql params given h t =
+      let (all, gave, took, count) = way.handed c sql params given h t in
+      inr (way.same c, inr (refl, all, gave, omega (arith, many, count)))
+
+-- an error that a `?` hands on
+pub on_err : {V E : Type 0} (r : Result V E) (fault : E) (P : E → Type 0) → IsErrAnd r (λ e. e ≡ fault)
+    → P fault → IfErr r P
+on_err (Err e) fault P is holds = subst P (sym is) holds
+on_err (Ok v) fault P is holds = tt
+
+-- the next row was given, and is refused
+pub refused_next : {S : Type 0} (g : Ghosts S) (old new : Held S) (row : Row) (found : Option Row)
+    (refuses : Row → Error → Type 0) (e : Error) → Some row ≡ found
+    → IsUnchanged (state g old) (state g new) → Advances g old new found → refuses row e
+    → FailsNext g old new refuses e
+refused_next g old new row None refuses e is same goes refused = cc
+refused_next g old new row (Some r) refuses e is same goes refused =
+    let one : r ≡ row = cc in
+    inr (
+      row,
+      refused,
+      same,
+      λ sql params given h. subst (λ q. HasGiven g sql params new (given ++ q ∷ [])) one
+          (goes sql params given h),
+    )
 
 -- ---- a query of the desk's tables
 

@@ -9,11 +9,14 @@ use Rattle.sqlite.specs.declared.error.Error.{Error}
 use Rattle.sqlite.specs.declared.error.Error.TheVariants.{SqliteFailure}
 use Rattle.sqlite.specs.declared.error.ErrorCode.TheVariants as code
 use Rattle.sqlite.specs.Effect.{Database, RefusesToRead}
+use Rattle.sqlite.specs.Order.{Row}
 use Rattle.sqlite.specs.Listing.{understood, reads_listing}
+use Rattle.sqlite_schema.specs.declared.command.Command.TheVariants.{Select}
+use Rattle.sqlite_schema.specs.Program.{lets_of}
 use Rattle.sqlite.specs.Store.{Ghosts}
 use Rattle.sqlite.specs.Held.{Held, state}
 use Rattle.sqlite_schema.specs.declared.schema.Index.{Index}
-use Rattle.desk_sql.specs.Schema.{tables_with, HasTables}
+use Rattle.desk_sql.specs.Schema.{desk_schema, tables_with, HasTables}
 use Rattle.desk_sql.specs.Rows.{IsLegible}
 
 -- what a command that reads answers with in a desk's tables, whatever their indexes, if it is refused
@@ -32,6 +35,41 @@ IsSureIn text (Err e) = ⊥
 pub record IsSure (text : List ℕ) : Type 0 where
   pub means : (indexes : List Index) → IsSureIn text (understood (tables_with indexes) text)
   pub unlisted : (indexes : List Index) → reads_listing (tables_with indexes) text ≡ false
+
+-- ---- queries with parameters
+
+-- a command that reads no table that it makes itself, and refuses to read a desk's tables, given these
+-- parameters, only at a limit on steps
+abbrev pub NeverRefusesGiven : Command → Row → Type 0
+NeverRefusesGiven command params =
+    (limit : Option ℕ) (db : Database) (e : Error) → db.schema ≡ desk_schema →
+    RefusesToRead limit command db params e → (e ≡ SqliteFailure code.OperationInterrupted) × IsSome limit
+
+abbrev pub IsSimple : Command → Type 0
+IsSimple (Select plan names) = lets_of plan ≡ []
+IsSimple _ = ⊥
+
+-- one whole statement with as many parameters, which shows rows of the tables, whatever they have
+pub record IsSureCommand (text : List ℕ) (params : Row) (c : Compiled) : Type 0 where
+  pub bare : c.returning ≡ None
+  pub timeless : c.formats ≡ []
+  pub given : length params ≡ length c.names
+  pub whole : length text ≤ c.tail
+  pub simple : IsSimple c.command
+  pub never : NeverRefusesGiven c.command params
+
+abbrev pub IsSureMeaning : List ℕ → Row → Result Compiled CompileError → Type 0
+IsSureMeaning text params (Ok c) = IsSureCommand text params c
+IsSureMeaning text params (Err e) = ⊥
+
+-- a query of a desk's tables that, given these parameters, only memory, the disk and a limit on steps refuse
+pub record IsSureGiven (text : List ℕ) (params : Row) : Type 0 where
+  pub means : IsSureMeaning text params (understood desk_schema text)
+  pub unlisted : reads_listing desk_schema text ≡ false
+
+-- the same, whatever it is given
+pub record IsSureFor {Given : Type 0} (text : List ℕ) (params : Given → Row) : Type 0 where
+  pub sure : (given : Given) → IsSureGiven text (params given)
 
 -- a desk's tables, but in one of them a rowid is no whole number, or comes twice
 pub record IsMisnumbered (db : Database) : Type 0 where

@@ -18,6 +18,16 @@ rival_params operator id reach low =
     ∷ Int (pos reach.priority) ∷ Text operator ∷ Text id
     ∷ Int low ∷ []
 
+-- for which plan, what reach and from where on it is asked
+pub record RivalsAsked : Type 0 where
+  pub operator : List ℕ
+  pub id : List ℕ
+  pub reach : Reach
+  pub low : ℤ
+
+abbrev pub rivals_row : RivalsAsked → Row
+rivals_row asked = rival_params asked.operator asked.id asked.reach asked.low
+
 -- a compiled text that may show these rows
 abbrev pub MayRead : Result Compiled CompileError → Database → Row → List Row → Type 0
 MayRead (Ok c) db params rows = Reads c.command db params rows

@@ -1,11 +1,15 @@
 -- Rows that are handed over one at a time.
-use Rattle.std.specs.Prelude.{◌⊎◌, ℕ, Bool, true, false, List, [], ◌∷◌, ◌++◌}
+use Rattle.std.specs.Prelude.{◌≡◌, ◌≤◌, ◌⊎◌, ℕ, ◌-◌, ◌^◌, Bool, true, false, List, [], ◌∷◌, ◌++◌, length}
 use Rattle.sqlite.specs.Order.{Row}
 use Rattle.sqlite.specs.Store.{Ghosts}
 use Rattle.sqlite.specs.Held.{Held, state}
-use Rattle.sqlite.specs.Given.{HasGiven, IsPlain}
+use Rattle.sqlite.specs.declared.error.Error.{Error}
+use Rattle.sqlite.specs.declared.error.Error.TheVariants.{SqliteFailure}
+use Rattle.sqlite.specs.declared.error.ErrorCode.TheVariants as code
+use Rattle.sqlite.specs.Given.{HasGiven, FailsToAdvance, IsPlain}
 use Rattle.sqlite.specs.Listing.{understood}
-use Rattle.sqlite.specs.State.{Shown, IsUnchanged, IsRolledBack}
+use Rattle.sqlite.specs.State.{HasCleanDisk, FailsToQuery, Shown, IsUnchanged, IsRolledBack}
+use Rattle.desk_sql.specs.Refusals.{IsRefusal}
 
 module _ {S : Type 0} (g : Ghosts S) (old new : Held S) where
   -- nothing was changed, or the transaction that was under way is undone
@@ -27,3 +31,56 @@ module _ {S : Type 0} (g : Ghosts S) (old new : Held S) where
       (sql : List ℕ) (params : Row) (given : List Row) → IsPlain (understood old.schema sql)
       → HasGiven g sql params old given → had given
       → (all : List Row) × Shown sql params (state g old) (state g new) all × has all
+
+-- ---- why not all rows are handed over
+
+-- what takes rows may refuse one with an error, after those that it took
+abbrev pub Refusing : Type 1
+Refusing = List Row → Row → Error → Type 0
+
+-- a row of an answer is refused, after those before it
+abbrev pub IsRowRefused : (List Row → Type 0) → Refusing → Error → Type 0
+IsRowRefused IsAnswer refuses e =
+    (taken : List Row) × (row : Row) × (left : List Row) × IsAnswer (taken ++ row ∷ left)
+    × refuses taken row e
+
+-- an answer has 2 ^ 64 - 1 rows and more
+abbrev pub HasTooMany : (List Row → Type 0) → Error → Type 0
+HasTooMany IsAnswer e =
+    (e ≡ SqliteFailure code.TooBig) × (rows : List Row) × IsAnswer rows × (2 ^ 64 - 1 ≤ length rows)
+
+module _ {S : Type 0} (g : Ghosts S) (old new : Held S) where
+  -- the query fails, or the next row of its answer is refused
+  abbrev pub FailsNext : (Row → Error → Type 0) → Error → Type 0
+  FailsNext refuses e = FailsToAdvance g old new e
+      ⊎ ((row : Row) × refuses row e × IsUnchanged (state g old) (state g new)
+      × ((sql : List ℕ) (params : Row) (given : List Row) → HasGiven g sql params old given
+      → HasGiven g sql params new (given ++ row ∷ [])))
+
+  -- a query that had changed nothing so far fails
+  pub record FailsLater (sql : List ℕ) (params : Row) (e : Error) : Type 0 where
+    pub now : Held S
+    pub clean : HasCleanDisk (state g now)
+    pub same : IsUnchanged (state g old) (state g now)
+    pub faults : (state g old).faults ≤ (state g now).faults
+    pub limit : now.step_limit ≡ old.step_limit
+    pub fails : FailsToQuery sql params (state g now) (state g new) e
+
+  -- the query fails, a row is refused after those before it, or 2 ^ 64 - 1 more rows were handed over
+  abbrev pub FailsToHand : List ℕ → Row → List Row → Refusing → Error → Type 0
+  FailsToHand sql params given refuses e = FailsLater sql params e
+      ⊎ (IsUnchanged (state g old) (state g new)
+      × (((taken : List Row) × (row : Row) × HasGiven g sql params new (taken ++ row ∷ [])
+      × refuses taken row e)
+      ⊎ ((e ≡ SqliteFailure code.TooBig) × (all : List Row) × HasGiven g sql params new all
+      × (2 ^ 64 - 1 ≤ length all))))
+
+  abbrev pub FailsToHandAll : (List Row → Type 0) → Refusing → Error → Type 0
+  FailsToHandAll had refuses e =
+      (sql : List ℕ) (params : Row) (given : List Row) → HasGiven g sql params old given → had given
+      → FailsToHand sql params given refuses e
+
+  -- memory, the disk or a limit on steps refuses the query, or its rows are not all taken
+  abbrev pub IsCutShort : (List Row → Type 0) → Refusing → Error → Type 0
+  IsCutShort IsAnswer refuses e =
+      IsRefusal g old new e ⊎ (IsRowRefused IsAnswer refuses e ⊎ HasTooMany IsAnswer e)

@@ -1,19 +1,22 @@
-ghost use Rattle.std.specs.Prelude.{◌≡◌, ◌≤◌, List, [], ◌∷◌, false, IfOk, OnOk, IsTrue, filter};
+ghost use Rattle.std.specs.Prelude.{◌≡◌, ◌≤◌, List, [], ◌∷◌, false, IfOk, IfErr, OnOk, IsTrue, filter};
 ghost use Rattle.sqlite.specs.Order.{Row as Values};
 ghost use Rattle.sqlite.specs.View.{doubt};
 ghost use Rattle.sqlite.specs.State.{HasCleanDisk};
 ghost use Rattle.sqlite.specs.Held.{state};
 ghost use Rattle.desk_sql.specs.Rows.{is_by, is_of, tables_of, with_volumes, Lists};
 ghost use Rattle.desk_sql.specs.Effects.{IsReady, IsKept, Spares};
+ghost use Rattle.desk_sql.specs.Refusals.{IsRefusal, IsSureFor};
 ghost use Rattle.desk_sql.specs.Statements.{Selects, name_row, key_row};
+ghost use Rattle.desk_sql.specs.Taking.{IsCutShort};
 
 use crate::reading::answer::answer;
 use crate::reading::taking::{TakeRow, hand_over};
 use sqlite::{Alter, Connection, Error, Row, params};
 
-#[tactic(auto, using(crate::proofs::StatementLemmas::operator_named_selected))]
+#[tactic(auto, using(crate::proofs::StatementLemmas::operator_named_selected, crate::proofs::Sure::named))]
 fn operator_named_text() -> &'static str
-    ensures { Selects result.now name_row [] (λ name t. filter (is_by name) t.operators) }
+    ensures shown { Selects result.now name_row [] (λ name t. filter (is_by name) t.operators) }
+    ensures sure { IsSureFor result.now name_row }
 {
     "SELECT name, ceiling FROM operator WHERE name = ?1"
 }
@@ -30,6 +33,9 @@ pub fn operator_named<S: Alter>(
         (state S.Store connection.old).now.trees).operators) rows.items) }
     ensures open { HasCleanDisk (state S.Store connection.new)
         → OnOk result (IsTrue (state S.Store connection.old).is_open) }
+    ensures cause { HasCleanDisk (state S.Store connection.new)
+        → IsTrue (state S.Store connection.new).is_open
+        → IfErr result (IsRefusal S.Store connection.old connection.new) }
     ensures kept { IsKept S.Store connection.old connection.new }
     ensures mode { connection.new.in_transaction ≡ false }
     ensures doubt { doubt (state S.Store connection.old).is_clean ≤ doubt
@@ -40,10 +46,11 @@ pub fn operator_named<S: Alter>(
     answer(connection, operator_named_text(), params![name])
 }
 
-#[tactic(auto, using(crate::proofs::StatementLemmas::plan_of_selected))]
+#[tactic(auto, using(crate::proofs::StatementLemmas::plan_of_selected, crate::proofs::Sure::plan))]
 fn plan_of_text() -> &'static str
-    ensures { Selects result.now key_row []
+    ensures shown { Selects result.now key_row []
         (λ key t. filter (is_of key.operator key.id) t.plans) }
+    ensures sure { IsSureFor result.now key_row }
 {
     "SELECT operator, id, priority, usage, aircraft FROM plan WHERE operator = ?1 AND id = ?2"
 }
@@ -61,8 +68,12 @@ pub fn plan_of<S: Alter>(
         (state S.Store connection.old).now.trees).plans) rows.items) }
     ensures open { HasCleanDisk (state S.Store connection.new)
         → OnOk result (IsTrue (state S.Store connection.old).is_open) }
+    ensures cause { HasCleanDisk (state S.Store connection.new)
+        → IsTrue (state S.Store connection.new).is_open
+        → IfErr result (IsRefusal S.Store connection.old connection.new) }
     ensures kept { IsKept S.Store connection.old connection.new }
     ensures mode { connection.new.in_transaction ≡ false }
+    ensures limit { connection.new.step_limit ≡ connection.old.step_limit }
     ensures doubt { doubt (state S.Store connection.old).is_clean ≤ doubt
         (state S.Store connection.new).is_clean }
     ensures faults { (state S.Store connection.old).faults ≤ (state S.Store connection.new).faults }
@@ -71,10 +82,11 @@ pub fn plan_of<S: Alter>(
     answer(connection, plan_of_text(), params![operator, id])
 }
 
-#[tactic(auto, using(crate::proofs::StatementLemmas::volumes_of_selected))]
+#[tactic(auto, using(crate::proofs::StatementLemmas::volumes_of_selected, crate::proofs::Sure::volumes))]
 fn volumes_of_text() -> &'static str
-    ensures { Selects result.now key_row (2 ∷ [])
+    ensures shown { Selects result.now key_row (2 ∷ [])
         (λ key t. filter (is_of key.operator key.id) t.volumes) }
+    ensures sure { IsSureFor result.now key_row }
 {
     "SELECT operator, id, place, lower, upper, start, stop, asked FROM volume \
      WHERE operator = ?1 AND id = ?2 ORDER BY place"
@@ -94,8 +106,12 @@ pub fn volumes_of<S: Alter>(
         (state S.Store connection.old).now.trees).volumes) rows.items) }
     ensures open { HasCleanDisk (state S.Store connection.new)
         → OnOk result (IsTrue (state S.Store connection.old).is_open) }
+    ensures cause { HasCleanDisk (state S.Store connection.new)
+        → IsTrue (state S.Store connection.new).is_open
+        → IfErr result (IsRefusal S.Store connection.old connection.new) }
     ensures kept { IsKept S.Store connection.old connection.new }
     ensures mode { connection.new.in_transaction ≡ false }
+    ensures limit { connection.new.step_limit ≡ connection.old.step_limit }
     ensures doubt { doubt (state S.Store connection.old).is_clean ≤ doubt
         (state S.Store connection.new).is_clean }
     ensures faults { (state S.Store connection.old).faults ≤ (state S.Store connection.new).faults }
@@ -104,9 +120,10 @@ pub fn volumes_of<S: Alter>(
     answer(connection, volumes_of_text(), params![operator, id])
 }
 
-#[tactic(auto, using(crate::proofs::StatementLemmas::own_plans_selected))]
+#[tactic(auto, using(crate::proofs::StatementLemmas::own_plans_selected, crate::proofs::Sure::plans))]
 fn own_plans_text() -> &'static str
-    ensures { Selects result.now name_row (1 ∷ 5 ∷ []) (λ name. with_volumes (is_by name)) }
+    ensures shown { Selects result.now name_row (1 ∷ 5 ∷ []) (λ name. with_volumes (is_by name)) }
+    ensures sure { IsSureFor result.now name_row }
 {
     "SELECT plan.operator, plan.id, plan.priority, plan.usage, plan.aircraft, volume.place, \
      volume.lower, volume.upper, volume.start, volume.stop, volume.asked \
@@ -133,6 +150,11 @@ pub fn own_plans<S: Alter, T: TakeRow>(
         (tables_of (state S.Store connection.old).now.trees)) rows × T.has_taken taker.new rows) }
     ensures open { HasCleanDisk (state S.Store connection.new)
         → OnOk result (IsTrue (state S.Store connection.old).is_open) }
+    ensures cause { HasCleanDisk (state S.Store connection.new)
+        → IsTrue (state S.Store connection.new).is_open
+        → IfErr result (IsCutShort S.Store connection.old connection.new (Lists (1 ∷ 5 ∷ [])
+        (with_volumes (is_by operator.now) (tables_of (state S.Store connection.old).now.trees)))
+        T.refuses) }
     ensures kept { IsKept S.Store connection.old connection.new }
     ensures mode { connection.new.in_transaction ≡ false }
     ensures doubt { doubt (state S.Store connection.old).is_clean ≤ doubt

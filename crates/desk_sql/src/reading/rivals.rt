@@ -1,13 +1,15 @@
 //! The spans that may stand in the way of a plan.
 
-ghost use Rattle.std.specs.Prelude.{◌≡◌, ◌≤◌, List, [], false, OnOk, IsTrue, filter, map, IsPermutation};
+ghost use Rattle.std.specs.Prelude.{◌≡◌, ◌≤◌, List, [], false, IfErr, OnOk, IsTrue, filter, map, IsPermutation};
 ghost use Rattle.sqlite.specs.Order.{Row as Values};
 ghost use Rattle.sqlite.specs.View.{doubt};
 ghost use Rattle.sqlite.specs.State.{HasCleanDisk};
 ghost use Rattle.sqlite.specs.Held.{state};
 ghost use Rattle.desk_sql.specs.Rows.{is_wanted, held_columns, tables_of};
 ghost use Rattle.desk_sql.specs.Effects.{IsReady, IsKept, Spares};
-ghost use Rattle.desk_sql.specs.Rivals.{SelectsRivals};
+ghost use Rattle.desk_sql.specs.Refusals.{IsSureFor};
+ghost use Rattle.desk_sql.specs.Rivals.{SelectsRivals, rivals_row};
+ghost use Rattle.desk_sql.specs.Taking.{IsCutShort};
 
 use crate::reading::taking::{TakeRow, hand_over};
 use sqlite::{Alter, Connection, Error, params};
@@ -27,9 +29,10 @@ pub struct Reach {
 }
 
 // The query of the spans that are reached, but for those of one plan.
-#[tactic(auto, using(crate::proofs::StatementLemmas::rival_spans_selected))]
+#[tactic(auto, using(crate::proofs::StatementLemmas::rival_spans_selected, crate::proofs::Sure::rivals))]
 fn rival_spans_text() -> &'static str
-    ensures { SelectsRivals result.now }
+    ensures shown { SelectsRivals result.now }
+    ensures sure { IsSureFor result.now rivals_row }
 {
     "SELECT first, last, lower, upper, start, stop, priority FROM span \
      WHERE first >= ?10 AND first <= ?1 AND last >= ?2 AND lower < ?3 AND upper > ?4 \
@@ -60,6 +63,11 @@ pub fn rival_spans<S: Alter, T: TakeRow>(
         (tables_of (state S.Store connection.old).now.trees).spans)) rows × T.has_taken taker.new rows) }
     ensures open { HasCleanDisk (state S.Store connection.new)
         → OnOk result (IsTrue (state S.Store connection.old).is_open) }
+    ensures cause { HasCleanDisk (state S.Store connection.new)
+        → IsTrue (state S.Store connection.new).is_open
+        → IfErr result (IsCutShort S.Store connection.old connection.new (IsPermutation
+        (map held_columns (filter (is_wanted operator.now id.now reach low)
+        (tables_of (state S.Store connection.old).now.trees).spans))) T.refuses) }
     ensures kept { IsKept S.Store connection.old connection.new }
     ensures mode { connection.new.in_transaction ≡ false }
     ensures doubt { doubt (state S.Store connection.old).is_clean ≤ doubt

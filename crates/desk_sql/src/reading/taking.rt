@@ -1,6 +1,6 @@
 //! Rows of an answer, handed over one at a time.
 
-ghost use Rattle.std.specs.Prelude.{◌≡◌, ◌≤◌, List, [], false, IfOk, OnOk, OnErr, IsTrue};
+ghost use Rattle.std.specs.Prelude.{◌≡◌, ◌≤◌, List, [], false, IfOk, IfErr, OnOk, OnErr, IsTrue};
 ghost use Rattle.sqlite.specs.Order.{Row as Values};
 ghost use Rattle.sqlite.specs.Values.{bound};
 ghost use Rattle.sqlite.specs.View.{doubt};
@@ -10,7 +10,8 @@ ghost use Rattle.sqlite.specs.Given.{IsPlain};
 ghost use Rattle.sqlite.specs.Listing.{understood};
 ghost use Rattle.desk_sql.specs.Schema.{desk_schema};
 ghost use Rattle.desk_sql.specs.Effects.{IsReady, IsKept, Spares};
-ghost use Rattle.desk_sql.specs.Taking.{HandsOver, HandsAll, IsLeft};
+ghost use Rattle.desk_sql.specs.Refusals.{IsSureGiven};
+ghost use Rattle.desk_sql.specs.Taking.{FailsNext, FailsToHandAll, HandsOver, HandsAll, IsCutShort, IsLeft};
 
 use sqlite::{Alter, Connection, Error, ErrorCode, Row, Rows};
 use sqlite_value::value::ValueRef;
@@ -18,10 +19,15 @@ use sqlite_value::value::ValueRef;
 /// What takes the rows of an answer, one at a time.
 pub trait TakeRow {
     ghost use Rattle.std.specs.Prelude.{List, [], ◌∷◌, ◌++◌};
+    ghost use Rattle.std.specs.Prelude.{IfErr};
     ghost use Rattle.sqlite.specs.Order.{Row};
+    ghost use Rattle.sqlite.specs.declared.error.Error.{Error};
 
     /// Whether these rows were taken, in this order.
     ghost has_taken: { Self → List Row → Type 0 };
+
+    /// Whether, after these rows, this one may be refused with this error.
+    ghost refuses: { List Row → Row → Error → Type 0 };
 
     /// Takes the next row.
     ///
@@ -29,8 +35,10 @@ pub trait TakeRow {
     ///
     /// `OutOfMemory` if memory runs out, and another if the row is none that is expected here.
     fn take(&mut self, row: &Row) -> Result<(), Error>
-        ensures { OnOk result ((rows : List Row) → has_taken self.old rows
-            → has_taken self.new (rows ++ row.now ∷ [])) };
+        ensures taken { OnOk result ((rows : List Row) → has_taken self.old rows
+            → has_taken self.new (rows ++ row.now ∷ [])) }
+        ensures refused { IfErr result (λ e. (rows : List Row) → has_taken self.old rows
+            → refuses rows row.now e) };
 }
 
 /// Hands over the next row, if there is one.
@@ -44,6 +52,10 @@ fn hand_next<S: Alter, T: TakeRow>(rows: &mut Rows<'_, S>, taker: &mut T) -> Res
         (state S.Store rows.new.conn.now)) }
     ensures left { HasCleanDisk (state S.Store rows.new.conn.now)
         → OnErr result (IsLeft S.Store rows.old.conn.now rows.new.conn.now) }
+    ensures cause { HasCleanDisk (state S.Store rows.new.conn.now) → IfErr result
+        (FailsNext S.Store rows.old.conn.now rows.new.conn.now
+        (λ row e. (taken : List Values) → T.has_taken taker.old taken → T.refuses taken row e)) }
+    ensures limit { rows.new.conn.now.step_limit ≡ rows.old.conn.now.step_limit }
     ensures mode { rows.old.conn.now.in_transaction ≡ false
         → rows.new.conn.now.in_transaction ≡ false }
     ensures doubt { doubt (state S.Store rows.old.conn.now).is_clean ≤ doubt
@@ -76,6 +88,8 @@ fn hand_all<S: Alter, T: TakeRow>(rows: &mut Rows<'_, S>, taker: &mut T) -> Resu
         (T.has_taken taker.new)) }
     ensures left { HasCleanDisk (state S.Store rows.new.conn.now)
         → IsLeft S.Store rows.old.conn.now rows.new.conn.now }
+    ensures cause { HasCleanDisk (state S.Store rows.new.conn.now) → IfErr result
+        (FailsToHandAll S.Store rows.old.conn.now rows.new.conn.now (T.has_taken taker.old) T.refuses) }
     ensures mode { rows.old.conn.now.in_transaction ≡ false
         → rows.new.conn.now.in_transaction ≡ false }
     ensures doubt { doubt (state S.Store rows.old.conn.now).is_clean ≤ doubt
@@ -106,6 +120,7 @@ pub(crate) fn hand_over<S: Alter, T: TakeRow>(
     requires ready { IsReady S.Store connection.old }
     requires settled { connection.old.in_transaction ≡ false }
     requires plain { IsPlain (understood desk_schema query.now) }
+    requires sure { IsSureGiven query.now (bound params.now) }
     requires fresh { T.has_taken taker.old [] }
     ensures shown { HasCleanDisk (state S.Store connection.new)
         → OnOk result ((rows : List Values) × Shown query.now (bound params.now)
@@ -113,6 +128,10 @@ pub(crate) fn hand_over<S: Alter, T: TakeRow>(
         × T.has_taken taker.new rows) }
     ensures open { HasCleanDisk (state S.Store connection.new)
         → OnOk result (IsTrue (state S.Store connection.old).is_open) }
+    ensures cause { HasCleanDisk (state S.Store connection.new)
+        → IsTrue (state S.Store connection.new).is_open
+        → IfErr result (IsCutShort S.Store connection.old connection.new (Shown query.now
+        (bound params.now) (state S.Store connection.old) (state S.Store connection.new)) T.refuses) }
     ensures kept { IsKept S.Store connection.old connection.new }
     ensures mode { connection.new.in_transaction ≡ false }
     ensures doubt { doubt (state S.Store connection.old).is_clean ≤ doubt

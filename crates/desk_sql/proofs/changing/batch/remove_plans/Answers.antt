@@ -1,4 +1,4 @@
-use Rattle.std.proofs.Common.{[], ◌∷◌, ◌++◌, refl, sym, ap, map, take, rules, ◌∙◌, ◌+◌}
+use Rattle.std.proofs.Common.{[], ◌∷◌, ◌++◌, sym, ap, map, take, rules, ◌∙◌, ◌+◌}
 use Rattle.sqlite.specs.State.{KeepsCommit}
 use Rattle.sqlite.specs.Held.{state}
 use Rattle.std.specs.String.{string_bytes}

@@ -1,4 +1,4 @@
-use Rattle.std.proofs.Common.{arith, subst, sym, ◌∙◌}
+use Rattle.std.proofs.Common.{arith, rules, subst, sym}
 use Rattle.sqlite.specs.Given.{IsPlain}
 use Rattle.sqlite.specs.Listing.{understood}
 use Rattle.sqlite.specs.Values.{bound}
@@ -6,6 +6,8 @@ use Rattle.sqlite.specs.State.{HasCleanDisk}
 use Rattle.sqlite.specs.Held.{state}
 use Rattle.desk_sql.proofs.ReadLemmas.{open_if, if_either, unprepared}
 use Rattle.desk_sql.proofs.LeavingLemmas.{shown_after, kept_by_query, spared_after}
+use Rattle.desk_sql.specs.Refusals.{IsRefusal}
+use Rattle.desk_sql.proofs.HandLemmas.{refused_unprepared, refused_given}
 use Rattle.desk_sql.proofs.reading.answer.answer.Goals as goal
 
 pub returns-in_err-statement-clause-kept : goal.returns-in_err-statement-clause-kept
@@ -53,3 +55,25 @@ returns-clause-spared g c =
     (λ whole live. subst (λ s. IsPlain (understood s c.args.query.now))
     (sym (c.requires.ready whole live).schema) c.requires.plain)
     c.in_ok-statement.ensures.ok c.prepare.ensures.survives c.query_all.ensures.survives
+
+-- why the query is refused
+pub returns-in_err-statement-clause-cause : goal.returns-in_err-statement-clause-cause
+returns-in_err-statement-clause-cause g c clean live =
+    let it : IsRefusal g.S.Store c.args.connection.now c.prepare.new.self _ =
+    refused_unprepared g.S.Store c.args.query.now (bound c.args.params.now) c.requires.sure
+    c.args.connection.now c.requires.ready (omega (arith, c.prepare.ensures.survives.clean, clean))
+    c.prepare.new.self _
+    (c.in_err-statement.ensures.err clean (bound c.args.params.now)) live in
+    search (rules, it)
+
+pub returns-clause-cause : goal.returns-clause-cause
+returns-clause-cause g c clean live =
+    let early : HasCleanDisk (state g.S.Store c.prepare.new.self) =
+    omega (arith, c.query_all.ensures.survives.clean, clean) in
+    let start : HasCleanDisk (state g.S.Store c.args.connection.now) =
+    omega (arith, c.prepare.ensures.survives.clean, early) in
+    let it = c.in_ok-statement.ensures.ok early in
+    refused_given g.S.Store c.args.query.now (bound c.args.params.now) c.requires.sure
+    c.args.connection.now c.requires.ready c.prepare.new.self c.in_ok-statement.statement.text it.0 it.1
+    c.prepare.ensures.survives start c.query_all.new.conn c.query_all.result
+    (c.query_all.ensures.err clean) live

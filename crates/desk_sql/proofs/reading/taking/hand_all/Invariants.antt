@@ -13,4 +13,5 @@ invariant-loop g l =
     × ((state g.S.Store l.fn.rows.conn.now).faults ≤ (state g.S.Store l.rows.conn.now).faults)
     × Spares g.S.Store l.fn.rows.conn.now l.rows.conn.now
     × IsUnderWay g.S.Store l.fn.rows.conn.now l.rows.conn.now (g.T.TakeRow.has_taken l.fn.taker)
-    (g.T.TakeRow.has_taken l.taker)
+    (g.T.TakeRow.has_taken l.taker) l.counter
+    × (l.rows.conn.now.step_limit ≡ l.fn.rows.conn.now.step_limit)

@@ -1,12 +1,15 @@
-use Rattle.std.proofs.Common.{List, IsTrue, OnOk, rules, arith}
+use Rattle.std.proofs.Common.{List, IsTrue, IfErr, OnOk, rules, arith}
 use Rattle.sqlite.specs.Values.{bound}
 use Rattle.sqlite.specs.Order.{Row}
 use Rattle.sqlite.specs.State.{HasCleanDisk, Shown}
 use Rattle.sqlite.specs.Held.{state}
 use Rattle.desk_sql.specs.Effects.{ShowsAsBefore, Spares}
 use Rattle.desk_sql.proofs.ReadLemmas.{if_either, unprepared}
-use Rattle.desk_sql.proofs.TakingLemmas.{open_on}
-use Rattle.desk_sql.proofs.LeavingLemmas.{begun_after, was_prepared, handed_after, kept_after, kept_refused, spared_handed, spared_then}
+use Rattle.desk_sql.proofs.TakingLemmas.{begun, open_on}
+use Rattle.desk_sql.proofs.LeavingLemmas.{begun_after, plain_text, ready_mid, was_prepared, handed_after, kept_after, kept_refused, spared_handed, spared_then}
+use Rattle.desk_sql.specs.Refusals.{IsRefusal}
+use Rattle.desk_sql.specs.Taking.{IsCutShort}
+use Rattle.desk_sql.proofs.HandLemmas.{cut_short, refused_begun, refused_unprepared}
 use Rattle.desk_sql.proofs.reading.taking.hand_over.Goals as goal
 
 pub returns-in_err-statement-clause-kept : goal.returns-in_err-statement-clause-kept
@@ -101,4 +104,57 @@ returns-clause-spared g c =
     (bound c.args.params.now) old c.prepare.new.self c.requires.ready c.requires.plain
     c.in_ok-statement.ensures.ok c.prepare.ensures.survives first c.in_ok-rows.ensures.survives)
     c.hand_all.ensures.spared in
+    search rules
+
+-- why the query is refused, or not all rows are handed over
+pub returns-in_err-statement-clause-cause : goal.returns-in_err-statement-clause-cause
+returns-in_err-statement-clause-cause g c clean live =
+    let it : IsRefusal g.S.Store c.args.connection.now c.prepare.new.self _ =
+    refused_unprepared g.S.Store c.args.query.now (bound c.args.params.now) c.requires.sure
+    c.args.connection.now c.requires.ready (omega (arith, c.prepare.ensures.survives.clean, clean))
+    c.prepare.new.self _
+    (c.in_err-statement.ensures.err clean (bound c.args.params.now)) live in
+    search (rules, it)
+
+pub returns-in_err-rows-clause-cause : goal.returns-in_err-rows-clause-cause
+returns-in_err-rows-clause-cause g c clean live =
+    let refused = rw c.in_err-rows.was at c.query_prepared.follows.holds-at-none in
+    let new = c.query_prepared.follows.lender-at-none in
+    let early : HasCleanDisk (state g.S.Store c.prepare.new.self) =
+    omega (arith, refused.survives.clean, clean) in
+    let prepared = c.in_ok-statement.ensures.ok early in
+    let it : IsRefusal g.S.Store c.args.connection.now new _ =
+    refused_begun g.S.Store c.args.query.now (bound c.args.params.now) c.requires.sure
+    c.args.connection.now c.requires.ready c.prepare.new.self c.in_ok-statement.statement.text
+    prepared.0 prepared.1 c.prepare.ensures.survives
+    (omega (arith, c.prepare.ensures.survives.clean, early)) new _ (refused.err clean) live in
+    search (rules, it)
+
+pub returns-clause-cause : goal.returns-clause-cause
+returns-clause-cause g c =
+    let old = c.args.connection.now in
+    let mid = c.prepare.new.self in
+    let first = c.in_ok-rows.rows.conn.now in
+    let new = c.hand_all.new.rows.conn.now in
+    let text = c.in_ok-statement.statement.text in
+    let survives = c.in_ok-rows.ensures.survives in
+    let it : HasCleanDisk (state g.S.Store new) → IsTrue (state g.S.Store new).is_open
+    → IfErr c.hand_all.result (IsCutShort g.S.Store old new (Shown c.args.query.now
+    (bound c.args.params.now) (state g.S.Store old) (state g.S.Store new)) g.T.TakeRow.refuses) =
+    λ clean live.
+    (let here : HasCleanDisk (state g.S.Store first) = omega (arith, clean, c.hand_all.ensures.doubt) in
+    let early : HasCleanDisk (state g.S.Store mid) = omega (arith, here, survives.clean) in
+    let prepared = c.in_ok-statement.ensures.ok early in
+    let begins = begun g.S.Store text (bound c.args.params.now) mid
+    (ready_mid g.S.Store c.args.query.now text (bound c.args.params.now) old mid c.requires.ready
+    c.requires.plain c.in_ok-statement.ensures.ok c.prepare.ensures.survives)
+    (plain_text g.S.Store c.args.query.now text (bound c.args.params.now) old mid c.requires.ready
+    c.requires.plain c.in_ok-statement.ensures.ok c.prepare.ensures.survives early) early first
+    (c.in_ok-rows.ensures.begun here) in
+    cut_short g.S.Store c.args.query.now (bound c.args.params.now) c.requires.sure old c.requires.ready
+    mid text prepared.0 prepared.1 c.prepare.ensures.survives
+    (omega (arith, c.prepare.ensures.survives.clean, early)) first new begins.0 begins.1
+    survives.counts survives.limit g.T.TakeRow.refuses live
+    (g.T.TakeRow.has_taken c.args.taker.now) c.requires.fresh c.hand_all.result
+    (c.hand_all.ensures.cause clean)) in
     search rules
