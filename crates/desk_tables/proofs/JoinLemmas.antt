@@ -19,27 +19,27 @@ use Rattle.desk_tables.proofs.FilterLemmas.{ArePlans}
 no_area : (area : List Block) → IsTrue (is_area area) → area ≡ [] → ⊥
 no_area area h e = true≢false (sym h ∙ ap is_area e)
 
-volume_read : (p : Filed) (n : ℕ) (v : Block) → IsVolumeAt (joined (plan_row p) (volume_row p n v)) 6 v
+pub volume_read : (p : Filed) (n : ℕ) (v : Block) → IsVolumeAt (joined (plan_row p) (volume_row p n v)) 6 v
 volume_read p n v = record { lower = refl; upper = refl; start = refl; end = refl; asked = refl }
 
-head_read : (p : Filed) (n : ℕ) (v : Block) → IsHead (joined (plan_row p) (volume_row p n v)) p.row
+pub head_read : (p : Filed) (n : ℕ) (v : Block) → IsHead (joined (plan_row p) (volume_row p n v)) p.row
 head_read p n v = record { id = refl; priority = refl; usage = refl; aircraft = refl }
 
 above : (n : ℕ) → 1 ≤ n → int_lt (pos 0) (pos n) ≡ true
 above n h = grind (arith, nat_tests, h)
 
 -- the first row of a listing, and what is left of it
-record IsFirst (row : Row) (left : List Row) (ps : List Filed) : Type 0 where
-  plan : Filed
-  more : List Filed
-  volume : Block
-  rest : List Block
-  are : ps ≡ plan ∷ more
-  area : volume ∷ rest ≡ plan.row.area
-  row_is : row ≡ joined (plan_row plan) (volume_row plan 0 volume)
-  left_is : left ≡ joined_from plan 1 rest ++ listing_rows more
+pub record IsFirst (row : Row) (left : List Row) (ps : List Filed) : Type 0 where
+  pub plan : Filed
+  pub more : List Filed
+  pub volume : Block
+  pub rest : List Block
+  pub are : ps ≡ plan ∷ more
+  pub area : volume ∷ rest ≡ plan.row.area
+  pub row_is : row ≡ joined (plan_row plan) (volume_row plan 0 volume)
+  pub left_is : left ≡ joined_from plan 1 rest ++ listing_rows more
 
-first_row : (row : Row) (left : List Row) (ps : List Filed) → ArePlans ps → row ∷ left ≡ listing_rows ps
+pub first_row : (row : Row) (left : List Row) (ps : List Filed) → ArePlans ps → row ∷ left ≡ listing_rows ps
     → IsFirst row left ps
 first_row row left [] h e = cc
 first_row row left (p ∷ more) h e = by_area p.row.area refl e where
@@ -57,10 +57,10 @@ first_row row left (p ∷ more) h e = by_area p.row.area refl e where
     left_is = cc;
   }
 
-not_later : (row : Row) (left : List Row) (ps : List Filed) → IsFirst row left ps → is_later row ≡ false
+pub not_later : (row : Row) (left : List Row) (ps : List Filed) → IsFirst row left ps → is_later row ≡ false
 not_later row left ps first = ap is_later first.row_is
 
-no_rows : (p : Filed) (n : ℕ) (vs : List Block) (ps : List Filed) → ArePlans ps → []
+pub no_rows : (p : Filed) (n : ℕ) (vs : List Block) (ps : List Filed) → ArePlans ps → []
     ≡ joined_from p n vs
     ++ listing_rows ps → (vs ≡ []) × (ps ≡ [])
 no_rows p n [] [] h e = (refl, refl)
@@ -70,7 +70,7 @@ no_rows p n [] (q ∷ qs) h e = absurd (by_area q.row.area refl e) where
   by_area (u ∷ us) is f = cc
 no_rows p n (v ∷ vs) ps h e = cc
 
-each_at : (xs : List Block) (y : Block) (ys : List Block) → AllByRecursion IsBlock (xs ++ y ∷ ys)
+pub each_at : (xs : List Block) (y : Block) (ys : List Block) → AllByRecursion IsBlock (xs ++ y ∷ ys)
     → IsBlock y
 each_at [] y ys h = h.0
 each_at (x ∷ xs) y ys h = each_at xs y ys h.1
@@ -123,7 +123,7 @@ closes plans head volumes left all way none =
     ∙ ap (λ r. plans ++ r ∷ map (λ p. p.row) way.more) row ∙ way.whole
 
 -- the next row of the plan under way is a later one
-stays_later : (row : Row) (p : Filed) (n : ℕ) (v : Block) → 1 ≤ n → row
+pub stays_later : (row : Row) (p : Filed) (n : ℕ) (v : Block) → 1 ≤ n → row
     ≡ joined (plan_row p) (volume_row p n v) → is_later row ≡ true
 stays_later row p n v low is = ap is_later is ∙ above n low
 

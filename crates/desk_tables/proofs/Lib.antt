@@ -28,3 +28,6 @@ pub mod UnreadLemmas
 pub mod ExactLemmas
 pub mod ShortLemmas
 pub mod LeavingLemmas
+pub mod GatherLemmas
+pub mod CauseLemmas
+pub mod SlabLemmas

@@ -1,5 +1,5 @@
 -- What stands after a query, and what its answer is of the world.
-use Rattle.std.proofs.Common.{◌≡◌, ℕ, pos, ◌≤◌, Bool, true, false, cond, List, [], ◌∷◌, map, Option, Some, None, Result, Ok, Err, IfOk, IsOk, OnOk, refl, sym, ap, subst, ◌∙◌, arith, Less, IsPermutation, IsTrue}
+use Rattle.std.proofs.Common.{◌≡◌, ℕ, pos, ◌≤◌, Bool, true, false, cond, List, [], ◌∷◌, map, Option, Some, None, Result, Ok, Err, IfOk, IfSome, IsOk, OnOk, refl, sym, ap, subst, ◌∙◌, arith, Less, IsPermutation, IsTrue}
 use Rattle.std.specs.List.{filter, find}
 use Rattle.std.specs.List.Sorted.{IsStrictlySortedBy}
 use Rattle.std.specs.Option.{option_map}
@@ -20,10 +20,12 @@ use Rattle.desk_sql.specs.Rows.{Tables, IsDesk, Lists, tables_of}
 use Rattle.desk_sql.specs.Effects.{IsKept, IsReady, Commits}
 use Rattle.desk_sql.specs.Making.{no_rows, AreEmpty}
 use Rattle.desk_store.specs.World.{Listed, World, text_cmp, listed_cmp, ceiling_of}
+use Rattle.desk_rules.specs.Limits.{max_priority}
 use Rattle.desk_store.specs.OrderLaws.{is_equal, all_weaker}
+use Rattle.desk_store.specs.WorldLaws.{ceiling_within}
 use Rattle.desk_tables.specs.Tables.{operator_row, operator_rows, AreTables}
 use Rattle.desk_tables.specs.Content.{IsContent}
-use Rattle.desk_tables.specs.Lookups.{IsCeilingIn}
+use Rattle.desk_tables.specs.Lookups.{HasNoCeiling, IsCeilingIn}
 use Rattle.desk_tables.specs.Store.{IsStanding, Stands}
 use Rattle.desk_tables.proofs.FilterLemmas.{turned}
 
@@ -110,6 +112,32 @@ one_named name (l ∷ ls) s = by_test (named name l) refl (one_named name ls s.1
   by_test true e ih = ap (λ xs. l ∷ xs) (later e)
   by_test false e ih = ih
 
+named_rows : (tables : Tables) (w : World) (name : List ℕ) (rows : List Row)
+    → IsContent w → AreTables tables w → Lists [] (filter (sql.is_by name) tables.operators) rows
+    → IsPermutation (map operator_row (listed_or_none (find (named name) w.operators))) rows
+named_rows tables w name rows h t lists =
+    subst (λ xs. IsPermutation xs rows) (names_filtered name w.operators
+    ∙ ap (map operator_row) (one_named name w.operators h.world.operators))
+    (IsPermutation-trans (filter (sql.is_by name) (operator_rows w))
+    (filter (sql.is_by name) tables.operators) rows
+    (IsPermutation-filter (sql.is_by name) (operator_rows w) tables.operators t.operators)
+    lists.same)
+
+-- the row of an operator has its ceiling
+pub ceiling_reads : (tables : Tables) (w : World) (name : List ℕ) (rows : List Row)
+    → IsContent w → AreTables tables w → Lists [] (filter (sql.is_by name) tables.operators) rows
+    → ¬ HasNoCeiling rows
+unfolding ceiling_of
+ceiling_reads tables w name rows h t lists none =
+    by_found (find (named name) w.operators) rows (named_rows tables w name rows h t lists)
+    (ceiling_within name w h.world) none where
+      by_found : (listed : Option Listed) (rows : List Row)
+          → IsPermutation (map operator_row (listed_or_none listed)) rows
+          → IfSome (option_map (λ l. l.ceiling) listed) (λ n. n ≤ max_priority) → ¬ HasNoCeiling rows
+      by_found None rows same within none = subst HasNoCeiling (no_row rows same) none
+      by_found (Some l) rows same within none =
+          subst HasNoCeiling (one_row (operator_row l) rows same) none l.ceiling (omega (arith, within)) refl
+
 pub ceiling_is : (tables : Tables) (w : World) (name : List ℕ) (rows : List Row) (found : Option ℕ)
     → IsContent w → AreTables tables w
     → Lists [] (filter (sql.is_by name) tables.operators) rows → IsCeilingIn rows found → found
@@ -118,12 +146,7 @@ unfolding ceiling_of
 ceiling_is tables w name rows found h t lists read =
     by_found (find (named name) w.operators) found rows here read where
       here : IsPermutation (map operator_row (listed_or_none (find (named name) w.operators))) rows
-      here = subst (λ xs. IsPermutation xs rows) (names_filtered name w.operators
-          ∙ ap (map operator_row) (one_named name w.operators h.world.operators))
-          (IsPermutation-trans (filter (sql.is_by name) (operator_rows w))
-          (filter (sql.is_by name) tables.operators) rows
-          (IsPermutation-filter (sql.is_by name) (operator_rows w) tables.operators t.operators)
-          lists.same)
+      here = named_rows tables w name rows h t lists
 
       by_found : (listed : Option Listed) (found : Option ℕ) (rows : List Row)
           → IsPermutation (map operator_row (listed_or_none listed)) rows → IsCeilingIn rows found

@@ -1,6 +1,6 @@
 -- What is read stands in the rows, and what is not read stands in none.
-use Rattle.std.proofs.Common.{◌≡◌, ℕ, ℤ, pos, zero, suc, ◌+◌, ◌<◌, inl, Bool, true, false, ◌&&◌, cond, List, [], ◌∷◌, ◌++◌, length, take, get_or, Option, Some, None, Result, Ok, Err, refl, sym, ap, subst, ◌∙◌, arith, IsTrue, true≢false, w32, SFits}
-use Rattle.std.specs.Prelude.{IsErrAnd, IfErr, IsUtf8}
+use Rattle.std.proofs.Common.{◌≡◌, ℕ, ℤ, pos, zero, suc, ◌+◌, ◌<◌, inl, inr, Bool, true, false, ◌&&◌, cond, List, [], ◌∷◌, ◌++◌, length, take, get_or, Option, Some, None, Result, Ok, Err, refl, sym, ap, subst, ◌∙◌, arith, IsTrue, true≢false, w32, SFits}
+use Rattle.std.specs.Prelude.{IsErrAnd, IfErr, IsUtf8, ◌↔◌, ◌⊎◌}
 use Rattle.std.specs.List.{AllByRecursion, AllZip}
 use Rattle.std.proofs.lemmas.Int.{ints}
 use Rattle.std.proofs.lemmas.Str.{IsUtf8-from_ascii}
@@ -20,6 +20,11 @@ use Rattle.volume4d.specs.Volume.{Block}
 use Rattle.volume4d.specs.Windows.{WindowParts, window_or_fault, is_window}
 use Rattle.volume4d.specs.declared.window.WindowFault.{WindowFault}
 use Rattle.volume4d.specs.declared.window.WindowFault.TheVariants.{Altitude, Time, TooLong}
+use Rattle.sqlite.specs.declared.error.Error.{Error}
+use Rattle.sqlite.specs.declared.error.Error.TheVariants.{SqliteFailure}
+use Rattle.sqlite.specs.declared.error.ErrorCode.TheVariants as code
+use Rattle.desk_store.specs.declared.fault.StoreFault.{StoreFault}
+use Rattle.desk_store.specs.declared.fault.StoreFault.TheVariants as store
 use Rattle.desk_tables.specs.Tables.{id_text}
 use Rattle.desk_tables.specs.Content.{IsId, IsBlock}
 use Rattle.desk_tables.specs.Reading.{IsVolumeAt}
@@ -225,3 +230,10 @@ all_stand at rows i volumes area end is h =
       subst (λ rs. AllZip (λ r v. IsVolumeAt r at v) rs volumes)
           (ap (λ n. take n rows) end ∙ take_all rows) h.stand,
     )
+
+-- an error with which a taker of rows gives up
+pub refused_by : (fault : StoreFault) (e : Error) (P : Type 0)
+    → ((e ≡ SqliteFailure code.OutOfMemory) ↔ (fault ≡ store.OutOfMemory)) → (fault ≡ store.Store → P)
+    → (e ≡ SqliteFailure code.OutOfMemory) ⊎ P
+refused_by store.OutOfMemory e P same holds = inl (same.1 refl)
+refused_by store.Store e P same holds = inr (holds refl)

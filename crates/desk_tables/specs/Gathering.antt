@@ -1,13 +1,13 @@
 -- Plans that are gathered from the rows of a listing, one row after the other.
-use Rattle.std.specs.Prelude.{◌≡◌, ◌≤◌, List, [], ◌∷◌, ◌++◌, length, map, Option, Some, None}
+use Rattle.std.specs.Prelude.{◌≡◌, ◌≢◌, ◌≤◌, ◌<◌, ◌^◌, ◌⊎◌, true, false, List, [], ◌∷◌, ◌++◌, length, map, Option, Some, None}
 use Rattle.std.specs.List.{AllByRecursion}
 use Rattle.sqlite_value.specs.Order.{Row}
-use Rattle.volume4d.specs.Volume.{Block}
+use Rattle.volume4d.specs.Volume.{Block, is_area}
 use Rattle.desk_rules.specs.declared.plan.PlanRow.{PlanRow}
 use Rattle.desk_store.specs.World.{Filed}
 use Rattle.desk_tables.specs.declared.reading.values.Head.{Head}
-use Rattle.desk_tables.specs.Content.{IsPlan}
-use Rattle.desk_tables.specs.Reading.{joined_from, listing_rows}
+use Rattle.desk_tables.specs.Content.{IsBlock, IsId, IsPlan}
+use Rattle.desk_tables.specs.Reading.{IsHead, IsVolumeAt, is_later, joined_from, listing_rows}
 
 -- the plan that is this but for its area
 abbrev pub plan_with : Head → List Block → PlanRow
@@ -49,3 +49,27 @@ abbrev pub HasGathered : List PlanRow → Option Head → List Block → List Ro
 HasGathered plans head volumes rows =
     (ps : List Filed) (left : List Row) → AllByRecursion (λ p. IsPlan p.row) ps
     → rows ++ left ≡ listing_rows ps → Leads plans head volumes left ps
+
+-- ---- rows that are not gathered
+
+-- the plan under way has no area's volumes
+abbrev pub HasNoArea : Option Head → List Block → Type 0
+HasNoArea None volumes = ⊥
+HasNoArea (Some head) volumes = is_area volumes ≡ false
+
+-- a row that begins no plan
+abbrev pub IsNoHead : Row → Type 0
+IsNoHead row = (p : PlanRow) → IsId p.id → p.priority < 2 ^ 32 → ¬ IsHead row p
+
+-- a row of a plan after the one under way, which can't end or which it can't begin; one of a plan of which no
+-- row came; or one without a volume
+abbrev pub IsUngathered : Option Head → List Block → Row → Type 0
+IsUngathered head volumes row =
+    ((is_later row ≡ false) × (HasNoArea head volumes ⊎ IsNoHead row))
+    ⊎ (((is_later row ≡ true) × (head ≡ None)) ⊎ ((v : Block) → IsBlock v → ¬ IsVolumeAt row 6 v))
+
+-- no listing of plans begins with these rows and this one
+abbrev pub BeginNoListing : List Row → Row → Type 0
+BeginNoListing taken row =
+    (ps : List Filed) (left : List Row) → AllByRecursion (λ p. IsPlan p.row) ps
+    → AllByRecursion (λ p. p.row.priority < 2 ^ 32) ps → taken ++ row ∷ left ≢ listing_rows ps

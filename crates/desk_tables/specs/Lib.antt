@@ -11,5 +11,6 @@ pub mod Store
 pub mod Lengths
 pub mod Records
 pub mod Opening
+pub mod Causes
 pub mod Files
 pub mod Leaving

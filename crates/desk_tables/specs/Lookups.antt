@@ -1,5 +1,5 @@
 -- What is taken from the rows of answers.
-use Rattle.std.specs.Prelude.{◌≡◌, ℕ, pos, List, [], ◌∷◌, Option, Some, None, MatchOption}
+use Rattle.std.specs.Prelude.{◌≡◌, ◌≢◌, ℕ, ◌<◌, ◌^◌, pos, List, [], ◌∷◌, Option, Some, None, MatchOption}
 use Rattle.std.specs.List.{find}
 use Rattle.sqlite_value.specs.declared.value.Value.TheVariants.{Int}
 use Rattle.sqlite_value.specs.Order.{Row, column}
@@ -11,6 +11,11 @@ abbrev pub IsCeilingIn : List Row → Option ℕ → Type 0
 IsCeilingIn rows found =
     MatchOption found (rows ≡ []) (λ n. (first : Row) × (rest : List Row) × (rows ≡ first ∷ rest)
     × (column first 1 ≡ Int (pos n)))
+
+-- the first row has no ceiling
+abbrev pub HasNoCeiling : List Row → Type 0
+HasNoCeiling [] = ⊥
+HasNoCeiling (row ∷ rows) = (n : ℕ) → n < 2 ^ 32 → column row 1 ≢ Int (pos n)
 
 -- the operator's plan of the id, as a list of none or one
 abbrev pub one_or_none : Option Filed → List Filed

@@ -1,5 +1,6 @@
 -- Slabs that are held, as rows of `span` show them.
-use Rattle.std.specs.Prelude.{◌≡◌, ℕ, ℤ, pos, ◌-ℤ◌, List}
+use Rattle.std.specs.Prelude.{◌≡◌, ◌<◌, ◌^◌, ◌*◌, ℕ, ℤ, pos, ◌-ℤ◌, List, FitsSigned}
+use Rattle.std.specs.Int.{w32}
 use Rattle.std.specs.List.{AllZip}
 use Rattle.sqlite_value.specs.declared.value.Value.TheVariants.{Int}
 use Rattle.sqlite_value.specs.Order.{Row, column}
@@ -20,6 +21,18 @@ pub record IsSlabIn (row : Row) (slab : Slab) : Type 0 where
 pub record IsHeldIn (row : Row) (held : Held) : Type 0 where
   pub slab : IsSlabIn row held.slab
   pub priority : column row 6 ≡ Int (pos held.priority)
+
+-- a slab whose ends are leaf positions, and whose other numbers have 32 bits where the columns' have
+pub record FitsColumns (held : Held) : Type 0 where
+  pub first : held.slab.first < 6 * 2 ^ 60
+  pub last : held.slab.last < 6 * 2 ^ 60
+  pub lower : FitsSigned w32 held.slab.lower
+  pub upper : FitsSigned w32 held.slab.upper
+  pub priority : held.priority < 2 ^ 32
+
+-- the columns are those of no slab
+abbrev pub IsNoHeld : Row → Type 0
+IsNoHeld row = (held : Held) → FitsColumns held → ¬ IsHeldIn row held
 
 -- one held slab for each row, in the same order
 abbrev pub HasTakenHelds : List Held → List Row → Type 0

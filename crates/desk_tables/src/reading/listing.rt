@@ -1,6 +1,6 @@
 //! Plans with their volumes, from the rows of a join that are taken one at a time.
 
-ghost use Rattle.std.specs.Prelude.{◌≡◌, ◌↔◌, [], ◌∷◌, List, IfOk, IsSomeAnd, OnOk, map};
+ghost use Rattle.std.specs.Prelude.{◌≡◌, ◌↔◌, ◌⊎◌, [], ◌∷◌, List, IfErr, IfOk, IsSomeAnd, OnOk, map};
 ghost use Rattle.std.specs.List.{AllByRecursion};
 ghost use Rattle.sqlite_value.specs.Order.{Row as Values};
 ghost use Rattle.desk_rules.specs.declared.plan.PlanRow.{PlanRow as Plan};
@@ -8,7 +8,7 @@ ghost use Rattle.desk_store.specs.World.{Filed};
 ghost use Rattle.desk_tables.specs.Content.{IsId, IsPlan};
 ghost use Rattle.desk_tables.specs.Reading as spec;
 ghost use Rattle.desk_tables.specs.Reading.{IsHead, listing_rows};
-ghost use Rattle.desk_tables.specs.Gathering.{Leads, HasGathered, closed_plans, plan_with};
+ghost use Rattle.desk_tables.specs.Gathering.{Leads, HasGathered, HasNoArea, IsNoHead, IsUngathered, closed_plans, plan_with};
 
 use crate::reading::values::{Head, head_in, volume_in};
 use desk_rules::plan::PlanRow;
@@ -48,6 +48,8 @@ impl Gather {
         ensures plans { OnOk result (self.new.plans.items
             ≡ closed_plans self.old.plans.items self.old.head self.old.volumes.items) }
         ensures volumes { self.new.volumes.items ≡ [] }
+        ensures none { IfErr result (λ e. e ≡ StoreFault.Store →
+            HasNoArea self.old.head self.old.volumes.items) }
     {
         let volumes = mem::replace(&mut self.volumes, Vec::new(self.alloc));
         let Some(head) = self.head.take() else {
@@ -66,6 +68,8 @@ impl Gather {
         ensures head { OnOk result (IsSomeAnd self.new.head (λ head.
             (p : Plan) → IsId p.id → IsHead row.now p → plan_with head p.area ≡ p)) }
         ensures volumes { OnOk result (self.new.volumes.items ≡ []) }
+        ensures none { IfErr result (λ e. e ≡ StoreFault.Store →
+            HasNoArea self.old.head self.old.volumes.items ⊎ IsNoHead row.now) }
     {
         self.close()?;
         self.head = Some(head_in(row)?);
@@ -74,9 +78,12 @@ impl Gather {
 
     // Takes the next row.
     fn add(&mut self, row: &Row) -> Result<(), StoreFault>
-        ensures { OnOk result ((ps : List Filed) (left : List Values) → AllByRecursion (λ p. IsPlan p.row) ps
+        ensures leads { OnOk result ((ps : List Filed) (left : List Values)
+            → AllByRecursion (λ p. IsPlan p.row) ps
             → Leads self.old.plans.items self.old.head self.old.volumes.items (row.now ∷ left) ps
             → Leads self.new.plans.items self.new.head self.new.volumes.items left ps) }
+        ensures none { IfErr result (λ e. e ≡ StoreFault.Store →
+            IsUngathered self.old.head self.old.volumes.items row.now) }
     {
         if !is_later(row) {
             self.begin(row)?;
@@ -93,9 +100,11 @@ impl Gather {
     ///
     /// `OutOfMemory` if memory runs out. `Store` if the rows are no plans'.
     pub(crate) fn finish(mut self) -> Result<Vec<PlanRow>, StoreFault>
-        ensures { IfOk result (λ plans. (ps : List Filed) → AllByRecursion (λ p. IsPlan p.row) ps
+        ensures value { IfOk result (λ plans. (ps : List Filed) → AllByRecursion (λ p. IsPlan p.row) ps
             → HasGathered self.plans.items self.head self.volumes.items (listing_rows ps)
             → plans.items ≡ map (λ p. p.row) ps) }
+        ensures none { IfErr result (λ e. e ≡ StoreFault.Store →
+            HasNoArea self.head self.volumes.items) }
     {
         self.close()?;
         Ok(self.plans)
@@ -103,9 +112,14 @@ impl Gather {
 }
 
 impl TakeRow for Gather {
-    ghost use Rattle.desk_tables.specs.Gathering.{HasGathered};
+    ghost use Rattle.std.specs.Prelude.{◌≡◌, ◌⊎◌};
+    ghost use Rattle.sqlite.specs.declared.error.Error.TheVariants.{SqliteFailure};
+    ghost use Rattle.sqlite.specs.declared.error.ErrorCode.TheVariants.{OutOfMemory};
+    ghost use Rattle.desk_tables.specs.Gathering.{HasGathered, BeginNoListing};
 
     ghost has_taken = { λ g rows. HasGathered g.plans.items g.head g.volumes.items rows };
+
+    ghost refuses = { λ taken row e. (e ≡ SqliteFailure OutOfMemory) ⊎ BeginNoListing taken row };
 
     fn take(&mut self, row: &Row) -> Result<(), Error> {
         match self.add(row) {

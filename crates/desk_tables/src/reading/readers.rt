@@ -1,7 +1,8 @@
 //! What a store answers, read from its tables.
 
-ghost use Rattle.std.specs.Prelude.{◌≡◌, ◌≤◌, List, IfOk, IfSome, IsOk, OnOk, length, map};
+ghost use Rattle.std.specs.Prelude.{◌≡◌, ◌≢◌, ◌≤◌, ◌<◌, ◌^◌, List, IfErr, IfOk, IfSome, IsOk, OnOk, length, map};
 ghost use Rattle.std.specs.List.{AllByRecursion, AllZip};
+ghost use Rattle.std.specs.Result.{IsErrAnd};
 ghost use Rattle.sqlite_trees.specs.View.{doubt};
 ghost use Rattle.sqlite.specs.State.{HasCleanDisk};
 ghost use Rattle.sqlite.specs.Held.{state};
@@ -12,8 +13,9 @@ ghost use Rattle.desk_store.specs.Rivals.{AreRivals};
 ghost use Rattle.desk_tables.specs.Tables.{plan_rows, volume_rows};
 ghost use Rattle.desk_tables.specs.Content.{IsBlock, IsContent, IsId, IsPlan};
 ghost use Rattle.desk_tables.specs.Reading.{IsHead, IsVolumeAt, listing_rows};
-ghost use Rattle.desk_tables.specs.Gathering.{HasGathered};
+ghost use Rattle.desk_tables.specs.Gathering.{HasGathered, HasNoArea};
 ghost use Rattle.desk_tables.specs.Lookups.{own_of};
+ghost use Rattle.desk_tables.specs.Causes.{BlamesSpans, BlamesStore};
 ghost use Rattle.desk_tables.specs.Store.{Stands};
 ghost use Rattle.desk_tables.specs.Lengths.{Bounds};
 ghost use Rattle.desk_sql.specs.Effects.{Spares};
@@ -30,7 +32,7 @@ use desk_sql::{
     volumes_of,
 };
 use desk_store::StoreFault;
-use sqlite::{Connection, Error, Row};
+use sqlite::{Connection, Error, ErrorCode, Row};
 use sqlite_trees::store::Alter;
 use std::alloc::Global;
 use volume4d::{Held, Slab};
@@ -51,6 +53,7 @@ pub(crate) fn ceiling<S: Alter>(
         IfOk result (λ found. found ≡ ceiling_of operator.now kept.now.world) }
     ensures bound { HasCleanDisk (state S.Store connection.new) →
         IfOk result (λ found. IfSome found (λ n. n ≤ max_priority)) }
+    ensures cause { IfErr result (BlamesStore S.Store connection.old connection.new) }
     ensures stands { Stands S.Store connection.new kept.now.world }
     ensures doubt { doubt (state S.Store connection.old).is_clean
         ≤ doubt (state S.Store connection.new).is_clean }
@@ -77,6 +80,9 @@ pub(crate) fn heads<S: Alter>(
     ensures value { HasCleanDisk (state S.Store connection.new) →
         IfOk result (λ rows. IsContent kept.now.world
         × (rows.items ≡ plan_rows (own_of operator.now id.now kept.now.world))) }
+    ensures cause { IfErr result (BlamesStore S.Store connection.old connection.new) }
+    ensures faults { (state S.Store connection.old).faults ≤ (state S.Store connection.new).faults }
+    ensures limit { connection.new.step_limit ≡ connection.old.step_limit }
     ensures stands { Stands S.Store connection.new kept.now.world }
     ensures doubt { doubt (state S.Store connection.old).is_clean
         ≤ doubt (state S.Store connection.new).is_clean }
@@ -101,6 +107,9 @@ fn volumes<S: Alter>(
     ensures value { HasCleanDisk (state S.Store connection.new) →
         IfOk result (λ rows. IsContent kept.now.world
         × (rows.items ≡ volume_rows (own_of operator.now id.now kept.now.world))) }
+    ensures cause { IfErr result (BlamesStore S.Store connection.old connection.new) }
+    ensures faults { (state S.Store connection.old).faults ≤ (state S.Store connection.new).faults }
+    ensures limit { connection.new.step_limit ≡ connection.old.step_limit }
     ensures stands { Stands S.Store connection.new kept.now.world }
     ensures doubt { doubt (state S.Store connection.old).is_clean
         ≤ doubt (state S.Store connection.new).is_clean }
@@ -130,6 +139,7 @@ pub(crate) fn plan<S: Alter>(
     requires { Stands S.Store connection.old kept.now.world }
     ensures value { HasCleanDisk (state S.Store connection.new) →
         IfOk result (λ row. row ≡ stored_of id.now (plans_of operator.now kept.now.world)) }
+    ensures cause { IfErr result (BlamesStore S.Store connection.old connection.new) }
     ensures stands { Stands S.Store connection.new kept.now.world }
     ensures doubt { doubt (state S.Store connection.old).is_clean
         ≤ doubt (state S.Store connection.new).is_clean }
@@ -148,6 +158,9 @@ fn plan_of_rows(alloc: Global, head: &Row, rows: &[Row]) -> Result<PlanRow, Stor
     ensures value { IfOk result (λ plan. (p : Plan) → IsId p.id → IsHead head.now p
         → AllByRecursion IsBlock p.area → AllZip (λ row v. IsVolumeAt row 3 v) rows.now p.area
         → plan ≡ p) }
+    ensures none { IfErr result (λ e. e ≡ StoreFault.Store → (p : Plan) → IsPlan p
+        → p.priority < 2 ^ 32 → IsHead head.now p
+        → ¬ AllZip (λ row v. IsVolumeAt row 3 v) rows.now p.area) }
 {
     let area = area_in(alloc, rows, 3)?;
     plan_in(head, area)
@@ -160,6 +173,9 @@ fn gathered(taken: Result<(), Error>, gather: Gather) -> Result<Vec<PlanRow>, St
         → AllByRecursion (λ p. IsPlan p.row) ps
         → HasGathered gather.plans.items gather.head gather.volumes.items (listing_rows ps)
         → plans.items ≡ map (λ p. p.row) ps) }
+    ensures none { IfErr result (λ e. e ≡ StoreFault.Store →
+        IfErr taken (λ error. error ≢ Error.SqliteFailure ErrorCode.OutOfMemory)
+        × OnOk taken (HasNoArea gather.head gather.volumes.items)) }
 {
     match taken {
         Ok(()) => gather.finish(),
@@ -186,6 +202,7 @@ pub(crate) fn own_plans<S: Alter>(
         IfOk result (λ rows. AreInOrder rows.items) }
     ensures limit { HasCleanDisk (state S.Store connection.new) →
         IfOk result (λ rows. length rows.items ≤ max_plans) }
+    ensures cause { IfErr result (BlamesStore S.Store connection.old connection.new) }
     ensures stands { Stands S.Store connection.new kept.now.world }
     ensures doubt { doubt (state S.Store connection.old).is_clean
         ≤ doubt (state S.Store connection.new).is_clean }
@@ -209,6 +226,7 @@ pub(crate) fn own_count<S: Alter>(
     requires { Stands S.Store connection.old kept.now.world }
     ensures value { HasCleanDisk (state S.Store connection.new) →
         IfOk result (λ count. count ≡ length (plans_of operator.now kept.now.world)) }
+    ensures cause { IfErr result (BlamesStore S.Store connection.old connection.new) }
     ensures stands { Stands S.Store connection.new kept.now.world }
     ensures doubt { doubt (state S.Store connection.old).is_clean
         ≤ doubt (state S.Store connection.new).is_clean }
@@ -224,6 +242,8 @@ pub(crate) fn own_count<S: Alter>(
 fn held_by(handed: Result<(), Error>, rivals: Rivals) -> Result<Vec<Held>, StoreFault>
     ensures whole { OnOk result (IsOk handed) }
     ensures value { IfOk result (λ helds. helds.items ≡ rivals.helds.items) }
+    ensures none { IfErr result (λ e. e ≡ StoreFault.Store →
+        IsErrAnd handed (λ error. error ≢ Error.SqliteFailure ErrorCode.OutOfMemory)) }
 {
     match handed {
         Ok(()) => Ok(rivals.finish()),
@@ -253,6 +273,7 @@ pub(crate) fn rivals<S: Alter>(
     requires bounded { Bounds longest kept.now.world }
     ensures value { HasCleanDisk (state S.Store connection.new) → IfOk result (λ helds.
         AreRivals kept.now.world operator.now id.now least extent.now helds.items) }
+    ensures cause { IfErr result (BlamesSpans S.Store connection.old connection.new) }
     ensures stands { Stands S.Store connection.new kept.now.world }
     ensures doubt { doubt (state S.Store connection.old).is_clean
         ≤ doubt (state S.Store connection.new).is_clean }

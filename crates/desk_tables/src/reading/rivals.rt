@@ -1,10 +1,11 @@
 //! Held slabs, from rows of `span` that are taken one at a time.
 
-ghost use Rattle.std.specs.Prelude.{◌≡◌, ◌<◌, ◌*◌, ◌^◌, pos, [], IfOk};
+ghost use Rattle.std.specs.Prelude.{◌≡◌, ◌≢◌, ◌<◌, ◌*◌, ◌^◌, ℕ, pos, [], IfErr, IfOk};
 ghost use Rattle.sqlite_value.specs.declared.value.Value.TheVariants.{Int};
 ghost use Rattle.sqlite_value.specs.Order.{column};
 ghost use Rattle.desk_tables.specs.Rivals as spec;
-ghost use Rattle.desk_tables.specs.Rivals.{IsHeldIn, IsSlabIn, HasTakenHelds};
+ghost use Rattle.volume4d.specs.declared.slab.Held.{Held as One};
+ghost use Rattle.desk_tables.specs.Rivals.{FitsColumns, IsHeldIn, IsNoHeld, IsSlabIn, HasTakenHelds};
 
 use crate::reading::listing::error_of;
 use crate::reading::values::{count_at, narrow_at, wide_at};
@@ -42,9 +43,14 @@ impl Rivals {
 }
 
 impl TakeRow for Rivals {
-    ghost use Rattle.desk_tables.specs.Rivals.{HasTakenHelds};
+    ghost use Rattle.std.specs.Prelude.{◌≡◌, ◌⊎◌};
+    ghost use Rattle.sqlite.specs.declared.error.Error.TheVariants.{SqliteFailure};
+    ghost use Rattle.sqlite.specs.declared.error.ErrorCode.TheVariants.{OutOfMemory};
+    ghost use Rattle.desk_tables.specs.Rivals.{HasTakenHelds, IsNoHeld};
 
     ghost has_taken = { λ r rows. HasTakenHelds r.helds.items rows };
+
+    ghost refuses = { λ taken row e. (e ≡ SqliteFailure OutOfMemory) ⊎ IsNoHeld row };
 
     #[tactic(auto, using(crate::proofs::HeldLemmas::one_taken))]
     fn take(&mut self, row: &Row) -> Result<(), Error> {
@@ -81,7 +87,8 @@ pub(crate) fn low_of(extent: &Slab, longest: u64) -> i64
 
 // The slab of a row of `span`, of which the columns from `first` on are shown, with its plan's priority.
 fn held_in(row: &Row) -> Result<Held, StoreFault>
-    ensures { IfOk result (λ held. IsHeldIn row.now held) }
+    ensures value { IfOk result (λ held. IsHeldIn row.now held) }
+    ensures none { IfErr result (λ e. e ≡ StoreFault.Store → IsNoHeld row.now) }
 {
     Ok(Held {
         slab: slab_in(row)?,
@@ -91,7 +98,9 @@ fn held_in(row: &Row) -> Result<Held, StoreFault>
 
 // The slab of such a row.
 fn slab_in(row: &Row) -> Result<Slab, StoreFault>
-    ensures { IfOk result (λ slab. IsSlabIn row.now slab) }
+    ensures value { IfOk result (λ slab. IsSlabIn row.now slab) }
+    ensures none { IfErr result (λ e. e ≡ StoreFault.Store → (shown : One) → FitsColumns shown
+        → ¬ IsSlabIn row.now shown.slab) }
 {
     Ok(Slab {
         first: position_at(row, 0)?,
@@ -107,6 +116,8 @@ fn slab_in(row: &Row) -> Result<Slab, StoreFault>
 fn position_at(row: &Row, at: usize) -> Result<u64, StoreFault>
     ensures value { IfOk result (λ position. column row.now at ≡ Int (pos position)) }
     ensures leaf { IfOk result (λ position. position < 6 * 2 ^ 60) }
+    ensures none { IfErr result (λ e. e ≡ StoreFault.Store →
+        (n : ℕ) → n < 6 * 2 ^ 60 → column row.now at ≢ Int (pos n)) }
 {
     let position = wide_at(row, at)?;
     if (0..POSITIONS).contains(&position) {

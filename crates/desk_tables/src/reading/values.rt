@@ -14,7 +14,7 @@ ghost use Rattle.desk_rules.specs.declared.words.Aircraft.{Aircraft as State};
 ghost use Rattle.desk_tables.specs.Tables.{id_text, usage_number, aircraft_number};
 ghost use Rattle.desk_tables.specs.Content.{IsId, IsBlock};
 ghost use Rattle.desk_tables.specs.Reading.{IsVolumeAt, IsHead};
-ghost use Rattle.desk_tables.specs.Lookups.{IsCeilingIn};
+ghost use Rattle.desk_tables.specs.Lookups.{HasNoCeiling, IsCeilingIn};
 ghost use Rattle.desk_tables.specs.Records.{AreNumbersOf};
 ghost use Rattle.desk_tables.specs.Gathering.{plan_with};
 
@@ -276,7 +276,8 @@ pub(crate) fn plan_in(row: &Row, area: Area) -> Result<PlanRow, StoreFault>
 ///
 /// `OutOfMemory` if memory runs out. `Store` if the row has no ceiling.
 pub(crate) fn ceiling_in(rows: &[Row]) -> Result<Option<u32>, StoreFault>
-    ensures { IfOk result (IsCeilingIn rows.now) }
+    ensures value { IfOk result (IsCeilingIn rows.now) }
+    ensures none { IfErr result (λ e. e ≡ StoreFault.Store → HasNoCeiling rows.now) }
 {
     match rows.first() {
         Some(row) => Ok(Some(count_at(row, 1)?)),

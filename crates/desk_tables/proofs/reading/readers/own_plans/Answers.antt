@@ -1,4 +1,4 @@
-use Rattle.std.proofs.Common.{[], ◌∷◌, ◌≤◌, length, sym, subst, arith}
+use Rattle.std.proofs.Common.{[], ◌∷◌, ◌≤◌, ◌<◌, ◌^◌, length, sym, subst, arith}
 use Rattle.std.specs.List.{filter}
 use Rattle.sqlite.specs.Held.{state}
 use Rattle.desk_sql.specs.Rows as sql
@@ -9,6 +9,10 @@ use Rattle.desk_store.specs.OrderLaws.{rows_sorted}
 use Rattle.desk_tables.specs.Gathering.{HasGathered}
 use Rattle.desk_tables.proofs.StoreLemmas.{weaker, on_whole}
 use Rattle.desk_tables.proofs.JoinedLemmas.{own_listing, own_plans_are}
+use Rattle.std.proofs.lemmas.List.{length-map}
+use Rattle.desk_store.specs.OrderLaws.{all_filter}
+use Rattle.desk_tables.specs.Causes.{BlamesStore}
+use Rattle.desk_tables.proofs.CauseLemmas.{err_weaker, listing_blamed, within_bits}
 use Rattle.desk_tables.proofs.reading.readers.own_plans.Goals as goal
 
 pub returns-clause-value : goal.returns-clause-value
@@ -46,3 +50,32 @@ returns-clause-limit g c = λ clean.
     (let standing = c.requires.standing (omega (arith, c.own_plans-taken.ensures.doubt, clean)) live in
     weaker c.gathered.result (λ plans are. subst (λ rows. length rows ≤ max_plans) (sym are)
     (standing.content.world.rows c.args.operator.now)) (returns-clause-value g c clean)))
+
+-- the rows of an operator's plans are gathered
+pub returns-clause-cause : goal.returns-clause-cause
+returns-clause-cause g c =
+    err_weaker c.gathered.result
+    (BlamesStore g.S.Store c.args.connection.now c.own_plans-taken.new.connection)
+    c.gathered.ensures.none (λ e why clean live is.
+    (let w = c.args.kept.now.world in
+    let o = c.args.operator.now in
+    let before = c.own_plans-taken.ensures.kept clean live in
+    let standing = c.requires.standing (omega (arith, c.own_plans-taken.ensures.doubt, clean))
+    before.was_open in
+    let tables = tables_of (state g.S.Store c.args.connection.now).now.trees in
+    let gather = c.own_plans-taken.new.taker in
+    let mine = filter (is_by o) w.plans in
+    let few : length mine ≤ max_plans = omega (
+      arith,
+      length-map mine (λ p. p.row),
+      standing.content.world.rows o,
+    ) in
+    listing_blamed g.S.Store c.args.connection.now c.own_plans-taken.new.connection
+    (Lists (1 ∷ 5 ∷ []) (with_volumes (sql.is_by c.as_str.result.now) tables)) mine
+    (own_plans_are w o standing.content)
+    (all_filter (λ p. p.row.priority < 2 ^ 32) (is_by o) w.plans
+    (within_bits w.plans standing.content.world.priorities)) few
+    (λ rows by_name. own_listing tables w o rows standing.content standing.tables
+    (subst (λ name. Lists (1 ∷ 5 ∷ []) (with_volumes (sql.is_by name) tables) rows) c.as_str.ensures.value
+    by_name)) c.own_plans-taken.result gather.plans.items gather.head gather.volumes.items (why is)
+    (c.own_plans-taken.ensures.cause clean live) (c.own_plans-taken.ensures.value clean)))

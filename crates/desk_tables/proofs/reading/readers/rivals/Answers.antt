@@ -10,6 +10,8 @@ use Rattle.desk_tables.proofs.ShortLemmas.{rivals_wanted}
 use Rattle.desk_tables.proofs.ParseLemmas.{parsed_id}
 use Rattle.desk_tables.proofs.StoreLemmas.{weaker, on_whole}
 use Rattle.desk_tables.proofs.HeldLemmas.{are_rivals}
+use Rattle.desk_tables.specs.Causes.{BlamesSpans}
+use Rattle.desk_tables.proofs.CauseLemmas.{err_weaker, spans_blamed}
 use Rattle.desk_tables.proofs.reading.readers.rivals.Goals as goal
 
 pub returns-clause-value : goal.returns-clause-value
@@ -47,3 +49,16 @@ returns-clause-value g c = λ clean.
     helds.items (parsed_id c.encode-text.result.now id c.encode-text.ensures.parsed) standing.content
     standing.tables same
     (subst (λ hs. HasTakenHelds hs rows) (sym are) taken)) c.held_by.ensures.value)))
+
+-- the rows of spans are read
+pub returns-clause-cause : goal.returns-clause-cause
+returns-clause-cause g c =
+    err_weaker c.held_by.result
+    (BlamesSpans g.S.Store c.args.connection.now c.rival_spans-handed.new.connection)
+    c.held_by.ensures.none (λ e why clean live is.
+    (let before = c.rival_spans-handed.ensures.kept clean live in
+    let standing = c.requires.stands.standing (omega (arith, c.rival_spans-handed.ensures.doubt, clean))
+    before.was_open in
+    spans_blamed g.S.Store c.args.connection.now c.rival_spans-handed.new.connection _ c.args.kept.now.world
+    standing.content standing.tables c.rival_spans-handed.result (why is)
+    (c.rival_spans-handed.ensures.cause clean live)))

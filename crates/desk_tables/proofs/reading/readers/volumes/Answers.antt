@@ -4,6 +4,7 @@ use Rattle.sqlite.specs.Held.{state}
 use Rattle.desk_sql.specs.Rows.{is_of, tables_of, Lists}
 use Rattle.desk_tables.proofs.ParseLemmas.{parsed_id}
 use Rattle.desk_tables.proofs.ListingLemmas.{volumes_are}
+use Rattle.desk_tables.proofs.CauseLemmas.{blamed}
 use Rattle.desk_tables.proofs.reading.readers.volumes.Goals as goal
 
 pub returns-in-Ok-clause-value : goal.returns-in-Ok-clause-value
@@ -20,3 +21,8 @@ returns-in-Ok-clause-value g c = λ clean.
           c.in-Ok.rows.items (parsed_id c.encode-text.result.now c.args.id.now c.encode-text.ensures.parsed)
           standing.content standing.tables lists,
     )
+
+pub returns-in-Err-clause-cause : goal.returns-in-Err-clause-cause
+returns-in-Err-clause-cause g c =
+    blamed g.S.Store c.args.connection.now c.volumes_of.new.connection c.in-Err.e c.fault_of.result
+    c.fault_of.ensures c.in-Err.ensures.cause

@@ -3,8 +3,8 @@ use Rattle.desk_tables.proofs.JoinLemmas.{ReadsHead, adds_first, adds_later}
 use Rattle.desk_tables.proofs.reading.listing.Gather.add.Goals as goal
 use Rattle.desk_tables.proofs.reading.listing.Gather.add.Goals.{then-not-is_later+in_ok-begin, else-not-is_later+else-is_none}
 
-pub returns : goal.returns
-returns c = λ ps left h leads. elim c.if-not-is_later.branch [
+pub returns-clause-leads : goal.returns-clause-leads
+returns-clause-leads c = λ ps left h leads. elim c.if-not-is_later.branch [
   | then-not-is_later+in_ok-begin w ↦
       adds_first c.args.self.now.plans.items c.args.self.now.head c.args.self.now.volumes.items
       c.args.row.now

@@ -4,7 +4,7 @@ use Rattle.desk_tables.specs.Reading.{listing_rows}
 use Rattle.desk_tables.proofs.JoinLemmas.{ended}
 use Rattle.desk_tables.proofs.reading.listing.Gather.finish.Goals as goal
 
-pub returns : goal.returns
-returns c = λ ps h gathered. c.in_ok-close.ensures.plans
+pub returns-clause-value : goal.returns-clause-value
+returns-clause-value c = λ ps h gathered. c.in_ok-close.ensures.plans
     ∙ ended c.args.self.plans.items c.args.self.head c.args.self.volumes.items ps h
     (gathered ps [] h (append-nil (listing_rows ps)))

@@ -1,0 +1,185 @@
+-- Why a reader answers that the store failed.
+use Rattle.std.proofs.Common.{◌≡◌, ◌≢◌, ◌≤◌, ◌<◌, ◌^◌, ◌⊎◌, ◌∙◌, ◌∷◌, inl, inr, ℕ, List, [], length, true, false, cond, Bool, Option, Some, None, Result, Ok, Err, IfErr, OnOk, IsTrue, IsPermutation, map, sym, ap, subst, arith}
+use Rattle.std.specs.Prelude.{IsSome}
+use Rattle.std.specs.List.{AllByRecursion, AllZip, filter, find}
+use Rattle.std.proofs.lemmas.List.{append-nil}
+use Rattle.sqlite_trees.specs.declared.store.Store.{Ghosts}
+use Rattle.sqlite_value.specs.Order.{Row}
+use Rattle.sqlite.specs.declared.error.Error.{Error}
+use Rattle.sqlite.specs.declared.error.Error.TheVariants.{SqliteFailure}
+use Rattle.sqlite.specs.declared.error.ErrorCode.TheVariants as code
+use Rattle.sqlite.specs.State.{HasCleanDisk}
+use Rattle.sqlite.specs.Held.{Held, state}
+use Rattle.volume4d.specs.Volume.{Block}
+use Rattle.desk_rules.specs.Limits.{max_priority}
+use Rattle.desk_rules.specs.declared.plan.PlanRow.{PlanRow}
+use Rattle.desk_sql.specs.Refusals.{IsRefusal}
+use Rattle.desk_store.specs.Rows.{is_own}
+use Rattle.desk_store.specs.World.{Filed, World}
+use Rattle.desk_store.specs.declared.fault.StoreFault.{StoreFault}
+use Rattle.desk_store.specs.declared.fault.StoreFault.TheVariants.{Store}
+use Rattle.desk_tables.specs.Causes.{BlamesStore}
+use Rattle.desk_tables.specs.Content.{IsContent, IsPlan}
+use Rattle.desk_tables.specs.Lookups.{one_or_none, own_of}
+use Rattle.desk_tables.specs.Opening.{HasFailed}
+use Rattle.desk_tables.specs.Reading.{IsHead, IsVolumeAt}
+use Rattle.desk_tables.specs.Tables.{area_rows, plan_row, plan_rows, volume_rows}
+use Rattle.desk_tables.specs.Causes.{HasTooManySpans}
+use Rattle.desk_tables.specs.Gathering.{BeginNoListing, HasGathered, HasNoArea}
+use Rattle.desk_tables.specs.Reading.{listing_rows}
+use Rattle.desk_tables.specs.Rivals.{IsNoHeld}
+use Rattle.desk_tables.specs.Tables.{AreTables}
+use Rattle.desk_tables.specs.declared.reading.values.Head.{Head}
+use Rattle.desk_rules.specs.Limits.{max_plans}
+use Rattle.desk_sql.specs.Rows.{held_columns, tables_of}
+use Rattle.desk_sql.specs.Taking.{IsCutShort}
+use Rattle.std.specs.Result.{IsErrAnd}
+use Rattle.std.proofs.lemmas.List.{length-map}
+use Rattle.std.proofs.lemmas.List.Sorted.{length_permutation}
+use Rattle.desk_tables.proofs.FilterLemmas.{ArePlans}
+use Rattle.desk_tables.proofs.GatherLemmas.{AreLow, listing_short, never_cut}
+use Rattle.desk_tables.proofs.ListingLemmas.{area_read, head_read}
+use Rattle.desk_tables.proofs.SlabLemmas.{spans_read}
+
+-- the fault that an error of SQLite is
+module _ {S : Type 0} (g : Ghosts S) where
+  pub blamed : (old new : Held S) (error : Error) (fault : StoreFault)
+      → (fault ≡ Store → error ≢ SqliteFailure code.OutOfMemory)
+      → (HasCleanDisk (state g new) → IsTrue (state g new).is_open → IsRefusal g old new error)
+      → BlamesStore g old new fault
+  blamed old new error fault other refusal clean live is = elim (refusal clean live) [
+    | inl memory ↦ absurd (other is memory)
+    | inr (inl disk) ↦ inl disk
+    | inr (inr steps) ↦ inr steps.1
+  ]
+
+  -- the same where a refusal may have one cause more, which the rows of a content have not
+  pub blamed_but : (old new : Held S) (error : Error) (fault : StoreFault)
+      → (fault ≡ Store → error ≢ SqliteFailure code.OutOfMemory) → (P : Type 0)
+      → (HasCleanDisk (state g new) → IsTrue (state g new).is_open
+      → error ≢ SqliteFailure code.OutOfMemory → IsRefusal g old new error ⊎ P)
+      → (HasCleanDisk (state g new) → IsTrue (state g new).is_open → ¬ P)
+      → BlamesStore g old new fault
+  blamed_but old new error fault other P refusal never clean live is =
+      elim (refusal clean live (other is)) [
+        | inl refused ↦ blamed old new error fault other (λ c l. refused) clean live is
+        | inr more ↦ absurd (never clean live more)
+      ]
+
+  pub blamed_since : (old mid new : Held S) (fault : StoreFault)
+      → (state g old).faults ≤ (state g mid).faults → mid.step_limit ≡ old.step_limit
+      → BlamesStore g mid new fault → BlamesStore g old new fault
+  blamed_since old mid new fault faults limit h clean live is = elim (h clean live is) [
+    | inl disk ↦ inl (omega (arith, faults, disk))
+    | inr steps ↦ inr (subst IsSome limit steps)
+  ]
+
+pub err_weaker : {V : Type 0} (r : Result V StoreFault) {P : StoreFault → Type 0}
+    (Q : StoreFault → Type 0) → IfErr r P → ((e : StoreFault) → P e → Q e) → IfErr r Q
+err_weaker (Ok v) Q h gives = tt
+err_weaker (Err e) Q h gives = gives e h
+
+pub within_bits : (ps : List Filed) → AllByRecursion (λ p. p.row.priority ≤ max_priority) ps
+    → AllByRecursion (λ p. p.row.priority < 2 ^ 32) ps
+within_bits [] h = tt
+within_bits (p ∷ ps) h = (omega (arith, h.0), within_bits ps h.1)
+
+-- what a plan of a content and its rows are not
+abbrev pub IsNone : Row → List Row → Type 0
+IsNone head rows = (p : PlanRow) → IsPlan p → p.priority < 2 ^ 32 → IsHead head p
+    → ¬ AllZip (λ r v. IsVolumeAt r 3 v) rows p.area
+
+abbrev Both : Option Filed → Type 0
+Both found = AllByRecursion (λ p. IsPlan p.row) (one_or_none found)
+    × AllByRecursion (λ p. p.row.priority < 2 ^ 32) (one_or_none found)
+
+own_within : (o id : List ℕ) (ps : List Filed) → AllByRecursion (λ p. IsPlan p.row) ps
+    → AllByRecursion (λ p. p.row.priority < 2 ^ 32) ps
+    → AllByRecursion (λ p. IsPlan p.row) (one_or_none (find (is_own o id) ps))
+    × AllByRecursion (λ p. p.row.priority < 2 ^ 32) (one_or_none (find (is_own o id) ps))
+own_within o id [] h k = (tt, tt)
+own_within o id (p ∷ ps) h k = by_test (is_own o id p) (own_within o id ps h.1 k.1) where
+  by_test : (b : Bool) → Both (find (is_own o id) ps) → Both (cond b (Some p) (find (is_own o id) ps))
+  by_test true ih = ((h.0, tt), (k.0, tt))
+  by_test false ih = ih
+
+-- the rows of a stored plan are read
+pub plan_reads : (o id : List ℕ) (w : World) (heads rows rest : List Row) (head : Row)
+    → IsContent w → heads ≡ plan_rows (own_of o id w) → rows ≡ volume_rows (own_of o id w) → heads
+    ≡ head ∷ rest → ¬ IsNone head rows
+plan_reads o id w heads rows rest head h are volumes some none =
+    by_found (find (is_own o id) w.plans)
+    (own_within o id w.plans h.rows (within_bits w.plans h.world.priorities)) (sym some ∙ are) volumes where
+      by_found : (found : Option Filed) → AllByRecursion (λ p. IsPlan p.row) (one_or_none found)
+          × AllByRecursion (λ p. p.row.priority < 2 ^ 32) (one_or_none found)
+          → head ∷ rest ≡ plan_rows (one_or_none found) → rows ≡ volume_rows (one_or_none found) → ⊥
+      by_found None hp e f = cc
+      by_found (Some p) hp e f =
+          let is : head ≡ plan_row p = cc in
+          none p.row hp.0.0 hp.1.0 (subst (λ r. IsHead r p.row) (sym is) (head_read p))
+          (subst (λ xs. AllZip (λ r v. IsVolumeAt r 3 v) xs p.row.area)
+          (sym (f ∙ append-nil (area_rows p))) (area_read p 0 p.row.area))
+
+-- what takes rows and refuses one that a reading tells of
+abbrev Or : (List Row → Row → Type 0) → List Row → Row → Error → Type 0
+Or P taken row e = (e ≡ SqliteFailure code.OutOfMemory) ⊎ P taken row
+
+failed_by : {S : Type 0} (g : Ghosts S) (old new : Held S) (e : Error)
+    → e ≢ SqliteFailure code.OutOfMemory → IsRefusal g old new e → HasFailed g old new
+failed_by g old new e other (inl memory) = absurd (other memory)
+failed_by g old new e other (inr (inl disk)) = inl disk
+failed_by g old new e other (inr (inr steps)) = inr steps.1
+
+module _ {S : Type 0} (g : Ghosts S) (old new : Held S) (IsAnswer : List Row → Type 0) (ps : List Filed)
+    (h : ArePlans ps) (low : AreLow ps) (few : length ps ≤ max_plans)
+    (are : (rows : List Row) → IsAnswer rows → rows ≡ listing_rows ps) where
+  -- a listing of plans is gathered to its end
+  pub listing_blamed : (r : Result (Unit {0}) Error) (plans : List PlanRow) (head : Option Head)
+      (volumes : List Block)
+      → IfErr r (λ e. e ≢ SqliteFailure code.OutOfMemory) × OnOk r (HasNoArea head volumes)
+      → IfErr r (IsCutShort g old new IsAnswer (Or BeginNoListing))
+      → OnOk r ((rows : List Row) × IsAnswer rows × HasGathered plans head volumes rows)
+      → HasFailed g old new
+  listing_blamed (Ok u) plans head volumes why cut handed =
+      let (rows, is, taken) = handed in
+      absurd (never_cut plans head volumes ps (taken ps [] h (append-nil rows ∙ are rows is)) why.1)
+  listing_blamed (Err e) plans head volumes why cut handed = elim cut [
+    | inl refused ↦ failed_by g old new e why.0 refused
+    | inr (inl (taken, row, left, is, inl memory)) ↦ absurd (why.0 memory)
+    | inr (inl (taken, row, left, is, inr none)) ↦ absurd (none ps left h low (are _ is))
+    | inr (inr (big, rows, is, many)) ↦
+        absurd (omega (arith, many, ap length (are rows is), listing_short ps h, few))
+  ]
+
+kept_few : (want : Row → Bool) (rows : List Row) → length (filter want rows) ≤ length rows
+kept_few want [] = omega arith
+kept_few want (r ∷ rows) = by_test (want r) (kept_few want rows) where
+  by_test : (b : Bool) → length (filter want rows) ≤ length rows
+      → length (cond b (r ∷ filter want rows) (filter want rows)) ≤ length (r ∷ rows)
+  by_test true h = omega (arith, h)
+  by_test false h = omega (arith, h)
+
+-- spans are read as slabs to the end
+pub spans_blamed : {S : Type 0} (g : Ghosts S) (old new : Held S) (want : Row → Bool) (w : World)
+    → IsContent w → AreTables (tables_of (state g old).now.trees) w → (r : Result (Unit {0}) Error)
+    → IsErrAnd r (λ e. e ≢ SqliteFailure code.OutOfMemory)
+    → IfErr r (IsCutShort g old new (IsPermutation
+    (map held_columns (filter want (tables_of (state g old).now.trees).spans)))
+    (Or (λ taken row. IsNoHeld row)))
+    → HasFailed g old new ⊎ HasTooManySpans (state g old).now
+spans_blamed g old new want w h t (Ok u) why cut = absurd why
+spans_blamed g old new want w h t (Err e) why cut =
+    let tables = tables_of (state g old).now.trees in
+    elim cut [
+      | inl refused ↦ inl (failed_by g old new e why refused)
+      | inr (inl (taken, row, left, is, inl memory)) ↦ absurd (why memory)
+      | inr (inl (taken, row, left, is, inr none)) ↦
+          absurd (spans_read tables w want taken left row h t is none)
+      | inr (inr (big, rows, is, many)) ↦ inr (omega (
+        arith,
+        many,
+        length_permutation (map held_columns (filter want tables.spans)) rows is,
+        length-map (filter want tables.spans) held_columns,
+        kept_few want tables.spans,
+      ))
+    ]

@@ -1,0 +1,26 @@
+-- Why a store over tables answers that it failed, though the disk returned what was written.
+use Rattle.std.specs.Prelude.{◌≡◌, ◌⊎◌, ◌≤◌, ◌-◌, ◌^◌, IsTrue, length}
+use Rattle.sqlite_trees.specs.declared.store.Store.{Ghosts}
+use Rattle.sqlite.specs.State.{HasCleanDisk}
+use Rattle.sqlite.specs.Held.{Held, state}
+use Rattle.sqlite.specs.Effect.{Database}
+use Rattle.desk_sql.specs.Rows.{tables_of}
+use Rattle.desk_store.specs.declared.fault.StoreFault.{StoreFault}
+use Rattle.desk_store.specs.declared.fault.StoreFault.TheVariants.{Store}
+use Rattle.desk_tables.specs.Opening.{HasFailed}
+
+-- `span` has 2 ^ 64 - 1 rows and more
+abbrev pub HasTooManySpans : Database → Type 0
+HasTooManySpans db = 2 ^ 64 - 1 ≤ length (tables_of db.trees).spans
+
+module _ {S : Type 0} (g : Ghosts S) (old new : Held S) where
+  -- over an open connection a fault of the store's own is the disk's, or the connection allows a statement
+  -- but few steps
+  abbrev pub BlamesStore : StoreFault → Type 0
+  BlamesStore e = HasCleanDisk (state g new) → IsTrue (state g new).is_open → e ≡ Store → HasFailed g old new
+
+  -- that, or more spans are there than a reading counts
+  abbrev pub BlamesSpans : StoreFault → Type 0
+  BlamesSpans e =
+      HasCleanDisk (state g new) → IsTrue (state g new).is_open → e ≡ Store →
+      HasFailed g old new ⊎ HasTooManySpans (state g old).now
