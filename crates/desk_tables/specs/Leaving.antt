@@ -85,7 +85,8 @@ module _ {D E : Type 0} {g : disk.Ghosts D} {k : disk.Ghosts E} (last : Held (Fi
     pub live : IsTrue (file_state new).is_open
 
 module _ {D : Type 0} {g : disk.Ghosts D} (last : Held (FileStore D g)) {E : Type 0} (k : disk.Ghosts E) where
-  -- such files are opened, and refused for another cause than memory or a fault of the disk
+  -- such files are opened, and refused though memory is left, the disk is clean and had no fault, and the
+  -- connection is open
   pub record IsRefusedAfter : Type 0 where
     pub image : Image
     pub files : IsLeftBy last image

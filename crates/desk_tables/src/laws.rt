@@ -95,8 +95,8 @@ pub fn a_start_finds_what_may_be_left<D: Disk, E: Disk>()
         → ∥ MayLeave over_files last (Some w) ∥₁ }
 {}
 
-/// Where a crash leaves one content alone, as it does once a change is answered: over such files a store
-/// begins with it, and once they are opened, memory and the disk alone keep it from that.
+/// Where a crash leaves one content alone, as it does once a change is answered, a store over what is left
+/// begins with that content. Files that are opened are refused only for memory or a fault of the disk.
 pub fn a_store_begins_with_what_was_left<D: Disk, E: Disk>()
     ensures begins { (last : Held (FileStore D D.Disk)) (new : Held (FileStore E E.Disk))
         (w other : World) → LeavesOnly w (MayLeave over_files last) → BeginsAfter last new other
@@ -105,7 +105,8 @@ pub fn a_store_begins_with_what_was_left<D: Disk, E: Disk>()
         → LeavesOnly w (MayLeave over_files last) → ¬ IsRefusedAfter last E.Disk }
 {}
 
-/// And after a crash in the midst of a change it begins with the content before the change, or that after it.
+/// After a crash in the midst of a change, a store begins with the content before the change or with the one
+/// after it, and files that are opened are refused only for memory or a fault of the disk.
 pub fn a_store_begins_with_the_old_or_the_new<D: Disk, E: Disk>()
     ensures begins { (old last : Held (FileStore D D.Disk)) (new : Held (FileStore E E.Disk))
         (before after other : World) → LeavesOnly before (MayLeave over_files old)
