@@ -5,7 +5,7 @@ growth is refused, it prints the same: the lines of its stored run, which were w
 """
 from faults.parts import Part, side_by_side
 from faults.program import CALLS, run_traced
-from faults.refusals import EACH_A_MAPPING
+from faults.refusals import EACH_A_MAPPING, REFUSING
 
 PROGRAM = str(CALLS / "out" / "desk_refusals")
 # A line of the output begins each stretch of calls.
@@ -42,7 +42,7 @@ def wrong_calls(ran, right):
 
 def refuse(number, right):
     """A run to which one growth is refused: how many calls told of it, and its complaint."""
-    options = [*EACH_A_MAPPING, "-e", "trace=mmap,brk", "-e", f"inject=mmap:error=ENOMEM:when={number}..{number + 1}"]
+    options = [*REFUSING, "-e", f"inject=mmap:error=ENOMEM:when={number}..{number + 1}"]
     ran = run_traced([], b"", options, PROGRAM)
     return ran.errors.strip(), wrong_calls(ran, right)
 

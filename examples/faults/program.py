@@ -1,6 +1,7 @@
 """Runs of the program: bare, or under strace, which refuses and stops what it is told to."""
 import os
 import pathlib
+import re
 import shutil
 import subprocess
 import tempfile
@@ -13,6 +14,8 @@ PROGRAM = os.environ.get("PROGRAM", str(TOP / "crates" / "uss_desk" / "out" / "u
 # Makes calls that grow, and makes each again if it was refused.
 CALLS = TOP / "crates" / "desk_refusals"
 PATIENCE = 300
+# With -f each line of strace begins with the number of a process.
+PROCESS = re.compile(r"^\d+ +", re.MULTILINE)
 WHOLE = "PRAGMA integrity_check; PRAGMA foreign_key_check;"
 # Each allocation is one mmap of its own: a mapping that is refused is a growth that is refused.
 ONE_MAPPING_EACH = ":".join(
@@ -55,7 +58,7 @@ def run_traced(words, given, options, program=PROGRAM):
     with tempfile.TemporaryDirectory(prefix="faults-") as room:
         trace = pathlib.Path(room) / "trace"
         ran = finish(["strace", "-qq", "-o", str(trace), *options, program, *words], given)
-        lines = trace.read_text(errors="replace").splitlines() if trace.exists() else []
+        lines = PROCESS.sub("", trace.read_text(errors="replace")).splitlines() if trace.exists() else []
     return ran._replace(trace=lines)
 
 

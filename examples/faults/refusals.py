@@ -14,7 +14,10 @@ from faults.parts import Part, side_by_side
 from faults.program import ONE_MAPPING_EACH, play_words, run, run_traced
 from faults.scenario import ANSWERS, CONTENTS, ENROLLED, OPERATORS, READING, REQUESTS, STEPS
 
-EACH_A_MAPPING = ["-E", f"GLIBC_TUNABLES={ONE_MAPPING_EACH}", "-e", "inject=brk:error=ENOMEM"]
+# strace stops the program at the calls that it traces, and at no other.
+EACH_A_MAPPING = ["-f", "--seccomp-bpf", "-E", f"GLIBC_TUNABLES={ONE_MAPPING_EACH}", "-e", "inject=brk:error=ENOMEM"]
+# Of the growths it tells only those that are refused.
+REFUSING = [*EACH_A_MAPPING, "-Z", "-e", "trace=mmap,brk"]
 
 
 # How many requests make the content of the kept file.
@@ -73,7 +76,7 @@ def refuse(target, number, is_lasting):
     """A run to which one growth is refused, or that one and all later ones."""
     when = f"{number}+" if is_lasting else f"{number}..{number + 1}"
     injected = f"inject=mmap:error=ENOMEM:when={when}"
-    options = [*EACH_A_MAPPING, "-e", "trace=mmap,brk", "-e", injected]
+    options = [*REFUSING, "-e", injected]
     with tempfile.TemporaryDirectory(prefix="faults-") as room:
         words, path = words_in(target, room)
         ran = run_traced(words, target.given, options)

@@ -51,6 +51,7 @@ served_then H K by (Ok (Answered status framed)) old new out now w moment after 
   why = h.why;
   replied = replied_then H K by w moment h.request h.answer h.why after h.replied;
   status_is = λ k. h.status_is (by k);
+  gave_up = h.gave_up;
   written = h.written;
 }
 served_then H K by (Ok End) old new out now w moment after h = h

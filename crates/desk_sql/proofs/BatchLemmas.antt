@@ -6,11 +6,12 @@ use Rattle.sqlite.specs.Order.{Row}
 use Rattle.sqlite.specs.View.{doubt}
 use Rattle.sqlite.specs.Store.{Ghosts}
 use Rattle.sqlite.specs.State.{State, HasCleanDisk, IsUnchanged, IsNotRun, KeepsCommit, Survives}
-use Rattle.sqlite.specs.Effect.{Database}
+use Rattle.sqlite.specs.Effect.{Database, IsDatabase}
 use Rattle.sqlite.specs.declared.error.Error.{Error}
 use Rattle.sqlite.specs.Held.{Held, state}
 use Rattle.desk_sql.specs.Rows.{IsDesk, Tables, tables_of, RemovesPlan, AddsPlan, AddsVolume, AddsSpan}
 use Rattle.desk_sql.specs.Effects.{IsReady, Makes, Spares}
+use Rattle.desk_sql.specs.Finding.{Holds}
 use Rattle.desk_sql.specs.Batches.{AddsVolumes, AddsSpans, IsUnderWay, PutsPlan}
 
 pub record HasAdded {S : Type 0} (g : Ghosts S) (old now : Held S)
@@ -33,6 +34,7 @@ begins g old Changes none under = record {
     begun = h.1;
     committed = refl;
     desk = h.2;
+    sound = h.3;
     changed = none (tables_of (state g old).now.trees);
   };
 }
@@ -57,6 +59,7 @@ goes_on g old mid new Before Step After joins so_far doubted counted spared step
         begun = last.begun;
         committed = last.committed ∙ first.committed;
         desk = last.desk;
+        sound = last.sound;
         changed = joins (tables_of (state g old).now.trees) (tables_of (state g mid).now.trees)
             (tables_of (state g new).now.trees) first.changed last.changed;
       };
@@ -64,10 +67,10 @@ goes_on g old mid new Before Step After joins so_far doubted counted spared step
 
 -- a loop before which a text was prepared, so that the connection is open
 pub begins_prepared : {S : Type 0} (g : Ghosts S) (old now : Held S) (Changes : Tables → Tables → Type 0)
-    → ((t : Tables) → Changes t t) → IsReady g old → IsTrue old.in_transaction
+    → ((t : Tables) → Changes t t) → IsReady g old → Holds g old IsDatabase → IsTrue old.in_transaction
     → (HasCleanDisk (state g now) → IsUnchanged (state g old) (state g now))
     → Survives (state g old) (state g now) (λ _. ⊥) → HasAdded g old now Changes
-begins_prepared g old now Changes none ready begun same last = record {
+begins_prepared g old now Changes none ready sound begun same last = record {
   doubted = last.clean;
   counted = last.counts;
   spared = λ clean db left. elim (last.crash clean db left) [ inl it ↦ it | inr never ↦ absurd never ];
@@ -79,6 +82,7 @@ begins_prepared g old now Changes none ready begun same last = record {
         begun = subst (λ b. IsTrue b) (sym h.mode) begun;
         committed = h.committed_is;
         desk = subst IsDesk (sym h.now_is) (ready (omega (arith, last.clean, clean)) h.was_open);
+        sound = subst IsDatabase (sym h.now_is) (sound (omega (arith, last.clean, clean)) h.was_open);
         changed = subst (λ (db : Database). Changes (tables_of (state g old).now.trees)
             (tables_of db.trees)) (sym h.now_is) (none (tables_of (state g old).now.trees));
       };

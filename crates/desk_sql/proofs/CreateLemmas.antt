@@ -24,7 +24,7 @@ use Rattle.desk_sql.specs.Statements.{MayWrite, Extends, AddsIndex, enforced}
 use Rattle.desk_sql.proofs.Texts.{operator_text, plan_text, volume_text, span_text, first_text}
 use Rattle.desk_sql.proofs.TextLemmas.{operator_is, plan_is, volume_is, span_is, first_is}
 use Rattle.desk_sql.proofs.NumberLemmas.{all_both}
-use Rattle.desk_sql.proofs.WriteLemmas.{went, same_value, does_command, is_writing, ran}
+use Rattle.desk_sql.proofs.WriteLemmas.{went, same_value, does_command, is_writing, ran, ran_sound}
 
 -- a text that makes this table, over this schema
 pub record MakesTable (schema : Schema) (text : List ℕ) (table : Table) : Type 0 where
@@ -249,5 +249,7 @@ makes_first g old new text known holds clean shows count h =
       begun = shows.mode;
       committed = shows.committed_is;
       desk = done.0;
+      sound = ran_sound text [] (state g old) (state g new) table_schema was.schema known.plain
+          known.writes count h;
       changed = done.1;
     }

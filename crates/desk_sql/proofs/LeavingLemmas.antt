@@ -3,7 +3,7 @@ use Rattle.std.proofs.Common.{◌≡◌, ◌⊎◌, inl, inr, true, false, List,
 use Rattle.sqlite_disk.specs.Disk.{MoreFaults}
 use Rattle.sqlite.specs.Order.{Row}
 use Rattle.sqlite.specs.Tree.{Trees}
-use Rattle.sqlite.specs.Effect.{Database}
+use Rattle.sqlite.specs.Effect.{Database, IsDatabase}
 use Rattle.sqlite.specs.View.{doubt}
 use Rattle.sqlite.specs.declared.error.Error.{Error}
 use Rattle.sqlite.specs.Store.{Ghosts}
@@ -186,6 +186,9 @@ may_make {S = S} g old begun mid new Changes is made spared last clean db left =
             desk = subst (λ trees. IsDesk (record { schema = desk_schema; trees = trees })) (sym now)
                 (subst (λ schema. IsDesk (record { schema = schema; trees = (state g mid).now.trees }))
                 done.desk.schema done.desk);
+            sound = subst (λ trees. IsDatabase (record { schema = desk_schema; trees = trees })) (sym now)
+                (subst (λ schema. IsDatabase (record { schema = schema; trees = (state g mid).now.trees }))
+                done.desk.schema done.sound);
             changed = subst (λ trees. Changes (tables_of (state g old).now.trees) (tables_of trees))
                 (sym now) done.changed;
           }))

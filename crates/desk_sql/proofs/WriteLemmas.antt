@@ -23,7 +23,7 @@ use Rattle.sqlite_schema.specs.declared.schema.Schema.{Schema}
 use Rattle.sqlite_resolve.specs.declared.compiled.Compiled.{Compiled}
 use Rattle.sqlite_resolve.specs.declared.error.CompileError.{CompileError}
 use Rattle.sqlite.specs.Calls.{IsWrite}
-use Rattle.sqlite.specs.Effect.{Database, value_rows}
+use Rattle.sqlite.specs.Effect.{Database, IsDatabase, value_rows}
 use Rattle.sqlite.specs.Does.{Tally, Does, OnRows, WritesRows}
 use Rattle.sqlite.specs.Rows.{Written, Task, Inserts}
 use Rattle.sqlite.specs.State.{State, HasCleanDisk, Executes, Runs, Writes, Shows, text_of}
@@ -90,14 +90,32 @@ ran text params old new schema has plain writing count h =
           (writes.tally, writes.changed)
       by_command (Err e) w runs = absurd w
 
+-- and leaves a sound database
+pub ran_sound : (text : List ℕ) (params : Row) (old new : State) (schema : Schema)
+    → old.now.schema ≡ schema
+    → IsPlain (understood schema text) → IsWriting (understood schema text) → (count : ℕ)
+    → Executes text params old new (Ok count) → IsDatabase new.now
+ran_sound text params old new schema has plain writing count h =
+    by_command (understood schema text) writing (runs_as text params old new schema has
+    (command_of (understood schema text)) refl plain count h) where
+      by_command : (r : Result Compiled CompileError) → IsWriting r
+          → Runs old new None (command_of r) (statement_of text r) params count → IsDatabase new.now
+      by_command (Ok c) w runs = (runs_writes old new c.command (text_of text c) params count w runs).sound
+      by_command (Err e) w runs = absurd w
+
 -- what ran changed the tables so
 pub changed : {Given : Type 0} (text : List ℕ) (params : Given → Row)
     (Change : Given → Tables → Tables → Type 0) → Changes text params Change → (given : Given)
     → (old new : State) → IsDesk old.now → (count : ℕ) → Executes text (params given) old new (Ok count)
     → IsDesk new.now × Change given (tables_of old.now.trees) (tables_of new.now.trees)
+    × IsDatabase new.now
 changed text params Change known given old new desk count h =
-    known.tables given old.step_limit old.now new.now desk
-    (ran text (params given) old new desk_schema desk.schema known.plain known.writes count h)
+    let done = known.tables given old.step_limit old.now new.now desk
+    (ran text (params given) old new desk_schema desk.schema known.plain known.writes count h) in (
+      done.0,
+      done.1,
+      ran_sound text (params given) old new desk_schema desk.schema known.plain known.writes count h,
+    )
 
 pub is_writing : (r : Result Compiled CompileError) (command : Command) → command_of r ≡ command
     → IsWrite command → IsPlain r → IsWriting r
@@ -239,8 +257,8 @@ module _ {S : Type 0} (g : Ghosts S) (old new : Held S) (ready : IsReady g old)
     (clean : HasCleanDisk (state g old)) (Changes : Tables → Tables → Type 0)
     (shows : Shows (state g old) (state g new) (state g new).now (state g old).committed true) where
   pub makes : (IsDesk (state g old).now → IsDesk (state g new).now
-      × Changes (tables_of (state g old).now.trees) (tables_of (state g new).now.trees))
-      → Makes g old new Changes
+      × Changes (tables_of (state g old).now.trees) (tables_of (state g new).now.trees)
+      × IsDatabase (state g new).now) → Makes g old new Changes
   makes gives =
       let done = gives (ready clean shows.was_open) in
       record {
@@ -249,5 +267,6 @@ module _ {S : Type 0} (g : Ghosts S) (old new : Held S) (ready : IsReady g old)
         begun = shows.mode;
         committed = shows.committed_is;
         desk = done.0;
+        sound = done.2;
         changed = done.1;
       }

@@ -3,6 +3,7 @@ use Rattle.std.specs.Prelude.{◌≡◌, ℕ, Bool, not, List, ◌∷◌, ◌++�
 use Rattle.std.specs.List.{list_any}
 use Rattle.sqlite.specs.Order.{Row}
 use Rattle.sqlite.specs.Store.{Ghosts}
+use Rattle.sqlite.specs.Effect.{IsDatabase}
 use Rattle.sqlite.specs.State.{HasCleanDisk}
 use Rattle.sqlite.specs.Held.{Held, state}
 use Rattle.desk_sql.specs.declared.changing.writing.VolumeRecord.{VolumeRecord}
@@ -26,7 +27,7 @@ AddsSpans rows old new = IsPermutation (rows ++ old.spans) new.spans
 -- a transaction goes on over a desk's tables
 abbrev pub IsUnderWay : {S : Type 0} → Ghosts S → Held S → Type 0
 IsUnderWay g h = HasCleanDisk (state g h) → IsTrue (state g h).is_open × IsTrue h.in_transaction
-    × IsDesk (state g h).now
+    × IsDesk (state g h).now × IsDatabase (state g h).now
 
 -- what there was of the plan goes, and this comes
 pub record PutsPlan (operator id : List ℕ) (plan : Row) (volumes spans : List Row)

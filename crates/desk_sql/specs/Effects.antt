@@ -1,6 +1,7 @@
 -- What a call asks of a connection, and what it leaves.
 use Rattle.std.specs.Prelude.{◌≡◌, ◌⊎◌, IsTrue}
 use Rattle.sqlite.specs.Tree.{Trees}
+use Rattle.sqlite.specs.Effect.{IsDatabase}
 use Rattle.sqlite.specs.Store.{Ghosts}
 use Rattle.sqlite.specs.State.{HasCleanDisk}
 use Rattle.sqlite.specs.Held.{Held, state}
@@ -28,6 +29,7 @@ module _ {S : Type 0} (g : Ghosts S) (old new : Held S) where
     pub begun : IsTrue new.in_transaction
     pub committed : (state g new).committed ≡ (state g old).committed
     pub desk : IsDesk (state g new).now
+    pub sound : IsDatabase (state g new).now
     pub changed : Changes (tables_of (state g old).now.trees) (tables_of (state g new).now.trees)
 
   -- the tables were changed so, and that was committed
@@ -40,12 +42,14 @@ module _ {S : Type 0} (g : Ghosts S) (old new : Held S) where
 
 -- ---- what a crash leaves
 
--- a desk's trees, whose tables are those that the connection showed, changed so
+-- a desk's trees, which list and obey its schema, and whose tables are those that the connection showed,
+-- changed so
 pub record IsMadeOf {S : Type 0} (g : Ghosts S) (old : Held S) (Changes : Tables → Tables → Type 0)
     (db : Trees) : Type 0
   where
     pub was_open : IsTrue (state g old).is_open
     pub desk : IsDesk (record { schema = desk_schema; trees = db })
+    pub sound : IsDatabase (record { schema = desk_schema; trees = db })
     pub changed : Changes (tables_of (state g old).now.trees) (tables_of db)
 
 module _ {S : Type 0} (g : Ghosts S) (old new : Held S) where

@@ -189,6 +189,7 @@ module _ {S : Type 0} (g : Ghosts S) (old new : Held S) (w : World) (stood : Sta
         record {
           content = change_content change w before.content (fits start) within;
           desk = made.desk;
+          sound = made.sound;
           tables = change_tables change w one two before.content within before.tables
               (asks one two clean before.content before.tables made.changed);
         }

@@ -1,22 +1,48 @@
 -- What a crash leaves is read as one content.
-use Rattle.std.proofs.Common.{◌≡◌, ◌⊎◌, inl, inr, Option, Some, None, IsTrue, sym, ap, subst, ◌∙◌}
+use Rattle.std.proofs.Common.{◌≡◌, ◌⊎◌, inl, inr, Option, Some, None, IsSome, IsTrue, length, refl, sym, ap, subst, ◌∙◌, arith}
+use Rattle.std.specs.Coded.{Coded-set}
+use Rattle.std.proofs.Math.Logic.{∥∥₁_elim, ∥∥₁_map}
 use Rattle.sqlite_trees.specs.declared.store.Store.{Ghosts}
+use Rattle.sqlite_disk.specs.declared.Disk as disk
+use Rattle.sqlite_store.specs.declared.store.FileStore.{FileStore}
+use Rattle.sqlite_catalog.proofs.ReadLemmas.{lists_once}
 use Rattle.sqlite.specs.Tree.{Trees}
+use Rattle.sqlite.specs.Effect.{Database, IsDatabase}
 use Rattle.sqlite.specs.State.{HasCleanDisk}
 use Rattle.sqlite.specs.Held.{Held, state}
-use Rattle.desk_sql.specs.Schema.{desk_schema}
+use Rattle.sqlite.specs.Files.{over_files, file_state}
+use Rattle.sqlite.proofs.Theorems.{next_run}
+use Rattle.desk_sql.specs.Schema.{blank_schema, table_schema, desk_schema}
 use Rattle.desk_sql.specs.Rows.{IsDesk, Tables, tables_of}
 use Rattle.desk_store.specs.World.{World}
 use Rattle.desk_store.specs.Crashes.{LeavesOnly, LeavesOldOr}
+use Rattle.desk_store.specs.contracts.list.ListStore as list
+use Rattle.desk_tables.specs.declared.opening.open.OpenFault.{OpenFault}
+use Rattle.desk_tables.specs.declared.opening.open.OpenFault.TheVariants.{OutOfMemory, Store, NotADesk}
 use Rattle.desk_tables.specs.Tables.{AreTables}
 use Rattle.desk_tables.specs.Content.{IsContent}
-use Rattle.desk_tables.specs.Store.{Stands}
-use Rattle.desk_tables.specs.Leaving.{HasWorld, ReadsAs, MayLeave, MayHave}
+use Rattle.desk_tables.specs.Store.{IsStanding, Stands}
+use Rattle.desk_tables.specs.Leaving.{HasWorld, ReadsAs, MayLeave, MayHave, IsUntaken, IsFoundAfter, BeginsAfter, IsRefusedAfter}
+use Rattle.desk_tables.proofs.OpeningLemmas.{desk_legible}
 
 -- the law `one_content`
 abbrev pub HaveOneContent : Type 0
 HaveOneContent = (tables : Tables) (one other : World) → IsContent one → IsContent other
     → AreTables tables one → AreTables tables other → one ≡ other
+
+-- what stands is read as its content
+reads_standing : {S : Type 0} (g : Ghosts S) (h : Held S) (w : World) (db : Trees) → IsStanding g h w
+    → IsDatabase (state g h).now → (state g h).now.trees ≡ db → HasWorld db w
+reads_standing g h w db it sound is = record {
+  content = it.content;
+  desk = subst (λ trees. IsDesk (record { schema = desk_schema; trees = trees })) is
+      (subst (λ schema. IsDesk (record { schema = schema; trees = (state g h).now.trees }))
+      it.desk.schema it.desk);
+  sound = subst (λ trees. IsDatabase (record { schema = desk_schema; trees = trees })) is
+      (subst (λ schema. IsDatabase (record { schema = schema; trees = (state g h).now.trees }))
+      it.desk.schema sound);
+  tables = subst (λ trees. AreTables (tables_of trees) w) is it.tables;
+}
 
 module _ (law : HaveOneContent) where
   -- trees with the rows of a content are read as it
@@ -37,16 +63,127 @@ module _ (law : HaveOneContent) where
     -- of what stands and is committed
     pub leaves_what_stands : (h : Held S) (w : World) → Stands g h w → HasCleanDisk (state g h)
         → IsTrue (state g h).is_open → (state g h).now ≡ (state g h).committed
+        → IsDatabase (state g h).now
         → ((db : Trees) → (state g h).may_leave db → db ≡ (state g h).committed.trees)
         → LeavesOnly w (MayLeave g h)
-    leaves_what_stands h w stands clean live settled alone found (db, left, reads) =
-        let it = stands.standing clean live in
-        let is : (state g h).now.trees ≡ db =
-        ap (λ d. d.trees) settled ∙ sym (alone db left) in
-        read_once db w found (record {
-          content = it.content;
-          desk = subst (λ trees. IsDesk (record { schema = desk_schema; trees = trees })) is
-              (subst (λ schema. IsDesk (record { schema = schema; trees = (state g h).now.trees }))
-              it.desk.schema it.desk);
-          tables = subst (λ trees. AreTables (tables_of trees) w) is it.tables;
-        }) reads
+    leaves_what_stands h w stands clean live settled sound alone found (db, left, reads) =
+        read_once db w found (reads_standing g h w db (stands.standing clean live) sound
+        (ap (λ d. d.trees) settled ∙ sym (alone db left))) reads
+
+-- ---- over files
+
+-- no table, or a desk's without their index, are not a desk's schema
+blank_is_no_desk : blank_schema ≡ desk_schema → ⊥
+blank_is_no_desk e =
+    let tables : 0 ≡ 4 = ap (λ s. length s.tables) e in omega (arith, tables)
+
+bare_is_no_desk : table_schema ≡ desk_schema → ⊥
+bare_is_no_desk e =
+    let indexes : 4 ≡ 5 = ap (λ s. length s.indexes) e in omega (arith, indexes)
+
+-- what is taken for no desk's is read as none
+untaken : (db : Database) → IsDatabase db → IsUntaken db → ReadsAs db.trees None
+untaken db sound un w has =
+    let same : db.schema ≡ desk_schema = lists_once _ db.schema desk_schema sound.lists has.sound.lists in
+    elim un [
+      | inl (inl blank) ↦ blank_is_no_desk (sym blank.schema_is ∙ same)
+      | inl (inr (inl bare)) ↦ bare_is_no_desk (sym bare.schema ∙ same)
+      | inl (inr (inr numbers)) ↦ numbers.unsound (desk_legible db
+          (subst (λ schema. IsDesk (record { schema = schema; trees = db.trees })) (sym same) has.desk))
+      | inr (inl others) ↦ others.1.0 same
+      | inr (inr none) ↦ none.none w has.content has.tables
+    ]
+
+-- what leaves a content, or one of two, leaves nothing that is no desk's
+module _ {D : Type 0} {g : disk.Ghosts D} where
+  pub only_content : (last : Held (FileStore D g)) (w : World) → LeavesOnly w (MayLeave over_files last)
+      → ¬ MayLeave over_files last None
+  only_content last w only none = let is : None ≡ Some w = only None none in cc
+
+  pub either_content : (old last : Held (FileStore D g)) (before after : World)
+      → LeavesOnly before (MayLeave over_files old)
+      → LeavesOldOr after (MayLeave over_files old) (MayLeave over_files last)
+      → ¬ MayLeave over_files last None
+  either_content old last before after only may none = elim (may None none) [
+    | inl was ↦ (let is : None ≡ Some before = only None was in cc)
+    | inr is ↦ cc
+  ]
+
+module _ {D E : Type 0} {g : disk.Ghosts D} {k : disk.Ghosts E} (last : Held (FileStore D g)) where
+  found_as : (found : Held (FileStore E k)) (read : Option World) → IsFoundAfter last found
+      → ReadsAs (file_state found).committed.trees read → ∥ MayLeave over_files last read ∥₁
+  found_as found read it reads =
+      ∥∥₁_map (next_run last.store it.files.connected.numbered it.files.connected.sound it.image
+      it.files.left (file_state found) it.first.1)
+      (λ may. ((file_state found).committed.trees, may, reads))
+
+  now_sound : (found : Held (FileStore E k)) → IsFoundAfter last found → IsDatabase (file_state found).now
+  now_sound found it = (it.first.0.1 it.first.0.0.is_open).0
+
+  same_trees : (found : Held (FileStore E k)) → IsFoundAfter last found
+      → (file_state found).now.trees ≡ (file_state found).committed.trees
+  same_trees found it = ap (λ d. d.trees) it.first.0.0.clean
+
+  pub found_again : (found : Held (FileStore E k)) (w : World) → IsFoundAfter last found
+      → IsStanding over_files found w → ∥ MayLeave over_files last (Some w) ∥₁
+  found_again found w it standing =
+      found_as found (Some w) it (reads_standing over_files found w (file_state found).committed.trees
+      standing (now_sound found it) (same_trees found it))
+
+  module _ (never : ¬ MayLeave over_files last None) where
+    never_untaken : (found : Held (FileStore E k)) → IsFoundAfter last found
+        → IsUntaken (file_state found).now → ⊥
+    never_untaken found it un =
+        ∥∥₁_elim (found_as found None it (subst (λ db. ReadsAs db None) (same_trees found it)
+        (untaken (file_state found).now (now_sound found it) un))) (λ x y. absurd x) never
+
+    pub begins_again : (new : Held (FileStore E k)) (w : World) → BeginsAfter last new w
+        → ∥ MayLeave over_files last (Some w) ∥₁
+    begins_again new w it =
+        let after : IsFoundAfter last it.opens.found = record {
+          image = it.image;
+          files = it.files;
+          first = it.opens.opened it.clean;
+        } in
+        elim (it.opens.begins it.clean it.live) [
+          | inl blank ↦ absurd (never_untaken it.opens.found after (inl (inl blank.blank)))
+          | inr (inl was) ↦ found_again it.opens.found w after was.standing
+          | inr (inr bare) ↦ absurd (never_untaken it.opens.found after
+              (inl (inr (inl bare.unindexed))))
+        ]
+
+    pub never_refused : IsRefusedAfter last k → ⊥
+    never_refused it = by_fault it.error refl where
+      taken : IsUntaken (file_state it.refused.found).now → ⊥
+      taken = never_untaken it.refused.found (record {
+        image = it.image;
+        files = it.files;
+        first = it.refused.opened it.clean;
+      })
+
+      by_fault : (e : OpenFault) → it.error ≡ e → ⊥
+      by_fault OutOfMemory is = it.room is
+      by_fault NotADesk is = taken (inr (it.refused.none is it.clean it.live))
+      by_fault Store is = elim (it.refused.cause it.clean it.live is) [
+        | inl (inl failed) ↦ it.quiet failed
+        | inl (inr limited) ↦ (let none = subst IsSome it.refused.fresh.unlimited limited in cc)
+        | inr unmade ↦ taken (inl unmade)
+      ]
+
+  pub begins_alone : (new : Held (FileStore E k)) (w other : World)
+      → LeavesOnly w (MayLeave over_files last) → BeginsAfter last new other → other ≡ w
+  begins_alone new w other only it =
+      ∥∥₁_elim (begins_again (only_content last w only) new other it) (Coded-set list.the_row.coded other w)
+      (λ may. let is : Some other ≡ Some w = only (Some other) may in cc)
+
+  module _ (old : Held (FileStore D g)) (before after : World)
+      (only : LeavesOnly before (MayLeave over_files old))
+      (may : LeavesOldOr after (MayLeave over_files old) (MayLeave over_files last)) where
+    pub begins_either : (new : Held (FileStore E k)) (other : World) → BeginsAfter last new other
+        → ∥ (other ≡ before) ⊎ (other ≡ after) ∥₁
+    begins_either new other it =
+        let never = either_content old last before after only may in
+        ∥∥₁_map (begins_again never new other it) (λ left. elim (may (Some other) left) [
+          | inl was ↦ (let is : Some other ≡ Some before = only (Some other) was in inl cc)
+          | inr is ↦ inr cc
+        ])

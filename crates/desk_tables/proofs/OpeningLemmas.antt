@@ -1,5 +1,5 @@
 -- What a store begins with, from what was found.
-use Rattle.std.proofs.Common.{◌≡◌, ◌≤◌, ◌∙◌, sym, ap, OnOk, OnErr, subst, arith, inl, inr, IsTrue, Result, Ok, Err, IfOk, IfErr}
+use Rattle.std.proofs.Common.{◌≡◌, ◌≢◌, ◌≤◌, Bool, true, false, if◌then◌else◌, ◌∙◌, sym, ap, OnOk, OnErr, subst, arith, inl, inr, IsTrue, Result, Ok, Err, IfOk, IfErr}
 use Rattle.std.specs.Prelude.{IsSome}
 use Rattle.sqlite.specs.declared.error.Error.{Error}
 use Rattle.sqlite.specs.declared.error.Error.TheVariants.{SqliteFailure}
@@ -15,10 +15,18 @@ use Rattle.desk_sql.specs.Finding.{Holds}
 use Rattle.desk_sql.specs.Refusals.{IsRefusal}
 use Rattle.desk_store.specs.World.{World}
 use Rattle.desk_tables.specs.declared.opening.open.OpenFault.{OpenFault}
-use Rattle.desk_tables.specs.declared.opening.open.OpenFault.TheVariants.{NotADesk, Store}
+use Rattle.desk_tables.specs.declared.opening.open.OpenFault.TheVariants.{NotADesk, OutOfMemory, Store}
 use Rattle.desk_tables.specs.Content.{IsContent}
-use Rattle.desk_tables.specs.Opening.{AreSortedByKey, AreRows, IsContentOf, AreNoContent, WasIndexed, BeginsWith, ShowsNoDesk, IsNoDesk, HasFailed, BlamesReading, open_fault_of}
+use Rattle.desk_tables.specs.Opening.{AreSortedByKey, AreRows, IsContentOf, AreNoContent, WasIndexed, BeginsWith, ShowsNoDesk, IsNoDesk, HasFailed, BlamesReading, is_memory, open_fault_of}
 use Rattle.desk_tables.proofs.KeyOrderLemmas.{are_rows, are_tables}
+
+-- no error of SQLite says that there is no desk
+pub never_no_desk : (e : Error) → open_fault_of e ≢ NotADesk
+never_no_desk e is = by (is_memory e) is
+  where
+    by : (memory : Bool) → (if memory then OutOfMemory else Store) ≢ NotADesk
+    by true is = cc
+    by false is = cc
 
 module _ {S : Type 0} (g : Ghosts S) where
   -- what is kept twice is kept

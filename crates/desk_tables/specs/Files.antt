@@ -1,30 +1,22 @@
 -- What a store over files begins with, and why files are refused.
-use Rattle.std.specs.Prelude.{◌≡◌, ◌⊎◌, [], IsTrue, Result, Ok, Err, ⊤}
+use Rattle.std.specs.Prelude.{◌≡◌, [], Result, Ok, Err, ⊤}
 use Rattle.sqlite_disk.specs.declared.Disk as disk
 use Rattle.sqlite_wal.specs.Recovery.{Image}
 use Rattle.sqlite_store.specs.declared.store.FileStore.{FileStore}
-use Rattle.sqlite.specs.declared.error.Error.{Error}
 use Rattle.sqlite.specs.State.{HasCleanDisk}
 use Rattle.sqlite.specs.Held.{Held, IsNew}
 use Rattle.sqlite.specs.Files.{over_files, file_state, IsOpened}
-use Rattle.sqlite.specs.Opening.{is_open_error}
 use Rattle.sqlite.specs.Start.{FindsIn}
 use Rattle.desk_sql.specs.Effects.{IsKept}
 use Rattle.desk_store.specs.World.{World}
 use Rattle.desk_tables.specs.declared.opening.open.OpenFault.{OpenFault}
 use Rattle.desk_tables.specs.declared.opening.open.OpenFault.TheVariants.{NotADesk}
 use Rattle.desk_tables.specs.Store.{Shown}
-use Rattle.desk_tables.specs.Opening.{open_fault_of, BeginsWith, ShowsNoDesk, BlamesDatabase}
+use Rattle.desk_tables.specs.Opening.{BeginsWith, ShowsNoDesk, BlamesDatabase}
 
 -- the files that there are where nothing was
 abbrev pub no_files : Image
 no_files = record { log = []; db = [] }
-
--- the error of SQLite by which the files were not opened
-pub record IsUnopened (e : OpenFault) : Type 0 where
-  pub error : Error
-  pub named : IsTrue (is_open_error error)
-  pub is : e ≡ open_fault_of error
 
 -- a connection is opened, and finds the database that the files held
 abbrev pub FindsFirst : {D : Type 0} {g : disk.Ghosts D} → Image → Held (FileStore D g) → Type 0
@@ -37,9 +29,9 @@ module _ {D : Type 0} {g : disk.Ghosts D} where
     pub opened : HasCleanDisk (file_state h) → FindsFirst image found
     pub begins : BeginsWith (over_files {D = D} {g = g}) found h w
 
-module _ {D : Type 0} (g : disk.Ghosts D) where
+module _ {D : Type 0} (g : disk.Ghosts D) (image : Image) (e : OpenFault) where
   -- a connection finds the database of the files, and what it shows says why it is no store's
-  pub record IsRefusedIn (image : Image) (e : OpenFault) : Type 0 where
+  pub record IsRefusedIn : Type 0 where
     pub found : Held (FileStore D g)
     pub left : Held (FileStore D g)
     pub opened : HasCleanDisk (file_state left) → FindsFirst image found
@@ -48,11 +40,16 @@ module _ {D : Type 0} (g : disk.Ghosts D) where
     pub cause : BlamesDatabase (over_files {D = D} {g = g}) found left e
     pub kept : IsKept (over_files {D = D} {g = g}) found left
 
+  -- that the files hold no desk is told only of what a connection found in them. Of another fault nothing is
+  -- said: files may be refused before anything in them is read
+  abbrev pub FailsAs : Type 0
+  FailsAs = e ≡ NotADesk → IsRefusedIn
+
 -- a store over files, or why there is none
 abbrev pub Opened : (D : Type 0) → disk.Ghosts D → Type 0
 Opened D g = Result (Shown (FileStore D g)) OpenFault
 
--- the fault, if there is one, is that of the files or of the database in them
+-- the fault, if there is one
 abbrev pub FailsIn : {D : Type 0} {g : disk.Ghosts D} → Image → Opened D g → Type 0
 FailsIn {D} {g} image (Ok store) = ⊤
-FailsIn {D} {g} image (Err e) = IsUnopened e ⊎ IsRefusedIn g image e
+FailsIn {D} {g} image (Err e) = FailsAs g image e

@@ -1,24 +1,32 @@
 -- What a crash leaves of a store over tables, and what a start reads in it.
-use Rattle.std.specs.Prelude.{◌⊎◌, Option, Some, None, IsTrue}
+use Rattle.std.specs.Prelude.{◌≢◌, ◌⊎◌, Option, Some, None, IsTrue}
 use Rattle.sqlite_trees.specs.declared.store.Store.{Ghosts}
 use Rattle.sqlite_disk.specs.declared.Disk as disk
 use Rattle.sqlite_wal.specs.Recovery.{Image}
 use Rattle.sqlite_store.specs.declared.store.FileStore.{FileStore}
 use Rattle.sqlite_store.specs.FileStore as file
 use Rattle.sqlite.specs.Tree.{Trees}
+use Rattle.sqlite.specs.Effect.{Database, IsDatabase}
 use Rattle.sqlite.specs.State.{HasCleanDisk}
 use Rattle.sqlite.specs.Held.{Held, state, AreDatabases}
+use Rattle.sqlite.specs.Files.{over_files, file_state}
 use Rattle.desk_sql.specs.Schema.{desk_schema}
 use Rattle.desk_sql.specs.Rows.{IsDesk, tables_of}
+use Rattle.desk_sql.specs.Refusals.{HasDiskFailed}
 use Rattle.desk_store.specs.World.{World}
 use Rattle.desk_store.specs.Crashes.{LeavesOnly}
 use Rattle.desk_tables.specs.Tables.{AreTables}
 use Rattle.desk_tables.specs.Content.{IsContent}
+use Rattle.desk_tables.specs.declared.opening.open.OpenFault.{OpenFault}
+use Rattle.desk_tables.specs.declared.opening.open.OpenFault.TheVariants.{OutOfMemory}
+use Rattle.desk_tables.specs.Opening.{IsUnmade, IsNoDesk}
+use Rattle.desk_tables.specs.Files.{FindsFirst, OpensIn, IsRefusedIn}
 
--- the trees are a desk's, and their rows are those of the content
+-- the trees are a desk's, list and obey its schema, and their rows are those of the content
 pub record HasWorld (db : Trees) (w : World) : Type 0 where
   pub content : IsContent w
   pub desk : IsDesk (record { schema = desk_schema; trees = db })
+  pub sound : IsDatabase (record { schema = desk_schema; trees = db })
   pub tables : AreTables (tables_of db) w
 
 -- what trees are read as: a content, or None if they are no desk's
@@ -51,3 +59,39 @@ module _ {D : Type 0} {g : disk.Ghosts D} where
   -- what a crash may leave in the files
   abbrev pub MayHold : Held (FileStore D g) → Image → Type 0
   MayHold h = (file.state h.store).may_leave
+
+  -- files hold what a crash may have left of a connection
+  pub record IsLeftBy (last : Held (FileStore D g)) (image : Image) : Type 0 where
+    pub connected : IsConnected last
+    pub left : MayHold last image
+
+-- what a start does not take for a desk's tables as they are
+abbrev pub IsUntaken : Database → Type 0
+IsUntaken db = IsUnmade db ⊎ IsNoDesk db
+
+module _ {D E : Type 0} {g : disk.Ghosts D} {k : disk.Ghosts E} (last : Held (FileStore D g)) where
+  -- a start finds the database in such files
+  pub record IsFoundAfter (found : Held (FileStore E k)) : Type 0 where
+    pub image : Image
+    pub files : IsLeftBy last image
+    pub first : FindsFirst image found
+
+  -- a store begins over such files, on a clean disk, with a connection that is open
+  pub record BeginsAfter (new : Held (FileStore E k)) (w : World) : Type 0 where
+    pub image : Image
+    pub files : IsLeftBy last image
+    pub opens : OpensIn image new w
+    pub clean : HasCleanDisk (file_state new)
+    pub live : IsTrue (file_state new).is_open
+
+module _ {D : Type 0} {g : disk.Ghosts D} (last : Held (FileStore D g)) {E : Type 0} (k : disk.Ghosts E) where
+  -- such files are opened, and refused for another cause than memory or a fault of the disk
+  pub record IsRefusedAfter : Type 0 where
+    pub image : Image
+    pub files : IsLeftBy last image
+    pub error : OpenFault
+    pub refused : IsRefusedIn k image error
+    pub clean : HasCleanDisk (file_state refused.left)
+    pub live : IsTrue (file_state refused.left).is_open
+    pub room : error ≢ OutOfMemory
+    pub quiet : ¬ HasDiskFailed over_files refused.found refused.left

@@ -1,20 +1,27 @@
 //! Laws of the definitions. Each is the contract of a function that does nothing.
 
-ghost use Rattle.std.specs.Prelude.{◌≡◌, ℕ, List, [], ◌∷◌, map, Some};
+ghost use Rattle.std.specs.Prelude.{◌≡◌, ◌⊎◌, ℕ, List, [], ◌∷◌, map, Some};
 ghost use Rattle.uuid.specs.Text.{parsed};
 ghost use Rattle.sqlite_value.specs.Order.{Row};
+ghost use Rattle.sqlite_store.specs.declared.store.FileStore.{FileStore};
+ghost use Rattle.sqlite.specs.Held.{Held};
+ghost use Rattle.sqlite.specs.Files.{over_files};
 ghost use Rattle.desk_sql.specs.Rows.{Tables, PutsOperator, ClosesPlan};
 ghost use Rattle.desk_sql.specs.Batches.{PutsPlan, RemovesPlans};
 ghost use Rattle.desk_store.specs.World.{Filed, World, text_cmp};
 ghost use Rattle.desk_store.specs.StoreChange.{changed_by, IsFitting};
 ghost use Rattle.desk_store.specs.declared.change.Change.{Change};
+ghost use Rattle.desk_store.specs.Crashes.{LeavesOnly, LeavesOldOr};
 ghost use Rattle.desk_tables.specs.Tables.{id_text, aircraft_number, plan_row, area_rows};
 ghost use Rattle.desk_tables.specs.Tables.{ArePlanSpanRows, AreTables};
 ghost use Rattle.desk_tables.specs.Content.{IsId, IsPlan, IsContent};
 ghost use Rattle.desk_tables.specs.Lookups.{own_of};
 ghost use Rattle.desk_tables.specs.TableChanges.{ChangesRows, EnrolsRows, PutsRows};
 ghost use Rattle.desk_tables.specs.TableChanges.{ClosesRows, ClearsRows, IsWithin};
+ghost use Rattle.desk_tables.specs.Store.{IsStanding};
+ghost use Rattle.desk_tables.specs.Leaving.{MayLeave, IsFoundAfter, BeginsAfter, IsRefusedAfter};
 
+use sqlite_disk::Disk;
 use volume4d::laws::one_shape;
 
 /// The texts of two ids are ordered as the ids are.
@@ -78,4 +85,34 @@ pub fn plans_removed_change_rows()
 pub fn an_operator_put_changes_rows()
     ensures { (name : List ℕ) (ceiling : ℕ) (w : World) (old new : Tables) → IsContent w
         → AreTables old w → PutsOperator name ceiling old new → EnrolsRows name ceiling old new }
+{}
+
+/// A start over files that hold what a crash may have left of a connection: the content whose rows it
+/// finds in a desk's tables is one that the connection said may be found.
+pub fn a_start_finds_what_may_be_left<D: Disk, E: Disk>()
+    ensures { (last : Held (FileStore D D.Disk)) (found : Held (FileStore E E.Disk)) (w : World)
+        → IsFoundAfter last found → IsStanding over_files found w
+        → ∥ MayLeave over_files last (Some w) ∥₁ }
+{}
+
+/// Where a crash leaves one content alone, as it does once a change is answered: over such files a store
+/// begins with it, and once they are opened, memory and the disk alone keep it from that.
+pub fn a_store_begins_with_what_was_left<D: Disk, E: Disk>()
+    ensures begins { (last : Held (FileStore D D.Disk)) (new : Held (FileStore E E.Disk))
+        (w other : World) → LeavesOnly w (MayLeave over_files last) → BeginsAfter last new other
+        → other ≡ w }
+    ensures taken { (last : Held (FileStore D D.Disk)) (w : World)
+        → LeavesOnly w (MayLeave over_files last) → ¬ IsRefusedAfter last E.Disk }
+{}
+
+/// And after a crash in the midst of a change it begins with the content before the change, or that after it.
+pub fn a_store_begins_with_the_old_or_the_new<D: Disk, E: Disk>()
+    ensures begins { (old last : Held (FileStore D D.Disk)) (new : Held (FileStore E E.Disk))
+        (before after other : World) → LeavesOnly before (MayLeave over_files old)
+        → LeavesOldOr after (MayLeave over_files old) (MayLeave over_files last)
+        → BeginsAfter last new other → ∥ (other ≡ before) ⊎ (other ≡ after) ∥₁ }
+    ensures taken { (old last : Held (FileStore D D.Disk)) (before after : World)
+        → LeavesOnly before (MayLeave over_files old)
+        → LeavesOldOr after (MayLeave over_files old) (MayLeave over_files last)
+        → ¬ IsRefusedAfter last E.Disk }
 {}

@@ -66,6 +66,7 @@ impl<S: Alter> SqliteStore<S> {
         ensures left { IsSettledAt S.Store connection kept.world }
     {
         let _settled = connection.is_autocommit();
+        let _sound = connection.schema();
         one_content();
         SqliteStore {
             connection,
@@ -142,6 +143,7 @@ impl<S: Alter> PlanStore for SqliteStore<S> {
         one_content();
         match changes::make(self.alloc, &mut self.connection, &self.kept, change) {
             Ok(longest) => {
+                let _sound = self.connection.schema();
                 self.kept = Kept::after(&self.kept, change);
                 self.longest = self.longest.max(longest);
                 Ok(())

@@ -4,6 +4,7 @@ pub mod AllLemmas
 pub mod StreamLemmas
 pub mod FrontLemmas
 pub mod ServeLemmas
+pub mod CauseLemmas
 pub mod PlayLemmas
 pub mod HeadlineLemmas
 pub mod GivenLemmas

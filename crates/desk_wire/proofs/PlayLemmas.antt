@@ -1,5 +1,5 @@
 -- Requests of a stream that are played so far, and one more.
-use Rattle.std.proofs.Common.{◌≡◌, ◌≢◌, ◌==◌, ℕ, ℤ, ◌+◌, Bool, true, false, List, [], ◌∷◌, ◌++◌, Option, Some, None, Ok, Err, refl, sym, ap, subst, ◌∙◌, arith, append-nil, length-append}
+use Rattle.std.proofs.Common.{◌≡◌, ◌≢◌, ◌==◌, ℕ, ℤ, ◌+◌, Bool, true, false, List, [], ◌∷◌, ◌++◌, Option, Some, None, IfSome, Ok, Err, refl, sym, ap, subst, ◌∙◌, arith, append-nil, length-append}
 use Rattle.std.proofs.lemmas.List.{map-append}
 use Rattle.std.proofs.lemmas.Bool.Decides.{nat_tests}
 use Rattle.std.proofs.KnownBytes.{Appends-nil, Appends-trans, Consumes-nil, Consumes-trans}
@@ -9,44 +9,14 @@ use Rattle.std.specs.List.{concat}
 use Rattle.std.specs.Io.KnownBytes.{Appends, Consumes}
 use Rattle.desk_reading.specs.Requests.{asked}
 use Rattle.desk_reading.specs.Readings.{Reading}
-use Rattle.desk_reading.specs.FaultWords.{fault_status}
-use Rattle.desk_reading.specs.declared.wire_fault.WireFault.{WireFault}
-use Rattle.desk_reading.specs.declared.wire_fault.WireFault.TheVariants as fault
 use Rattle.desk_rules.specs.declared.call.Asked.{Asked}
-use Rattle.desk_run.specs.Verdicts.{Told, replied, unknown_operator, no_such_plan, told_to}
 use Rattle.desk_run.specs.DeskWorld.{DeskWorld}
 use Rattle.desk_wire.specs.declared.response.ServerError.{ServerError}
 use Rattle.desk_wire.specs.AllAnswers.{Sent, answers_to, world_left}
-use Rattle.desk_wire.specs.Bytes.{IsAnsweredSo, IsDone, IsServerError, status, status_for, status_so, text_for, world_after}
+use Rattle.desk_wire.specs.Bytes.{IsAnsweredSo, IsDone, IsServerError, status_so, text_for, world_after}
 use Rattle.desk_wire.specs.Playing.{ArePlayed, IsBroken, IsWhole, at_moment}
 use Rattle.desk_wire.specs.Serving.{IsServed}
 use Rattle.desk_wire.proofs.AllLemmas.{told_more, left_more}
-
--- no answer but the desk's own failure has the status 500
-told_status : (t : Told) → status t ≢ 500
-unfolding status
-told_status (replied r) e = absurd (omega (arith, e))
-told_status unknown_operator e = absurd (omega (arith, e))
-told_status no_such_plan e = absurd (omega (arith, e))
-
-fault_differs : (f : WireFault) → fault_status f ≢ 500
-fault_differs fault.HeadTooLarge e = absurd (omega (arith, e))
-fault_differs fault.BadHead e = absurd (omega (arith, e))
-fault_differs fault.TransferEncoding e = absurd (omega (arith, e))
-fault_differs fault.ContentLength e = absurd (omega (arith, e))
-fault_differs fault.BodyTooLarge e = absurd (omega (arith, e))
-fault_differs fault.NoRoute e = absurd (omega (arith, e))
-fault_differs (fault.Method route) e = absurd (omega (arith, e))
-fault_differs fault.BadOperator e = absurd (omega (arith, e))
-fault_differs fault.BadPlanId e = absurd (omega (arith, e))
-fault_differs fault.BadJson e = absurd (omega (arith, e))
-fault_differs fault.BadMember e = absurd (omega (arith, e))
-fault_differs fault.BadVolume e = absurd (omega (arith, e))
-fault_differs fault.TooManyCells e = absurd (omega (arith, e))
-
-never_500 : (w : DeskWorld) (moment : ℤ) (reading : Reading Asked) → status_for w moment reading ≢ 500
-never_500 w moment (Ok a) e = told_status (told_to w a.operator moment a.call) e
-never_500 w moment (Err f) e = fault_differs f e
 
 -- an answer with another status is what is asked
 pub done_by_status : (w after : DeskWorld) (moment : ℤ) (reading : Reading Asked) (answer : List ℕ)
@@ -56,13 +26,11 @@ done_by_status w after moment reading answer None status h is other = h
 done_by_status w after moment reading answer (Some why) status h is other = absurd (other is)
 
 -- an answer with that status says why the desk failed
-failed_by_status : (w after : DeskWorld) (moment : ℤ) (reading : Reading Asked) (answer : List ℕ)
-    (why : Option ServerError) (status : ℕ) → IsAnsweredSo why w moment reading answer after → status
-    ≡ status_so why w moment reading → status ≡ 500 → (error : ServerError)
-    × IsServerError error w answer after
-failed_by_status w after moment reading answer (Some why) status h is same = (why, h)
-failed_by_status w after moment reading answer None status h is same =
-    absurd (never_500 w moment reading (sym is ∙ same))
+failed_by_status : (w after : DeskWorld) (answer : List ℕ) (why : Option ServerError)
+    → IfSome why (λ error. IsServerError error w answer after) → why ≢ None
+    → (error : ServerError) × IsServerError error w answer after
+failed_by_status w after answer (Some why) h is = (why, h)
+failed_by_status w after answer None h is = absurd (is refl)
 
 concat_one : (xs : List (List ℕ)) (x : List ℕ) → concat (xs ++ x ∷ []) ≡ concat xs ++ x
 concat_one xs x = concat-append xs (x ∷ []) ∙ ap (λ ys. concat xs ++ ys) (append-nil x)
@@ -135,14 +103,13 @@ one_played H count old mid new out then_out now w moment now_world after code fr
 pub broken_next : (H : Type 0) (old new out now : Option (List ℕ)) (w : DeskWorld) (moment : ℤ)
     (after : DeskWorld)
     (code : ℕ) (framed : Bool) → IsServed H old new out now w moment after code framed → code ≡ 500
-    → IsBroken H old new out now w after
+    → IsBroken old new out now w after
 broken_next H old new out now w moment after code framed s is = record {
   request = s.request;
   taken = s.taken;
   answer = s.answer;
   written = s.written;
-  failed = λ p. failed_by_status w after moment (asked s.request) s.answer s.why code (s.replied.told p)
-      (s.status_is p) is;
+  failed = failed_by_status w after s.answer s.why s.replied.failed (s.gave_up is);
 }
 
 pub is_500 : (n : ℕ) → (n == 500) ≡ true → n ≡ 500

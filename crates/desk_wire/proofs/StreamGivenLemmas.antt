@@ -149,12 +149,12 @@ module _ (H : Type 0) (old out : Option (List ℕ)) (w : DeskWorld) (moment : �
   -- where one more is answered by the desk's failure
   pub given_broken : (count : ℕ) (input new output now : Option (List ℕ)) (world after : DeskWorld)
       → (f : ArePlayed H count old input out output w moment world)
-      → (b : IsBroken H input new output now world after)
+      → (b : IsBroken input new output now world after)
       → AreGiven Broken count old out now w moment after f.requests
       (answers_to w (at_moment moment f.requests))
   given_broken count input new output now world after f b =
       let answers = concat (answers_to w (at_moment moment f.requests)) in
-      let why = b.failed p in
+      let why = b.failed in
       record {
         count = f.count_is;
         first = are_first old input f.requests count (recursion_from_All IsWhole f.requests f.whole)

@@ -3,6 +3,7 @@ pub mod Moments
 pub mod Refusals
 pub mod Bytes
 pub mod AllAnswers
+pub mod Causes
 pub mod Streams
 pub mod Serving
 pub mod Playing

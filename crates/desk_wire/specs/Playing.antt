@@ -36,12 +36,12 @@ pub record ArePlayed (H : Type 0) (count : ℕ) (old new out now : Option (List 
   pub left : H → after ≡ world_left w (at_moment moment requests)
 
 -- one more request is taken, and its answer is that the desk failed
-pub record IsBroken (H : Type 0) (old new out now : Option (List ℕ)) (w after : DeskWorld) : Type 0 where
+pub record IsBroken (old new out now : Option (List ℕ)) (w after : DeskWorld) : Type 0 where
   pub request : List ℕ
   pub taken : IsTaken old new request
   pub answer : List ℕ
   pub written : Appends out now answer
-  pub failed : H → (why : ServerError) × IsServerError why w answer after
+  pub failed : (why : ServerError) × IsServerError why w answer after
 
 -- one more request has the answer to what it asks, and the place of the next is unknown
 pub record IsUnframed (H : Type 0) (old new out now : Option (List ℕ)) (w : DeskWorld) (moment : ℤ)
@@ -59,7 +59,7 @@ EndsBy H End count answered old new out now w moment after =
 EndsBy H Unframed count answered old new out now w moment after =
     (answered ≡ count + 1) × IsUnframed H old new out now w moment after
 EndsBy H Broken count answered old new out now w moment after =
-    (answered ≡ count + 1) × IsBroken H old new out now w after
+    (answered ≡ count + 1) × IsBroken old new out now w after
 EndsBy H Limit count answered old new out now w moment after =
     (answered ≡ count) × (count ≡ max_answered) × IsUntouched out now w after
 EndsBy H (Fault fault) count answered old new out now w moment after =

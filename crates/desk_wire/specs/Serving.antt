@@ -1,5 +1,5 @@
 -- Serving: what comes of one request of a stream.
-use Rattle.std.specs.Prelude.{◌≡◌, ◌<◌, ◌++◌, ℕ, ℤ, ⊤, List, length, take, codes, decimal, Bool, Option, IfSome, Result, Ok, Err}
+use Rattle.std.specs.Prelude.{◌≡◌, ◌≢◌, ◌<◌, ◌++◌, ℕ, ℤ, ⊤, List, length, take, codes, decimal, Bool, Option, None, IfSome, Result, Ok, Err}
 use Rattle.std.specs.Io.KnownBytes.{Appends, Consumes, IsAtEnd, Keeps}
 use Rattle.desk_reading.specs.Requests.{asked}
 use Rattle.desk_run.specs.DeskWorld.{DeskWorld}
@@ -37,6 +37,7 @@ pub record IsServed (H : Type 0) (old new out now : Option (List ℕ)) (w : Desk
   pub why : Option ServerError
   pub replied : IsReplied H w moment request answer why after
   pub status_is : H → status ≡ status_so why w moment (asked request)
+  pub gave_up : status ≡ 500 → why ≢ None
   pub written : Appends out now answer
 
 -- the same, but only the first bytes of the answer are written

@@ -1,6 +1,6 @@
 //! Requests answered at a desk, from bytes to bytes.
 
-ghost use Rattle.std.specs.Prelude.{◌≡◌, ◌≤◌, IfErr, IfOk, IfSome, OnOk, OnErr, Ok, None, Some};
+ghost use Rattle.std.specs.Prelude.{◌≡◌, ◌≢◌, ◌≤◌, IfErr, IfOk, IfSome, OnOk, OnErr, Ok, None, Some};
 ghost use Rattle.desk_reading.specs.Messages.{message_read, message_shown};
 ghost use Rattle.desk_reading.specs.Readings.{or_met};
 ghost use Rattle.desk_reading.specs.Requests.{asked, asked_by};
@@ -97,6 +97,7 @@ pub fn answer_request<S: PlanStore>(
         answer.error ≡ None → IsSettledOrSame S.content S.may_leave desk.old desk.new) }
     ensures doubt { S.doubt desk.old.store ≤ S.doubt desk.new.store }
     ensures counted { S.faults desk.old.store ≤ S.faults desk.new.store }
+    ensures gave_up { IfOk result (λ answer. answer.status ≡ 500 → answer.error ≢ None) }
     ensures cause { IfOk result (λ answer. answer.error ≡ Some ServerError.Store →
         HasRisen (S.faults desk.old.store) (S.faults desk.new.store)) }
 {
@@ -144,6 +145,7 @@ fn respond<S: PlanStore>(
         (IsSettledOrSame S.content S.may_leave desk.old desk.new) }
     ensures doubt { S.doubt desk.old.store ≤ S.doubt desk.new.store }
     ensures counted { S.faults desk.old.store ≤ S.faults desk.new.store }
+    ensures other { IfOk result (λ r. r.status ≢ 500) }
     ensures cause { IfErr result (λ e. e ≡ ServerError.Store →
         HasRisen (S.faults desk.old.store) (S.faults desk.new.store)) }
 {
@@ -177,6 +179,7 @@ fn answer_message<S: PlanStore>(
         (IsSettledOrSame S.content S.may_leave desk.old desk.new) }
     ensures doubt { S.doubt desk.old.store ≤ S.doubt desk.new.store }
     ensures counted { S.faults desk.old.store ≤ S.faults desk.new.store }
+    ensures other { IfOk result (λ r. r.status ≢ 500) }
     ensures cause { IfErr result (λ e. e ≡ ServerError.Store →
         HasRisen (S.faults desk.old.store) (S.faults desk.new.store)) }
 {
@@ -210,6 +213,7 @@ fn answer_call<S: PlanStore>(
         (IsSettledOrSame S.content S.may_leave desk.old desk.new) }
     ensures doubt { S.doubt desk.old.store ≤ S.doubt desk.new.store }
     ensures counted { S.faults desk.old.store ≤ S.faults desk.new.store }
+    ensures other { IfOk result (λ r. r.status ≢ 500) }
     ensures cause { IfErr result (λ e. e ≡ ServerError.Store →
         HasRisen (S.faults desk.old.store) (S.faults desk.new.store)) }
 {
@@ -244,6 +248,7 @@ fn answer_pending<S: PlanStore>(
         (IsSettledOrSame S.content S.may_leave desk.old desk.new) }
     ensures doubt { S.doubt desk.old.store ≤ S.doubt desk.new.store }
     ensures counted { S.faults desk.old.store ≤ S.faults desk.new.store }
+    ensures other { IfOk result (λ r. r.status ≢ 500) }
     ensures cause { IfErr result (λ e. e ≡ ServerError.Store →
         HasRisen (S.faults desk.old.store) (S.faults desk.new.store)) }
 {
@@ -263,6 +268,7 @@ fn answer_pending<S: PlanStore>(
 fn refuse(alloc: Global, refusal: Refusal) -> Result<Response, ServerError>
     ensures bytes { IfOk result (λ r. r.bytes.items ≡ refusal_text refusal) }
     ensures status { IfOk result (λ r. r.status ≡ refusal_status refusal) }
+    ensures other { IfOk result (λ r. r.status ≢ 500) }
     ensures error { IfErr result (λ e. e ≡ ServerError.OutOfMemory) }
 {
     let bytes = error_answer(alloc, refusal.status(), refusal.allow(), refusal.word())?;

@@ -6,6 +6,7 @@ ghost use Rattle.desk_store.specs.Faults.{IsHonest};
 ghost use Rattle.desk_run.specs.DeskWorld.{IsSettled, world_of};
 ghost use Rattle.desk_run.specs.Sides.{OwnAlike};
 ghost use Rattle.desk_wire.specs.AllAnswers.{AreAnswers};
+ghost use Rattle.desk_wire.specs.Causes.{HasFailed, IsLast};
 ghost use Rattle.desk_wire.specs.Given.{answered};
 ghost use Rattle.desk_wire.specs.Kept.{IsFoundIn};
 ghost use Rattle.desk_wire.specs.Moments.{IsMoment};
@@ -94,6 +95,9 @@ pub fn answer_all<S: PlanStore>(
     ensures err { OnErr result (world_of S.content desk.new ≡ world_of S.content desk.old) }
     ensures doubt { S.doubt desk.old.store ≤ S.doubt desk.new.store }
     ensures counted { S.faults desk.old.store ≤ S.faults desk.new.store }
+    ensures cause { IfOk result (λ a. a.ended ≡ AnswersEnd.Broken →
+        HasFailed (IsLast (map (λ v. v.items) a.answers.items))
+        (S.faults desk.old.store) (S.faults desk.new.store)) }
 {
     let routes = Routes::try_new(alloc)?;
     let mut answers = Vec::with_capacity(alloc, requests.len())?;

@@ -4,6 +4,7 @@ ghost use Rattle.std.specs.Prelude.{◌≡◌, ◌≤◌, ◌==◌, Option};
 ghost use Rattle.desk_store.specs.World.{World};
 ghost use Rattle.desk_store.specs.Faults.{IsHonest};
 ghost use Rattle.desk_run.specs.DeskWorld.{IsSettled, world_of};
+ghost use Rattle.desk_wire.specs.Causes.{AppendsLast, HasFailed};
 ghost use Rattle.desk_wire.specs.Given.{told_in_play};
 ghost use Rattle.desk_wire.specs.Kept.{IsKept};
 ghost use Rattle.desk_wire.specs.Moments.{IsMoment};
@@ -65,6 +66,9 @@ pub fn play_all<S: PlanStore, R: Read, W: Write>(
         (world_of S.content desk.old) moment (world_of S.content desk.new) found }
     ensures doubt { S.doubt desk.old.store ≤ S.doubt desk.new.store }
     ensures counted { S.faults desk.old.store ≤ S.faults desk.new.store }
+    ensures cause { result.ended ≡ PlayEnd.Broken →
+        HasFailed (AppendsLast (W.contents output.old) (W.contents output.new))
+        (S.faults desk.old.store) (S.faults desk.new.store) }
 {
     match Routes::try_new(alloc) {
         Ok(routes) => play_with(alloc, &routes, desk, moment, input, output),
@@ -96,6 +100,9 @@ fn play_with<S: PlanStore, R: Read, W: Write>(
         (world_of S.content desk.old) moment (world_of S.content desk.new) found }
     ensures doubt { S.doubt desk.old.store ≤ S.doubt desk.new.store }
     ensures counted { S.faults desk.old.store ≤ S.faults desk.new.store }
+    ensures cause { result.ended ≡ PlayEnd.Broken →
+        HasFailed (AppendsLast (W.contents output.old) (W.contents output.new))
+        (S.faults desk.old.store) (S.faults desk.new.store) }
 {
     for before in 0..MAX_ANSWERED {
         let served = match serve_next(alloc, routes, desk, moment, input, output) {

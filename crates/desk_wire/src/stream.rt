@@ -8,6 +8,7 @@ ghost use Rattle.desk_reading.specs.Messages.{message_read};
 ghost use Rattle.desk_store.specs.World.{World};
 ghost use Rattle.desk_store.specs.Faults.{IsHonest};
 ghost use Rattle.desk_run.specs.DeskWorld.{IsSettled, world_of};
+ghost use Rattle.desk_wire.specs.Causes.{HasFailed, IsGivenUp};
 ghost use Rattle.desk_wire.specs.Kept.{IsCertain, IsFoundNow, IsLeftBy};
 ghost use Rattle.desk_wire.specs.Moments.{IsMoment};
 ghost use Rattle.desk_wire.specs.Serving.{BreaksOff, HasServed, IsTaken, Stops};
@@ -112,6 +113,9 @@ pub fn serve_one<S: PlanStore, R: Read, W: Write>(
         (world_of S.content desk.old) moment (world_of S.content desk.new) found }
     ensures doubt { S.doubt desk.old.store ≤ S.doubt desk.new.store }
     ensures counted { S.faults desk.old.store ≤ S.faults desk.new.store }
+    ensures cause { IfOk result (λ served. IsGivenUp served →
+        HasFailed (Appends (W.contents output.old) (W.contents output.new))
+        (S.faults desk.old.store) (S.faults desk.new.store)) }
 {
     let routes = Routes::try_new(alloc)?;
     serve_next(alloc, &routes, desk, moment, input, output)
@@ -143,6 +147,9 @@ pub fn serve_next<S: PlanStore, R: Read, W: Write>(
         (world_of S.content desk.old) moment (world_of S.content desk.new) found }
     ensures doubt { S.doubt desk.old.store ≤ S.doubt desk.new.store }
     ensures counted { S.faults desk.old.store ≤ S.faults desk.new.store }
+    ensures cause { IfOk result (λ served. IsGivenUp served →
+        HasFailed (Appends (W.contents output.old) (W.contents output.new))
+        (S.faults desk.old.store) (S.faults desk.new.store)) }
 {
     let mut reads = MAX_READS;
     let text = receive_head(alloc, input, &mut reads)?;

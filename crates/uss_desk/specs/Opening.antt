@@ -1,5 +1,5 @@
 -- Opening: what a desk begins with, and what a database that can't be opened means.
-use Rattle.std.specs.Prelude.{◌≡◌, ◌⊎◌, [], Result, Ok, Err}
+use Rattle.std.specs.Prelude.{◌≡◌, [], Result, Ok, Err}
 use Rattle.sqlite_disk.specs.declared.Disk as disk
 use Rattle.sqlite_wal.specs.Recovery.{Image}
 use Rattle.sqlite_store.specs.declared.store.FileStore.{FileStore}
@@ -7,7 +7,7 @@ use Rattle.sqlite.specs.Held.{Held}
 use Rattle.desk_run.specs.DeskWorld.{DeskWorld, Parts, with_content, world_of}
 use Rattle.desk_line.specs.declared.failure.Failure.{Failure}
 use Rattle.desk_line.specs.declared.failure.Failure.TheVariants as failure
-use Rattle.desk_tables.specs.Files.{IsRefusedIn, IsUnopened, OpensIn}
+use Rattle.desk_tables.specs.Files.{FailsAs, OpensIn}
 use Rattle.desk_tables.specs.Store.{Shown}
 use Rattle.desk_tables.specs.declared.opening.open.OpenFault.{OpenFault}
 use Rattle.desk_tables.specs.declared.opening.open.OpenFault.TheVariants as opening
@@ -35,8 +35,7 @@ module _ {D : Type 0} (g : disk.Ghosts D) where
 
   -- the failure is that of files that can't be opened, or of a database that is no desk's or can't be read
   abbrev pub FailsAt : Image → Failure → Type 0
-  FailsAt image f =
-      (fault : OpenFault) × (f ≡ open_failure fault) × (IsUnopened fault ⊎ IsRefusedIn g image fault)
+  FailsAt image f = (fault : OpenFault) × (f ≡ open_failure fault) × FailsAs g image fault
 
 module _ {D : Type 0} {g : disk.Ghosts D} where
   -- a desk over files that held this, or why there is none

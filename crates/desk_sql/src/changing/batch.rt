@@ -1,10 +1,12 @@
 ghost use Rattle.std.specs.Prelude.{◌≡◌, ◌≤◌, OnOk, OnErr, IsTrue, map};
 ghost use Rattle.std.specs.String.{string_bytes};
 ghost use Rattle.sqlite.specs.View.{doubt};
+ghost use Rattle.sqlite.specs.Effect.{IsDatabase};
 ghost use Rattle.sqlite.specs.State.{HasCleanDisk, KeepsCommit};
 ghost use Rattle.sqlite.specs.Held.{state};
 ghost use Rattle.desk_sql.specs.Batches.{volume_of, span_of, AddsVolumes, AddsSpans, RemovesPlans, IsUnderWay};
 ghost use Rattle.desk_sql.specs.Effects.{IsReady, Makes, Spares};
+ghost use Rattle.desk_sql.specs.Finding.{Holds};
 ghost use Rattle.desk_sql.specs.Rows.{RemovesPlan};
 
 use crate::changing::removing::{remove_plan, remove_plan_text};
@@ -68,6 +70,7 @@ pub fn remove_plans<S: Alter>(
     ids: &[String],
 ) -> Result<(), Error>
     requires ready { IsReady S.Store tx.old.conn.now }
+    requires sound { Holds S.Store tx.old.conn.now IsDatabase }
     requires begun { IsTrue tx.old.conn.now.in_transaction }
     ensures same_reference { tx.new.conn.ghost_name ≡ tx.old.conn.ghost_name }
     ensures done { HasCleanDisk (state S.Store tx.new.conn.now)

@@ -37,6 +37,7 @@ pub fn clear_plans<S: Alter>(
         (RemovesPlans operator.now (map string_bytes ids.now)) }
 {
     let _settled = connection.is_autocommit();
+    let _sound = connection.schema();
     let mut tx = connection.transaction();
     remove_plans(&mut tx, operator, ids)?;
     tx.commit()

@@ -2,7 +2,9 @@
 
 ghost use Rattle.std.specs.Prelude.{IfOk};
 ghost use Rattle.sqlite_wal.specs.Files.{image_at};
+ghost use Rattle.sqlite.specs.Files.{over_files};
 ghost use Rattle.desk_tables.specs.Files.{OpensIn, FailsIn, no_files};
+ghost use Rattle.desk_tables.specs.Leaving.{IsSettledAt};
 
 use crate::opening::open::OpenFault;
 use crate::store::SqliteStore;
@@ -24,6 +26,7 @@ impl<S: Start> SqliteStore<FileStore<FileFrom<S>>> {
     ) -> Result<SqliteStore<FileStore<FileFrom<S>>>, OpenFault>
         ensures begins { IfOk result (λ store.
             OpensIn (image_at S.Start) store.held store.world) }
+        ensures left { IfOk result (λ store. IsSettledAt over_files store.held store.world) }
         ensures fault { FailsIn (image_at S.Start) result }
     {
         match Connection::open_from(rt, path, false, start) {
@@ -48,6 +51,7 @@ impl SqliteStore<FileStore<FileFrom<Unknown>>> {
         path: &str,
     ) -> Result<SqliteStore<FileStore<FileFrom<Unknown>>>, OpenFault>
         ensures begins { IfOk result (λ store. OpensIn no_files store.held store.world) }
+        ensures left { IfOk result (λ store. IsSettledAt over_files store.held store.world) }
         ensures fault { FailsIn no_files result }
     {
         SqliteStore::open_from(rt, path, Unknown)

@@ -8,6 +8,8 @@ use Rattle.desk_wire.proofs.MomentLemmas.{moment_at, is_moment_at, same_moment}
 use Rattle.desk_wire.specs.declared.batch.AnswersEnd.TheVariants.{All, Broken, NoMemory}
 use Rattle.desk_wire.proofs.GivenLemmas.{given_quiet}
 use Rattle.desk_wire.specs.Kept.{IsFoundIn}
+use Rattle.desk_wire.specs.Causes.{IsLast}
+use Rattle.desk_wire.proofs.CauseLemmas.{failed_there, last_said, not_none, risen_since}
 use Rattle.desk_wire.proofs.AllLemmas.{HaveAnswers, one_answered, cut_answered, all_answered, done_so, failed_so}
 use Rattle.desk_wire.proofs.KeptLemmas.{found_next, found_settled, is_none_by}
 use Rattle.desk_wire.proofs.batch.answer_all.Goals as goal
@@ -155,3 +157,19 @@ returns-clause-kept g c = λ honest settled found may.
     (world_of g.S.PlanStore.content c.loop-moment.desk) requests c.loop-moment.moment-index
     c.loop-moment.answers.items found (c.loop-moment.invariant.answered honest)
     (c.loop-moment.invariant.settled honest settled found may))
+
+-- why the desk failed at the last request
+pub returns-then-is_some-clause-cause : goal.returns-then-is_some-clause-cause
+returns-then-is_some-clause-cause g c = λ broken.
+    let some = sym c.is_some.ensures ∙ c.if-is_some.true in
+    let first = g.S.PlanStore.faults c.args.desk.now.store in
+    let old = g.S.PlanStore.faults c.loop-moment.desk.store in
+    let new = g.S.PlanStore.faults c.answer_request-answer.new.desk.store in
+    failed_there (IsLast (map (λ v. v.items) c.push_reserved.new.self.items)) c.in-Ok.field-0.error
+    (world_of g.S.PlanStore.content c.loop-moment.desk)
+    (world_of g.S.PlanStore.content c.answer_request-answer.new.desk) c.in-Ok.field-0.bytes.items
+    first new (not_none c.in-Ok.field-0.error some) c.in-Ok.ensures.failed
+    (λ store. risen_since first old new c.loop-moment.invariant.counted (c.in-Ok.ensures.cause store))
+    (subst (λ xs. IsLast (map (λ v. v.items) xs) c.in-Ok.field-0.bytes.items)
+    (sym c.push_reserved.ensures.items)
+    (last_said (λ v. v.items) c.loop-moment.answers.items c.in-Ok.field-0.bytes))

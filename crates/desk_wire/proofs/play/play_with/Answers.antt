@@ -9,12 +9,14 @@ use Rattle.desk_wire.specs.declared.stream.Served.TheVariants as outcome
 use Rattle.desk_wire.specs.Playing.{ArePlayed}
 use Rattle.desk_wire.proofs.KeptLemmas.{fault_last, kept_so, old_or_next}
 use Rattle.desk_wire.proofs.PlayLemmas.{none_played, one_played, broken_next, played_if, is_500, not_500}
+use Rattle.desk_wire.proofs.CauseLemmas.{failed_last, grows_more, grows_none}
 use Rattle.desk_wire.proofs.play.play_with.Goals as goal
 
 pub loop-before-init : goal.loop-before-init
 loop-before-init g c = record {
   played = none_played _ _ _ _ _;
   settled = λ honest h. h;
+  grown = grows_none (g.W.Write.contents c.args.output.now);
   doubt = omega arith;
   counted = omega arith;
 }
@@ -65,6 +67,9 @@ loop-before-preserved g c =
           (not_500 c.in-Answered.status (sym c.is_server_error.ensures ∙ c.if-is_server_error.false))
           (c.loop-before.invariant.settled (was_honest c.serve_next.ensures.doubt p) h);
       doubt = omega (arith, c.loop-before.invariant.doubt, c.serve_next.ensures.doubt);
+      grown = grows_more (g.W.Write.contents c.args.output.now) (g.W.Write.contents c.loop-before.output)
+          (g.W.Write.contents c.serve_next.new.output) served.answer c.loop-before.invariant.grown
+          served.written;
       counted = omega (arith, c.loop-before.invariant.counted, c.serve_next.ensures.counted);
     }
 
@@ -177,3 +182,13 @@ returns-clause-kept g c = λ p settled found may.
       },
     )
     (c.loop-before.invariant.settled p settled found may)
+
+-- why the desk failed at the last request
+pub returns-then-is_server_error-clause-cause : goal.returns-then-is_server_error-clause-cause
+returns-then-is_server_error-clause-cause g c = λ broken.
+    let failed = rw c.in-Answered.is at c.in-Ok.ensures.cause in
+    failed_last (g.W.Write.contents c.args.output.now) (g.W.Write.contents c.loop-before.output)
+    (g.W.Write.contents c.serve_next.new.output) (g.S.PlanStore.faults c.args.desk.now.store)
+    (g.S.PlanStore.faults c.loop-before.desk.store) (g.S.PlanStore.faults c.serve_next.new.desk.store)
+    c.loop-before.invariant.grown c.loop-before.invariant.counted
+    (failed (is_500 c.in-Answered.status (sym c.is_server_error.ensures ∙ c.if-is_server_error.true)))

@@ -2,6 +2,7 @@ use Rattle.std.proofs.Common.{◌≤◌}
 use Rattle.desk_store.specs.Faults.{IsHonest}
 use Rattle.desk_run.specs.DeskWorld.{IsSettled, world_of}
 use Rattle.desk_wire.specs.Playing.{ArePlayed}
+use Rattle.desk_wire.proofs.CauseLemmas.{Grows}
 use Rattle.desk_wire.proofs.play.play_with.Given as goal
 
 -- as many requests as rounds are answered
@@ -16,5 +17,6 @@ invariant-loop-before g l =
           → IsSettled g.S.PlanStore.content g.S.PlanStore.may_leave l.fn.desk
           → IsSettled g.S.PlanStore.content g.S.PlanStore.may_leave l.desk;
       doubt : g.S.PlanStore.doubt l.fn.desk.store ≤ g.S.PlanStore.doubt l.desk.store;
+      grown : Grows (g.W.Write.contents l.fn.output) (g.W.Write.contents l.output);
       counted : g.S.PlanStore.faults l.fn.desk.store ≤ g.S.PlanStore.faults l.desk.store;
     }

@@ -9,6 +9,8 @@ use Rattle.desk_wire.proofs.FrontLemmas.{some_count, told_cut_body}
 use Rattle.desk_wire.specs.Kept.{IsCertain}
 use Rattle.desk_wire.specs.Serving.{IsTaken}
 use Rattle.desk_wire.proofs.KeptLemmas.{found_answered, found_failed, if_some_all, left_served, no_failure, uncertain_memory, uncertain_write, unsure_500}
+use Rattle.std.specs.Io.KnownBytes.{Appends}
+use Rattle.desk_wire.proofs.CauseLemmas.{failed_served, failed_there}
 use Rattle.desk_wire.proofs.ServeLemmas.{broken, framed_as, received, replied, served_as, status_as, stopped}
 use Rattle.desk_wire.proofs.stream.serve_next.Goals as goal
 
@@ -93,6 +95,7 @@ returns-clause-served g c =
       status_is = status_as (IsHonest (g.S.PlanStore.doubt c.answer_request.new.desk.store)) w _ c.args.moment
           (text ++ body) (message_read c.message_of-request.result) why c.in_ok-answer.answer.status moment
           got.read c.in_ok-answer.ensures.status;
+      gave_up = c.in_ok-answer.ensures.gave_up;
       written = rw c.deref-3.ensures.value at c.in_ok-write_whole.ensures.ok;
     }
 
@@ -212,3 +215,18 @@ returns-clause-found g c = λ honest.
     (unsure_500 _ _ _ _ _ _ c.in_ok-answer.answer.error c.answered.ensures
     (c.in_ok-answer.ensures.status honest))
     (returns-clause-crash g c honest)
+
+-- why the desk failed, if the answer says so
+pub returns-clause-cause : goal.returns-clause-cause
+returns-clause-cause g c =
+    let out = g.W.Write.contents c.args.output.now in
+    let now = g.W.Write.contents c.write_whole.new.output in
+    let old = g.S.PlanStore.faults c.args.desk.now.store in
+    let new = g.S.PlanStore.faults c.answer_request.new.desk.store in
+    failed_served (Appends out now) c.answered.result c.in_ok-answer.answer.status
+    (is_ok c.message_of-request.result) old new c.answered.ensures
+    (λ is. failed_there (Appends out now) c.in_ok-answer.answer.error
+    (world_of g.S.PlanStore.content c.args.desk.now)
+    (world_of g.S.PlanStore.content c.answer_request.new.desk) c.in_ok-answer.answer.bytes.items
+    old new (c.in_ok-answer.ensures.gave_up is) c.in_ok-answer.ensures.failed c.in_ok-answer.ensures.cause
+    (rw c.deref-3.ensures.value at c.in_ok-write_whole.ensures.ok))

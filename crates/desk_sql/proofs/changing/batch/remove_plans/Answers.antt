@@ -21,7 +21,7 @@ ids-init g c = (
   c.prepare.ensures.same_reference,
   begins_prepared g.S.Store c.args.tx.now.conn.now c.prepare.new.self.conn.now
       (RemovesPlans c.args.operator.now (map string_bytes (take 0 c.args.ids.now)))
-      (none_removed c.args.operator.now) c.requires.ready c.requires.begun
+      (none_removed c.args.operator.now) c.requires.ready c.requires.sound c.requires.begun
       (λ clean. (c.in_ok-_statement.ensures.ok clean).1) c.prepare.ensures.survives,
 )
 

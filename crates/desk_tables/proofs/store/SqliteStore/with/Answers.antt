@@ -9,4 +9,5 @@ returns-clause-left g c = λ clean live.
     clean live
     (c.is_autocommit-settled.ensures.settled
     (c.is_autocommit-settled.ensures.value ∙ ap not c.requires.stands.settled) live)
+    (c.schema-sound.ensures.live live).0
     (λ db may. g.met.S.Store.settled connection.store db live may)

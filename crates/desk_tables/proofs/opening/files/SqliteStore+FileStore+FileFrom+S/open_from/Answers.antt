@@ -1,6 +1,7 @@
-use Rattle.std.proofs.Common.{arith, inr}
+use Rattle.std.proofs.Common.{arith, sym, ◌∙◌}
 use Rattle.sqlite.specs.State.{HasCleanDisk}
 use Rattle.sqlite.specs.Files.{file_state}
+use Rattle.desk_tables.proofs.OpeningLemmas.{never_no_desk}
 use Rattle.desk_tables.proofs.opening.files.SqliteStore+FileStore+FileFrom+S.open_from.Goals as goal
 
 pub returns-in-Ok-adopt-clause-begins : goal.returns-in-Ok-adopt-clause-begins
@@ -18,7 +19,7 @@ returns-in-Ok-clause-fault g c =
     let was : HasCleanDisk (file_state c.in-Err-adopt.refused.connection)
     → HasCleanDisk (file_state c.in-Ok.connection) =
     λ clean. omega (arith, c.in-Err-adopt.ensures.doubt, clean) in
-    inr (record {
+    λ none. record {
       found = c.in-Ok.connection;
       left = c.in-Err-adopt.refused.connection;
       opened = λ clean. (c.in-Ok.ensures.opened (was clean), c.in-Ok.ensures.found (was clean));
@@ -26,4 +27,7 @@ returns-in-Ok-clause-fault g c =
       none = c.in-Err-adopt.ensures.none;
       cause = c.in-Err-adopt.ensures.cause;
       kept = c.in-Err-adopt.ensures.kept;
-    })
+    }
+
+pub returns-clause-fault : goal.returns-clause-fault
+returns-clause-fault g c = λ none. absurd (never_no_desk c.in-Err.error (sym c.from.ensures ∙ none))

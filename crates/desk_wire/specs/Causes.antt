@@ -1,0 +1,33 @@
+-- Causes: why a desk failed to answer a request. Memory was refused, or its store counted a fault.
+use Rattle.std.specs.Prelude.{◌≡◌, ℕ, ⊤, List, [], ◌∷◌, ◌++◌, Option}
+use Rattle.std.specs.Io.KnownBytes.{Appends}
+use Rattle.desk_store.specs.Faults.{HasRisen}
+use Rattle.desk_wire.specs.declared.response.ServerError.{ServerError}
+use Rattle.desk_wire.specs.declared.response.ServerError.TheVariants.{OutOfMemory, Store}
+use Rattle.desk_wire.specs.declared.stream.Served.{Served}
+use Rattle.desk_wire.specs.declared.stream.Served.TheVariants.{Answered, End}
+use Rattle.desk_wire.specs.Refusals.{server_error_text}
+
+-- a store that is said to have failed has counted a fault
+abbrev pub HasCause : ServerError → ℕ → ℕ → Type 0
+HasCause OutOfMemory old new = ⊤
+HasCause Store old new = HasRisen old new
+
+-- it was said, in a place that is given, why the desk failed, and that has its cause
+pub record HasFailed (IsSaid : List ℕ → Type 0) (old new : ℕ) : Type 0 where
+  pub why : ServerError
+  pub said : IsSaid (server_error_text why)
+  pub cause : HasCause why old new
+
+-- the last of some answers
+abbrev pub IsLast : List (List ℕ) → List ℕ → Type 0
+IsLast answers last = (before : List (List ℕ)) × (answers ≡ before ++ last ∷ [])
+
+-- the last bytes that were written to an output
+abbrev pub AppendsLast : Option (List ℕ) → Option (List ℕ) → List ℕ → Type 0
+AppendsLast out now last = (before : List ℕ) × Appends out now (before ++ last)
+
+-- a request was answered with the status 500
+abbrev pub IsGivenUp : Served → Type 0
+IsGivenUp (Answered status framed) = status ≡ 500
+IsGivenUp End = ⊥
