@@ -174,7 +174,8 @@ pub fn set_up<S: PlanStore>(
     ensures crash { IsHonest (S.doubt desk.new.store) → IsSettled S.content S.may_leave desk.old →
         OnErr result ((found : Option World) → S.may_leave desk.new.store found →
         AreKeptSoFar (IsHonest (S.doubt desk.new.store)) enrolments.now
-        (permitting (world_of S.content desk.old) permitted.now) (world_of S.content desk.new) found) }
+        (permitting (world_of S.content desk.old) permitted.now)
+        (world_of S.content desk.new) found) }
     ensures fault { IfErr result IsBreakdown }
     ensures doubt { S.doubt desk.old.store ≤ S.doubt desk.new.store }
     ensures counted { S.faults desk.old.store ≤ S.faults desk.new.store }

@@ -38,10 +38,11 @@ pub fn run_opened<S: PlanStore + Drop, P: Port, R: Read, W: Write, E: Write>(
         (W.contents output.old) (W.contents output.new) (world_of S.content desk)
         (world_of S.content left)
         × (S.doubt desk.store ≤ S.doubt left.store))) }
-    ensures kept { IfOk opened (λ desk. IsSomeAnd result.1 (λ left. IsHonest (S.doubt left.store) →
-        IsSettled S.content S.may_leave desk → (found : Option World) → S.may_leave left.store found →
-        IsLineKept (IsHonest (S.doubt left.store)) line.now result.0 (P.taken port.old) (P.taken port.new)
-        (R.remaining input.old) (R.remaining input.new)
+    ensures kept { IfOk opened (λ desk. IsSomeAnd result.1 (λ left.
+        IsHonest (S.doubt left.store) → IsSettled S.content S.may_leave desk →
+        (found : Option World) → S.may_leave left.store found →
+        IsLineKept (IsHonest (S.doubt left.store)) line.now result.0
+        (P.taken port.old) (P.taken port.new) (R.remaining input.old) (R.remaining input.new)
         (W.contents output.old) (W.contents output.new) (world_of S.content desk)
         (world_of S.content left) found)) }
     ensures unopened { IfErr opened (λ f. (result ≡ (failure_status f, None))
