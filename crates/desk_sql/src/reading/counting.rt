@@ -29,7 +29,8 @@ fn count_in(rows: &[Row]) -> Result<u32, Error>
 
 #[tactic(auto, using(crate::proofs::CountLemmas::own_count_selected, crate::proofs::Sure::count))]
 fn own_count_text() -> &'static str
-    ensures shown { Selects result.now name_row [] (λ name t. counted (filter (is_by name) t.plans)) }
+    ensures shown { Selects result.now name_row []
+        (λ name t. counted (filter (is_by name) t.plans)) }
     ensures sure { IsSureFor result.now name_row }
 {
     "SELECT COUNT(*) FROM plan WHERE operator = ?1"

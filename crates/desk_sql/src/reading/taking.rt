@@ -89,7 +89,8 @@ fn hand_all<S: Alter, T: TakeRow>(rows: &mut Rows<'_, S>, taker: &mut T) -> Resu
     ensures left { HasCleanDisk (state S.Store rows.new.conn.now)
         → IsLeft S.Store rows.old.conn.now rows.new.conn.now }
     ensures cause { HasCleanDisk (state S.Store rows.new.conn.now) → IfErr result
-        (FailsToHandAll S.Store rows.old.conn.now rows.new.conn.now (T.has_taken taker.old) T.refuses) }
+        (FailsToHandAll S.Store rows.old.conn.now rows.new.conn.now
+        (T.has_taken taker.old) T.refuses) }
     ensures mode { rows.old.conn.now.in_transaction ≡ false
         → rows.new.conn.now.in_transaction ≡ false }
     ensures doubt { doubt (state S.Store rows.old.conn.now).is_clean ≤ doubt
@@ -130,8 +131,9 @@ pub(crate) fn hand_over<S: Alter, T: TakeRow>(
         → OnOk result (IsTrue (state S.Store connection.old).is_open) }
     ensures cause { HasCleanDisk (state S.Store connection.new)
         → IsTrue (state S.Store connection.new).is_open
-        → IfErr result (IsCutShort S.Store connection.old connection.new (Shown query.now
-        (bound params.now) (state S.Store connection.old) (state S.Store connection.new)) T.refuses) }
+        → IfErr result (IsCutShort S.Store connection.old connection.new
+        (Shown query.now (bound params.now) (state S.Store connection.old)
+        (state S.Store connection.new)) T.refuses) }
     ensures kept { IsKept S.Store connection.old connection.new }
     ensures mode { connection.new.in_transaction ≡ false }
     ensures doubt { doubt (state S.Store connection.old).is_clean ≤ doubt

@@ -100,7 +100,8 @@ impl Gather {
     ///
     /// `OutOfMemory` if memory runs out. `Store` if the rows are no plans'.
     pub(crate) fn finish(mut self) -> Result<Vec<PlanRow>, StoreFault>
-        ensures value { IfOk result (λ plans. (ps : List Filed) → AllByRecursion (λ p. IsPlan p.row) ps
+        ensures value { IfOk result (λ plans. (ps : List Filed)
+            → AllByRecursion (λ p. IsPlan p.row) ps
             → HasGathered self.plans.items self.head self.volumes.items (listing_rows ps)
             → plans.items ≡ map (λ p. p.row) ps) }
         ensures none { IfErr result (λ e. e ≡ StoreFault.Store →
