@@ -1,12 +1,13 @@
 -- What may be found of a desk's content, over several connections and enrolments.
 use Rattle.std.proofs.Common.{◌≡◌, ◌≤◌, ◌<◌, ◌⊎◌, inl, inr, ◌+◌, ℕ, ℤ, List, [], ◌∷◌, ◌++◌, ◌∙◌, Option, Some, Result, Ok, Err, IfErr, OnErr, length, map, take, refl, ap, sym, subst, arith}
+use Rattle.std.specs.Prelude.{⊤}
 use Rattle.std.specs.Result.{IsErrAnd}
 use Rattle.std.proofs.lemmas.List.{length-append, map-append}
 use Rattle.desk_store.specs.World.{World}
 use Rattle.desk_store.specs.Crashes.{LeavesOldOr}
 use Rattle.desk_run.specs.DeskWorld.{DeskWorld, enrolled}
 use Rattle.desk_wire.specs.Given.{told_in_play}
-use Rattle.desk_wire.specs.Kept.{IsFoundNow, IsKept}
+use Rattle.desk_wire.specs.Kept.{IsCertain, IsFoundNow, IsKept, IsLeftBy}
 use Rattle.desk_wire.specs.Playing.{HasPlayed}
 use Rattle.desk_wire.specs.declared.play.PlayEnd.{PlayEnd}
 use Rattle.desk_wire.specs.Serving.{HasServed, IsTaken}
@@ -16,10 +17,10 @@ use Rattle.desk_line.specs.declared.line.Play.{Play as PlayWords}
 use Rattle.desk_line.specs.declared.line.Serve.{Serve as ServeWords}
 use Rattle.desk_line.specs.Exits.{failure_after, failure_at, failure_status}
 use Rattle.desk_program.specs.Enrolling.{permitting, with_operators}
-use Rattle.desk_program.specs.Keeping.{AreKept, AreKeptSoFar, FindsEnrolled, IsFoundServed, IsLeftByOne, IsLeftUncertain, IsPlayKept, IsPortKept}
+use Rattle.desk_program.specs.Keeping.{AreKept, AreKeptSoFar, FindsEnrolled, IsFoundServed, IsLeftByOne, IsPlayKept, IsPortKept}
 use Rattle.desk_program.specs.Playing.{status_after}
 use Rattle.desk_program.specs.Serving.{Arrival, EndsAfter, Exchange, Takes, failing}
-use Rattle.desk_program.proofs.ServedLemmas.{all_then, both_served, both_taken, none_taken, one_ends, stops}
+use Rattle.desk_program.proofs.ServedLemmas.{all_then, both_served, both_taken, none_taken, one_ends, served_then, stops}
 
 -- ---- enrolments
 
@@ -122,14 +123,22 @@ none_kept H done count old new w after before now same left ends stays = record 
 
 -- one connection is taken
 one_found : (x : Exchange) (w after : DeskWorld) (before : Type 0) (found : Option World)
+    → HasServed ⊤ x.served x.arrival.bytes x.unread x.out x.now w x.arrival.moment after
     → IsFoundNow x.served (λ z. before) (IsTaken x.arrival.bytes x.unread) w x.arrival.moment after found
     → IsFoundServed (x ∷ []) after found ⊎ ((after ≡ w) × before)
-one_found x w after before found (inl is) = inl (inl is)
-one_found x w after before found (inr p) = by p.1
+one_found x w after before found served (inl is) = inl (inl is)
+one_found x w after before found served (inr p) = by p.1
   where
-    by : before ⊎ IsLeftUncertain w found x → IsFoundServed (x ∷ []) after found ⊎ ((after ≡ w) × before)
+    by : before ⊎ ((¬ IsCertain x.served)
+        × IsLeftBy (IsTaken x.arrival.bytes x.unread) w x.arrival.moment found)
+        → IsFoundServed (x ∷ []) after found ⊎ ((after ≡ w) × before)
     by (inl h) = inr (p.0, h)
-    by (inr h) = inl (inr (inl (subst (λ v. IsLeftUncertain v found x) (sym p.0) h)))
+    by (inr h) = inl (inr (inl (
+      h.0,
+      subst (λ v. HasServed ⊤ x.served x.arrival.bytes x.unread x.out x.now v x.arrival.moment after)
+          (sym p.0) served,
+      subst (λ v. IsLeftBy (IsTaken x.arrival.bytes x.unread) v x.arrival.moment found) (sym p.0) h.1,
+    )))
 
 pub one_kept : {A : Type 0} (H : Type 0) (done : Result A Failure) (x : Exchange)
     (old new : Option (List Arrival)) (w after : DeskWorld) (before now : Option World → Type 0)
@@ -147,7 +156,9 @@ one_kept H done x old new w after before now takes served is fault finds = recor
     served = (after, served, refl);
     ends = one_ends done x is fault;
   };
-  finds = λ p found may. one_found x w after (before found) found (finds p found may);
+  finds = λ p found may. one_found x w after (before found) found
+      (served_then H ⊤ (λ k. p) x.served x.arrival.bytes x.unread x.out x.now w x.arrival.moment after served)
+      (finds p found may);
 }
 
 -- what is found, if what was there before was settled

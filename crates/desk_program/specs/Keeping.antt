@@ -5,7 +5,7 @@ use Rattle.desk_store.specs.World.{World}
 use Rattle.desk_run.specs.DeskWorld.{DeskWorld, enrolled}
 use Rattle.desk_wire.specs.Given.{told_in_play}
 use Rattle.desk_wire.specs.Kept.{IsCertain, IsKept, IsLeftBy}
-use Rattle.desk_wire.specs.Serving.{IsTaken}
+use Rattle.desk_wire.specs.Serving.{HasServed, IsTaken}
 use Rattle.desk_line.specs.declared.failure.Failure.{Failure}
 use Rattle.desk_line.specs.declared.line.Enrolment.{Enrolment}
 use Rattle.desk_line.specs.declared.line.Line.{Line}
@@ -53,10 +53,11 @@ IsLinePlayKept H (line.Token token) status old new out now w after found = ⊥
 IsLinePlayKept H (line.Serve serve) status old new out now w after found = ⊥
 IsLinePlayKept H (line.Cover cover) status old new out now w after found = ⊥
 
--- what is found is what the request of a connection would leave of a world, and its answer was a 500 or is
--- not whole
+-- the request of a connection left a world as it was, its answer was a 500 or is not whole, and what is found
+-- is what this request would leave there
 abbrev pub IsLeftUncertain : DeskWorld → Option World → Exchange → Type 0
 IsLeftUncertain w found x = (¬ IsCertain x.served)
+    × HasServed ⊤ x.served x.arrival.bytes x.unread x.out x.now w x.arrival.moment w
     × IsLeftBy (IsTaken x.arrival.bytes x.unread) w x.arrival.moment found
 
 -- the same of one of these connections
@@ -64,8 +65,8 @@ abbrev pub IsLeftByOne : DeskWorld → Option World → List Exchange → Type 0
 IsLeftByOne w found [] = ⊥
 IsLeftByOne w found (x ∷ xs) = IsLeftUncertain w found x ⊎ IsLeftByOne w found xs
 
--- what is found after connections is what their requests left, or what one of these would leave of that, and
--- its answer was a 500 or is not whole
+-- what is found after connections is what their requests left; or what one of these would leave of that, which
+-- left it as it was, and its answer was a 500 or is not whole
 abbrev pub IsFoundServed : List Exchange → DeskWorld → Option World → Type 0
 IsFoundServed xs after found = (found ≡ Some after.content) ⊎ IsLeftByOne after found xs
 
