@@ -53,8 +53,8 @@ IsLinePlayKept H (line.Token token) status old new out now w after found = ⊥
 IsLinePlayKept H (line.Serve serve) status old new out now w after found = ⊥
 IsLinePlayKept H (line.Cover cover) status old new out now w after found = ⊥
 
--- the request of a connection left a world as it was, its answer was a 500 or is not whole, and what is found
--- is what this request would leave there
+-- the request of a connection left a world as it was, its answer was a 500 or is not whole, and what is
+-- found is what this request would leave there
 abbrev pub IsLeftUncertain : DeskWorld → Option World → Exchange → Type 0
 IsLeftUncertain w found x = (¬ IsCertain x.served)
     × HasServed ⊤ x.served x.arrival.bytes x.unread x.out x.now w x.arrival.moment w
