@@ -65,8 +65,8 @@ abbrev pub IsLeftByOne : DeskWorld → Option World → List Exchange → Type 0
 IsLeftByOne w found [] = ⊥
 IsLeftByOne w found (x ∷ xs) = IsLeftUncertain w found x ⊎ IsLeftByOne w found xs
 
--- what is found after connections is what their requests left; or what one of these would leave of that, which
--- left it as it was, and its answer was a 500 or is not whole
+-- what is found after connections is what their requests left; or what one of these would leave of that,
+-- which left it as it was, and its answer was a 500 or is not whole
 abbrev pub IsFoundServed : List Exchange → DeskWorld → Option World → Type 0
 IsFoundServed xs after found = (found ≡ Some after.content) ⊎ IsLeftByOne after found xs
 
