@@ -1,5 +1,6 @@
 -- What stops a call.
 use Rattle.std.specs.Prelude.{◌≡◌, ◌⊎◌, ℕ, List, codes}
+use Rattle.desk_store.specs.Faults.{HasRisen}
 use Rattle.desk_store.specs.declared.fault.StoreFault.{StoreFault}
 use Rattle.desk_store.specs.declared.fault.StoreFault.TheVariants as store
 use Rattle.desk_run.specs.declared.fault.DeskFault.{DeskFault}
@@ -13,6 +14,10 @@ fault_of store.Store = Store
 -- want of memory, or a failing store: neither says anything of the call
 abbrev pub IsBreakdown : DeskFault → Type 0
 IsBreakdown fault = (fault ≡ OutOfMemory) ⊎ (fault ≡ Store)
+
+-- if the store failed, it counted a fault of its own
+abbrev pub IsStoreCounted : {S : Type 0} → (S → ℕ) → S → S → DeskFault → Type 0
+IsStoreCounted faults_of old new e = e ≡ Store → HasRisen (faults_of old) (faults_of new)
 
 -- the fault as a sentence
 abbrev pub fault_text : DeskFault → List ℕ

@@ -38,10 +38,11 @@ impl<S: PlanStore> Model for Desk<S> {
 }
 
 impl<S: PlanStore> Desk<S> {
-    ghost use Rattle.desk_store.specs.Faults.{IsHonest, HasRisen};
+    ghost use Rattle.desk_store.specs.Frames.{Remembers};
+    ghost use Rattle.desk_store.specs.Faults.{IsHonest};
     ghost use Rattle.desk_store.specs.Crashes.{LeavesNoMore, LeavesOldOr};
     ghost use Rattle.desk_run.specs.DeskWorld.{IsSettled, IsSettledOrSame, enrolled, world_of};
-    ghost use Rattle.desk_run.specs.Faults.{IsBreakdown};
+    ghost use Rattle.desk_run.specs.Faults.{IsBreakdown, IsStoreCounted};
     ghost use Rattle.desk_run.specs.Verdicts.{step_by};
     ghost use Rattle.desk_run.specs.Calls.{Tells, Prepares, CanCommit, reply_in, world_committed};
 
@@ -87,10 +88,8 @@ impl<S: PlanStore> Desk<S> {
             (IsSettled S.content S.may_leave self.new) }
         ensures ceiling { (result ≡ Err DeskFault.Ceiling) ↔ (max_priority < ceiling) }
         ensures fault { IfErr result (λ e. (e ≢ DeskFault.Ceiling) → IsBreakdown e) }
-        ensures doubt { S.doubt self.old.store ≤ S.doubt self.new.store }
-        ensures counted { S.faults self.old.store ≤ S.faults self.new.store }
-        ensures cause { IfErr result (λ e. e ≡ DeskFault.Store →
-            HasRisen (S.faults self.old.store) (S.faults self.new.store)) }
+        ensures remembered { Remembers S.doubt S.faults self.old.store self.new.store }
+        ensures cause { IfErr result (IsStoreCounted S.faults self.old.store self.new.store) }
     {
         if ceiling > MAX_PRIORITY {
             return Err(DeskFault::Ceiling);
@@ -119,10 +118,8 @@ impl<S: PlanStore> Desk<S> {
         ensures same { world_of S.content self.new ≡ world_of S.content self.old }
         ensures crash { IsHonest (S.doubt self.new.store) →
             LeavesNoMore (S.may_leave self.old.store) (S.may_leave self.new.store) }
-        ensures doubt { S.doubt self.old.store ≤ S.doubt self.new.store }
-        ensures counted { S.faults self.old.store ≤ S.faults self.new.store }
-        ensures cause { IfErr result (λ e. e ≡ DeskFault.Store →
-            HasRisen (S.faults self.old.store) (S.faults self.new.store)) }
+        ensures remembered { Remembers S.doubt S.faults self.old.store self.new.store }
+        ensures cause { IfErr result (IsStoreCounted S.faults self.old.store self.new.store) }
     {
         prepare_over(alloc, &mut self.store, &self.permitted, moment, asked)
     }
@@ -147,10 +144,8 @@ impl<S: PlanStore> Desk<S> {
         ensures settled { IsHonest (S.doubt self.new.store) → OnOk result
             (IsSettledOrSame S.content S.may_leave self.old self.new) }
         ensures fault { IfErr result (λ e. IsBreakdown e) }
-        ensures doubt { S.doubt self.old.store ≤ S.doubt self.new.store }
-        ensures counted { S.faults self.old.store ≤ S.faults self.new.store }
-        ensures cause { IfErr result (λ e. e ≡ DeskFault.Store →
-            HasRisen (S.faults self.old.store) (S.faults self.new.store)) }
+        ensures remembered { Remembers S.doubt S.faults self.old.store self.new.store }
+        ensures cause { IfErr result (IsStoreCounted S.faults self.old.store self.new.store) }
     {
         commit_over(&mut self.store, pending)
     }
@@ -173,10 +168,8 @@ impl<S: PlanStore> Desk<S> {
             (IsSettled S.content S.may_leave self.old → IsSettled S.content S.may_leave self.new) }
         ensures settled { IsHonest (S.doubt self.new.store) → OnOk result
             (IsSettledOrSame S.content S.may_leave self.old self.new) }
-        ensures doubt { S.doubt self.old.store ≤ S.doubt self.new.store }
-        ensures counted { S.faults self.old.store ≤ S.faults self.new.store }
-        ensures cause { IfErr result (λ e. e ≡ DeskFault.Store →
-            HasRisen (S.faults self.old.store) (S.faults self.new.store)) }
+        ensures remembered { Remembers S.doubt S.faults self.old.store self.new.store }
+        ensures cause { IfErr result (IsStoreCounted S.faults self.old.store self.new.store) }
     {
         let pending = self.prepare(alloc, moment, asked)?;
         self.commit(pending)

@@ -1,9 +1,10 @@
 //! Replies that are ready, and the changes that go with them.
 
 ghost use Rattle.std.specs.Prelude.{◌≡◌, ◌≤◌, ◌⊎◌, Some, IfOk, IfErr, OnOk, OnErr};
-ghost use Rattle.desk_store.specs.Faults.{IsHonest, HasRisen};
+ghost use Rattle.desk_store.specs.Frames.{OnlyReads, Remembers};
+ghost use Rattle.desk_store.specs.Faults.{IsHonest};
 ghost use Rattle.desk_store.specs.Crashes.{LeavesNoMore, LeavesOldOr, LeavesOnly};
-ghost use Rattle.desk_run.specs.Faults.{IsBreakdown};
+ghost use Rattle.desk_run.specs.Faults.{IsBreakdown, IsStoreCounted};
 ghost use Rattle.desk_run.specs.DeskWorld.{with_content};
 ghost use Rattle.desk_run.specs.Calls.{IsSamePending, Prepares, Fits, reply_in, world_with};
 
@@ -68,13 +69,8 @@ pub fn prepare_over<S: PlanStore>(
 ) -> Result<Pending, DeskFault>
     ensures value { IsHonest (S.doubt store.new) →
         Prepares (with_content permitted.now (S.content store.old)) moment asked.now result }
-    ensures same { S.content store.new ≡ S.content store.old }
-    ensures crash { IsHonest (S.doubt store.new) →
-        LeavesNoMore (S.may_leave store.old) (S.may_leave store.new) }
-    ensures doubt { S.doubt store.old ≤ S.doubt store.new }
-    ensures counted { S.faults store.old ≤ S.faults store.new }
-    ensures cause { IfErr result (λ e. e ≡ DeskFault.Store →
-        HasRisen (S.faults store.old) (S.faults store.new)) }
+    ensures reads { OnlyReads S.content S.doubt S.faults S.may_leave store.old store.new }
+    ensures cause { IfErr result (IsStoreCounted S.faults store.old store.new) }
 {
     let operator = &asked.operator;
     let Some(ceiling) = store.ceiling(operator)? else {
@@ -111,10 +107,8 @@ pub fn commit_over<S: PlanStore>(store: &mut S, pending: Pending) -> Result<Repl
         ⊎ ((S.content store.new ≡ S.content store.old)
         × LeavesNoMore (S.may_leave store.old) (S.may_leave store.new))) }
     ensures fault { IfErr result (λ e. IsBreakdown e) }
-    ensures doubt { S.doubt store.old ≤ S.doubt store.new }
-    ensures counted { S.faults store.old ≤ S.faults store.new }
-    ensures cause { IfErr result (λ e. e ≡ DeskFault.Store →
-        HasRisen (S.faults store.old) (S.faults store.new)) }
+    ensures remembered { Remembers S.doubt S.faults store.old store.new }
+    ensures cause { IfErr result (IsStoreCounted S.faults store.old store.new) }
 {
     let Pending { reply, change } = pending;
     match change {

@@ -1,6 +1,7 @@
 //! Runs: lists of calls, answered one after the other.
 
 ghost use Rattle.std.specs.Prelude.{◌≡◌, ◌≤◌, map, Some, IfOk, OnErr};
+ghost use Rattle.desk_store.specs.Frames.{Remembers};
 ghost use Rattle.desk_store.specs.Faults.{IsHonest, HasRisen};
 ghost use Rattle.desk_run.specs.DeskWorld.{world_of};
 ghost use Rattle.desk_run.specs.Runs as spec;
@@ -79,8 +80,7 @@ impl<S: PlanStore> Desk<S> {
         ensures ran { IsHonest (S.doubt self.new.store) → IfOk result (λ ran.
             IsRun (world_of S.content self.old) calls.now ran (world_of S.content self.new)) }
         ensures err { OnErr result (world_of S.content self.new ≡ world_of S.content self.old) }
-        ensures doubt { S.doubt self.old.store ≤ S.doubt self.new.store }
-        ensures counted { S.faults self.old.store ≤ S.faults self.new.store }
+        ensures remembered { Remembers S.doubt S.faults self.old.store self.new.store }
         ensures cause { IfOk result (λ ran. ran.stopped ≡ Some DeskFault.Store →
             HasRisen (S.faults self.old.store) (S.faults self.new.store)) }
     {
@@ -108,8 +108,7 @@ fn run_over<S: PlanStore>(
     ensures ran { IsHonest (S.doubt desk.new.store) → IfOk result (λ ran.
         IsRun (world_of S.content desk.old) calls.now ran (world_of S.content desk.new)) }
     ensures err { OnErr result (world_of S.content desk.new ≡ world_of S.content desk.old) }
-    ensures doubt { S.doubt desk.old.store ≤ S.doubt desk.new.store }
-    ensures counted { S.faults desk.old.store ≤ S.faults desk.new.store }
+    ensures remembered { Remembers S.doubt S.faults desk.old.store desk.new.store }
     ensures cause { IfOk result (λ ran. ran.stopped ≡ Some DeskFault.Store →
         HasRisen (S.faults desk.old.store) (S.faults desk.new.store)) }
 {

@@ -11,6 +11,10 @@ IsHonest doubt = doubt ≡ 0
 abbrev pub HasRisen : ℕ → ℕ → Type 0
 HasRisen old new = new < 2 ^ 64 - 1 → old < new
 
+-- if it is the store's own, the store counted it
+abbrev pub IsCounted : {S : Type 0} → (S → ℕ) → S → S → StoreFault → Type 0
+IsCounted faults_of old new e = e ≡ Store → HasRisen (faults_of old) (faults_of new)
+
 -- the fault as a sentence
 abbrev pub fault_text : StoreFault → List ℕ
 fault_text OutOfMemory = codes "out of memory"

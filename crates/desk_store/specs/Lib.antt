@@ -12,5 +12,6 @@ pub mod RivalLaws
 pub mod Faults
 pub mod FaultLaws
 pub mod Crashes
+pub mod Frames
 pub mod Parts
 pub mod Listing

@@ -1,6 +1,7 @@
 //! Stores of plans, as a desk uses them.
 
 ghost use Rattle.std.specs.Prelude.{◌≡◌, ◌≤◌, ℕ, length, Option, IfOk, IfErr, IfSome, OnOk, OnErr};
+ghost use Rattle.desk_store.specs.Frames.{OnlyReads, Remembers};
 ghost use Rattle.desk_store.specs.World.{World, AreInOrder, ceiling_of, plans_of, stored_of};
 ghost use Rattle.desk_store.specs.Rivals.{AreRivals};
 ghost use Rattle.desk_rules.specs.Limits.{max_plans, max_priority};
@@ -24,8 +25,8 @@ use volume4d::{Held, Slab};
 /// that it had.
 pub trait PlanStore {
     ghost use Rattle.desk_store.specs.StoreChange.{changed_by, IsFitting};
-    ghost use Rattle.desk_store.specs.Faults.{IsHonest, HasRisen};
-    ghost use Rattle.desk_store.specs.Crashes.{LeavesNoMore, LeavesOldOr, LeavesOnly};
+    ghost use Rattle.desk_store.specs.Faults.{IsHonest, IsCounted};
+    ghost use Rattle.desk_store.specs.Crashes.{LeavesOldOr, LeavesOnly};
 
     /// The operators and plans that the store holds.
     ghost content: { Self → World };
@@ -47,37 +48,22 @@ pub trait PlanStore {
             IfOk result (λ ceiling. ceiling ≡ ceiling_of operator.now (content self.old)) }
         ensures bound { IsHonest (doubt self.new) →
             IfOk result (λ ceiling. IfSome ceiling (λ n. n ≤ max_priority)) }
-        ensures same { content self.new ≡ content self.old }
-        ensures crash { IsHonest (doubt self.new) →
-            LeavesNoMore (may_leave self.old) (may_leave self.new) }
-        ensures doubt { doubt self.old ≤ doubt self.new }
-        ensures counted { faults self.old ≤ faults self.new }
-        ensures cause { IfErr result (λ e. e ≡ StoreFault.Store →
-            HasRisen (faults self.old) (faults self.new)) };
+        ensures reads { OnlyReads content doubt faults may_leave self.old self.new }
+        ensures cause { IfErr result (IsCounted faults self.old self.new) };
 
     /// The operator's plan of the id.
     fn plan(&mut self, operator: &Operator, id: &PlanId) -> Result<Option<PlanRow>, StoreFault>
         ensures value { IsHonest (doubt self.new) →
             IfOk result (λ row. row ≡ stored_of id.now (plans_of operator.now (content self.old))) }
-        ensures same { content self.new ≡ content self.old }
-        ensures crash { IsHonest (doubt self.new) →
-            LeavesNoMore (may_leave self.old) (may_leave self.new) }
-        ensures doubt { doubt self.old ≤ doubt self.new }
-        ensures counted { faults self.old ≤ faults self.new }
-        ensures cause { IfErr result (λ e. e ≡ StoreFault.Store →
-            HasRisen (faults self.old) (faults self.new)) };
+        ensures reads { OnlyReads content doubt faults may_leave self.old self.new }
+        ensures cause { IfErr result (IsCounted faults self.old self.new) };
 
     /// How many plans the operator has, closed ones too.
     fn own_count(&mut self, operator: &Operator) -> Result<u32, StoreFault>
         ensures value { IsHonest (doubt self.new) →
             IfOk result (λ count. count ≡ length (plans_of operator.now (content self.old))) }
-        ensures same { content self.new ≡ content self.old }
-        ensures crash { IsHonest (doubt self.new) →
-            LeavesNoMore (may_leave self.old) (may_leave self.new) }
-        ensures doubt { doubt self.old ≤ doubt self.new }
-        ensures counted { faults self.old ≤ faults self.new }
-        ensures cause { IfErr result (λ e. e ≡ StoreFault.Store →
-            HasRisen (faults self.old) (faults self.new)) };
+        ensures reads { OnlyReads content doubt faults may_leave self.old self.new }
+        ensures cause { IfErr result (IsCounted faults self.old self.new) };
 
     /// The operator's plans, at most 200, ascending by id, none twice.
     fn own_plans(&mut self, operator: &Operator) -> Result<Vec<PlanRow>, StoreFault>
@@ -86,13 +72,8 @@ pub trait PlanStore {
         ensures order { IsHonest (doubt self.new) → IfOk result (λ rows. AreInOrder rows.items) }
         ensures limit { IsHonest (doubt self.new) →
             IfOk result (λ rows. length rows.items ≤ max_plans) }
-        ensures same { content self.new ≡ content self.old }
-        ensures crash { IsHonest (doubt self.new) →
-            LeavesNoMore (may_leave self.old) (may_leave self.new) }
-        ensures doubt { doubt self.old ≤ doubt self.new }
-        ensures counted { faults self.old ≤ faults self.new }
-        ensures cause { IfErr result (λ e. e ≡ StoreFault.Store →
-            HasRisen (faults self.old) (faults self.new)) };
+        ensures reads { OnlyReads content doubt faults may_leave self.old self.new }
+        ensures cause { IfErr result (IsCounted faults self.old self.new) };
 
     /// Slabs held by all live plans but the operator's own of the id: at each point of the extent the
     /// greatest priority among the slabs is the greatest that these plans hold there, where that is at
@@ -106,13 +87,8 @@ pub trait PlanStore {
     ) -> Result<Vec<Held>, StoreFault>
         ensures value { IsHonest (doubt self.new) → IfOk result (λ helds.
             AreRivals (content self.old) operator.now id.now least extent.now helds.items) }
-        ensures same { content self.new ≡ content self.old }
-        ensures crash { IsHonest (doubt self.new) →
-            LeavesNoMore (may_leave self.old) (may_leave self.new) }
-        ensures doubt { doubt self.old ≤ doubt self.new }
-        ensures counted { faults self.old ≤ faults self.new }
-        ensures cause { IfErr result (λ e. e ≡ StoreFault.Store →
-            HasRisen (faults self.old) (faults self.new)) };
+        ensures reads { OnlyReads content doubt faults may_leave self.old self.new }
+        ensures cause { IfErr result (IsCounted faults self.old self.new) };
 
     /// Makes the change, whole or not at all. The store may be asked for a change that fits its
     /// content; a store that is not honest may be asked for any.
@@ -126,8 +102,6 @@ pub trait PlanStore {
             (may_leave self.new) }
         ensures kept { IsHonest (doubt self.new) →
             OnOk result (LeavesOnly (content self.new) (may_leave self.new)) }
-        ensures doubt { doubt self.old ≤ doubt self.new }
-        ensures counted { faults self.old ≤ faults self.new }
-        ensures cause { IfErr result (λ e. e ≡ StoreFault.Store →
-            HasRisen (faults self.old) (faults self.new)) };
+        ensures remembered { Remembers doubt faults self.old self.new }
+        ensures cause { IfErr result (IsCounted faults self.old self.new) };
 }

@@ -1,6 +1,7 @@
 //! Batches: the answers to requests that are all at hand.
 
 ghost use Rattle.std.specs.Prelude.{◌≡◌, ◌≤◌, ℕ, List, [], All, Option, IfOk, OnErr, map};
+ghost use Rattle.desk_store.specs.Frames.{Remembers};
 ghost use Rattle.desk_store.specs.World.{World};
 ghost use Rattle.desk_store.specs.Faults.{IsHonest};
 ghost use Rattle.desk_run.specs.DeskWorld.{IsSettled, world_of};
@@ -93,8 +94,7 @@ pub fn answer_all<S: PlanStore>(
         IsFoundIn (world_of S.content desk.old) (map (λ r. (r.0, r.1.items)) requests.now)
         (answered a.ended (map (λ v. v.items) a.answers.items)) found) }
     ensures err { OnErr result (world_of S.content desk.new ≡ world_of S.content desk.old) }
-    ensures doubt { S.doubt desk.old.store ≤ S.doubt desk.new.store }
-    ensures counted { S.faults desk.old.store ≤ S.faults desk.new.store }
+    ensures remembered { Remembers S.doubt S.faults desk.old.store desk.new.store }
     ensures cause { IfOk result (λ a. a.ended ≡ AnswersEnd.Broken →
         HasFailed (IsLast (map (λ v. v.items) a.answers.items))
         (S.faults desk.old.store) (S.faults desk.new.store)) }

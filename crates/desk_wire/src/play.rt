@@ -1,6 +1,7 @@
 //! Runs over a stream: requests served one after the other.
 
 ghost use Rattle.std.specs.Prelude.{◌≡◌, ◌≤◌, ◌==◌, Option};
+ghost use Rattle.desk_store.specs.Frames.{Remembers};
 ghost use Rattle.desk_store.specs.World.{World};
 ghost use Rattle.desk_store.specs.Faults.{IsHonest};
 ghost use Rattle.desk_run.specs.DeskWorld.{IsSettled, world_of};
@@ -64,8 +65,7 @@ pub fn play_all<S: PlanStore, R: Read, W: Write>(
         IsKept result.ended (told_in_play result.ended result.answered) (R.remaining input.old)
         (W.contents output.old) (W.contents output.new)
         (world_of S.content desk.old) moment (world_of S.content desk.new) found }
-    ensures doubt { S.doubt desk.old.store ≤ S.doubt desk.new.store }
-    ensures counted { S.faults desk.old.store ≤ S.faults desk.new.store }
+    ensures remembered { Remembers S.doubt S.faults desk.old.store desk.new.store }
     ensures cause { result.ended ≡ PlayEnd.Broken →
         HasFailed (AppendsLast (W.contents output.old) (W.contents output.new))
         (S.faults desk.old.store) (S.faults desk.new.store) }
@@ -98,8 +98,7 @@ fn play_with<S: PlanStore, R: Read, W: Write>(
         IsKept result.ended (told_in_play result.ended result.answered) (R.remaining input.old)
         (W.contents output.old) (W.contents output.new)
         (world_of S.content desk.old) moment (world_of S.content desk.new) found }
-    ensures doubt { S.doubt desk.old.store ≤ S.doubt desk.new.store }
-    ensures counted { S.faults desk.old.store ≤ S.faults desk.new.store }
+    ensures remembered { Remembers S.doubt S.faults desk.old.store desk.new.store }
     ensures cause { result.ended ≡ PlayEnd.Broken →
         HasFailed (AppendsLast (W.contents output.old) (W.contents output.new))
         (S.faults desk.old.store) (S.faults desk.new.store) }

@@ -5,6 +5,7 @@ ghost use Rattle.std.specs.Io.{ReadsAtMost};
 ghost use Rattle.std.specs.Result.{is_ok};
 ghost use Rattle.std.specs.Io.KnownBytes.{Appends, Consumes, IsAtEnd, ReadConsumes};
 ghost use Rattle.desk_reading.specs.Messages.{message_read};
+ghost use Rattle.desk_store.specs.Frames.{Remembers};
 ghost use Rattle.desk_store.specs.World.{World};
 ghost use Rattle.desk_store.specs.Faults.{IsHonest};
 ghost use Rattle.desk_run.specs.DeskWorld.{IsSettled, world_of};
@@ -111,8 +112,7 @@ pub fn serve_one<S: PlanStore, R: Read, W: Write>(
         S.may_leave desk.new.store found → IsFoundNow result (S.may_leave desk.old.store)
         (IsTaken (R.remaining input.old) (R.remaining input.new))
         (world_of S.content desk.old) moment (world_of S.content desk.new) found }
-    ensures doubt { S.doubt desk.old.store ≤ S.doubt desk.new.store }
-    ensures counted { S.faults desk.old.store ≤ S.faults desk.new.store }
+    ensures remembered { Remembers S.doubt S.faults desk.old.store desk.new.store }
     ensures cause { IfOk result (λ served. IsGivenUp served →
         HasFailed (Appends (W.contents output.old) (W.contents output.new))
         (S.faults desk.old.store) (S.faults desk.new.store)) }
@@ -145,8 +145,7 @@ pub fn serve_next<S: PlanStore, R: Read, W: Write>(
         S.may_leave desk.new.store found → IsFoundNow result (S.may_leave desk.old.store)
         (IsTaken (R.remaining input.old) (R.remaining input.new))
         (world_of S.content desk.old) moment (world_of S.content desk.new) found }
-    ensures doubt { S.doubt desk.old.store ≤ S.doubt desk.new.store }
-    ensures counted { S.faults desk.old.store ≤ S.faults desk.new.store }
+    ensures remembered { Remembers S.doubt S.faults desk.old.store desk.new.store }
     ensures cause { IfOk result (λ served. IsGivenUp served →
         HasFailed (Appends (W.contents output.old) (W.contents output.new))
         (S.faults desk.old.store) (S.faults desk.new.store)) }

@@ -1,8 +1,10 @@
 //! Plans that are to be taken out.
 
 ghost use Rattle.std.specs.Prelude.{◌≡◌, ◌≤◌, ◌<◌, ◌^◌, ◌∷◌, [], length, IsSome, IfOk, IfErr};
-ghost use Rattle.desk_store.specs.Faults.{IsHonest, HasRisen};
-ghost use Rattle.desk_store.specs.Crashes.{LeavesNoMore};
+ghost use Rattle.desk_run.specs.Faults.{IsStoreCounted};
+ghost use Rattle.desk_store.specs.Frames.{OnlyReads};
+ghost use Rattle.desk_store.specs.Faults.{IsHonest};
+
 ghost use Rattle.desk_store.specs.World.{ceiling_of, plans_of};
 ghost use Rattle.desk_rules.specs.Bridge.{AreSlabsOf};
 ghost use Rattle.volume4d.specs.Volume.{Block};
@@ -31,13 +33,8 @@ pub fn ready_clear<S: PlanStore>(
         IsSome (ceiling_of operator.now (S.content store.old)) }
     ensures value { IsHonest (S.doubt store.new) → Readies (S.content store.old) operator.now
         (clear_ruling (plans_of operator.now (S.content store.old)) extent.now) result }
-    ensures same { S.content store.new ≡ S.content store.old }
-    ensures crash { IsHonest (S.doubt store.new) →
-        LeavesNoMore (S.may_leave store.old) (S.may_leave store.new) }
-    ensures doubt { S.doubt store.old ≤ S.doubt store.new }
-    ensures counted { S.faults store.old ≤ S.faults store.new }
-    ensures cause { IfErr result (λ e. e ≡ DeskFault.Store →
-        HasRisen (S.faults store.old) (S.faults store.new)) }
+    ensures reads { OnlyReads S.content S.doubt S.faults S.may_leave store.old store.new }
+    ensures cause { IfErr result (IsStoreCounted S.faults store.old store.new) }
 {
     let rows = store.own_plans(operator)?;
     Ok(clearing(alloc, operator, &extent.slabs()?, &rows)?)

@@ -1,8 +1,9 @@
 //! Conflicts of an operator's plans with what is held.
 
 ghost use Rattle.std.specs.Prelude.{◌≡◌, ◌≤◌, IfOk, IfErr};
-ghost use Rattle.desk_store.specs.Faults.{IsHonest, HasRisen};
-ghost use Rattle.desk_store.specs.Crashes.{LeavesNoMore};
+ghost use Rattle.desk_store.specs.Frames.{OnlyReads};
+ghost use Rattle.desk_store.specs.Faults.{IsHonest, IsCounted};
+
 ghost use Rattle.volume4d.specs.Bounds.{AreFilled};
 ghost use Rattle.volume4d.specs.Sweep.{Ascend};
 ghost use Rattle.desk_rules.specs.Permission.{least_blocking};
@@ -33,13 +34,8 @@ pub fn conflict_of<S: PlanStore>(
     ensures value { IsHonest (S.doubt store.new) → IfOk result (λ meeting.
         meeting ≡ conflict_in permitted.now (S.content store.old) operator.now id.now area.now
         priority) }
-    ensures same { S.content store.new ≡ S.content store.old }
-    ensures crash { IsHonest (S.doubt store.new) →
-        LeavesNoMore (S.may_leave store.old) (S.may_leave store.new) }
-    ensures doubt { S.doubt store.old ≤ S.doubt store.new }
-    ensures counted { S.faults store.old ≤ S.faults store.new }
-    ensures cause { IfErr result (λ e. e ≡ StoreFault.Store →
-        HasRisen (S.faults store.old) (S.faults store.new)) }
+    ensures reads { OnlyReads S.content S.doubt S.faults S.may_leave store.old store.new }
+    ensures cause { IfErr result (IsCounted S.faults store.old store.new) }
 {
     let mine = area.slabs()?;
     conflict_among_slabs();
@@ -60,13 +56,8 @@ fn first_among<S: PlanStore>(
     requires order { Ascend (λ s. s) slabs.now }
     ensures value { IsHonest (S.doubt store.new) → IfOk result
         (IsFirstAmong permitted.now (S.content store.old) operator.now id.now slabs.now priority) }
-    ensures same { S.content store.new ≡ S.content store.old }
-    ensures crash { IsHonest (S.doubt store.new) →
-        LeavesNoMore (S.may_leave store.old) (S.may_leave store.new) }
-    ensures doubt { S.doubt store.old ≤ S.doubt store.new }
-    ensures counted { S.faults store.old ≤ S.faults store.new }
-    ensures cause { IfErr result (λ e. e ≡ StoreFault.Store →
-        HasRisen (S.faults store.old) (S.faults store.new)) }
+    ensures reads { OnlyReads S.content S.doubt S.faults S.may_leave store.old store.new }
+    ensures cause { IfErr result (IsCounted S.faults store.old store.new) }
 {
     let gap = wide_gap(slabs);
     let mut rest = slabs;
@@ -101,13 +92,8 @@ fn first_in<S: PlanStore>(
     requires { AreFilled cluster.now }
     ensures value { IsHonest (S.doubt store.new) → IfOk result
         (IsFirstAmong permitted.now (S.content store.old) operator.now id.now cluster.now priority) }
-    ensures same { S.content store.new ≡ S.content store.old }
-    ensures crash { IsHonest (S.doubt store.new) →
-        LeavesNoMore (S.may_leave store.old) (S.may_leave store.new) }
-    ensures doubt { S.doubt store.old ≤ S.doubt store.new }
-    ensures counted { S.faults store.old ≤ S.faults store.new }
-    ensures cause { IfErr result (λ e. e ≡ StoreFault.Store →
-        HasRisen (S.faults store.old) (S.faults store.new)) }
+    ensures reads { OnlyReads S.content S.doubt S.faults S.may_leave store.old store.new }
+    ensures cause { IfErr result (IsCounted S.faults store.old store.new) }
 {
     let extent = bounds_of(cluster);
     let theirs = store.rivals(operator, id, least_of(permitted, priority), &extent)?;

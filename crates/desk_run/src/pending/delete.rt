@@ -1,8 +1,10 @@
 //! Plans that are to be closed.
 
 ghost use Rattle.std.specs.Prelude.{◌≡◌, ◌≤◌, IsSome, IfErr};
-ghost use Rattle.desk_store.specs.Faults.{IsHonest, HasRisen};
-ghost use Rattle.desk_store.specs.Crashes.{LeavesNoMore};
+ghost use Rattle.desk_run.specs.Faults.{IsStoreCounted};
+ghost use Rattle.desk_store.specs.Frames.{OnlyReads};
+ghost use Rattle.desk_store.specs.Faults.{IsHonest};
+
 ghost use Rattle.desk_store.specs.World.{ceiling_of, plans_of, stored_of};
 ghost use Rattle.desk_run.specs.Calls.{Readies};
 ghost use Rattle.desk_run.specs.Verdicts.{delete_ruling};
@@ -26,13 +28,8 @@ pub fn ready_delete<S: PlanStore>(
     ensures value { IsHonest (S.doubt store.new) → Readies (S.content store.old) operator.now
         (delete_ruling (plans_of operator.now (S.content store.old)) id.now
         (stored_of id.now (plans_of operator.now (S.content store.old)))) result }
-    ensures same { S.content store.new ≡ S.content store.old }
-    ensures crash { IsHonest (S.doubt store.new) →
-        LeavesNoMore (S.may_leave store.old) (S.may_leave store.new) }
-    ensures doubt { S.doubt store.old ≤ S.doubt store.new }
-    ensures counted { S.faults store.old ≤ S.faults store.new }
-    ensures cause { IfErr result (λ e. e ≡ DeskFault.Store →
-        HasRisen (S.faults store.old) (S.faults store.new)) }
+    ensures reads { OnlyReads S.content S.doubt S.faults S.may_leave store.old store.new }
+    ensures cause { IfErr result (IsStoreCounted S.faults store.old store.new) }
 {
     if store.plan(operator, id)?.is_none() {
         return Err(DeskFault::NoSuchPlan);

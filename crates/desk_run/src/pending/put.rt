@@ -1,8 +1,10 @@
 //! Requests to plan, decided over a store.
 
 ghost use Rattle.std.specs.Prelude.{◌≡◌, ◌≤◌, length, Option, Some, None, true, false, cond, IfOk, IfErr};
-ghost use Rattle.desk_store.specs.Faults.{IsHonest, HasRisen};
-ghost use Rattle.desk_store.specs.Crashes.{LeavesNoMore};
+ghost use Rattle.desk_run.specs.Faults.{IsStoreCounted};
+ghost use Rattle.desk_store.specs.Frames.{OnlyReads};
+ghost use Rattle.desk_store.specs.Faults.{IsHonest, IsCounted};
+
 ghost use Rattle.desk_rules.specs.Limits.{max_priority};
 ghost use Rattle.std.specs.Option.{option_copied};
 ghost use Rattle.desk_store.specs.World.{own, ceiling_of, plans_of, stored_of, held};
@@ -42,13 +44,8 @@ pub fn ready_put<S: PlanStore>(
         (put_ruling
         (put_outcome_in permitted.now (S.content store.old) operator.now ceiling moment put.now)
         put.now (plans_of operator.now (S.content store.old))) result }
-    ensures same { S.content store.new ≡ S.content store.old }
-    ensures crash { IsHonest (S.doubt store.new) →
-        LeavesNoMore (S.may_leave store.old) (S.may_leave store.new) }
-    ensures doubt { S.doubt store.old ≤ S.doubt store.new }
-    ensures counted { S.faults store.old ≤ S.faults store.new }
-    ensures cause { IfErr result (λ e. e ≡ DeskFault.Store →
-        HasRisen (S.faults store.old) (S.faults store.new)) }
+    ensures reads { OnlyReads S.content S.doubt S.faults S.may_leave store.old store.new }
+    ensures cause { IfErr result (IsStoreCounted S.faults store.old store.new) }
 {
     let verdict = verdict_on(store, permitted, moment, operator, put, ceiling)?;
     let change = change_for(verdict.effect, operator, put)?;
@@ -84,13 +81,8 @@ fn verdict_on<S: PlanStore>(
     ensures verdict { IsHonest (S.doubt store.new) → IfOk result (λ v.
         v ≡ put_outcome_in permitted.now (S.content store.old) operator.now ceiling moment
         put.now) }
-    ensures same { S.content store.new ≡ S.content store.old }
-    ensures crash { IsHonest (S.doubt store.new) →
-        LeavesNoMore (S.may_leave store.old) (S.may_leave store.new) }
-    ensures doubt { S.doubt store.old ≤ S.doubt store.new }
-    ensures counted { S.faults store.old ≤ S.faults store.new }
-    ensures cause { IfErr result (λ e. e ≡ StoreFault.Store →
-        HasRisen (S.faults store.old) (S.faults store.new)) }
+    ensures reads { OnlyReads S.content S.doubt S.faults S.may_leave store.old store.new }
+    ensures cause { IfErr result (IsCounted S.faults store.old store.new) }
 {
     let (stored, own_rows) = plan_and_count(store, operator, &put.id)?;
     let needed = needs_conflict(put, moment, stored.as_ref(), own_rows, ceiling);
@@ -138,13 +130,8 @@ fn conflict_if<S: PlanStore>(
     ensures value { IsHonest (S.doubt store.new) → IfOk result (λ meeting.
         meeting ≡ cond needed (conflict_in permitted.now (S.content store.old) operator.now
         put.now.id put.now.area put.now.priority) None) }
-    ensures same { S.content store.new ≡ S.content store.old }
-    ensures crash { IsHonest (S.doubt store.new) →
-        LeavesNoMore (S.may_leave store.old) (S.may_leave store.new) }
-    ensures doubt { S.doubt store.old ≤ S.doubt store.new }
-    ensures counted { S.faults store.old ≤ S.faults store.new }
-    ensures cause { IfErr result (λ e. e ≡ StoreFault.Store →
-        HasRisen (S.faults store.old) (S.faults store.new)) }
+    ensures reads { OnlyReads S.content S.doubt S.faults S.may_leave store.old store.new }
+    ensures cause { IfErr result (IsCounted S.faults store.old store.new) }
 {
     if !needed {
         return Ok(None);
@@ -162,13 +149,8 @@ fn plan_and_count<S: PlanStore>(
         own.0 ≡ stored_of id.now (plans_of operator.now (S.content store.old))) }
     ensures count { IsHonest (S.doubt store.new) → IfOk result (λ own. own.0 ≡ None →
         own.1 ≡ length (plans_of operator.now (S.content store.old))) }
-    ensures same { S.content store.new ≡ S.content store.old }
-    ensures crash { IsHonest (S.doubt store.new) →
-        LeavesNoMore (S.may_leave store.old) (S.may_leave store.new) }
-    ensures doubt { S.doubt store.old ≤ S.doubt store.new }
-    ensures counted { S.faults store.old ≤ S.faults store.new }
-    ensures cause { IfErr result (λ e. e ≡ StoreFault.Store →
-        HasRisen (S.faults store.old) (S.faults store.new)) }
+    ensures reads { OnlyReads S.content S.doubt S.faults S.may_leave store.old store.new }
+    ensures cause { IfErr result (IsCounted S.faults store.old store.new) }
 {
     let stored = store.plan(operator, id)?;
     if stored.is_some() {

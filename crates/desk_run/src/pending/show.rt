@@ -1,8 +1,10 @@
 //! Plans that are shown to their operator.
 
 ghost use Rattle.std.specs.Prelude.{◌≡◌, ◌≤◌, map, IfOk, IfErr};
-ghost use Rattle.desk_store.specs.Faults.{IsHonest, HasRisen};
-ghost use Rattle.desk_store.specs.Crashes.{LeavesNoMore};
+ghost use Rattle.desk_run.specs.Faults.{IsStoreCounted};
+ghost use Rattle.desk_store.specs.Frames.{OnlyReads};
+ghost use Rattle.desk_store.specs.Faults.{IsHonest, IsCounted};
+
 ghost use Rattle.desk_store.specs.World.{held, plans_of, stored_of};
 ghost use Rattle.desk_run.specs.Calls.{Readies};
 ghost use Rattle.desk_run.specs.Verdicts.{conflict_shown_in, list_ruling, show_ruling, shown_in};
@@ -30,13 +32,8 @@ pub fn ready_list<S: PlanStore>(
     ensures value { IsHonest (S.doubt store.new) → Readies (S.content store.old) operator.now
         (list_ruling permitted.now (plans_of operator.now (S.content store.old))
         (held (S.content store.old) operator.now)) result }
-    ensures same { S.content store.new ≡ S.content store.old }
-    ensures crash { IsHonest (S.doubt store.new) →
-        LeavesNoMore (S.may_leave store.old) (S.may_leave store.new) }
-    ensures doubt { S.doubt store.old ≤ S.doubt store.new }
-    ensures counted { S.faults store.old ≤ S.faults store.new }
-    ensures cause { IfErr result (λ e. e ≡ DeskFault.Store →
-        HasRisen (S.faults store.old) (S.faults store.new)) }
+    ensures reads { OnlyReads S.content S.doubt S.faults S.may_leave store.old store.new }
+    ensures cause { IfErr result (IsStoreCounted S.faults store.old store.new) }
 {
     let plans = own_shown(alloc, store, permitted, operator)?;
     Ok(Pending {
@@ -55,13 +52,8 @@ fn own_shown<S: PlanStore>(
     ensures value { IsHonest (S.doubt store.new) → IfOk result (λ plans.
         plans.items ≡ map (shown_in permitted.now (S.content store.old) operator.now)
         (plans_of operator.now (S.content store.old))) }
-    ensures same { S.content store.new ≡ S.content store.old }
-    ensures crash { IsHonest (S.doubt store.new) →
-        LeavesNoMore (S.may_leave store.old) (S.may_leave store.new) }
-    ensures doubt { S.doubt store.old ≤ S.doubt store.new }
-    ensures counted { S.faults store.old ≤ S.faults store.new }
-    ensures cause { IfErr result (λ e. e ≡ StoreFault.Store →
-        HasRisen (S.faults store.old) (S.faults store.new)) }
+    ensures reads { OnlyReads S.content S.doubt S.faults S.may_leave store.old store.new }
+    ensures cause { IfErr result (IsCounted S.faults store.old store.new) }
 {
     let rows = store.own_plans(operator)?;
     shown_all(alloc, store, permitted, operator, &rows)
@@ -78,13 +70,8 @@ pub fn ready_show<S: PlanStore>(
         (show_ruling permitted.now (plans_of operator.now (S.content store.old))
         (held (S.content store.old) operator.now)
         (stored_of id.now (plans_of operator.now (S.content store.old)))) result }
-    ensures same { S.content store.new ≡ S.content store.old }
-    ensures crash { IsHonest (S.doubt store.new) →
-        LeavesNoMore (S.may_leave store.old) (S.may_leave store.new) }
-    ensures doubt { S.doubt store.old ≤ S.doubt store.new }
-    ensures counted { S.faults store.old ≤ S.faults store.new }
-    ensures cause { IfErr result (λ e. e ≡ DeskFault.Store →
-        HasRisen (S.faults store.old) (S.faults store.new)) }
+    ensures reads { OnlyReads S.content S.doubt S.faults S.may_leave store.old store.new }
+    ensures cause { IfErr result (IsStoreCounted S.faults store.old store.new) }
 {
     let Some(row) = store.plan(operator, id)? else {
         return Err(DeskFault::NoSuchPlan);
@@ -106,13 +93,8 @@ fn shown_all<S: PlanStore>(
 ) -> Result<Vec<Shown>, StoreFault>
     ensures value { IsHonest (S.doubt store.new) → IfOk result (λ plans.
         plans.items ≡ map (shown_in permitted.now (S.content store.old) operator.now) rows.now) }
-    ensures same { S.content store.new ≡ S.content store.old }
-    ensures crash { IsHonest (S.doubt store.new) →
-        LeavesNoMore (S.may_leave store.old) (S.may_leave store.new) }
-    ensures doubt { S.doubt store.old ≤ S.doubt store.new }
-    ensures counted { S.faults store.old ≤ S.faults store.new }
-    ensures cause { IfErr result (λ e. e ≡ StoreFault.Store →
-        HasRisen (S.faults store.old) (S.faults store.new)) }
+    ensures reads { OnlyReads S.content S.doubt S.faults S.may_leave store.old store.new }
+    ensures cause { IfErr result (IsCounted S.faults store.old store.new) }
 {
     let mut plans = Vec::new(alloc);
     for row in rows {
@@ -130,13 +112,8 @@ fn shown<S: PlanStore>(
 ) -> Result<Shown, StoreFault>
     ensures value { IsHonest (S.doubt store.new) → IfOk result (λ shown.
         shown ≡ shown_in permitted.now (S.content store.old) operator.now row.now) }
-    ensures same { S.content store.new ≡ S.content store.old }
-    ensures crash { IsHonest (S.doubt store.new) →
-        LeavesNoMore (S.may_leave store.old) (S.may_leave store.new) }
-    ensures doubt { S.doubt store.old ≤ S.doubt store.new }
-    ensures counted { S.faults store.old ≤ S.faults store.new }
-    ensures cause { IfErr result (λ e. e ≡ StoreFault.Store →
-        HasRisen (S.faults store.old) (S.faults store.new)) }
+    ensures reads { OnlyReads S.content S.doubt S.faults S.may_leave store.old store.new }
+    ensures cause { IfErr result (IsCounted S.faults store.old store.new) }
 {
     let conflict = shown_conflict(store, permitted, operator, row)?;
     Ok(Shown {
@@ -155,13 +132,8 @@ fn shown_conflict<S: PlanStore>(
 ) -> Result<Option<Meeting>, StoreFault>
     ensures value { IsHonest (S.doubt store.new) → IfOk result (λ conflict.
         conflict ≡ conflict_shown_in permitted.now (S.content store.old) operator.now row.now) }
-    ensures same { S.content store.new ≡ S.content store.old }
-    ensures crash { IsHonest (S.doubt store.new) →
-        LeavesNoMore (S.may_leave store.old) (S.may_leave store.new) }
-    ensures doubt { S.doubt store.old ≤ S.doubt store.new }
-    ensures counted { S.faults store.old ≤ S.faults store.new }
-    ensures cause { IfErr result (λ e. e ≡ StoreFault.Store →
-        HasRisen (S.faults store.old) (S.faults store.new)) }
+    ensures reads { OnlyReads S.content S.doubt S.faults S.may_leave store.old store.new }
+    ensures cause { IfErr result (IsCounted S.faults store.old store.new) }
 {
     if !row.usage.is_live() {
         return Ok(None);

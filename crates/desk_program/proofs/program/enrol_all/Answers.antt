@@ -17,13 +17,13 @@ loop-enrolment-preserved g c =
     record {
       listed = λ h. c.in_ok-enrol.ensures.ok h
           ∙ ap (λ v. enrolled v e.operator e.ceiling)
-          (c.loop-enrolment.invariant.listed (was_honest c.enrol.ensures.doubt h))
+          (c.loop-enrolment.invariant.listed (was_honest c.enrol.ensures.remembered.doubt h))
           ∙ sym (one_more (take index es) w e)
           ∙ ap (λ x. with_operators w (take index es ++ x ∷ [])) c.enrolment-item.is
           ∙ ap (with_operators w) (sym (take_more es index e c.loop-enrolment-test.true));
       settled = λ h was. c.in_ok-enrol.ensures.kept h;
-      doubt = omega (arith, c.loop-enrolment.invariant.doubt, c.enrol.ensures.doubt);
-      counted = omega (arith, c.loop-enrolment.invariant.counted, c.enrol.ensures.counted);
+      doubt = omega (arith, c.loop-enrolment.invariant.doubt, c.enrol.ensures.remembered.doubt);
+      counted = omega (arith, c.loop-enrolment.invariant.counted, c.enrol.ensures.remembered.counted);
     }
 
 pub returns-in_err-enrol-clause-crash : goal.returns-in_err-enrol-clause-crash
@@ -33,14 +33,14 @@ returns-in_err-enrol-clause-crash g c = λ p settled.
     let e = c.enrolment-item.result in
     let w = world_of g.S.PlanStore.content c.args.desk.now in
     let v = world_of g.S.PlanStore.content c.loop-enrolment.desk in
-    let before = was_honest c.enrol.ensures.doubt p in
+    let before = was_honest c.enrol.ensures.remembered.doubt p in
     let listed = c.loop-enrolment.invariant.listed in
     on_err c.from_residual.result
     (kept_so_far (IsHonest (g.S.PlanStore.doubt c.enrol.new.self.store)) es w v
     (world_of g.S.PlanStore.content c.enrol.new.self) e index
     (g.S.PlanStore.may_leave c.loop-enrolment.desk.store) (g.S.PlanStore.may_leave c.enrol.new.self.store)
     c.loop-enrolment-test.true (λ h. c.in_err-enrol.ensures.err)
-    (λ h. listed (was_honest c.enrol.ensures.doubt h))
+    (λ h. listed (was_honest c.enrol.ensures.remembered.doubt h))
     (ap (λ x. enrolled x e.operator e.ceiling) (listed before) ∙ sym (one_more (take index es) w e)
     ∙ ap (λ x. with_operators w (take index es ++ x ∷ [])) c.enrolment-item.is
     ∙ ap (with_operators w) (sym (take_more es index e c.loop-enrolment-test.true)))

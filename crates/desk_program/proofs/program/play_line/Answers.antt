@@ -25,7 +25,7 @@ returns-clause-played g c =
       answered = played.answered;
       status_is = c.conclude-2.ensures.status ∙ c.done_after.ensures;
       played = λ h.
-          let listed = c.in_default.ensures.ok (was_honest c.play_all-played.ensures.doubt h)
+          let listed = c.in_default.ensures.ok (was_honest c.play_all-played.ensures.remembered.doubt h)
           ∙ ap (with_operators permitted) c.deref.ensures.value in
           subst (λ m. HasPlayed honest played.ended played.answered old new out now
           (with_operators permitted c.args.play.now.enrolments.items) m after)
@@ -36,7 +36,7 @@ returns-clause-played g c =
 
 pub returns-clause-kept : goal.returns-clause-kept
 returns-clause-kept g c = λ p settled found may.
-    let before = was_honest c.play_all-played.ensures.doubt p in
+    let before = was_honest c.play_all-played.ensures.remembered.doubt p in
     let played = c.play_all-played.result in
     let w = world_of g.S.PlanStore.content c.args.desk.now in
     run_kept (IsHonest (g.S.PlanStore.doubt c.play_all-played.new.desk.store)) c.args.play.now _ played.ended
@@ -46,7 +46,7 @@ returns-clause-kept g c = λ p settled found may.
     (world_of g.S.PlanStore.content c.play_all-played.new.desk) _
     (c.conclude-2.ensures.status ∙ c.done_after.ensures)
     (same_moment c.args.play.now.moment c.requires.moment)
-    (λ h. c.in_default.ensures.ok (was_honest c.play_all-played.ensures.doubt h)
+    (λ h. c.in_default.ensures.ok (was_honest c.play_all-played.ensures.remembered.doubt h)
     ∙ ap (with_operators (permitting w c.args.play.now.permitted)) c.deref.ensures.value)
     c.play_all-played.ensures.played p found
     (c.play_all-played.ensures.kept p (c.in_default.ensures.kept before settled) found may)

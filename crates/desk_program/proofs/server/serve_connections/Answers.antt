@@ -11,7 +11,7 @@ pub returns-in_err-serve_connection-clause-kept : goal.returns-in_err-serve_conn
 returns-in_err-serve_connection-clause-kept g c =
     both_kept (IsHonest (g.S.PlanStore.doubt c.loop-before.desk.store))
     (IsHonest (g.S.PlanStore.doubt c.serve_connection.new.desk.store))
-    (was_honest c.serve_connection.ensures.doubt) (Ok tt) c.serve_connection.result c.from_residual.result
+    (was_honest c.serve_connection.ensures.remembered.doubt) (Ok tt) c.serve_connection.result c.from_residual.result
     c.loop-before.before 1 c.args.count _ _ _ _ _ _ _ _ _ c.loop-before.invariant.kept
     c.serve_connection.ensures.kept (omega (arith, c.loop-before-test.true))
     (λ xs ys first then. stops_by c.from_residual.result c.in_err-serve_connection.field-0.0
@@ -25,13 +25,13 @@ pub loop-before-preserved : goal.loop-before-preserved
 loop-before-preserved g c = record {
   kept = both_kept (IsHonest (g.S.PlanStore.doubt c.loop-before.desk.store))
       (IsHonest (g.S.PlanStore.doubt c.serve_connection.new.desk.store))
-      (was_honest c.serve_connection.ensures.doubt) (Ok tt) c.serve_connection.result (Ok tt)
+      (was_honest c.serve_connection.ensures.remembered.doubt) (Ok tt) c.serve_connection.result (Ok tt)
       c.loop-before.before 1 (c.loop-before.before + 1) _ _ _ _ _ _ _ _ _ c.loop-before.invariant.kept
       c.serve_connection.ensures.kept (omega arith)
       (λ xs ys. goes_on_by (tt {0}) c.in_ok-serve_connection.field-0 (tt {0}) c.serve_connection.result
       c.in_ok-serve_connection.was c.loop-before.before 1 xs ys);
-  doubt = omega (arith, c.loop-before.invariant.doubt, c.serve_connection.ensures.doubt);
-  counted = omega (arith, c.loop-before.invariant.counted, c.serve_connection.ensures.counted);
+  doubt = omega (arith, c.loop-before.invariant.doubt, c.serve_connection.ensures.remembered.doubt);
+  counted = omega (arith, c.loop-before.invariant.counted, c.serve_connection.ensures.remembered.counted);
 }
 
 pub returns-clause-kept : goal.returns-clause-kept

@@ -36,7 +36,7 @@ returns-clause-served g c =
     let after = world_of g.S.PlanStore.content c.serve_connections.new.desk in
     inl (record {
       begun = begun;
-      listed = λ h. c.in_ok-set_up.ensures.ok (was_honest c.serve_connections.ensures.doubt h)
+      listed = λ h. c.in_ok-set_up.ensures.ok (was_honest c.serve_connections.ensures.remembered.doubt h)
           ∙ ap (with_operators (permitting w c.args.line.now.permitted)) c.deref.ensures.value;
       taken = subst (λ v. AreTaken honest c.serve_connections.result c.args.line.now.connections v
           (g.P.Port.taken c.serve_connections.new.port) begun after) c.in_ok-listen.ensures.same
@@ -69,14 +69,14 @@ returns-in_err-routes-clause-kept g c = λ p settled.
 
 pub returns-clause-kept : goal.returns-clause-kept
 returns-clause-kept g c = λ p settled.
-    let listed = was_honest c.serve_connections.ensures.doubt p in
+    let listed = was_honest c.serve_connections.ensures.remembered.doubt p in
     port_kept (IsHonest (g.S.PlanStore.doubt c.serve_connections.new.desk.store)) c.serve_connections.result
     c.args.line.now (world_of g.S.PlanStore.content c.args.desk.now)
     (world_of g.S.PlanStore.content c.set_up.new.desk)
     (world_of g.S.PlanStore.content c.serve_connections.new.desk)
     (g.S.PlanStore.may_leave c.set_up.new.desk.store)
     (g.S.PlanStore.may_leave c.serve_connections.new.desk.store) p
-    (λ h. c.in_ok-set_up.ensures.ok (was_honest c.serve_connections.ensures.doubt h)
+    (λ h. c.in_ok-set_up.ensures.ok (was_honest c.serve_connections.ensures.remembered.doubt h)
     ∙ ap (with_operators (permitting (world_of g.S.PlanStore.content c.args.desk.now)
     c.args.line.now.permitted)) c.deref.ensures.value) (c.in_ok-set_up.ensures.kept listed settled)
     _ _ _ c.in_ok-listen.ensures.same c.serve_connections.ensures.kept

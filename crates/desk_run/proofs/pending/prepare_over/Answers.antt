@@ -20,31 +20,31 @@ returns-in-Status-clause-value g c = λ honest.
 
 pub returns-in-Put-clause-value : goal.returns-in-Put-clause-value
 returns-in-Put-clause-value g c = λ honest.
-    let listing = was_honest c.ready_put.ensures.doubt honest in
+    let listing = was_honest c.ready_put.ensures.reads.doubt honest in
     let before = with_content c.args.permitted.now (g.S.PlanStore.content c.args.store.now) in
     let asked = c.args.asked.now in
     prepares_from before c.args.moment asked c.in-Some.ceiling c.ready_put.result
     (sym (c.in_ok-ceiling.ensures.value listing) ∙ c.in-Some.is)
     (put_readies before.permitted (g.S.PlanStore.content c.ceiling.new.self) before.content _ c.args.moment
     asked c.in-Put.put
-    c.in-Some.ceiling c.ready_put.result c.ceiling.ensures.same
+    c.in-Some.ceiling c.ready_put.result c.ceiling.ensures.reads.same
     (to_z-of_z w64 c.args.moment c.ranges.moment) c.in-Put.is (c.ready_put.ensures.value honest))
 
 pub returns-in-Delete-clause-value : goal.returns-in-Delete-clause-value
 returns-in-Delete-clause-value g c = λ honest.
-    let listing = was_honest c.ready_delete.ensures.doubt honest in
+    let listing = was_honest c.ready_delete.ensures.reads.doubt honest in
     let before = with_content c.args.permitted.now (g.S.PlanStore.content c.args.store.now) in
     let asked = c.args.asked.now in
     prepares_from before c.args.moment asked c.in-Some.ceiling c.ready_delete.result
     (sym (c.in_ok-ceiling.ensures.value listing) ∙ c.in-Some.is)
     (delete_readies before.permitted (g.S.PlanStore.content c.ceiling.new.self) before.content c.args.moment
     asked c.in-Delete.id
-    c.in-Some.ceiling c.ready_delete.result c.ceiling.ensures.same
+    c.in-Some.ceiling c.ready_delete.result c.ceiling.ensures.reads.same
     c.in-Delete.is (c.ready_delete.ensures.value honest))
 
 pub returns-in-List-clause-value : goal.returns-in-List-clause-value
 returns-in-List-clause-value g c = λ honest.
-    let listing = was_honest c.ready_list.ensures.doubt honest in
+    let listing = was_honest c.ready_list.ensures.reads.doubt honest in
     let before = with_content c.args.permitted.now (g.S.PlanStore.content c.args.store.now) in
     let asked = c.args.asked.now in
     prepares_from before c.args.moment asked c.in-Some.ceiling c.ready_list.result
@@ -52,24 +52,24 @@ returns-in-List-clause-value g c = λ honest.
     (list_readies before.permitted (g.S.PlanStore.content c.ceiling.new.self) before.content c.args.moment
     asked
     c.in-Some.ceiling
-    c.ready_list.result c.ceiling.ensures.same
+    c.ready_list.result c.ceiling.ensures.reads.same
     c.in-List.is (c.ready_list.ensures.value honest))
 
 pub returns-in-Show-clause-value : goal.returns-in-Show-clause-value
 returns-in-Show-clause-value g c = λ honest.
-    let listing = was_honest c.ready_show.ensures.doubt honest in
+    let listing = was_honest c.ready_show.ensures.reads.doubt honest in
     let before = with_content c.args.permitted.now (g.S.PlanStore.content c.args.store.now) in
     let asked = c.args.asked.now in
     prepares_from before c.args.moment asked c.in-Some.ceiling c.ready_show.result
     (sym (c.in_ok-ceiling.ensures.value listing) ∙ c.in-Some.is)
     (show_readies before.permitted (g.S.PlanStore.content c.ceiling.new.self) before.content c.args.moment
     asked c.in-Show.id
-    c.in-Some.ceiling c.ready_show.result c.ceiling.ensures.same
+    c.in-Some.ceiling c.ready_show.result c.ceiling.ensures.reads.same
     c.in-Show.is (c.ready_show.ensures.value honest))
 
 pub returns-in-Clear-clause-value : goal.returns-in-Clear-clause-value
 returns-in-Clear-clause-value g c = λ honest.
-    let listing = was_honest c.ready_clear.ensures.doubt honest in
+    let listing = was_honest c.ready_clear.ensures.reads.doubt honest in
     let before = with_content c.args.permitted.now (g.S.PlanStore.content c.args.store.now) in
     let asked = c.args.asked.now in
     prepares_from before c.args.moment asked c.in-Some.ceiling c.ready_clear.result
@@ -77,5 +77,5 @@ returns-in-Clear-clause-value g c = λ honest.
     (clear_readies before.permitted (g.S.PlanStore.content c.ceiling.new.self) before.content c.args.moment
     asked
     c.in-Clear.extent
-    c.in-Some.ceiling c.ready_clear.result c.ceiling.ensures.same
+    c.in-Some.ceiling c.ready_clear.result c.ceiling.ensures.reads.same
     c.in-Clear.is (c.ready_clear.ensures.value honest))

@@ -29,13 +29,13 @@ loop-moment-preserved g c =
           (sym c.push_reserved.ensures.items)
           (one_answered (world_of g.S.PlanStore.content c.args.desk.now) w after calls n
           c.loop-moment.outcomes.items
-          call c.in-Ok.outcome (c.loop-moment.invariant.answered (was_honest c.call.ensures.doubt honest))
+          call c.in-Ok.outcome (c.loop-moment.invariant.answered (was_honest c.call.ensures.remembered.doubt honest))
           c.loop-moment-test.true c.loop-moment-item.is done.0 done.1);
       count = ap length c.push_reserved.ensures.items
           ∙ length-append c.loop-moment.outcomes.items (c.in-Ok.outcome ∷ [])
           ∙ ap (λ k. k + 1) c.loop-moment.invariant.count;
       room = subst (λ k. length calls ≤ k) (sym c.push_reserved.ensures.capacity)
           c.loop-moment.invariant.room;
-      doubt = omega (arith, c.loop-moment.invariant.doubt, c.call.ensures.doubt);
-      counted = omega (arith, c.loop-moment.invariant.counted, c.call.ensures.counted);
+      doubt = omega (arith, c.loop-moment.invariant.doubt, c.call.ensures.remembered.doubt);
+      counted = omega (arith, c.loop-moment.invariant.counted, c.call.ensures.remembered.counted);
     }

@@ -17,7 +17,7 @@ returns-in-Ok-clause-bytes g c = λ honest.
     done_if_ok (λ r. r.bytes.items) c.answer_pending.result w
     (world_of g.S.PlanStore.content c.answer_pending.new.desk) c.args.moment c.args.asked.now c.in-Ok.pending
     (subst (λ m. IsPending w m c.args.asked.now c.in-Ok.pending) same
-    (c.in-Ok.ensures.value (was_honest c.answer_pending.ensures.doubt honest)))
+    (c.in-Ok.ensures.value (was_honest c.answer_pending.ensures.remembered.doubt honest)))
     c.answer_pending.ensures.bytes
     (on_ok_weaker c.answer_pending.result (λ e. e ∙ ap (λ v. world_committed v c.in-Ok.pending)
     c.prepare.ensures.same) (c.answer_pending.ensures.ok honest))
@@ -29,7 +29,7 @@ returns-in-Ok-clause-status g c = λ honest.
     IfOk-weaker c.answer_pending.result _ _ (λ r told. told
     ∙ status_pending w c.args.moment c.args.asked.now c.in-Ok.pending
     (subst (λ m. IsPending w m c.args.asked.now c.in-Ok.pending) same
-    (c.in-Ok.ensures.value (was_honest c.answer_pending.ensures.doubt honest))))
+    (c.in-Ok.ensures.value (was_honest c.answer_pending.ensures.remembered.doubt honest))))
     c.answer_pending.ensures.status
 
 pub returns-in-Err-UnknownOperator-clause-bytes : goal.returns-in-Err-UnknownOperator-clause-bytes
@@ -93,7 +93,7 @@ pub returns-in-Ok-clause-crash : goal.returns-in-Ok-clause-crash
 returns-in-Ok-clause-crash g c = λ honest.
     let w = world_of g.S.PlanStore.content c.args.desk.now in
     let pending = c.in-Ok.pending in
-    let before = was_honest c.answer_pending.ensures.doubt honest in
+    let before = was_honest c.answer_pending.ensures.remembered.doubt honest in
     let prepared = subst (λ m. IsPending w m c.args.asked.now pending)
     (to_z-of_z w64 c.args.moment c.ranges.moment) (c.in-Ok.ensures.value before) in
     old_or_changed (c.prepare.ensures.crash before) (c.answer_pending.ensures.crash honest)
@@ -103,7 +103,7 @@ returns-in-Ok-clause-crash g c = λ honest.
 pub returns-in-Ok-clause-kept : goal.returns-in-Ok-clause-kept
 returns-in-Ok-clause-kept g c = λ honest.
     on_ok_weaker c.answer_pending.result (λ keeps settled. keeps
-    (still_settled (c.prepare.ensures.crash (was_honest c.answer_pending.ensures.doubt honest)) settled
+    (still_settled (c.prepare.ensures.crash (was_honest c.answer_pending.ensures.remembered.doubt honest)) settled
     (ap (λ v. v.content) c.prepare.ensures.same)))
     (c.answer_pending.ensures.kept honest)
 
@@ -123,7 +123,7 @@ pub returns-in-Ok-clause-settled : goal.returns-in-Ok-clause-settled
 returns-in-Ok-clause-settled g c = λ honest.
     on_ok_weaker c.answer_pending.result
     (settled_after g.S.PlanStore.content g.S.PlanStore.may_leave _ _ _
-    (c.prepare.ensures.crash (was_honest c.answer_pending.ensures.doubt honest)) c.prepare.ensures.same)
+    (c.prepare.ensures.crash (was_honest c.answer_pending.ensures.remembered.doubt honest)) c.prepare.ensures.same)
     (c.answer_pending.ensures.settled honest)
 
 pub returns-in-Err-UnknownOperator-clause-settled : goal.returns-in-Err-UnknownOperator-clause-settled

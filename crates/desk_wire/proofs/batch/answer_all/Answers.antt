@@ -39,17 +39,17 @@ loop-moment-preserved g c =
           (sym c.push_reserved.ensures.items)
           (one_answered (λ q. (q.0, q.1.items)) (λ v. v.items) w now after requests n
           c.loop-moment.answers.items r c.in-Ok.field-0.bytes
-          (c.loop-moment.invariant.answered (was_honest c.answer_request-answer.ensures.doubt honest))
+          (c.loop-moment.invariant.answered (was_honest c.answer_request-answer.ensures.remembered.doubt honest))
           c.loop-moment-test.true c.loop-moment-item.is done);
       settled = λ honest h. c.in-Ok.ensures.kept honest (is_none_by c.in-Ok.field-0.error none)
-          (c.loop-moment.invariant.settled (was_honest c.answer_request-answer.ensures.doubt honest) h);
+          (c.loop-moment.invariant.settled (was_honest c.answer_request-answer.ensures.remembered.doubt honest) h);
       count = ap length c.push_reserved.ensures.items
           ∙ length-append c.loop-moment.answers.items (c.in-Ok.field-0.bytes ∷ [])
           ∙ ap (λ k. k + 1) c.loop-moment.invariant.count;
       room = subst (λ k. length requests ≤ k) (sym c.push_reserved.ensures.capacity)
           c.loop-moment.invariant.room;
-      doubt = omega (arith, c.loop-moment.invariant.doubt, c.answer_request-answer.ensures.doubt);
-      counted = omega (arith, c.loop-moment.invariant.counted, c.answer_request-answer.ensures.counted);
+      doubt = omega (arith, c.loop-moment.invariant.doubt, c.answer_request-answer.ensures.remembered.doubt);
+      counted = omega (arith, c.loop-moment.invariant.counted, c.answer_request-answer.ensures.remembered.counted);
     }
 
 pub returns-in_default-clause-answers : goal.returns-in_default-clause-answers
@@ -58,7 +58,7 @@ returns-in_default-clause-answers g c = λ honest.
     (world_of g.S.PlanStore.content c.loop-moment.desk)
     (world_of g.S.PlanStore.content c.answer_request-answer.new.desk)
     c.args.requests.now c.loop-moment.moment-index c.loop-moment.answers.items
-    (c.loop-moment.invariant.answered (was_honest c.answer_request-answer.ensures.doubt honest))
+    (c.loop-moment.invariant.answered (was_honest c.answer_request-answer.ensures.remembered.doubt honest))
     c.loop-moment-test.true c.in_default.ensures.err
 
 pub returns-then-is_some-clause-answers : goal.returns-then-is_some-clause-answers
@@ -74,7 +74,7 @@ returns-then-is_some-clause-answers g c = λ honest.
     _ _
     c.args.requests.now c.loop-moment.moment-index c.loop-moment.answers.items c.in-Ok.field-0.bytes
     c.in-Ok.field-0.error some (c.in-Ok.ensures.bytes honest)
-    (c.loop-moment.invariant.answered (was_honest c.answer_request-answer.ensures.doubt honest))
+    (c.loop-moment.invariant.answered (was_honest c.answer_request-answer.ensures.remembered.doubt honest))
     c.loop-moment-test.true)
 
 pub returns-clause-answers : goal.returns-clause-answers
@@ -104,7 +104,7 @@ returns-in_default-clause-kept g c = λ honest settled found may.
     let r = c.loop-moment-item.result in
     let w = world_of g.S.PlanStore.content c.args.desk.now in
     let now = world_of g.S.PlanStore.content c.loop-moment.desk in
-    let old = was_honest c.answer_request-answer.ensures.doubt honest in
+    let old = was_honest c.answer_request-answer.ensures.remembered.doubt honest in
     let same = same_moment r.0 (is_moment_at (λ q. q.0) requests n r c.loop-moment-test.true
     c.loop-moment-item.is c.requires) in
     let finds = found_next (λ q. (q.0, q.1.items)) (λ v. v.items) w now requests n
@@ -125,7 +125,7 @@ returns-then-is_some-clause-kept g c = λ honest settled found may.
     let r = c.loop-moment-item.result in
     let w = world_of g.S.PlanStore.content c.args.desk.now in
     let now = world_of g.S.PlanStore.content c.loop-moment.desk in
-    let old = was_honest c.answer_request-answer.ensures.doubt honest in
+    let old = was_honest c.answer_request-answer.ensures.remembered.doubt honest in
     let same = same_moment r.0 (is_moment_at (λ q. q.0) requests n r c.loop-moment-test.true
     c.loop-moment-item.is c.requires) in
     let finds = found_next (λ q. (q.0, q.1.items)) (λ v. v.items) w now requests n

@@ -38,7 +38,7 @@ returns-then-is_server_error-clause-played g c =
           (g.R.Read.remaining c.loop-before.input) (g.W.Write.contents c.args.output.now)
           (g.W.Write.contents c.loop-before.output) (world_of g.S.PlanStore.content c.args.desk.now) m w) same
           (played_if (IsHonest (g.S.PlanStore.doubt c.loop-before.desk.store)) honest _ _ _ _ _ _ _ _
-          (was_honest c.serve_next.ensures.doubt) c.loop-before.invariant.played);
+          (was_honest c.serve_next.ensures.remembered.doubt) c.loop-before.invariant.played);
       last = (
         refl,
         broken_next honest _ _ _ _ w _ after c.in-Answered.status c.in-Answered.framed served
@@ -53,7 +53,7 @@ loop-before-preserved g c =
     let after = world_of g.S.PlanStore.content c.serve_next.new.desk in
     let served = rw c.in-Answered.is at c.in-Ok.ensures.served in
     let first = played_if (IsHonest (g.S.PlanStore.doubt c.loop-before.desk.store)) honest _ _ _ _ _ _ _ _
-    (was_honest c.serve_next.ensures.doubt) c.loop-before.invariant.played in
+    (was_honest c.serve_next.ensures.remembered.doubt) c.loop-before.invariant.played in
     record {
       played = one_played honest c.loop-before.before (g.R.Read.remaining c.args.input.now)
           (g.R.Read.remaining c.loop-before.input) (g.R.Read.remaining c.serve_next.new.input)
@@ -65,12 +65,12 @@ loop-before-preserved g c =
           c.if-not-framed.false;
       settled = λ p h. (rw c.in-Answered.is at c.in-Ok.ensures.kept) p
           (not_500 c.in-Answered.status (sym c.is_server_error.ensures ∙ c.if-is_server_error.false))
-          (c.loop-before.invariant.settled (was_honest c.serve_next.ensures.doubt p) h);
-      doubt = omega (arith, c.loop-before.invariant.doubt, c.serve_next.ensures.doubt);
+          (c.loop-before.invariant.settled (was_honest c.serve_next.ensures.remembered.doubt p) h);
+      doubt = omega (arith, c.loop-before.invariant.doubt, c.serve_next.ensures.remembered.doubt);
       grown = grows_more (g.W.Write.contents c.args.output.now) (g.W.Write.contents c.loop-before.output)
           (g.W.Write.contents c.serve_next.new.output) served.answer c.loop-before.invariant.grown
           served.written;
-      counted = omega (arith, c.loop-before.invariant.counted, c.serve_next.ensures.counted);
+      counted = omega (arith, c.loop-before.invariant.counted, c.serve_next.ensures.remembered.counted);
     }
 
 -- what is found is what was settled, or that with one request more
@@ -79,7 +79,7 @@ returns-in-Err-clause-kept g c = λ p settled found may.
     let honest = IsHonest (g.S.PlanStore.doubt c.serve_next.new.desk.store) in
     let w = world_of g.S.PlanStore.content c.loop-before.desk in
     let after = world_of g.S.PlanStore.content c.serve_next.new.desk in
-    let here = c.loop-before.invariant.settled (was_honest c.serve_next.ensures.doubt p) settled in
+    let here = c.loop-before.invariant.settled (was_honest c.serve_next.ensures.remembered.doubt p) settled in
     kept_so honest (Fault c.in-Err.fault) c.loop-before.before c.loop-before.before
     (g.R.Read.remaining c.args.input.now)
     (g.R.Read.remaining c.loop-before.input) (g.R.Read.remaining c.serve_next.new.input)
@@ -88,7 +88,7 @@ returns-in-Err-clause-kept g c = λ p settled found may.
     (to_z w64 (of_z w64 c.args.moment)) c.args.moment found p
     (to_z-of_z w64 c.args.moment c.ranges.moment)
     (played_if (IsHonest (g.S.PlanStore.doubt c.loop-before.desk.store)) honest _ _ _ _ _ _ _ _
-    (was_honest c.serve_next.ensures.doubt) c.loop-before.invariant.played)
+    (was_honest c.serve_next.ensures.remembered.doubt) c.loop-before.invariant.played)
     (refl, c.in-Err.ensures.served)
     (fault_last (g.S.PlanStore.may_leave c.loop-before.desk.store) w after _ _ found c.in-Err.fault
     (λ certain. c.in-Err.ensures.kept p certain here found may) (here found)
@@ -99,7 +99,7 @@ returns-in_default-clause-kept g c = λ p settled found may.
     let honest = IsHonest (g.S.PlanStore.doubt c.serve_next.new.desk.store) in
     let w = world_of g.S.PlanStore.content c.loop-before.desk in
     let after = world_of g.S.PlanStore.content c.serve_next.new.desk in
-    let here = c.loop-before.invariant.settled (was_honest c.serve_next.ensures.doubt p) settled in
+    let here = c.loop-before.invariant.settled (was_honest c.serve_next.ensures.remembered.doubt p) settled in
     let is : c.in-Ok.served ≡ outcome.End = search rules in
     let served = rw is at c.in-Ok.ensures.served in
     kept_so honest End c.loop-before.before c.loop-before.before (g.R.Read.remaining c.args.input.now)
@@ -109,7 +109,7 @@ returns-in_default-clause-kept g c = λ p settled found may.
     (to_z w64 (of_z w64 c.args.moment)) c.args.moment found p
     (to_z-of_z w64 c.args.moment c.ranges.moment)
     (played_if (IsHonest (g.S.PlanStore.doubt c.loop-before.desk.store)) honest _ _ _ _ _ _ _ _
-    (was_honest c.serve_next.ensures.doubt) c.loop-before.invariant.played)
+    (was_honest c.serve_next.ensures.remembered.doubt) c.loop-before.invariant.played)
     (refl, served.0, served.1)
     ((rw is at c.in-Ok.ensures.kept) p tt here found may)
 
@@ -118,7 +118,7 @@ returns-then-is_server_error-clause-kept g c = λ p settled found may.
     let honest = IsHonest (g.S.PlanStore.doubt c.serve_next.new.desk.store) in
     let w = world_of g.S.PlanStore.content c.loop-before.desk in
     let after = world_of g.S.PlanStore.content c.serve_next.new.desk in
-    let here = c.loop-before.invariant.settled (was_honest c.serve_next.ensures.doubt p) settled in
+    let here = c.loop-before.invariant.settled (was_honest c.serve_next.ensures.remembered.doubt p) settled in
     let served = rw c.in-Answered.is at c.in-Ok.ensures.served in
     kept_so honest Broken c.loop-before.before (c.loop-before.before + 1)
     (g.R.Read.remaining c.args.input.now)
@@ -128,7 +128,7 @@ returns-then-is_server_error-clause-kept g c = λ p settled found may.
     (to_z w64 (of_z w64 c.args.moment)) c.args.moment found p
     (to_z-of_z w64 c.args.moment c.ranges.moment)
     (played_if (IsHonest (g.S.PlanStore.doubt c.loop-before.desk.store)) honest _ _ _ _ _ _ _ _
-    (was_honest c.serve_next.ensures.doubt) c.loop-before.invariant.played) (
+    (was_honest c.serve_next.ensures.remembered.doubt) c.loop-before.invariant.played) (
       refl,
       broken_next honest _ _ _ _ w _ after c.in-Answered.status c.in-Answered.framed served
           (is_500 c.in-Answered.status (sym c.is_server_error.ensures ∙ c.if-is_server_error.true)),
@@ -141,7 +141,7 @@ returns-then-not-framed-clause-kept g c = λ p settled found may.
     let honest = IsHonest (g.S.PlanStore.doubt c.serve_next.new.desk.store) in
     let w = world_of g.S.PlanStore.content c.loop-before.desk in
     let after = world_of g.S.PlanStore.content c.serve_next.new.desk in
-    let here = c.loop-before.invariant.settled (was_honest c.serve_next.ensures.doubt p) settled in
+    let here = c.loop-before.invariant.settled (was_honest c.serve_next.ensures.remembered.doubt p) settled in
     let served = rw c.in-Answered.is at c.in-Ok.ensures.served in
     let other = not_500 c.in-Answered.status (sym c.is_server_error.ensures ∙ c.if-is_server_error.false) in
     kept_so honest Unframed c.loop-before.before (c.loop-before.before + 1)
@@ -152,7 +152,7 @@ returns-then-not-framed-clause-kept g c = λ p settled found may.
     (to_z w64 (of_z w64 c.args.moment)) c.args.moment found p
     (to_z-of_z w64 c.args.moment c.ranges.moment)
     (played_if (IsHonest (g.S.PlanStore.doubt c.loop-before.desk.store)) honest _ _ _ _ _ _ _ _
-    (was_honest c.serve_next.ensures.doubt) c.loop-before.invariant.played) (
+    (was_honest c.serve_next.ensures.remembered.doubt) c.loop-before.invariant.played) (
       refl,
       record {
         status = c.in-Answered.status;

@@ -10,7 +10,7 @@ use Rattle.desk_run.proofs.desk.Desk.call.Goals as goal
 pub returns-clause-ok : goal.returns-clause-ok
 returns-clause-ok g c = λ honest.
     let pending = c.in_ok-pending.pending in
-    let prepared = c.in_ok-pending.ensures.value (was_honest c.commit.ensures.doubt honest) in
+    let prepared = c.in_ok-pending.ensures.value (was_honest c.commit.ensures.remembered.doubt honest) in
     let before = world_of g.S.PlanStore.content c.args.self.now in
     on_ok_weaker c.commit.result
     (λ done. done ∙ ap (λ w. world_committed w pending) c.prepare.ensures.same
@@ -24,8 +24,8 @@ returns-clause-crash g c = λ honest.
     let before = world_of g.S.PlanStore.content c.args.self.now in
     let prepared = subst (λ m. IsPending before m c.args.asked.now pending)
     (to_z-of_z w64 c.args.moment c.ranges.moment)
-    (c.in_ok-pending.ensures.value (was_honest c.commit.ensures.doubt honest)) in
-    old_or_changed (c.prepare.ensures.crash (was_honest c.commit.ensures.doubt honest))
+    (c.in_ok-pending.ensures.value (was_honest c.commit.ensures.remembered.doubt honest)) in
+    old_or_changed (c.prepare.ensures.crash (was_honest c.commit.ensures.remembered.doubt honest))
     (c.commit.ensures.crash honest)
     (ap (λ w. (world_committed w pending).content) c.prepare.ensures.same
     ∙ ap (λ w. w.content) prepared.left)
@@ -33,7 +33,7 @@ returns-clause-crash g c = λ honest.
 pub returns-clause-kept : goal.returns-clause-kept
 returns-clause-kept g c = λ honest.
     on_ok_weaker c.commit.result (λ keeps settled. keeps
-    (still_settled (c.prepare.ensures.crash (was_honest c.commit.ensures.doubt honest)) settled
+    (still_settled (c.prepare.ensures.crash (was_honest c.commit.ensures.remembered.doubt honest)) settled
     (ap (λ w. w.content) c.prepare.ensures.same)))
     (c.commit.ensures.kept honest)
 
@@ -41,5 +41,5 @@ pub returns-clause-settled : goal.returns-clause-settled
 returns-clause-settled g c = λ honest.
     on_ok_weaker c.commit.result
     (settled_after g.S.PlanStore.content g.S.PlanStore.may_leave _ _ _
-    (c.prepare.ensures.crash (was_honest c.commit.ensures.doubt honest)) c.prepare.ensures.same)
+    (c.prepare.ensures.crash (was_honest c.commit.ensures.remembered.doubt honest)) c.prepare.ensures.same)
     (c.commit.ensures.settled honest)

@@ -18,4 +18,4 @@ returns-clause-value g c = λ honest.
     c.deref.ensures.value c.in_ok-slabs.ensures.points)))
     (subst AreInOrder listed (c.in_ok-rows.ensures.order honest))
     (subst (λ rows. length rows ≤ max_plans) listed (c.in_ok-rows.ensures.limit honest))
-    (c.requires (was_honest c.own_plans.ensures.doubt honest))
+    (c.requires (was_honest c.own_plans.ensures.reads.doubt honest))

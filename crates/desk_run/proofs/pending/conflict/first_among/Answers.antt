@@ -17,7 +17,7 @@ returns-then-is_some-clause-value g c = λ honest.
     let first = subst
     (λ v. IsFirstAmong c.args.permitted.now v operator id cluster c.args.priority meeting) so_far.same
     (c.in_ok-meeting.ensures.value honest) in
-    so_far.rest (omega (arith, honest, c.in_ok-meeting.ensures.doubt)) meeting
+    so_far.rest (omega (arith, honest, c.in_ok-meeting.ensures.reads.doubt)) meeting
     (met c.args.permitted.now levels c.args.priority c.loop-rest.rest.now cluster
     c.split_cluster.result.1.now c.split_cluster.ensures meeting (sym c.if-is_some.ensures) first)
 
@@ -35,7 +35,7 @@ loop-rest-preserved g c =
     let meeting = c.in_ok-meeting.meeting in
     record {
       rest = λ honest spot first.
-          so_far.rest (omega (arith, honest, c.in_ok-meeting.ensures.doubt)) spot
+          so_far.rest (omega (arith, honest, c.in_ok-meeting.ensures.reads.doubt)) spot
           (passed c.args.permitted.now levels c.args.priority rest cluster later split meeting
           (sym c.if-is_some.ensures)
           (subst (λ v. IsFirstAmong c.args.permitted.now v operator id cluster c.args.priority meeting)
@@ -44,12 +44,12 @@ loop-rest-preserved g c =
           so_far.filled;
       order = later_order c.args.permitted.now levels c.args.priority rest cluster later split
           so_far.order;
-      same = c.in_ok-meeting.ensures.same ∙ so_far.same;
+      same = c.in_ok-meeting.ensures.reads.same ∙ so_far.same;
       crash = λ honest found may.
-          so_far.crash (omega (arith, honest, c.in_ok-meeting.ensures.doubt)) found
-          (c.in_ok-meeting.ensures.crash honest found may);
-      doubt = omega (arith, c.in_ok-meeting.ensures.doubt, so_far.doubt);
-      counted = omega (arith, c.in_ok-meeting.ensures.counted, so_far.counted);
+          so_far.crash (omega (arith, honest, c.in_ok-meeting.ensures.reads.doubt)) found
+          (c.in_ok-meeting.ensures.reads.crash honest found may);
+      doubt = omega (arith, c.in_ok-meeting.ensures.reads.doubt, so_far.doubt);
+      counted = omega (arith, c.in_ok-meeting.ensures.reads.counted, so_far.counted);
     }
 
 pub returns-clause-value : goal.returns-clause-value

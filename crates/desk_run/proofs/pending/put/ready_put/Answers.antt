@@ -6,7 +6,7 @@ use Rattle.desk_run.proofs.pending.put.ready_put.Goals as goal
 
 pub returns-clause-value : goal.returns-clause-value
 returns-clause-value g c = λ honest.
-    let before = was_honest c.verdict_on.ensures.doubt honest in
+    let before = was_honest c.verdict_on.ensures.reads.doubt honest in
     put_ready c.args.permitted.now (g.S.PlanStore.content c.args.store.now) c.args.operator.now
     c.args.put.now _ c.args.moment
     c.args.ceiling c.in_ok-verdict.verdict c.reply_of.result c.in_ok-change.change

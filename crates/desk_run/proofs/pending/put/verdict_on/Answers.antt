@@ -18,7 +18,7 @@ returns-clause-verdict g c = λ honest.
     let needed = c.needs_conflict-needed.result in
     let permitted = c.args.permitted.now in
     let conflict = conflict_in permitted before o put.id put.area put.priority in
-    let counting = was_honest c.conflict_if.ensures.doubt honest in
+    let counting = was_honest c.conflict_if.ensures.reads.doubt honest in
     verdict_is permitted before o put second c.args.moment c.args.ceiling own.stored own.own_rows conflict
     c.decide.result
     (c.decide.ensures ∙ ap (λ s. outcome put second s own.own_rows c.args.ceiling
@@ -31,7 +31,7 @@ returns-clause-verdict g c = λ honest.
     c.needs_conflict-needed.ensures.settled)
     (c.in_ok-meeting.ensures.value honest
     ∙ ap (λ w. cond needed (conflict_in permitted w o put.id put.area put.priority) None)
-    c.plan_and_count.ensures.same))
+    c.plan_and_count.ensures.reads.same))
     (to_z-of_z w64 c.args.moment c.ranges.moment)
     (own.ensures.stored counting)
     (own.ensures.count counting)
