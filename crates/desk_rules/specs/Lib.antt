@@ -9,6 +9,6 @@ pub mod Search
 pub mod Permission
 pub mod Conflict
 pub mod Bridge
-pub mod PlanLaws
 pub mod Replies
 pub mod Sharing
+pub mod laws

@@ -6,8 +6,8 @@ use Rattle.std.proofs.lemmas.List.Sorted.{All-permutation, IsPermutation-sym}
 use Rattle.volume4d.specs.declared.slab.Held.{Held}
 use Rattle.volume4d.specs.Point.{Point}
 use Rattle.volume4d.specs.Slab.{slab_has, top_held}
-use Rattle.volume4d.specs.Level.{greater}
-use Rattle.volume4d.specs.LevelLaws.{greater_assoc, greater_comm, level_where, top_by, top_by-cons}
+use Rattle.volume4d.specs.Level.{greater, level_where, top_by}
+use Rattle.volume4d.specs.laws.Level.{greater_assoc, greater_comm, top_by-cons}
 
 same_max : (n : ℕ) → max n n ≡ n
 same_max n = grind (arith)

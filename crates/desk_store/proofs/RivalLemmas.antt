@@ -9,14 +9,14 @@ use Rattle.volume4d.specs.declared.slab.Held.{Held}
 use Rattle.volume4d.specs.Point.{Point}
 use Rattle.volume4d.specs.Volume.{area_has}
 use Rattle.volume4d.specs.Slab.{slab_has, slabs_have, top_held}
-use Rattle.volume4d.specs.Level.{greater}
-use Rattle.volume4d.specs.LevelLaws.{greater_none, greater_assoc, level_where, top_held-push, top_held-nil}
-use Rattle.desk_rules.specs.PlanLaws.{top_priority-cons, top_priority-nil}
+use Rattle.volume4d.specs.Level.{greater, level_where}
+use Rattle.volume4d.specs.laws.Level.{greater_none, greater_assoc, top_held-push, top_held-nil}
+use Rattle.desk_rules.specs.laws.Plan.{top_priority-cons, top_priority-nil}
 use Rattle.desk_rules.specs.Plan.{is_live, row_holds, top_priority}
 use Rattle.desk_rules.specs.Conflict.{at_least}
 use Rattle.desk_store.specs.World.{Filed}
 use Rattle.desk_store.specs.Rows.{is_own, rival_level, rivals_top}
-use Rattle.desk_store.specs.RivalLaws.{rivals_top-cons, rivals_top-nil}
+use Rattle.desk_store.specs.laws.Rival.{rivals_top-cons, rivals_top-nil}
 
 max_reaches : (n a b : ℕ) → (nat_le n a || nat_le n b) ≡ nat_le n (max a b)
 max_reaches n a b = grind (arith, nat_tests)

@@ -2,7 +2,7 @@
 use Rattle.std.specs.Prelude.{ℕ, List, Bool, not, ◌&&◌, Option, map}
 use Rattle.std.specs.List.{filter}
 use Rattle.volume4d.specs.Point.{Point}
-use Rattle.volume4d.specs.LevelLaws.{level_where}
+use Rattle.volume4d.specs.Level.{level_where}
 use Rattle.desk_rules.specs.Plan.{row_holds, top_priority}
 use Rattle.desk_store.specs.World.{Filed, is_by, has_id}
 

@@ -2,7 +2,7 @@
 
 ghost use Rattle.std.specs.Prelude.{◌≡◌, ◌&&◌, ◌↔◌, false, nat_le, IsTrue, IfOk, OnOk};
 ghost use Rattle.volume4d.specs.Volume.{area_has};
-ghost use Rattle.volume4d.specs.LevelLaws.{level_where};
+ghost use Rattle.volume4d.specs.Level.{level_where};
 ghost use Rattle.volume4d.specs.Slab.{slabs_have};
 ghost use Rattle.desk_rules.specs.Plan.{is_live};
 ghost use Rattle.desk_store.specs.Rivals.{AddLevel, ShareAPoint};

@@ -21,9 +21,9 @@ use Rattle.desk_sql.specs.Rows.{Tables, is_not_of}
 use Rattle.desk_store.specs.World.{Filed, Listed, World, IsWorld, text_cmp, listed_cmp, filed_cmp, rows_by, plans_of, is_by, has_id}
 use Rattle.desk_store.specs.Changes.{is_before, is_after, is_named, put_filed, filed_by, put_row, list_operator, with_plans, with_operator, replaced, closed, close_row, clear_rows}
 use Rattle.desk_store.specs.Rows.{is_own}
-use Rattle.desk_store.specs.OrderLaws.{inserted, all_weaker, all_filter, all_map, all_append}
-use Rattle.desk_store.specs.WorldLaws.{kept}
-use Rattle.desk_store.specs.ChangeLaws.{stays, cleared_plans, close_filed, closed_plans}
+use Rattle.desk_store.specs.laws.Order.{inserted, all_weaker, all_filter, all_map, all_append}
+use Rattle.desk_store.specs.laws.World.{kept}
+use Rattle.desk_store.specs.laws.Change.{stays, cleared_plans, close_filed, closed_plans}
 use Rattle.desk_store.specs.StoreChange.{changed_by, IsFitting}
 use Rattle.desk_store.specs.declared.change.Change.{Change}
 use Rattle.desk_store.specs.declared.change.Change.TheVariants.{Enrol, Put, Close, Clear}

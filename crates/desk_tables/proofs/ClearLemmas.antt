@@ -10,7 +10,7 @@ use Rattle.desk_rules.specs.Plan.{is_live}
 use Rattle.desk_sql.specs.Rows.{Tables, is_of}
 use Rattle.desk_sql.specs.Batches.{RemovesPlans, is_of_none}
 use Rattle.desk_store.specs.World.{Filed, World}
-use Rattle.desk_store.specs.OrderLaws.{all_weaker}
+use Rattle.desk_store.specs.laws.Order.{all_weaker}
 use Rattle.desk_tables.specs.Tables.{id_text, plan_row, plan_rows, volume_rows_from, area_rows, volume_rows, span_row, AreSpanRowsFrom, ArePlanSpanRows, AreSpanRows, AreTables}
 use Rattle.desk_tables.specs.TableChanges.{ClearsRows, is_left}
 

@@ -17,7 +17,7 @@ use Rattle.desk_rules.specs.Plan.{is_live}
 use Rattle.desk_sql.specs.Rows.{is_of, is_not_of}
 use Rattle.desk_store.specs.World.{Filed, text_cmp}
 use Rattle.desk_store.specs.Rows.{is_own}
-use Rattle.desk_store.specs.ChangeLaws.{stays}
+use Rattle.desk_store.specs.laws.Change.{stays}
 use Rattle.desk_tables.specs.Tables.{id_text, plan_row, plan_rows, volume_row, volume_rows_from, area_rows, volume_rows, span_row, AreSpanRowsFrom, ArePlanSpanRows, AreSpanRows}
 use Rattle.desk_tables.specs.Content.{IsId, IsPlan}
 use Rattle.desk_tables.specs.TableChanges.{is_left}

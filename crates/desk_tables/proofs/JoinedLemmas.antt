@@ -17,7 +17,7 @@ use Rattle.volume4d.specs.Volume.{Block}
 use Rattle.desk_sql.specs.Rows as sql
 use Rattle.desk_sql.specs.Rows.{Tables, Lists, by_cells, joined, has_volume, with_volumes}
 use Rattle.desk_store.specs.World.{Filed, World, text_cmp, filed_cmp, is_by, plans_of}
-use Rattle.desk_store.specs.OrderLaws.{all_filter, all_append, all_kept, by_ids, name_of}
+use Rattle.desk_store.specs.laws.Order.{all_filter, all_append, all_kept, by_ids, name_of}
 use Rattle.desk_store.specs.Rows.{is_own}
 use Rattle.desk_tables.specs.Tables.{id_text, plan_row, plan_rows, volume_row, area_rows, volume_rows, AreTables}
 use Rattle.desk_tables.specs.Content.{IsPlan, IsContent}

@@ -18,7 +18,7 @@ use Rattle.volume4d.specs.Volume.{Block}
 use Rattle.desk_rules.specs.Plan.{is_live}
 use Rattle.desk_sql.specs.Rows.{Tables, Lists, by_cells}
 use Rattle.desk_store.specs.World.{Filed, Listed, World, text_cmp, listed_cmp, filed_cmp}
-use Rattle.desk_store.specs.OrderLaws.{all_weaker, all_append}
+use Rattle.desk_store.specs.laws.Order.{all_weaker, all_append}
 use Rattle.desk_tables.specs.Tables.{id_text, operator_row, operator_rows, plan_row, plan_rows, volume_row, volume_rows_from, area_rows, volume_rows, span_row, AreSpanRowsFrom, ArePlanSpanRows, AreSpanRows, AreTables}
 use Rattle.desk_tables.specs.Content.{IsPlan, IsContent}
 use Rattle.desk_tables.specs.Opening.{AreRows, AreSortedByKey}

@@ -4,7 +4,7 @@ use Rattle.std.specs.List.{AllByRecursion}
 use Rattle.std.proofs.lemmas.List.{append-nil}
 use Rattle.sqlite_value.specs.Order.{Row}
 use Rattle.desk_store.specs.World.{Listed}
-use Rattle.desk_store.specs.OrderLaws.{all_append}
+use Rattle.desk_store.specs.laws.Order.{all_append}
 use Rattle.desk_tables.specs.Tables.{operator_row}
 use Rattle.desk_tables.specs.Records.{IsOperator}
 use Rattle.desk_tables.specs.Opening.{AreOperatorRows}

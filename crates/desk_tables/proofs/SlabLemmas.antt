@@ -12,7 +12,7 @@ use Rattle.desk_rules.specs.Limits.{max_priority}
 use Rattle.desk_rules.specs.Plan.{is_live}
 use Rattle.desk_sql.specs.Rows.{Tables, held_columns}
 use Rattle.desk_store.specs.World.{Filed, World}
-use Rattle.desk_store.specs.OrderLaws.{all_append, all_filter}
+use Rattle.desk_store.specs.laws.Order.{all_append, all_filter}
 use Rattle.desk_tables.specs.Content.{IsBlock, IsContent}
 use Rattle.desk_tables.specs.Rivals.{FitsColumns, IsHeldIn, IsNoHeld}
 use Rattle.desk_tables.specs.Tables.{span_row, AreSpanRowsFrom, ArePlanSpanRows, AreSpanRows, AreTables}

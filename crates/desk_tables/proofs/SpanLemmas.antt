@@ -9,7 +9,7 @@ use Rattle.s2_cover.specs.declared.spans.Span.{Span}
 use Rattle.volume4d.specs.Volume.{Block}
 use Rattle.desk_rules.specs.Plan.{is_live}
 use Rattle.desk_store.specs.World.{Filed, filed_cmp}
-use Rattle.desk_store.specs.OrderLaws.{all_append}
+use Rattle.desk_store.specs.laws.Order.{all_append}
 use Rattle.desk_tables.specs.Tables.{span_row, AreSpanRowsFrom, ArePlanSpanRows, AreSpanRows}
 use Rattle.desk_tables.specs.Content.{IsPlan}
 use Rattle.desk_tables.proofs.RowLemmas.{after_key}

@@ -21,8 +21,8 @@ use Rattle.desk_sql.specs.Effects.{IsKept, IsReady, Commits}
 use Rattle.desk_sql.specs.Making.{no_rows, AreEmpty}
 use Rattle.desk_store.specs.World.{Listed, World, text_cmp, listed_cmp, ceiling_of}
 use Rattle.desk_rules.specs.Limits.{max_priority}
-use Rattle.desk_store.specs.OrderLaws.{is_equal, all_weaker}
-use Rattle.desk_store.specs.WorldLaws.{ceiling_within}
+use Rattle.desk_store.specs.laws.Order.{is_equal, all_weaker}
+use Rattle.desk_store.specs.laws.World.{ceiling_within}
 use Rattle.desk_tables.specs.Tables.{operator_row, operator_rows, AreTables}
 use Rattle.desk_tables.specs.Content.{IsContent}
 use Rattle.desk_tables.specs.Lookups.{HasNoCeiling, IsCeilingIn}

@@ -3,8 +3,8 @@ use Rattle.std.proofs.Common.{◌≡◌, ℕ, ◌+◌, ◌-◌, ◌*◌, ◌/◌
 use Rattle.std.proofs.lemmas.Nat.{pow-add, shr-shr, and_mask}
 use Rattle.std.proofs.Math.Nat.{pow-le-pow_right}
 use Rattle.s2_hilbert.specs.Curve.{quadrant_at, place_of, turned, quadrant_of, place, turn_at}
-use Rattle.s2_hilbert.specs.QuadrantLaws.{is_place, is_quadrant}
-use Rattle.s2_hilbert.specs.PlaceLaws.{split_at, quadrant_below, power_of_four}
+use Rattle.s2_hilbert.specs.laws.Quadrant.{is_place, is_quadrant}
+use Rattle.s2_hilbert.specs.laws.Place.{split_at, quadrant_below, power_of_four}
 
 -- the quadrant that the lowest bits name
 abbrev pub last_quadrant : ℕ → ℕ → ℕ

@@ -1,7 +1,4 @@
--- Read first: Grid, Curve. Files of laws are checked and needn't be read.
+-- Read first: Grid, Curve. What stands in laws/ is checked and needn't be read.
 pub mod Grid
 pub mod Curve
-pub mod QuadrantLaws
-pub mod PlaceLaws
-pub mod CurveLaws
-pub mod SquareLaws
+pub mod laws

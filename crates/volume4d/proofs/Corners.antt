@@ -8,7 +8,7 @@ use Rattle.std.proofs.lemmas.Int.{ints}
 use Rattle.std.proofs.lemmas.Bool.{and_parts, and_from, false_from_ne_true}
 use Rattle.std.proofs.lemmas.Bool.Decides.{nat_tests}
 use Rattle.s2_hilbert.specs.Curve.{position_of, grid_leaf_at}
-use Rattle.s2_hilbert.specs.CurveLaws.{position_undone}
+use Rattle.s2_hilbert.specs.laws.Curve.{position_undone}
 use Rattle.s2_cellid.specs.Cell.{leaf_id_at}
 use Rattle.s2_cellid.specs.Family.{leaf_id}
 use Rattle.volume4d.specs.declared.slab.Slab.{Slab}

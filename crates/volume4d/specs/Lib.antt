@@ -1,8 +1,7 @@
--- Read first: Limits, Point, Shape, Volume, Meeting. Files of laws are checked and needn't be read.
+-- Read first: Limits, Point, Shape, Volume, Meeting. What stands in laws/ is checked and needn't be read.
 pub mod Limits
 pub mod Windows
 pub mod Point
-pub mod PointLaws
 pub mod Shape
 pub mod Footprint
 pub mod FootprintBytes
@@ -16,6 +15,5 @@ pub mod Meeting
 pub mod Shared
 pub mod Sweep
 pub mod Clusters
-pub mod LevelLaws
-pub mod VolumeLaws
 pub mod Faults
+pub mod laws

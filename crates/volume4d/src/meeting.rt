@@ -6,8 +6,7 @@ ghost use Rattle.s2_cellid.specs.Family.{leaf_id};
 ghost use Rattle.volume4d.specs.declared.slab.Slab.{Slab};
 ghost use Rattle.volume4d.specs.Point.{Point};
 ghost use Rattle.volume4d.specs.Slab.{slab_has, slabs_have, helds_have, top_held};
-ghost use Rattle.volume4d.specs.Level.{greater};
-ghost use Rattle.volume4d.specs.LevelLaws.{level_where};
+ghost use Rattle.volume4d.specs.Level.{greater, level_where};
 ghost use Rattle.volume4d.specs.Meeting.{IsFirst, IsFirstPoint};
 ghost use Rattle.volume4d.specs.Shared.{is_shared};
 
@@ -20,7 +19,7 @@ use std::marker::Model;
 
 /// A point that two plans share, and the greatest priority that is held there.
 #[derive(Clone, Copy, Debug, PartialEq, Eq)]
-#[tactic(auto, using(s2_hilbert::specs::CurveLaws::position_undone))]
+#[tactic(auto, using(s2_hilbert::specs::laws::Curve::position_undone))]
 pub struct Meeting {
     /// The leaf's position among all leaves along the S2 curve, below `6 * 2^60`.
     pub pos: u64,
@@ -35,7 +34,7 @@ pub struct Meeting {
 impl Model for Meeting {
     ghost use Rattle.std.specs.Prelude.{◌<◌, ◌*◌, ◌^◌};
     ghost use Rattle.s2_hilbert.specs.Curve.{position_of, grid_leaf_at};
-    ghost use Rattle.s2_hilbert.specs.CurveLaws.{position_undone};
+    ghost use Rattle.s2_hilbert.specs.laws.Curve.{position_undone};
     ghost use Rattle.volume4d.specs.Meeting.{Spot};
 
     ghost Value = { Spot };

@@ -222,7 +222,7 @@ fn is_after(position: u64, first: &Option<Corner>) -> bool
 }
 
 // Whether a position is after that of a point.
-#[tactic(auto, using(s2_hilbert::specs::CurveLaws::position_undone))]
+#[tactic(auto, using(s2_hilbert::specs::laws::Curve::position_undone))]
 fn is_beyond(position: u64, corner: &Corner) -> bool
     ensures { result ≡ nat_lt (position_of corner.now.leaf) position }
 {

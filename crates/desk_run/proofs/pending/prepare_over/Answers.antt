@@ -1,6 +1,6 @@
 use Rattle.std.proofs.Common.{sym, ◌∙◌, w64}
 use Rattle.std.proofs.lemmas.Int.{to_z-of_z}
-use Rattle.desk_store.specs.FaultLaws.{was_honest}
+use Rattle.desk_store.specs.laws.Fault.{was_honest}
 use Rattle.desk_run.proofs.CallLemmas.{unlisted_is, status_ready, prepares_from, list_readies, show_readies, put_readies, delete_readies, clear_readies}
 use Rattle.desk_run.specs.DeskWorld.{with_content}
 use Rattle.desk_run.proofs.pending.prepare_over.Goals as goal

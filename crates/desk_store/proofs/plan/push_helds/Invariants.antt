@@ -1,8 +1,7 @@
 use Rattle.std.proofs.Common.{◌≡◌, true, take}
 use Rattle.volume4d.specs.Point.{Point}
 use Rattle.volume4d.specs.Slab.{slab_has, slabs_have, top_held}
-use Rattle.volume4d.specs.Level.{greater}
-use Rattle.volume4d.specs.LevelLaws.{level_where}
+use Rattle.volume4d.specs.Level.{greater, level_where}
 use Rattle.desk_store.proofs.plan.push_helds.Given as goal
 
 -- at points of the extent, the levels before, and the priority where a slab so far has the point

@@ -1,7 +1,7 @@
 use Rattle.std.proofs.Common.{◌≡◌, ◌≤◌, ◌+◌, ◌-◌, ◌∙◌, [], ◌∷◌, map, sym, ap, subst, length, arith}
 use Rattle.std.proofs.lemmas.List.{length-append, length-map}
 use Rattle.desk_reading.specs.Messages.{message_read}
-use Rattle.desk_store.specs.FaultLaws.{was_honest}
+use Rattle.desk_store.specs.laws.Fault.{was_honest}
 use Rattle.desk_run.specs.DeskWorld.{world_of}
 use Rattle.desk_wire.specs.AllAnswers.{AreBroken}
 use Rattle.desk_wire.proofs.MomentLemmas.{moment_at, is_moment_at, same_moment}

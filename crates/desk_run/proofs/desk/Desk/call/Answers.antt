@@ -1,9 +1,9 @@
 use Rattle.std.proofs.Common.{◌∙◌, ap, subst, w64}
 use Rattle.std.proofs.lemmas.Int.{to_z-of_z}
 use Rattle.std.proofs.lemmas.Result.{on_ok_weaker}
-use Rattle.desk_store.specs.FaultLaws.{was_honest}
+use Rattle.desk_store.specs.laws.Fault.{was_honest}
 use Rattle.desk_run.specs.Calls.{IsPending, world_committed}
-use Rattle.desk_run.specs.CrashLaws.{old_or_changed, settled_after, still_settled}
+use Rattle.desk_run.specs.laws.Crash.{old_or_changed, settled_after, still_settled}
 use Rattle.desk_run.specs.DeskWorld.{world_of}
 use Rattle.desk_run.proofs.desk.Desk.call.Goals as goal
 

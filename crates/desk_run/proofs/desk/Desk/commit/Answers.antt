@@ -2,7 +2,7 @@ use Rattle.std.proofs.Common.{◌∙◌, ap, subst}
 use Rattle.std.proofs.lemmas.Result.{on_ok_weaker}
 use Rattle.desk_store.specs.Crashes.{LeavesOldOr}
 use Rattle.desk_run.specs.Calls.{world_committed}
-use Rattle.desk_run.specs.CrashLaws.{settled_desk}
+use Rattle.desk_run.specs.laws.Crash.{settled_desk}
 use Rattle.desk_run.specs.DeskWorld.{with_content, world_of}
 use Rattle.desk_run.proofs.desk.Desk.commit.Goals as goal
 

@@ -1,7 +1,7 @@
 use Rattle.std.proofs.Common.{◌≤◌, ◌∙◌, ap, length, subst}
 use Rattle.desk_rules.specs.Limits.{max_plans}
 use Rattle.desk_store.specs.World.{AreInOrder}
-use Rattle.desk_store.specs.FaultLaws.{was_honest}
+use Rattle.desk_store.specs.laws.Fault.{was_honest}
 use Rattle.desk_run.specs.Calls.{IsClearing, ids_in}
 use Rattle.desk_run.proofs.ClearLemmas.{slabs_alone, clearing_ready}
 use Rattle.desk_run.proofs.pending.clear.ready_clear.Goals as goal

@@ -2,7 +2,7 @@ use Rattle.std.proofs.Common.{◌≡◌, ◌∙◌, ap, subst, refl, w64, to_z, 
 use Rattle.std.proofs.lemmas.Int.{to_z-of_z}
 use Rattle.volume4d.specs.Meeting.{Spot}
 use Rattle.desk_rules.specs.Outcome.{outcome}
-use Rattle.desk_store.specs.FaultLaws.{was_honest}
+use Rattle.desk_store.specs.laws.Fault.{was_honest}
 use Rattle.desk_run.specs.Verdicts.{conflict_in}
 use Rattle.desk_run.proofs.OutcomeLemmas.{outcome_if_needed}
 use Rattle.desk_run.proofs.CallLemmas.{verdict_is}

@@ -2,7 +2,7 @@ use Rattle.std.proofs.Common.{◌≤◌, ◌∙◌, IfSome, ap, sym, subst}
 use Rattle.desk_store.specs.World.{ceiling_of}
 use Rattle.desk_rules.specs.Limits.{max_priority}
 use Rattle.desk_store.specs.Listing.{world_of}
-use Rattle.desk_store.specs.WorldLaws.{ceiling_within}
+use Rattle.desk_store.specs.laws.World.{ceiling_within}
 use Rattle.desk_store.proofs.StoreLemmas.{ceiling_found}
 use Rattle.desk_store.proofs.list.ListStorePlanStore.ceiling.Goals as goal
 

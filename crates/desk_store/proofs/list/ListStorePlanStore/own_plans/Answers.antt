@@ -2,7 +2,7 @@ use Rattle.std.proofs.Common.{◌∙◌, ◌≤◌, ap, length, sym, subst}
 use Rattle.desk_rules.specs.Limits.{max_plans}
 use Rattle.desk_store.specs.World.{AreInOrder, plans_of}
 use Rattle.desk_store.specs.Listing.{filed_all}
-use Rattle.desk_store.specs.OrderLaws.{rows_sorted}
+use Rattle.desk_store.specs.laws.Order.{rows_sorted}
 use Rattle.desk_store.proofs.list.ListStorePlanStore.own_plans.Goals as goal
 
 pub returns-clause-value : goal.returns-clause-value

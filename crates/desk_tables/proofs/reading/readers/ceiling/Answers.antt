@@ -3,7 +3,7 @@ use Rattle.std.specs.List.{filter}
 use Rattle.sqlite.specs.Held.{state}
 use Rattle.desk_sql.specs.Rows.{is_by, tables_of, Lists}
 use Rattle.desk_rules.specs.Limits.{max_priority}
-use Rattle.desk_store.specs.WorldLaws.{ceiling_within}
+use Rattle.desk_store.specs.laws.World.{ceiling_within}
 use Rattle.desk_tables.specs.Causes.{BlamesStore}
 use Rattle.desk_tables.specs.Lookups.{HasNoCeiling, IsCeilingIn}
 use Rattle.desk_tables.proofs.CauseLemmas.{blamed, err_weaker}

@@ -5,12 +5,12 @@ use Rattle.desk_sql.specs.Rows as sql
 use Rattle.desk_sql.specs.Rows.{tables_of, with_volumes, Lists}
 use Rattle.desk_rules.specs.Limits.{max_plans}
 use Rattle.desk_store.specs.World.{AreInOrder, is_by}
-use Rattle.desk_store.specs.OrderLaws.{rows_sorted}
+use Rattle.desk_store.specs.laws.Order.{rows_sorted}
 use Rattle.desk_tables.specs.Gathering.{HasGathered}
 use Rattle.desk_tables.proofs.StoreLemmas.{weaker, on_whole}
 use Rattle.desk_tables.proofs.JoinedLemmas.{own_listing, own_plans_are}
 use Rattle.std.proofs.lemmas.List.{length-map}
-use Rattle.desk_store.specs.OrderLaws.{all_filter}
+use Rattle.desk_store.specs.laws.Order.{all_filter}
 use Rattle.desk_tables.specs.Causes.{BlamesStore}
 use Rattle.desk_tables.proofs.CauseLemmas.{err_weaker, listing_blamed, within_bits}
 use Rattle.desk_tables.proofs.reading.readers.own_plans.Goals as goal

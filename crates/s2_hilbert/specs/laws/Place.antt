@@ -4,7 +4,7 @@ use Rattle.std.proofs.lemmas.Nat.{pow-add, mul-pow, shr-shr, field_of, mod-pow-a
 use Rattle.std.proofs.Math.Pow.{mod-mod-pow}
 use Rattle.std.proofs.Math.Nat.{pow-suc, mod-mod, one-le-pow}
 use Rattle.s2_hilbert.specs.Curve.{quadrant_at, place_of, turned, quadrant_of, place, turn_at, i_at, j_at}
-use Rattle.s2_hilbert.specs.QuadrantLaws.{is_place, is_quadrant}
+use Rattle.s2_hilbert.specs.laws.Quadrant.{is_place, is_quadrant}
 
 pub quadrant_below : (n i j : ℕ) → quadrant_of n i j < 4
 quadrant_below n i j = omega arith

@@ -10,13 +10,13 @@ use Rattle.std.proofs.lemmas.Bool.{cases_lt}
 use Rattle.std.proofs.lemmas.Bool.Decides.{nat_tests}
 use Rattle.s2_hilbert.specs.Grid.{GridLeaf, IsLeaf, ShareSquare, GridSquare, IsSquare, IsWithin}
 use Rattle.s2_hilbert.specs.Curve.{position_of, grid_leaf_at, leaf_count}
-use Rattle.s2_hilbert.specs.PlaceLaws.{power_of_four}
-use Rattle.s2_hilbert.specs.CurveLaws.{powers, position_is, place_on_face_below, position_below, position_undone, leaf_is, same_leaf, square_number, first_is}
-use Rattle.s2_hilbert.specs.SquareLaws.{quotient_range, same_square, square_quotient, has_positions, quarter_count}
-use Rattle.s2_hilbert.specs.PlaceLaws.{four_pow_pos}
+use Rattle.s2_hilbert.specs.laws.Place.{power_of_four}
+use Rattle.s2_hilbert.specs.laws.Curve.{powers, position_is, place_on_face_below, position_below, position_undone, leaf_is, same_leaf, square_number, first_is}
+use Rattle.s2_hilbert.specs.laws.Square.{quotient_range, same_square, square_quotient, has_positions, quarter_count}
+use Rattle.s2_hilbert.specs.laws.Place.{four_pow_pos}
 use Rattle.s2_cellid.specs.Cell.{lowest_place, lowest_bit, level_of, face_of, IsCellId, first_leaf, last_leaf, leaf_id_at, cell_has}
 use Rattle.s2_cellid.specs.Family.{leaf_id, cell_has_leaf, square_id, parent_id, child_id}
-use Rattle.s2_cellid.specs.BlockLaws.{SharesLeaf, leaves_between, ends_below, leaf_has_itself, power_double, block_of, number_of, id_between}
+use Rattle.s2_cellid.specs.laws.Block.{SharesLeaf, leaves_between, ends_below, leaf_has_itself, power_double, block_of, number_of, id_between}
 
 pub count_room : (level : ℕ) → (0 < leaf_count level) × (leaf_count level ≤ 2 ^ 60)
 count_room level =

@@ -12,7 +12,7 @@ use Rattle.desk_rules.specs.declared.plan.PlanRow.{PlanRow}
 use Rattle.desk_store.specs.World.{Filed, text_cmp, filed_cmp, rows_by, is_by, has_id}
 use Rattle.desk_store.specs.Changes.{filed_by, is_before, is_after, replaced, closed, close_row, is_named, clear_rows}
 use Rattle.desk_store.specs.Rows.{is_own}
-use Rattle.desk_store.specs.OrderLaws.{parts}
+use Rattle.desk_store.specs.laws.Order.{parts}
 
 -- what is before or after the operator's is not the operator's
 before_others : (o : List ℕ) (p : Filed) → is_before o p ≡ true → is_by o p ≡ false

@@ -6,7 +6,7 @@ use Rattle.std.proofs.lemmas.Nat.{pow-add, same_from_place, div-add-mod', shr_be
 use Rattle.std.proofs.Math.Nat.{mod-eq_of_lt}
 use Rattle.s2_hilbert.specs.Grid.{GridLeaf, grid_leaf, IsLeaf, side_of, GridSquare, IsSquare, IsWithin}
 use Rattle.s2_hilbert.specs.Curve.{place, turn_at, position_of, grid_leaf_at, leaf_count, first_position, last_position}
-use Rattle.s2_hilbert.specs.PlaceLaws.{place_below, turn_below, split_at, same_point, is_point, four_pow_pos}
+use Rattle.s2_hilbert.specs.laws.Place.{place_below, turn_below, split_at, same_point, is_point, four_pow_pos}
 
 abbrev pub whole : ℕ
 whole = 2 ^ 60

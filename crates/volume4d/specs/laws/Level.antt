@@ -5,7 +5,7 @@ use Rattle.std.proofs.Common.{sym, ap, ◌∙◌, arith}
 use Rattle.volume4d.specs.Point.{Point}
 use Rattle.volume4d.specs.declared.slab.Held.{Held}
 use Rattle.volume4d.specs.Slab.{slab_has, top_held}
-use Rattle.volume4d.specs.Level.{greater, greatest}
+use Rattle.volume4d.specs.Level.{greater, greatest, level_where, top_by}
 
 pub greater_none : (a : Option ℕ) → greater a None ≡ a
 greater_none None = refl
@@ -33,15 +33,6 @@ pub greatest-append : (xs ys : List ℕ) → greatest (xs ++ ys) ≡ greater (gr
 greatest-append [] ys = refl
 greatest-append (x ∷ xs) ys = ap (greater (Some x)) (greatest-append xs ys)
     ∙ sym (greater_assoc (Some x) (greatest xs) (greatest ys))
-
--- a number that counts if a test passes
-abbrev pub level_where : Bool → ℕ → Option ℕ
-level_where true n = Some n
-level_where false n = None
-
--- the greatest of the numbers of those elements that pass a test
-abbrev pub top_by : {A : Type 0} → (A → Bool) → (A → ℕ) → List A → Option ℕ
-top_by p f xs = greatest (map f (filter p xs))
 
 pub top_by-cons :
     {A : Type 0} (p : A → Bool) (f : A → ℕ) (x : A) (xs : List A)

@@ -5,12 +5,11 @@ use Rattle.std.proofs.Common.{ap, ◌∙◌}
 use Rattle.std.proofs.Math.Path.{fun_ext}
 use Rattle.std.specs.List.{AllZip}
 use Rattle.volume4d.specs.Point.{Point, is_leaf}
-use Rattle.volume4d.specs.Level.{greater}
-use Rattle.volume4d.specs.LevelLaws.{level_where}
-use Rattle.volume4d.specs.VolumeLaws.{area_leaf}
+use Rattle.volume4d.specs.Level.{greater, level_where}
+use Rattle.volume4d.specs.laws.Volume.{area_leaf}
 use Rattle.desk_rules.specs.declared.plan.PlanRow.{PlanRow}
 use Rattle.desk_rules.specs.Plan.{is_live, row_holds, top_priority}
-use Rattle.desk_rules.specs.PlanLaws.{top_priority-cons, top_priority-nil}
+use Rattle.desk_rules.specs.laws.Plan.{top_priority-cons, top_priority-nil}
 use Rattle.desk_store.specs.World.{held, others_of}
 use Rattle.desk_run.specs.DeskWorld.{DeskWorld, Side, side, held_in}
 use Rattle.desk_run.specs.Sides.{OwnAlike, HoldAlike, is_from, beside, along}

@@ -1,8 +1,8 @@
 -- Laws of the greatest priority of plans, with their proofs.
 use Rattle.std.specs.Prelude.{◌≡◌, List, [], ◌∷◌, None, refl}
 use Rattle.volume4d.specs.Point.{Point}
-use Rattle.volume4d.specs.Level.{greater}
-use Rattle.volume4d.specs.LevelLaws.{level_where, top_by-cons}
+use Rattle.volume4d.specs.Level.{greater, level_where}
+use Rattle.volume4d.specs.laws.Level.{top_by-cons}
 use Rattle.desk_rules.specs.declared.plan.PlanRow.{PlanRow}
 use Rattle.desk_rules.specs.Plan.{row_holds, top_priority}
 

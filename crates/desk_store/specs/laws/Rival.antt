@@ -3,9 +3,9 @@ use Rattle.std.proofs.Common.{◌≡◌, ℕ, Bool, true, false, ◌&&◌, cond,
 use Rattle.std.specs.List.{filter}
 use Rattle.desk_rules.specs.declared.plan.PlanRow.{PlanRow}
 use Rattle.volume4d.specs.Point.{Point}
-use Rattle.volume4d.specs.Level.{greater}
-use Rattle.volume4d.specs.LevelLaws.{greater_assoc, greater_comm, level_where}
-use Rattle.desk_rules.specs.PlanLaws.{top_priority-cons, top_priority-nil}
+use Rattle.volume4d.specs.Level.{greater, level_where}
+use Rattle.volume4d.specs.laws.Level.{greater_assoc, greater_comm}
+use Rattle.desk_rules.specs.laws.Plan.{top_priority-cons, top_priority-nil}
 use Rattle.desk_rules.specs.Plan.{row_holds, top_priority}
 use Rattle.desk_store.specs.World.{Filed, World, rows_by, is_by, has_id, others_of, held, held_at}
 use Rattle.desk_store.specs.Rows.{is_own, rival_level, rivals_top}

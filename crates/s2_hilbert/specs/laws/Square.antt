@@ -5,8 +5,8 @@ use Rattle.std.specs.Int.{IsInRange}
 use Rattle.std.proofs.lemmas.Nat.{pow-add, mul-le, div-mul-add, div-add-mod', mod_below}
 use Rattle.s2_hilbert.specs.Grid.{GridLeaf, IsLeaf, side_of, GridSquare, IsSquare, IsWithin, ShareSquare, grid_square}
 use Rattle.s2_hilbert.specs.Curve.{position_of, leaf_count, first_position, last_position}
-use Rattle.s2_hilbert.specs.PlaceLaws.{place_below, four_pow_pos}
-use Rattle.s2_hilbert.specs.CurveLaws.{powers, square_place, square_leaves, square_number, first_is, coordinate_below}
+use Rattle.s2_hilbert.specs.laws.Place.{place_below, four_pow_pos}
+use Rattle.s2_hilbert.specs.laws.Curve.{powers, square_place, square_leaves, square_number, first_is, coordinate_below}
 
 pub first_position_is : (square : GridSquare)
     → first_position square ≡ square.face * 2 ^ 60 + square_place square * leaf_count square.level

@@ -5,14 +5,14 @@ use Rattle.std.specs.declared.cmp.Ordering.{Ordering}
 use Rattle.std.specs.Ordering.{is_eq}
 use Rattle.std.proofs.lemmas.Map.Lookups.{exact_bytes}
 use Rattle.desk_store.specs.World.{own, text_cmp}
-use Rattle.desk_store.specs.OrderLaws.{is_equal}
+use Rattle.desk_store.specs.laws.Order.{is_equal}
 use Rattle.desk_run.specs.DeskWorld.{DeskWorld, Side, side, held_in}
 use Rattle.desk_run.specs.Verdicts.{Told, verdict, side_left, told_to, step}
 use Rattle.desk_run.specs.Runs.{told_in, world_left}
 use Rattle.desk_run.specs.Sides.{OwnAlike, HoldAlike, beside, along}
 use Rattle.desk_run.specs.TwoRuns.{Made, caller, left, calls_of, met_by, IsSameFor}
-use Rattle.desk_run.specs.StepLaws.{own_stays, others_stay}
-use Rattle.desk_run.specs.SideLaws.{everywhere, Levels, IsSeenBy, IsKeptBy, after_all, same_found, same_last}
+use Rattle.desk_run.specs.laws.Step.{own_stays, others_stay}
+use Rattle.desk_run.specs.laws.Side.{everywhere, Levels, IsSeenBy, IsKeptBy, after_all, same_found, same_last}
 
 pub same_name : (o name : List ℕ) → is_eq (text_cmp o name) ≡ true → o ≡ name
 same_name o name e = exact_bytes o name (is_equal (text_cmp o name) e)

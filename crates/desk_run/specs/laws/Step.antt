@@ -10,8 +10,8 @@ use Rattle.desk_store.specs.World.{World, IsWorld, Own, own, text_cmp, ceiling_o
 use Rattle.desk_store.specs.Changes.{with_plans}
 use Rattle.desk_run.specs.DeskWorld.{DeskWorld, side, held_in}
 use Rattle.desk_run.specs.Verdicts.{delete_ruling, enrolled_ruling, ruling_under, ruling_in, world_with_plans, step, verdict, side_left}
-use Rattle.desk_store.specs.OrderLaws.{rows_sorted}
-use Rattle.desk_store.specs.WorldLaws.{own_replaced, others_kept, close_closed, replaced_by_own}
+use Rattle.desk_store.specs.laws.Order.{rows_sorted}
+use Rattle.desk_store.specs.laws.World.{own_replaced, others_kept, close_closed, replaced_by_own}
 
 abbrev owner : World → List ℕ → List PlanRow → Own
 owner w o rows = record { ceiling = ceiling_of o w; plans = rows }

@@ -1,0 +1,5 @@
+-- Laws of the definitions, with their proofs: checked, and not to be read.
+pub mod Crash
+pub mod Side
+pub mod Step
+pub mod TwoRun

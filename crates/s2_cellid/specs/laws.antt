@@ -1,0 +1,3 @@
+-- Laws of the definitions, with their proofs: checked, and not to be read.
+pub mod Block
+pub mod Family
