@@ -34,7 +34,7 @@ pub fn ready_delete<S: PlanStore>(
     ensures cause { IfErr result (λ e. e ≡ DeskFault.Store →
         HasRisen (S.faults store.old) (S.faults store.new)) }
 {
-    if store.plan(operator, id)?.is_none() {
+    if store.states(operator, id)?.is_none() {
         return Err(DeskFault::NoSuchPlan);
     }
     Ok(Pending {
