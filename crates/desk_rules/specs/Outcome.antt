@@ -4,6 +4,7 @@ use Rattle.std.specs.Prelude.{ℕ, ℤ, pos, ◌+ℤ◌, int_le, int_lt, nat_le,
 use Rattle.std.specs.List.{list_any}
 use Rattle.desk_rules.specs.declared.plan.PlanRow.{PlanRow}
 use Rattle.desk_rules.specs.declared.plan.PutCall.{PutCall}
+use Rattle.desk_rules.specs.declared.plan.States.{States}
 use Rattle.desk_rules.specs.declared.words.Style.{Style}
 use Rattle.desk_rules.specs.declared.words.Style.TheVariants as style
 use Rattle.desk_rules.specs.declared.words.PlanStatus.{PlanStatus}
@@ -20,7 +21,7 @@ use Rattle.desk_rules.specs.declared.decide.Effect.TheVariants as effect
 use Rattle.volume4d.specs.Volume.{Block}
 use Rattle.volume4d.specs.Meeting.{Spot}
 use Rattle.desk_rules.specs.Limits.{max_plans, max_ahead}
-use Rattle.desk_rules.specs.States.{status_of, is_offered, step_of}
+use Rattle.desk_rules.specs.States.{states_of, status_from, is_offered, step_from}
 
 -- some volume's end is at or before the moment
 unfoldable pub has_ended : List Block → ℤ → Bool
@@ -64,10 +65,10 @@ abbrev pub note_where : Bool → Note → Option Note
 note_where true n = Some n
 note_where false n = None
 
--- the order of refusals
-unfoldable pub note_of : PutCall → ℤ → Option PlanRow → ℕ → ℕ → Bool → Option Note
-note_of call moment stored own_rows ceiling blocked =
-    let step = step_of stored call in
+-- the order of refusals, by the states of the stored plan
+unfoldable pub note_from : PutCall → ℤ → Option States → ℕ → ℕ → Bool → Option Note
+note_from call moment stored own_rows ceiling blocked =
+    let step = step_from stored call in
     first_note (note_where (not (is_offered call.style call.usage call.aircraft)) note.Style
     ∷ refusal_of step
     ∷ note_where (is_check step && has_ended call.area moment) note.Ended
@@ -76,6 +77,11 @@ note_of call moment stored own_rows ceiling blocked =
     ∷ note_where (is_stored step && (is_none stored && nat_le max_plans own_rows)) note.PlansLimit
     ∷ note_where (is_check step && blocked) note.Conflict
     ∷ [])
+
+-- the same by the stored plan
+abbrev pub note_of : PutCall → ℤ → Option PlanRow → ℕ → ℕ → Bool → Option Note
+note_of call moment stored own_rows ceiling blocked =
+    note_from call moment (states_of stored) own_rows ceiling blocked
 
 -- the result of a refused request: an unsupported style is NotSupported, all else Rejected
 abbrev pub refused_result : Note → PlanResult
@@ -123,27 +129,36 @@ styled_effect style.IfAllowed e = e
 styled_effect style.InReality e = e
 
 -- a refusal leaves the stored plan and gives its status
-abbrev pub verdict_by : PutCall → Option PlanRow → Option Spot → Option Note → Verdict
-verdict_by call stored conflict (Some n) =
+abbrev pub verdict_from : PutCall → Option States → Option Spot → Option Note → Verdict
+verdict_from call stored conflict (Some n) =
     record {
       result = refused_result n;
-      status = status_of stored;
+      status = status_from stored;
       note = Some n;
       meeting = shown_conflict n conflict;
       effect = effect.Nothing;
     }
-verdict_by call stored conflict None =
+verdict_from call stored conflict None =
     record {
       result = result.Completed;
-      status = step_status (step_of stored call);
+      status = step_status (step_from stored call);
       note = None;
       meeting = None;
-      effect = styled_effect call.style (step_effect (step_of stored call));
+      effect = styled_effect call.style (step_effect (step_from stored call));
     }
 
--- the outcome of a request at a moment, given the operator's plan with its id, the number of the
--- operator's plans, the operator's ceiling and the conflict of the requested area
+-- the same by the stored plan
+abbrev pub verdict_by : PutCall → Option PlanRow → Option Spot → Option Note → Verdict
+verdict_by call stored conflict note = verdict_from call (states_of stored) conflict note
+
+-- the outcome of a request at a moment, given the states of the operator's plan with its id, the number
+-- of the operator's plans, the operator's ceiling and the conflict of the requested area
+unfoldable pub outcome_from : PutCall → ℤ → Option States → ℕ → ℕ → Option Spot → Verdict
+outcome_from call moment stored own_rows ceiling conflict =
+    verdict_from call stored conflict
+    (note_from call moment stored own_rows ceiling (is_some conflict))
+
+-- the same given the plan itself
 unfoldable pub outcome : PutCall → ℤ → Option PlanRow → ℕ → ℕ → Option Spot → Verdict
 outcome call moment stored own_rows ceiling conflict =
-    verdict_by call stored conflict
-    (note_of call moment stored own_rows ceiling (is_some conflict))
+    outcome_from call moment (states_of stored) own_rows ceiling conflict

@@ -1,7 +1,9 @@
 -- The states of a plan: those of InterUSS flight_planning v1 (usage_state, uas_state,
 -- flight_plan_status), and which may follow which at this desk.
 use Rattle.std.specs.Prelude.{Bool, true, false, Option, Some, None}
+use Rattle.std.specs.Option.{option_map}
 use Rattle.desk_rules.specs.declared.plan.PlanRow.{PlanRow}
+use Rattle.desk_rules.specs.declared.plan.States.{States}
 use Rattle.desk_rules.specs.declared.plan.PutCall.{PutCall}
 use Rattle.desk_rules.specs.declared.words.Usage.{Usage}
 use Rattle.desk_rules.specs.declared.words.Usage.TheVariants as usage
@@ -15,6 +17,14 @@ use Rattle.desk_rules.specs.declared.words.Note.TheVariants as note
 use Rattle.desk_rules.specs.declared.transition.Step.{Step}
 use Rattle.desk_rules.specs.declared.transition.Step.TheVariants.{Refuse, Check, Report, Shut, Keep}
 
+-- the states of a plan
+abbrev pub states_in : PlanRow → States
+states_in row = record { usage = row.usage; aircraft = row.aircraft }
+
+-- the states of a stored plan, or of no plan
+abbrev pub states_of : Option PlanRow → Option States
+states_of stored = option_map states_in stored
+
 -- the status of a plan in use
 abbrev pub status_in_use : Aircraft → PlanStatus
 status_in_use aircraft.Nominal = status.OkToFly
@@ -27,10 +37,14 @@ status_of_states usage.Planned craft = status.Planned
 status_of_states usage.InUse craft = status_in_use craft
 status_of_states usage.Closed craft = status.Closed
 
+-- the status by the states of a stored plan, or of no plan
+abbrev pub status_from : Option States → PlanStatus
+status_from None = status.NotPlanned
+status_from (Some stored) = status_of_states stored.usage stored.aircraft
+
 -- the status of a stored plan, or of no plan
 abbrev pub status_of : Option PlanRow → PlanStatus
-status_of None = status.NotPlanned
-status_of (Some row) = status_of_states row.usage row.aircraft
+status_of stored = status_from (states_of stored)
 
 -- whether a style is offered for the requested states: InReality is for an aircraft that is off its
 -- plan, and for closing
@@ -95,7 +109,11 @@ step_from_states usage.InUse aircraft.OffNominal want craft = step_from_use want
 step_from_states usage.InUse aircraft.Contingent want craft = step_from_contingency want craft
 step_from_states usage.Closed stored want craft = step_from_closed want
 
+-- from the states of a stored plan, or from no plan, for a request
+abbrev pub step_from : Option States → PutCall → Step
+step_from None call = step_from_none call.usage call.aircraft
+step_from (Some stored) call = step_from_states stored.usage stored.aircraft call.usage call.aircraft
+
 -- from a stored plan, or from no plan, for a request
 abbrev pub step_of : Option PlanRow → PutCall → Step
-step_of None call = step_from_none call.usage call.aircraft
-step_of (Some row) call = step_from_states row.usage row.aircraft call.usage call.aircraft
+step_of stored call = step_from (states_of stored) call

@@ -3,13 +3,13 @@
 ghost use Rattle.std.specs.Prelude.{◌≡◌, ◌&&◌, None, pos, ◌+ℤ◌, ◌-ℤ◌, int_le, int_lt, nat_le, is_none};
 ghost use Rattle.std.specs.Option.{option_copied};
 ghost use Rattle.desk_rules.specs.declared.words.PlanResult.TheVariants as results;
-ghost use Rattle.desk_rules.specs.Outcome.{outcome, has_ended, is_beyond_horizon, step_status, step_effect, styled_effect, note_of, refused_result, shown_conflict};
+ghost use Rattle.desk_rules.specs.Outcome.{outcome, outcome_from, has_ended, is_beyond_horizon, step_status, step_effect, styled_effect, note_from, refused_result, shown_conflict};
 ghost use Rattle.desk_rules.specs.Limits.{max_plans, max_ahead};
 ghost use Rattle.desk_rules.specs.States as spec;
 ghost use Rattle.desk_rules.specs.States.{status_in_use, is_offered};
 
-use crate::plan::{PlanRow, PutCall};
-use crate::transition::{Step, transition};
+use crate::plan::{PlanRow, PutCall, States, states_of};
+use crate::transition::{Step, transition_from};
 use crate::words::{Aircraft, Note, PlanResult, PlanStatus, Style, Usage};
 use volume4d::{Meeting, Volume};
 
@@ -68,15 +68,30 @@ pub fn decide(
     ensures { result ≡
         outcome call.now moment (option_copied stored.entry) own_rows ceiling meeting }
 {
+    decide_from(call, moment, states_of(stored), own_rows, ceiling, meeting)
+}
+
+/// The verdict on a request, as `decide` gives it, by the states of the operator's plan with its id.
+#[tactic(auto, unfolding(crate::specs::Outcome::outcome_from))]
+pub fn decide_from(
+    call: &PutCall,
+    moment: i64,
+    stored: Option<States>,
+    own_rows: u32,
+    ceiling: u32,
+    meeting: Option<Meeting>,
+) -> Verdict
+    ensures { result ≡ outcome_from call.now moment stored own_rows ceiling meeting }
+{
     match note_for(call, moment, stored, own_rows, ceiling, meeting.is_some()) {
         Some(note) => Verdict {
             result: result_for(note),
-            status: status_of(stored),
+            status: status_from(stored),
             note: Some(note),
             meeting: shown(note, meeting),
             effect: Effect::Nothing,
         },
-        None => completed(call.style, transition(stored, call)),
+        None => completed(call.style, transition_from(stored, call)),
     }
 }
 
@@ -100,22 +115,21 @@ fn completed(style: Style, step: Step) -> Verdict
 }
 
 // The reason of the first refusal that applies, or `None` if none does.
-#[tactic(auto, unfolding(crate::specs::Outcome::note_of))]
+#[tactic(auto, unfolding(crate::specs::Outcome::note_from))]
 fn note_for(
     call: &PutCall,
     moment: i64,
-    stored: Option<&PlanRow>,
+    stored: Option<States>,
     own_rows: u32,
     ceiling: u32,
     blocked: bool,
 ) -> Option<Note>
-    ensures { result ≡
-        note_of call.now moment (option_copied stored.entry) own_rows ceiling blocked }
+    ensures { result ≡ note_from call.now moment stored own_rows ceiling blocked }
 {
     if !offers(call.style, call.usage, call.aircraft) {
         return Some(Note::Style);
     }
-    match transition(stored, call) {
+    match transition_from(stored, call) {
         Step::Refuse(note) => Some(note),
         Step::Check(_) => {
             if any_ended(call.area.volumes(), moment) {
@@ -150,8 +164,8 @@ fn note_for(
 }
 
 // Whether the request is for a new plan and the operator has as many as it may have.
-fn is_full(stored: Option<&PlanRow>, own_rows: u32) -> bool
-    ensures { result ≡ (is_none (option_copied stored.entry) && nat_le max_plans own_rows) }
+fn is_full(stored: Option<States>, own_rows: u32) -> bool
+    ensures { result ≡ (is_none stored && nat_le max_plans own_rows) }
 {
     match stored {
         None => own_rows >= MAX_PLANS,
@@ -221,11 +235,18 @@ fn result_for(note: Note) -> PlanResult
 pub fn status_of(stored: Option<&PlanRow>) -> PlanStatus
     ensures { result ≡ spec.status_of (option_copied stored.entry) }
 {
+    status_from(states_of(stored))
+}
+
+/// The status of a plan in these states, or of no plan: `flight_plan_status` of flight_planning v1.
+pub fn status_from(stored: Option<States>) -> PlanStatus
+    ensures { result ≡ spec.status_from stored }
+{
     match stored {
         None => PlanStatus::NotPlanned,
-        Some(row) => match row.usage {
+        Some(states) => match states.usage {
             Usage::Planned => PlanStatus::Planned,
-            Usage::InUse => in_use(row.aircraft),
+            Usage::InUse => in_use(states.aircraft),
             Usage::Closed => PlanStatus::Closed,
         },
     }

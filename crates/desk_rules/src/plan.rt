@@ -1,6 +1,8 @@
 //! Stored plans, and requests to plan.
 
 ghost use Rattle.std.specs.Prelude.{◌≡◌, IfOk};
+ghost use Rattle.std.specs.Option.{option_copied};
+ghost use Rattle.desk_rules.specs.States as spec;
 
 use crate::plan_id::PlanId;
 use crate::words::{Aircraft, Style, Usage};
@@ -21,6 +23,15 @@ pub struct PlanRow {
     pub aircraft: Aircraft,
     /// Where and when the flight is.
     pub area: Area,
+}
+
+/// The states of a plan: what the state table and the order of refusals ask of a stored one.
+#[derive(Clone, Copy, Debug, PartialEq, Eq)]
+pub struct States {
+    /// Whether the flight is planned, in use or closed.
+    pub usage: Usage,
+    /// The last reported state of the aircraft.
+    pub aircraft: Aircraft,
 }
 
 /// A request to plan, activate, change or close a flight.
@@ -58,6 +69,23 @@ impl PlanRow {
             area: self.area.copy()?,
         })
     }
+
+    /// The states of the plan.
+    pub fn states(&self) -> States
+        ensures { result ≡ spec.states_in self.now }
+    {
+        States {
+            usage: self.usage,
+            aircraft: self.aircraft,
+        }
+    }
+}
+
+/// The states of a stored plan, or of no plan.
+pub fn states_of(stored: Option<&PlanRow>) -> Option<States>
+    ensures { result ≡ spec.states_of (option_copied stored.entry) }
+{
+    stored.map(PlanRow::states)
 }
 
 impl PutCall {

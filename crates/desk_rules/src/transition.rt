@@ -2,9 +2,9 @@
 
 ghost use Rattle.std.specs.Prelude.{◌≡◌};
 ghost use Rattle.std.specs.Option.{option_copied};
-ghost use Rattle.desk_rules.specs.States.{step_of, step_from_none, step_from_planned, step_from_use, step_from_contingency, step_from_closed, step_from_states};
+ghost use Rattle.desk_rules.specs.States.{step_of, step_from, step_from_none, step_from_planned, step_from_use, step_from_contingency, step_from_closed, step_from_states};
 
-use crate::plan::{PlanRow, PutCall};
+use crate::plan::{PlanRow, PutCall, States, states_of};
 use crate::words::{Aircraft, Note, PlanStatus, Usage};
 
 /// What the state table says of a request.
@@ -28,9 +28,17 @@ pub enum Step {
 pub fn transition(stored: Option<&PlanRow>, call: &PutCall) -> Step
     ensures { result ≡ step_of (option_copied stored.entry) call.now }
 {
+    transition_from(states_of(stored), call)
+}
+
+/// The step from the states of the stored plan with the request's id, or from no plan, to the requested
+/// states.
+pub fn transition_from(stored: Option<States>, call: &PutCall) -> Step
+    ensures { result ≡ step_from stored call.now }
+{
     match stored {
         None => from_none(call.usage, call.aircraft),
-        Some(row) => from_states(row.usage, row.aircraft, call.usage, call.aircraft),
+        Some(states) => from_states(states.usage, states.aircraft, call.usage, call.aircraft),
     }
 }
 

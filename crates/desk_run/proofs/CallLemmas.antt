@@ -3,6 +3,8 @@ use Rattle.std.proofs.Common.{◌≡◌, ◌≤◌, ℕ, ℤ, List, length, map,
 use Rattle.std.specs.Prelude.{IsSome, is_some}
 use Rattle.desk_rules.specs.declared.plan.PlanRow.{PlanRow}
 use Rattle.desk_rules.specs.declared.plan.PutCall.{PutCall}
+use Rattle.desk_rules.specs.declared.plan.States.{States}
+use Rattle.desk_rules.specs.States.{states_of}
 use Rattle.desk_rules.specs.declared.words.PlanResult.TheVariants as result
 use Rattle.desk_rules.specs.declared.words.PlanStatus.TheVariants as status
 use Rattle.desk_rules.specs.declared.decide.Verdict.{Verdict}
@@ -10,7 +12,7 @@ use Rattle.desk_rules.specs.declared.decide.Effect.{Effect}
 use Rattle.desk_rules.specs.declared.decide.Effect.TheVariants as effect
 use Rattle.volume4d.specs.Meeting.{Spot}
 use Rattle.desk_rules.specs.Conflict.{conflict}
-use Rattle.desk_rules.specs.Outcome.{outcome}
+use Rattle.desk_rules.specs.Outcome.{outcome, outcome_from}
 use Rattle.desk_rules.specs.Limits.{max_priority}
 use Rattle.desk_store.specs.declared.change.Change.{Change}
 use Rattle.desk_store.specs.declared.change.Change.TheVariants as change
@@ -35,18 +37,18 @@ use Rattle.desk_run.specs.Calls.{IsUnanswered, IsReady, Readies, IsPending, Prep
 use Rattle.desk_run.proofs.OutcomeLemmas.{outcome_counts}
 use Rattle.desk_run.proofs.PutLemmas.{change_fits}
 
--- a verdict by the stored plan, the number of plans and the conflict
+-- a verdict by the states of the stored plan, the number of plans and the conflict
 pub verdict_is : (permitted : List ℕ) (w : World) (o : List ℕ) (put : PutCall) (given moment : ℤ)
     (ceiling : ℕ)
-    (stored : Option PlanRow) (count : ℕ) (meeting : Option Spot) (v : Verdict) → v
-    ≡ outcome put given stored count ceiling meeting → given ≡ moment → stored
-    ≡ stored_of put.id (plans_of o w) → (stored ≡ None → count ≡ length (plans_of o w)) → meeting
+    (stored : Option States) (count : ℕ) (meeting : Option Spot) (v : Verdict) → v
+    ≡ outcome_from put given stored count ceiling meeting → given ≡ moment → stored
+    ≡ states_of (stored_of put.id (plans_of o w)) → (stored ≡ None → count ≡ length (plans_of o w)) → meeting
     ≡ conflict permitted put.area (held_at (plans_of o w) (held w o) put.id) put.priority → v
     ≡ put_outcome permitted (own w o) (held w o) ceiling moment put
-unfolding put_outcome own
+unfolding put_outcome own outcome
 verdict_is permitted w o put given moment ceiling stored count meeting v e m s n c = e
     ∙ outcome_counts put given stored count (length (plans_of o w)) ceiling meeting n
-    ∙ (λ i. outcome put (m i) (s i) (length (plans_of o w)) ceiling (c i))
+    ∙ (λ i. outcome_from put (m i) (s i) (length (plans_of o w)) ceiling (c i))
 
 -- a call to which an answer says no more than a word
 unanswered_by : (w : DeskWorld) (moment : ℤ) (asked : Asked) (reason : Told)
@@ -166,8 +168,8 @@ status_ready w moment asked ceiling listed is =
     (record { told = refl; left = refl; fits = tt }))
 
 -- the closing of a stored plan is ready
-pub delete_ready : (w : World) (o id : List ℕ) (found : Option PlanRow) → found
-    ≡ stored_of id (plans_of o w)
+pub delete_ready : (w : World) (o id : List ℕ) (found : Option States) → found
+    ≡ states_of (stored_of id (plans_of o w))
     → is_some found ≡ true → IsSome (ceiling_of o w)
     → IsReady w o (delete_ruling (plans_of o w) id (stored_of id (plans_of o w)))
     (record {
@@ -180,19 +182,20 @@ pub delete_ready : (w : World) (o id : List ℕ) (found : Option PlanRow) → fo
       change = Some (change.Close o id);
     })
 unfolding changed_by IsFitting
-delete_ready w o id None e s listed = cc
-delete_ready w o id (Some row) e s listed =
-    subst (λ r. IsReady w o (delete_ruling (plans_of o w) id r)
-    (record {
-      reply = reply.Answered (record {
-        result = result.Completed;
-        status = status.Closed;
-        note = None;
-        meeting = None;
-      });
-      change = Some (change.Close o id);
-    })) e
-    (record { told = refl; left = refl; fits = (listed, ap is_some (sym e)) })
+delete_ready w o id found e s listed = by_stored (stored_of id (plans_of o w)) refl e where
+  by_stored : (r : Option PlanRow) → stored_of id (plans_of o w) ≡ r → found ≡ states_of r
+      → IsReady w o (delete_ruling (plans_of o w) id r)
+      (record {
+        reply = reply.Answered (record {
+          result = result.Completed;
+          status = status.Closed;
+          note = None;
+          meeting = None;
+        });
+        change = Some (change.Close o id);
+      })
+  by_stored None f g = cc
+  by_stored (Some row) f g = record { told = refl; left = refl; fits = (listed, ap is_some f) }
 
 -- the answers to a request to plan, and to close, are those to the call
 pub put_readies : (permitted : List ℕ) (w before : World) (given moment : ℤ) (asked : Asked) (put : PutCall)

@@ -4,6 +4,7 @@ use Rattle.std.specs.Prelude.{nat_le, nat_lt, is_some, is_none, IsSome, ◌≤�
 use Rattle.std.proofs.lemmas.Bool.Decides.{nat_tests}
 use Rattle.desk_rules.specs.declared.plan.PlanRow.{PlanRow}
 use Rattle.desk_rules.specs.declared.plan.PutCall.{PutCall}
+use Rattle.desk_rules.specs.declared.plan.States.{States}
 use Rattle.desk_rules.specs.declared.words.Note.{Note}
 use Rattle.desk_rules.specs.declared.words.Style.{Style}
 use Rattle.desk_rules.specs.declared.words.Style.TheVariants as style
@@ -17,8 +18,8 @@ use Rattle.desk_rules.specs.declared.transition.Step.TheVariants.{Refuse, Check,
 use Rattle.desk_rules.specs.declared.decide.Effect.{Effect}
 use Rattle.desk_rules.specs.declared.decide.Effect.TheVariants as effect
 use Rattle.volume4d.specs.Meeting.{Spot}
-use Rattle.desk_rules.specs.States.{step_of, step_from_none, is_offered}
-use Rattle.desk_rules.specs.Outcome.{outcome, note_of, first_note, note_where, refusal_of, is_check, has_ended, is_beyond_horizon, is_stored, step_effect, styled_effect, verdict_by}
+use Rattle.desk_rules.specs.States.{states_of, step_from, step_from_none, is_offered}
+use Rattle.desk_rules.specs.Outcome.{outcome, outcome_from, note_from, first_note, note_where, refusal_of, is_check, has_ended, is_beyond_horizon, is_stored, step_effect, styled_effect, verdict_from}
 use Rattle.desk_rules.specs.Limits.{max_plans, max_priority}
 use Rattle.desk_store.specs.World.{World, ceiling_of, stored_of, plans_of}
 use Rattle.desk_store.specs.Changes.{HasRoom}
@@ -52,12 +53,12 @@ fifth a b c d f g h e =
     (no_first f (g ∷ h ∷ []) s.1).0
 
 -- where nothing is noted, the priority of a stored request is within the ceiling
-within_ceiling : (asked : PutCall) (moment : ℤ) (stored : Option PlanRow) (own_rows ceiling : ℕ)
-    (blocked : Bool) → note_of asked moment stored own_rows ceiling blocked ≡ None
-    → (is_stored (step_of stored asked) && nat_lt ceiling asked.priority) ≡ false
-unfolding note_of
+within_ceiling : (asked : PutCall) (moment : ℤ) (stored : Option States) (own_rows ceiling : ℕ)
+    (blocked : Bool) → note_from asked moment stored own_rows ceiling blocked ≡ None
+    → (is_stored (step_from stored asked) && nat_lt ceiling asked.priority) ≡ false
+unfolding note_from
 within_ceiling asked moment stored own_rows ceiling blocked e =
-    let next = step_of stored asked in
+    let next = step_from stored asked in
     not_noted (is_stored next && nat_lt ceiling asked.priority) note.Priority
     (fifth (note_where (not (is_offered asked.style asked.usage asked.aircraft)) note.Style)
     (refusal_of next)
@@ -68,12 +69,12 @@ within_ceiling asked moment stored own_rows ceiling blocked e =
     (note_where (is_check next && blocked) note.Conflict) e)
 
 -- where nothing is noted, a stored request is no plan too many
-within_limit : (asked : PutCall) (moment : ℤ) (stored : Option PlanRow) (own_rows ceiling : ℕ)
-    (blocked : Bool) → note_of asked moment stored own_rows ceiling blocked ≡ None
-    → (is_stored (step_of stored asked) && (is_none stored && nat_le max_plans own_rows)) ≡ false
-unfolding note_of
+within_limit : (asked : PutCall) (moment : ℤ) (stored : Option States) (own_rows ceiling : ℕ)
+    (blocked : Bool) → note_from asked moment stored own_rows ceiling blocked ≡ None
+    → (is_stored (step_from stored asked) && (is_none stored && nat_le max_plans own_rows)) ≡ false
+unfolding note_from
 within_limit asked moment stored own_rows ceiling blocked e =
-    let next = step_of stored asked in
+    let next = step_from stored asked in
     not_noted (is_stored next && (is_none stored && nat_le max_plans own_rows)) note.PlansLimit
     (sixth (note_where (not (is_offered asked.style asked.usage asked.aircraft)) note.Style)
     (refusal_of next)
@@ -97,38 +98,39 @@ saves_stored style.InReality (Report s) e = refl
 saves_stored style.InReality Shut e = cc
 saves_stored style.InReality Keep e = cc
 
-saved_within : (asked : PutCall) (moment : ℤ) (stored : Option PlanRow) (own_rows ceiling : ℕ)
-    (spot : Option Spot) → (outcome asked moment stored own_rows ceiling spot).effect ≡ effect.Save
+saved_within : (asked : PutCall) (moment : ℤ) (stored : Option States) (own_rows ceiling : ℕ)
+    (spot : Option Spot) → (outcome_from asked moment stored own_rows ceiling spot).effect ≡ effect.Save
     → (is_none stored && nat_le max_plans own_rows) ≡ false
-unfolding outcome
+unfolding outcome_from
 saved_within asked moment stored own_rows ceiling spot =
-    by_note (note_of asked moment stored own_rows ceiling (is_some spot)) refl where
-      by_note : (n : Option Note) → note_of asked moment stored own_rows ceiling (is_some spot) ≡ n
-          → (verdict_by asked stored spot n).effect ≡ effect.Save
+    by_note (note_from asked moment stored own_rows ceiling (is_some spot)) refl where
+      by_note : (n : Option Note) → note_from asked moment stored own_rows ceiling (is_some spot) ≡ n
+          → (verdict_from asked stored spot n).effect ≡ effect.Save
           → (is_none stored && nat_le max_plans own_rows)
           ≡ false
       by_note (Some n) f e = cc
-      by_note None f e = rw (saves_stored asked.style (step_of stored asked) e) at
+      by_note None f e = rw (saves_stored asked.style (step_from stored asked) e) at
           (within_limit asked moment stored own_rows ceiling (is_some spot) f)
 
-saved_under : (asked : PutCall) (moment : ℤ) (stored : Option PlanRow) (own_rows ceiling : ℕ)
-    (spot : Option Spot) → (outcome asked moment stored own_rows ceiling spot).effect ≡ effect.Save
+saved_under : (asked : PutCall) (moment : ℤ) (stored : Option States) (own_rows ceiling : ℕ)
+    (spot : Option Spot) → (outcome_from asked moment stored own_rows ceiling spot).effect ≡ effect.Save
     → nat_lt ceiling asked.priority ≡ false
-unfolding outcome
+unfolding outcome_from
 saved_under asked moment stored own_rows ceiling spot =
-    by_note (note_of asked moment stored own_rows ceiling (is_some spot)) refl where
-      by_note : (n : Option Note) → note_of asked moment stored own_rows ceiling (is_some spot) ≡ n
-          → (verdict_by asked stored spot n).effect ≡ effect.Save → nat_lt ceiling asked.priority
+    by_note (note_from asked moment stored own_rows ceiling (is_some spot)) refl where
+      by_note : (n : Option Note) → note_from asked moment stored own_rows ceiling (is_some spot) ≡ n
+          → (verdict_from asked stored spot n).effect ≡ effect.Save → nat_lt ceiling asked.priority
           ≡ false
       by_note (Some n) f e = cc
-      by_note None f e = rw (saves_stored asked.style (step_of stored asked) e) at
+      by_note None f e = rw (saves_stored asked.style (step_from stored asked) e) at
           (within_ceiling asked moment stored own_rows ceiling (is_some spot) f)
 
-room_by : (w : World) (operator id : List ℕ) → (is_none (stored_of id (plans_of operator w))
+room_by : (w : World) (operator id : List ℕ) → (is_none (states_of (stored_of id (plans_of operator w)))
     && nat_le max_plans (length (plans_of operator w))) ≡ false → HasRoom w operator id
 room_by w operator id e = by_stored (stored_of id (plans_of operator w)) refl e where
   by_stored : (r : Option PlanRow) → stored_of id (plans_of operator w) ≡ r
-      → (is_none r && nat_le max_plans (length (plans_of operator w))) ≡ false → HasRoom w operator id
+      → (is_none (states_of r) && nat_le max_plans (length (plans_of operator w))) ≡ false
+      → HasRoom w operator id
   by_stored None f g = inr (below (length (plans_of operator w)) g) where
     below : (n : ℕ) → nat_le max_plans n ≡ false → n < max_plans
     below n h = grind (arith, nat_tests)
@@ -157,21 +159,26 @@ none_is_shut usage.InUse aircraft.OffNominal e = cc
 none_is_shut usage.InUse aircraft.Contingent e = cc
 none_is_shut usage.Closed craft e = cc
 
-stored_if_shut : (stored : Option PlanRow) (asked : PutCall) → step_of stored asked ≡ Shut
+stored_if_shut : (stored : Option States) (asked : PutCall) → step_from stored asked ≡ Shut
     → IsSome stored
 stored_if_shut None asked e = absurd (none_is_shut asked.usage asked.aircraft e)
 stored_if_shut (Some row) asked e = refl
 
-shut_is_stored : (asked : PutCall) (moment : ℤ) (stored : Option PlanRow) (own_rows ceiling : ℕ)
-    (spot : Option Spot) → (outcome asked moment stored own_rows ceiling spot).effect ≡ effect.Shut
+shut_is_stored : (asked : PutCall) (moment : ℤ) (stored : Option States) (own_rows ceiling : ℕ)
+    (spot : Option Spot) → (outcome_from asked moment stored own_rows ceiling spot).effect ≡ effect.Shut
     → IsSome stored
-unfolding outcome
+unfolding outcome_from
 shut_is_stored asked moment stored own_rows ceiling spot =
-    by_note (note_of asked moment stored own_rows ceiling (is_some spot)) where
-      by_note : (n : Option Note) → (verdict_by asked stored spot n).effect ≡ effect.Shut
+    by_note (note_from asked moment stored own_rows ceiling (is_some spot)) where
+      by_note : (n : Option Note) → (verdict_from asked stored spot n).effect ≡ effect.Shut
           → IsSome stored
       by_note (Some n) e = cc
-      by_note None e = stored_if_shut stored asked (shut_stored asked.style (step_of stored asked) e)
+      by_note None e = stored_if_shut stored asked (shut_stored asked.style (step_from stored asked) e)
+
+-- a plan that has states is stored
+stored_by : (stored : Option PlanRow) → IsSome (states_of stored) → IsSome stored
+stored_by None e = e
+stored_by (Some row) e = refl
 
 -- the change of a verdict is one that a store takes
 pub change_fits : (w : World) (o : List ℕ) (asked : PutCall) (moment : ℤ) (ceiling : ℕ)
@@ -180,11 +187,11 @@ pub change_fits : (w : World) (o : List ℕ) (asked : PutCall) (moment : ℤ) (c
     → Fits w (change_after (outcome asked moment (stored_of asked.id (plans_of o w))
     (length (plans_of o w))
     ceiling spot).effect o asked)
-unfolding IsFitting
+unfolding IsFitting outcome
 change_fits w o asked moment ceiling spot listed low =
-    by_effect (outcome asked moment stored count ceiling spot).effect refl where
-      stored : Option PlanRow
-      stored = stored_of asked.id (plans_of o w)
+    by_effect (outcome_from asked moment stored count ceiling spot).effect refl where
+      stored : Option States
+      stored = states_of (stored_of asked.id (plans_of o w))
 
       count : ℕ
       count = length (plans_of o w)
@@ -195,7 +202,7 @@ change_fits w o asked moment ceiling spot listed low =
       below : (p : ℕ) → nat_lt ceiling p ≡ false → p ≤ max_priority
       below p e = grind (arith, nat_tests)
 
-      by_effect : (e : Effect) → (outcome asked moment stored count ceiling spot).effect ≡ e
+      by_effect : (e : Effect) → (outcome_from asked moment stored count ceiling spot).effect ≡ e
           → Fits w (change_after e o asked)
       by_effect effect.Nothing f = tt
       by_effect effect.Save f = (
@@ -204,4 +211,8 @@ change_fits w o asked moment ceiling spot listed low =
             (saved_under asked moment stored count ceiling spot f),
         is_listed,
       )
-      by_effect effect.Shut f = (is_listed, shut_is_stored asked moment stored count ceiling spot f)
+      by_effect effect.Shut f = (
+        is_listed,
+        stored_by (stored_of asked.id (plans_of o w))
+            (shut_is_stored asked moment stored count ceiling spot f),
+      )

@@ -1,5 +1,5 @@
 -- What the lists of a store in memory say of its world.
-use Rattle.std.proofs.Common.{◌≡◌, ℕ, Bool, true, false, cond, List, [], ◌∷◌, ◌++◌, map, Some, refl, sym, ap, ◌∙◌, Less, Equal, Greater}
+use Rattle.std.proofs.Common.{◌≡◌, ℕ, Bool, true, false, cond, List, [], ◌∷◌, ◌++◌, map, Option, Some, None, refl, sym, ap, ◌∙◌, Less, Equal, Greater}
 use Rattle.std.specs.List.{filter, find}
 use Rattle.std.specs.Option.{option_map}
 use Rattle.std.specs.declared.cmp.Ordering.{Ordering}
@@ -10,10 +10,11 @@ use Rattle.std.specs.List.Sorted.{IsStrictlySortedBy}
 use Rattle.std.proofs.lemmas.List.{append_assoc}
 use Rattle.std.proofs.lemmas.Map.Lookups.{exact_bytes}
 use Rattle.desk_rules.specs.declared.plan.PlanRow.{PlanRow}
+use Rattle.desk_rules.specs.States.{states_in, states_of}
 use Rattle.desk_store.specs.declared.list.Enrolment.{Enrolment}
 use Rattle.desk_store.specs.World.{Filed, Listed, World, text_cmp, rows_by, plans_of, is_by, stored_of, has_id}
 use Rattle.desk_store.specs.Changes.{list_operator, put_row, replaced, with_operator, with_plans}
-use Rattle.desk_store.specs.Parts.{PlanParts, row_of}
+use Rattle.desk_store.specs.Parts.{PlanParts, row_of, kept_states}
 use Rattle.desk_store.specs.Listing.{listed_of, filed_of, filed_all, world_of}
 use Rattle.desk_store.proofs.EntryLemmas.{Key, key_cmp, entry_inserted}
 
@@ -59,6 +60,16 @@ plan_found o id (e ∷ es) = by_operator (text_cmp o e.0.0) (plan_found o id es)
   by_operator Less ih = ih
   by_operator Equal ih = by_id (text_cmp id e.0.1) refl ih
   by_operator Greater ih = ih
+
+-- its states
+pub states_found : (o id : List ℕ) (es : List (Key × PlanParts))
+    → option_map kept_states (lookup (is_at (key_cmp (o, id))) es)
+    ≡ states_of (stored_of id (rows_by o (filed_all es)))
+states_found o id es = of_row (lookup (is_at (key_cmp (o, id))) es) ∙ ap states_of (plan_found o id es) where
+  of_row : (found : Option PlanParts) → option_map kept_states found
+      ≡ option_map states_in (option_map (row_of id) found)
+  of_row None = refl
+  of_row (Some plan) = refl
 
 -- one more operator
 operator_inserted : (o : List ℕ) (new : Enrolment) (es : List (List ℕ × Enrolment))

@@ -6,6 +6,7 @@ use Rattle.volume4d.specs.Volume.{Block, area_has}
 use Rattle.volume4d.specs.Slab.{slab_has, slabs_have}
 use Rattle.volume4d.specs.Bounds.{HasAll}
 use Rattle.desk_rules.specs.declared.plan.PlanRow.{PlanRow}
+use Rattle.desk_rules.specs.declared.plan.States.{States}
 use Rattle.desk_rules.specs.declared.words.Usage.{Usage}
 use Rattle.desk_rules.specs.declared.words.Usage.TheVariants as usage
 use Rattle.desk_rules.specs.declared.words.Aircraft.{Aircraft}
@@ -28,6 +29,9 @@ row_of id plan = record {
   aircraft = plan.aircraft;
   area = plan.area;
 }
+
+abbrev pub kept_states : PlanParts → States
+kept_states plan = record { usage = plan.usage; aircraft = plan.aircraft }
 
 abbrev pub closed_parts : PlanParts → PlanParts
 closed_parts plan = record plan { usage = usage.Closed }

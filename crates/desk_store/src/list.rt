@@ -7,6 +7,7 @@ ghost use Rattle.volume4d.specs.Point.{Point};
 ghost use Rattle.volume4d.specs.Slab.{top_held};
 ghost use Rattle.desk_rules.specs.Conflict.{at_least};
 ghost use Rattle.desk_rules.specs.Limits.{max_plans};
+ghost use Rattle.desk_rules.specs.States.{states_of};
 ghost use Rattle.desk_store.specs.World.{text_cmp, rows_by, stored_of};
 ghost use Rattle.desk_store.specs.Rows.{rival_level, rivals_top};
 ghost use Rattle.desk_store.specs.StoreChange.{changed_by, IsFitting};
@@ -20,7 +21,7 @@ use crate::fault::StoreFault;
 use crate::plan::Plan;
 use crate::store::PlanStore;
 use desk_rules::operator::Operator;
-use desk_rules::plan::PlanRow;
+use desk_rules::plan::{PlanRow, States};
 use desk_rules::plan_id::PlanId;
 use std::alloc::{AllocError, Global};
 use std::collections::BTreeMap;
@@ -85,6 +86,10 @@ impl PlanStore for ListStore {
 
     fn plan(&mut self, operator: &Operator, id: &PlanId) -> Result<Option<PlanRow>, StoreFault> {
         Ok(find_plan(&self.plans, operator, id)?)
+    }
+
+    fn states(&mut self, operator: &Operator, id: &PlanId) -> Result<Option<States>, StoreFault> {
+        Ok(find_states(&self.plans, operator, id))
     }
 
     fn own_count(&mut self, operator: &Operator) -> Result<u32, StoreFault> {
@@ -218,6 +223,15 @@ fn find_plan(plans: &Plans, operator: &Operator, id: &PlanId) -> Result<Option<P
         Some(plan) => Ok(Some(plan.row(*id)?)),
         None => Ok(None),
     }
+}
+
+// The states of the operator's plan of the id.
+fn find_states(plans: &Plans, operator: &Operator, id: &PlanId) -> Option<States>
+    ensures { result ≡ states_of
+        (stored_of id.now (rows_by operator.now (filed_all plans.now.entries))) }
+{
+    let plan = plans.get(&(*operator, *id))?;
+    Some(plan.states())
 }
 
 // How many plans the operator has.

@@ -6,9 +6,9 @@ ghost use Rattle.volume4d.specs.Level.{level_where};
 ghost use Rattle.volume4d.specs.Slab.{slabs_have};
 ghost use Rattle.desk_rules.specs.Plan.{is_live};
 ghost use Rattle.desk_store.specs.Rivals.{AddLevel, ShareAPoint};
-ghost use Rattle.desk_store.specs.Parts.{parts_of, row_of, closed_parts, HasNoPoint};
+ghost use Rattle.desk_store.specs.Parts.{parts_of, row_of, kept_states, closed_parts, HasNoPoint};
 
-use desk_rules::plan::PlanRow;
+use desk_rules::plan::{PlanRow, States};
 use desk_rules::plan_id::PlanId;
 use desk_rules::words::{Aircraft, Usage};
 use std::alloc::AllocError;
@@ -80,6 +80,16 @@ impl Plan {
             aircraft: self.aircraft,
             area: self.area.copy()?,
         })
+    }
+
+    /// The states of the plan.
+    pub fn states(&self) -> States
+        ensures { result ≡ kept_states self.now }
+    {
+        States {
+            usage: self.usage,
+            aircraft: self.aircraft,
+        }
     }
 
     /// Gives it the usage `Closed`.

@@ -5,11 +5,12 @@ ghost use Rattle.desk_store.specs.Frames.{OnlyReads, Remembers};
 ghost use Rattle.desk_store.specs.World.{World, AreInOrder, ceiling_of, plans_of, stored_of};
 ghost use Rattle.desk_store.specs.Rivals.{AreRivals};
 ghost use Rattle.desk_rules.specs.Limits.{max_plans, max_priority};
+ghost use Rattle.desk_rules.specs.States.{states_of};
 
 use crate::change::Change;
 use crate::fault::StoreFault;
 use desk_rules::operator::Operator;
-use desk_rules::plan::PlanRow;
+use desk_rules::plan::{PlanRow, States};
 use desk_rules::plan_id::PlanId;
 use volume4d::{Held, Slab};
 
@@ -55,6 +56,13 @@ pub trait PlanStore {
     fn plan(&mut self, operator: &Operator, id: &PlanId) -> Result<Option<PlanRow>, StoreFault>
         ensures value { IsHonest (doubt self.new) →
             IfOk result (λ row. row ≡ stored_of id.now (plans_of operator.now (content self.old))) }
+        ensures reads { OnlyReads content doubt faults may_leave self.old self.new }
+        ensures cause { IfErr result (IsCounted faults self.old self.new) };
+
+    /// The states of the operator's plan of the id.
+    fn states(&mut self, operator: &Operator, id: &PlanId) -> Result<Option<States>, StoreFault>
+        ensures value { IsHonest (doubt self.new) → IfOk result (λ found.
+            found ≡ states_of (stored_of id.now (plans_of operator.now (content self.old)))) }
         ensures reads { OnlyReads content doubt faults may_leave self.old self.new }
         ensures cause { IfErr result (IsCounted faults self.old self.new) };
 

@@ -31,3 +31,4 @@ pub mod LeavingLemmas
 pub mod GatherLemmas
 pub mod CauseLemmas
 pub mod SlabLemmas
+pub mod StatesLemmas

@@ -11,7 +11,7 @@ use crate::kept::Kept;
 use crate::laws::one_content;
 use crate::reading::readers;
 use desk_rules::operator::Operator;
-use desk_rules::plan::PlanRow;
+use desk_rules::plan::{PlanRow, States};
 use desk_rules::plan_id::PlanId;
 use desk_store::{Change, PlanStore, StoreFault};
 use sqlite::Connection;
@@ -106,6 +106,11 @@ impl<S: Alter> PlanStore for SqliteStore<S> {
 
     fn plan(&mut self, operator: &Operator, id: &PlanId) -> Result<Option<PlanRow>, StoreFault> {
         let answer = readers::plan(self.alloc, &mut self.connection, &self.kept, operator, id);
+        counted(&mut self.faults, answer)
+    }
+
+    fn states(&mut self, operator: &Operator, id: &PlanId) -> Result<Option<States>, StoreFault> {
+        let answer = readers::states(&mut self.connection, &self.kept, operator, id);
         counted(&mut self.faults, answer)
     }
 

@@ -31,7 +31,7 @@ pub fn ready_delete<S: PlanStore>(
     ensures reads { OnlyReads S.content S.doubt S.faults S.may_leave store.old store.new }
     ensures cause { IfErr result (IsStoreCounted S.faults store.old store.new) }
 {
-    if store.plan(operator, id)?.is_none() {
+    if store.states(operator, id)?.is_none() {
         return Err(DeskFault::NoSuchPlan);
     }
     Ok(Pending {

@@ -6,24 +6,23 @@ ghost use Rattle.desk_store.specs.Frames.{OnlyReads};
 ghost use Rattle.desk_store.specs.Faults.{IsHonest, IsCounted};
 
 ghost use Rattle.desk_rules.specs.Limits.{max_priority};
-ghost use Rattle.std.specs.Option.{option_copied};
 ghost use Rattle.desk_store.specs.World.{own, ceiling_of, plans_of, stored_of, held};
 ghost use Rattle.desk_run.specs.Calls.{Readies, change_after};
-ghost use Rattle.desk_rules.specs.Outcome.{outcome, is_check};
-ghost use Rattle.desk_rules.specs.States.{step_of};
+ghost use Rattle.desk_rules.specs.Outcome.{outcome_from, is_check};
+ghost use Rattle.desk_rules.specs.States.{states_of, step_from};
 ghost use Rattle.volume4d.specs.Meeting.{Spot};
 ghost use Rattle.desk_run.specs.Verdicts.{put_ruling, put_outcome_in, row_asked, conflict_in};
 
 use super::Pending;
 use super::conflict::conflict_of;
 use crate::fault::DeskFault;
-use desk_rules::decide::{Effect, Verdict, decide};
+use desk_rules::decide::{Effect, Verdict, decide_from};
 use desk_rules::operator::Operator;
 use desk_rules::permission::Permitted;
-use desk_rules::plan::{PlanRow, PutCall};
+use desk_rules::plan::{PlanRow, PutCall, States};
 use desk_rules::plan_id::PlanId;
 use desk_rules::reply::{PutReply, Reply};
-use desk_rules::transition::{Step, transition};
+use desk_rules::transition::{Step, transition_from};
 use desk_store::{Change, PlanStore, StoreFault};
 use std::alloc::AllocError;
 use volume4d::Meeting;
@@ -84,10 +83,10 @@ fn verdict_on<S: PlanStore>(
     ensures reads { OnlyReads S.content S.doubt S.faults S.may_leave store.old store.new }
     ensures cause { IfErr result (IsCounted S.faults store.old store.new) }
 {
-    let (stored, own_rows) = plan_and_count(store, operator, &put.id)?;
-    let needed = needs_conflict(put, moment, stored.as_ref(), own_rows, ceiling);
+    let (stored, own_rows) = states_and_count(store, operator, &put.id)?;
+    let needed = needs_conflict(put, moment, stored, own_rows, ceiling);
     let meeting = conflict_if(needed, store, permitted, operator, put)?;
-    Ok(decide(put, moment, stored.as_ref(), own_rows, ceiling, meeting))
+    Ok(decide_from(put, moment, stored, own_rows, ceiling, meeting))
 }
 
 // Whether a conflict may change the verdict on a request: nothing else refuses it, and the state table
@@ -96,20 +95,19 @@ fn verdict_on<S: PlanStore>(
 fn needs_conflict(
     put: &PutCall,
     moment: i64,
-    stored: Option<&PlanRow>,
+    stored: Option<States>,
     own_rows: u32,
     ceiling: u32,
 ) -> bool
     ensures settled { result ≡ false → (conflict : Option Spot) →
-        outcome put.now moment (option_copied stored.entry) own_rows ceiling conflict
-        ≡ outcome put.now moment (option_copied stored.entry) own_rows ceiling None }
+        outcome_from put.now moment stored own_rows ceiling conflict
+        ≡ outcome_from put.now moment stored own_rows ceiling None }
     ensures unrefused { result ≡ true →
-        (outcome put.now moment (option_copied stored.entry) own_rows ceiling None).note ≡ None }
-    ensures checked { result ≡ true →
-        is_check (step_of (option_copied stored.entry) put.now) ≡ true }
+        (outcome_from put.now moment stored own_rows ceiling None).note ≡ None }
+    ensures checked { result ≡ true → is_check (step_from stored put.now) ≡ true }
 {
-    let verdict = decide(put, moment, stored, own_rows, ceiling, None);
-    verdict.note.is_none() && is_checked(transition(stored, put))
+    let verdict = decide_from(put, moment, stored, own_rows, ceiling, None);
+    verdict.note.is_none() && is_checked(transition_from(stored, put))
 }
 
 // Whether a step is a check, which a conflict may refuse.
@@ -139,20 +137,20 @@ fn conflict_if<S: PlanStore>(
     conflict_of(store, permitted, operator, &put.id, &put.area, put.priority)
 }
 
-// The operator's plan of the id, and if there is none, how many plans the operator has.
-fn plan_and_count<S: PlanStore>(
+// The states of the operator's plan of the id, and if there is none, how many plans the operator has.
+fn states_and_count<S: PlanStore>(
     store: &mut S,
     operator: &Operator,
     id: &PlanId,
-) -> Result<(Option<PlanRow>, u32), StoreFault>
+) -> Result<(Option<States>, u32), StoreFault>
     ensures stored { IsHonest (S.doubt store.new) → IfOk result (λ own.
-        own.0 ≡ stored_of id.now (plans_of operator.now (S.content store.old))) }
+        own.0 ≡ states_of (stored_of id.now (plans_of operator.now (S.content store.old)))) }
     ensures count { IsHonest (S.doubt store.new) → IfOk result (λ own. own.0 ≡ None →
         own.1 ≡ length (plans_of operator.now (S.content store.old))) }
     ensures reads { OnlyReads S.content S.doubt S.faults S.may_leave store.old store.new }
     ensures cause { IfErr result (IsCounted S.faults store.old store.new) }
 {
-    let stored = store.plan(operator, id)?;
+    let stored = store.states(operator, id)?;
     if stored.is_some() {
         return Ok((stored, 0));
     }

@@ -7,6 +7,7 @@ ghost use Rattle.sqlite_trees.specs.View.{doubt};
 ghost use Rattle.sqlite.specs.State.{HasCleanDisk};
 ghost use Rattle.sqlite.specs.Held.{state};
 ghost use Rattle.desk_rules.specs.Limits.{max_plans, max_priority};
+ghost use Rattle.desk_rules.specs.States.{states_of};
 ghost use Rattle.desk_rules.specs.declared.plan.PlanRow.{PlanRow as Plan};
 ghost use Rattle.desk_store.specs.World.{AreInOrder, Filed, ceiling_of, plans_of, stored_of};
 ghost use Rattle.desk_store.specs.Rivals.{AreRivals};
@@ -23,9 +24,9 @@ ghost use Rattle.desk_sql.specs.Effects.{Spares};
 use crate::kept::Kept;
 use crate::reading::listing::Gather;
 use crate::reading::rivals::{Rivals, low_of, reach_of};
-use crate::reading::values::{area_in, ceiling_in, fault_of, plan_in};
+use crate::reading::values::{area_in, ceiling_in, fault_of, plan_in, states_in};
 use desk_rules::operator::Operator;
-use desk_rules::plan::PlanRow;
+use desk_rules::plan::{PlanRow, States};
 use desk_rules::plan_id::PlanId;
 use desk_sql::{
     operator_named, own_count as plan_count, own_plans as own_listing, plan_of, rival_spans,
@@ -94,6 +95,31 @@ pub(crate) fn heads<S: Alter>(
         Ok(rows) => Ok(rows),
         Err(e) => Err(fault_of(e)),
     }
+}
+
+/// The states of the operator's plan of the id, or none if it is not stored, by the row of `plan` alone.
+///
+/// # Errors
+///
+/// `OutOfMemory` if memory runs out. `Store` if SQLite refuses the query for another cause, or if the
+/// row has no states.
+pub(crate) fn states<S: Alter>(
+    connection: &mut Connection<S>,
+    kept: &Kept,
+    operator: &Operator,
+    id: &PlanId,
+) -> Result<Option<States>, StoreFault>
+    requires { Stands S.Store connection.old kept.now.world }
+    ensures value { HasCleanDisk (state S.Store connection.new) → IfOk result (λ found.
+        found ≡ states_of (stored_of id.now (plans_of operator.now kept.now.world))) }
+    ensures cause { IfErr result (BlamesStore S.Store connection.old connection.new) }
+    ensures stands { Stands S.Store connection.new kept.now.world }
+    ensures doubt { doubt (state S.Store connection.old).is_clean
+        ≤ doubt (state S.Store connection.new).is_clean }
+    ensures spared { Spares S.Store connection.old connection.new }
+{
+    let rows = heads(connection, kept, operator, id)?;
+    states_in(&rows)
 }
 
 // The rows of `volume` of the operator's plan of the id, by place.

@@ -1,7 +1,5 @@
-use Rattle.std.proofs.Common.{◌≡◌, ◌∙◌, ap, subst, refl, w64, to_z, of_z, false, cond, Option, None}
+use Rattle.std.proofs.Common.{◌∙◌, ap, refl, w64, to_z, of_z, cond, None}
 use Rattle.std.proofs.lemmas.Int.{to_z-of_z}
-use Rattle.volume4d.specs.Meeting.{Spot}
-use Rattle.desk_rules.specs.Outcome.{outcome}
 use Rattle.desk_store.specs.laws.Fault.{was_honest}
 use Rattle.desk_run.specs.Verdicts.{conflict_in}
 use Rattle.desk_run.proofs.OutcomeLemmas.{outcome_if_needed}
@@ -20,18 +18,13 @@ returns-clause-verdict g c = λ honest.
     let conflict = conflict_in permitted before o put.id put.area put.priority in
     let counting = was_honest c.conflict_if.ensures.reads.doubt honest in
     verdict_is permitted before o put second c.args.moment c.args.ceiling own.stored own.own_rows conflict
-    c.decide.result
-    (c.decide.ensures ∙ ap (λ s. outcome put second s own.own_rows c.args.ceiling
-    c.in_ok-meeting.meeting) c.as_ref-2.ensures.value
+    c.decide_from.result
+    (c.decide_from.ensures
     ∙ outcome_if_needed put second own.stored own.own_rows c.args.ceiling needed conflict
-    c.in_ok-meeting.meeting
-    (subst (λ s. needed ≡ false → (other : Option Spot)
-    → outcome put second s own.own_rows c.args.ceiling other
-    ≡ outcome put second s own.own_rows c.args.ceiling None) c.as_ref.ensures.value
-    c.needs_conflict-needed.ensures.settled)
+    c.in_ok-meeting.meeting c.needs_conflict-needed.ensures.settled
     (c.in_ok-meeting.ensures.value honest
     ∙ ap (λ w. cond needed (conflict_in permitted w o put.id put.area put.priority) None)
-    c.plan_and_count.ensures.reads.same))
+    c.states_and_count.ensures.reads.same))
     (to_z-of_z w64 c.args.moment c.ranges.moment)
     (own.ensures.stored counting)
     (own.ensures.count counting)
