@@ -13,7 +13,7 @@ pub record Remembers {S : Type 0} (doubt_of faults_of : S → ℕ) (old new : S)
 pub record OnlyReads {S : Type 0} (content_of : S → World) (doubt_of faults_of : S → ℕ)
     (may_leave : S → Option World → Type 0) (old new : S) : Type 0
   where
-  pub same : content_of new ≡ content_of old
-  pub crash : IsHonest (doubt_of new) → LeavesNoMore (may_leave old) (may_leave new)
-  pub doubt : doubt_of old ≤ doubt_of new
-  pub counted : faults_of old ≤ faults_of new
+    pub same : content_of new ≡ content_of old
+    pub crash : IsHonest (doubt_of new) → LeavesNoMore (may_leave old) (may_leave new)
+    pub doubt : doubt_of old ≤ doubt_of new
+    pub counted : faults_of old ≤ faults_of new

@@ -4,7 +4,6 @@ ghost use Rattle.std.specs.Prelude.{◌≡◌, ◌≤◌, ◌<◌, ◌^◌, ◌�
 ghost use Rattle.desk_run.specs.Faults.{IsStoreCounted};
 ghost use Rattle.desk_store.specs.Frames.{OnlyReads};
 ghost use Rattle.desk_store.specs.Faults.{IsHonest};
-
 ghost use Rattle.desk_store.specs.World.{ceiling_of, plans_of};
 ghost use Rattle.desk_rules.specs.Bridge.{AreSlabsOf};
 ghost use Rattle.volume4d.specs.Volume.{Block};

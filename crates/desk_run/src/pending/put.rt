@@ -4,7 +4,6 @@ ghost use Rattle.std.specs.Prelude.{◌≡◌, ◌≤◌, length, Option, Some, 
 ghost use Rattle.desk_run.specs.Faults.{IsStoreCounted};
 ghost use Rattle.desk_store.specs.Frames.{OnlyReads};
 ghost use Rattle.desk_store.specs.Faults.{IsHonest, IsCounted};
-
 ghost use Rattle.desk_rules.specs.Limits.{max_priority};
 ghost use Rattle.desk_store.specs.World.{own, ceiling_of, plans_of, stored_of, held};
 ghost use Rattle.desk_run.specs.Calls.{Readies, change_after};

@@ -11,7 +11,8 @@ pub returns-in_err-serve_connection-clause-kept : goal.returns-in_err-serve_conn
 returns-in_err-serve_connection-clause-kept g c =
     both_kept (IsHonest (g.S.PlanStore.doubt c.loop-before.desk.store))
     (IsHonest (g.S.PlanStore.doubt c.serve_connection.new.desk.store))
-    (was_honest c.serve_connection.ensures.remembered.doubt) (Ok tt) c.serve_connection.result c.from_residual.result
+    (was_honest c.serve_connection.ensures.remembered.doubt) (Ok tt) c.serve_connection.result
+    c.from_residual.result
     c.loop-before.before 1 c.args.count _ _ _ _ _ _ _ _ _ c.loop-before.invariant.kept
     c.serve_connection.ensures.kept (omega (arith, c.loop-before-test.true))
     (λ xs ys first then. stops_by c.from_residual.result c.in_err-serve_connection.field-0.0

@@ -29,7 +29,8 @@ loop-moment-preserved g c =
           (sym c.push_reserved.ensures.items)
           (one_answered (world_of g.S.PlanStore.content c.args.desk.now) w after calls n
           c.loop-moment.outcomes.items
-          call c.in-Ok.outcome (c.loop-moment.invariant.answered (was_honest c.call.ensures.remembered.doubt honest))
+          call c.in-Ok.outcome
+          (c.loop-moment.invariant.answered (was_honest c.call.ensures.remembered.doubt honest))
           c.loop-moment-test.true c.loop-moment-item.is done.0 done.1);
       count = ap length c.push_reserved.ensures.items
           ∙ length-append c.loop-moment.outcomes.items (c.in-Ok.outcome ∷ [])

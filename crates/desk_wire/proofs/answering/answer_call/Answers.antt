@@ -103,7 +103,8 @@ returns-in-Ok-clause-crash g c = λ honest.
 pub returns-in-Ok-clause-kept : goal.returns-in-Ok-clause-kept
 returns-in-Ok-clause-kept g c = λ honest.
     on_ok_weaker c.answer_pending.result (λ keeps settled. keeps
-    (still_settled (c.prepare.ensures.crash (was_honest c.answer_pending.ensures.remembered.doubt honest)) settled
+    (still_settled (c.prepare.ensures.crash (was_honest c.answer_pending.ensures.remembered.doubt honest))
+    settled
     (ap (λ v. v.content) c.prepare.ensures.same)))
     (c.answer_pending.ensures.kept honest)
 
@@ -123,7 +124,8 @@ pub returns-in-Ok-clause-settled : goal.returns-in-Ok-clause-settled
 returns-in-Ok-clause-settled g c = λ honest.
     on_ok_weaker c.answer_pending.result
     (settled_after g.S.PlanStore.content g.S.PlanStore.may_leave _ _ _
-    (c.prepare.ensures.crash (was_honest c.answer_pending.ensures.remembered.doubt honest)) c.prepare.ensures.same)
+    (c.prepare.ensures.crash (was_honest c.answer_pending.ensures.remembered.doubt honest))
+    c.prepare.ensures.same)
     (c.answer_pending.ensures.settled honest)
 
 pub returns-in-Err-UnknownOperator-clause-settled : goal.returns-in-Err-UnknownOperator-clause-settled

@@ -39,17 +39,23 @@ loop-moment-preserved g c =
           (sym c.push_reserved.ensures.items)
           (one_answered (λ q. (q.0, q.1.items)) (λ v. v.items) w now after requests n
           c.loop-moment.answers.items r c.in-Ok.field-0.bytes
-          (c.loop-moment.invariant.answered (was_honest c.answer_request-answer.ensures.remembered.doubt honest))
+          (c.loop-moment.invariant.answered
+          (was_honest c.answer_request-answer.ensures.remembered.doubt honest))
           c.loop-moment-test.true c.loop-moment-item.is done);
       settled = λ honest h. c.in-Ok.ensures.kept honest (is_none_by c.in-Ok.field-0.error none)
-          (c.loop-moment.invariant.settled (was_honest c.answer_request-answer.ensures.remembered.doubt honest) h);
+          (c.loop-moment.invariant.settled
+          (was_honest c.answer_request-answer.ensures.remembered.doubt honest) h);
       count = ap length c.push_reserved.ensures.items
           ∙ length-append c.loop-moment.answers.items (c.in-Ok.field-0.bytes ∷ [])
           ∙ ap (λ k. k + 1) c.loop-moment.invariant.count;
       room = subst (λ k. length requests ≤ k) (sym c.push_reserved.ensures.capacity)
           c.loop-moment.invariant.room;
       doubt = omega (arith, c.loop-moment.invariant.doubt, c.answer_request-answer.ensures.remembered.doubt);
-      counted = omega (arith, c.loop-moment.invariant.counted, c.answer_request-answer.ensures.remembered.counted);
+      counted = omega (
+        arith,
+        c.loop-moment.invariant.counted,
+        c.answer_request-answer.ensures.remembered.counted,
+      );
     }
 
 pub returns-in_default-clause-answers : goal.returns-in_default-clause-answers
