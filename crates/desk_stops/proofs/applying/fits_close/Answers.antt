@@ -10,11 +10,11 @@ unfolding IsFitting
 returns-clause-value g c = λ honest yes.
     let o = c.args.operator.now in
     let found = c.in_ok-plan.ensures.value honest in
-    let listed = c.in_ok-ceiling.ensures.value (was_honest c.plan.ensures.doubt honest) in
+    let listed = c.in_ok-ceiling.ensures.value (was_honest c.plan.ensures.reads.doubt honest) in
     let some : IsSome c.in_ok-ceiling.field-0 = search rules in
     let stored : IsSome c.in_ok-plan.field-0 = search rules in (
-      subst (λ w. IsSome (ceiling_of o w)) (sym (c.plan.ensures.same ∙ c.ceiling.ensures.same))
+      subst (λ w. IsSome (ceiling_of o w)) (sym (c.plan.ensures.reads.same ∙ c.ceiling.ensures.reads.same))
           (subst IsSome listed some),
-      subst (λ w. IsSome (stored_of c.args.id.now (plans_of o w))) (sym c.plan.ensures.same)
+      subst (λ w. IsSome (stored_of c.args.id.now (plans_of o w))) (sym c.plan.ensures.reads.same)
           (subst IsSome found stored),
     )

@@ -10,11 +10,11 @@ unfolding IsFitting
 returns-clause-value g c = λ honest yes.
     let o = c.args.operator.now in
     let counted = c.in_ok-own_count.ensures.value honest in
-    let listed = c.in_ok-ceiling.ensures.value (was_honest c.own_count.ensures.doubt honest) in
+    let listed = c.in_ok-ceiling.ensures.value (was_honest c.own_count.ensures.reads.doubt honest) in
     let some : IsSome c.in_ok-ceiling.field-0 = search rules in (
-      inr (subst (λ w. length (plans_of o w) < 200) (sym c.own_count.ensures.same)
+      inr (subst (λ w. length (plans_of o w) < 200) (sym c.own_count.ensures.reads.same)
           (omega (arith, counted, c.if-branch-ge-MAX_PLANS.false))),
       c.if-row-gt-MAX_PRIORITY.false,
-      subst (λ w. IsSome (ceiling_of o w)) (sym (c.own_count.ensures.same ∙ c.ceiling.ensures.same))
+      subst (λ w. IsSome (ceiling_of o w)) (sym (c.own_count.ensures.reads.same ∙ c.ceiling.ensures.reads.same))
           (subst IsSome listed some),
     )
