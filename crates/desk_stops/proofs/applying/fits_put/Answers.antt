@@ -15,6 +15,7 @@ returns-clause-value g c = λ honest yes.
       inr (subst (λ w. length (plans_of o w) < 200) (sym c.own_count.ensures.reads.same)
           (omega (arith, counted, c.if-branch-ge-MAX_PLANS.false))),
       c.if-row-gt-MAX_PRIORITY.false,
-      subst (λ w. IsSome (ceiling_of o w)) (sym (c.own_count.ensures.reads.same ∙ c.ceiling.ensures.reads.same))
+      subst (λ w. IsSome (ceiling_of o w))
+          (sym (c.own_count.ensures.reads.same ∙ c.ceiling.ensures.reads.same))
           (subst IsSome listed some),
     )

@@ -15,6 +15,7 @@ apply-requires g c = λ honest.
       inr (subst (λ w. length (plans_of o w) < 200) (sym c.own_count.ensures.reads.same)
           (omega (arith, counted, c.if-branch-lt200.true))),
       c.if-row-gt1000.false,
-      subst (λ w. IsSome (ceiling_of o w)) (sym (c.own_count.ensures.reads.same ∙ c.ceiling.ensures.reads.same))
+      subst (λ w. IsSome (ceiling_of o w))
+          (sym (c.own_count.ensures.reads.same ∙ c.ceiling.ensures.reads.same))
           (subst IsSome listed some),
     )
