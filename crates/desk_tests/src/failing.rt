@@ -5,7 +5,7 @@ ghost use Rattle.std.specs.Prelude.{◌≡◌, ◌≤◌, ◌<◌, ◌-◌, ◌^
 use crate::given::{FIRST_PUT, ID, MOMENT, desk_of_alfa};
 use desk_rules::call::{Asked, Call};
 use desk_rules::operator::Operator;
-use desk_rules::plan::PlanRow;
+use desk_rules::plan::{PlanRow, States};
 use desk_rules::plan_id::PlanId;
 use desk_rules::words::Aircraft::{Nominal, OffNominal};
 use desk_rules::words::Style::{Hypothetical, IfAllowed, InReality};
@@ -19,11 +19,12 @@ use std::process::Abort;
 use std::test::Fail;
 use volume4d::{Held, Slab};
 
-/// A store in memory whose calls fail once so many are made.
+/// A store in memory whose calls fail once so many are made, with the number of plans asked for whole.
 #[derive(Drop)]
 struct Failing {
     list: ListStore,
     calls_left: u32,
+    whole_plans: u32,
     fault_count: u64,
 }
 
@@ -56,7 +57,13 @@ impl PlanStore for Failing {
 
     fn plan(&mut self, operator: &Operator, id: &PlanId) -> Result<Option<PlanRow>, StoreFault> {
         fail_at(&mut self.calls_left, &mut self.fault_count)?;
+        self.whole_plans = self.whole_plans.saturating_add(1);
         self.list.plan(operator, id)
+    }
+
+    fn states(&mut self, operator: &Operator, id: &PlanId) -> Result<Option<States>, StoreFault> {
+        fail_at(&mut self.calls_left, &mut self.fault_count)?;
+        self.list.states(operator, id)
     }
 
     fn own_count(&mut self, operator: &Operator) -> Result<u32, StoreFault> {
@@ -91,6 +98,7 @@ fn desk_over(list: ListStore, calls_left: u32) -> Desk<Failing> {
     Desk::new(Failing {
         list,
         calls_left,
+        whole_plans: 0,
         fault_count: 0,
     })
 }
@@ -148,13 +156,14 @@ fn check_run(
     assert!(rt; matches!(ran.stopped, None | Some(DeskFault::Store)));
     let mut store = desk.into_store();
     assert_eq!(rt; store.fault_count, u64::from(answered < 3));
+    assert_eq!(rt; store.whole_plans, 0);
     assert_eq!(rt; usage_in(&mut store.list)?, usage, "{calls_left}");
     Ok(())
 }
 
-// A request for a new plan asks the store for the ceiling, the plan, the count and the rivals, and changes
-// it; one to delete a plan asks for the ceiling and the plan, and changes it; one for the status asks for the
-// ceiling.
+// A request for a new plan asks the store for the ceiling, the states of the plan, the count and the
+// rivals, and changes it; one to delete a plan asks for the ceiling and the states, and changes it; one for
+// the status asks for the ceiling. None asks for a whole plan.
 #[test]
 fn a_run_stops_where_the_store_fails(rt: HostRuntime) -> Result<(), Fail> {
     let calls = calls_of(rt.alloc())?;
@@ -195,8 +204,8 @@ fn list_of_alfa(alloc: Global, has_plan: bool) -> Result<ListStore, Fail> {
     Ok(desk.into_store())
 }
 
-/// Makes a request at a desk whose store fails once so many calls are made: it is answered, and no call
-/// is left.
+/// Makes a request at a desk whose store fails once so many calls are made: it is answered, no call is left,
+/// and no plan was read whole.
 fn check_calls(
     rt: &impl Abort,
     alloc: Global,
@@ -206,13 +215,15 @@ fn check_calls(
     let mut desk = desk_over(list_of_alfa(alloc, has_plan)?, calls);
     let asked = request_for(alloc, states)?;
     assert!(rt; desk.call(alloc, MOMENT, &asked).is_ok());
-    assert_eq!(rt; desk.into_store().calls_left, 0);
+    let store = desk.into_store();
+    assert_eq!(rt; store.calls_left, 0);
+    assert_eq!(rt; store.whole_plans, 0);
     Ok(())
 }
 
-// Each request asks for the ceiling and the plan, and for the number of plans where that plan is not stored.
-// Only one that is checked, and that nothing else refuses, asks for rivals; one that is refused, or that is
-// hypothetical, changes nothing.
+// Each request asks for the ceiling and the states of the plan, and for the number of plans where that plan
+// is not stored. Only one that is checked, and that nothing else refuses, asks for rivals; one that is
+// refused, or that is hypothetical, changes nothing.
 #[test]
 fn a_request_asks_for_no_more_than_it_needs(rt: HostRuntime) -> Result<(), Fail> {
     for row in [
