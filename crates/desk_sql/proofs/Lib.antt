@@ -24,4 +24,9 @@ pub mod AskLemmas
 pub mod TakingLemmas
 pub mod LeavingLemmas
 pub mod HandLemmas
+pub mod SureLemmas
 pub mod Sure
+pub mod SureListings
+pub mod SureRivals
+pub mod StopLemmas
+pub mod DeleteStops

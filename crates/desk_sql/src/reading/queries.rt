@@ -120,7 +120,7 @@ pub fn volumes_of<S: Alter>(
     answer(connection, volumes_of_text(), params![operator, id])
 }
 
-#[tactic(auto, using(crate::proofs::StatementLemmas::own_plans_selected, crate::proofs::Sure::plans))]
+#[tactic(auto, using(crate::proofs::StatementLemmas::own_plans_selected, crate::proofs::SureListings::plans))]
 fn own_plans_text() -> &'static str
     ensures shown { Selects result.now name_row (1 ∷ 5 ∷ []) (λ name. with_volumes (is_by name)) }
     ensures sure { IsSureFor result.now name_row }

@@ -1,0 +1,50 @@
+-- Why a change of a desk's tables is refused.
+use Rattle.std.specs.Prelude.{◌≡◌, ◌≤◌, ℕ, List, [], length, Option, Some, None, Result, Ok, Err, IsSome}
+use Rattle.sqlite.specs.Order.{Row}
+use Rattle.sqlite_resolve.specs.declared.compiled.Compiled.{Compiled}
+use Rattle.sqlite_resolve.specs.declared.error.CompileError.{CompileError}
+use Rattle.sqlite.specs.declared.error.Error.{Error}
+use Rattle.sqlite.specs.declared.error.Error.TheVariants.{SqliteFailure}
+use Rattle.sqlite.specs.declared.error.ErrorCode.TheVariants as code
+use Rattle.sqlite.specs.Calls.{IsWrite}
+use Rattle.sqlite.specs.Does.{Does}
+use Rattle.sqlite.specs.Effect.{Database, IsDatabase}
+use Rattle.sqlite.specs.Listing.{understood}
+use Rattle.sqlite.specs.State.{text_of}
+use Rattle.desk_sql.specs.Schema.{desk_schema}
+use Rattle.desk_sql.specs.Rows.{IsDesk}
+use Rattle.desk_sql.specs.Statements.{enforced}
+
+-- a compiled text that, with so many steps, may stop with this error, or at a row that can't be stored
+abbrev pub MayStop : List ℕ → Result Compiled CompileError → Row → Option ℕ → Database → Option Error
+    → Type 0
+MayStop text (Ok c) params limit old stop =
+    Does limit enforced params old (text_of text c) None c.command (Err stop)
+MayStop text (Err e) params limit old stop = ⊥
+
+-- it stops at the limit on steps
+abbrev pub IsAtLimit : Option ℕ → Option Error → Type 0
+IsAtLimit limit stop = (stop ≡ Some (SqliteFailure code.OperationInterrupted)) × IsSome limit
+
+-- one whole statement with as many parameters, which writes
+pub record IsWholeWrite (text : List ℕ) (count : ℕ) (c : Compiled) : Type 0 where
+  pub bare : c.returning ≡ None
+  pub timeless : c.formats ≡ []
+  pub given : count ≡ length c.names
+  pub whole : length text ≤ c.tail
+  pub writes : IsWrite c.command
+
+abbrev pub IsWholeIn : List ℕ → ℕ → Result Compiled CompileError → Type 0
+IsWholeIn text count (Ok c) = IsWholeWrite text count c
+IsWholeIn text count (Err e) = ⊥
+
+-- a change of a sound desk's tables that, given what fits them, only memory, the disk and a limit on steps
+-- refuse
+pub record IsSureChange {Given : Type 0} (text : List ℕ) (params : Given → Row)
+    (Fits : Given → Database → Type 0) : Type 0
+  where
+    pub means : (given : Given) → IsWholeIn text (length (params given)) (understood desk_schema text)
+    pub never : (given : Given) (limit : Option ℕ) (db : Database) (stop : Option Error) → IsDesk db
+        → IsDatabase db → Fits given db
+        → MayStop text (understood desk_schema text) (params given) limit db stop
+        → IsAtLimit limit stop
