@@ -120,7 +120,7 @@ and_true a b true true p q = rw (p, q)
 and_true a b true false p q = rw (p, q)
 and_true a b false d p q = rw p
 
-agrees : (operator id : List ℕ) (r old : Row) → has_key operator id old ≡ true
+pub agrees : (operator id : List ℕ) (r old : Row) → has_key operator id old ≡ true
     → agree plain key_places r key_places old ≡ has_key operator id r
 unfolding first_key
 agrees operator id r old h =
@@ -378,12 +378,12 @@ module _ (n : ℕ) (db : Trees) (table : Table) (moves : List (Row × Row)) (bel
       × Leads desk_schema Enforced n mid below (Ok next)
   acted h = gone h.0 h.1 h.2
 
-last_one : (below : List Work) (a w : Work) → a ∷ [] ≡ below ++ w ∷ [] → (below ≡ []) × (w ≡ a)
+pub last_one : (below : List Work) (a w : Work) → a ∷ [] ≡ below ++ w ∷ [] → (below ≡ []) × (w ≡ a)
 last_one [] a w e = (refl, cc)
 last_one (x ∷ []) a w e = cc
 last_one (x ∷ y ∷ below) a w e = cc
 
-last_two : (below : List Work) (a b w : Work) → a ∷ b ∷ [] ≡ below ++ w ∷ [] → (below ≡ a ∷ [])
+pub last_two : (below : List Work) (a b w : Work) → a ∷ b ∷ [] ≡ below ++ w ∷ [] → (below ≡ a ∷ [])
     × (w ≡ b)
 last_two [] a b w e = cc
 last_two (x ∷ []) a b w e = (cc, cc)

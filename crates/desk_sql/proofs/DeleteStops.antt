@@ -14,6 +14,8 @@ use Rattle.sqlite.specs.Effect.{Database, RefusesQuery, Answers}
 use Rattle.sqlite.specs.Does.{OnRows, WritesRows}
 use Rattle.sqlite.specs.Rows.{Written, Task, Queried, Deletes}
 use Rattle.sqlite.specs.declared.error.Error.{Error}
+use Rattle.sqlite.specs.declared.error.Error.TheVariants.{SqliteFailure}
+use Rattle.sqlite.specs.declared.error.ErrorCode.TheVariants as code
 use Rattle.sqlite_rules.specs.declared.error.Refusal.{Refusal}
 use Rattle.sqlite_rules.specs.declared.error.Refusal.TheVariants.{Violates, Mismatch, NoRowid, BadReference, TooDeep}
 use Rattle.sqlite_rules.specs.Lists.{Has}
@@ -52,10 +54,11 @@ rows_stopped task command db stop P first keeps (inr (w, h, inr (doubt, tested, 
 
 -- a query that is refused at the limit alone
 pub queried_stopped : (limit : Option ℕ) (db : Database) (q : Program) (params : Row) (stop : Option Error)
-    → ((e : Error) → RefusesQuery limit db q params e → IsAtLimit limit (Some e))
+    → ((e : Error) → RefusesQuery limit db q params e
+    → (e ≡ SqliteFailure code.OperationInterrupted) × IsSome limit)
     → Queried limit db q params (Err stop) → IsAtLimit limit stop
 queried_stopped limit db q params None sure h = absurd h
-queried_stopped limit db q params (Some e) sure h = sure e h
+queried_stopped limit db q params (Some e) sure h = let it = sure e h in (ap Some it.0, it.1)
 
 -- ---- rows that are taken out
 
@@ -134,7 +137,7 @@ quiet_out table fit db gone keeps quiet why h =
 -- a DELETE stops where its query does
 pub deletes_stopped : (task : Task) (q : Program) (db : Trees) (stop : Option Error)
     → ((e : Error) → RefusesQuery task.limit (record { schema = task.schema; trees = db }) q task.params e
-    → IsAtLimit task.limit (Some e))
+    → (e ≡ SqliteFailure code.OperationInterrupted) × IsSome task.limit)
     → ((rows : List Row) (why : Option Refusal)
     → ¬ Writes task.schema task.keys db (edit_of db task.table (ids_of rows) Given 0 []) (Err why))
     → Deletes task q db (Err stop) → IsAtLimit task.limit stop

@@ -30,3 +30,5 @@ pub mod SureListings
 pub mod SureRivals
 pub mod StopLemmas
 pub mod DeleteStops
+pub mod KeyLemmas
+pub mod RemoveStops

@@ -10,7 +10,7 @@ returns-clause-done g c clean =
     let new = c.run.new.tx.conn.now in
     makes g.S.Store old new c.requires.ready (omega (arith, c.run.ensures.doubt, clean))
     (RemovesPlan c.args.operator.now c.args.id.now) (c.in_ok-run.ensures.shown clean)
-    (λ desk. changed _ _ _ c.remove_plan_text.ensures
+    (λ desk. changed _ _ _ c.remove_plan_text.ensures.changed
     (record { operator = c.args.operator.now; id = c.args.id.now }) (state g.S.Store old)
     (state g.S.Store new) desk c.in_ok-run.field-0 (rw (c.params-to_sql.ensures, c.params-to_sql-2.ensures) at
     (c.in_ok-run.ensures.ran clean)))
