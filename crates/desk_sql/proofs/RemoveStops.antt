@@ -171,8 +171,7 @@ module _ (operator id : List ℕ) where
             (has_key_at row p is same))
         | inr other ↦ not_from_false _ other
       ]
-
-  -- ---- the actions
+      -- ---- the actions
 
 module _ (moves : List (Row × Row)) (why : Option Refusal) where
   -- one action, and what is left to do
