@@ -267,7 +267,7 @@ at_has P [] r all none = absurd none
 at_has P (x ∷ rows) r all (inl same) = subst P (sym same) all.0
 at_has P (x ∷ rows) r all (inr there) = at_has P rows r all.1 there
 
-one_row : (rows : List Row) (a b : Row) → IsAscending IsApart rows → Has rows a → Has rows b
+pub one_row : (rows : List Row) (a b : Row) → IsAscending IsApart rows → Has rows a → Has rows b
     → is_eq (value_cmp (rowid a) (rowid b)) ≡ true → a ≡ b
 one_row [] a b apart none there h = absurd none
 one_row (r ∷ rows) a b apart (inl ra) (inl rb) h = ra ∙ sym rb

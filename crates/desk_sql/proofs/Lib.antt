@@ -32,3 +32,5 @@ pub mod StopLemmas
 pub mod DeleteStops
 pub mod KeyLemmas
 pub mod RemoveStops
+pub mod PassLemmas
+pub mod UpdateStops

@@ -1,6 +1,10 @@
 -- Why a change of a desk's tables is refused.
-use Rattle.std.specs.Prelude.{◌≡◌, ◌≤◌, ℕ, List, [], length, Option, Some, None, Result, Ok, Err, IsSome}
+use Rattle.std.specs.Prelude.{◌≡◌, ◌≤◌, ◌^◌, ℕ, true, List, [], length, Option, Some, None, Result, Ok, Err, IsSome}
+use Rattle.std.specs.List.{AllByRecursion}
 use Rattle.sqlite.specs.Order.{Row}
+use Rattle.sqlite.specs.Ops.{fits_i64}
+use Rattle.sqlite.specs.Tree.{rowid}
+use Rattle.sqlite.specs.Edit.{id_in}
 use Rattle.sqlite_resolve.specs.declared.compiled.Compiled.{Compiled}
 use Rattle.sqlite_resolve.specs.declared.error.CompileError.{CompileError}
 use Rattle.sqlite.specs.declared.error.Error.{Error}
@@ -14,6 +18,18 @@ use Rattle.sqlite.specs.State.{text_of}
 use Rattle.desk_sql.specs.Schema.{desk_schema}
 use Rattle.desk_sql.specs.Rows.{IsDesk}
 use Rattle.desk_sql.specs.Statements.{enforced}
+
+-- ---- what SQLite could store for no row
+
+-- SQLite stores rows of at most a billion bytes
+abbrev pub IsShort : List ℕ → Type 0
+IsShort text = length text ≤ 10 ^ 8
+
+-- rowids of 64 bits
+abbrev pub AreLow : List Row → Type 0
+AreLow rows = AllByRecursion (λ r. fits_i64 (id_in (rowid r)) ≡ true) rows
+
+-- ---- what stops a statement
 
 -- a compiled text that, with so many steps, may stop with this error, or at a row that can't be stored
 abbrev pub MayStop : List ℕ → Result Compiled CompileError → Row → Option ℕ → Database → Option Error
