@@ -34,3 +34,6 @@ pub mod KeyLemmas
 pub mod RemoveStops
 pub mod PassLemmas
 pub mod UpdateStops
+pub mod SizeLemmas
+pub mod InPlaceStops
+pub mod SetStops

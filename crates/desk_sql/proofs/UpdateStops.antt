@@ -1,4 +1,4 @@
--- An UPDATE that leaves each row its rowid and its keys stops only at the limit on steps.
+-- Rows that are set in their places pass every test.
 use Rattle.std.proofs.Common.{◌≡◌, ◌≢◌, inl, inr, ℕ, ℤ, Bool, true, false, not, cond, List, [], ◌∷◌, ◌++◌, map, filter, length, drop, None, Some, Option, Ok, Err, refl, sym, ap, ap₂, subst, ◌∙◌, true≢false}
 use Rattle.std.specs.Prelude.{IsSome}
 use Rattle.std.specs.List.{AllByRecursion, list_any, list_all}
@@ -96,6 +96,13 @@ pub record Sets (table : Table) (wanted : Row → Bool) (g : Row → Row) (cells
     pub row : (r : Row) → is_int (rowid r) ≡ true → wanted r ≡ true → g r ≡ rowid r ∷ cells
     pub keys : (r : Row) → is_int (rowid r) ≡ true → wanted r ≡ true → KeepsKeys desk_schema table r (g r)
 
+-- what the cells of each such row have to pass
+pub record IsGood (table : Table) (db : Trees) (cells : Row) : Type 0 where
+  pub typed : (n : ℤ) → passes Datatype desk_schema db table (Int n ∷ cells) ≡ true
+  pub present : (n : ℤ) → passes NotNull desk_schema db table (Int n ∷ cells) ≡ true
+  pub checked : (n : ℤ) → passes Check desk_schema db table (Int n ∷ cells) ≡ true
+  pub stored : (n : ℤ) → ¬ IsOversized desk_schema table (Int n ∷ cells)
+
 module _ (table : Table) (listed : Has desk_schema.tables table) (fit : IsReferredTo table)
     (db : Trees) (news : List Row) (wanted : Row → Bool) (g : Row → Row) (cells : Row)
     (num : AreNumbered (db table.tree)) (sets : Sets table wanted g cells)
@@ -177,13 +184,6 @@ module _ (table : Table) (listed : Has desk_schema.tables table) (fit : IsReferr
     keys = fit;
   }
 
-  -- what the cells of each such row have to pass
-  pub record IsGood : Type 0 where
-    pub typed : (n : ℤ) → passes Datatype desk_schema db table (Int n ∷ cells) ≡ true
-    pub present : (n : ℤ) → passes NotNull desk_schema db table (Int n ∷ cells) ≡ true
-    pub checked : (n : ℤ) → passes Check desk_schema db table (Int n ∷ cells) ≡ true
-    pub stored : (n : ℤ) → ¬ IsOversized desk_schema table (Int n ∷ cells)
-
   shape : (n : Row) → Has news n → (id : ℤ) × (n ≡ Int id ∷ cells) × (r : Row) × Has rows r
       × (id ≡ id_in (rowid r))
   shape n there =
@@ -195,7 +195,7 @@ module _ (table : Table) (listed : Has desk_schema.tables table) (fit : IsReferr
         refl,
       )
 
-  pub passes_all : (gone : List ℤ) → without_all rows gone ≡ left → AreLow rows → IsGood
+  pub passes_all : (gone : List ℤ) → without_all rows gone ≡ left → AreLow rows → IsGood table db cells
       → list_all (is_key_of desk_schema) table.references ≡ true → Keeps Unique desk_schema db
       → Passes db (record { table = table; gone = gone; news = news })
   passes_all gone leaves low good refers keeps =
