@@ -150,4 +150,3 @@ module _ (limit : Option ℕ) (params : Row) (name : List ℕ) (cols : List Colu
         (λ t known. all_has (λ (t : Table). t.tree ≢ tree → w.trees t.tree ≡ db t.tree) desk_schema.tables t
         step.tables known)
         (twins s.found s.are w.trees step.rows) (obeyed_refers desk_schema db it.obeys))
-

@@ -53,7 +53,6 @@ use Rattle.desk_sql.proofs.KeyLemmas.{obeyed_refers}
 use Rattle.desk_sql.proofs.PassLemmas.{Passes, passed, refers_twins}
 use Rattle.desk_sql.proofs.UpdateStops.{Sets, IsGood, passes_all, twins_of}
 use Rattle.desk_sql.proofs.SizeLemmas.{operator_stored, plan_stored}
-
 use Rattle.desk_sql.proofs.InPlaceStops.{never_stops}
 
 ceiling_fits : (c : Ceiling) (trees : Trees)
@@ -128,8 +127,14 @@ module _ (c : Ceiling) (limit : Option ℕ) (old : Database) (desk : IsDesk old)
         sets = record {
           row = ceiling_set;
           keys = λ r whole is. record {
-            unique = ((λ on. (text_same (column r 1) c.name is
-                ∙ sym (ap (λ x. column x 1) (ceiling_set r whole is)), tt)), (off, (off, (off, (off, tt)))));
+            unique = (
+              (λ on. (
+                text_same (column r 1) c.name is
+                    ∙ sym (ap (λ x. column x 1) (ceiling_set r whole is)),
+                tt,
+              )),
+              (off, (off, (off, (off, tt)))),
+            );
             refers = tt;
           };
         };
@@ -203,8 +208,13 @@ module _ (c : Closing) (limit : Option ℕ) (old : Database) (desk : IsDesk old)
         sets = record {
           row = closing_set;
           keys = λ r whole is. record {
-            unique = (off, ((λ on. (closing_key r whole is, (closing_id r whole is, tt))),
-                (off, (off, (off, tt)))));
+            unique = (
+              off,
+              (
+                (λ on. (closing_key r whole is, (closing_id r whole is, tt))),
+                (off, (off, (off, tt))),
+              ),
+            );
             refers = ((closing_key r whole is, tt), tt);
           };
         };

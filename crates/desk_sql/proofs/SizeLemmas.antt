@@ -78,9 +78,22 @@ operator_stored name ceiling short n (inr (i, inr (inr (inr (inr (inr none)))), 
 pub plan_stored : (operator id : List ℕ) (priority usage aircraft : ℕ) → IsShort operator → IsShort id
     → (n : ℤ) → ¬ IsOversized desk_schema plan_at (Int n ∷ plan_row operator id priority usage aircraft)
 plan_stored operator id priority usage aircraft short brief n (inl big) = big (
-  storable (Int n ∷ plan_row operator id priority usage aircraft) (omega arith) (omega arith)
-      (whole n, (text operator, (text id, (whole (pos priority), (whole (pos usage),
-      (whole (pos aircraft), tt))))))
+  storable (Int n ∷ plan_row operator id priority usage aircraft) (omega arith) (omega arith) (
+    whole n,
+    (
+      text operator,
+      (
+        text id,
+        (
+          whole (pos priority),
+          (
+            whole (pos usage),
+            (whole (pos aircraft), tt),
+          ),
+        ),
+      ),
+    ),
+  )
       (omega (arith, short, brief)),
   omega arith,
 )

@@ -23,6 +23,7 @@ use Rattle.sqlite.specs.Store.{Ghosts}
 use Rattle.sqlite.specs.Held.{Held, state}
 use Rattle.desk_sql.specs.Schema.{desk_schema}
 use Rattle.desk_sql.specs.Rows.{IsDesk}
+use Rattle.desk_sql.specs.Effects.{IsReady}
 use Rattle.desk_sql.specs.Batches.{IsUnderWay}
 use Rattle.desk_sql.specs.Refusals.{IsRefusal}
 use Rattle.desk_sql.specs.Statements.{enforced}
@@ -185,6 +186,25 @@ refused_change g old new text params Fits sure given way clean fits e h =
     schema stops))
     (subst (λ s. IsWholeIn text (length (params given)) (understood s text)) (sym schema)
     (sure.means given)) h
+
+-- a text that is not prepared is not run
+not_run : (text : List ℕ) (params : Row) (old new : State) (e : Error) → IsTrue new.is_open
+    → (IsTrue old.is_open → IsWholeIn text (length params) (understood old.now.schema text))
+    → IsNotRun old new text params e → IsCause old new e
+unfolding IsNotRun
+not_run text params old new e live whole (inl h) =
+    absurd (is_statement text params old e (whole h.1.0.was_open) h.0)
+not_run text params old new e live whole (inr (cause, is, h, back, _)) =
+    by_store old new e cause is h (back.was_open live)
+
+pub refused_unprepared : {Given S : Type 0} (g : Ghosts S) (old new : Held S) (text : List ℕ)
+    (params : Given → Row) (Fits : Given → Database → Type 0) → IsSureChange text params Fits
+    → (given : Given) → IsReady g old → HasCleanDisk (state g old) → IsTrue (state g new).is_open
+    → (e : Error) → IsNotRun (state g old) (state g new) text (params given) e → IsRefusal g old new e
+refused_unprepared g old new text params Fits sure given ready clean live e =
+    not_run text (params given) (state g old) (state g new) e live
+    (λ was. subst (λ s. IsWholeIn text (length (params given)) (understood s text))
+    (sym (ready clean was).schema) (sure.means given))
 
 -- a text that is this command stops where the command does
 pub stop_did : (text : List ℕ) (params : Row) (limit : Option ℕ) (old : Database) (stop : Option Error)

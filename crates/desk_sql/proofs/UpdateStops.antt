@@ -175,11 +175,11 @@ module _ (table : Table) (listed : Has desk_schema.tables table) (fit : IsReferr
                 record { id = sym (same_id o whole is); keys = sets.keys o whole is },
               ))
           | inr other ↦ (
-              o,
-              subst (λ l. Has l o) (sym now) (put_all_keeps news left o fresh
-                  (has_kept (λ r. not (wanted r)) rows o there (not_from_false _ other))),
-              itself table o,
-            )
+            o,
+            subst (λ l. Has l o) (sym now) (put_all_keeps news left o fresh
+                (has_kept (λ r. not (wanted r)) rows o there (not_from_false _ other))),
+            itself table o,
+          )
         ];
     keys = fit;
   }
