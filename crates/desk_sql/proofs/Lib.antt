@@ -37,3 +37,5 @@ pub mod UpdateStops
 pub mod SizeLemmas
 pub mod InPlaceStops
 pub mod SetStops
+pub mod AddLemmas
+pub mod InsertStops

@@ -1,10 +1,10 @@
 -- Why a change of a desk's tables is refused.
-use Rattle.std.specs.Prelude.{◌≡◌, ◌≤◌, ◌^◌, ℕ, true, List, [], length, Option, Some, None, Result, Ok, Err, IsSome}
-use Rattle.std.specs.List.{AllByRecursion}
-use Rattle.sqlite.specs.Order.{Row}
+use Rattle.std.specs.Prelude.{◌≡◌, ◌≤◌, ◌<◌, ◌^◌, ◌+ℤ◌, ℕ, pos, Bool, true, false, List, [], length, Option, Some, None, Result, Ok, Err, IsSome}
+use Rattle.std.specs.List.{AllByRecursion, list_all, list_any, range_with_len}
+use Rattle.sqlite.specs.Order.{Row, column}
 use Rattle.sqlite.specs.Ops.{fits_i64}
-use Rattle.sqlite.specs.Tree.{rowid}
-use Rattle.sqlite.specs.Edit.{id_in}
+use Rattle.sqlite.specs.Tree.{rowid, IsTable}
+use Rattle.sqlite.specs.Edit.{id_in, next_rowid}
 use Rattle.sqlite_resolve.specs.declared.compiled.Compiled.{Compiled}
 use Rattle.sqlite_resolve.specs.declared.error.CompileError.{CompileError}
 use Rattle.sqlite.specs.declared.error.Error.{Error}
@@ -16,7 +16,7 @@ use Rattle.sqlite.specs.Effect.{Database, IsDatabase}
 use Rattle.sqlite.specs.Listing.{understood}
 use Rattle.sqlite.specs.State.{text_of}
 use Rattle.desk_sql.specs.Schema.{desk_schema}
-use Rattle.desk_sql.specs.Rows.{IsDesk}
+use Rattle.desk_sql.specs.Rows.{IsDesk, is_same}
 use Rattle.desk_sql.specs.Statements.{enforced}
 
 -- ---- what SQLite could store for no row
@@ -28,6 +28,24 @@ IsShort text = length text ≤ 10 ^ 8
 -- rowids of 64 bits
 abbrev pub AreLow : List Row → Type 0
 AreLow rows = AllByRecursion (λ r. fits_i64 (id_in (rowid r)) ≡ true) rows
+
+-- rows in the order of their rowids, with room for so many after the last
+pub record HasRoom (count : ℕ) (rows : List Row) : Type 0 where
+  pub rising : IsTable rows
+  pub low : AreLow rows
+  pub next : (k : ℕ) → k < count → fits_i64 (next_rowid rows +ℤ pos k) ≡ true
+
+-- ---- keys
+
+-- the same key, which is so many of the first columns
+abbrev pub has_same_key : ℕ → Row → Row → Bool
+has_same_key width a b = list_all (λ at. is_same (column a at) (column b at)) (range_with_len 0 width)
+
+abbrev pub HasKey : ℕ → Row → List Row → Type 0
+HasKey width row rows = list_any (λ r. has_same_key width r row) rows ≡ true
+
+abbrev pub LacksKey : ℕ → Row → List Row → Type 0
+LacksKey width row rows = list_any (λ r. has_same_key width r row) rows ≡ false
 
 -- ---- what stops a statement
 
