@@ -23,11 +23,11 @@ obeyed_refers schema db obeys = refers_from All schema db (λ t ref row known k 
     test_has _ t.references ref (keeps_at ForeignKey schema db t row (obeys.rules ForeignKey) known there)
     k)
 
-operator_key : parent_key desk_schema.tables to_operator ≡ Some (0, 1 ∷ [], plain)
+pub operator_key : parent_key desk_schema.tables to_operator ≡ Some (0, 1 ∷ [], plain)
 unfolding everything
 operator_key = refl
 
-plan_key : parent_key desk_schema.tables to_plan ≡ Some (2, key_places, plain)
+pub plan_key : parent_key desk_schema.tables to_plan ≡ Some (2, key_places, plain)
 unfolding everything
 plan_key = refl
 

@@ -39,3 +39,4 @@ pub mod InPlaceStops
 pub mod SetStops
 pub mod AddLemmas
 pub mod InsertStops
+pub mod InsertTexts

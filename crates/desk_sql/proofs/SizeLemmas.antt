@@ -16,8 +16,8 @@ use Rattle.sqlite_schema.specs.Rules.{table_reals, index_reals}
 use Rattle.sqlite_schema.specs.declared.schema.Index.{Index}
 use Rattle.sqlite_schema.specs.declared.schema.Table.{Table}
 use Rattle.sqlite_rules.specs.Lists.{Has}
-use Rattle.desk_sql.specs.Schema.{desk_schema, operator_table, plan_table}
-use Rattle.desk_sql.specs.Rows.{operator_row, plan_row}
+use Rattle.desk_sql.specs.Schema.{desk_schema, operator_table, plan_table, volume_table, span_table}
+use Rattle.desk_sql.specs.Rows.{operator_row, plan_row, volume_row, span_row}
 use Rattle.desk_sql.specs.Changing.{IsShort}
 
 pub whole : (n : ℤ) → NotNan (number (Int n))
@@ -111,4 +111,125 @@ plan_stored operator id priority usage aircraft short brief n
 plan_stored operator id priority usage aircraft short brief n
     (inr (i, inr (inr (inr (inr (inl is)))), on, big)) = absurd (let e = other_index i _ 2 is on in cc)
 plan_stored operator id priority usage aircraft short brief n
+    (inr (i, inr (inr (inr (inr (inr none)))), on, big)) = absurd none
+
+abbrev volume_at : Table
+volume_at = record volume_table { tree = 4 }
+
+abbrev span_at : Table
+span_at = record span_table { tree = 6 }
+
+pub volume_stored : (operator id : List ℕ) (place : ℕ) (lower upper start stop : ℤ) (asked : List ℕ)
+    → IsShort operator → IsShort id → IsShort asked → (n : ℤ)
+    → ¬ IsOversized desk_schema volume_at
+    (Int n ∷ volume_row operator id place lower upper start stop asked)
+volume_stored operator id place lower upper start stop asked short brief small n (inl big) = big (
+  storable (Int n ∷ volume_row operator id place lower upper start stop asked) (omega arith)
+      (omega arith) (
+        whole n,
+        (
+          text operator,
+          (
+            text id,
+            (
+              whole (pos place),
+              (
+                whole lower,
+                (
+                  whole upper,
+                  (whole start, (whole stop, (blob asked, tt))),
+                ),
+              ),
+            ),
+          ),
+        ),
+      ) (omega (arith, short, brief, small)),
+  omega arith,
+)
+volume_stored operator id place lower upper start stop asked short brief small n
+    (inr (i, inr (inr (inl is)), on, big)) =
+    subst (λ (i : Index). ¬ IsStorable (index_reals (table_reals volume_at) i.columns)
+    (entry_of i.columns (Int n ∷ volume_row operator id place lower upper start stop asked))) is big
+    (storable (Text operator ∷ Text id ∷ Int (pos place) ∷ Int n ∷ []) (omega arith) (omega arith)
+    (text operator, (text id, (whole (pos place), (whole n, tt)))) (omega (arith, short, brief)))
+volume_stored operator id place lower upper start stop asked short brief small n
+    (inr (i, inl is, on, big)) = absurd (let e = other_index i _ 4 is on in cc)
+volume_stored operator id place lower upper start stop asked short brief small n
+    (inr (i, inr (inl is), on, big)) = absurd (let e = other_index i _ 4 is on in cc)
+volume_stored operator id place lower upper start stop asked short brief small n
+    (inr (i, inr (inr (inr (inl is))), on, big)) = absurd (let e = other_index i _ 4 is on in cc)
+volume_stored operator id place lower upper start stop asked short brief small n
+    (inr (i, inr (inr (inr (inr (inl is)))), on, big)) = absurd (let e = other_index i _ 4 is on in cc)
+volume_stored operator id place lower upper start stop asked short brief small n
+    (inr (i, inr (inr (inr (inr (inr none)))), on, big)) = absurd none
+
+pub span_stored : (operator id : List ℕ) (place : ℕ) (first last lower upper start stop : ℤ) (priority : ℕ)
+    → IsShort operator → IsShort id → (n : ℤ)
+    → ¬ IsOversized desk_schema span_at
+    (Int n ∷ span_row operator id place first last lower upper start stop priority)
+span_stored operator id place first last lower upper start stop priority short brief n (inl big) = big (
+  storable (Int n ∷ span_row operator id place first last lower upper start stop priority) (omega arith)
+      (omega arith) (
+        whole n,
+        (
+          text operator,
+          (
+            text id,
+            (
+              whole (pos place),
+              (
+                whole first,
+                (
+                  whole last,
+                  (whole lower, (whole upper, (whole start, (whole stop, (whole (pos priority), tt))))),
+                ),
+              ),
+            ),
+          ),
+        ),
+      )
+      (omega (arith, short, brief)),
+  omega arith,
+)
+span_stored operator id place first last lower upper start stop priority short brief n
+    (inr (i, inr (inr (inr (inl is))), on, big)) =
+    subst (λ (i : Index). ¬ IsStorable (index_reals (table_reals span_at) i.columns)
+    (entry_of i.columns (Int n ∷ span_row operator id place first last lower upper start stop priority)))
+    is big
+    (storable (Text operator ∷ Text id ∷ Int (pos place) ∷ Int first ∷ Int n ∷ []) (omega arith)
+    (omega arith) (text operator, (text id, (whole (pos place), (whole first, (whole n, tt)))))
+    (omega (arith, short, brief)))
+span_stored operator id place first last lower upper start stop priority short brief n
+    (inr (i, inr (inr (inr (inr (inl is)))), on, big)) =
+    subst (λ (i : Index). ¬ IsStorable (index_reals (table_reals span_at) i.columns)
+    (entry_of i.columns (Int n ∷ span_row operator id place first last lower upper start stop priority)))
+    is big
+    (storable (Int first ∷ Int last ∷ Int lower ∷ Int upper ∷ Int start ∷ Int stop ∷ Int (pos priority)
+    ∷ Text operator ∷ Text id ∷ Int n ∷ []) (omega arith) (omega arith) (
+      whole first,
+      (
+        whole last,
+        (
+          whole lower,
+          (
+            whole upper,
+            (
+              whole start,
+              (
+                whole stop,
+                (whole (pos priority), (text operator, (text id, (whole n, tt)))),
+              ),
+            ),
+          ),
+        ),
+      ),
+    )
+    (omega (arith, short, brief)))
+span_stored operator id place first last lower upper start stop priority short brief n
+    (inr (i, inl is, on, big)) = absurd (let e = other_index i _ 6 is on in cc)
+span_stored operator id place first last lower upper start stop priority short brief n
+    (inr (i, inr (inl is), on, big)) = absurd (let e = other_index i _ 6 is on in cc)
+span_stored operator id place first last lower upper start stop priority short brief n
+    (inr (i, inr (inr (inl is)), on, big)) = absurd (let e = other_index i _ 6 is on in cc)
+span_stored operator id place first last lower upper start stop priority short brief n
     (inr (i, inr (inr (inr (inr (inr none)))), on, big)) = absurd none

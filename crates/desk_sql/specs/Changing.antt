@@ -16,7 +16,7 @@ use Rattle.sqlite.specs.Effect.{Database, IsDatabase}
 use Rattle.sqlite.specs.Listing.{understood}
 use Rattle.sqlite.specs.State.{text_of}
 use Rattle.desk_sql.specs.Schema.{desk_schema}
-use Rattle.desk_sql.specs.Rows.{IsDesk, is_same}
+use Rattle.desk_sql.specs.Rows.{IsDesk, is_same, tables_of}
 use Rattle.desk_sql.specs.Statements.{enforced}
 
 -- ---- what SQLite could store for no row
@@ -46,6 +46,27 @@ HasKey width row rows = list_any (λ r. has_same_key width r row) rows ≡ true
 
 abbrev pub LacksKey : ℕ → Row → List Row → Type 0
 LacksKey width row rows = list_any (λ r. has_same_key width r row) rows ≡ false
+
+-- room for one more row, whose key no row has
+abbrev pub IsNewRow : ℕ → Row → List Row → List Row → Type 0
+IsNewRow width row stored shown = HasRoom 1 stored × LacksKey width row shown
+
+-- ---- what fits each INSERT
+
+abbrev pub FitsOperator : List ℕ → Row → Database → Type 0
+FitsOperator name row db = IsShort name × IsNewRow 1 row (db.trees 0) (tables_of db.trees).operators
+
+abbrev pub FitsPlan : List ℕ → List ℕ → Row → Database → Type 0
+FitsPlan operator id row db = IsShort operator × IsShort id
+    × IsNewRow 2 row (db.trees 2) (tables_of db.trees).plans × HasKey 1 row (tables_of db.trees).operators
+
+abbrev pub FitsVolume : List ℕ → List ℕ → List ℕ → Row → Database → Type 0
+FitsVolume operator id asked row db = IsShort operator × IsShort id × IsShort asked
+    × IsNewRow 3 row (db.trees 4) (tables_of db.trees).volumes × HasKey 2 row (tables_of db.trees).plans
+
+abbrev pub FitsSpan : List ℕ → List ℕ → Row → Database → Type 0
+FitsSpan operator id row db = IsShort operator × IsShort id
+    × IsNewRow 4 row (db.trees 6) (tables_of db.trees).spans × HasKey 2 row (tables_of db.trees).plans
 
 -- ---- what stops a statement
 
