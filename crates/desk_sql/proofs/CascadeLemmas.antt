@@ -96,7 +96,7 @@ not_null (Real n) t h = refl
 not_null (Text n) t h = refl
 not_null (Blob n) t h = refl
 
-null_is_none : (v : Value) (t : List ℕ) → (not (is_null v) && is_text v t) ≡ is_text v t
+pub null_is_none : (v : Value) (t : List ℕ) → (not (is_null v) && is_text v t) ≡ is_text v t
 null_is_none Null t = sym (ap is_eq (value_cmp-Null (Text t)))
 null_is_none (Int n) t = refl
 null_is_none (Real n) t = refl

@@ -33,7 +33,7 @@ use Rattle.desk_sql.specs.Changing.{FitsOperator, FitsPlan, FitsVolume, FitsSpan
 use Rattle.desk_sql.proofs.Texts.{insert_operator_text, insert_plan_text, insert_volume_text, insert_span_text}
 use Rattle.desk_sql.proofs.CommandTexts.{insert_operator_is, insert_operator_terms, insert_plan_is, insert_plan_terms, insert_volume_is, insert_volume_terms, insert_span_is, insert_span_terms}
 use Rattle.desk_sql.proofs.ReadLemmas.{equals}
-use Rattle.desk_sql.proofs.NumberLemmas.{any_map}
+use Rattle.desk_sql.proofs.NumberLemmas.{any_map, any_same}
 use Rattle.desk_sql.proofs.WriteLemmas.{task_at, cast_int}
 use Rattle.desk_sql.proofs.StopLemmas.{sure_change}
 use Rattle.desk_sql.proofs.KeyLemmas.{operator_key, plan_key}
@@ -46,10 +46,6 @@ then : {a b : Value} {xs ys : Row} → a ≡ b → xs ≡ ys → a ∷ xs ≡ b 
 then p q = ap₂ (λ x xs. x ∷ xs) p q
 
 -- ---- keys of stored rows, and of rows as they are shown
-
-any_same : (p q : Row → Bool) → ((r : Row) → p r ≡ q r) → (rows : List Row) → list_any p rows ≡ list_any q rows
-any_same p q same [] = refl
-any_same p q same (r ∷ rows) = ap₂ (λ a b. a || b) (same r) (any_same p q same rows)
 
 -- what holds of a row as it is shown
 shown_any : (p q : Row → Bool) (show : Row → Row) → ((r : Row) → p r ≡ q (show r)) → (rows : List Row)

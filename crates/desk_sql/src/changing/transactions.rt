@@ -6,7 +6,7 @@ ghost use Rattle.desk_sql.specs.Rows.{PutsOperator, ClosesPlan, is_by, plan_row,
 ghost use Rattle.std.specs.List.{list_any};
 ghost use Rattle.std.specs.String.{string_bytes};
 ghost use Rattle.desk_sql.specs.Batches.{PutsPlan, RemovesPlans, volume_of, span_of};
-ghost use Rattle.desk_sql.specs.Changing.{AreLow, IsShort};
+ghost use Rattle.desk_sql.specs.Changing.{AreLow, HasRoom, IsShort};
 ghost use Rattle.desk_sql.specs.Refusals.{IsRefusal};
 ghost use Rattle.desk_sql.specs.Effects.{IsReady, IsKept, Commits, MayMake, Spares};
 
@@ -123,6 +123,10 @@ pub fn put_operator<S: Alter>(
         (PutsOperator name.now ceiling)) }
     ensures kept { OnErr result (IsKept S.Store connection.old connection.new) }
     ensures mode { connection.new.in_transaction ≡ false }
+    ensures cause { IsShort name.now → HasRoom 1 ((state S.Store connection.old).now.trees 0)
+        → HasCleanDisk (state S.Store connection.new)
+        → IsTrue (state S.Store connection.new).is_open
+        → IfErr result (IsRefusal S.Store connection.old connection.new) }
     ensures doubt { doubt (state S.Store connection.old).is_clean ≤ doubt
         (state S.Store connection.new).is_clean }
     ensures faults { (state S.Store connection.old).faults ≤ (state S.Store connection.new).faults }
@@ -131,6 +135,7 @@ pub fn put_operator<S: Alter>(
 {
     let is_there = is_enrolled(connection, name)?;
     let _settled = connection.is_autocommit();
+    let _sound = connection.schema();
     let mut tx = connection.transaction();
     if is_there {
         set_ceiling(&mut tx, name, ceiling)?;
