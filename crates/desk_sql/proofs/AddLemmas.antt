@@ -1,8 +1,7 @@
 -- A row that is added under a free rowid and a free key, and whose parents are there, passes every test.
-use Rattle.std.proofs.Common.{◌≡◌, ◌≢◌, ◌<◌, ◌+ℤ◌, pos, ◌⊎◌, inl, inr, ◌/◌, ℕ, ℤ, Bool, true, false, not, ◌&&◌, ◌||◌, List, [], ◌∷◌, ◌++◌, length, None, Some, Option, Ok, Err, Result, refl, sym, ap, ap₂, subst, ◌∙◌, true≢false, arith}
-use Rattle.std.specs.Prelude.{IsTrue}
+use Rattle.std.proofs.Common.{◌≡◌, ◌≢◌, ◌<◌, ◌+ℤ◌, pos, ◌⊎◌, inl, inr, ℕ, ℤ, true, false, not, ◌&&◌, List, [], ◌∷◌, None, Some, Option, refl, sym, ap, subst, arith}
 use Rattle.std.specs.List.{AllByRecursion, list_any, list_all}
-use Rattle.std.proofs.lemmas.Bool.{and_from, and_parts, both_ways, cases_Bool, cases_eq, false_from_ne_true, not-true, not_from_false, or_cases, or_left, or_right}
+use Rattle.std.proofs.lemmas.Bool.{and_from, and_parts, both_ways, cases_eq, false_from_ne_true, not-true, not_from_false, or_cases, or_left, or_right}
 use Rattle.std.proofs.lemmas.Cmp.{tied_itself}
 use Rattle.std.proofs.lemmas.Int.{ints}
 use Rattle.sqlite_value.proofs.OrderLemmas.{value_cmp_total}
@@ -11,30 +10,25 @@ use Rattle.std.specs.Ordering.{is_ne}
 use Rattle.sqlite.specs.Order.{Row, column}
 use Rattle.sqlite.specs.Ops.{fits_i64}
 use Rattle.sqlite.specs.declared.types.Value.TheVariants.{Int}
-use Rattle.sqlite.specs.declared.error.Error.{Error}
 use Rattle.sqlite.specs.Tree.{Trees, rowid, put_row, with_tree, IsTable}
 use Rattle.sqlite.specs.View.{is_int}
 use Rattle.sqlite.specs.Table.{Table}
 use Rattle.sqlite.specs.Edit.{Edit, edit_of, edited, is_taken, next_rowid, with_rowid}
 use Rattle.sqlite.specs.Rowids.TheVariants.{Chosen}
-use Rattle.sqlite.specs.Rows.{Written, Task, Sourced, Inserts}
 use Rattle.sqlite.specs.Source.{Source}
 use Rattle.sqlite_rules.specs.Lists.{Has}
-use Rattle.sqlite_rules.specs.declared.error.Refusal.{Refusal}
-use Rattle.sqlite_rules.specs.Action.{Writes}
 use Rattle.sqlite_rules.proofs.ListLemmas.{all_has, some_has, some_from, test_has, test_from}
 use Rattle.sqlite_rules.proofs.KeyLemmas.{agree_back, differ_back}
 use Rattle.sqlite_rules.proofs.RuleLemmas.{keeps_at, keeps_from, same_table, refers_at, refers_from, parent_is_table}
-use Rattle.sqlite_rules.proofs.TableLemmas.{has_put, put_has, put_all_keeps}
+use Rattle.sqlite_rules.proofs.TableLemmas.{put_has, put_all_keeps}
 use Rattle.sqlite_rules.proofs.PlaceLemmas.{next_is_free}
-use Rattle.sqlite_rules.proofs.ActionLemmas.{no_works}
-use Rattle.sqlite_schema.specs.Rules.{ParentKey, agree, differ, clashes, guards, passes, has_null, has_parent, is_held, is_key_of, parent_key, Keeps, Obeys, Refers}
+use Rattle.sqlite_schema.specs.Rules.{ParentKey, agree, differ, clashes, guards, has_null, has_parent, is_held, is_key_of, parent_key, Keeps, Refers}
 use Rattle.sqlite_schema.specs.declared.schema.Index.{Index}
 use Rattle.sqlite_schema.specs.declared.schema.Reference.{Reference}
 use Rattle.sqlite_schema.specs.declared.schema.Among.TheVariants.{All}
 use Rattle.sqlite_schema.specs.declared.schema.Constraint.TheVariants.{Unique}
 use Rattle.desk_sql.specs.Schema.{desk_schema}
-use Rattle.desk_sql.specs.Changing.{AreLow, HasRoom, IsAtLimit}
+use Rattle.desk_sql.specs.Changing.{HasRoom}
 use Rattle.desk_sql.proofs.PassLemmas.{Passes, apart, with_here, with_others}
 use Rattle.desk_sql.proofs.UpdateStops.{IsGood}
 

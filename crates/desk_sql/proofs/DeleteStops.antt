@@ -1,16 +1,15 @@
 -- A DELETE of a sound desk's rows stops only at the limit on steps.
-use Rattle.std.proofs.Common.{◌≡◌, ◌≢◌, ◌⊎◌, inl, inr, ℕ, zero, suc, ℤ, ◌==◌, Bool, true, false, not, cond, List, [], ◌∷◌, ◌++◌, length, None, Some, Option, Ok, Err, Result, refl, sym, ap, subst, ◌∙◌, ◌&&◌, eqb-true}
-use Rattle.std.specs.Prelude.{IsSome, if◌then◌else◌}
-use Rattle.std.specs.List.{list_any, list_all}
+use Rattle.std.proofs.Common.{◌≡◌, inl, inr, ℕ, zero, suc, ℤ, ◌==◌, true, List, [], ◌∷◌, ◌++◌, None, Some, Option, Ok, Err, Result, sym, ap, subst, eqb-true}
+use Rattle.std.specs.Prelude.{IsSome}
+use Rattle.std.specs.List.{list_all}
 use Rattle.std.proofs.lemmas.Bool.{and_parts, and_from, or_right, both_ways, not-true, not_from_false, false_from_ne_true, cases_Bool}
 use Rattle.sqlite.specs.Order.{Row}
 use Rattle.sqlite.specs.Tree.{Trees, with_tree}
 use Rattle.sqlite.specs.Table.{Table}
-use Rattle.sqlite.specs.Edit.{Edit, edit_of, edited, taken_by, without_all, IsRefused, Applies}
+use Rattle.sqlite.specs.Edit.{Edit, edit_of, taken_by, without_all, IsRefused, Applies}
 use Rattle.sqlite.specs.Rowids.TheVariants.{Given}
 use Rattle.sqlite.specs.Command.{Command}
-use Rattle.sqlite.specs.Query.{Query}
-use Rattle.sqlite.specs.Effect.{Database, RefusesQuery, Answers}
+use Rattle.sqlite.specs.Effect.{Database, RefusesQuery}
 use Rattle.sqlite.specs.Does.{OnRows, WritesRows}
 use Rattle.sqlite.specs.Rows.{Written, Task, Queried, Deletes}
 use Rattle.sqlite.specs.declared.error.Error.{Error}

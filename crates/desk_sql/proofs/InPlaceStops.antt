@@ -1,63 +1,48 @@
 -- An UPDATE that leaves each row its rowid and its keys stops only at the limit on steps.
-use Rattle.std.proofs.Common.{◌≡◌, ◌≢◌, inl, inr, ℕ, ℤ, pos, Bool, true, false, not, ◌&&◌, List, [], ◌∷◌, filter, map, drop, length, None, Some, Option, Ok, Err, refl, sym, ap, ap₂, subst, ◌∙◌, true≢false, arith}
+use Rattle.std.proofs.Common.{◌≡◌, ◌≢◌, inl, inr, ℕ, Bool, true, not, List, [], ◌∷◌, filter, map, drop, None, Option, Ok, Err, sym, ap₂, subst, ◌∙◌}
 use Rattle.std.specs.Prelude.{IsSome}
-use Rattle.std.specs.List.{AllByRecursion, list_all}
+use Rattle.std.specs.List.{list_all}
 use Rattle.std.specs.List.Sorted.{IsPermutation}
-use Rattle.std.proofs.lemmas.Bool.{and_parts}
-use Rattle.sqlite.specs.Order.{Row, column}
+use Rattle.sqlite.specs.Order.{Row}
 use Rattle.sqlite.specs.Term.{Term, eval_all, holds}
 use Rattle.sqlite.specs.Query.{inner, end}
 use Rattle.sqlite.specs.Program.{overlay}
 use Rattle.sqlite_schema.specs.declared.schema.Column.{Column}
 use Rattle.sqlite_schema.specs.declared.schema.Reference.{Reference}
 use Rattle.desk_sql.proofs.QueryTexts.{query_of}
-use Rattle.sqlite.specs.declared.types.Value.TheVariants.{Int, Text}
 use Rattle.sqlite.specs.declared.error.Error.{Error}
 use Rattle.sqlite.specs.declared.error.Error.TheVariants.{SqliteFailure}
 use Rattle.sqlite.specs.declared.error.ErrorCode.TheVariants as code
 use Rattle.sqlite.specs.Tree.{Trees, rowid}
-use Rattle.sqlite.specs.View.{is_int}
 use Rattle.sqlite.specs.Table.{Table}
 use Rattle.sqlite.specs.Edit.{Edit, edit_of, edited, taken_by, without_all, put_all}
 use Rattle.sqlite.specs.Rowids.TheVariants.{Given}
-use Rattle.sqlite.specs.Cast.{cast, cast_row}
-use Rattle.sqlite.specs.Kind.TheVariants as kind
+use Rattle.sqlite.specs.Cast.{cast_row}
 use Rattle.sqlite.specs.Command.TheVariants.{Update}
-use Rattle.sqlite.specs.Effect.{Database, IsDatabase, RefusesQuery}
+use Rattle.sqlite.specs.Effect.{RefusesQuery}
 use Rattle.sqlite.specs.Does.{OnRows}
-use Rattle.sqlite.specs.Listing.{understood}
-use Rattle.sqlite.specs.Rows.{Written, Task, Queried, Updates}
+use Rattle.sqlite.specs.Rows.{Task, Queried, Updates}
 use Rattle.sqlite.proofs.Callers.{one_step}
 use Rattle.sqlite_rules.specs.Calls.{ids_of}
 use Rattle.sqlite_rules.specs.Lists.{Has}
-use Rattle.sqlite_rules.specs.InPlace.{KeepsKeys, AreTwins}
+use Rattle.sqlite_rules.specs.InPlace.{AreTwins}
 use Rattle.sqlite_rules.specs.Action.{Writes, works}
 use Rattle.sqlite_rules.specs.declared.error.Refusal.{Refusal}
 use Rattle.sqlite_rules.proofs.ListLemmas.{all_has}
-use Rattle.sqlite_rules.proofs.TableLemmas.{int_is}
-use Rattle.sqlite_schema.specs.Rules.{is_key_of, Keeps, Obeys, Refers}
+use Rattle.sqlite_schema.specs.Rules.{is_key_of, Obeys}
 use Rattle.sqlite_schema.specs.declared.program.Program.{Program}
-use Rattle.sqlite_schema.specs.declared.schema.Among.TheVariants.{All}
 use Rattle.sqlite_schema.specs.declared.schema.Constraint.TheVariants.{Unique}
 use Rattle.sqlite_schema.specs.declared.schema.Keys.TheVariants.{Enforced}
-use Rattle.sqlite_tied.specs.Compute.{everything}
-use Rattle.desk_sql.specs.Schema.{desk_schema, operator_table, plan_table}
-use Rattle.desk_sql.specs.Rows.{AreNumbered, IsDesk, is_text, operator_row, plan_row}
-use Rattle.desk_sql.specs.Statements.{Ceiling, Closing, ceiling_row, closing_row, enforced}
-use Rattle.desk_sql.specs.Changing.{AreLow, IsShort, IsAtLimit, IsSureChange}
-use Rattle.desk_sql.proofs.Texts.{set_ceiling_text, close_plan_text}
-use Rattle.desk_sql.proofs.CommandTexts.{set_ceiling_is, set_ceiling_query, close_plan_is, close_plan_query}
-use Rattle.desk_sql.proofs.ReadLemmas.{equals_text}
-use Rattle.desk_sql.proofs.SetLemmas.{text_same, both_hold}
-use Rattle.desk_sql.proofs.UpdateLemmas.{update_finds, update_sets, update_edit, news_of, left_is, made_is, given_stay, operator_quiet, plan_quiet}
-use Rattle.desk_sql.proofs.WriteLemmas.{task_at, table_at, cast_int}
-use Rattle.desk_sql.proofs.SureLemmas.{Misfits, never}
-use Rattle.desk_sql.proofs.StopLemmas.{sure_change}
+use Rattle.desk_sql.specs.Schema.{desk_schema}
+use Rattle.desk_sql.specs.Rows.{AreNumbered}
+use Rattle.desk_sql.specs.Statements.{enforced}
+use Rattle.desk_sql.specs.Changing.{AreLow, IsAtLimit}
+use Rattle.desk_sql.proofs.UpdateLemmas.{update_finds, update_sets, update_edit, news_of, left_is, made_is, given_stay}
+use Rattle.desk_sql.proofs.WriteLemmas.{task_at, table_at}
 use Rattle.desk_sql.proofs.DeleteStops.{IsReferredTo, same_stop, rows_stopped, queried_stopped}
 use Rattle.desk_sql.proofs.KeyLemmas.{obeyed_refers}
 use Rattle.desk_sql.proofs.PassLemmas.{Passes, passed, refers_twins}
 use Rattle.desk_sql.proofs.UpdateStops.{Sets, IsGood, passes_all, twins_of}
-use Rattle.desk_sql.proofs.SizeLemmas.{operator_stored, plan_stored}
 
 -- an UPDATE stops where its query does
 updates_stopped : (task : Task) (q : Program) (given : Row) (db : Trees) (stop : Option Error)

@@ -1,12 +1,10 @@
 -- Each INSERT of a row whose key is free and whose parents are there is refused only by memory, the disk and
 -- a limit on steps.
-use Rattle.std.proofs.Common.{◌≡◌, ◌≢◌, inl, inr, ◌/◌, ℕ, ℤ, pos, Bool, true, false, ◌&&◌, ◌||◌, not, cond, List, [], ◌∷◌, ◌++◌, drop, map, length, None, Some, Option, Ok, Err, Result, refl, sym, ap, ap₂, subst, ◌∙◌, true≢false, arith}
+use Rattle.std.proofs.Common.{◌≡◌, ◌≢◌, inl, inr, ◌/◌, ℕ, true, cond, List, [], ◌∷◌, ◌++◌, length, None, Some, Option, Err, sym, ap, subst, ◌∙◌}
 use Rattle.std.specs.Prelude.{IsSome}
-use Rattle.std.specs.List.{AllByRecursion, list_any, list_all}
-use Rattle.std.proofs.lemmas.Bool.{or_right}
+use Rattle.std.specs.List.{AllByRecursion, list_all}
 use Rattle.sqlite.specs.Order.{Row, column}
-use Rattle.sqlite.specs.declared.types.Value.{Value}
-use Rattle.sqlite.specs.declared.types.Value.TheVariants.{Null, Int, Text}
+use Rattle.sqlite.specs.declared.types.Value.TheVariants.{Null, Int}
 use Rattle.sqlite.specs.declared.error.Error.{Error}
 use Rattle.sqlite.specs.declared.error.Error.TheVariants.{SqliteFailure}
 use Rattle.sqlite.specs.declared.error.ErrorCode.TheVariants as code
@@ -16,32 +14,27 @@ use Rattle.sqlite.specs.View.{is_int}
 use Rattle.sqlite.specs.Ops.{is_null}
 use Rattle.sqlite.specs.Table.{Table}
 use Rattle.sqlite.specs.Cast.{cast, cast_all, cast_row}
-use Rattle.sqlite.specs.Kind.TheVariants.{Integer}
 use Rattle.sqlite.specs.Edit.{Edit, edit_of, taken_by, next_rowid, with_rowid}
 use Rattle.sqlite.specs.Rowids.TheVariants.{Chosen}
 use Rattle.sqlite.specs.Source.TheVariants.{Values}
 use Rattle.sqlite.specs.Command.TheVariants.{Insert}
-use Rattle.sqlite.specs.Effect.{Database, IsDatabase, RefusesSource, value_rows}
+use Rattle.sqlite.specs.Effect.{RefusesSource, value_rows}
 use Rattle.sqlite.specs.Does.{OnRows}
-use Rattle.sqlite.specs.Listing.{understood}
-use Rattle.sqlite.specs.Rows.{Written, Task, Sourced, Inserts}
+use Rattle.sqlite.specs.Rows.{Task, Sourced, Inserts}
 use Rattle.sqlite_rules.specs.Lists.{Has}
 use Rattle.sqlite_rules.specs.Action.{Writes}
 use Rattle.sqlite_rules.specs.declared.error.Refusal.{Refusal}
 use Rattle.sqlite_rules.proofs.ActionLemmas.{no_works}
 use Rattle.sqlite_rules.proofs.ListLemmas.{all_has}
-use Rattle.sqlite_schema.specs.Rules.{agree, guards, has_parent, is_key_of, Obeys, Refers}
-use Rattle.sqlite_schema.specs.declared.schema.Among.TheVariants.{All}
+use Rattle.sqlite_schema.specs.Rules.{is_key_of, Obeys}
 use Rattle.sqlite_schema.specs.declared.schema.Column.{Column}
 use Rattle.sqlite_schema.specs.declared.schema.Constraint.TheVariants.{Unique}
-use Rattle.sqlite_schema.specs.declared.schema.Index.{Index}
 use Rattle.sqlite_schema.specs.declared.schema.Keys.TheVariants.{Enforced}
 use Rattle.sqlite_schema.specs.declared.schema.Reference.{Reference}
-use Rattle.sqlite_tied.specs.Compute.{everything}
 use Rattle.desk_sql.specs.Schema.{desk_schema}
 use Rattle.desk_sql.specs.Statements.{enforced}
 use Rattle.desk_sql.specs.Changing.{HasRoom, IsAtLimit}
-use Rattle.desk_sql.proofs.WriteLemmas.{went, table_at, task_at, insert_applies, cast_null}
+use Rattle.desk_sql.proofs.WriteLemmas.{table_at, task_at, insert_applies, cast_null}
 use Rattle.desk_sql.proofs.DeleteStops.{same_stop, rows_stopped}
 use Rattle.desk_sql.proofs.KeyLemmas.{obeyed_refers}
 use Rattle.desk_sql.proofs.PassLemmas.{Passes, passed}

@@ -1,11 +1,11 @@
 -- Each text of an INSERT is refused, where its row fits, only by memory, the disk and a limit on steps.
-use Rattle.std.proofs.Common.{◌≡◌, ◌≢◌, inl, inr, ℕ, ℤ, pos, Bool, true, false, ◌&&◌, ◌||◌, not, List, [], ◌∷◌, ◌++◌, map, length, None, Some, Option, Err, refl, sym, ap, ap₂, subst, ◌∙◌, true≢false, arith}
+use Rattle.std.proofs.Common.{◌≡◌, inl, inr, ℕ, ℤ, pos, Bool, true, false, ◌&&◌, List, [], ◌∷◌, ◌++◌, map, None, Option, Err, refl, sym, ap, ap₂, subst, ◌∙◌, true≢false, arith}
 use Rattle.std.specs.Prelude.{IsSome}
 use Rattle.std.specs.List.{list_any, list_all}
 use Rattle.std.proofs.lemmas.Bool.{or_right}
 use Rattle.sqlite.specs.Order.{Row, column}
 use Rattle.sqlite.specs.declared.types.Value.{Value}
-use Rattle.sqlite.specs.declared.types.Value.TheVariants.{Null, Int, Text}
+use Rattle.sqlite.specs.declared.types.Value.TheVariants.{Int}
 use Rattle.sqlite.specs.declared.error.Error.{Error}
 use Rattle.sqlite.specs.declared.error.Error.TheVariants.{SqliteFailure}
 use Rattle.sqlite.specs.declared.error.ErrorCode.TheVariants as code
@@ -17,19 +17,18 @@ use Rattle.sqlite.specs.Effect.{Database, IsDatabase, RefusesSource}
 use Rattle.sqlite.specs.Does.{OnRows}
 use Rattle.sqlite.specs.Listing.{understood}
 use Rattle.sqlite.specs.Table.{Table}
-use Rattle.sqlite_rules.specs.Lists.{Has}
 use Rattle.sqlite_schema.specs.Rules.{agree, guards, has_null, has_parent, is_held, is_key_of, Obeys}
 use Rattle.sqlite_schema.specs.declared.schema.Index.{Index}
 use Rattle.sqlite_value.specs.Keys.{plain, first_key}
 use Rattle.sqlite_tied.specs.Compute.{everything}
 use Rattle.desk_sql.specs.Schema.{desk_schema, operator_table, plan_table, volume_table, span_table, to_operator, to_plan}
-use Rattle.desk_sql.specs.Rows.{IsDesk, columns, tables_of, plan_row, volume_row, span_row}
+use Rattle.desk_sql.specs.Rows.{IsDesk, columns, tables_of}
 use Rattle.desk_sql.specs.Batches.{volume_of, span_of}
 use Rattle.desk_sql.specs.Statements.{Ceiling, ceiling_row, row_of, enforced}
 use Rattle.desk_sql.specs.declared.changing.writing.PlanRecord.{PlanRecord}
 use Rattle.desk_sql.specs.declared.changing.writing.VolumeRecord.{VolumeRecord}
 use Rattle.desk_sql.specs.declared.changing.writing.SpanRecord.{SpanRecord}
-use Rattle.desk_sql.specs.Changing.{FitsOperator, FitsPlan, FitsVolume, FitsSpan, HasKey, LacksKey, IsAtLimit, IsSureChange, has_same_key}
+use Rattle.desk_sql.specs.Changing.{FitsOperator, FitsPlan, FitsVolume, FitsSpan, HasKey, IsAtLimit, IsSureChange, has_same_key}
 use Rattle.desk_sql.proofs.Texts.{insert_operator_text, insert_plan_text, insert_volume_text, insert_span_text}
 use Rattle.desk_sql.proofs.CommandTexts.{insert_operator_is, insert_operator_terms, insert_plan_is, insert_plan_terms, insert_volume_is, insert_volume_terms, insert_span_is, insert_span_terms}
 use Rattle.desk_sql.proofs.ReadLemmas.{equals}

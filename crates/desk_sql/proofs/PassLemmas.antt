@@ -1,17 +1,17 @@
 -- An edit that passes every test is made.
-use Rattle.std.proofs.Common.{◌≡◌, ◌≢◌, inl, inr, ℕ, ◌==◌, true, false, not, List, [], ◌++◌, Option, Ok, Err, refl, sym, ap, subst, ◌∙◌, eqb-true, eq-eqb}
+use Rattle.std.proofs.Common.{◌≡◌, ◌≢◌, inl, inr, ℕ, true, List, [], Option, Err, refl, subst, ◌∙◌, eq-eqb}
 use Rattle.std.specs.List.{list_all}
-use Rattle.std.proofs.lemmas.Bool.{both_ways, cases_Bool, or_cases, or_left, or_right, ne_eqb}
+use Rattle.std.proofs.lemmas.Bool.{both_ways, or_cases, or_left, or_right, ne_eqb}
 use Rattle.sqlite.specs.Order.{Row}
 use Rattle.sqlite.specs.Ops.{fits_i64}
 use Rattle.sqlite.specs.Tree.{Trees, rowid, with_tree, IsAscending}
 use Rattle.sqlite.specs.Table.{Table}
-use Rattle.sqlite.specs.Edit.{Edit, id_in, edited, left_by, taken_by, are_fresh, have_rowids, is_referred, IsRefused, IsOversized, Applies}
+use Rattle.sqlite.specs.Edit.{Edit, id_in, edited, left_by, taken_by, are_fresh, have_rowids, is_referred, IsRefused, IsOversized}
 use Rattle.sqlite_rules.specs.declared.error.Refusal.{Refusal}
 use Rattle.sqlite_rules.specs.declared.error.Refusal.TheVariants.{Violates, Mismatch, NoRowid, BadReference, TooDeep}
 use Rattle.sqlite_rules.specs.Lists.{Has}
 use Rattle.sqlite_rules.specs.InPlace.{AreTwins}
-use Rattle.sqlite_rules.specs.Action.{Work, Leads, Settles, Goes, End, Writes, works}
+use Rattle.sqlite_rules.specs.Action.{Settles, Writes, works}
 use Rattle.sqlite_rules.proofs.ListLemmas.{all_has}
 use Rattle.sqlite_rules.proofs.RuleLemmas.{refers_at, refers_from}
 use Rattle.sqlite_rules.proofs.PlaceLemmas.{null_same, twin_of, held_stays, unique_stays}

@@ -1,21 +1,16 @@
 -- Each DELETE of a sound desk's rows is refused only by memory, the disk and a limit on steps.
-use Rattle.std.proofs.Common.{◌≡◌, ◌⊎◌, inl, inr, ℕ, zero, suc, ℤ, Bool, true, false, not, cond, List, [], ◌∷◌, ◌++◌, length, append-nil, None, Some, Option, Ok, Err, Result, refl, sym, ap, subst, ◌∙◌, filter, true≢false, arith}
+use Rattle.std.proofs.Common.{◌≡◌, ◌⊎◌, inl, inr, ℕ, zero, suc, ℤ, Bool, true, false, not, cond, List, [], ◌∷◌, ◌++◌, append-nil, None, Option, Err, refl, sym, ap, subst, ◌∙◌, filter, true≢false, arith}
 use Rattle.std.specs.Prelude.{⊤}
 use Rattle.std.specs.List.{list_any}
 use Rattle.std.proofs.lemmas.Bool.{both_ways, cases_Bool, not-true, not_from_false}
 use Rattle.sqlite.specs.Order.{Row}
 use Rattle.sqlite.specs.Tree.{Trees}
-use Rattle.sqlite.specs.Table.{Table}
 use Rattle.sqlite.specs.Edit.{edit_of, taken_by}
 use Rattle.sqlite.specs.Rowids.TheVariants.{Given}
-use Rattle.sqlite.specs.Query.{Query}
-use Rattle.sqlite.specs.Program.{overlay}
-use Rattle.sqlite.specs.Command.TheVariants.{Delete, Select}
-use Rattle.sqlite.specs.Effect.{Database, IsDatabase, RefusesQuery}
+use Rattle.sqlite.specs.Command.TheVariants.{Delete}
+use Rattle.sqlite.specs.Effect.{Database, IsDatabase}
 use Rattle.sqlite.specs.Listing.{understood}
-use Rattle.sqlite.specs.Rows.{Written, Task, Deletes}
 use Rattle.sqlite.specs.declared.error.Error.{Error}
-use Rattle.sqlite.proofs.Callers.{statement_of}
 use Rattle.sqlite_rules.specs.declared.error.Refusal.{Refusal}
 use Rattle.sqlite_rules.specs.Lists.{Has}
 use Rattle.sqlite_rules.specs.Calls.{ids_of}
@@ -29,17 +24,17 @@ use Rattle.sqlite_schema.specs.declared.schema.Keys.TheVariants.{Enforced}
 use Rattle.sqlite_schema.specs.declared.schema.Table.{Table as Made}
 use Rattle.sqlite_value.specs.Keys.{plain}
 use Rattle.sqlite_tied.specs.Compute.{everything}
-use Rattle.sqlite.specs.Does.{OnRows, Does}
-use Rattle.desk_sql.specs.Schema.{desk_schema, plan_table, span_table}
+use Rattle.sqlite.specs.Does.{OnRows}
+use Rattle.desk_sql.specs.Schema.{desk_schema, plan_table}
 use Rattle.desk_sql.specs.Rows.{IsDesk}
-use Rattle.desk_sql.specs.Statements.{Key, key_row, enforced}
+use Rattle.desk_sql.specs.Statements.{key_row, enforced}
 use Rattle.desk_sql.specs.Changing.{IsAtLimit, IsSureChange}
 use Rattle.desk_sql.proofs.Texts.{remove_spans_text, remove_plan_text}
 use Rattle.desk_sql.proofs.CommandTexts.{remove_spans_is, remove_spans_query, remove_plan_is, remove_plan_query}
 use Rattle.desk_sql.proofs.CascadeLemmas.{has_key, key_places, agrees, plan_works, volume_works, span_works, delete_on, volumes_at, spans_at, last_one, last_two}
 use Rattle.desk_sql.proofs.RemoveLemmas.{AreSpared, AreCut, params, spans_task, spans_program, spans_removed, plan_task, plan_program, plan_removed}
 use Rattle.desk_sql.proofs.SureLemmas.{Misfits, never}
-use Rattle.desk_sql.proofs.StopLemmas.{names_in, tail_of, sure_change}
+use Rattle.desk_sql.proofs.StopLemmas.{sure_change}
 use Rattle.desk_sql.proofs.DeleteStops.{IsReferredTo, rows_stopped, deletes_stopped, quiet_out, taken_out, never_ends}
 use Rattle.desk_sql.proofs.KeyLemmas.{obeyed_refers, refers_left}
 

@@ -1,57 +1,37 @@
 -- Each UPDATE of a sound desk's rows is refused only by memory, the disk and a limit on steps.
-use Rattle.std.proofs.Common.{◌≡◌, ◌≢◌, inl, inr, ℕ, ℤ, pos, Bool, true, false, not, ◌&&◌, List, [], ◌∷◌, filter, map, drop, length, None, Some, Option, Ok, Err, refl, sym, ap, ap₂, subst, ◌∙◌, true≢false, arith}
-use Rattle.std.specs.Prelude.{IsSome}
-use Rattle.std.specs.List.{AllByRecursion, list_all}
-use Rattle.std.specs.List.Sorted.{IsPermutation}
+use Rattle.std.proofs.Common.{◌≡◌, inl, inr, ℕ, pos, Bool, true, false, ◌&&◌, [], ◌∷◌, drop, None, Option, Err, refl, sym, ap, ap₂, subst, ◌∙◌, true≢false, arith}
+use Rattle.std.specs.List.{list_all}
 use Rattle.std.proofs.lemmas.Bool.{and_parts}
 use Rattle.sqlite.specs.Order.{Row, column}
 use Rattle.sqlite.specs.declared.types.Value.{Value}
-use Rattle.sqlite.specs.declared.types.Value.TheVariants.{Int, Text}
+use Rattle.sqlite.specs.declared.types.Value.TheVariants.{Int}
 use Rattle.sqlite.specs.declared.error.Error.{Error}
-use Rattle.sqlite.specs.declared.error.Error.TheVariants.{SqliteFailure}
-use Rattle.sqlite.specs.declared.error.ErrorCode.TheVariants as code
 use Rattle.sqlite.specs.Tree.{Trees, rowid}
 use Rattle.sqlite.specs.View.{is_int}
 use Rattle.sqlite.specs.Table.{Table}
-use Rattle.sqlite.specs.Edit.{edit_of, edited, taken_by, without_all, put_all}
-use Rattle.sqlite.specs.Rowids.TheVariants.{Given}
+use Rattle.sqlite.specs.Edit.{taken_by}
 use Rattle.sqlite.specs.Cast.{cast, cast_row}
 use Rattle.sqlite.specs.Kind.TheVariants as kind
 use Rattle.sqlite.specs.Command.TheVariants.{Update}
-use Rattle.sqlite.specs.Effect.{Database, IsDatabase, RefusesQuery}
+use Rattle.sqlite.specs.Effect.{Database, IsDatabase}
 use Rattle.sqlite.specs.Does.{OnRows}
 use Rattle.sqlite.specs.Listing.{understood}
-use Rattle.sqlite.specs.Rows.{Written, Task, Queried, Updates}
-use Rattle.sqlite.proofs.Callers.{one_step}
-use Rattle.sqlite_rules.specs.Calls.{ids_of}
-use Rattle.sqlite_rules.specs.Lists.{Has}
-use Rattle.sqlite_rules.specs.InPlace.{KeepsKeys}
-use Rattle.sqlite_rules.specs.Action.{Writes, works}
-use Rattle.sqlite_rules.specs.declared.error.Refusal.{Refusal}
-use Rattle.sqlite_rules.proofs.ListLemmas.{all_has}
 use Rattle.sqlite_rules.proofs.TableLemmas.{int_is}
-use Rattle.sqlite_schema.specs.Rules.{is_key_of, Keeps, Obeys, Refers}
-use Rattle.sqlite_schema.specs.declared.program.Program.{Program}
-use Rattle.sqlite_schema.specs.declared.schema.Among.TheVariants.{All}
-use Rattle.sqlite_schema.specs.declared.schema.Constraint.TheVariants.{Unique}
-use Rattle.sqlite_schema.specs.declared.schema.Keys.TheVariants.{Enforced}
+use Rattle.sqlite_schema.specs.Rules.{is_key_of, Obeys}
 use Rattle.sqlite_tied.specs.Compute.{everything}
 use Rattle.desk_sql.specs.Schema.{desk_schema, operator_table, plan_table}
-use Rattle.desk_sql.specs.Rows.{IsDesk, is_text, operator_row, plan_row}
+use Rattle.desk_sql.specs.Rows.{IsDesk, is_text, plan_row}
 use Rattle.desk_sql.specs.Statements.{Ceiling, Closing, ceiling_row, closing_row, enforced}
 use Rattle.desk_sql.specs.Changing.{AreLow, IsShort, IsAtLimit, IsSureChange}
 use Rattle.desk_sql.proofs.Texts.{set_ceiling_text, close_plan_text}
 use Rattle.desk_sql.proofs.CommandTexts.{set_ceiling_is, set_ceiling_query, close_plan_is, close_plan_query}
 use Rattle.desk_sql.proofs.ReadLemmas.{equals_text}
 use Rattle.desk_sql.proofs.SetLemmas.{text_same, both_hold}
-use Rattle.desk_sql.proofs.UpdateLemmas.{update_finds, update_sets, update_edit, news_of, left_is, made_is, given_stay, operator_quiet, plan_quiet}
-use Rattle.desk_sql.proofs.WriteLemmas.{task_at, table_at, cast_int}
+use Rattle.desk_sql.proofs.UpdateLemmas.{update_edit, operator_quiet, plan_quiet}
+use Rattle.desk_sql.proofs.WriteLemmas.{task_at, cast_int}
 use Rattle.desk_sql.proofs.SureLemmas.{Misfits, never}
 use Rattle.desk_sql.proofs.StopLemmas.{sure_change}
-use Rattle.desk_sql.proofs.DeleteStops.{IsReferredTo, same_stop, rows_stopped, queried_stopped}
-use Rattle.desk_sql.proofs.KeyLemmas.{obeyed_refers}
-use Rattle.desk_sql.proofs.PassLemmas.{Passes, passed, refers_twins}
-use Rattle.desk_sql.proofs.UpdateStops.{Sets, IsGood, passes_all, twins_of}
+use Rattle.desk_sql.proofs.DeleteStops.{IsReferredTo}
 use Rattle.desk_sql.proofs.SizeLemmas.{operator_stored, plan_stored}
 use Rattle.desk_sql.proofs.InPlaceStops.{never_stops}
 

@@ -1,5 +1,5 @@
 -- A query with parameters that is refused for no cause of its own.
-use Rattle.std.proofs.Common.{◌≡◌, ◌≤◌, ℕ, List, [], length, None, Result, Ok, Err, refl, subst, sym, true≢false, arith, inl, inr}
+use Rattle.std.proofs.Common.{◌≡◌, ◌≤◌, ℕ, List, [], length, None, Result, Ok, Err, refl, subst, sym, inl, inr}
 use Rattle.sqlite.specs.Order.{Row}
 use Rattle.sqlite.specs.Tree.{Trees}
 use Rattle.sqlite.specs.Query.{Query}
@@ -17,7 +17,6 @@ use Rattle.desk_sql.specs.Schema.{desk_schema}
 use Rattle.desk_sql.specs.Refusals.{NeverRefusesGiven, IsSimple, IsSureFor, IsSureMeaning}
 use Rattle.desk_sql.proofs.QueryTexts.{IsQuery}
 use Rattle.desk_sql.proofs.StopLemmas.{names_in, tail_of}
-use Rattle.desk_sql.proofs.CountLemmas.{count_plans_is, count_plans_query, counts_never}
 
 -- the query's types do not fit what it is given
 abbrev pub Misfits : Query → Schema → Trees → Row → Type 0

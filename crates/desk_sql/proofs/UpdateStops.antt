@@ -1,43 +1,34 @@
 -- Rows that are set in their places pass every test.
-use Rattle.std.proofs.Common.{◌≡◌, ◌≢◌, inl, inr, ℕ, ℤ, Bool, true, false, not, cond, List, [], ◌∷◌, ◌++◌, map, filter, length, drop, None, Some, Option, Ok, Err, refl, sym, ap, ap₂, subst, ◌∙◌, true≢false}
-use Rattle.std.specs.Prelude.{IsSome}
-use Rattle.std.specs.List.{AllByRecursion, list_any, list_all}
+use Rattle.std.proofs.Common.{◌≡◌, inl, inr, ℤ, Bool, true, false, not, List, [], ◌∷◌, map, filter, refl, sym, ap, ap₂, subst, ◌∙◌}
+use Rattle.std.specs.List.{AllByRecursion, list_all}
 use Rattle.std.specs.List.Sorted.{IsPermutation}
 use Rattle.std.specs.Ordering.{is_eq}
-use Rattle.std.proofs.lemmas.List.Sorted.{IsPermutation-map, IsPermutation-sym}
+use Rattle.std.proofs.lemmas.List.Sorted.{IsPermutation-sym}
 use Rattle.std.proofs.lemmas.Map.Keys.{IsDistinct-IsPermutation}
 use Rattle.std.proofs.lemmas.Bool.{and_from, both_ways, cases_Bool, false_from_ne_true, not-true, not_from_false, or_right}
 use Rattle.sqlite_trees.proofs.ListLemmas.{all-permutation}
-use Rattle.sqlite_keyed.proofs.ListLemmas.{map-map, all_unmap, all_map}
+use Rattle.sqlite_keyed.proofs.ListLemmas.{all_unmap, all_map}
 use Rattle.sqlite.specs.Order.{Row, value_cmp}
 use Rattle.sqlite.specs.Ops.{fits_i64}
 use Rattle.sqlite.specs.declared.types.Value.TheVariants.{Int}
 use Rattle.sqlite.specs.Tree.{Trees, rowid, put_row, with_tree, IsAscending}
 use Rattle.sqlite.specs.View.{is_int}
 use Rattle.sqlite.specs.Table.{Table}
-use Rattle.sqlite.specs.Edit.{Edit, id_in, edit_of, edited, left_by, taken_by, without_all, put_all, is_taken, are_fresh, IsOversized}
-use Rattle.sqlite.specs.Cast.{cast_row}
-use Rattle.sqlite_rules.specs.Calls.{ids_of}
+use Rattle.sqlite.specs.Edit.{Edit, id_in, edited, without_all, put_all, is_taken, are_fresh, IsOversized}
 use Rattle.sqlite_rules.specs.Lists.{Has}
 use Rattle.sqlite_rules.specs.InPlace.{AgreeAt, KeepsKeys, Twins, AreTwins}
-use Rattle.sqlite_rules.specs.Action.{works}
 use Rattle.sqlite_rules.proofs.ListLemmas.{all_has, all_from, test_from, some_has, some_from, has_filtered, has_kept}
 use Rattle.sqlite_rules.proofs.TableLemmas.{int_is, put_has, put_all_has, put_all_keeps, put_all_adds}
 use Rattle.sqlite_rules.proofs.PlaceLemmas.{agrees_itself}
 use Rattle.sqlite_schema.specs.Rules.{guards, passes, is_key_of}
-use Rattle.sqlite_schema.specs.declared.schema.Column.{Column}
 use Rattle.sqlite_schema.specs.declared.schema.Constraint.TheVariants.{Datatype, NotNull, Check, Unique}
-use Rattle.sqlite_schema.specs.declared.schema.Keys.TheVariants.{Enforced}
-use Rattle.sqlite_schema.specs.declared.schema.Reference.{Reference}
 use Rattle.sqlite_schema.specs.Rules.{Keeps}
 use Rattle.desk_sql.specs.Schema.{desk_schema}
 use Rattle.desk_sql.specs.Rows.{AreNumbered}
 use Rattle.desk_sql.specs.Changing.{AreLow}
-use Rattle.desk_sql.proofs.NumberLemmas.{IsApart, all_both, numbered_kept, removed}
+use Rattle.desk_sql.proofs.NumberLemmas.{IsApart, all_both, numbered_kept}
 use Rattle.desk_sql.proofs.RowidLemmas.{is_same_id, flips, to_distinct, from_distinct}
 use Rattle.desk_sql.proofs.CascadeLemmas.{one_row}
-use Rattle.desk_sql.proofs.UpdateLemmas.{update_edit, news_of, given_stay}
-use Rattle.desk_sql.proofs.WriteLemmas.{table_at}
 use Rattle.desk_sql.proofs.DeleteStops.{IsReferredTo}
 use Rattle.desk_sql.proofs.PassLemmas.{Passes, with_here, unique_twins}
 

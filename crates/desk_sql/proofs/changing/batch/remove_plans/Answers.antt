@@ -1,5 +1,5 @@
 use Rattle.std.proofs.Common.{arith, [], ◌∷◌, ◌++◌, sym, ap, map, take, rules, ◌∙◌, ◌+◌}
-use Rattle.sqlite.specs.State.{HasCleanDisk, KeepsCommit}
+use Rattle.sqlite.specs.State.{KeepsCommit}
 use Rattle.sqlite.specs.Held.{state}
 use Rattle.std.specs.String.{string_bytes}
 use Rattle.std.proofs.lemmas.List.{map_more}
