@@ -79,7 +79,8 @@ module _ (table : Table) (listed : Has desk_schema.tables table) (db : Trees) (c
           | inr other ↦ inr (subst (λ l. Has l row) (others t known other) there)
         ]
 
-        kept : (t : Table) (row : Row) → Has desk_schema.tables t → Has (db t.tree) row → Has (next t.tree) row
+        kept : (t : Table) (row : Row) → Has desk_schema.tables t → Has (db t.tree) row
+            → Has (next t.tree) row
         kept t row known there = elim (cases_eq t.tree table.tree) [
           | inl same ↦ subst (λ n. Has (next n) row) (sym same) (subst (λ l. Has l row) (sym here)
               (put_all_keeps (added ∷ []) rows row (and_from _ _ (not_from_false _ free) refl)
@@ -166,7 +167,8 @@ module _ (table : Table) (listed : Has desk_schema.tables table) (db : Trees) (c
       low = and_from _ _ (first_fits 1 rows (omega arith) room) refl;
       referred = and_from _ _ (or_right false _ refers) refl;
       stored = λ row there. elim there [
-        | inl is ↦ subst (λ r. ¬ Rattle.sqlite.specs.Edit.IsOversized desk_schema table r) (sym is) (good.stored (next_rowid rows))
+        | inl is ↦ subst (λ r. ¬ Rattle.sqlite.specs.Edit.IsOversized desk_schema table r) (sym is)
+            (good.stored (next_rowid rows))
         | inr none ↦ absurd none
       ];
     }

@@ -118,7 +118,8 @@ module _ (limit : Option ℕ) (params : Row) (name : List ℕ) (cols : List Colu
           makes next (is ∙ ap₂ put_all leaves (news_are found))
 
     pub never_stops : (at : ℕ) (stop : Option Error)
-        → OnRows (task_at limit params name cols key refs tree) enforced None (Update at program) db (Err stop)
+        → OnRows (task_at limit params name cols key refs tree) enforced None (Update at program) db
+        (Err stop)
         → IsAtLimit limit stop
     never_stops at stop =
         rows_stopped (task_at limit params name cols key refs tree) (Update at program) db stop

@@ -61,7 +61,8 @@ module _ (limit : Option ℕ) (params : Row) (name : List ℕ) (cols : List Colu
     pub refers : list_all (is_key_of desk_schema) refs ≡ true
     pub one : value_rows (params ++ []) width (length terms / width) terms ≡ source ∷ []
     pub sure : (e : Error)
-        → RefusesSource limit (record { schema = desk_schema; trees = db }) (params ++ []) (Values terms width) e
+        → RefusesSource limit (record { schema = desk_schema; trees = db }) (params ++ [])
+        (Values terms width) e
         → (e ≡ SqliteFailure code.OperationInterrupted) × IsSome limit
     pub casts : cast_all cols params ≡ cells
     pub good : IsGood table db cells

@@ -27,7 +27,7 @@ pub mod HandLemmas
 pub mod SureLemmas
 pub mod Sure
 pub mod SureListings
-pub mod SureRivals
+pub mod SureSpans
 pub mod StopLemmas
 pub mod DeleteStops
 pub mod KeyLemmas
@@ -39,4 +39,4 @@ pub mod InPlaceStops
 pub mod SetStops
 pub mod AddLemmas
 pub mod InsertStops
-pub mod InsertTexts
+pub mod Added

@@ -86,11 +86,14 @@ module _ (operator id : List ℕ) where
       were : (t : Made) (row : Row) → Has desk_schema.tables t → Has (next t.tree) row
           → Has (db t.tree) row
       were t row (inl is) there = subst (λ (t : Made). Has (db t.tree) row) (sym is)
-          (still_there (db 0) (next 0) left.operators row (subst (λ (t : Made). Has (next t.tree) row) is there))
+          (still_there (db 0) (next 0) left.operators row
+          (subst (λ (t : Made). Has (next t.tree) row) is there))
       were t row (inr (inl is)) there = subst (λ (t : Made). Has (db t.tree) row) (sym is)
-          (still_there (db 2) (next 2) left.plans row (subst (λ (t : Made). Has (next t.tree) row) is there))
+          (still_there (db 2) (next 2) left.plans row
+          (subst (λ (t : Made). Has (next t.tree) row) is there))
       were t row (inr (inr (inl is))) there = subst (λ (t : Made). Has (db t.tree) row) (sym is)
-          (still_there (db 4) (next 4) left.volumes row (subst (λ (t : Made). Has (next t.tree) row) is there))
+          (still_there (db 4) (next 4) left.volumes row
+          (subst (λ (t : Made). Has (next t.tree) row) is there))
       were t row (inr (inr (inr (inl is)))) there = subst (λ (t : Made). Has (db t.tree) row) (sym is)
           (same_or_less (db 6) (next 6) (λ r. not (has_key operator id r)) true left.spans row
           (subst (λ (t : Made). Has (next t.tree) row) is there))
@@ -135,7 +138,8 @@ module _ (operator id : List ℕ) where
       were : (t : Made) (row : Row) → Has desk_schema.tables t → Has (next t.tree) row
           → Has (db t.tree) row
       were t row (inl is) there = subst (λ (t : Made). Has (db t.tree) row) (sym is)
-          (still_there (db 0) (next 0) left.operators row (subst (λ (t : Made). Has (next t.tree) row) is there))
+          (still_there (db 0) (next 0) left.operators row
+          (subst (λ (t : Made). Has (next t.tree) row) is there))
       were t row (inr (inl is)) there = subst (λ (t : Made). Has (db t.tree) row) (sym is)
           (same_or_less (db 2) (next 2) lacks true left.plans row
           (subst (λ (t : Made). Has (next t.tree) row) is there))
@@ -247,14 +251,14 @@ plan_never operator id limit db stop desk sound h =
 
 -- ---- the texts
 
-pub remove_spans_sure : IsSureChange remove_spans_text key_row (λ key db. ⊤)
+pub spans : IsSureChange remove_spans_text key_row (λ key db. ⊤)
 unfolding understood everything
-remove_spans_sure =
+spans =
     sure_change remove_spans_text key_row _ _ remove_spans_is tt (λ key. refl) (omega arith)
     (λ key limit db stop desk sound fits h. spans_never key.operator key.id limit db stop desk sound h)
 
-pub remove_plan_sure : IsSureChange remove_plan_text key_row (λ key db. ⊤)
+pub plan : IsSureChange remove_plan_text key_row (λ key db. ⊤)
 unfolding understood everything
-remove_plan_sure =
+plan =
     sure_change remove_plan_text key_row _ _ remove_plan_is tt (λ key. refl) (omega arith)
     (λ key limit db stop desk sound fits h. plan_never key.operator key.id limit db stop desk sound h)

@@ -216,15 +216,15 @@ module _ (c : Closing) (limit : Option ℕ) (old : Database) (desk : IsDesk old)
 
 -- ---- the texts
 
-pub set_ceiling_sure : IsSureChange set_ceiling_text ceiling_row
+pub ceiling : IsSureChange set_ceiling_text ceiling_row
     (λ c db. IsShort c.name × AreLow (db.trees 0))
 unfolding understood everything
-set_ceiling_sure = sure_change set_ceiling_text ceiling_row _ _ set_ceiling_is tt (λ c. refl) (omega arith)
+ceiling = sure_change set_ceiling_text ceiling_row _ _ set_ceiling_is tt (λ c. refl) (omega arith)
     (λ c limit db stop desk sound fits h. ceiling_never c limit db desk sound fits.0 fits.1 stop h)
 
-pub set_closed_sure : IsSureChange close_plan_text closing_row
+pub closed : IsSureChange close_plan_text closing_row
     (λ c db. IsShort c.operator × IsShort c.id × AreLow (db.trees 2))
 unfolding understood everything
-set_closed_sure = sure_change close_plan_text closing_row _ _ close_plan_is tt (λ c. refl) (omega arith)
+closed = sure_change close_plan_text closing_row _ _ close_plan_is tt (λ c. refl) (omega arith)
     (λ c limit db stop desk sound fits h.
     closing_never c limit db desk sound fits.0 fits.1 fits.2 stop h)

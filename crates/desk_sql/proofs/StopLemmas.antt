@@ -163,7 +163,8 @@ module _ (text : List ℕ) (params : Row) (old new : State) (e : Error) (live : 
       let means = whole_at text (length params) _ c it.is whole in
       let given = timed params c.formats it.now in
       by_command c it.is given (ap (λ f. timed params f it.now) means.timeless ∙ append-nil params) means
-      (subst (λ b. MatchBool b ((◌≡◌ {A = Result ℕ Error} (Err e) (Err ExecuteReturnedResults)) × IsUnchanged old new)
+      (subst (λ b. MatchBool b ((◌≡◌ {A = Result ℕ Error} (Err e) (Err ExecuteReturnedResults))
+      × IsUnchanged old new)
       (RunsCommand old new text c given (Err e))) (hidden c.command c.returning means.bare means.writes) h)
 
   pub caused_inside : IsWholeIn text (length params) (understood old.now.schema text)

@@ -12,7 +12,7 @@ ghost use Rattle.desk_sql.specs.Statements.{Changes, key_row};
 use crate::changing::run::run;
 use sqlite::{Alter, Error, Transaction, params};
 
-#[tactic(auto, using(crate::proofs::RemoveLemmas::remove_plan_changes, crate::proofs::RemoveStops::remove_plan_sure))]
+#[tactic(auto, using(crate::proofs::RemoveLemmas::remove_plan_changes, crate::proofs::RemoveStops::plan))]
 pub(crate) fn remove_plan_text() -> &'static str
     ensures changed { Changes result.now key_row (λ key. RemovesPlan key.operator key.id) }
     ensures sure { IsSureChange result.now key_row (λ key db. ⊤) }
@@ -47,7 +47,7 @@ pub fn remove_plan<S: Alter>(
     Ok(())
 }
 
-#[tactic(auto, using(crate::proofs::RemoveLemmas::remove_spans_changes, crate::proofs::RemoveStops::remove_spans_sure))]
+#[tactic(auto, using(crate::proofs::RemoveLemmas::remove_spans_changes, crate::proofs::RemoveStops::spans))]
 fn remove_spans_text() -> &'static str
     ensures changed { Changes result.now key_row (λ key. RemovesSpans key.operator key.id) }
     ensures sure { IsSureChange result.now key_row (λ key db. ⊤) }

@@ -12,7 +12,7 @@ ghost use Rattle.desk_sql.specs.Statements.{Changes, ceiling_row, closing_row};
 use crate::changing::run::run;
 use sqlite::{Alter, Error, Transaction, params};
 
-#[tactic(auto, using(crate::proofs::SetLemmas::set_ceiling_changes, crate::proofs::SetStops::set_ceiling_sure))]
+#[tactic(auto, using(crate::proofs::SetLemmas::set_ceiling_changes, crate::proofs::SetStops::ceiling))]
 fn set_ceiling_text() -> &'static str
     ensures changed { Changes result.now ceiling_row (λ c. SetsOperators (is_by c.name) (ceiling_row c)) }
     ensures sure { IsSureChange result.now ceiling_row
@@ -50,7 +50,7 @@ pub fn set_ceiling<S: Alter>(
     Ok(())
 }
 
-#[tactic(auto, using(crate::proofs::SetLemmas::set_closed_changes, crate::proofs::SetStops::set_closed_sure))]
+#[tactic(auto, using(crate::proofs::SetLemmas::set_closed_changes, crate::proofs::SetStops::closed))]
 fn set_closed_text() -> &'static str
     ensures changed { Changes result.now closing_row (λ c. SetsPlans (is_of c.operator c.id)
         (plan_row c.operator c.id c.priority 2 c.aircraft)) }

@@ -51,7 +51,7 @@ pub struct SpanRecord<'a> {
     pub priority: u32,
 }
 
-#[tactic(auto, using(crate::proofs::InsertLemmas::insert_operator_changes, crate::proofs::InsertTexts::insert_operator_sure))]
+#[tactic(auto, using(crate::proofs::InsertLemmas::insert_operator_changes, crate::proofs::Added::operator))]
 fn insert_operator_text() -> &'static str
     ensures changed { Changes result.now ceiling_row (λ c. AddsOperator (ceiling_row c)) }
     ensures sure { IsSureChange result.now ceiling_row
@@ -88,7 +88,7 @@ pub fn insert_operator<S: Alter>(
     Ok(())
 }
 
-#[tactic(auto, using(crate::proofs::InsertLemmas::insert_plan_changes, crate::proofs::InsertTexts::insert_plan_sure))]
+#[tactic(auto, using(crate::proofs::InsertLemmas::insert_plan_changes, crate::proofs::Added::plan))]
 fn insert_plan_text() -> &'static str
     ensures changed { Changes result.now row_of (λ p. AddsPlan (row_of p)) }
     ensures sure { IsSureChange result.now row_of
@@ -133,7 +133,7 @@ pub fn insert_plan<S: Alter>(
     Ok(())
 }
 
-#[tactic(auto, using(crate::proofs::InsertLemmas::insert_volume_changes, crate::proofs::InsertTexts::insert_volume_sure))]
+#[tactic(auto, using(crate::proofs::InsertLemmas::insert_volume_changes, crate::proofs::Added::volume))]
 fn insert_volume_text() -> &'static str
     ensures changed { Changes result.now volume_of (λ v. AddsVolume (volume_of v)) }
     ensures sure { IsSureChange result.now volume_of
@@ -186,7 +186,7 @@ pub fn insert_volume<S: Alter>(
     Ok(())
 }
 
-#[tactic(auto, using(crate::proofs::InsertLemmas::insert_span_changes, crate::proofs::InsertTexts::insert_span_sure))]
+#[tactic(auto, using(crate::proofs::InsertLemmas::insert_span_changes, crate::proofs::Added::span))]
 fn insert_span_text() -> &'static str
     ensures changed { Changes result.now span_of (λ s. AddsSpan (span_of s)) }
     ensures sure { IsSureChange result.now span_of

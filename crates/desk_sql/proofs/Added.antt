@@ -155,7 +155,8 @@ module _ (c : Ceiling) (limit : Option ℕ) (old : Database) (desk : IsDesk old)
   operator_trees = old.trees
 
   operator_lone : IsLone (at 0 operator_table) (inl refl) operator_trees (ceiling_row c)
-  operator_lone i (inl is) on = alone (columns 2) (λ r. has_same_key 1 r (ceiling_row c)) i _ is _ (operator_trees 0)
+  operator_lone i (inl is) on =
+      alone (columns 2) (λ r. has_same_key 1 r (ceiling_row c)) i _ is _ (operator_trees 0)
       (key_1 (next_rowid (old.trees 0)) (ceiling_row c)) fits.1.1
   operator_lone i (inr (inl is)) on = off (at 0 operator_table) i _ is refl on
   operator_lone i (inr (inr (inl is))) on = off (at 0 operator_table) i _ is refl on
@@ -164,11 +165,13 @@ module _ (c : Ceiling) (limit : Option ℕ) (old : Database) (desk : IsDesk old)
   operator_lone i (inr (inr (inr (inr (inr none))))) on = absurd none
 
   operator_never : (stop : Option Error)
-      → OnRows (task_at limit (ceiling_row c) operator_table.name operator_table.columns operator_table.primary
-      operator_table.references 0) enforced None (Insert 0 (Values insert_operator_terms 3)) old.trees (Err stop)
+      → OnRows (task_at limit (ceiling_row c) operator_table.name operator_table.columns
+      operator_table.primary operator_table.references 0) enforced None
+      (Insert 0 (Values insert_operator_terms 3)) old.trees (Err stop)
       → IsAtLimit limit stop
-  operator_never = never_stops limit (ceiling_row c) operator_table.name operator_table.columns operator_table.primary
-      operator_table.references 0 old.trees insert_operator_terms 3 (ceiling_row c) (record {
+  operator_never = never_stops limit (ceiling_row c) operator_table.name operator_table.columns
+      operator_table.primary operator_table.references 0 old.trees
+      insert_operator_terms 3 (ceiling_row c) (record {
         listed = inl refl;
         refers = refl;
         one = refl;
@@ -194,7 +197,8 @@ module _ (p : PlanRecord) (limit : Option ℕ) (old : Database) (desk : IsDesk o
 
   plan_lone : IsLone (at 2 plan_table) (inr (inl refl)) plan_trees (row_of p)
   plan_lone i (inl is) on = off (at 2 plan_table) i _ is refl on
-  plan_lone i (inr (inl is)) on = alone (columns 5) (λ r. has_same_key 2 r (row_of p)) i _ is _ (plan_trees 2)
+  plan_lone i (inr (inl is)) on =
+      alone (columns 5) (λ r. has_same_key 2 r (row_of p)) i _ is _ (plan_trees 2)
       (key_2 (next_rowid (old.trees 2)) (row_of p)) fits.2.1
   plan_lone i (inr (inr (inl is))) on = off (at 2 plan_table) i _ is refl on
   plan_lone i (inr (inr (inr (inl is)))) on = off (at 2 plan_table) i _ is refl on
@@ -234,7 +238,8 @@ module _ (v : VolumeRecord) (limit : Option ℕ) (old : Database) (desk : IsDesk
   volume_lone : IsLone (at 4 volume_table) (inr (inr (inl refl))) volume_trees (volume_of v)
   volume_lone i (inl is) on = off (at 4 volume_table) i _ is refl on
   volume_lone i (inr (inl is)) on = off (at 4 volume_table) i _ is refl on
-  volume_lone i (inr (inr (inl is))) on = alone (columns 8) (λ r. has_same_key 3 r (volume_of v)) i _ is _ (volume_trees 4)
+  volume_lone i (inr (inr (inl is))) on =
+      alone (columns 8) (λ r. has_same_key 3 r (volume_of v)) i _ is _ (volume_trees 4)
       (key_3 (next_rowid (old.trees 4)) (volume_of v)) fits.3.1
   volume_lone i (inr (inr (inr (inl is)))) on = off (at 4 volume_table) i _ is refl on
   volume_lone i (inr (inr (inr (inr (inl is))))) on = off (at 4 volume_table) i _ is refl on
@@ -256,7 +261,8 @@ module _ (v : VolumeRecord) (limit : Option ℕ) (old : Database) (desk : IsDesk
           typed = λ n. refl;
           present = λ n. refl;
           checked = λ n. refl;
-          stored = volume_stored v.operator.now v.id.now v.place v.lower v.upper v.start v.stop v.asked.now fits.0
+          stored = volume_stored v.operator.now v.id.now v.place v.lower v.upper
+              v.start v.stop v.asked.now fits.0
               fits.1 fits.2;
         };
         room = fits.3.0;
@@ -275,7 +281,8 @@ module _ (s : SpanRecord) (limit : Option ℕ) (old : Database) (desk : IsDesk o
   span_lone i (inl is) on = off (at 6 span_table) i _ is refl on
   span_lone i (inr (inl is)) on = off (at 6 span_table) i _ is refl on
   span_lone i (inr (inr (inl is))) on = off (at 6 span_table) i _ is refl on
-  span_lone i (inr (inr (inr (inl is)))) on = alone (columns 10) (λ r. has_same_key 4 r (span_of s)) i _ is _ (span_trees 6)
+  span_lone i (inr (inr (inr (inl is)))) on =
+      alone (columns 10) (λ r. has_same_key 4 r (span_of s)) i _ is _ (span_trees 6)
       (key_4 (next_rowid (old.trees 6)) (span_of s)) fits.2.1
   span_lone i (inr (inr (inr (inr (inl is))))) on = off (at 6 span_table) i _ is refl on
   span_lone i (inr (inr (inr (inr (inr none))))) on = absurd none
@@ -309,26 +316,30 @@ module _ (s : SpanRecord) (limit : Option ℕ) (old : Database) (desk : IsDesk o
 
 -- ---- the texts
 
-pub insert_operator_sure : IsSureChange insert_operator_text ceiling_row
+pub operator : IsSureChange insert_operator_text ceiling_row
     (λ c. FitsOperator c.name (ceiling_row c))
 unfolding understood everything
-insert_operator_sure = sure_change insert_operator_text ceiling_row _ _ insert_operator_is tt (λ it. refl) (omega arith)
+operator = sure_change insert_operator_text ceiling_row _ _ insert_operator_is tt (λ it. refl)
+    (omega arith)
     (λ it limit db stop desk sound fits h. operator_never it limit db desk sound fits stop h)
 
-pub insert_plan_sure : IsSureChange insert_plan_text row_of
+pub plan : IsSureChange insert_plan_text row_of
     (λ p. FitsPlan p.operator.now p.id.now (row_of p))
 unfolding understood everything
-insert_plan_sure = sure_change insert_plan_text row_of _ _ insert_plan_is tt (λ it. refl) (omega arith)
+plan = sure_change insert_plan_text row_of _ _ insert_plan_is tt (λ it. refl)
+    (omega arith)
     (λ it limit db stop desk sound fits h. plan_never it limit db desk sound fits stop h)
 
-pub insert_volume_sure : IsSureChange insert_volume_text volume_of
+pub volume : IsSureChange insert_volume_text volume_of
     (λ v. FitsVolume v.operator.now v.id.now v.asked.now (volume_of v))
 unfolding understood everything
-insert_volume_sure = sure_change insert_volume_text volume_of _ _ insert_volume_is tt (λ it. refl) (omega arith)
+volume = sure_change insert_volume_text volume_of _ _ insert_volume_is tt (λ it. refl)
+    (omega arith)
     (λ it limit db stop desk sound fits h. volume_never it limit db desk sound fits stop h)
 
-pub insert_span_sure : IsSureChange insert_span_text span_of
+pub span : IsSureChange insert_span_text span_of
     (λ s. FitsSpan s.operator.now s.id.now (span_of s))
 unfolding understood everything
-insert_span_sure = sure_change insert_span_text span_of _ _ insert_span_is tt (λ it. refl) (omega arith)
+span = sure_change insert_span_text span_of _ _ insert_span_is tt (λ it. refl)
+    (omega arith)
     (λ it limit db stop desk sound fits h. span_never it limit db desk sound fits stop h)
