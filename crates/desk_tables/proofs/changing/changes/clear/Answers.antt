@@ -57,5 +57,6 @@ returns-clause-crash g c =
     c.clear_plans.ensures.crash) c.requires.fits
 
 pub returns-clause-cause : goal.returns-clause-cause
-returns-clause-cause g c = blamed g.S.Store c.args.connection.now c.clear_plans.new.connection c.in-Err.e c.fault_of.result
+returns-clause-cause g c =
+    blamed g.S.Store c.args.connection.now c.clear_plans.new.connection c.in-Err.e c.fault_of.result
     c.fault_of.ensures c.in-Err.ensures.cause
