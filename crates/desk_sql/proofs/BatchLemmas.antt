@@ -12,6 +12,8 @@ use Rattle.sqlite.specs.Held.{Held, state}
 use Rattle.desk_sql.specs.Rows.{IsDesk, Tables, tables_of, RemovesPlan, AddsPlan, AddsVolume, AddsSpan}
 use Rattle.desk_sql.specs.Effects.{IsReady, Makes, Spares}
 use Rattle.desk_sql.specs.Finding.{Holds}
+use Rattle.desk_sql.specs.Refusals.{IsRefusal}
+use Rattle.desk_sql.proofs.RowidLemmas.{refusal_on}
 use Rattle.desk_sql.specs.Batches.{AddsVolumes, AddsSpans, IsUnderWay, PutsPlan}
 
 pub record HasAdded {S : Type 0} (g : Ghosts S) (old now : Held S)
@@ -19,6 +21,7 @@ pub record HasAdded {S : Type 0} (g : Ghosts S) (old now : Held S)
     0 where
   pub doubted : doubt (state g old).is_clean ≤ doubt (state g now).is_clean
   pub counted : (state g old).faults ≤ (state g now).faults
+  pub limit : now.step_limit ≡ old.step_limit
   pub spared : Spares g old now
   pub made : HasCleanDisk (state g now) → Makes g old now Changes
 
@@ -27,6 +30,7 @@ pub begins : {S : Type 0} (g : Ghosts S) (old : Held S) (Changes : Tables → Ta
 begins g old Changes none under = record {
   doubted = omega arith;
   counted = omega arith;
+  limit = refl;
   spared = λ clean db left. left;
   made = λ clean. let h = under clean in record {
     was_open = h.0;
@@ -44,11 +48,12 @@ pub goes_on : {S : Type 0} (g : Ghosts S) (old mid new : Held S)
     → ((a b c : Tables) → Before a b → Step b c → After a c)
     → HasAdded g old mid Before
     → doubt (state g mid).is_clean ≤ doubt (state g new).is_clean
-    → (state g mid).faults ≤ (state g new).faults → Spares g mid new
+    → (state g mid).faults ≤ (state g new).faults → new.step_limit ≡ mid.step_limit → Spares g mid new
     → (HasCleanDisk (state g new) → Makes g mid new Step) → HasAdded g old new After
-goes_on g old mid new Before Step After joins so_far doubted counted spared step = record {
+goes_on g old mid new Before Step After joins so_far doubted counted limit spared step = record {
   doubted = omega (arith, so_far.doubted, doubted);
   counted = omega (arith, so_far.counted, counted);
+  limit = limit ∙ so_far.limit;
   spared = λ clean db left. so_far.spared (omega (arith, doubted, clean)) db (spared clean db left);
   made = λ clean.
       let last = step clean in
@@ -73,6 +78,7 @@ pub begins_prepared : {S : Type 0} (g : Ghosts S) (old now : Held S) (Changes : 
 begins_prepared g old now Changes none ready sound begun same last = record {
   doubted = last.clean;
   counted = last.counts;
+  limit = last.limit;
   spared = λ clean db left. elim (last.crash clean db left) [ inl it ↦ it | inr never ↦ absurd never ];
   made = λ clean.
       let h = (same clean).0 in
@@ -87,6 +93,17 @@ begins_prepared g old now Changes none ready sound begun same last = record {
             (tables_of db.trees)) (sym h.now_is) (none (tables_of (state g old).now.trees));
       };
 }
+
+-- the transaction goes on
+pub way_on : {S : Type 0} (g : Ghosts S) (old now : Held S) (Changes : Tables → Tables → Type 0)
+    → HasAdded g old now Changes → IsUnderWay g now
+way_on g old now Changes added clean = let made = added.made clean in
+    (made.is_open, made.begun, made.desk, made.sound)
+
+-- a turn is refused for a cause since the start
+pub refused_on : {S : Type 0} (g : Ghosts S) (old now new : Held S) (Changes : Tables → Tables → Type 0)
+    → HasAdded g old now Changes → (e : Error) → IsRefusal g now new e → IsRefusal g old new e
+refused_on g old now new Changes added = refusal_on g old now new added.counted added.limit
 
 pub keeps_unprepared : (old new : State) (text : List ℕ) (params : Row) (e : Error)
     → IsNotRun old new text params e → KeepsCommit old new

@@ -96,7 +96,7 @@ not_null (Real n) t h = refl
 not_null (Text n) t h = refl
 not_null (Blob n) t h = refl
 
-null_is_none : (v : Value) (t : List ℕ) → (not (is_null v) && is_text v t) ≡ is_text v t
+pub null_is_none : (v : Value) (t : List ℕ) → (not (is_null v) && is_text v t) ≡ is_text v t
 null_is_none Null t = sym (ap is_eq (value_cmp-Null (Text t)))
 null_is_none (Int n) t = refl
 null_is_none (Real n) t = refl
@@ -120,7 +120,7 @@ and_true a b true true p q = rw (p, q)
 and_true a b true false p q = rw (p, q)
 and_true a b false d p q = rw p
 
-agrees : (operator id : List ℕ) (r old : Row) → has_key operator id old ≡ true
+pub agrees : (operator id : List ℕ) (r old : Row) → has_key operator id old ≡ true
     → agree plain key_places r key_places old ≡ has_key operator id r
 unfolding first_key
 agrees operator id r old h =
@@ -267,7 +267,7 @@ at_has P [] r all none = absurd none
 at_has P (x ∷ rows) r all (inl same) = subst P (sym same) all.0
 at_has P (x ∷ rows) r all (inr there) = at_has P rows r all.1 there
 
-one_row : (rows : List Row) (a b : Row) → IsAscending IsApart rows → Has rows a → Has rows b
+pub one_row : (rows : List Row) (a b : Row) → IsAscending IsApart rows → Has rows a → Has rows b
     → is_eq (value_cmp (rowid a) (rowid b)) ≡ true → a ≡ b
 one_row [] a b apart none there h = absurd none
 one_row (r ∷ rows) a b apart (inl ra) (inl rb) h = ra ∙ sym rb
@@ -378,12 +378,12 @@ module _ (n : ℕ) (db : Trees) (table : Table) (moves : List (Row × Row)) (bel
       × Leads desk_schema Enforced n mid below (Ok next)
   acted h = gone h.0 h.1 h.2
 
-last_one : (below : List Work) (a w : Work) → a ∷ [] ≡ below ++ w ∷ [] → (below ≡ []) × (w ≡ a)
+pub last_one : (below : List Work) (a w : Work) → a ∷ [] ≡ below ++ w ∷ [] → (below ≡ []) × (w ≡ a)
 last_one [] a w e = (refl, cc)
 last_one (x ∷ []) a w e = cc
 last_one (x ∷ y ∷ below) a w e = cc
 
-last_two : (below : List Work) (a b w : Work) → a ∷ b ∷ [] ≡ below ++ w ∷ [] → (below ≡ a ∷ [])
+pub last_two : (below : List Work) (a b w : Work) → a ∷ b ∷ [] ≡ below ++ w ∷ [] → (below ≡ a ∷ [])
     × (w ≡ b)
 last_two [] a b w e = cc
 last_two (x ∷ []) a b w e = (cc, cc)

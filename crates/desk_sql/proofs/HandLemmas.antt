@@ -165,7 +165,7 @@ module _ {S : Type 0} (g : Ghosts S) (sql : List ℕ) (params : Row) (sure : IsS
       whole rows after given = begins_answer first new rows so_far after schema_old
           (subst (λ t. HasGiven g t params new rows) is given)
 
-      cut_by : (e : Error) → FailsToHand g first new text params [] refuses e
+      cut_by : (e : Error) → FailsToHand g first new text params refuses e
           → IsCutShort g old new Answer refuses e
       cut_by e (inl later) =
           let all = unchanged_then (state g old) (state g first) (state g later.now) so_far later.same in

@@ -112,6 +112,11 @@ pub any_map : {A B : Type 0} (q : B → Bool) (f : A → B) (xs : List A) → li
 any_map q f [] = refl
 any_map q f (x ∷ xs) = ap (λ b. q (f x) || b) (any_map q f xs)
 
+pub any_same : {A : Type 0} (p q : A → Bool) → ((x : A) → p x ≡ q x) → (xs : List A)
+    → list_any p xs ≡ list_any q xs
+any_same p q same [] = refl
+any_same p q same (x ∷ xs) = ap₂ (λ a b. a || b) (same x) (any_same p q same xs)
+
 -- the rows that were found go, and no other
 pub removed : (p : Row → Bool) (rows shown : List Row) → AreNumbered rows
     → IsPermutation (map (λ r. rowid r ∷ []) (filter p rows)) shown → without_all rows (ids_of shown)

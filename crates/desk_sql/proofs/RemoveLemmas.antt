@@ -12,6 +12,7 @@ use Rattle.sqlite.specs.Edit.{row_at, taken_by}
 use Rattle.sqlite.specs.Command.TheVariants.{Delete}
 use Rattle.sqlite.specs.Effect.{Database}
 use Rattle.sqlite.proofs.Callers.{one_step}
+use Rattle.sqlite.specs.Rows.{Written, Task, Deletes}
 use Rattle.sqlite_rules.specs.Calls.{ids_of}
 use Rattle.sqlite_rules.specs.Action.{Settles, pairs}
 use Rattle.sqlite_schema.specs.declared.program.Program.{Program}
@@ -56,33 +57,59 @@ tables_are : (next : Trees) (operators plans volumes spans : List Row) → map (
     → tables_of next ≡ record { operators = operators; plans = plans; volumes = volumes; spans = spans }
 tables_are next operators plans volumes spans a b c d = rw (a, b, c, d)
 
-module _ (operator id : List ℕ) (limit : Option ℕ) (old new : Database) where
-  abbrev params : Row
+-- what a DELETE of a plan's spans leaves
+pub record AreSpared (operator id : List ℕ) (db next : Trees) : Type 0 where
+  pub operators : next 0 ≡ db 0
+  pub plans : next 2 ≡ db 2
+  pub volumes : next 4 ≡ db 4
+  pub spans : next 6 ≡ filter (λ r. not (has_key operator id r)) (db 6)
+
+module _ (operator id : List ℕ) (limit : Option ℕ) where
+  abbrev pub params : Row
   params = Text operator ∷ Text id ∷ []
 
-  pub remove_spans : IsDesk old → May remove_spans_text params limit old new
+  abbrev pub spans_task : Task
+  spans_task = task_at limit params span_table.name span_table.columns span_table.primary
+      span_table.references 6
+
+  abbrev pub spans_program : Program
+  spans_program = record { lets = []; body = remove_spans_query }
+
+  pub spans_removed : (old : Database) (w : Written) → IsDesk old
+      → Deletes spans_task spans_program old.trees (Ok w) → AreSpared operator id old.trees w.trees
+  spans_removed old w desk h =
+      let db = old.trees in
+      let f = delete_finds limit params span_table.name span_table.columns span_table.primary
+      span_table.references 6 db remove_spans_query.filter (has_key operator id) w refl
+      (by_key operator id) h in
+      let edit = delete_edit limit params span_table.name span_table.columns span_table.primary
+      span_table.references 6 db f.found in
+      let step = one_step desk_schema Enforced db w.trees edit (span_works 0 (taken_by db edit))
+      f.writes
+      in
+      record {
+        operators = step.tables.0 (λ e. cc);
+        plans = step.tables.1.0 (λ e. cc);
+        volumes = step.tables.1.1.0 (λ e. cc);
+        spans = step.rows ∙ removed (has_key operator id) (db 6) f.found desk.spans f.are;
+      }
+
+module _ (operator id : List ℕ) (limit : Option ℕ) (old new : Database) where
+  pub remove_spans : IsDesk old → May remove_spans_text (params operator id limit) limit old new
       → IsDesk new × RemovesSpans operator id (tables_of old.trees) (tables_of new.trees)
   remove_spans desk h =
       let db = old.trees in
-      let q : Program = record { lets = []; body = remove_spans_query } in
-      let d = did remove_spans_text params limit old new desk (Delete 3 q) remove_spans_is h in
-      let it = rows_written (task_at limit params span_table.name span_table.columns
-      span_table.primary span_table.references 6) (Delete 3 q) db d.0 new d.1 in
-      let f = delete_finds limit params span_table.name span_table.columns span_table.primary
-      span_table.references 6 db remove_spans_query.filter (has_key operator id) it.0 refl
-      (by_key operator id) it.1 in
-      let edit = delete_edit limit params span_table.name span_table.columns span_table.primary
-      span_table.references 6 db f.found in
-      let step = one_step desk_schema Enforced db it.0.trees edit (span_works 0 (taken_by db edit))
-      f.writes
-      in
+      let q = spans_program operator id limit in
+      let d = did remove_spans_text (params operator id limit) limit old new desk (Delete 3 q)
+      remove_spans_is h in
+      let it = rows_written (spans_task operator id limit) (Delete 3 q) db d.0 new d.1 in
+      let left = spans_removed operator id limit old it.0 desk it.1 in
       let now : new.trees ≡ it.0.trees = ap (λ (d : Database). d.trees) it.2 in
-      let e0 : new.trees 0 ≡ db 0 = ap (λ (t : Trees). t 0) now ∙ step.tables.0 (λ e. cc) in
-      let e2 : new.trees 2 ≡ db 2 = ap (λ (t : Trees). t 2) now ∙ step.tables.1.0 (λ e. cc) in
-      let e4 : new.trees 4 ≡ db 4 = ap (λ (t : Trees). t 4) now ∙ step.tables.1.1.0 (λ e. cc) in
+      let e0 : new.trees 0 ≡ db 0 = ap (λ (t : Trees). t 0) now ∙ left.operators in
+      let e2 : new.trees 2 ≡ db 2 = ap (λ (t : Trees). t 2) now ∙ left.plans in
+      let e4 : new.trees 4 ≡ db 4 = ap (λ (t : Trees). t 4) now ∙ left.volumes in
       let e6 : new.trees 6 ≡ filter (λ r. not (has_key operator id r)) (db 6) =
-      ap (λ (t : Trees). t 6) now ∙ step.rows ∙ removed (has_key operator id) (db 6) f.found desk.spans
-      f.are in (
+      ap (λ (t : Trees). t 6) now ∙ left.spans in (
         record {
           schema = ap (λ (d : Database). d.schema) it.2;
           operators = subst AreNumbered (sym e0) desk.operators;
@@ -141,28 +168,38 @@ module _ (operator id : List ℕ) (olds : List Row) (all : AllByRecursion
         spans = volumes.others.1.1.1.0 (λ e. cc) ∙ spans.rows ∙ goes spans_at is (mid 6);
       }
 
-module _ (operator id : List ℕ) (limit : Option ℕ) (old new : Database) where
-  abbrev plan_params : Row
+-- what a DELETE of a plan leaves, if it is there and if not
+pub record AreCut (operator id : List ℕ) (b : Bool) (db next : Trees) : Type 0 where
+  pub operators : next 0 ≡ db 0
+  pub plans : next 2 ≡ filter (λ r. not (has_key operator id r)) (db 2)
+  pub volumes : next 4 ≡ cond b (filter (λ r. not (has_key operator id r)) (db 4)) (db 4)
+  pub spans : next 6 ≡ cond b (filter (λ r. not (has_key operator id r)) (db 6)) (db 6)
+
+module _ (operator id : List ℕ) (limit : Option ℕ) where
+  abbrev pub plan_params : Row
   plan_params = Text operator ∷ Text id ∷ []
 
-  pub remove_plan : IsDesk old → May remove_plan_text plan_params limit old new
-      → IsDesk new × RemovesPlan operator id (tables_of old.trees) (tables_of new.trees)
-  remove_plan desk h =
+  abbrev pub plan_task : Task
+  plan_task = task_at limit plan_params plan_table.name plan_table.columns plan_table.primary
+      plan_table.references 2
+
+  abbrev pub plan_program : Program
+  plan_program = record { lets = []; body = remove_plan_query }
+
+  pub plan_removed : (old : Database) (w : Written) → IsDesk old
+      → Deletes plan_task plan_program old.trees (Ok w)
+      → AreCut operator id (list_any (has_key operator id) (old.trees 2)) old.trees w.trees
+  plan_removed old w desk h =
       let db = old.trees in
-      let q : Program = record { lets = []; body = remove_plan_query } in
-      let d = did remove_plan_text plan_params limit old new desk (Delete 1 q) remove_plan_is h in
-      let it = rows_written (task_at limit plan_params plan_table.name plan_table.columns
-      plan_table.primary plan_table.references 2) (Delete 1 q) db d.0 new d.1 in
       let f = delete_finds limit plan_params plan_table.name plan_table.columns
       plan_table.primary
-      plan_table.references 2 db remove_plan_query.filter (has_key operator id) it.0 refl
-      (by_key operator id) it.1 in
+      plan_table.references 2 db remove_plan_query.filter (has_key operator id) w refl
+      (by_key operator id) h in
       let edit = delete_edit limit plan_params plan_table.name plan_table.columns
       plan_table.primary
       plan_table.references 2 db f.found in
-      let step = stepped (Settles desk_schema Enforced) db edit 0 [] it.0.trees f.writes in
+      let step = stepped (Settles desk_schema Enforced) db edit 0 [] w.trees f.writes in
       let mid = step.0 in
-      let next = it.0.trees in
       let olds = map (row_at (db 2)) (ids_of f.found) in
       let all = olds_pass (has_key operator id) (db 2) f.found desk.plans f.are in
       let b = list_any (has_key operator id) (db 2) in
@@ -172,20 +209,38 @@ module _ (operator id : List ℕ) (limit : Option ℕ) (old new : Database) wher
       let m6 : mid 6 ≡ db 6 = step.1.tables.1.1.1.0 (λ e. cc) in
       let m2 : mid 2 ≡ filter (λ r. not (has_key operator id r)) (db 2) = step.1.rows
       ∙ removed (has_key operator id) (db 2) f.found desk.plans f.are in
-      let settled = subst (λ ws. Settles desk_schema Enforced mid ws (Ok next))
+      let settled = subst (λ ws. Settles desk_schema Enforced mid ws (Ok w.trees))
       (plan_works olds b (all_lost operator id olds all ∙ is)) step.2 in
-      let left = all_left operator id olds all mid next (subst AreNumbered (sym m4) desk.volumes)
+      let left = all_left operator id olds all mid w.trees (subst AreNumbered (sym m4) desk.volumes)
       (subst AreNumbered (sym m6) desk.spans) b is settled in
-      let now : new.trees ≡ next = ap (λ (d : Database). d.trees) it.2 in
-      let e0 : new.trees 0 ≡ db 0 = ap (λ (t : Trees). t 0) now ∙ left.operators ∙ m0 in
+      record {
+        operators = left.operators ∙ m0;
+        plans = left.plans ∙ m2;
+        volumes = left.volumes
+            ∙ ap (λ rows. cond b (filter (λ r. not (has_key operator id r)) rows) rows) m4;
+        spans = left.spans
+            ∙ ap (λ rows. cond b (filter (λ r. not (has_key operator id r)) rows) rows) m6;
+      }
+
+module _ (operator id : List ℕ) (limit : Option ℕ) (old new : Database) where
+  pub remove_plan : IsDesk old → May remove_plan_text (plan_params operator id limit) limit old new
+      → IsDesk new × RemovesPlan operator id (tables_of old.trees) (tables_of new.trees)
+  remove_plan desk h =
+      let db = old.trees in
+      let q = plan_program operator id limit in
+      let d = did remove_plan_text (plan_params operator id limit) limit old new desk (Delete 1 q)
+      remove_plan_is h in
+      let it = rows_written (plan_task operator id limit) (Delete 1 q) db d.0 new d.1 in
+      let left = plan_removed operator id limit old it.0 desk it.1 in
+      let b = list_any (has_key operator id) (db 2) in
+      let now : new.trees ≡ it.0.trees = ap (λ (d : Database). d.trees) it.2 in
+      let e0 : new.trees 0 ≡ db 0 = ap (λ (t : Trees). t 0) now ∙ left.operators in
       let e2 : new.trees 2 ≡ filter (λ r. not (has_key operator id r)) (db 2) =
-      ap (λ (t : Trees). t 2) now ∙ left.plans ∙ m2 in
+      ap (λ (t : Trees). t 2) now ∙ left.plans in
       let e4 : new.trees 4 ≡ cond b (filter (λ r. not (has_key operator id r)) (db 4)) (db 4) =
-      ap (λ (t : Trees). t 4) now ∙ left.volumes ∙ ap
-      (λ rows. cond b (filter (λ r. not (has_key operator id r)) rows) rows) m4 in
+      ap (λ (t : Trees). t 4) now ∙ left.volumes in
       let e6 : new.trees 6 ≡ cond b (filter (λ r. not (has_key operator id r)) (db 6)) (db 6) =
-      ap (λ (t : Trees). t 6) now ∙ left.spans ∙ ap
-      (λ rows. cond b (filter (λ r. not (has_key operator id r)) rows) rows) m6 in
+      ap (λ (t : Trees). t 6) now ∙ left.spans in
       let shown : b ≡ list_any (is_of operator id) (map (columns 5) (db 2)) =
       sym (any_map (is_of operator id) (columns 5) (db 2)) in (
         record {

@@ -151,19 +151,19 @@ fallen rows i last r low is none = ap (λ xs. rises xs last) (drop-cons rows i r
 
 -- ---- an answer with the rowids of a table
 
-abbrev is_same_id : Row → Row → Bool
+abbrev pub is_same_id : Row → Row → Bool
 is_same_id a b = is_eq (value_cmp (rowid a) (rowid b))
 
-flips : (a b : Row) → is_same_id a b ≡ is_same_id b a
+pub flips : (a b : Row) → is_same_id a b ≡ is_same_id b a
 flips a b = ap is_eq (value_cmp_total.antisymm (rowid a) (rowid b))
     ∙ reversed (value_cmp (rowid b) (rowid a))
 
-to_distinct : (rows : List Row) → IsAscending IsApart rows → IsDistinct is_same_id rows
+pub to_distinct : (rows : List Row) → IsAscending IsApart rows → IsDistinct is_same_id rows
 unfolding IsDistinct
 to_distinct [] up = tt
 to_distinct (r ∷ rows) up = (up.0, to_distinct rows up.1)
 
-from_distinct : (rows : List Row) → IsDistinct is_same_id rows → IsAscending IsApart rows
+pub from_distinct : (rows : List Row) → IsDistinct is_same_id rows → IsAscending IsApart rows
 unfolding IsDistinct
 from_distinct [] apart = tt
 from_distinct (r ∷ rows) apart = (apart.0, from_distinct rows apart.1)

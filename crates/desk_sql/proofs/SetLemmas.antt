@@ -25,7 +25,7 @@ use Rattle.desk_sql.proofs.InsertLemmas.{tables_operator, tables_plan}
 use Rattle.desk_sql.proofs.WriteLemmas.{May, did, changes_by, rows_written, task_at, cast_int}
 use Rattle.desk_sql.proofs.UpdateLemmas.{update_sets, changes, operator_quiet, plan_quiet, update_edit}
 
-text_same : (v : Value) (t : List ℕ) → is_text v t ≡ true → v ≡ Text t
+pub text_same : (v : Value) (t : List ℕ) → is_text v t ≡ true → v ≡ Text t
 text_same Null t h = absurd (true≢false (sym h ∙ ap is_eq (value_cmp-Null (Text t))))
 text_same (Int n) t h =
     absurd (true≢false (sym h ∙ ap is_eq (value_cmp-apart (Int n) (Text t) (λ e. cc))))
@@ -37,7 +37,7 @@ text_same (Text s) t h =
 text_same (Blob n) t h =
     absurd (true≢false (sym h ∙ ap is_eq (value_cmp-apart (Blob n) (Text t) (λ e. cc))))
 
-both_hold : (a : Bool) → (a && true) ≡ a
+pub both_hold : (a : Bool) → (a && true) ≡ a
 both_hold true = refl
 both_hold false = refl
 

@@ -1,79 +1,12 @@
--- The queries with parameters are refused for no cause of their own.
-use Rattle.std.proofs.Common.{◌≡◌, ◌≤◌, ℕ, List, [], length, None, Result, Ok, Err, refl, subst, sym, true≢false, arith, inl, inr}
-use Rattle.sqlite.specs.Order.{Row}
-use Rattle.sqlite.specs.Tree.{Trees}
-use Rattle.sqlite.specs.Query.{Query}
-use Rattle.sqlite.specs.Command.TheVariants.{Select}
-use Rattle.sqlite.specs.Program.{overlay}
-use Rattle.sqlite_sql.specs.Program.{QueryOverflows}
-use Rattle.sqlite.specs.Effect.{IsShown}
+-- The queries of one operator, one plan and its volumes are refused for no cause of their own.
+use Rattle.std.proofs.Common.{refl, true≢false, arith, inl, inr}
 use Rattle.sqlite_tied.specs.Compute.{everything}
 use Rattle.sqlite.specs.Listing.{understood}
-use Rattle.sqlite.specs.Given.{IsPlain}
-use Rattle.sqlite_resolve.specs.declared.compiled.Compiled.{Compiled}
-use Rattle.sqlite_resolve.specs.declared.error.CompileError.{CompileError}
-use Rattle.sqlite.proofs.Callers.{command_of}
-use Rattle.sqlite.specs.Schema.{Schema}
-use Rattle.desk_sql.specs.Schema.{desk_schema}
-use Rattle.desk_sql.specs.Rivals.{rivals_row}
 use Rattle.desk_sql.specs.Statements.{name_row, key_row}
-use Rattle.desk_sql.specs.Refusals.{NeverRefusesGiven, IsSimple, IsSureFor, IsSureMeaning}
-use Rattle.desk_sql.proofs.Texts.{operator_named_text, plan_of_text, volumes_of_text, own_plans_text, rival_spans_text, count_plans_text}
-use Rattle.desk_sql.proofs.QueryTexts.{IsQuery, operator_named_is, operator_named_query, plan_of_is, plan_of_query, volumes_of_is, volumes_of_query, own_plans_is, own_plans_query, rival_spans_is, rival_spans_query}
-use Rattle.desk_sql.proofs.CountLemmas.{count_plans_is, count_plans_query, counts_never}
-
--- the query's types do not fit what it is given
-abbrev Misfits : Query → Schema → Trees → Row → Type 0
-Misfits query schema trees params = IsShown (λ (r : Row). r) (record { schema = schema; trees = trees })
-    (record { lets = []; body = query }) params None
-
--- a query whose types fit, and in which nothing overflows
-never : (query : Query) (names : List (List ℕ)) (params : Row)
-    → ((trees : Trees) → ¬ Misfits query desk_schema trees params)
-    → ((db : Trees) → ¬ QueryOverflows query (overlay db []) params)
-    → NeverRefusesGiven (Select (record { lets = []; body = query }) names) params
-never query names params fits sums limit db e schema (inl h) =
-    absurd (fits db.trees (subst (λ s. Misfits query s db.trees params) schema h.1))
-never query names params fits sums limit db e schema (inr (inl h)) = absurd (sums db.trees h.1)
-never query names params fits sums limit db e schema (inr (inr h)) = h
-
-abbrev names_in : Result Compiled CompileError → ℕ
-names_in (Ok c) = length c.names
-names_in (Err e) = 0
-
-abbrev tail_of : Result Compiled CompileError → ℕ
-tail_of (Ok c) = c.tail
-tail_of (Err e) = 0
-
-meant : (text : List ℕ) (r : Result Compiled CompileError) (query : Query) (names : List (List ℕ))
-    (params : Row) → command_of r ≡ Select (record { lets = []; body = query }) names → IsPlain r
-    → length params ≡ names_in r → length text ≤ tail_of r
-    → NeverRefusesGiven (Select (record { lets = []; body = query }) names) params
-    → IsSureMeaning text params r
-meant text (Ok c) query names params is plain count whole sure = record {
-  bare = plain.0;
-  timeless = plain.1;
-  given = count;
-  whole = whole;
-  simple = subst IsSimple (sym is) refl;
-  never = subst (λ k. NeverRefusesGiven k params) (sym is) sure;
-}
-meant text (Err e) query names params is plain count whole sure = absurd plain
-
-sure_for : {Given : Type 0} (text : List ℕ) (query : Query) (names : List (List ℕ)) (row : Given → Row)
-    → IsQuery text query names
-    → ((given : Given) → length (row given) ≡ names_in (understood desk_schema text))
-    → length text ≤ tail_of (understood desk_schema text)
-    → ((given : Given) (trees : Trees) → ¬ Misfits query desk_schema trees (row given))
-    → ((given : Given) (db : Trees) → ¬ QueryOverflows query (overlay db []) (row given))
-    → IsSureFor text row
-sure_for text query names row known count whole fits sums = record {
-  sure = λ given. record {
-    means = meant text (understood desk_schema text) query names (row given) known.is known.plain
-        (count given) whole (never query names (row given) (fits given) (sums given));
-    unlisted = known.unlisted;
-  };
-}
+use Rattle.desk_sql.specs.Refusals.{IsSureFor}
+use Rattle.desk_sql.proofs.Texts.{operator_named_text, plan_of_text, volumes_of_text}
+use Rattle.desk_sql.proofs.QueryTexts.{operator_named_is, operator_named_query, plan_of_is, plan_of_query, volumes_of_is, volumes_of_query}
+use Rattle.desk_sql.proofs.SureLemmas.{sure_for}
 
 pub named : IsSureFor operator_named_text name_row
 unfolding understood everything
@@ -102,35 +35,5 @@ volumes =
     (λ given. refl) (omega arith) (λ given trees misfit. true≢false misfit)
     (λ given db h. elim h [
       | inl none ↦ absurd none
-      | inr fold ↦ absurd fold.4
-    ])
-
-pub plans : IsSureFor own_plans_text name_row
-unfolding understood everything
-plans =
-    sure_for own_plans_text own_plans_query _ name_row own_plans_is
-    (λ given. refl) (omega arith) (λ given trees misfit. true≢false misfit)
-    (λ given db h. elim h [
-      | inl none ↦ absurd none
-      | inr fold ↦ absurd fold.4.4
-    ])
-
-pub rivals : IsSureFor rival_spans_text rivals_row
-unfolding understood everything
-rivals =
-    sure_for rival_spans_text rival_spans_query _ rivals_row rival_spans_is
-    (λ given. refl) (omega arith) (λ given trees misfit. true≢false misfit)
-    (λ given db h. elim h [
-      | inl none ↦ absurd none
-      | inr fold ↦ absurd fold.4
-    ])
-
-pub count : IsSureFor count_plans_text name_row
-unfolding understood everything
-count =
-    sure_for count_plans_text count_plans_query _ name_row count_plans_is
-    (λ given. refl) (omega arith) (λ given trees misfit. true≢false misfit)
-    (λ given db h. elim h [
-      | inl sum ↦ absurd (counts_never _ sum)
       | inr fold ↦ absurd fold.4
     ])

@@ -50,9 +50,6 @@ abbrev pub rival_spans_text : List ℕ
 rival_spans_text = codes
     "SELECT first, last, lower, upper, start, stop, priority FROM span WHERE first >= ?10 AND first <= ?1 AND last >= ?2 AND lower < ?3 AND upper > ?4 AND start < ?5 AND stop > ?6 AND priority >= ?7 AND (operator <> ?8 OR id <> ?9) ORDER BY first"
 
-abbrev pub own_count_text : List ℕ
-own_count_text = codes "SELECT count(*) FROM plan WHERE operator = ?1"
-
 abbrev pub insert_operator_text : List ℕ
 insert_operator_text = codes "INSERT INTO operator (name, ceiling) VALUES (?1, ?2)"
 

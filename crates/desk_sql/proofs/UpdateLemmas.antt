@@ -17,7 +17,7 @@ use Rattle.sqlite.specs.Table.{Table}
 use Rattle.sqlite.specs.Edit.{Edit, edit_of, with_rowid, numbered, without_all, put_all, are_fresh, have_rowids, taken_by}
 use Rattle.sqlite.specs.Cast.{cast_row}
 use Rattle.sqlite.specs.Rowids.TheVariants.{Given}
-use Rattle.sqlite.specs.Rows.{Written, Updates}
+use Rattle.sqlite.specs.Rows.{Written, Queried, Updates}
 use Rattle.sqlite_rules.specs.Calls.{ids_of}
 use Rattle.sqlite_rules.specs.Action.{Writes, works}
 use Rattle.sqlite_rules.proofs.ActionLemmas.{no_works}
@@ -55,7 +55,7 @@ all_put (r ∷ news) rows whole fresh num =
     )
 
 -- given rowids stay
-given_stay : (rows news : List Row) → numbered Given rows news ≡ news
+pub given_stay : (rows news : List Row) → numbered Given rows news ≡ news
 given_stay rows [] = refl
 given_stay rows (r ∷ news) = ap (λ rs. r ∷ rs) (given_stay (put_row r rows) news)
 
@@ -103,6 +103,23 @@ module _ (limit : Option ℕ) (params : Row) (name : List ℕ) (cols : List Colu
     pub are : IsPermutation (map source (filter wanted (db tree))) found
     pub writes : Writes desk_schema Enforced db (update_edit found) (Ok next)
 
+  -- the rows that the query finds
+  pub update_finds : (terms project : List Term) (wanted : Row → Bool) (source : Row → Row)
+      (found : List Row) → overlay db [] tree ≡ db tree
+      → ((r : Row) → eval_all project (params ∷ r ∷ []) ≡ source r)
+      → ((r : Row) → list_all (holds (params ∷ r ∷ [])) terms ≡ wanted r)
+      → Queried limit (record { schema = desk_schema; trees = db })
+      (record { lets = []; body = query_of (inner tree end) terms project [] }) params (Ok found)
+      → IsPermutation (map source (filter wanted (db tree))) found
+  update_finds terms project wanted source found same shows passes asked =
+      let shown = answer_shows (inner tree end) terms project (overlay db []) params found
+      (asked.answer Null) in
+      let rows = subst (λ rows. map (eval_all project)
+      (flat_map (λ r. cond (list_all (holds (params ∷ r ∷ [])) terms) ((params ∷ r ∷ []) ∷ []) []) rows)
+      ≡ map source (filter wanted (db tree))) (sym same)
+      (picked (λ r. params ∷ r ∷ []) terms project source wanted shows passes (db tree)) in
+      subst (λ xs. IsPermutation xs found) rows shown
+
   pub update_sets : (terms project : List Term) (wanted : Row → Bool) (source : Row → Row) (w : Written)
       → overlay db [] tree ≡ db tree → ((r : Row) → eval_all project (params ∷ r ∷ []) ≡ source r)
       → ((r : Row) → list_all (holds (params ∷ r ∷ [])) terms ≡ wanted r)
@@ -112,19 +129,46 @@ module _ (limit : Option ℕ) (params : Row) (name : List ℕ) (cols : List Colu
   update_sets terms project wanted source w same shows passes h =
       let asked = went h in
       let done = went asked.2 in
-      let shown = answer_shows (inner tree end) terms project (overlay db []) params asked.0
-      (asked.1.answer Null) in
-      let rows = subst (λ rows. map (eval_all project)
-      (flat_map (λ r. cond (list_all (holds (params ∷ r ∷ [])) terms) ((params ∷ r ∷ []) ∷ []) []) rows)
-      ≡ map source (filter wanted (db tree))) (sym same)
-      (picked (λ r. params ∷ r ∷ []) terms project source wanted shows passes (db tree)) in
       record {
         found = asked.0;
-        are = subst (λ xs. IsPermutation xs asked.0) rows shown;
+        are = update_finds terms project wanted source asked.0 same shows passes asked.1;
         writes = subst (λ (next : Trees). Writes desk_schema Enforced db (update_edit asked.0)
             (Ok next))
             (sym (ap (λ (it : Written). it.trees) (same_value done.2))) done.1;
       }
+
+  -- what they leave, and what is made of them
+  module _ (wanted : Row → Bool) (source : Row → Row) (found : List Row)
+      (are : IsPermutation (map source (filter wanted (db tree))) found) where
+    same_ids : ((r : Row) → rowid (source r) ≡ rowid r) → (rows : List Row)
+        → map (λ r. rowid (source r) ∷ []) rows ≡ map (λ r. rowid r ∷ []) rows
+    same_ids keeps [] = refl
+    same_ids keeps (r ∷ rows) = ap₂ (λ v xs. (v ∷ []) ∷ xs) (keeps r) (same_ids keeps rows)
+
+    shown_ids : (rows : List Row) → ids_of (map (λ r. rowid r ∷ []) rows) ≡ ids_of rows
+    shown_ids [] = refl
+    shown_ids (r ∷ rows) = ap₂ (λ i xs. i ∷ xs) refl (shown_ids rows)
+
+    pub left_is : AreNumbered (db tree) → ((r : Row) → rowid (source r) ≡ rowid r)
+        → without_all (db tree) (ids_of found) ≡ filter (λ r. not (wanted r)) (db tree)
+    left_is num keeps =
+        let ids : IsPermutation (map (λ r. rowid r ∷ []) (filter wanted (db tree)))
+        (map (λ r. rowid r ∷ []) found) =
+        subst (λ xs. IsPermutation xs (map (λ r. rowid r ∷ []) found))
+        (map-map (λ r. rowid r ∷ []) source (filter wanted (db tree))
+        ∙ same_ids keeps (filter wanted (db tree)))
+        (IsPermutation-map (λ r. rowid r ∷ []) _ _ are) in
+        ap (without_all (db tree)) (sym (shown_ids found))
+        ∙ removed wanted (db tree) (map (λ r. rowid r ∷ []) found) num ids
+
+    pub made_is : IsPermutation
+        (map (λ r. cast_row (table_at limit params name cols key refs tree) (drop 1 (source r)))
+        (filter wanted (db tree))) (news_of found)
+    made_is = subst (λ xs. IsPermutation xs (news_of found))
+        (map-map (λ s. cast_row (table_at limit params name cols key refs tree) (drop 1 s)) source
+        (filter wanted (db tree)))
+        (IsPermutation-map (λ s. cast_row (table_at limit params name cols key refs tree) (drop 1 s)) _ _
+        are)
 
   -- what the tree has then
   pub record Changed (wanted passes : Row → Bool) (show : Row → Row) (cells : Row) (next : Trees) : Type
@@ -149,15 +193,7 @@ module _ (limit : Option ℕ) (params : Row) (name : List ℕ) (cols : List Colu
       let step = one_step desk_schema Enforced db next edit (quiet s.found) s.writes in
       let news : edit.news ≡ news_of s.found = given_stay (without_all (db tree) (ids_of s.found))
       (news_of s.found) in
-      let ids : IsPermutation (map (λ r. rowid r ∷ []) (filter wanted (db tree)))
-      (map (λ r. rowid r ∷ []) s.found) =
-      subst (λ xs. IsPermutation xs (map (λ r. rowid r ∷ []) s.found))
-      (map-map (λ r. rowid r ∷ []) source (filter wanted (db tree))
-      ∙ same_ids (filter wanted (db tree)))
-      (IsPermutation-map (λ r. rowid r ∷ []) _ _ s.are) in
-      let left : without_all (db tree) (ids_of s.found) ≡ filter (λ r. not (wanted r)) (db tree) =
-      ap (without_all (db tree)) (sym (shown_ids s.found))
-      ∙ removed wanted (db tree) (map (λ r. rowid r ∷ []) s.found) num ids in
+      let left = left_is wanted source s.found s.are num keeps in
       let put = all_put (news_of s.found) (filter (λ r. not (wanted r)) (db tree))
       (subst (λ rs. have_rowids rs ≡ true) news step.keyed)
       (subst (λ rs. are_fresh rs (news_of s.found) ≡ true) left
@@ -167,12 +203,7 @@ module _ (limit : Option ℕ) (params : Row) (name : List ℕ) (cols : List Colu
       step.rows
       ∙ ap₂ put_all left news in
       let made : IsPermutation (map g (filter wanted (db tree))) (news_of s.found) =
-      subst (λ xs. IsPermutation xs (news_of s.found))
-      (map-map (λ s. cast_row (table_at limit params name cols key refs tree) (drop 1 s)) source
-      (filter wanted (db tree)))
-      (IsPermutation-map (λ s. cast_row (table_at limit params name cols key refs tree) (drop 1 s)) _ _
-      s.are)
-      in
+      made_is wanted source s.found s.are in
       record {
         num = subst AreNumbered (sym is) put.0;
         rows = IsPermutation-trans _ _ _ (IsPermutation-sym _ _
@@ -186,15 +217,6 @@ module _ (limit : Option ℕ) (params : Row) (name : List ℕ) (cols : List Colu
             (map show xs)) (sym is) (IsPermutation-map show _ _ put.1))));
         others = step.tables;
       }
-    where
-      same_ids : (rows : List Row) → map (λ r. rowid (source r) ∷ []) rows
-          ≡ map (λ r. rowid r ∷ []) rows
-      same_ids [] = refl
-      same_ids (r ∷ rows) = ap₂ (λ v xs. (v ∷ []) ∷ xs) (keeps r) (same_ids rows)
-
-      shown_ids : (rows : List Row) → ids_of (map (λ r. rowid r ∷ []) rows) ≡ ids_of rows
-      shown_ids [] = refl
-      shown_ids (r ∷ rows) = ap₂ (λ i xs. i ∷ xs) refl (shown_ids rows)
 
 -- ---- no action follows
 

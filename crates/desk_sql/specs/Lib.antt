@@ -9,3 +9,4 @@ pub mod Refusals
 pub mod Taking
 pub mod Rivals
 pub mod Statements
+pub mod Changing

@@ -67,8 +67,8 @@ module _ {S : Type 0} (g : Ghosts S) (old new : Held S) where
     pub fails : FailsToQuery sql params (state g now) (state g new) e
 
   -- the query fails, a row is refused after those before it, or 2 ^ 64 - 1 more rows were handed over
-  abbrev pub FailsToHand : List ℕ → Row → List Row → Refusing → Error → Type 0
-  FailsToHand sql params given refuses e = FailsLater sql params e
+  abbrev pub FailsToHand : List ℕ → Row → Refusing → Error → Type 0
+  FailsToHand sql params refuses e = FailsLater sql params e
       ⊎ (IsUnchanged (state g old) (state g new)
       × (((taken : List Row) × (row : Row) × HasGiven g sql params new (taken ++ row ∷ [])
       × refuses taken row e)
@@ -78,7 +78,7 @@ module _ {S : Type 0} (g : Ghosts S) (old new : Held S) where
   abbrev pub FailsToHandAll : (List Row → Type 0) → Refusing → Error → Type 0
   FailsToHandAll had refuses e =
       (sql : List ℕ) (params : Row) (given : List Row) → HasGiven g sql params old given → had given
-      → FailsToHand sql params given refuses e
+      → FailsToHand sql params refuses e
 
   -- memory, the disk or a limit on steps refuses the query, or its rows are not all taken
   abbrev pub IsCutShort : (List Row → Type 0) → Refusing → Error → Type 0

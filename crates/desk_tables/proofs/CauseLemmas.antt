@@ -1,6 +1,12 @@
 -- Why a reader answers that the store failed.
-use Rattle.std.proofs.Common.{◌≡◌, ◌≢◌, ◌≤◌, ◌<◌, ◌^◌, ◌⊎◌, ◌∙◌, ◌∷◌, inl, inr, ℕ, List, [], length, true, false, cond, Bool, Option, Some, None, Result, Ok, Err, IfErr, OnOk, IsTrue, IsPermutation, map, sym, ap, subst, arith}
-use Rattle.std.specs.Prelude.{IsSome}
+use Rattle.std.proofs.Common.{◌≡◌, ◌≢◌, ◌≤◌, ◌<◌, ◌^◌, ◌⊎◌, ◌∙◌, ◌∷◌, inl, inr, ℕ, List, [], length, true, false, cond, Bool, Option, Some, None, Result, Ok, Err, IfErr, OnOk, IsTrue, IsPermutation, map, sym, ap, subst, true≢false, arith}
+use Rattle.std.specs.Prelude.{IsSome, nat_le}
+use Rattle.std.proofs.lemmas.Bool.{and_parts, leb-true}
+use Rattle.desk_rules.specs.Name.{is_operator_name}
+use Rattle.desk_rules.specs.Limits.{max_name_length}
+use Rattle.desk_sql.specs.Changing.{IsShort}
+use Rattle.desk_store.specs.StoreChange.{IsFitting}
+use Rattle.desk_store.specs.declared.change.Change.TheVariants.{Close}
 use Rattle.std.specs.List.{AllByRecursion, AllZip, filter, find}
 use Rattle.std.proofs.lemmas.List.{append-nil}
 use Rattle.sqlite_trees.specs.declared.store.Store.{Ghosts}
@@ -15,7 +21,7 @@ use Rattle.desk_rules.specs.Limits.{max_priority}
 use Rattle.desk_rules.specs.declared.plan.PlanRow.{PlanRow}
 use Rattle.desk_sql.specs.Refusals.{IsRefusal}
 use Rattle.desk_store.specs.Rows.{is_own}
-use Rattle.desk_store.specs.World.{Filed, World}
+use Rattle.desk_store.specs.World.{Filed, World, plans_of, stored_of}
 use Rattle.desk_store.specs.declared.fault.StoreFault.{StoreFault}
 use Rattle.desk_store.specs.declared.fault.StoreFault.TheVariants.{Store}
 use Rattle.desk_tables.specs.Causes.{BlamesStore}
@@ -119,6 +125,39 @@ plan_reads o id w heads rows rest head h are volumes some none =
           none p.row hp.0.0 hp.1.0 (subst (λ r. IsHead r p.row) (sym is) (head_read p))
           (subst (λ xs. AllZip (λ r v. IsVolumeAt r 3 v) xs p.row.area)
           (sym (f ∙ append-nil (area_rows p))) (area_read p 0 p.row.area))
+
+-- the first row of a stored plan is its head
+pub head_reads : (o id : List ℕ) (w : World) (heads rest : List Row) (head : Row) → IsContent w
+    → heads ≡ plan_rows (own_of o id w) → heads ≡ head ∷ rest
+    → (p : PlanRow) × (p.priority < 2 ^ 32) × IsHead head p
+head_reads o id w heads rest head h are some =
+    by_found (find (is_own o id) w.plans)
+    (own_within o id w.plans h.rows (within_bits w.plans h.world.priorities)) (sym some ∙ are) where
+      by_found : (found : Option Filed) → AllByRecursion (λ p. IsPlan p.row) (one_or_none found)
+          × AllByRecursion (λ p. p.row.priority < 2 ^ 32) (one_or_none found)
+          → head ∷ rest ≡ plan_rows (one_or_none found)
+          → (p : PlanRow) × (p.priority < 2 ^ 32) × IsHead head p
+      by_found None hp e = cc
+      by_found (Some p) hp e =
+          let is : head ≡ plan_row p = cc in
+          (p.row, hp.1.0, subst (λ r. IsHead r p.row) (sym is) (head_read p))
+
+-- a plan that may be closed is stored
+pub closed_stored : (operator id : List ℕ) (w : World) → IsFitting (Close operator id) w
+    → ¬ (◌≡◌ {A = Option PlanRow} None (stored_of id (plans_of operator w)))
+unfolding IsFitting
+closed_stored operator id w fits none = none_there (stored_of id (plans_of operator w)) fits.1 none
+  where
+    none_there : (o : Option PlanRow) → IsSome o → ¬ (None ≡ o)
+    none_there None some e = absurd (true≢false (sym some))
+    none_there (Some p) some e = cc
+
+-- a name is short
+pub name_short : (name : List ℕ) → IsTrue (is_operator_name name) → IsShort name
+name_short name h =
+    let parts = and_parts _ _ h in
+    let bounds = and_parts (nat_le 1 (length name)) _ parts.0 in
+    omega (arith, leb-true (length name) max_name_length bounds.1)
 
 -- what takes rows and refuses one that a reading tells of
 abbrev Or : (List Row → Row → Type 0) → List Row → Row → Error → Type 0

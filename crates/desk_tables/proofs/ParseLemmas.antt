@@ -1,8 +1,8 @@
 -- What a text parses to is an id.
-use Rattle.std.proofs.Common.{◌≡◌, ℕ, ◌+◌, ◌*◌, ◌<◌, Bool, true, false, ◌&&◌, cond, List, All, length, get_or, Option, Some, None, refl, sym, subst, arith}
+use Rattle.std.proofs.Common.{◌≡◌, ℕ, ◌+◌, ◌*◌, ◌<◌, ◌≤◌, Bool, true, false, ◌&&◌, cond, List, All, length, get_or, Option, Some, None, refl, sym, subst, arith}
 use Rattle.std.specs.Prelude.{slice_index, take, drop, nat_eq}
 use Rattle.std.specs.List.{list_all}
-use Rattle.std.proofs.lemmas.Bool.{and_parts}
+use Rattle.std.proofs.lemmas.Bool.{and_parts, eqb-true}
 use Rattle.std.proofs.lemmas.Bool.Decides.{nat_tests}
 use Rattle.std.proofs.lemmas.List.Elements.{All-from_recursion, All-get_or, All-from_get_or}
 use Rattle.sqlite_keyed.proofs.ListLemmas.{all_from_test}
@@ -76,3 +76,19 @@ parsed_id text id e = by_length (nat_eq (length text) 32) (nat_eq (length text) 
       by_length false false true d k = braced_id text id k
       by_length false false false true k = urn_id text id k
       by_length false false false false k = cc
+
+-- such a text is short
+pub parsed_short : (text id : List ℕ) → Some id ≡ parsed text → length text ≤ 45
+parsed_short text id e = by_length (nat_eq (length text) 32) (nat_eq (length text) 36)
+    (nat_eq (length text) 38) (nat_eq (length text) 45) refl refl refl refl e where
+      by_length : (a b c d : Bool) → nat_eq (length text) 32 ≡ a → nat_eq (length text) 36 ≡ b
+          → nat_eq (length text) 38 ≡ c → nat_eq (length text) 45 ≡ d
+          → Some id ≡ cond a (parsed_simple text)
+          (cond b (parsed_hyphenated text) (cond c (parsed_braced text)
+          (cond d (parsed_urn text) None)))
+          → length text ≤ 45
+      by_length true b c d h i j k e = omega (arith, eqb-true (length text) 32 h)
+      by_length false true c d h i j k e = omega (arith, eqb-true (length text) 36 i)
+      by_length false false true d h i j k e = omega (arith, eqb-true (length text) 38 j)
+      by_length false false false true h i j k e = omega (arith, eqb-true (length text) 45 k)
+      by_length false false false false h i j k e = cc

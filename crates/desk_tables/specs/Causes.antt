@@ -1,10 +1,13 @@
 -- Why a store over tables answers that it failed, though the disk returned what was written.
-use Rattle.std.specs.Prelude.{◌≡◌, ◌⊎◌, ◌≤◌, ◌-◌, ◌^◌, IsTrue, length}
+use Rattle.std.specs.Prelude.{⊤, ◌≡◌, ◌⊎◌, ◌≤◌, ◌-◌, ◌^◌, IsTrue, length}
 use Rattle.sqlite_trees.specs.declared.store.Store.{Ghosts}
 use Rattle.sqlite.specs.State.{HasCleanDisk}
 use Rattle.sqlite.specs.Held.{Held, state}
 use Rattle.sqlite.specs.Effect.{Database}
 use Rattle.desk_sql.specs.Rows.{tables_of}
+use Rattle.desk_sql.specs.Changing.{AreLow, HasRoom}
+use Rattle.desk_store.specs.declared.change.Change.{Change}
+use Rattle.desk_store.specs.declared.change.Change.TheVariants.{Enrol, Put, Close, Clear}
 use Rattle.desk_store.specs.declared.fault.StoreFault.{StoreFault}
 use Rattle.desk_store.specs.declared.fault.StoreFault.TheVariants.{Store}
 use Rattle.desk_tables.specs.Opening.{HasFailed}
@@ -18,6 +21,13 @@ module _ {S : Type 0} (g : Ghosts S) (old new : Held S) where
   -- but few steps
   abbrev pub BlamesStore : StoreFault → Type 0
   BlamesStore e = HasCleanDisk (state g new) → IsTrue (state g new).is_open → e ≡ Store → HasFailed g old new
+
+  -- a change but a put: where the tables have room for what it adds
+  abbrev pub BlamesChange : Change → StoreFault → Type 0
+  BlamesChange (Enrol operator ceiling) e = HasRoom 1 ((state g old).now.trees 0) → BlamesStore e
+  BlamesChange (Put operator row) e = ⊤
+  BlamesChange (Close operator id) e = AreLow ((state g old).now.trees 2) → BlamesStore e
+  BlamesChange (Clear operator ids) e = BlamesStore e
 
   -- that, or more spans are there than a reading counts
   abbrev pub BlamesSpans : StoreFault → Type 0

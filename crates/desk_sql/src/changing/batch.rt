@@ -1,4 +1,4 @@
-ghost use Rattle.std.specs.Prelude.{◌≡◌, ◌≤◌, OnOk, OnErr, IsTrue, map};
+ghost use Rattle.std.specs.Prelude.{◌≡◌, ◌≤◌, IfErr, OnOk, OnErr, IsTrue, map};
 ghost use Rattle.std.specs.String.{string_bytes};
 ghost use Rattle.sqlite.specs.View.{doubt};
 ghost use Rattle.sqlite.specs.Effect.{IsDatabase};
@@ -8,6 +8,7 @@ ghost use Rattle.desk_sql.specs.Batches.{volume_of, span_of, AddsVolumes, AddsSp
 ghost use Rattle.desk_sql.specs.Effects.{IsReady, Makes, Spares};
 ghost use Rattle.desk_sql.specs.Finding.{Holds};
 ghost use Rattle.desk_sql.specs.Rows.{RemovesPlan};
+ghost use Rattle.desk_sql.specs.Refusals.{IsRefusal};
 
 use crate::changing::removing::{remove_plan, remove_plan_text};
 use crate::changing::writing::{SpanRecord, VolumeRecord, insert_span, insert_volume};
@@ -79,6 +80,10 @@ pub fn remove_plans<S: Alter>(
     ensures undone { HasCleanDisk (state S.Store tx.new.conn.now)
         → OnErr result (KeepsCommit (state S.Store tx.old.conn.now)
         (state S.Store tx.new.conn.now)) }
+    ensures cause { HasCleanDisk (state S.Store tx.new.conn.now)
+        → IsTrue (state S.Store tx.new.conn.now).is_open
+        → IfErr result (IsRefusal S.Store tx.old.conn.now tx.new.conn.now) }
+    ensures limit { tx.new.conn.now.step_limit ≡ tx.old.conn.now.step_limit }
     ensures doubt { doubt (state S.Store tx.old.conn.now).is_clean ≤ doubt
         (state S.Store tx.new.conn.now).is_clean }
     ensures faults { (state S.Store tx.old.conn.now).faults ≤
@@ -107,6 +112,9 @@ fn remove_one<S: Alter>(
     ensures undone { HasCleanDisk (state S.Store tx.new.conn.now)
         → OnErr result (KeepsCommit (state S.Store tx.old.conn.now)
         (state S.Store tx.new.conn.now)) }
+    ensures cause { IsUnderWay S.Store tx.old.conn.now → HasCleanDisk (state S.Store tx.new.conn.now)
+        → IfErr result (IsRefusal S.Store tx.old.conn.now tx.new.conn.now) }
+    ensures limit { tx.new.conn.now.step_limit ≡ tx.old.conn.now.step_limit }
     ensures doubt { doubt (state S.Store tx.old.conn.now).is_clean ≤ doubt
         (state S.Store tx.new.conn.now).is_clean }
     ensures faults { (state S.Store tx.old.conn.now).faults ≤

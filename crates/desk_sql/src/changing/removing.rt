@@ -1,17 +1,21 @@
-ghost use Rattle.std.specs.Prelude.{◌≡◌, ◌≤◌, OnOk, OnErr};
+ghost use Rattle.std.specs.Prelude.{◌≡◌, ◌≤◌, ⊤, IfErr, OnOk, OnErr};
 ghost use Rattle.sqlite.specs.View.{doubt};
 ghost use Rattle.sqlite.specs.State.{HasCleanDisk, KeepsCommit};
 ghost use Rattle.sqlite.specs.Held.{state};
 ghost use Rattle.desk_sql.specs.Rows.{RemovesPlan, RemovesSpans};
 ghost use Rattle.desk_sql.specs.Effects.{IsReady, Makes, Spares};
+ghost use Rattle.desk_sql.specs.Batches.{IsUnderWay};
+ghost use Rattle.desk_sql.specs.Changing.{IsSureChange};
+ghost use Rattle.desk_sql.specs.Refusals.{IsRefusal};
 ghost use Rattle.desk_sql.specs.Statements.{Changes, key_row};
 
 use crate::changing::run::run;
 use sqlite::{Alter, Error, Transaction, params};
 
-#[tactic(auto, using(crate::proofs::RemoveLemmas::remove_plan_changes))]
+#[tactic(auto, using(crate::proofs::RemoveLemmas::remove_plan_changes, crate::proofs::RemoveStops::plan))]
 pub(crate) fn remove_plan_text() -> &'static str
-    ensures { Changes result.now key_row (λ key. RemovesPlan key.operator key.id) }
+    ensures changed { Changes result.now key_row (λ key. RemovesPlan key.operator key.id) }
+    ensures sure { IsSureChange result.now key_row (λ key db. ⊤) }
 {
     "DELETE FROM plan WHERE operator = ?1 AND id = ?2"
 }
@@ -30,6 +34,9 @@ pub fn remove_plan<S: Alter>(
     ensures undone { HasCleanDisk (state S.Store tx.new.conn.now)
         → OnErr result (KeepsCommit (state S.Store tx.old.conn.now)
         (state S.Store tx.new.conn.now)) }
+    ensures cause { IsUnderWay S.Store tx.old.conn.now → HasCleanDisk (state S.Store tx.new.conn.now)
+        → IfErr result (IsRefusal S.Store tx.old.conn.now tx.new.conn.now) }
+    ensures limit { tx.new.conn.now.step_limit ≡ tx.old.conn.now.step_limit }
     ensures doubt { doubt (state S.Store tx.old.conn.now).is_clean ≤ doubt
         (state S.Store tx.new.conn.now).is_clean }
     ensures faults { (state S.Store tx.old.conn.now).faults ≤
@@ -40,9 +47,10 @@ pub fn remove_plan<S: Alter>(
     Ok(())
 }
 
-#[tactic(auto, using(crate::proofs::RemoveLemmas::remove_spans_changes))]
+#[tactic(auto, using(crate::proofs::RemoveLemmas::remove_spans_changes, crate::proofs::RemoveStops::spans))]
 fn remove_spans_text() -> &'static str
-    ensures { Changes result.now key_row (λ key. RemovesSpans key.operator key.id) }
+    ensures changed { Changes result.now key_row (λ key. RemovesSpans key.operator key.id) }
+    ensures sure { IsSureChange result.now key_row (λ key db. ⊤) }
 {
     "DELETE FROM span WHERE operator = ?1 AND id = ?2"
 }
@@ -61,6 +69,9 @@ pub fn remove_spans<S: Alter>(
     ensures undone { HasCleanDisk (state S.Store tx.new.conn.now)
         → OnErr result (KeepsCommit (state S.Store tx.old.conn.now)
         (state S.Store tx.new.conn.now)) }
+    ensures cause { IsUnderWay S.Store tx.old.conn.now → HasCleanDisk (state S.Store tx.new.conn.now)
+        → IfErr result (IsRefusal S.Store tx.old.conn.now tx.new.conn.now) }
+    ensures limit { tx.new.conn.now.step_limit ≡ tx.old.conn.now.step_limit }
     ensures doubt { doubt (state S.Store tx.old.conn.now).is_clean ≤ doubt
         (state S.Store tx.new.conn.now).is_clean }
     ensures faults { (state S.Store tx.old.conn.now).faults ≤

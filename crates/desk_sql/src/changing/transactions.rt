@@ -1,4 +1,4 @@
-ghost use Rattle.std.specs.Prelude.{◌≡◌, ◌≤◌, false, OnOk, OnErr, IfOk, IsTrue, map};
+ghost use Rattle.std.specs.Prelude.{◌≡◌, ◌≤◌, false, OnOk, OnErr, IfOk, IfErr, IsTrue, map};
 ghost use Rattle.sqlite.specs.View.{doubt};
 ghost use Rattle.sqlite.specs.State.{HasCleanDisk};
 ghost use Rattle.sqlite.specs.Held.{state};
@@ -6,6 +6,8 @@ ghost use Rattle.desk_sql.specs.Rows.{PutsOperator, ClosesPlan, is_by, plan_row,
 ghost use Rattle.std.specs.List.{list_any};
 ghost use Rattle.std.specs.String.{string_bytes};
 ghost use Rattle.desk_sql.specs.Batches.{PutsPlan, RemovesPlans, volume_of, span_of};
+ghost use Rattle.desk_sql.specs.Changing.{AreLow, HasRoom, IsShort};
+ghost use Rattle.desk_sql.specs.Refusals.{IsRefusal};
 ghost use Rattle.desk_sql.specs.Effects.{IsReady, IsKept, Commits, MayMake, Spares};
 
 use crate::changing::batch::{insert_spans, insert_volumes, remove_plans};
@@ -30,6 +32,9 @@ pub fn clear_plans<S: Alter>(
         (RemovesPlans operator.now (map string_bytes ids.now))) }
     ensures kept { OnErr result (IsKept S.Store connection.old connection.new) }
     ensures mode { connection.new.in_transaction ≡ false }
+    ensures cause { HasCleanDisk (state S.Store connection.new)
+        → IsTrue (state S.Store connection.new).is_open
+        → IfErr result (IsRefusal S.Store connection.old connection.new) }
     ensures doubt { doubt (state S.Store connection.old).is_clean ≤ doubt
         (state S.Store connection.new).is_clean }
     ensures faults { (state S.Store connection.old).faults ≤ (state S.Store connection.new).faults }
@@ -92,6 +97,10 @@ pub fn is_enrolled<S: Alter>(connection: &mut Connection<S>, name: &str) -> Resu
         (state S.Store connection.old).now.trees).operators) }
     ensures kept { IsKept S.Store connection.old connection.new }
     ensures mode { connection.new.in_transaction ≡ false }
+    ensures cause { HasCleanDisk (state S.Store connection.new)
+        → IsTrue (state S.Store connection.new).is_open
+        → IfErr result (IsRefusal S.Store connection.old connection.new) }
+    ensures limit { connection.new.step_limit ≡ connection.old.step_limit }
     ensures doubt { doubt (state S.Store connection.old).is_clean ≤ doubt
         (state S.Store connection.new).is_clean }
     ensures faults { (state S.Store connection.old).faults ≤ (state S.Store connection.new).faults }
@@ -114,6 +123,10 @@ pub fn put_operator<S: Alter>(
         (PutsOperator name.now ceiling)) }
     ensures kept { OnErr result (IsKept S.Store connection.old connection.new) }
     ensures mode { connection.new.in_transaction ≡ false }
+    ensures cause { IsShort name.now → HasRoom 1 ((state S.Store connection.old).now.trees 0)
+        → HasCleanDisk (state S.Store connection.new)
+        → IsTrue (state S.Store connection.new).is_open
+        → IfErr result (IsRefusal S.Store connection.old connection.new) }
     ensures doubt { doubt (state S.Store connection.old).is_clean ≤ doubt
         (state S.Store connection.new).is_clean }
     ensures faults { (state S.Store connection.old).faults ≤ (state S.Store connection.new).faults }
@@ -122,6 +135,7 @@ pub fn put_operator<S: Alter>(
 {
     let is_there = is_enrolled(connection, name)?;
     let _settled = connection.is_autocommit();
+    let _sound = connection.schema();
     let mut tx = connection.transaction();
     if is_there {
         set_ceiling(&mut tx, name, ceiling)?;
@@ -147,6 +161,11 @@ pub fn close_plan<S: Alter>(
         (ClosesPlan operator.now id.now priority aircraft)) }
     ensures kept { OnErr result (IsKept S.Store connection.old connection.new) }
     ensures mode { connection.new.in_transaction ≡ false }
+    ensures cause { IsShort operator.now → IsShort id.now
+        → AreLow ((state S.Store connection.old).now.trees 2)
+        → HasCleanDisk (state S.Store connection.new)
+        → IsTrue (state S.Store connection.new).is_open
+        → IfErr result (IsRefusal S.Store connection.old connection.new) }
     ensures doubt { doubt (state S.Store connection.old).is_clean ≤ doubt
         (state S.Store connection.new).is_clean }
     ensures faults { (state S.Store connection.old).faults ≤ (state S.Store connection.new).faults }
@@ -154,6 +173,7 @@ pub fn close_plan<S: Alter>(
         (ClosesPlan operator.now id.now priority aircraft) }
 {
     let _settled = connection.is_autocommit();
+    let _sound = connection.schema();
     let mut tx = connection.transaction();
     set_closed(&mut tx, operator, id, priority, aircraft)?;
     remove_spans(&mut tx, operator, id)?;

@@ -1,10 +1,12 @@
-ghost use Rattle.std.specs.Prelude.{◌≡◌, ◌≤◌, OnOk, OnErr};
+ghost use Rattle.std.specs.Prelude.{◌≡◌, ◌≤◌, IfErr, OnOk, OnErr};
 ghost use Rattle.sqlite.specs.View.{doubt};
 ghost use Rattle.sqlite.specs.State.{HasCleanDisk, KeepsCommit};
 ghost use Rattle.sqlite.specs.Held.{state};
 ghost use Rattle.desk_sql.specs.Rows.{operator_row, plan_row, volume_row, span_row, AddsOperator, AddsPlan, AddsVolume, AddsSpan};
 ghost use Rattle.desk_sql.specs.Effects.{IsReady, Makes, Spares};
-ghost use Rattle.desk_sql.specs.Batches.{volume_of, span_of};
+ghost use Rattle.desk_sql.specs.Batches.{volume_of, span_of, IsUnderWay};
+ghost use Rattle.desk_sql.specs.Changing.{FitsOperator, FitsPlan, FitsVolume, FitsSpan, IsSureChange};
+ghost use Rattle.desk_sql.specs.Refusals.{IsRefusal};
 ghost use Rattle.desk_sql.specs.Statements.{Changes, ceiling_row, row_of};
 
 use crate::changing::run::run;
@@ -49,9 +51,11 @@ pub struct SpanRecord<'a> {
     pub priority: u32,
 }
 
-#[tactic(auto, using(crate::proofs::InsertLemmas::insert_operator_changes))]
+#[tactic(auto, using(crate::proofs::InsertLemmas::insert_operator_changes, crate::proofs::Added::operator))]
 fn insert_operator_text() -> &'static str
-    ensures { Changes result.now ceiling_row (λ c. AddsOperator (ceiling_row c)) }
+    ensures changed { Changes result.now ceiling_row (λ c. AddsOperator (ceiling_row c)) }
+    ensures sure { IsSureChange result.now ceiling_row
+        (λ c. FitsOperator c.name (ceiling_row c)) }
 {
     "INSERT INTO operator (name, ceiling) VALUES (?1, ?2)"
 }
@@ -70,6 +74,10 @@ pub fn insert_operator<S: Alter>(
     ensures undone { HasCleanDisk (state S.Store tx.new.conn.now)
         → OnErr result (KeepsCommit (state S.Store tx.old.conn.now)
         (state S.Store tx.new.conn.now)) }
+    ensures cause { IsUnderWay S.Store tx.old.conn.now → FitsOperator name.now (operator_row name.now ceiling)
+        (state S.Store tx.old.conn.now).now → HasCleanDisk (state S.Store tx.new.conn.now)
+        → IfErr result (IsRefusal S.Store tx.old.conn.now tx.new.conn.now) }
+    ensures limit { tx.new.conn.now.step_limit ≡ tx.old.conn.now.step_limit }
     ensures doubt { doubt (state S.Store tx.old.conn.now).is_clean ≤ doubt
         (state S.Store tx.new.conn.now).is_clean }
     ensures faults { (state S.Store tx.old.conn.now).faults ≤
@@ -80,9 +88,11 @@ pub fn insert_operator<S: Alter>(
     Ok(())
 }
 
-#[tactic(auto, using(crate::proofs::InsertLemmas::insert_plan_changes))]
+#[tactic(auto, using(crate::proofs::InsertLemmas::insert_plan_changes, crate::proofs::Added::plan))]
 fn insert_plan_text() -> &'static str
-    ensures { Changes result.now row_of (λ p. AddsPlan (row_of p)) }
+    ensures changed { Changes result.now row_of (λ p. AddsPlan (row_of p)) }
+    ensures sure { IsSureChange result.now row_of
+        (λ p. FitsPlan p.operator.now p.id.now (row_of p)) }
 {
     "INSERT INTO plan (operator, id, priority, usage, aircraft) VALUES (?1, ?2, ?3, ?4, ?5)"
 }
@@ -104,6 +114,11 @@ pub fn insert_plan<S: Alter>(
     ensures undone { HasCleanDisk (state S.Store tx.new.conn.now)
         → OnErr result (KeepsCommit (state S.Store tx.old.conn.now)
         (state S.Store tx.new.conn.now)) }
+    ensures cause { IsUnderWay S.Store tx.old.conn.now → FitsPlan operator.now id.now
+        (plan_row operator.now id.now priority usage aircraft)
+        (state S.Store tx.old.conn.now).now → HasCleanDisk (state S.Store tx.new.conn.now)
+        → IfErr result (IsRefusal S.Store tx.old.conn.now tx.new.conn.now) }
+    ensures limit { tx.new.conn.now.step_limit ≡ tx.old.conn.now.step_limit }
     ensures doubt { doubt (state S.Store tx.old.conn.now).is_clean ≤ doubt
         (state S.Store tx.new.conn.now).is_clean }
     ensures faults { (state S.Store tx.old.conn.now).faults ≤
@@ -118,9 +133,11 @@ pub fn insert_plan<S: Alter>(
     Ok(())
 }
 
-#[tactic(auto, using(crate::proofs::InsertLemmas::insert_volume_changes))]
+#[tactic(auto, using(crate::proofs::InsertLemmas::insert_volume_changes, crate::proofs::Added::volume))]
 fn insert_volume_text() -> &'static str
-    ensures { Changes result.now volume_of (λ v. AddsVolume (volume_of v)) }
+    ensures changed { Changes result.now volume_of (λ v. AddsVolume (volume_of v)) }
+    ensures sure { IsSureChange result.now volume_of
+        (λ v. FitsVolume v.operator.now v.id.now v.asked.now (volume_of v)) }
 {
     "INSERT INTO volume (operator, id, place, lower, upper, start, stop, asked) \
      VALUES (?1, ?2, ?3, ?4, ?5, ?6, ?7, ?8)"
@@ -140,6 +157,12 @@ pub fn insert_volume<S: Alter>(
     ensures undone { HasCleanDisk (state S.Store tx.new.conn.now)
         → OnErr result (KeepsCommit (state S.Store tx.old.conn.now)
         (state S.Store tx.new.conn.now)) }
+    ensures cause { IsUnderWay S.Store tx.old.conn.now → FitsVolume row.entry.operator.now row.entry.id.now
+        row.entry.asked.now (volume_row row.entry.operator.now row.entry.id.now row.entry.place
+        row.entry.lower row.entry.upper row.entry.start row.entry.stop row.entry.asked.now)
+        (state S.Store tx.old.conn.now).now → HasCleanDisk (state S.Store tx.new.conn.now)
+        → IfErr result (IsRefusal S.Store tx.old.conn.now tx.new.conn.now) }
+    ensures limit { tx.new.conn.now.step_limit ≡ tx.old.conn.now.step_limit }
     ensures doubt { doubt (state S.Store tx.old.conn.now).is_clean ≤ doubt
         (state S.Store tx.new.conn.now).is_clean }
     ensures faults { (state S.Store tx.old.conn.now).faults ≤
@@ -163,9 +186,11 @@ pub fn insert_volume<S: Alter>(
     Ok(())
 }
 
-#[tactic(auto, using(crate::proofs::InsertLemmas::insert_span_changes))]
+#[tactic(auto, using(crate::proofs::InsertLemmas::insert_span_changes, crate::proofs::Added::span))]
 fn insert_span_text() -> &'static str
-    ensures { Changes result.now span_of (λ s. AddsSpan (span_of s)) }
+    ensures changed { Changes result.now span_of (λ s. AddsSpan (span_of s)) }
+    ensures sure { IsSureChange result.now span_of
+        (λ s. FitsSpan s.operator.now s.id.now (span_of s)) }
 {
     "INSERT INTO span (operator, id, place, first, last, lower, upper, start, stop, priority) \
      VALUES (?1, ?2, ?3, ?4, ?5, ?6, ?7, ?8, ?9, ?10)"
@@ -183,6 +208,13 @@ pub fn insert_span<S: Alter>(tx: &mut Transaction<'_, S>, row: SpanRecord<'_>) -
     ensures undone { HasCleanDisk (state S.Store tx.new.conn.now)
         → OnErr result (KeepsCommit (state S.Store tx.old.conn.now)
         (state S.Store tx.new.conn.now)) }
+    ensures cause { IsUnderWay S.Store tx.old.conn.now → FitsSpan row.entry.operator.now row.entry.id.now
+        (span_row row.entry.operator.now row.entry.id.now row.entry.place row.entry.first
+        row.entry.last row.entry.lower row.entry.upper row.entry.start row.entry.stop
+        row.entry.priority)
+        (state S.Store tx.old.conn.now).now → HasCleanDisk (state S.Store tx.new.conn.now)
+        → IfErr result (IsRefusal S.Store tx.old.conn.now tx.new.conn.now) }
+    ensures limit { tx.new.conn.now.step_limit ≡ tx.old.conn.now.step_limit }
     ensures doubt { doubt (state S.Store tx.old.conn.now).is_clean ≤ doubt
         (state S.Store tx.new.conn.now).is_clean }
     ensures faults { (state S.Store tx.old.conn.now).faults ≤

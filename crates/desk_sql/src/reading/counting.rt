@@ -27,7 +27,7 @@ fn count_in(rows: &[Row]) -> Result<u32, Error>
     }
 }
 
-#[tactic(auto, using(crate::proofs::CountLemmas::own_count_selected, crate::proofs::Sure::count))]
+#[tactic(auto, using(crate::proofs::CountLemmas::own_count_selected, crate::proofs::SureListings::count))]
 fn own_count_text() -> &'static str
     ensures shown { Selects result.now name_row []
         (λ name t. counted (filter (is_by name) t.plans)) }

@@ -38,6 +38,7 @@ pub fn operator_named<S: Alter>(
         → IfErr result (IsRefusal S.Store connection.old connection.new) }
     ensures kept { IsKept S.Store connection.old connection.new }
     ensures mode { connection.new.in_transaction ≡ false }
+    ensures limit { connection.new.step_limit ≡ connection.old.step_limit }
     ensures doubt { doubt (state S.Store connection.old).is_clean ≤ doubt
         (state S.Store connection.new).is_clean }
     ensures faults { (state S.Store connection.old).faults ≤ (state S.Store connection.new).faults }
@@ -120,7 +121,7 @@ pub fn volumes_of<S: Alter>(
     answer(connection, volumes_of_text(), params![operator, id])
 }
 
-#[tactic(auto, using(crate::proofs::StatementLemmas::own_plans_selected, crate::proofs::Sure::plans))]
+#[tactic(auto, using(crate::proofs::StatementLemmas::own_plans_selected, crate::proofs::SureListings::plans))]
 fn own_plans_text() -> &'static str
     ensures shown { Selects result.now name_row (1 ∷ 5 ∷ []) (λ name. with_volumes (is_by name)) }
     ensures sure { IsSureFor result.now name_row }

@@ -29,7 +29,7 @@ pub struct Reach {
 }
 
 // The query of the spans that are reached, but for those of one plan.
-#[tactic(auto, using(crate::proofs::StatementLemmas::rival_spans_selected, crate::proofs::Sure::rivals))]
+#[tactic(auto, using(crate::proofs::StatementLemmas::rival_spans_selected, crate::proofs::SureSpans::rivals))]
 fn rival_spans_text() -> &'static str
     ensures shown { SelectsRivals result.now }
     ensures sure { IsSureFor result.now rivals_row }

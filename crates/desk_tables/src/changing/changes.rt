@@ -1,6 +1,6 @@
 //! Changes of a store's tables.
 
-ghost use Rattle.std.specs.Prelude.{◌≡◌, ◌≤◌, ◌<◌, ◌^◌, pos, IfOk, OnOk, OnErr, IsTrue};
+ghost use Rattle.std.specs.Prelude.{◌≡◌, ◌≤◌, ◌<◌, ◌^◌, pos, IfOk, IfErr, OnOk, OnErr, IsTrue};
 ghost use Rattle.sqlite_value.specs.declared.value.Value.TheVariants.{Int};
 ghost use Rattle.sqlite_value.specs.Order.{column};
 ghost use Rattle.sqlite_trees.specs.View.{doubt};
@@ -9,6 +9,10 @@ ghost use Rattle.sqlite.specs.Held.{state};
 ghost use Rattle.desk_rules.specs.Limits.{max_priority};
 ghost use Rattle.desk_store.specs.StoreChange.{changed_by, IsFitting};
 ghost use Rattle.desk_store.specs.declared.change.Change.TheVariants as change;
+ghost use Rattle.desk_sql.specs.Changing.{AreLow, HasRoom};
+ghost use Rattle.desk_rules.specs.declared.plan.PlanRow.{PlanRow as Plan};
+ghost use Rattle.desk_tables.specs.Reading.{IsHead};
+ghost use Rattle.desk_tables.specs.Causes.{BlamesChange, BlamesStore};
 ghost use Rattle.desk_tables.specs.Store.{Stands};
 ghost use Rattle.desk_tables.specs.Lengths.{IsShortPlan, BringsShort};
 ghost use Rattle.desk_tables.specs.Leaving.{MayHave};
@@ -48,6 +52,8 @@ pub(crate) fn make<S: Alter>(
     ensures ok { OnOk result (Stands S.Store connection.new (changed_by change.now kept.now.world)) }
     ensures err { OnErr result (Stands S.Store connection.new kept.now.world) }
     ensures short { IfOk result (λ longest. BringsShort longest change.now × (longest < 2 ^ 63)) }
+    ensures cause { IfErr result
+        (BlamesChange S.Store connection.old connection.new change.now) }
     ensures doubt { doubt (state S.Store connection.old).is_clean
         ≤ doubt (state S.Store connection.new).is_clean }
     ensures crash { MayHave S.Store connection.old connection.new
@@ -82,6 +88,8 @@ pub(crate) fn enrol<S: Alter>(
     ensures ok { OnOk result (Stands S.Store connection.new
         (changed_by (change.Enrol operator.now ceiling) kept.now.world)) }
     ensures err { OnErr result (Stands S.Store connection.new kept.now.world) }
+    ensures cause { HasRoom 1 ((state S.Store connection.old).now.trees 0)
+        → IfErr result (BlamesStore S.Store connection.old connection.new) }
     ensures doubt { doubt (state S.Store connection.old).is_clean
         ≤ doubt (state S.Store connection.new).is_clean }
     ensures crash { MayHave S.Store connection.old connection.new
@@ -154,6 +162,8 @@ fn close<S: Alter>(
     ensures ok { OnOk result (Stands S.Store connection.new
         (changed_by (change.Close operator.now id.now) kept.now.world)) }
     ensures err { OnErr result (Stands S.Store connection.new kept.now.world) }
+    ensures cause { AreLow ((state S.Store connection.old).now.trees 2)
+        → IfErr result (BlamesStore S.Store connection.old connection.new) }
     ensures doubt { doubt (state S.Store connection.old).is_clean
         ≤ doubt (state S.Store connection.new).is_clean }
     ensures crash { MayHave S.Store connection.old connection.new
@@ -180,6 +190,8 @@ fn close<S: Alter>(
 fn numbers_in(head: &Row) -> Result<(u32, u32), StoreFault>
     ensures priority { IfOk result (λ found. column head.now 2 ≡ Int (pos found.0)) }
     ensures aircraft { IfOk result (λ found. column head.now 4 ≡ Int (pos found.1)) }
+    ensures none { IfErr result (λ e. e ≡ StoreFault.Store → (p : Plan) → p.priority < 2 ^ 32
+        → ¬ IsHead head.now p) }
 {
     let priority = count_at(head, 2)?;
     let aircraft = count_at(head, 4)?;
@@ -200,6 +212,7 @@ fn clear<S: Alter>(
     ensures ok { OnOk result (Stands S.Store connection.new
         (changed_by (change.Clear operator.now ids.now) kept.now.world)) }
     ensures err { OnErr result (Stands S.Store connection.new kept.now.world) }
+    ensures cause { IfErr result (BlamesStore S.Store connection.old connection.new) }
     ensures doubt { doubt (state S.Store connection.old).is_clean
         ≤ doubt (state S.Store connection.new).is_clean }
     ensures crash { MayHave S.Store connection.old connection.new

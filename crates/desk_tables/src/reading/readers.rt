@@ -19,7 +19,7 @@ ghost use Rattle.desk_tables.specs.Lookups.{own_of};
 ghost use Rattle.desk_tables.specs.Causes.{BlamesSpans, BlamesStore};
 ghost use Rattle.desk_tables.specs.Store.{Stands};
 ghost use Rattle.desk_tables.specs.Lengths.{Bounds};
-ghost use Rattle.desk_sql.specs.Effects.{Spares};
+ghost use Rattle.desk_sql.specs.Effects.{IsKept, Spares};
 
 use crate::kept::Kept;
 use crate::reading::listing::Gather;
@@ -82,6 +82,7 @@ pub(crate) fn heads<S: Alter>(
         IfOk result (λ rows. IsContent kept.now.world
         × (rows.items ≡ plan_rows (own_of operator.now id.now kept.now.world))) }
     ensures cause { IfErr result (BlamesStore S.Store connection.old connection.new) }
+    ensures kept { IsKept S.Store connection.old connection.new }
     ensures faults { (state S.Store connection.old).faults ≤ (state S.Store connection.new).faults }
     ensures limit { connection.new.step_limit ≡ connection.old.step_limit }
     ensures stands { Stands S.Store connection.new kept.now.world }

@@ -24,6 +24,6 @@ rows-preserved g c =
           (more_spans (map span_of (take at rows)) _ (map span_of (take (at + 1) rows))
           (map_more span_of rows at _ c.rows-test.true))
           c.rows.invariant.1 c.insert_span.ensures.doubt c.insert_span.ensures.faults
-          c.insert_span.ensures.spared
+          c.insert_span.ensures.limit c.insert_span.ensures.spared
           c.in_ok-insert_span.ensures.done,
     )

@@ -24,6 +24,6 @@ rows-preserved g c =
           (more_volumes (map volume_of (take at rows)) _ (map volume_of (take (at + 1) rows))
           (map_more volume_of rows at _ c.rows-test.true))
           c.rows.invariant.1 c.insert_volume.ensures.doubt c.insert_volume.ensures.faults
-          c.insert_volume.ensures.spared
+          c.insert_volume.ensures.limit c.insert_volume.ensures.spared
           c.in_ok-insert_volume.ensures.done,
     )

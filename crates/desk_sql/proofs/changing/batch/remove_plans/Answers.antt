@@ -1,11 +1,14 @@
-use Rattle.std.proofs.Common.{[], ◌∷◌, ◌++◌, sym, ap, map, take, rules, ◌∙◌, ◌+◌}
+use Rattle.std.proofs.Common.{arith, [], ◌∷◌, ◌++◌, sym, ap, map, take, rules, ◌∙◌, ◌+◌}
 use Rattle.sqlite.specs.State.{KeepsCommit}
 use Rattle.sqlite.specs.Held.{state}
 use Rattle.std.specs.String.{string_bytes}
 use Rattle.std.proofs.lemmas.List.{map_more}
 use Rattle.desk_sql.specs.Rows.{RemovesPlan}
 use Rattle.desk_sql.specs.Batches.{RemovesPlans}
-use Rattle.desk_sql.proofs.BatchLemmas.{begins_prepared, goes_on, keeps_unprepared}
+use Rattle.desk_sql.specs.Refusals.{IsRefusal}
+use Rattle.desk_sql.specs.Statements.{Key, key_row}
+use Rattle.desk_sql.proofs.StopLemmas.{refused_unprepared}
+use Rattle.desk_sql.proofs.BatchLemmas.{begins_prepared, goes_on, keeps_unprepared, refused_on, way_on}
 use Rattle.desk_sql.proofs.ClearLemmas.{none_removed, one_removed}
 use Rattle.desk_sql.proofs.changing.batch.remove_plans.Goals as goal
 
@@ -39,6 +42,35 @@ ids-preserved g c =
           (map_more string_bytes ids at _ c.ids-test.true
           ∙ ap (λ id. map string_bytes (take at ids) ++ id ∷ []) (sym (ap string_bytes c.id-item.is))))
           c.ids.invariant.1 c.remove_one.ensures.doubt c.remove_one.ensures.faults
-          c.remove_one.ensures.spared
+          c.remove_one.ensures.limit c.remove_one.ensures.spared
           c.in_ok-remove_one.ensures.done,
     )
+
+pub returns-in_err-_statement-clause-cause : goal.returns-in_err-_statement-clause-cause
+returns-in_err-_statement-clause-cause g c clean live =
+    let key : Key = record { operator = c.args.operator.now; id = [] } in
+    let it : IsRefusal g.S.Store c.args.tx.now.conn.now c.prepare.new.self.conn.now
+    c.in_err-_statement.field-0.0 =
+    refused_unprepared g.S.Store c.args.tx.now.conn.now c.prepare.new.self.conn.now
+    c.remove_plan_text.result.now _ _ c.remove_plan_text.ensures.sure key
+    c.requires.ready (omega (arith, c.prepare.ensures.survives.clean, clean)) live _
+    (c.in_err-_statement.ensures.err clean (key_row key)) in
+    search (rules, it)
+
+pub returns-in_err-remove_one-clause-cause : goal.returns-in_err-remove_one-clause-cause
+returns-in_err-remove_one-clause-cause g c clean live =
+    let it : IsRefusal g.S.Store c.args.tx.now.conn.now c.remove_one.new.tx.conn.now
+    c.in_err-remove_one.field-0.0 =
+    refused_on g.S.Store c.args.tx.now.conn.now c.ids.tx.conn.now c.remove_one.new.tx.conn.now
+    (RemovesPlans c.args.operator.now (map string_bytes (take c.ids.id-index c.args.ids.now)))
+    c.ids.invariant.1 c.in_err-remove_one.field-0.0
+    (c.in_err-remove_one.ensures.cause (way_on g.S.Store c.args.tx.now.conn.now c.ids.tx.conn.now
+    (RemovesPlans c.args.operator.now (map string_bytes (take c.ids.id-index c.args.ids.now)))
+    c.ids.invariant.1) clean) in
+    search (rules, it)
+
+pub returns-in_err-remove_one-clause-limit : goal.returns-in_err-remove_one-clause-limit
+returns-in_err-remove_one-clause-limit g c = c.remove_one.ensures.limit ∙ c.ids.invariant.1.limit
+
+pub returns-clause-limit : goal.returns-clause-limit
+returns-clause-limit g c = c.ids.invariant.1.limit

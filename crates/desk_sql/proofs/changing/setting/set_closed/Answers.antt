@@ -1,6 +1,9 @@
-use Rattle.std.proofs.Common.{arith}
+use Rattle.std.proofs.Common.{arith, rules}
+use Rattle.sqlite.specs.State.{HasCleanDisk}
 use Rattle.sqlite.specs.Held.{state}
 use Rattle.desk_sql.specs.Rows.{SetsPlans, is_of, plan_row}
+use Rattle.desk_sql.specs.Refusals.{IsRefusal}
+use Rattle.desk_sql.proofs.StopLemmas.{refused_change}
 use Rattle.desk_sql.proofs.WriteLemmas.{makes, changed}
 use Rattle.desk_sql.proofs.changing.setting.set_closed.Goals as goal
 
@@ -12,7 +15,7 @@ returns-clause-done g c clean =
     (SetsPlans (is_of c.args.operator.now c.args.id.now)
     (plan_row c.args.operator.now c.args.id.now c.args.priority 2 c.args.aircraft))
     (c.in_ok-run.ensures.shown clean)
-    (λ desk. changed _ _ _ c.set_closed_text.ensures
+    (λ desk. changed _ _ _ c.set_closed_text.ensures.changed
     (record {
       operator = c.args.operator.now;
       id = c.args.id.now;
@@ -26,3 +29,25 @@ returns-clause-done g c clean =
       c.params-to_sql-3.ensures,
       c.params-to_sql-4.ensures,
     ) at (c.in_ok-run.ensures.ran clean)))
+
+pub returns-in_err-run-clause-cause : goal.returns-in_err-run-clause-cause
+returns-in_err-run-clause-cause g c way short brief low clean =
+    let old = c.args.tx.now.conn.now in
+    let new = c.run.new.tx.conn.now in
+    let early : HasCleanDisk (state g.S.Store old) = omega (arith, c.run.ensures.doubt, clean) in
+    let it : IsRefusal g.S.Store old new c.in_err-run.field-0.0 =
+    refused_change g.S.Store old new _ _ _ c.set_closed_text.ensures.sure
+    (record {
+      operator = c.args.operator.now;
+      id = c.args.id.now;
+      priority = c.args.priority;
+      aircraft = c.args.aircraft;
+    }) way early (short, brief, low) _
+    (rw (
+      c.params-to_sql.ensures,
+      c.params-to_sql-2.ensures,
+      c.params-to_sql-3.ensures,
+      c.params-to_sql-4.ensures,
+    ) at
+    (c.in_err-run.ensures.stopped clean (way early).1)) in
+    search (rules, it)

@@ -1,6 +1,9 @@
-use Rattle.std.proofs.Common.{arith}
+use Rattle.std.proofs.Common.{arith, rules}
+use Rattle.sqlite.specs.State.{HasCleanDisk}
 use Rattle.sqlite.specs.Held.{state}
 use Rattle.desk_sql.specs.Rows.{plan_row, AddsPlan}
+use Rattle.desk_sql.specs.Refusals.{IsRefusal}
+use Rattle.desk_sql.proofs.StopLemmas.{refused_change}
 use Rattle.desk_sql.proofs.WriteLemmas.{makes, changed}
 use Rattle.desk_sql.proofs.changing.writing.insert_plan.Goals as goal
 
@@ -11,7 +14,7 @@ returns-clause-done g c clean =
     makes g.S.Store old new c.requires.ready (omega (arith, c.run.ensures.doubt, clean))
     (AddsPlan (plan_row c.args.operator.now c.args.id.now c.args.priority c.args.usage c.args.aircraft))
     (c.in_ok-run.ensures.shown clean)
-    (λ desk. changed _ _ _ c.insert_plan_text.ensures
+    (λ desk. changed _ _ _ c.insert_plan_text.ensures.changed
     (record {
       operator = c.args.operator;
       id = c.args.id;
@@ -27,3 +30,27 @@ returns-clause-done g c clean =
       c.params-to_sql-4.ensures,
       c.params-to_sql-5.ensures,
     ) at (c.in_ok-run.ensures.ran clean)))
+
+pub returns-in_err-run-clause-cause : goal.returns-in_err-run-clause-cause
+returns-in_err-run-clause-cause g c way fits clean =
+    let old = c.args.tx.now.conn.now in
+    let new = c.run.new.tx.conn.now in
+    let early : HasCleanDisk (state g.S.Store old) = omega (arith, c.run.ensures.doubt, clean) in
+    let it : IsRefusal g.S.Store old new c.in_err-run.field-0.0 =
+    refused_change g.S.Store old new _ _ _ c.insert_plan_text.ensures.sure
+    (record {
+      operator = c.args.operator;
+      id = c.args.id;
+      priority = c.args.priority;
+      usage = c.args.usage;
+      aircraft = c.args.aircraft;
+    }) way early fits _
+    (rw (
+      c.params-to_sql.ensures,
+      c.params-to_sql-2.ensures,
+      c.params-to_sql-3.ensures,
+      c.params-to_sql-4.ensures,
+      c.params-to_sql-5.ensures,
+    ) at
+    (c.in_err-run.ensures.stopped clean (way early).1)) in
+    search (rules, it)

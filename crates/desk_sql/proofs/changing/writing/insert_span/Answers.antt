@@ -2,8 +2,11 @@ use Rattle.std.proofs.Common.{◌≡◌, arith, rules}
 use Rattle.std.proofs.lemmas.Int.{ints, to_z-of_z}
 use Rattle.sqlite_value.specs.Value.{owned}
 use Rattle.sqlite.specs.declared.types.Value.TheVariants.{Int}
+use Rattle.sqlite.specs.State.{HasCleanDisk}
 use Rattle.sqlite.specs.Held.{state}
 use Rattle.desk_sql.specs.Rows.{span_row, AddsSpan}
+use Rattle.desk_sql.specs.Refusals.{IsRefusal}
+use Rattle.desk_sql.proofs.StopLemmas.{refused_change}
 use Rattle.desk_sql.proofs.WriteLemmas.{makes, changed}
 use Rattle.desk_sql.proofs.changing.writing.insert_span.Goals as goal
 
@@ -27,7 +30,7 @@ returns-clause-done g c clean =
     (AddsSpan (span_row c.args.row.operator.now c.args.row.id.now c.args.row.place c.args.row.first
     c.args.row.last c.args.row.lower c.args.row.upper c.args.row.start c.args.row.stop
     c.args.row.priority)) (c.in_ok-run.ensures.shown clean)
-    (λ desk. changed _ _ _ c.insert_span_text.ensures c.args.row (state g.S.Store old)
+    (λ desk. changed _ _ _ c.insert_span_text.ensures.changed c.args.row (state g.S.Store old)
     (state g.S.Store new) desk c.in_ok-run.field-0
     (rw (
       c.params-to_sql.ensures,
@@ -41,3 +44,38 @@ returns-clause-done g c clean =
       stop,
       c.params-to_sql-10.ensures,
     ) at (c.in_ok-run.ensures.ran clean)))
+
+pub returns-in_err-run-clause-cause : goal.returns-in_err-run-clause-cause
+returns-in_err-run-clause-cause g c way fits clean =
+    let old = c.args.tx.now.conn.now in
+    let new = c.run.new.tx.conn.now in
+    let first : owned c.params-to_sql-4.result ≡ Int c.args.row.first =
+    search (rules, ints, to_z-of_z, c.params-to_sql-4.ensures) in
+    let last : owned c.params-to_sql-5.result ≡ Int c.args.row.last =
+    search (rules, ints, to_z-of_z, c.params-to_sql-5.ensures) in
+    let lower : owned c.params-to_sql-6.result ≡ Int c.args.row.lower =
+    search (rules, ints, to_z-of_z, c.params-to_sql-6.ensures) in
+    let upper : owned c.params-to_sql-7.result ≡ Int c.args.row.upper =
+    search (rules, ints, to_z-of_z, c.params-to_sql-7.ensures) in
+    let start : owned c.params-to_sql-8.result ≡ Int c.args.row.start =
+    search (rules, ints, to_z-of_z, c.params-to_sql-8.ensures) in
+    let stop : owned c.params-to_sql-9.result ≡ Int c.args.row.stop =
+    search (rules, ints, to_z-of_z, c.params-to_sql-9.ensures) in
+    let early : HasCleanDisk (state g.S.Store old) = omega (arith, c.run.ensures.doubt, clean) in
+    let it : IsRefusal g.S.Store old new c.in_err-run.field-0.0 =
+    refused_change g.S.Store old new _ _ _ c.insert_span_text.ensures.sure
+    c.args.row way early fits _
+    (rw (
+      c.params-to_sql.ensures,
+      c.params-to_sql-2.ensures,
+      c.params-to_sql-3.ensures,
+      first,
+      last,
+      lower,
+      upper,
+      start,
+      stop,
+      c.params-to_sql-10.ensures,
+    ) at
+    (c.in_err-run.ensures.stopped clean (way early).1)) in
+    search (rules, it)

@@ -8,6 +8,7 @@ use Rattle.desk_tables.specs.Tables.{id_text}
 use Rattle.desk_tables.specs.Content.{IsId}
 use Rattle.desk_tables.specs.TableChanges.{ChangesRows, IsWithin}
 use Rattle.desk_tables.proofs.AfterLemmas.{stands_cleared, left_cleared}
+use Rattle.desk_tables.proofs.CauseLemmas.{blamed}
 use Rattle.desk_tables.proofs.changing.changes.clear.Goals as goal
 
 pub returns-in-Ok-clause-ok : goal.returns-in-Ok-clause-ok
@@ -54,3 +55,8 @@ returns-clause-crash g c =
     ∙ ap (map id_text) c.deref.ensures.value)
     (subst (λ name. MayMake g.S.Store old new (RemovesPlans name texts)) c.as_str.ensures.value
     c.clear_plans.ensures.crash) c.requires.fits
+
+pub returns-clause-cause : goal.returns-clause-cause
+returns-clause-cause g c =
+    blamed g.S.Store c.args.connection.now c.clear_plans.new.connection c.in-Err.e c.fault_of.result
+    c.fault_of.ensures c.in-Err.ensures.cause

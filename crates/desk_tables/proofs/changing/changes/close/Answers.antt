@@ -2,7 +2,13 @@ use Rattle.std.proofs.Common.{sym, subst, ◌∙◌, arith}
 use Rattle.desk_sql.specs.Rows.{ClosesPlan}
 use Rattle.desk_sql.specs.Effects.{Commits, MayMake}
 use Rattle.desk_tables.proofs.ParseLemmas.{parsed_id}
-use Rattle.desk_tables.proofs.ListingLemmas.{some_first}
+use Rattle.sqlite.specs.Held.{state}
+use Rattle.desk_sql.specs.Changing.{AreLow, IsShort}
+use Rattle.desk_tables.specs.Causes.{BlamesStore}
+use Rattle.desk_tables.proofs.ListingLemmas.{none_first, none_stored, some_first}
+use Rattle.desk_tables.proofs.ParseLemmas.{parsed_short}
+use Rattle.desk_tables.proofs.UnreadLemmas.{on_err}
+use Rattle.desk_tables.proofs.CauseLemmas.{blamed, blamed_since, closed_stored, head_reads, name_short}
 use Rattle.desk_tables.proofs.AfterLemmas.{stands_closed, left_closed, left_before}
 use Rattle.desk_tables.proofs.changing.changes.close.Goals as goal
 
@@ -70,3 +76,44 @@ returns-clause-crash g c =
     (ClosesPlan name c.encode-text.result.now priority aircraft))
     c.as_str.ensures.value c.close_plan.ensures.crash))
     (λ clean. c.requires.fits (omega (arith, c.heads.ensures.doubt, clean))))
+
+-- why it is refused
+pub returns-in_err-heads-clause-cause : goal.returns-in_err-heads-clause-cause
+returns-in_err-heads-clause-cause g c low =
+    on_err c.from_residual.result c.in_err-heads.field-0.0
+    (BlamesStore g.S.Store c.args.connection.now c.heads.new.connection) c.from_residual.ensures.1
+    c.in_err-heads.ensures.cause
+
+pub returns-in_default-clause-cause : goal.returns-in_default-clause-cause
+returns-in_default-clause-cause g c low clean live is =
+    let heads = c.in_ok-heads.ensures.value clean in
+    absurd (closed_stored c.args.operator.now c.args.id.now c.args.kept.now.world
+    (c.requires.fits (omega (arith, c.heads.ensures.doubt, clean)))
+    (none_stored c.args.operator.now c.args.id.now c.args.kept.now.world c.in_ok-heads.heads.items heads.1
+    (sym c.deref.ensures.value ∙ none_first c.deref.result.now c.in_default.ensures.value)))
+
+pub returns-in_err-priority-clause-cause : goal.returns-in_err-priority-clause-cause
+returns-in_err-priority-clause-cause g c low =
+    on_err c.from_residual-in_err-priority.result c.in_err-priority.field-0.0
+    (BlamesStore g.S.Store c.args.connection.now c.heads.new.connection)
+    c.from_residual-in_err-priority.ensures.1 (λ clean live is.
+    (let heads = c.in_ok-heads.ensures.value clean in
+    let first = some_first c.deref.result.now c.in-Some.head.now c.in-Some.ensures.value in
+    let it = head_reads c.args.operator.now c.args.id.now c.args.kept.now.world c.in_ok-heads.heads.items
+    first.0 c.in-Some.head.now heads.0 heads.1 (sym c.deref.ensures.value ∙ first.1) in
+    absurd (c.in_err-priority.ensures.none is it.0 it.1 it.2)))
+
+pub returns-clause-cause : goal.returns-clause-cause
+returns-clause-cause g c low clean live =
+    let before = c.in-Err.ensures.kept clean live in
+    let mid = c.heads.new.connection in
+    let here : AreLow ((state g.S.Store mid).now.trees 2) =
+    subst (λ (db : _). AreLow (db.trees 2))
+    (sym (c.heads.ensures.kept (omega (arith, c.close_plan.ensures.doubt, clean)) before.was_open).now) low in
+    blamed_since g.S.Store c.args.connection.now mid c.close_plan.new.connection c.fault_of.result
+    c.heads.ensures.faults c.heads.ensures.limit
+    (blamed g.S.Store mid c.close_plan.new.connection c.in-Err.e c.fault_of.result c.fault_of.ensures
+    (c.in-Err.ensures.cause
+    (subst IsShort (sym c.as_str.ensures.value) (name_short _ c.as_str.ensures.valid))
+    (let short = parsed_short c.encode-text.result.now c.args.id.now c.encode-text.ensures.parsed in
+    omega (arith, short)) here)) clean live

@@ -1,0 +1,105 @@
+-- Why a change of a desk's tables is refused.
+use Rattle.std.specs.Prelude.{◌≡◌, ◌≤◌, ◌<◌, ◌^◌, ◌+ℤ◌, ℕ, pos, Bool, true, false, List, [], length, Option, Some, None, Result, Ok, Err, IsSome}
+use Rattle.std.specs.List.{AllByRecursion, list_all, list_any, range_with_len}
+use Rattle.sqlite.specs.Order.{Row, column}
+use Rattle.sqlite.specs.Ops.{fits_i64}
+use Rattle.sqlite.specs.Tree.{rowid, IsTable}
+use Rattle.sqlite.specs.Edit.{id_in, next_rowid}
+use Rattle.sqlite_resolve.specs.declared.compiled.Compiled.{Compiled}
+use Rattle.sqlite_resolve.specs.declared.error.CompileError.{CompileError}
+use Rattle.sqlite.specs.declared.error.Error.{Error}
+use Rattle.sqlite.specs.declared.error.Error.TheVariants.{SqliteFailure}
+use Rattle.sqlite.specs.declared.error.ErrorCode.TheVariants as code
+use Rattle.sqlite.specs.Calls.{IsWrite}
+use Rattle.sqlite.specs.Does.{Does}
+use Rattle.sqlite.specs.Effect.{Database, IsDatabase}
+use Rattle.sqlite.specs.Listing.{understood}
+use Rattle.sqlite.specs.State.{text_of}
+use Rattle.desk_sql.specs.Schema.{desk_schema}
+use Rattle.desk_sql.specs.Rows.{IsDesk, is_same, tables_of}
+use Rattle.desk_sql.specs.Statements.{enforced}
+
+-- ---- what SQLite could store for no row
+
+-- SQLite stores rows of at most a billion bytes
+abbrev pub IsShort : List ℕ → Type 0
+IsShort text = length text ≤ 10 ^ 8
+
+-- rowids of 64 bits
+abbrev pub AreLow : List Row → Type 0
+AreLow rows = AllByRecursion (λ r. fits_i64 (id_in (rowid r)) ≡ true) rows
+
+-- rows in the order of their rowids, with room for so many after the last
+pub record HasRoom (count : ℕ) (rows : List Row) : Type 0 where
+  pub rising : IsTable rows
+  pub low : AreLow rows
+  pub next : (k : ℕ) → k < count → fits_i64 (next_rowid rows +ℤ pos k) ≡ true
+
+-- ---- keys
+
+-- the same key, which is so many of the first columns
+abbrev pub has_same_key : ℕ → Row → Row → Bool
+has_same_key width a b = list_all (λ at. is_same (column a at) (column b at)) (range_with_len 0 width)
+
+abbrev pub HasKey : ℕ → Row → List Row → Type 0
+HasKey width row rows = list_any (λ r. has_same_key width r row) rows ≡ true
+
+abbrev pub LacksKey : ℕ → Row → List Row → Type 0
+LacksKey width row rows = list_any (λ r. has_same_key width r row) rows ≡ false
+
+-- room for one more row, whose key no row has
+abbrev pub IsNewRow : ℕ → Row → List Row → List Row → Type 0
+IsNewRow width row stored shown = HasRoom 1 stored × LacksKey width row shown
+
+-- ---- what fits each INSERT
+
+abbrev pub FitsOperator : List ℕ → Row → Database → Type 0
+FitsOperator name row db = IsShort name × IsNewRow 1 row (db.trees 0) (tables_of db.trees).operators
+
+abbrev pub FitsPlan : List ℕ → List ℕ → Row → Database → Type 0
+FitsPlan operator id row db = IsShort operator × IsShort id
+    × IsNewRow 2 row (db.trees 2) (tables_of db.trees).plans × HasKey 1 row (tables_of db.trees).operators
+
+abbrev pub FitsVolume : List ℕ → List ℕ → List ℕ → Row → Database → Type 0
+FitsVolume operator id asked row db = IsShort operator × IsShort id × IsShort asked
+    × IsNewRow 3 row (db.trees 4) (tables_of db.trees).volumes × HasKey 2 row (tables_of db.trees).plans
+
+abbrev pub FitsSpan : List ℕ → List ℕ → Row → Database → Type 0
+FitsSpan operator id row db = IsShort operator × IsShort id
+    × IsNewRow 4 row (db.trees 6) (tables_of db.trees).spans × HasKey 2 row (tables_of db.trees).plans
+
+-- ---- what stops a statement
+
+-- a compiled text that, with so many steps, may stop with this error, or at a row that can't be stored
+abbrev pub MayStop : List ℕ → Result Compiled CompileError → Row → Option ℕ → Database → Option Error
+    → Type 0
+MayStop text (Ok c) params limit old stop =
+    Does limit enforced params old (text_of text c) None c.command (Err stop)
+MayStop text (Err e) params limit old stop = ⊥
+
+-- it stops at the limit on steps
+abbrev pub IsAtLimit : Option ℕ → Option Error → Type 0
+IsAtLimit limit stop = (stop ≡ Some (SqliteFailure code.OperationInterrupted)) × IsSome limit
+
+-- one whole statement with as many parameters, which writes
+pub record IsWholeWrite (text : List ℕ) (count : ℕ) (c : Compiled) : Type 0 where
+  pub bare : c.returning ≡ None
+  pub timeless : c.formats ≡ []
+  pub given : count ≡ length c.names
+  pub whole : length text ≤ c.tail
+  pub writes : IsWrite c.command
+
+abbrev pub IsWholeIn : List ℕ → ℕ → Result Compiled CompileError → Type 0
+IsWholeIn text count (Ok c) = IsWholeWrite text count c
+IsWholeIn text count (Err e) = ⊥
+
+-- a change of a sound desk's tables that, given what fits them, only memory, the disk and a limit on steps
+-- refuse
+pub record IsSureChange {Given : Type 0} (text : List ℕ) (params : Given → Row)
+    (Fits : Given → Database → Type 0) : Type 0
+  where
+    pub means : (given : Given) → IsWholeIn text (length (params given)) (understood desk_schema text)
+    pub never : (given : Given) (limit : Option ℕ) (db : Database) (stop : Option Error) → IsDesk db
+        → IsDatabase db → Fits given db
+        → MayStop text (understood desk_schema text) (params given) limit db stop
+        → IsAtLimit limit stop
