@@ -254,16 +254,24 @@ fn is_slab_row(plan: &FiledPlan, id: &str, place: usize, slab: &Slab, row: &Row)
     if !is_count_at(row, 2, place as u64) {
         return false;
     }
-    if !is_count_at(row, 3, slab.first) {
-        return false;
-    }
-    if !is_count_at(row, 4, slab.last) {
+    if !has_leaves_of(row, slab) {
         return false;
     }
     if !is_window_at(row, 5, slab) {
         return false;
     }
     is_count_at(row, 9, u64::from(plan.row.priority))
+}
+
+// Whether the columns of a row of `span` that say where it begins and ends have the leaves of a slab.
+fn has_leaves_of(row: &Row, slab: &Slab) -> bool
+    ensures { IsTrue result ↔ ((column row.now 3 ≡ Int (pos slab.now.first))
+        × (column row.now 4 ≡ Int (pos slab.now.last))) }
+{
+    if !is_count_at(row, 3, slab.first) {
+        return false;
+    }
+    is_count_at(row, 4, slab.last)
 }
 
 // Whether a row of so many columns begins with an operator's name and the text of an id.
