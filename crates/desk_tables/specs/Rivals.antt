@@ -1,5 +1,5 @@
 -- Slabs that are held, as rows of `span` show them.
-use Rattle.std.specs.Prelude.{◌≡◌, ◌<◌, ◌^◌, ◌*◌, ℕ, ℤ, pos, ◌-ℤ◌, List, FitsSigned}
+use Rattle.std.specs.Prelude.{◌≡◌, ◌<◌, ◌^◌, ◌*◌, ℕ, pos, List, FitsSigned}
 use Rattle.std.specs.Int.{w32}
 use Rattle.std.specs.List.{AllZip}
 use Rattle.sqlite_value.specs.declared.value.Value.TheVariants.{Int}
@@ -49,7 +49,3 @@ reach_of extent least = record {
   stop = extent.end;
   priority = least;
 }
-
--- where a span begins at the earliest that reaches an extent, if none is longer
-abbrev pub low_of : Slab → ℕ → ℤ
-low_of extent longest = pos extent.first -ℤ pos longest

@@ -1,6 +1,6 @@
 //! Changes of a store's tables.
 
-ghost use Rattle.std.specs.Prelude.{◌≡◌, ◌≤◌, ◌<◌, ◌^◌, pos, IfOk, OnOk, OnErr, IsTrue};
+ghost use Rattle.std.specs.Prelude.{◌≡◌, ◌≤◌, pos, IfOk, OnOk, OnErr, IsTrue};
 ghost use Rattle.sqlite_value.specs.declared.value.Value.TheVariants.{Int};
 ghost use Rattle.sqlite_value.specs.Order.{column};
 ghost use Rattle.sqlite_trees.specs.View.{doubt};
@@ -10,13 +10,14 @@ ghost use Rattle.desk_rules.specs.Limits.{max_priority};
 ghost use Rattle.desk_store.specs.StoreChange.{changed_by, IsFitting};
 ghost use Rattle.desk_store.specs.declared.change.Change.TheVariants as change;
 ghost use Rattle.desk_tables.specs.Store.{Stands};
-ghost use Rattle.desk_tables.specs.Lengths.{IsShortPlan, BringsShort};
+ghost use Rattle.desk_tables.specs.Lengths.{IsKnownPlan, BringsKnown, Keeps};
 ghost use Rattle.desk_tables.specs.Leaving.{MayHave};
 
 use crate::changing::records::{
-    aircraft_number, asked_of, longest_of, span_rows, texts_of, usage_number, volume_rows,
+    aircraft_number, asked_of, lengths_with, span_rows, texts_of, usage_number, volume_rows,
 };
 use crate::kept::Kept;
+use crate::lengths::Lengths;
 use crate::reading::readers::heads;
 use crate::reading::values::{count_at, fault_of};
 use desk_rules::operator::Operator;
@@ -29,8 +30,7 @@ use sqlite::{Connection, Row};
 use sqlite_trees::store::Alter;
 use std::alloc::Global;
 
-/// Makes a change that fits what the store keeps, as one transaction. The answer is how many positions the
-/// last leaf of a span that it brings is after its first, at most.
+/// Makes a change that fits what the store keeps, as one transaction. The answer is how long spans are then.
 ///
 /// # Errors
 ///
@@ -40,14 +40,15 @@ pub(crate) fn make<S: Alter>(
     alloc: Global,
     connection: &mut Connection<S>,
     kept: &Kept,
+    lengths: &Lengths,
     change: &Change,
-) -> Result<u64, StoreFault>
+) -> Result<Lengths, StoreFault>
     requires stands { Stands S.Store connection.old kept.now.world }
     requires fits { HasCleanDisk (state S.Store connection.old)
         → IsFitting change.now kept.now.world }
     ensures ok { OnOk result (Stands S.Store connection.new (changed_by change.now kept.now.world)) }
     ensures err { OnErr result (Stands S.Store connection.new kept.now.world) }
-    ensures short { IfOk result (λ longest. BringsShort longest change.now × (longest < 2 ^ 63)) }
+    ensures known { IfOk result (λ after. Keeps lengths.now after × BringsKnown after change.now) }
     ensures doubt { doubt (state S.Store connection.old).is_clean
         ≤ doubt (state S.Store connection.new).is_clean }
     ensures crash { MayHave S.Store connection.old connection.new
@@ -57,13 +58,16 @@ pub(crate) fn make<S: Alter>(
     ensures committed { HasCleanDisk (state S.Store connection.new) → OnOk result
         ((state S.Store connection.new).now ≡ (state S.Store connection.new).committed) }
 {
+    let before = *lengths;
     match change {
         Change::Enrol { operator, ceiling } => enrol(connection, kept, operator, *ceiling)?,
-        Change::Put { operator, row } => return put(alloc, connection, kept, operator, row),
+        Change::Put { operator, row } => return put(
+            alloc, connection, kept, lengths, operator, row,
+        ),
         Change::Close { operator, id } => close(connection, kept, operator, id)?,
         Change::Clear { operator, ids } => clear(alloc, connection, kept, operator, ids)?,
     }
-    Ok(0)
+    Ok(before)
 }
 
 /// Lists an operator under a ceiling.
@@ -97,22 +101,23 @@ pub(crate) fn enrol<S: Alter>(
     }
 }
 
-// Stores a plan's row for its id, with its volumes and, while it is live, their spans. The answer is how many
-// positions the last leaf of one of these is after its first, at most.
+// Stores a plan's row for its id, with its volumes and, while it is live, their spans. The answer is how long
+// spans are then.
 fn put<S: Alter>(
     alloc: Global,
     connection: &mut Connection<S>,
     kept: &Kept,
+    lengths: &Lengths,
     operator: &Operator,
     row: &PlanRow,
-) -> Result<u64, StoreFault>
+) -> Result<Lengths, StoreFault>
     requires stands { Stands S.Store connection.old kept.now.world }
     requires fits { HasCleanDisk (state S.Store connection.old)
         → IsFitting (change.Put operator.now row.now) kept.now.world }
     ensures ok { OnOk result (Stands S.Store connection.new
         (changed_by (change.Put operator.now row.now) kept.now.world)) }
     ensures err { OnErr result (Stands S.Store connection.new kept.now.world) }
-    ensures short { IfOk result (λ longest. IsShortPlan longest row.now × (longest < 2 ^ 63)) }
+    ensures known { IfOk result (λ after. Keeps lengths.now after × IsKnownPlan after row.now) }
     ensures doubt { doubt (state S.Store connection.old).is_clean
         ≤ doubt (state S.Store connection.new).is_clean }
     ensures crash { MayHave S.Store connection.old connection.new
@@ -136,7 +141,7 @@ fn put<S: Alter>(
     };
     one_list_of_ranges();
     match put_plan(connection, head, &volumes, &spans) {
-        Ok(()) => Ok(longest_of(&spans)),
+        Ok(()) => Ok(lengths_with(lengths, &spans)),
         Err(e) => Err(fault_of(e)),
     }
 }

@@ -21,8 +21,9 @@ ghost use Rattle.desk_tables.specs.Lengths.{Bounds};
 ghost use Rattle.desk_sql.specs.Effects.{Spares};
 
 use crate::kept::Kept;
+use crate::lengths::Lengths;
 use crate::reading::listing::Gather;
-use crate::reading::rivals::{Rivals, low_of, reach_of};
+use crate::reading::rivals::{Rivals, reach_of};
 use crate::reading::values::{area_in, ceiling_in, fault_of, plan_in};
 use desk_rules::operator::Operator;
 use desk_rules::plan::PlanRow;
@@ -252,8 +253,8 @@ fn held_by(handed: Result<(), Error>, rivals: Rivals) -> Result<Vec<Held>, Store
 }
 
 /// The slabs that live plans but the operator's own of the id hold, of those of a priority at least,
-/// where they meet an extent. The last leaf of no span of a live plan is more than `longest` positions after
-/// its first, so that no row is read that begins further before the extent.
+/// where they meet an extent. From how long the spans of live plans are follows where one begins at the
+/// earliest that reaches the extent: no row is read that begins before.
 ///
 /// # Errors
 ///
@@ -267,10 +268,10 @@ pub(crate) fn rivals<S: Alter>(
     id: &PlanId,
     least: u32,
     extent: &Slab,
-    longest: u64,
+    lengths: &Lengths,
 ) -> Result<Vec<Held>, StoreFault>
     requires stands { Stands S.Store connection.old kept.now.world }
-    requires bounded { Bounds longest kept.now.world }
+    requires bounded { Bounds lengths.now kept.now.world }
     ensures value { HasCleanDisk (state S.Store connection.new) → IfOk result (λ helds.
         AreRivals kept.now.world operator.now id.now least extent.now helds.items) }
     ensures cause { IfErr result (BlamesSpans S.Store connection.old connection.new) }
@@ -283,7 +284,7 @@ pub(crate) fn rivals<S: Alter>(
     let text = id.encode(&mut buffer);
     let mut rivals = Rivals::new(alloc);
     let reach = reach_of(extent, least);
-    let low = low_of(extent, longest);
+    let low = lengths.earliest(extent) as i64;
     let handed = rival_spans(connection, operator.as_str(), text, reach, low, &mut rivals);
     held_by(handed, rivals)
 }

@@ -76,15 +76,6 @@ pub(crate) fn reach_of(extent: &Slab, least: u32) -> Reach
     }
 }
 
-/// Where a span begins at the earliest that may hold a point of an extent, if the last leaf of no span is
-/// more than `longest` positions after its first.
-pub(crate) fn low_of(extent: &Slab, longest: u64) -> i64
-    requires { longest < 2 ^ 63 }
-    ensures { result ≡ spec.low_of extent.now longest }
-{
-    extent.first as i64 - longest as i64
-}
-
 // The slab of a row of `span`, of which the columns from `first` on are shown, with its plan's priority.
 fn held_in(row: &Row) -> Result<Held, StoreFault>
     ensures value { IfOk result (λ held. IsHeldIn row.now held) }

@@ -1,0 +1,74 @@
+-- The giants that are kept, after one more is put among them.
+use Rattle.std.proofs.Common.{◌≡◌, ℕ, ◌+◌, ◌≤◌, suc, zero, inl, inr, Bool, true, false, ◌||◌, List, [], ◌∷◌, Option, ◌<◌, length, get_or, set, take, min, refl, sym, ap, ◌∙◌, subst, arith}
+use Rattle.std.specs.List.{list_any}
+use Rattle.std.specs.Prelude.{IsTrue}
+use Rattle.std.proofs.lemmas.List.Folds.{list_any_more}
+use Rattle.s2_cover.specs.declared.spans.Span.{Span}
+use Rattle.volume4d.specs.declared.slab.Slab.{Slab}
+use Rattle.desk_tables.specs.declared.lengths.Lengths.{Lengths}
+use Rattle.desk_tables.specs.Lengths.{IsAmong, IsKnown, IsLow, IsShort, Keeps, takes_in}
+
+or_left : (a b : Bool) → a ≡ true → (a || b) ≡ true
+or_left a b h = ap (λ c. c || b) h
+
+or_right : (a b : Bool) → b ≡ true → (a || b) ≡ true
+or_right true b h = refl
+or_right false b h = h
+
+by_or : (a b c : Bool) → (b ≡ true → c ≡ true) → (a || b) ≡ true → (a || c) ≡ true
+by_or true b c more h = refl
+by_or false b c more h = more h
+
+by_first : (a b c : Bool) → (a ≡ true → b ≡ true) → (a || c) ≡ true → (b || c) ≡ true
+by_first true b c more h = or_left b c (more refl)
+by_first false b c more h = or_right b c h
+
+module _ {X : Type 0} (p : X → Bool) where
+  -- an element that passes, put in the place of one
+  pub set_passes : (xs : List X) (at : ℕ) (y : X) → at < length xs → p y ≡ true
+      → list_any p (set xs at y) ≡ true
+  set_passes [] at y within h = absurd (omega (arith, within))
+  set_passes (z ∷ xs) zero y within h = or_left (p y) (list_any p xs) h
+  set_passes (z ∷ xs) (suc at) y within h =
+      or_right (p z) (list_any p (set xs at y)) (set_passes xs at y (omega (arith, within)) h)
+
+  -- one that passes if that does in whose place it is put
+  pub set_kept : (xs : List X) (at : ℕ) (d y : X) → (p (get_or xs at d) ≡ true → p y ≡ true)
+      → list_any p xs ≡ true → list_any p (set xs at y) ≡ true
+  set_kept [] at d y more h = h
+  set_kept (z ∷ xs) zero d y more h = by_first (p z) (p y) (list_any p xs) more h
+  set_kept (z ∷ xs) (suc at) d y more h =
+      by_or (p z) (list_any p xs) (list_any p (set xs at y)) (set_kept xs at d y more) h
+
+-- with more giants no less is known
+pub keeps_giants : (old new : Lengths) → new.bound ≡ old.bound
+    → ((span : Span) → IsAmong old.giants span → IsAmong new.giants span) → Keeps old new
+keeps_giants old new same more span known = elim known [
+  | inl short ↦ inl (subst (λ bound. span.last ≤ span.first + bound) (sym same) short)
+  | inr among ↦ inr (more span among)
+]
+
+-- ---- the walk along the giants, for where a span begins at the earliest
+
+module _ (extent : Slab) (bound : ℕ) where
+  abbrev pub IsLowFor : ℕ → List (Option Span) → Type 0
+  IsLowFor low giants = IsLow low extent (IsKnown (record { bound = bound; giants = giants }))
+
+  pub low_begins : (low : ℕ) → IsLow low extent (IsShort bound) → IsLowFor low []
+  low_begins low is span known ends begins = elim known [
+    | inl short ↦ is span short ends begins
+    | inr among ↦ cc
+  ]
+
+  pub low_on : (giants : List (Option Span)) (i : ℕ) (d : Option Span) (low met next : ℕ) → i < length giants
+      → IsLowFor low (take i giants) → IsLow met extent (λ s. IsTrue (takes_in s (get_or giants i d)))
+      → next ≡ min low met → IsLowFor next (take (i + 1) giants)
+  low_on giants i d low met next within before here is span known ends begins = elim known [
+    | inl short ↦ omega (arith, is, before span (inl short) ends begins)
+    | inr among ↦ by_place (list_any (takes_in span) (take i giants)) refl
+        (sym (list_any_more (takes_in span) giants i d within) ∙ among)
+  ] where
+    by_place : (b : Bool) → list_any (takes_in span) (take i giants) ≡ b
+        → (b || takes_in span (get_or giants i d)) ≡ true → next ≤ span.first
+    by_place true was h = omega (arith, is, before span (inr was) ends begins)
+    by_place false was h = omega (arith, is, here span h ends begins)
