@@ -44,7 +44,8 @@ returns-clause-value g c = λ clean.
     (filter (is_wanted o text reach low) tables.spans)) rows) c.encode-text.ensures.text by_name in
     let same = subst (λ spans. IsPermutation (map held_columns spans) rows)
     (rivals_wanted o (id_text id) c.args.least c.args.extent.now c.args.lengths.now
-    c.earliest-low.result c.earliest-low.ensures.low tables w standing.tables c.requires.bounded.known) wanted in
+    c.earliest-low.result c.earliest-low.ensures.low tables w standing.tables
+    c.requires.bounded.known) wanted in
     weaker c.held_by.result (λ helds are. are_rivals tables w o id c.args.least c.args.extent.now rows
     helds.items (parsed_id c.encode-text.result.now id c.encode-text.ensures.parsed) standing.content
     standing.tables same
