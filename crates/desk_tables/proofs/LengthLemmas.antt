@@ -1,13 +1,14 @@
 -- From the rows of `span` to how long the spans of plans are, and back.
 use Rattle.std.proofs.Common.{◌≡◌, ℕ, ℤ, pos, ◌+◌, ◌≤◌, Bool, true, false, MatchBool, ◌&&◌, not, cond, List, [], ◌∷◌, ◌++◌, map, refl, sym, ap, subst, ◌∙◌, arith, Less, Equal, Greater}
-use Rattle.std.specs.Prelude.{⊤, int_lt}
-use Rattle.std.specs.List.{filter, AllByRecursion}
-use Rattle.std.specs.Ordering.{is_ge, match_ordering}
+use Rattle.std.specs.Prelude.{⊤, int_lt, nat_le, ◌||◌}
+use Rattle.std.specs.List.{filter, AllByRecursion, list_any}
+use Rattle.std.specs.Ordering.{is_ge, is_le, match_ordering}
 use Rattle.std.specs.declared.cmp.Ordering.{Ordering}
 use Rattle.std.proofs.lemmas.Int.{ints}
-use Rattle.std.proofs.lemmas.Bool.{and_parts}
+use Rattle.std.proofs.Math.Bool.{and-false}
+use Rattle.std.proofs.lemmas.Bool.{and_parts, true≢false}
 use Rattle.std.proofs.lemmas.Bool.Decides.{nat_tests}
-use Rattle.sqlite_value.specs.declared.value.Value.TheVariants.{Int}
+use Rattle.sqlite_value.specs.declared.value.Value.TheVariants.{Int, Text}
 use Rattle.sqlite_value.specs.Order.{Row, column}
 use Rattle.sqlite_value.proofs.OrderLemmas.{value_cmp-Int}
 use Rattle.sqlite_trees.proofs.ListLemmas.{all-permutation}
@@ -18,7 +19,7 @@ use Rattle.volume4d.specs.Volume.{Block}
 use Rattle.desk_rules.specs.declared.plan.PlanRow.{PlanRow}
 use Rattle.desk_rules.specs.Plan.{is_live}
 use Rattle.desk_sql.specs.Rows as sql
-use Rattle.desk_sql.specs.Rows.{Tables, is_at_least, is_at_most, is_rival, is_wanted}
+use Rattle.desk_sql.specs.Rows.{Tables, differs, is_above, is_at_least, is_at_most, is_below, is_rival}
 use Rattle.desk_store.specs.World.{Filed, World, text_cmp, rows_by, is_by, has_id}
 use Rattle.desk_store.specs.Changes.{put_row, closed, close_row, is_named, clear_rows, filed_by, is_before, is_after, replaced, with_plans, with_operator}
 use Rattle.desk_store.specs.StoreChange.{changed_by}
@@ -26,8 +27,8 @@ use Rattle.desk_store.specs.declared.change.Change.{Change}
 use Rattle.desk_store.specs.declared.change.Change.TheVariants.{Enrol, Put, Close, Clear}
 use Rattle.desk_tables.specs.Tables.{span_row, AreSpanRowsFrom, ArePlanSpanRows, AreSpanRows, AreTables}
 use Rattle.desk_tables.specs.declared.lengths.Lengths.{Lengths}
-use Rattle.desk_tables.specs.Rivals.{reach_of}
-use Rattle.desk_tables.specs.Lengths.{IsKnown, Keeps, IsLow, IsKnownBlock, IsKnownPlan, AreKnownPlans, Bounds, BringsKnown, IsKnownRow, HasKnownSpan}
+use Rattle.desk_tables.specs.Rivals.{reach_of, is_asked}
+use Rattle.desk_tables.specs.Lengths.{AreWhole, IsKnown, IsWithin, Keeps, begins_in, IsKnownBlock, IsKnownPlan, AreKnownPlans, Bounds, BringsKnown, IsKnownRow, HasKnownSpan}
 
 -- ---- all of some elements
 
@@ -127,69 +128,108 @@ module _ (lengths : Lengths) where
       (all_both (HasKnownSpan lengths) front rest (plan_known p front h.0 mine)
       (plans_known ps rest h.1 more))
 
-  tables_known : (t : Tables) (w : World) → AreTables t w → AreKnownPlans lengths w.plans
+  pub tables_known : (t : Tables) (w : World) → AreTables t w → AreKnownPlans lengths w.plans
       → AllByRecursion (HasKnownSpan lengths) t.spans
   tables_known t w are h =
       let (rows, mine, same) = are.spans in
       all-permutation (HasKnownSpan lengths) rows t.spans same (plans_known w.plans rows h mine)
 
--- ---- the bound from below leaves out no rival
+-- ---- the questions leave out no rival, and find no others
 
 at_least_is : (a b : Bool) → is_ge (cond a Less (cond b Greater Equal)) ≡ not a
 at_least_is true b = refl
 at_least_is false true = refl
 at_least_is false false = refl
 
-at_least_int : (m n : ℤ) → is_at_least (Int m) n ≡ not (int_lt m n)
-at_least_int m n = ap is_ge (value_cmp-Int m n) ∙ at_least_is _ _
+at_most_is : (a b : Bool) → (a && b) ≡ false → is_le (cond a Less (cond b Greater Equal)) ≡ not b
+at_most_is true true h = absurd (true≢false h)
+at_most_is true false h = refl
+at_most_is false true h = refl
+at_most_is false false h = refl
 
-no_later : (a b : ℕ) → is_at_most (Int (pos a)) (pos b) ≡ true → a ≤ b
-no_later a b h = grind (arith, nat_tests, ints, value_cmp-Int (pos a) (pos b))
+at_least_nat : (a b : ℕ) → is_at_least (Int (pos a)) (pos b) ≡ nat_le b a
+at_least_nat a b = ap is_ge (value_cmp-Int (pos a) (pos b)) ∙ at_least_is _ _ ∙ grind (arith, nat_tests, ints)
 
-no_earlier : (a b : ℕ) → is_at_least (Int (pos a)) (pos b) ≡ true → b ≤ a
-no_earlier a b h = grind (arith, nat_tests, ints, at_least_int (pos a) (pos b))
+at_most_nat : (a b : ℕ) → is_at_most (Int (pos a)) (pos b) ≡ nat_le a b
+at_most_nat a b = ap is_le (value_cmp-Int (pos a) (pos b)) ∙ at_most_is _ _ (grind (arith, nat_tests, ints))
+    ∙ grind (arith, nat_tests, ints)
 
-late_enough : (a b : ℕ) → b ≤ a → is_at_least (Int (pos a)) (pos b) ≡ true
-late_enough a b h = at_least_int (pos a) (pos b) ∙ grind (arith, nat_tests, ints)
+-- a bound on a first leaf that another follows from
+regrouped : (a b c r d : Bool) → (b ≡ true → c ≡ true)
+    → (a && ((b && r) && d)) ≡ ((a && b) && ((c && r) && d))
+regrouped false b c r d h = refl
+regrouped true false c r d h = refl
+regrouped true true c r d h = ap (λ t. (t && r) && d) (sym (h refl))
 
-module _ (operator id : List ℕ) (least : ℕ) (extent : Slab) (lengths : Lengths) (low : ℕ)
-    (is_low : IsLow low extent (IsKnown lengths)) where
+no_later : (a b c : ℕ) → b ≤ c → nat_le a b ≡ true → nat_le a c ≡ true
+no_later a b c more h = grind (arith, nat_tests)
+
+either_and : (a b d : Bool) → ((a && d) || (b && d)) ≡ ((a || b) && d)
+either_and true b true = refl
+either_and true true false = refl
+either_and true false false = refl
+either_and false b d = refl
+
+module _ (operator id : List ℕ) (least : ℕ) (extent : Slab) where
   abbrev rival : Row → Bool
   rival r = is_rival operator id (reach_of extent least) r
 
-  begins_late : (r : Row) → HasKnownSpan lengths r → rival r ≡ true
-      → is_at_least (column r 3) (pos low) ≡ true
-  begins_late r has h =
+  abbrev asked : Span → Row → Bool
+  asked question r = is_asked operator id least extent question r
+
+  module _ (r : Row) (span : Span) (begins : column r 3 ≡ Int (pos span.first)) where
+    -- the tests of a row, but for those of its first leaf
+    abbrev others : Bool
+    others = is_at_least (column r 4) (pos extent.first) && (is_below (column r 5) extent.upper
+        && (is_above (column r 6) extent.lower && (is_below (column r 7) extent.end
+        && (is_above (column r 8) extent.start && is_at_least (column r 9) (pos least)))))
+
+    abbrev another : Bool
+    another = differs (column r 0) (Text operator) || differs (column r 1) (Text id)
+
+    asked_is : (question : Span) → IsWithin extent question
+        → asked question r ≡ (begins_in span question && rival r)
+    asked_is question within =
+        (λ i. is_at_least (begins i) (pos question.first)
+        && ((is_at_most (begins i) (pos question.last) && others) && another))
+        ∙ (λ i. at_least_nat span.first question.first i
+        && ((at_most_nat span.first question.last i && others) && another))
+        ∙ regrouped (nat_le question.first span.first) (nat_le span.first question.last)
+        (nat_le span.first extent.last) others another
+        (no_later span.first question.last extent.last within.1)
+        ∙ (λ i. begins_in span question
+        && ((sym (at_most_nat span.first extent.last) i && others) && another))
+        ∙ (λ i. begins_in span question
+        && ((is_at_most (sym begins i) (pos extent.last) && others) && another))
+
+    asked_any : (questions : List Span) → AllByRecursion (IsWithin extent) questions
+        → list_any (λ question. asked question r) questions ≡ (list_any (begins_in span) questions && rival r)
+    asked_any [] h = refl
+    asked_any (q ∷ questions) h = (λ i. asked_is q h.0 i || asked_any questions h.1 i)
+        ∙ either_and (begins_in span q) (list_any (begins_in span) questions) (rival r)
+
+  rival_meets : (r : Row) (span : Span) → column r 3 ≡ Int (pos span.first) → column r 4 ≡ Int (pos span.last)
+      → rival r ≡ true → (extent.first ≤ span.last) × (span.first ≤ extent.last)
+  rival_meets r span begins ends h =
       let reached = and_parts (sql.is_reached (reach_of extent least) r) _ h in
       let met = and_parts (is_at_most (column r 3) (pos extent.last)) _ reached.0 in
-      let ends = (and_parts (is_at_least (column r 4) (pos extent.first)) _ met.1).0 in
-      let first = no_later has.span.first extent.last
-      (ap (λ v. is_at_most v (pos extent.last)) (sym has.begins) ∙ met.0) in
-      let last = no_earlier has.span.last extent.first
-      (ap (λ v. is_at_least v (pos extent.first)) (sym has.ends) ∙ ends) in
-      ap (λ v. is_at_least v (pos low)) has.begins
-      ∙ late_enough has.span.first low (is_low has.span has.known last first)
+      let last = (and_parts (is_at_least (column r 4) (pos extent.first)) _ met.1).0 in
+      let early : nat_le span.first extent.last ≡ true = sym (at_most_nat span.first extent.last)
+      ∙ ap (λ v. is_at_most v (pos extent.last)) (sym begins) ∙ met.0 in
+      let late : nat_le extent.first span.last ≡ true = sym (at_least_nat span.last extent.first)
+      ∙ ap (λ v. is_at_least v (pos extent.first)) (sym ends) ∙ last in
+      (grind (arith, nat_tests, late), grind (arith, nat_tests, early))
 
-  same_test : (r : Row) → HasKnownSpan lengths r
-      → is_wanted operator id (reach_of extent least) (pos low) r ≡ rival r
-  same_test r has = go (rival r) refl where
-    go : (b : Bool) → rival r ≡ b → (is_at_least (column r 3) (pos low) && b) ≡ b
-    go true h = ap (λ c. c && true) (begins_late r has h)
-    go false h = by_first (is_at_least (column r 3) (pos low)) where
-      by_first : (c : Bool) → (c && false) ≡ false
-      by_first true = refl
-      by_first false = refl
-
-  same_rows : (rows : List Row) → AllByRecursion (HasKnownSpan lengths) rows
-      → filter (is_wanted operator id (reach_of extent least) (pos low)) rows
-      ≡ filter rival rows
-  same_rows [] h = refl
-  same_rows (r ∷ rows) h = λ i. cond (same_test r h.0 i) (r ∷ same_rows rows h.1 i) (same_rows rows h.1 i)
-
-  pub rivals_wanted : (t : Tables) (w : World) → AreTables t w → AreKnownPlans lengths w.plans
-      → filter (is_wanted operator id (reach_of extent least) (pos low)) t.spans
-      ≡ filter rival t.spans
-  rivals_wanted t w are h = same_rows t.spans (tables_known lengths t w are h)
+  module _ (lengths : Lengths) (questions : List Span) (whole : AreWhole extent (IsKnown lengths) questions)
+      (within : AllByRecursion (IsWithin extent) questions) where
+    pub asked_rival : (r : Row) → HasKnownSpan lengths r
+        → list_any (λ question. asked question r) questions ≡ rival r
+    asked_rival r has = asked_any r has.span has.begins questions within ∙ go (rival r) refl where
+      go : (b : Bool) → rival r ≡ b → (list_any (begins_in has.span) questions && b) ≡ b
+      go true h =
+          let meets = rival_meets r has.span has.begins has.ends h in
+          ap (λ c. c && true) (whole has.span has.known meets.0 meets.1)
+      go false h = and-false (list_any (begins_in has.span) questions)
 
 -- ---- changes
 

@@ -28,6 +28,7 @@ pub mod UnreadLemmas
 pub mod ExactLemmas
 pub mod GiantLemmas
 pub mod LengthLemmas
+pub mod AskingLemmas
 pub mod LeavingLemmas
 pub mod GatherLemmas
 pub mod CauseLemmas

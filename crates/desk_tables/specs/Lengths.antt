@@ -1,5 +1,5 @@
 -- How long the spans of plans are.
-use Rattle.std.specs.Prelude.{◌≡◌, ℕ, ◌+◌, ◌≤◌, ◌⊎◌, ◌==◌, ◌&&◌, nat_le, ℤ, pos, Bool, false, List, Option, Some, None, MatchBool, IfSome, IsTrue, ⊤, slice_get, length, ◌<◌}
+use Rattle.std.specs.Prelude.{◌≡◌, ℕ, ◌+◌, ◌≤◌, ◌⊎◌, ◌==◌, ◌&&◌, nat_le, ℤ, pos, Bool, false, List, Option, Some, None, MatchBool, IfSome, IsTrue, ⊤, slice_get, length, ◌<◌, ◌*◌, ◌^◌}
 use Rattle.std.specs.List.{AllByRecursion, list_any}
 use Rattle.sqlite_value.specs.declared.value.Value.TheVariants.{Int}
 use Rattle.sqlite_value.specs.Order.{Row, column}
@@ -39,6 +39,20 @@ Keeps old new = (span : Span) → IsKnown old span → IsKnown new span
 abbrev pub IsLow : ℕ → Slab → (Span → Type 0) → Type 0
 IsLow low extent IsOne =
     (span : Span) → IsOne span → extent.first ≤ span.last → span.first ≤ extent.last → low ≤ span.first
+
+-- a span begins at one of the leaves that a question is for
+abbrev pub begins_in : Span → Span → Bool
+begins_in span question = nat_le question.first span.first && nat_le span.first question.last
+
+-- one of the questions is for each of these spans that may hold a point of an extent
+abbrev pub AreWhole : Slab → (Span → Type 0) → List Span → Type 0
+AreWhole extent IsOne questions =
+    (span : Span) → IsOne span → extent.first ≤ span.last → span.first ≤ extent.last
+    → IsTrue (list_any (begins_in span) questions)
+
+-- a question is for leaves, and for none after an extent
+abbrev pub IsWithin : Slab → Span → Type 0
+IsWithin extent question = (question.first < 6 * 2 ^ 60) × (question.last ≤ extent.last)
 
 -- a place of the list where a giant begins at this leaf, or none is kept
 abbrev pub BeginsOrNone : ℕ → Option Span → Type 0

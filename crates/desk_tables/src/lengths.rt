@@ -1,10 +1,13 @@
 //! How long the spans of live plans are, so that a query need not look far before an extent.
 
-ghost use Rattle.std.specs.Prelude.{◌≡◌, ◌≤◌, ◌≤ℤ◌, ℕ, pos, IfSome, IsPermutation, IsTrue, Some};
+ghost use Rattle.std.specs.Prelude.{◌≡◌, ◌≤◌, ◌<◌, ◌≤ℤ◌, ◌↔◌, ℕ, pos, IfOk, IfSome, IsPermutation, IsTrue, OnOk, Some, length};
+ghost use Rattle.std.specs.List.{AllByRecursion, list_any};
 ghost use Rattle.s2_cover.specs.declared.spans.Span.{Span as Range};
-ghost use Rattle.desk_tables.specs.Lengths.{IsAmong, IsKnown, IsKnownBetween, IsLow, Keeps, IsShort, IsRoomFor, BeginsOrNone, takes_in};
+ghost use Rattle.desk_tables.specs.Lengths.{AreWhole, BeginsOrNone, IsAmong, IsKnown, IsKnownBetween, IsLow, IsRoomFor, IsShort};
+ghost use Rattle.desk_tables.specs.Lengths.{IsWithin, Keeps, begins_in, takes_in};
 
 use s2_cover::Span;
+use std::alloc::{AllocError, Global};
 use volume4d::Slab;
 
 // How many giants are kept.
@@ -47,19 +50,29 @@ impl Lengths {
         }
     }
 
-    /// Where a span that may hold a point of an extent begins at the earliest.
-    pub(crate) fn earliest(&self, extent: &Slab) -> u64
-        ensures low { IsLow result extent.now (IsKnown self.now) }
-        ensures small { result ≤ extent.now.first }
+    /// The questions, each for the spans that begin at some leaves, that find all spans that may hold a point
+    /// of an extent: one for each giant that reaches the extent and begins before the others that may reach
+    /// it, and then one for these.
+    pub(crate) fn questions(&self, alloc: Global, extent: &Slab) -> Result<Vec<Span>, AllocError>
+        ensures whole { IfOk result (λ questions.
+            AreWhole extent.now (IsKnown self.now) questions.items) }
+        ensures within { IfOk result (λ questions.
+            AllByRecursion (IsWithin extent.now) questions.items) }
+        ensures some { IfOk result (λ questions. 0 < length questions.items) }
     {
-        let mut earliest = self.low(extent);
+        let low = self.low(extent);
+        let mut questions = Vec::new(alloc);
         for giant in &self.giants {
-            earliest = earliest.min(first_met(giant, extent));
+            ask_for(giant, low, extent, &mut questions)?;
         }
-        earliest
+        questions.push(Span {
+            first: low,
+            last: extent.last,
+        })?;
+        Ok(questions)
     }
 
-    // The same of a span that is no giant.
+    // Where a span begins at the earliest that is no giant and may hold a point of an extent.
     fn low(&self, extent: &Slab) -> u64
         ensures low { IsLow result extent.now (IsShort self.now.bound) }
         ensures small { result ≤ extent.now.first }
@@ -144,14 +157,39 @@ fn joined(giant: Option<Span>, span: Span) -> Span
     }
 }
 
-// Where a giant begins, if one is kept that may hold a point of an extent; else the last of all numbers.
-fn first_met(giant: &Option<Span>, extent: &Slab) -> u64
-    ensures { IsLow result extent.now (λ span. IsTrue (takes_in span giant.now)) }
+// One question more for a giant, if one is kept that begins before `low` and reaches the extent.
+fn ask_for(
+    giant: &Option<Span>,
+    low: u64,
+    extent: &Slab,
+    questions: &mut Vec<Span>,
+) -> Result<(), AllocError>
+    requires { low ≤ extent.now.first }
+    ensures asked { OnOk result (AreWhole extent.now
+        (λ span. IsTrue (takes_in span giant.now) × (span.first < low)) questions.new.items) }
+    ensures kept { OnOk result ((span : Range) → IsTrue (list_any (begins_in span) questions.old.items)
+        → IsTrue (list_any (begins_in span) questions.new.items)) }
+    ensures within { OnOk result (AllByRecursion (IsWithin extent.now) questions.old.items
+        → AllByRecursion (IsWithin extent.now) questions.new.items) }
 {
     match giant {
-        Some(giant) if giant.first <= extent.last && extent.first <= giant.last => giant.first,
-        _ => u64::MAX,
+        Some(giant) if is_apart(giant, low, extent) => {
+            questions.push(Span {
+                first: giant.first,
+                last: giant.first,
+            })?;
+            Ok(())
+        }
+        _ => Ok(()),
     }
+}
+
+// Whether a giant begins before `low` and reaches an extent.
+fn is_apart(giant: &Span, low: u64, extent: &Slab) -> bool
+    ensures { IsTrue result ↔ (giant.now.first < low) × (giant.now.first ≤ extent.now.last)
+        × (extent.now.first ≤ giant.now.last) }
+{
+    giant.first < low && giant.first <= extent.last && extent.first <= giant.last
 }
 
 // The same giants, ascending by their first leaves.

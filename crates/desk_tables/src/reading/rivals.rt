@@ -11,6 +11,7 @@ use crate::reading::listing::error_of;
 use crate::reading::values::{count_at, narrow_at, wide_at};
 use desk_sql::{Reach, TakeRow};
 use desk_store::StoreFault;
+use s2_cover::Span;
 use sqlite::{Error, Row};
 use std::alloc::Global;
 use volume4d::{Held, Slab};
@@ -74,6 +75,16 @@ pub(crate) fn reach_of(extent: &Slab, least: u32) -> Reach
         stop: extent.end,
         priority: least,
     }
+}
+
+/// Of these only those that begin at the leaves that a question is for.
+pub(crate) fn reach_from(question: &Span, extent: &Slab, least: u32) -> Reach
+    requires { question.now.last < 6 * 2 ^ 60 }
+    ensures { result ≡ spec.reach_from question.now extent.now least }
+{
+    let mut reach = reach_of(extent, least);
+    reach.last = question.last as i64;
+    reach
 }
 
 // The slab of a row of `span`, of which the columns from `first` on are shown, with its plan's priority.
