@@ -1,10 +1,13 @@
 -- The greatest priority that the rows of `span` hold at a point.
-use Rattle.std.proofs.Common.{◌≡◌, ℕ, ℤ, pos, ◌+◌, max, Bool, true, false, leb, MatchBool, ◌&&◌, ◌||◌, not, cond, List, [], ◌∷◌, ◌++◌, map, Option, Some, None, refl, sym, ap, ◌∙◌, arith, Less, Equal, Greater, IsPermutation}
+use Rattle.std.proofs.Common.{◌≡◌, ℕ, ℤ, pos, ◌+◌, max, Bool, true, false, leb, MatchBool, ◌&&◌, ◌||◌, not, cond, List, [], ◌∷◌, ◌++◌, map, Option, Some, None, refl, sym, ap, subst, ◌∙◌, arith, Less, Equal, Greater, IsPermutation}
 use Rattle.std.specs.Prelude.{int_le, int_lt, nat_le, unsigned_abs}
-use Rattle.std.specs.List.{filter}
+use Rattle.std.specs.List.{AllByRecursion, filter, flat_map, list_any}
 use Rattle.std.specs.Ordering.{is_lt, is_le, is_gt, is_ge}
 use Rattle.std.proofs.Math.Bool.{and_assoc, and-or_distrib_left, and-or_distrib_right, and-false}
 use Rattle.std.proofs.lemmas.Int.{ints}
+use Rattle.std.proofs.lemmas.List.{append-nil}
+use Rattle.std.proofs.lemmas.List.Concat.{flat_map-append, flat_map-cons}
+use Rattle.std.proofs.lemmas.List.Sorted.{IsPermutation-append, IsPermutation-refl}
 use Rattle.std.proofs.lemmas.Bool.{and_parts}
 use Rattle.std.proofs.lemmas.Bool.Decides.{nat_tests}
 use Rattle.sqlite_value.specs.declared.value.Value.{Value}
@@ -35,7 +38,10 @@ use Rattle.desk_store.specs.Rivals.{AreRivals}
 use Rattle.desk_store.specs.laws.Rival.{rivals_top-cons, rivals_top-nil, held_by_rivals}
 use Rattle.desk_tables.specs.Tables.{id_text, span_row, AreSpanRowsFrom, ArePlanSpanRows, AreSpanRows, AreTables}
 use Rattle.desk_tables.specs.Content.{IsId, IsPlan, IsContent}
-use Rattle.desk_tables.specs.Rivals.{IsHeldIn, HasTakenHelds, reach_of}
+use Rattle.desk_tables.specs.declared.lengths.Lengths.{Lengths}
+use Rattle.desk_tables.specs.Lengths.{AreWhole, Bounds, HasKnownSpan, IsKnown, IsWithin}
+use Rattle.desk_tables.specs.Rivals.{HaveTaken, HaveTakenAll, IsHeldIn, HasTakenHelds, is_asked, reach_of}
+use Rattle.desk_tables.proofs.LengthLemmas.{asked_rival, tables_known}
 use Rattle.desk_tables.proofs.RowLemmas.{after_key}
 use Rattle.desk_tables.proofs.FilterLemmas.{ArePlans, own_row}
 
@@ -79,6 +85,12 @@ top_wanted {A} {B} want cut p f (x ∷ xs) = by_test (want x) (top_wanted want c
           ∙ ap (greater (level_where (p (cut x)) (f (cut x)))) ih
       by_test false ih = ih
 
+-- of none
+top_none : {A : Type 0} (p : A → Bool) (f : A → ℕ) (xs : List A)
+    → None ≡ top_by (λ a. false && p a) f xs
+top_none p f [] = refl
+top_none p f (x ∷ xs) = top_none p f xs ∙ sym (top_by-cons (λ a. false && p a) f x xs)
+
 max_itself : (n : ℕ) → max n n ≡ n
 max_itself n = omega arith
 
@@ -88,6 +100,45 @@ either_level : (a b : Bool) (n : ℕ) → greater (level_where a n) (level_where
 either_level true true n = ap Some (max_itself n)
 either_level true false n = refl
 either_level false b n = refl
+
+exchanged : (a b c d : Option ℕ) → greater (greater a b) (greater c d) ≡ greater (greater a c) (greater b d)
+exchanged a b c d = greater_assoc a b (greater c d) ∙ ap (greater a) (swap_greater b c d)
+    ∙ sym (greater_assoc a c (greater b d))
+
+-- of those that pass one test, and those that pass another
+top_either : {A : Type 0} (s t p : A → Bool) (f : A → ℕ) (xs : List A)
+    → greater (top_by (λ a. s a && p a) f xs) (top_by (λ a. t a && p a) f xs)
+    ≡ top_by (λ a. (s a || t a) && p a) f xs
+top_either s t p f [] = refl
+top_either s t p f (x ∷ xs) =
+    (λ i. greater (top_by-cons (λ a. s a && p a) f x xs i) (top_by-cons (λ a. t a && p a) f x xs i))
+    ∙ exchanged (level_where (s x && p x) (f x)) (top_by (λ a. s a && p a) f xs)
+    (level_where (t x && p x) (f x)) (top_by (λ a. t a && p a) f xs)
+    ∙ (λ i. greater (either_level (s x && p x) (t x && p x) (f x) i) (top_either s t p f xs i))
+    ∙ (λ i. greater (level_where (sym (and-or_distrib_right (s x) (t x) (p x)) i) (f x))
+    (top_by (λ a. (s a || t a) && p a) f xs))
+    ∙ sym (top_by-cons (λ a. (s a || t a) && p a) f x xs)
+
+-- of what questions find, each its own
+top_asked : {Q A B : Type 0} (want : Q → A → Bool) (cut : A → B) (p : B → Bool) (f : B → ℕ) (xs : List A)
+    (questions : List Q) → top_by p f (flat_map (λ q. map cut (filter (want q) xs)) questions)
+    ≡ top_by (λ a. list_any (λ q. want q a) questions && p (cut a)) (λ a. f (cut a)) xs
+top_asked want cut p f xs [] = top_none (λ a. p (cut a)) (λ a. f (cut a)) xs
+top_asked want cut p f xs (q ∷ questions) =
+    ap (top_by p f) (flat_map-cons (λ q. map cut (filter (want q) xs)) q questions)
+    ∙ top_by-append p f (map cut (filter (want q) xs))
+    (flat_map (λ q. map cut (filter (want q) xs)) questions)
+    ∙ (λ i. greater (top_wanted (want q) cut p f xs i) (top_asked want cut p f xs questions i))
+    ∙ top_either (want q) (λ a. list_any (λ q. want q a) questions) (λ a. p (cut a)) (λ a. f (cut a)) xs
+
+-- of elements that pass a test alike
+top_same : {A : Type 0} (P : A → Type 0) (s t p : A → Bool) (f : A → ℕ) → ((a : A) → P a → s a ≡ t a)
+    → (xs : List A) → AllByRecursion P xs → top_by (λ a. s a && p a) f xs ≡ top_by (λ a. t a && p a) f xs
+top_same P s t p f same [] h = refl
+top_same P s t p f same (x ∷ xs) h =
+    top_by-cons (λ a. s a && p a) f x xs
+    ∙ (λ i. greater (level_where (same x h.0 i && p x) (f x)) (top_same P s t p f same xs h.1 i))
+    ∙ sym (top_by-cons (λ a. t a && p a) f x xs)
 
 max_reaches : (n a b : ℕ) → (nat_le n a || nat_le n b) ≡ nat_le n (max a b)
 max_reaches n a b = grind (arith, nat_tests)
@@ -393,27 +444,64 @@ module _ (o id : List ℕ) (hi : IsId id) (least : ℕ) (e : Slab) (x : Point) (
       ∙ sym (ap (at_least least) (rivals_top-cons o id p ps x)
       ∙ at_least_greater least (rival_level o id p x) (rivals_top o id ps x))
 
-  -- the slabs of the rows that are wanted hold at the point what the plans hold there
-  at_point : (tables : Tables) (w : World) (rows : List Row) (helds : List Held) → IsContent w
-      → AreTables tables w
-      → IsPermutation (map held_columns (filter want tables.spans)) rows → HasTakenHelds helds rows
+  -- the slabs of the rows that are asked for hold at the point what the plans hold there
+  at_point : (tables : Tables) (w : World) (lengths : Lengths) (questions : List Span) (helds : List Held)
+      → IsContent w → AreTables tables w → Bounds lengths w → AreWhole e (IsKnown lengths) questions
+      → AllByRecursion (IsWithin e) questions
+      → HaveTakenAll (is_asked o (id_text id) least e) questions tables.spans helds
       → top_held helds x ≡ at_least least (rivals_top o id w.plans x)
-  at_point tables w rows helds h t same taken =
+  at_point tables w lengths questions helds h t bounds whole within (rows, same, taken) =
       let (all, are, moved) = t.spans in
       taken_top rows helds x taken
-      ∙ sym (top_permuted (λ r. row_has r x) row_priority (map held_columns (filter want tables.spans))
-      rows
-      same)
-      ∙ top_wanted want held_columns (λ r. row_has r x) row_priority tables.spans
+      ∙ sym (top_permuted (λ r. row_has r x) row_priority (flat_map (λ question.
+      map held_columns (filter (is_asked o (id_text id) least e question) tables.spans)) questions) rows same)
+      ∙ top_asked (is_asked o (id_text id) least e) held_columns (λ r. row_has r x) row_priority tables.spans
+      questions
+      ∙ top_same (HasKnownSpan lengths)
+      (λ r. list_any (λ question. is_asked o (id_text id) least e question r) questions)
+      want (λ r. row_has (held_columns r) x) (λ r. row_priority (held_columns r))
+      (asked_rival o (id_text id) least e lengths questions whole within) tables.spans
+      (tables_known lengths tables w t bounds.known)
       ∙ sym (top_permuted passes (λ r. row_priority (held_columns r)) all tables.spans moved)
       ∙ on_plans w.plans all h.rows are
 
--- the slabs of the rows that are wanted are those of the plan's rivals
-pub are_rivals : (tables : Tables) (w : World) (o id : List ℕ) (least : ℕ) (extent : Slab)
-    (rows : List Row)
-    (helds : List Held) → IsId id → IsContent w → AreTables tables w
-    → IsPermutation (map held_columns (filter (sql.is_rival o (id_text id) (reach_of extent least))
-    tables.spans)) rows → HasTakenHelds helds rows → AreRivals w o id least extent helds
-are_rivals tables w o id least extent rows helds hi h t same taken = λ x inside.
-    at_point o id hi least extent x (is_in extent x inside) tables w rows helds h t same taken
+-- the slabs of the rows that are asked for are those of the plan's rivals
+pub are_rivals : (tables : Tables) (w : World) (o id : List ℕ) (least : ℕ) (extent : Slab) (lengths : Lengths)
+    (questions : List Span) (helds : List Held) → IsId id → IsContent w → AreTables tables w
+    → Bounds lengths w → AreWhole extent (IsKnown lengths) questions
+    → AllByRecursion (IsWithin extent) questions
+    → HaveTakenAll (is_asked o (id_text id) least extent) questions tables.spans helds
+    → AreRivals w o id least extent helds
+are_rivals tables w o id least extent lengths questions helds hi h t bounds whole within taken = λ x inside.
+    at_point o id hi least extent x (is_in extent x inside) tables w lengths questions helds h t bounds whole
+    within taken
     ∙ ap (at_least least) (held_by_rivals o id w x)
+
+-- ---- one question after the other
+
+taken_both : (helds more : List Held) (rows others : List Row) → HasTakenHelds helds rows
+    → HasTakenHelds more others → HasTakenHelds (helds ++ more) (rows ++ others)
+taken_both [] more [] others h k = k
+taken_both [] more (r ∷ rows) others h k = absurd h
+taken_both (g ∷ helds) more [] others h k = absurd h
+taken_both (g ∷ helds) more (r ∷ rows) others h k = (h.0, taken_both helds more rows others h.1 k)
+
+module _ (asked : Span → Row → Bool) (spans : List Row) where
+  abbrev found : Span → List Row
+  found question = map held_columns (filter (asked question) spans)
+
+  pub none_taken : HaveTakenAll asked [] spans []
+  none_taken = ([], IsPermutation-refl [], tt)
+
+  pub all_taken : (questions : List Span) (question : Span) (helds more : List Held)
+      → HaveTakenAll asked questions spans helds → HaveTaken (asked question) spans more
+      → HaveTakenAll asked (questions ++ question ∷ []) spans (helds ++ more)
+  all_taken questions question helds more (rows, same, taken) (others, also, last) = (
+    rows ++ others,
+    subst (λ xs. IsPermutation xs (rows ++ others))
+        (sym (flat_map-append found questions (question ∷ [])
+        ∙ ap (λ xs. flat_map found questions ++ xs) (flat_map-cons found question []
+        ∙ append-nil (found question))))
+        (IsPermutation-append (flat_map found questions) rows (found question) others same also),
+    taken_both helds more rows others taken last,
+  )

@@ -26,7 +26,9 @@ pub mod AssemblyLemmas
 pub mod OpeningLemmas
 pub mod UnreadLemmas
 pub mod ExactLemmas
-pub mod ShortLemmas
+pub mod GiantLemmas
+pub mod LengthLemmas
+pub mod AskingLemmas
 pub mod LeavingLemmas
 pub mod GatherLemmas
 pub mod CauseLemmas

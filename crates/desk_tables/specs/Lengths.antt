@@ -1,10 +1,11 @@
 -- How long the spans of plans are.
-use Rattle.std.specs.Prelude.{◌≡◌, ℕ, ◌+◌, ◌^◌, ◌<◌, ◌≤◌, pos, List, MatchBool, ⊤}
-use Rattle.std.specs.List.{AllByRecursion}
+use Rattle.std.specs.Prelude.{◌≡◌, ℕ, ◌+◌, ◌≤◌, ◌⊎◌, ◌==◌, ◌&&◌, nat_le, ℤ, pos, Bool, false, List, Option, Some, None, MatchBool, IfSome, IsTrue, ⊤, slice_get, length, ◌<◌, ◌*◌, ◌^◌}
+use Rattle.std.specs.List.{AllByRecursion, list_any}
 use Rattle.sqlite_value.specs.declared.value.Value.TheVariants.{Int}
 use Rattle.sqlite_value.specs.Order.{Row, column}
 use Rattle.s2_cover.specs.declared.spans.Span.{Span}
 use Rattle.s2_cover.specs.Ranges.{IsRanges}
+use Rattle.volume4d.specs.declared.slab.Slab.{Slab}
 use Rattle.volume4d.specs.Shape.{shape_positions}
 use Rattle.volume4d.specs.Volume.{Block}
 use Rattle.desk_rules.specs.declared.plan.PlanRow.{PlanRow}
@@ -12,46 +13,93 @@ use Rattle.desk_rules.specs.Plan.{is_live}
 use Rattle.desk_store.specs.World.{Filed, World}
 use Rattle.desk_store.specs.declared.change.Change.{Change}
 use Rattle.desk_store.specs.declared.change.Change.TheVariants.{Enrol, Put, Close, Clear}
+use Rattle.desk_tables.specs.declared.lengths.Lengths.{Lengths}
 
 -- the last leaf of a span is at most so many positions after its first
 abbrev pub IsShort : ℕ → Span → Type 0
 IsShort longest span = span.last ≤ span.first + longest
 
-abbrev pub IsShortBlock : ℕ → Block → Type 0
-IsShortBlock longest v =
+-- a giant that is kept begins with the span, and ends with it or later
+abbrev pub takes_in : Span → Option Span → Bool
+takes_in span None = false
+takes_in span (Some giant) = (giant.first == span.first) && nat_le span.last giant.last
+
+abbrev pub IsAmong : List (Option Span) → Span → Type 0
+IsAmong giants span = IsTrue (list_any (takes_in span) giants)
+
+-- no longer than the bound, or one of the giants
+abbrev pub IsKnown : Lengths → Span → Type 0
+IsKnown lengths span = IsShort lengths.bound span ⊎ IsAmong lengths.giants span
+
+-- what is known at first is known then
+abbrev pub Keeps : Lengths → Lengths → Type 0
+Keeps old new = (span : Span) → IsKnown old span → IsKnown new span
+
+-- a span that may hold a point of an extent, if it is known, begins at a leaf position or later
+abbrev pub IsLow : ℕ → Slab → (Span → Type 0) → Type 0
+IsLow low extent IsOne =
+    (span : Span) → IsOne span → extent.first ≤ span.last → span.first ≤ extent.last → low ≤ span.first
+
+-- a span begins at one of the leaves that a question is for
+abbrev pub begins_in : Span → Span → Bool
+begins_in span question = nat_le question.first span.first && nat_le span.first question.last
+
+-- one of the questions is for each of these spans that may hold a point of an extent
+abbrev pub AreWhole : Slab → (Span → Type 0) → List Span → Type 0
+AreWhole extent IsOne questions =
+    (span : Span) → IsOne span → extent.first ≤ span.last → span.first ≤ extent.last
+    → IsTrue (list_any (begins_in span) questions)
+
+-- a question is for leaves, and for none after an extent
+abbrev pub IsWithin : Slab → Span → Type 0
+IsWithin extent question = (question.first < 6 * 2 ^ 60) × (question.last ≤ extent.last)
+
+-- a place of the list where a giant begins at this leaf, or none is kept
+abbrev pub BeginsOrNone : ℕ → Option Span → Type 0
+BeginsOrNone first None = ⊤
+BeginsOrNone first (Some giant) = giant.first ≡ first
+
+abbrev pub IsRoomFor : List (Option Span) → ℕ → ℕ → Type 0
+IsRoomFor giants first at = IfSome (slice_get giants at) (BeginsOrNone first) × (at < length giants)
+
+abbrev pub IsKnownBlock : Lengths → Block → Type 0
+IsKnownBlock lengths v =
     (spans : List Span) → IsRanges (shape_positions v.footprint) spans
-    → AllByRecursion (IsShort longest) spans
+    → AllByRecursion (IsKnown lengths) spans
 
 -- a closed plan has no spans
-abbrev pub IsShortPlan : ℕ → PlanRow → Type 0
-IsShortPlan longest row = MatchBool (is_live row.usage) (AllByRecursion (IsShortBlock longest) row.area) ⊤
+abbrev pub IsKnownPlan : Lengths → PlanRow → Type 0
+IsKnownPlan lengths row = MatchBool (is_live row.usage) (AllByRecursion (IsKnownBlock lengths) row.area) ⊤
 
-abbrev pub AreShortPlans : ℕ → List Filed → Type 0
-AreShortPlans longest ps = AllByRecursion (λ p. IsShortPlan longest p.row) ps
+abbrev pub AreKnownPlans : Lengths → List Filed → Type 0
+AreKnownPlans lengths ps = AllByRecursion (λ p. IsKnownPlan lengths p.row) ps
 
--- no span of a live plan is longer
-pub record Bounds (longest : ℕ) (w : World) : Type 0 where
-  pub short : AreShortPlans longest w.plans
-  pub small : longest < 2 ^ 63
+-- each span of a live plan is known
+pub record Bounds (lengths : Lengths) (w : World) : Type 0 where
+  pub known : AreKnownPlans lengths w.plans
 
--- no span that the change brings is longer
-unfoldable pub BringsShort : ℕ → Change → Type 0
-BringsShort longest (Enrol operator ceiling) = ⊤
-BringsShort longest (Put operator row) = IsShortPlan longest row
-BringsShort longest (Close operator id) = ⊤
-BringsShort longest (Clear operator ids) = ⊤
+-- each span that the change brings is known
+unfoldable pub BringsKnown : Lengths → Change → Type 0
+BringsKnown lengths (Enrol operator ceiling) = ⊤
+BringsKnown lengths (Put operator row) = IsKnownPlan lengths row
+BringsKnown lengths (Close operator id) = ⊤
+BringsKnown lengths (Clear operator ids) = ⊤
 
 -- ---- rows of `span`
 
--- if the columns `first` and `last` of a row are leaf positions, they are at most so far apart
-abbrev pub IsNear : ℕ → Row → Type 0
-IsNear longest row =
-    (first last : ℕ) → column row 3 ≡ Int (pos first) → column row 4 ≡ Int (pos last) → last ≤ first + longest
+-- if numbers are leaf positions, they are the first and the last of a known span
+abbrev pub IsKnownBetween : Lengths → ℤ → ℤ → Type 0
+IsKnownBetween lengths first last =
+    (a b : ℕ) → first ≡ pos a → last ≡ pos b → IsKnown lengths (record { first = a; last = b })
 
--- they are, and are
-pub record IsShortRow (longest : ℕ) (row : Row) : Type 0 where
-  pub first : ℕ
-  pub last : ℕ
-  pub begins : column row 3 ≡ Int (pos first)
-  pub ends : column row 4 ≡ Int (pos last)
-  pub near : last ≤ first + longest
+-- so it is with the columns `first` and `last` of a row
+abbrev pub IsKnownRow : Lengths → Row → Type 0
+IsKnownRow lengths row = (a b : ℕ) → column row 3 ≡ Int (pos a) → column row 4 ≡ Int (pos b)
+    → IsKnown lengths (record { first = a; last = b })
+
+-- they are leaf positions, and are
+pub record HasKnownSpan (lengths : Lengths) (row : Row) : Type 0 where
+  pub span : Span
+  pub begins : column row 3 ≡ Int (pos span.first)
+  pub ends : column row 4 ≡ Int (pos span.last)
+  pub known : IsKnown lengths span

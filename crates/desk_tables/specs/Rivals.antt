@@ -1,11 +1,13 @@
 -- Slabs that are held, as rows of `span` show them.
-use Rattle.std.specs.Prelude.{◌≡◌, ◌<◌, ◌^◌, ◌*◌, ℕ, ℤ, pos, ◌-ℤ◌, List, FitsSigned}
+use Rattle.std.specs.Prelude.{◌≡◌, ◌<◌, ◌^◌, ◌*◌, ℕ, Bool, pos, List, map, filter, IsPermutation, FitsSigned}
 use Rattle.std.specs.Int.{w32}
-use Rattle.std.specs.List.{AllZip}
+use Rattle.std.specs.List.{AllZip, flat_map}
 use Rattle.sqlite_value.specs.declared.value.Value.TheVariants.{Int}
 use Rattle.sqlite_value.specs.Order.{Row, column}
+use Rattle.s2_cover.specs.declared.spans.Span.{Span}
 use Rattle.volume4d.specs.declared.slab.Slab.{Slab}
 use Rattle.volume4d.specs.declared.slab.Held.{Held}
+use Rattle.desk_sql.specs.Rows.{held_columns, is_wanted}
 use Rattle.desk_sql.specs.declared.reading.rivals.Reach.{Reach}
 
 -- the columns of `span` from `first` to `stop` are a slab's
@@ -50,6 +52,23 @@ reach_of extent least = record {
   priority = least;
 }
 
--- where a span begins at the earliest that reaches an extent, if none is longer
-abbrev pub low_of : Slab → ℕ → ℤ
-low_of extent longest = pos extent.first -ℤ pos longest
+-- of these only those that begin at the leaves that a question is for
+abbrev pub reach_from : Span → Slab → ℕ → Reach
+reach_from question extent least = record (reach_of extent least) { last = pos question.last }
+
+-- a question of the spans of others is for a row of `span`
+abbrev pub is_asked : List ℕ → List ℕ → ℕ → Slab → Span → Row → Bool
+is_asked operator id least extent question =
+    is_wanted operator id (reach_from question extent least) (pos question.first)
+
+-- one held slab for each row of these that is wanted, in some order
+abbrev pub HaveTaken : (Row → Bool) → List Row → List Held → Type 0
+HaveTaken wanted spans helds =
+    (rows : List Row) × IsPermutation (map held_columns (filter wanted spans)) rows × HasTakenHelds helds rows
+
+-- and for each that another question is for
+abbrev pub HaveTakenAll : (Span → Row → Bool) → List Span → List Row → List Held → Type 0
+HaveTakenAll asked questions spans helds =
+    (rows : List Row)
+    × IsPermutation (flat_map (λ question. map held_columns (filter (asked question) spans)) questions) rows
+    × HasTakenHelds helds rows

@@ -4,6 +4,7 @@
 mod changing;
 mod kept;
 pub mod laws;
+mod lengths;
 mod opening;
 mod reading;
 mod store;

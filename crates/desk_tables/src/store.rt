@@ -9,6 +9,7 @@ ghost use Rattle.desk_tables.specs.Leaving.{IsSettledAt};
 use crate::changing::changes;
 use crate::kept::Kept;
 use crate::laws::one_content;
+use crate::lengths::Lengths;
 use crate::reading::readers;
 use desk_rules::operator::Operator;
 use desk_rules::plan::{PlanRow, States};
@@ -28,8 +29,8 @@ use volume4d::{Held, Slab};
 pub struct SqliteStore<S: Alter> {
     connection: Connection<S>,
     kept: Kept,
-    // the last leaf of no span of a live plan is more positions after its first; it falls at an opening alone
-    longest: u64,
+    // how long the spans of live plans are; of a plan that is gone they are forgotten at an opening alone
+    lengths: Lengths,
     // how many faults of its own it has met, up to the type's last value
     faults: u64,
     alloc: Global,
@@ -49,19 +50,19 @@ impl<S: Alter> Model for SqliteStore<S> {
       faults = s.faults;
     } };
 
-    ghost invariant = { λ s. Stands S.Store s.connection s.kept.world × Bounds s.longest s.kept.world };
+    ghost invariant = { λ s. Stands S.Store s.connection s.kept.world × Bounds s.lengths s.kept.world };
 }
 
 impl<S: Alter> SqliteStore<S> {
-    /// A store over a connection, with the world that its rows are, in which no span is longer.
+    /// A store over a connection, with the world that its rows are, and how long the spans in it are.
     pub(crate) fn with(
         alloc: Global,
         connection: Connection<S>,
         kept: Kept,
-        longest: u64,
+        lengths: Lengths,
     ) -> SqliteStore<S>
         requires stands { Stands S.Store connection kept.world }
-        requires bounded { Bounds longest kept.world }
+        requires bounded { Bounds lengths kept.world }
         ensures value { result ≡ record { held = connection; world = kept.world; faults = 0 } }
         ensures left { IsSettledAt S.Store connection kept.world }
     {
@@ -71,7 +72,7 @@ impl<S: Alter> SqliteStore<S> {
         SqliteStore {
             connection,
             kept,
-            longest,
+            lengths,
             faults: 0,
             alloc,
         }
@@ -139,18 +140,24 @@ impl<S: Alter> PlanStore for SqliteStore<S> {
             id,
             least,
             extent,
-            self.longest,
+            &self.lengths,
         );
         counted(&mut self.faults, answer)
     }
 
     fn apply(&mut self, change: &Change) -> Result<(), StoreFault> {
         one_content();
-        match changes::make(self.alloc, &mut self.connection, &self.kept, change) {
-            Ok(longest) => {
+        match changes::make(
+            self.alloc,
+            &mut self.connection,
+            &self.kept,
+            &self.lengths,
+            change,
+        ) {
+            Ok(lengths) => {
                 let _sound = self.connection.schema();
                 self.kept = Kept::after(&self.kept, change);
-                self.longest = self.longest.max(longest);
+                self.lengths = lengths;
                 Ok(())
             }
             Err(e) => counted(&mut self.faults, Err(e)),

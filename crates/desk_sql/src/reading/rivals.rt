@@ -70,6 +70,8 @@ pub fn rival_spans<S: Alter, T: TakeRow>(
         (tables_of (state S.Store connection.old).now.trees).spans))) T.refuses) }
     ensures kept { IsKept S.Store connection.old connection.new }
     ensures mode { connection.new.in_transaction ≡ false }
+    ensures limit { HasCleanDisk (state S.Store connection.new)
+        → OnOk result (connection.new.step_limit ≡ connection.old.step_limit) }
     ensures doubt { doubt (state S.Store connection.old).is_clean ≤ doubt
         (state S.Store connection.new).is_clean }
     ensures faults { (state S.Store connection.old).faults ≤ (state S.Store connection.new).faults }

@@ -93,6 +93,7 @@ fn hand_all<S: Alter, T: TakeRow>(rows: &mut Rows<'_, S>, taker: &mut T) -> Resu
         (T.has_taken taker.old) T.refuses) }
     ensures mode { rows.old.conn.now.in_transaction ≡ false
         → rows.new.conn.now.in_transaction ≡ false }
+    ensures limit { rows.new.conn.now.step_limit ≡ rows.old.conn.now.step_limit }
     ensures doubt { doubt (state S.Store rows.old.conn.now).is_clean ≤ doubt
         (state S.Store rows.new.conn.now).is_clean }
     ensures faults { (state S.Store rows.old.conn.now).faults
@@ -136,6 +137,8 @@ pub(crate) fn hand_over<S: Alter, T: TakeRow>(
         (state S.Store connection.new)) T.refuses) }
     ensures kept { IsKept S.Store connection.old connection.new }
     ensures mode { connection.new.in_transaction ≡ false }
+    ensures limit { HasCleanDisk (state S.Store connection.new)
+        → OnOk result (connection.new.step_limit ≡ connection.old.step_limit) }
     ensures doubt { doubt (state S.Store connection.old).is_clean ≤ doubt
         (state S.Store connection.new).is_clean }
     ensures faults { (state S.Store connection.old).faults ≤ (state S.Store connection.new).faults }

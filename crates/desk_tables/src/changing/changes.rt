@@ -14,13 +14,14 @@ ghost use Rattle.desk_rules.specs.declared.plan.PlanRow.{PlanRow as Plan};
 ghost use Rattle.desk_tables.specs.Reading.{IsHead};
 ghost use Rattle.desk_tables.specs.Causes.{BlamesChange, BlamesStore};
 ghost use Rattle.desk_tables.specs.Store.{Stands};
-ghost use Rattle.desk_tables.specs.Lengths.{IsShortPlan, BringsShort};
+ghost use Rattle.desk_tables.specs.Lengths.{IsKnownPlan, BringsKnown, Keeps};
 ghost use Rattle.desk_tables.specs.Leaving.{MayHave};
 
 use crate::changing::records::{
-    aircraft_number, asked_of, longest_of, span_rows, texts_of, usage_number, volume_rows,
+    aircraft_number, asked_of, lengths_with, span_rows, texts_of, usage_number, volume_rows,
 };
 use crate::kept::Kept;
+use crate::lengths::Lengths;
 use crate::reading::readers::heads;
 use crate::reading::values::{count_at, fault_of};
 use desk_rules::operator::Operator;
@@ -33,8 +34,7 @@ use sqlite::{Connection, Row};
 use sqlite_trees::store::Alter;
 use std::alloc::Global;
 
-/// Makes a change that fits what the store keeps, as one transaction. The answer is how many positions the
-/// last leaf of a span that it brings is after its first, at most.
+/// Makes a change that fits what the store keeps, as one transaction. The answer is how long spans are then.
 ///
 /// # Errors
 ///
@@ -44,14 +44,15 @@ pub(crate) fn make<S: Alter>(
     alloc: Global,
     connection: &mut Connection<S>,
     kept: &Kept,
+    lengths: &Lengths,
     change: &Change,
-) -> Result<u64, StoreFault>
+) -> Result<Lengths, StoreFault>
     requires stands { Stands S.Store connection.old kept.now.world }
     requires fits { HasCleanDisk (state S.Store connection.old)
         → IsFitting change.now kept.now.world }
     ensures ok { OnOk result (Stands S.Store connection.new (changed_by change.now kept.now.world)) }
     ensures err { OnErr result (Stands S.Store connection.new kept.now.world) }
-    ensures short { IfOk result (λ longest. BringsShort longest change.now × (longest < 2 ^ 63)) }
+    ensures known { IfOk result (λ after. Keeps lengths.now after × BringsKnown after change.now) }
     ensures cause { IfErr result
         (BlamesChange S.Store connection.old connection.new change.now) }
     ensures doubt { doubt (state S.Store connection.old).is_clean
@@ -63,13 +64,16 @@ pub(crate) fn make<S: Alter>(
     ensures committed { HasCleanDisk (state S.Store connection.new) → OnOk result
         ((state S.Store connection.new).now ≡ (state S.Store connection.new).committed) }
 {
+    let before = *lengths;
     match change {
         Change::Enrol { operator, ceiling } => enrol(connection, kept, operator, *ceiling)?,
-        Change::Put { operator, row } => return put(alloc, connection, kept, operator, row),
+        Change::Put { operator, row } => return put(
+            alloc, connection, kept, lengths, operator, row,
+        ),
         Change::Close { operator, id } => close(connection, kept, operator, id)?,
         Change::Clear { operator, ids } => clear(alloc, connection, kept, operator, ids)?,
     }
-    Ok(0)
+    Ok(before)
 }
 
 /// Lists an operator under a ceiling.
@@ -105,22 +109,23 @@ pub(crate) fn enrol<S: Alter>(
     }
 }
 
-// Stores a plan's row for its id, with its volumes and, while it is live, their spans. The answer is how many
-// positions the last leaf of one of these is after its first, at most.
+// Stores a plan's row for its id, with its volumes and, while it is live, their spans. The answer is how long
+// spans are then.
 fn put<S: Alter>(
     alloc: Global,
     connection: &mut Connection<S>,
     kept: &Kept,
+    lengths: &Lengths,
     operator: &Operator,
     row: &PlanRow,
-) -> Result<u64, StoreFault>
+) -> Result<Lengths, StoreFault>
     requires stands { Stands S.Store connection.old kept.now.world }
     requires fits { HasCleanDisk (state S.Store connection.old)
         → IsFitting (change.Put operator.now row.now) kept.now.world }
     ensures ok { OnOk result (Stands S.Store connection.new
         (changed_by (change.Put operator.now row.now) kept.now.world)) }
     ensures err { OnErr result (Stands S.Store connection.new kept.now.world) }
-    ensures short { IfOk result (λ longest. IsShortPlan longest row.now × (longest < 2 ^ 63)) }
+    ensures known { IfOk result (λ after. Keeps lengths.now after × IsKnownPlan after row.now) }
     ensures doubt { doubt (state S.Store connection.old).is_clean
         ≤ doubt (state S.Store connection.new).is_clean }
     ensures crash { MayHave S.Store connection.old connection.new
@@ -144,7 +149,7 @@ fn put<S: Alter>(
     };
     one_list_of_ranges();
     match put_plan(connection, head, &volumes, &spans) {
-        Ok(()) => Ok(longest_of(&spans)),
+        Ok(()) => Ok(lengths_with(lengths, &spans)),
         Err(e) => Err(fault_of(e)),
     }
 }

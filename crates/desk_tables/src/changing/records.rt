@@ -9,9 +9,10 @@ ghost use Rattle.desk_store.specs.Changes.{filed_by};
 ghost use Rattle.desk_tables.specs.Tables as spec;
 ghost use Rattle.desk_tables.specs.Tables.{id_text, area_rows, ArePlanSpanRows, AreSpanRowsFrom};
 ghost use Rattle.desk_tables.specs.Content.{IsId, IsBlock};
-ghost use Rattle.desk_tables.specs.Lengths.{IsNear};
+ghost use Rattle.desk_tables.specs.Lengths.{IsKnownRow, Keeps};
 ghost use Rattle.desk_tables.specs.PlanRows.{volume_record, slab_record, AreAskedOf};
 
+use crate::lengths::Lengths;
 use desk_rules::plan::PlanRow;
 use desk_rules::plan_id::PlanId;
 use desk_rules::words::{Aircraft, Usage};
@@ -229,34 +230,22 @@ fn slab_row<'a>(
     }
 }
 
-/// How many positions the last leaf of a span is after its first, at most.
-pub(crate) fn longest_of(spans: &[SpanRecord<'_>]) -> u64
-    ensures near { AllByRecursion (IsNear result) (map span_of spans.now) }
-    ensures small { result < 2 ^ 63 }
+/// Lengths, with those of the spans of these rows.
+pub(crate) fn lengths_with(lengths: &Lengths, spans: &[SpanRecord<'_>]) -> Lengths
+    ensures kept { Keeps lengths.now result }
+    ensures known { AllByRecursion (IsKnownRow result) (map span_of spans.now) }
 {
-    let mut longest = 0;
+    let mut after = *lengths;
     for span in spans {
-        longest = longest.max(record_length(span));
+        after = length_with(&after, span);
     }
-    longest
+    after
 }
 
-// How many positions the last leaf of a span is after its first.
-fn record_length(span: &SpanRecord<'_>) -> u64
-    ensures near { IsNear result (span_of span.now) }
-    ensures small { result < 2 ^ 63 }
+// Lengths, with that of the span of a row.
+fn length_with(lengths: &Lengths, span: &SpanRecord<'_>) -> Lengths
+    ensures kept { Keeps lengths.now result }
+    ensures known { IsKnownRow result (span_of span.now) }
 {
-    length_of(span.first, span.last)
-}
-
-/// How many positions a last leaf is after a first, or 0 if they are no leaves in order.
-pub(crate) fn length_of(first: i64, last: i64) -> u64
-    ensures near { (a b : ℕ) → first ≡ pos a → last ≡ pos b → b ≤ a + result }
-    ensures small { result < 2 ^ 63 }
-{
-    if 0 <= first && first < last {
-        (last - first) as u64
-    } else {
-        0
-    }
+    lengths.with(span.first, span.last)
 }

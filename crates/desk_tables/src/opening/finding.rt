@@ -1,6 +1,6 @@
 //! The world that a database stands for when a store is opened over it.
 
-ghost use Rattle.std.specs.Prelude.{◌≡◌, ◌≢◌, ◌≤◌, ◌<◌, ◌^◌, [], false, IfOk, IfErr, OnOk, OnErr, IsTrue};
+ghost use Rattle.std.specs.Prelude.{◌≡◌, ◌≢◌, ◌≤◌, [], false, IfOk, IfErr, OnOk, OnErr, IsTrue};
 ghost use Rattle.std.specs.List.{AllByRecursion};
 ghost use Rattle.sqlite_trees.specs.View.{doubt};
 ghost use Rattle.sqlite.specs.State.{HasCleanDisk};
@@ -13,13 +13,13 @@ ghost use Rattle.desk_sql.specs.Finding.{Holds};
 ghost use Rattle.desk_tables.specs.Store.{Stands};
 ghost use Rattle.desk_store.specs.World.{World};
 ghost use Rattle.desk_tables.specs.Content.{IsContent};
-ghost use Rattle.desk_tables.specs.Lengths.{Bounds, IsNear};
+ghost use Rattle.desk_tables.specs.Lengths.{Bounds, IsKnownRow, Keeps};
 ghost use Rattle.desk_tables.specs.Opening.{AreSortedByKey, AreRows, IsContentOf, AreNoContent};
 ghost use Rattle.desk_tables.specs.Opening.{BeginsWith, WasIndexed, ShowsNoDesk};
 ghost use Rattle.desk_tables.specs.Opening.{BlamesReading, BlamesDatabase};
 
-use crate::changing::records::length_of;
 use crate::kept::Kept;
+use crate::lengths::Lengths;
 use crate::opening::content::{TableRows, content_in};
 use crate::opening::open::OpenFault;
 use desk_sql::{
@@ -31,9 +31,8 @@ use sqlite_trees::store::Alter;
 use sqlite_value::value::ValueRef;
 use std::alloc::Global;
 
-/// The world that the database stands for: that of the rows in a desk's tables; and how many positions the
-/// last leaf of a span in it is after its first, at most. A database with no table gets a desk's, and its
-/// world is empty. Tables that lack the index get it.
+/// The world that the database stands for: that of the rows in a desk's tables; and how long the spans in it
+/// are. A database with no table gets a desk's, and its world is empty. Tables that lack the index get it.
 ///
 /// # Errors
 ///
@@ -42,7 +41,7 @@ use std::alloc::Global;
 pub(crate) fn world_in<S: Alter>(
     alloc: Global,
     connection: &mut Connection<S>,
-) -> Result<(Kept, u64), OpenFault>
+) -> Result<(Kept, Lengths), OpenFault>
     requires settled { connection.old.in_transaction ≡ false }
     ensures begins { IfOk result (λ found.
         BeginsWith S.Store connection.old connection.new found.0.world) }
@@ -56,7 +55,7 @@ pub(crate) fn world_in<S: Alter>(
         ≤ doubt (state S.Store connection.new).is_clean }
 {
     match find_tables(connection)? {
-        Found::Blank => Ok((made_in(connection)?, 0)),
+        Found::Blank => Ok((made_in(connection)?, Lengths::new())),
         Found::Desk => found_in(alloc, connection),
         Found::Unindexed => indexed_in(alloc, connection),
         Found::Other => Err(OpenFault::NotADesk),
@@ -84,7 +83,7 @@ pub(crate) fn made_in<S: Alter>(connection: &mut Connection<S>) -> Result<Kept, 
 fn indexed_in<S: Alter>(
     alloc: Global,
     connection: &mut Connection<S>,
-) -> Result<(Kept, u64), OpenFault>
+) -> Result<(Kept, Lengths), OpenFault>
     requires unindexed { Holds S.Store connection.old IsUnindexed }
     requires settled { connection.old.in_transaction ≡ false }
     ensures value { HasCleanDisk (state S.Store connection.new) → IfOk result (λ found.
@@ -109,7 +108,7 @@ fn indexed_in<S: Alter>(
 fn found_in<S: Alter>(
     alloc: Global,
     connection: &mut Connection<S>,
-) -> Result<(Kept, u64), OpenFault>
+) -> Result<(Kept, Lengths), OpenFault>
     requires legible { Holds S.Store connection.old IsLegible }
     requires settled { connection.old.in_transaction ≡ false }
     ensures value { HasCleanDisk (state S.Store connection.new) → IfOk result (λ found.
@@ -130,33 +129,32 @@ fn found_in<S: Alter>(
     kept_of(alloc, &rows)
 }
 
-// How many positions the last leaf of a row of `span` is after its first, at most.
-fn longest_in(rows: &[Row]) -> u64
-    ensures near { AllByRecursion (IsNear result) rows.now }
-    ensures small { result < 2 ^ 63 }
+// How long the spans of these rows of `span` are.
+fn lengths_in(rows: &[Row]) -> Lengths
+    ensures { AllByRecursion (IsKnownRow result) rows.now }
 {
-    let mut longest = 0;
+    let mut lengths = Lengths::new();
     let mut left = rows;
     while let Some((row, later)) = left.split_first() {
-        longest = longest.max(length_in(row));
+        lengths = length_with(&lengths, row);
         left = later;
     }
-    longest
+    lengths
 }
 
-// How many positions the last leaf of a row of `span` is after its first.
-fn length_in(row: &Row) -> u64
-    ensures near { IsNear result row.now }
-    ensures small { result < 2 ^ 63 }
+// Lengths, with that of the span of a row.
+fn length_with(lengths: &Lengths, row: &Row) -> Lengths
+    ensures kept { Keeps lengths.now result }
+    ensures known { IsKnownRow result row.now }
 {
     match (row.get_ref(3), row.get_ref(4)) {
-        (Ok(ValueRef::Int(first)), Ok(ValueRef::Int(last))) => length_of(first, last),
-        _ => 0,
+        (Ok(ValueRef::Int(first)), Ok(ValueRef::Int(last))) => lengths.with(first, last),
+        _ => *lengths,
     }
 }
 
 // The world whose rows these are.
-fn kept_of(alloc: Global, rows: &TableRows) -> Result<(Kept, u64), OpenFault>
+fn kept_of(alloc: Global, rows: &TableRows) -> Result<(Kept, Lengths), OpenFault>
     ensures value { IfOk result (λ found. IsContent found.0.world × AreRows rows.now found.0.world) }
     ensures bounded { IfOk result (λ found. Bounds found.1 found.0.world) }
     ensures none { IfErr result (λ e. e ≡ OpenFault.NotADesk →
@@ -165,7 +163,7 @@ fn kept_of(alloc: Global, rows: &TableRows) -> Result<(Kept, u64), OpenFault>
 {
     one_list_of_ranges();
     let content = content_in(alloc, rows)?;
-    Ok((Kept::of(&content), longest_in(&rows.spans)))
+    Ok((Kept::of(&content), lengths_in(&rows.spans)))
 }
 
 // The rows of the four tables, each by the columns of its key.

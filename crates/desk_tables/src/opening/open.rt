@@ -9,6 +9,7 @@ ghost use Rattle.desk_sql.specs.Effects.{IsKept};
 ghost use Rattle.desk_tables.specs.Opening.{BeginsWith, ShowsNoDesk, BlamesDatabase};
 ghost use Rattle.desk_tables.specs.Leaving.{IsSettledAt};
 
+use crate::lengths::Lengths;
 use crate::opening::exact::RowFault;
 use crate::opening::finding::{made_in, world_in};
 use crate::store::SqliteStore;
@@ -130,7 +131,7 @@ impl<S: Alter> SqliteStore<S> {
             ≤ doubt (state S.Store refused.connection).is_clean) }
     {
         match world_in(alloc, &mut connection) {
-            Ok((kept, longest)) => Ok(SqliteStore::with(alloc, connection, kept, longest)),
+            Ok((kept, lengths)) => Ok(SqliteStore::with(alloc, connection, kept, lengths)),
             Err(fault) => Err(AdoptFault { fault, connection }),
         }
     }
@@ -146,5 +147,5 @@ fn over_blank<S: Alter + Drop>(
     ensures { IfOk result (λ store. store.world ≡ record { operators = []; plans = [] }) }
 {
     let kept = made_in(&mut connection)?;
-    Ok(SqliteStore::with(alloc, connection, kept, 0))
+    Ok(SqliteStore::with(alloc, connection, kept, Lengths::new()))
 }

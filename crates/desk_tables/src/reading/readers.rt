@@ -1,6 +1,6 @@
 //! What a store answers, read from its tables.
 
-ghost use Rattle.std.specs.Prelude.{◌≡◌, ◌≢◌, ◌≤◌, ◌<◌, ◌^◌, List, IfErr, IfOk, IfSome, IsOk, OnOk, length, map};
+ghost use Rattle.std.specs.Prelude.{◌≡◌, ◌≢◌, ◌≤◌, ◌<◌, ◌^◌, List, IfErr, IfOk, IfSome, IsOk, OnOk, IsTrue, length, map};
 ghost use Rattle.std.specs.List.{AllByRecursion, AllZip};
 ghost use Rattle.std.specs.Result.{IsErrAnd};
 ghost use Rattle.sqlite_trees.specs.View.{doubt};
@@ -18,12 +18,15 @@ ghost use Rattle.desk_tables.specs.Gathering.{HasGathered, HasNoArea};
 ghost use Rattle.desk_tables.specs.Lookups.{own_of};
 ghost use Rattle.desk_tables.specs.Causes.{BlamesSpans, BlamesStore};
 ghost use Rattle.desk_tables.specs.Store.{Stands};
-ghost use Rattle.desk_tables.specs.Lengths.{Bounds};
+ghost use Rattle.desk_tables.specs.Lengths.{Bounds, IsWithin};
+ghost use Rattle.desk_tables.specs.Rivals.{HaveTaken, HaveTakenAll, is_asked};
 ghost use Rattle.desk_sql.specs.Effects.{IsKept, Spares};
+ghost use Rattle.desk_sql.specs.Rows.{tables_of};
 
 use crate::kept::Kept;
+use crate::lengths::Lengths;
 use crate::reading::listing::Gather;
-use crate::reading::rivals::{Rivals, low_of, reach_of};
+use crate::reading::rivals::{Rivals, reach_from};
 use crate::reading::values::{area_in, ceiling_in, fault_of, plan_in, states_in};
 use desk_rules::operator::Operator;
 use desk_rules::plan::{PlanRow, States};
@@ -33,6 +36,7 @@ use desk_sql::{
     volumes_of,
 };
 use desk_store::StoreFault;
+use s2_cover::Span;
 use sqlite::{Connection, Error, ErrorCode, Row};
 use sqlite_trees::store::Alter;
 use std::alloc::Global;
@@ -278,9 +282,78 @@ fn held_by(handed: Result<(), Error>, rivals: Rivals) -> Result<Vec<Held>, Store
     }
 }
 
+// The slabs of the spans that one question is for, of those of others that may hold a point of an extent.
+fn asked<S: Alter>(
+    alloc: Global,
+    connection: &mut Connection<S>,
+    kept: &Kept,
+    operator: &Operator,
+    id: &str,
+    least: u32,
+    extent: &Slab,
+    question: &Span,
+) -> Result<Vec<Held>, StoreFault>
+    requires stands { Stands S.Store connection.old kept.now.world }
+    requires within { IsWithin extent.now question.now }
+    ensures value { HasCleanDisk (state S.Store connection.new) → IfOk result (λ helds.
+        HaveTaken (is_asked operator.now id.now least extent.now question.now)
+        (tables_of (state S.Store connection.old).now.trees).spans helds.items) }
+    ensures open { HasCleanDisk (state S.Store connection.new) →
+        OnOk result (IsTrue (state S.Store connection.old).is_open) }
+    ensures cause { IfErr result (BlamesSpans S.Store connection.old connection.new) }
+    ensures kept { IsKept S.Store connection.old connection.new }
+    ensures faults { (state S.Store connection.old).faults ≤ (state S.Store connection.new).faults }
+    ensures limit { HasCleanDisk (state S.Store connection.new) →
+        OnOk result (connection.new.step_limit ≡ connection.old.step_limit) }
+    ensures stands { Stands S.Store connection.new kept.now.world }
+    ensures doubt { doubt (state S.Store connection.old).is_clean
+        ≤ doubt (state S.Store connection.new).is_clean }
+    ensures spared { Spares S.Store connection.old connection.new }
+{
+    let mut rivals = Rivals::new(alloc);
+    let reach = reach_from(question, extent, least);
+    let low = question.first as i64;
+    let handed = rival_spans(connection, operator.as_str(), id, reach, low, &mut rivals);
+    held_by(handed, rivals)
+}
+
+// The slabs of the spans that questions are for, those of one question after those of another.
+fn asked_all<S: Alter>(
+    alloc: Global,
+    connection: &mut Connection<S>,
+    kept: &Kept,
+    operator: &Operator,
+    id: &str,
+    least: u32,
+    extent: &Slab,
+    questions: &[Span],
+) -> Result<Vec<Held>, StoreFault>
+    requires stands { Stands S.Store connection.old kept.now.world }
+    requires within { AllByRecursion (IsWithin extent.now) questions.now }
+    ensures value { HasCleanDisk (state S.Store connection.new) → IfOk result (λ helds.
+        HaveTakenAll (is_asked operator.now id.now least extent.now) questions.now
+        (tables_of (state S.Store connection.old).now.trees).spans helds.items) }
+    ensures open { HasCleanDisk (state S.Store connection.new) →
+        OnOk result (0 < length questions.now → IsTrue (state S.Store connection.old).is_open) }
+    ensures cause { IfErr result (BlamesSpans S.Store connection.old connection.new) }
+    ensures stands { Stands S.Store connection.new kept.now.world }
+    ensures doubt { doubt (state S.Store connection.old).is_clean
+        ≤ doubt (state S.Store connection.new).is_clean }
+    ensures spared { Spares S.Store connection.old connection.new }
+{
+    let mut helds = Vec::new(alloc);
+    for question in questions {
+        let mut more = asked(
+            alloc, connection, kept, operator, id, least, extent, question,
+        )?;
+        helds.append(&mut more)?;
+    }
+    Ok(helds)
+}
+
 /// The slabs that live plans but the operator's own of the id hold, of those of a priority at least,
-/// where they meet an extent. The last leaf of no span of a live plan is more than `longest` positions after
-/// its first, so that no row is read that begins further before the extent.
+/// where they meet an extent. How long the spans of live plans are says at which leaves one begins that
+/// reaches the extent: no row is read that begins at another.
 ///
 /// # Errors
 ///
@@ -294,10 +367,10 @@ pub(crate) fn rivals<S: Alter>(
     id: &PlanId,
     least: u32,
     extent: &Slab,
-    longest: u64,
+    lengths: &Lengths,
 ) -> Result<Vec<Held>, StoreFault>
     requires stands { Stands S.Store connection.old kept.now.world }
-    requires bounded { Bounds longest kept.now.world }
+    requires bounded { Bounds lengths.now kept.now.world }
     ensures value { HasCleanDisk (state S.Store connection.new) → IfOk result (λ helds.
         AreRivals kept.now.world operator.now id.now least extent.now helds.items) }
     ensures cause { IfErr result (BlamesSpans S.Store connection.old connection.new) }
@@ -308,9 +381,8 @@ pub(crate) fn rivals<S: Alter>(
 {
     let mut buffer = [0u8; 36];
     let text = id.encode(&mut buffer);
-    let mut rivals = Rivals::new(alloc);
-    let reach = reach_of(extent, least);
-    let low = low_of(extent, longest);
-    let handed = rival_spans(connection, operator.as_str(), text, reach, low, &mut rivals);
-    held_by(handed, rivals)
+    let questions = lengths.questions(alloc, extent)?;
+    asked_all(
+        alloc, connection, kept, operator, text, least, extent, &questions,
+    )
 }

@@ -11,6 +11,7 @@ use crate::reading::listing::error_of;
 use crate::reading::values::{count_at, narrow_at, wide_at};
 use desk_sql::{Reach, TakeRow};
 use desk_store::StoreFault;
+use s2_cover::Span;
 use sqlite::{Error, Row};
 use std::alloc::Global;
 use volume4d::{Held, Slab};
@@ -76,13 +77,14 @@ pub(crate) fn reach_of(extent: &Slab, least: u32) -> Reach
     }
 }
 
-/// Where a span begins at the earliest that may hold a point of an extent, if the last leaf of no span is
-/// more than `longest` positions after its first.
-pub(crate) fn low_of(extent: &Slab, longest: u64) -> i64
-    requires { longest < 2 ^ 63 }
-    ensures { result ≡ spec.low_of extent.now longest }
+/// Of these only those that begin at the leaves that a question is for.
+pub(crate) fn reach_from(question: &Span, extent: &Slab, least: u32) -> Reach
+    requires { question.now.last < 6 * 2 ^ 60 }
+    ensures { result ≡ spec.reach_from question.now extent.now least }
 {
-    extent.first as i64 - longest as i64
+    let mut reach = reach_of(extent, least);
+    reach.last = question.last as i64;
+    reach
 }
 
 // The slab of a row of `span`, of which the columns from `first` on are shown, with its plan's priority.

@@ -1,6 +1,6 @@
-use Rattle.std.proofs.Common.{sym, subst, arith}
+use Rattle.std.proofs.Common.{sym, subst}
 use Rattle.desk_store.specs.StoreChange.{IsFitting}
-use Rattle.desk_tables.specs.Lengths.{BringsShort}
+use Rattle.desk_tables.specs.Lengths.{BringsKnown}
 use Rattle.desk_tables.proofs.AfterLemmas.{fits_low}
 use Rattle.desk_tables.proofs.StoreLemmas.{weaker}
 use Rattle.desk_tables.proofs.changing.changes.make.Goals as goal
@@ -10,25 +10,25 @@ enrol-requires-clause-low g c = λ clean.
     fits_low _ c.in-Enrol.ceiling c.args.kept.now.world
     (subst (λ change. IsFitting change c.args.kept.now.world) c.in-Enrol.is (c.requires.fits clean))
 
-pub returns-in-Put-clause-short : goal.returns-in-Put-clause-short
-unfolding BringsShort
-returns-in-Put-clause-short g c =
-    weaker c.put.result (λ longest short. (
-      subst (BringsShort longest) (sym c.in-Put.is) short.0,
-      short.1,
-    )) c.put.ensures.short
+pub returns-in-Put-clause-known : goal.returns-in-Put-clause-known
+unfolding BringsKnown
+returns-in-Put-clause-known g c =
+    weaker c.put.result (λ after known. (
+      known.0,
+      subst (BringsKnown after) (sym c.in-Put.is) known.1,
+    )) c.put.ensures.known
 
-pub returns-in_ok-enrol-in-Enrol-clause-short : goal.returns-in_ok-enrol-in-Enrol-clause-short
-unfolding BringsShort
-returns-in_ok-enrol-in-Enrol-clause-short g c =
-    (subst (BringsShort 0) (sym c.in-Enrol.is) tt, omega arith)
+pub returns-in_ok-enrol-in-Enrol-clause-known : goal.returns-in_ok-enrol-in-Enrol-clause-known
+unfolding BringsKnown
+returns-in_ok-enrol-in-Enrol-clause-known g c =
+    (λ span was. was, subst (BringsKnown c.args.lengths.now) (sym c.in-Enrol.is) tt)
 
-pub returns-in_ok-close-in-Close-clause-short : goal.returns-in_ok-close-in-Close-clause-short
-unfolding BringsShort
-returns-in_ok-close-in-Close-clause-short g c =
-    (subst (BringsShort 0) (sym c.in-Close.is) tt, omega arith)
+pub returns-in_ok-close-in-Close-clause-known : goal.returns-in_ok-close-in-Close-clause-known
+unfolding BringsKnown
+returns-in_ok-close-in-Close-clause-known g c =
+    (λ span was. was, subst (BringsKnown c.args.lengths.now) (sym c.in-Close.is) tt)
 
-pub returns-in_ok-clear-in-Clear-clause-short : goal.returns-in_ok-clear-in-Clear-clause-short
-unfolding BringsShort
-returns-in_ok-clear-in-Clear-clause-short g c =
-    (subst (BringsShort 0) (sym c.in-Clear.is) tt, omega arith)
+pub returns-in_ok-clear-in-Clear-clause-known : goal.returns-in_ok-clear-in-Clear-clause-known
+unfolding BringsKnown
+returns-in_ok-clear-in-Clear-clause-known g c =
+    (λ span was. was, subst (BringsKnown c.args.lengths.now) (sym c.in-Clear.is) tt)

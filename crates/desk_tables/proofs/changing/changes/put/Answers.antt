@@ -6,9 +6,9 @@ use Rattle.desk_sql.specs.Effects.{Commits, MayMake}
 use Rattle.desk_store.specs.Changes.{filed_by}
 use Rattle.desk_tables.specs.Tables.{usage_number, aircraft_number, area_rows, ArePlanSpanRows}
 use Rattle.desk_tables.specs.Content.{IsBlock}
-use Rattle.desk_tables.specs.Lengths.{IsNear}
+use Rattle.desk_tables.specs.Lengths.{IsKnownRow}
 use Rattle.desk_tables.proofs.ParseLemmas.{parsed_id}
-use Rattle.desk_tables.proofs.ShortLemmas.{plan_near}
+use Rattle.desk_tables.proofs.LengthLemmas.{plan_near}
 use Rattle.desk_tables.proofs.AfterLemmas.{stands_put, left_put}
 use Rattle.desk_tables.proofs.changing.changes.put.Goals as goal
 
@@ -45,17 +45,17 @@ returns-in-Ok-clause-ok g c =
     (c.in-Ok.ensures.done clean))))
     c.requires.fits
 
-pub returns-in-Ok-clause-short : goal.returns-in-Ok-clause-short
-returns-in-Ok-clause-short g c =
+pub returns-in-Ok-clause-known : goal.returns-in-Ok-clause-known
+returns-in-Ok-clause-known g c =
     let operator = c.args.operator.now in
     let row = c.args.row.now in
     let spans = map span_of c.in_ok-spans.spans.items in (
-      plan_near c.one_list_of_ranges.ensures c.longest_of.result (filed_by operator row) spans
+      c.lengths_with.ensures.kept,
+      plan_near c.one_list_of_ranges.ensures c.lengths_with.result (filed_by operator row) spans
           (subst (λ name. ArePlanSpanRows (filed_by name row) spans) c.as_str-2.ensures.value
           c.in_ok-spans.ensures)
-          (subst (λ records. AllByRecursion (IsNear c.longest_of.result) (map span_of records))
-          c.deref-in-Ok.ensures.value c.longest_of.ensures.near),
-      c.longest_of.ensures.small,
+          (subst (λ records. AllByRecursion (IsKnownRow c.lengths_with.result) (map span_of records))
+          c.deref-in-Ok.ensures.value c.lengths_with.ensures.known),
     )
 
 pub returns-in-Ok-clause-crash : goal.returns-in-Ok-clause-crash

@@ -4,20 +4,17 @@ use Rattle.desk_store.specs.Crashes.{LeavesOldOr, LeavesOnly}
 use Rattle.desk_tables.specs.Store.{Stands}
 use Rattle.desk_tables.specs.Lengths.{Bounds}
 use Rattle.desk_tables.specs.Leaving.{MayLeave}
-use Rattle.desk_tables.proofs.ShortLemmas.{bounds_after}
+use Rattle.desk_tables.proofs.LengthLemmas.{bounds_after}
 use Rattle.desk_tables.proofs.LeavingLemmas.{leaves_or_changed, leaves_what_stands}
 use Rattle.desk_tables.proofs.store.SqliteStorePlanStore.apply.Goals as goal
 
 pub invariant_of-self : goal.invariant_of-self
 invariant_of-self g c =
-    let longest = c.self.inside.longest in
-    let brought = c.in-Ok.longest in
-    let next = c.max-self-inside.result in
     let after = sym c.after-self-inside.ensures in (
       subst (Stands g.S.Store c.make.new.connection) after c.in-Ok.ensures.ok,
-      subst (Bounds next) after (bounds_after longest brought next c.args.change.now
-          c.self.inside.kept.world c.self.invariant.1 c.in-Ok.ensures.short.0 c.in-Ok.ensures.short.1
-          c.max-self-inside.ensures),
+      subst (Bounds c.in-Ok.lengths) after (bounds_after c.self.inside.lengths c.in-Ok.lengths
+          c.args.change.now c.self.inside.kept.world c.self.invariant.1 c.in-Ok.ensures.known.0
+          c.in-Ok.ensures.known.1),
     )
 
 pub returns-in-Ok-clause-crash : goal.returns-in-Ok-clause-crash

@@ -1,0 +1,109 @@
+-- The giants that are kept, after one more is put among them.
+use Rattle.std.proofs.Common.{◌≡◌, ℕ, ◌+◌, ◌≤◌, suc, zero, inl, inr, Bool, true, false, ◌||◌, List, [], ◌∷◌, Option, ◌<◌, length, get_or, set, take, refl, sym, ap, ◌∙◌, subst, arith, ◌++◌}
+use Rattle.std.specs.List.{AllByRecursion, list_any}
+use Rattle.std.specs.Prelude.{IsTrue, nat_le}
+use Rattle.std.proofs.lemmas.Bool.Decides.{nat_tests}
+use Rattle.std.proofs.lemmas.List.Folds.{list_any-append, list_any_more}
+use Rattle.s2_cover.specs.declared.spans.Span.{Span}
+use Rattle.volume4d.specs.declared.slab.Slab.{Slab}
+use Rattle.desk_tables.specs.declared.lengths.Lengths.{Lengths}
+use Rattle.desk_tables.specs.Lengths.{AreWhole, IsAmong, IsKnown, IsLow, IsShort, IsWithin, Keeps, begins_in, takes_in}
+
+or_left : (a b : Bool) → a ≡ true → (a || b) ≡ true
+or_left a b h = ap (λ c. c || b) h
+
+or_right : (a b : Bool) → b ≡ true → (a || b) ≡ true
+or_right true b h = refl
+or_right false b h = h
+
+by_or : (a b c : Bool) → (b ≡ true → c ≡ true) → (a || b) ≡ true → (a || c) ≡ true
+by_or true b c more h = refl
+by_or false b c more h = more h
+
+by_first : (a b c : Bool) → (a ≡ true → b ≡ true) → (a || c) ≡ true → (b || c) ≡ true
+by_first true b c more h = or_left b c (more refl)
+by_first false b c more h = or_right b c h
+
+module _ {X : Type 0} (p : X → Bool) where
+  -- an element that passes, put in the place of one
+  pub set_passes : (xs : List X) (at : ℕ) (y : X) → at < length xs → p y ≡ true
+      → list_any p (set xs at y) ≡ true
+  set_passes [] at y within h = absurd (omega (arith, within))
+  set_passes (z ∷ xs) zero y within h = or_left (p y) (list_any p xs) h
+  set_passes (z ∷ xs) (suc at) y within h =
+      or_right (p z) (list_any p (set xs at y)) (set_passes xs at y (omega (arith, within)) h)
+
+  -- one that passes if that does in whose place it is put
+  pub set_kept : (xs : List X) (at : ℕ) (d y : X) → (p (get_or xs at d) ≡ true → p y ≡ true)
+      → list_any p xs ≡ true → list_any p (set xs at y) ≡ true
+  set_kept [] at d y more h = h
+  set_kept (z ∷ xs) zero d y more h = by_first (p z) (p y) (list_any p xs) more h
+  set_kept (z ∷ xs) (suc at) d y more h =
+      by_or (p z) (list_any p xs) (list_any p (set xs at y)) (set_kept xs at d y more) h
+
+-- with more giants no less is known
+pub keeps_giants : (old new : Lengths) → new.bound ≡ old.bound
+    → ((span : Span) → IsAmong old.giants span → IsAmong new.giants span) → Keeps old new
+keeps_giants old new same more span known = elim known [
+  | inl short ↦ inl (subst (λ bound. span.last ≤ span.first + bound) (sym same) short)
+  | inr among ↦ inr (more span among)
+]
+
+-- ---- the walk along the giants, for the questions
+
+-- a question more that is for a span, and those that there were
+asked_last : (span question : Span) (questions : List Span) → begins_in span question ≡ true
+    → list_any (begins_in span) (questions ++ question ∷ []) ≡ true
+asked_last span question questions h = list_any-append (begins_in span) questions (question ∷ [])
+    ∙ or_right (list_any (begins_in span) questions) _ (or_left (begins_in span question) false h)
+
+asked_still : (span question : Span) (questions : List Span) → list_any (begins_in span) questions ≡ true
+    → list_any (begins_in span) (questions ++ question ∷ []) ≡ true
+asked_still span question questions h = list_any-append (begins_in span) questions (question ∷ [])
+    ∙ or_left (list_any (begins_in span) questions) _ h
+
+module _ (extent : Slab) (low : ℕ) where
+  abbrev pub AreFor : Option Span → List Span → Type 0
+  AreFor giant questions =
+      AreWhole extent (λ span. IsTrue (takes_in span giant) × (span.first < low)) questions
+
+  -- the questions for some of the giants that are kept
+  pub record AreAskedFor (giants : List (Option Span)) (questions : List Span) : Type 0 where
+    pub whole : AreWhole extent (λ span. IsAmong giants span × (span.first < low)) questions
+    pub within : AllByRecursion (IsWithin extent) questions
+
+  pub asked_begin : AreAskedFor [] []
+  asked_begin = record { whole = λ span one ends begins. cc; within = tt }
+
+  pub asked_on : (giants : List (Option Span)) (i : ℕ) (d : Option Span) (old new : List Span)
+      → i < length giants → AreAskedFor (take i giants) old → AreFor (get_or giants i d) new
+      → ((span : Span) → IsTrue (list_any (begins_in span) old) → IsTrue (list_any (begins_in span) new))
+      → (AllByRecursion (IsWithin extent) old → AllByRecursion (IsWithin extent) new)
+      → AreAskedFor (take (i + 1) giants) new
+  asked_on giants i d old new inside before here kept within = record {
+    whole = λ span one ends begins. by_place span one.1 ends begins
+        (list_any (takes_in span) (take i giants)) refl
+        (sym (list_any_more (takes_in span) giants i d inside) ∙ one.0);
+    within = within before.within;
+  } where
+    by_place : (span : Span) → span.first < low → extent.first ≤ span.last → span.first ≤ extent.last
+        → (b : Bool) → list_any (takes_in span) (take i giants) ≡ b
+        → (b || takes_in span (get_or giants i d)) ≡ true → list_any (begins_in span) new ≡ true
+    by_place span early ends begins true was h = kept span (before.whole span (was, early) ends begins)
+    by_place span early ends begins false was h = here span (h, early) ends begins
+
+  -- and one question for the others
+  pub asked_whole : (lengths : Lengths) (questions : List Span)
+      → IsLow low extent (IsShort lengths.bound) → AreAskedFor lengths.giants questions
+      → AreWhole extent (IsKnown lengths) (questions ++ record { first = low; last = extent.last } ∷ [])
+  asked_whole lengths questions is_low asked span known ends begins =
+      by_test (nat_le low span.first) refl where
+        by_test : (b : Bool) → nat_le low span.first ≡ b
+            → list_any (begins_in span) (questions ++ record { first = low; last = extent.last } ∷ []) ≡ true
+        by_test true late = asked_last span (record { first = low; last = extent.last }) questions
+            (grind (arith, nat_tests, late, begins))
+        by_test false late = elim known [
+          | inl short ↦ absurd (grind (arith, nat_tests, late, is_low span short ends begins))
+          | inr among ↦ asked_still span (record { first = low; last = extent.last }) questions
+              (asked.whole span (among, grind (arith, nat_tests, late)) ends begins)
+        ]
