@@ -9,6 +9,7 @@ ghost use Rattle.desk_store.specs.World.{ceiling_of, plans_of};
 ghost use Rattle.desk_store.specs.declared.change.Change.TheVariants as change;
 
 use crate::act::Act;
+use crate::opening::FusedStore;
 use anyhow::bail;
 use desk_rules::call::Asked;
 use desk_rules::operator::Operator;
@@ -27,14 +28,20 @@ const MAX_PRIORITY: u32 = 1_000;
 const MAX_PLANS: u32 = 200;
 
 /// Makes a change: the store afterwards, and whether the change was answered.
-pub fn make<S: PlanStore + Drop>(alloc: Global, store: S, act: &Act) -> anyhow::Result<(S, bool)> {
+pub fn make(alloc: Global, mut store: FusedStore, act: &Act) -> anyhow::Result<(FusedStore, bool)> {
     match act {
-        Act::Apply(change) => apply(store, change),
+        Act::Apply(change) => {
+            let answered = apply(&mut store, change)?;
+            Ok((store, answered))
+        }
         Act::ClearBoth {
             operator,
             one,
             other,
-        } => clear_both(alloc, store, operator, one, other),
+        } => {
+            let answered = clear_both(alloc, &mut store, operator, one, other)?;
+            Ok((store, answered))
+        }
         Act::Enrol { operator, ceiling } => Ok(enrol(store, operator, *ceiling)),
         Act::Call(asked) => Ok(call(alloc, store, asked)),
     }
@@ -55,34 +62,30 @@ fn call<S: PlanStore>(alloc: Global, store: S, asked: &Asked) -> (S, bool) {
 }
 
 // Makes a change at a store, which it has to fit.
-fn apply<S: PlanStore + Drop>(mut store: S, change: &Change) -> anyhow::Result<(S, bool)> {
-    match fits(&mut store, change) {
-        Ok(true) => {
-            let answered = store.apply(change).is_ok();
-            Ok((store, answered))
-        }
+fn apply<S: PlanStore>(store: &mut S, change: &Change) -> anyhow::Result<bool> {
+    match fits(store, change) {
+        Ok(true) => Ok(store.apply(change).is_ok()),
         Ok(false) => bail!("a change that doesn't fit the content"),
-        Err(_) => Ok((store, false)),
+        Err(_) => Ok(false),
     }
 }
 
 // Takes two plans of an operator out of a store, which have to be there.
-fn clear_both<S: PlanStore + Drop>(
+fn clear_both<S: PlanStore>(
     alloc: Global,
-    mut store: S,
+    store: &mut S,
     operator: &Operator,
     one: &PlanId,
     other: &PlanId,
-) -> anyhow::Result<(S, bool)> {
+) -> anyhow::Result<bool> {
     let ids = vec![in alloc; *one, *other]?;
-    match has_both(&mut store, operator, one, other) {
+    match has_both(store, operator, one, other) {
         Ok(true) => {
             let operator = *operator;
-            let answered = store.apply(&Change::Clear { operator, ids }).is_ok();
-            Ok((store, answered))
+            Ok(store.apply(&Change::Clear { operator, ids }).is_ok())
         }
         Ok(false) => bail!("two plans that are not there"),
-        Err(_) => Ok((store, false)),
+        Err(_) => Ok(false),
     }
 }
 
