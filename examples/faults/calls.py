@@ -1,62 +1,59 @@
 """Growths of memory that are refused to single calls, each of which is then made again.
 
-The program desk_refusals makes the calls: of the ground, at a desk over a list, and at a desk over tables. Whichever
-growth is refused, it prints the same: the lines of its stored run, which were written from docs/RULES.md.
+The program desk_refusals makes the calls: of the ground, at a desk over a list, and at a desk over tables, and writes
+after each what it said. Whichever growth is refused, it writes the same: the lines of its stored run, which were
+written from docs/RULES.md. One run refuses the Nth growth after each write. So with every N each growth is refused
+once, after calls to which others were refused.
 """
+import re
+import sys
+
 from faults.parts import Part, side_by_side
-from faults.program import CALLS, run_traced
-from faults.refusals import EACH_A_MAPPING, REFUSING
+from faults.program import CALLS, FAULTS, finish
 
 PROGRAM = str(CALLS / "out" / "desk_refusals")
-# A line of the output begins each stretch of calls.
-STRETCHES = ("ground", "over a list", "over tables")
-# How many growths of each stretch the sample takes, at least.
+# How many runs the sample has, at least.
 SAMPLE = 60
-# What a run says on standard error: how many calls were refused.
-KINDS = {"0 refused": "done without the growth", "1 refused": "refused once"}
+# What a run says on standard error: how many calls told of a refusal, and then what in_each_call.py counted.
+TOLD = re.compile(r"(\d+) refused\n(\d+) of (\d+) growths refused, at most (\d+) after a write\n")
 
 
-def stretches():
-    """The numbers of the mappings that each stretch asks for, in a run to which nothing is refused."""
-    ran = run_traced([], b"", [*EACH_A_MAPPING, "-e", "trace=mmap,brk,write"], PROGRAM)
-    firsts, count = [], 0
-    for line in ran.trace:
-        if line.startswith("mmap("):
-            count += 1
-        elif any(line.startswith(f'write(1, "{name}\\n"') for name in STRETCHES):
-            firsts.append(count + 1)
-    if len(firsts) != len(STRETCHES):
-        raise RuntimeError(f"{len(firsts)} stretches of calls, status {ran.status}, {ran.errors[:200]!r}")
-    return {name: range(first, last) for name, first, last in zip(STRETCHES, firsts, [*firsts[1:], count + 1])}
+def run_refused(number):
+    """A run to which the growth of this number is refused after each write, or none by 0; what it told, as numbers."""
+    ran = finish([sys.executable, str(FAULTS / "in_each_call.py"), str(number), PROGRAM], b"")
+    told = TOLD.fullmatch(ran.errors)
+    return ran, [int(part) for part in told.groups()] if told else None
 
 
-def wrong_calls(ran, right):
-    """The run ends with status 0, and prints what it prints if nothing is refused."""
-    if ran.status != 0:
+def wrong_calls(ran, told, right):
+    """The run ends with status 0, and writes what it writes if nothing is refused; no call tells of a refusal twice."""
+    if ran.status != 0 or told is None:
         return f"status {ran.status}: {ran.errors[:200]!r}"
     if ran.output != right:
         at = next((at for at, pair in enumerate(zip(ran.output, right)) if pair[0] != pair[1]), len(right))
-        return f"from byte {at} on it prints {ran.output[at:at + 200]!r}"
+        return f"from byte {at} on it writes {ran.output[at:at + 200]!r}"
+    if told[0] > told[1]:
+        return f"{told[0]} calls told of {told[1]} refusals"
     return None
 
 
-def refuse(number, right):
-    """A run to which one growth is refused: how many calls told of it, and its complaint."""
-    options = [*REFUSING, "-e", f"inject=mmap:error=ENOMEM:when={number}..{number + 1}"]
-    ran = run_traced([], b"", options, PROGRAM)
-    return ran.errors.strip(), wrong_calls(ran, right)
-
-
 def calls(processors, is_every):
-    """A part for each stretch of calls, over a sample of its growths or over every one."""
+    """A part, of which each run refuses the growth of one number after each write: of some numbers or of every one."""
     right = (CALLS / "stdout").read_bytes()
-    for name, numbers in stretches().items():
-        part = Part(f"memory refused to calls {name if name.startswith('over') else 'of the ' + name}")
-        part.count("growths", len(numbers))
-        sample = numbers if is_every else numbers[:: max(1, len(numbers) // SAMPLE)]
-        for number, (told, complaint) in zip(sample, side_by_side(lambda at: refuse(at, right), sample, processors)):
-            part.count(KINDS.get(told, "refused otherwise"))
-            part.add(f"growth {number}", complaint)
-        told = part.counts.get("refused once", 0)
-        part.add("in all", None if told * 2 > part.passed else f"only {told} runs met a refusal")
-        yield part.close()
+    part = Part("memory refused to calls")
+    ran, told = run_refused(0)
+    part.add("nothing refused", wrong_calls(ran, told, right))
+    if told:
+        _, _, growths, longest = told
+        part.count("growths", growths)
+        part.count("after one write at most", longest)
+        numbers = range(1, longest + 1, 1 if is_every else max(1, longest // SAMPLE))
+        for number, (ran, told) in zip(numbers, side_by_side(run_refused, numbers, processors)):
+            complaint = wrong_calls(ran, told, right)
+            part.add(f"growth {number} after each write", complaint)
+            if complaint is None:
+                part.count("refused", told[1])
+                part.count("told by a call", told[0])
+        if part.counts.get("told by a call", 0) * 2 <= part.counts.get("refused", 0):
+            part.add("in all", "most refusals were told by no call")
+    yield part.close()

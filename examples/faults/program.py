@@ -13,15 +13,11 @@ TOP = pathlib.Path(__file__).resolve().parent.parent.parent
 PROGRAM = os.environ.get("PROGRAM", str(TOP / "crates" / "uss_desk" / "out" / "uss_desk"))
 # Makes calls that grow, and makes each again if it was refused.
 CALLS = TOP / "crates" / "desk_refusals"
+FAULTS = pathlib.Path(__file__).resolve().parent
 PATIENCE = 300
 # With -f each line of strace begins with the number of a process.
 PROCESS = re.compile(r"^\d+ +", re.MULTILINE)
 WHOLE = "PRAGMA integrity_check; PRAGMA foreign_key_check;"
-# Each allocation is one mmap of its own: a mapping that is refused is a growth that is refused.
-ONE_MAPPING_EACH = ":".join(
-    f"glibc.malloc.{name}"
-    for name in ("top_pad=0", "trim_threshold=0", "mmap_threshold=1", "mmap_max=1000000", "arena_max=1")
-)
 
 
 class Ran(NamedTuple):

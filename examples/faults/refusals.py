@@ -9,9 +9,10 @@ import shutil
 import tempfile
 from typing import Callable, List, NamedTuple, Optional
 
+from faults.in_each_call import ONE_MAPPING_EACH
 from faults.judging import MEMORY, contents_after, first_of, wrong_content, wrong_end
 from faults.parts import Part, side_by_side
-from faults.program import ONE_MAPPING_EACH, play_words, run, run_traced
+from faults.program import play_words, run, run_traced
 from faults.scenario import ANSWERS, CONTENTS, ENROLLED, OPERATORS, READING, REQUESTS, STEPS
 
 # strace stops the program at the calls that it traces, and at no other.

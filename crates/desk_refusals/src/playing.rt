@@ -15,6 +15,7 @@ pub fn play_desk<S: PlanStore, W: Write>(
 ) -> anyhow::Result<()> {
     for asked in &CALLS {
         output.write_all(&said(stand, asked, refusals)?)?;
+        output.write_all(b"\n")?;
     }
     Ok(())
 }

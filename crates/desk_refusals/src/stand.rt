@@ -39,7 +39,8 @@ impl<S: PlanStore> Stand<S> {
         self.desk.into_store()
     }
 
-    /// What is said to what is asked, or None if memory was refused.
+    /// What is said to what is asked, without the end of its last line, or None if memory was refused.
+    /// Nothing grows between a change of the desk and this result: no call that changed it is told as refused.
     pub fn said(&mut self, asked: &Asked) -> Option<Vec<u8>> {
         match asked {
             Asked::Enrol(name) => self.enrol(name),
@@ -54,21 +55,26 @@ impl<S: PlanStore> Stand<S> {
         let mut said = Vec::new(self.alloc);
         for request in &LISTS {
             said.extend_from_slice(&self.answer(request)?).ok()?;
+            said.push(b'\n').ok()?;
         }
         Some(said)
     }
 
     fn enrol(&mut self, name: &str) -> Option<Vec<u8>> {
         let operator = Operator::try_new(name.as_bytes())?;
+        let said = Vec::from_slice(self.alloc, b"enrolled").ok()?;
         self.desk.enrol(&operator, CEILING).ok()?;
-        Vec::from_slice(self.alloc, b"enrolled\n").ok()
+        Some(said)
     }
 
     // The answer to a request.
     fn answer(&mut self, request: &Request) -> Option<Vec<u8>> {
         let text = request.text(self.alloc).ok()?;
         let bytes = answer(self.alloc, &mut self.desk, MOMENT, text.as_bytes()).ok()?;
-        with_line(bytes)
+        if bytes.as_slice() == out_of_memory_answer() {
+            return None;
+        }
+        Some(bytes)
     }
 
     // The answers to two requests.
@@ -97,21 +103,14 @@ impl<S: PlanStore> Stand<S> {
     }
 }
 
-// An answer on lines of its own, or None of the answer that memory ran out.
-fn with_line(mut answer: Vec<u8>) -> Option<Vec<u8>> {
-    if answer.as_slice() == out_of_memory_answer() {
-        return None;
-    }
-    answer.push(b'\n').ok()?;
-    Some(answer)
-}
-
 // Answers, each on lines of its own.
 fn joined(alloc: Global, answers: &[Vec<u8>]) -> Option<Vec<u8>> {
     let mut said = Vec::new(alloc);
     for answer in answers {
+        if !said.is_empty() {
+            said.push(b'\n').ok()?;
+        }
         said.extend_from_slice(answer).ok()?;
-        said.push(b'\n').ok()?;
     }
     Some(said)
 }
@@ -126,7 +125,8 @@ fn call_of(alloc: Global, request: &Request) -> Option<call::Asked> {
 fn outcomes_said(alloc: Global, outcomes: &[Outcome]) -> Option<Vec<u8>> {
     let mut said = Vec::new(alloc);
     for outcome in outcomes {
-        writeln!(said, "{outcome:?}").ok()?;
+        let line_end = if said.is_empty() { "" } else { "\n" };
+        write!(said, "{line_end}{outcome:?}").ok()?;
     }
     Some(said)
 }

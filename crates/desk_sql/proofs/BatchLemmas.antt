@@ -1,37 +1,32 @@
 -- A loop that adds a row at each turn.
-use Rattle.std.proofs.Common.{◌≡◌, inl, inr, IsTrue, ℕ, ◌≤◌, List, [], ◌∷◌, ◌++◌, refl, sym, ap, subst, ◌∙◌, arith, append_assoc}
+use Rattle.std.proofs.Common.{◌≡◌, inl, inr, IsTrue, ℕ, List, [], ◌∷◌, ◌++◌, refl, sym, ap, subst, ◌∙◌, arith, append_assoc}
 use Rattle.std.specs.List.Sorted.{IsPermutation}
 use Rattle.std.proofs.lemmas.List.Sorted.{IsPermutation-refl, IsPermutation-cons, IsPermutation-trans, IsPermutation-middle}
 use Rattle.sqlite.specs.Order.{Row}
-use Rattle.sqlite.specs.View.{doubt}
 use Rattle.sqlite.specs.Store.{Ghosts}
 use Rattle.sqlite.specs.State.{State, HasCleanDisk, IsUnchanged, IsNotRun, KeepsCommit, Survives}
 use Rattle.sqlite.specs.Effect.{Database, IsDatabase}
 use Rattle.sqlite.specs.declared.error.Error.{Error}
 use Rattle.sqlite.specs.Held.{Held, state}
 use Rattle.desk_sql.specs.Rows.{IsDesk, Tables, tables_of, RemovesPlan, AddsPlan, AddsVolume, AddsSpan}
-use Rattle.desk_sql.specs.Effects.{IsReady, Makes, Spares}
+use Rattle.desk_sql.specs.Effects.{IsReady, Makes}
+use Rattle.desk_sql.specs.Frames.{Remembers}
 use Rattle.desk_sql.specs.Finding.{Holds}
 use Rattle.desk_sql.specs.Refusals.{IsRefusal}
 use Rattle.desk_sql.proofs.RowidLemmas.{refusal_on}
+use Rattle.desk_sql.proofs.LeavingLemmas.{remembers_itself, remembers_survived, remembers_then}
 use Rattle.desk_sql.specs.Batches.{AddsVolumes, AddsSpans, IsUnderWay, PutsPlan}
 
 pub record HasAdded {S : Type 0} (g : Ghosts S) (old now : Held S)
     (Changes : Tables → Tables → Type 0) : Type
     0 where
-  pub doubted : doubt (state g old).is_clean ≤ doubt (state g now).is_clean
-  pub counted : (state g old).faults ≤ (state g now).faults
-  pub limit : now.step_limit ≡ old.step_limit
-  pub spared : Spares g old now
+  pub remembered : Remembers g old now
   pub made : HasCleanDisk (state g now) → Makes g old now Changes
 
 pub begins : {S : Type 0} (g : Ghosts S) (old : Held S) (Changes : Tables → Tables → Type 0)
     → ((t : Tables) → Changes t t) → IsUnderWay g old → HasAdded g old old Changes
 begins g old Changes none under = record {
-  doubted = omega arith;
-  counted = omega arith;
-  limit = refl;
-  spared = λ clean db left. left;
+  remembered = remembers_itself g old;
   made = λ clean. let h = under clean in record {
     was_open = h.0;
     is_open = h.0;
@@ -46,18 +41,13 @@ begins g old Changes none under = record {
 pub goes_on : {S : Type 0} (g : Ghosts S) (old mid new : Held S)
     (Before Step After : Tables → Tables → Type 0)
     → ((a b c : Tables) → Before a b → Step b c → After a c)
-    → HasAdded g old mid Before
-    → doubt (state g mid).is_clean ≤ doubt (state g new).is_clean
-    → (state g mid).faults ≤ (state g new).faults → new.step_limit ≡ mid.step_limit → Spares g mid new
+    → HasAdded g old mid Before → Remembers g mid new
     → (HasCleanDisk (state g new) → Makes g mid new Step) → HasAdded g old new After
-goes_on g old mid new Before Step After joins so_far doubted counted limit spared step = record {
-  doubted = omega (arith, so_far.doubted, doubted);
-  counted = omega (arith, so_far.counted, counted);
-  limit = limit ∙ so_far.limit;
-  spared = λ clean db left. so_far.spared (omega (arith, doubted, clean)) db (spared clean db left);
+goes_on g old mid new Before Step After joins so_far turn step = record {
+  remembered = remembers_then g old mid new so_far.remembered turn;
   made = λ clean.
       let last = step clean in
-      let first = so_far.made (omega (arith, doubted, clean)) in
+      let first = so_far.made (omega (arith, turn.doubt, clean)) in
       record {
         was_open = first.was_open;
         is_open = last.is_open;
@@ -76,10 +66,7 @@ pub begins_prepared : {S : Type 0} (g : Ghosts S) (old now : Held S) (Changes : 
     → (HasCleanDisk (state g now) → IsUnchanged (state g old) (state g now))
     → Survives (state g old) (state g now) (λ _. ⊥) → HasAdded g old now Changes
 begins_prepared g old now Changes none ready sound begun same last = record {
-  doubted = last.clean;
-  counted = last.counts;
-  limit = last.limit;
-  spared = λ clean db left. elim (last.crash clean db left) [ inl it ↦ it | inr never ↦ absurd never ];
+  remembered = remembers_survived g old now last;
   made = λ clean.
       let h = (same clean).0 in
       record {
@@ -103,7 +90,8 @@ way_on g old now Changes added clean = let made = added.made clean in
 -- a turn is refused for a cause since the start
 pub refused_on : {S : Type 0} (g : Ghosts S) (old now new : Held S) (Changes : Tables → Tables → Type 0)
     → HasAdded g old now Changes → (e : Error) → IsRefusal g now new e → IsRefusal g old new e
-refused_on g old now new Changes added = refusal_on g old now new added.counted added.limit
+refused_on g old now new Changes added = refusal_on g old now new added.remembered.faults
+    added.remembered.limit
 
 pub keeps_unprepared : (old new : State) (text : List ℕ) (params : Row) (e : Error)
     → IsNotRun old new text params e → KeepsCommit old new

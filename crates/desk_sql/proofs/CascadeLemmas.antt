@@ -86,10 +86,10 @@ equal_of Less h = cc
 equal_of Equal h = refl
 equal_of Greater h = cc
 
-turned_eq : (a b : Value) → is_eq (value_cmp a b) ≡ is_eq (value_cmp b a)
+pub turned_eq : (a b : Value) → is_eq (value_cmp a b) ≡ is_eq (value_cmp b a)
 turned_eq a b = ap is_eq (value_cmp_total.antisymm a b) ∙ reversed (value_cmp b a)
 
-not_null : (v : Value) (t : List ℕ) → is_text v t ≡ true → is_null v ≡ false
+pub not_null : (v : Value) (t : List ℕ) → is_text v t ≡ true → is_null v ≡ false
 not_null Null t h = absurd (true≢false (sym h ∙ ap is_eq (value_cmp-Null (Text t))))
 not_null (Int n) t h = refl
 not_null (Real n) t h = refl

@@ -1,5 +1,5 @@
 -- What a crash leaves, after a text was prepared and after a transaction.
-use Rattle.std.proofs.Common.{◌≡◌, ◌⊎◌, inl, inr, true, false, List, [], ℕ, ◌≤◌, Result, Ok, Err, IfOk, IfErr, OnOk, IsTrue, sym, subst, ◌∙◌, arith}
+use Rattle.std.proofs.Common.{◌≡◌, ◌⊎◌, inl, inr, true, false, List, [], ℕ, ◌≤◌, Result, Ok, Err, IfOk, IfErr, OnOk, IsTrue, refl, sym, subst, ◌∙◌, arith}
 use Rattle.sqlite.specs.Order.{Row}
 use Rattle.sqlite.specs.Tree.{Trees}
 use Rattle.sqlite.specs.Effect.{Database, IsDatabase}
@@ -13,7 +13,8 @@ use Rattle.sqlite.specs.State.{HasCleanDisk, Survives, CommitsShowing, Shown, Sh
 use Rattle.sqlite.proofs.Callers.{never_commits, unchanged_then}
 use Rattle.desk_sql.specs.Schema.{desk_schema}
 use Rattle.desk_sql.specs.Rows.{IsDesk, Tables, tables_of}
-use Rattle.desk_sql.specs.Effects.{IsReady, Makes, Commits, MayMake, Spares, ShowsAsBefore}
+use Rattle.desk_sql.specs.Effects.{IsReady, IsKept, Makes, Commits, MayMake, Spares, ShowsAsBefore}
+use Rattle.desk_sql.specs.Frames.{OnlyReads, Remembers}
 use Rattle.desk_sql.specs.Finding.{Holds}
 use Rattle.desk_sql.proofs.ReadLemmas.{failed, if_either, unmoved}
 use Rattle.desk_sql.specs.Taking.{HandsAll, IsLeft}
@@ -166,6 +167,74 @@ pub spared_then : {S : Type 0} (g : Ghosts S) (a b c : Held S)
     → doubt (state g b).is_clean ≤ doubt (state g c).is_clean → Spares g a b → Spares g b c → Spares g a c
 spared_then g a b c doubted first last clean db left =
     first (omega (arith, doubted, clean)) db (last clean db left)
+
+-- ---- what every call leaves
+
+-- of a text that was not prepared
+pub reads_unprepared : {S : Type 0} (g : Ghosts S) (old new : Held S) → IsKept g old new
+    → new.in_transaction ≡ false → Survives (state g old) (state g new) (λ _. ⊥) → OnlyReads g old new
+reads_unprepared g old new kept mode survives = record {
+  kept = kept;
+  mode = mode;
+  limit = survives.limit;
+  doubt = survives.clean;
+  faults = survives.counts;
+  spared = λ clean db left. elim (survives.crash clean db left) [ inl it ↦ it | inr never ↦ absurd never ];
+}
+
+-- of a text that was prepared, and then run
+pub reads_prepared : {S : Type 0} (g : Ghosts S) (old mid new : Held S) (Committed : Trees → Type 0)
+    → IsKept g old new → new.in_transaction ≡ false → Spares g old new
+    → Survives (state g old) (state g mid) (λ _. ⊥) → Survives (state g mid) (state g new) Committed
+    → OnlyReads g old new
+reads_prepared g old mid new Committed kept mode spared first last = record {
+  kept = kept;
+  mode = mode;
+  limit = last.limit ∙ first.limit;
+  doubt = omega (arith, first.clean, last.clean);
+  faults = omega (arith, first.counts, last.counts);
+  spared = spared;
+}
+
+pub remembers_itself : {S : Type 0} (g : Ghosts S) (h : Held S) → Remembers g h h
+remembers_itself g h = record {
+  limit = refl;
+  doubt = omega arith;
+  faults = omega arith;
+  spared = λ clean db left. left;
+}
+
+pub remembers_survived : {S : Type 0} (g : Ghosts S) (old new : Held S)
+    → Survives (state g old) (state g new) (λ _. ⊥) → Remembers g old new
+remembers_survived g old new survives = record {
+  limit = survives.limit;
+  doubt = survives.clean;
+  faults = survives.counts;
+  spared = λ clean db left. elim (survives.crash clean db left) [ inl it ↦ it | inr never ↦ absurd never ];
+}
+
+pub remembers_then : {S : Type 0} (g : Ghosts S) (a b c : Held S) → Remembers g a b → Remembers g b c
+    → Remembers g a c
+remembers_then g a b c first last = record {
+  limit = last.limit ∙ first.limit;
+  doubt = omega (arith, first.doubt, last.doubt);
+  faults = omega (arith, first.faults, last.faults);
+  spared = spared_then g a b c last.doubt first.spared last.spared;
+}
+
+-- of a query whose rows are handed over
+pub reads_handed : {S : Type 0} (g : Ghosts S) (old mid first new : Held S) (Committed : Trees → Type 0)
+    → IsKept g old new → new.in_transaction ≡ false → Spares g old first
+    → Survives (state g old) (state g mid) (λ _. ⊥) → Survives (state g mid) (state g first) Committed
+    → Remembers g first new → OnlyReads g old new
+reads_handed g old mid first new Committed kept mode spared prepared begun last = record {
+  kept = kept;
+  mode = mode;
+  limit = last.limit ∙ begun.limit ∙ prepared.limit;
+  doubt = omega (arith, prepared.clean, begun.clean, last.doubt);
+  faults = omega (arith, prepared.counts, begun.counts, last.faults);
+  spared = spared_then g old first new last.doubt spared last.spared;
+}
 
 -- ---- a transaction
 

@@ -40,3 +40,8 @@ pub mod SetStops
 pub mod AddLemmas
 pub mod InsertStops
 pub mod Added
+pub mod RoomLemmas
+pub mod RoomTexts
+pub mod NewRows
+pub mod PutStops
+pub mod PutSteps

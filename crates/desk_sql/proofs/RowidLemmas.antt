@@ -28,7 +28,9 @@ use Rattle.desk_sql.specs.Rows.{AreNumbered, AreAllNumbered, Lists, by_cells}
 use Rattle.desk_sql.specs.Refusals.{IsRefusal, IsUnread, IsMisnumbered, IsSure}
 use Rattle.desk_sql.specs.Statements.{SelectsAll, rowids}
 use Rattle.desk_sql.specs.Effects.{IsKept}
-use Rattle.desk_sql.specs.Finding.{Holds, AreRising, next_above, exceeds}
+use Rattle.desk_sql.specs.Finding.{Holds, AreRising, next_above, exceeds, tree_of}
+use Rattle.desk_sql.specs.declared.opening.numbers.DeskTable.{DeskTable}
+use Rattle.desk_sql.specs.declared.opening.numbers.DeskTable.TheVariants.{Operator, Plan, Volume, Span}
 use Rattle.desk_sql.proofs.Texts.{operator_rowids_text, plan_rowids_text, volume_rowids_text, span_rowids_text}
 use Rattle.desk_sql.proofs.QueryTexts.{IsWhole, rowids_query, operator_rowids_is, plan_rowids_is, volume_rowids_is, span_rowids_is}
 use Rattle.desk_sql.proofs.SureTexts.{operator_rowids_sure, plan_rowids_sure, volume_rowids_sure, span_rowids_sure}
@@ -208,6 +210,13 @@ volume_rowids_selected = rowids_selected _ 4 volume_rowids_is volume_rowids_sure
 
 pub span_rowids_selected : SelectsAll span_rowids_text (0 ∷ []) (λ db. rowids (db 6))
 span_rowids_selected = rowids_selected _ 6 span_rowids_is span_rowids_sure (λ db. refl)
+
+pub numbered_in : (table : DeskTable) (trees : Trees) → AreAllNumbered trees
+    → AreNumbered (trees (tree_of table))
+numbered_in Operator trees all = all.operators
+numbered_in Plan trees all = all.plans
+numbered_in Volume trees all = all.volumes
+numbered_in Span trees all = all.spans
 
 module _ {S : Type 0} (g : Ghosts S) (old new : Held S) (text : List ℕ) (tree : ℕ)
     (selects : SelectsAll text (0 ∷ []) (λ db. rowids (db tree))) where

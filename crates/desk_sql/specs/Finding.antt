@@ -17,6 +17,8 @@ use Rattle.sqlite.specs.Store.{Ghosts}
 use Rattle.sqlite.specs.State.{HasCleanDisk}
 use Rattle.sqlite.specs.Held.{Held, state}
 use Rattle.sqlite.specs.Effect.{Database}
+use Rattle.desk_sql.specs.declared.opening.numbers.DeskTable.{DeskTable}
+use Rattle.desk_sql.specs.declared.opening.numbers.DeskTable.TheVariants.{Operator, Plan, Volume, Span}
 use Rattle.desk_sql.specs.Schema.{blank_schema, desk_schema, table_schema, column_of, table_of, span_first}
 
 -- what is shown, if it means something, is so
@@ -45,6 +47,13 @@ next_above last Null = None
 next_above last (Real x) = None
 next_above last (Text t) = None
 next_above last (Blob b) = None
+
+-- the tree that has the rows of a table
+abbrev pub tree_of : DeskTable → ℕ
+tree_of Operator = 0
+tree_of Plan = 2
+tree_of Volume = 4
+tree_of Span = 6
 
 -- ---- the parts of a schema
 

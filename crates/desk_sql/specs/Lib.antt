@@ -1,7 +1,8 @@
--- Read first: Schema, Rows, Effects.
+-- Read first: Schema, Rows, Effects, Frames.
 pub mod Schema
 pub mod Rows
 pub mod Effects
+pub mod Frames
 pub mod Making
 pub mod Batches
 pub mod Finding
@@ -10,3 +11,4 @@ pub mod Taking
 pub mod Rivals
 pub mod Statements
 pub mod Changing
+pub mod Putting

@@ -2,6 +2,7 @@
 #![tactic(auto)]
 
 mod changing;
+pub mod laws;
 mod opening;
 mod reading;
 

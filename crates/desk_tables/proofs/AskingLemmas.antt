@@ -1,15 +1,14 @@
 -- Questions of the spans of others, one after the other over a connection.
-use Rattle.std.proofs.Common.{◌≡◌, ◌≤◌, ◌<◌, ℕ, ◌+◌, inl, inr, Bool, List, [], ◌++◌, length, take, get_or, Result, Ok, Err, IfOk, OnOk, IsOk, IsTrue, refl, sym, ap, subst, ◌∙◌, arith}
+use Rattle.std.proofs.Common.{◌<◌, ℕ, ◌+◌, inl, inr, Bool, List, [], ◌++◌, length, take, get_or, Result, Ok, Err, IfOk, OnOk, IsTrue, sym, ap, subst, arith}
 use Rattle.std.specs.Prelude.{IsSome}
 use Rattle.std.proofs.lemmas.List.{take_more}
 use Rattle.sqlite_trees.specs.declared.store.Store.{Ghosts}
-use Rattle.sqlite_trees.specs.View.{doubt}
 use Rattle.sqlite_value.specs.Order.{Row}
 use Rattle.sqlite.specs.State.{HasCleanDisk}
 use Rattle.sqlite.specs.Held.{Held, state}
 use Rattle.s2_cover.specs.declared.spans.Span.{Span}
 use Rattle.volume4d.specs.declared.slab.Held.{Held as One}
-use Rattle.desk_sql.specs.Effects.{IsKept, Spares}
+use Rattle.desk_sql.specs.Frames.{OnlyReads}
 use Rattle.desk_sql.specs.Rows.{tables_of}
 use Rattle.desk_store.specs.World.{World}
 use Rattle.desk_store.specs.declared.fault.StoreFault.{StoreFault}
@@ -17,7 +16,7 @@ use Rattle.desk_tables.specs.Causes.{BlamesSpans, HasTooManySpans}
 use Rattle.desk_tables.specs.Rivals.{HaveTaken, HaveTakenAll}
 use Rattle.desk_tables.specs.Store.{Stands}
 use Rattle.desk_tables.proofs.HeldLemmas.{none_taken, all_taken}
-use Rattle.desk_tables.proofs.OpeningLemmas.{kept_on}
+use Rattle.desk_tables.proofs.FrameLemmas.{reads_itself, reads_then}
 
 module _ {S : Type 0} (g : Ghosts S) where
   -- some questions are answered, and nothing was changed
@@ -25,11 +24,7 @@ module _ {S : Type 0} (g : Ghosts S) where
       (helds : List One) : Type 0
     where
       pub stands : Stands g new w
-      pub doubt : doubt (state g old).is_clean ≤ doubt (state g new).is_clean
-      pub faults : (state g old).faults ≤ (state g new).faults
-      pub limit : HasCleanDisk (state g new) → new.step_limit ≡ old.step_limit
-      pub kept : IsKept g old new
-      pub spared : Spares g old new
+      pub reads : OnlyReads g old new
       pub opened : HasCleanDisk (state g new) → 0 < length questions → IsTrue (state g old).is_open
       pub taken : HasCleanDisk (state g new)
           → HaveTakenAll asked questions (tables_of (state g old).now.trees).spans helds
@@ -38,39 +33,29 @@ module _ {S : Type 0} (g : Ghosts S) where
     pub asking_begins : (h : Held S) → Stands g h w → IsAsking h h w asked [] []
     asking_begins h stands = record {
       stands = stands;
-      doubt = omega arith;
-      faults = omega arith;
-      limit = λ clean. refl;
-      kept = λ clean live. record { was_open = live; now = refl; committed = refl };
-      spared = λ clean db left. left;
+      reads = reads_itself g h stands.settled;
       opened = λ clean some. absurd (omega (arith, some));
       taken = λ clean. none_taken asked (tables_of (state g h).now.trees).spans;
     }
 
     module _ (old mid new : Held S) (all : List Span) (i : ℕ) (d : Span) (helds more : List One)
         (before : IsAsking old mid w asked (take i all) helds)
-        (doubts : doubt (state g mid).is_clean ≤ doubt (state g new).is_clean)
-        (kept : IsKept g mid new) where
+        (reads : OnlyReads g mid new) where
       was_clean : HasCleanDisk (state g new) → HasCleanDisk (state g mid)
-      was_clean clean = omega (arith, doubts, clean)
+      was_clean clean = omega (arith, reads.doubt, clean)
 
-      pub asking_on : i < length all → Stands g new w → (state g mid).faults ≤ (state g new).faults
-          → (HasCleanDisk (state g new) → new.step_limit ≡ mid.step_limit) → Spares g mid new
+      pub asking_on : i < length all → Stands g new w
           → (HasCleanDisk (state g new) → IsTrue (state g mid).is_open)
           → (HasCleanDisk (state g new)
           → HaveTaken (asked (get_or all i d)) (tables_of (state g mid).now.trees).spans more)
           → IsAsking old new w asked (take (i + 1) all) (helds ++ more)
-      asking_on within stands faults limit spared live taken = record {
+      asking_on within stands live taken = record {
         stands = stands;
-        doubt = omega (arith, before.doubt, doubts);
-        faults = omega (arith, before.faults, faults);
-        limit = λ clean. limit clean ∙ before.limit (was_clean clean);
-        kept = kept_on g old mid new before.kept kept doubts;
-        spared = λ clean db left. before.spared (was_clean clean) db (spared clean db left);
-        opened = λ clean some. (before.kept (was_clean clean) (live clean)).was_open;
+        reads = reads_then g old mid new before.reads reads;
+        opened = λ clean some. (before.reads.kept (was_clean clean) (live clean)).was_open;
         taken = λ clean.
             let same = ap (λ db. (tables_of db.trees).spans)
-            (before.kept (was_clean clean) (live clean)).now in
+            (before.reads.kept (was_clean clean) (live clean)).now in
             subst (λ questions. HaveTakenAll asked questions (tables_of (state g old).now.trees).spans
             (helds ++ more)) (sym (take_more all i d within))
             (all_taken asked (tables_of (state g old).now.trees).spans (take i all) (get_or all i d)
@@ -79,13 +64,12 @@ module _ {S : Type 0} (g : Ghosts S) where
       }
 
       -- why a later question fails
-      pub blames_since : (e : StoreFault) → (state g mid).faults ≤ (state g new).faults
-          → BlamesSpans g mid new e → BlamesSpans g old new e
-      blames_since e faults blames clean live is =
-          let shown = before.kept (was_clean clean) (kept clean live).was_open in
+      pub blames_since : (e : StoreFault) → BlamesSpans g mid new e → BlamesSpans g old new e
+      blames_since e blames clean live is =
+          let shown = before.reads.kept (was_clean clean) (reads.kept clean live).was_open in
           elim (blames clean live is) [
-            | inl (inl disk) ↦ inl (inl (omega (arith, before.faults, disk)))
-            | inl (inr steps) ↦ inl (inr (subst IsSome (before.limit (was_clean clean)) steps))
+            | inl (inl disk) ↦ inl (inl (omega (arith, before.reads.faults, disk)))
+            | inl (inr steps) ↦ inl (inr (subst IsSome before.reads.limit steps))
             | inr many ↦ inr (subst HasTooManySpans shown.now many)
           ]
 
@@ -93,10 +77,3 @@ pub both_ok : {V E A : Type 0} {P Q : V → Type 0} (r : Result V E) → OnOk r 
     → ((v : V) → A → P v → Q v) → IfOk r Q
 both_ok (Ok v) a p gives = gives v a p
 both_ok (Err e) a p gives = tt
-
--- what a call says of its success, where another's success is its
-pub ok_whole : {U V E F : Type 0} (A : Type 0) (taken : Result U E) (result : Result V F)
-    → OnOk result (IsOk taken) → OnOk taken A → OnOk result A
-ok_whole A (Ok u) (Ok v) whole a = a
-ok_whole A (Err e) (Ok v) whole a = cc
-ok_whole A taken (Err f) whole a = tt

@@ -7,7 +7,7 @@ use Rattle.std.proofs.lemmas.List.Folds.{list_any-append, list_any_more}
 use Rattle.s2_cover.specs.declared.spans.Span.{Span}
 use Rattle.volume4d.specs.declared.slab.Slab.{Slab}
 use Rattle.desk_tables.specs.declared.lengths.Lengths.{Lengths}
-use Rattle.desk_tables.specs.Lengths.{AreWhole, IsAmong, IsKnown, IsLow, IsShort, IsWithin, Keeps, begins_in, takes_in}
+use Rattle.desk_tables.specs.Lengths.{AreWhole, IsAmong, IsKnown, IsLow, IsBoundedBy, IsWithin, Keeps, begins_in, takes_in}
 
 or_left : (a b : Bool) → a ≡ true → (a || b) ≡ true
 or_left a b h = ap (λ c. c || b) h
@@ -94,7 +94,7 @@ module _ (extent : Slab) (low : ℕ) where
 
   -- and one question for the others
   pub asked_whole : (lengths : Lengths) (questions : List Span)
-      → IsLow low extent (IsShort lengths.bound) → AreAskedFor lengths.giants questions
+      → IsLow low extent (IsBoundedBy lengths.bound) → AreAskedFor lengths.giants questions
       → AreWhole extent (IsKnown lengths) (questions ++ record { first = low; last = extent.last } ∷ [])
   asked_whole lengths questions is_low asked span known ends begins =
       by_test (nat_le low span.first) refl where

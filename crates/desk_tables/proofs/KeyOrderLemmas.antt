@@ -128,7 +128,7 @@ places_after p n m v (u ∷ us) hp h = (
   places_after p n (m + 1) v us hp (omega (arith, h)),
 )
 
-area_up : (p : Filed) (n : ℕ) (vs : List Block) → IsPlan p.row
+pub area_up : (p : Filed) (n : ℕ) (vs : List Block) → IsPlan p.row
     → IsAscending (Below (2 ∷ [])) (volume_rows_from p n vs)
 area_up p n [] hp = tt
 area_up p n (v ∷ vs) hp = (places_after p n (n + 1) v vs hp (omega arith), area_up p (n + 1) vs hp)
@@ -232,7 +232,7 @@ from_up p n (v ∷ vs) rows hp (spans, rest, ranges, are, then) =
     (after_places p n (n + 1) vs rest (omega arith) then)) (map (span_row p n v) spans)
     (on_places p n v spans)))
 
-plan_up : (p : Filed) (rows : List Row) → IsPlan p.row → ArePlanSpanRows p rows
+pub plan_up : (p : Filed) (rows : List Row) → IsPlan p.row → ArePlanSpanRows p rows
     → IsAscending (Below (2 ∷ 3 ∷ [])) rows
 plan_up p rows hp are = by_live (is_live p.row.usage) are where
   by_live : (b : Bool) → MatchBool b (AreSpanRowsFrom p 0 p.row.area rows) (rows ≡ [])

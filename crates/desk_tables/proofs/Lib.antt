@@ -8,6 +8,7 @@ pub mod PutLemmas
 pub mod SetLemmas
 pub mod AfterLemmas
 pub mod ReadingLemmas
+pub mod FrameLemmas
 pub mod StoreLemmas
 pub mod ListingLemmas
 pub mod JoinLemmas
@@ -34,3 +35,4 @@ pub mod GatherLemmas
 pub mod CauseLemmas
 pub mod SlabLemmas
 pub mod StatesLemmas
+pub mod PuttableLemmas

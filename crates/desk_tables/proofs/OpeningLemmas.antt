@@ -10,13 +10,16 @@ use Rattle.sqlite.specs.State.{HasCleanDisk}
 use Rattle.sqlite.specs.Held.{Held, state}
 use Rattle.sqlite.specs.Effect.{Database}
 use Rattle.desk_sql.specs.Rows.{IsDesk, IsLegible, IsUnindexed, Tables, tables_of}
-use Rattle.desk_sql.specs.Effects.{IsKept}
+use Rattle.desk_sql.specs.Effects.{IsKept, IsReady}
+use Rattle.desk_sql.specs.Frames.{OnlyReads}
 use Rattle.desk_sql.specs.Finding.{Holds}
 use Rattle.desk_sql.specs.Refusals.{IsRefusal}
 use Rattle.desk_store.specs.World.{World}
 use Rattle.desk_tables.specs.declared.opening.open.OpenFault.{OpenFault}
 use Rattle.desk_tables.specs.declared.opening.open.OpenFault.TheVariants.{NotADesk, OutOfMemory, Store}
 use Rattle.desk_tables.specs.Content.{IsContent}
+use Rattle.desk_tables.specs.Store.{Stands}
+use Rattle.desk_tables.specs.Tables.{AreTables}
 use Rattle.desk_tables.specs.Opening.{AreSortedByKey, AreRows, IsContentOf, AreNoContent, WasIndexed, BeginsWith, ShowsNoDesk, IsNoDesk, HasFailed, BlamesReading, is_memory, open_fault_of}
 use Rattle.desk_tables.proofs.KeyOrderLemmas.{are_rows, are_tables}
 
@@ -29,23 +32,30 @@ never_no_desk e is = by (is_memory e) is
     by false is = cc
 
 module _ {S : Type 0} (g : Ghosts S) where
-  -- what is kept twice is kept
-  pub kept_on : (a b c : Held S) → IsKept g a b → IsKept g b c
-      → doubt (state g b).is_clean ≤ doubt (state g c).is_clean → IsKept g a c
-  kept_on a b c one two rises = λ clean live.
-      let after = two clean live in
-      let before = one (omega (arith, rises, clean)) after.was_open in record {
-        was_open = before.was_open;
-        now = after.now ∙ before.now;
-        committed = after.committed ∙ before.committed;
-      }
-
   -- tables that are legible stay so
-  pub legible_on : (a b : Held S) → Holds g a IsLegible → IsKept g a b
-      → doubt (state g a).is_clean ≤ doubt (state g b).is_clean → Holds g b IsLegible
-  legible_on a b legible one rises = λ clean live.
-      let before = one clean live in
-      subst IsLegible (sym before.now) (legible (omega (arith, rises, clean)) before.was_open)
+  pub legible_on : (a b : Held S) → Holds g a IsLegible → OnlyReads g a b → Holds g b IsLegible
+  legible_on a b legible reads = λ clean live.
+      let before = reads.kept clean live in
+      subst IsLegible (sym before.now) (legible (omega (arith, reads.doubt, clean)) before.was_open)
+
+  -- what is read of a desk's tables as a content stands
+  pub found_stands : {V : Type 0} (world : V → World) (r : Result V OpenFault) (a b : Held S) → IsReady g a
+      → OnlyReads g a b
+      → (HasCleanDisk (state g b) → IfOk r (λ v. IsContentOf (tables_of (state g a).now.trees) (world v)))
+      → IfOk r (λ v. Stands g b (world v))
+  found_stands world (Err e) a b ready reads found = tt
+  found_stands world (Ok v) a b ready reads found = record {
+    settled = reads.mode;
+    standing = λ clean live.
+        let shows = reads.kept clean live in
+        let it = found clean in
+        record {
+          content = it.content;
+          desk = subst IsDesk (sym shows.now) (ready (omega (arith, reads.doubt, clean)) shows.was_open);
+          tables = subst (λ (db : Database). AreTables (tables_of db.trees) (world v)) (sym shows.now)
+              it.tables;
+        };
+  }
 
   -- rows of no content are no desk's, also before what was kept
   none_shown : (a b c : Held S) → IsKept g a b → Holds g b IsLegible → IsKept g b c

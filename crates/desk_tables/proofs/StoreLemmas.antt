@@ -17,7 +17,8 @@ use Rattle.sqlite.specs.State.{HasCleanDisk}
 use Rattle.sqlite.specs.Held.{Held, state}
 use Rattle.desk_sql.specs.Rows as sql
 use Rattle.desk_sql.specs.Rows.{Tables, IsDesk, Lists, tables_of}
-use Rattle.desk_sql.specs.Effects.{IsKept, IsReady, Commits}
+use Rattle.desk_sql.specs.Effects.{IsReady, Commits}
+use Rattle.desk_sql.specs.Frames.{OnlyReads}
 use Rattle.desk_sql.specs.Making.{no_rows, AreEmpty}
 use Rattle.desk_store.specs.World.{Listed, World, text_cmp, listed_cmp, ceiling_of}
 use Rattle.desk_rules.specs.Limits.{max_priority}
@@ -34,14 +35,13 @@ module _ {S : Type 0} (g : Ghosts S) (old new : Held S) (w : World) (stood : Sta
   is_ready clean live = (stood.standing clean live).desk
 
   -- a query leaves what stands
-  pub still_stands : IsKept g old new → new.in_transaction ≡ false
-      → doubt (state g old).is_clean ≤ doubt (state g new).is_clean → Stands g new w
-  still_stands kept mode rises = record { settled = mode; standing = λ clean live. standing clean live }
+  pub still_stands : OnlyReads g old new → Stands g new w
+  still_stands reads = record { settled = reads.mode; standing = λ clean live. standing clean live }
     where
       standing : HasCleanDisk (state g new) → IsTrue (state g new).is_open → IsStanding g new w
       standing clean live =
-          let shows = kept clean live in
-          let before = stood.standing (omega (arith, rises, clean)) shows.was_open in
+          let shows = reads.kept clean live in
+          let before = stood.standing (omega (arith, reads.doubt, clean)) shows.was_open in
           record {
             content = before.content;
             desk = subst IsDesk (sym shows.now) before.desk;

@@ -1,20 +1,31 @@
 -- Why a store over tables answers that it failed, though the disk returned what was written.
-use Rattle.std.specs.Prelude.{⊤, ◌≡◌, ◌⊎◌, ◌≤◌, ◌-◌, ◌^◌, IsTrue, length}
+use Rattle.std.specs.Prelude.{List, ◌≡◌, ◌⊎◌, ◌≤◌, ◌-◌, ◌^◌, IsTrue, length}
 use Rattle.sqlite_trees.specs.declared.store.Store.{Ghosts}
+use Rattle.sqlite_value.specs.Order.{Row}
 use Rattle.sqlite.specs.State.{HasCleanDisk}
 use Rattle.sqlite.specs.Held.{Held, state}
 use Rattle.sqlite.specs.Effect.{Database}
 use Rattle.desk_sql.specs.Rows.{tables_of}
 use Rattle.desk_sql.specs.Changing.{AreLow, HasRoom}
+use Rattle.desk_sql.specs.Putting.{HasRoomFor}
+use Rattle.desk_store.specs.Changes.{filed_by}
+use Rattle.desk_store.specs.World.{Filed}
 use Rattle.desk_store.specs.declared.change.Change.{Change}
 use Rattle.desk_store.specs.declared.change.Change.TheVariants.{Enrol, Put, Close, Clear}
 use Rattle.desk_store.specs.declared.fault.StoreFault.{StoreFault}
 use Rattle.desk_store.specs.declared.fault.StoreFault.TheVariants.{Store}
 use Rattle.desk_tables.specs.Opening.{HasFailed}
+use Rattle.desk_tables.specs.Tables.{ArePlanSpanRows}
 
 -- `span` has 2 ^ 64 - 1 rows and more
 abbrev pub HasTooManySpans : Database → Type 0
 HasTooManySpans db = 2 ^ 64 - 1 ≤ length (tables_of db.trees).spans
+
+-- rowids are left for a plan's row, and for those of its volumes and spans
+pub record HasRoomForPlan (p : Filed) (db : Database) : Type 0 where
+  pub plan : HasRoomFor 1 (db.trees 2)
+  pub volumes : HasRoomFor (length p.row.area) (db.trees 4)
+  pub spans : (rows : List Row) → ArePlanSpanRows p rows → HasRoomFor (length rows) (db.trees 6)
 
 module _ {S : Type 0} (g : Ghosts S) (old new : Held S) where
   -- over an open connection a fault of the store's own is the disk's, or the connection allows a statement
@@ -22,10 +33,10 @@ module _ {S : Type 0} (g : Ghosts S) (old new : Held S) where
   abbrev pub BlamesStore : StoreFault → Type 0
   BlamesStore e = HasCleanDisk (state g new) → IsTrue (state g new).is_open → e ≡ Store → HasFailed g old new
 
-  -- a change but a put: where the tables have room for what it adds
+  -- a change: where the tables have room for what it adds
   abbrev pub BlamesChange : Change → StoreFault → Type 0
   BlamesChange (Enrol operator ceiling) e = HasRoom 1 ((state g old).now.trees 0) → BlamesStore e
-  BlamesChange (Put operator row) e = ⊤
+  BlamesChange (Put operator row) e = HasRoomForPlan (filed_by operator row) (state g old).now → BlamesStore e
   BlamesChange (Close operator id) e = AreLow ((state g old).now.trees 2) → BlamesStore e
   BlamesChange (Clear operator ids) e = BlamesStore e
 

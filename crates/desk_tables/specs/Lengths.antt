@@ -16,8 +16,8 @@ use Rattle.desk_store.specs.declared.change.Change.TheVariants.{Enrol, Put, Clos
 use Rattle.desk_tables.specs.declared.lengths.Lengths.{Lengths}
 
 -- the last leaf of a span is at most so many positions after its first
-abbrev pub IsShort : ℕ → Span → Type 0
-IsShort longest span = span.last ≤ span.first + longest
+abbrev pub IsBoundedBy : ℕ → Span → Type 0
+IsBoundedBy longest span = span.last ≤ span.first + longest
 
 -- a giant that is kept begins with the span, and ends with it or later
 abbrev pub takes_in : Span → Option Span → Bool
@@ -29,7 +29,7 @@ IsAmong giants span = IsTrue (list_any (takes_in span) giants)
 
 -- no longer than the bound, or one of the giants
 abbrev pub IsKnown : Lengths → Span → Type 0
-IsKnown lengths span = IsShort lengths.bound span ⊎ IsAmong lengths.giants span
+IsKnown lengths span = IsBoundedBy lengths.bound span ⊎ IsAmong lengths.giants span
 
 -- what is known at first is known then
 abbrev pub Keeps : Lengths → Lengths → Type 0

@@ -3,7 +3,7 @@
 ghost use Rattle.std.specs.Prelude.{◌≡◌, ◌≤◌, ◌<◌, ◌≤ℤ◌, ◌↔◌, ℕ, pos, IfOk, IfSome, IsPermutation, IsTrue, OnOk, Some, length};
 ghost use Rattle.std.specs.List.{AllByRecursion, list_any};
 ghost use Rattle.s2_cover.specs.declared.spans.Span.{Span as Range};
-ghost use Rattle.desk_tables.specs.Lengths.{AreWhole, BeginsOrNone, IsAmong, IsKnown, IsKnownBetween, IsLow, IsRoomFor, IsShort};
+ghost use Rattle.desk_tables.specs.Lengths.{AreWhole, BeginsOrNone, IsAmong, IsKnown, IsKnownBetween, IsLow, IsRoomFor, IsBoundedBy};
 ghost use Rattle.desk_tables.specs.Lengths.{IsWithin, Keeps, begins_in, takes_in};
 
 use s2_cover::Span;
@@ -74,7 +74,7 @@ impl Lengths {
 
     // Where a span begins at the earliest that is no giant and may hold a point of an extent.
     fn low(&self, extent: &Slab) -> u64
-        ensures low { IsLow result extent.now (IsShort self.now.bound) }
+        ensures low { IsLow result extent.now (IsBoundedBy self.now.bound) }
         ensures small { result ≤ extent.now.first }
     {
         extent.first.saturating_sub(self.bound)

@@ -14,6 +14,7 @@ use crate::reading::readers;
 use desk_rules::operator::Operator;
 use desk_rules::plan::{PlanRow, States};
 use desk_rules::plan_id::PlanId;
+use desk_sql::laws::settled_and_sound;
 use desk_store::{Change, PlanStore, StoreFault};
 use sqlite::Connection;
 use sqlite_trees::store::Alter;
@@ -66,8 +67,7 @@ impl<S: Alter> SqliteStore<S> {
         ensures value { result ≡ record { held = connection; world = kept.world; faults = 0 } }
         ensures left { IsSettledAt S.Store connection kept.world }
     {
-        let _settled = connection.is_autocommit();
-        let _sound = connection.schema();
+        settled_and_sound(&connection);
         one_content();
         SqliteStore {
             connection,
@@ -155,7 +155,7 @@ impl<S: Alter> PlanStore for SqliteStore<S> {
             change,
         ) {
             Ok(lengths) => {
-                let _sound = self.connection.schema();
+                settled_and_sound(&self.connection);
                 self.kept = Kept::after(&self.kept, change);
                 self.lengths = lengths;
                 Ok(())

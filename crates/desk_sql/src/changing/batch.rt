@@ -1,13 +1,14 @@
-ghost use Rattle.std.specs.Prelude.{◌≡◌, ◌≤◌, IfErr, OnOk, OnErr, IsTrue, map};
+ghost use Rattle.std.specs.Prelude.{◌≡◌, IfErr, OnOk, OnErr, IsTrue, length, map};
 ghost use Rattle.std.specs.String.{string_bytes};
-ghost use Rattle.sqlite.specs.View.{doubt};
 ghost use Rattle.sqlite.specs.Effect.{IsDatabase};
 ghost use Rattle.sqlite.specs.State.{HasCleanDisk, KeepsCommit};
 ghost use Rattle.sqlite.specs.Held.{state};
 ghost use Rattle.desk_sql.specs.Batches.{volume_of, span_of, AddsVolumes, AddsSpans, RemovesPlans, IsUnderWay};
-ghost use Rattle.desk_sql.specs.Effects.{IsReady, Makes, Spares};
+ghost use Rattle.desk_sql.specs.Effects.{IsReady, Makes};
+ghost use Rattle.desk_sql.specs.Frames.{Remembers};
 ghost use Rattle.desk_sql.specs.Finding.{Holds};
 ghost use Rattle.desk_sql.specs.Rows.{RemovesPlan};
+ghost use Rattle.desk_sql.specs.Putting.{AreNewSpans, AreNewVolumes, TakesRoom};
 ghost use Rattle.desk_sql.specs.Refusals.{IsRefusal};
 
 use crate::changing::removing::{remove_plan, remove_plan_text};
@@ -27,11 +28,13 @@ pub fn insert_volumes<S: Alter>(
     ensures undone { HasCleanDisk (state S.Store tx.new.conn.now)
         → OnErr result (KeepsCommit (state S.Store tx.old.conn.now)
         (state S.Store tx.new.conn.now)) }
-    ensures doubt { doubt (state S.Store tx.old.conn.now).is_clean ≤ doubt
-        (state S.Store tx.new.conn.now).is_clean }
-    ensures faults { (state S.Store tx.old.conn.now).faults ≤
-        (state S.Store tx.new.conn.now).faults }
-    ensures spared { Spares S.Store tx.old.conn.now tx.new.conn.now }
+    ensures cause { AreNewVolumes (map volume_of rows.now) (state S.Store tx.old.conn.now).now
+        → HasCleanDisk (state S.Store tx.new.conn.now)
+        → IfErr result (IsRefusal S.Store tx.old.conn.now tx.new.conn.now) }
+    ensures room { HasCleanDisk (state S.Store tx.new.conn.now)
+        → OnOk result (TakesRoom 0 (length rows.now) 0 (state S.Store tx.old.conn.now).now.trees
+        (state S.Store tx.new.conn.now).now.trees) }
+    ensures remembered { Remembers S.Store tx.old.conn.now tx.new.conn.now }
 {
     'rows: for row in rows {
         insert_volume(tx, *row)?;
@@ -52,11 +55,13 @@ pub fn insert_spans<S: Alter>(
     ensures undone { HasCleanDisk (state S.Store tx.new.conn.now)
         → OnErr result (KeepsCommit (state S.Store tx.old.conn.now)
         (state S.Store tx.new.conn.now)) }
-    ensures doubt { doubt (state S.Store tx.old.conn.now).is_clean ≤ doubt
-        (state S.Store tx.new.conn.now).is_clean }
-    ensures faults { (state S.Store tx.old.conn.now).faults ≤
-        (state S.Store tx.new.conn.now).faults }
-    ensures spared { Spares S.Store tx.old.conn.now tx.new.conn.now }
+    ensures cause { AreNewSpans (map span_of rows.now) (state S.Store tx.old.conn.now).now
+        → HasCleanDisk (state S.Store tx.new.conn.now)
+        → IfErr result (IsRefusal S.Store tx.old.conn.now tx.new.conn.now) }
+    ensures room { HasCleanDisk (state S.Store tx.new.conn.now)
+        → OnOk result (TakesRoom 0 0 (length rows.now) (state S.Store tx.old.conn.now).now.trees
+        (state S.Store tx.new.conn.now).now.trees) }
+    ensures remembered { Remembers S.Store tx.old.conn.now tx.new.conn.now }
 {
     'rows: for row in rows {
         insert_span(tx, *row)?;
@@ -83,12 +88,7 @@ pub fn remove_plans<S: Alter>(
     ensures cause { HasCleanDisk (state S.Store tx.new.conn.now)
         → IsTrue (state S.Store tx.new.conn.now).is_open
         → IfErr result (IsRefusal S.Store tx.old.conn.now tx.new.conn.now) }
-    ensures limit { tx.new.conn.now.step_limit ≡ tx.old.conn.now.step_limit }
-    ensures doubt { doubt (state S.Store tx.old.conn.now).is_clean ≤ doubt
-        (state S.Store tx.new.conn.now).is_clean }
-    ensures faults { (state S.Store tx.old.conn.now).faults ≤
-        (state S.Store tx.new.conn.now).faults }
-    ensures spared { Spares S.Store tx.old.conn.now tx.new.conn.now }
+    ensures remembered { Remembers S.Store tx.old.conn.now tx.new.conn.now }
 {
     // Refused on a connection that is shut, also if there are no ids.
     let _statement = tx.prepare(remove_plan_text())?;
@@ -114,12 +114,7 @@ fn remove_one<S: Alter>(
         (state S.Store tx.new.conn.now)) }
     ensures cause { IsUnderWay S.Store tx.old.conn.now → HasCleanDisk (state S.Store tx.new.conn.now)
         → IfErr result (IsRefusal S.Store tx.old.conn.now tx.new.conn.now) }
-    ensures limit { tx.new.conn.now.step_limit ≡ tx.old.conn.now.step_limit }
-    ensures doubt { doubt (state S.Store tx.old.conn.now).is_clean ≤ doubt
-        (state S.Store tx.new.conn.now).is_clean }
-    ensures faults { (state S.Store tx.old.conn.now).faults ≤
-        (state S.Store tx.new.conn.now).faults }
-    ensures spared { Spares S.Store tx.old.conn.now tx.new.conn.now }
+    ensures remembered { Remembers S.Store tx.old.conn.now tx.new.conn.now }
 {
     remove_plan(tx, operator, id)
 }

@@ -1,11 +1,12 @@
-ghost use Rattle.std.specs.Prelude.{◌≡◌, ◌≤◌, ⊤, IfErr, OnOk, OnErr};
-ghost use Rattle.sqlite.specs.View.{doubt};
+ghost use Rattle.std.specs.Prelude.{◌≡◌, ⊤, IfErr, OnOk, OnErr};
 ghost use Rattle.sqlite.specs.State.{HasCleanDisk, KeepsCommit};
 ghost use Rattle.sqlite.specs.Held.{state};
 ghost use Rattle.desk_sql.specs.Rows.{RemovesPlan, RemovesSpans};
-ghost use Rattle.desk_sql.specs.Effects.{IsReady, Makes, Spares};
+ghost use Rattle.desk_sql.specs.Effects.{IsReady, Makes};
+ghost use Rattle.desk_sql.specs.Frames.{Remembers};
 ghost use Rattle.desk_sql.specs.Batches.{IsUnderWay};
 ghost use Rattle.desk_sql.specs.Changing.{IsSureChange};
+ghost use Rattle.desk_sql.specs.Putting.{AddsAtMost, TakesRoom};
 ghost use Rattle.desk_sql.specs.Refusals.{IsRefusal};
 ghost use Rattle.desk_sql.specs.Statements.{Changes, key_row};
 
@@ -16,6 +17,7 @@ use sqlite::{Alter, Error, Transaction, params};
 pub(crate) fn remove_plan_text() -> &'static str
     ensures changed { Changes result.now key_row (λ key. RemovesPlan key.operator key.id) }
     ensures sure { IsSureChange result.now key_row (λ key db. ⊤) }
+    ensures room { AddsAtMost result.now key_row 0 0 0 }
 {
     "DELETE FROM plan WHERE operator = ?1 AND id = ?2"
 }
@@ -36,12 +38,10 @@ pub fn remove_plan<S: Alter>(
         (state S.Store tx.new.conn.now)) }
     ensures cause { IsUnderWay S.Store tx.old.conn.now → HasCleanDisk (state S.Store tx.new.conn.now)
         → IfErr result (IsRefusal S.Store tx.old.conn.now tx.new.conn.now) }
-    ensures limit { tx.new.conn.now.step_limit ≡ tx.old.conn.now.step_limit }
-    ensures doubt { doubt (state S.Store tx.old.conn.now).is_clean ≤ doubt
-        (state S.Store tx.new.conn.now).is_clean }
-    ensures faults { (state S.Store tx.old.conn.now).faults ≤
-        (state S.Store tx.new.conn.now).faults }
-    ensures spared { Spares S.Store tx.old.conn.now tx.new.conn.now }
+    ensures room { HasCleanDisk (state S.Store tx.new.conn.now)
+        → OnOk result (TakesRoom 0 0 0 (state S.Store tx.old.conn.now).now.trees
+        (state S.Store tx.new.conn.now).now.trees) }
+    ensures remembered { Remembers S.Store tx.old.conn.now tx.new.conn.now }
 {
     run(tx, remove_plan_text(), params![operator, id])?;
     Ok(())
@@ -71,12 +71,7 @@ pub fn remove_spans<S: Alter>(
         (state S.Store tx.new.conn.now)) }
     ensures cause { IsUnderWay S.Store tx.old.conn.now → HasCleanDisk (state S.Store tx.new.conn.now)
         → IfErr result (IsRefusal S.Store tx.old.conn.now tx.new.conn.now) }
-    ensures limit { tx.new.conn.now.step_limit ≡ tx.old.conn.now.step_limit }
-    ensures doubt { doubt (state S.Store tx.old.conn.now).is_clean ≤ doubt
-        (state S.Store tx.new.conn.now).is_clean }
-    ensures faults { (state S.Store tx.old.conn.now).faults ≤
-        (state S.Store tx.new.conn.now).faults }
-    ensures spared { Spares S.Store tx.old.conn.now tx.new.conn.now }
+    ensures remembered { Remembers S.Store tx.old.conn.now tx.new.conn.now }
 {
     run(tx, remove_spans_text(), params![operator, id])?;
     Ok(())

@@ -1,9 +1,8 @@
-ghost use Rattle.std.specs.Prelude.{◌≡◌, ◌≤◌, true, IfOk, IfErr, OnErr, IsTrue, Ok, Err};
+ghost use Rattle.std.specs.Prelude.{◌≡◌, true, IfOk, IfErr, OnErr, IsTrue, Ok, Err};
 ghost use Rattle.sqlite.specs.Values.{bound};
-ghost use Rattle.sqlite.specs.View.{doubt};
 ghost use Rattle.sqlite.specs.State.{HasCleanDisk, Executes, ExecutesInside, Shows, KeepsCommit};
 ghost use Rattle.sqlite.specs.Held.{state};
-ghost use Rattle.desk_sql.specs.Effects.{Spares};
+ghost use Rattle.desk_sql.specs.Frames.{Remembers};
 
 use sqlite::{Alter, Error, Transaction};
 use sqlite_value::value::ValueRef;
@@ -28,12 +27,7 @@ pub(crate) fn run<S: Alter>(
         → IsTrue tx.old.conn.now.in_transaction
         → IfErr result (λ e. ExecutesInside 0 statement.now (bound params.now)
         (state S.Store tx.old.conn.now) (state S.Store tx.new.conn.now) (Err e)) }
-    ensures limit { tx.new.conn.now.step_limit ≡ tx.old.conn.now.step_limit }
-    ensures doubt { doubt (state S.Store tx.old.conn.now).is_clean ≤ doubt
-        (state S.Store tx.new.conn.now).is_clean }
-    ensures faults { (state S.Store tx.old.conn.now).faults ≤
-        (state S.Store tx.new.conn.now).faults }
-    ensures spared { Spares S.Store tx.old.conn.now tx.new.conn.now }
+    ensures remembered { Remembers S.Store tx.old.conn.now tx.new.conn.now }
 {
     tx.execute(statement, params)
 }

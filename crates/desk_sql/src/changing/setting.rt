@@ -1,9 +1,9 @@
-ghost use Rattle.std.specs.Prelude.{◌≡◌, ◌≤◌, IfErr, OnOk, OnErr};
-ghost use Rattle.sqlite.specs.View.{doubt};
+ghost use Rattle.std.specs.Prelude.{◌≡◌, IfErr, OnOk, OnErr};
 ghost use Rattle.sqlite.specs.State.{HasCleanDisk, KeepsCommit};
 ghost use Rattle.sqlite.specs.Held.{state};
 ghost use Rattle.desk_sql.specs.Rows.{is_by, is_of, operator_row, plan_row, SetsOperators, SetsPlans};
-ghost use Rattle.desk_sql.specs.Effects.{IsReady, Makes, Spares};
+ghost use Rattle.desk_sql.specs.Effects.{IsReady, Makes};
+ghost use Rattle.desk_sql.specs.Frames.{Remembers};
 ghost use Rattle.desk_sql.specs.Batches.{IsUnderWay};
 ghost use Rattle.desk_sql.specs.Changing.{AreLow, IsShort, IsSureChange};
 ghost use Rattle.desk_sql.specs.Refusals.{IsRefusal};
@@ -39,12 +39,7 @@ pub fn set_ceiling<S: Alter>(
         → AreLow ((state S.Store tx.old.conn.now).now.trees 0)
         → HasCleanDisk (state S.Store tx.new.conn.now)
         → IfErr result (IsRefusal S.Store tx.old.conn.now tx.new.conn.now) }
-    ensures limit { tx.new.conn.now.step_limit ≡ tx.old.conn.now.step_limit }
-    ensures doubt { doubt (state S.Store tx.old.conn.now).is_clean ≤ doubt
-        (state S.Store tx.new.conn.now).is_clean }
-    ensures faults { (state S.Store tx.old.conn.now).faults ≤
-        (state S.Store tx.new.conn.now).faults }
-    ensures spared { Spares S.Store tx.old.conn.now tx.new.conn.now }
+    ensures remembered { Remembers S.Store tx.old.conn.now tx.new.conn.now }
 {
     run(tx, set_ceiling_text(), params![name, ceiling])?;
     Ok(())
@@ -81,12 +76,7 @@ pub fn set_closed<S: Alter>(
         → AreLow ((state S.Store tx.old.conn.now).now.trees 2)
         → HasCleanDisk (state S.Store tx.new.conn.now)
         → IfErr result (IsRefusal S.Store tx.old.conn.now tx.new.conn.now) }
-    ensures limit { tx.new.conn.now.step_limit ≡ tx.old.conn.now.step_limit }
-    ensures doubt { doubt (state S.Store tx.old.conn.now).is_clean ≤ doubt
-        (state S.Store tx.new.conn.now).is_clean }
-    ensures faults { (state S.Store tx.old.conn.now).faults ≤
-        (state S.Store tx.new.conn.now).faults }
-    ensures spared { Spares S.Store tx.old.conn.now tx.new.conn.now }
+    ensures remembered { Remembers S.Store tx.old.conn.now tx.new.conn.now }
 {
     run(
         tx,

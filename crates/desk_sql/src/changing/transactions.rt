@@ -1,5 +1,4 @@
-ghost use Rattle.std.specs.Prelude.{◌≡◌, ◌≤◌, false, OnOk, OnErr, IfOk, IfErr, IsTrue, map};
-ghost use Rattle.sqlite.specs.View.{doubt};
+ghost use Rattle.std.specs.Prelude.{◌≡◌, false, OnOk, OnErr, IfOk, IfErr, IsTrue, map};
 ghost use Rattle.sqlite.specs.State.{HasCleanDisk};
 ghost use Rattle.sqlite.specs.Held.{state};
 ghost use Rattle.desk_sql.specs.Rows.{PutsOperator, ClosesPlan, is_by, plan_row, tables_of};
@@ -7,8 +6,10 @@ ghost use Rattle.std.specs.List.{list_any};
 ghost use Rattle.std.specs.String.{string_bytes};
 ghost use Rattle.desk_sql.specs.Batches.{PutsPlan, RemovesPlans, volume_of, span_of};
 ghost use Rattle.desk_sql.specs.Changing.{AreLow, HasRoom, IsShort};
+ghost use Rattle.desk_sql.specs.Putting.{IsPuttable};
 ghost use Rattle.desk_sql.specs.Refusals.{IsRefusal};
-ghost use Rattle.desk_sql.specs.Effects.{IsReady, IsKept, Commits, MayMake, Spares};
+ghost use Rattle.desk_sql.specs.Effects.{IsReady, IsKept, Commits, MayMake};
+ghost use Rattle.desk_sql.specs.Frames.{OnlyReads, IsOver};
 
 use crate::changing::batch::{insert_spans, insert_volumes, remove_plans};
 use crate::changing::removing::{remove_plan, remove_spans};
@@ -16,6 +17,7 @@ use crate::changing::setting::{set_ceiling, set_closed};
 use crate::changing::writing::{
     PlanRecord, SpanRecord, VolumeRecord, insert_operator, insert_plan,
 };
+use crate::laws::settled_and_sound;
 use crate::reading::queries::operator_named;
 use sqlite::{Alter, Connection, Error};
 
@@ -31,18 +33,14 @@ pub fn clear_plans<S: Alter>(
         → OnOk result (Commits S.Store connection.old connection.new
         (RemovesPlans operator.now (map string_bytes ids.now))) }
     ensures kept { OnErr result (IsKept S.Store connection.old connection.new) }
-    ensures mode { connection.new.in_transaction ≡ false }
     ensures cause { HasCleanDisk (state S.Store connection.new)
         → IsTrue (state S.Store connection.new).is_open
         → IfErr result (IsRefusal S.Store connection.old connection.new) }
-    ensures doubt { doubt (state S.Store connection.old).is_clean ≤ doubt
-        (state S.Store connection.new).is_clean }
-    ensures faults { (state S.Store connection.old).faults ≤ (state S.Store connection.new).faults }
+    ensures over { IsOver S.Store connection.old connection.new }
     ensures crash { MayMake S.Store connection.old connection.new
         (RemovesPlans operator.now (map string_bytes ids.now)) }
 {
-    let _settled = connection.is_autocommit();
-    let _sound = connection.schema();
+    settled_and_sound(connection);
     let mut tx = connection.transaction();
     remove_plans(&mut tx, operator, ids)?;
     tx.commit()
@@ -63,16 +61,20 @@ pub fn put_plan<S: Alter>(
         (plan_row plan.entry.operator.now plan.entry.id.now plan.entry.priority plan.entry.usage
         plan.entry.aircraft) (map volume_of volumes.now) (map span_of spans.now))) }
     ensures kept { OnErr result (IsKept S.Store connection.old connection.new) }
-    ensures mode { connection.new.in_transaction ≡ false }
-    ensures doubt { doubt (state S.Store connection.old).is_clean ≤ doubt
-        (state S.Store connection.new).is_clean }
-    ensures faults { (state S.Store connection.old).faults ≤ (state S.Store connection.new).faults }
+    ensures cause { IsPuttable plan.entry.operator.now plan.entry.id.now
+        (plan_row plan.entry.operator.now plan.entry.id.now plan.entry.priority plan.entry.usage
+        plan.entry.aircraft) (map volume_of volumes.now) (map span_of spans.now)
+        (state S.Store connection.old).now
+        → HasCleanDisk (state S.Store connection.new)
+        → IsTrue (state S.Store connection.new).is_open
+        → IfErr result (IsRefusal S.Store connection.old connection.new) }
+    ensures over { IsOver S.Store connection.old connection.new }
     ensures crash { MayMake S.Store connection.old connection.new
         (PutsPlan plan.entry.operator.now plan.entry.id.now
         (plan_row plan.entry.operator.now plan.entry.id.now plan.entry.priority plan.entry.usage
         plan.entry.aircraft) (map volume_of volumes.now) (map span_of spans.now)) }
 {
-    let _settled = connection.is_autocommit();
+    settled_and_sound(connection);
     let mut tx = connection.transaction();
     remove_plan(&mut tx, plan.operator, plan.id)?;
     insert_plan(
@@ -95,16 +97,10 @@ pub fn is_enrolled<S: Alter>(connection: &mut Connection<S>, name: &str) -> Resu
     ensures value { HasCleanDisk (state S.Store connection.new)
         → IfOk result (λ found. found ≡ list_any (is_by name.now) (tables_of
         (state S.Store connection.old).now.trees).operators) }
-    ensures kept { IsKept S.Store connection.old connection.new }
-    ensures mode { connection.new.in_transaction ≡ false }
     ensures cause { HasCleanDisk (state S.Store connection.new)
         → IsTrue (state S.Store connection.new).is_open
         → IfErr result (IsRefusal S.Store connection.old connection.new) }
-    ensures limit { connection.new.step_limit ≡ connection.old.step_limit }
-    ensures doubt { doubt (state S.Store connection.old).is_clean ≤ doubt
-        (state S.Store connection.new).is_clean }
-    ensures faults { (state S.Store connection.old).faults ≤ (state S.Store connection.new).faults }
-    ensures spared { Spares S.Store connection.old connection.new }
+    ensures reads { OnlyReads S.Store connection.old connection.new }
 {
     let rows = operator_named(connection, name)?;
     Ok(!rows.is_empty())
@@ -122,20 +118,16 @@ pub fn put_operator<S: Alter>(
         → OnOk result (Commits S.Store connection.old connection.new
         (PutsOperator name.now ceiling)) }
     ensures kept { OnErr result (IsKept S.Store connection.old connection.new) }
-    ensures mode { connection.new.in_transaction ≡ false }
     ensures cause { IsShort name.now → HasRoom 1 ((state S.Store connection.old).now.trees 0)
         → HasCleanDisk (state S.Store connection.new)
         → IsTrue (state S.Store connection.new).is_open
         → IfErr result (IsRefusal S.Store connection.old connection.new) }
-    ensures doubt { doubt (state S.Store connection.old).is_clean ≤ doubt
-        (state S.Store connection.new).is_clean }
-    ensures faults { (state S.Store connection.old).faults ≤ (state S.Store connection.new).faults }
+    ensures over { IsOver S.Store connection.old connection.new }
     ensures crash { MayMake S.Store connection.old connection.new
         (PutsOperator name.now ceiling) }
 {
     let is_there = is_enrolled(connection, name)?;
-    let _settled = connection.is_autocommit();
-    let _sound = connection.schema();
+    settled_and_sound(connection);
     let mut tx = connection.transaction();
     if is_there {
         set_ceiling(&mut tx, name, ceiling)?;
@@ -160,20 +152,16 @@ pub fn close_plan<S: Alter>(
         → OnOk result (Commits S.Store connection.old connection.new
         (ClosesPlan operator.now id.now priority aircraft)) }
     ensures kept { OnErr result (IsKept S.Store connection.old connection.new) }
-    ensures mode { connection.new.in_transaction ≡ false }
     ensures cause { IsShort operator.now → IsShort id.now
         → AreLow ((state S.Store connection.old).now.trees 2)
         → HasCleanDisk (state S.Store connection.new)
         → IsTrue (state S.Store connection.new).is_open
         → IfErr result (IsRefusal S.Store connection.old connection.new) }
-    ensures doubt { doubt (state S.Store connection.old).is_clean ≤ doubt
-        (state S.Store connection.new).is_clean }
-    ensures faults { (state S.Store connection.old).faults ≤ (state S.Store connection.new).faults }
+    ensures over { IsOver S.Store connection.old connection.new }
     ensures crash { MayMake S.Store connection.old connection.new
         (ClosesPlan operator.now id.now priority aircraft) }
 {
-    let _settled = connection.is_autocommit();
-    let _sound = connection.schema();
+    settled_and_sound(connection);
     let mut tx = connection.transaction();
     set_closed(&mut tx, operator, id, priority, aircraft)?;
     remove_spans(&mut tx, operator, id)?;

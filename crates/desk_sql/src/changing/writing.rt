@@ -1,11 +1,12 @@
-ghost use Rattle.std.specs.Prelude.{◌≡◌, ◌≤◌, IfErr, OnOk, OnErr};
-ghost use Rattle.sqlite.specs.View.{doubt};
+ghost use Rattle.std.specs.Prelude.{◌≡◌, IfErr, OnOk, OnErr};
 ghost use Rattle.sqlite.specs.State.{HasCleanDisk, KeepsCommit};
 ghost use Rattle.sqlite.specs.Held.{state};
 ghost use Rattle.desk_sql.specs.Rows.{operator_row, plan_row, volume_row, span_row, AddsOperator, AddsPlan, AddsVolume, AddsSpan};
-ghost use Rattle.desk_sql.specs.Effects.{IsReady, Makes, Spares};
+ghost use Rattle.desk_sql.specs.Effects.{IsReady, Makes};
+ghost use Rattle.desk_sql.specs.Frames.{Remembers};
 ghost use Rattle.desk_sql.specs.Batches.{volume_of, span_of, IsUnderWay};
 ghost use Rattle.desk_sql.specs.Changing.{FitsOperator, FitsPlan, FitsVolume, FitsSpan, IsSureChange};
+ghost use Rattle.desk_sql.specs.Putting.{AddsAtMost, TakesRoom};
 ghost use Rattle.desk_sql.specs.Refusals.{IsRefusal};
 ghost use Rattle.desk_sql.specs.Statements.{Changes, ceiling_row, row_of};
 
@@ -77,12 +78,7 @@ pub fn insert_operator<S: Alter>(
     ensures cause { IsUnderWay S.Store tx.old.conn.now → FitsOperator name.now (operator_row name.now ceiling)
         (state S.Store tx.old.conn.now).now → HasCleanDisk (state S.Store tx.new.conn.now)
         → IfErr result (IsRefusal S.Store tx.old.conn.now tx.new.conn.now) }
-    ensures limit { tx.new.conn.now.step_limit ≡ tx.old.conn.now.step_limit }
-    ensures doubt { doubt (state S.Store tx.old.conn.now).is_clean ≤ doubt
-        (state S.Store tx.new.conn.now).is_clean }
-    ensures faults { (state S.Store tx.old.conn.now).faults ≤
-        (state S.Store tx.new.conn.now).faults }
-    ensures spared { Spares S.Store tx.old.conn.now tx.new.conn.now }
+    ensures remembered { Remembers S.Store tx.old.conn.now tx.new.conn.now }
 {
     run(tx, insert_operator_text(), params![name, ceiling])?;
     Ok(())
@@ -93,6 +89,7 @@ fn insert_plan_text() -> &'static str
     ensures changed { Changes result.now row_of (λ p. AddsPlan (row_of p)) }
     ensures sure { IsSureChange result.now row_of
         (λ p. FitsPlan p.operator.now p.id.now (row_of p)) }
+    ensures room { AddsAtMost result.now row_of 1 0 0 }
 {
     "INSERT INTO plan (operator, id, priority, usage, aircraft) VALUES (?1, ?2, ?3, ?4, ?5)"
 }
@@ -118,12 +115,10 @@ pub fn insert_plan<S: Alter>(
         (plan_row operator.now id.now priority usage aircraft)
         (state S.Store tx.old.conn.now).now → HasCleanDisk (state S.Store tx.new.conn.now)
         → IfErr result (IsRefusal S.Store tx.old.conn.now tx.new.conn.now) }
-    ensures limit { tx.new.conn.now.step_limit ≡ tx.old.conn.now.step_limit }
-    ensures doubt { doubt (state S.Store tx.old.conn.now).is_clean ≤ doubt
-        (state S.Store tx.new.conn.now).is_clean }
-    ensures faults { (state S.Store tx.old.conn.now).faults ≤
-        (state S.Store tx.new.conn.now).faults }
-    ensures spared { Spares S.Store tx.old.conn.now tx.new.conn.now }
+    ensures room { HasCleanDisk (state S.Store tx.new.conn.now)
+        → OnOk result (TakesRoom 1 0 0 (state S.Store tx.old.conn.now).now.trees
+        (state S.Store tx.new.conn.now).now.trees) }
+    ensures remembered { Remembers S.Store tx.old.conn.now tx.new.conn.now }
 {
     run(
         tx,
@@ -138,6 +133,7 @@ fn insert_volume_text() -> &'static str
     ensures changed { Changes result.now volume_of (λ v. AddsVolume (volume_of v)) }
     ensures sure { IsSureChange result.now volume_of
         (λ v. FitsVolume v.operator.now v.id.now v.asked.now (volume_of v)) }
+    ensures room { AddsAtMost result.now volume_of 0 1 0 }
 {
     "INSERT INTO volume (operator, id, place, lower, upper, start, stop, asked) \
      VALUES (?1, ?2, ?3, ?4, ?5, ?6, ?7, ?8)"
@@ -162,12 +158,10 @@ pub fn insert_volume<S: Alter>(
         row.entry.lower row.entry.upper row.entry.start row.entry.stop row.entry.asked.now)
         (state S.Store tx.old.conn.now).now → HasCleanDisk (state S.Store tx.new.conn.now)
         → IfErr result (IsRefusal S.Store tx.old.conn.now tx.new.conn.now) }
-    ensures limit { tx.new.conn.now.step_limit ≡ tx.old.conn.now.step_limit }
-    ensures doubt { doubt (state S.Store tx.old.conn.now).is_clean ≤ doubt
-        (state S.Store tx.new.conn.now).is_clean }
-    ensures faults { (state S.Store tx.old.conn.now).faults ≤
-        (state S.Store tx.new.conn.now).faults }
-    ensures spared { Spares S.Store tx.old.conn.now tx.new.conn.now }
+    ensures room { HasCleanDisk (state S.Store tx.new.conn.now)
+        → OnOk result (TakesRoom 0 1 0 (state S.Store tx.old.conn.now).now.trees
+        (state S.Store tx.new.conn.now).now.trees) }
+    ensures remembered { Remembers S.Store tx.old.conn.now tx.new.conn.now }
 {
     run(
         tx,
@@ -191,6 +185,7 @@ fn insert_span_text() -> &'static str
     ensures changed { Changes result.now span_of (λ s. AddsSpan (span_of s)) }
     ensures sure { IsSureChange result.now span_of
         (λ s. FitsSpan s.operator.now s.id.now (span_of s)) }
+    ensures room { AddsAtMost result.now span_of 0 0 1 }
 {
     "INSERT INTO span (operator, id, place, first, last, lower, upper, start, stop, priority) \
      VALUES (?1, ?2, ?3, ?4, ?5, ?6, ?7, ?8, ?9, ?10)"
@@ -214,12 +209,10 @@ pub fn insert_span<S: Alter>(tx: &mut Transaction<'_, S>, row: SpanRecord<'_>) -
         row.entry.priority)
         (state S.Store tx.old.conn.now).now → HasCleanDisk (state S.Store tx.new.conn.now)
         → IfErr result (IsRefusal S.Store tx.old.conn.now tx.new.conn.now) }
-    ensures limit { tx.new.conn.now.step_limit ≡ tx.old.conn.now.step_limit }
-    ensures doubt { doubt (state S.Store tx.old.conn.now).is_clean ≤ doubt
-        (state S.Store tx.new.conn.now).is_clean }
-    ensures faults { (state S.Store tx.old.conn.now).faults ≤
-        (state S.Store tx.new.conn.now).faults }
-    ensures spared { Spares S.Store tx.old.conn.now tx.new.conn.now }
+    ensures room { HasCleanDisk (state S.Store tx.new.conn.now)
+        → OnOk result (TakesRoom 0 0 1 (state S.Store tx.old.conn.now).now.trees
+        (state S.Store tx.new.conn.now).now.trees) }
+    ensures remembered { Remembers S.Store tx.old.conn.now tx.new.conn.now }
 {
     run(
         tx,

@@ -1,5 +1,4 @@
-ghost use Rattle.std.specs.Prelude.{◌≡◌, ◌≤◌, false, IsTrue, OnOk, OnErr};
-ghost use Rattle.sqlite.specs.View.{doubt};
+ghost use Rattle.std.specs.Prelude.{◌≡◌, false, OnOk, OnErr};
 ghost use Rattle.sqlite.specs.State.{HasCleanDisk, KeepsCommit};
 ghost use Rattle.sqlite.specs.Held.{state};
 ghost use Rattle.desk_sql.specs.Schema.{blank_schema, table_schema};
@@ -7,10 +6,12 @@ ghost use Rattle.desk_sql.specs.Making.{first_schema, second_schema, third_schem
 ghost use Rattle.desk_sql.specs.Making.{AreEmpty, AreSame};
 ghost use Rattle.desk_sql.specs.Rows.{IsUnindexed};
 ghost use Rattle.desk_sql.specs.Finding.{Holds};
-ghost use Rattle.desk_sql.specs.Effects.{IsKept, Commits, Makes, MayMake, Spares};
+ghost use Rattle.desk_sql.specs.Effects.{IsKept, Commits, Makes, MayMake};
+ghost use Rattle.desk_sql.specs.Frames.{Remembers, IsOver};
 ghost use Rattle.desk_sql.specs.Statements.{Extends, AddsIndex};
 
 use crate::changing::run::run;
+use crate::laws::settled_and_sound;
 use sqlite::{Alter, Connection, Error, Transaction};
 
 #[tactic(auto, using(crate::proofs::CreateLemmas::operator_extends))]
@@ -28,11 +29,7 @@ fn make_operator<S: Alter>(tx: &mut Transaction<'_, S>) -> Result<(), Error>
     ensures undone { HasCleanDisk (state S.Store tx.new.conn.now)
         → OnErr result (KeepsCommit (state S.Store tx.old.conn.now)
         (state S.Store tx.new.conn.now)) }
-    ensures doubt { doubt (state S.Store tx.old.conn.now).is_clean ≤ doubt
-        (state S.Store tx.new.conn.now).is_clean }
-    ensures faults { (state S.Store tx.old.conn.now).faults ≤
-        (state S.Store tx.new.conn.now).faults }
-    ensures spared { Spares S.Store tx.old.conn.now tx.new.conn.now }
+    ensures remembered { Remembers S.Store tx.old.conn.now tx.new.conn.now }
 {
     run(tx, make_operator_text(), &[])?;
     Ok(())
@@ -55,11 +52,7 @@ fn make_plan<S: Alter>(tx: &mut Transaction<'_, S>) -> Result<(), Error>
     ensures undone { HasCleanDisk (state S.Store tx.new.conn.now)
         → OnErr result (KeepsCommit (state S.Store tx.old.conn.now)
         (state S.Store tx.new.conn.now)) }
-    ensures doubt { doubt (state S.Store tx.old.conn.now).is_clean ≤ doubt
-        (state S.Store tx.new.conn.now).is_clean }
-    ensures faults { (state S.Store tx.old.conn.now).faults ≤
-        (state S.Store tx.new.conn.now).faults }
-    ensures spared { Spares S.Store tx.old.conn.now tx.new.conn.now }
+    ensures remembered { Remembers S.Store tx.old.conn.now tx.new.conn.now }
 {
     run(tx, make_plan_text(), &[])?;
     Ok(())
@@ -83,11 +76,7 @@ fn make_volume<S: Alter>(tx: &mut Transaction<'_, S>) -> Result<(), Error>
     ensures undone { HasCleanDisk (state S.Store tx.new.conn.now)
         → OnErr result (KeepsCommit (state S.Store tx.old.conn.now)
         (state S.Store tx.new.conn.now)) }
-    ensures doubt { doubt (state S.Store tx.old.conn.now).is_clean ≤ doubt
-        (state S.Store tx.new.conn.now).is_clean }
-    ensures faults { (state S.Store tx.old.conn.now).faults ≤
-        (state S.Store tx.new.conn.now).faults }
-    ensures spared { Spares S.Store tx.old.conn.now tx.new.conn.now }
+    ensures remembered { Remembers S.Store tx.old.conn.now tx.new.conn.now }
 {
     run(tx, make_volume_text(), &[])?;
     Ok(())
@@ -112,11 +101,7 @@ fn make_span<S: Alter>(tx: &mut Transaction<'_, S>) -> Result<(), Error>
     ensures undone { HasCleanDisk (state S.Store tx.new.conn.now)
         → OnErr result (KeepsCommit (state S.Store tx.old.conn.now)
         (state S.Store tx.new.conn.now)) }
-    ensures doubt { doubt (state S.Store tx.old.conn.now).is_clean ≤ doubt
-        (state S.Store tx.new.conn.now).is_clean }
-    ensures faults { (state S.Store tx.old.conn.now).faults ≤
-        (state S.Store tx.new.conn.now).faults }
-    ensures spared { Spares S.Store tx.old.conn.now tx.new.conn.now }
+    ensures remembered { Remembers S.Store tx.old.conn.now tx.new.conn.now }
 {
     run(tx, make_span_text(), &[])?;
     Ok(())
@@ -139,11 +124,7 @@ fn make_first<S: Alter>(tx: &mut Transaction<'_, S>) -> Result<(), Error>
     ensures undone { HasCleanDisk (state S.Store tx.new.conn.now)
         → OnErr result (KeepsCommit (state S.Store tx.old.conn.now)
         (state S.Store tx.new.conn.now)) }
-    ensures doubt { doubt (state S.Store tx.old.conn.now).is_clean ≤ doubt
-        (state S.Store tx.new.conn.now).is_clean }
-    ensures faults { (state S.Store tx.old.conn.now).faults ≤
-        (state S.Store tx.new.conn.now).faults }
-    ensures spared { Spares S.Store tx.old.conn.now tx.new.conn.now }
+    ensures remembered { Remembers S.Store tx.old.conn.now tx.new.conn.now }
 {
     run(tx, make_first_text(), &[])?;
     Ok(())
@@ -156,13 +137,10 @@ pub fn index_tables<S: Alter>(connection: &mut Connection<S>) -> Result<(), Erro
     ensures done { HasCleanDisk (state S.Store connection.new)
         → OnOk result (Commits S.Store connection.old connection.new AreSame) }
     ensures kept { OnErr result (IsKept S.Store connection.old connection.new) }
-    ensures mode { connection.new.in_transaction ≡ false }
-    ensures doubt { doubt (state S.Store connection.old).is_clean ≤ doubt
-        (state S.Store connection.new).is_clean }
-    ensures faults { (state S.Store connection.old).faults ≤ (state S.Store connection.new).faults }
+    ensures over { IsOver S.Store connection.old connection.new }
     ensures crash { MayMake S.Store connection.old connection.new AreSame }
 {
-    let _settled = connection.is_autocommit();
+    settled_and_sound(connection);
     let mut tx = connection.transaction();
     make_first(&mut tx)?;
     tx.commit()
@@ -175,13 +153,10 @@ pub fn make_tables<S: Alter>(connection: &mut Connection<S>) -> Result<(), Error
     ensures done { HasCleanDisk (state S.Store connection.new)
         → OnOk result (Commits S.Store connection.old connection.new AreEmpty) }
     ensures kept { OnErr result (IsKept S.Store connection.old connection.new) }
-    ensures mode { connection.new.in_transaction ≡ false }
-    ensures doubt { doubt (state S.Store connection.old).is_clean ≤ doubt
-        (state S.Store connection.new).is_clean }
-    ensures faults { (state S.Store connection.old).faults ≤ (state S.Store connection.new).faults }
+    ensures over { IsOver S.Store connection.old connection.new }
     ensures crash { MayMake S.Store connection.old connection.new AreEmpty }
 {
-    let _settled = connection.is_autocommit();
+    settled_and_sound(connection);
     let mut tx = connection.transaction();
     make_operator(&mut tx)?;
     make_plan(&mut tx)?;

@@ -1,16 +1,15 @@
 //! Whether the rowids of the tables are whole numbers, none of them twice.
 
-ghost use Rattle.std.specs.Prelude.{◌≡◌, ◌≤◌, ◌↔◌, [], ◌∷◌, false, IsTrue, OnOk, OnErr, IfErr};
+ghost use Rattle.std.specs.Prelude.{◌≡◌, ◌↔◌, [], ◌∷◌, false, IsTrue, OnOk, OnErr, IfErr};
 ghost use Rattle.sqlite.specs.Tree.{rowid};
-ghost use Rattle.sqlite.specs.View.{doubt};
 ghost use Rattle.sqlite.specs.State.{HasCleanDisk};
 ghost use Rattle.sqlite.specs.Held.{state};
 ghost use Rattle.desk_sql.specs.Schema.{HasTables};
 ghost use Rattle.desk_sql.specs.Rows.{AreNumbered, IsLegible};
-ghost use Rattle.desk_sql.specs.Effects.{IsKept, Spares};
 ghost use Rattle.desk_sql.specs.Refusals.{IsUnread};
 ghost use Rattle.desk_sql.specs.Statements.{SelectsAll, rowids};
-ghost use Rattle.desk_sql.specs.Finding.{Holds, AreRising, next_above};
+ghost use Rattle.desk_sql.specs.Finding.{Holds, AreRising, next_above, tree_of};
+ghost use Rattle.desk_sql.specs.Frames.{OnlyReads};
 
 use crate::reading::asking::ask;
 use sqlite::{Alter, Connection, Error, ErrorCode, Row};
@@ -58,107 +57,38 @@ fn test_rising(rows: &[Row]) -> Result<(), Error>
     }
 }
 
-#[tactic(auto, using(crate::proofs::RowidLemmas::operator_rowids_selected))]
-fn operator_rowids_text() -> &'static str
-    ensures { SelectsAll result.now (0 ∷ []) (λ db. rowids (db 0)) }
-{
-    "SELECT rowid FROM operator ORDER BY rowid"
+/// One of the four tables of a desk.
+#[derive(Clone, Copy)]
+pub(crate) enum DeskTable {
+    Operator,
+    Plan,
+    Volume,
+    Span,
 }
 
-fn test_operators<S: Alter>(connection: &mut Connection<S>) -> Result<(), Error>
+fn rowids_text(table: DeskTable) -> &'static str
+    ensures { SelectsAll result.now (0 ∷ []) (λ db. rowids (db (tree_of table))) }
+{
+    match table {
+        DeskTable::Operator => "SELECT rowid FROM operator ORDER BY rowid",
+        DeskTable::Plan => "SELECT rowid FROM plan ORDER BY rowid",
+        DeskTable::Volume => "SELECT rowid FROM volume ORDER BY rowid",
+        DeskTable::Span => "SELECT rowid FROM span ORDER BY rowid",
+    }
+}
+
+/// Tests the rowids of a table.
+fn test_rowids<S: Alter>(connection: &mut Connection<S>, table: DeskTable) -> Result<(), Error>
     requires known { Holds S.Store connection.old HasTables }
     requires settled { connection.old.in_transaction ≡ false }
-    ensures numbered { OnOk result (Holds S.Store connection.new (λ db. AreNumbered (db.trees 0))) }
+    ensures numbered { OnOk result (Holds S.Store connection.new
+        (λ db. AreNumbered (db.trees (tree_of table)))) }
     ensures cause { HasCleanDisk (state S.Store connection.new)
         → IsTrue (state S.Store connection.new).is_open
         → IfErr result (IsUnread S.Store connection.old connection.new) }
-    ensures kept { IsKept S.Store connection.old connection.new }
-    ensures mode { connection.new.in_transaction ≡ false }
-    ensures limit { connection.new.step_limit ≡ connection.old.step_limit }
-    ensures doubt { doubt (state S.Store connection.old).is_clean ≤ doubt
-        (state S.Store connection.new).is_clean }
-    ensures faults { (state S.Store connection.old).faults ≤ (state S.Store connection.new).faults }
-    ensures spared { Spares S.Store connection.old connection.new }
+    ensures reads { OnlyReads S.Store connection.old connection.new }
 {
-    let rows = ask(connection, operator_rowids_text())?;
-    test_rising(&rows)
-}
-
-#[tactic(auto, using(crate::proofs::RowidLemmas::plan_rowids_selected))]
-fn plan_rowids_text() -> &'static str
-    ensures { SelectsAll result.now (0 ∷ []) (λ db. rowids (db 2)) }
-{
-    "SELECT rowid FROM plan ORDER BY rowid"
-}
-
-fn test_plans<S: Alter>(connection: &mut Connection<S>) -> Result<(), Error>
-    requires known { Holds S.Store connection.old HasTables }
-    requires settled { connection.old.in_transaction ≡ false }
-    ensures numbered { OnOk result (Holds S.Store connection.new (λ db. AreNumbered (db.trees 2))) }
-    ensures cause { HasCleanDisk (state S.Store connection.new)
-        → IsTrue (state S.Store connection.new).is_open
-        → IfErr result (IsUnread S.Store connection.old connection.new) }
-    ensures kept { IsKept S.Store connection.old connection.new }
-    ensures mode { connection.new.in_transaction ≡ false }
-    ensures limit { connection.new.step_limit ≡ connection.old.step_limit }
-    ensures doubt { doubt (state S.Store connection.old).is_clean ≤ doubt
-        (state S.Store connection.new).is_clean }
-    ensures faults { (state S.Store connection.old).faults ≤ (state S.Store connection.new).faults }
-    ensures spared { Spares S.Store connection.old connection.new }
-{
-    let rows = ask(connection, plan_rowids_text())?;
-    test_rising(&rows)
-}
-
-#[tactic(auto, using(crate::proofs::RowidLemmas::volume_rowids_selected))]
-fn volume_rowids_text() -> &'static str
-    ensures { SelectsAll result.now (0 ∷ []) (λ db. rowids (db 4)) }
-{
-    "SELECT rowid FROM volume ORDER BY rowid"
-}
-
-fn test_volumes<S: Alter>(connection: &mut Connection<S>) -> Result<(), Error>
-    requires known { Holds S.Store connection.old HasTables }
-    requires settled { connection.old.in_transaction ≡ false }
-    ensures numbered { OnOk result (Holds S.Store connection.new (λ db. AreNumbered (db.trees 4))) }
-    ensures cause { HasCleanDisk (state S.Store connection.new)
-        → IsTrue (state S.Store connection.new).is_open
-        → IfErr result (IsUnread S.Store connection.old connection.new) }
-    ensures kept { IsKept S.Store connection.old connection.new }
-    ensures mode { connection.new.in_transaction ≡ false }
-    ensures limit { connection.new.step_limit ≡ connection.old.step_limit }
-    ensures doubt { doubt (state S.Store connection.old).is_clean ≤ doubt
-        (state S.Store connection.new).is_clean }
-    ensures faults { (state S.Store connection.old).faults ≤ (state S.Store connection.new).faults }
-    ensures spared { Spares S.Store connection.old connection.new }
-{
-    let rows = ask(connection, volume_rowids_text())?;
-    test_rising(&rows)
-}
-
-#[tactic(auto, using(crate::proofs::RowidLemmas::span_rowids_selected))]
-fn span_rowids_text() -> &'static str
-    ensures { SelectsAll result.now (0 ∷ []) (λ db. rowids (db 6)) }
-{
-    "SELECT rowid FROM span ORDER BY rowid"
-}
-
-fn test_spans<S: Alter>(connection: &mut Connection<S>) -> Result<(), Error>
-    requires known { Holds S.Store connection.old HasTables }
-    requires settled { connection.old.in_transaction ≡ false }
-    ensures numbered { OnOk result (Holds S.Store connection.new (λ db. AreNumbered (db.trees 6))) }
-    ensures cause { HasCleanDisk (state S.Store connection.new)
-        → IsTrue (state S.Store connection.new).is_open
-        → IfErr result (IsUnread S.Store connection.old connection.new) }
-    ensures kept { IsKept S.Store connection.old connection.new }
-    ensures mode { connection.new.in_transaction ≡ false }
-    ensures limit { connection.new.step_limit ≡ connection.old.step_limit }
-    ensures doubt { doubt (state S.Store connection.old).is_clean ≤ doubt
-        (state S.Store connection.new).is_clean }
-    ensures faults { (state S.Store connection.old).faults ≤ (state S.Store connection.new).faults }
-    ensures spared { Spares S.Store connection.old connection.new }
-{
-    let rows = ask(connection, span_rowids_text())?;
+    let rows = ask(connection, rowids_text(table))?;
     test_rising(&rows)
 }
 
@@ -174,16 +104,10 @@ pub(crate) fn test_tables<S: Alter>(connection: &mut Connection<S>) -> Result<()
     ensures cause { HasCleanDisk (state S.Store connection.new)
         → IsTrue (state S.Store connection.new).is_open
         → IfErr result (IsUnread S.Store connection.old connection.new) }
-    ensures kept { IsKept S.Store connection.old connection.new }
-    ensures mode { connection.new.in_transaction ≡ false }
-    ensures limit { connection.new.step_limit ≡ connection.old.step_limit }
-    ensures doubt { doubt (state S.Store connection.old).is_clean ≤ doubt
-        (state S.Store connection.new).is_clean }
-    ensures faults { (state S.Store connection.old).faults ≤ (state S.Store connection.new).faults }
-    ensures spared { Spares S.Store connection.old connection.new }
+    ensures reads { OnlyReads S.Store connection.old connection.new }
 {
-    test_operators(connection)?;
-    test_plans(connection)?;
-    test_volumes(connection)?;
-    test_spans(connection)
+    test_rowids(connection, DeskTable::Operator)?;
+    test_rowids(connection, DeskTable::Plan)?;
+    test_rowids(connection, DeskTable::Volume)?;
+    test_rowids(connection, DeskTable::Span)
 }

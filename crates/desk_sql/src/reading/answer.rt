@@ -1,14 +1,15 @@
-ghost use Rattle.std.specs.Prelude.{◌≡◌, ◌≤◌, false, IfOk, IfErr, OnOk, IsTrue};
+ghost use Rattle.std.specs.Prelude.{◌≡◌, false, IfOk, IfErr, OnOk, IsTrue};
 ghost use Rattle.sqlite.specs.Values.{bound};
-ghost use Rattle.sqlite.specs.View.{doubt};
 ghost use Rattle.sqlite.specs.State.{HasCleanDisk, Shown};
 ghost use Rattle.sqlite.specs.Held.{state};
 ghost use Rattle.sqlite.specs.Given.{IsPlain};
 ghost use Rattle.sqlite.specs.Listing.{understood};
 ghost use Rattle.desk_sql.specs.Schema.{desk_schema};
-ghost use Rattle.desk_sql.specs.Effects.{IsReady, IsKept, Spares};
+ghost use Rattle.desk_sql.specs.Effects.{IsReady};
+ghost use Rattle.desk_sql.specs.Frames.{OnlyReads};
 ghost use Rattle.desk_sql.specs.Refusals.{IsRefusal, IsSureGiven};
 
+use crate::laws::settled_and_sound;
 use sqlite::{Alter, Connection, Error, Row};
 use sqlite_value::value::ValueRef;
 
@@ -30,15 +31,9 @@ pub(crate) fn answer<S: Alter>(
     ensures cause { HasCleanDisk (state S.Store connection.new)
         → IsTrue (state S.Store connection.new).is_open
         → IfErr result (IsRefusal S.Store connection.old connection.new) }
-    ensures kept { IsKept S.Store connection.old connection.new }
-    ensures mode { connection.new.in_transaction ≡ false }
-    ensures limit { connection.new.step_limit ≡ connection.old.step_limit }
-    ensures doubt { doubt (state S.Store connection.old).is_clean ≤ doubt
-        (state S.Store connection.new).is_clean }
-    ensures faults { (state S.Store connection.old).faults ≤ (state S.Store connection.new).faults }
-    ensures spared { Spares S.Store connection.old connection.new }
+    ensures reads { OnlyReads S.Store connection.old connection.new }
 {
-    let _settled = connection.is_autocommit();
+    settled_and_sound(connection);
     // Refused on a connection that is shut, whose schema is not known.
     let statement = connection.prepare(query)?;
     statement.query_all(connection, params)

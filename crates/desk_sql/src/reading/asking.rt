@@ -1,12 +1,12 @@
-ghost use Rattle.std.specs.Prelude.{◌≡◌, ◌≤◌, [], false, IfOk, IfErr, OnOk, IsTrue};
-ghost use Rattle.sqlite.specs.View.{doubt};
+ghost use Rattle.std.specs.Prelude.{◌≡◌, [], false, IfOk, IfErr, OnOk, IsTrue};
 ghost use Rattle.sqlite.specs.State.{HasCleanDisk, Shown};
 ghost use Rattle.sqlite.specs.Held.{state};
-ghost use Rattle.desk_sql.specs.Effects.{IsKept, Spares};
 ghost use Rattle.desk_sql.specs.Schema.{HasTables};
 ghost use Rattle.desk_sql.specs.Finding.{Holds};
 ghost use Rattle.desk_sql.specs.Refusals.{IsSure, IsRefusal};
+ghost use Rattle.desk_sql.specs.Frames.{OnlyReads};
 
+use crate::laws::settled_and_sound;
 use sqlite::{Alter, Connection, Error, Row};
 
 /// All rows of a query with no parameters of a desk's tables, with the index or without it. The rows of the
@@ -23,15 +23,9 @@ pub(crate) fn ask<S: Alter>(connection: &mut Connection<S>, query: &str) -> Resu
     ensures cause { HasCleanDisk (state S.Store connection.new)
         → IsTrue (state S.Store connection.new).is_open
         → IfErr result (IsRefusal S.Store connection.old connection.new) }
-    ensures kept { IsKept S.Store connection.old connection.new }
-    ensures mode { connection.new.in_transaction ≡ false }
-    ensures limit { connection.new.step_limit ≡ connection.old.step_limit }
-    ensures doubt { doubt (state S.Store connection.old).is_clean ≤ doubt
-        (state S.Store connection.new).is_clean }
-    ensures faults { (state S.Store connection.old).faults ≤ (state S.Store connection.new).faults }
-    ensures spared { Spares S.Store connection.old connection.new }
+    ensures reads { OnlyReads S.Store connection.old connection.new }
 {
-    let _settled = connection.is_autocommit();
+    settled_and_sound(connection);
     // Refused on a connection that is shut, whose schema is not known.
     let statement = connection.prepare(query)?;
     statement.query_all(connection, &[])

@@ -2,11 +2,11 @@ ghost use Rattle.std.specs.Prelude.{◌≡◌, ◌≢◌, ◌≤◌, ◌<◌, �
 ghost use Rattle.std.specs.Prelude.{◌⊎◌, false, IfOk, IfErr, OnOk, IsTrue};
 ghost use Rattle.sqlite.specs.declared.types.Value.{Value};
 ghost use Rattle.sqlite.specs.declared.types.Value.TheVariants.{Int};
-ghost use Rattle.sqlite.specs.View.{doubt};
 ghost use Rattle.sqlite.specs.State.{HasCleanDisk};
 ghost use Rattle.sqlite.specs.Held.{state};
 ghost use Rattle.desk_sql.specs.Rows.{is_by, tables_of};
-ghost use Rattle.desk_sql.specs.Effects.{IsReady, IsKept, Spares};
+ghost use Rattle.desk_sql.specs.Effects.{IsReady};
+ghost use Rattle.desk_sql.specs.Frames.{OnlyReads};
 ghost use Rattle.desk_sql.specs.Refusals.{IsRefusal, IsSureFor};
 ghost use Rattle.desk_sql.specs.Statements.{Selects, counted, name_row};
 
@@ -54,12 +54,7 @@ pub fn own_count<S: Alter>(connection: &mut Connection<S>, operator: &str) -> Re
         → IfErr result (λ e. e ≢ Error.SqliteFailure ErrorCode.OutOfMemory →
         IsRefusal S.Store connection.old connection.new e ⊎ (2 ^ 32 ≤ length (filter (is_by operator.now)
         (tables_of (state S.Store connection.old).now.trees).plans))) }
-    ensures kept { IsKept S.Store connection.old connection.new }
-    ensures mode { connection.new.in_transaction ≡ false }
-    ensures doubt { doubt (state S.Store connection.old).is_clean ≤ doubt
-        (state S.Store connection.new).is_clean }
-    ensures faults { (state S.Store connection.old).faults ≤ (state S.Store connection.new).faults }
-    ensures spared { Spares S.Store connection.old connection.new }
+    ensures reads { OnlyReads S.Store connection.old connection.new }
 {
     let rows = answer(connection, own_count_text(), params![operator])?;
     count_in(&rows)

@@ -1,10 +1,10 @@
-ghost use Rattle.std.specs.Prelude.{◌≡◌, ◌≤◌, List, [], ◌∷◌, false, IfOk, IfErr, OnOk, IsTrue, filter};
+ghost use Rattle.std.specs.Prelude.{◌≡◌, List, [], ◌∷◌, false, IfOk, IfErr, OnOk, IsTrue, filter};
 ghost use Rattle.sqlite.specs.Order.{Row as Values};
-ghost use Rattle.sqlite.specs.View.{doubt};
 ghost use Rattle.sqlite.specs.State.{HasCleanDisk};
 ghost use Rattle.sqlite.specs.Held.{state};
 ghost use Rattle.desk_sql.specs.Rows.{is_by, is_of, tables_of, with_volumes, Lists};
-ghost use Rattle.desk_sql.specs.Effects.{IsReady, IsKept, Spares};
+ghost use Rattle.desk_sql.specs.Effects.{IsReady};
+ghost use Rattle.desk_sql.specs.Frames.{OnlyReads};
 ghost use Rattle.desk_sql.specs.Refusals.{IsRefusal, IsSureFor};
 ghost use Rattle.desk_sql.specs.Statements.{Selects, name_row, key_row};
 ghost use Rattle.desk_sql.specs.Taking.{IsCutShort};
@@ -36,13 +36,7 @@ pub fn operator_named<S: Alter>(
     ensures cause { HasCleanDisk (state S.Store connection.new)
         → IsTrue (state S.Store connection.new).is_open
         → IfErr result (IsRefusal S.Store connection.old connection.new) }
-    ensures kept { IsKept S.Store connection.old connection.new }
-    ensures mode { connection.new.in_transaction ≡ false }
-    ensures limit { connection.new.step_limit ≡ connection.old.step_limit }
-    ensures doubt { doubt (state S.Store connection.old).is_clean ≤ doubt
-        (state S.Store connection.new).is_clean }
-    ensures faults { (state S.Store connection.old).faults ≤ (state S.Store connection.new).faults }
-    ensures spared { Spares S.Store connection.old connection.new }
+    ensures reads { OnlyReads S.Store connection.old connection.new }
 {
     answer(connection, operator_named_text(), params![name])
 }
@@ -72,13 +66,7 @@ pub fn plan_of<S: Alter>(
     ensures cause { HasCleanDisk (state S.Store connection.new)
         → IsTrue (state S.Store connection.new).is_open
         → IfErr result (IsRefusal S.Store connection.old connection.new) }
-    ensures kept { IsKept S.Store connection.old connection.new }
-    ensures mode { connection.new.in_transaction ≡ false }
-    ensures limit { connection.new.step_limit ≡ connection.old.step_limit }
-    ensures doubt { doubt (state S.Store connection.old).is_clean ≤ doubt
-        (state S.Store connection.new).is_clean }
-    ensures faults { (state S.Store connection.old).faults ≤ (state S.Store connection.new).faults }
-    ensures spared { Spares S.Store connection.old connection.new }
+    ensures reads { OnlyReads S.Store connection.old connection.new }
 {
     answer(connection, plan_of_text(), params![operator, id])
 }
@@ -110,13 +98,7 @@ pub fn volumes_of<S: Alter>(
     ensures cause { HasCleanDisk (state S.Store connection.new)
         → IsTrue (state S.Store connection.new).is_open
         → IfErr result (IsRefusal S.Store connection.old connection.new) }
-    ensures kept { IsKept S.Store connection.old connection.new }
-    ensures mode { connection.new.in_transaction ≡ false }
-    ensures limit { connection.new.step_limit ≡ connection.old.step_limit }
-    ensures doubt { doubt (state S.Store connection.old).is_clean ≤ doubt
-        (state S.Store connection.new).is_clean }
-    ensures faults { (state S.Store connection.old).faults ≤ (state S.Store connection.new).faults }
-    ensures spared { Spares S.Store connection.old connection.new }
+    ensures reads { OnlyReads S.Store connection.old connection.new }
 {
     answer(connection, volumes_of_text(), params![operator, id])
 }
@@ -156,12 +138,7 @@ pub fn own_plans<S: Alter, T: TakeRow>(
         → IfErr result (IsCutShort S.Store connection.old connection.new (Lists (1 ∷ 5 ∷ [])
         (with_volumes (is_by operator.now) (tables_of (state S.Store connection.old).now.trees)))
         T.refuses) }
-    ensures kept { IsKept S.Store connection.old connection.new }
-    ensures mode { connection.new.in_transaction ≡ false }
-    ensures doubt { doubt (state S.Store connection.old).is_clean ≤ doubt
-        (state S.Store connection.new).is_clean }
-    ensures faults { (state S.Store connection.old).faults ≤ (state S.Store connection.new).faults }
-    ensures spared { Spares S.Store connection.old connection.new }
+    ensures reads { OnlyReads S.Store connection.old connection.new }
 {
     hand_over(connection, own_plans_text(), params![operator], taker)
 }

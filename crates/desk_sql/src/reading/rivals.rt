@@ -1,12 +1,12 @@
 //! The spans that may stand in the way of a plan.
 
-ghost use Rattle.std.specs.Prelude.{◌≡◌, ◌≤◌, List, [], false, IfErr, OnOk, IsTrue, filter, map, IsPermutation};
+ghost use Rattle.std.specs.Prelude.{◌≡◌, List, [], false, IfErr, OnOk, IsTrue, filter, map, IsPermutation};
 ghost use Rattle.sqlite.specs.Order.{Row as Values};
-ghost use Rattle.sqlite.specs.View.{doubt};
 ghost use Rattle.sqlite.specs.State.{HasCleanDisk};
 ghost use Rattle.sqlite.specs.Held.{state};
 ghost use Rattle.desk_sql.specs.Rows.{is_wanted, held_columns, tables_of};
-ghost use Rattle.desk_sql.specs.Effects.{IsReady, IsKept, Spares};
+ghost use Rattle.desk_sql.specs.Effects.{IsReady};
+ghost use Rattle.desk_sql.specs.Frames.{OnlyReads};
 ghost use Rattle.desk_sql.specs.Refusals.{IsSureFor};
 ghost use Rattle.desk_sql.specs.Rivals.{SelectsRivals, rivals_row};
 ghost use Rattle.desk_sql.specs.Taking.{IsCutShort};
@@ -68,14 +68,7 @@ pub fn rival_spans<S: Alter, T: TakeRow>(
         → IfErr result (IsCutShort S.Store connection.old connection.new (IsPermutation
         (map held_columns (filter (is_wanted operator.now id.now reach low)
         (tables_of (state S.Store connection.old).now.trees).spans))) T.refuses) }
-    ensures kept { IsKept S.Store connection.old connection.new }
-    ensures mode { connection.new.in_transaction ≡ false }
-    ensures limit { HasCleanDisk (state S.Store connection.new)
-        → OnOk result (connection.new.step_limit ≡ connection.old.step_limit) }
-    ensures doubt { doubt (state S.Store connection.old).is_clean ≤ doubt
-        (state S.Store connection.new).is_clean }
-    ensures faults { (state S.Store connection.old).faults ≤ (state S.Store connection.new).faults }
-    ensures spared { Spares S.Store connection.old connection.new }
+    ensures reads { OnlyReads S.Store connection.old connection.new }
 {
     hand_over(
         connection,

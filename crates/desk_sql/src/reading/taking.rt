@@ -1,18 +1,19 @@
 //! Rows of an answer, handed over one at a time.
 
-ghost use Rattle.std.specs.Prelude.{◌≡◌, ◌≤◌, List, [], false, IfOk, IfErr, OnOk, OnErr, IsTrue};
+ghost use Rattle.std.specs.Prelude.{◌≡◌, List, [], false, IfOk, IfErr, OnOk, OnErr, IsTrue};
 ghost use Rattle.sqlite.specs.Order.{Row as Values};
 ghost use Rattle.sqlite.specs.Values.{bound};
-ghost use Rattle.sqlite.specs.View.{doubt};
 ghost use Rattle.sqlite.specs.State.{HasCleanDisk, IsUnchanged, Shown};
 ghost use Rattle.sqlite.specs.Held.{state};
 ghost use Rattle.sqlite.specs.Given.{IsPlain};
 ghost use Rattle.sqlite.specs.Listing.{understood};
 ghost use Rattle.desk_sql.specs.Schema.{desk_schema};
-ghost use Rattle.desk_sql.specs.Effects.{IsReady, IsKept, Spares};
+ghost use Rattle.desk_sql.specs.Effects.{IsReady};
+ghost use Rattle.desk_sql.specs.Frames.{OnlyReads, Remembers};
 ghost use Rattle.desk_sql.specs.Refusals.{IsSureGiven};
 ghost use Rattle.desk_sql.specs.Taking.{FailsNext, FailsToHandAll, HandsOver, HandsAll, IsCutShort, IsLeft};
 
+use crate::laws::settled_and_sound;
 use sqlite::{Alter, Connection, Error, ErrorCode, Row, Rows};
 use sqlite_value::value::ValueRef;
 
@@ -55,14 +56,9 @@ fn hand_next<S: Alter, T: TakeRow>(rows: &mut Rows<'_, S>, taker: &mut T) -> Res
     ensures cause { HasCleanDisk (state S.Store rows.new.conn.now) → IfErr result
         (FailsNext S.Store rows.old.conn.now rows.new.conn.now
         (λ row e. (taken : List Values) → T.has_taken taker.old taken → T.refuses taken row e)) }
-    ensures limit { rows.new.conn.now.step_limit ≡ rows.old.conn.now.step_limit }
     ensures mode { rows.old.conn.now.in_transaction ≡ false
         → rows.new.conn.now.in_transaction ≡ false }
-    ensures doubt { doubt (state S.Store rows.old.conn.now).is_clean ≤ doubt
-        (state S.Store rows.new.conn.now).is_clean }
-    ensures faults { (state S.Store rows.old.conn.now).faults
-        ≤ (state S.Store rows.new.conn.now).faults }
-    ensures spared { Spares S.Store rows.old.conn.now rows.new.conn.now }
+    ensures remembered { Remembers S.Store rows.old.conn.now rows.new.conn.now }
 {
     rows.advance()?;
     match rows.get() {
@@ -93,12 +89,7 @@ fn hand_all<S: Alter, T: TakeRow>(rows: &mut Rows<'_, S>, taker: &mut T) -> Resu
         (T.has_taken taker.old) T.refuses) }
     ensures mode { rows.old.conn.now.in_transaction ≡ false
         → rows.new.conn.now.in_transaction ≡ false }
-    ensures limit { rows.new.conn.now.step_limit ≡ rows.old.conn.now.step_limit }
-    ensures doubt { doubt (state S.Store rows.old.conn.now).is_clean ≤ doubt
-        (state S.Store rows.new.conn.now).is_clean }
-    ensures faults { (state S.Store rows.old.conn.now).faults
-        ≤ (state S.Store rows.new.conn.now).faults }
-    ensures spared { Spares S.Store rows.old.conn.now rows.new.conn.now }
+    ensures remembered { Remembers S.Store rows.old.conn.now rows.new.conn.now }
 {
     for _ in 0..u64::MAX {
         if !hand_next(rows, taker)? {
@@ -135,16 +126,9 @@ pub(crate) fn hand_over<S: Alter, T: TakeRow>(
         → IfErr result (IsCutShort S.Store connection.old connection.new
         (Shown query.now (bound params.now) (state S.Store connection.old)
         (state S.Store connection.new)) T.refuses) }
-    ensures kept { IsKept S.Store connection.old connection.new }
-    ensures mode { connection.new.in_transaction ≡ false }
-    ensures limit { HasCleanDisk (state S.Store connection.new)
-        → OnOk result (connection.new.step_limit ≡ connection.old.step_limit) }
-    ensures doubt { doubt (state S.Store connection.old).is_clean ≤ doubt
-        (state S.Store connection.new).is_clean }
-    ensures faults { (state S.Store connection.old).faults ≤ (state S.Store connection.new).faults }
-    ensures spared { Spares S.Store connection.old connection.new }
+    ensures reads { OnlyReads S.Store connection.old connection.new }
 {
-    let _settled = connection.is_autocommit();
+    settled_and_sound(connection);
     // Refused on a connection that is shut, whose schema is not known.
     let statement = connection.prepare(query)?;
     let mut rows = connection.query_prepared(&statement, params)?;

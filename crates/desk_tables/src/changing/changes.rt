@@ -7,12 +7,13 @@ ghost use Rattle.sqlite_trees.specs.View.{doubt};
 ghost use Rattle.sqlite.specs.State.{HasCleanDisk};
 ghost use Rattle.sqlite.specs.Held.{state};
 ghost use Rattle.desk_rules.specs.Limits.{max_priority};
+ghost use Rattle.desk_store.specs.Changes.{filed_by};
 ghost use Rattle.desk_store.specs.StoreChange.{changed_by, IsFitting};
 ghost use Rattle.desk_store.specs.declared.change.Change.TheVariants as change;
 ghost use Rattle.desk_sql.specs.Changing.{AreLow, HasRoom};
 ghost use Rattle.desk_rules.specs.declared.plan.PlanRow.{PlanRow as Plan};
 ghost use Rattle.desk_tables.specs.Reading.{IsHead};
-ghost use Rattle.desk_tables.specs.Causes.{BlamesChange, BlamesStore};
+ghost use Rattle.desk_tables.specs.Causes.{BlamesChange, BlamesStore, HasRoomForPlan};
 ghost use Rattle.desk_tables.specs.Store.{Stands};
 ghost use Rattle.desk_tables.specs.Lengths.{IsKnownPlan, BringsKnown, Keeps};
 ghost use Rattle.desk_tables.specs.Leaving.{MayHave};
@@ -126,6 +127,8 @@ fn put<S: Alter>(
         (changed_by (change.Put operator.now row.now) kept.now.world)) }
     ensures err { OnErr result (Stands S.Store connection.new kept.now.world) }
     ensures known { IfOk result (λ after. Keeps lengths.now after × IsKnownPlan after row.now) }
+    ensures cause { HasRoomForPlan (filed_by operator.now row.now) (state S.Store connection.old).now
+        → IfErr result (BlamesStore S.Store connection.old connection.new) }
     ensures doubt { doubt (state S.Store connection.old).is_clean
         ≤ doubt (state S.Store connection.new).is_clean }
     ensures crash { MayHave S.Store connection.old connection.new

@@ -88,6 +88,7 @@ fn asked_in(alloc: Global, volume: &Volume) -> Result<Vec<u8>, AllocError>
     ensures value { IfOk result (λ bytes. bytes.items ≡ footprint_bytes volume.now.footprint) }
     ensures valid { IfOk result (λ bytes. IsBlock volume.now) }
 {
+    // For its clause alone: the window of a volume is one.
     let _window = volume.window();
     volume.footprint().to_bytes(alloc)
 }

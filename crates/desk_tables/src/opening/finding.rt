@@ -9,6 +9,7 @@ ghost use Rattle.desk_sql.specs.Schema.{blank_schema};
 ghost use Rattle.desk_sql.specs.Making.{IsAt};
 ghost use Rattle.desk_sql.specs.Rows.{IsLegible, IsUnindexed, tables_of};
 ghost use Rattle.desk_sql.specs.Effects.{IsKept};
+ghost use Rattle.desk_sql.specs.Frames.{OnlyReads};
 ghost use Rattle.desk_sql.specs.Finding.{Holds};
 ghost use Rattle.desk_tables.specs.Store.{Stands};
 ghost use Rattle.desk_store.specs.World.{World};
@@ -120,10 +121,7 @@ fn found_in<S: Alter>(
     ensures open { HasCleanDisk (state S.Store connection.new) →
         OnOk result (IsTrue (state S.Store connection.old).is_open) }
     ensures cause { IfErr result (BlamesReading S.Store connection.old connection.new) }
-    ensures kept { IsKept S.Store connection.old connection.new }
-    ensures mode { connection.new.in_transaction ≡ false }
-    ensures doubt { doubt (state S.Store connection.old).is_clean
-        ≤ doubt (state S.Store connection.new).is_clean }
+    ensures reads { OnlyReads S.Store connection.old connection.new }
 {
     let rows = rows_in(connection)?;
     kept_of(alloc, &rows)
@@ -167,7 +165,7 @@ fn kept_of(alloc: Global, rows: &TableRows) -> Result<(Kept, Lengths), OpenFault
 }
 
 // The rows of the four tables, each by the columns of its key.
-#[tactic(auto, using(crate::proofs::OpeningLemmas::kept_on, crate::proofs::OpeningLemmas::legible_on))]
+#[tactic(auto, using(crate::proofs::FrameLemmas::reads_then, crate::proofs::OpeningLemmas::legible_on))]
 fn rows_in<S: Alter>(connection: &mut Connection<S>) -> Result<TableRows, OpenFault>
     requires legible { Holds S.Store connection.old IsLegible }
     requires settled { connection.old.in_transaction ≡ false }
@@ -177,10 +175,7 @@ fn rows_in<S: Alter>(connection: &mut Connection<S>) -> Result<TableRows, OpenFa
         OnOk result (IsTrue (state S.Store connection.old).is_open) }
     ensures fault { IfErr result (λ e. e ≢ OpenFault.NotADesk) }
     ensures cause { IfErr result (BlamesReading S.Store connection.old connection.new) }
-    ensures kept { IsKept S.Store connection.old connection.new }
-    ensures mode { connection.new.in_transaction ≡ false }
-    ensures doubt { doubt (state S.Store connection.old).is_clean
-        ≤ doubt (state S.Store connection.new).is_clean }
+    ensures reads { OnlyReads S.Store connection.old connection.new }
 {
     let operators = all_operators(connection)?;
     let plans = all_plans(connection)?;

@@ -3,7 +3,6 @@
 ghost use Rattle.std.specs.Prelude.{◌≡◌, ◌≢◌, ◌≤◌, ◌<◌, ◌^◌, List, IfErr, IfOk, IfSome, IsOk, OnOk, IsTrue, length, map};
 ghost use Rattle.std.specs.List.{AllByRecursion, AllZip};
 ghost use Rattle.std.specs.Result.{IsErrAnd};
-ghost use Rattle.sqlite_trees.specs.View.{doubt};
 ghost use Rattle.sqlite.specs.State.{HasCleanDisk};
 ghost use Rattle.sqlite.specs.Held.{state};
 ghost use Rattle.desk_rules.specs.Limits.{max_plans, max_priority};
@@ -20,7 +19,7 @@ ghost use Rattle.desk_tables.specs.Causes.{BlamesSpans, BlamesStore};
 ghost use Rattle.desk_tables.specs.Store.{Stands};
 ghost use Rattle.desk_tables.specs.Lengths.{Bounds, IsWithin};
 ghost use Rattle.desk_tables.specs.Rivals.{HaveTaken, HaveTakenAll, is_asked};
-ghost use Rattle.desk_sql.specs.Effects.{IsKept, Spares};
+ghost use Rattle.desk_sql.specs.Frames.{OnlyReads};
 ghost use Rattle.desk_sql.specs.Rows.{tables_of};
 
 use crate::kept::Kept;
@@ -60,9 +59,7 @@ pub(crate) fn ceiling<S: Alter>(
         IfOk result (λ found. IfSome found (λ n. n ≤ max_priority)) }
     ensures cause { IfErr result (BlamesStore S.Store connection.old connection.new) }
     ensures stands { Stands S.Store connection.new kept.now.world }
-    ensures doubt { doubt (state S.Store connection.old).is_clean
-        ≤ doubt (state S.Store connection.new).is_clean }
-    ensures spared { Spares S.Store connection.old connection.new }
+    ensures reads { OnlyReads S.Store connection.old connection.new }
 {
     match operator_named(connection, operator.as_str()) {
         Ok(rows) => ceiling_in(&rows),
@@ -86,13 +83,8 @@ pub(crate) fn heads<S: Alter>(
         IfOk result (λ rows. IsContent kept.now.world
         × (rows.items ≡ plan_rows (own_of operator.now id.now kept.now.world))) }
     ensures cause { IfErr result (BlamesStore S.Store connection.old connection.new) }
-    ensures kept { IsKept S.Store connection.old connection.new }
-    ensures faults { (state S.Store connection.old).faults ≤ (state S.Store connection.new).faults }
-    ensures limit { connection.new.step_limit ≡ connection.old.step_limit }
     ensures stands { Stands S.Store connection.new kept.now.world }
-    ensures doubt { doubt (state S.Store connection.old).is_clean
-        ≤ doubt (state S.Store connection.new).is_clean }
-    ensures spared { Spares S.Store connection.old connection.new }
+    ensures reads { OnlyReads S.Store connection.old connection.new }
 {
     let mut buffer = [0u8; 36];
     let text = id.encode(&mut buffer);
@@ -119,9 +111,7 @@ pub(crate) fn states<S: Alter>(
         found ≡ states_of (stored_of id.now (plans_of operator.now kept.now.world))) }
     ensures cause { IfErr result (BlamesStore S.Store connection.old connection.new) }
     ensures stands { Stands S.Store connection.new kept.now.world }
-    ensures doubt { doubt (state S.Store connection.old).is_clean
-        ≤ doubt (state S.Store connection.new).is_clean }
-    ensures spared { Spares S.Store connection.old connection.new }
+    ensures reads { OnlyReads S.Store connection.old connection.new }
 {
     let rows = heads(connection, kept, operator, id)?;
     states_in(&rows)
@@ -139,12 +129,8 @@ fn volumes<S: Alter>(
         IfOk result (λ rows. IsContent kept.now.world
         × (rows.items ≡ volume_rows (own_of operator.now id.now kept.now.world))) }
     ensures cause { IfErr result (BlamesStore S.Store connection.old connection.new) }
-    ensures faults { (state S.Store connection.old).faults ≤ (state S.Store connection.new).faults }
-    ensures limit { connection.new.step_limit ≡ connection.old.step_limit }
     ensures stands { Stands S.Store connection.new kept.now.world }
-    ensures doubt { doubt (state S.Store connection.old).is_clean
-        ≤ doubt (state S.Store connection.new).is_clean }
-    ensures spared { Spares S.Store connection.old connection.new }
+    ensures reads { OnlyReads S.Store connection.old connection.new }
 {
     let mut buffer = [0u8; 36];
     let text = id.encode(&mut buffer);
@@ -160,6 +146,7 @@ fn volumes<S: Alter>(
 ///
 /// `OutOfMemory` if memory runs out. `Store` if SQLite refuses a query for another cause, or if the
 /// rows are no plan's.
+#[tactic(auto, using(crate::proofs::FrameLemmas::reads_then))]
 pub(crate) fn plan<S: Alter>(
     alloc: Global,
     connection: &mut Connection<S>,
@@ -172,9 +159,7 @@ pub(crate) fn plan<S: Alter>(
         IfOk result (λ row. row ≡ stored_of id.now (plans_of operator.now kept.now.world)) }
     ensures cause { IfErr result (BlamesStore S.Store connection.old connection.new) }
     ensures stands { Stands S.Store connection.new kept.now.world }
-    ensures doubt { doubt (state S.Store connection.old).is_clean
-        ≤ doubt (state S.Store connection.new).is_clean }
-    ensures spared { Spares S.Store connection.old connection.new }
+    ensures reads { OnlyReads S.Store connection.old connection.new }
 {
     let heads = heads(connection, kept, operator, id)?;
     let Some(head) = heads.first() else {
@@ -235,9 +220,7 @@ pub(crate) fn own_plans<S: Alter>(
         IfOk result (λ rows. length rows.items ≤ max_plans) }
     ensures cause { IfErr result (BlamesStore S.Store connection.old connection.new) }
     ensures stands { Stands S.Store connection.new kept.now.world }
-    ensures doubt { doubt (state S.Store connection.old).is_clean
-        ≤ doubt (state S.Store connection.new).is_clean }
-    ensures spared { Spares S.Store connection.old connection.new }
+    ensures reads { OnlyReads S.Store connection.old connection.new }
 {
     let mut gather = Gather::new(alloc);
     let taken = own_listing(connection, operator.as_str(), &mut gather);
@@ -259,9 +242,7 @@ pub(crate) fn own_count<S: Alter>(
         IfOk result (λ count. count ≡ length (plans_of operator.now kept.now.world)) }
     ensures cause { IfErr result (BlamesStore S.Store connection.old connection.new) }
     ensures stands { Stands S.Store connection.new kept.now.world }
-    ensures doubt { doubt (state S.Store connection.old).is_clean
-        ≤ doubt (state S.Store connection.new).is_clean }
-    ensures spared { Spares S.Store connection.old connection.new }
+    ensures reads { OnlyReads S.Store connection.old connection.new }
 {
     match plan_count(connection, operator.as_str()) {
         Ok(count) => Ok(count),
@@ -301,14 +282,8 @@ fn asked<S: Alter>(
     ensures open { HasCleanDisk (state S.Store connection.new) →
         OnOk result (IsTrue (state S.Store connection.old).is_open) }
     ensures cause { IfErr result (BlamesSpans S.Store connection.old connection.new) }
-    ensures kept { IsKept S.Store connection.old connection.new }
-    ensures faults { (state S.Store connection.old).faults ≤ (state S.Store connection.new).faults }
-    ensures limit { HasCleanDisk (state S.Store connection.new) →
-        OnOk result (connection.new.step_limit ≡ connection.old.step_limit) }
     ensures stands { Stands S.Store connection.new kept.now.world }
-    ensures doubt { doubt (state S.Store connection.old).is_clean
-        ≤ doubt (state S.Store connection.new).is_clean }
-    ensures spared { Spares S.Store connection.old connection.new }
+    ensures reads { OnlyReads S.Store connection.old connection.new }
 {
     let mut rivals = Rivals::new(alloc);
     let reach = reach_from(question, extent, least);
@@ -318,6 +293,7 @@ fn asked<S: Alter>(
 }
 
 // The slabs of the spans that questions are for, those of one question after those of another.
+#[tactic(auto, using(crate::proofs::FrameLemmas::reads_then))]
 fn asked_all<S: Alter>(
     alloc: Global,
     connection: &mut Connection<S>,
@@ -337,9 +313,7 @@ fn asked_all<S: Alter>(
         OnOk result (0 < length questions.now → IsTrue (state S.Store connection.old).is_open) }
     ensures cause { IfErr result (BlamesSpans S.Store connection.old connection.new) }
     ensures stands { Stands S.Store connection.new kept.now.world }
-    ensures doubt { doubt (state S.Store connection.old).is_clean
-        ≤ doubt (state S.Store connection.new).is_clean }
-    ensures spared { Spares S.Store connection.old connection.new }
+    ensures reads { OnlyReads S.Store connection.old connection.new }
 {
     let mut helds = Vec::new(alloc);
     for question in questions {
@@ -375,9 +349,7 @@ pub(crate) fn rivals<S: Alter>(
         AreRivals kept.now.world operator.now id.now least extent.now helds.items) }
     ensures cause { IfErr result (BlamesSpans S.Store connection.old connection.new) }
     ensures stands { Stands S.Store connection.new kept.now.world }
-    ensures doubt { doubt (state S.Store connection.old).is_clean
-        ≤ doubt (state S.Store connection.new).is_clean }
-    ensures spared { Spares S.Store connection.old connection.new }
+    ensures reads { OnlyReads S.Store connection.old connection.new }
 {
     let mut buffer = [0u8; 36];
     let text = id.encode(&mut buffer);

@@ -10,6 +10,7 @@ use Rattle.desk_sql.specs.Statements.{Key, key_row}
 use Rattle.desk_sql.proofs.StopLemmas.{refused_unprepared}
 use Rattle.desk_sql.proofs.BatchLemmas.{begins_prepared, goes_on, keeps_unprepared, refused_on, way_on}
 use Rattle.desk_sql.proofs.ClearLemmas.{none_removed, one_removed}
+use Rattle.desk_sql.proofs.LeavingLemmas.{remembers_then}
 use Rattle.desk_sql.proofs.changing.batch.remove_plans.Goals as goal
 
 pub returns-in_err-_statement-clause-undone : goal.returns-in_err-_statement-clause-undone
@@ -41,8 +42,7 @@ ids-preserved g c =
           (map string_bytes (take (at + 1) ids))
           (map_more string_bytes ids at _ c.ids-test.true
           ∙ ap (λ id. map string_bytes (take at ids) ++ id ∷ []) (sym (ap string_bytes c.id-item.is))))
-          c.ids.invariant.1 c.remove_one.ensures.doubt c.remove_one.ensures.faults
-          c.remove_one.ensures.limit c.remove_one.ensures.spared
+          c.ids.invariant.1 c.remove_one.ensures.remembered
           c.in_ok-remove_one.ensures.done,
     )
 
@@ -69,8 +69,10 @@ returns-in_err-remove_one-clause-cause g c clean live =
     c.ids.invariant.1) clean) in
     search (rules, it)
 
-pub returns-in_err-remove_one-clause-limit : goal.returns-in_err-remove_one-clause-limit
-returns-in_err-remove_one-clause-limit g c = c.remove_one.ensures.limit ∙ c.ids.invariant.1.limit
+pub returns-in_err-remove_one-clause-remembered : goal.returns-in_err-remove_one-clause-remembered
+returns-in_err-remove_one-clause-remembered g c =
+    remembers_then g.S.Store c.args.tx.now.conn.now c.ids.tx.conn.now c.remove_one.new.tx.conn.now
+    c.ids.invariant.1.remembered c.remove_one.ensures.remembered
 
-pub returns-clause-limit : goal.returns-clause-limit
-returns-clause-limit g c = c.ids.invariant.1.limit
+pub returns-clause-remembered : goal.returns-clause-remembered
+returns-clause-remembered g c = c.ids.invariant.1.remembered

@@ -27,4 +27,4 @@ returns-clause-crash g c =
     subst (λ held. MayMake g.S.Store c.args.connection.now held changes) same
     (may_make g.S.Store c.args.connection.now c.transaction-tx.result.conn.now
     c.remove_plans.new.tx.conn.now c.commit.new.self.0 changes c.transaction-tx.ensures.begun
-    c.in_ok-remove_plans.ensures.done c.remove_plans.ensures.spared c.commit.ensures.survives)
+    c.in_ok-remove_plans.ensures.done c.remove_plans.ensures.remembered.spared c.commit.ensures.survives)

@@ -15,7 +15,7 @@ returns-in_err-insert_operator-clause-cause g c short room clean live =
     let fits : HasCleanDisk (state g.S.Store mid) → IsTrue (state g.S.Store mid).is_open
     → FitsOperator name row (state g.S.Store begun).now = λ clean live.
     subst (λ h. FitsOperator name row (state g.S.Store h).now) (sym c.transaction-tx.ensures.begun)
-    (subst (FitsOperator name row) (sym (c.is_enrolled.ensures.kept clean live).now)
+    (subst (FitsOperator name row) (sym (c.is_enrolled.ensures.reads.kept clean live).now)
     (fits_unlisted name c.args.ceiling (state g.S.Store c.args.connection.now).now
     c.in_ok-is_there.is_there (c.in_ok-is_there.ensures.value clean) c.if-is_there.false short room)) in
     search (rules, fits)

@@ -11,7 +11,7 @@ pub returns-clause-done : goal.returns-clause-done
 returns-clause-done g c clean =
     let old = c.args.tx.now.conn.now in
     let new = c.run.new.tx.conn.now in
-    makes g.S.Store old new c.requires.ready (omega (arith, c.run.ensures.doubt, clean))
+    makes g.S.Store old new c.requires.ready (omega (arith, c.run.ensures.remembered.doubt, clean))
     (AddsOperator (operator_row c.args.name.now c.args.ceiling)) (c.in_ok-run.ensures.shown clean)
     (λ desk. changed _ _ _ c.insert_operator_text.ensures.changed
     (record { name = c.args.name.now; ceiling = c.args.ceiling }) (state g.S.Store old)
@@ -23,7 +23,7 @@ pub returns-in_err-run-clause-cause : goal.returns-in_err-run-clause-cause
 returns-in_err-run-clause-cause g c way fits clean =
     let old = c.args.tx.now.conn.now in
     let new = c.run.new.tx.conn.now in
-    let early : HasCleanDisk (state g.S.Store old) = omega (arith, c.run.ensures.doubt, clean) in
+    let early : HasCleanDisk (state g.S.Store old) = omega (arith, c.run.ensures.remembered.doubt, clean) in
     let it : IsRefusal g.S.Store old new c.in_err-run.field-0.0 =
     refused_change g.S.Store old new _ _ _ c.insert_operator_text.ensures.sure
     (record { name = c.args.name.now; ceiling = c.args.ceiling }) way early fits _

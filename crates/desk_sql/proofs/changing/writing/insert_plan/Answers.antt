@@ -5,13 +5,14 @@ use Rattle.desk_sql.specs.Rows.{plan_row, AddsPlan}
 use Rattle.desk_sql.specs.Refusals.{IsRefusal}
 use Rattle.desk_sql.proofs.StopLemmas.{refused_change}
 use Rattle.desk_sql.proofs.WriteLemmas.{makes, changed}
+use Rattle.desk_sql.proofs.RoomTexts.{took}
 use Rattle.desk_sql.proofs.changing.writing.insert_plan.Goals as goal
 
 pub returns-clause-done : goal.returns-clause-done
 returns-clause-done g c clean =
     let old = c.args.tx.now.conn.now in
     let new = c.run.new.tx.conn.now in
-    makes g.S.Store old new c.requires.ready (omega (arith, c.run.ensures.doubt, clean))
+    makes g.S.Store old new c.requires.ready (omega (arith, c.run.ensures.remembered.doubt, clean))
     (AddsPlan (plan_row c.args.operator.now c.args.id.now c.args.priority c.args.usage c.args.aircraft))
     (c.in_ok-run.ensures.shown clean)
     (λ desk. changed _ _ _ c.insert_plan_text.ensures.changed
@@ -35,7 +36,7 @@ pub returns-in_err-run-clause-cause : goal.returns-in_err-run-clause-cause
 returns-in_err-run-clause-cause g c way fits clean =
     let old = c.args.tx.now.conn.now in
     let new = c.run.new.tx.conn.now in
-    let early : HasCleanDisk (state g.S.Store old) = omega (arith, c.run.ensures.doubt, clean) in
+    let early : HasCleanDisk (state g.S.Store old) = omega (arith, c.run.ensures.remembered.doubt, clean) in
     let it : IsRefusal g.S.Store old new c.in_err-run.field-0.0 =
     refused_change g.S.Store old new _ _ _ c.insert_plan_text.ensures.sure
     (record {
@@ -54,3 +55,26 @@ returns-in_err-run-clause-cause g c way fits clean =
     ) at
     (c.in_err-run.ensures.stopped clean (way early).1)) in
     search (rules, it)
+
+pub returns-clause-room : goal.returns-clause-room
+returns-clause-room g c clean =
+    let old = c.args.tx.now.conn.now in
+    let new = c.run.new.tx.conn.now in
+    took _ _ _ 1 0 0 c.insert_plan_text.ensures.changed c.insert_plan_text.ensures.room
+    (record {
+      operator = c.args.operator;
+      id = c.args.id;
+      priority = c.args.priority;
+      usage = c.args.usage;
+      aircraft = c.args.aircraft;
+    })
+    (state g.S.Store old) (state g.S.Store new)
+    (c.requires.ready (omega (arith, c.run.ensures.remembered.doubt, clean))
+    (c.in_ok-run.ensures.shown clean).was_open)
+    c.in_ok-run.field-0 (rw (
+      c.params-to_sql.ensures,
+      c.params-to_sql-2.ensures,
+      c.params-to_sql-3.ensures,
+      c.params-to_sql-4.ensures,
+      c.params-to_sql-5.ensures,
+    ) at (c.in_ok-run.ensures.ran clean))

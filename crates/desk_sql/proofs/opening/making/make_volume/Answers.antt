@@ -9,6 +9,6 @@ returns-clause-done g c clean =
     let old = c.args.tx.now.conn.now in
     let new = c.run.new.tx.conn.now in
     grows g.S.Store old new second_schema third_schema c.requires.at
-    (omega (arith, c.run.ensures.doubt, clean)) (c.in_ok-run.ensures.shown clean)
+    (omega (arith, c.run.ensures.remembered.doubt, clean)) (c.in_ok-run.ensures.shown clean)
     (λ has. extended _ _ _ c.make_volume_text.ensures (state g.S.Store old) (state g.S.Store new) has
     c.in_ok-run.field-0 (c.in_ok-run.ensures.ran clean))

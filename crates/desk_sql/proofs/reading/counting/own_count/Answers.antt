@@ -18,7 +18,7 @@ returns-clause-value g c clean =
     let new = state g.S.Store c.answer.new.connection in
     let rows = c.in_ok-rows.rows.items in
     let shown = rw c.params-to_sql.ensures at (c.in_ok-rows.ensures.shown clean) in
-    let desk = c.requires.ready (omega (arith, c.answer.ensures.doubt, clean))
+    let desk = c.requires.ready (omega (arith, c.answer.ensures.reads.doubt, clean))
     (was_open _ _ old new rows shown) in
     let n = length (filter (is_by c.args.operator.now) (tables_of old.now.trees).plans) in
     count_if c.count_in.result c.deref.result.now n
@@ -32,7 +32,7 @@ returns-clause-cause g c clean live =
     let new = state g.S.Store c.answer.new.connection in
     let rows = c.in_ok-rows.rows.items in
     let shown = rw c.params-to_sql.ensures at (c.in_ok-rows.ensures.shown clean) in
-    let desk = c.requires.ready (omega (arith, c.answer.ensures.doubt, clean))
+    let desk = c.requires.ready (omega (arith, c.answer.ensures.reads.doubt, clean))
     (was_open _ _ old new rows shown) in
     let n = length (filter (is_by c.args.operator.now) (tables_of old.now.trees).plans) in
     many_if c.count_in.result c.deref.result.now n _

@@ -17,7 +17,7 @@ returns-clause-value g c clean =
     if_shown g.S.Store c.args.connection.now c.answer.new.connection (λ v. v.items) _ _
     (Lists [] (filter (is_by c.args.name.now) (tables_of
     (state g.S.Store c.args.connection.now).now.trees).operators)) c.requires.ready
-    (omega (arith, c.answer.ensures.doubt, clean))
+    (omega (arith, c.answer.ensures.reads.doubt, clean))
     (selected _ _ _ _ c.operator_named_text.ensures.shown c.args.name.now
     (state g.S.Store c.args.connection.now)
     (state g.S.Store c.answer.new.connection)) c.answer.result

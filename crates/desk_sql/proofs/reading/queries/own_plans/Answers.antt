@@ -20,7 +20,7 @@ returns-clause-value g c clean =
     (Lists (1 ∷ 5 ∷ []) (with_volumes (is_by c.args.operator.now)
     (tables_of (state g.S.Store c.args.connection.now).now.trees)))
     (g.T.TakeRow.has_taken c.hand_over.new.taker) c.requires.ready
-    (omega (arith, c.hand_over.ensures.doubt, clean))
+    (omega (arith, c.hand_over.ensures.reads.doubt, clean))
     (selected _ _ _ _ c.own_plans_text.ensures.shown c.args.operator.now
     (state g.S.Store c.args.connection.now)
     (state g.S.Store c.hand_over.new.connection)) c.hand_over.result
@@ -30,7 +30,7 @@ pub returns-clause-cause : goal.returns-clause-cause
 returns-clause-cause g c clean live =
     let old = state g.S.Store c.args.connection.now in
     let new = state g.S.Store c.hand_over.new.connection in
-    let early : HasCleanDisk old = omega (arith, c.hand_over.ensures.doubt, clean) in
+    let early : HasCleanDisk old = omega (arith, c.hand_over.ensures.reads.doubt, clean) in
     cut_short_of g.S.Store c.args.connection.now c.hand_over.new.connection _
     (Lists (1 ∷ 5 ∷ []) (with_volumes (is_by c.args.operator.now) (tables_of old.now.trees)))
     g.T.TakeRow.refuses

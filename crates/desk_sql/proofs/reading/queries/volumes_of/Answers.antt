@@ -17,7 +17,7 @@ returns-clause-value g c clean =
     if_shown g.S.Store c.args.connection.now c.answer.new.connection (λ v. v.items) _ _
     (Lists (2 ∷ []) (filter (is_of c.args.operator.now c.args.id.now)
     (tables_of (state g.S.Store c.args.connection.now).now.trees).volumes)) c.requires.ready
-    (omega (arith, c.answer.ensures.doubt, clean))
+    (omega (arith, c.answer.ensures.reads.doubt, clean))
     (selected _ _ _ _ c.volumes_of_text.ensures.shown
     (record { operator = c.args.operator.now; id = c.args.id.now })
     (state g.S.Store c.args.connection.now)

@@ -73,7 +73,7 @@ returns-clause-value g c clean =
     (filter (is_wanted c.args.operator.now c.args.id.now reach c.args.low)
     (tables_of (state g.S.Store c.args.connection.now).now.trees).spans)))
     (g.T.TakeRow.has_taken c.hand_over.new.taker) c.requires.ready
-    (omega (arith, c.hand_over.ensures.doubt, clean))
+    (omega (arith, c.hand_over.ensures.reads.doubt, clean))
     (λ rows desk shown. text.rows c.args.operator.now c.args.id.now reach c.args.low
     (state g.S.Store c.args.connection.now).now rows desk
     (shown_read c.rival_spans_text.result.now
@@ -99,7 +99,7 @@ returns-clause-cause g c clean live =
     let text = c.rival_spans_text.ensures.shown in
     let old = state g.S.Store c.args.connection.now in
     let new = state g.S.Store c.hand_over.new.connection in
-    let early : HasCleanDisk old = omega (arith, c.hand_over.ensures.doubt, clean) in
+    let early : HasCleanDisk old = omega (arith, c.hand_over.ensures.reads.doubt, clean) in
     let last : owned c.params-to_sql.result ≡ Int reach.last =
     search (rules, ints, to_z-of_z, c.params-to_sql.ensures) in
     let first : owned c.params-to_sql-2.result ≡ Int reach.first =

@@ -1,7 +1,5 @@
-use Rattle.std.proofs.Common.{◌≡◌, ◌≤◌, false}
-use Rattle.sqlite.specs.View.{doubt}
-use Rattle.sqlite.specs.Held.{state}
-use Rattle.desk_sql.specs.Effects.{Spares}
+use Rattle.std.proofs.Common.{◌≡◌, false}
+use Rattle.desk_sql.specs.Frames.{Remembers}
 use Rattle.desk_sql.proofs.TakingLemmas.{IsUnderWay}
 use Rattle.desk_sql.proofs.reading.taking.hand_all.Given as goal
 
@@ -9,9 +7,6 @@ abbrev pub invariant-loop : goal.invariant-loop
 invariant-loop g l =
     (l.rows.conn.ghost_name ≡ l.fn.rows.conn.ghost_name)
     × (l.fn.rows.conn.now.in_transaction ≡ false → l.rows.conn.now.in_transaction ≡ false)
-    × (doubt (state g.S.Store l.fn.rows.conn.now).is_clean ≤ doubt (state g.S.Store l.rows.conn.now).is_clean)
-    × ((state g.S.Store l.fn.rows.conn.now).faults ≤ (state g.S.Store l.rows.conn.now).faults)
-    × Spares g.S.Store l.fn.rows.conn.now l.rows.conn.now
+    × Remembers g.S.Store l.fn.rows.conn.now l.rows.conn.now
     × IsUnderWay g.S.Store l.fn.rows.conn.now l.rows.conn.now (g.T.TakeRow.has_taken l.fn.taker)
     (g.T.TakeRow.has_taken l.taker) l.counter
-    × (l.rows.conn.now.step_limit ≡ l.fn.rows.conn.now.step_limit)

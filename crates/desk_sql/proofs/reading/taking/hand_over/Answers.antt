@@ -3,39 +3,42 @@ use Rattle.sqlite.specs.Values.{bound}
 use Rattle.sqlite.specs.Order.{Row}
 use Rattle.sqlite.specs.State.{HasCleanDisk, Shown}
 use Rattle.sqlite.specs.Held.{state}
-use Rattle.desk_sql.specs.Effects.{ShowsAsBefore, Spares}
+use Rattle.desk_sql.specs.Effects.{IsKept, Spares}
+use Rattle.desk_sql.specs.Frames.{OnlyReads}
 use Rattle.desk_sql.proofs.ReadLemmas.{if_either, unprepared}
 use Rattle.desk_sql.proofs.TakingLemmas.{begun, open_on}
-use Rattle.desk_sql.proofs.LeavingLemmas.{begun_after, plain_text, ready_mid, was_prepared, handed_after, kept_after, kept_refused, spared_handed, spared_then}
+use Rattle.desk_sql.proofs.LeavingLemmas.{begun_after, plain_text, ready_mid, was_prepared, handed_after, kept_after, kept_refused, spared_handed, reads_unprepared, reads_prepared, reads_handed}
 use Rattle.desk_sql.specs.Refusals.{IsRefusal}
 use Rattle.desk_sql.specs.Taking.{IsCutShort}
 use Rattle.desk_sql.proofs.HandLemmas.{cut_short, refused_begun, refused_unprepared}
 use Rattle.desk_sql.proofs.reading.taking.hand_over.Goals as goal
 
-pub returns-in_err-statement-clause-kept : goal.returns-in_err-statement-clause-kept
-returns-in_err-statement-clause-kept g c clean live =
-    if_either g.S.Store c.args.connection.now c.prepare.new.self
-    (c.is_autocommit-settled.ensures.settled (rw c.requires.settled at c.is_autocommit-settled.ensures.value))
-    live (unprepared _ _ _ _ _ (c.in_err-statement.ensures.err clean (bound c.args.params.now)))
+pub returns-in_err-statement-clause-reads : goal.returns-in_err-statement-clause-reads
+returns-in_err-statement-clause-reads g c =
+    let old = c.args.connection.now in
+    let kept : IsKept g.S.Store old c.prepare.new.self = λ clean live.
+    (if_either g.S.Store old c.prepare.new.self
+    (c.settled_and_sound.ensures.settled c.requires.settled)
+    live (unprepared _ _ _ _ _ (c.in_err-statement.ensures.err clean (bound c.args.params.now)))) in
+    reads_unprepared g.S.Store old c.prepare.new.self kept (c.prepare.ensures.mode c.requires.settled)
+    c.prepare.ensures.survives
 
-pub returns-in_err-rows-clause-kept : goal.returns-in_err-rows-clause-kept
-returns-in_err-rows-clause-kept g c clean live =
+pub returns-in_err-rows-clause-reads : goal.returns-in_err-rows-clause-reads
+returns-in_err-rows-clause-reads g c =
+    let old = c.args.connection.now in
     let new = c.query_prepared.follows.lender-at-none in
-    let settled = c.is_autocommit-settled.ensures.settled
-    (rw c.requires.settled at c.is_autocommit-settled.ensures.value) in
+    let text = c.in_ok-statement.statement.text in
+    let settled = c.settled_and_sound.ensures.settled c.requires.settled in
     let refused = rw c.in_err-rows.was at c.query_prepared.follows.holds-at-none in
-    kept_refused g.S.Store c.args.query.now c.in_ok-statement.statement.text (bound c.args.params.now)
-    c.args.connection.now c.prepare.new.self c.requires.ready c.requires.plain
-    c.in_ok-statement.ensures.ok c.prepare.ensures.survives new refused.survives clean settled live _
-    (refused.err clean)
-
-pub returns-in_err-rows-clause-spared : goal.returns-in_err-rows-clause-spared
-returns-in_err-rows-clause-spared g c =
-    let refused = rw c.in_err-rows.was at c.query_prepared.follows.holds-at-none in
-    spared_handed g.S.Store c.args.query.now c.in_ok-statement.statement.text (bound c.args.params.now)
-    c.args.connection.now c.prepare.new.self c.requires.ready c.requires.plain
-    c.in_ok-statement.ensures.ok c.prepare.ensures.survives c.query_prepared.follows.lender-at-none
-    refused.survives
+    let kept : IsKept g.S.Store old new = λ clean live.
+    (kept_refused g.S.Store c.args.query.now text (bound c.args.params.now) old c.prepare.new.self
+    c.requires.ready c.requires.plain c.in_ok-statement.ensures.ok c.prepare.ensures.survives new
+    refused.survives clean settled live _ (refused.err clean)) in
+    reads_prepared g.S.Store old c.prepare.new.self new _ kept
+    (refused.mode (c.prepare.ensures.mode c.requires.settled))
+    (spared_handed g.S.Store c.args.query.now text (bound c.args.params.now) old c.prepare.new.self
+    c.requires.ready c.requires.plain c.in_ok-statement.ensures.ok c.prepare.ensures.survives new
+    refused.survives) c.prepare.ensures.survives refused.survives
 
 pub hand_all-requires : goal.hand_all-requires
 hand_all-requires g c clean =
@@ -53,7 +56,8 @@ returns-clause-shown g c =
     let it : HasCleanDisk (state g.S.Store new) → OnOk c.hand_all.result
     ((all : List Row) × Shown c.args.query.now (bound c.args.params.now) (state g.S.Store old)
     (state g.S.Store new) all × has all) = λ clean.
-    (let early : HasCleanDisk (state g.S.Store first) = omega (arith, clean, c.hand_all.ensures.doubt) in
+    (let early : HasCleanDisk (state g.S.Store first) =
+    omega (arith, clean, c.hand_all.ensures.remembered.doubt) in
     handed_after g.S.Store c.args.query.now c.in_ok-statement.statement.text (bound c.args.params.now)
     old c.prepare.new.self c.requires.ready c.requires.plain c.in_ok-statement.ensures.ok
     c.prepare.ensures.survives first early c.in_ok-rows.ensures.survives
@@ -69,7 +73,8 @@ returns-clause-open g c =
     let new = c.hand_all.new.rows.conn.now in
     let it : HasCleanDisk (state g.S.Store new) → OnOk c.hand_all.result
     (IsTrue (state g.S.Store old).is_open) = λ clean.
-    (let early : HasCleanDisk (state g.S.Store first) = omega (arith, clean, c.hand_all.ensures.doubt) in
+    (let early : HasCleanDisk (state g.S.Store first) =
+    omega (arith, clean, c.hand_all.ensures.remembered.doubt) in
     open_on c.hand_all.result (state g.S.Store old)
     (was_prepared g.S.Store c.args.query.now c.in_ok-statement.statement.text
     (bound c.args.params.now) old c.prepare.new.self c.requires.ready c.requires.plain
@@ -77,34 +82,29 @@ returns-clause-open g c =
     (c.in_ok-rows.ensures.begun early))) in
     search rules
 
-pub returns-clause-kept : goal.returns-clause-kept
-returns-clause-kept g c =
+pub returns-clause-reads : goal.returns-clause-reads
+returns-clause-reads g c =
     let old = c.args.connection.now in
+    let mid = c.prepare.new.self in
     let first = c.in_ok-rows.rows.conn.now in
     let new = c.hand_all.new.rows.conn.now in
-    let settled = c.is_autocommit-settled.ensures.settled
-    (rw c.requires.settled at c.is_autocommit-settled.ensures.value) in
-    let it : HasCleanDisk (state g.S.Store new) → IsTrue (state g.S.Store new).is_open
-    → ShowsAsBefore g.S.Store old new = λ clean live.
-    (let early : HasCleanDisk (state g.S.Store first) = omega (arith, clean, c.hand_all.ensures.doubt) in
-    kept_after g.S.Store c.args.query.now c.in_ok-statement.statement.text (bound c.args.params.now)
-    old c.prepare.new.self c.requires.ready c.requires.plain c.in_ok-statement.ensures.ok
-    c.prepare.ensures.survives first early c.in_ok-rows.ensures.survives
-    (c.in_ok-rows.ensures.begun early) new settled live (c.hand_all.ensures.left clean)) in
-    search rules
-
-pub returns-clause-spared : goal.returns-clause-spared
-returns-clause-spared g c =
-    let old = c.args.connection.now in
-    let first = c.in_ok-rows.rows.conn.now in
-    let new = c.hand_all.new.rows.conn.now in
-    let it : Spares g.S.Store old new =
-    spared_then g.S.Store old first new c.hand_all.ensures.doubt
-    (spared_handed g.S.Store c.args.query.now c.in_ok-statement.statement.text
-    (bound c.args.params.now) old c.prepare.new.self c.requires.ready c.requires.plain
-    c.in_ok-statement.ensures.ok c.prepare.ensures.survives first c.in_ok-rows.ensures.survives)
-    c.hand_all.ensures.spared in
-    search rules
+    let text = c.in_ok-statement.statement.text in
+    let begins = c.in_ok-rows.ensures in
+    let settled = c.settled_and_sound.ensures.settled c.requires.settled in
+    let kept : IsKept g.S.Store old new = λ clean live.
+    (let early : HasCleanDisk (state g.S.Store first) =
+    omega (arith, clean, c.hand_all.ensures.remembered.doubt) in
+    kept_after g.S.Store c.args.query.now text (bound c.args.params.now) old mid c.requires.ready
+    c.requires.plain c.in_ok-statement.ensures.ok c.prepare.ensures.survives first early begins.survives
+    (begins.begun early) new settled live (c.hand_all.ensures.left clean)) in
+    let spared : Spares g.S.Store old first =
+    spared_handed g.S.Store c.args.query.now text (bound c.args.params.now) old mid c.requires.ready
+    c.requires.plain c.in_ok-statement.ensures.ok c.prepare.ensures.survives first begins.survives in
+    let it : OnlyReads g.S.Store old new =
+    reads_handed g.S.Store old mid first new _ kept
+    (c.hand_all.ensures.mode (begins.mode (c.prepare.ensures.mode c.requires.settled))) spared
+    c.prepare.ensures.survives begins.survives c.hand_all.ensures.remembered in
+    search (rules, it)
 
 -- why the query is refused, or not all rows are handed over
 pub returns-in_err-statement-clause-cause : goal.returns-in_err-statement-clause-cause
@@ -142,7 +142,8 @@ returns-clause-cause g c =
     → IfErr c.hand_all.result (IsCutShort g.S.Store old new (Shown c.args.query.now
     (bound c.args.params.now) (state g.S.Store old) (state g.S.Store new)) g.T.TakeRow.refuses) =
     λ clean live.
-    (let here : HasCleanDisk (state g.S.Store first) = omega (arith, clean, c.hand_all.ensures.doubt) in
+    (let here : HasCleanDisk (state g.S.Store first) =
+    omega (arith, clean, c.hand_all.ensures.remembered.doubt) in
     let early : HasCleanDisk (state g.S.Store mid) = omega (arith, here, survives.clean) in
     let prepared = c.in_ok-statement.ensures.ok early in
     let begins = begun g.S.Store text (bound c.args.params.now) mid

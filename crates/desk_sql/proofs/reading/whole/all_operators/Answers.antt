@@ -12,7 +12,7 @@ pub returns-clause-value : goal.returns-clause-value
 returns-clause-value g c clean =
     if_read g.S.Store c.args.connection.now c.ask.new.connection (λ v. v.items) _ _
     (Lists (0 ∷ []) ((tables_of (state g.S.Store c.args.connection.now).now.trees).operators))
-    c.requires.legible (omega (arith, c.ask.ensures.doubt, clean))
+    c.requires.legible (omega (arith, c.ask.ensures.reads.doubt, clean))
     (λ rows legible shown. all_selected _ _ _ c.all_operators_text.ensures
     (state g.S.Store c.args.connection.now) (state g.S.Store c.ask.new.connection) rows legible.schema
     shown) c.ask.result (c.ask.ensures.shown clean)

@@ -18,8 +18,8 @@ returns-in-Ok-clause-ok g c =
     let new = c.clear_plans.new.connection in
     let operator = c.args.operator.now in
     let texts = map string_bytes c.deref-2.result.now in
-    stands_cleared g.S.Store old new c.args.kept.now.world c.requires.stands c.in-Ok.ensures.mode
-    c.in-Ok.ensures.doubt (Clear operator c.args.ids.now) operator c.args.ids.now.items texts
+    stands_cleared g.S.Store old new c.args.kept.now.world c.requires.stands c.in-Ok.ensures.over.mode
+    c.in-Ok.ensures.over.doubt (Clear operator c.args.ids.now) operator c.args.ids.now.items texts
     (subst (AllByRecursion IsId) c.deref.ensures.value c.in_ok-texts.ensures.valid) (λ one two e. e)
     (ap (map string_bytes) c.deref-2.ensures.value ∙ c.in_ok-texts.ensures.value
     ∙ ap (map id_text) c.deref.ensures.value)
@@ -33,7 +33,7 @@ returns-in-Ok-clause-crash g c =
     let new = c.clear_plans.new.connection in
     let operator = c.args.operator.now in
     let texts = map string_bytes c.deref-2.result.now in
-    left_cleared g.S.Store old new c.args.kept.now.world c.requires.stands c.clear_plans.ensures.doubt
+    left_cleared g.S.Store old new c.args.kept.now.world c.requires.stands c.clear_plans.ensures.over.doubt
     (Clear operator c.args.ids.now) operator c.args.ids.now.items texts
     (subst (AllByRecursion IsId) c.deref.ensures.value c.in_ok-texts.ensures.valid) (λ one two e. e)
     (ap (map string_bytes) c.deref-2.ensures.value ∙ c.in_ok-texts.ensures.value
@@ -48,7 +48,7 @@ returns-clause-crash g c =
     let new = c.clear_plans.new.connection in
     let operator = c.args.operator.now in
     let texts = map string_bytes c.deref-2.result.now in
-    left_cleared g.S.Store old new c.args.kept.now.world c.requires.stands c.clear_plans.ensures.doubt
+    left_cleared g.S.Store old new c.args.kept.now.world c.requires.stands c.clear_plans.ensures.over.doubt
     (Clear operator c.args.ids.now) operator c.args.ids.now.items texts
     (subst (AllByRecursion IsId) c.deref.ensures.value c.in_ok-texts.ensures.valid) (λ one two e. e)
     (ap (map string_bytes) c.deref-2.ensures.value ∙ c.in_ok-texts.ensures.value

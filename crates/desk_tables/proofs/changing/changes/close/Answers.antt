@@ -20,18 +20,18 @@ returns-in-Ok-clause-ok g c =
     let priority = c.in_ok-priority.priority in
     let aircraft = c.in_ok-priority.aircraft in
     let first = some_first c.deref.result.now c.in-Some.head.now c.in-Some.ensures.value in
-    stands_closed g.S.Store old new c.args.kept.now.world c.heads.ensures.stands c.in-Ok.ensures.mode
-    c.in-Ok.ensures.doubt operator c.args.id.now priority aircraft
+    stands_closed g.S.Store old new c.args.kept.now.world c.heads.ensures.stands c.in-Ok.ensures.over.mode
+    c.in-Ok.ensures.over.doubt operator c.args.id.now priority aircraft
     c.in_ok-heads.heads.items first.0 c.in-Some.head.now
     (parsed_id c.encode-text.result.now c.args.id.now c.encode-text.ensures.parsed)
     c.in_ok-priority.ensures.priority c.in_ok-priority.ensures.aircraft
-    (λ clean. (c.in_ok-heads.ensures.value (omega (arith, c.in-Ok.ensures.doubt, clean))).1)
+    (λ clean. (c.in_ok-heads.ensures.value (omega (arith, c.in-Ok.ensures.over.doubt, clean))).1)
     (sym c.deref.ensures.value ∙ first.1)
     (λ clean. subst (λ text. Commits g.S.Store old new (ClosesPlan operator text priority aircraft))
     c.encode-text.ensures.text
     (subst (λ name. Commits g.S.Store old new (ClosesPlan name c.encode-text.result.now priority aircraft))
     c.as_str.ensures.value (c.in-Ok.ensures.done clean)))
-    (λ clean. c.requires.fits (omega (arith, c.heads.ensures.doubt, clean)))
+    (λ clean. c.requires.fits (omega (arith, c.heads.ensures.reads.doubt, clean)))
 
 pub returns-in-Ok-clause-crash : goal.returns-in-Ok-clause-crash
 returns-in-Ok-clause-crash g c =
@@ -41,19 +41,20 @@ returns-in-Ok-clause-crash g c =
     let priority = c.in_ok-priority.priority in
     let aircraft = c.in_ok-priority.aircraft in
     let first = some_first c.deref.result.now c.in-Some.head.now c.in-Some.ensures.value in
-    left_before g.S.Store c.args.connection.now old new _ c.close_plan.ensures.doubt c.heads.ensures.spared
-    (left_closed g.S.Store old new c.args.kept.now.world c.heads.ensures.stands c.close_plan.ensures.doubt
-    operator c.args.id.now priority aircraft c.in_ok-heads.heads.items first.0 c.in-Some.head.now
+    left_before g.S.Store c.args.connection.now old new _ c.close_plan.ensures.over.doubt
+    c.heads.ensures.reads.spared (left_closed g.S.Store old new c.args.kept.now.world
+    c.heads.ensures.stands c.close_plan.ensures.over.doubt operator
+    c.args.id.now priority aircraft c.in_ok-heads.heads.items first.0 c.in-Some.head.now
     (parsed_id c.encode-text.result.now c.args.id.now c.encode-text.ensures.parsed)
     c.in_ok-priority.ensures.priority c.in_ok-priority.ensures.aircraft
-    (λ clean. (c.in_ok-heads.ensures.value (omega (arith, c.close_plan.ensures.doubt, clean))).1)
+    (λ clean. (c.in_ok-heads.ensures.value (omega (arith, c.close_plan.ensures.over.doubt, clean))).1)
     (sym c.deref.ensures.value ∙ first.1)
     (subst (λ text. MayMake g.S.Store old new (ClosesPlan operator text priority aircraft))
     c.encode-text.ensures.text
     (subst (λ name. MayMake g.S.Store old new
     (ClosesPlan name c.encode-text.result.now priority aircraft))
     c.as_str.ensures.value c.close_plan.ensures.crash))
-    (λ clean. c.requires.fits (omega (arith, c.heads.ensures.doubt, clean))))
+    (λ clean. c.requires.fits (omega (arith, c.heads.ensures.reads.doubt, clean))))
 
 pub returns-clause-crash : goal.returns-clause-crash
 returns-clause-crash g c =
@@ -63,19 +64,20 @@ returns-clause-crash g c =
     let priority = c.in_ok-priority.priority in
     let aircraft = c.in_ok-priority.aircraft in
     let first = some_first c.deref.result.now c.in-Some.head.now c.in-Some.ensures.value in
-    left_before g.S.Store c.args.connection.now old new _ c.close_plan.ensures.doubt c.heads.ensures.spared
-    (left_closed g.S.Store old new c.args.kept.now.world c.heads.ensures.stands c.close_plan.ensures.doubt
-    operator c.args.id.now priority aircraft c.in_ok-heads.heads.items first.0 c.in-Some.head.now
+    left_before g.S.Store c.args.connection.now old new _ c.close_plan.ensures.over.doubt
+    c.heads.ensures.reads.spared (left_closed g.S.Store old new c.args.kept.now.world
+    c.heads.ensures.stands c.close_plan.ensures.over.doubt operator
+    c.args.id.now priority aircraft c.in_ok-heads.heads.items first.0 c.in-Some.head.now
     (parsed_id c.encode-text.result.now c.args.id.now c.encode-text.ensures.parsed)
     c.in_ok-priority.ensures.priority c.in_ok-priority.ensures.aircraft
-    (λ clean. (c.in_ok-heads.ensures.value (omega (arith, c.close_plan.ensures.doubt, clean))).1)
+    (λ clean. (c.in_ok-heads.ensures.value (omega (arith, c.close_plan.ensures.over.doubt, clean))).1)
     (sym c.deref.ensures.value ∙ first.1)
     (subst (λ text. MayMake g.S.Store old new (ClosesPlan operator text priority aircraft))
     c.encode-text.ensures.text
     (subst (λ name. MayMake g.S.Store old new
     (ClosesPlan name c.encode-text.result.now priority aircraft))
     c.as_str.ensures.value c.close_plan.ensures.crash))
-    (λ clean. c.requires.fits (omega (arith, c.heads.ensures.doubt, clean))))
+    (λ clean. c.requires.fits (omega (arith, c.heads.ensures.reads.doubt, clean))))
 
 -- why it is refused
 pub returns-in_err-heads-clause-cause : goal.returns-in_err-heads-clause-cause
@@ -88,7 +90,7 @@ pub returns-in_default-clause-cause : goal.returns-in_default-clause-cause
 returns-in_default-clause-cause g c low clean live is =
     let heads = c.in_ok-heads.ensures.value clean in
     absurd (closed_stored c.args.operator.now c.args.id.now c.args.kept.now.world
-    (c.requires.fits (omega (arith, c.heads.ensures.doubt, clean)))
+    (c.requires.fits (omega (arith, c.heads.ensures.reads.doubt, clean)))
     (none_stored c.args.operator.now c.args.id.now c.args.kept.now.world c.in_ok-heads.heads.items heads.1
     (sym c.deref.ensures.value ∙ none_first c.deref.result.now c.in_default.ensures.value)))
 
@@ -109,9 +111,10 @@ returns-clause-cause g c low clean live =
     let mid = c.heads.new.connection in
     let here : AreLow ((state g.S.Store mid).now.trees 2) =
     subst (λ (db : _). AreLow (db.trees 2))
-    (sym (c.heads.ensures.kept (omega (arith, c.close_plan.ensures.doubt, clean)) before.was_open).now) low in
+    (sym (c.heads.ensures.reads.kept (omega (arith, c.close_plan.ensures.over.doubt, clean))
+    before.was_open).now) low in
     blamed_since g.S.Store c.args.connection.now mid c.close_plan.new.connection c.fault_of.result
-    c.heads.ensures.faults c.heads.ensures.limit
+    c.heads.ensures.reads.faults c.heads.ensures.reads.limit
     (blamed g.S.Store mid c.close_plan.new.connection c.in-Err.e c.fault_of.result c.fault_of.ensures
     (c.in-Err.ensures.cause
     (subst IsShort (sym c.as_str.ensures.value) (name_short _ c.as_str.ensures.valid))

@@ -9,7 +9,7 @@ use Rattle.desk_tables.proofs.changing.changes.enrol.Goals as goal
 pub returns-in-Ok-clause-ok : goal.returns-in-Ok-clause-ok
 returns-in-Ok-clause-ok g c =
     stands_enrolled g.S.Store c.args.connection.now c.put_operator.new.connection c.args.kept.now.world
-    c.requires.stands c.in-Ok.ensures.mode c.in-Ok.ensures.doubt c.args.operator.now c.args.ceiling
+    c.requires.stands c.in-Ok.ensures.over.mode c.in-Ok.ensures.over.doubt c.args.operator.now c.args.ceiling
     (λ clean. subst (λ name. Commits g.S.Store c.args.connection.now c.put_operator.new.connection
     (PutsOperator name c.args.ceiling)) c.as_str.ensures.value (c.in-Ok.ensures.done clean))
     c.as_str.ensures.valid c.requires.low
@@ -17,7 +17,7 @@ returns-in-Ok-clause-ok g c =
 pub returns-in-Ok-clause-crash : goal.returns-in-Ok-clause-crash
 returns-in-Ok-clause-crash g c =
     left_enrolled g.S.Store c.args.connection.now c.put_operator.new.connection c.args.kept.now.world
-    c.requires.stands c.put_operator.ensures.doubt c.args.operator.now c.args.ceiling
+    c.requires.stands c.put_operator.ensures.over.doubt c.args.operator.now c.args.ceiling
     (subst (λ name. MayMake g.S.Store c.args.connection.now c.put_operator.new.connection
     (PutsOperator name c.args.ceiling)) c.as_str.ensures.value c.put_operator.ensures.crash)
     c.as_str.ensures.valid c.requires.low
@@ -25,7 +25,7 @@ returns-in-Ok-clause-crash g c =
 pub returns-in-Err-clause-crash : goal.returns-in-Err-clause-crash
 returns-in-Err-clause-crash g c =
     left_enrolled g.S.Store c.args.connection.now c.put_operator.new.connection c.args.kept.now.world
-    c.requires.stands c.put_operator.ensures.doubt c.args.operator.now c.args.ceiling
+    c.requires.stands c.put_operator.ensures.over.doubt c.args.operator.now c.args.ceiling
     (subst (λ name. MayMake g.S.Store c.args.connection.now c.put_operator.new.connection
     (PutsOperator name c.args.ceiling)) c.as_str.ensures.value c.put_operator.ensures.crash)
     c.as_str.ensures.valid c.requires.low

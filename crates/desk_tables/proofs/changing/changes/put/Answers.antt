@@ -1,14 +1,19 @@
-use Rattle.std.proofs.Common.{ap, sym, subst, ◌∙◌, map}
+use Rattle.std.proofs.Common.{ap, arith, sym, subst, ◌∙◌, map}
 use Rattle.std.specs.List.{AllByRecursion}
+use Rattle.sqlite.specs.State.{HasCleanDisk}
+use Rattle.sqlite.specs.Held.{state}
 use Rattle.desk_sql.specs.Rows as sql
+use Rattle.desk_sql.specs.Putting.{IsPuttable}
 use Rattle.desk_sql.specs.Batches.{PutsPlan, volume_of, span_of}
 use Rattle.desk_sql.specs.Effects.{Commits, MayMake}
 use Rattle.desk_store.specs.Changes.{filed_by}
 use Rattle.desk_tables.specs.Tables.{usage_number, aircraft_number, area_rows, ArePlanSpanRows}
 use Rattle.desk_tables.specs.Content.{IsBlock}
 use Rattle.desk_tables.specs.Lengths.{IsKnownRow}
-use Rattle.desk_tables.proofs.ParseLemmas.{parsed_id}
+use Rattle.desk_tables.proofs.ParseLemmas.{parsed_id, parsed_short}
 use Rattle.desk_tables.proofs.LengthLemmas.{plan_near}
+use Rattle.desk_tables.proofs.CauseLemmas.{blamed}
+use Rattle.desk_tables.proofs.PuttableLemmas.{puttable}
 use Rattle.desk_tables.proofs.AfterLemmas.{stands_put, left_put}
 use Rattle.desk_tables.proofs.changing.changes.put.Goals as goal
 
@@ -21,8 +26,8 @@ returns-in-Ok-clause-ok g c =
     let text = c.encode-id.result.now in
     let volumes = map volume_of c.deref-2.result.now in
     let spans = map span_of c.deref-3.result.now in
-    stands_put g.S.Store old new c.args.kept.now.world c.requires.stands c.in-Ok.ensures.mode
-    c.in-Ok.ensures.doubt operator row text volumes spans c.encode-id.ensures.text
+    stands_put g.S.Store old new c.args.kept.now.world c.requires.stands c.in-Ok.ensures.over.mode
+    c.in-Ok.ensures.over.doubt operator row text volumes spans c.encode-id.ensures.text
     (ap (map volume_of) c.deref-2.ensures.value ∙ c.in_ok-volumes.ensures
     ∙ ap (λ name. area_rows (filed_by name row)) c.as_str.ensures.value)
     (subst (ArePlanSpanRows (filed_by operator row)) (sym (ap (map span_of) c.deref-3.ensures.value))
@@ -67,7 +72,7 @@ returns-in-Ok-clause-crash g c =
     let text = c.encode-id.result.now in
     let volumes = map volume_of c.deref-2.result.now in
     let spans = map span_of c.deref-3.result.now in
-    left_put g.S.Store old new c.args.kept.now.world c.requires.stands c.put_plan.ensures.doubt operator
+    left_put g.S.Store old new c.args.kept.now.world c.requires.stands c.put_plan.ensures.over.doubt operator
     row text volumes spans c.encode-id.ensures.text
     (ap (map volume_of) c.deref-2.ensures.value ∙ c.in_ok-volumes.ensures
     ∙ ap (λ name. area_rows (filed_by name row)) c.as_str.ensures.value)
@@ -99,7 +104,7 @@ returns-clause-crash g c =
     let text = c.encode-id.result.now in
     let volumes = map volume_of c.deref-2.result.now in
     let spans = map span_of c.deref-3.result.now in
-    left_put g.S.Store old new c.args.kept.now.world c.requires.stands c.put_plan.ensures.doubt operator
+    left_put g.S.Store old new c.args.kept.now.world c.requires.stands c.put_plan.ensures.over.doubt operator
     row text volumes spans c.encode-id.ensures.text
     (ap (map volume_of) c.deref-2.ensures.value ∙ c.in_ok-volumes.ensures
     ∙ ap (λ name. area_rows (filed_by name row)) c.as_str.ensures.value)
@@ -121,3 +126,34 @@ returns-clause-crash g c =
     (sql.plan_row c.as_str-3.result.now text row.priority c.usage_number.result aircraft) volumes spans))
     c.aircraft_number.ensures c.put_plan.ensures.crash)))
     c.requires.fits
+
+pub returns-clause-cause : goal.returns-clause-cause
+returns-clause-cause g c room clean live =
+    let old = c.args.connection.now in
+    let new = c.put_plan.new.connection in
+    let operator = c.args.operator.now in
+    let row = c.args.row.now in
+    let text = c.encode-id.result.now in
+    let volumes = map volume_of c.deref-2.result.now in
+    let spans = map span_of c.deref-3.result.now in
+    let early : HasCleanDisk (state g.S.Store old) = omega (arith, c.put_plan.ensures.over.doubt, clean) in
+    let stood = c.requires.stands.standing early (c.in-Err.ensures.kept clean live).was_open in
+    let it = puttable operator row text volumes spans c.args.kept.now.world (state g.S.Store old).now
+    row.priority c.usage_number.result c.aircraft_number.result c.encode-id.ensures.text
+    (ap (map volume_of) c.deref-2.ensures.value ∙ c.in_ok-volumes.ensures
+    ∙ ap (λ name. area_rows (filed_by name row)) c.as_str.ensures.value)
+    (subst (ArePlanSpanRows (filed_by operator row)) (sym (ap (map span_of) c.deref-3.ensures.value))
+    (subst (λ name. ArePlanSpanRows (filed_by name row) (map span_of c.in_ok-spans.spans.items))
+    c.as_str-2.ensures.value c.in_ok-spans.ensures))
+    (record {
+      id = parsed_id text row.id c.encode-id.ensures.parsed;
+      volumes = c.volumes.ensures.limits;
+      each = subst (AllByRecursion IsBlock) c.volumes.ensures.value c.in_ok-asked.ensures.valid;
+    })
+    c.as_str.ensures.valid
+    (let short = parsed_short text row.id c.encode-id.ensures.parsed in omega (arith, short))
+    (c.requires.fits early) stood.tables room in
+    blamed g.S.Store old new c.in-Err.e c.fault_of.result c.fault_of.ensures
+    (c.in-Err.ensures.cause (subst (λ name. IsPuttable name text
+    (sql.plan_row name text row.priority c.usage_number.result c.aircraft_number.result) volumes spans
+    (state g.S.Store old).now) (sym c.as_str-3.ensures.value) it)) clean live

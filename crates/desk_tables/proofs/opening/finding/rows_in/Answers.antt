@@ -9,6 +9,6 @@ returns-in_err-spans-clause-cause g c =
     let three = c.all_volumes.ensures in
     let blames = blames_reading g.S.Store c.args.connection.now c.all_volumes.new.connection
     c.all_spans.new.connection c.in_err-spans.field-0.0
-    (omega (arith, one.faults, two.faults, three.faults))
-    (three.limit ∙ two.limit ∙ one.limit) c.in_err-spans.ensures.cause in
+    (omega (arith, one.reads.faults, two.reads.faults, three.reads.faults))
+    (three.reads.limit ∙ two.reads.limit ∙ one.reads.limit) c.in_err-spans.ensures.cause in
     search (rules, blames)

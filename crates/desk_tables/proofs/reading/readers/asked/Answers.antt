@@ -7,7 +7,6 @@ use Rattle.desk_sql.specs.Rows.{tables_of, held_columns, is_wanted}
 use Rattle.desk_tables.specs.Causes.{BlamesSpans}
 use Rattle.desk_tables.specs.Rivals.{HasTakenHelds, reach_from}
 use Rattle.desk_tables.proofs.StoreLemmas.{still_stands, weaker, on_whole}
-use Rattle.desk_tables.proofs.AskingLemmas.{ok_whole}
 use Rattle.desk_tables.proofs.CauseLemmas.{err_weaker, spans_blamed}
 use Rattle.desk_tables.proofs.reading.readers.asked.Goals as goal
 
@@ -36,20 +35,14 @@ returns-clause-cause g c =
     err_weaker c.held_by.result
     (BlamesSpans g.S.Store c.args.connection.now c.rival_spans-handed.new.connection)
     c.held_by.ensures.none (λ e why clean live is.
-    (let before = c.rival_spans-handed.ensures.kept clean live in
-    let standing = c.requires.stands.standing (omega (arith, c.rival_spans-handed.ensures.doubt, clean))
+    (let before = c.rival_spans-handed.ensures.reads.kept clean live in
+    let standing = c.requires.stands.standing (omega (arith, c.rival_spans-handed.ensures.reads.doubt, clean))
     before.was_open in
     spans_blamed g.S.Store c.args.connection.now c.rival_spans-handed.new.connection _ c.args.kept.now.world
     standing.content standing.tables c.rival_spans-handed.result (why is)
     (c.rival_spans-handed.ensures.cause clean live)))
 
-pub returns-clause-limit : goal.returns-clause-limit
-returns-clause-limit g c = λ clean.
-    ok_whole _ c.rival_spans-handed.result c.held_by.result c.held_by.ensures.whole
-    (c.rival_spans-handed.ensures.limit clean)
-
 pub returns-clause-stands : goal.returns-clause-stands
 returns-clause-stands g c =
     still_stands g.S.Store c.args.connection.now c.rival_spans-handed.new.connection c.args.kept.now.world
-    c.requires.stands c.rival_spans-handed.ensures.kept c.rival_spans-handed.ensures.mode
-    c.rival_spans-handed.ensures.doubt
+    c.requires.stands c.rival_spans-handed.ensures.reads

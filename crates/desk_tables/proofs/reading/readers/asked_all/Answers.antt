@@ -11,6 +11,5 @@ loop-question-preserved g c =
     (asking_on g.S.Store c.args.kept.now.world want c.args.connection.now c.loop-question.connection
     c.asked.new.connection c.args.questions.now c.loop-question.question-index
     (record { first = 0; last = 0 })
-    c.loop-question.helds.items c.in_ok-more.more.items c.loop-question.invariant c.asked.ensures.doubt
-    c.asked.ensures.kept c.loop-question-test.true c.asked.ensures.stands c.asked.ensures.faults
-    c.in_ok-more.ensures.limit c.asked.ensures.spared c.in_ok-more.ensures.open c.in_ok-more.ensures.value)
+    c.loop-question.helds.items c.in_ok-more.more.items c.loop-question.invariant c.asked.ensures.reads
+    c.loop-question-test.true c.asked.ensures.stands c.in_ok-more.ensures.open c.in_ok-more.ensures.value)

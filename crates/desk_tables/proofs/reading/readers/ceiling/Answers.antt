@@ -12,7 +12,7 @@ use Rattle.desk_tables.proofs.reading.readers.ceiling.Goals as goal
 
 pub returns-in-Ok-clause-value : goal.returns-in-Ok-clause-value
 returns-in-Ok-clause-value g c = λ clean.
-    let standing = c.requires.standing (omega (arith, c.in-Ok.ensures.doubt, clean))
+    let standing = c.requires.standing (omega (arith, c.in-Ok.ensures.reads.doubt, clean))
     (c.in-Ok.ensures.open clean) in
     let tables = tables_of (state g.S.Store c.args.connection.now).now.trees in
     let lists = subst (λ name. Lists [] (filter (is_by name) tables.operators) c.in-Ok.rows.items)
@@ -23,7 +23,7 @@ returns-in-Ok-clause-value g c = λ clean.
 
 pub returns-in-Ok-clause-bound : goal.returns-in-Ok-clause-bound
 returns-in-Ok-clause-bound g c = λ clean.
-    let standing = c.requires.standing (omega (arith, c.in-Ok.ensures.doubt, clean))
+    let standing = c.requires.standing (omega (arith, c.in-Ok.ensures.reads.doubt, clean))
     (c.in-Ok.ensures.open clean) in
     weaker c.ceiling_in.result (λ found is. subst (λ some. IfSome some (λ n. n ≤ max_priority)) (sym is)
     (ceiling_within c.args.operator.now c.args.kept.now.world standing.content.world))
@@ -36,7 +36,7 @@ returns-in-Ok-clause-cause g c =
     (BlamesStore g.S.Store c.args.connection.now c.operator_named.new.connection)
     c.ceiling_in.ensures.none
     (λ e none clean live is.
-    (let standing = c.requires.standing (omega (arith, c.in-Ok.ensures.doubt, clean))
+    (let standing = c.requires.standing (omega (arith, c.in-Ok.ensures.reads.doubt, clean))
     (c.in-Ok.ensures.open clean) in
     let tables = tables_of (state g.S.Store c.args.connection.now).now.trees in
     let lists = subst (λ name. Lists [] (filter (is_by name) tables.operators) c.in-Ok.rows.items)

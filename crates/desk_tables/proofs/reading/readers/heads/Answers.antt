@@ -9,7 +9,7 @@ use Rattle.desk_tables.proofs.reading.readers.heads.Goals as goal
 
 pub returns-in-Ok-clause-value : goal.returns-in-Ok-clause-value
 returns-in-Ok-clause-value g c = λ clean.
-    let standing = c.requires.standing (omega (arith, c.in-Ok.ensures.doubt, clean))
+    let standing = c.requires.standing (omega (arith, c.in-Ok.ensures.reads.doubt, clean))
     (c.in-Ok.ensures.open clean) in
     let tables = tables_of (state g.S.Store c.args.connection.now).now.trees in
     let by_name = subst (λ name. Lists [] (filter (is_of name c.encode-text.result.now) tables.plans)

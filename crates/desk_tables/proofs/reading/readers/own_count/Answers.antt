@@ -8,7 +8,7 @@ use Rattle.desk_tables.proofs.reading.readers.own_count.Goals as goal
 
 pub returns-in-Ok-clause-value : goal.returns-in-Ok-clause-value
 returns-in-Ok-clause-value g c = λ clean.
-    let standing = c.requires.standing (omega (arith, c.in-Ok.ensures.doubt, clean))
+    let standing = c.requires.standing (omega (arith, c.in-Ok.ensures.reads.doubt, clean))
     (c.in-Ok.ensures.open clean) in
     let tables = tables_of (state g.S.Store c.args.connection.now).now.trees in
     let counted = subst (λ name. c.in-Ok.count ≡ length (filter (is_by name) tables.plans))
@@ -20,8 +20,8 @@ pub returns-in-Err-clause-cause : goal.returns-in-Err-clause-cause
 returns-in-Err-clause-cause g c =
     blamed_but g.S.Store c.args.connection.now c.own_count.new.connection c.in-Err.e c.fault_of.result
     c.fault_of.ensures _ c.in-Err.ensures.cause (λ clean live many.
-    (let before = c.own_count.ensures.kept clean live in
-    let standing = c.requires.standing (omega (arith, c.in-Err.ensures.doubt, clean)) before.was_open in
+    (let before = c.own_count.ensures.reads.kept clean live in
+    let standing = c.requires.standing (omega (arith, c.in-Err.ensures.reads.doubt, clean)) before.was_open in
     let tables = tables_of (state g.S.Store c.args.connection.now).now.trees in
     let counted = subst (λ name. 2 ^ 32 ≤ length (filter (is_by name) tables.plans)) c.as_str.ensures.value
     many in

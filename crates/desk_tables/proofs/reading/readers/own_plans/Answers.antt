@@ -20,7 +20,7 @@ returns-clause-value g c = λ clean.
     on_whole _ c.own_plans-taken.result c.gathered.result c.gathered.ensures.whole
     (c.own_plans-taken.ensures.open clean) (λ live. on_whole _ c.own_plans-taken.result c.gathered.result
     c.gathered.ensures.whole (c.own_plans-taken.ensures.value clean) (λ handed.
-    (let standing = c.requires.standing (omega (arith, c.own_plans-taken.ensures.doubt, clean)) live in
+    (let standing = c.requires.standing (omega (arith, c.own_plans-taken.ensures.reads.doubt, clean)) live in
     let tables = tables_of (state g.S.Store c.args.connection.now).now.trees in
     let (rows, by_name, taken) = handed in
     let gather = c.own_plans-taken.new.taker in
@@ -38,7 +38,7 @@ pub returns-clause-order : goal.returns-clause-order
 returns-clause-order g c = λ clean.
     on_whole _ c.own_plans-taken.result c.gathered.result c.gathered.ensures.whole
     (c.own_plans-taken.ensures.open clean) (λ live.
-    (let standing = c.requires.standing (omega (arith, c.own_plans-taken.ensures.doubt, clean)) live in
+    (let standing = c.requires.standing (omega (arith, c.own_plans-taken.ensures.reads.doubt, clean)) live in
     weaker c.gathered.result (λ plans are. subst AreInOrder (sym are)
     (rows_sorted c.args.operator.now c.args.kept.now.world.plans standing.content.world.plans))
     (returns-clause-value g c clean)))
@@ -47,7 +47,7 @@ pub returns-clause-limit : goal.returns-clause-limit
 returns-clause-limit g c = λ clean.
     on_whole _ c.own_plans-taken.result c.gathered.result c.gathered.ensures.whole
     (c.own_plans-taken.ensures.open clean) (λ live.
-    (let standing = c.requires.standing (omega (arith, c.own_plans-taken.ensures.doubt, clean)) live in
+    (let standing = c.requires.standing (omega (arith, c.own_plans-taken.ensures.reads.doubt, clean)) live in
     weaker c.gathered.result (λ plans are. subst (λ rows. length rows ≤ max_plans) (sym are)
     (standing.content.world.rows c.args.operator.now)) (returns-clause-value g c clean)))
 
@@ -59,8 +59,8 @@ returns-clause-cause g c =
     c.gathered.ensures.none (λ e why clean live is.
     (let w = c.args.kept.now.world in
     let o = c.args.operator.now in
-    let before = c.own_plans-taken.ensures.kept clean live in
-    let standing = c.requires.standing (omega (arith, c.own_plans-taken.ensures.doubt, clean))
+    let before = c.own_plans-taken.ensures.reads.kept clean live in
+    let standing = c.requires.standing (omega (arith, c.own_plans-taken.ensures.reads.doubt, clean))
     before.was_open in
     let tables = tables_of (state g.S.Store c.args.connection.now).now.trees in
     let gather = c.own_plans-taken.new.taker in

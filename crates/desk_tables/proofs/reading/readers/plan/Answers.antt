@@ -14,7 +14,7 @@ returns-in_default-clause-value g c = λ clean.
 
 pub returns-clause-value : goal.returns-clause-value
 returns-clause-value g c = λ clean.
-    let heads = c.in_ok-heads.ensures.value (omega (arith, c.volumes.ensures.doubt, clean)) in
+    let heads = c.in_ok-heads.ensures.value (omega (arith, c.volumes.ensures.reads.doubt, clean)) in
     let rows = c.in_ok-rows.ensures.value clean in
     let first = some_first c.deref.result.now c.in-Some.head.now c.in-Some.ensures.value in
     plan_stored c.args.operator.now c.args.id.now c.args.kept.now.world c.in_ok-heads.heads.items
@@ -35,14 +35,15 @@ returns-in_err-rows-clause-cause g c =
     (BlamesStore g.S.Store c.args.connection.now c.volumes.new.connection)
     c.from_residual-in_err-rows.ensures.1
     (blamed_since g.S.Store c.args.connection.now c.heads.new.connection c.volumes.new.connection
-    c.in_err-rows.field-0.0 c.heads.ensures.faults c.heads.ensures.limit c.in_err-rows.ensures.cause)
+    c.in_err-rows.field-0.0 c.heads.ensures.reads.faults c.heads.ensures.reads.limit
+    c.in_err-rows.ensures.cause)
 
 pub returns-in_err-plan_of_rows-clause-cause : goal.returns-in_err-plan_of_rows-clause-cause
 returns-in_err-plan_of_rows-clause-cause g c =
     on_err c.from_residual-in_err-plan_of_rows.result c.in_err-plan_of_rows.field-0.0
     (BlamesStore g.S.Store c.args.connection.now c.volumes.new.connection)
     c.from_residual-in_err-plan_of_rows.ensures.1 (λ clean live is.
-    (let heads = c.in_ok-heads.ensures.value (omega (arith, c.volumes.ensures.doubt, clean)) in
+    (let heads = c.in_ok-heads.ensures.value (omega (arith, c.volumes.ensures.reads.doubt, clean)) in
     let rows = c.in_ok-rows.ensures.value clean in
     let first = some_first c.deref.result.now c.in-Some.head.now c.in-Some.ensures.value in
     absurd (plan_reads c.args.operator.now c.args.id.now c.args.kept.now.world c.in_ok-heads.heads.items

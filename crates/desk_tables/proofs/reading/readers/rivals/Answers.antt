@@ -22,7 +22,7 @@ returns-clause-value g c = λ clean.
     let tables = tables_of (state g.S.Store c.args.connection.now).now.trees in
     let live = opened (subst (λ (qs : List Span). 0 < length qs) (sym c.deref.ensures.value)
     c.in_ok-questions.ensures.some) in
-    let standing = c.requires.stands.standing (omega (arith, c.asked_all.ensures.doubt, clean)) live in
+    let standing = c.requires.stands.standing (omega (arith, c.asked_all.ensures.reads.doubt, clean)) live in
     let mine = subst (λ qs. HaveTakenAll (is_asked o text least extent) qs tables.spans helds.items)
     c.deref.ensures.value taken in
     let named = subst (λ t. HaveTakenAll (is_asked o t least extent) questions tables.spans helds.items)

@@ -1,4 +1,3 @@
-use Rattle.std.proofs.Common.{ap, not, ◌∙◌}
 use Rattle.desk_tables.proofs.LeavingLemmas.{leaves_what_stands}
 use Rattle.desk_tables.proofs.store.SqliteStore.with.Goals as goal
 
@@ -7,7 +6,6 @@ returns-clause-left g c = λ clean live.
     let connection = c.args.connection in
     leaves_what_stands c.one_content.ensures g.S.Store connection c.args.kept.world c.requires.stands
     clean live
-    (c.is_autocommit-settled.ensures.settled
-    (c.is_autocommit-settled.ensures.value ∙ ap not c.requires.stands.settled) live)
-    (c.schema-sound.ensures.live live).0
+    (c.settled_and_sound.ensures.settled c.requires.stands.settled live)
+    (c.settled_and_sound.ensures.sound live).0
     (λ db may. g.met.S.Store.settled connection.store db live may)

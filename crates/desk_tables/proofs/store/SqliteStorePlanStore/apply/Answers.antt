@@ -33,7 +33,7 @@ returns-in-Ok-clause-kept g c = λ honest.
     subst (λ w. LeavesOnly w (MayLeave g.S.Store new)) (sym c.after-self-inside.ensures)
     (leaves_what_stands c.one_content.ensures g.S.Store new
     (changed_by c.args.change.now c.self.inside.kept.world) c.in-Ok.ensures.ok honest live
-    (c.in-Ok.ensures.committed honest) (c.schema-sound.ensures.live live).0
+    (c.in-Ok.ensures.committed honest) (c.settled_and_sound.ensures.sound live).0
     (λ db may. g.met.S.Store.settled new.store db live may))
 
 pub returns-in-Err-clause-crash : goal.returns-in-Err-clause-crash

@@ -1,0 +1,158 @@
+-- How many rows each text adds at most.
+use Rattle.std.proofs.Common.{◌≡◌, ◌+◌, ℕ, suc, ◌/◌, Bool, true, false, not, cond, List, [], ◌∷◌, ◌++◌, length, filter, Option, None, Ok, refl, sym, ap, subst, arith}
+use Rattle.std.specs.List.{list_any}
+use Rattle.sqlite.specs.Order.{Row}
+use Rattle.sqlite.specs.declared.types.Value.TheVariants.{Null, Int}
+use Rattle.sqlite.specs.Term.{Term}
+use Rattle.sqlite.specs.Ops.{is_null}
+use Rattle.sqlite.specs.Tree.{Trees, rowid}
+use Rattle.sqlite.specs.Cast.{cast_all, cast_row}
+use Rattle.sqlite.specs.Edit.{next_rowid, with_rowid}
+use Rattle.sqlite.specs.Rowids.TheVariants.{Chosen}
+use Rattle.sqlite.specs.Source.TheVariants.{Values}
+use Rattle.sqlite.specs.Command.TheVariants.{Insert, Delete}
+use Rattle.sqlite.specs.Effect.{Database, value_rows}
+use Rattle.sqlite.specs.Does.{Tally, OnRows}
+use Rattle.sqlite_schema.specs.declared.schema.Column.{Column}
+use Rattle.sqlite_schema.specs.declared.schema.Reference.{Reference}
+use Rattle.sqlite.specs.State.{State, Executes}
+use Rattle.desk_sql.specs.Schema.{desk_schema, plan_table, volume_table, span_table}
+use Rattle.desk_sql.specs.Batches.{volume_of, span_of}
+use Rattle.desk_sql.specs.Rows.{IsDesk, Tables}
+use Rattle.desk_sql.specs.Statements.{Changes, enforced, key_row, row_of}
+use Rattle.desk_sql.specs.Putting.{AddsAtMost, HasRoomFor, TakesRoom}
+use Rattle.desk_sql.proofs.Texts.{insert_plan_text, insert_volume_text, insert_span_text, remove_plan_text}
+use Rattle.desk_sql.proofs.CommandTexts.{insert_plan_is, insert_plan_terms, insert_volume_is, insert_volume_terms, insert_span_is, insert_span_terms, remove_plan_is}
+use Rattle.desk_sql.proofs.WriteLemmas.{Adds, adds, cast_null, did, insert_applies, ran, rows_written, table_at, task_at}
+use Rattle.desk_sql.proofs.CascadeLemmas.{has_key}
+use Rattle.desk_sql.proofs.RemoveLemmas.{AreCut, plan_program, plan_removed, plan_task}
+use Rattle.desk_sql.proofs.RoomLemmas.{AreWhole, fewer, room_kept, room_put}
+
+-- ---- one row comes to a tree
+
+module _ (limit : Option ℕ) (params : Row) (name : List ℕ) (cols : List Column) (key : List ℕ)
+    (refs : List Reference) (tree : ℕ) (db : Trees) where
+  abbrev numbered : Row
+  numbered = with_rowid Chosen (db tree)
+      (cast_row (table_at limit params name cols key refs tree) (Null ∷ params))
+
+  numbered_next : rowid numbered ≡ Int (next_rowid (db tree))
+  numbered_next = ap (λ v. rowid (cond (is_null v) (Int (next_rowid (db tree)) ∷ cast_all cols params)
+      (v ∷ cast_all cols params))) cast_null
+
+  -- what an INSERT of one row adds
+  pub row_added : (at : ℕ) (terms : List Term) (width : ℕ) (tally : Tally) (now : Database)
+      → value_rows (params ++ []) width (length terms / width) terms ≡ (Null ∷ params) ∷ []
+      → OnRows (task_at limit params name cols key refs tree) enforced None
+      (Insert at (Values terms width)) db
+      (Ok (tally, now)) → Adds tree numbered db now.trees
+  row_added at terms width tally now one h =
+      let it = rows_written (task_at limit params name cols key refs tree) (Insert at (Values terms width)) db
+      tally now h in
+      let done = insert_applies limit params name cols key refs tree terms width db it.0 (Null ∷ params) one
+      it.1 in
+      subst (Adds tree numbered db) (sym (ap (λ (d : Database). d.trees) it.2))
+      (adds name cols key refs tree db it.0.trees (Null ∷ params) done)
+
+  pub room_taken : (now : Trees) (left : ℕ) → AreWhole (db tree) → Adds tree numbered db now
+      → HasRoomFor (1 + left) (db tree) → HasRoomFor left (now tree)
+  room_taken now left whole a room = subst (HasRoomFor left) (sym a.at)
+      (room_put left numbered (db tree) numbered_next whole
+      (fewer (suc left) (1 + left) (db tree) (omega arith) room))
+
+-- a tree that stays has its room
+same_room : (old now : List Row) (left : ℕ) → now ≡ old → HasRoomFor (0 + left) old → HasRoomFor left now
+same_room old now left same room =
+    subst (HasRoomFor left) (sym same) (fewer left (0 + left) old (omega arith) room)
+
+pub plan_room : AddsAtMost insert_plan_text row_of 1 0 0
+plan_room = record {
+  takes = λ p limit old new desk h.
+      let db = old.trees in
+      let d = did insert_plan_text (row_of p) limit old new desk (Insert 1 (Values insert_plan_terms 6))
+      insert_plan_is h in
+      let a = row_added limit (row_of p) plan_table.name plan_table.columns plan_table.primary
+      plan_table.references 2 db 1 insert_plan_terms 6 d.0 new refl d.1 in
+      record {
+        of_plans = λ left. room_taken limit (row_of p) plan_table.name plan_table.columns plan_table.primary
+            plan_table.references 2 db new.trees left desk.plans.whole a;
+        of_volumes = λ left. same_room (db 4) (new.trees 4) left (a.others.1.1.0 (λ e. cc));
+        of_spans = λ left. same_room (db 6) (new.trees 6) left (a.others.1.1.1.0 (λ e. cc));
+      };
+}
+
+pub volume_room : AddsAtMost insert_volume_text volume_of 0 1 0
+volume_room = record {
+  takes = λ v limit old new desk h.
+      let db = old.trees in
+      let d =
+      did insert_volume_text (volume_of v) limit old new desk (Insert 2 (Values insert_volume_terms 9))
+      insert_volume_is h in
+      let a = row_added limit (volume_of v) volume_table.name volume_table.columns volume_table.primary
+      volume_table.references 4 db 2 insert_volume_terms 9 d.0 new refl d.1 in
+      record {
+        of_plans = λ left. same_room (db 2) (new.trees 2) left (a.others.1.0 (λ e. cc));
+        of_volumes = λ left. room_taken limit (volume_of v) volume_table.name volume_table.columns
+            volume_table.primary volume_table.references 4 db new.trees left desk.volumes.whole a;
+        of_spans = λ left. same_room (db 6) (new.trees 6) left (a.others.1.1.1.0 (λ e. cc));
+      };
+}
+
+pub span_room : AddsAtMost insert_span_text span_of 0 0 1
+span_room = record {
+  takes = λ s limit old new desk h.
+      let db = old.trees in
+      let d = did insert_span_text (span_of s) limit old new desk (Insert 3 (Values insert_span_terms 11))
+      insert_span_is h in
+      let a = row_added limit (span_of s) span_table.name span_table.columns span_table.primary
+      span_table.references 6 db 3 insert_span_terms 11 d.0 new refl d.1 in
+      record {
+        of_plans = λ left. same_room (db 2) (new.trees 2) left (a.others.1.0 (λ e. cc));
+        of_volumes = λ left. same_room (db 4) (new.trees 4) left (a.others.1.1.0 (λ e. cc));
+        of_spans = λ left. room_taken limit (span_of s) span_table.name span_table.columns
+            span_table.primary span_table.references 6 db new.trees left desk.spans.whole a;
+      };
+}
+
+-- ---- rows go
+
+cut_room : (b : Bool) (q : Row → Bool) (old now : List Row) (left : ℕ) → now ≡ cond b (filter q old) old
+    → AreWhole old → HasRoomFor (0 + left) old → HasRoomFor left now
+cut_room b q old now left is whole room =
+    let there = fewer left (0 + left) old (omega arith) room in
+    subst (HasRoomFor left) (sym is) (elim b as (λ b. HasRoomFor left (cond b (filter q old) old))
+    [ true ↦ room_kept left q old whole there | false ↦ there ])
+
+pub remove_room : AddsAtMost remove_plan_text key_row 0 0 0
+remove_room = record {
+  takes = λ key limit old new desk h.
+      let operator = key.operator in
+      let id = key.id in
+      let db = old.trees in
+      let d =
+      did remove_plan_text (key_row key) limit old new desk (Delete 1 (plan_program operator id limit))
+      remove_plan_is h in
+      let it = rows_written (plan_task operator id limit)
+      (Delete 1 (plan_program operator id limit)) db d.0 new d.1 in
+      let cut = plan_removed operator id limit old it.0 desk it.1 in
+      let left_are : AreCut operator id (list_any (has_key operator id) (db 2)) db new.trees =
+      subst (AreCut operator id (list_any (has_key operator id) (db 2)) db)
+      (sym (ap (λ (d : Database). d.trees) it.2)) cut in
+      let b = list_any (has_key operator id) (db 2) in
+      let other = λ (r : Row). not (has_key operator id r) in
+      record {
+        of_plans = λ left. cut_room true other (db 2) (new.trees 2) left left_are.plans desk.plans.whole;
+        of_volumes = λ left. cut_room b other (db 4) (new.trees 4) left left_are.volumes desk.volumes.whole;
+        of_spans = λ left. cut_room b other (db 6) (new.trees 6) left left_are.spans desk.spans.whole;
+      };
+}
+
+-- what ran took the room of no more rows
+pub took : {Given : Type 0} (text : List ℕ) (params : Given → Row) (Change : Given → Tables → Tables → Type 0)
+    (plans volumes spans : ℕ) → Changes text params Change → AddsAtMost text params plans volumes spans
+    → (given : Given) → (old new : State) → IsDesk old.now → (count : ℕ)
+    → Executes text (params given) old new (Ok count)
+    → TakesRoom plans volumes spans old.now.trees new.now.trees
+took text params Change plans volumes spans known adds given old new desk count h =
+    adds.takes given old.step_limit old.now new.now desk
+    (ran text (params given) old new desk_schema desk.schema known.plain known.writes count h)

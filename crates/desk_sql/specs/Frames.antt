@@ -1,0 +1,30 @@
+-- What each call leaves of a connection.
+use Rattle.std.specs.Prelude.{◌≡◌, ◌≤◌, false}
+use Rattle.sqlite.specs.View.{doubt as doubt_of}
+use Rattle.sqlite.specs.Store.{Ghosts}
+use Rattle.sqlite.specs.Held.{Held, state}
+use Rattle.desk_sql.specs.Effects.{IsKept, Spares}
+
+module _ {S : Type 0} (g : Ghosts S) (old new : Held S) where
+  -- a query: what is shown stays, no transaction is under way, the limit on steps stays, the disk's doubt and
+  -- the count of its faults never fall, and a crash leaves what it could leave before
+  pub record OnlyReads : Type 0 where
+    pub kept : IsKept g old new
+    pub mode : new.in_transaction ≡ false
+    pub limit : new.step_limit ≡ old.step_limit
+    pub doubt : doubt_of (state g old).is_clean ≤ doubt_of (state g new).is_clean
+    pub faults : (state g old).faults ≤ (state g new).faults
+    pub spared : Spares g old new
+
+  -- a step of a query, or a statement within a transaction
+  pub record Remembers : Type 0 where
+    pub limit : new.step_limit ≡ old.step_limit
+    pub doubt : doubt_of (state g old).is_clean ≤ doubt_of (state g new).is_clean
+    pub faults : (state g old).faults ≤ (state g new).faults
+    pub spared : Spares g old new
+
+  -- a transaction that has ended, whatever it came to
+  pub record IsOver : Type 0 where
+    pub mode : new.in_transaction ≡ false
+    pub doubt : doubt_of (state g old).is_clean ≤ doubt_of (state g new).is_clean
+    pub faults : (state g old).faults ≤ (state g new).faults

@@ -1,0 +1,86 @@
+-- What a plan that is put has to fit: which rowids are left, and which keys are free.
+use Rattle.std.specs.Prelude.{◌≡◌, ◌<◌, ◌+◌, ◌^◌, ℕ, true, false, List, length, ⊤}
+use Rattle.std.specs.List.{AllByRecursion}
+use Rattle.sqlite.specs.declared.types.Value.{Value}
+use Rattle.sqlite.specs.declared.types.Value.TheVariants.{Null, Int, Real, Text, Blob}
+use Rattle.sqlite.specs.Order.{Row}
+use Rattle.sqlite.specs.Tree.{Trees, IsAscending}
+use Rattle.sqlite.specs.Effect.{Database}
+use Rattle.desk_sql.specs.Rows.{IsDesk, is_of, tables_of}
+use Rattle.desk_sql.specs.Changing.{HasKey, HasRoom, IsShort, LacksKey, has_same_key}
+use Rattle.desk_sql.specs.Schema.{desk_schema}
+use Rattle.desk_sql.specs.Statements.{MayWrite}
+use Rattle.sqlite.specs.Listing.{understood}
+use Rattle.std.specs.Prelude.{Option}
+
+-- ---- rowids
+
+-- rowids are left for so many rows more, of which there are 2 ^ 63 - 1 above 0
+abbrev pub HasRoomFor : ℕ → List Row → Type 0
+HasRoomFor count rows = (count < 2 ^ 63) × HasRoom count rows
+
+-- a change takes the room of at most so many plans, volumes and spans
+pub record TakesRoom (plans volumes spans : ℕ) (old new : Trees) : Type 0 where
+  pub of_plans : (left : ℕ) → HasRoomFor (plans + left) (old 2) → HasRoomFor left (new 2)
+  pub of_volumes : (left : ℕ) → HasRoomFor (volumes + left) (old 4) → HasRoomFor left (new 4)
+  pub of_spans : (left : ℕ) → HasRoomFor (spans + left) (old 6) → HasRoomFor left (new 6)
+
+-- so does a text, whatever it is given
+pub record AddsAtMost {Given : Type 0} (text : List ℕ) (params : Given → Row)
+    (plans volumes spans : ℕ) : Type 0
+  where
+    pub takes : (given : Given) (limit : Option ℕ) (old new : Database) → IsDesk old
+        → MayWrite text (understood desk_schema text) (params given) limit old new
+        → TakesRoom plans volumes spans old.trees new.trees
+
+-- ---- rows that are new
+
+abbrev pub IsShortValue : Value → Type 0
+IsShortValue Null = ⊤
+IsShortValue (Int n) = ⊤
+IsShortValue (Real x) = ⊤
+IsShortValue (Text text) = IsShort text
+IsShortValue (Blob bytes) = IsShort bytes
+
+-- the texts and bytes in each row are short
+abbrev pub AreShort : List Row → Type 0
+AreShort rows = AllByRecursion (λ r. AllByRecursion IsShortValue r) rows
+
+-- no two of the rows have the same key, which is so many of the first columns
+abbrev pub HaveOwnKeys : ℕ → List Row → Type 0
+HaveOwnKeys width rows = IsAscending (λ a b. has_same_key width a b ≡ false) rows
+
+-- rows that can be added one after the other: each plan is there, and no row has their keys
+pub record AreNewRows (width : ℕ) (rows stored shown plans : List Row) : Type 0 where
+  pub short : AreShort rows
+  pub room : HasRoomFor (length rows) stored
+  pub apart : HaveOwnKeys width rows
+  pub free : AllByRecursion (λ r. LacksKey width r shown) rows
+  pub planned : AllByRecursion (λ r. HasKey 2 r plans) rows
+
+abbrev pub AreNewVolumes : List Row → Database → Type 0
+AreNewVolumes rows db =
+    AreNewRows 3 rows (db.trees 4) (tables_of db.trees).volumes (tables_of db.trees).plans
+
+abbrev pub AreNewSpans : List Row → Database → Type 0
+AreNewSpans rows db = AreNewRows 4 rows (db.trees 6) (tables_of db.trees).spans (tables_of db.trees).plans
+
+-- ---- a plan with its volumes and spans
+
+-- rows of one plan
+pub record AreOfPlan (operator id : List ℕ) (width : ℕ) (rows : List Row) : Type 0 where
+  pub short : AreShort rows
+  pub own : AllByRecursion (λ r. is_of operator id r ≡ true) rows
+  pub apart : HaveOwnKeys width rows
+
+-- a plan of a listed operator, for whose rows there is room
+pub record IsPuttable (operator id : List ℕ) (plan : Row) (volumes spans : List Row) (db : Database) : Type 0
+  where
+    pub operator_short : IsShort operator
+    pub id_short : IsShort id
+    pub listed : HasKey 1 plan (tables_of db.trees).operators
+    pub volumes_of : AreOfPlan operator id 3 volumes
+    pub spans_of : AreOfPlan operator id 4 spans
+    pub plan_room : HasRoomFor 1 (db.trees 2)
+    pub volume_room : HasRoomFor (length volumes) (db.trees 4)
+    pub span_room : HasRoomFor (length spans) (db.trees 6)
