@@ -1,6 +1,8 @@
 //! Connections: requests read from a stream, and their answers written to one.
 
-ghost use Rattle.std.specs.Prelude.{◌≡◌, ◌≤◌, ◌<◌, ◌+◌, [], length, take, ◌⊎◌, Option, IfErr, IfOk, IfSome, OnOk, None};
+ghost use Rattle.std.specs.Prelude.{◌≡◌, ◌≤◌, ◌<◌, ◌+◌, ◌↔◌, [], length, take, ◌⊎◌, Option, IfErr, IfOk};
+ghost use Rattle.std.specs.Prelude.{IfSome, IsTrue, OnOk, None};
+ghost use Rattle.std.specs.IoError.{error_kind};
 ghost use Rattle.std.specs.Io.{ReadsAtMost};
 ghost use Rattle.std.specs.Result.{is_ok};
 ghost use Rattle.std.specs.Io.KnownBytes.{Appends, Consumes, IsAtEnd, ReadConsumes};
@@ -295,11 +297,18 @@ fn receive_some<R: Read>(
     while *reads > 0 {
         match read_counted(input, room, reads) {
             Ok(count) => return Ok(count),
-            Err(error) if error.kind() == ErrorKind::Interrupted => {}
+            Err(error) if is_interruption(&error) => {}
             Err(_) => return Err(ServeFault::Read),
         }
     }
     Err(ServeFault::Read)
+}
+
+// Whether what failed so is tried again.
+fn is_interruption(error: &io::Error) -> bool
+    ensures { IsTrue result ↔ (error_kind error.now ≡ ErrorKind.Interrupted) }
+{
+    error.kind() == ErrorKind::Interrupted
 }
 
 // Reads once, and takes one from the reads that are left, whatever comes of it.
@@ -344,7 +353,7 @@ fn write_most<W: Write>(output: &mut W, bytes: &[u8]) -> usize
         match output.write(&bytes[sent..]) {
             Ok(0) => return sent,
             Ok(count) => sent += count,
-            Err(error) if error.kind() == ErrorKind::Interrupted => {}
+            Err(error) if is_interruption(&error) => {}
             Err(_) => return sent,
         }
     }
