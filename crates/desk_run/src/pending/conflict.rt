@@ -17,9 +17,13 @@ use desk_rules::plan_id::PlanId;
 use desk_store::{PlanStore, StoreFault};
 use volume4d::{Area, Meeting, Slab, bounds_of, split_cluster};
 
-// A gap between two slabs is wide if it is more than this part of the way from the first to the last: so
-// a plan has at most this many clusters and one.
+// A gap between two slabs is wide if it is more than this part of the way from the first to the last. So a
+// plan that lies close together has at most this many clusters and one.
 const GAPS: u64 = 64;
+
+// It is wide too if it is more than the leaves of a cell of level 6: a question over tables reads from about
+// so far before its extent, so that two questions read no more than one that holds the gap.
+const WIDEST: u64 = 1 << 48;
 
 // The conflict of an area with a priority, of the operator's plan of the id.
 pub fn conflict_of<S: PlanStore>(
@@ -74,7 +78,7 @@ fn first_among<S: PlanStore>(
 // How wide a gap between slabs has to be that they are asked for apart.
 fn wide_gap(slabs: &[Slab]) -> u64 {
     match slabs {
-        [first, .., last] => last.first.saturating_sub(first.first) / GAPS,
+        [first, .., last] => (last.first.saturating_sub(first.first) / GAPS).min(WIDEST),
         _ => 0,
     }
 }
