@@ -3,7 +3,8 @@
 use crate::cases::Cases;
 use desk_store::ListStore;
 use desk_tables::SqliteStore;
-use sqlite::MemStore;
+use ram_disk::Ram;
+use sqlite::FileStore;
 use std::alloc::Global;
 use std::io::Write;
 
@@ -11,7 +12,7 @@ use std::io::Write;
 #[derive(Drop)]
 pub struct Both {
     listed: Cases<ListStore>,
-    tabled: Cases<SqliteStore<MemStore>>,
+    tabled: Cases<SqliteStore<FileStore<Ram>>>,
     // How many steps came to the same, and how many didn't.
     same: u64,
     others: u64,

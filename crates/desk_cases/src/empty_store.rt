@@ -3,7 +3,8 @@
 use anyhow::Context;
 use desk_store::{ListStore, PlanStore};
 use desk_tables::SqliteStore;
-use sqlite::MemStore;
+use ram_disk::Ram;
+use sqlite::FileStore;
 use std::alloc::Global;
 
 /// A store that can be made with no operators and no plans.
@@ -18,8 +19,8 @@ impl EmptyStore for ListStore {
     }
 }
 
-impl EmptyStore for SqliteStore<MemStore> {
-    fn empty(alloc: Global) -> anyhow::Result<SqliteStore<MemStore>> {
+impl EmptyStore for SqliteStore<FileStore<Ram>> {
+    fn empty(alloc: Global) -> anyhow::Result<SqliteStore<FileStore<Ram>>> {
         SqliteStore::in_memory(alloc)
             .ok()
             .context("no tables in memory")

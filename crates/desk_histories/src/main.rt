@@ -15,7 +15,8 @@ use desk_store::{ListStore, PlanStore};
 use desk_tables::SqliteStore;
 use desk_wire::answer;
 use history::{History, operator_names};
-use sqlite::MemStore;
+use ram_disk::Ram;
+use sqlite::FileStore;
 use std::alloc::Global;
 use std::env;
 use tally::Tally;
@@ -54,7 +55,7 @@ fn play(alloc: Global, mut history: History, count: u64) -> anyhow::Result<Tally
     Ok(tally)
 }
 
-fn tables(alloc: Global) -> anyhow::Result<SqliteStore<MemStore>> {
+fn tables(alloc: Global) -> anyhow::Result<SqliteStore<FileStore<Ram>>> {
     SqliteStore::in_memory(alloc)
         .ok()
         .context("no tables in memory")

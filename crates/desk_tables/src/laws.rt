@@ -4,7 +4,8 @@ ghost use Rattle.std.specs.Prelude.{◌≡◌, ◌⊎◌, ℕ, List, [], ◌∷�
 ghost use Rattle.uuid.specs.Text.{parsed};
 ghost use Rattle.sqlite_value.specs.Order.{Row};
 ghost use Rattle.sqlite_store.specs.declared.store.FileStore.{FileStore};
-ghost use Rattle.sqlite.specs.Held.{Held};
+ghost use Rattle.sqlite.specs.Held.{Held, state};
+ghost use Rattle.sqlite.specs.State.{HasCleanDisk};
 ghost use Rattle.sqlite.specs.Files.{over_files};
 ghost use Rattle.desk_sql.specs.Rows.{Tables, PutsOperator, ClosesPlan};
 ghost use Rattle.desk_sql.specs.Batches.{PutsPlan, RemovesPlans};
@@ -21,6 +22,9 @@ ghost use Rattle.desk_tables.specs.TableChanges.{ClosesRows, ClearsRows, IsWithi
 ghost use Rattle.desk_tables.specs.Store.{IsStanding};
 ghost use Rattle.desk_tables.specs.Leaving.{MayLeave, IsFoundAfter, BeginsAfter, IsRefusedAfter};
 
+use crate::store::SqliteStore;
+use ram_disk::Ram;
+use sqlite::FileStore;
 use sqlite_disk::Disk;
 use volume4d::laws::one_shape;
 
@@ -116,4 +120,9 @@ pub fn a_store_begins_with_the_old_or_the_new<D: Disk, E: Disk>()
         → LeavesOnly before (MayLeave over_files old)
         → LeavesOldOr after (MayLeave over_files old) (MayLeave over_files last)
         → ¬ IsRefusedAfter last E.Disk }
+{}
+
+/// A store in memory is always honest.
+pub fn a_store_in_memory_is_honest(store: &SqliteStore<FileStore<Ram>>)
+    ensures { HasCleanDisk (state over_files store.now.held) }
 {}

@@ -1,6 +1,6 @@
 //! A store of plans over tables in SQLite.
 
-ghost use Rattle.std.specs.Prelude.{◌≡◌, ◌≤◌, IfErr};
+ghost use Rattle.std.specs.Prelude.{◌≡◌, ◌≤◌, Ok, IsErr, IfErr, MatchResult};
 ghost use Rattle.desk_store.specs.Faults.{HasRisen};
 ghost use Rattle.desk_tables.specs.Store.{Stands};
 ghost use Rattle.desk_tables.specs.Lengths.{Bounds};
@@ -34,6 +34,8 @@ pub struct SqliteStore<S: Alter> {
     lengths: Lengths,
     // how many faults of its own it has met, up to the type's last value
     faults: u64,
+    // what a fault of its own is told as: a disk in memory fails only where it gets no memory
+    told: StoreFault,
     alloc: Global,
 }
 
@@ -55,12 +57,14 @@ impl<S: Alter> Model for SqliteStore<S> {
 }
 
 impl<S: Alter> SqliteStore<S> {
-    /// A store over a connection, with the world that its rows are, and how long the spans in it are.
+    /// A store over a connection, with the world that its rows are, and how long the spans in it are. What
+    /// SQLite fails at for another cause than memory is told as `told`.
     pub(crate) fn with(
         alloc: Global,
         connection: Connection<S>,
         kept: Kept,
         lengths: Lengths,
+        told: StoreFault,
     ) -> SqliteStore<S>
         requires stands { Stands S.Store connection kept.world }
         requires bounded { Bounds lengths kept.world }
@@ -74,6 +78,7 @@ impl<S: Alter> SqliteStore<S> {
             kept,
             lengths,
             faults: 0,
+            told,
             alloc,
         }
     }
@@ -102,27 +107,27 @@ impl<S: Alter> PlanStore for SqliteStore<S> {
 
     fn ceiling(&mut self, operator: &Operator) -> Result<Option<u32>, StoreFault> {
         let answer = readers::ceiling(&mut self.connection, &self.kept, operator);
-        counted(&mut self.faults, answer)
+        counted(&mut self.faults, self.told, answer)
     }
 
     fn plan(&mut self, operator: &Operator, id: &PlanId) -> Result<Option<PlanRow>, StoreFault> {
         let answer = readers::plan(self.alloc, &mut self.connection, &self.kept, operator, id);
-        counted(&mut self.faults, answer)
+        counted(&mut self.faults, self.told, answer)
     }
 
     fn states(&mut self, operator: &Operator, id: &PlanId) -> Result<Option<States>, StoreFault> {
         let answer = readers::states(&mut self.connection, &self.kept, operator, id);
-        counted(&mut self.faults, answer)
+        counted(&mut self.faults, self.told, answer)
     }
 
     fn own_count(&mut self, operator: &Operator) -> Result<u32, StoreFault> {
         let answer = readers::own_count(&mut self.connection, &self.kept, operator);
-        counted(&mut self.faults, answer)
+        counted(&mut self.faults, self.told, answer)
     }
 
     fn own_plans(&mut self, operator: &Operator) -> Result<Vec<PlanRow>, StoreFault> {
         let answer = readers::own_plans(self.alloc, &mut self.connection, &self.kept, operator);
-        counted(&mut self.faults, answer)
+        counted(&mut self.faults, self.told, answer)
     }
 
     fn rivals(
@@ -142,7 +147,7 @@ impl<S: Alter> PlanStore for SqliteStore<S> {
             extent,
             &self.lengths,
         );
-        counted(&mut self.faults, answer)
+        counted(&mut self.faults, self.told, answer)
     }
 
     fn apply(&mut self, change: &Change) -> Result<(), StoreFault> {
@@ -160,19 +165,26 @@ impl<S: Alter> PlanStore for SqliteStore<S> {
                 self.lengths = lengths;
                 Ok(())
             }
-            Err(e) => counted(&mut self.faults, Err(e)),
+            Err(e) => counted(&mut self.faults, self.told, Err(e)),
         }
     }
 }
 
-// The answer, with a fault of the store's own counted.
-fn counted<T>(faults: &mut u64, answer: Result<T, StoreFault>) -> Result<T, StoreFault>
-    ensures same { result ≡ answer }
+// The answer, with a fault of the store's own counted, and told as this.
+fn counted<T>(
+    faults: &mut u64,
+    told: StoreFault,
+    answer: Result<T, StoreFault>,
+) -> Result<T, StoreFault>
+    ensures same { MatchResult answer (λ value. result ≡ Ok value) (λ _. IsErr result) }
     ensures counted { faults.old ≤ faults.new }
     ensures cause { IfErr result (λ e. e ≡ StoreFault.Store → HasRisen faults.old faults.new) }
 {
-    if let Err(StoreFault::Store) = &answer {
-        *faults = faults.saturating_add(1);
+    match answer {
+        Err(StoreFault::Store) => {
+            *faults = faults.saturating_add(1);
+            Err(told)
+        }
+        answer => answer,
     }
-    answer
 }

@@ -18,9 +18,9 @@ open_failure opening.OutOfMemory = failure.Memory
 open_failure opening.Store = failure.Store
 open_failure opening.NotADesk = failure.NotADesk
 
--- the failure is that of a fault of opening
-abbrev pub IsOpenFailure : Failure → Type 0
-IsOpenFailure f = (fault : OpenFault) × (f ≡ open_failure fault)
+-- memory ran out: nothing else keeps a desk in memory from being opened
+abbrev pub IsMemory : Failure → Type 0
+IsMemory f = f ≡ failure.Memory
 
 -- no operators, no plans, no permitted priorities
 abbrev pub IsBlank : DeskWorld → Type 0

@@ -1,14 +1,12 @@
 -- Running: what comes of a line, from the database that it names to the exit status.
 use Rattle.std.specs.Prelude.{◌≡◌, ℕ, List, Option, None, Some}
 use Rattle.sqlite_trees.specs.declared.store.Store.{Ghosts}
-use Rattle.sqlite_trees.specs.declared.memory.MemStore.{MemStore}
 use Rattle.sqlite_trees.specs.View.{doubt}
 use Rattle.sqlite_disk.specs.declared.Disk as disk
 use Rattle.sqlite_wal.specs.Recovery.{Image}
 use Rattle.sqlite_store.specs.declared.store.FileStore.{FileStore}
 use Rattle.sqlite.specs.Files.{over_files}
 use Rattle.sqlite.specs.Held.{state}
-use Rattle.sqlite.specs.Steps.{over_memory}
 use Rattle.desk_store.specs.Faults.{IsHonest}
 use Rattle.desk_run.specs.DeskWorld.{DeskWorld, Parts, world_of}
 use Rattle.desk_tables.specs.Store.{Shown}
@@ -21,7 +19,7 @@ use Rattle.desk_line.specs.Exits.{failure_status}
 use Rattle.desk_line.specs.Printing.{IsPrinted}
 use Rattle.desk_program.specs.Running.{IsCarriedOut}
 use Rattle.desk_program.specs.Serving.{Arrival}
-use Rattle.uss_desk.specs.Opening.{BeginsIn, FailsAt, IsBlank, IsOpenFailure}
+use Rattle.uss_desk.specs.Opening.{BeginsIn, FailsAt, IsBlank, IsMemory}
 
 -- the store of a desk over tables is honest: its disk has returned what was written
 abbrev pub IsSound : {S : Type 0} → Ghosts S → Parts (Shown S) → Type 0
@@ -44,22 +42,24 @@ IsRun g Begins Fails line status (Some desk) from to old new out now =
     (begun : DeskWorld) × Begins begun
     × IsCarriedOut (IsSound g desk) line status from to old new out now begun (world_in desk)
 
-module _ {D : Type 0} {g : disk.Ghosts D} where
+module _ {M : Type 0} {m : disk.Ghosts M} {D : Type 0} {g : disk.Ghosts D} where
   -- a line is carried out at a desk in memory, which begins blank, or over the database in files that held
   -- this, as its words say
   abbrev pub IsRunOver :
-      Image → Database → Line → ℕ → Option (Parts (Shown MemStore)) → Option (Parts (Shown (FileStore D g)))
+      Image → Database → Line → ℕ → Option (Parts (Shown (FileStore M m)))
+      → Option (Parts (Shown (FileStore D g)))
       → Option (List Arrival) → Option (List Arrival) → Option (List ℕ) → Option (List ℕ) → Option (List ℕ)
       → Option (List ℕ) → Type 0
   IsRunOver image InMemory line status memory files from to old new out now =
-      (files ≡ None) × IsRun over_memory IsBlank IsOpenFailure line status memory from to old new out now
+      (files ≡ None) × IsRun over_files IsBlank IsMemory line status memory from to old new out now
   IsRunOver image (File path) line status memory files from to old new out now =
       (memory ≡ None)
       × IsRun over_files (BeginsIn g image) (FailsAt g image) line status files from to old new out now
 
   -- what a line says is done: at a desk over the database that it names, or by printing alone
   abbrev pub IsDone :
-      Image → Line → ℕ → Option (Parts (Shown MemStore)) → Option (Parts (Shown (FileStore D g)))
+      Image → Line → ℕ → Option (Parts (Shown (FileStore M m)))
+      → Option (Parts (Shown (FileStore D g)))
       → Option (List Arrival) → Option (List Arrival) → Option (List ℕ) → Option (List ℕ) → Option (List ℕ)
       → Option (List ℕ) → Type 0
   IsDone image (line.Play play) status memory files from to old new out now =

@@ -4,23 +4,24 @@ ghost use Rattle.std.specs.Prelude.{◌≡◌, [], IfErr, IfOk};
 ghost use Rattle.sqlite_wal.specs.Files.{image_at};
 ghost use Rattle.desk_tables.specs.Files.{OpensIn};
 ghost use Rattle.uss_desk.specs.Opening as spec;
-ghost use Rattle.uss_desk.specs.Opening.{IsOpenedIn, IsOpenFailure};
+ghost use Rattle.uss_desk.specs.Opening.{IsOpenedIn, IsMemory};
 
 use desk_line::Failure;
 use desk_run::Desk;
 use desk_tables::{OpenFault, SqliteStore};
-use sqlite::{FileFrom, FileStore, MemStore, Start};
+use ram_disk::Ram;
+use sqlite::{FileFrom, FileStore, Start};
 use std::alloc::Global;
 
 /// A desk of no operators and no plans, in memory.
 ///
 /// # Errors
 ///
-/// That of `open_failure`.
-pub fn open_in_memory(alloc: Global) -> Result<Desk<SqliteStore<MemStore>>, Failure>
+/// `Memory` if memory runs out.
+pub fn open_in_memory(alloc: Global) -> Result<Desk<SqliteStore<FileStore<Ram>>>, Failure>
     ensures empty { IfOk result (λ desk. desk.store.world ≡ record { operators = []; plans = [] }) }
     ensures none { IfOk result (λ desk. desk.permitted ≡ []) }
-    ensures failure { IfErr result IsOpenFailure }
+    ensures failure { IfErr result IsMemory }
 {
     match SqliteStore::in_memory(alloc) {
         Ok(store) => Ok(Desk::new(store)),

@@ -9,11 +9,12 @@ use desk_line::{Database, Line, print_line};
 use desk_program::{Port, run_opened};
 use desk_run::Desk;
 use desk_tables::SqliteStore;
-use sqlite::{FileFrom, FileStore, MemStore, Start};
+use ram_disk::Ram;
+use sqlite::{FileFrom, FileStore, Start};
 use std::io::{Read, Write};
 
 /// A desk in memory.
-pub type MemoryDesk = Desk<SqliteStore<MemStore>>;
+pub type MemoryDesk = Desk<SqliteStore<FileStore<Ram>>>;
 
 /// A desk over the database in files, where `F` stands for what they held.
 pub type FileDesk<F> = Desk<SqliteStore<FileStore<FileFrom<F>>>>;

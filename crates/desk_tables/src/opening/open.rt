@@ -3,8 +3,6 @@
 ghost use Rattle.std.specs.Prelude.{◌≡◌, ◌≤◌, [], false, IfOk, IfErr, MatchResult};
 ghost use Rattle.sqlite_trees.specs.View.{doubt};
 ghost use Rattle.sqlite.specs.Held.{state};
-ghost use Rattle.desk_sql.specs.Schema.{blank_schema};
-ghost use Rattle.desk_sql.specs.Making.{IsAt};
 ghost use Rattle.desk_sql.specs.Effects.{IsKept};
 ghost use Rattle.desk_tables.specs.Opening.{BeginsWith, ShowsNoDesk, BlamesDatabase};
 ghost use Rattle.desk_tables.specs.Leaving.{IsSettledAt};
@@ -13,11 +11,20 @@ use crate::lengths::Lengths;
 use crate::opening::exact::RowFault;
 use crate::opening::finding::{made_in, world_in};
 use crate::store::SqliteStore;
-use sqlite::{Connection, ErrorCode, MemStore};
+use desk_sql::{Found, find_tables};
+use desk_store::StoreFault;
+use ram_disk::Ram;
+use sqlite::{Connection, ErrorCode, FileStore, Files, Options};
 use sqlite_trees::store::Alter;
 use std::alloc::Global;
 use std::error::Error;
 use std::fmt;
+
+// What a log in memory takes its salts from. No other program writes to it, so that any number will do.
+const SEED: u64 = 1;
+
+// How many pages of a store in memory are kept twice, so that not each look copies them out of its file.
+const CACHED_PAGES: usize = 512;
 
 /// Why a store over tables cannot be opened.
 #[derive(Clone, Copy, Debug, PartialEq, Eq)]
@@ -84,19 +91,17 @@ pub struct AdoptFault<S: Alter> {
     pub connection: Connection<S>,
 }
 
-impl SqliteStore<MemStore> {
-    /// A store of no operators and no plans, in memory.
+impl SqliteStore<FileStore<Ram>> {
+    /// A store of no operators and no plans, in memory. It fails only if memory runs out, and says so.
     ///
     /// # Errors
     ///
-    /// `OutOfMemory` if memory runs out. `Store` if SQLite refuses the tables for another cause.
-    pub fn in_memory(alloc: Global) -> Result<SqliteStore<MemStore>, OpenFault>
-        ensures { IfOk result (λ store. store.world ≡ record { operators = []; plans = [] }) }
+    /// `OutOfMemory` if memory runs out.
+    pub fn in_memory(alloc: Global) -> Result<SqliteStore<FileStore<Ram>>, OpenFault>
+        ensures empty { IfOk result (λ store. store.world ≡ record { operators = []; plans = [] }) }
+        ensures fault { IfErr result (λ e. e ≡ OpenFault.OutOfMemory) }
     {
-        match Connection::open_in_memory(alloc) {
-            Ok(connection) => over_blank(alloc, connection),
-            Err(_) => Err(OpenFault::OutOfMemory),
-        }
+        over_ram(alloc).map_err(|_| OpenFault::OutOfMemory)
     }
 }
 
@@ -131,21 +136,44 @@ impl<S: Alter> SqliteStore<S> {
             ≤ doubt (state S.Store refused.connection).is_clean) }
     {
         match world_in(alloc, &mut connection) {
-            Ok((kept, lengths)) => Ok(SqliteStore::with(alloc, connection, kept, lengths)),
+            Ok((kept, lengths)) => {
+                Ok(SqliteStore::with(alloc, connection, kept, lengths, StoreFault::Store))
+            }
             Err(fault) => Err(AdoptFault { fault, connection }),
         }
     }
 }
 
-// A store of no operators and no plans over a database with no table.
+// A store of no operators and no plans over files in memory.
+fn over_ram(alloc: Global) -> Result<SqliteStore<FileStore<Ram>>, OpenFault>
+    ensures { IfOk result (λ store. store.world ≡ record { operators = []; plans = [] }) }
+{
+    let files = Files {
+        log: Ram::new(alloc),
+        db: Ram::new(alloc),
+    };
+    let options = Options {
+        cache_pages: CACHED_PAGES,
+        ..Options::new(SEED)
+    };
+    match Connection::open_files(alloc, files, options) {
+        Ok(connection) => over_blank(alloc, connection),
+        Err((error, _)) => Err(OpenFault::from(error)),
+    }
+}
+
+// A store of no operators and no plans over a connection in memory, in which there has to be no table.
 fn over_blank<S: Alter + Drop>(
     alloc: Global,
     mut connection: Connection<S>,
 ) -> Result<SqliteStore<S>, OpenFault>
-    requires blank { IsAt S.Store blank_schema connection }
     requires settled { connection.in_transaction ≡ false }
     ensures { IfOk result (λ store. store.world ≡ record { operators = []; plans = [] }) }
 {
+    let Found::Blank = find_tables(&mut connection)? else {
+        return Err(OpenFault::Store);
+    };
     let kept = made_in(&mut connection)?;
-    Ok(SqliteStore::with(alloc, connection, kept, Lengths::new()))
+    let lengths = Lengths::new();
+    Ok(SqliteStore::with(alloc, connection, kept, lengths, StoreFault::OutOfMemory))
 }
