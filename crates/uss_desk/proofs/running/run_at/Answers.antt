@@ -1,8 +1,7 @@
-use Rattle.std.proofs.Common.{None, refl, sym, subst}
+use Rattle.std.proofs.Common.{refl}
 use Rattle.sqlite_wal.specs.Files.{image_at}
 use Rattle.sqlite.specs.Files.{over_files}
 use Rattle.uss_desk.specs.Opening.{BeginsIn, FailsAt}
-use Rattle.uss_desk.specs.Running.{IsRunOver}
 use Rattle.uss_desk.proofs.RunLemmas.{opened_in, run_or_not}
 use Rattle.uss_desk.proofs.running.run_at.Goals as goal
 
@@ -10,10 +9,7 @@ pub returns-in-File : goal.returns-in-File
 returns-in-File g c =
     let image = image_at g.F.Start in
     let done = c.run_opened-status-in-File in
-    subst (λ d. IsRunOver image d c.args.line.now done.result.0 None done.result.1
-    (g.P.Port.taken c.args.port.now) (g.P.Port.taken done.new.port)
-    (g.R.Read.remaining c.args.input.now) (g.R.Read.remaining done.new.input)
-    (g.W.Write.contents c.args.output.now) (g.W.Write.contents done.new.output)) (sym c.in-File.is) (
+    rw c.in-File.is (
       refl,
       run_or_not over_files (BeginsIn _ image) (FailsAt _ image) c.args.line.now _ _ _ _ _ _
           c.open_file-opened.result done.result
