@@ -1,5 +1,5 @@
 -- Why a query of whole tables is refused.
-use Rattle.std.proofs.Common.{◌≡◌, arith, ◌⊎◌, inl, inr, ℕ, List, [], length, None, Some, Option, Ok, Err, Result, refl, sym, ap, subst, ◌∙◌, IsTrue, false, true≢false, IfErr}
+use Rattle.std.proofs.Common.{◌≡◌, arith, ◌⊎◌, inl, inr, ℕ, List, [], length, None, Some, Option, Ok, Err, Result, IfOk, Bool, if◌then◌else◌, refl, sym, ap, subst, ◌∙◌, IsTrue, false, true≢false, IfErr}
 use Rattle.std.specs.Prelude.{IsSome}
 use Rattle.sqlite_disk.specs.Disk.{MoreFaults}
 use Rattle.sqlite.specs.Order.{Row}
@@ -18,11 +18,17 @@ use Rattle.sqlite.specs.Listing.{understood, reads_listing, IsSourceOf}
 use Rattle.sqlite.specs.State.{State, IsUnchanged, Survives, HasCleanDisk, Shown, HasCause, store_error, IsNoStatement, IsNotRun, FailsToQuery, FailsToShow}
 use Rattle.sqlite.specs.Store.{Ghosts}
 use Rattle.sqlite.specs.Held.{Held, state}
-use Rattle.desk_sql.specs.Schema.{tables_with, HasTables}
+use Rattle.sqlite.specs.Schema.{Schema}
+use Rattle.desk_sql.specs.declared.opening.finding.Made.{Made}
+use Rattle.desk_sql.specs.declared.opening.finding.Made.TheVariants.{Nothing, Operators, Plans, Volumes, Spans, All}
+use Rattle.desk_sql.specs.declared.opening.numbers.DeskTable.{DeskTable}
+use Rattle.desk_sql.specs.declared.opening.numbers.DeskTable.TheVariants.{Operator, Plan, Volume, Span}
+use Rattle.desk_sql.specs.Schema.{HasTable, has_table}
+use Rattle.desk_sql.specs.Frames.{OnlyReads}
 use Rattle.desk_sql.specs.Finding.{Holds}
-use Rattle.desk_sql.proofs.SchemaLemmas.{any_indexes}
 use Rattle.sqlite.specs.Tree.{Trees}
-use Rattle.desk_sql.specs.Rows.{Lists}
+use Rattle.std.proofs.lemmas.List.Sorted.{IsPermutation-refl}
+use Rattle.desk_sql.specs.Rows.{Lists, Tables, tables_of, tables_at}
 use Rattle.desk_sql.specs.Statements.{SelectsAll}
 use Rattle.desk_sql.proofs.ReadLemmas.{shown_read}
 use Rattle.desk_sql.specs.Refusals.{NeverRefuses, IsSureIn, IsSure, IsRefusal}
@@ -43,33 +49,33 @@ by_store old new e Full is h live = inr (inl h)
 by_store old new e Broken is h live = absurd (true≢false (sym live ∙ h))
 by_store old new e Unstorable is h live = absurd h
 
-sure_at : (text : List ℕ) (r : Result Compiled CompileError) (c : Compiled) → r ≡ Ok c → IsSureIn text r
-    → IsSureIn text (Ok c)
-sure_at text r c is sure = subst (IsSureIn text) is sure
+sure_at : (schema : Schema) (text : List ℕ) (r : Result Compiled CompileError) (c : Compiled) → r ≡ Ok c
+    → IsSureIn schema text r → IsSureIn schema text (Ok c)
+sure_at schema text r c is sure = subst (IsSureIn schema text) is sure
 
 -- the text is a statement
 is_statement : (text : List ℕ) (old : State) (e : Error)
-    → IsSureIn text (understood old.now.schema text)
+    → IsSureIn old.now.schema text (understood old.now.schema text)
     → ¬ IsNoStatement old text [] e
-is_statement text old e sure (inl (fault, is, _)) = absurd (subst (IsSureIn text) is sure)
-is_statement text old e sure (inr (c, is, inl (short, _))) = short (sure_at text _ c is sure).3
+is_statement text old e sure (inl (fault, is, _)) = absurd (subst (IsSureIn old.now.schema text) is sure)
+is_statement text old e sure (inr (c, is, inl (short, _))) =
+    short (sure_at old.now.schema text _ c is sure).3
 is_statement text old e sure (inr (c, is, inr (inl (other, _)))) =
-    other (ap length (sym (sure_at text _ c is sure).2))
-is_statement text old e sure (inr (c, is, inr (inr (timed, _)))) = timed (sure_at text _ c is sure).1
+    other (ap length (sym (sure_at old.now.schema text _ c is sure).2))
+is_statement text old e sure (inr (c, is, inr (inr (timed, _)))) =
+    timed (sure_at old.now.schema text _ c is sure).1
 
 -- what is read refuses
 by_rows : (text : List ℕ) (old new : State) (c : Compiled) (params : Row) (e : Error)
     (r : Option Returning)
-    → r ≡ None → params ≡ [] → NeverRefuses c.command
-    → old.now.schema ≡ tables_with old.now.schema.indexes
+    → r ≡ None → params ≡ [] → NeverRefuses old.now.schema c.command
     → reads_listing old.now.schema text ≡ false → FailsToShow old new text c params e r
     → IsCause old new e
-by_rows text old new c params e None none bare never schema unlisted (db, source, refuses, same) =
+by_rows text old new c params e None none bare never unlisted (db, source, refuses, same) =
     let now : db ≡ old.now = subst (λ b. IsSourceOf b old.now db) unlisted source in
-    inr (inr (never old.step_limit db e
-    (subst (λ (d : Database). d.schema ≡ tables_with d.schema.indexes) (sym now) schema)
+    inr (inr (never old.step_limit db e (ap (λ (d : Database). d.schema) now)
     (subst (λ ps. RefusesToRead old.step_limit c.command db ps e) bare refuses)))
-by_rows text old new c params e (Some what) none bare never schema unlisted h = absurd cc
+by_rows text old new c params e (Some what) none bare never unlisted h = absurd cc
 
 pub was_shown : (text : List ℕ) (old new : State) (c : Compiled) (params : Row) (e : Error)
     (r : Option Returning)
@@ -78,76 +84,140 @@ was_shown text old new c params e None live h = h.3.0.was_open
 was_shown text old new c params e (Some what) live (inl h) = h.1.0.was_open
 was_shown text old new c params e (Some what) live (inr h) = h.3.was_open live
 
--- in the schema that there is
-sure_now : (text : List ℕ) (db : Database) → IsSure text → HasTables db
-    → IsSureIn text (understood db.schema text)
-sure_now text db sure has = subst (λ s. IsSureIn text (understood s text)) (sym (any_indexes db has))
-    (sure.means db.schema.indexes)
-
-failed : (text : List ℕ) (old new : State) (e : Error) → IsSure text
-    → (IsTrue old.is_open → HasTables old.now) → IsTrue new.is_open
+failed : (text : List ℕ) (old new : State) (e : Error)
+    → (IsTrue old.is_open → IsSure old.now.schema text) → IsTrue new.is_open
     → FailsToQuery text [] old new e → IsCause old new e
 unfolding FailsToQuery IsNotRun
-failed text old new e sure known live (inl (inl h)) =
-    absurd (is_statement text old e (sure_now text old.now sure (known h.1.0.was_open)) h.0)
-failed text old new e sure known live (inl (inr (cause, is, h, back, _))) =
+failed text old new e sure live (inl (inl h)) =
+    absurd (is_statement text old e (sure h.1.0.was_open).means h.0)
+failed text old new e sure live (inl (inr (cause, is, h, back, _))) =
     by_store old new e cause is h (back.was_open live)
-failed text old new e sure known live (inr (c, it, h)) =
-    let has = known (was_shown text old new c _ e c.returning live h) in
-    let schema = any_indexes old.now has in
-    let means = sure_at text _ c it.is (sure_now text old.now sure has) in
+failed text old new e sure live (inr (c, it, h)) =
+    let here = sure (was_shown text old new c _ e c.returning live h) in
+    let means = sure_at old.now.schema text _ c it.is here.means in
     by_rows text old new c _ e c.returning means.0 (ap (λ formats. timed [] formats it.now) means.1)
-    means.4
-    schema (ap (λ s. reads_listing s text) schema ∙ sure.unlisted _) h
+    means.4 here.unlisted h
+
+-- sure in the schema that there is
+abbrev pub KnownSure : {S : Type 0} → Ghosts S → Held S → List ℕ → Type 0
+KnownSure g h text = Holds g h (λ (db : Database). IsSure db.schema text)
 
 -- a query of a connection
-pub refused : {S V : Type 0} (g : Ghosts S) (old new : Held S) (text : List ℕ) → IsSure text
-    → Holds g old HasTables → HasCleanDisk (state g old) → (r : Result V Error)
+pub refused : {S V : Type 0} (g : Ghosts S) (old new : Held S) (text : List ℕ)
+    → KnownSure g old text → HasCleanDisk (state g old) → (r : Result V Error)
     → IfErr r (FailsToQuery text [] (state g old) (state g new)) → IsTrue (state g new).is_open
     → IfErr r (IsRefusal g old new)
-refused g old new text sure known clean (Ok v) fails live = tt
-refused g old new text sure known clean (Err e) fails live =
-    failed text (state g old) (state g new) e sure (known clean) live fails
+refused g old new text sure clean (Ok v) fails live = tt
+refused g old new text sure clean (Err e) fails live =
+    failed text (state g old) (state g new) e (sure clean) live fails
 
 -- a text that is not prepared is not run
-pub refused_unprepared : {S : Type 0} (g : Ghosts S) (old new : Held S) (text : List ℕ) → IsSure text
-    → Holds g old HasTables → HasCleanDisk (state g old) → (e : Error)
+pub refused_unprepared : {S : Type 0} (g : Ghosts S) (old new : Held S) (text : List ℕ)
+    → KnownSure g old text → HasCleanDisk (state g old) → (e : Error)
     → IsNotRun (state g old) (state g new) text [] e → IsTrue (state g new).is_open
     → IsRefusal g old new e
 unfolding FailsToQuery
-refused_unprepared g old new text sure known clean e not_run live =
-    failed text (state g old) (state g new) e sure (known clean) live (inl not_run)
+refused_unprepared g old new text sure clean e not_run live =
+    failed text (state g old) (state g new) e (sure clean) live (inl not_run)
 
 -- a query that was prepared before
 pub refused_after : {S V : Type 0} (g : Ghosts S) (old mid new : Held S) (sql text : List ℕ)
-    → IsSure sql → Holds g old HasTables → HasCleanDisk (state g old) → HasCleanDisk (state g mid)
+    → KnownSure g old sql → HasCleanDisk (state g old) → HasCleanDisk (state g mid)
     → IsUnchanged (state g old) (state g mid) → text ≡ sql
     → Survives (state g old) (state g mid) (λ _. ⊥) → (r : Result V Error)
     → IfErr r (FailsToQuery text [] (state g mid) (state g new)) → IsTrue (state g new).is_open
     → IfErr r (IsRefusal g old new)
-refused_after g old mid new sql text sure known start early same is last (Ok v) fails live = tt
-refused_after {V = V} g old mid new sql text sure known start early same is last (Err e) fails live =
-    let has : HasTables (state g mid).now = subst HasTables (sym same.0.now_is)
-    (known start same.0.was_open) in
-    elim (refused {V = V} g mid new sql sure (λ clean live. has) early (Err e)
+refused_after g old mid new sql text sure start early same is last (Ok v) fails live = tt
+refused_after {V = V} g old mid new sql text sure start early same is last (Err e) fails live =
+    let here : IsSure (state g mid).now.schema sql =
+    subst (λ (db : Database). IsSure db.schema sql) (sym same.0.now_is) (sure start same.0.was_open) in
+    elim (refused {V = V} g mid new sql (λ clean live. here) early (Err e)
     (subst (λ t. FailsToQuery t [] (state g mid) (state g new) e) is fails) live) [
       | inl memory ↦ inl memory
       | inr (inl disk) ↦ inr (inl (omega (arith, last.counts, disk)))
       | inr (inr steps) ↦ inr (inr (steps.0, subst IsSome last.limit steps.1))
     ]
 
-plain_in : (text : List ℕ) (r : Result Compiled CompileError) → IsSureIn text r → IsPlain r
-plain_in text (Ok c) sure = (sure.0, sure.1)
-plain_in text (Err e) sure = absurd sure
+plain_in : (schema : Schema) (text : List ℕ) (r : Result Compiled CompileError) → IsSureIn schema text r
+    → IsPlain r
+plain_in schema text (Ok c) sure = (sure.0, sure.1)
+plain_in schema text (Err e) sure = absurd sure
 
-pub sure_plain : (text : List ℕ) → IsSure text → (db : Database) → HasTables db
-    → IsPlain (understood db.schema text)
-sure_plain text sure db has = plain_in text _ (sure_now text db sure has)
+pub sure_plain : (schema : Schema) (text : List ℕ) → IsSure schema text → IsPlain (understood schema text)
+sure_plain schema text sure = plain_in schema text _ sure.means
 
 -- what is shown was selected
-pub all_selected : (text : List ℕ) (cells : List ℕ) (wanted : Trees → List Row)
-    → SelectsAll text cells wanted → (old new : State) (rows : List Row) → HasTables old.now
+pub all_selected : (table : DeskTable) (text : List ℕ) (cells : List ℕ) (wanted : Trees → List Row)
+    → SelectsAll table text cells wanted → (old new : State) (rows : List Row) → HasTable table old.now
     → Shown text [] old new rows → Lists cells (wanted old.now.trees) rows
-all_selected text cells wanted known old new rows has h = known.rows old.now rows has
-    (shown_read text [] old new rows refl (sure_plain text known.sure old.now has)
-    (ap (λ s. reads_listing s text) (any_indexes old.now has) ∙ known.sure.unlisted _) h)
+all_selected table text cells wanted known old new rows has h =
+    let sure = known.sure old.now has in
+    known.rows old.now rows has
+    (shown_read text [] old new rows refl (sure_plain old.now.schema text sure) sure.unlisted h)
+
+-- ---- tables that may not be made
+
+pub lists_none : (cells : List ℕ) → Lists cells [] []
+lists_none cells = record {
+  same = IsPermutation-refl [];
+  sorted = λ k d low high. absurd (omega (arith, high));
+}
+
+-- no question is asked
+pub reads_none : {S : Type 0} (g : Ghosts S) (h : Held S) → h.in_transaction ≡ false → OnlyReads g h h
+reads_none g h settled = record {
+  kept = λ clean live. record { was_open = live; now = refl; committed = refl };
+  mode = settled;
+  limit = refl;
+  doubt = omega arith;
+  faults = omega arith;
+  spared = λ clean db left. left;
+}
+
+-- what a table that is made shows is its part of what is made so far
+pub shown_at : {V : Type 0} (part : Tables → List Row) (table : DeskTable) (made : Made)
+    (there : Bool) → has_table made table ≡ there
+    → ((db : Trees) → part (tables_at made db) ≡ (if has_table made table then part (tables_of db) else []))
+    → (items : V → List Row) (cells : List ℕ) (db : Trees) (r : Result V Error)
+    → IfOk r (λ v. Lists cells (if there then part (tables_of db) else []) (items v))
+    → IfOk r (λ v. Lists cells (part (tables_at made db)) (items v))
+shown_at part table made there is are items cells db (Ok v) lists =
+    subst (λ rows. Lists cells rows (items v))
+    (sym (are db ∙ ap (λ b. if b then part (tables_of db) else []) is)) lists
+shown_at part table made there is are items cells db (Err e) lists = tt
+
+pub operators_at : (made : Made) (db : Trees) → (tables_at made db).operators
+    ≡ (if has_table made Operator then (tables_of db).operators else [])
+operators_at Nothing db = refl
+operators_at Operators db = refl
+operators_at Plans db = refl
+operators_at Volumes db = refl
+operators_at Spans db = refl
+operators_at All db = refl
+
+pub plans_at : (made : Made) (db : Trees) → (tables_at made db).plans
+    ≡ (if has_table made Plan then (tables_of db).plans else [])
+plans_at Nothing db = refl
+plans_at Operators db = refl
+plans_at Plans db = refl
+plans_at Volumes db = refl
+plans_at Spans db = refl
+plans_at All db = refl
+
+pub volumes_at : (made : Made) (db : Trees) → (tables_at made db).volumes
+    ≡ (if has_table made Volume then (tables_of db).volumes else [])
+volumes_at Nothing db = refl
+volumes_at Operators db = refl
+volumes_at Plans db = refl
+volumes_at Volumes db = refl
+volumes_at Spans db = refl
+volumes_at All db = refl
+
+pub spans_at : (made : Made) (db : Trees) → (tables_at made db).spans
+    ≡ (if has_table made Span then (tables_of db).spans else [])
+spans_at Nothing db = refl
+spans_at Operators db = refl
+spans_at Plans db = refl
+spans_at Volumes db = refl
+spans_at Spans db = refl
+spans_at All db = refl

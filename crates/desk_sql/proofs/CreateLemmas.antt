@@ -1,5 +1,5 @@
 -- What each CREATE makes.
-use Rattle.std.proofs.Common.{◌≡◌, Some, slice_get, ap₂, ℕ, false, List, [], ◌∷◌, ◌++◌, None, Ok, refl, sym, ap, subst, ◌∙◌, true, Option}
+use Rattle.std.proofs.Common.{◌≡◌, ◌≢◌, ◌⊎◌, inl, inr, Some, slice_get, ap₂, ℕ, false, List, [], ◌∷◌, ◌++◌, None, Ok, refl, sym, ap, subst, ◌∙◌, true, Option, IsTrue, true≢false, arith}
 use Rattle.std.specs.List.{AllByRecursion}
 use Rattle.sqlite.specs.Schema.{Schema}
 use Rattle.sqlite.specs.Table.{Table}
@@ -7,23 +7,27 @@ use Rattle.sqlite_schema.specs.declared.schema.Index.{Index}
 use Rattle.sqlite_catalog.specs.Change.{created, indexed, next_tree, KeepsRows}
 use Rattle.sqlite_resolve.specs.Compile.{table_defined_by, index_defined_by}
 use Rattle.sqlite.specs.Command.TheVariants.{CreateTable, CreateIndex}
-use Rattle.sqlite.specs.Effect.{Database}
+use Rattle.sqlite.specs.Effect.{Database, IsDatabase}
 use Rattle.sqlite.specs.Does.{Tally, Does, lacks_sequence}
-use Rattle.sqlite.specs.State.{State, HasCleanDisk, Executes, Shows}
+use Rattle.sqlite.specs.State.{State, HasCleanDisk, Executes, Shows, Survives}
 use Rattle.sqlite.specs.Store.{Ghosts}
 use Rattle.sqlite.specs.Held.{Held, state}
 use Rattle.sqlite.specs.Listing.{understood}
 use Rattle.sqlite.proofs.Callers.{IsPlain, command_of, statement_of}
 use Rattle.sqlite_tied.specs.Compute.{everything}
-use Rattle.desk_sql.specs.Schema.{blank_schema, table_schema, desk_schema, operator_table, plan_table, volume_table, span_table, span_made, span_first}
-use Rattle.desk_sql.specs.Making.{first_schema, second_schema, third_schema, HasEmpty, IsAt, Grows, no_rows, AreSame}
-use Rattle.desk_sql.specs.Rows.{IsDesk, IsUnindexed, AreNumbered, tables_of}
-use Rattle.desk_sql.specs.Effects.{Makes}
+use Rattle.desk_sql.specs.declared.opening.finding.Made.{Made}
+use Rattle.desk_sql.specs.declared.opening.finding.Made.TheVariants.{Nothing, Operators, Plans, Volumes, Spans, All}
+use Rattle.desk_sql.specs.declared.opening.numbers.DeskTable.TheVariants as desk
+use Rattle.desk_sql.specs.Schema.{blank_schema, operator_schema, plan_schema, volume_schema, table_schema, desk_schema, schema_of, has_table, tree_of, operator_table, plan_table, volume_table, span_table, span_made, span_first}
+use Rattle.desk_sql.specs.Making.{Grows, Finishes, Completes, MayComplete}
+use Rattle.desk_sql.specs.Rows.{IsDesk, IsMadeTo, AreNumbered, tables_at, tables_of}
 use Rattle.desk_sql.specs.Finding.{Holds}
-use Rattle.desk_sql.specs.Statements.{MayWrite, Extends, AddsIndex, enforced}
+use Rattle.desk_sql.specs.Effects.{Spares}
+use Rattle.desk_sql.specs.Frames.{Remembers}
+use Rattle.desk_sql.proofs.LeavingLemmas.{remembers_itself, remembers_then}
+use Rattle.desk_sql.specs.Statements.{MayWrite, Extends, enforced}
 use Rattle.desk_sql.proofs.Texts.{operator_text, plan_text, volume_text, span_text, first_text}
 use Rattle.desk_sql.proofs.TextLemmas.{operator_is, plan_is, volume_is, span_is, first_is}
-use Rattle.desk_sql.proofs.NumberLemmas.{all_both}
 use Rattle.desk_sql.proofs.WriteLemmas.{went, same_value, does_command, is_writing, ran, ran_sound}
 
 -- a text that makes this table, over this schema
@@ -34,14 +38,15 @@ pub record MakesTable (schema : Schema) (text : List ℕ) (table : Table) : Type
   pub defined : table_defined_by text ≡ Ok table
   pub uncounted : lacks_sequence (created schema table) ≡ false
 
-all_more : {X : Type 0} (P : X → Type 0) (xs : List X) (x : X) → AllByRecursion P xs → P x
-    → AllByRecursion P (xs ++ x ∷ [])
-all_more P [] x all p = (p, tt)
-all_more P (y ∷ xs) x all p = (all.0, all_more P xs x all.1 p)
+-- what is made of old trees: a table without rows, and the rows of the others
+pub record IsAdded (schema : Schema) (table : Table) (old new : Database) : Type 0 where
+  pub schema_is : new.schema ≡ created schema table
+  pub empty : new.trees (next_tree schema) ≡ []
+  pub kept : AllByRecursion (λ (t : Table). new.trees t.tree ≡ old.trees t.tree) schema.tables
 
 creates : (schema : Schema) (text : List ℕ) (table : Table) → MakesTable schema text table
-    → (limit : Option ℕ) (old new : Database) → HasEmpty schema old
-    → MayWrite text (understood schema text) [] limit old new → HasEmpty (created schema table) new
+    → (limit : Option ℕ) (old new : Database) → old.schema ≡ schema
+    → MayWrite text (understood schema text) [] limit old new → IsAdded schema table old new
 creates schema text table known limit old new has h =
     let did = does_command text (understood schema text) [] limit old new CreateTable known.is h in
     let all = went (subst (λ t. Does limit enforced [] old t None CreateTable (Ok (did.0, new))) known.whole
@@ -51,68 +56,92 @@ creates schema text table known limit old new has h =
     let both : Ok made.table ≡ Ok table = sym made.defined ∙ known.defined in
     let same : made.table ≡ table = same_value both in
     let schema_is : first.0.schema ≡ created schema table = made.is
-    ∙ ap (λ s. created s made.table) has.schema_is ∙ ap (created schema) same in
+    ∙ ap (λ s. created s made.table) has ∙ ap (created schema) same in
     let plain : lacks_sequence first.0.schema ≡ false = ap lacks_sequence schema_is ∙ known.uncounted in
     let now : new ≡ first.0 = ap (λ (p : Tally × Database). p.1) (same_value all.2)
     ∙ same_value (rw plain at first.2) in
     let last : first.0.trees (next_tree schema) ≡ [] =
-    subst (λ s. first.0.trees (next_tree s) ≡ []) has.schema_is made.empty in
+    subst (λ s. first.0.trees (next_tree s) ≡ []) has made.empty in
     let kept = subst (λ s. AllByRecursion (λ (t : Table). first.0.trees t.tree ≡ old.trees t.tree)
-    s.tables) has.schema_is made.others in
-    let others = all_both (λ (t : Table). first.0.trees t.tree ≡ old.trees t.tree)
-    (λ t. old.trees t.tree ≡ []) (λ t. first.0.trees t.tree ≡ []) (λ t a b. a ∙ b) schema.tables
-    kept
-    has.empty in
-    let empty : AllByRecursion (λ (t : Table). first.0.trees t.tree ≡ [])
-    (created schema table).tables =
-    all_more (λ (t : Table). first.0.trees t.tree ≡ []) schema.tables
-    (record table { tree = next_tree schema }) others last in
-    subst (HasEmpty (created schema table)) (sym now) (record { schema_is = schema_is; empty = empty })
-
-pub extends_by : (schema : Schema) (text : List ℕ) (table : Table) → MakesTable schema text table
-    → Extends text schema (created schema table)
-extends_by schema text table known = record {
-  plain = known.plain;
-  writes = is_writing (understood schema text) CreateTable known.is tt known.plain;
-  tables = creates schema text table known;
-}
-
--- what ran made the tables
-pub extended : (text : List ℕ) (schema next : Schema) → Extends text schema next → (old new : State)
-    → HasEmpty schema old.now → (count : ℕ) → Executes text [] old new (Ok count) → HasEmpty next new.now
-extended text schema next known old new has count h =
-    known.tables old.step_limit old.now new.now has
-    (ran text [] old new schema has.schema_is known.plain known.writes count h)
-
-module _ {S : Type 0} (g : Ghosts S) (old new : Held S) (schema next : Schema) (at : IsAt g schema old)
-    (clean : HasCleanDisk (state g old))
-    (shows : Shows (state g old) (state g new) (state g new).now (state g old).committed true) where
-  pub grows : (HasEmpty schema (state g old).now → HasEmpty next (state g new).now)
-      → Grows g old new next
-  grows gives = record {
-    was_open = shows.was_open;
-    is_open = shows.is_open;
-    begun = shows.mode;
-    committed = shows.committed_is;
-    has = gives (at clean shows.was_open);
-  }
+    s.tables) has made.others in
+    subst (IsAdded schema table old) (sym now)
+    (record { schema_is = schema_is; empty = last; kept = kept })
 
 none : AreNumbered []
 none = record { whole = tt; distinct = tt }
 
-pub unindexed : (db : Database) → HasEmpty table_schema db → IsUnindexed db
-unindexed db has = record {
-  schema = has.schema_is;
-  rows = record {
-    operators = subst AreNumbered (sym has.empty.0) none;
-    plans = subst AreNumbered (sym has.empty.1.0) none;
-    volumes = subst AreNumbered (sym has.empty.1.1.0) none;
-    spans = subst AreNumbered (sym has.empty.1.1.1.0) none;
-  };
+-- what a table more makes of what is made so far
+abbrev Grown : Made → Made → Table → Type 0
+Grown made next table = (old new : Database) → IsMadeTo made old → IsAdded (schema_of made) table old new
+    → IsMadeTo next new × (tables_at next new.trees ≡ tables_at made old.trees)
+
+extends_by : (made next : Made) (text : List ℕ) (table : Table) → MakesTable (schema_of made) text table
+    → Grown made next table → Extends text made next
+extends_by made next text table known grown = record {
+  plain = known.plain;
+  writes = is_writing (understood (schema_of made) text) CreateTable known.is tt known.plain;
+  tables = λ limit old new was h. grown old new was
+      (creates (schema_of made) text table known limit old new was.schema h);
 }
 
-pub tables_made : (db : Database) → HasEmpty table_schema db → tables_of db.trees ≡ no_rows
-tables_made db has = rw (has.empty.0, has.empty.1.0, has.empty.1.1.0, has.empty.1.1.1.0)
+operators_grown : Grown Nothing Operators operator_table
+operators_grown old new was added = (
+  record {
+    schema = added.schema_is;
+    rows = λ table there. elim table as (λ t. has_table Operators t ≡ true
+        → AreNumbered (new.trees (tree_of t))) [
+          | desk.Operator ↦ λ there. subst AreNumbered (sym added.empty) none
+          | desk.Plan ↦ λ there. absurd (true≢false (sym there))
+          | desk.Volume ↦ λ there. absurd (true≢false (sym there))
+          | desk.Span ↦ λ there. absurd (true≢false (sym there))
+        ] there;
+  },
+  rw added.empty,
+)
+
+plans_grown : Grown Operators Plans plan_table
+plans_grown old new was added = (
+  record {
+    schema = added.schema_is;
+    rows = λ table there. elim table as (λ t. has_table Plans t ≡ true
+        → AreNumbered (new.trees (tree_of t))) [
+          | desk.Operator ↦ λ there. subst AreNumbered (sym added.kept.0) (was.rows desk.Operator refl)
+          | desk.Plan ↦ λ there. subst AreNumbered (sym added.empty) none
+          | desk.Volume ↦ λ there. absurd (true≢false (sym there))
+          | desk.Span ↦ λ there. absurd (true≢false (sym there))
+        ] there;
+  },
+  rw (added.kept.0, added.empty),
+)
+
+volumes_grown : Grown Plans Volumes volume_table
+volumes_grown old new was added = (
+  record {
+    schema = added.schema_is;
+    rows = λ table there. elim table as (λ t. has_table Volumes t ≡ true
+        → AreNumbered (new.trees (tree_of t))) [
+          | desk.Operator ↦ λ there. subst AreNumbered (sym added.kept.0) (was.rows desk.Operator refl)
+          | desk.Plan ↦ λ there. subst AreNumbered (sym added.kept.1.0) (was.rows desk.Plan refl)
+          | desk.Volume ↦ λ there. subst AreNumbered (sym added.empty) none
+          | desk.Span ↦ λ there. absurd (true≢false (sym there))
+        ] there;
+  },
+  rw (added.kept.0, added.kept.1.0, added.empty),
+)
+
+spans_grown : Grown Volumes Spans span_table
+spans_grown old new was added = (
+  record {
+    schema = added.schema_is;
+    rows = λ table there. elim table as (λ t. AreNumbered (new.trees (tree_of t))) [
+      | desk.Operator ↦ subst AreNumbered (sym added.kept.0) (was.rows desk.Operator refl)
+      | desk.Plan ↦ subst AreNumbered (sym added.kept.1.0) (was.rows desk.Plan refl)
+      | desk.Volume ↦ subst AreNumbered (sym added.kept.1.1.0) (was.rows desk.Volume refl)
+      | desk.Span ↦ subst AreNumbered (sym added.empty) none
+    ];
+  },
+  rw (added.kept.0, added.kept.1.0, added.kept.1.1.0, added.empty),
+)
 
 pub operator_makes : MakesTable blank_schema operator_text operator_table
 unfolding understood everything
@@ -124,10 +153,10 @@ operator_makes = record {
   uncounted = refl;
 }
 
-pub operator_extends : Extends operator_text blank_schema first_schema
-operator_extends = extends_by blank_schema operator_text operator_table operator_makes
+pub operator_extends : Extends operator_text Nothing Operators
+operator_extends = extends_by Nothing Operators operator_text operator_table operator_makes operators_grown
 
-pub plan_makes : MakesTable first_schema plan_text plan_table
+pub plan_makes : MakesTable operator_schema plan_text plan_table
 unfolding understood everything
 plan_makes = record {
   is = refl;
@@ -137,10 +166,10 @@ plan_makes = record {
   uncounted = refl;
 }
 
-pub plan_extends : Extends plan_text first_schema second_schema
-plan_extends = extends_by first_schema plan_text plan_table plan_makes
+pub plan_extends : Extends plan_text Operators Plans
+plan_extends = extends_by Operators Plans plan_text plan_table plan_makes plans_grown
 
-pub volume_makes : MakesTable second_schema volume_text volume_table
+pub volume_makes : MakesTable plan_schema volume_text volume_table
 unfolding understood everything
 volume_makes = record {
   is = refl;
@@ -150,10 +179,10 @@ volume_makes = record {
   uncounted = refl;
 }
 
-pub volume_extends : Extends volume_text second_schema third_schema
-volume_extends = extends_by second_schema volume_text volume_table volume_makes
+pub volume_extends : Extends volume_text Plans Volumes
+volume_extends = extends_by Plans Volumes volume_text volume_table volume_makes volumes_grown
 
-pub span_makes : MakesTable third_schema span_text span_table
+pub span_makes : MakesTable volume_schema span_text span_table
 unfolding understood everything
 span_makes = record {
   is = refl;
@@ -163,8 +192,8 @@ span_makes = record {
   uncounted = refl;
 }
 
-pub span_extends : Extends span_text third_schema table_schema
-span_extends = extends_by third_schema span_text span_table span_makes
+pub span_extends : Extends span_text Volumes Spans
+span_extends = extends_by Volumes Spans span_text span_table span_makes spans_grown
 
 -- ---- the index
 
@@ -210,46 +239,159 @@ first_makes = record {
   defined = first_is;
 }
 
-indexed_desk : (old new : Database) → IsUnindexed old → new.schema ≡ desk_schema
+-- the index leaves all rows
+first_grown : (old new : Database) → IsMadeTo Spans old → new.schema ≡ desk_schema
     → KeepsRows table_schema.tables old.trees new.trees
-    → IsDesk new × AreSame (tables_of old.trees) (tables_of new.trees)
-indexed_desk old new was schema kept = (
+    → IsMadeTo All new × (tables_at All new.trees ≡ tables_at Spans old.trees)
+first_grown old new was schema kept = (
   record {
     schema = schema;
-    operators = subst AreNumbered (sym kept.0) was.rows.operators;
-    plans = subst AreNumbered (sym kept.1.0) was.rows.plans;
-    volumes = subst AreNumbered (sym kept.1.1.0) was.rows.volumes;
-    spans = subst AreNumbered (sym kept.1.1.1.0) was.rows.spans;
+    rows = λ table there. elim table as (λ t. AreNumbered (new.trees (tree_of t))) [
+      | desk.Operator ↦ subst AreNumbered (sym kept.0) (was.rows desk.Operator refl)
+      | desk.Plan ↦ subst AreNumbered (sym kept.1.0) (was.rows desk.Plan refl)
+      | desk.Volume ↦ subst AreNumbered (sym kept.1.1.0) (was.rows desk.Volume refl)
+      | desk.Span ↦ subst AreNumbered (sym kept.1.1.1.0) (was.rows desk.Span refl)
+    ];
   },
   rw (kept.0, kept.1.0, kept.1.1.0, kept.1.1.1.0),
 )
 
-pub first_adds : AddsIndex first_text
-first_adds = record {
+pub first_extends : Extends first_text Spans All
+first_extends = record {
   plain = first_makes.plain;
   writes = is_writing (understood table_schema first_text) (CreateIndex 3) first_makes.is tt
       first_makes.plain;
   tables = λ limit old new was h.
       let did = indexes table_schema first_text 3 span_made span_first first_makes limit old new was.schema
       h in
-      indexed_desk old new was did.0 did.1;
+      first_grown old new was did.0 did.1;
 }
 
-pub makes_first : {S : Type 0} (g : Ghosts S) (old new : Held S) (text : List ℕ) → AddsIndex text
-    → Holds g old IsUnindexed → HasCleanDisk (state g old)
+-- ---- one step, and several
+
+pub grows : {S : Type 0} (g : Ghosts S) (made next : Made) (old new : Held S) (text : List ℕ)
+    → Extends text made next → Holds g old (IsMadeTo made) → HasCleanDisk (state g old)
     → Shows (state g old) (state g new) (state g new).now (state g old).committed true → (count : ℕ)
-    → Executes text [] (state g old) (state g new) (Ok count) → Makes g old new AreSame
-makes_first g old new text known holds clean shows count h =
+    → Executes text [] (state g old) (state g new) (Ok count) → Grows g made next old new
+grows g made next old new text known holds clean shows count h =
     let was = holds clean shows.was_open in
     let done = known.tables (state g old).step_limit (state g old).now (state g new).now was
-    (ran text [] (state g old) (state g new) table_schema was.schema known.plain known.writes count h) in
+    (ran text [] (state g old) (state g new) (schema_of made) was.schema known.plain known.writes count h)
+    in
     record {
       was_open = shows.was_open;
       is_open = shows.is_open;
       begun = shows.mode;
       committed = shows.committed_is;
-      desk = done.0;
-      sound = ran_sound text [] (state g old) (state g new) table_schema was.schema known.plain
+      has = done.0;
+      sound = ran_sound text [] (state g old) (state g new) (schema_of made) was.schema known.plain
           known.writes count h;
-      changed = done.1;
+      same = done.1;
     }
+
+-- a loop that makes one after the other, so far as it is made
+pub record HasGrown {S : Type 0} (g : Ghosts S) (made at : Made) (old now : Held S) : Type 0 where
+  pub remembered : Remembers g old now
+  pub grown : HasCleanDisk (state g now) → (at ≢ made) ⊎ IsTrue (state g now).is_open
+      → Grows g made at old now
+
+pub grown_none : {S : Type 0} (g : Ghosts S) (made : Made) (old : Held S) → Holds g old (IsMadeTo made)
+    → IsTrue old.in_transaction → Holds g old IsDatabase → HasGrown g made made old old
+grown_none g made old has begun sound = record {
+  remembered = remembers_itself g old;
+  grown = λ clean early. elim early [
+    | inl later ↦ absurd (later refl)
+    | inr live ↦ record {
+      was_open = live;
+      is_open = live;
+      begun = begun;
+      committed = refl;
+      has = has clean live;
+      sound = sound clean live;
+      same = refl;
+    }
+  ];
+}
+
+pub grown_more : {S : Type 0} (g : Ghosts S) (made at next : Made) (old mid new : Held S)
+    → HasGrown g made at old mid → Remembers g mid new
+    → (HasCleanDisk (state g new) → Grows g at next mid new) → HasGrown g made next old new
+grown_more g made at next old mid new so_far turn step = record {
+  remembered = remembers_then g old mid new so_far.remembered turn;
+  grown = λ clean later.
+      let last = step clean in
+      let first = so_far.grown (omega (arith, turn.doubt, clean)) (inr last.was_open) in
+      record {
+        was_open = first.was_open;
+        is_open = last.is_open;
+        begun = last.begun;
+        committed = last.committed ∙ first.committed;
+        has = last.has;
+        sound = last.sound;
+        same = last.same ∙ first.same;
+      };
+}
+
+-- what is made as a whole is a desk
+is_desk : (db : Database) → IsMadeTo All db → IsDesk db
+is_desk db made = record {
+  schema = made.schema;
+  operators = made.rows desk.Operator refl;
+  plans = made.rows desk.Plan refl;
+  volumes = made.rows desk.Volume refl;
+  spans = made.rows desk.Span refl;
+}
+
+pub finished : {S : Type 0} (g : Ghosts S) (made at : Made) (old now : Held S) → made ≢ All → at ≡ All
+    → HasGrown g made at old now → HasCleanDisk (state g now) → Finishes g made old now
+finished g made at old now missing end so_far clean =
+    let all = subst (λ m. Grows g made m old now) end
+    (so_far.grown clean (inl (λ same. missing (sym same ∙ end)))) in
+    record {
+      was_open = all.was_open;
+      is_open = all.is_open;
+      begun = all.begun;
+      committed = all.committed;
+      desk = is_desk (state g now).now all.has;
+      sound = all.sound;
+      same = all.same;
+    }
+
+-- all is committed
+pub completed : {S : Type 0} (g : Ghosts S) (made : Made) (old begun mid new : Held S)
+    → begun ≡ record old { in_transaction = true } → Finishes g made begun mid
+    → Shows (state g mid) (state g new) (state g mid).now (state g mid).now false
+    → Completes g made old new
+completed g made old begun mid new begins made_all shown =
+    let done : Finishes g made (record old { in_transaction = true }) mid =
+    subst (λ h. Finishes g made h mid) begins made_all in
+    record {
+      was_open = done.was_open;
+      is_open = shown.is_open;
+      settled = shown.now_is ∙ sym shown.committed_is;
+      desk = subst IsDesk (sym shown.now_is) done.desk;
+      same = ap (λ (db : Database). tables_of db.trees) shown.now_is ∙ done.same;
+    }
+
+pub may_complete : {S : Type 0} (g : Ghosts S) (made : Made) (old begun mid new : Held S)
+    → begun ≡ record old { in_transaction = true }
+    → (HasCleanDisk (state g mid) → Finishes g made begun mid) → Spares g begun mid
+    → Survives (state g mid) (state g new) (λ db. db ≡ (state g mid).now.trees)
+    → MayComplete g made old new
+may_complete {S = S} g made old begun mid new is made_all spared last clean db left =
+    let early : HasCleanDisk (state g mid) = omega (arith, last.clean, clean) in
+    elim (last.crash clean db left) [
+      | inl before ↦ inl (subst (λ (h : Held S). (state g h).may_leave db) is (spared early db before))
+      | inr now ↦ (let done : Finishes g made (record old { in_transaction = true }) mid =
+          subst (λ h. Finishes g made h mid) is (made_all early) in
+          inr (record {
+            was_open = done.was_open;
+            desk = subst (λ trees. IsDesk (record { schema = desk_schema; trees = trees })) (sym now)
+                (subst (λ schema. IsDesk (record { schema = schema; trees = (state g mid).now.trees }))
+                done.desk.schema done.desk);
+            sound = subst (λ trees. IsDatabase (record { schema = desk_schema; trees = trees })) (sym now)
+                (subst (λ schema. IsDatabase (record { schema = schema; trees = (state g mid).now.trees }))
+                done.desk.schema done.sound);
+            same = ap tables_of now ∙ done.same;
+          }))
+    ]

@@ -14,8 +14,11 @@ use Rattle.sqlite_tied.specs.Compute.{everything}
 use Rattle.sqlite.specs.Listing.{understood, reads_listing}
 use Rattle.sqlite.proofs.Callers.{IsPlain, command_of}
 use Rattle.sqlite.specs.Schema.{Schema}
+use Rattle.sqlite.specs.Table.{Table}
 use Rattle.sqlite_schema.specs.declared.schema.Index.{Index}
-use Rattle.desk_sql.specs.Schema.{desk_schema, tables_with}
+use Rattle.desk_sql.specs.Schema.{desk_schema, schema_to}
+use Rattle.desk_sql.specs.declared.opening.numbers.DeskTable.{DeskTable}
+use Rattle.desk_sql.specs.declared.opening.numbers.DeskTable.TheVariants.{Operator, Plan, Volume, Span}
 use Rattle.desk_sql.proofs.Texts.{operator_named_text, all_operators_text, plan_of_text, all_plans_text, volumes_of_text, all_volumes_text, all_spans_text, own_plans_text, rival_spans_text, operator_rowids_text, plan_rowids_text, volume_rowids_text, span_rowids_text}
 
 abbrev pub query_of : Join → List Term → List Term → List (Term × Key) → Query
@@ -40,9 +43,10 @@ pub record IsQueryIn (schema : Schema) (text : List ℕ) (query : Query) (names 
 abbrev pub IsQuery : List ℕ → Query → List (List ℕ) → Type 0
 IsQuery text query names = IsQueryIn desk_schema text query names
 
--- a text that is this query of the tables, whatever their indexes
-abbrev pub IsWhole : List ℕ → Query → List (List ℕ) → Type 0
-IsWhole text query names = (indexes : List Index) → IsQueryIn (tables_with indexes) text query names
+-- a text that is this query wherever the table is made, whatever others there are
+abbrev pub IsWhole : DeskTable → List ℕ → Query → List (List ℕ) → Type 0
+IsWhole table text query names = (others : List Table) (indexes : List Index)
+    → IsQueryIn (schema_to table others indexes) text query names
 
 abbrev pub operator_named_query : Query
 operator_named_query = query_of (inner 0 end) (op2 (Compare Eq Binary) (col 1 1) (col 0 0) ∷ [])
@@ -57,10 +61,10 @@ abbrev pub all_operators_query : Query
 all_operators_query = query_of (inner 0 end) ([]) (col 1 1 ∷ col 1 2 ∷ [])
     ((col 1 1, ascending Binary) ∷ [])
 
-pub all_operators_is : IsWhole all_operators_text all_operators_query
+pub all_operators_is : IsWhole Operator all_operators_text all_operators_query
     (codes "name" ∷ codes "ceiling" ∷ [])
 unfolding understood everything
-all_operators_is indexes = record { is = refl; plain = (refl, refl); unlisted = refl }
+all_operators_is others indexes = record { is = refl; plain = (refl, refl); unlisted = refl }
 
 abbrev pub plan_of_query : Query
 plan_of_query = query_of (inner 2 end) (op2 (Compare Eq Binary) (col 1 1) (col 0 0)
@@ -77,10 +81,10 @@ abbrev pub all_plans_query : Query
 all_plans_query = query_of (inner 2 end) ([]) (col 1 1 ∷ col 1 2 ∷ col 1 3 ∷ col 1 4 ∷ col 1 5 ∷ [])
     ((col 1 1, ascending Binary) ∷ (col 1 2, ascending Binary) ∷ [])
 
-pub all_plans_is : IsWhole all_plans_text all_plans_query
+pub all_plans_is : IsWhole Plan all_plans_text all_plans_query
     (codes "operator" ∷ codes "id" ∷ codes "priority" ∷ codes "usage" ∷ codes "aircraft" ∷ [])
 unfolding understood everything
-all_plans_is indexes = record { is = refl; plain = (refl, refl); unlisted = refl }
+all_plans_is others indexes = record { is = refl; plain = (refl, refl); unlisted = refl }
 
 abbrev pub volumes_of_query : Query
 volumes_of_query = query_of (inner 4 end) (op2 (Compare Eq Binary) (col 1 1) (col 0 0)
@@ -100,11 +104,11 @@ all_volumes_query = query_of (inner 4 end) ([])
     ∷ col 1 7 ∷ col 1 8 ∷ []) ((col 1 1, ascending Binary) ∷ (col 1 2, ascending Binary)
     ∷ (col 1 3, ascending Binary) ∷ [])
 
-pub all_volumes_is : IsWhole all_volumes_text all_volumes_query
+pub all_volumes_is : IsWhole Volume all_volumes_text all_volumes_query
     (codes "operator" ∷ codes "id" ∷ codes "place" ∷ codes "lower" ∷ codes "upper" ∷ codes "start"
     ∷ codes "stop" ∷ codes "asked" ∷ [])
 unfolding understood everything
-all_volumes_is indexes = record { is = refl; plain = (refl, refl); unlisted = refl }
+all_volumes_is others indexes = record { is = refl; plain = (refl, refl); unlisted = refl }
 
 abbrev pub all_spans_query : Query
 all_spans_query = query_of (inner 6 end) ([]) (col 1 1 ∷ col 1 2 ∷ col 1 3 ∷ col 1 4 ∷ col 1 5 ∷ col 1 6
@@ -112,11 +116,11 @@ all_spans_query = query_of (inner 6 end) ([]) (col 1 1 ∷ col 1 2 ∷ col 1 3 �
     ((col 1 1, ascending Binary) ∷ (col 1 2, ascending Binary) ∷ (col 1 3, ascending Binary)
     ∷ (col 1 4, ascending Binary) ∷ [])
 
-pub all_spans_is : IsWhole all_spans_text all_spans_query
+pub all_spans_is : IsWhole Span all_spans_text all_spans_query
     (codes "operator" ∷ codes "id" ∷ codes "place" ∷ codes "first" ∷ codes "last" ∷ codes "lower"
     ∷ codes "upper" ∷ codes "start" ∷ codes "stop" ∷ codes "priority" ∷ [])
 unfolding understood everything
-all_spans_is indexes = record { is = refl; plain = (refl, refl); unlisted = refl }
+all_spans_is others indexes = record { is = refl; plain = (refl, refl); unlisted = refl }
 
 abbrev pub own_plans_query : Query
 own_plans_query = query_of (inner 2 (inner 4 end))
@@ -153,18 +157,18 @@ rival_spans_is = record { is = refl; plain = (refl, refl); unlisted = refl }
 abbrev pub rowids_query : ℕ → Query
 rowids_query tree = query_of (inner tree end) ([]) (col 1 0 ∷ []) ((col 1 0, ascending Binary) ∷ [])
 
-pub operator_rowids_is : IsWhole operator_rowids_text (rowids_query 0) (codes "rowid" ∷ [])
+pub operator_rowids_is : IsWhole Operator operator_rowids_text (rowids_query 0) (codes "rowid" ∷ [])
 unfolding understood everything
-operator_rowids_is indexes = record { is = refl; plain = (refl, refl); unlisted = refl }
+operator_rowids_is others indexes = record { is = refl; plain = (refl, refl); unlisted = refl }
 
-pub plan_rowids_is : IsWhole plan_rowids_text (rowids_query 2) (codes "rowid" ∷ [])
+pub plan_rowids_is : IsWhole Plan plan_rowids_text (rowids_query 2) (codes "rowid" ∷ [])
 unfolding understood everything
-plan_rowids_is indexes = record { is = refl; plain = (refl, refl); unlisted = refl }
+plan_rowids_is others indexes = record { is = refl; plain = (refl, refl); unlisted = refl }
 
-pub volume_rowids_is : IsWhole volume_rowids_text (rowids_query 4) (codes "rowid" ∷ [])
+pub volume_rowids_is : IsWhole Volume volume_rowids_text (rowids_query 4) (codes "rowid" ∷ [])
 unfolding understood everything
-volume_rowids_is indexes = record { is = refl; plain = (refl, refl); unlisted = refl }
+volume_rowids_is others indexes = record { is = refl; plain = (refl, refl); unlisted = refl }
 
-pub span_rowids_is : IsWhole span_rowids_text (rowids_query 6) (codes "rowid" ∷ [])
+pub span_rowids_is : IsWhole Span span_rowids_text (rowids_query 6) (codes "rowid" ∷ [])
 unfolding understood everything
-span_rowids_is indexes = record { is = refl; plain = (refl, refl); unlisted = refl }
+span_rowids_is others indexes = record { is = refl; plain = (refl, refl); unlisted = refl }

@@ -23,12 +23,15 @@ use Rattle.sqlite_value.proofs.OrderLemmas.{value_cmp_total, value_cmp-Int}
 use Rattle.sqlite.specs.declared.error.Error.{Error}
 use Rattle.sqlite.specs.declared.error.Error.TheVariants.{SqliteFailure}
 use Rattle.sqlite.specs.declared.error.ErrorCode.TheVariants.{DatabaseCorrupt}
-use Rattle.desk_sql.specs.Schema.{HasTables}
-use Rattle.desk_sql.specs.Rows.{AreNumbered, AreAllNumbered, Lists, by_cells}
-use Rattle.desk_sql.specs.Refusals.{IsRefusal, IsUnread, IsMisnumbered, IsSure}
+use Rattle.sqlite.specs.Table.{Table}
+use Rattle.sqlite_schema.specs.declared.schema.Index.{Index}
+use Rattle.desk_sql.specs.declared.opening.finding.Made.{Made}
+use Rattle.desk_sql.specs.Schema.{schema_of, schema_to, has_table, tree_of, HasTable}
+use Rattle.desk_sql.specs.Rows.{AreNumbered, Lists, by_cells}
+use Rattle.desk_sql.specs.Refusals.{IsRefusal, IsUnnumbered, IsUnread, IsMisnumbered, IsSure}
 use Rattle.desk_sql.specs.Statements.{SelectsAll, rowids}
 use Rattle.desk_sql.specs.Effects.{IsKept}
-use Rattle.desk_sql.specs.Finding.{Holds, AreRising, next_above, exceeds, tree_of}
+use Rattle.desk_sql.specs.Finding.{Holds, AreRising, next_above, exceeds}
 use Rattle.desk_sql.specs.declared.opening.numbers.DeskTable.{DeskTable}
 use Rattle.desk_sql.specs.declared.opening.numbers.DeskTable.TheVariants.{Operator, Plan, Volume, Span}
 use Rattle.desk_sql.proofs.Texts.{operator_rowids_text, plan_rowids_text, volume_rowids_text, span_rowids_text}
@@ -188,49 +191,44 @@ numbered_by rows shown same up =
     }
 
 -- the query of the rowids of the table in a tree
-rowids_selected : (text : List ℕ) (tree : ℕ) → IsWhole text (rowids_query tree) (codes "rowid" ∷ [])
-    → IsSure text → ((db : Trees) → overlay db [] tree ≡ db tree)
-    → SelectsAll text (0 ∷ []) (λ db. rowids (db tree))
-rowids_selected text tree is sure alone =
-    selects_all text _ _ _ _ _ is sure (0 ∷ []) _ (λ e. refl) (λ x y. refl)
+rowids_selected : (table : DeskTable) (text : List ℕ) (tree : ℕ)
+    → IsWhole table text (rowids_query tree) (codes "rowid" ∷ [])
+    → ((others : List Table) (indexes : List Index) → IsSure (schema_to table others indexes) text)
+    → ((db : Trees) → overlay db [] tree ≡ db tree)
+    → SelectsAll table text (0 ∷ []) (λ db. rowids (db tree))
+rowids_selected table text tree is sure alone =
+    selects_all text _ _ _ _ _ table is sure (0 ∷ []) _ (λ e. refl) (λ x y. refl)
     (λ db. subst (λ rows. map (eval_all (col 1 0 ∷ []))
     (flat_map (λ r. cond (list_all (holds ([] ∷ r ∷ [])) []) (([] ∷ r ∷ []) ∷ []) []) rows)
     ≡ rowids (db tree)) (sym (alone db))
     (scanned (λ r. [] ∷ r ∷ []) [] (col 1 0 ∷ []) (λ r. rowid r ∷ []) (λ r. true) (λ r. refl)
     (λ r. refl) (db tree) ∙ every (rowids (db tree))))
 
-pub operator_rowids_selected : SelectsAll operator_rowids_text (0 ∷ []) (λ db. rowids (db 0))
-operator_rowids_selected = rowids_selected _ 0 operator_rowids_is operator_rowids_sure (λ db. refl)
+pub operator_rowids_selected : SelectsAll Operator operator_rowids_text (0 ∷ []) (λ db. rowids (db 0))
+operator_rowids_selected = rowids_selected _ _ 0 operator_rowids_is operator_rowids_sure (λ db. refl)
 
-pub plan_rowids_selected : SelectsAll plan_rowids_text (0 ∷ []) (λ db. rowids (db 2))
-plan_rowids_selected = rowids_selected _ 2 plan_rowids_is plan_rowids_sure (λ db. refl)
+pub plan_rowids_selected : SelectsAll Plan plan_rowids_text (0 ∷ []) (λ db. rowids (db 2))
+plan_rowids_selected = rowids_selected _ _ 2 plan_rowids_is plan_rowids_sure (λ db. refl)
 
-pub volume_rowids_selected : SelectsAll volume_rowids_text (0 ∷ []) (λ db. rowids (db 4))
-volume_rowids_selected = rowids_selected _ 4 volume_rowids_is volume_rowids_sure (λ db. refl)
+pub volume_rowids_selected : SelectsAll Volume volume_rowids_text (0 ∷ []) (λ db. rowids (db 4))
+volume_rowids_selected = rowids_selected _ _ 4 volume_rowids_is volume_rowids_sure (λ db. refl)
 
-pub span_rowids_selected : SelectsAll span_rowids_text (0 ∷ []) (λ db. rowids (db 6))
-span_rowids_selected = rowids_selected _ 6 span_rowids_is span_rowids_sure (λ db. refl)
+pub span_rowids_selected : SelectsAll Span span_rowids_text (0 ∷ []) (λ db. rowids (db 6))
+span_rowids_selected = rowids_selected _ _ 6 span_rowids_is span_rowids_sure (λ db. refl)
 
-pub numbered_in : (table : DeskTable) (trees : Trees) → AreAllNumbered trees
-    → AreNumbered (trees (tree_of table))
-numbered_in Operator trees all = all.operators
-numbered_in Plan trees all = all.plans
-numbered_in Volume trees all = all.volumes
-numbered_in Span trees all = all.spans
-
-module _ {S : Type 0} (g : Ghosts S) (old new : Held S) (text : List ℕ) (tree : ℕ)
-    (selects : SelectsAll text (0 ∷ []) (λ db. rowids (db tree))) where
-  pub numbered_if : Holds g old HasTables → (HasCleanDisk (state g new)
+module _ {S : Type 0} (g : Ghosts S) (old new : Held S) (text : List ℕ) (table : DeskTable)
+    (selects : SelectsAll table text (0 ∷ []) (λ db. rowids (db (tree_of table)))) where
+  pub numbered_if : Holds g old (HasTable table) → (HasCleanDisk (state g new)
       → HasCleanDisk (state g old))
       → IsKept g old new → (rows : List Row)
       → (HasCleanDisk (state g new) → Shown text [] (state g old) (state g new) rows) → AreRising rows
-      → Holds g new (λ (db : Database). AreNumbered (db.trees tree))
+      → Holds g new (λ (db : Database). AreNumbered (db.trees (tree_of table)))
   numbered_if known was kept rows shown up clean live =
       let before = kept clean live in
-      let all = all_selected text _ _ selects (state g old) (state g new) rows
+      let all = all_selected table text _ _ selects (state g old) (state g new) rows
       (known (was clean) before.was_open) (shown clean) in
-      subst (λ (db : Database). AreNumbered (db.trees tree)) (sym before.now)
-      (numbered_by ((state g old).now.trees tree) rows all.same up)
+      subst (λ (db : Database). AreNumbered (db.trees (tree_of table))) (sym before.now)
+      (numbered_by ((state g old).now.trees (tree_of table)) rows all.same up)
 
 -- what a later call keeps
 pub still : {S : Type 0} (g : Ghosts S) (old new : Held S) (Is : Database → Type 0) → Holds g old Is
@@ -294,31 +292,42 @@ rising_by rows shown lists num =
           (IsDistinct-IsPermutation is_same_id flips cells shown lists.same (to_distinct cells apart)));
     }
 
-module _ {S : Type 0} (g : Ghosts S) (old new : Held S) (text : List ℕ) (tree : ℕ)
-    (selects : SelectsAll text (0 ∷ []) (λ db. rowids (db tree))) where
-  rises_if : (rows : List Row) → HasTables (state g old).now → AreNumbered ((state g old).now.trees tree)
+module _ {S : Type 0} (g : Ghosts S) (old new : Held S) (text : List ℕ) (table : DeskTable)
+    (selects : SelectsAll table text (0 ∷ []) (λ db. rowids (db (tree_of table)))) where
+  rises_if : (rows : List Row) → HasTable table (state g old).now
+      → AreNumbered ((state g old).now.trees (tree_of table))
       → Shown text [] (state g old) (state g new) rows → AreRising rows
   rises_if rows has num shown =
-      rising_by ((state g old).now.trees tree) rows
-      (all_selected text _ _ selects (state g old) (state g new) rows has shown) num
+      rising_by ((state g old).now.trees (tree_of table)) rows
+      (all_selected table text _ _ selects (state g old) (state g new) rows has shown) num
 
   -- why a table is not found to be numbered
-  pub unread_if : {V : Type 0} → Holds g old HasTables → HasCleanDisk (state g old)
-      → IsTrue (state g old).is_open → (AreAllNumbered (state g old).now.trees
-      → AreNumbered ((state g old).now.trees tree))
-      → (rows : List Row)
+  pub unnumbered_if : {V : Type 0} → Holds g old (HasTable table) → HasCleanDisk (state g old)
+      → IsTrue (state g old).is_open → (rows : List Row)
       → Shown text [] (state g old) (state g new) rows → (r : Result V Error)
       → OnErr r (¬ AreRising rows)
-      → IfErr r (λ e. e ≡ SqliteFailure DatabaseCorrupt) → IfErr r (IsUnread g old new)
-  unread_if known clean live numbered rows shown (Ok v) broken told = tt
-  unread_if known clean live numbered rows shown (Err e) broken told =
-      inr (
-        told,
-        record {
-          schema = known clean live;
-          unsound = λ legible. broken (rises_if rows legible.schema (numbered legible.rows) shown);
-        },
-      )
+      → IfErr r (λ e. e ≡ SqliteFailure DatabaseCorrupt) → IfErr r (IsUnnumbered g old new table)
+  unnumbered_if known clean live rows shown (Ok v) broken told = tt
+  unnumbered_if known clean live rows shown (Err e) broken told =
+      inr (told, λ num. broken (rises_if rows (known clean live) num shown))
+
+-- what that says of all tables that are made
+pub unread_by : {S V : Type 0} (g : Ghosts S) (made : Made) (table : DeskTable) (old new : Held S)
+    → (HasCleanDisk (state g new) → HasCleanDisk (state g old)) → IsKept g old new
+    → Holds g old (λ (db : Database). db.schema ≡ schema_of made) → has_table made table ≡ true
+    → HasCleanDisk (state g new) → IsTrue (state g new).is_open
+    → (r : Result V Error) → OnErr r (IsKept g old new) → IfErr r (IsUnnumbered g old new table)
+    → IfErr r (IsUnread g old new)
+unread_by g made table old new was kept known there clean live (Ok v) on why = tt
+unread_by g made table old new was kept known there clean live (Err e) on (inl h) = inl h
+unread_by g made table old new was kept known there clean live (Err e) on (inr h) = inr (
+  h.0,
+  record {
+    made = made;
+    schema = known (was clean) (kept clean live).was_open;
+    unsound = λ is. h.1 (is.rows table there);
+  },
+)
 
 module _ {S : Type 0} (g : Ghosts S) (old mid new : Held S)
     (fewer : (state g old).faults ≤ (state g mid).faults) (limit : mid.step_limit ≡ old.step_limit)

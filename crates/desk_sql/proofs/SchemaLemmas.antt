@@ -1,42 +1,80 @@
--- A schema is a desk's just if its parts are.
-use Rattle.std.proofs.Common.{◌≡◌, [], refl, ap, ◌∙◌, sym, inl, inr}
+-- A schema is what is made so far just if its parts are.
+use Rattle.std.proofs.Common.{◌≡◌, List, [], ◌∷◌, refl, ap, ◌∙◌, sym, true, true≢false}
 use Rattle.sqlite.specs.Schema.{Schema}
-use Rattle.sqlite_tied.specs.Compute.{everything}
+use Rattle.sqlite.specs.Table.{Table}
 use Rattle.sqlite.specs.Effect.{Database}
-use Rattle.desk_sql.specs.Schema.{desk_schema, table_schema, tables_with, HasTables}
-use Rattle.desk_sql.specs.Finding.{key_indexes, desk_indexes, operator_index, plan_index, volume_index, span_index, first_index}
+use Rattle.sqlite_tied.specs.Compute.{everything}
+use Rattle.desk_sql.specs.declared.opening.finding.Made.{Made}
+use Rattle.desk_sql.specs.declared.opening.finding.Made.TheVariants.{Nothing, Operators, Plans, Volumes, Spans, All}
+use Rattle.desk_sql.specs.declared.opening.numbers.DeskTable.{DeskTable}
+use Rattle.desk_sql.specs.declared.opening.numbers.DeskTable.TheVariants.{Operator, Plan, Volume, Span}
+use Rattle.desk_sql.specs.Schema.{schema_of, schema_to, has_table, HasTable, plan_made, volume_made, span_made}
+use Rattle.desk_sql.specs.Finding.{indexes_of, operator_index, plan_index, volume_index, span_index, first_index}
 
-indexes_are : desk_schema.indexes ≡ desk_indexes
+indexes_are : (made : Made) → (schema_of made).indexes ≡ indexes_of made
 unfolding everything operator_index plan_index volume_index span_index first_index
-indexes_are = refl
+indexes_are Nothing = refl
+indexes_are Operators = refl
+indexes_are Plans = refl
+indexes_are Volumes = refl
+indexes_are Spans = refl
+indexes_are All = refl
 
-keys_are : table_schema.indexes ≡ key_indexes
-unfolding everything operator_index plan_index volume_index span_index
-keys_are = refl
+no_views : (made : Made) → (schema_of made).views ≡ []
+no_views Nothing = refl
+no_views Operators = refl
+no_views Plans = refl
+no_views Volumes = refl
+no_views Spans = refl
+no_views All = refl
 
-pub has_key_indexes : (s : Schema) → s ≡ table_schema → s.indexes ≡ key_indexes
-has_key_indexes s is = ap (λ t. t.indexes) is ∙ keys_are
+pub has_indexes : (s : Schema) (made : Made) → s ≡ schema_of made → s.indexes ≡ indexes_of made
+has_indexes s made is = ap (λ t. t.indexes) is ∙ indexes_are made
 
-pub are_tables : (s : Schema) → s.tables ≡ table_schema.tables → s.indexes ≡ key_indexes → s.views ≡ []
-    → s ≡ table_schema
-are_tables s tables indexes views = λ i. record {
+pub has_no_views : (s : Schema) (made : Made) → s ≡ schema_of made → s.views ≡ []
+has_no_views s made is = ap (λ t. t.views) is ∙ no_views made
+
+pub is_schema : (s : Schema) (made : Made) → s.tables ≡ (schema_of made).tables → s.indexes ≡ indexes_of made
+    → s.views ≡ [] → s ≡ schema_of made
+is_schema s made tables indexes views = λ i. record {
   tables = tables i;
-  indexes = (indexes ∙ sym keys_are) i;
-  views = views i;
+  indexes = (indexes ∙ sym (indexes_are made)) i;
+  views = (views ∙ sym (no_views made)) i;
 }
 
-pub has_desk_indexes : (s : Schema) → s ≡ desk_schema → s.indexes ≡ desk_indexes
-has_desk_indexes s is = ap (λ t. t.indexes) is ∙ indexes_are
+-- ---- the tables that are made
 
-pub is_desk : (s : Schema) → s.tables ≡ table_schema.tables → s.indexes ≡ desk_indexes → s.views ≡ [] → s
-    ≡ desk_schema
-is_desk s tables indexes views = λ i. record {
-  tables = tables i;
-  indexes = (indexes ∙ sym indexes_are) i;
-  views = views i;
+as_made : (table : DeskTable) (others : List Table) (made : Made) (db : Database)
+    → schema_of made ≡ schema_to table others (schema_of made).indexes → db.schema ≡ schema_of made
+    → HasTable table db
+as_made table others made db same is = record {
+  others = others;
+  schema = is ∙ same ∙ ap (λ s. schema_to table others s.indexes) (sym is);
 }
 
--- the tables, whatever their indexes
-pub any_indexes : (db : Database) → HasTables db → db.schema ≡ tables_with db.schema.indexes
-any_indexes db (inl has) = has ∙ ap (λ s. tables_with s.indexes) (sym has)
-any_indexes db (inr has) = has ∙ ap (λ s. tables_with s.indexes) (sym has)
+pub has_made : (made : Made) (table : DeskTable) (db : Database) → has_table made table ≡ true
+    → db.schema ≡ schema_of made → HasTable table db
+unfolding everything
+has_made Nothing table db there is = absurd (true≢false (sym there))
+has_made Operators Operator db there is = as_made Operator [] Operators db refl is
+has_made Operators Plan db there is = absurd (true≢false (sym there))
+has_made Operators Volume db there is = absurd (true≢false (sym there))
+has_made Operators Span db there is = absurd (true≢false (sym there))
+has_made Plans Operator db there is = as_made Operator (plan_made ∷ []) Plans db refl is
+has_made Plans Plan db there is = as_made Plan [] Plans db refl is
+has_made Plans Volume db there is = absurd (true≢false (sym there))
+has_made Plans Span db there is = absurd (true≢false (sym there))
+has_made Volumes Operator db there is = as_made Operator (plan_made ∷ volume_made ∷ []) Volumes db refl is
+has_made Volumes Plan db there is = as_made Plan (volume_made ∷ []) Volumes db refl is
+has_made Volumes Volume db there is = as_made Volume [] Volumes db refl is
+has_made Volumes Span db there is = absurd (true≢false (sym there))
+has_made Spans Operator db there is =
+    as_made Operator (plan_made ∷ volume_made ∷ span_made ∷ []) Spans db refl is
+has_made Spans Plan db there is = as_made Plan (volume_made ∷ span_made ∷ []) Spans db refl is
+has_made Spans Volume db there is = as_made Volume (span_made ∷ []) Spans db refl is
+has_made Spans Span db there is = as_made Span [] Spans db refl is
+has_made All Operator db there is =
+    as_made Operator (plan_made ∷ volume_made ∷ span_made ∷ []) All db refl is
+has_made All Plan db there is = as_made Plan (volume_made ∷ span_made ∷ []) All db refl is
+has_made All Volume db there is = as_made Volume (span_made ∷ []) All db refl is
+has_made All Span db there is = as_made Span [] All db refl is

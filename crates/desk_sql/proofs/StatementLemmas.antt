@@ -15,12 +15,16 @@ use Rattle.sqlite_value.specs.declared.keys.Key.{Key}
 use Rattle.sqlite.specs.State.{HasCleanDisk, Shown}
 use Rattle.sqlite.specs.Store.{Ghosts}
 use Rattle.sqlite.specs.Held.{Held, state}
-use Rattle.desk_sql.specs.Rows.{IsDesk, IsLegible, is_by, is_of, is_wanted, differs, is_at_most, is_at_least, is_below, is_above, held_columns, is_same, joined, has_volume, with_volumes, by_cells, columns, tables_of, Lists}
+use Rattle.desk_sql.specs.Rows.{IsDesk, is_by, is_of, is_wanted, differs, is_at_most, is_at_least, is_below, is_above, held_columns, is_same, joined, has_volume, with_volumes, by_cells, columns, tables_of, Lists}
 use Rattle.desk_sql.specs.declared.reading.rivals.Reach.{Reach}
 use Rattle.desk_sql.specs.Effects.{IsReady}
 use Rattle.desk_sql.specs.Rivals.{rival_params, MayRead, SelectsRivals}
 use Rattle.sqlite.specs.Schema.{Schema}
-use Rattle.desk_sql.specs.Schema.{desk_schema}
+use Rattle.sqlite.specs.Table.{Table}
+use Rattle.sqlite_schema.specs.declared.schema.Index.{Index}
+use Rattle.desk_sql.specs.declared.opening.numbers.DeskTable.{DeskTable}
+use Rattle.desk_sql.specs.declared.opening.numbers.DeskTable.TheVariants.{Operator, Plan, Volume, Span}
+use Rattle.desk_sql.specs.Schema.{desk_schema, schema_to, HasTable}
 use Rattle.desk_sql.specs.Finding.{Holds}
 use Rattle.sqlite.specs.Effect.{Database}
 use Rattle.sqlite.specs.Listing.{understood}
@@ -31,7 +35,6 @@ use Rattle.desk_sql.specs.Statements.{Selects, SelectsAll, name_row, key_row}
 use Rattle.desk_sql.proofs.SureTexts.{all_operators_sure, all_plans_sure, all_volumes_sure, all_spans_sure}
 use Rattle.desk_sql.proofs.Texts.{operator_named_text, all_operators_text, plan_of_text, all_plans_text, volumes_of_text, all_volumes_text, all_spans_text, own_plans_text, rival_spans_text}
 use Rattle.desk_sql.proofs.QueryTexts.{IsQueryIn, IsQuery, IsWhole, query_of, operator_named_is, operator_named_query, all_operators_is, all_operators_query, plan_of_is, plan_of_query, all_plans_is, all_plans_query, volumes_of_is, volumes_of_query, all_volumes_is, all_volumes_query, all_spans_is, all_spans_query, own_plans_is, own_plans_query, rival_spans_is, rival_spans_query}
-use Rattle.desk_sql.proofs.SchemaLemmas.{any_indexes}
 use Rattle.desk_sql.proofs.ReadLemmas.{was_open, answer_rows, may_answer, may_show, scanned, equals_text, equals, either_true, le_number, ge_number, lt_number, gt_number}
 
 -- a value that a desk's rows have, whenever something is shown
@@ -53,12 +56,12 @@ module _ {S V : Type 0} (g : Ghosts S) (old new : Held S) (items : V → List Ro
       → IfOk r (λ v. P (items v))
   if_shown = if_holds IsDesk
 
-  pub if_read : Holds g old IsLegible → HasCleanDisk (state g old)
-      → ((rows : List Row) → IsLegible (state g old).now
+  pub if_read : (table : DeskTable) → Holds g old (HasTable table) → HasCleanDisk (state g old)
+      → ((rows : List Row) → HasTable table (state g old).now
       → Shown text params (state g old) (state g new) rows → P rows)
       → (r : Result V Error) → IfOk r (λ v. Shown text params (state g old) (state g new) (items v))
       → IfOk r (λ v. P (items v))
-  if_read = if_holds IsLegible
+  if_read table = if_holds (HasTable table)
 
 both_hold : (a : Bool) → (a && true) ≡ a
 both_hold true = refl
@@ -135,21 +138,23 @@ module _ (text : List ℕ) (from : Join) (terms : List Term) (project : List Ter
   }
 
 module _ (text : List ℕ) (from : Join) (terms : List Term) (project : List Term) (order : List (Term × Key))
-    (names : List (List ℕ)) (known : IsWhole text (query_of from terms project order) names)
-    (sure : IsSure text) (cells : List ℕ) (wanted : Trees → List Row) where
+    (names : List (List ℕ)) (table : DeskTable)
+    (known : IsWhole table text (query_of from terms project order) names)
+    (sure : (others : List Table) (indexes : List Index) → IsSure (schema_to table others indexes) text)
+    (cells : List ℕ) (wanted : Trees → List Row) where
   pub selects_all :
       ((e : Env) → eval_all (map (λ k. k.0) order) e ≡ map (column (eval_all project e)) cells)
       → ((x y : Row) → key_cmp 0 (map (λ k. k.1) order) (map (column x) cells) (map (column y) cells)
       ≡ by_cells cells x y)
       → ((db : Trees) → map (eval_all project) (matches (overlay db []) terms from ([] ∷ [])) ≡ wanted db)
-      → SelectsAll text cells wanted
+      → SelectsAll table text cells wanted
   selects_all keys compares are = record {
-    sure = sure;
+    sure = λ db has. subst (λ s. IsSure s text) (sym has.schema) (sure has.others db.schema.indexes);
     rows = λ db rows has h.
-        let here = known db.schema.indexes in
+        let here = known has.others db.schema.indexes in
         listed text from terms project order names here [] cells db rows (wanted db.trees)
         (may_answer text (query_of from terms project order) names here [] db rows
-        (subst (λ s. MayRead (understood s text) db [] rows) (any_indexes db has) h))
+        (subst (λ s. MayRead (understood s text) db [] rows) has.schema h))
         keys compares (are db.trees);
   }
 
@@ -235,9 +240,9 @@ operator_named_selected =
     operator_named_query.project (columns 2) (is_by name) (λ r. refl)
     (λ r. both_hold _ ∙ equals_text (column r 1) name) (db.trees 0))
 
-pub all_operators_selected : SelectsAll all_operators_text (0 ∷ []) (λ db. (tables_of db).operators)
+pub all_operators_selected : SelectsAll Operator all_operators_text (0 ∷ []) (λ db. (tables_of db).operators)
 all_operators_selected =
-    selects_all all_operators_text _ _ _ _ _ all_operators_is all_operators_sure (0 ∷ []) _
+    selects_all all_operators_text _ _ _ _ _ _ all_operators_is all_operators_sure (0 ∷ []) _
     (λ e. refl) (λ x y. refl)
     (λ db. scanned (λ r. [] ∷ r ∷ []) all_operators_query.filter all_operators_query.project (columns 2)
     (λ r. true) (λ r. refl) (λ r. refl) (db 0) ∙ every (map (columns 2) (db 0)))
@@ -251,9 +256,9 @@ plan_of_selected =
     (λ r. ap₂ (λ a b. a && b) (equals_text (column r 1) key.operator)
     (both_hold _ ∙ equals_text (column r 2) key.id)) (db.trees 2))
 
-pub all_plans_selected : SelectsAll all_plans_text (0 ∷ 1 ∷ []) (λ db. (tables_of db).plans)
+pub all_plans_selected : SelectsAll Plan all_plans_text (0 ∷ 1 ∷ []) (λ db. (tables_of db).plans)
 all_plans_selected =
-    selects_all all_plans_text _ _ _ _ _ all_plans_is all_plans_sure (0 ∷ 1 ∷ []) _
+    selects_all all_plans_text _ _ _ _ _ _ all_plans_is all_plans_sure (0 ∷ 1 ∷ []) _
     (λ e. refl) (λ x y. refl)
     (λ db. scanned (λ r. [] ∷ r ∷ []) all_plans_query.filter all_plans_query.project (columns 5)
     (λ r. true) (λ r. refl) (λ r. refl) (db 2) ∙ every (map (columns 5) (db 2)))
@@ -267,16 +272,16 @@ volumes_of_selected =
     (λ r. ap₂ (λ a b. a && b) (equals_text (column r 1) key.operator)
     (both_hold _ ∙ equals_text (column r 2) key.id)) (db.trees 4))
 
-pub all_volumes_selected : SelectsAll all_volumes_text (0 ∷ 1 ∷ 2 ∷ []) (λ db. (tables_of db).volumes)
+pub all_volumes_selected : SelectsAll Volume all_volumes_text (0 ∷ 1 ∷ 2 ∷ []) (λ db. (tables_of db).volumes)
 all_volumes_selected =
-    selects_all all_volumes_text _ _ _ _ _ all_volumes_is all_volumes_sure (0 ∷ 1 ∷ 2 ∷ []) _
+    selects_all all_volumes_text _ _ _ _ _ _ all_volumes_is all_volumes_sure (0 ∷ 1 ∷ 2 ∷ []) _
     (λ e. refl) (λ x y. refl)
     (λ db. scanned (λ r. [] ∷ r ∷ []) all_volumes_query.filter all_volumes_query.project (columns 8)
     (λ r. true) (λ r. refl) (λ r. refl) (db 4) ∙ every (map (columns 8) (db 4)))
 
-pub all_spans_selected : SelectsAll all_spans_text (0 ∷ 1 ∷ 2 ∷ 3 ∷ []) (λ db. (tables_of db).spans)
+pub all_spans_selected : SelectsAll Span all_spans_text (0 ∷ 1 ∷ 2 ∷ 3 ∷ []) (λ db. (tables_of db).spans)
 all_spans_selected =
-    selects_all all_spans_text _ _ _ _ _ all_spans_is all_spans_sure (0 ∷ 1 ∷ 2 ∷ 3 ∷ []) _
+    selects_all all_spans_text _ _ _ _ _ _ all_spans_is all_spans_sure (0 ∷ 1 ∷ 2 ∷ 3 ∷ []) _
     (λ e. refl) (λ x y. refl)
     (λ db. scanned (λ r. [] ∷ r ∷ []) all_spans_query.filter all_spans_query.project (columns 10)
     (λ r. true) (λ r. refl) (λ r. refl) (db 6) ∙ every (map (columns 10) (db 6)))

@@ -11,11 +11,14 @@ use Rattle.sqlite_schema.specs.declared.schema.Schema.{Schema}
 use Rattle.sqlite_tied.specs.Compute.{everything}
 use Rattle.sqlite.specs.Listing.{understood}
 use Rattle.sqlite_schema.specs.declared.schema.Index.{Index}
-use Rattle.desk_sql.specs.Schema.{tables_with}
+use Rattle.sqlite.specs.Table.{Table}
+use Rattle.desk_sql.specs.declared.opening.numbers.DeskTable.{DeskTable}
+use Rattle.desk_sql.specs.declared.opening.numbers.DeskTable.TheVariants.{Operator, Plan, Volume, Span}
+use Rattle.desk_sql.specs.Schema.{schema_to}
 use Rattle.desk_sql.specs.Refusals.{NeverRefuses, IsSure}
 use Rattle.desk_sql.proofs.Texts.{all_operators_text, all_plans_text, all_volumes_text, all_spans_text, operator_rowids_text, plan_rowids_text, volume_rowids_text, span_rowids_text}
 use Rattle.sqlite.proofs.Callers.{command_of}
-use Rattle.desk_sql.proofs.QueryTexts.{IsWhole, query_of, operator_rowids_is, plan_rowids_is, volume_rowids_is, span_rowids_is, all_operators_is, all_plans_is, all_volumes_is, all_spans_is}
+use Rattle.desk_sql.proofs.QueryTexts.{IsQueryIn, query_of, operator_rowids_is, plan_rowids_is, volume_rowids_is, span_rowids_is, all_operators_is, all_plans_is, all_volumes_is, all_spans_is}
 
 -- the query's types do not fit the tables
 abbrev Misfits : Query → Schema → Trees → Type 0
@@ -23,135 +26,131 @@ Misfits query schema trees = IsShown (λ (r : Row). r) (record { schema = schema
     (record { lets = []; body = query }) [] None
 
 -- nothing in a scan of one table can overflow
-scan_never : (tree : ℕ) (project : List Term) (order : List (Term × Key)) (names : List (List ℕ))
-    → ((indexes : List Index) (trees : Trees)
-    → ¬ Misfits (query_of (inner tree end) [] project order) (tables_with indexes) trees)
-    → NeverRefuses (Select (record { lets = []; body = query_of (inner tree end) [] project order })
+scan_never : (schema : Schema) (tree : ℕ) (project : List Term) (order : List (Term × Key))
+    (names : List (List ℕ))
+    → ((trees : Trees) → ¬ Misfits (query_of (inner tree end) [] project order) schema trees)
+    → NeverRefuses schema (Select (record { lets = []; body = query_of (inner tree end) [] project order })
     names)
-scan_never tree project order names fits limit db e same (inl h) =
-    absurd (fits db.schema.indexes db.trees
+scan_never schema tree project order names fits limit db e same (inl h) =
+    absurd (fits db.trees
     (subst (λ s. Misfits (query_of (inner tree end) [] project order) s db.trees) same h.1))
-scan_never tree project order names fits limit db e same (inr (inl (code, inl h))) = absurd h
-scan_never tree project order names fits limit db e same (inr (inl (code, inr h))) = absurd h.4
-scan_never tree project order names fits limit db e same (inr (inr h)) = h
+scan_never schema tree project order names fits limit db e same (inr (inl (code, inl h))) = absurd h
+scan_never schema tree project order names fits limit db e same (inr (inl (code, inr h))) = absurd h.4
+scan_never schema tree project order names fits limit db e same (inr (inr h)) = h
 
-known_never : (text : List ℕ) (tree : ℕ) (project : List Term) (order : List (Term × Key))
-    (names : List (List ℕ)) → IsWhole text (query_of (inner tree end) [] project order) names
-    → ((indexes : List Index) (trees : Trees)
-    → ¬ Misfits (query_of (inner tree end) [] project order) (tables_with indexes) trees)
-    → (indexes : List Index) → NeverRefuses (command_of (understood (tables_with indexes) text))
-known_never text tree project order names known fits indexes =
-    subst NeverRefuses (sym (known indexes).is) (scan_never tree project order names fits)
+known_never : (schema : Schema) (text : List ℕ) (tree : ℕ) (project : List Term)
+    (order : List (Term × Key)) (names : List (List ℕ))
+    → IsQueryIn schema text (query_of (inner tree end) [] project order) names
+    → ((trees : Trees) → ¬ Misfits (query_of (inner tree end) [] project order) schema trees)
+    → NeverRefuses schema (command_of (understood schema text))
+known_never schema text tree project order names known fits =
+    subst (NeverRefuses schema) (sym known.is) (scan_never schema tree project order names fits)
 
-pub operator_rowids_sure : IsSure operator_rowids_text
+-- wherever the table is made, whatever others there are
+abbrev IsSureWith : DeskTable → List ℕ → Type 0
+IsSureWith table text = (others : List Table) (indexes : List Index)
+    → IsSure (schema_to table others indexes) text
+
+pub operator_rowids_sure : IsSureWith Operator operator_rowids_text
 unfolding understood everything
-operator_rowids_sure =
-    record {
-      means = λ indexes. (
-        refl,
-        refl,
-        refl,
-        omega arith,
-        known_never _ _ _ _ _ operator_rowids_is
-            (λ indexes trees misfit. true≢false misfit) indexes,
-      );
-      unlisted = λ indexes. refl;
-    }
-
-pub plan_rowids_sure : IsSure plan_rowids_text
-unfolding understood everything
-plan_rowids_sure = record {
-  means = λ indexes. (
+operator_rowids_sure others indexes = record {
+  means = (
     refl,
     refl,
     refl,
     omega arith,
-    known_never _ _ _ _ _ plan_rowids_is
-        (λ indexes trees misfit. true≢false misfit) indexes,
+    known_never _ _ _ _ _ _ (operator_rowids_is others indexes) (λ trees misfit. true≢false misfit),
   );
-  unlisted = λ indexes. refl;
+  unlisted = refl;
 }
 
-pub volume_rowids_sure : IsSure volume_rowids_text
+pub plan_rowids_sure : IsSureWith Plan plan_rowids_text
 unfolding understood everything
-volume_rowids_sure = record {
-  means = λ indexes. (
+plan_rowids_sure others indexes = record {
+  means = (
     refl,
     refl,
     refl,
     omega arith,
-    known_never _ _ _ _ _ volume_rowids_is
-        (λ indexes trees misfit. true≢false misfit) indexes,
+    known_never _ _ _ _ _ _ (plan_rowids_is others indexes) (λ trees misfit. true≢false misfit),
   );
-  unlisted = λ indexes. refl;
+  unlisted = refl;
 }
 
-pub span_rowids_sure : IsSure span_rowids_text
+pub volume_rowids_sure : IsSureWith Volume volume_rowids_text
 unfolding understood everything
-span_rowids_sure = record {
-  means = λ indexes. (
+volume_rowids_sure others indexes = record {
+  means = (
     refl,
     refl,
     refl,
     omega arith,
-    known_never _ _ _ _ _ span_rowids_is
-        (λ indexes trees misfit. true≢false misfit) indexes,
+    known_never _ _ _ _ _ _ (volume_rowids_is others indexes) (λ trees misfit. true≢false misfit),
   );
-  unlisted = λ indexes. refl;
+  unlisted = refl;
 }
 
-pub all_operators_sure : IsSure all_operators_text
+pub span_rowids_sure : IsSureWith Span span_rowids_text
 unfolding understood everything
-all_operators_sure = record {
-  means = λ indexes. (
+span_rowids_sure others indexes = record {
+  means = (
     refl,
     refl,
     refl,
     omega arith,
-    known_never _ _ _ _ _ all_operators_is
-        (λ indexes trees misfit. true≢false misfit) indexes,
+    known_never _ _ _ _ _ _ (span_rowids_is others indexes) (λ trees misfit. true≢false misfit),
   );
-  unlisted = λ indexes. refl;
+  unlisted = refl;
 }
 
-pub all_plans_sure : IsSure all_plans_text
+pub all_operators_sure : IsSureWith Operator all_operators_text
 unfolding understood everything
-all_plans_sure = record {
-  means = λ indexes. (
+all_operators_sure others indexes = record {
+  means = (
     refl,
     refl,
     refl,
     omega arith,
-    known_never _ _ _ _ _ all_plans_is
-        (λ indexes trees misfit. true≢false misfit) indexes,
+    known_never _ _ _ _ _ _ (all_operators_is others indexes) (λ trees misfit. true≢false misfit),
   );
-  unlisted = λ indexes. refl;
+  unlisted = refl;
 }
 
-pub all_volumes_sure : IsSure all_volumes_text
+pub all_plans_sure : IsSureWith Plan all_plans_text
 unfolding understood everything
-all_volumes_sure = record {
-  means = λ indexes. (
+all_plans_sure others indexes = record {
+  means = (
     refl,
     refl,
     refl,
     omega arith,
-    known_never _ _ _ _ _ all_volumes_is
-        (λ indexes trees misfit. true≢false misfit) indexes,
+    known_never _ _ _ _ _ _ (all_plans_is others indexes) (λ trees misfit. true≢false misfit),
   );
-  unlisted = λ indexes. refl;
+  unlisted = refl;
 }
 
-pub all_spans_sure : IsSure all_spans_text
+pub all_volumes_sure : IsSureWith Volume all_volumes_text
 unfolding understood everything
-all_spans_sure = record {
-  means = λ indexes. (
+all_volumes_sure others indexes = record {
+  means = (
     refl,
     refl,
     refl,
     omega arith,
-    known_never _ _ _ _ _ all_spans_is
-        (λ indexes trees misfit. true≢false misfit) indexes,
+    known_never _ _ _ _ _ _ (all_volumes_is others indexes) (λ trees misfit. true≢false misfit),
   );
-  unlisted = λ indexes. refl;
+  unlisted = refl;
+}
+
+pub all_spans_sure : IsSureWith Span all_spans_text
+unfolding understood everything
+all_spans_sure others indexes = record {
+  means = (
+    refl,
+    refl,
+    refl,
+    omega arith,
+    known_never _ _ _ _ _ _ (all_spans_is others indexes) (λ trees misfit. true≢false misfit),
+  );
+  unlisted = refl;
 }

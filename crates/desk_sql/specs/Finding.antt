@@ -17,17 +17,17 @@ use Rattle.sqlite.specs.Store.{Ghosts}
 use Rattle.sqlite.specs.State.{HasCleanDisk}
 use Rattle.sqlite.specs.Held.{Held, state}
 use Rattle.sqlite.specs.Effect.{Database}
-use Rattle.desk_sql.specs.declared.opening.numbers.DeskTable.{DeskTable}
-use Rattle.desk_sql.specs.declared.opening.numbers.DeskTable.TheVariants.{Operator, Plan, Volume, Span}
-use Rattle.desk_sql.specs.Schema.{blank_schema, desk_schema, table_schema, column_of, table_of, span_first}
+use Rattle.desk_sql.specs.declared.opening.finding.Made.{Made}
+use Rattle.desk_sql.specs.declared.opening.finding.Made.TheVariants.{Nothing, Operators, Plans, Volumes, Spans, All}
+use Rattle.desk_sql.specs.Schema.{schema_of, column_of, table_of, span_first}
 
 -- what is shown, if it means something, is so
 abbrev pub Holds : {S : Type 0} → Ghosts S → Held S → (Database → Type 0) → Type 0
 Holds g h Is = HasCleanDisk (state g h) → IsTrue (state g h).is_open → Is (state g h).now
 
--- some tables or other objects, and not those of a desk, with the index or without it
+-- other tables, indexes or views than those of a desk, or not in its order
 abbrev pub HasOthers : Database → Type 0
-HasOthers db = (db.schema ≢ blank_schema) × ((db.schema ≢ desk_schema) × (db.schema ≢ table_schema))
+HasOthers db = (made : Made) → db.schema ≢ schema_of made
 
 -- ---- rowids
 
@@ -47,13 +47,6 @@ next_above last Null = None
 next_above last (Real x) = None
 next_above last (Text t) = None
 next_above last (Blob b) = None
-
--- the tree that has the rows of a table
-abbrev pub tree_of : DeskTable → ℕ
-tree_of Operator = 0
-tree_of Plan = 2
-tree_of Volume = 4
-tree_of Span = 6
 
 -- ---- the parts of a schema
 
@@ -103,12 +96,14 @@ volume_index = key_index (codes "sqlite_autoindex_volume_1") 4 (1 ∷ 2 ∷ 3 �
 unfoldable pub span_index : Index
 span_index = key_index (codes "sqlite_autoindex_span_1") 6 (1 ∷ 2 ∷ 3 ∷ 4 ∷ [])
 
--- the indexes of the keys
-abbrev pub key_indexes : List Index
-key_indexes = operator_index ∷ plan_index ∷ volume_index ∷ span_index ∷ []
-
 unfoldable pub first_index : Index
 first_index = record span_first { tree = 8 }
 
-abbrev pub desk_indexes : List Index
-desk_indexes = operator_index ∷ plan_index ∷ volume_index ∷ span_index ∷ first_index ∷ []
+-- the indexes, when the tables and the index are made so far
+abbrev pub indexes_of : Made → List Index
+indexes_of Nothing = []
+indexes_of Operators = operator_index ∷ []
+indexes_of Plans = operator_index ∷ plan_index ∷ []
+indexes_of Volumes = operator_index ∷ plan_index ∷ volume_index ∷ []
+indexes_of Spans = operator_index ∷ plan_index ∷ volume_index ∷ span_index ∷ []
+indexes_of All = operator_index ∷ plan_index ∷ volume_index ∷ span_index ∷ first_index ∷ []

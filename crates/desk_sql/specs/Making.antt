@@ -1,47 +1,60 @@
--- How the tables are made, one after the other.
-use Rattle.std.specs.Prelude.{◌≡◌, IsTrue, []}
-use Rattle.std.specs.List.{AllByRecursion}
-use Rattle.sqlite.specs.Schema.{Schema}
-use Rattle.sqlite.specs.Table.{Table}
-use Rattle.sqlite.specs.Effect.{Database}
+-- How the tables and the index are made, one after the other.
+use Rattle.std.specs.Prelude.{◌≡◌, ◌⊎◌, IsTrue, ℕ}
+use Rattle.sqlite.specs.Tree.{Trees}
+use Rattle.sqlite.specs.Effect.{IsDatabase}
 use Rattle.sqlite.specs.Store.{Ghosts}
 use Rattle.sqlite.specs.State.{HasCleanDisk}
 use Rattle.sqlite.specs.Held.{Held, state}
-use Rattle.sqlite_catalog.specs.Change.{created}
-use Rattle.desk_sql.specs.Schema.{blank_schema, operator_table, plan_table, volume_table}
-use Rattle.desk_sql.specs.Rows.{Tables}
+use Rattle.desk_sql.specs.Schema.{desk_schema}
+use Rattle.desk_sql.specs.declared.opening.finding.Made.{Made}
+use Rattle.desk_sql.specs.declared.opening.finding.Made.TheVariants.{Nothing, Operators, Plans, Volumes, Spans, All}
+use Rattle.desk_sql.specs.Rows.{IsDesk, IsMadeTo, tables_of, tables_at}
 
-abbrev pub first_schema : Schema
-first_schema = created blank_schema operator_table
+-- how many tables and indexes are still to be made
+abbrev pub left_to_make : Made → ℕ
+left_to_make Nothing = 5
+left_to_make Operators = 4
+left_to_make Plans = 3
+left_to_make Volumes = 2
+left_to_make Spans = 1
+left_to_make All = 0
 
-abbrev pub second_schema : Schema
-second_schema = created first_schema plan_table
-
-abbrev pub third_schema : Schema
-third_schema = created second_schema volume_table
-
--- these tables, with no row
-pub record HasEmpty (schema : Schema) (db : Database) : Type 0 where
-  pub schema_is : db.schema ≡ schema
-  pub empty : AllByRecursion (λ (t : Table). db.trees t.tree ≡ []) schema.tables
-
-abbrev pub no_rows : Tables
-no_rows = record { operators = []; plans = []; volumes = []; spans = [] }
-
-abbrev pub AreEmpty : Tables → Tables → Type 0
-AreEmpty old new = new ≡ no_rows
-
-abbrev pub AreSame : Tables → Tables → Type 0
-AreSame old new = new ≡ old
-
--- what is shown has these tables alone
-abbrev pub IsAt : {S : Type 0} → Ghosts S → Schema → Held S → Type 0
-IsAt g schema h = HasCleanDisk (state g h) → IsTrue (state g h).is_open → HasEmpty schema (state g h).now
-
--- within a transaction, which goes on, a table was made
-pub record Grows {S : Type 0} (g : Ghosts S) (old new : Held S) (schema : Schema) : Type 0 where
+-- within a transaction, which goes on, what is made grew so, and the rows that there were stayed
+pub record Grows {S : Type 0} (g : Ghosts S) (made next : Made) (old new : Held S) : Type 0 where
   pub was_open : IsTrue (state g old).is_open
   pub is_open : IsTrue (state g new).is_open
   pub begun : IsTrue new.in_transaction
   pub committed : (state g new).committed ≡ (state g old).committed
-  pub has : HasEmpty schema (state g new).now
+  pub has : IsMadeTo next (state g new).now
+  pub sound : IsDatabase (state g new).now
+  pub same : tables_at next (state g new).now.trees ≡ tables_at made (state g old).now.trees
+
+-- within a transaction, which goes on, all was made that was missing, and the rows that there were stayed
+pub record Finishes {S : Type 0} (g : Ghosts S) (made : Made) (old new : Held S) : Type 0 where
+  pub was_open : IsTrue (state g old).is_open
+  pub is_open : IsTrue (state g new).is_open
+  pub begun : IsTrue new.in_transaction
+  pub committed : (state g new).committed ≡ (state g old).committed
+  pub desk : IsDesk (state g new).now
+  pub sound : IsDatabase (state g new).now
+  pub same : tables_of (state g new).now.trees ≡ tables_at made (state g old).now.trees
+
+-- all was made that was missing, and that was committed; the rows that there were stayed
+pub record Completes {S : Type 0} (g : Ghosts S) (made : Made) (old new : Held S) : Type 0 where
+  pub was_open : IsTrue (state g old).is_open
+  pub is_open : IsTrue (state g new).is_open
+  pub settled : (state g new).now ≡ (state g new).committed
+  pub desk : IsDesk (state g new).now
+  pub same : tables_of (state g new).now.trees ≡ tables_at made (state g old).now.trees
+
+-- a desk's trees, which list and obey its schema, with the rows that there were
+pub record IsCompleted {S : Type 0} (g : Ghosts S) (made : Made) (old : Held S) (db : Trees) : Type 0 where
+  pub was_open : IsTrue (state g old).is_open
+  pub desk : IsDesk (record { schema = desk_schema; trees = db })
+  pub sound : IsDatabase (record { schema = desk_schema; trees = db })
+  pub same : tables_of db ≡ tables_at made (state g old).now.trees
+
+-- a crash leaves what it could leave before, or all made
+abbrev pub MayComplete : {S : Type 0} → Ghosts S → Made → Held S → Held S → Type 0
+MayComplete g made old new = HasCleanDisk (state g new) → (db : Trees)
+    → (state g new).may_leave db → (state g old).may_leave db ⊎ IsCompleted g made old db

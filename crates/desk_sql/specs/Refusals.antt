@@ -15,26 +15,29 @@ use Rattle.sqlite_schema.specs.declared.command.Command.TheVariants.{Select}
 use Rattle.sqlite_schema.specs.Program.{lets_of}
 use Rattle.sqlite.specs.Store.{Ghosts}
 use Rattle.sqlite.specs.Held.{Held, state}
-use Rattle.sqlite_schema.specs.declared.schema.Index.{Index}
-use Rattle.desk_sql.specs.Schema.{desk_schema, tables_with, HasTables}
-use Rattle.desk_sql.specs.Rows.{IsLegible}
+use Rattle.sqlite.specs.Schema.{Schema}
+use Rattle.desk_sql.specs.declared.opening.finding.Made.{Made}
+use Rattle.desk_sql.specs.declared.opening.numbers.DeskTable.{DeskTable}
+use Rattle.desk_sql.specs.Schema.{desk_schema, schema_of, tree_of}
+use Rattle.desk_sql.specs.Rows.{AreNumbered, IsMadeTo}
 
--- what a command that reads answers with in a desk's tables, whatever their indexes, if it is refused
-abbrev pub NeverRefuses : Command → Type 0
-NeverRefuses command =
-    (limit : Option ℕ) (db : Database) (e : Error) → db.schema ≡ tables_with db.schema.indexes →
+-- what a command that reads answers with under a schema, if it is refused
+abbrev pub NeverRefuses : Schema → Command → Type 0
+NeverRefuses schema command =
+    (limit : Option ℕ) (db : Database) (e : Error) → db.schema ≡ schema →
     RefusesToRead limit command db [] e → (e ≡ SqliteFailure code.OperationInterrupted) × IsSome limit
 
 -- one whole statement with no parameters, which shows rows of the tables, whatever they have
-abbrev pub IsSureIn : List ℕ → Result Compiled CompileError → Type 0
-IsSureIn text (Ok c) =
-    (c.returning ≡ None) × (c.formats ≡ []) × (c.names ≡ []) × (length text ≤ c.tail) × NeverRefuses c.command
-IsSureIn text (Err e) = ⊥
+abbrev pub IsSureIn : Schema → List ℕ → Result Compiled CompileError → Type 0
+IsSureIn schema text (Ok c) =
+    (c.returning ≡ None) × (c.formats ≡ []) × (c.names ≡ []) × (length text ≤ c.tail)
+    × NeverRefuses schema c.command
+IsSureIn schema text (Err e) = ⊥
 
--- a query of a desk's tables that only memory, the disk and a limit on steps refuse
-pub record IsSure (text : List ℕ) : Type 0 where
-  pub means : (indexes : List Index) → IsSureIn text (understood (tables_with indexes) text)
-  pub unlisted : (indexes : List Index) → reads_listing (tables_with indexes) text ≡ false
+-- a query under a schema that only memory, the disk and a limit on steps refuse
+pub record IsSure (schema : Schema) (text : List ℕ) : Type 0 where
+  pub means : IsSureIn schema text (understood schema text)
+  pub unlisted : reads_listing schema text ≡ false
 
 -- ---- queries with parameters
 
@@ -71,10 +74,11 @@ pub record IsSureGiven (text : List ℕ) (params : Row) : Type 0 where
 pub record IsSureFor {Given : Type 0} (text : List ℕ) (params : Given → Row) : Type 0 where
   pub sure : (given : Given) → IsSureGiven text (params given)
 
--- a desk's tables, but in one of them a rowid is no whole number, or comes twice
+-- a desk's tables, so far as they are made, but in one of them a rowid is no whole number, or comes twice
 pub record IsMisnumbered (db : Database) : Type 0 where
-  pub schema : HasTables db
-  pub unsound : ¬ IsLegible db
+  pub made : Made
+  pub schema : db.schema ≡ schema_of made
+  pub unsound : ¬ IsMadeTo made db
 
 module _ {S : Type 0} (g : Ghosts S) (old new : Held S) where
   abbrev pub HasDiskFailed : Type 0
@@ -87,7 +91,12 @@ module _ {S : Type 0} (g : Ghosts S) (old new : Held S) where
   abbrev pub IsRefusal : Error → Type 0
   IsRefusal e = (e ≡ SqliteFailure code.OutOfMemory) ⊎ (HasDiskFailed ⊎ HasNoSteps e)
 
-  -- that, or the rowids are not those of a sound desk
+  -- that, or the rowids of the table are not those of a sound one
+  abbrev pub IsUnnumbered : DeskTable → Error → Type 0
+  IsUnnumbered table e = IsRefusal e ⊎ ((e ≡ SqliteFailure code.DatabaseCorrupt)
+      × (¬ AreNumbered ((state g old).now.trees (tree_of table))))
+
+  -- memory, the disk or a limit on steps, or the rowids are not those of a sound desk
   abbrev pub IsUnread : Error → Type 0
   IsUnread e =
       IsRefusal e ⊎ ((e ≡ SqliteFailure code.DatabaseCorrupt) × IsMisnumbered (state g old).now)

@@ -11,7 +11,10 @@ use Rattle.sqlite.specs.Order.{Row, column, value_cmp}
 use Rattle.sqlite.specs.Tree.{Trees, rowid, IsAscending}
 use Rattle.sqlite.specs.View.{is_int}
 use Rattle.sqlite.specs.Effect.{Database}
-use Rattle.desk_sql.specs.Schema.{desk_schema, table_schema, HasTables}
+use Rattle.desk_sql.specs.declared.opening.finding.Made.{Made}
+use Rattle.desk_sql.specs.declared.opening.finding.Made.TheVariants.{Nothing, Operators, Plans, Volumes, Spans, All}
+use Rattle.desk_sql.specs.declared.opening.numbers.DeskTable.{DeskTable}
+use Rattle.desk_sql.specs.Schema.{desk_schema, schema_of, tree_of, has_table}
 use Rattle.desk_sql.specs.declared.reading.rivals.Reach.{Reach}
 
 -- ---- what a row holds
@@ -68,6 +71,19 @@ tables_of db = record {
   volumes = map (columns 8) (db 4);
   spans = map (columns 10) (db 6);
 }
+
+abbrev pub no_rows : Tables
+no_rows = record { operators = []; plans = []; volumes = []; spans = [] }
+
+-- the rows of what is made so far; a table that isn't made has none
+abbrev pub tables_at : Made → Trees → Tables
+tables_at Nothing db = no_rows
+tables_at Operators db = record no_rows { operators = map (columns 2) (db 0) }
+tables_at Plans db =
+    record no_rows { operators = map (columns 2) (db 0); plans = map (columns 5) (db 2) }
+tables_at Volumes db = record (tables_of db) { spans = [] }
+tables_at Spans db = tables_of db
+tables_at All db = tables_of db
 
 -- ---- changes of the tables
 
@@ -212,19 +228,12 @@ pub record IsDesk (db : Database) : Type 0 where
   pub volumes : AreNumbered (db.trees 4)
   pub spans : AreNumbered (db.trees 6)
 
--- the rows of all four tables
-pub record AreAllNumbered (trees : Trees) : Type 0 where
-  pub operators : AreNumbered (trees 0)
-  pub plans : AreNumbered (trees 2)
-  pub volumes : AreNumbered (trees 4)
-  pub spans : AreNumbered (trees 6)
+-- the rows of each table that is made so far
+abbrev pub AreNumberedTo : Made → Trees → Type 0
+AreNumberedTo made trees =
+    (table : DeskTable) → has_table made table ≡ true → AreNumbered (trees (tree_of table))
 
--- a database with the desk's tables, whose index may be missing
-pub record IsLegible (db : Database) : Type 0 where
-  pub schema : HasTables db
-  pub rows : AreAllNumbered db.trees
-
--- a database with the desk's tables, whose index is missing
-pub record IsUnindexed (db : Database) : Type 0 where
-  pub schema : db.schema ≡ table_schema
-  pub rows : AreAllNumbered db.trees
+-- a database with what is made so far, and nothing else
+pub record IsMadeTo (made : Made) (db : Database) : Type 0 where
+  pub schema : db.schema ≡ schema_of made
+  pub rows : AreNumberedTo made db.trees

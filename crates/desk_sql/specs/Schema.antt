@@ -1,5 +1,5 @@
 -- The schema of a desk's database, version 1.
-use Rattle.std.specs.Prelude.{true, false, [], ◌∷◌, List, ℕ, None, codes, ◌≡◌, ◌⊎◌}
+use Rattle.std.specs.Prelude.{true, false, [], ◌∷◌, List, ℕ, Bool, None, codes, ◌≡◌}
 use Rattle.sqlite.specs.Collation.TheVariants.{Binary}
 use Rattle.sqlite.specs.declared.types.Value.TheVariants.{Null}
 use Rattle.sqlite.specs.Table.{Table}
@@ -13,6 +13,10 @@ use Rattle.sqlite_schema.specs.declared.schema.Reference.{Reference}
 use Rattle.sqlite_value.specs.Keys.{plain}
 use Rattle.sqlite_catalog.specs.Change.{created, indexed}
 use Rattle.sqlite.specs.Effect.{Database}
+use Rattle.desk_sql.specs.declared.opening.finding.Made.{Made}
+use Rattle.desk_sql.specs.declared.opening.finding.Made.TheVariants.{Nothing, Operators, Plans, Volumes, Spans, All}
+use Rattle.desk_sql.specs.declared.opening.numbers.DeskTable.{DeskTable}
+use Rattle.desk_sql.specs.declared.opening.numbers.DeskTable.TheVariants as desk
 
 abbrev pub column_of : List ℕ → Kind → Column
 column_of name kind = record {
@@ -94,9 +98,17 @@ blank_schema = record { tables = []; indexes = []; views = [] }
 
 -- the tables made in this order: `operator` is tree 0, `plan` 2, `volume` 4, `span` 6, and their keys'
 -- indexes are the trees between
+abbrev pub operator_schema : Schema
+operator_schema = created blank_schema operator_table
+
+abbrev pub plan_schema : Schema
+plan_schema = created operator_schema plan_table
+
+abbrev pub volume_schema : Schema
+volume_schema = created plan_schema volume_table
+
 abbrev pub table_schema : Schema
-table_schema = created (created
-    (created (created blank_schema operator_table) plan_table) volume_table) span_table
+table_schema = created volume_schema span_table
 
 -- spans by their leaves, with all that the query of rivals reads
 abbrev pub span_first : Index
@@ -117,10 +129,58 @@ span_made = record span_table { tree = 6 }
 abbrev pub desk_schema : Schema
 desk_schema = indexed table_schema span_made span_first
 
--- the tables, with any indexes
-abbrev pub tables_with : List Index → Schema
-tables_with indexes = record { tables = table_schema.tables; indexes = indexes; views = [] }
+-- what there is when the tables and the index are made so far
+abbrev pub schema_of : Made → Schema
+schema_of Nothing = blank_schema
+schema_of Operators = operator_schema
+schema_of Plans = plan_schema
+schema_of Volumes = volume_schema
+schema_of Spans = table_schema
+schema_of All = desk_schema
 
--- the tables, with the index or without it
-abbrev pub HasTables : Database → Type 0
-HasTables db = (db.schema ≡ desk_schema) ⊎ (db.schema ≡ table_schema)
+-- ---- the tables as they stand among others
+
+abbrev pub operator_made : Table
+operator_made = record operator_table { tree = 0 }
+
+abbrev pub plan_made : Table
+plan_made = record plan_table { tree = 2 }
+
+abbrev pub volume_made : Table
+volume_made = record volume_table { tree = 4 }
+
+-- a table, those that are made before it, and then others
+abbrev pub tables_to : DeskTable → List Table → List Table
+tables_to desk.Operator others = operator_made ∷ others
+tables_to desk.Plan others = operator_made ∷ plan_made ∷ others
+tables_to desk.Volume others = operator_made ∷ plan_made ∷ volume_made ∷ others
+tables_to desk.Span others = operator_made ∷ plan_made ∷ volume_made ∷ span_made ∷ others
+
+-- the tree that has the rows of a table
+abbrev pub tree_of : DeskTable → ℕ
+tree_of desk.Operator = 0
+tree_of desk.Plan = 2
+tree_of desk.Volume = 4
+tree_of desk.Span = 6
+
+-- whether there is the table when the tables are made so far
+abbrev pub has_table : Made → DeskTable → Bool
+has_table Nothing _ = false
+has_table Operators desk.Operator = true
+has_table Operators _ = false
+has_table Plans desk.Operator = true
+has_table Plans desk.Plan = true
+has_table Plans _ = false
+has_table Volumes desk.Span = false
+has_table Volumes _ = true
+has_table Spans _ = true
+has_table All _ = true
+
+-- these, with any indexes
+abbrev pub schema_to : DeskTable → List Table → List Index → Schema
+schema_to table others indexes = record { tables = tables_to table others; indexes = indexes; views = [] }
+
+-- a database with the table, which is made in the desk's order
+pub record HasTable (table : DeskTable) (db : Database) : Type 0 where
+  pub others : List Table
+  pub schema : db.schema ≡ schema_to table others db.schema.indexes

@@ -2,7 +2,6 @@
 use Rattle.std.specs.Prelude.{◌≡◌, false, ℕ, pos, List, [], ◌∷◌, length, map, Option, None, Result, Ok, Err}
 use Rattle.sqlite.specs.declared.types.Value.TheVariants.{Int, Text}
 use Rattle.sqlite.specs.Order.{Row}
-use Rattle.sqlite.specs.Schema.{Schema}
 use Rattle.sqlite.specs.Tree.{Trees, rowid}
 use Rattle.sqlite.specs.declared.run.Mode.{Mode}
 use Rattle.sqlite.specs.Effect.{Database}
@@ -16,10 +15,11 @@ use Rattle.sqlite_schema.specs.declared.schema.Keys.TheVariants.{Enforced}
 use Rattle.sqlite_resolve.specs.declared.compiled.Compiled.{Compiled}
 use Rattle.sqlite_resolve.specs.declared.error.CompileError.{CompileError}
 use Rattle.desk_sql.specs.declared.changing.writing.PlanRecord.{PlanRecord}
-use Rattle.desk_sql.specs.Schema.{desk_schema, table_schema, HasTables}
-use Rattle.desk_sql.specs.Rows.{IsDesk, IsUnindexed, Tables, tables_of, operator_row, plan_row, Lists}
+use Rattle.desk_sql.specs.declared.opening.finding.Made.{Made}
+use Rattle.desk_sql.specs.declared.opening.numbers.DeskTable.{DeskTable}
+use Rattle.desk_sql.specs.Schema.{desk_schema, schema_of, HasTable}
+use Rattle.desk_sql.specs.Rows.{IsDesk, IsMadeTo, Tables, tables_of, tables_at, operator_row, plan_row, Lists}
 use Rattle.desk_sql.specs.Refusals.{IsSure}
-use Rattle.desk_sql.specs.Making.{HasEmpty, AreSame}
 use Rattle.desk_sql.specs.Rivals.{MayRead}
 
 -- ---- what a text is given, as its parameters in turn
@@ -70,12 +70,14 @@ pub record Selects {Given : Type 0} (text : List ℕ) (params : Given → Row) (
         → MayRead (understood desk_schema text) db (params given) shown
         → Lists cells (wanted given (tables_of db.trees)) shown
 
--- a text that only memory, the disk and a limit on steps refuse, and that shows just these rows of a desk's
--- tables, with the index or without it, in the order of these columns
-pub record SelectsAll (text : List ℕ) (cells : List ℕ) (wanted : Trees → List Row) : Type 0 where
-  pub sure : IsSure text
-  pub rows : (db : Database) (shown : List Row) → HasTables db
-      → MayRead (understood db.schema text) db [] shown → Lists cells (wanted db.trees) shown
+-- a text that only memory, the disk and a limit on steps refuse, and that shows just these rows wherever the
+-- table is made, in the order of these columns
+pub record SelectsAll (table : DeskTable) (text : List ℕ) (cells : List ℕ) (wanted : Trees → List Row)
+    : Type 0
+  where
+    pub sure : (db : Database) → HasTable table db → IsSure db.schema text
+    pub rows : (db : Database) (shown : List Row) → HasTable table db
+        → MayRead (understood db.schema text) db [] shown → Lists cells (wanted db.trees) shown
 
 -- the rowids of the rows of a tree
 abbrev pub rowids : List Row → List Row
@@ -112,17 +114,10 @@ pub record Changes {Given : Type 0} (text : List ℕ) (params : Given → Row)
         → MayWrite text (understood desk_schema text) (params given) limit old new
         → IsDesk new × Change given (tables_of old.trees) (tables_of new.trees)
 
--- a text that shows nothing, and makes of the empty tables of one schema those of the next
-pub record Extends (text : List ℕ) (schema next : Schema) : Type 0 where
-  pub plain : IsPlain (understood schema text)
-  pub writes : IsWriting (understood schema text)
-  pub tables : (limit : Option ℕ) (old new : Database) → HasEmpty schema old
-      → MayWrite text (understood schema text) [] limit old new → HasEmpty next new
-
--- a text that shows nothing, and makes the index of a desk's tables that lack it
-pub record AddsIndex (text : List ℕ) : Type 0 where
-  pub plain : IsPlain (understood table_schema text)
-  pub writes : IsWriting (understood table_schema text)
-  pub tables : (limit : Option ℕ) (old new : Database) → IsUnindexed old
-      → MayWrite text (understood table_schema text) [] limit old new
-      → IsDesk new × AreSame (tables_of old.trees) (tables_of new.trees)
+-- a text that shows nothing, and makes what comes next; the rows that there were stay
+pub record Extends (text : List ℕ) (made next : Made) : Type 0 where
+  pub plain : IsPlain (understood (schema_of made) text)
+  pub writes : IsWriting (understood (schema_of made) text)
+  pub tables : (limit : Option ℕ) (old new : Database) → IsMadeTo made old
+      → MayWrite text (understood (schema_of made) text) [] limit old new
+      → IsMadeTo next new × (tables_at next new.trees ≡ tables_at made old.trees)

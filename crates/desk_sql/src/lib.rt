@@ -8,8 +8,9 @@ mod reading;
 
 pub use changing::transactions::{clear_plans, close_plan, is_enrolled, put_operator, put_plan};
 pub use changing::writing::{PlanRecord, SpanRecord, VolumeRecord};
-pub use opening::finding::{Found, find_tables};
-pub use opening::making::{index_tables, make_tables};
+pub use opening::finding::{Made, find_tables};
+pub use opening::making::complete_tables;
+pub use opening::numbers::DeskTable;
 pub use reading::counting::own_count;
 pub use reading::queries::{operator_named, own_plans, plan_of, volumes_of};
 pub use reading::rivals::{Reach, rival_spans};

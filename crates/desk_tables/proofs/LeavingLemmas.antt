@@ -1,5 +1,5 @@
 -- What a crash leaves is read as one content.
-use Rattle.std.proofs.Common.{◌≡◌, ◌⊎◌, inl, inr, Option, Some, None, IsSome, IsTrue, length, refl, sym, ap, subst, ◌∙◌, arith}
+use Rattle.std.proofs.Common.{◌≡◌, ◌⊎◌, inl, inr, Option, Some, None, IsSome, IsTrue, length, refl, sym, ap, subst, ◌∙◌, arith, true≢false}
 use Rattle.std.specs.Coded.{Coded-set}
 use Rattle.std.proofs.Math.Logic.{∥∥₁_elim, ∥∥₁_map}
 use Rattle.sqlite_trees.specs.declared.store.Store.{Ghosts}
@@ -12,8 +12,10 @@ use Rattle.sqlite.specs.State.{HasCleanDisk}
 use Rattle.sqlite.specs.Held.{Held, state}
 use Rattle.sqlite.specs.Files.{over_files, file_state}
 use Rattle.sqlite.proofs.Theorems.{next_run}
-use Rattle.desk_sql.specs.Schema.{blank_schema, table_schema, desk_schema}
-use Rattle.desk_sql.specs.Rows.{IsDesk, Tables, tables_of}
+use Rattle.desk_sql.specs.declared.opening.finding.Made.{Made}
+use Rattle.desk_sql.specs.declared.opening.finding.Made.TheVariants.{Nothing, Operators, Plans, Volumes, Spans, All}
+use Rattle.desk_sql.specs.Schema.{blank_schema, desk_schema, schema_of}
+use Rattle.desk_sql.specs.Rows.{IsDesk, IsMadeTo, Tables, tables_of, tables_at}
 use Rattle.desk_store.specs.World.{World}
 use Rattle.desk_store.specs.Crashes.{LeavesOnly, LeavesOldOr}
 use Rattle.desk_store.specs.contracts.list.ListStore as list
@@ -22,8 +24,9 @@ use Rattle.desk_tables.specs.declared.opening.open.OpenFault.TheVariants.{OutOfM
 use Rattle.desk_tables.specs.Tables.{AreTables}
 use Rattle.desk_tables.specs.Content.{IsContent}
 use Rattle.desk_tables.specs.Store.{IsStanding, Stands}
+use Rattle.desk_tables.specs.Opening.{IsPart, AreNoContent}
 use Rattle.desk_tables.specs.Leaving.{HasWorld, ReadsAs, MayLeave, MayHave, IsUntaken, IsFoundAfter, BeginsAfter, IsRefusedAfter}
-use Rattle.desk_tables.proofs.OpeningLemmas.{desk_legible}
+use Rattle.desk_tables.proofs.OpeningLemmas.{made_desk}
 
 -- the law `one_content`
 abbrev pub HaveOneContent : Type 0
@@ -72,26 +75,34 @@ module _ (law : HaveOneContent) where
 
 -- ---- over files
 
--- no table, or a desk's without their index, are not a desk's schema
-blank_is_no_desk : blank_schema ≡ desk_schema → ⊥
-blank_is_no_desk e =
-    let tables : 0 ≡ 4 = ap (λ s. length s.tables) e in omega (arith, tables)
+-- part of the tables and the index is not a desk's schema
+only_all : (made : Made) → schema_of made ≡ desk_schema → made ≡ All
+only_all Nothing e = let tables : 0 ≡ 4 = ap (λ s. length s.tables) e in absurd (omega (arith, tables))
+only_all Operators e = let tables : 1 ≡ 4 = ap (λ s. length s.tables) e in absurd (omega (arith, tables))
+only_all Plans e = let tables : 2 ≡ 4 = ap (λ s. length s.tables) e in absurd (omega (arith, tables))
+only_all Volumes e = let tables : 3 ≡ 4 = ap (λ s. length s.tables) e in absurd (omega (arith, tables))
+only_all Spans e = let indexes : 4 ≡ 5 = ap (λ s. length s.indexes) e in absurd (omega (arith, indexes))
+only_all All e = refl
 
-bare_is_no_desk : table_schema ≡ desk_schema → ⊥
-bare_is_no_desk e =
-    let indexes : 4 ≡ 5 = ap (λ s. length s.indexes) e in omega (arith, indexes)
+-- a database with no table
+nothing_made : (db : Database) → db.schema ≡ blank_schema → IsPart Nothing db
+nothing_made db blank = record {
+  missing = λ e. cc;
+  part = record { schema = blank; rows = λ table there. absurd (true≢false (sym there)) };
+}
 
 -- what is taken for no desk's is read as none
 untaken : (db : Database) → IsDatabase db → IsUntaken db → ReadsAs db.trees None
 untaken db sound un w has =
     let same : db.schema ≡ desk_schema = lists_once _ db.schema desk_schema sound.lists has.sound.lists in
     elim un [
-      | inl (inl blank) ↦ blank_is_no_desk (sym blank.schema_is ∙ same)
-      | inl (inr (inl bare)) ↦ bare_is_no_desk (sym bare.schema ∙ same)
-      | inl (inr (inr numbers)) ↦ numbers.unsound (desk_legible db
-          (subst (λ schema. IsDesk (record { schema = schema; trees = db.trees })) (sym same) has.desk))
-      | inr (inl others) ↦ others.1.0 same
-      | inr (inr none) ↦ none.none w has.content has.tables
+      | inl (inl (made, part)) ↦ part.missing (only_all made (sym part.part.schema ∙ same))
+      | inl (inr numbers) ↦ numbers.unsound (subst (λ made. IsMadeTo made db)
+          (sym (only_all numbers.made (sym numbers.schema ∙ same))) (made_desk db
+          (subst (λ schema. IsDesk (record { schema = schema; trees = db.trees })) (sym same) has.desk)))
+      | inr (inl others) ↦ others All same
+      | inr (inr none) ↦ subst (λ made. AreNoContent (tables_at made db.trees))
+          (only_all none.made (sym none.desk.schema ∙ same)) none.none w has.content has.tables
     ]
 
 -- what leaves a content, or one of two, leaves nothing that is no desk's
@@ -146,10 +157,14 @@ module _ {D E : Type 0} {g : disk.Ghosts D} {k : disk.Ghosts E} (last : Held (Fi
           first = it.opens.opened it.clean;
         } in
         elim (it.opens.begins it.clean it.live) [
-          | inl blank ↦ absurd (never_untaken it.opens.found after (inl (inl blank.blank)))
+          | inl blank ↦ absurd (never_untaken it.opens.found after (inl (inl (
+            Nothing,
+            nothing_made
+                (file_state it.opens.found).now blank.blank,
+          ))))
           | inr (inl was) ↦ found_again it.opens.found w after was.standing
-          | inr (inr bare) ↦ absurd (never_untaken it.opens.found after
-              (inl (inr (inl bare.unindexed))))
+          | inr (inr part) ↦ absurd (never_untaken it.opens.found after
+              (inl (inl (part.made, part.part))))
         ]
 
     pub never_refused : IsRefusedAfter last k → ⊥

@@ -1,6 +1,7 @@
 -- What a store begins with, from what was found.
-use Rattle.std.proofs.Common.{◌≡◌, ◌≢◌, ◌≤◌, Bool, true, false, if◌then◌else◌, ◌∙◌, sym, ap, OnOk, OnErr, subst, arith, inl, inr, IsTrue, Result, Ok, Err, IfOk, IfErr}
+use Rattle.std.proofs.Common.{◌≡◌, ◌≢◌, ◌≤◌, Bool, true, false, if◌then◌else◌, ◌∙◌, sym, ap, refl, OnOk, OnErr, subst, arith, inl, inr, IsTrue, Result, Ok, Err, IfOk, IfErr}
 use Rattle.std.specs.Prelude.{IsSome}
+use Rattle.std.specs.Result.{IsErrAnd}
 use Rattle.sqlite.specs.declared.error.Error.{Error}
 use Rattle.sqlite.specs.declared.error.Error.TheVariants.{SqliteFailure}
 use Rattle.sqlite.specs.declared.error.ErrorCode.TheVariants as code
@@ -9,18 +10,22 @@ use Rattle.sqlite_trees.specs.View.{doubt}
 use Rattle.sqlite.specs.State.{HasCleanDisk}
 use Rattle.sqlite.specs.Held.{Held, state}
 use Rattle.sqlite.specs.Effect.{Database}
-use Rattle.desk_sql.specs.Rows.{IsDesk, IsLegible, IsUnindexed, Tables, tables_of}
-use Rattle.desk_sql.specs.Effects.{IsKept, IsReady}
+use Rattle.desk_sql.specs.declared.opening.finding.Made.{Made}
+use Rattle.desk_sql.specs.declared.opening.finding.Made.TheVariants.{Nothing, Operators, Plans, Volumes, Spans, All}
+use Rattle.desk_sql.specs.declared.opening.numbers.DeskTable.TheVariants as desk
+use Rattle.desk_sql.specs.Schema.{tree_of, has_table}
+use Rattle.desk_sql.specs.Rows.{IsDesk, IsMadeTo, AreNumbered, Tables, tables_of, tables_at}
+use Rattle.desk_sql.specs.Effects.{IsKept}
 use Rattle.desk_sql.specs.Frames.{OnlyReads}
 use Rattle.desk_sql.specs.Finding.{Holds}
-use Rattle.desk_sql.specs.Refusals.{IsRefusal}
+use Rattle.desk_sql.specs.Refusals.{IsRefusal, IsUnread}
 use Rattle.desk_store.specs.World.{World}
 use Rattle.desk_tables.specs.declared.opening.open.OpenFault.{OpenFault}
 use Rattle.desk_tables.specs.declared.opening.open.OpenFault.TheVariants.{NotADesk, OutOfMemory, Store}
 use Rattle.desk_tables.specs.Content.{IsContent}
 use Rattle.desk_tables.specs.Store.{Stands}
 use Rattle.desk_tables.specs.Tables.{AreTables}
-use Rattle.desk_tables.specs.Opening.{AreSortedByKey, AreRows, IsContentOf, AreNoContent, WasIndexed, BeginsWith, ShowsNoDesk, IsNoDesk, HasFailed, BlamesReading, is_memory, open_fault_of}
+use Rattle.desk_tables.specs.Opening.{AreSortedByKey, AreRows, IsContentOf, AreNoContent, IsPart, WasCompleted, BeginsWith, ShowsNoDesk, IsNoDesk, HasFailed, BlamesReading, BlamesDatabase, is_memory, open_fault_of}
 use Rattle.desk_tables.proofs.KeyOrderLemmas.{are_rows, are_tables}
 
 -- no error of SQLite says that there is no desk
@@ -31,81 +36,138 @@ never_no_desk e is = by (is_memory e) is
     by true is = cc
     by false is = cc
 
+-- what is made as a whole is a desk
+pub desk_made : (db : Database) → IsMadeTo All db → IsDesk db
+desk_made db made = record {
+  schema = made.schema;
+  operators = made.rows desk.Operator refl;
+  plans = made.rows desk.Plan refl;
+  volumes = made.rows desk.Volume refl;
+  spans = made.rows desk.Span refl;
+}
+
+-- and a desk is made as a whole
+pub made_desk : (db : Database) → IsDesk db → IsMadeTo All db
+made_desk db is = record {
+  schema = is.schema;
+  rows = λ table there. elim table as (λ t. AreNumbered (db.trees (tree_of t))) [
+    | desk.Operator ↦ is.operators
+    | desk.Plan ↦ is.plans
+    | desk.Volume ↦ is.volumes
+    | desk.Span ↦ is.spans
+  ];
+}
+
 module _ {S : Type 0} (g : Ghosts S) where
-  -- tables that are legible stay so
-  pub legible_on : (a b : Held S) → Holds g a IsLegible → OnlyReads g a b → Holds g b IsLegible
-  legible_on a b legible reads = λ clean live.
+  -- what is made so far stays
+  pub part_on : (made : Made) (a b : Held S) → Holds g a (IsMadeTo made) → OnlyReads g a b
+      → Holds g b (IsMadeTo made)
+  part_on made a b part reads = λ clean live.
       let before = reads.kept clean live in
-      subst IsLegible (sym before.now) (legible (omega (arith, reads.doubt, clean)) before.was_open)
+      subst (IsMadeTo made) (sym before.now) (part (omega (arith, reads.doubt, clean)) before.was_open)
 
   -- what is read of a desk's tables as a content stands
-  pub found_stands : {V : Type 0} (world : V → World) (r : Result V OpenFault) (a b : Held S) → IsReady g a
-      → OnlyReads g a b
+  pub found_stands : {V : Type 0} (world : V → World) (r : Result V OpenFault) (a b : Held S)
+      → Holds g a (IsMadeTo All) → OnlyReads g a b
       → (HasCleanDisk (state g b) → IfOk r (λ v. IsContentOf (tables_of (state g a).now.trees) (world v)))
       → IfOk r (λ v. Stands g b (world v))
-  found_stands world (Err e) a b ready reads found = tt
-  found_stands world (Ok v) a b ready reads found = record {
+  found_stands world (Err e) a b whole reads found = tt
+  found_stands world (Ok v) a b whole reads found = record {
     settled = reads.mode;
     standing = λ clean live.
         let shows = reads.kept clean live in
         let it = found clean in
         record {
           content = it.content;
-          desk = subst IsDesk (sym shows.now) (ready (omega (arith, reads.doubt, clean)) shows.was_open);
+          desk = subst IsDesk (sym shows.now) (desk_made (state g a).now
+              (whole (omega (arith, reads.doubt, clean)) shows.was_open));
           tables = subst (λ (db : Database). AreTables (tables_of db.trees) (world v)) (sym shows.now)
               it.tables;
         };
   }
 
+  -- what is found as it was left begins so
+  pub begins_found : {V : Type 0} (world : V → World) (r : Result V OpenFault) (a b c : Held S)
+      → IsKept g a b → OnlyReads g b c → IfOk r (λ v. Stands g c (world v))
+      → IfOk r (λ v. BeginsWith g a c (world v))
+  begins_found world (Err e) a b c one two stands = tt
+  begins_found world (Ok v) a b c one two stands = λ clean live.
+      let last = two.kept clean live in
+      let first = one (omega (arith, two.doubt, clean)) last.was_open in
+      let it = stands.standing clean live in
+      let now = last.now ∙ first.now in
+      inr (inl (record {
+        standing = record {
+          content = it.content;
+          desk = subst IsDesk now it.desk;
+          tables = subst (λ (db : Database). AreTables (tables_of db.trees) (world v)) now it.tables;
+        };
+        kept = record {
+          was_open = first.was_open;
+          now = now;
+          committed = last.committed ∙ first.committed;
+        };
+      }))
+
+  -- what a refusal keeps since what was kept
+  pub kept_both : {V : Type 0} (r : Result V OpenFault) (a b c : Held S) → IsKept g a b
+      → OnErr r (IsKept g b c) → doubt (state g b).is_clean ≤ doubt (state g c).is_clean
+      → OnErr r (IsKept g a c)
+  kept_both (Ok v) a b c one two rises = tt
+  kept_both (Err e) a b c one two rises = λ clean live.
+      let last = two clean live in
+      let first = one (omega (arith, rises, clean)) last.was_open in
+      record {
+        was_open = first.was_open;
+        now = last.now ∙ first.now;
+        committed = last.committed ∙ first.committed;
+      }
+
   -- rows of no content are no desk's, also before what was kept
-  none_shown : (a b c : Held S) → IsKept g a b → Holds g b IsLegible → IsKept g b c
+  none_shown : (made : Made) (a b c : Held S) → IsKept g a b → Holds g b (IsMadeTo made) → IsKept g b c
       → doubt (state g b).is_clean ≤ doubt (state g c).is_clean
-      → (HasCleanDisk (state g c) → AreNoContent (tables_of (state g b).now.trees)) → ShowsNoDesk g a c
-  none_shown a b c one legible two rises none = λ clean live.
+      → (HasCleanDisk (state g c) → AreNoContent (tables_at made (state g b).now.trees)) → ShowsNoDesk g a c
+  none_shown made a b c one part two rises none = λ clean live.
       let after = two clean live in
       let was : HasCleanDisk (state g b) = omega (arith, rises, clean) in
       let before = one was after.was_open in
-      subst IsNoDesk before.now (inr (record { desk = legible was after.was_open; none = none clean }))
+      subst IsNoDesk before.now
+      (inr (record { made = made; desk = part was after.was_open; none = none clean }))
 
-  pub none_of : {V : Type 0} (r : Result V OpenFault) (a b c : Held S) → IsKept g a b
-      → Holds g b IsLegible → OnErr r (IsKept g b c) → doubt (state g b).is_clean ≤ doubt (state g c).is_clean
+  pub none_of : {V : Type 0} (made : Made) (r : Result V OpenFault) (a b c : Held S) → IsKept g a b
+      → Holds g b (IsMadeTo made) → OnErr r (IsKept g b c)
+      → doubt (state g b).is_clean ≤ doubt (state g c).is_clean
       → (HasCleanDisk (state g c) → IfErr r (λ e. e ≡ NotADesk
-      → AreNoContent (tables_of (state g b).now.trees)))
+      → AreNoContent (tables_at made (state g b).now.trees)))
       → IfErr r (λ e. e ≡ NotADesk → ShowsNoDesk g a c)
-  none_of (Ok v) a b c one legible two rises none = tt
-  none_of (Err e) a b c one legible two rises none =
-      λ n. none_shown a b c one legible two rises (λ clean. none clean n)
+  none_of made (Ok v) a b c one part two rises none = tt
+  none_of made (Err e) a b c one part two rises none =
+      λ n. none_shown made a b c one part two rises (λ clean. none clean n)
 
-  -- tables that get their index after what was kept got it since before
-  pub begins_indexed : {V : Type 0} (world : V → World) (r : Result V OpenFault) (a b c : Held S)
-      → IsKept g a b → doubt (state g b).is_clean ≤ doubt (state g c).is_clean
+  -- tables that are completed after what was kept were completed since before
+  pub begins_completed : {V : Type 0} (made : Made) (world : V → World) (r : Result V OpenFault)
+      (a b c : Held S) → IsKept g a b → doubt (state g b).is_clean ≤ doubt (state g c).is_clean
       → (HasCleanDisk (state g c) → OnOk r (IsTrue (state g b).is_open))
-      → (HasCleanDisk (state g c) → IfOk r (λ v. WasIndexed g b c (world v)))
+      → (HasCleanDisk (state g c) → IfOk r (λ v. WasCompleted g b c (world v)))
       → IfOk r (λ v. BeginsWith g a c (world v))
-  begins_indexed world (Err e) a b c one rises opened was = tt
-  begins_indexed world (Ok v) a b c one rises opened was = λ clean live.
+  begins_completed made world (Err e) a b c one rises opened was = tt
+  begins_completed made world (Ok v) a b c one rises opened was = λ clean live.
       let before = one (omega (arith, rises, clean)) (opened clean) in
       let it = was clean in
       inr (inr (record {
-        unindexed = subst IsUnindexed before.now it.unindexed;
-        rows = subst (λ (db : Database). IsContentOf (tables_of db.trees) (world v)) before.now it.rows;
-        indexed = it.indexed;
-        same = it.same ∙ ap (λ (db : Database). tables_of db.trees) before.now;
+        made = it.made;
+        part = subst (IsPart it.made) before.now it.part;
+        rows = subst (λ (db : Database). IsContentOf (tables_at it.made db.trees) (world v)) before.now
+            it.rows;
+        whole = it.whole;
+        same = it.same ∙ ap (λ (db : Database). tables_at it.made db.trees) before.now;
       }))
 
-pub desk_legible : (db : Database) → IsDesk db → IsLegible db
-desk_legible db desk = record {
-  schema = inl desk.schema;
-  rows = record {
-    operators = desk.operators;
-    plans = desk.plans;
-    volumes = desk.volumes;
-    spans = desk.spans;
-  };
-}
-
-pub unindexed_legible : (db : Database) → IsUnindexed db → IsLegible db
-unindexed_legible db bare = record { schema = inr bare.schema; rows = bare.rows }
+-- what is said of an error, once it is told on
+pub told_as : {V : Type 0} (P : OpenFault → Type 0) (r : Result V OpenFault) (e : OpenFault)
+    → IsErrAnd r (λ fault. fault ≡ e) → P e → IfErr r P
+told_as P (Ok v) e is p = tt
+told_as P (Err f) e is p = subst P (sym is) p
 
 pub kept_on_err : {V E A : Type 0} (r : Result V E) → A → OnErr r A
 kept_on_err (Ok v) a = tt
@@ -121,6 +183,36 @@ module _ {S : Type 0} (g : Ghosts S) where
       ≡ Store = subst (λ x. open_fault_of x ≡ Store) h told in cc
   failed_if a b c error fewer limit (inr (inl h)) told = inl (omega (arith, h, fewer))
   failed_if a b c error fewer limit (inr (inr h)) told = inr (subst IsSome limit h.1)
+
+  -- what the tables are not found for
+  pub blames_unread : (a b : Held S) (error : Error)
+      → (HasCleanDisk (state g b) → IsTrue (state g b).is_open → IsUnread g a b error)
+      → BlamesDatabase g a b (open_fault_of error)
+  blames_unread a b error why clean live told = elim (why clean live) [
+    | inl refusal ↦ inl (failed_if a a b error (omega arith) refl refusal told)
+    | inr numbers ↦ inr (inr numbers.1)
+  ]
+
+  -- part of the tables was to be completed
+  pub blames_part : (made : Made) (e : OpenFault) (a b c : Held S) → made ≢ All → IsKept g a b
+      → Holds g b (IsMadeTo made) → IsKept g b c
+      → doubt (state g b).is_clean ≤ doubt (state g c).is_clean → BlamesDatabase g a c e
+  blames_part made e a b c missing one part two rises clean live told =
+      let after = two clean live in
+      let was : HasCleanDisk (state g b) = omega (arith, rises, clean) in
+      let before = one was after.was_open in
+      inr (inl (
+        made,
+        subst (IsPart made) before.now
+            (record { missing = missing; part = part was after.was_open }),
+      ))
+
+  pub blames_completing : {V : Type 0} (made : Made) (r : Result V OpenFault) (a b c : Held S)
+      → made ≢ All → IsKept g a b → Holds g b (IsMadeTo made) → OnErr r (IsKept g b c)
+      → doubt (state g b).is_clean ≤ doubt (state g c).is_clean → IfErr r (BlamesDatabase g a c)
+  blames_completing made (Ok v) a b c missing one part two rises = tt
+  blames_completing made (Err e) a b c missing one part two rises =
+      blames_part made e a b c missing one part two rises
 
   pub blames_reading : (a b c : Held S) (error : Error) → (state g a).faults ≤ (state g b).faults
       → b.step_limit ≡ a.step_limit
@@ -150,3 +242,12 @@ module _ (t rows : Tables) {V : Type 0} where
       → IfErr r (λ e. e ≡ NotADesk → AreNoContent t)
   of_none (Ok v) lists none = tt
   of_none (Err e) lists none = λ n. none_there t rows lists (none n)
+
+-- what is made has the operators, unless it is nothing
+pub some_operators : (made : Made) → made ≢ Nothing → has_table made desk.Operator ≡ true
+some_operators Nothing some = absurd (some refl)
+some_operators Operators some = refl
+some_operators Plans some = refl
+some_operators Volumes some = refl
+some_operators Spans some = refl
+some_operators All some = refl

@@ -19,7 +19,9 @@ use Rattle.desk_sql.specs.Rows as sql
 use Rattle.desk_sql.specs.Rows.{Tables, IsDesk, Lists, tables_of}
 use Rattle.desk_sql.specs.Effects.{IsReady, Commits}
 use Rattle.desk_sql.specs.Frames.{OnlyReads}
-use Rattle.desk_sql.specs.Making.{no_rows, AreEmpty}
+use Rattle.desk_sql.specs.Making.{Completes}
+use Rattle.desk_sql.specs.Rows.{no_rows}
+use Rattle.desk_sql.specs.declared.opening.finding.Made.TheVariants.{Nothing}
 use Rattle.desk_store.specs.World.{Listed, World, text_cmp, listed_cmp, ceiling_of}
 use Rattle.desk_rules.specs.Limits.{max_priority}
 use Rattle.desk_store.specs.laws.Order.{is_equal, all_weaker}
@@ -196,13 +198,13 @@ nothing_has_no_rows = record {
 
 -- tables that were made stand for no operators and no plans
 pub made_stands : {S : Type 0} (g : Ghosts S) (old new : Held S) → new.in_transaction ≡ false
-    → (HasCleanDisk (state g new) → Commits g old new AreEmpty) → Stands g new nothing
+    → (HasCleanDisk (state g new) → Completes g Nothing old new) → Stands g new nothing
 made_stands g old new mode done = record {
   settled = mode;
   standing = λ clean live. record {
     content = nothing_is_content;
     desk = (done clean).desk;
-    tables = subst (λ t. AreTables t nothing) (sym (done clean).changed) nothing_has_no_rows;
+    tables = subst (λ t. AreTables t nothing) (sym (done clean).same) nothing_has_no_rows;
   };
 }
 

@@ -1,5 +1,5 @@
 -- What all rows of a desk's tables stand for, and what a store over a connection begins with.
-use Rattle.std.specs.Prelude.{◌≡◌, ◌≤◌, ℕ, ◌⊎◌, Bool, true, false, ◌&&◌, List, [], ◌∷◌, length, map, codes}
+use Rattle.std.specs.Prelude.{◌≡◌, ◌≢◌, ◌≤◌, ℕ, ◌⊎◌, Bool, true, false, ◌&&◌, List, [], ◌∷◌, length, map, codes}
 use Rattle.std.specs.Prelude.{if◌then◌else◌, IsSome, IsTrue}
 use Rattle.std.specs.List.{AllByRecursion}
 use Rattle.std.specs.List.Sorted.{IsStrictlySortedBy}
@@ -18,8 +18,9 @@ use Rattle.sqlite.specs.Held.{Held, state}
 use Rattle.desk_rules.specs.Limits.{max_plans}
 use Rattle.desk_sql.specs.Schema.{blank_schema}
 use Rattle.desk_sql.specs.Finding.{HasOthers}
-use Rattle.desk_sql.specs.Making.{HasEmpty}
-use Rattle.desk_sql.specs.Rows.{IsDesk, IsLegible, IsUnindexed, Tables, Lists, tables_of}
+use Rattle.desk_sql.specs.declared.opening.finding.Made.{Made}
+use Rattle.desk_sql.specs.declared.opening.finding.Made.TheVariants.{All}
+use Rattle.desk_sql.specs.Rows.{IsDesk, IsMadeTo, Tables, Lists, tables_of, tables_at}
 use Rattle.desk_sql.specs.Refusals.{HasDiskFailed, IsMisnumbered}
 use Rattle.desk_sql.specs.Effects.{ShowsAsBefore}
 use Rattle.desk_store.specs.World.{Filed, Listed, World, IsListed, text_cmp, listed_cmp, filed_cmp, rows_by}
@@ -120,7 +121,7 @@ AreNoContent t = (w : World) → IsContent w → ¬ AreTables t w
 
 -- there were no tables, and the world is empty
 pub record BeganBlank (db : Database) (w : World) : Type 0 where
-  pub blank : HasEmpty blank_schema db
+  pub blank : db.schema ≡ blank_schema
   pub empty : w ≡ record { operators = []; plans = [] }
 
 -- what the database showed is still shown, and is a desk's tables with the rows of the world
@@ -128,32 +129,40 @@ pub record WasFound {S : Type 0} (g : Ghosts S) (old new : Held S) (w : World) :
   pub standing : IsStanding g old w
   pub kept : ShowsAsBefore g old new
 
--- the tables had no index and the rows of the world; they have both
-pub record WasIndexed {S : Type 0} (g : Ghosts S) (old new : Held S) (w : World) : Type 0 where
-  pub unindexed : IsUnindexed (state g old).now
-  pub rows : IsContentOf (tables_of (state g old).now.trees) w
-  pub indexed : IsDesk (state g new).now
-  pub same : tables_of (state g new).now.trees ≡ tables_of (state g old).now.trees
+-- part of a desk's tables and index, and nothing else
+pub record IsPart (made : Made) (db : Database) : Type 0 where
+  pub missing : made ≢ All
+  pub part : IsMadeTo made db
 
--- a desk's tables, and rows of no content
+-- there was part of the tables and index, with the rows of the world; all are made, and have these rows
+pub record WasCompleted {S : Type 0} (g : Ghosts S) (old new : Held S) (w : World) : Type 0 where
+  pub made : Made
+  pub part : IsPart made (state g old).now
+  pub rows : IsContentOf (tables_at made (state g old).now.trees) w
+  pub whole : IsDesk (state g new).now
+  pub same : tables_of (state g new).now.trees ≡ tables_at made (state g old).now.trees
+
+-- a desk's tables, so far as they are made, and rows of no content
 pub record HasNoContent (db : Database) : Type 0 where
-  pub desk : IsLegible db
-  pub none : AreNoContent (tables_of db.trees)
+  pub made : Made
+  pub desk : IsMadeTo made db
+  pub none : AreNoContent (tables_at made db.trees)
 
 -- the schema is another than a desk's, or the rows are those of no content
 abbrev pub IsNoDesk : Database → Type 0
 IsNoDesk db = HasOthers db ⊎ HasNoContent db
 
--- a desk's tables were to be made, or their index, or the rowids of a desk's are not those of a sound one
+-- some of a desk's tables, or the index, were to be made, or the rowids of a desk's are not those of a sound
+-- one
 abbrev pub IsUnmade : Database → Type 0
-IsUnmade db = HasEmpty blank_schema db ⊎ (IsUnindexed db ⊎ IsMisnumbered db)
+IsUnmade db = ((made : Made) × IsPart made db) ⊎ IsMisnumbered db
 
 module _ {S : Type 0} (g : Ghosts S) (old new : Held S) where
   -- over a connection that is open and a clean disk, a store of this world begins
   abbrev pub BeginsWith : World → Type 0
   BeginsWith w =
       HasCleanDisk (state g new) → IsTrue (state g new).is_open →
-      BeganBlank (state g old).now w ⊎ (WasFound g old new w ⊎ WasIndexed g old new w)
+      BeganBlank (state g old).now w ⊎ (WasFound g old new w ⊎ WasCompleted g old new w)
 
   -- what is shown is no desk's
   abbrev pub ShowsNoDesk : Type 0

@@ -1,6 +1,6 @@
 //! A store of plans over tables in SQLite.
 
-ghost use Rattle.std.specs.Prelude.{◌≡◌, ◌≤◌, Ok, IsErr, IfErr, MatchResult};
+ghost use Rattle.std.specs.Prelude.{◌≡◌, ◌≤◌, Ok, Err, IsErr, IfErr, MatchResult};
 ghost use Rattle.desk_store.specs.Faults.{HasRisen};
 ghost use Rattle.desk_tables.specs.Store.{Stands};
 ghost use Rattle.desk_tables.specs.Lengths.{Bounds};
@@ -177,6 +177,8 @@ fn counted<T>(
     answer: Result<T, StoreFault>,
 ) -> Result<T, StoreFault>
     ensures same { MatchResult answer (λ value. result ≡ Ok value) (λ _. IsErr result) }
+    ensures told { answer ≡ Err StoreFault.Store → result ≡ Err told }
+    ensures memory { answer ≡ Err StoreFault.OutOfMemory → result ≡ Err StoreFault.OutOfMemory }
     ensures counted { faults.old ≤ faults.new }
     ensures cause { IfErr result (λ e. e ≡ StoreFault.Store → HasRisen faults.old faults.new) }
 {
@@ -185,6 +187,7 @@ fn counted<T>(
             *faults = faults.saturating_add(1);
             Err(told)
         }
-        answer => answer,
+        Err(StoreFault::OutOfMemory) => Err(StoreFault::OutOfMemory),
+        Ok(value) => Ok(value),
     }
 }

@@ -33,6 +33,19 @@ impl Ram {
     }
 }
 
+impl Ram {
+    /// A file with these bytes.
+    pub fn of(bytes: Vec<u8>) -> Ram
+        ensures bytes { result.bytes.items ≡ bytes.items }
+    {
+        Ram {
+            bytes,
+            faults: 0,
+            caught: 0,
+        }
+    }
+}
+
 impl Disk for Ram {
     ghost use Rattle.std.specs.Prelude.{refl};
 
@@ -136,6 +149,9 @@ fn overwrite(file: &mut Vec<u8>, at: usize, bytes: &[u8]) -> Result<(), AllocErr
     ensures written { OnOk result (Holds file.new.items at bytes.now) }
     ensures others { Torn at (length bytes.now) file.old.items file.new.items }
 {
+    if at == file.len() {
+        return file.extend_from_slice(bytes);
+    }
     let end = at.checked_add(bytes.len()).ok_or(AllocError)?;
     if end > file.len() {
         resize(file, end)?;

@@ -4,7 +4,7 @@ ghost use Rattle.std.specs.Prelude.{◌≡◌, ◌≢◌, ℕ, ◌+◌, ◌*◌,
 ghost use Rattle.std.specs.Prelude.{IfOk, OnOk, IfSome, IfNone};
 ghost use Rattle.s2_cover.specs.Leaves.{leaves_of};
 ghost use Rattle.s2_cover.specs.Canonical.{IsCanonical};
-ghost use Rattle.s2_cover.specs.Ranges.{IsRanges};
+ghost use Rattle.s2_cover.specs.Ranges.{IsRanges, spans_have};
 ghost use Rattle.s2_cover.specs.Laying.{IsRun, IsLaid, IsLargestFrom, IsLargestFitting};
 
 use crate::spans::{Ranges, Span};
@@ -60,6 +60,22 @@ impl Cover {
         ensures some { 0 < length self.now.ids → IfOk result (λ ranges. 0 < length ranges) }
     {
         Ranges::of_sorted(*self.cells.allocator(), &self.cells)
+    }
+
+    /// The canonical cover of the leaves of ranges. Each of its cells takes a bounded number of steps.
+    ///
+    /// # Errors
+    ///
+    /// `AllocError` if memory runs out.
+    pub fn of_ranges(alloc: Global, ranges: &Ranges) -> Result<Cover, AllocError>
+        ensures canonical { (set : ℕ → Bool) → IsRanges set ranges.now →
+            IfOk result (λ cover. IsCanonical set cover.ids) }
+        ensures leaves { IfOk result (λ cover.
+            (p : ℕ) → leaves_of cover.ids p ≡ spans_have ranges.now p) }
+        ensures looked { IfOk result (λ cover. cover.looked ≡ 0) }
+    {
+        let cells = largest_cells(Vec::new(alloc), ranges.spans())?;
+        Ok(Cover { cells, looked: 0 })
     }
 
     /// The cover of cells that are the canonical list of their leaves.

@@ -1,11 +1,12 @@
 //! Volumes.
 
 ghost use Rattle.std.specs.Prelude.{◌≡◌, IsTrue, IfOk, IfErr, All};
+ghost use Rattle.s2_cover.specs.Canonical.{IsCanonical};
 ghost use Rattle.s2_cover.specs.Ranges.{IsSpan};
 ghost use Rattle.volume4d.specs.Point.{Point};
 ghost use Rattle.volume4d.specs.Windows.{is_window};
 ghost use Rattle.volume4d.specs.Footprint.{shape_of};
-ghost use Rattle.volume4d.specs.Shape.{is_footprint};
+ghost use Rattle.volume4d.specs.Shape.{shape_positions, is_footprint};
 ghost use Rattle.volume4d.specs.Volume.{block_has};
 ghost use Rattle.volume4d.specs.Slab.{slabs_have, span_of, slab_window};
 ghost use Rattle.volume4d.specs.Bounds.{AreFilled};
@@ -16,7 +17,7 @@ use crate::fault::VolumeFault;
 use crate::footprint::Footprint;
 use crate::slab::Slab;
 use crate::window::Window;
-use s2_cover::{Ranges, Span};
+use s2_cover::{Cover, Ranges, Span};
 use std::alloc::{AllocError, Global};
 use std::marker::Model;
 
@@ -103,6 +104,18 @@ impl Volume {
         ensures filled { IfOk result (λ slabs. AreFilled slabs.items) }
     {
         slabs_of(self.alloc, self.ranges.spans(), self.window)
+    }
+
+    /// The canonical cover of the footprint's leaves: for a rectangle the cover that its limit speaks of.
+    ///
+    /// # Errors
+    ///
+    /// `AllocError` if memory runs out.
+    pub fn cover(&self) -> Result<Cover, AllocError>
+        ensures { IfOk result (λ cover.
+            IsCanonical (shape_positions self.now.footprint) cover.ids) }
+    {
+        Cover::of_ranges(self.alloc, &self.ranges)
     }
 
     /// An equal volume.

@@ -1,65 +1,71 @@
 //! What tables a database has.
 
-ghost use Rattle.std.specs.Prelude.{◌≡◌, false, IsTrue, IfOk, IfErr};
+ghost use Rattle.std.specs.Prelude.{◌≡◌, false, IsTrue, IfOk, IfErr, MatchOption};
 ghost use Rattle.sqlite.specs.State.{HasCleanDisk};
 ghost use Rattle.sqlite.specs.Held.{state};
-ghost use Rattle.desk_sql.specs.Schema.{blank_schema};
-ghost use Rattle.desk_sql.specs.Making.{IsAt};
-ghost use Rattle.desk_sql.specs.Effects.{IsReady};
+ghost use Rattle.desk_sql.specs.Schema.{has_table};
 ghost use Rattle.desk_sql.specs.Frames.{OnlyReads};
 ghost use Rattle.desk_sql.specs.Refusals.{IsUnread};
 ghost use Rattle.desk_sql.specs.Finding.{Holds, HasOthers};
-ghost use Rattle.desk_sql.specs.Rows.{IsUnindexed};
+ghost use Rattle.desk_sql.specs.Rows.{IsMadeTo};
 
-use crate::opening::matching::{is_blank_schema, is_desk_schema, is_table_schema};
-use crate::opening::numbers::test_tables;
+use crate::opening::matching::made_in;
+use crate::opening::numbers::{DeskTable, test_tables};
 use sqlite::{Alter, Connection, Error};
 
-/// What tables a database has.
+/// How far a desk's tables and their index are made, which come in this order.
 #[derive(Clone, Copy, Debug, PartialEq, Eq)]
-pub enum Found {
-    /// No table, index or view.
-    Blank,
-    /// What `make_tables` makes, and nothing else.
-    Desk,
-    /// That, but for the index over the leaves of spans.
-    Unindexed,
-    /// Others.
-    Other,
+pub enum Made {
+    /// There is no table, index or view.
+    Nothing,
+    /// There is `operator` alone.
+    Operators,
+    /// There are `operator` and `plan`.
+    Plans,
+    /// There are `operator`, `plan` and `volume`.
+    Volumes,
+    /// There are `operator`, `plan`, `volume` and `span`.
+    Spans,
+    /// There are these and the index over the leaves of spans.
+    All,
 }
 
-/// What tables the database has. It changes nothing.
+impl Made {
+    /// Whether there is this table.
+    pub fn has(self, table: DeskTable) -> bool
+        ensures { result ≡ has_table self table }
+    {
+        match self {
+            Made::Nothing => false,
+            Made::Operators => matches!(table, DeskTable::Operator),
+            Made::Plans => matches!(table, DeskTable::Operator | DeskTable::Plan),
+            Made::Volumes => !matches!(table, DeskTable::Span),
+            Made::Spans | Made::All => true,
+        }
+    }
+}
+
+/// How far a desk's tables are made in the database, or `None` if it has other tables, indexes or views, or
+/// has them in another order. It changes nothing.
 ///
 /// # Errors
 ///
 /// What a query may fail with. Also `DatabaseCorrupt` if the tables are a desk's, and a rowid in them is no
 /// whole number or comes twice, which no sound database shows: that is no want of memory, and never told as
-/// `Other`.
-pub fn find_tables<S: Alter>(connection: &mut Connection<S>) -> Result<Found, Error>
+/// `None`.
+pub fn find_tables<S: Alter>(connection: &mut Connection<S>) -> Result<Option<Made>, Error>
     requires settled { connection.old.in_transaction ≡ false }
-    ensures blank { IfOk result (λ found. found ≡ Found.Blank
-        → IsAt S.Store blank_schema connection.new) }
-    ensures desk { IfOk result (λ found. found ≡ Found.Desk → IsReady S.Store connection.new) }
-    ensures unindexed { IfOk result (λ found. found ≡ Found.Unindexed
-        → Holds S.Store connection.new IsUnindexed) }
-    ensures other { IfOk result (λ found. found ≡ Found.Other
-        → Holds S.Store connection.new HasOthers) }
+    ensures found { IfOk result (λ found. MatchOption found
+        (Holds S.Store connection.new HasOthers)
+        (λ made. Holds S.Store connection.new (IsMadeTo made))) }
     ensures cause { HasCleanDisk (state S.Store connection.new)
         → IsTrue (state S.Store connection.new).is_open
         → IfErr result (IsUnread S.Store connection.old connection.new) }
     ensures reads { OnlyReads S.Store connection.old connection.new }
 {
-    if is_blank_schema(connection.schema()) {
-        return Ok(Found::Blank);
-    }
-    let has_index = is_desk_schema(connection.schema());
-    if !has_index && !is_table_schema(connection.schema()) {
-        return Ok(Found::Other);
-    }
-    test_tables(connection)?;
-    Ok(if has_index {
-        Found::Desk
-    } else {
-        Found::Unindexed
-    })
+    let Some(made) = made_in(connection.schema()) else {
+        return Ok(None);
+    };
+    test_tables(connection, made)?;
+    Ok(Some(made))
 }

@@ -1,66 +1,40 @@
-ghost use Rattle.std.specs.Prelude.{◌≡◌, false, OnOk, OnErr};
+//! How the tables and the index are made.
+
+ghost use Rattle.std.specs.Prelude.{◌≡◌, ◌≢◌, false, suc, IfSome, IfNone, IsTrue, OnOk, OnErr};
+ghost use Rattle.sqlite.specs.Effect.{IsDatabase};
 ghost use Rattle.sqlite.specs.State.{HasCleanDisk, KeepsCommit};
 ghost use Rattle.sqlite.specs.Held.{state};
-ghost use Rattle.desk_sql.specs.Schema.{blank_schema, table_schema};
-ghost use Rattle.desk_sql.specs.Making.{first_schema, second_schema, third_schema, IsAt, Grows};
-ghost use Rattle.desk_sql.specs.Making.{AreEmpty, AreSame};
-ghost use Rattle.desk_sql.specs.Rows.{IsUnindexed};
+ghost use Rattle.desk_sql.specs.Making.{left_to_make, Finishes, Completes, MayComplete};
+ghost use Rattle.desk_sql.specs.Rows.{IsMadeTo};
 ghost use Rattle.desk_sql.specs.Finding.{Holds};
-ghost use Rattle.desk_sql.specs.Effects.{IsKept, Commits, Makes, MayMake};
+ghost use Rattle.desk_sql.specs.Effects.{IsKept};
 ghost use Rattle.desk_sql.specs.Frames.{Remembers, IsOver};
-ghost use Rattle.desk_sql.specs.Statements.{Extends, AddsIndex};
+ghost use Rattle.desk_sql.specs.Statements.{Extends};
 
 use crate::changing::run::run;
 use crate::laws::settled_and_sound;
+use crate::opening::finding::Made;
 use sqlite::{Alter, Connection, Error, Transaction};
 
 #[tactic(auto, using(crate::proofs::CreateLemmas::operator_extends))]
-fn make_operator_text() -> &'static str
-    ensures { Extends result.now blank_schema first_schema }
+fn operator_text() -> &'static str
+    ensures { Extends result.now Made.Nothing Made.Operators }
 {
     "CREATE TABLE operator (name TEXT NOT NULL, ceiling INTEGER NOT NULL, PRIMARY KEY (name)) STRICT"
 }
 
-fn make_operator<S: Alter>(tx: &mut Transaction<'_, S>) -> Result<(), Error>
-    requires at { IsAt S.Store blank_schema tx.old.conn.now }
-    ensures same_reference { tx.new.conn.ghost_name ≡ tx.old.conn.ghost_name }
-    ensures done { HasCleanDisk (state S.Store tx.new.conn.now)
-        → OnOk result (Grows S.Store tx.old.conn.now tx.new.conn.now first_schema) }
-    ensures undone { HasCleanDisk (state S.Store tx.new.conn.now)
-        → OnErr result (KeepsCommit (state S.Store tx.old.conn.now)
-        (state S.Store tx.new.conn.now)) }
-    ensures remembered { Remembers S.Store tx.old.conn.now tx.new.conn.now }
-{
-    run(tx, make_operator_text(), &[])?;
-    Ok(())
-}
-
 #[tactic(auto, using(crate::proofs::CreateLemmas::plan_extends))]
-fn make_plan_text() -> &'static str
-    ensures { Extends result.now first_schema second_schema }
+fn plan_text() -> &'static str
+    ensures { Extends result.now Made.Operators Made.Plans }
 {
     "CREATE TABLE plan (operator TEXT NOT NULL, id TEXT NOT NULL, priority INTEGER NOT NULL, \
      usage INTEGER NOT NULL, aircraft INTEGER NOT NULL, PRIMARY KEY (operator, id), \
      FOREIGN KEY (operator) REFERENCES operator (name)) STRICT"
 }
 
-fn make_plan<S: Alter>(tx: &mut Transaction<'_, S>) -> Result<(), Error>
-    requires at { IsAt S.Store first_schema tx.old.conn.now }
-    ensures same_reference { tx.new.conn.ghost_name ≡ tx.old.conn.ghost_name }
-    ensures done { HasCleanDisk (state S.Store tx.new.conn.now)
-        → OnOk result (Grows S.Store tx.old.conn.now tx.new.conn.now second_schema) }
-    ensures undone { HasCleanDisk (state S.Store tx.new.conn.now)
-        → OnErr result (KeepsCommit (state S.Store tx.old.conn.now)
-        (state S.Store tx.new.conn.now)) }
-    ensures remembered { Remembers S.Store tx.old.conn.now tx.new.conn.now }
-{
-    run(tx, make_plan_text(), &[])?;
-    Ok(())
-}
-
 #[tactic(auto, using(crate::proofs::CreateLemmas::volume_extends))]
-fn make_volume_text() -> &'static str
-    ensures { Extends result.now second_schema third_schema }
+fn volume_text() -> &'static str
+    ensures { Extends result.now Made.Plans Made.Volumes }
 {
     "CREATE TABLE volume (operator TEXT NOT NULL, id TEXT NOT NULL, place INTEGER NOT NULL, \
      lower INTEGER NOT NULL, upper INTEGER NOT NULL, start INTEGER NOT NULL, \
@@ -68,23 +42,9 @@ fn make_volume_text() -> &'static str
      FOREIGN KEY (operator, id) REFERENCES plan (operator, id) ON DELETE CASCADE) STRICT"
 }
 
-fn make_volume<S: Alter>(tx: &mut Transaction<'_, S>) -> Result<(), Error>
-    requires at { IsAt S.Store second_schema tx.old.conn.now }
-    ensures same_reference { tx.new.conn.ghost_name ≡ tx.old.conn.ghost_name }
-    ensures done { HasCleanDisk (state S.Store tx.new.conn.now)
-        → OnOk result (Grows S.Store tx.old.conn.now tx.new.conn.now third_schema) }
-    ensures undone { HasCleanDisk (state S.Store tx.new.conn.now)
-        → OnErr result (KeepsCommit (state S.Store tx.old.conn.now)
-        (state S.Store tx.new.conn.now)) }
-    ensures remembered { Remembers S.Store tx.old.conn.now tx.new.conn.now }
-{
-    run(tx, make_volume_text(), &[])?;
-    Ok(())
-}
-
 #[tactic(auto, using(crate::proofs::CreateLemmas::span_extends))]
-fn make_span_text() -> &'static str
-    ensures { Extends result.now third_schema table_schema }
+fn span_text() -> &'static str
+    ensures { Extends result.now Made.Volumes Made.Spans }
 {
     "CREATE TABLE span (operator TEXT NOT NULL, id TEXT NOT NULL, place INTEGER NOT NULL, \
      first INTEGER NOT NULL, last INTEGER NOT NULL, lower INTEGER NOT NULL, \
@@ -93,75 +53,67 @@ fn make_span_text() -> &'static str
      FOREIGN KEY (operator, id) REFERENCES plan (operator, id) ON DELETE CASCADE) STRICT"
 }
 
-fn make_span<S: Alter>(tx: &mut Transaction<'_, S>) -> Result<(), Error>
-    requires at { IsAt S.Store third_schema tx.old.conn.now }
-    ensures same_reference { tx.new.conn.ghost_name ≡ tx.old.conn.ghost_name }
-    ensures done { HasCleanDisk (state S.Store tx.new.conn.now)
-        → OnOk result (Grows S.Store tx.old.conn.now tx.new.conn.now table_schema) }
-    ensures undone { HasCleanDisk (state S.Store tx.new.conn.now)
-        → OnErr result (KeepsCommit (state S.Store tx.old.conn.now)
-        (state S.Store tx.new.conn.now)) }
-    ensures remembered { Remembers S.Store tx.old.conn.now tx.new.conn.now }
-{
-    run(tx, make_span_text(), &[])?;
-    Ok(())
-}
-
 // The columns after `last` are those that the query of rivals reads, so that it reads the index alone.
-#[tactic(auto, using(crate::proofs::CreateLemmas::first_adds))]
-fn make_first_text() -> &'static str
-    ensures { AddsIndex result.now }
+#[tactic(auto, using(crate::proofs::CreateLemmas::first_extends))]
+fn first_text() -> &'static str
+    ensures { Extends result.now Made.Spans Made.All }
 {
     "CREATE INDEX span_first ON span \
      (first, last, lower, upper, start, stop, priority, operator, id)"
 }
 
-fn make_first<S: Alter>(tx: &mut Transaction<'_, S>) -> Result<(), Error>
-    requires unindexed { Holds S.Store tx.old.conn.now IsUnindexed }
+// The text that makes what comes next, and how far all is made then.
+fn next_step(made: Made) -> Option<(Made, &'static str)>
+    ensures step { IfSome result (λ step. Extends step.1.now made step.0) }
+    ensures less { IfSome result (λ step. left_to_make made ≡ suc (left_to_make step.0)) }
+    ensures none { IfNone result (made ≡ Made.All) }
+{
+    match made {
+        Made::Nothing => Some((Made::Operators, operator_text())),
+        Made::Operators => Some((Made::Plans, plan_text())),
+        Made::Plans => Some((Made::Volumes, volume_text())),
+        Made::Volumes => Some((Made::Spans, span_text())),
+        Made::Spans => Some((Made::All, first_text())),
+        Made::All => None,
+    }
+}
+
+// Makes all that is missing, one after the other.
+fn make_rest<S: Alter>(tx: &mut Transaction<'_, S>, made: Made) -> Result<(), Error>
+    requires missing { made ≢ Made.All }
+    requires at { Holds S.Store tx.old.conn.now (IsMadeTo made) }
+    requires begun { IsTrue tx.old.conn.now.in_transaction }
+    requires sound { Holds S.Store tx.old.conn.now IsDatabase }
     ensures same_reference { tx.new.conn.ghost_name ≡ tx.old.conn.ghost_name }
     ensures done { HasCleanDisk (state S.Store tx.new.conn.now)
-        → OnOk result (Makes S.Store tx.old.conn.now tx.new.conn.now AreSame) }
+        → OnOk result (Finishes S.Store made tx.old.conn.now tx.new.conn.now) }
     ensures undone { HasCleanDisk (state S.Store tx.new.conn.now)
         → OnErr result (KeepsCommit (state S.Store tx.old.conn.now)
         (state S.Store tx.new.conn.now)) }
     ensures remembered { Remembers S.Store tx.old.conn.now tx.new.conn.now }
 {
-    run(tx, make_first_text(), &[])?;
+    let mut at = made;
+    'steps: while let Some((next, text)) = next_step(at) {
+        run(tx, text, &[])?;
+        at = next;
+    }
     Ok(())
 }
 
-/// Makes the index over a desk's tables that lack it, as one transaction. Their rows stay.
-pub fn index_tables<S: Alter>(connection: &mut Connection<S>) -> Result<(), Error>
-    requires unindexed { Holds S.Store connection.old IsUnindexed }
+/// Makes those of a desk's tables, and of its index, that aren't there, as one transaction. The rows of the
+/// others stay.
+pub fn complete_tables<S: Alter>(connection: &mut Connection<S>, made: Made) -> Result<(), Error>
+    requires missing { made ≢ Made.All }
+    requires at { Holds S.Store connection.old (IsMadeTo made) }
     requires settled { connection.old.in_transaction ≡ false }
     ensures done { HasCleanDisk (state S.Store connection.new)
-        → OnOk result (Commits S.Store connection.old connection.new AreSame) }
+        → OnOk result (Completes S.Store made connection.old connection.new) }
     ensures kept { OnErr result (IsKept S.Store connection.old connection.new) }
     ensures over { IsOver S.Store connection.old connection.new }
-    ensures crash { MayMake S.Store connection.old connection.new AreSame }
+    ensures crash { MayComplete S.Store made connection.old connection.new }
 {
     settled_and_sound(connection);
     let mut tx = connection.transaction();
-    make_first(&mut tx)?;
-    tx.commit()
-}
-
-/// Makes the four tables of a desk and their index in a database that has no table, as one transaction.
-pub fn make_tables<S: Alter>(connection: &mut Connection<S>) -> Result<(), Error>
-    requires blank { IsAt S.Store blank_schema connection.old }
-    requires settled { connection.old.in_transaction ≡ false }
-    ensures done { HasCleanDisk (state S.Store connection.new)
-        → OnOk result (Commits S.Store connection.old connection.new AreEmpty) }
-    ensures kept { OnErr result (IsKept S.Store connection.old connection.new) }
-    ensures over { IsOver S.Store connection.old connection.new }
-    ensures crash { MayMake S.Store connection.old connection.new AreEmpty }
-{
-    settled_and_sound(connection);
-    let mut tx = connection.transaction();
-    make_operator(&mut tx)?;
-    make_plan(&mut tx)?;
-    make_volume(&mut tx)?;
-    make_span(&mut tx)?;
-    make_first(&mut tx)?;
+    make_rest(&mut tx, made)?;
     tx.commit()
 }

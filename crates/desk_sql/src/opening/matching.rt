@@ -1,14 +1,16 @@
 //! Whether a schema, part by part, is a desk's.
 
-ghost use Rattle.std.specs.Prelude.{◌≡◌, ◌↔◌, ◌<◌, ◌-◌, ◌^◌, [], ◌∷◌, ◌++◌, false, IsTrue};
+ghost use Rattle.std.specs.Prelude.{◌≡◌, ◌≢◌, ◌↔◌, ◌<◌, ◌-◌, ◌^◌, [], ◌∷◌, ◌++◌, false, IsTrue};
+ghost use Rattle.std.specs.Prelude.{MatchOption};
 ghost use Rattle.sqlite_value.specs.Keys.{plain};
 ghost use Rattle.sqlite_schema.specs.declared.schema.Action.TheVariants.{NoAction};
 ghost use Rattle.desk_sql.specs.Schema.{column_of, operator_table, plan_table, volume_table, span_table};
-ghost use Rattle.desk_sql.specs.Schema.{to_operator, to_plan, blank_schema, desk_schema, table_schema};
+ghost use Rattle.desk_sql.specs.Schema.{to_operator, to_plan, schema_of};
 ghost use Rattle.desk_sql.specs.Finding.{no_stamps, without_extras, plain_table, place_columns};
-ghost use Rattle.desk_sql.specs.Finding.{extent_columns, key_index, key_indexes, desk_indexes};
+ghost use Rattle.desk_sql.specs.Finding.{extent_columns, key_index, indexes_of};
 ghost use Rattle.desk_sql.specs.Finding.{operator_index, plan_index, volume_index, span_index, first_index};
 
+use crate::opening::finding::Made;
 use sqlite_items::Items;
 use sqlite_schema::schema::{Action, Column, Index, Kind, Reference, Schema, Stamps, Table};
 use sqlite_value::keys::{Collation, Order};
@@ -260,11 +262,18 @@ fn is_span_table(table: &Table) -> bool
         && refers_to_plan(table.references.as_slice())
 }
 
-fn are_desk_tables(tables: &[Table]) -> bool
-    ensures { IsTrue result ↔ (tables.now ≡ table_schema.tables) }
+/// Whether these are the tables that are made so far, in their order.
+fn are_tables(made: Made, tables: &[Table]) -> bool
+    ensures { IsTrue result ↔ (tables.now ≡ (schema_of made).tables) }
 {
-    match tables {
-        [operator, plan, volume, span] => {
+    match (made, tables) {
+        (Made::Nothing, []) => true,
+        (Made::Operators, [operator]) => is_operator_table(operator),
+        (Made::Plans, [operator, plan]) => is_operator_table(operator) && is_plan_table(plan),
+        (Made::Volumes, [operator, plan, volume]) => {
+            is_operator_table(operator) && is_plan_table(plan) && is_volume_table(volume)
+        }
+        (Made::Spans | Made::All, [operator, plan, volume, span]) => {
             is_operator_table(operator)
                 && is_plan_table(plan)
                 && is_volume_table(volume)
@@ -333,25 +342,24 @@ fn is_first_index(index: &Index) -> bool
         && !index.is_unique
 }
 
-fn are_key_indexes(indexes: &[Index]) -> bool
-    ensures { IsTrue result ↔ (indexes.now ≡ key_indexes) }
+/// Whether these are the indexes that are made so far, in their order.
+fn are_indexes(made: Made, indexes: &[Index]) -> bool
+    ensures { IsTrue result ↔ (indexes.now ≡ indexes_of made) }
 {
-    match indexes {
-        [operator, plan, volume, span] => {
+    match (made, indexes) {
+        (Made::Nothing, []) => true,
+        (Made::Operators, [operator]) => is_operator_index(operator),
+        (Made::Plans, [operator, plan]) => is_operator_index(operator) && is_plan_index(plan),
+        (Made::Volumes, [operator, plan, volume]) => {
+            is_operator_index(operator) && is_plan_index(plan) && is_volume_index(volume)
+        }
+        (Made::Spans, [operator, plan, volume, span]) => {
             is_operator_index(operator)
                 && is_plan_index(plan)
                 && is_volume_index(volume)
                 && is_span_index(span)
         }
-        _ => false,
-    }
-}
-
-fn are_desk_indexes(indexes: &[Index]) -> bool
-    ensures { IsTrue result ↔ (indexes.now ≡ desk_indexes) }
-{
-    match indexes {
-        [operator, plan, volume, span, first] => {
+        (Made::All, [operator, plan, volume, span, first]) => {
             is_operator_index(operator)
                 && is_plan_index(plan)
                 && is_volume_index(volume)
@@ -362,35 +370,41 @@ fn are_desk_indexes(indexes: &[Index]) -> bool
     }
 }
 
-/// Whether there is no table, index or view.
-pub(crate) fn is_blank_schema(schema: &Schema) -> bool
-    ensures { IsTrue result ↔ (schema.now ≡ blank_schema) }
+/// Whether there is what is made so far, and nothing else.
+fn is_made(schema: &Schema, made: Made) -> bool
+    ensures { IsTrue result ↔ (schema.now ≡ schema_of made) }
 {
-    schema.tables.is_empty() && schema.indexes.is_empty() && schema.views.is_empty()
-}
-
-/// Whether the tables are those of a desk, made in its order, without its index, and nothing else is there.
-pub(crate) fn is_table_schema(schema: &Schema) -> bool
-    ensures { IsTrue result ↔ (schema.now ≡ table_schema) }
-{
-    if !are_desk_tables(schema.tables.as_slice()) {
+    if !are_tables(made, schema.tables.as_slice()) {
         return false;
     }
-    if !are_key_indexes(schema.indexes.as_slice()) {
+    if !are_indexes(made, schema.indexes.as_slice()) {
         return false;
     }
     schema.views.is_empty()
 }
 
-/// Whether the tables are those of a desk, made in its order, with its index, and nothing else is there.
-pub(crate) fn is_desk_schema(schema: &Schema) -> bool
-    ensures { IsTrue result ↔ (schema.now ≡ desk_schema) }
+/// How far a desk's tables and index are made, if there is nothing else.
+pub(crate) fn made_in(schema: &Schema) -> Option<Made>
+    ensures { MatchOption result ((made : Made) → schema.now ≢ schema_of made)
+        (λ made. schema.now ≡ schema_of made) }
 {
-    if !are_desk_tables(schema.tables.as_slice()) {
-        return false;
+    if is_made(schema, Made::All) {
+        return Some(Made::All);
     }
-    if !are_desk_indexes(schema.indexes.as_slice()) {
-        return false;
+    if is_made(schema, Made::Nothing) {
+        return Some(Made::Nothing);
     }
-    schema.views.is_empty()
+    if is_made(schema, Made::Operators) {
+        return Some(Made::Operators);
+    }
+    if is_made(schema, Made::Plans) {
+        return Some(Made::Plans);
+    }
+    if is_made(schema, Made::Volumes) {
+        return Some(Made::Volumes);
+    }
+    if is_made(schema, Made::Spans) {
+        return Some(Made::Spans);
+    }
+    None
 }

@@ -1,16 +1,17 @@
 //! Whether the rowids of the tables are whole numbers, none of them twice.
 
-ghost use Rattle.std.specs.Prelude.{◌≡◌, ◌↔◌, [], ◌∷◌, false, IsTrue, OnOk, OnErr, IfErr};
+ghost use Rattle.std.specs.Prelude.{◌≡◌, ◌↔◌, [], ◌∷◌, true, false, IsTrue, OnOk, OnErr, IfErr};
 ghost use Rattle.sqlite.specs.Tree.{rowid};
 ghost use Rattle.sqlite.specs.State.{HasCleanDisk};
 ghost use Rattle.sqlite.specs.Held.{state};
-ghost use Rattle.desk_sql.specs.Schema.{HasTables};
-ghost use Rattle.desk_sql.specs.Rows.{AreNumbered, IsLegible};
-ghost use Rattle.desk_sql.specs.Refusals.{IsUnread};
+ghost use Rattle.desk_sql.specs.Schema.{HasTable, schema_of, has_table, tree_of};
+ghost use Rattle.desk_sql.specs.Rows.{AreNumbered, IsMadeTo};
+ghost use Rattle.desk_sql.specs.Refusals.{IsUnnumbered, IsUnread};
 ghost use Rattle.desk_sql.specs.Statements.{SelectsAll, rowids};
-ghost use Rattle.desk_sql.specs.Finding.{Holds, AreRising, next_above, tree_of};
+ghost use Rattle.desk_sql.specs.Finding.{Holds, AreRising, next_above};
 ghost use Rattle.desk_sql.specs.Frames.{OnlyReads};
 
+use crate::opening::finding::Made;
 use crate::reading::asking::ask;
 use sqlite::{Alter, Connection, Error, ErrorCode, Row};
 use sqlite_value::value::ValueRef;
@@ -57,17 +58,21 @@ fn test_rising(rows: &[Row]) -> Result<(), Error>
     }
 }
 
-/// One of the four tables of a desk.
-#[derive(Clone, Copy)]
-pub(crate) enum DeskTable {
+/// One of the tables of a desk.
+#[derive(Clone, Copy, Debug, PartialEq, Eq)]
+pub enum DeskTable {
+    /// `operator`
     Operator,
+    /// `plan`
     Plan,
+    /// `volume`
     Volume,
+    /// `span`
     Span,
 }
 
 fn rowids_text(table: DeskTable) -> &'static str
-    ensures { SelectsAll result.now (0 ∷ []) (λ db. rowids (db (tree_of table))) }
+    ensures { SelectsAll table result.now (0 ∷ []) (λ db. rowids (db (tree_of table))) }
 {
     match table {
         DeskTable::Operator => "SELECT rowid FROM operator ORDER BY rowid",
@@ -79,35 +84,57 @@ fn rowids_text(table: DeskTable) -> &'static str
 
 /// Tests the rowids of a table.
 fn test_rowids<S: Alter>(connection: &mut Connection<S>, table: DeskTable) -> Result<(), Error>
-    requires known { Holds S.Store connection.old HasTables }
+    requires known { Holds S.Store connection.old (HasTable table) }
     requires settled { connection.old.in_transaction ≡ false }
     ensures numbered { OnOk result (Holds S.Store connection.new
         (λ db. AreNumbered (db.trees (tree_of table)))) }
     ensures cause { HasCleanDisk (state S.Store connection.new)
         → IsTrue (state S.Store connection.new).is_open
-        → IfErr result (IsUnread S.Store connection.old connection.new) }
+        → IfErr result (IsUnnumbered S.Store connection.old connection.new table) }
     ensures reads { OnlyReads S.Store connection.old connection.new }
 {
     let rows = ask(connection, rowids_text(table))?;
     test_rising(&rows)
 }
 
-/// Tests the rowids of the four tables.
-///
-/// # Errors
-///
-/// `DatabaseCorrupt` if those of a table are not whole numbers, each once; and what a query may fail with.
-pub(crate) fn test_tables<S: Alter>(connection: &mut Connection<S>) -> Result<(), Error>
-    requires known { Holds S.Store connection.old HasTables }
+/// Tests the rowids of a table that may not be made.
+fn test_made<S: Alter>(
+    connection: &mut Connection<S>,
+    made: Made,
+    table: DeskTable,
+) -> Result<(), Error>
+    requires known { Holds S.Store connection.old (λ db. db.schema ≡ schema_of made) }
     requires settled { connection.old.in_transaction ≡ false }
-    ensures legible { OnOk result (Holds S.Store connection.new IsLegible) }
+    ensures numbered { OnOk result (has_table made table ≡ true → Holds S.Store connection.new
+        (λ db. AreNumbered (db.trees (tree_of table)))) }
     ensures cause { HasCleanDisk (state S.Store connection.new)
         → IsTrue (state S.Store connection.new).is_open
         → IfErr result (IsUnread S.Store connection.old connection.new) }
     ensures reads { OnlyReads S.Store connection.old connection.new }
 {
-    test_rowids(connection, DeskTable::Operator)?;
-    test_rowids(connection, DeskTable::Plan)?;
-    test_rowids(connection, DeskTable::Volume)?;
-    test_rowids(connection, DeskTable::Span)
+    if made.has(table) {
+        test_rowids(connection, table)
+    } else {
+        Ok(())
+    }
+}
+
+/// Tests the rowids of the tables that are made.
+///
+/// # Errors
+///
+/// `DatabaseCorrupt` if those of a table are not whole numbers, each once; and what a query may fail with.
+pub(crate) fn test_tables<S: Alter>(connection: &mut Connection<S>, made: Made) -> Result<(), Error>
+    requires known { Holds S.Store connection.old (λ db. db.schema ≡ schema_of made) }
+    requires settled { connection.old.in_transaction ≡ false }
+    ensures legible { OnOk result (Holds S.Store connection.new (IsMadeTo made)) }
+    ensures cause { HasCleanDisk (state S.Store connection.new)
+        → IsTrue (state S.Store connection.new).is_open
+        → IfErr result (IsUnread S.Store connection.old connection.new) }
+    ensures reads { OnlyReads S.Store connection.old connection.new }
+{
+    test_made(connection, made, DeskTable::Operator)?;
+    test_made(connection, made, DeskTable::Plan)?;
+    test_made(connection, made, DeskTable::Volume)?;
+    test_made(connection, made, DeskTable::Span)
 }

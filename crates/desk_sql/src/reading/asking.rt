@@ -1,7 +1,6 @@
 ghost use Rattle.std.specs.Prelude.{◌≡◌, [], false, IfOk, IfErr, OnOk, IsTrue};
 ghost use Rattle.sqlite.specs.State.{HasCleanDisk, Shown};
 ghost use Rattle.sqlite.specs.Held.{state};
-ghost use Rattle.desk_sql.specs.Schema.{HasTables};
 ghost use Rattle.desk_sql.specs.Finding.{Holds};
 ghost use Rattle.desk_sql.specs.Refusals.{IsSure, IsRefusal};
 ghost use Rattle.desk_sql.specs.Frames.{OnlyReads};
@@ -9,12 +8,10 @@ ghost use Rattle.desk_sql.specs.Frames.{OnlyReads};
 use crate::laws::settled_and_sound;
 use sqlite::{Alter, Connection, Error, Row};
 
-/// All rows of a query with no parameters of a desk's tables, with the index or without it. The rows of the
-/// tables stay, whatever is answered.
+/// All rows of a query with no parameters. The rows of the tables stay, whatever is answered.
 pub(crate) fn ask<S: Alter>(connection: &mut Connection<S>, query: &str) -> Result<Vec<Row>, Error>
-    requires known { Holds S.Store connection.old HasTables }
     requires settled { connection.old.in_transaction ≡ false }
-    requires sure { IsSure query.now }
+    requires sure { Holds S.Store connection.old (λ db. IsSure db.schema query.now) }
     ensures shown { HasCleanDisk (state S.Store connection.new)
         → IfOk result (λ rows. Shown query.now [] (state S.Store connection.old)
         (state S.Store connection.new) rows.items) }

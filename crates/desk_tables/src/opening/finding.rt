@@ -1,13 +1,12 @@
 //! The world that a database stands for when a store is opened over it.
 
-ghost use Rattle.std.specs.Prelude.{◌≡◌, ◌≢◌, ◌≤◌, [], false, IfOk, IfErr, OnOk, OnErr, IsTrue};
+ghost use Rattle.std.specs.Prelude.{◌≡◌, ◌≢◌, ◌≤◌, [], true, false, IfOk, IfErr, OnOk, OnErr, IsTrue};
 ghost use Rattle.std.specs.List.{AllByRecursion};
 ghost use Rattle.sqlite_trees.specs.View.{doubt};
 ghost use Rattle.sqlite.specs.State.{HasCleanDisk};
 ghost use Rattle.sqlite.specs.Held.{state};
-ghost use Rattle.desk_sql.specs.Schema.{blank_schema};
-ghost use Rattle.desk_sql.specs.Making.{IsAt};
-ghost use Rattle.desk_sql.specs.Rows.{IsLegible, IsUnindexed, tables_of};
+ghost use Rattle.desk_sql.specs.Schema.{has_table};
+ghost use Rattle.desk_sql.specs.Rows.{IsMadeTo, tables_at};
 ghost use Rattle.desk_sql.specs.Effects.{IsKept};
 ghost use Rattle.desk_sql.specs.Frames.{OnlyReads};
 ghost use Rattle.desk_sql.specs.Finding.{Holds};
@@ -16,7 +15,7 @@ ghost use Rattle.desk_store.specs.World.{World};
 ghost use Rattle.desk_tables.specs.Content.{IsContent};
 ghost use Rattle.desk_tables.specs.Lengths.{Bounds, IsKnownRow, Keeps};
 ghost use Rattle.desk_tables.specs.Opening.{AreSortedByKey, AreRows, IsContentOf, AreNoContent};
-ghost use Rattle.desk_tables.specs.Opening.{BeginsWith, WasIndexed, ShowsNoDesk};
+ghost use Rattle.desk_tables.specs.Opening.{BeginsWith, WasCompleted, ShowsNoDesk};
 ghost use Rattle.desk_tables.specs.Opening.{BlamesReading, BlamesDatabase};
 
 use crate::kept::Kept;
@@ -24,7 +23,7 @@ use crate::lengths::Lengths;
 use crate::opening::content::{TableRows, content_in};
 use crate::opening::open::OpenFault;
 use desk_sql::{
-    Found, all_operators, all_plans, all_spans, all_volumes, find_tables, index_tables, make_tables,
+    DeskTable, Made, all_operators, all_plans, all_spans, all_volumes, complete_tables, find_tables,
 };
 use s2_cover::laws::one_list_of_ranges;
 use sqlite::{Connection, Row};
@@ -33,7 +32,8 @@ use sqlite_value::value::ValueRef;
 use std::alloc::Global;
 
 /// The world that the database stands for: that of the rows in a desk's tables; and how long the spans in it
-/// are. A database with no table gets a desk's, and its world is empty. Tables that lack the index get it.
+/// are. A database with no table gets a desk's, and its world is empty. One with part of them, or without the
+/// index, gets what is missing, if its rows are those of a content.
 ///
 /// # Errors
 ///
@@ -56,16 +56,16 @@ pub(crate) fn world_in<S: Alter>(
         ≤ doubt (state S.Store connection.new).is_clean }
 {
     match find_tables(connection)? {
-        Found::Blank => Ok((made_in(connection)?, Lengths::new())),
-        Found::Desk => found_in(alloc, connection),
-        Found::Unindexed => indexed_in(alloc, connection),
-        Found::Other => Err(OpenFault::NotADesk),
+        Some(Made::All) => found_in(alloc, connection, Made::All),
+        Some(Made::Nothing) => Ok((made_in(connection)?, Lengths::new())),
+        Some(made) => completed_in(alloc, connection, made),
+        None => Err(OpenFault::NotADesk),
     }
 }
 
 /// The empty world, over a database that gets a desk's tables and had none.
 pub(crate) fn made_in<S: Alter>(connection: &mut Connection<S>) -> Result<Kept, OpenFault>
-    requires blank { IsAt S.Store blank_schema connection.old }
+    requires blank { Holds S.Store connection.old (IsMadeTo Made.Nothing) }
     requires settled { connection.old.in_transaction ≡ false }
     ensures empty { IfOk result (λ kept. kept.world ≡ record { operators = []; plans = [] }) }
     ensures stands { IfOk result (λ kept. Stands S.Store connection.new kept.world) }
@@ -76,54 +76,60 @@ pub(crate) fn made_in<S: Alter>(connection: &mut Connection<S>) -> Result<Kept, 
     ensures doubt { doubt (state S.Store connection.old).is_clean
         ≤ doubt (state S.Store connection.new).is_clean }
 {
-    make_tables(connection)?;
+    complete_tables(connection, Made::Nothing)?;
     Ok(Kept::new())
 }
 
-// The world whose rows the tables have, which get their index.
-fn indexed_in<S: Alter>(
+// The world whose rows the tables have, which get what is missing of them.
+#[tactic(auto, using(crate::proofs::OpeningLemmas::some_operators))]
+fn completed_in<S: Alter>(
     alloc: Global,
     connection: &mut Connection<S>,
+    made: Made,
 ) -> Result<(Kept, Lengths), OpenFault>
-    requires unindexed { Holds S.Store connection.old IsUnindexed }
+    requires part { Holds S.Store connection.old (IsMadeTo made) }
+    requires missing { made ≢ Made.All }
+    requires some { made ≢ Made.Nothing }
     requires settled { connection.old.in_transaction ≡ false }
     ensures value { HasCleanDisk (state S.Store connection.new) → IfOk result (λ found.
-        WasIndexed S.Store connection.old connection.new found.0.world) }
+        WasCompleted S.Store connection.old connection.new found.0.world) }
     ensures stands { IfOk result (λ found. Stands S.Store connection.new found.0.world) }
     ensures bounded { IfOk result (λ found. Bounds found.1 found.0.world) }
     ensures none { HasCleanDisk (state S.Store connection.new) → IfErr result (λ e.
         e ≡ OpenFault.NotADesk →
-        AreNoContent (tables_of (state S.Store connection.old).now.trees)) }
+        AreNoContent (tables_at made (state S.Store connection.old).now.trees)) }
     ensures open { HasCleanDisk (state S.Store connection.new) →
         OnOk result (IsTrue (state S.Store connection.old).is_open) }
     ensures kept { OnErr result (IsKept S.Store connection.old connection.new) }
     ensures doubt { doubt (state S.Store connection.old).is_clean
         ≤ doubt (state S.Store connection.new).is_clean }
 {
-    let found = found_in(alloc, connection)?;
-    index_tables(connection)?;
+    let found = found_in(alloc, connection, made)?;
+    complete_tables(connection, made)?;
     Ok(found)
 }
 
-// The world whose rows the tables have.
+// The world whose rows the tables have, so far as they are made.
 fn found_in<S: Alter>(
     alloc: Global,
     connection: &mut Connection<S>,
+    made: Made,
 ) -> Result<(Kept, Lengths), OpenFault>
-    requires legible { Holds S.Store connection.old IsLegible }
+    requires part { Holds S.Store connection.old (IsMadeTo made) }
+    requires some { has_table made DeskTable.Operator ≡ true }
     requires settled { connection.old.in_transaction ≡ false }
     ensures value { HasCleanDisk (state S.Store connection.new) → IfOk result (λ found.
-        IsContentOf (tables_of (state S.Store connection.old).now.trees) found.0.world) }
+        IsContentOf (tables_at made (state S.Store connection.old).now.trees) found.0.world) }
     ensures bounded { IfOk result (λ found. Bounds found.1 found.0.world) }
     ensures none { HasCleanDisk (state S.Store connection.new) → IfErr result (λ e.
         e ≡ OpenFault.NotADesk →
-        AreNoContent (tables_of (state S.Store connection.old).now.trees)) }
+        AreNoContent (tables_at made (state S.Store connection.old).now.trees)) }
     ensures open { HasCleanDisk (state S.Store connection.new) →
         OnOk result (IsTrue (state S.Store connection.old).is_open) }
     ensures cause { IfErr result (BlamesReading S.Store connection.old connection.new) }
     ensures reads { OnlyReads S.Store connection.old connection.new }
 {
-    let rows = rows_in(connection)?;
+    let rows = rows_in(alloc, connection, made)?;
     kept_of(alloc, &rows)
 }
 
@@ -164,23 +170,28 @@ fn kept_of(alloc: Global, rows: &TableRows) -> Result<(Kept, Lengths), OpenFault
     Ok((Kept::of(&content), lengths_in(&rows.spans)))
 }
 
-// The rows of the four tables, each by the columns of its key.
-#[tactic(auto, using(crate::proofs::FrameLemmas::reads_then, crate::proofs::OpeningLemmas::legible_on))]
-fn rows_in<S: Alter>(connection: &mut Connection<S>) -> Result<TableRows, OpenFault>
-    requires legible { Holds S.Store connection.old IsLegible }
+// The rows of the four tables, each by the columns of its key; of those that aren't made none.
+#[tactic(auto, using(crate::proofs::FrameLemmas::reads_then, crate::proofs::OpeningLemmas::part_on))]
+fn rows_in<S: Alter>(
+    alloc: Global,
+    connection: &mut Connection<S>,
+    made: Made,
+) -> Result<TableRows, OpenFault>
+    requires part { Holds S.Store connection.old (IsMadeTo made) }
+    requires some { has_table made DeskTable.Operator ≡ true }
     requires settled { connection.old.in_transaction ≡ false }
     ensures value { HasCleanDisk (state S.Store connection.new) →
-        IfOk result (AreSortedByKey (tables_of (state S.Store connection.old).now.trees)) }
+        IfOk result (AreSortedByKey (tables_at made (state S.Store connection.old).now.trees)) }
     ensures open { HasCleanDisk (state S.Store connection.new) →
         OnOk result (IsTrue (state S.Store connection.old).is_open) }
     ensures fault { IfErr result (λ e. e ≢ OpenFault.NotADesk) }
     ensures cause { IfErr result (BlamesReading S.Store connection.old connection.new) }
     ensures reads { OnlyReads S.Store connection.old connection.new }
 {
-    let operators = all_operators(connection)?;
-    let plans = all_plans(connection)?;
-    let volumes = all_volumes(connection)?;
-    let spans = all_spans(connection)?;
+    let operators = all_operators(alloc, connection, made)?;
+    let plans = all_plans(alloc, connection, made)?;
+    let volumes = all_volumes(alloc, connection, made)?;
+    let spans = all_spans(alloc, connection, made)?;
     Ok(TableRows {
         operators,
         plans,

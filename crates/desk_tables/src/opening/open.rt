@@ -11,12 +11,12 @@ use crate::lengths::Lengths;
 use crate::opening::exact::RowFault;
 use crate::opening::finding::{made_in, world_in};
 use crate::store::SqliteStore;
-use desk_sql::{Found, find_tables};
+use desk_sql::{Made, find_tables};
 use desk_store::StoreFault;
 use ram_disk::Ram;
 use sqlite::{Connection, ErrorCode, FileStore, Files, Options};
 use sqlite_trees::store::Alter;
-use std::alloc::Global;
+use std::alloc::{AllocError, Global};
 use std::error::Error;
 use std::fmt;
 
@@ -24,7 +24,21 @@ use std::fmt;
 const SEED: u64 = 1;
 
 // How many pages of a store in memory are kept twice, so that not each look copies them out of its file.
-const CACHED_PAGES: usize = 512;
+const CACHED_PAGES: usize = 2048;
+
+// The bytes of a page in memory. A commit writes, digests and copies whole pages, so that small ones are
+// quicker; an entry of the index over the leaves of spans fits into it several times.
+const PAGE: usize = 1024;
+
+// What a database of one such page begins with that has no table (the SQLite file format, sections 1.3 and
+// 1.6): its name, the size of a page, two versions for a log, three fractions and the counts of a new file;
+// and then a leaf without cells.
+const BLANK: [u8; 108] = [
+    83, 81, 76, 105, 116, 101, 32, 102, 111, 114, 109, 97, 116, 32, 51, 0, 4, 0, 2, 2, 0, 64, 32,
+    32, 0, 0, 0, 0, 0, 0, 0, 1, 0, 0, 0, 0, 0, 0, 0, 0, 0, 0, 0, 1, 0, 0, 0, 4, 0, 0, 0, 0, 0, 0,
+    0, 0, 0, 0, 0, 1, 0, 0, 0, 0, 0, 0, 0, 0, 0, 0, 0, 0, 0, 0, 0, 0, 0, 0, 0, 0, 0, 0, 0, 0, 0, 0,
+    0, 0, 0, 0, 0, 0, 0, 0, 0, 0, 0, 46, 118, 136, 13, 0, 0, 0, 0, 4, 0, 0,
+];
 
 /// Why a store over tables cannot be opened.
 #[derive(Clone, Copy, Debug, PartialEq, Eq)]
@@ -148,9 +162,12 @@ impl<S: Alter> SqliteStore<S> {
 fn over_ram(alloc: Global) -> Result<SqliteStore<FileStore<Ram>>, OpenFault>
     ensures { IfOk result (λ store. store.world ≡ record { operators = []; plans = [] }) }
 {
+    let Ok(page) = blank_database(alloc) else {
+        return Err(OpenFault::OutOfMemory);
+    };
     let files = Files {
         log: Ram::new(alloc),
-        db: Ram::new(alloc),
+        db: Ram::of(page),
     };
     let options = Options {
         cache_pages: CACHED_PAGES,
@@ -162,6 +179,13 @@ fn over_ram(alloc: Global) -> Result<SqliteStore<FileStore<Ram>>, OpenFault>
     }
 }
 
+// The bytes of a database with no table.
+fn blank_database(alloc: Global) -> Result<Vec<u8>, AllocError> {
+    let mut page = Vec::from_slice(alloc, &BLANK)?;
+    page.resize(PAGE, 0)?;
+    Ok(page)
+}
+
 // A store of no operators and no plans over a connection in memory, in which there has to be no table.
 fn over_blank<S: Alter + Drop>(
     alloc: Global,
@@ -170,7 +194,7 @@ fn over_blank<S: Alter + Drop>(
     requires settled { connection.in_transaction ≡ false }
     ensures { IfOk result (λ store. store.world ≡ record { operators = []; plans = [] }) }
 {
-    let Found::Blank = find_tables(&mut connection)? else {
+    let Some(Made::Nothing) = find_tables(&mut connection)? else {
         return Err(OpenFault::Store);
     };
     let kept = made_in(&mut connection)?;

@@ -21,8 +21,8 @@ returns-in_err-statement-clause-reads g c =
 pub returns-in_err-statement-clause-cause : goal.returns-in_err-statement-clause-cause
 returns-in_err-statement-clause-cause g c clean live =
     let it : IsRefusal g.S.Store c.args.connection.now c.prepare.new.self _ =
-    refused_unprepared g.S.Store c.args.connection.now c.prepare.new.self c.args.query.now c.requires.sure
-    c.requires.known (omega (arith, c.prepare.ensures.survives.clean, clean)) _
+    refused_unprepared g.S.Store c.args.connection.now c.prepare.new.self c.args.query.now
+    c.requires.sure (omega (arith, c.prepare.ensures.survives.clean, clean)) _
     (c.in_err-statement.ensures.err clean []) live in
     search (rules, it)
 
@@ -35,8 +35,7 @@ returns-clause-shown g c clean =
     let it = c.in_ok-statement.ensures.ok early in
     shown_after g.S.Store c.args.connection.now c.prepare.new.self c.query_all.new.conn
     c.args.query.now c.in_ok-statement.statement.text [] start
-    (λ live. sure_plain c.args.query.now c.requires.sure (state g.S.Store c.args.connection.now).now
-    (c.requires.known start live)) it.1 it.0
+    (λ live. sure_plain _ c.args.query.now (c.requires.sure start live)) it.1 it.0
     (λ v. v.items) c.query_all.result (c.query_all.ensures.ok clean)
 
 pub returns-clause-open : goal.returns-clause-open
@@ -56,15 +55,13 @@ returns-clause-reads g c =
     let it = c.in_ok-statement.ensures.ok early in
     kept_by_query g.S.Store old c.prepare.new.self c.query_all.new.conn
     c.args.query.now c.in_ok-statement.statement.text [] start
-    (λ live. sure_plain c.args.query.now c.requires.sure (state g.S.Store old).now
-    (c.requires.known start live)) it.1 it.0
+    (λ live. sure_plain _ c.args.query.now (c.requires.sure start live)) it.1 it.0
     (c.settled_and_sound.ensures.settled c.requires.settled)
     (λ v. v.items) c.query_all.result (c.query_all.ensures.ok clean) (c.query_all.ensures.err clean) live) in
     let spared : Spares g.S.Store old new =
     spared_after g.S.Store old c.prepare.new.self c.query_all.new.conn
     c.args.query.now c.in_ok-statement.statement.text []
-    (λ whole live. sure_plain c.args.query.now c.requires.sure (state g.S.Store old).now
-    (c.requires.known whole live))
+    (λ whole live. sure_plain _ c.args.query.now (c.requires.sure whole live))
     c.in_ok-statement.ensures.ok c.prepare.ensures.survives c.query_all.ensures.survives in
     reads_prepared g.S.Store old c.prepare.new.self new _ kept
     (c.query_all.ensures.mode (c.prepare.ensures.mode c.requires.settled)) spared
@@ -78,5 +75,5 @@ returns-clause-cause g c clean live =
     omega (arith, c.prepare.ensures.survives.clean, early) in
     let it = c.in_ok-statement.ensures.ok early in
     refused_after g.S.Store c.args.connection.now c.prepare.new.self c.query_all.new.conn
-    c.args.query.now c.in_ok-statement.statement.text c.requires.sure c.requires.known start early
+    c.args.query.now c.in_ok-statement.statement.text c.requires.sure start early
     it.1 it.0 c.prepare.ensures.survives c.query_all.result (c.query_all.ensures.err clean) live

@@ -1,14 +1,15 @@
 use Rattle.sqlite.specs.Held.{state}
-use Rattle.desk_sql.specs.Rows.{tables_of}
+use Rattle.desk_sql.specs.Rows.{tables_at}
 use Rattle.desk_tables.proofs.OpeningLemmas.{have_content, of_none}
 use Rattle.desk_tables.proofs.opening.finding.found_in.Goals as goal
 
 pub returns-clause-value : goal.returns-clause-value
 returns-clause-value g c = λ clean.
-    have_content (tables_of (state g.S.Store c.args.connection.now).now.trees) _ (λ found. found.0.world)
+    have_content (tables_at c.args.made (state g.S.Store c.args.connection.now).now.trees) _
+    (λ found. found.0.world)
     c.kept_of.result (c.in_ok-rows.ensures.value clean) c.kept_of.ensures.value
 
 pub returns-clause-none : goal.returns-clause-none
 returns-clause-none g c = λ clean.
-    of_none (tables_of (state g.S.Store c.args.connection.now).now.trees) _ c.kept_of.result
+    of_none (tables_at c.args.made (state g.S.Store c.args.connection.now).now.trees) _ c.kept_of.result
     (c.in_ok-rows.ensures.value clean) c.kept_of.ensures.none

@@ -1,0 +1,9 @@
+use Rattle.std.proofs.Common.{sym, ◌∙◌}
+use Rattle.sqlite.specs.Held.{state}
+use Rattle.desk_sql.proofs.SchemaLemmas.{has_made}
+use Rattle.desk_sql.proofs.opening.numbers.test_made.Goals as goal
+
+pub test_rowids-requires-clause-known : goal.test_rowids-requires-clause-known
+test_rowids-requires-clause-known g c clean live =
+    has_made c.args.made c.args.table (state g.S.Store c.args.connection.now).now
+    (sym c.has.ensures ∙ c.if-has.true) (c.requires.known clean live)

@@ -1,0 +1,5 @@
+use Rattle.s2_cover.specs.Ranges.{spans_have}
+use Rattle.s2_cover.proofs.covers.Cover.of_ranges.Given as goal
+
+abbrev pub ghost-largest_cells : goal.ghost-largest_cells
+ghost-largest_cells a = spans_have a.spans.now
