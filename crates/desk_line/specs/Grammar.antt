@@ -21,6 +21,7 @@ use Rattle.desk_line.specs.declared.line.Enrol.{Enrol as EnrolWords}
 use Rattle.desk_line.specs.declared.line.Enrolment.{Enrolment}
 use Rattle.desk_line.specs.declared.line.Line.{Line}
 use Rattle.desk_line.specs.declared.line.Line.TheVariants as line
+use Rattle.desk_line.specs.declared.line.Migrate.{Migrate as MigrateWords}
 use Rattle.desk_line.specs.declared.line.Play.{Play as PlayWords}
 use Rattle.desk_line.specs.declared.line.Serve.{Serve as ServeWords}
 
@@ -105,6 +106,9 @@ words_of_cover =
 abbrev pub words_of_enrol : List Rule
 words_of_enrol = needed database ∷ needed (value (codes "NAME")) ∷ needed (value (codes "CEILING")) ∷ []
 
+abbrev pub words_of_migrate : List Rule
+words_of_migrate = needed database ∷ []
+
 -- a line: its first word, and its further words
 abbrev pub line_shape : Text → List Rule → Shape
 line_shape name rules = record (new_shape name) { rules = rules }
@@ -117,6 +121,7 @@ line_shapes =
     ∷ line_shape (codes "serve") words_of_serve
     ∷ line_shape (codes "cover") words_of_cover
     ∷ line_shape (codes "enrol") words_of_enrol
+    ∷ line_shape (codes "migrate") words_of_migrate
     ∷ []
 
 -- a program that takes no line: `--version` and `--help` are answered
@@ -203,6 +208,9 @@ pub record IsEnrolGiven (rows : List Row) (enrol : EnrolWords) : Type 0 where
   pub database : file_of enrol.database ≡ file_given rows
   pub enrolment : enrolment_given rows ≡ Some enrol.enrolment
 
+abbrev pub IsMigrateGiven : List Row → MigrateWords → Type 0
+IsMigrateGiven rows migrate = file_of migrate.database ≡ file_given rows
+
 -- the first word of a line
 abbrev pub name_of : Line → Text
 name_of (line.Play play) = codes "play"
@@ -210,6 +218,7 @@ name_of (line.Token text) = codes "token"
 name_of (line.Serve serve) = codes "serve"
 name_of (line.Cover cover) = codes "cover"
 name_of (line.Enrol enrol) = codes "enrol"
+name_of (line.Migrate migrate) = codes "migrate"
 
 -- each field of a line has the value that was given
 abbrev pub HasGiven : List Row → Line → Type 0
@@ -218,6 +227,7 @@ HasGiven rows (line.Token text) = first_of (codes "token") rows ≡ Some (string
 HasGiven rows (line.Serve serve) = IsServeGiven rows serve
 HasGiven rows (line.Cover cover) = IsCoverGiven rows cover
 HasGiven rows (line.Enrol enrol) = IsEnrolGiven rows enrol
+HasGiven rows (line.Migrate migrate) = IsMigrateGiven rows migrate
 
 -- the line that these words are, the first of them the program's own name
 pub record IsGiven (words : List Text) (line : Line) : Type 0 where

@@ -9,7 +9,7 @@ use Rattle.desk_line.specs.declared.line.Database.TheVariants.{InMemory, File}
 use Rattle.desk_line.specs.declared.line.Enrol.{Enrol as EnrolWords}
 use Rattle.desk_line.specs.declared.line.Enrolment.{Enrolment}
 use Rattle.desk_line.specs.declared.line.Line.{Line}
-use Rattle.desk_line.specs.declared.line.Line.TheVariants.{Play, Token, Serve, Cover, Enrol}
+use Rattle.desk_line.specs.declared.line.Line.TheVariants.{Play, Token, Serve, Cover, Enrol, Migrate}
 use Rattle.desk_line.specs.declared.line.Play.{Play as PlayWords}
 use Rattle.desk_line.specs.declared.line.Serve.{Serve as ServeWords}
 
@@ -61,6 +61,7 @@ IsLine (Token token) = ⊤
 IsLine (Serve serve) = IsServe serve
 IsLine (Cover cover) = ⊤
 IsLine (Enrol enrol) = IsEnrol enrol
+IsLine (Migrate migrate) = ⊤
 
 -- a line that is carried out at a desk, by reading and writing alone
 abbrev pub HasDesk : Line → Type 0
@@ -69,6 +70,7 @@ HasDesk (Token token) = ⊥
 HasDesk (Serve serve) = ⊥
 HasDesk (Cover cover) = ⊥
 HasDesk (Enrol enrol) = ⊤
+HasDesk (Migrate migrate) = ⊥
 
 -- a line that is carried out at a desk over a database
 abbrev pub HasDatabase : Line → Type 0
@@ -77,11 +79,13 @@ HasDatabase (Token token) = ⊥
 HasDatabase (Serve serve) = ⊤
 HasDatabase (Cover cover) = ⊥
 HasDatabase (Enrol enrol) = ⊤
+HasDatabase (Migrate migrate) = ⊥
 
--- a line that is carried out with no desk
+-- a line that is carried out by printing alone
 abbrev pub IsPrintable : Line → Type 0
 IsPrintable (Play play) = ⊥
 IsPrintable (Token token) = ⊤
 IsPrintable (Serve serve) = ⊥
 IsPrintable (Cover cover) = ⊤
 IsPrintable (Enrol enrol) = ⊥
+IsPrintable (Migrate migrate) = ⊥

@@ -79,6 +79,7 @@ IsTold (line.Token token) told = told ≡ told_of_token (read_token (string_byte
 IsTold (line.Serve serve) told = ⊥
 IsTold (line.Cover words) told = IsRectTold words.is_picture (rect_or_fault (rect_parts words)) told
 IsTold (line.Enrol enrol) told = ⊥
+IsTold (line.Migrate migrate) told = ⊥
 
 -- what was told is printed, or the status says why there is nothing to tell
 abbrev pub IsShown : Result (List ℕ) Failure → ℕ → Option (List ℕ) → Option (List ℕ) → Type 0

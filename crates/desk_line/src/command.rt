@@ -43,7 +43,7 @@ enum Word {
     Picture,
 }
 
-static FORMS: [Form; 5] = [
+static FORMS: [Form; 6] = [
     Form {
         name: "play",
         about: "Answers the requests of the standard input",
@@ -86,6 +86,11 @@ static FORMS: [Form; 5] = [
             Word::Text("NAME", "The operator's name"),
             Word::Text("CEILING", "The greatest priority that it may use"),
         ],
+    },
+    Form {
+        name: "migrate",
+        about: "Moves the plans of a database of schema 1 to schema 2",
+        words: &[Word::GivenDatabase],
     },
 ];
 

@@ -46,6 +46,8 @@ pub enum Failure {
     Value,
     /// A database has other tables than a desk's, or rows that are no desk's.
     NotADesk,
+    /// A database has rows of schema 1, which have to be migrated.
+    OldSchema,
 }
 
 impl Failure {
@@ -59,7 +61,7 @@ impl Failure {
             Failure::Unframed | Failure::CutShort | Failure::Read | Failure::Limit => 3,
             Failure::Token(_) | Failure::Rect(_) | Failure::TooManyCells => 3,
             Failure::Broken | Failure::Memory | Failure::Store | Failure::Write => 4,
-            Failure::Network | Failure::Clock | Failure::NotADesk => 4,
+            Failure::Network | Failure::Clock | Failure::NotADesk | Failure::OldSchema => 4,
         }
     }
 
@@ -83,6 +85,7 @@ impl Failure {
             Failure::Clock => "clock",
             Failure::Value => "value",
             Failure::NotADesk => "not_a_desk",
+            Failure::OldSchema => "old_schema",
         }
     }
 }

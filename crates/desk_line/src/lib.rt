@@ -9,5 +9,7 @@ mod line;
 mod printed;
 
 pub use failure::{Failure, conclude};
-pub use line::{Cover, Database, Enrol, Enrolment, Line, Play, Serve, WordsFault, read_words};
+pub use line::{
+    Cover, Database, Enrol, Enrolment, Line, Migrate, Play, Serve, WordsFault, read_words,
+};
 pub use printed::print_line;

@@ -11,9 +11,9 @@ ghost use Rattle.desk_line.specs.Equal.{ArePermittedBy};
 ghost use Rattle.desk_wire.specs.Moments.{IsMoment};
 ghost use Rattle.desk_line.specs.Grammar as spec;
 ghost use Rattle.desk_line.specs.Grammar.{AreEnrolmentsGiven, HasGiven, IsCoverGiven, IsEnrolGiven};
-ghost use Rattle.desk_line.specs.Grammar.{IsGiven, IsPlayGiven, IsServeGiven, enrolment_given};
-ghost use Rattle.desk_line.specs.Grammar.{enrolment_in, file_given, name_of, number_given, second_given};
-ghost use Rattle.desk_line.specs.Grammar.{program};
+ghost use Rattle.desk_line.specs.Grammar.{IsGiven, IsMigrateGiven, IsPlayGiven, IsServeGiven};
+ghost use Rattle.desk_line.specs.Grammar.{enrolment_given, enrolment_in, file_given, name_of, number_given};
+ghost use Rattle.desk_line.specs.Grammar.{program, second_given};
 ghost use Rattle.desk_line.specs.Lines.{AreEnrolments, IsEnrol, IsLine, IsPlay, IsServe, file_of};
 ghost use Rattle.desk_line.specs.Lines.{max_connections, max_port, min_connections, min_port};
 ghost use Rattle.desk_line.specs.Lines.{named_file};
@@ -49,6 +49,8 @@ pub enum Line {
     Cover(Cover),
     /// `enrol`: enrols one operator.
     Enrol(Enrol),
+    /// `migrate`: moves the plans of a database of schema 1 to schema 2.
+    Migrate(Migrate),
 }
 
 /// Where operators and plans are kept.
@@ -114,6 +116,13 @@ pub struct Enrol {
     pub database: Database,
     /// The operator and its ceiling.
     pub enrolment: Enrolment,
+}
+
+/// The words of `migrate`.
+#[derive(Debug, Drop)]
+pub struct Migrate {
+    /// Where the plans are.
+    pub database: Database,
 }
 
 /// An operator to be enrolled, `NAME=CEILING`.
@@ -198,6 +207,7 @@ fn read_line(alloc: Global, name: &str, given: &ArgMatches<'_>) -> Result<Line, 
             None => Err(WordsFault::Value),
         },
         "enrol" => Ok(Line::Enrol(read_enrol(alloc, given)?)),
+        "migrate" => Ok(Line::Migrate(read_migrate(alloc, given)?)),
         _ => Err(WordsFault::Value),
     }
 }
@@ -350,6 +360,15 @@ fn read_enrol(alloc: Global, given: &ArgMatches<'_>) -> Result<Enrol, WordsFault
     Ok(Enrol {
         database: read_database(alloc, given)?,
         enrolment,
+    })
+}
+
+// The words of `migrate`.
+fn read_migrate(alloc: Global, given: &ArgMatches<'_>) -> Result<Migrate, AllocError>
+    ensures { IfOk result (IsMigrateGiven (rows_of (found_of given.now))) }
+{
+    Ok(Migrate {
+        database: read_database(alloc, given)?,
     })
 }
 

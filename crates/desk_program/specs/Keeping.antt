@@ -52,6 +52,7 @@ IsLinePlayKept H (line.Enrol enrol) status old new out now w after found =
 IsLinePlayKept H (line.Token token) status old new out now w after found = ⊥
 IsLinePlayKept H (line.Serve serve) status old new out now w after found = ⊥
 IsLinePlayKept H (line.Cover cover) status old new out now w after found = ⊥
+IsLinePlayKept H (line.Migrate migrate) status old new out now w after found = ⊥
 
 -- the request of a connection left a world as it was, its answer was a 500 or is not whole, and what is
 -- found is what this request would leave there
@@ -107,3 +108,4 @@ IsLineKept H (line.Serve serve) status from to old new out now w after found =
     IsServeKept H serve status from to w after found
 IsLineKept H (line.Token token) status from to old new out now w after found = ⊥
 IsLineKept H (line.Cover cover) status from to old new out now w after found = ⊥
+IsLineKept H (line.Migrate migrate) status from to old new out now w after found = ⊥

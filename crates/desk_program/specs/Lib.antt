@@ -5,3 +5,4 @@ pub mod Playing
 pub mod Waiting
 pub mod Keeping
 pub mod Running
+pub mod Moving

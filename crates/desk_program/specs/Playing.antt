@@ -53,3 +53,4 @@ IsLinePlayed H (line.Serve serve) status old new out now w after = ⊥
 IsLinePlayed H (line.Cover cover) status old new out now w after = ⊥
 IsLinePlayed H (line.Enrol enrol) status old new out now w after =
     (new ≡ old) × IsEnrolled H enrol.enrolment status out now w after
+IsLinePlayed H (line.Migrate migrate) status old new out now w after = ⊥

@@ -21,3 +21,4 @@ IsCarriedOut H (line.Serve serve) status from to old new out now w after =
     × (status ≡ 0 → Appends out now (listening_line serve.port))
 IsCarriedOut H (line.Token token) status from to old new out now w after = ⊥
 IsCarriedOut H (line.Cover cover) status from to old new out now w after = ⊥
+IsCarriedOut H (line.Migrate migrate) status from to old new out now w after = ⊥

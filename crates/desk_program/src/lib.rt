@@ -1,8 +1,9 @@
 //! What the planning desk's program does at a desk, whatever store the desk is over: enrolments, the
-//! requests of an input, and one request a connection at a port.
+//! requests of an input, and one request a connection at a port; and what it prints of plans that were moved.
 #![tactic(auto)]
 
 mod local;
+mod moving;
 mod port;
 mod program;
 mod running;
@@ -10,6 +11,7 @@ mod server;
 mod timed;
 
 pub use local::LocalPort;
+pub use moving::print_migrated;
 pub use port::{Connection, Port};
 pub use program::with_desk;
 pub use running::run_opened;

@@ -8,10 +8,7 @@ use s2_cellid::CellId;
 use s2_cover::{Cover, Rect, cover, normalise};
 use std::alloc::Global;
 use std::io::Write;
-use volume4d::{Area, Footprint, Slab, Volume, Window};
-
-/// The most cells of a cover.
-const MAX_CELLS: u32 = 256;
+use volume4d::{Area, Footprint, MAX_COVER, Slab, Volume, Window};
 
 // The calls. What each prints is a line or more, in the forms of `ground_cases`.
 #[derive(Clone, Copy, Debug)]
@@ -91,7 +88,7 @@ fn ranges(alloc: Global) -> Option<Vec<u8>> {
 // The cover of half a face.
 fn covered(alloc: Global) -> Option<Vec<u8>> {
     let rect = Rect::try_new(0, 0, 1_073_741_823, 0, 536_870_911, 8).ok()?;
-    cells_line(alloc, &cover(alloc, &rect, MAX_CELLS).ok()?)
+    cells_line(alloc, &cover(alloc, &rect, MAX_COVER).ok()?)
 }
 
 // The bytes of a rectangle, as they are when they were read back.

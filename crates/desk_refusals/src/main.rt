@@ -12,7 +12,8 @@ mod playing;
 mod refusals;
 mod stand;
 
-use adopting::{adopt_again, new_tables};
+use adopting::{adopt_again, move_again, new_tables};
+use anyhow::bail;
 use desk_store::{ListStore, PlanStore};
 use desk_tables::SqliteStore;
 use ground::play_ground;
@@ -50,7 +51,8 @@ fn play_list<W: Write>(
     play_desk(&mut stand, refusals, output)
 }
 
-// Plays at a desk over tables in memory, and shows what is there once they are adopted again.
+// Plays at a desk over tables in memory, and shows what is there once they are adopted again, and once they
+// are moved from schema 1.
 fn play_tables<W: Write>(
     alloc: Global,
     refusals: &mut Refusals,
@@ -58,6 +60,13 @@ fn play_tables<W: Write>(
 ) -> anyhow::Result<()> {
     let store = played(alloc, new_tables(alloc, refusals)?, refusals, output)?;
     let mut stand = Stand::new(alloc, adopt_again(alloc, store, refusals)?);
+    show_desk(&mut stand, refusals, output)?;
+    output.write_all(b"moved\n")?;
+    let (store, count) = move_again(alloc, stand.into_store(), refusals)?;
+    if count != 1 {
+        bail!("{count} plans are moved, and there is one");
+    }
+    let mut stand = Stand::new(alloc, store);
     show_desk(&mut stand, refusals, output)
 }
 

@@ -23,7 +23,7 @@ use Rattle.sqlite_value.specs.Keys.{plain, first_key}
 use Rattle.sqlite_tied.specs.Compute.{everything}
 use Rattle.desk_sql.specs.Schema.{desk_schema, operator_table, plan_table, volume_table, span_table, to_operator, to_plan}
 use Rattle.desk_sql.specs.Rows.{IsDesk, columns, tables_of}
-use Rattle.desk_sql.specs.Batches.{volume_of, span_of}
+use Rattle.desk_sql.specs.Batches.{volume_of, volume_params, span_of}
 use Rattle.desk_sql.specs.Statements.{Ceiling, ceiling_row, row_of, enforced}
 use Rattle.desk_sql.specs.declared.changing.writing.PlanRecord.{PlanRecord}
 use Rattle.desk_sql.specs.declared.changing.writing.VolumeRecord.{VolumeRecord}
@@ -122,7 +122,7 @@ plan_values it limit db e (inl misfit) = absurd (true≢false misfit.1)
 plan_values it limit db e (inr steps) = steps
 
 volume_values : (it : VolumeRecord) (limit : Option ℕ) (db : Database) (e : Error)
-    → RefusesSource limit db (volume_of it ++ []) (Values insert_volume_terms 9) e
+    → RefusesSource limit db (volume_params it ++ []) (Values insert_volume_terms 10) e
     → (e ≡ SqliteFailure code.OperationInterrupted) × IsSome limit
 unfolding everything
 volume_values it limit db e (inl misfit) = absurd (true≢false misfit.1)
@@ -162,7 +162,11 @@ module _ (c : Ceiling) (limit : Option ℕ) (old : Database) (desk : IsDesk old)
   operator_lone i (inr (inr (inl is))) on = off (at 0 operator_table) i _ is refl on
   operator_lone i (inr (inr (inr (inl is)))) on = off (at 0 operator_table) i _ is refl on
   operator_lone i (inr (inr (inr (inr (inl is))))) on = off (at 0 operator_table) i _ is refl on
-  operator_lone i (inr (inr (inr (inr (inr none))))) on = absurd none
+  operator_lone i (inr (inr (inr (inr (inr (inl is)))))) on = off (at 0 operator_table) i _ is refl on
+  operator_lone i (inr (inr (inr (inr (inr (inr (inl is))))))) on = off (at 0 operator_table) i _ is refl on
+  operator_lone i (inr (inr (inr (inr (inr (inr (inr (inl is)))))))) on =
+      off (at 0 operator_table) i _ is refl on
+  operator_lone i (inr (inr (inr (inr (inr (inr (inr (inr none)))))))) on = absurd none
 
   operator_never : (stop : Option Error)
       → OnRows (task_at limit (ceiling_row c) operator_table.name operator_table.columns
@@ -203,7 +207,10 @@ module _ (p : PlanRecord) (limit : Option ℕ) (old : Database) (desk : IsDesk o
   plan_lone i (inr (inr (inl is))) on = off (at 2 plan_table) i _ is refl on
   plan_lone i (inr (inr (inr (inl is)))) on = off (at 2 plan_table) i _ is refl on
   plan_lone i (inr (inr (inr (inr (inl is))))) on = off (at 2 plan_table) i _ is refl on
-  plan_lone i (inr (inr (inr (inr (inr none))))) on = absurd none
+  plan_lone i (inr (inr (inr (inr (inr (inl is)))))) on = off (at 2 plan_table) i _ is refl on
+  plan_lone i (inr (inr (inr (inr (inr (inr (inl is))))))) on = off (at 2 plan_table) i _ is refl on
+  plan_lone i (inr (inr (inr (inr (inr (inr (inr (inl is)))))))) on = off (at 2 plan_table) i _ is refl on
+  plan_lone i (inr (inr (inr (inr (inr (inr (inr (inr none)))))))) on = absurd none
 
   plan_never : (stop : Option Error)
       → OnRows (task_at limit (row_of p) plan_table.name plan_table.columns plan_table.primary
@@ -231,27 +238,33 @@ module _ (p : PlanRecord) (limit : Option ℕ) (old : Database) (desk : IsDesk o
       }) 1
 
 module _ (v : VolumeRecord) (limit : Option ℕ) (old : Database) (desk : IsDesk old) (sound : IsDatabase old)
-    (fits : FitsVolume v.operator.now v.id.now v.asked.now (volume_of v) old) where
+    (fits : FitsVolume v.operator.now v.id.now v.asked.now v.canon.now (volume_of v) old) where
   abbrev volume_trees : Trees
   volume_trees = old.trees
 
-  volume_lone : IsLone (at 4 volume_table) (inr (inr (inl refl))) volume_trees (volume_of v)
-  volume_lone i (inl is) on = off (at 4 volume_table) i _ is refl on
-  volume_lone i (inr (inl is)) on = off (at 4 volume_table) i _ is refl on
-  volume_lone i (inr (inr (inl is))) on =
-      alone (columns 8) (λ r. has_same_key 3 r (volume_of v)) i _ is _ (volume_trees 4)
-      (key_3 (next_rowid (old.trees 4)) (volume_of v)) fits.3.1
-  volume_lone i (inr (inr (inr (inl is)))) on = off (at 4 volume_table) i _ is refl on
-  volume_lone i (inr (inr (inr (inr (inl is))))) on = off (at 4 volume_table) i _ is refl on
-  volume_lone i (inr (inr (inr (inr (inr none))))) on = absurd none
+  volume_lone : IsLone (at 9 volume_table) (inr (inr (inr (inr (inl refl))))) volume_trees
+      (volume_params v)
+  volume_lone i (inl is) on = off (at 9 volume_table) i _ is refl on
+  volume_lone i (inr (inl is)) on = off (at 9 volume_table) i _ is refl on
+  volume_lone i (inr (inr (inl is))) on = off (at 9 volume_table) i _ is refl on
+  volume_lone i (inr (inr (inr (inl is)))) on = off (at 9 volume_table) i _ is refl on
+  volume_lone i (inr (inr (inr (inr (inl is))))) on = off (at 9 volume_table) i _ is refl on
+  volume_lone i (inr (inr (inr (inr (inr (inl is)))))) on =
+      alone (columns 8) (λ r. has_same_key 3 r (volume_params v)) i _ is _ (volume_trees 9)
+      (key_3 (next_rowid (old.trees 9)) (volume_params v)) fits.4.1
+  volume_lone i (inr (inr (inr (inr (inr (inr (inl is))))))) on = off (at 9 volume_table) i _ is refl on
+  volume_lone i (inr (inr (inr (inr (inr (inr (inr (inl is)))))))) on = off (at 9 volume_table) i _ is refl on
+  volume_lone i (inr (inr (inr (inr (inr (inr (inr (inr none)))))))) on = absurd none
 
   volume_never : (stop : Option Error)
-      → OnRows (task_at limit (volume_of v) volume_table.name volume_table.columns volume_table.primary
-      volume_table.references 4) enforced None (Insert 2 (Values insert_volume_terms 9)) old.trees (Err stop)
+      → OnRows (task_at limit (volume_params v) volume_table.name volume_table.columns volume_table.primary
+      volume_table.references 9) enforced None (Insert 4 (Values insert_volume_terms 10)) old.trees
+      (Err stop)
       → IsAtLimit limit stop
-  volume_never = never_stops limit (volume_of v) volume_table.name volume_table.columns volume_table.primary
-      volume_table.references 4 old.trees insert_volume_terms 9 (volume_of v) (record {
-        listed = inr (inr (inl refl));
+  volume_never = never_stops limit (volume_params v) volume_table.name volume_table.columns
+      volume_table.primary volume_table.references 9 old.trees insert_volume_terms 10 (volume_params v)
+      (record {
+        listed = inr (inr (inr (inr (inl refl))));
         refers = volume_refers;
         one = refl;
         sure = volume_values v limit (record { schema = desk_schema; trees = old.trees });
@@ -262,38 +275,41 @@ module _ (v : VolumeRecord) (limit : Option ℕ) (old : Database) (desk : IsDesk
           present = λ n. refl;
           checked = λ n. refl;
           stored = volume_stored v.operator.now v.id.now v.place v.lower v.upper
-              v.start v.stop v.asked.now fits.0
-              fits.1 fits.2;
+              v.start v.stop v.asked.now v.canon.now fits.0
+              fits.1 fits.2 fits.3;
         };
-        room = fits.3.0;
+        room = fits.4.0;
         whole = desk.volumes.whole;
         lone = volume_lone;
-        parents = (plan_there volume_trees _ (volume_of v) fits.4, tt);
+        parents = (plan_there volume_trees _ (volume_params v) fits.5, tt);
         obeys = subst (λ s. Obeys s old.trees) desk.schema sound.obeys;
-      }) 2
+      }) 4
 
 module _ (s : SpanRecord) (limit : Option ℕ) (old : Database) (desk : IsDesk old) (sound : IsDatabase old)
     (fits : FitsSpan s.operator.now s.id.now (span_of s) old) where
   abbrev span_trees : Trees
   span_trees = old.trees
 
-  span_lone : IsLone (at 6 span_table) (inr (inr (inr (inl refl)))) span_trees (span_of s)
-  span_lone i (inl is) on = off (at 6 span_table) i _ is refl on
-  span_lone i (inr (inl is)) on = off (at 6 span_table) i _ is refl on
-  span_lone i (inr (inr (inl is))) on = off (at 6 span_table) i _ is refl on
-  span_lone i (inr (inr (inr (inl is)))) on =
-      alone (columns 10) (λ r. has_same_key 4 r (span_of s)) i _ is _ (span_trees 6)
-      (key_4 (next_rowid (old.trees 6)) (span_of s)) fits.2.1
-  span_lone i (inr (inr (inr (inr (inl is))))) on = off (at 6 span_table) i _ is refl on
-  span_lone i (inr (inr (inr (inr (inr none))))) on = absurd none
+  span_lone : IsLone (at 11 span_table) (inr (inr (inr (inr (inr (inl refl)))))) span_trees (span_of s)
+  span_lone i (inl is) on = off (at 11 span_table) i _ is refl on
+  span_lone i (inr (inl is)) on = off (at 11 span_table) i _ is refl on
+  span_lone i (inr (inr (inl is))) on = off (at 11 span_table) i _ is refl on
+  span_lone i (inr (inr (inr (inl is)))) on = off (at 11 span_table) i _ is refl on
+  span_lone i (inr (inr (inr (inr (inl is))))) on = off (at 11 span_table) i _ is refl on
+  span_lone i (inr (inr (inr (inr (inr (inl is)))))) on = off (at 11 span_table) i _ is refl on
+  span_lone i (inr (inr (inr (inr (inr (inr (inl is))))))) on =
+      alone (columns 10) (λ r. has_same_key 4 r (span_of s)) i _ is _ (span_trees 11)
+      (key_4 (next_rowid (old.trees 11)) (span_of s)) fits.2.1
+  span_lone i (inr (inr (inr (inr (inr (inr (inr (inl is)))))))) on = off (at 11 span_table) i _ is refl on
+  span_lone i (inr (inr (inr (inr (inr (inr (inr (inr none)))))))) on = absurd none
 
   span_never : (stop : Option Error)
       → OnRows (task_at limit (span_of s) span_table.name span_table.columns span_table.primary
-      span_table.references 6) enforced None (Insert 3 (Values insert_span_terms 11)) old.trees (Err stop)
+      span_table.references 11) enforced None (Insert 5 (Values insert_span_terms 11)) old.trees (Err stop)
       → IsAtLimit limit stop
   span_never = never_stops limit (span_of s) span_table.name span_table.columns span_table.primary
-      span_table.references 6 old.trees insert_span_terms 11 (span_of s) (record {
-        listed = inr (inr (inr (inl refl)));
+      span_table.references 11 old.trees insert_span_terms 11 (span_of s) (record {
+        listed = inr (inr (inr (inr (inr (inl refl)))));
         refers = span_refers;
         one = refl;
         sure = span_values s limit (record { schema = desk_schema; trees = old.trees });
@@ -312,7 +328,7 @@ module _ (s : SpanRecord) (limit : Option ℕ) (old : Database) (desk : IsDesk o
         lone = span_lone;
         parents = (plan_there span_trees _ (span_of s) fits.3, tt);
         obeys = subst (λ s. Obeys s old.trees) desk.schema sound.obeys;
-      }) 3
+      }) 5
 
 -- ---- the texts
 
@@ -330,10 +346,10 @@ plan = sure_change insert_plan_text row_of _ _ insert_plan_is tt (λ it. refl)
     (omega arith)
     (λ it limit db stop desk sound fits h. plan_never it limit db desk sound fits stop h)
 
-pub volume : IsSureChange insert_volume_text volume_of
-    (λ v. FitsVolume v.operator.now v.id.now v.asked.now (volume_of v))
+pub volume : IsSureChange insert_volume_text volume_params
+    (λ v. FitsVolume v.operator.now v.id.now v.asked.now v.canon.now (volume_of v))
 unfolding understood everything
-volume = sure_change insert_volume_text volume_of _ _ insert_volume_is tt (λ it. refl)
+volume = sure_change insert_volume_text volume_params _ _ insert_volume_is tt (λ it. refl)
     (omega arith)
     (λ it limit db stop desk sound fits h. volume_never it limit db desk sound fits stop h)
 

@@ -20,9 +20,9 @@ use Rattle.sqlite.specs.Store.{Ghosts}
 use Rattle.sqlite.specs.Held.{Held, state}
 use Rattle.sqlite.specs.Schema.{Schema}
 use Rattle.desk_sql.specs.declared.opening.finding.Made.{Made}
-use Rattle.desk_sql.specs.declared.opening.finding.Made.TheVariants.{Nothing, Operators, Plans, Volumes, Spans, All}
+use Rattle.desk_sql.specs.declared.opening.finding.Made.TheVariants.{Nothing, Operators, Plans, OldVolumes, OldSpans, OldIndex, Volumes, Spans, All}
 use Rattle.desk_sql.specs.declared.opening.numbers.DeskTable.{DeskTable}
-use Rattle.desk_sql.specs.declared.opening.numbers.DeskTable.TheVariants.{Operator, Plan, Volume, Span}
+use Rattle.desk_sql.specs.declared.opening.numbers.DeskTable.TheVariants.{Operator, Plan, OldVolume, OldSpan, Volume, Span}
 use Rattle.desk_sql.specs.Schema.{HasTable, has_table}
 use Rattle.desk_sql.specs.Frames.{OnlyReads}
 use Rattle.desk_sql.specs.Finding.{Holds}
@@ -191,6 +191,9 @@ pub operators_at : (made : Made) (db : Trees) → (tables_at made db).operators
 operators_at Nothing db = refl
 operators_at Operators db = refl
 operators_at Plans db = refl
+operators_at OldVolumes db = refl
+operators_at OldSpans db = refl
+operators_at OldIndex db = refl
 operators_at Volumes db = refl
 operators_at Spans db = refl
 operators_at All db = refl
@@ -200,24 +203,69 @@ pub plans_at : (made : Made) (db : Trees) → (tables_at made db).plans
 plans_at Nothing db = refl
 plans_at Operators db = refl
 plans_at Plans db = refl
+plans_at OldVolumes db = refl
+plans_at OldSpans db = refl
+plans_at OldIndex db = refl
 plans_at Volumes db = refl
 plans_at Spans db = refl
 plans_at All db = refl
+
+pub old_volumes_at : (made : Made) (db : Trees) → (tables_at made db).old_volumes
+    ≡ (if has_table made OldVolume then (tables_of db).old_volumes else [])
+old_volumes_at Nothing db = refl
+old_volumes_at Operators db = refl
+old_volumes_at Plans db = refl
+old_volumes_at OldVolumes db = refl
+old_volumes_at OldSpans db = refl
+old_volumes_at OldIndex db = refl
+old_volumes_at Volumes db = refl
+old_volumes_at Spans db = refl
+old_volumes_at All db = refl
+
+pub old_spans_at : (made : Made) (db : Trees) → (tables_at made db).old_spans
+    ≡ (if has_table made OldSpan then (tables_of db).old_spans else [])
+old_spans_at Nothing db = refl
+old_spans_at Operators db = refl
+old_spans_at Plans db = refl
+old_spans_at OldVolumes db = refl
+old_spans_at OldSpans db = refl
+old_spans_at OldIndex db = refl
+old_spans_at Volumes db = refl
+old_spans_at Spans db = refl
+old_spans_at All db = refl
 
 pub volumes_at : (made : Made) (db : Trees) → (tables_at made db).volumes
     ≡ (if has_table made Volume then (tables_of db).volumes else [])
 volumes_at Nothing db = refl
 volumes_at Operators db = refl
 volumes_at Plans db = refl
+volumes_at OldVolumes db = refl
+volumes_at OldSpans db = refl
+volumes_at OldIndex db = refl
 volumes_at Volumes db = refl
 volumes_at Spans db = refl
 volumes_at All db = refl
+
+pub covers_at : (made : Made) (db : Trees) → (tables_at made db).covers
+    ≡ (if has_table made Volume then (tables_of db).covers else [])
+covers_at Nothing db = refl
+covers_at Operators db = refl
+covers_at Plans db = refl
+covers_at OldVolumes db = refl
+covers_at OldSpans db = refl
+covers_at OldIndex db = refl
+covers_at Volumes db = refl
+covers_at Spans db = refl
+covers_at All db = refl
 
 pub spans_at : (made : Made) (db : Trees) → (tables_at made db).spans
     ≡ (if has_table made Span then (tables_of db).spans else [])
 spans_at Nothing db = refl
 spans_at Operators db = refl
 spans_at Plans db = refl
+spans_at OldVolumes db = refl
+spans_at OldSpans db = refl
+spans_at OldIndex db = refl
 spans_at Volumes db = refl
 spans_at Spans db = refl
 spans_at All db = refl

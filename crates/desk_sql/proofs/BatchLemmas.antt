@@ -8,14 +8,14 @@ use Rattle.sqlite.specs.State.{State, HasCleanDisk, IsUnchanged, IsNotRun, Keeps
 use Rattle.sqlite.specs.Effect.{Database, IsDatabase}
 use Rattle.sqlite.specs.declared.error.Error.{Error}
 use Rattle.sqlite.specs.Held.{Held, state}
-use Rattle.desk_sql.specs.Rows.{IsDesk, Tables, tables_of, RemovesPlan, AddsPlan, AddsVolume, AddsSpan}
+use Rattle.desk_sql.specs.Rows.{IsDesk, Tables, tables_of, AddsVolume, AddsSpan}
 use Rattle.desk_sql.specs.Effects.{IsReady, Makes}
 use Rattle.desk_sql.specs.Frames.{Remembers}
 use Rattle.desk_sql.specs.Finding.{Holds}
 use Rattle.desk_sql.specs.Refusals.{IsRefusal}
 use Rattle.desk_sql.proofs.RowidLemmas.{refusal_on}
 use Rattle.desk_sql.proofs.LeavingLemmas.{remembers_itself, remembers_survived, remembers_then}
-use Rattle.desk_sql.specs.Batches.{AddsVolumes, AddsSpans, IsUnderWay, PutsPlan}
+use Rattle.desk_sql.specs.Batches.{AddsVolumes, AddsSpans, IsUnderWay}
 
 pub record HasAdded {S : Type 0} (g : Ghosts S) (old now : Held S)
     (Changes : Tables → Tables → Type 0) : Type
@@ -112,17 +112,18 @@ more_added rows row old mid new first last =
     (IsPermutation-trans _ _ _ (IsPermutation-middle rows row old)
     (IsPermutation-trans _ _ _ (IsPermutation-cons row _ _ first) last))
 
-pub no_volumes : (t : Tables) → AddsVolumes [] t t
-no_volumes t = (IsPermutation-refl t.volumes, refl)
+pub no_volumes : (t : Tables) → AddsVolumes [] [] t t
+no_volumes t = (IsPermutation-refl t.volumes, IsPermutation-refl t.covers, refl)
 
-pub more_volumes : (rows : List Row) (row : Row) (all : List Row) → all ≡ rows ++ row ∷ []
-    → (a b c : Tables)
-    → AddsVolumes rows a b → AddsVolume row b c → AddsVolumes all a c
-more_volumes rows row all is a b c first last = (
+pub more_volumes : (rows covers : List Row) (row cover : Row) (all all_covers : List Row)
+    → all ≡ rows ++ row ∷ [] → all_covers ≡ covers ++ cover ∷ [] → (a b c : Tables)
+    → AddsVolumes rows covers a b → AddsVolume row cover b c → AddsVolumes all all_covers a c
+more_volumes rows covers row cover all all_covers is are a b c first last = (
   subst (λ xs. IsPermutation (xs ++ a.volumes) c.volumes) (sym is)
       (more_added rows row a.volumes b.volumes c.volumes first.0 last.0),
-  last.1
-      ∙ ap (λ (t : Tables). record t { volumes = c.volumes }) first.1,
+  subst (λ xs. IsPermutation (xs ++ a.covers) c.covers) (sym are)
+      (more_added covers cover a.covers b.covers c.covers first.1 last.1),
+  last.2 ∙ ap (λ (t : Tables). record t { volumes = c.volumes; covers = c.covers }) first.2,
 )
 
 pub no_spans : (t : Tables) → AddsSpans [] t t
@@ -137,21 +138,3 @@ more_spans rows row all is a b c first last = (
   last.1
       ∙ ap (λ (t : Tables). record t { spans = c.spans }) first.1,
 )
-
-pub puts : (operator id : List ℕ) (plan : Row) (volumes spans : List Row) (a b c d e : Tables)
-    → RemovesPlan operator id a b → AddsPlan plan b c → AddsVolumes volumes c d → AddsSpans spans d e
-    → PutsPlan operator id plan volumes spans a e
-puts operator id plan volumes spans a b c d e one two three four = record {
-  operators = ap (λ (t : Tables). t.operators) four.1 ∙ ap (λ (t : Tables). t.operators) three.1
-      ∙ ap (λ (t : Tables). t.operators) two.1 ∙ ap (λ (t : Tables). t.operators) one;
-  plans = subst (λ xs. IsPermutation (plan ∷ xs) e.plans) (ap (λ (t : Tables). t.plans) one)
-      (subst (IsPermutation (plan ∷ b.plans)) (sym
-      (ap (λ (t : Tables). t.plans) four.1 ∙ ap (λ (t : Tables). t.plans) three.1)) two.0);
-  with_volumes = subst (λ xs. IsPermutation (volumes ++ xs) e.volumes)
-      (ap (λ (t : Tables). t.volumes) two.1 ∙ ap (λ (t : Tables). t.volumes) one)
-      (subst (IsPermutation (volumes ++ c.volumes)) (sym (ap (λ (t : Tables). t.volumes) four.1))
-      three.0);
-  with_spans = subst (λ xs. IsPermutation (spans ++ xs) e.spans)
-      (ap (λ (t : Tables). t.spans) three.1 ∙ ap (λ (t : Tables). t.spans) two.1
-      ∙ ap (λ (t : Tables). t.spans) one) four.0;
-}

@@ -25,50 +25,69 @@ use Rattle.sqlite_value.specs.Keys.{plain, first_key}
 use Rattle.sqlite_schema.specs.Rules.{equal, agree}
 use Rattle.sqlite_schema.specs.declared.schema.Keys.TheVariants.{Enforced}
 use Rattle.sqlite_tied.specs.Compute.{everything}
-use Rattle.desk_sql.specs.Schema.{desk_schema, volume_table, span_table, to_plan}
+use Rattle.desk_sql.specs.Schema.{desk_schema, old_volume_table, old_span_table, volume_table, span_table, to_plan}
 use Rattle.desk_sql.specs.Rows.{AreNumbered, is_text, is_same}
 use Rattle.desk_sql.proofs.ReadLemmas.{equals}
 use Rattle.desk_sql.proofs.WriteLemmas.{same_value}
-use Rattle.desk_sql.proofs.NumberLemmas.{IsApart, reversed, hits, all_both, all_kept, any_map, turned, has_is, filter_same_on, without_is}
+use Rattle.desk_sql.proofs.NumberLemmas.{IsApart, unequal, reversed, hits, all_both, all_kept, any_map, turned, has_is, filter_same_on, without_is}
 
 -- ---- which actions there are
 
 abbrev pub key_places : List ℕ
 key_places = 1 ∷ 2 ∷ []
 
-abbrev pub volumes_work : List Row → Work
-volumes_work olds = record {
+-- an action that deletes, at the first depth
+abbrev pub delete_on : Table → List (Row × Row) → Work
+delete_on table moves = record {
   depth = 0;
-  child = record volume_table { tree = 4 };
+  child = table;
   ref = to_plan;
   places = key_places;
   order = plain;
   deed = deed.Delete;
-  moves = pairs olds [];
+  moves = moves;
 }
 
-abbrev pub spans_work : List Row → Work
-spans_work olds = record {
-  depth = 0;
-  child = record span_table { tree = 6 };
-  ref = to_plan;
-  places = key_places;
-  order = plain;
-  deed = deed.Delete;
-  moves = pairs olds [];
-}
+abbrev pub old_volumes_at : Table
+old_volumes_at = record old_volume_table { tree = 4 }
+
+abbrev pub old_spans_at : Table
+old_spans_at = record old_span_table { tree = 6 }
+
+abbrev pub volumes_at : Table
+volumes_at = record volume_table { tree = 9 }
+
+abbrev pub spans_at : Table
+spans_at = record span_table { tree = 11 }
+
+-- the actions of a plan's DELETE, of which the last is taken first
+abbrev pub plan_actions : List (Row × Row) → List Work
+plan_actions moves = delete_on old_volumes_at moves ∷ delete_on old_spans_at moves
+    ∷ delete_on volumes_at moves ∷ delete_on spans_at moves ∷ []
 
 pub plan_works : (olds : List Row) (b : Bool) → list_any (loses plain key_places) (pairs olds []) ≡ b
-    → works desk_schema Enforced 0 2 olds [] ≡ cond b (volumes_work olds ∷ spans_work olds ∷ []) []
+    → works desk_schema Enforced 0 2 olds [] ≡ cond b (plan_actions (pairs olds [])) []
 unfolding everything
 plan_works olds true some = rw some
 plan_works olds false none = rw none
 
-pub volume_works : (depth : ℕ) (olds : List Row) → works desk_schema Enforced depth 4 olds [] ≡ []
+-- the tree's table has no children
+abbrev pub IsQuiet : ℕ → Type 0
+IsQuiet tree = (depth : ℕ) (olds : List Row) → works desk_schema Enforced depth tree olds [] ≡ []
+
+pub old_volume_works : IsQuiet 4
+unfolding everything
+old_volume_works depth olds = refl
+
+pub old_span_works : IsQuiet 6
+unfolding everything
+old_span_works depth olds = refl
+
+pub volume_works : IsQuiet 9
 unfolding everything
 volume_works depth olds = refl
 
-pub span_works : (depth : ℕ) (olds : List Row) → works desk_schema Enforced depth 6 olds [] ≡ []
+pub span_works : IsQuiet 11
 unfolding everything
 span_works depth olds = refl
 
@@ -323,21 +342,9 @@ stepped Later db edit depth below next (inl refused) = absurd (let e = refused.2
 stepped Later db edit depth below next (inr (inl big)) = absurd (let e = big.3 in cc)
 stepped Later db edit depth below next (inr (inr went)) = went
 
--- an action that deletes, at the first depth
-abbrev pub delete_on : Table → List (Row × Row) → Work
-delete_on table moves = record {
-  depth = 0;
-  child = table;
-  ref = to_plan;
-  places = key_places;
-  order = plain;
-  deed = deed.Delete;
-  moves = moves;
-}
-
 module _ (n : ℕ) (db : Trees) (table : Table) (moves : List (Row × Row)) (below : List Work)
     (next : Trees)
-    (quiet : (depth : ℕ) (olds : List Row) → works desk_schema Enforced depth table.tree olds [] ≡ [])
+    (quiet : IsQuiet table.tree)
     (num : AreNumbered (db table.tree)) where
   abbrev is_child : Row → Bool
   is_child r = list_any (is_child_of (delete_on table moves) r) moves
@@ -352,7 +359,7 @@ module _ (n : ℕ) (db : Trees) (table : Table) (moves : List (Row × Row)) (bel
     db,
     record {
       rows = children_go db (delete_on table moves) [] are num;
-      others = (λ _. refl, (λ _. refl, (λ _. refl, (λ _. refl, tt))));
+      others = (λ _. refl, (λ _. refl, (λ _. refl, (λ _. refl, (λ _. refl, (λ _. refl, tt))))));
     },
     h,
   )
@@ -378,29 +385,52 @@ module _ (n : ℕ) (db : Trees) (table : Table) (moves : List (Row × Row)) (bel
       × Leads desk_schema Enforced n mid below (Ok next)
   acted h = gone h.0 h.1 h.2
 
-pub last_one : (below : List Work) (a w : Work) → a ∷ [] ≡ below ++ w ∷ [] → (below ≡ []) × (w ≡ a)
-last_one [] a w e = (refl, cc)
-last_one (x ∷ []) a w e = cc
-last_one (x ∷ y ∷ below) a w e = cc
+-- no list ends before its last element
+pub none_last : {X : Type 0} (before : List X) (a : X) → ¬ (before ++ a ∷ [] ≡ [])
+none_last [] a e = cc
+none_last (x ∷ before) a e = cc
 
-pub last_two : (below : List Work) (a b w : Work) → a ∷ b ∷ [] ≡ below ++ w ∷ [] → (below ≡ a ∷ [])
-    × (w ≡ b)
-last_two [] a b w e = cc
-last_two (x ∷ []) a b w e = (cc, cc)
-last_two (x ∷ y ∷ []) a b w e = cc
-last_two (x ∷ y ∷ z ∷ below) a b w e = cc
+-- of a list the last element is the last, and the others come before it
+pub last_is : {X : Type 0} (before below : List X) (a w : X) → before ++ a ∷ [] ≡ below ++ w ∷ []
+    → (below ≡ before) × (w ≡ a)
+last_is [] [] a w e = (refl, cc)
+last_is [] (x ∷ []) a w e = cc
+last_is [] (x ∷ y ∷ below) a w e = cc
+last_is (x ∷ []) [] a w e = cc
+last_is (x ∷ y ∷ before) [] a w e = cc
+last_is (x ∷ before) (y ∷ below) a w e =
+    let first : y ≡ x = cc in
+    let rest : before ++ a ∷ [] ≡ below ++ w ∷ [] = cc in
+    let more = last_is before below a w rest in
+    (ap₂ (λ z zs. z ∷ zs) first more.0, more.1)
 
--- both actions of a plan's DELETE, which end there
-abbrev pub volumes_at : Table
-volumes_at = record volume_table { tree = 4 }
-
-abbrev pub spans_at : Table
-spans_at = record span_table { tree = 6 }
-
-module _ (moves : List (Row × Row)) (next : Trees) where
+module _ (moves : List (Row × Row)) where
   abbrev pub child_of : Table → Row → Bool
   child_of table r = list_any (is_child_of (delete_on table moves) r) moves
 
+  -- the children go from one tree
+  abbrev pub Lost : Table → Trees → Trees → Type 0
+  Lost table db next = next table.tree ≡ filter (λ r. not (child_of table r)) (db table.tree)
+
+  -- what all actions of a plan's DELETE leave
+  pub record HaveGone (db next : Trees) : Type 0 where
+    pub operators : next 0 ≡ db 0
+    pub plans : next 2 ≡ db 2
+    pub old_volumes : Lost old_volumes_at db next
+    pub old_spans : Lost old_spans_at db next
+    pub volumes : Lost volumes_at db next
+    pub spans : Lost spans_at db next
+
+  -- and those alone that are on version 1's tables
+  record OldGone (db next : Trees) : Type 0 where
+    operators : next 0 ≡ db 0
+    plans : next 2 ≡ db 2
+    old_volumes : Lost old_volumes_at db next
+    old_spans : Lost old_spans_at db next
+    volumes : next 9 ≡ db 9
+    spans : next 11 ≡ db 11
+
+module _ (moves : List (Row × Row)) (next : Trees) where
   pub ended : (n : ℕ) (db : Trees) → Leads desk_schema Enforced n db [] (Ok next) → db ≡ next
   ended zero db h = sym (same_value h.1)
   ended (suc n) db h = absurd (none h.0 h.1 h.2)
@@ -409,30 +439,64 @@ module _ (moves : List (Row × Row)) (next : Trees) where
       none [] w e = cc
       none (x ∷ below) w e = cc
 
-  volumes_go : (n : ℕ) (db : Trees) → AreNumbered (db 4)
-      → Leads desk_schema Enforced n db (delete_on volumes_at moves ∷ []) (Ok next)
-      → Took 4 (child_of volumes_at) db next
-  volumes_go zero db num h = absurd (let e = h.0 in cc)
-  volumes_go (suc n) db num h =
-      let last = last_one h.0 (delete_on volumes_at moves) h.1 h.2 in
+  -- an action takes its children, and leads to those before it
+  one_goes : (table : Table) → IsQuiet table.tree → (before : List Work) (n : ℕ) (db : Trees)
+      → AreNumbered (db table.tree)
+      → Leads desk_schema Enforced n db (before ++ delete_on table moves ∷ []) (Ok next)
+      → (left : ℕ) × (mid : Trees) × Took table.tree (child_of moves table) db mid
+      × Leads desk_schema Enforced left mid before (Ok next)
+  one_goes table quiet before zero db num h = absurd (none_last before (delete_on table moves) h.0)
+  one_goes table quiet before (suc n) db num h =
+      let last = last_is before h.0 (delete_on table moves) h.1 h.2 in
       let acts = subst (λ ws. Acts desk_schema Enforced (Leads desk_schema Enforced n) db
-      (delete_on volumes_at moves) ws (Ok next)) last.0
+      (delete_on table moves) ws (Ok next)) last.0
       (subst (λ w. Acts desk_schema Enforced (Leads desk_schema Enforced n) db w h.0 (Ok next)) last.1
       h.3) in
-      let done = acted n db volumes_at moves [] next volume_works num acts in
-      subst (Took 4 (child_of volumes_at) db) (ended n done.0 done.2) done.1
+      let done = acted n db table moves before next quiet num acts in
+      (n, done.0, done.1, done.2)
 
-  pub both_go : (n : ℕ) (db : Trees) → AreNumbered (db 4) → AreNumbered (db 6)
-      → Leads desk_schema Enforced n db (delete_on volumes_at moves ∷ delete_on spans_at moves ∷ [])
-      (Ok next)
-      → (mid : Trees) × Took 6 (child_of spans_at) db mid × Took 4 (child_of volumes_at) mid next
-  both_go zero db four six h = absurd (let e = h.0 in cc)
-  both_go (suc n) db four six h =
-      let last = last_two h.0 (delete_on volumes_at moves) (delete_on spans_at moves) h.1 h.2 in
-      let acts = subst (λ ws. Acts desk_schema Enforced (Leads desk_schema Enforced n) db
-      (delete_on spans_at moves) ws (Ok next)) last.0
-      (subst (λ w. Acts desk_schema Enforced (Leads desk_schema Enforced n) db w h.0 (Ok next)) last.1
-      h.3) in
-      let done = acted n db spans_at moves (delete_on volumes_at moves ∷ []) next span_works six acts in
-      let kept : done.0 4 ≡ db 4 = done.1.others.1.1.0 (λ e. cc) in
-      (done.0, done.1, volumes_go n done.0 (subst AreNumbered (sym kept) four) done.2)
+  old_go : (n : ℕ) (db : Trees) → AreNumbered (db 4) → AreNumbered (db 6)
+      → Leads desk_schema Enforced n db
+      (delete_on old_volumes_at moves ∷ delete_on old_spans_at moves ∷ []) (Ok next)
+      → OldGone moves db next
+  old_go n db four six h =
+      let first = one_goes old_spans_at old_span_works (delete_on old_volumes_at moves ∷ []) n db six h in
+      let a = first.2.others in
+      let four_is : first.1 4 ≡ db 4 = a.1.1.0 (unequal _ _ refl) in
+      let last = one_goes old_volumes_at old_volume_works [] first.0 first.1
+      (subst AreNumbered (sym four_is) four) first.3 in
+      let b = last.2.others in
+      subst (OldGone moves db) (ended last.0 last.1 last.3) (record {
+        operators = b.0 (unequal _ _ refl) ∙ a.0 (unequal _ _ refl);
+        plans = b.1.0 (unequal _ _ refl) ∙ a.1.0 (unequal _ _ refl);
+        old_volumes = last.2.rows ∙ ap (filter (λ r. not (child_of moves old_volumes_at r))) four_is;
+        old_spans = b.1.1.1.0 (unequal _ _ refl) ∙ first.2.rows;
+        volumes = b.1.1.1.1.0 (unequal _ _ refl) ∙ a.1.1.1.1.0 (unequal _ _ refl);
+        spans = b.1.1.1.1.1.0 (unequal _ _ refl) ∙ a.1.1.1.1.1.0 (unequal _ _ refl);
+      })
+
+  pub all_go : (n : ℕ) (db : Trees) → AreNumbered (db 4) → AreNumbered (db 6) → AreNumbered (db 9)
+      → AreNumbered (db 11) → Leads desk_schema Enforced n db (plan_actions moves) (Ok next)
+      → HaveGone moves db next
+  all_go n db four six nine eleven h =
+      let first = one_goes spans_at span_works (delete_on old_volumes_at moves
+      ∷ delete_on old_spans_at moves ∷ delete_on volumes_at moves ∷ []) n db eleven h in
+      let a = first.2.others in
+      let nine_is : first.1 9 ≡ db 9 = a.1.1.1.1.0 (unequal _ _ refl) in
+      let second = one_goes volumes_at volume_works (delete_on old_volumes_at moves
+      ∷ delete_on old_spans_at moves ∷ []) first.0 first.1 (subst AreNumbered (sym nine_is) nine) first.3 in
+      let b = second.2.others in
+      let four_is : second.1 4 ≡ db 4 = b.1.1.0 (unequal _ _ refl) ∙ a.1.1.0 (unequal _ _ refl) in
+      let six_is : second.1 6 ≡ db 6 = b.1.1.1.0 (unequal _ _ refl) ∙ a.1.1.1.0 (unequal _ _ refl) in
+      let rest = old_go second.0 second.1 (subst AreNumbered (sym four_is) four)
+      (subst AreNumbered (sym six_is) six) second.3 in
+      record {
+        operators = rest.operators ∙ b.0 (unequal _ _ refl) ∙ a.0 (unequal _ _ refl);
+        plans = rest.plans ∙ b.1.0 (unequal _ _ refl) ∙ a.1.0 (unequal _ _ refl);
+        old_volumes = rest.old_volumes
+            ∙ ap (filter (λ r. not (child_of moves old_volumes_at r))) four_is;
+        old_spans = rest.old_spans ∙ ap (filter (λ r. not (child_of moves old_spans_at r))) six_is;
+        volumes = rest.volumes ∙ second.2.rows
+            ∙ ap (filter (λ r. not (child_of moves volumes_at r))) nine_is;
+        spans = rest.spans ∙ b.1.1.1.1.1.0 (unequal _ _ refl) ∙ first.2.rows;
+      }

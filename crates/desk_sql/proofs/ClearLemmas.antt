@@ -252,7 +252,10 @@ none_removed operator t =
     sym (λ i. record {
       operators = t.operators;
       plans = all_left t.plans i;
+      old_volumes = all_left t.old_volumes i;
+      old_spans = all_left t.old_spans i;
       volumes = all_left t.volumes i;
+      covers = all_left t.covers i;
       spans = all_left t.spans i;
     })
 
@@ -266,8 +269,14 @@ one_removed operator xs id all is a b c before step =
       operators = ap (λ (t : Tables). t.operators) before i;
       plans = (ap (filter (is_not_of operator id)) (ap (λ (t : Tables). t.plans) before)
           ∙ one_more operator xs id a.plans) i;
+      old_volumes = left operator xs id a b (ap (λ (t : Tables). t.plans) before) a.old_volumes b.old_volumes
+          (ap (λ (t : Tables). t.old_volumes) before) i;
+      old_spans = left operator xs id a b (ap (λ (t : Tables). t.plans) before) a.old_spans b.old_spans
+          (ap (λ (t : Tables). t.old_spans) before) i;
       volumes = left operator xs id a b (ap (λ (t : Tables). t.plans) before) a.volumes b.volumes
           (ap (λ (t : Tables). t.volumes) before) i;
+      covers = left operator xs id a b (ap (λ (t : Tables). t.plans) before) a.covers b.covers
+          (ap (λ (t : Tables). t.covers) before) i;
       spans = left operator xs id a b (ap (λ (t : Tables). t.plans) before) a.spans b.spans
           (ap (λ (t : Tables). t.spans) before) i;
     }))

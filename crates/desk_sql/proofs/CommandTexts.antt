@@ -13,7 +13,7 @@ use Rattle.sqlite_tied.specs.Compute.{everything}
 use Rattle.sqlite.specs.Listing.{understood}
 use Rattle.sqlite.proofs.Callers.{IsPlain, command_of}
 use Rattle.desk_sql.specs.Schema.{desk_schema}
-use Rattle.desk_sql.proofs.Texts.{insert_operator_text, insert_plan_text, insert_volume_text, insert_span_text, set_ceiling_text, close_plan_text, remove_plan_text, remove_spans_text}
+use Rattle.desk_sql.proofs.Texts.{insert_operator_text, insert_plan_text, insert_volume_text, insert_span_text, set_ceiling_text, close_plan_text, remove_plan_text, remove_spans_text, empty_old_volumes_text, empty_old_spans_text}
 use Rattle.desk_sql.proofs.QueryTexts.{query_of}
 
 -- a text that is this command and no more
@@ -37,10 +37,9 @@ insert_plan_is = record { is = refl; plain = (refl, refl) }
 
 abbrev pub insert_volume_terms : List Term
 insert_volume_terms = lit Null ∷ col 0 0 ∷ col 0 1 ∷ col 0 2 ∷ col 0 3 ∷ col 0 4 ∷ col 0 5 ∷ col 0 6
-    ∷ col 0 7
-    ∷ []
+    ∷ col 0 7 ∷ col 0 8 ∷ []
 
-pub insert_volume_is : IsCommand insert_volume_text (Insert 2 (Values insert_volume_terms 9))
+pub insert_volume_is : IsCommand insert_volume_text (Insert 4 (Values insert_volume_terms 10))
 unfolding understood everything
 insert_volume_is = record { is = refl; plain = (refl, refl) }
 
@@ -49,7 +48,7 @@ insert_span_terms = lit Null ∷ col 0 0 ∷ col 0 1 ∷ col 0 2 ∷ col 0 3 ∷
     ∷ col 0 7
     ∷ col 0 8 ∷ col 0 9 ∷ []
 
-pub insert_span_is : IsCommand insert_span_text (Insert 3 (Values insert_span_terms 11))
+pub insert_span_is : IsCommand insert_span_text (Insert 5 (Values insert_span_terms 11))
 unfolding understood everything
 insert_span_is = record { is = refl; plain = (refl, refl) }
 
@@ -81,10 +80,24 @@ unfolding understood everything
 remove_plan_is = record { is = refl; plain = (refl, refl) }
 
 abbrev pub remove_spans_query : Query
-remove_spans_query = query_of (inner 6 end) (op2 (Compare Eq Binary) (col 1 1) (col 0 0)
+remove_spans_query = query_of (inner 11 end) (op2 (Compare Eq Binary) (col 1 1) (col 0 0)
     ∷ op2 (Compare Eq Binary) (col 1 2) (col 0 1) ∷ []) (col 1 0 ∷ []) []
 
 pub remove_spans_is : IsCommand remove_spans_text
-    (Delete 3 (record { lets = []; body = remove_spans_query }))
+    (Delete 5 (record { lets = []; body = remove_spans_query }))
 unfolding understood everything
 remove_spans_is = record { is = refl; plain = (refl, refl) }
+
+-- all rows of the table in a tree
+abbrev pub empty_query : ℕ → Query
+empty_query tree = query_of (inner tree end) [] (col 1 0 ∷ []) []
+
+pub empty_old_volumes_is : IsCommand empty_old_volumes_text
+    (Delete 2 (record { lets = []; body = empty_query 4 }))
+unfolding understood everything
+empty_old_volumes_is = record { is = refl; plain = (refl, refl) }
+
+pub empty_old_spans_is : IsCommand empty_old_spans_text
+    (Delete 3 (record { lets = []; body = empty_query 6 }))
+unfolding understood everything
+empty_old_spans_is = record { is = refl; plain = (refl, refl) }

@@ -1,5 +1,5 @@
 -- What each CREATE makes.
-use Rattle.std.proofs.Common.{◌≡◌, ◌≢◌, ◌⊎◌, inl, inr, Some, slice_get, ap₂, ℕ, false, List, [], ◌∷◌, ◌++◌, None, Ok, refl, sym, ap, subst, ◌∙◌, true, Option, IsTrue, true≢false, arith}
+use Rattle.std.proofs.Common.{◌≡◌, ◌≢◌, ◌⊎◌, inl, inr, Some, slice_get, ap₂, ℕ, false, List, [], None, Ok, refl, sym, ap, subst, ◌∙◌, true, Option, IsTrue, true≢false, arith}
 use Rattle.std.specs.List.{AllByRecursion}
 use Rattle.sqlite.specs.Schema.{Schema}
 use Rattle.sqlite.specs.Table.{Table}
@@ -9,16 +9,16 @@ use Rattle.sqlite_resolve.specs.Compile.{table_defined_by, index_defined_by}
 use Rattle.sqlite.specs.Command.TheVariants.{CreateTable, CreateIndex}
 use Rattle.sqlite.specs.Effect.{Database, IsDatabase}
 use Rattle.sqlite.specs.Does.{Tally, Does, lacks_sequence}
-use Rattle.sqlite.specs.State.{State, HasCleanDisk, Executes, Shows, Survives}
+use Rattle.sqlite.specs.State.{HasCleanDisk, Executes, Shows, Survives}
 use Rattle.sqlite.specs.Store.{Ghosts}
 use Rattle.sqlite.specs.Held.{Held, state}
 use Rattle.sqlite.specs.Listing.{understood}
 use Rattle.sqlite.proofs.Callers.{IsPlain, command_of, statement_of}
 use Rattle.sqlite_tied.specs.Compute.{everything}
 use Rattle.desk_sql.specs.declared.opening.finding.Made.{Made}
-use Rattle.desk_sql.specs.declared.opening.finding.Made.TheVariants.{Nothing, Operators, Plans, Volumes, Spans, All}
+use Rattle.desk_sql.specs.declared.opening.finding.Made.TheVariants.{Nothing, Operators, Plans, OldVolumes, OldSpans, OldIndex, Volumes, Spans, All}
 use Rattle.desk_sql.specs.declared.opening.numbers.DeskTable.TheVariants as desk
-use Rattle.desk_sql.specs.Schema.{blank_schema, operator_schema, plan_schema, volume_schema, table_schema, desk_schema, schema_of, has_table, tree_of, operator_table, plan_table, volume_table, span_table, span_made, span_first}
+use Rattle.desk_sql.specs.Schema.{blank_schema, operator_schema, plan_schema, old_volume_schema, old_table_schema, old_schema, volume_schema, table_schema, desk_schema, schema_of, has_table, tree_of, operator_table, plan_table, old_volume_table, old_span_table, old_span_made, old_span_first, volume_table, span_table, span_made, span_first}
 use Rattle.desk_sql.specs.Making.{Grows, Finishes, Completes, MayComplete}
 use Rattle.desk_sql.specs.Rows.{IsDesk, IsMadeTo, AreNumbered, tables_at, tables_of}
 use Rattle.desk_sql.specs.Finding.{Holds}
@@ -26,8 +26,8 @@ use Rattle.desk_sql.specs.Effects.{Spares}
 use Rattle.desk_sql.specs.Frames.{Remembers}
 use Rattle.desk_sql.proofs.LeavingLemmas.{remembers_itself, remembers_then}
 use Rattle.desk_sql.specs.Statements.{MayWrite, Extends, enforced}
-use Rattle.desk_sql.proofs.Texts.{operator_text, plan_text, volume_text, span_text, first_text}
-use Rattle.desk_sql.proofs.TextLemmas.{operator_is, plan_is, volume_is, span_is, first_is}
+use Rattle.desk_sql.proofs.Texts.{operator_text, plan_text, old_volume_text, old_span_text, old_first_text, volume_text, span_text, first_text}
+use Rattle.desk_sql.proofs.TextLemmas.{operator_is, plan_is, old_volume_is, old_span_is, old_first_is, volume_is, span_is, first_is}
 use Rattle.desk_sql.proofs.WriteLemmas.{went, same_value, does_command, is_writing, ran, ran_sound}
 
 -- a text that makes this table, over this schema
@@ -92,6 +92,8 @@ operators_grown old new was added = (
         → AreNumbered (new.trees (tree_of t))) [
           | desk.Operator ↦ λ there. subst AreNumbered (sym added.empty) none
           | desk.Plan ↦ λ there. absurd (true≢false (sym there))
+          | desk.OldVolume ↦ λ there. absurd (true≢false (sym there))
+          | desk.OldSpan ↦ λ there. absurd (true≢false (sym there))
           | desk.Volume ↦ λ there. absurd (true≢false (sym there))
           | desk.Span ↦ λ there. absurd (true≢false (sym there))
         ] there;
@@ -107,6 +109,8 @@ plans_grown old new was added = (
         → AreNumbered (new.trees (tree_of t))) [
           | desk.Operator ↦ λ there. subst AreNumbered (sym added.kept.0) (was.rows desk.Operator refl)
           | desk.Plan ↦ λ there. subst AreNumbered (sym added.empty) none
+          | desk.OldVolume ↦ λ there. absurd (true≢false (sym there))
+          | desk.OldSpan ↦ λ there. absurd (true≢false (sym there))
           | desk.Volume ↦ λ there. absurd (true≢false (sym there))
           | desk.Span ↦ λ there. absurd (true≢false (sym there))
         ] there;
@@ -114,7 +118,41 @@ plans_grown old new was added = (
   rw (added.kept.0, added.empty),
 )
 
-volumes_grown : Grown Plans Volumes volume_table
+old_volumes_grown : Grown Plans OldVolumes old_volume_table
+old_volumes_grown old new was added = (
+  record {
+    schema = added.schema_is;
+    rows = λ table there. elim table as (λ t. has_table OldVolumes t ≡ true
+        → AreNumbered (new.trees (tree_of t))) [
+          | desk.Operator ↦ λ there. subst AreNumbered (sym added.kept.0) (was.rows desk.Operator refl)
+          | desk.Plan ↦ λ there. subst AreNumbered (sym added.kept.1.0) (was.rows desk.Plan refl)
+          | desk.OldVolume ↦ λ there. subst AreNumbered (sym added.empty) none
+          | desk.OldSpan ↦ λ there. absurd (true≢false (sym there))
+          | desk.Volume ↦ λ there. absurd (true≢false (sym there))
+          | desk.Span ↦ λ there. absurd (true≢false (sym there))
+        ] there;
+  },
+  rw (added.kept.0, added.kept.1.0, added.empty),
+)
+
+old_spans_grown : Grown OldVolumes OldSpans old_span_table
+old_spans_grown old new was added = (
+  record {
+    schema = added.schema_is;
+    rows = λ table there. elim table as (λ t. has_table OldSpans t ≡ true
+        → AreNumbered (new.trees (tree_of t))) [
+          | desk.Operator ↦ λ there. subst AreNumbered (sym added.kept.0) (was.rows desk.Operator refl)
+          | desk.Plan ↦ λ there. subst AreNumbered (sym added.kept.1.0) (was.rows desk.Plan refl)
+          | desk.OldVolume ↦ λ there. subst AreNumbered (sym added.kept.1.1.0) (was.rows desk.OldVolume refl)
+          | desk.OldSpan ↦ λ there. subst AreNumbered (sym added.empty) none
+          | desk.Volume ↦ λ there. absurd (true≢false (sym there))
+          | desk.Span ↦ λ there. absurd (true≢false (sym there))
+        ] there;
+  },
+  rw (added.kept.0, added.kept.1.0, added.kept.1.1.0, added.empty),
+)
+
+volumes_grown : Grown OldIndex Volumes volume_table
 volumes_grown old new was added = (
   record {
     schema = added.schema_is;
@@ -122,25 +160,37 @@ volumes_grown old new was added = (
         → AreNumbered (new.trees (tree_of t))) [
           | desk.Operator ↦ λ there. subst AreNumbered (sym added.kept.0) (was.rows desk.Operator refl)
           | desk.Plan ↦ λ there. subst AreNumbered (sym added.kept.1.0) (was.rows desk.Plan refl)
+          | desk.OldVolume ↦ λ there. subst AreNumbered (sym added.kept.1.1.0) (was.rows desk.OldVolume refl)
+          | desk.OldSpan ↦ λ there. subst AreNumbered (sym added.kept.1.1.1.0) (was.rows desk.OldSpan refl)
           | desk.Volume ↦ λ there. subst AreNumbered (sym added.empty) none
           | desk.Span ↦ λ there. absurd (true≢false (sym there))
         ] there;
   },
-  rw (added.kept.0, added.kept.1.0, added.empty),
+  rw (added.kept.0, added.kept.1.0, added.kept.1.1.0, added.kept.1.1.1.0, added.empty),
 )
 
 spans_grown : Grown Volumes Spans span_table
 spans_grown old new was added = (
   record {
     schema = added.schema_is;
-    rows = λ table there. elim table as (λ t. AreNumbered (new.trees (tree_of t))) [
-      | desk.Operator ↦ subst AreNumbered (sym added.kept.0) (was.rows desk.Operator refl)
-      | desk.Plan ↦ subst AreNumbered (sym added.kept.1.0) (was.rows desk.Plan refl)
-      | desk.Volume ↦ subst AreNumbered (sym added.kept.1.1.0) (was.rows desk.Volume refl)
-      | desk.Span ↦ subst AreNumbered (sym added.empty) none
-    ];
+    rows = λ table there. elim table as (λ t. has_table Spans t ≡ true
+        → AreNumbered (new.trees (tree_of t))) [
+          | desk.Operator ↦ λ there. subst AreNumbered (sym added.kept.0) (was.rows desk.Operator refl)
+          | desk.Plan ↦ λ there. subst AreNumbered (sym added.kept.1.0) (was.rows desk.Plan refl)
+          | desk.OldVolume ↦ λ there. subst AreNumbered (sym added.kept.1.1.0) (was.rows desk.OldVolume refl)
+          | desk.OldSpan ↦ λ there. subst AreNumbered (sym added.kept.1.1.1.0) (was.rows desk.OldSpan refl)
+          | desk.Volume ↦ λ there. subst AreNumbered (sym added.kept.1.1.1.1.0) (was.rows desk.Volume refl)
+          | desk.Span ↦ λ there. subst AreNumbered (sym added.empty) none
+        ] there;
   },
-  rw (added.kept.0, added.kept.1.0, added.kept.1.1.0, added.empty),
+  rw (
+    added.kept.0,
+    added.kept.1.0,
+    added.kept.1.1.0,
+    added.kept.1.1.1.0,
+    added.kept.1.1.1.1.0,
+    added.empty,
+  ),
 )
 
 pub operator_makes : MakesTable blank_schema operator_text operator_table
@@ -169,7 +219,34 @@ plan_makes = record {
 pub plan_extends : Extends plan_text Operators Plans
 plan_extends = extends_by Operators Plans plan_text plan_table plan_makes plans_grown
 
-pub volume_makes : MakesTable plan_schema volume_text volume_table
+pub old_volume_makes : MakesTable plan_schema old_volume_text old_volume_table
+unfolding understood everything
+old_volume_makes = record {
+  is = refl;
+  plain = (refl, refl);
+  whole = refl;
+  defined = old_volume_is;
+  uncounted = refl;
+}
+
+pub old_volume_extends : Extends old_volume_text Plans OldVolumes
+old_volume_extends =
+    extends_by Plans OldVolumes old_volume_text old_volume_table old_volume_makes old_volumes_grown
+
+pub old_span_makes : MakesTable old_volume_schema old_span_text old_span_table
+unfolding understood everything
+old_span_makes = record {
+  is = refl;
+  plain = (refl, refl);
+  whole = refl;
+  defined = old_span_is;
+  uncounted = refl;
+}
+
+pub old_span_extends : Extends old_span_text OldVolumes OldSpans
+old_span_extends = extends_by OldVolumes OldSpans old_span_text old_span_table old_span_makes old_spans_grown
+
+pub volume_makes : MakesTable old_schema volume_text volume_table
 unfolding understood everything
 volume_makes = record {
   is = refl;
@@ -179,8 +256,8 @@ volume_makes = record {
   uncounted = refl;
 }
 
-pub volume_extends : Extends volume_text Plans Volumes
-volume_extends = extends_by Plans Volumes volume_text volume_table volume_makes volumes_grown
+pub volume_extends : Extends volume_text OldIndex Volumes
+volume_extends = extends_by OldIndex Volumes volume_text volume_table volume_makes volumes_grown
 
 pub span_makes : MakesTable volume_schema span_text span_table
 unfolding understood everything
@@ -195,7 +272,7 @@ span_makes = record {
 pub span_extends : Extends span_text Volumes Spans
 span_extends = extends_by Volumes Spans span_text span_table span_makes spans_grown
 
--- ---- the index
+-- ---- the indexes
 
 -- a text that makes this index on the table at a place, over this schema
 pub record MakesIndex (schema : Schema) (text : List ℕ) (at : ℕ) (table : Table) (index : Index)
@@ -229,7 +306,48 @@ indexes schema text at table index known limit old new has h =
       subst (λ (d : Database). KeepsRows schema.tables old.trees d.trees) (sym now) rows,
     )
 
-pub first_makes : MakesIndex table_schema first_text 3 span_made span_first
+pub old_first_makes : MakesIndex old_table_schema old_first_text 3 old_span_made old_span_first
+unfolding understood everything
+old_first_makes = record {
+  is = refl;
+  plain = (refl, refl);
+  whole = refl;
+  there = refl;
+  defined = old_first_is;
+}
+
+-- the index leaves all rows
+old_first_grown : (old new : Database) → IsMadeTo OldSpans old → new.schema ≡ old_schema
+    → KeepsRows old_table_schema.tables old.trees new.trees
+    → IsMadeTo OldIndex new × (tables_at OldIndex new.trees ≡ tables_at OldSpans old.trees)
+old_first_grown old new was schema kept = (
+  record {
+    schema = schema;
+    rows = λ table there. elim table as (λ t. has_table OldIndex t ≡ true
+        → AreNumbered (new.trees (tree_of t))) [
+          | desk.Operator ↦ λ there. subst AreNumbered (sym kept.0) (was.rows desk.Operator refl)
+          | desk.Plan ↦ λ there. subst AreNumbered (sym kept.1.0) (was.rows desk.Plan refl)
+          | desk.OldVolume ↦ λ there. subst AreNumbered (sym kept.1.1.0) (was.rows desk.OldVolume refl)
+          | desk.OldSpan ↦ λ there. subst AreNumbered (sym kept.1.1.1.0) (was.rows desk.OldSpan refl)
+          | desk.Volume ↦ λ there. absurd (true≢false (sym there))
+          | desk.Span ↦ λ there. absurd (true≢false (sym there))
+        ] there;
+  },
+  rw (kept.0, kept.1.0, kept.1.1.0, kept.1.1.1.0),
+)
+
+pub old_first_extends : Extends old_first_text OldSpans OldIndex
+old_first_extends = record {
+  plain = old_first_makes.plain;
+  writes = is_writing (understood old_table_schema old_first_text) (CreateIndex 3) old_first_makes.is tt
+      old_first_makes.plain;
+  tables = λ limit old new was h.
+      let did = indexes old_table_schema old_first_text 3 old_span_made old_span_first old_first_makes limit
+      old new was.schema h in
+      old_first_grown old new was did.0 did.1;
+}
+
+pub first_makes : MakesIndex table_schema first_text 5 span_made span_first
 unfolding understood everything
 first_makes = record {
   is = refl;
@@ -246,24 +364,27 @@ first_grown : (old new : Database) → IsMadeTo Spans old → new.schema ≡ des
 first_grown old new was schema kept = (
   record {
     schema = schema;
-    rows = λ table there. elim table as (λ t. AreNumbered (new.trees (tree_of t))) [
-      | desk.Operator ↦ subst AreNumbered (sym kept.0) (was.rows desk.Operator refl)
-      | desk.Plan ↦ subst AreNumbered (sym kept.1.0) (was.rows desk.Plan refl)
-      | desk.Volume ↦ subst AreNumbered (sym kept.1.1.0) (was.rows desk.Volume refl)
-      | desk.Span ↦ subst AreNumbered (sym kept.1.1.1.0) (was.rows desk.Span refl)
-    ];
+    rows = λ table there. elim table as (λ t. has_table All t ≡ true
+        → AreNumbered (new.trees (tree_of t))) [
+          | desk.Operator ↦ λ there. subst AreNumbered (sym kept.0) (was.rows desk.Operator refl)
+          | desk.Plan ↦ λ there. subst AreNumbered (sym kept.1.0) (was.rows desk.Plan refl)
+          | desk.OldVolume ↦ λ there. subst AreNumbered (sym kept.1.1.0) (was.rows desk.OldVolume refl)
+          | desk.OldSpan ↦ λ there. subst AreNumbered (sym kept.1.1.1.0) (was.rows desk.OldSpan refl)
+          | desk.Volume ↦ λ there. subst AreNumbered (sym kept.1.1.1.1.0) (was.rows desk.Volume refl)
+          | desk.Span ↦ λ there. subst AreNumbered (sym kept.1.1.1.1.1.0) (was.rows desk.Span refl)
+        ] there;
   },
-  rw (kept.0, kept.1.0, kept.1.1.0, kept.1.1.1.0),
+  rw (kept.0, kept.1.0, kept.1.1.0, kept.1.1.1.0, kept.1.1.1.1.0, kept.1.1.1.1.1.0),
 )
 
 pub first_extends : Extends first_text Spans All
 first_extends = record {
   plain = first_makes.plain;
-  writes = is_writing (understood table_schema first_text) (CreateIndex 3) first_makes.is tt
+  writes = is_writing (understood table_schema first_text) (CreateIndex 5) first_makes.is tt
       first_makes.plain;
   tables = λ limit old new was h.
-      let did = indexes table_schema first_text 3 span_made span_first first_makes limit old new was.schema
-      h in
+      let did = indexes table_schema first_text 5 span_made span_first first_makes limit old
+      new was.schema h in
       first_grown old new was did.0 did.1;
 }
 
@@ -338,6 +459,8 @@ is_desk db made = record {
   schema = made.schema;
   operators = made.rows desk.Operator refl;
   plans = made.rows desk.Plan refl;
+  old_volumes = made.rows desk.OldVolume refl;
+  old_spans = made.rows desk.OldSpan refl;
   volumes = made.rows desk.Volume refl;
   spans = made.rows desk.Span refl;
 }

@@ -8,17 +8,17 @@ use Rattle.sqlite.specs.declared.types.Value.TheVariants.{Null, Int, Text, Blob}
 use Rattle.sqlite.specs.Ops.{is_null}
 use Rattle.sqlite.specs.Kind.TheVariants.{Integer}
 use Rattle.sqlite.specs.Tree.{Trees, put_row}
-use Rattle.sqlite.specs.Edit.{with_rowid, next_rowid}
+use Rattle.sqlite.specs.Edit.{with_rowid, next_rowid, is_taken}
 use Rattle.sqlite.specs.Cast.{cast, cast_all, cast_row}
 use Rattle.sqlite.specs.Rowids.TheVariants.{Chosen}
 use Rattle.sqlite.specs.Source.TheVariants.{Values}
 use Rattle.sqlite.specs.Command.TheVariants.{Insert}
 use Rattle.sqlite.specs.Effect.{Database}
 use Rattle.desk_sql.specs.Schema.{desk_schema, operator_table, plan_table, volume_table, span_table}
-use Rattle.desk_sql.specs.Rows.{IsDesk, AreNumbered, columns, tables_of, operator_row, plan_row, volume_row, span_row, AddsOperator, AddsPlan, AddsVolume, AddsSpan}
-use Rattle.desk_sql.specs.Batches.{volume_of, span_of}
+use Rattle.desk_sql.specs.Rows.{IsDesk, AreNumbered, columns, cover_columns, tables_of, operator_row, plan_row, volume_row, cover_row, span_row, AddsOperator, AddsPlan, AddsVolume, AddsSpan}
+use Rattle.desk_sql.specs.Batches.{volume_of, cover_of, volume_params, span_of}
 use Rattle.desk_sql.specs.Statements.{Changes, ceiling_row, row_of}
-use Rattle.desk_sql.proofs.NumberLemmas.{numbered_put, put_adds}
+use Rattle.desk_sql.proofs.NumberLemmas.{unequal, numbered_put, put_adds}
 use Rattle.desk_sql.proofs.Texts.{insert_operator_text, insert_plan_text, insert_volume_text, insert_span_text}
 use Rattle.desk_sql.proofs.CommandTexts.{insert_operator_is, insert_operator_terms, insert_plan_is, insert_plan_terms, insert_volume_is, insert_volume_terms, insert_span_is, insert_span_terms}
 use Rattle.desk_sql.proofs.WriteLemmas.{May, did, changes_by, rows_written, task_at, insert_applies, Adds, adds, cast_int}
@@ -29,35 +29,43 @@ same v = refl
 then : {a b : Value} {xs ys : Row} → a ≡ b → xs ≡ ys → a ∷ xs ≡ b ∷ ys
 then p q = ap₂ (λ x xs. x ∷ xs) p q
 
-pub tables_operator : (db next : Trees) → next 2 ≡ db 2 → next 4 ≡ db 4 → next 6 ≡ db 6 → tables_of next
-    ≡ record (tables_of db) { operators = (tables_of next).operators }
-tables_operator db next a b c = rw (a, b, c)
+-- rows as they are shown, once one came to their tree
+shown_added : (show : Row → Row) (row new : Row) (rows next : List Row) → show new ≡ row
+    → next ≡ put_row new rows → is_taken rows new ≡ false
+    → IsPermutation (row ∷ map show rows) (map show next)
+shown_added show row new rows next shown is free =
+    subst (λ xs. IsPermutation (row ∷ map show rows) (map show xs)) (sym is)
+    (subst (λ r. IsPermutation (r ∷ map show rows) (map show (put_row new rows))) shown
+    (IsPermutation-map show (new ∷ rows) (put_row new rows) (put_adds new rows free)))
 
-operator_added : (row new : Row) (old now : Database) → columns 2 new ≡ row → now.schema ≡ desk_schema
+pub tables_operator : (db next : Trees)
+    → next 2 ≡ db 2 → next 4 ≡ db 4 → next 6 ≡ db 6 → next 9 ≡ db 9 → next 11 ≡ db 11
+    → tables_of next ≡ record (tables_of db) { operators = (tables_of next).operators }
+tables_operator db next a b c d e = rw (a, b, c, d, e)
+
+operator_added : (row new : Row) (old now : Database) → columns 2 new ≡ row
+    → now.schema ≡ desk_schema
     → Adds 0 new old.trees now.trees → IsDesk old → IsDesk now
     × AddsOperator row (tables_of old.trees) (tables_of now.trees)
 operator_added row new old now shown schema a desk =
-    let e2 : now.trees 2 ≡ old.trees 2 = a.others.1.0 (λ e. cc) in
-    let e4 : now.trees 4 ≡ old.trees 4 = a.others.1.1.0 (λ e. cc) in
-    let e6 : now.trees 6 ≡ old.trees 6 = a.others.1.1.1.0 (λ e. cc) in (
+    let e2 : now.trees 2 ≡ old.trees 2 = a.others.1.0 (unequal _ _ refl) in
+    let e4 : now.trees 4 ≡ old.trees 4 = a.others.1.1.0 (unequal _ _ refl) in
+    let e6 : now.trees 6 ≡ old.trees 6 = a.others.1.1.1.0 (unequal _ _ refl) in
+    let e9 : now.trees 9 ≡ old.trees 9 = a.others.1.1.1.1.0 (unequal _ _ refl) in
+    let e11 : now.trees 11 ≡ old.trees 11 = a.others.1.1.1.1.1.0 (unequal _ _ refl) in (
       record {
         schema = schema;
         operators = subst AreNumbered (sym a.at)
             (numbered_put new (old.trees 0) a.whole a.free desk.operators);
-        plans =
-            subst AreNumbered (sym e2) desk.plans;
-        volumes = subst AreNumbered (sym e4) desk.volumes;
-        spans =
-            subst AreNumbered (sym e6) desk.spans;
+        plans = subst AreNumbered (sym e2) desk.plans;
+        old_volumes = subst AreNumbered (sym e4) desk.old_volumes;
+        old_spans = subst AreNumbered (sym e6) desk.old_spans;
+        volumes = subst AreNumbered (sym e9) desk.volumes;
+        spans = subst AreNumbered (sym e11) desk.spans;
       },
       (
-        subst (λ rows. IsPermutation (row ∷ map (columns 2) (old.trees 0)) (map (columns 2) rows))
-            (sym a.at)
-            (subst (λ r. IsPermutation (r ∷ map (columns 2) (old.trees 0))
-            (map (columns 2) (put_row new (old.trees 0)))) shown
-            (IsPermutation-map (columns 2) (new ∷ old.trees 0) (put_row new (old.trees 0))
-            (put_adds new (old.trees 0) a.free))),
-        tables_operator old.trees now.trees e2 e4 e6,
+        shown_added (columns 2) row new (old.trees 0) (now.trees 0) shown a.at a.free,
+        tables_operator old.trees now.trees e2 e4 e6 e9 e11,
       ),
     )
 
@@ -104,32 +112,34 @@ module _ (name : List ℕ) (ceiling : ℕ) (limit : Option ℕ) (old new : Datab
       now a)
       desk
 
-pub tables_plan : (db next : Trees) → next 0 ≡ db 0 → next 4 ≡ db 4 → next 6 ≡ db 6 → tables_of next
-    ≡ record (tables_of db) { plans = (tables_of next).plans }
-tables_plan db next a b c = rw (a, b, c)
+pub tables_plan : (db next : Trees)
+    → next 0 ≡ db 0 → next 4 ≡ db 4 → next 6 ≡ db 6 → next 9 ≡ db 9 → next 11 ≡ db 11
+    → tables_of next ≡ record (tables_of db) { plans = (tables_of next).plans }
+tables_plan db next a b c d e = rw (a, b, c, d, e)
 
-plan_added : (row new : Row) (old now : Database) → columns 5 new ≡ row → now.schema ≡ desk_schema
+plan_added : (row new : Row) (old now : Database) → columns 5 new ≡ row
+    → now.schema ≡ desk_schema
     → Adds 2 new old.trees now.trees → IsDesk old → IsDesk now
     × AddsPlan row (tables_of old.trees) (tables_of now.trees)
 plan_added row new old now shown schema a desk =
-    let e0 : now.trees 0 ≡ old.trees 0 = a.others.0 (λ e. cc) in
-    let e4 : now.trees 4 ≡ old.trees 4 = a.others.1.1.0 (λ e. cc) in
-    let e6 : now.trees 6 ≡ old.trees 6 = a.others.1.1.1.0 (λ e. cc) in (
+    let e0 : now.trees 0 ≡ old.trees 0 = a.others.0 (unequal _ _ refl) in
+    let e4 : now.trees 4 ≡ old.trees 4 = a.others.1.1.0 (unequal _ _ refl) in
+    let e6 : now.trees 6 ≡ old.trees 6 = a.others.1.1.1.0 (unequal _ _ refl) in
+    let e9 : now.trees 9 ≡ old.trees 9 = a.others.1.1.1.1.0 (unequal _ _ refl) in
+    let e11 : now.trees 11 ≡ old.trees 11 = a.others.1.1.1.1.1.0 (unequal _ _ refl) in (
       record {
         schema = schema;
         operators = subst AreNumbered (sym e0) desk.operators;
-        plans = subst AreNumbered (sym a.at) (numbered_put new (old.trees 2) a.whole a.free desk.plans);
-        volumes = subst AreNumbered (sym e4) desk.volumes;
-        spans = subst AreNumbered (sym e6) desk.spans;
+        plans = subst AreNumbered (sym a.at)
+            (numbered_put new (old.trees 2) a.whole a.free desk.plans);
+        old_volumes = subst AreNumbered (sym e4) desk.old_volumes;
+        old_spans = subst AreNumbered (sym e6) desk.old_spans;
+        volumes = subst AreNumbered (sym e9) desk.volumes;
+        spans = subst AreNumbered (sym e11) desk.spans;
       },
       (
-        subst (λ rows. IsPermutation (row ∷ map (columns 5) (old.trees 2)) (map (columns 5) rows))
-            (sym a.at)
-            (subst (λ r. IsPermutation (r ∷ map (columns 5) (old.trees 2))
-            (map (columns 5) (put_row new (old.trees 2)))) shown
-            (IsPermutation-map (columns 5) (new ∷ old.trees 2) (put_row new (old.trees 2))
-            (put_adds new (old.trees 2) a.free))),
-        tables_plan old.trees now.trees e0 e4 e6,
+        shown_added (columns 5) row new (old.trees 2) (now.trees 2) shown a.at a.free,
+        tables_plan old.trees now.trees e0 e4 e6 e9 e11,
       ),
     )
 
@@ -180,110 +190,130 @@ module _ (operator : List ℕ) (id : List ℕ) (priority : ℕ) (usage : ℕ) (a
         (subst (Adds 2 (with_rowid Chosen (db 2) (cast_row plan_table (Null ∷ plan_params))) db) now a)
         desk
 
-tables_volume : (db next : Trees) → next 0 ≡ db 0 → next 2 ≡ db 2 → next 6 ≡ db 6 → tables_of next
-    ≡ record (tables_of db) { volumes = (tables_of next).volumes }
-tables_volume db next a b c = rw (a, b, c)
+tables_volume : (db next : Trees)
+    → next 0 ≡ db 0 → next 2 ≡ db 2 → next 4 ≡ db 4 → next 6 ≡ db 6 → next 11 ≡ db 11
+    → tables_of next ≡ record (tables_of db) {
+      volumes = (tables_of next).volumes;
+      covers = (tables_of next).covers;
+    }
+tables_volume db next a b c d e = rw (a, b, c, d, e)
 
-volume_added : (row new : Row) (old now : Database) → columns 8 new ≡ row → now.schema ≡ desk_schema
-    → Adds 4 new old.trees now.trees → IsDesk old → IsDesk now
-    × AddsVolume row (tables_of old.trees) (tables_of now.trees)
-volume_added row new old now shown schema a desk =
-    let e0 : now.trees 0 ≡ old.trees 0 = a.others.0 (λ e. cc) in
-    let e2 : now.trees 2 ≡ old.trees 2 = a.others.1.0 (λ e. cc) in
-    let e6 : now.trees 6 ≡ old.trees 6 = a.others.1.1.1.0 (λ e. cc) in (
+volume_added : (row cover new : Row) (old now : Database) → columns 8 new ≡ row
+    → cover_columns new ≡ cover
+    → now.schema ≡ desk_schema
+    → Adds 9 new old.trees now.trees → IsDesk old → IsDesk now
+    × AddsVolume row cover (tables_of old.trees) (tables_of now.trees)
+volume_added row cover new old now shown covered schema a desk =
+    let e0 : now.trees 0 ≡ old.trees 0 = a.others.0 (unequal _ _ refl) in
+    let e2 : now.trees 2 ≡ old.trees 2 = a.others.1.0 (unequal _ _ refl) in
+    let e4 : now.trees 4 ≡ old.trees 4 = a.others.1.1.0 (unequal _ _ refl) in
+    let e6 : now.trees 6 ≡ old.trees 6 = a.others.1.1.1.0 (unequal _ _ refl) in
+    let e11 : now.trees 11 ≡ old.trees 11 = a.others.1.1.1.1.1.0 (unequal _ _ refl) in (
       record {
         schema = schema;
         operators = subst AreNumbered (sym e0) desk.operators;
         plans = subst AreNumbered (sym e2) desk.plans;
-        volumes =
-            subst AreNumbered (sym a.at) (numbered_put new (old.trees 4) a.whole a.free desk.volumes);
-        spans =
-            subst AreNumbered (sym e6) desk.spans;
+        old_volumes = subst AreNumbered (sym e4) desk.old_volumes;
+        old_spans = subst AreNumbered (sym e6) desk.old_spans;
+        volumes = subst AreNumbered (sym a.at)
+            (numbered_put new (old.trees 9) a.whole a.free desk.volumes);
+        spans = subst AreNumbered (sym e11) desk.spans;
       },
       (
-        subst (λ rows. IsPermutation (row ∷ map (columns 8) (old.trees 4)) (map (columns 8) rows))
-            (sym a.at)
-            (subst (λ r. IsPermutation (r ∷ map (columns 8) (old.trees 4))
-            (map (columns 8) (put_row new (old.trees 4)))) shown
-            (IsPermutation-map (columns 8) (new ∷ old.trees 4) (put_row new (old.trees 4))
-            (put_adds new (old.trees 4) a.free))),
-        tables_volume old.trees now.trees e0 e2 e6,
+        shown_added (columns 8) row new (old.trees 9) (now.trees 9) shown a.at a.free,
+        shown_added cover_columns cover new (old.trees 9) (now.trees 9) covered a.at a.free,
+        tables_volume old.trees now.trees e0 e2 e4 e6 e11,
       ),
     )
 
 module _ (operator : List ℕ) (id : List ℕ) (place : ℕ) (lower : ℤ) (upper : ℤ) (start : ℤ) (stop : ℤ)
-    (asked : List ℕ) (limit : Option ℕ) (old new : Database) where
-  abbrev volume_params : Row
-  volume_params = Text operator ∷ Text id ∷ Int (pos place) ∷ Int lower ∷ Int upper ∷ Int start
-      ∷ Int stop
-      ∷ Blob asked ∷ []
+    (asked : List ℕ) (canon : List ℕ) (limit : Option ℕ) (old new : Database) where
+  abbrev volume_given : Row
+  volume_given = Text operator ∷ Text id ∷ Int (pos place) ∷ Int lower ∷ Int upper ∷ Int start
+      ∷ Int stop ∷ Blob asked ∷ Blob canon ∷ []
+
+  -- what is shown of the row does not read its rowid
+  volume_shown : (show : Row → Row)
+      → ((n : Value) → show (n ∷ cast_all volume_table.columns volume_given)
+      ≡ show (Null ∷ cast_all volume_table.columns volume_given)) → (rows : List Row)
+      → show (with_rowid Chosen rows (cast_row volume_table (Null ∷ volume_given)))
+      ≡ show (Null ∷ cast_all volume_table.columns volume_given)
+  volume_shown show alike rows =
+      elim (is_null (cast Integer Null)) as (λ b. show
+      (cond b (Int (next_rowid rows) ∷ cast_all volume_table.columns volume_given)
+      (cast Integer Null ∷ cast_all volume_table.columns volume_given))
+      ≡ show (Null ∷ cast_all volume_table.columns volume_given))
+      [ true ↦ alike (Int (next_rowid rows)) | false ↦ alike (cast Integer Null) ]
 
   volume_cells : (rows : List Row)
-      → columns 8 (with_rowid Chosen rows (cast_row volume_table (Null ∷ volume_params)))
+      → columns 8 (with_rowid Chosen rows (cast_row volume_table (Null ∷ volume_given)))
       ≡ volume_row operator id place lower upper start stop asked
-  volume_cells rows =
-      let numbered : columns 8 (with_rowid Chosen rows (cast_row volume_table (Null ∷ volume_params)))
-      ≡ columns 8 (Null ∷ cast_all volume_table.columns volume_params) =
-      elim (is_null (cast Integer Null)) as (λ b. columns 8
-      (cond b (Int (next_rowid rows) ∷ cast_all volume_table.columns volume_params)
-      (cast Integer Null ∷ cast_all volume_table.columns volume_params))
-      ≡ columns 8 (Null ∷ cast_all volume_table.columns volume_params))
-      [ true ↦ refl | false ↦ refl ] in
-      numbered ∙ then (same (Text operator)) (then (same (Text id))
+  volume_cells rows = volume_shown (columns 8) (λ n. refl) rows
+      ∙ then (same (Text operator)) (then (same (Text id))
       (then (cast_int (pos place)) (then (cast_int lower)
       (then (cast_int upper) (then (cast_int start)
       (then (cast_int stop) (then (same (Blob asked)) (refl))))))))
 
-  pub insert_volume : IsDesk old → May insert_volume_text volume_params limit old new → IsDesk new
-      × AddsVolume (volume_row operator id place lower upper start stop asked) (tables_of old.trees)
-      (tables_of new.trees)
+  cover_cells : (rows : List Row)
+      → cover_columns (with_rowid Chosen rows (cast_row volume_table (Null ∷ volume_given)))
+      ≡ cover_row operator id place canon
+  cover_cells rows = volume_shown cover_columns (λ n. refl) rows
+      ∙ then (same (Text operator)) (then (same (Text id))
+      (then (cast_int (pos place)) (then (same (Blob canon)) (refl))))
+
+  pub insert_volume : IsDesk old → May insert_volume_text volume_given limit old new → IsDesk new
+      × AddsVolume (volume_row operator id place lower upper start stop asked)
+      (cover_row operator id place canon) (tables_of old.trees) (tables_of new.trees)
   insert_volume desk h =
       let db = old.trees in
-      let d = did insert_volume_text volume_params limit old new desk
-      (Insert 2 (Values insert_volume_terms 9)) insert_volume_is h in
-      let it = rows_written (task_at limit volume_params volume_table.name volume_table.columns
-      volume_table.primary volume_table.references 4) (Insert 2 (Values insert_volume_terms 9)) db d.0
+      let d = did insert_volume_text volume_given limit old new desk
+      (Insert 4 (Values insert_volume_terms 10)) insert_volume_is h in
+      let it = rows_written (task_at limit volume_given volume_table.name volume_table.columns
+      volume_table.primary volume_table.references 9) (Insert 4 (Values insert_volume_terms 10)) db d.0
       new d.1 in
-      let done = insert_applies limit volume_params volume_table.name volume_table.columns
-      volume_table.primary volume_table.references 4 insert_volume_terms 9 db it.0
-      (Null ∷ volume_params)
+      let done = insert_applies limit volume_given volume_table.name volume_table.columns
+      volume_table.primary volume_table.references 9 insert_volume_terms 10 db it.0
+      (Null ∷ volume_given)
       refl it.1 in
-      let a = adds volume_table.name volume_table.columns volume_table.primary volume_table.references 4
+      let a = adds volume_table.name volume_table.columns volume_table.primary volume_table.references 9
       db
-      it.0.trees (Null ∷ volume_params) done in
+      it.0.trees (Null ∷ volume_given) done in
       let now : it.0.trees ≡ new.trees = sym (ap (λ (d : Database). d.trees) it.2) in
       volume_added (volume_row operator id place lower upper start stop asked)
-      (with_rowid Chosen (db 4) (cast_row volume_table (Null ∷ volume_params))) old new
-      (volume_cells (db 4)) (ap (λ (d : Database). d.schema) it.2)
-      (subst (Adds 4 (with_rowid Chosen (db 4) (cast_row volume_table (Null ∷ volume_params))) db) now
+      (cover_row operator id place canon)
+      (with_rowid Chosen (db 9) (cast_row volume_table (Null ∷ volume_given))) old new
+      (volume_cells (db 9)) (cover_cells (db 9)) (ap (λ (d : Database). d.schema) it.2)
+      (subst (Adds 9 (with_rowid Chosen (db 9) (cast_row volume_table (Null ∷ volume_given))) db) now
       a) desk
 
-tables_span : (db next : Trees) → next 0 ≡ db 0 → next 2 ≡ db 2 → next 4 ≡ db 4 → tables_of next
-    ≡ record (tables_of db) { spans = (tables_of next).spans }
-tables_span db next a b c = rw (a, b, c)
+tables_span : (db next : Trees)
+    → next 0 ≡ db 0 → next 2 ≡ db 2 → next 4 ≡ db 4 → next 6 ≡ db 6 → next 9 ≡ db 9
+    → tables_of next ≡ record (tables_of db) { spans = (tables_of next).spans }
+tables_span db next a b c d e = rw (a, b, c, d, e)
 
-span_added : (row new : Row) (old now : Database) → columns 10 new ≡ row → now.schema ≡ desk_schema
-    → Adds 6 new old.trees now.trees → IsDesk old → IsDesk now
+span_added : (row new : Row) (old now : Database) → columns 10 new ≡ row
+    → now.schema ≡ desk_schema
+    → Adds 11 new old.trees now.trees → IsDesk old → IsDesk now
     × AddsSpan row (tables_of old.trees) (tables_of now.trees)
 span_added row new old now shown schema a desk =
-    let e0 : now.trees 0 ≡ old.trees 0 = a.others.0 (λ e. cc) in
-    let e2 : now.trees 2 ≡ old.trees 2 = a.others.1.0 (λ e. cc) in
-    let e4 : now.trees 4 ≡ old.trees 4 = a.others.1.1.0 (λ e. cc) in (
+    let e0 : now.trees 0 ≡ old.trees 0 = a.others.0 (unequal _ _ refl) in
+    let e2 : now.trees 2 ≡ old.trees 2 = a.others.1.0 (unequal _ _ refl) in
+    let e4 : now.trees 4 ≡ old.trees 4 = a.others.1.1.0 (unequal _ _ refl) in
+    let e6 : now.trees 6 ≡ old.trees 6 = a.others.1.1.1.0 (unequal _ _ refl) in
+    let e9 : now.trees 9 ≡ old.trees 9 = a.others.1.1.1.1.0 (unequal _ _ refl) in (
       record {
         schema = schema;
         operators = subst AreNumbered (sym e0) desk.operators;
         plans = subst AreNumbered (sym e2) desk.plans;
-        volumes = subst AreNumbered (sym e4) desk.volumes;
-        spans = subst AreNumbered (sym a.at) (numbered_put new (old.trees 6) a.whole a.free desk.spans);
+        old_volumes = subst AreNumbered (sym e4) desk.old_volumes;
+        old_spans = subst AreNumbered (sym e6) desk.old_spans;
+        volumes = subst AreNumbered (sym e9) desk.volumes;
+        spans = subst AreNumbered (sym a.at)
+            (numbered_put new (old.trees 11) a.whole a.free desk.spans);
       },
       (
-        subst (λ rows. IsPermutation (row ∷ map (columns 10) (old.trees 6)) (map (columns 10) rows))
-            (sym a.at)
-            (subst (λ r. IsPermutation (r ∷ map (columns 10) (old.trees 6))
-            (map (columns 10) (put_row new (old.trees 6)))) shown
-            (IsPermutation-map (columns 10) (new ∷ old.trees 6) (put_row new (old.trees 6))
-            (put_adds new (old.trees 6) a.free))),
-        tables_span old.trees now.trees e0 e2 e4,
+        shown_added (columns 10) row new (old.trees 11) (now.trees 11) shown a.at a.free,
+        tables_span old.trees now.trees e0 e2 e4 e6 e9,
       ),
     )
 
@@ -317,22 +347,22 @@ module _ (operator : List ℕ) (id : List ℕ) (place : ℕ) (first : ℤ) (last
   insert_span desk h =
       let db = old.trees in
       let d = did insert_span_text span_params limit old new desk
-      (Insert 3 (Values insert_span_terms 11)) insert_span_is h in
+      (Insert 5 (Values insert_span_terms 11)) insert_span_is h in
       let it = rows_written (task_at limit span_params span_table.name span_table.columns
-      span_table.primary span_table.references 6) (Insert 3 (Values insert_span_terms 11)) db d.0
+      span_table.primary span_table.references 11) (Insert 5 (Values insert_span_terms 11)) db d.0
       new
       d.1 in
       let done = insert_applies limit span_params span_table.name span_table.columns
-      span_table.primary span_table.references 6 insert_span_terms 11 db it.0 (Null ∷ span_params) refl
+      span_table.primary span_table.references 11 insert_span_terms 11 db it.0 (Null ∷ span_params) refl
       it.1 in
-      let a = adds span_table.name span_table.columns span_table.primary span_table.references 6 db
+      let a = adds span_table.name span_table.columns span_table.primary span_table.references 11 db
       it.0.trees
       (Null ∷ span_params) done in
       let now : it.0.trees ≡ new.trees = sym (ap (λ (d : Database). d.trees) it.2) in
       span_added (span_row operator id place first last lower upper start stop priority)
-      (with_rowid Chosen (db 6) (cast_row span_table (Null ∷ span_params))) old new
-      (span_cells (db 6)) (ap (λ (d : Database). d.schema) it.2)
-      (subst (Adds 6 (with_rowid Chosen (db 6) (cast_row span_table (Null ∷ span_params))) db) now a)
+      (with_rowid Chosen (db 11) (cast_row span_table (Null ∷ span_params))) old new
+      (span_cells (db 11)) (ap (λ (d : Database). d.schema) it.2)
+      (subst (Adds 11 (with_rowid Chosen (db 11) (cast_row span_table (Null ∷ span_params))) db) now a)
       desk
 
 pub insert_operator_changes : Changes insert_operator_text ceiling_row (λ c. AddsOperator (ceiling_row c))
@@ -344,10 +374,11 @@ insert_plan_changes = changes_by insert_plan_text row_of _ _ insert_plan_is tt
     (λ p limit old new desk h. insert_plan p.operator.now p.id.now p.priority p.usage p.aircraft limit old
     new desk h)
 
-pub insert_volume_changes : Changes insert_volume_text volume_of (λ v. AddsVolume (volume_of v))
-insert_volume_changes = changes_by insert_volume_text volume_of _ _ insert_volume_is tt
+pub insert_volume_changes :
+    Changes insert_volume_text volume_params (λ v. AddsVolume (volume_of v) (cover_of v))
+insert_volume_changes = changes_by insert_volume_text volume_params _ _ insert_volume_is tt
     (λ v limit old new desk h. insert_volume v.operator.now v.id.now v.place v.lower v.upper v.start v.stop
-    v.asked.now limit old new desk h)
+    v.asked.now v.canon.now limit old new desk h)
 
 pub insert_span_changes : Changes insert_span_text span_of (λ s. AddsSpan (span_of s))
 insert_span_changes = changes_by insert_span_text span_of _ _ insert_span_is tt

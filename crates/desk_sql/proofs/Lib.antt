@@ -10,6 +10,7 @@ pub mod InsertLemmas
 pub mod DeleteLemmas
 pub mod CascadeLemmas
 pub mod RemoveLemmas
+pub mod EmptyLemmas
 pub mod CreateLemmas
 pub mod BatchLemmas
 pub mod UpdateLemmas
@@ -17,7 +18,9 @@ pub mod SetLemmas
 pub mod EnrolLemmas
 pub mod CountLemmas
 pub mod SchemaLemmas
+pub mod MadeLemmas
 pub mod RowidLemmas
+pub mod OldLemmas
 pub mod ClearLemmas
 pub mod SureTexts
 pub mod AskLemmas
@@ -32,6 +35,7 @@ pub mod StopLemmas
 pub mod DeleteStops
 pub mod KeyLemmas
 pub mod RemoveStops
+pub mod EmptyStops
 pub mod PassLemmas
 pub mod UpdateStops
 pub mod SizeLemmas

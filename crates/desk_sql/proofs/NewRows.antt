@@ -6,11 +6,11 @@ use Rattle.sqlite.specs.Order.{Row}
 use Rattle.sqlite.specs.Tree.{Trees, IsAscending}
 use Rattle.sqlite.specs.Effect.{Database}
 use Rattle.desk_sql.specs.Rows.{Tables, tables_of}
-use Rattle.desk_sql.specs.Batches.{volume_of, span_of, AddsVolumes, AddsSpans}
+use Rattle.desk_sql.specs.Batches.{volume_of, cover_of, span_of, AddsVolumes, AddsSpans}
 use Rattle.desk_sql.specs.declared.changing.writing.VolumeRecord.{VolumeRecord}
 use Rattle.desk_sql.specs.declared.changing.writing.SpanRecord.{SpanRecord}
 use Rattle.desk_sql.specs.Changing.{FitsVolume, FitsSpan, HasKey, LacksKey, has_same_key}
-use Rattle.desk_sql.specs.Putting.{AreNewRows, AreNewSpans, AreNewVolumes, HasRoomFor, IsShortValue, TakesRoom}
+use Rattle.desk_sql.specs.Putting.{AreNewRows, AreNewSpans, AreNewVolumes, AreShort, HasRoomFor, IsShortValue, TakesRoom}
 use Rattle.desk_sql.proofs.RoomLemmas.{fewer}
 
 -- ---- room after several changes
@@ -18,8 +18,8 @@ use Rattle.desk_sql.proofs.RoomLemmas.{fewer}
 pub takes_none : (trees : Trees) → TakesRoom 0 0 0 trees trees
 takes_none trees = record {
   of_plans = λ left. fewer left (0 + left) (trees 2) (omega arith);
-  of_volumes = λ left. fewer left (0 + left) (trees 4) (omega arith);
-  of_spans = λ left. fewer left (0 + left) (trees 6) (omega arith);
+  of_volumes = λ left. fewer left (0 + left) (trees 9) (omega arith);
+  of_spans = λ left. fewer left (0 + left) (trees 11) (omega arith);
 }
 
 together : (a b : ℕ) (old mid new : List Row) → ((left : ℕ) → HasRoomFor (a + left) old → HasRoomFor left mid)
@@ -32,8 +32,8 @@ pub takes_both : (p v s q w t : ℕ) (old mid new : Trees) → TakesRoom p v s o
     → TakesRoom (p + q) (v + w) (s + t) old new
 takes_both p v s q w t old mid new first second = record {
   of_plans = together p q (old 2) (mid 2) (new 2) first.of_plans second.of_plans;
-  of_volumes = together v w (old 4) (mid 4) (new 4) first.of_volumes second.of_volumes;
-  of_spans = together s t (old 6) (mid 6) (new 6) first.of_spans second.of_spans;
+  of_volumes = together v w (old 9) (mid 9) (new 9) first.of_volumes second.of_volumes;
+  of_spans = together s t (old 11) (mid 11) (new 11) first.of_spans second.of_spans;
 }
 
 -- ---- one of the rows
@@ -88,30 +88,35 @@ room_at : (rows : List Row) (at : ℕ) (old now : List Row)
 room_at rows at old now takes low room = takes 1 (fewer (at + 1) (length rows) old (omega (arith, low)) room)
 
 pub volume_fits : (rows : List VolumeRecord) (at : ℕ) (d : VolumeRecord) (old now : Database)
-    → AreNewVolumes (map volume_of rows) old → at < length rows
-    → AddsVolumes (map volume_of (take at rows)) (tables_of old.trees) (tables_of now.trees)
+    → AreNewVolumes (map volume_of rows) (map cover_of rows) old → at < length rows
+    → AddsVolumes (map volume_of (take at rows)) (map cover_of (take at rows)) (tables_of old.trees)
+    (tables_of now.trees)
     → TakesRoom 0 at 0 old.trees now.trees
     → FitsVolume (get_or rows at d).operator.now (get_or rows at d).id.now (get_or rows at d).asked.now
-    (volume_of (get_or rows at d)) now
+    (get_or rows at d).canon.now (volume_of (get_or rows at d)) now
 volume_fits rows at d old now new low adds takes =
     let v = get_or rows at d in
-    let all = parted volume_of rows at d low in
-    let here = subst (λ rs. AreNewVolumes rs old) all new in
+    let t = tables_of old.trees in
     let before = map volume_of (take at rows) in
     let after = map volume_of (drop (suc at) rows) in
-    let t = tables_of old.trees in
-    let short = short_at 3 before (volume_of v) after (old.trees 4) t.volumes t.plans here in
-    let free = free_at 3 before (volume_of v) after (old.trees 4) t.volumes t.plans here
+    let here = subst (λ rs. AreNewRows 3 rs (old.trees 9) t.volumes t.plans)
+    (parted volume_of rows at d low) new.0 in
+    let canon = all_at (λ r. AllByRecursion IsShortValue r) (map cover_of (take at rows)) (cover_of v)
+    (map cover_of (drop (suc at) rows)) (subst AreShort (parted cover_of rows at d low) new.1) in
+    let short = short_at 3 before (volume_of v) after (old.trees 9) t.volumes t.plans here in
+    let free = free_at 3 before (volume_of v) after (old.trees 9) t.volumes t.plans here
     (tables_of now.trees).volumes adds.0 in
     let many : at < length (map volume_of rows) = omega (arith, low, length_shown volume_of rows) in
-    let room = room_at (map volume_of rows) at (old.trees 4) (now.trees 4) takes.of_volumes many new.room in
-    let same : (tables_of now.trees).plans ≡ t.plans = ap (λ (x : Tables). x.plans) adds.1 in (
+    let room = room_at (map volume_of rows) at (old.trees 9) (now.trees 9) takes.of_volumes many
+    new.0.room in
+    let same : (tables_of now.trees).plans ≡ t.plans = ap (λ (x : Tables). x.plans) adds.2 in (
       short.0,
       short.1.0,
       short.1.1.1.1.1.1.1.0,
+      canon.1.1.1.0,
       (room.1, free),
       subst (HasKey 2 (volume_of v)) (sym same)
-          (planned_at 3 before (volume_of v) after (old.trees 4) t.volumes t.plans here),
+          (planned_at 3 before (volume_of v) after (old.trees 9) t.volumes t.plans here),
     )
 
 pub span_fits : (rows : List SpanRecord) (at : ℕ) (d : SpanRecord) (old now : Database)
@@ -126,15 +131,15 @@ span_fits rows at d old now new low adds takes =
     let before = map span_of (take at rows) in
     let after = map span_of (drop (suc at) rows) in
     let t = tables_of old.trees in
-    let short = short_at 4 before (span_of s) after (old.trees 6) t.spans t.plans here in
-    let free = free_at 4 before (span_of s) after (old.trees 6) t.spans t.plans here
+    let short = short_at 4 before (span_of s) after (old.trees 11) t.spans t.plans here in
+    let free = free_at 4 before (span_of s) after (old.trees 11) t.spans t.plans here
     (tables_of now.trees).spans adds.0 in
     let many : at < length (map span_of rows) = omega (arith, low, length_shown span_of rows) in
-    let room = room_at (map span_of rows) at (old.trees 6) (now.trees 6) takes.of_spans many new.room in
+    let room = room_at (map span_of rows) at (old.trees 11) (now.trees 11) takes.of_spans many new.room in
     let same : (tables_of now.trees).plans ≡ t.plans = ap (λ (x : Tables). x.plans) adds.1 in (
       short.0,
       short.1.0,
       (room.1, free),
       subst (HasKey 2 (span_of s)) (sym same)
-          (planned_at 4 before (span_of s) after (old.trees 6) t.spans t.plans here),
+          (planned_at 4 before (span_of s) after (old.trees 11) t.spans t.plans here),
     )

@@ -1,10 +1,11 @@
 -- Rows whose rowids are whole numbers, none of them twice.
-use Rattle.std.proofs.Common.{◌≡◌, ℤ, Bool, true, false, not, cond, ◌||◌, List, [], ◌∷◌, map, filter, refl, sym, ap, ap₂, ◌∙◌, Ordering, Less, Equal, Greater, true≢false}
+use Rattle.std.proofs.Common.{◌≡◌, ◌≢◌, ◌==◌, ℕ, ℤ, Bool, true, false, not, cond, ◌||◌, List, [], ◌∷◌, map, filter, refl, sym, ap, ap₂, ◌∙◌, Ordering, Less, Equal, Greater, true≢false}
 use Rattle.std.specs.Ordering.{is_eq, ordering_reverse, match_ordering}
 use Rattle.std.specs.List.{AllByRecursion, list_any}
 use Rattle.std.specs.List.Sorted.{IsPermutation}
 use Rattle.std.proofs.lemmas.List.Sorted.{IsPermutation-refl, IsPermutation-sym, IsPermutation-cons, IsPermutation-trans, IsPermutation-middle, list_any-IsPermutation}
 use Rattle.std.proofs.lemmas.Cmp.{tied_itself}
+use Rattle.std.proofs.lemmas.Bool.{eq-eqb}
 use Rattle.sqlite.specs.Order.{Row, value_cmp}
 use Rattle.sqlite.specs.Tree.{rowid, IsAscending, has_rowid, put_row, without_rowid}
 use Rattle.sqlite.specs.View.{is_int}
@@ -13,6 +14,10 @@ use Rattle.sqlite_rules.specs.Calls.{ids_of}
 use Rattle.sqlite_rules.proofs.TableLemmas.{int_is}
 use Rattle.sqlite_value.proofs.OrderLemmas.{value_cmp_total}
 use Rattle.desk_sql.specs.Rows.{AreNumbered}
+
+-- two numbers that are not the same: a proof by computing them alone
+pub unequal : (a b : ℕ) → (a == b) ≡ false → a ≢ b
+unequal a b other same = true≢false (sym (eq-eqb a b same) ∙ other)
 
 abbrev pub IsApart : Row → Row → Type 0
 IsApart a b = is_eq (value_cmp (rowid a) (rowid b)) ≡ false

@@ -20,6 +20,7 @@ use Rattle.sqlite_schema.specs.declared.schema.Among.TheVariants.{All}
 use Rattle.sqlite_schema.specs.declared.schema.Constraint.TheVariants.{Datatype, NotNull, Check, PrimaryKey, Unique, ForeignKey}
 use Rattle.sqlite_schema.specs.declared.schema.Keys.TheVariants.{Enforced}
 use Rattle.desk_sql.specs.Schema.{desk_schema}
+use Rattle.desk_sql.proofs.NumberLemmas.{unequal}
 use Rattle.desk_sql.proofs.DeleteStops.{never_ends}
 
 -- the rows that an edit puts in pass each test of a desk's schema but the foreign keys, and can be stored
@@ -66,8 +67,14 @@ with_others db tree t rows other = rw (ne_eqb t tree other)
 
 pub apart : IsAscending (λ (a b : Table). a.tree ≡ b.tree → ⊥) desk_schema.tables
 apart = (
-  ((λ e. cc), ((λ e. cc), ((λ e. cc), tt))),
-  (((λ e. cc), ((λ e. cc), tt)), (((λ e. cc), tt), (tt, tt))),
+  (unequal 0 2 refl, (unequal 0 4 refl, (unequal 0 6 refl, (unequal 0 9 refl, (unequal 0 11 refl, tt))))),
+  (
+    (unequal 2 4 refl, (unequal 2 6 refl, (unequal 2 9 refl, (unequal 2 11 refl, tt)))),
+    (
+      (unequal 4 6 refl, (unequal 4 9 refl, (unequal 4 11 refl, tt))),
+      ((unequal 6 9 refl, (unequal 6 11 refl, tt)), ((unequal 9 11 refl, tt), (tt, tt))),
+    ),
+  ),
 )
 
 -- where each row has its twin, each foreign key that held still holds

@@ -18,7 +18,7 @@ use Rattle.sqlite_rules.proofs.ListLemmas.{some_has}
 use Rattle.sqlite_rules.proofs.RuleLemmas.{refers_at}
 use Rattle.sqlite_schema.specs.Rules.{agree, has_null, has_parent, is_held, Obeys, Refers}
 use Rattle.sqlite_schema.specs.declared.schema.Among.TheVariants.{All}
-use Rattle.desk_sql.specs.Schema.{desk_schema, span_table, volume_table, to_plan}
+use Rattle.desk_sql.specs.Schema.{desk_schema, span_made, volume_made, to_plan}
 use Rattle.desk_sql.specs.Rows.{IsDesk, Tables, columns, is_of, is_same, plan_row, tables_of, AddsPlan, RemovesPlan}
 use Rattle.desk_sql.specs.Batches.{AddsVolumes}
 use Rattle.desk_sql.specs.Changing.{FitsPlan, HasKey, LacksKey, has_same_key}
@@ -140,8 +140,9 @@ module _ (operator id : List ℕ) where
 
 -- ---- a put, step by step
 
-module _ (operator id : List ℕ) (priority usage aircraft : ℕ) (volumes spans : List Row) (old : Database)
-    (put : IsPuttable operator id (plan_row operator id priority usage aircraft) volumes spans old)
+module _ (operator id : List ℕ) (priority usage aircraft : ℕ) (volumes covers spans : List Row)
+    (old : Database)
+    (put : IsPuttable operator id (plan_row operator id priority usage aircraft) volumes covers spans old)
     (cut : Database) (removes : RemovesPlan operator id (tables_of old.trees) (tables_of cut.trees))
     (takes : TakesRoom 0 0 0 old.trees cut.trees) where
   cut_plans : list_any (is_of operator id) (tables_of cut.trees).plans ≡ false
@@ -173,16 +174,15 @@ module _ (operator id : List ℕ) (priority usage aircraft : ℕ) (volumes spans
 
     no_volumes : list_any (is_of operator id) (tables_of planned.trees).volumes ≡ false
     no_volumes = ap (λ (t : Tables). list_any (is_of operator id) t.volumes) adds.1
-        ∙ any_map (is_of operator id) (columns 8) (cut.trees 4)
-        ∙ no_rows operator id cut.trees refers gone (record volume_table { tree = 4 })
-        (inr (inr (inl refl))) (inl refl)
+        ∙ any_map (is_of operator id) (columns 8) (cut.trees 9)
+        ∙ no_rows operator id cut.trees refers gone volume_made
+        (inr (inr (inr (inr (inl refl))))) (inl refl)
 
     no_spans : list_any (is_of operator id) (tables_of planned.trees).spans ≡ false
     no_spans = ap (λ (t : Tables). list_any (is_of operator id) t.spans) adds.1
-        ∙ any_map (is_of operator id) (columns 10) (cut.trees 6)
-        ∙ no_rows operator id cut.trees refers gone (record span_table { tree = 6 })
-        (inr (inr (inr (inl refl))))
-        (inl refl)
+        ∙ any_map (is_of operator id) (columns 10) (cut.trees 11)
+        ∙ no_rows operator id cut.trees refers gone span_made
+        (inr (inr (inr (inr (inr (inl refl)))))) (inl refl)
 
     -- room that the two changes leave
     stays : (count : ℕ) (a b c : List Row) → ((left : ℕ) → HasRoomFor (0 + left) a → HasRoomFor left b)
@@ -191,26 +191,27 @@ module _ (operator id : List ℕ) (priority usage aircraft : ℕ) (volumes spans
         second count (fewer (0 + count) count b (omega arith)
         (first count (fewer (0 + count) count a (omega arith) room)))
 
-    pub volumes_new : AreNewVolumes volumes planned
-    volumes_new = rows_new operator id 3 (begins_3 operator id) volumes (planned.trees 4)
-        (tables_of planned.trees).volumes (tables_of planned.trees).plans put.volumes_of
-        (stays (length volumes) (old.trees 4) (cut.trees 4)
-        (planned.trees 4) takes.of_volumes taking.of_volumes
-        put.volume_room) no_volumes
-        (has_plan operator id priority usage aircraft (tables_of cut.trees).plans
-        (tables_of planned.trees).plans
-        adds.0)
+    pub volumes_new : AreNewVolumes volumes covers planned
+    volumes_new = (
+      rows_new operator id 3 (begins_3 operator id) volumes (planned.trees 9)
+          (tables_of planned.trees).volumes (tables_of planned.trees).plans put.volumes_of
+          (stays (length volumes) (old.trees 9) (cut.trees 9) (planned.trees 9) takes.of_volumes
+          taking.of_volumes put.volume_room) no_volumes
+          (has_plan operator id priority usage aircraft (tables_of cut.trees).plans
+          (tables_of planned.trees).plans adds.0),
+      put.short_covers,
+    )
 
     module _ (count : ℕ) (filled : Database)
-        (added : AddsVolumes volumes (tables_of planned.trees) (tables_of filled.trees))
+        (added : AddsVolumes volumes covers (tables_of planned.trees) (tables_of filled.trees))
         (takes_volumes : TakesRoom 0 count 0 planned.trees filled.trees) where
       pub spans_new : AreNewSpans spans filled
-      spans_new = rows_new operator id 4 (begins_4 operator id) spans (filled.trees 6)
+      spans_new = rows_new operator id 4 (begins_4 operator id) spans (filled.trees 11)
           (tables_of filled.trees).spans (tables_of filled.trees).plans put.spans_of
-          (takes_volumes.of_spans (length spans) (fewer (0 + length spans) (length spans) (planned.trees 6)
-          (omega arith) (stays (length spans) (old.trees 6) (cut.trees 6) (planned.trees 6) takes.of_spans
+          (takes_volumes.of_spans (length spans) (fewer (0 + length spans) (length spans) (planned.trees 11)
+          (omega arith) (stays (length spans) (old.trees 11) (cut.trees 11) (planned.trees 11) takes.of_spans
           taking.of_spans put.span_room)))
-          (ap (λ (t : Tables). list_any (is_of operator id) t.spans) added.1 ∙ no_spans)
-          (λ r own. subst (HasKey 2 r) (sym (ap (λ (t : Tables). t.plans) added.1))
+          (ap (λ (t : Tables). list_any (is_of operator id) t.spans) added.2 ∙ no_spans)
+          (λ r own. subst (HasKey 2 r) (sym (ap (λ (t : Tables). t.plans) added.2))
           (has_plan operator id priority usage aircraft (tables_of cut.trees).plans
           (tables_of planned.trees).plans adds.0 r own))

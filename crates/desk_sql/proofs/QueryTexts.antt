@@ -18,8 +18,8 @@ use Rattle.sqlite.specs.Table.{Table}
 use Rattle.sqlite_schema.specs.declared.schema.Index.{Index}
 use Rattle.desk_sql.specs.Schema.{desk_schema, schema_to}
 use Rattle.desk_sql.specs.declared.opening.numbers.DeskTable.{DeskTable}
-use Rattle.desk_sql.specs.declared.opening.numbers.DeskTable.TheVariants.{Operator, Plan, Volume, Span}
-use Rattle.desk_sql.proofs.Texts.{operator_named_text, all_operators_text, plan_of_text, all_plans_text, volumes_of_text, all_volumes_text, all_spans_text, own_plans_text, rival_spans_text, operator_rowids_text, plan_rowids_text, volume_rowids_text, span_rowids_text}
+use Rattle.desk_sql.specs.declared.opening.numbers.DeskTable.TheVariants.{Operator, Plan, OldVolume, OldSpan, Volume, Span}
+use Rattle.desk_sql.proofs.Texts.{operator_named_text, all_operators_text, plan_of_text, all_plans_text, volumes_of_text, all_volumes_text, all_covers_text, all_spans_text, all_old_volumes_text, all_old_spans_text, own_plans_text, rival_spans_text, operator_rowids_text, plan_rowids_text, old_volume_rowids_text, old_span_rowids_text, volume_rowids_text, span_rowids_text}
 
 abbrev pub query_of : Join → List Term → List Term → List (Term × Key) → Query
 query_of from filter project order = record {
@@ -87,7 +87,7 @@ unfolding understood everything
 all_plans_is others indexes = record { is = refl; plain = (refl, refl); unlisted = refl }
 
 abbrev pub volumes_of_query : Query
-volumes_of_query = query_of (inner 4 end) (op2 (Compare Eq Binary) (col 1 1) (col 0 0)
+volumes_of_query = query_of (inner 9 end) (op2 (Compare Eq Binary) (col 1 1) (col 0 0)
     ∷ op2 (Compare Eq Binary) (col 1 2) (col 0 1) ∷ [])
     (col 1 1 ∷ col 1 2 ∷ col 1 3 ∷ col 1 4 ∷ col 1 5 ∷ col 1 6 ∷ col 1 7 ∷ col 1 8 ∷ [])
     ((col 1 3, ascending Binary) ∷ [])
@@ -99,7 +99,7 @@ unfolding understood everything
 volumes_of_is = record { is = refl; plain = (refl, refl); unlisted = refl }
 
 abbrev pub all_volumes_query : Query
-all_volumes_query = query_of (inner 4 end) ([])
+all_volumes_query = query_of (inner 9 end) ([])
     (col 1 1 ∷ col 1 2 ∷ col 1 3 ∷ col 1 4 ∷ col 1 5 ∷ col 1 6
     ∷ col 1 7 ∷ col 1 8 ∷ []) ((col 1 1, ascending Binary) ∷ (col 1 2, ascending Binary)
     ∷ (col 1 3, ascending Binary) ∷ [])
@@ -110,8 +110,17 @@ pub all_volumes_is : IsWhole Volume all_volumes_text all_volumes_query
 unfolding understood everything
 all_volumes_is others indexes = record { is = refl; plain = (refl, refl); unlisted = refl }
 
+abbrev pub all_covers_query : Query
+all_covers_query = query_of (inner 9 end) ([]) (col 1 1 ∷ col 1 2 ∷ col 1 3 ∷ col 1 9 ∷ [])
+    ((col 1 1, ascending Binary) ∷ (col 1 2, ascending Binary) ∷ (col 1 3, ascending Binary) ∷ [])
+
+pub all_covers_is : IsWhole Volume all_covers_text all_covers_query
+    (codes "operator" ∷ codes "id" ∷ codes "place" ∷ codes "canon" ∷ [])
+unfolding understood everything
+all_covers_is others indexes = record { is = refl; plain = (refl, refl); unlisted = refl }
+
 abbrev pub all_spans_query : Query
-all_spans_query = query_of (inner 6 end) ([]) (col 1 1 ∷ col 1 2 ∷ col 1 3 ∷ col 1 4 ∷ col 1 5 ∷ col 1 6
+all_spans_query = query_of (inner 11 end) ([]) (col 1 1 ∷ col 1 2 ∷ col 1 3 ∷ col 1 4 ∷ col 1 5 ∷ col 1 6
     ∷ col 1 7 ∷ col 1 8 ∷ col 1 9 ∷ col 1 10 ∷ [])
     ((col 1 1, ascending Binary) ∷ (col 1 2, ascending Binary) ∷ (col 1 3, ascending Binary)
     ∷ (col 1 4, ascending Binary) ∷ [])
@@ -122,8 +131,32 @@ pub all_spans_is : IsWhole Span all_spans_text all_spans_query
 unfolding understood everything
 all_spans_is others indexes = record { is = refl; plain = (refl, refl); unlisted = refl }
 
+abbrev pub all_old_volumes_query : Query
+all_old_volumes_query = query_of (inner 4 end) ([])
+    (col 1 1 ∷ col 1 2 ∷ col 1 3 ∷ col 1 4 ∷ col 1 5 ∷ col 1 6
+    ∷ col 1 7 ∷ col 1 8 ∷ []) ((col 1 1, ascending Binary) ∷ (col 1 2, ascending Binary)
+    ∷ (col 1 3, ascending Binary) ∷ [])
+
+pub all_old_volumes_is : IsWhole OldVolume all_old_volumes_text all_old_volumes_query
+    (codes "operator" ∷ codes "id" ∷ codes "place" ∷ codes "lower" ∷ codes "upper" ∷ codes "start"
+    ∷ codes "stop" ∷ codes "asked" ∷ [])
+unfolding understood everything
+all_old_volumes_is others indexes = record { is = refl; plain = (refl, refl); unlisted = refl }
+
+abbrev pub all_old_spans_query : Query
+all_old_spans_query = query_of (inner 6 end) ([]) (col 1 1 ∷ col 1 2 ∷ col 1 3 ∷ col 1 4 ∷ col 1 5 ∷ col 1 6
+    ∷ col 1 7 ∷ col 1 8 ∷ col 1 9 ∷ col 1 10 ∷ [])
+    ((col 1 1, ascending Binary) ∷ (col 1 2, ascending Binary) ∷ (col 1 3, ascending Binary)
+    ∷ (col 1 4, ascending Binary) ∷ [])
+
+pub all_old_spans_is : IsWhole OldSpan all_old_spans_text all_old_spans_query
+    (codes "operator" ∷ codes "id" ∷ codes "place" ∷ codes "first" ∷ codes "last" ∷ codes "lower"
+    ∷ codes "upper" ∷ codes "start" ∷ codes "stop" ∷ codes "priority" ∷ [])
+unfolding understood everything
+all_old_spans_is others indexes = record { is = refl; plain = (refl, refl); unlisted = refl }
+
 abbrev pub own_plans_query : Query
-own_plans_query = query_of (inner 2 (inner 4 end))
+own_plans_query = query_of (inner 2 (inner 9 end))
     (op2 (Compare Eq Binary) (col 2 1) (col 1 1) ∷ op2 (Compare Eq Binary) (col 2 2) (col 1 2)
     ∷ op2 (Compare Eq Binary) (col 1 1) (col 0 0) ∷ [])
     (col 1 1 ∷ col 1 2 ∷ col 1 3 ∷ col 1 4 ∷ col 1 5 ∷ col 2 3 ∷ col 2 4 ∷ col 2 5 ∷ col 2 6 ∷ col 2 7
@@ -140,7 +173,7 @@ abbrev compared : CompareOp → ℕ → ℕ → Term
 compared op at param = op2 (Compare op Binary) (col 1 at) (col 0 param)
 
 abbrev pub rival_spans_query : Query
-rival_spans_query = query_of (inner 6 end) (compared Ge 4 9 ∷ compared Le 4 0 ∷ compared Ge 5 1
+rival_spans_query = query_of (inner 11 end) (compared Ge 4 9 ∷ compared Le 4 0 ∷ compared Ge 5 1
     ∷ compared Lt 6 2 ∷ compared Gt 7 3 ∷ compared Lt 8 4 ∷ compared Gt 9 5 ∷ compared Ge 10 6
     ∷ op2 Or (op2 (Compare Ne Binary) (col 1 1) (col 0 7)) (op2 (Compare Ne Binary) (col 1 2) (col 0 8))
     ∷ [])
@@ -165,10 +198,18 @@ pub plan_rowids_is : IsWhole Plan plan_rowids_text (rowids_query 2) (codes "rowi
 unfolding understood everything
 plan_rowids_is others indexes = record { is = refl; plain = (refl, refl); unlisted = refl }
 
-pub volume_rowids_is : IsWhole Volume volume_rowids_text (rowids_query 4) (codes "rowid" ∷ [])
+pub old_volume_rowids_is : IsWhole OldVolume old_volume_rowids_text (rowids_query 4) (codes "rowid" ∷ [])
+unfolding understood everything
+old_volume_rowids_is others indexes = record { is = refl; plain = (refl, refl); unlisted = refl }
+
+pub old_span_rowids_is : IsWhole OldSpan old_span_rowids_text (rowids_query 6) (codes "rowid" ∷ [])
+unfolding understood everything
+old_span_rowids_is others indexes = record { is = refl; plain = (refl, refl); unlisted = refl }
+
+pub volume_rowids_is : IsWhole Volume volume_rowids_text (rowids_query 9) (codes "rowid" ∷ [])
 unfolding understood everything
 volume_rowids_is others indexes = record { is = refl; plain = (refl, refl); unlisted = refl }
 
-pub span_rowids_is : IsWhole Span span_rowids_text (rowids_query 6) (codes "rowid" ∷ [])
+pub span_rowids_is : IsWhole Span span_rowids_text (rowids_query 11) (codes "rowid" ∷ [])
 unfolding understood everything
 span_rowids_is others indexes = record { is = refl; plain = (refl, refl); unlisted = refl }

@@ -17,7 +17,7 @@ use Rattle.sqlite_schema.specs.declared.schema.Column.{Column}
 use Rattle.sqlite_schema.specs.declared.schema.Reference.{Reference}
 use Rattle.sqlite.specs.State.{State, Executes}
 use Rattle.desk_sql.specs.Schema.{desk_schema, plan_table, volume_table, span_table}
-use Rattle.desk_sql.specs.Batches.{volume_of, span_of}
+use Rattle.desk_sql.specs.Batches.{volume_params, span_of}
 use Rattle.desk_sql.specs.Rows.{IsDesk, Tables}
 use Rattle.desk_sql.specs.Statements.{Changes, enforced, key_row, row_of}
 use Rattle.desk_sql.specs.Putting.{AddsAtMost, HasRoomFor, TakesRoom}
@@ -25,6 +25,7 @@ use Rattle.desk_sql.proofs.Texts.{insert_plan_text, insert_volume_text, insert_s
 use Rattle.desk_sql.proofs.CommandTexts.{insert_plan_is, insert_plan_terms, insert_volume_is, insert_volume_terms, insert_span_is, insert_span_terms, remove_plan_is}
 use Rattle.desk_sql.proofs.WriteLemmas.{Adds, adds, cast_null, did, insert_applies, ran, rows_written, table_at, task_at}
 use Rattle.desk_sql.proofs.CascadeLemmas.{has_key}
+use Rattle.desk_sql.proofs.NumberLemmas.{unequal}
 use Rattle.desk_sql.proofs.RemoveLemmas.{AreCut, plan_program, plan_removed, plan_task}
 use Rattle.desk_sql.proofs.RoomLemmas.{AreWhole, fewer, room_kept, room_put}
 
@@ -61,7 +62,7 @@ module _ (limit : Option ℕ) (params : Row) (name : List ℕ) (cols : List Colu
       (fewer (suc left) (1 + left) (db tree) (omega arith) room))
 
 -- a tree that stays has its room
-same_room : (old now : List Row) (left : ℕ) → now ≡ old → HasRoomFor (0 + left) old → HasRoomFor left now
+pub same_room : (old now : List Row) (left : ℕ) → now ≡ old → HasRoomFor (0 + left) old → HasRoomFor left now
 same_room old now left same room =
     subst (HasRoomFor left) (sym same) (fewer left (0 + left) old (omega arith) room)
 
@@ -76,25 +77,25 @@ plan_room = record {
       record {
         of_plans = λ left. room_taken limit (row_of p) plan_table.name plan_table.columns plan_table.primary
             plan_table.references 2 db new.trees left desk.plans.whole a;
-        of_volumes = λ left. same_room (db 4) (new.trees 4) left (a.others.1.1.0 (λ e. cc));
-        of_spans = λ left. same_room (db 6) (new.trees 6) left (a.others.1.1.1.0 (λ e. cc));
+        of_volumes = λ left. same_room (db 9) (new.trees 9) left (a.others.1.1.1.1.0 (unequal _ _ refl));
+        of_spans = λ left. same_room (db 11) (new.trees 11) left (a.others.1.1.1.1.1.0 (unequal _ _ refl));
       };
 }
 
-pub volume_room : AddsAtMost insert_volume_text volume_of 0 1 0
+pub volume_room : AddsAtMost insert_volume_text volume_params 0 1 0
 volume_room = record {
   takes = λ v limit old new desk h.
       let db = old.trees in
       let d =
-      did insert_volume_text (volume_of v) limit old new desk (Insert 2 (Values insert_volume_terms 9))
+      did insert_volume_text (volume_params v) limit old new desk (Insert 4 (Values insert_volume_terms 10))
       insert_volume_is h in
-      let a = row_added limit (volume_of v) volume_table.name volume_table.columns volume_table.primary
-      volume_table.references 4 db 2 insert_volume_terms 9 d.0 new refl d.1 in
+      let a = row_added limit (volume_params v) volume_table.name volume_table.columns volume_table.primary
+      volume_table.references 9 db 4 insert_volume_terms 10 d.0 new refl d.1 in
       record {
-        of_plans = λ left. same_room (db 2) (new.trees 2) left (a.others.1.0 (λ e. cc));
-        of_volumes = λ left. room_taken limit (volume_of v) volume_table.name volume_table.columns
-            volume_table.primary volume_table.references 4 db new.trees left desk.volumes.whole a;
-        of_spans = λ left. same_room (db 6) (new.trees 6) left (a.others.1.1.1.0 (λ e. cc));
+        of_plans = λ left. same_room (db 2) (new.trees 2) left (a.others.1.0 (unequal _ _ refl));
+        of_volumes = λ left. room_taken limit (volume_params v) volume_table.name volume_table.columns
+            volume_table.primary volume_table.references 9 db new.trees left desk.volumes.whole a;
+        of_spans = λ left. same_room (db 11) (new.trees 11) left (a.others.1.1.1.1.1.0 (unequal _ _ refl));
       };
 }
 
@@ -102,15 +103,15 @@ pub span_room : AddsAtMost insert_span_text span_of 0 0 1
 span_room = record {
   takes = λ s limit old new desk h.
       let db = old.trees in
-      let d = did insert_span_text (span_of s) limit old new desk (Insert 3 (Values insert_span_terms 11))
+      let d = did insert_span_text (span_of s) limit old new desk (Insert 5 (Values insert_span_terms 11))
       insert_span_is h in
       let a = row_added limit (span_of s) span_table.name span_table.columns span_table.primary
-      span_table.references 6 db 3 insert_span_terms 11 d.0 new refl d.1 in
+      span_table.references 11 db 5 insert_span_terms 11 d.0 new refl d.1 in
       record {
-        of_plans = λ left. same_room (db 2) (new.trees 2) left (a.others.1.0 (λ e. cc));
-        of_volumes = λ left. same_room (db 4) (new.trees 4) left (a.others.1.1.0 (λ e. cc));
+        of_plans = λ left. same_room (db 2) (new.trees 2) left (a.others.1.0 (unequal _ _ refl));
+        of_volumes = λ left. same_room (db 9) (new.trees 9) left (a.others.1.1.1.1.0 (unequal _ _ refl));
         of_spans = λ left. room_taken limit (span_of s) span_table.name span_table.columns
-            span_table.primary span_table.references 6 db new.trees left desk.spans.whole a;
+            span_table.primary span_table.references 11 db new.trees left desk.spans.whole a;
       };
 }
 
@@ -142,8 +143,8 @@ remove_room = record {
       let other = λ (r : Row). not (has_key operator id r) in
       record {
         of_plans = λ left. cut_room true other (db 2) (new.trees 2) left left_are.plans desk.plans.whole;
-        of_volumes = λ left. cut_room b other (db 4) (new.trees 4) left left_are.volumes desk.volumes.whole;
-        of_spans = λ left. cut_room b other (db 6) (new.trees 6) left left_are.spans desk.spans.whole;
+        of_volumes = λ left. cut_room b other (db 9) (new.trees 9) left left_are.volumes desk.volumes.whole;
+        of_spans = λ left. cut_room b other (db 11) (new.trees 11) left left_are.spans desk.spans.whole;
       };
 }
 

@@ -33,10 +33,10 @@ use Rattle.desk_sql.specs.Statements.{SelectsAll, rowids}
 use Rattle.desk_sql.specs.Effects.{IsKept}
 use Rattle.desk_sql.specs.Finding.{Holds, AreRising, next_above, exceeds}
 use Rattle.desk_sql.specs.declared.opening.numbers.DeskTable.{DeskTable}
-use Rattle.desk_sql.specs.declared.opening.numbers.DeskTable.TheVariants.{Operator, Plan, Volume, Span}
-use Rattle.desk_sql.proofs.Texts.{operator_rowids_text, plan_rowids_text, volume_rowids_text, span_rowids_text}
-use Rattle.desk_sql.proofs.QueryTexts.{IsWhole, rowids_query, operator_rowids_is, plan_rowids_is, volume_rowids_is, span_rowids_is}
-use Rattle.desk_sql.proofs.SureTexts.{operator_rowids_sure, plan_rowids_sure, volume_rowids_sure, span_rowids_sure}
+use Rattle.desk_sql.specs.declared.opening.numbers.DeskTable.TheVariants.{Operator, Plan, OldVolume, OldSpan, Volume, Span}
+use Rattle.desk_sql.proofs.Texts.{operator_rowids_text, plan_rowids_text, old_volume_rowids_text, old_span_rowids_text, volume_rowids_text, span_rowids_text}
+use Rattle.desk_sql.proofs.QueryTexts.{IsWhole, rowids_query, operator_rowids_is, plan_rowids_is, old_volume_rowids_is, old_span_rowids_is, volume_rowids_is, span_rowids_is}
+use Rattle.desk_sql.proofs.SureTexts.{operator_rowids_sure, plan_rowids_sure, old_volume_rowids_sure, old_span_rowids_sure, volume_rowids_sure, span_rowids_sure}
 use Rattle.desk_sql.proofs.ReadLemmas.{scanned}
 use Rattle.desk_sql.proofs.AskLemmas.{all_selected}
 use Rattle.desk_sql.proofs.NumberLemmas.{IsApart, reversed}
@@ -210,11 +210,18 @@ operator_rowids_selected = rowids_selected _ _ 0 operator_rowids_is operator_row
 pub plan_rowids_selected : SelectsAll Plan plan_rowids_text (0 ∷ []) (λ db. rowids (db 2))
 plan_rowids_selected = rowids_selected _ _ 2 plan_rowids_is plan_rowids_sure (λ db. refl)
 
-pub volume_rowids_selected : SelectsAll Volume volume_rowids_text (0 ∷ []) (λ db. rowids (db 4))
-volume_rowids_selected = rowids_selected _ _ 4 volume_rowids_is volume_rowids_sure (λ db. refl)
+pub old_volume_rowids_selected : SelectsAll OldVolume old_volume_rowids_text (0 ∷ []) (λ db. rowids (db 4))
+old_volume_rowids_selected =
+    rowids_selected _ _ 4 old_volume_rowids_is old_volume_rowids_sure (λ db. refl)
 
-pub span_rowids_selected : SelectsAll Span span_rowids_text (0 ∷ []) (λ db. rowids (db 6))
-span_rowids_selected = rowids_selected _ _ 6 span_rowids_is span_rowids_sure (λ db. refl)
+pub old_span_rowids_selected : SelectsAll OldSpan old_span_rowids_text (0 ∷ []) (λ db. rowids (db 6))
+old_span_rowids_selected = rowids_selected _ _ 6 old_span_rowids_is old_span_rowids_sure (λ db. refl)
+
+pub volume_rowids_selected : SelectsAll Volume volume_rowids_text (0 ∷ []) (λ db. rowids (db 9))
+volume_rowids_selected = rowids_selected _ _ 9 volume_rowids_is volume_rowids_sure (λ db. refl)
+
+pub span_rowids_selected : SelectsAll Span span_rowids_text (0 ∷ []) (λ db. rowids (db 11))
+span_rowids_selected = rowids_selected _ _ 11 span_rowids_is span_rowids_sure (λ db. refl)
 
 module _ {S : Type 0} (g : Ghosts S) (old new : Held S) (text : List ℕ) (table : DeskTable)
     (selects : SelectsAll table text (0 ∷ []) (λ db. rowids (db (tree_of table)))) where

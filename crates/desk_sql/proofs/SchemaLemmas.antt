@@ -5,17 +5,21 @@ use Rattle.sqlite.specs.Table.{Table}
 use Rattle.sqlite.specs.Effect.{Database}
 use Rattle.sqlite_tied.specs.Compute.{everything}
 use Rattle.desk_sql.specs.declared.opening.finding.Made.{Made}
-use Rattle.desk_sql.specs.declared.opening.finding.Made.TheVariants.{Nothing, Operators, Plans, Volumes, Spans, All}
+use Rattle.desk_sql.specs.declared.opening.finding.Made.TheVariants.{Nothing, Operators, Plans, OldVolumes, OldSpans, OldIndex, Volumes, Spans, All}
 use Rattle.desk_sql.specs.declared.opening.numbers.DeskTable.{DeskTable}
-use Rattle.desk_sql.specs.declared.opening.numbers.DeskTable.TheVariants.{Operator, Plan, Volume, Span}
-use Rattle.desk_sql.specs.Schema.{schema_of, schema_to, has_table, HasTable, plan_made, volume_made, span_made}
-use Rattle.desk_sql.specs.Finding.{indexes_of, operator_index, plan_index, volume_index, span_index, first_index}
+use Rattle.desk_sql.specs.declared.opening.numbers.DeskTable.TheVariants.{Operator, Plan, OldVolume, OldSpan, Volume, Span}
+use Rattle.desk_sql.specs.Schema.{schema_of, schema_to, has_table, HasTable, plan_made, old_volume_made, old_span_made, volume_made, span_made}
+use Rattle.desk_sql.specs.Finding.{indexes_of, operator_index, plan_index, old_volume_index, old_span_index, old_first_index, volume_index, span_index, first_index}
 
 indexes_are : (made : Made) → (schema_of made).indexes ≡ indexes_of made
-unfolding everything operator_index plan_index volume_index span_index first_index
+unfolding everything operator_index plan_index old_volume_index old_span_index old_first_index
+    volume_index span_index first_index
 indexes_are Nothing = refl
 indexes_are Operators = refl
 indexes_are Plans = refl
+indexes_are OldVolumes = refl
+indexes_are OldSpans = refl
+indexes_are OldIndex = refl
 indexes_are Volumes = refl
 indexes_are Spans = refl
 indexes_are All = refl
@@ -24,6 +28,9 @@ no_views : (made : Made) → (schema_of made).views ≡ []
 no_views Nothing = refl
 no_views Operators = refl
 no_views Plans = refl
+no_views OldVolumes = refl
+no_views OldSpans = refl
+no_views OldIndex = refl
 no_views Volumes = refl
 no_views Spans = refl
 no_views All = refl
@@ -58,23 +65,63 @@ unfolding everything
 has_made Nothing table db there is = absurd (true≢false (sym there))
 has_made Operators Operator db there is = as_made Operator [] Operators db refl is
 has_made Operators Plan db there is = absurd (true≢false (sym there))
+has_made Operators OldVolume db there is = absurd (true≢false (sym there))
+has_made Operators OldSpan db there is = absurd (true≢false (sym there))
 has_made Operators Volume db there is = absurd (true≢false (sym there))
 has_made Operators Span db there is = absurd (true≢false (sym there))
 has_made Plans Operator db there is = as_made Operator (plan_made ∷ []) Plans db refl is
 has_made Plans Plan db there is = as_made Plan [] Plans db refl is
+has_made Plans OldVolume db there is = absurd (true≢false (sym there))
+has_made Plans OldSpan db there is = absurd (true≢false (sym there))
 has_made Plans Volume db there is = absurd (true≢false (sym there))
 has_made Plans Span db there is = absurd (true≢false (sym there))
-has_made Volumes Operator db there is = as_made Operator (plan_made ∷ volume_made ∷ []) Volumes db refl is
-has_made Volumes Plan db there is = as_made Plan (volume_made ∷ []) Volumes db refl is
+has_made OldVolumes Operator db there is =
+    as_made Operator (plan_made ∷ old_volume_made ∷ []) OldVolumes db refl is
+has_made OldVolumes Plan db there is = as_made Plan (old_volume_made ∷ []) OldVolumes db refl is
+has_made OldVolumes OldVolume db there is = as_made OldVolume [] OldVolumes db refl is
+has_made OldVolumes OldSpan db there is = absurd (true≢false (sym there))
+has_made OldVolumes Volume db there is = absurd (true≢false (sym there))
+has_made OldVolumes Span db there is = absurd (true≢false (sym there))
+has_made OldSpans Operator db there is =
+    as_made Operator (plan_made ∷ old_volume_made ∷ old_span_made ∷ []) OldSpans db refl is
+has_made OldSpans Plan db there is = as_made Plan (old_volume_made ∷ old_span_made ∷ []) OldSpans db refl is
+has_made OldSpans OldVolume db there is = as_made OldVolume (old_span_made ∷ []) OldSpans db refl is
+has_made OldSpans OldSpan db there is = as_made OldSpan [] OldSpans db refl is
+has_made OldSpans Volume db there is = absurd (true≢false (sym there))
+has_made OldSpans Span db there is = absurd (true≢false (sym there))
+has_made OldIndex Operator db there is =
+    as_made Operator (plan_made ∷ old_volume_made ∷ old_span_made ∷ []) OldIndex db refl is
+has_made OldIndex Plan db there is = as_made Plan (old_volume_made ∷ old_span_made ∷ []) OldIndex db refl is
+has_made OldIndex OldVolume db there is = as_made OldVolume (old_span_made ∷ []) OldIndex db refl is
+has_made OldIndex OldSpan db there is = as_made OldSpan [] OldIndex db refl is
+has_made OldIndex Volume db there is = absurd (true≢false (sym there))
+has_made OldIndex Span db there is = absurd (true≢false (sym there))
+has_made Volumes Operator db there is =
+    as_made Operator (plan_made ∷ old_volume_made ∷ old_span_made ∷ volume_made ∷ []) Volumes db refl is
+has_made Volumes Plan db there is =
+    as_made Plan (old_volume_made ∷ old_span_made ∷ volume_made ∷ []) Volumes db refl is
+has_made Volumes OldVolume db there is =
+    as_made OldVolume (old_span_made ∷ volume_made ∷ []) Volumes db refl is
+has_made Volumes OldSpan db there is = as_made OldSpan (volume_made ∷ []) Volumes db refl is
 has_made Volumes Volume db there is = as_made Volume [] Volumes db refl is
 has_made Volumes Span db there is = absurd (true≢false (sym there))
 has_made Spans Operator db there is =
-    as_made Operator (plan_made ∷ volume_made ∷ span_made ∷ []) Spans db refl is
-has_made Spans Plan db there is = as_made Plan (volume_made ∷ span_made ∷ []) Spans db refl is
+    as_made Operator (plan_made ∷ old_volume_made ∷ old_span_made ∷ volume_made ∷ span_made ∷ [])
+    Spans db refl is
+has_made Spans Plan db there is =
+    as_made Plan (old_volume_made ∷ old_span_made ∷ volume_made ∷ span_made ∷ []) Spans db refl is
+has_made Spans OldVolume db there is =
+    as_made OldVolume (old_span_made ∷ volume_made ∷ span_made ∷ []) Spans db refl is
+has_made Spans OldSpan db there is = as_made OldSpan (volume_made ∷ span_made ∷ []) Spans db refl is
 has_made Spans Volume db there is = as_made Volume (span_made ∷ []) Spans db refl is
 has_made Spans Span db there is = as_made Span [] Spans db refl is
 has_made All Operator db there is =
-    as_made Operator (plan_made ∷ volume_made ∷ span_made ∷ []) All db refl is
-has_made All Plan db there is = as_made Plan (volume_made ∷ span_made ∷ []) All db refl is
+    as_made Operator (plan_made ∷ old_volume_made ∷ old_span_made ∷ volume_made ∷ span_made ∷ [])
+    All db refl is
+has_made All Plan db there is =
+    as_made Plan (old_volume_made ∷ old_span_made ∷ volume_made ∷ span_made ∷ []) All db refl is
+has_made All OldVolume db there is =
+    as_made OldVolume (old_span_made ∷ volume_made ∷ span_made ∷ []) All db refl is
+has_made All OldSpan db there is = as_made OldSpan (volume_made ∷ span_made ∷ []) All db refl is
 has_made All Volume db there is = as_made Volume (span_made ∷ []) All db refl is
 has_made All Span db there is = as_made Span [] All db refl is

@@ -22,6 +22,7 @@ use Rattle.desk_sql.proofs.Texts.{set_ceiling_text, close_plan_text}
 use Rattle.desk_sql.proofs.CommandTexts.{set_ceiling_is, set_ceiling_query, close_plan_is, close_plan_query}
 use Rattle.desk_sql.proofs.ReadLemmas.{equals_text}
 use Rattle.desk_sql.proofs.InsertLemmas.{tables_operator, tables_plan}
+use Rattle.desk_sql.proofs.NumberLemmas.{unequal}
 use Rattle.desk_sql.proofs.WriteLemmas.{May, did, changes_by, rows_written, task_at, cast_int}
 use Rattle.desk_sql.proofs.UpdateLemmas.{update_sets, changes, operator_quiet, plan_quiet, update_edit}
 
@@ -74,21 +75,25 @@ module _ (name : List ℕ) (ceiling : ℕ) (limit : Option ℕ) (old new : Datab
       operator_table.primary operator_table.references 0 db found in
       operator_quiet (taken_by db edit) edit.news) s in
       let now : new.trees ≡ it.0.trees = ap (λ (d : Database). d.trees) it.2 in
-      let e2 : new.trees 2 ≡ db 2 = ap (λ (t : Trees). t 2) now ∙ c.others.1.0 (λ e. cc) in
-      let e4 : new.trees 4 ≡ db 4 = ap (λ (t : Trees). t 4) now ∙ c.others.1.1.0 (λ e. cc) in
-      let e6 : new.trees 6 ≡ db 6 = ap (λ (t : Trees). t 6) now ∙ c.others.1.1.1.0 (λ e. cc) in (
+      let e2 : new.trees 2 ≡ db 2 = ap (λ (t : Trees). t 2) now ∙ c.others.1.0 (unequal _ _ refl) in
+      let e4 : new.trees 4 ≡ db 4 = ap (λ (t : Trees). t 4) now ∙ c.others.1.1.0 (unequal _ _ refl) in
+      let e6 : new.trees 6 ≡ db 6 = ap (λ (t : Trees). t 6) now ∙ c.others.1.1.1.0 (unequal _ _ refl) in
+      let e9 : new.trees 9 ≡ db 9 = ap (λ (t : Trees). t 9) now ∙ c.others.1.1.1.1.0 (unequal _ _ refl) in
+      let e11 : new.trees 11 ≡ db 11 =
+      ap (λ (t : Trees). t 11) now ∙ c.others.1.1.1.1.1.0 (unequal _ _ refl) in (
         record {
           schema = ap (λ (d : Database). d.schema) it.2;
           operators = subst (λ (t : Trees). AreNumbered (t 0)) (sym now) c.num;
           plans = subst AreNumbered (sym e2) desk.plans;
-          volumes = subst AreNumbered (sym e4) desk.volumes;
-          spans = subst AreNumbered (sym e6) desk.spans;
+          old_volumes = subst AreNumbered (sym e4) desk.old_volumes;
+          old_spans = subst AreNumbered (sym e6) desk.old_spans;
+          volumes = subst AreNumbered (sym e9) desk.volumes;
+          spans = subst AreNumbered (sym e11) desk.spans;
         },
         (
           subst (λ (t : Trees). IsPermutation (with_row (is_by name) (operator_row name ceiling)
               (map (columns 2) (db 0))) (map (columns 2) (t 0))) (sym now) c.rows,
-          tables_operator db
-              new.trees e2 e4 e6,
+          tables_operator db new.trees e2 e4 e6 e9 e11,
         ),
       )
 
@@ -126,22 +131,27 @@ module _ (operator id : List ℕ) (priority aircraft : ℕ) (limit : Option ℕ)
       (plan_quiet limit close_params plan_table.name plan_table.columns plan_table.primary
       plan_table.references db) s in
       let now : new.trees ≡ it.0.trees = ap (λ (d : Database). d.trees) it.2 in
-      let e0 : new.trees 0 ≡ db 0 = ap (λ (t : Trees). t 0) now ∙ c.others.0 (λ e. cc) in
-      let e4 : new.trees 4 ≡ db 4 = ap (λ (t : Trees). t 4) now ∙ c.others.1.1.0 (λ e. cc) in
-      let e6 : new.trees 6 ≡ db 6 = ap (λ (t : Trees). t 6) now ∙ c.others.1.1.1.0 (λ e. cc) in (
+      let e0 : new.trees 0 ≡ db 0 = ap (λ (t : Trees). t 0) now ∙ c.others.0 (unequal _ _ refl) in
+      let e4 : new.trees 4 ≡ db 4 = ap (λ (t : Trees). t 4) now ∙ c.others.1.1.0 (unequal _ _ refl) in
+      let e6 : new.trees 6 ≡ db 6 = ap (λ (t : Trees). t 6) now ∙ c.others.1.1.1.0 (unequal _ _ refl) in
+      let e9 : new.trees 9 ≡ db 9 = ap (λ (t : Trees). t 9) now ∙ c.others.1.1.1.1.0 (unequal _ _ refl) in
+      let e11 : new.trees 11 ≡ db 11 =
+      ap (λ (t : Trees). t 11) now ∙ c.others.1.1.1.1.1.0 (unequal _ _ refl) in (
         record {
           schema = ap (λ (d : Database). d.schema) it.2;
           operators = subst AreNumbered (sym e0) desk.operators;
           plans = subst (λ (t : Trees). AreNumbered (t 2)) (sym now) c.num;
-          volumes = subst AreNumbered (sym e4) desk.volumes;
-          spans = subst AreNumbered (sym e6) desk.spans;
+          old_volumes = subst AreNumbered (sym e4) desk.old_volumes;
+          old_spans = subst AreNumbered (sym e6) desk.old_spans;
+          volumes = subst AreNumbered (sym e9) desk.volumes;
+          spans = subst AreNumbered (sym e11) desk.spans;
         },
         (
           subst (λ (t : Trees). IsPermutation (with_row (is_of operator id)
               (plan_row operator id priority 2 aircraft) (map (columns 5) (db 2)))
               (map (columns 5) (t 2)))
               (sym now) c.rows,
-          tables_plan db new.trees e0 e4 e6,
+          tables_plan db new.trees e0 e4 e6 e9 e11,
         ),
       )
 

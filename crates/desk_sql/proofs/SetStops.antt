@@ -113,7 +113,7 @@ module _ (c : Ceiling) (limit : Option ℕ) (old : Database) (desk : IsDesk old)
                     ∙ sym (ap (λ x. column x 1) (ceiling_set r whole is)),
                 tt,
               )),
-              (off, (off, (off, (off, tt)))),
+              (off, (off, (off, (off, (off, (off, (off, tt))))))),
             );
             refers = tt;
           };
@@ -192,7 +192,7 @@ module _ (c : Closing) (limit : Option ℕ) (old : Database) (desk : IsDesk old)
               off,
               (
                 (λ on. (closing_key r whole is, (closing_id r whole is, tt))),
-                (off, (off, (off, tt))),
+                (off, (off, (off, (off, (off, (off, tt)))))),
               ),
             );
             refers = ((closing_key r whole is, tt), tt);

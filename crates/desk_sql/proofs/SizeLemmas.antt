@@ -1,5 +1,5 @@
 -- Rows with short texts can be stored.
-use Rattle.std.proofs.Common.{◌≡◌, ◌≤◌, ◌<◌, ◌^◌, ◌+◌, inl, inr, ℕ, ℤ, pos, negsuc, List, [], ◌∷◌, length, sym, subst, ◌∙◌, arith}
+use Rattle.std.proofs.Common.{◌≡◌, ◌≤◌, ◌<◌, ◌^◌, ◌+◌, inl, inr, ℕ, ℤ, pos, negsuc, List, [], ◌∷◌, ◌++◌, length, sym, subst, ◌∙◌, arith}
 use Rattle.std.specs.List.{AllByRecursion, sum_by}
 use Rattle.std.specs.Float.{NotNan}
 use Rattle.std.specs.Float.Ieee
@@ -71,7 +71,14 @@ operator_stored name ceiling short n (inr (i, inr (inr (inr (inl is))), on, big)
     absurd (let e = other_index i _ 0 is on in cc)
 operator_stored name ceiling short n (inr (i, inr (inr (inr (inr (inl is)))), on, big)) =
     absurd (let e = other_index i _ 0 is on in cc)
-operator_stored name ceiling short n (inr (i, inr (inr (inr (inr (inr none)))), on, big)) = absurd none
+operator_stored name ceiling short n (inr (i, inr (inr (inr (inr (inr (inl is))))), on, big)) =
+    absurd (let e = other_index i _ 0 is on in cc)
+operator_stored name ceiling short n (inr (i, inr (inr (inr (inr (inr (inr (inl is)))))), on, big)) =
+    absurd (let e = other_index i _ 0 is on in cc)
+operator_stored name ceiling short n (inr (i, inr (inr (inr (inr (inr (inr (inr (inl is))))))), on, big)) =
+    absurd (let e = other_index i _ 0 is on in cc)
+operator_stored name ceiling short n
+    (inr (i, inr (inr (inr (inr (inr (inr (inr (inr none))))))), on, big)) = absurd none
 
 pub plan_stored : (operator id : List ℕ) (priority usage aircraft : ℕ) → IsShort operator → IsShort id
     → (n : ℤ) → ¬ IsOversized desk_schema plan_at (Int n ∷ plan_row operator id priority usage aircraft)
@@ -104,62 +111,83 @@ plan_stored operator id priority usage aircraft short brief n (inr (i, inr (inl 
     (text operator, (text id, (whole n, tt))) (omega (arith, short, brief)))
 plan_stored operator id priority usage aircraft short brief n (inr (i, inr (inr (inl is)), on, big)) =
     absurd (let e = other_index i _ 2 is on in cc)
+plan_stored operator id priority usage aircraft short brief n (inr (i, inr (inr (inr (inl is))), on, big)) =
+    absurd (let e = other_index i _ 2 is on in cc)
 plan_stored operator id priority usage aircraft short brief n
-    (inr (i, inr (inr (inr (inl is))), on, big)) = absurd (let e = other_index i _ 2 is on in cc)
+    (inr (i, inr (inr (inr (inr (inl is)))), on, big)) =
+    absurd (let e = other_index i _ 2 is on in cc)
 plan_stored operator id priority usage aircraft short brief n
-    (inr (i, inr (inr (inr (inr (inl is)))), on, big)) = absurd (let e = other_index i _ 2 is on in cc)
+    (inr (i, inr (inr (inr (inr (inr (inl is))))), on, big)) =
+    absurd (let e = other_index i _ 2 is on in cc)
 plan_stored operator id priority usage aircraft short brief n
-    (inr (i, inr (inr (inr (inr (inr none)))), on, big)) = absurd none
+    (inr (i, inr (inr (inr (inr (inr (inr (inl is)))))), on, big)) =
+    absurd (let e = other_index i _ 2 is on in cc)
+plan_stored operator id priority usage aircraft short brief n
+    (inr (i, inr (inr (inr (inr (inr (inr (inr (inl is))))))), on, big)) =
+    absurd (let e = other_index i _ 2 is on in cc)
+plan_stored operator id priority usage aircraft short brief n
+    (inr (i, inr (inr (inr (inr (inr (inr (inr (inr none))))))), on, big)) =
+    absurd none
 
 abbrev volume_at : Table
-volume_at = record volume_table { tree = 4 }
+volume_at = record volume_table { tree = 9 }
 
 abbrev span_at : Table
-span_at = record span_table { tree = 6 }
+span_at = record span_table { tree = 11 }
 
-pub volume_stored : (operator id : List ℕ) (place : ℕ) (lower upper start stop : ℤ) (asked : List ℕ)
-    → IsShort operator → IsShort id → IsShort asked → (n : ℤ)
+pub volume_stored : (operator id : List ℕ) (place : ℕ) (lower upper start stop : ℤ) (asked canon : List ℕ)
+    → IsShort operator → IsShort id → IsShort asked → IsShort canon → (n : ℤ)
     → ¬ IsOversized desk_schema volume_at
-    (Int n ∷ volume_row operator id place lower upper start stop asked)
-volume_stored operator id place lower upper start stop asked short brief small n (inl big) = big (
-  storable (Int n ∷ volume_row operator id place lower upper start stop asked) (omega arith)
-      (omega arith) (
-        whole n,
-        (
-          text operator,
-          (
-            text id,
+    (Int n ∷ volume_row operator id place lower upper start stop asked ++ Blob canon ∷ [])
+volume_stored operator id place lower upper start stop asked canon short brief small little n
+    (inl big) = big (
+      storable (Int n ∷ volume_row operator id place lower upper start stop asked ++ Blob canon ∷ [])
+          (omega arith) (omega arith) (
+            whole n,
             (
-              whole (pos place),
+              text operator,
               (
-                whole lower,
+                text id,
                 (
-                  whole upper,
-                  (whole start, (whole stop, (blob asked, tt))),
+                  whole (pos place),
+                  (
+                    whole lower,
+                    (
+                      whole upper,
+                      (whole start, (whole stop, (blob asked, (blob canon, tt)))),
+                    ),
+                  ),
                 ),
               ),
             ),
-          ),
-        ),
-      ) (omega (arith, short, brief, small)),
-  omega arith,
-)
-volume_stored operator id place lower upper start stop asked short brief small n
-    (inr (i, inr (inr (inl is)), on, big)) =
+          ) (omega (arith, short, brief, small, little)),
+      omega arith,
+    )
+volume_stored operator id place lower upper start stop asked canon short brief small little n
+    (inr (i, inl is, on, big)) = absurd (let e = other_index i _ 9 is on in cc)
+volume_stored operator id place lower upper start stop asked canon short brief small little n
+    (inr (i, inr (inl is), on, big)) = absurd (let e = other_index i _ 9 is on in cc)
+volume_stored operator id place lower upper start stop asked canon short brief small little n
+    (inr (i, inr (inr (inl is)), on, big)) = absurd (let e = other_index i _ 9 is on in cc)
+volume_stored operator id place lower upper start stop asked canon short brief small little n
+    (inr (i, inr (inr (inr (inl is))), on, big)) = absurd (let e = other_index i _ 9 is on in cc)
+volume_stored operator id place lower upper start stop asked canon short brief small little n
+    (inr (i, inr (inr (inr (inr (inl is)))), on, big)) = absurd (let e = other_index i _ 9 is on in cc)
+volume_stored operator id place lower upper start stop asked canon short brief small little n
+    (inr (i, inr (inr (inr (inr (inr (inl is))))), on, big)) =
     subst (λ (i : Index). ¬ IsStorable (index_reals (table_reals volume_at) i.columns)
-    (entry_of i.columns (Int n ∷ volume_row operator id place lower upper start stop asked))) is big
+    (entry_of i.columns
+    (Int n ∷ volume_row operator id place lower upper start stop asked ++ Blob canon ∷ []))) is big
     (storable (Text operator ∷ Text id ∷ Int (pos place) ∷ Int n ∷ []) (omega arith) (omega arith)
     (text operator, (text id, (whole (pos place), (whole n, tt)))) (omega (arith, short, brief)))
-volume_stored operator id place lower upper start stop asked short brief small n
-    (inr (i, inl is, on, big)) = absurd (let e = other_index i _ 4 is on in cc)
-volume_stored operator id place lower upper start stop asked short brief small n
-    (inr (i, inr (inl is), on, big)) = absurd (let e = other_index i _ 4 is on in cc)
-volume_stored operator id place lower upper start stop asked short brief small n
-    (inr (i, inr (inr (inr (inl is))), on, big)) = absurd (let e = other_index i _ 4 is on in cc)
-volume_stored operator id place lower upper start stop asked short brief small n
-    (inr (i, inr (inr (inr (inr (inl is)))), on, big)) = absurd (let e = other_index i _ 4 is on in cc)
-volume_stored operator id place lower upper start stop asked short brief small n
-    (inr (i, inr (inr (inr (inr (inr none)))), on, big)) = absurd none
+volume_stored operator id place lower upper start stop asked canon short brief small little n
+    (inr (i, inr (inr (inr (inr (inr (inr (inl is)))))), on, big)) =
+    absurd (let e = other_index i _ 9 is on in cc)
+volume_stored operator id place lower upper start stop asked canon short brief small little n
+    (inr (i, inr (inr (inr (inr (inr (inr (inr (inl is))))))), on, big)) =
+    absurd (let e = other_index i _ 9 is on in cc)
+volume_stored operator id place lower upper start stop asked canon short brief small little n
+    (inr (i, inr (inr (inr (inr (inr (inr (inr (inr none))))))), on, big)) = absurd none
 
 pub span_stored : (operator id : List ℕ) (place : ℕ) (first last lower upper start stop : ℤ) (priority : ℕ)
     → IsShort operator → IsShort id → (n : ℤ)
@@ -190,7 +218,7 @@ span_stored operator id place first last lower upper start stop priority short b
   omega arith,
 )
 span_stored operator id place first last lower upper start stop priority short brief n
-    (inr (i, inr (inr (inr (inl is))), on, big)) =
+    (inr (i, inr (inr (inr (inr (inr (inr (inl is)))))), on, big)) =
     subst (λ (i : Index). ¬ IsStorable (index_reals (table_reals span_at) i.columns)
     (entry_of i.columns (Int n ∷ span_row operator id place first last lower upper start stop priority)))
     is big
@@ -198,7 +226,7 @@ span_stored operator id place first last lower upper start stop priority short b
     (omega arith) (text operator, (text id, (whole (pos place), (whole first, (whole n, tt)))))
     (omega (arith, short, brief)))
 span_stored operator id place first last lower upper start stop priority short brief n
-    (inr (i, inr (inr (inr (inr (inl is)))), on, big)) =
+    (inr (i, inr (inr (inr (inr (inr (inr (inr (inl is))))))), on, big)) =
     subst (λ (i : Index). ¬ IsStorable (index_reals (table_reals span_at) i.columns)
     (entry_of i.columns (Int n ∷ span_row operator id place first last lower upper start stop priority)))
     is big
@@ -224,10 +252,16 @@ span_stored operator id place first last lower upper start stop priority short b
     )
     (omega (arith, short, brief)))
 span_stored operator id place first last lower upper start stop priority short brief n
-    (inr (i, inl is, on, big)) = absurd (let e = other_index i _ 6 is on in cc)
+    (inr (i, inl is, on, big)) = absurd (let e = other_index i _ 11 is on in cc)
 span_stored operator id place first last lower upper start stop priority short brief n
-    (inr (i, inr (inl is), on, big)) = absurd (let e = other_index i _ 6 is on in cc)
+    (inr (i, inr (inl is), on, big)) = absurd (let e = other_index i _ 11 is on in cc)
 span_stored operator id place first last lower upper start stop priority short brief n
-    (inr (i, inr (inr (inl is)), on, big)) = absurd (let e = other_index i _ 6 is on in cc)
+    (inr (i, inr (inr (inl is)), on, big)) = absurd (let e = other_index i _ 11 is on in cc)
 span_stored operator id place first last lower upper start stop priority short brief n
-    (inr (i, inr (inr (inr (inr (inr none)))), on, big)) = absurd none
+    (inr (i, inr (inr (inr (inl is))), on, big)) = absurd (let e = other_index i _ 11 is on in cc)
+span_stored operator id place first last lower upper start stop priority short brief n
+    (inr (i, inr (inr (inr (inr (inl is)))), on, big)) = absurd (let e = other_index i _ 11 is on in cc)
+span_stored operator id place first last lower upper start stop priority short brief n
+    (inr (i, inr (inr (inr (inr (inr (inl is))))), on, big)) = absurd (let e = other_index i _ 11 is on in cc)
+span_stored operator id place first last lower upper start stop priority short brief n
+    (inr (i, inr (inr (inr (inr (inr (inr (inr (inr none))))))), on, big)) = absurd none

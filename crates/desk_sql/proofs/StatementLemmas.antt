@@ -15,7 +15,7 @@ use Rattle.sqlite_value.specs.declared.keys.Key.{Key}
 use Rattle.sqlite.specs.State.{HasCleanDisk, Shown}
 use Rattle.sqlite.specs.Store.{Ghosts}
 use Rattle.sqlite.specs.Held.{Held, state}
-use Rattle.desk_sql.specs.Rows.{IsDesk, is_by, is_of, is_wanted, differs, is_at_most, is_at_least, is_below, is_above, held_columns, is_same, joined, has_volume, with_volumes, by_cells, columns, tables_of, Lists}
+use Rattle.desk_sql.specs.Rows.{IsDesk, is_by, is_of, is_wanted, differs, is_at_most, is_at_least, is_below, is_above, held_columns, is_same, joined, has_volume, with_volumes, by_cells, columns, cover_columns, tables_of, Lists}
 use Rattle.desk_sql.specs.declared.reading.rivals.Reach.{Reach}
 use Rattle.desk_sql.specs.Effects.{IsReady}
 use Rattle.desk_sql.specs.Rivals.{rival_params, MayRead, SelectsRivals}
@@ -23,7 +23,7 @@ use Rattle.sqlite.specs.Schema.{Schema}
 use Rattle.sqlite.specs.Table.{Table}
 use Rattle.sqlite_schema.specs.declared.schema.Index.{Index}
 use Rattle.desk_sql.specs.declared.opening.numbers.DeskTable.{DeskTable}
-use Rattle.desk_sql.specs.declared.opening.numbers.DeskTable.TheVariants.{Operator, Plan, Volume, Span}
+use Rattle.desk_sql.specs.declared.opening.numbers.DeskTable.TheVariants.{Operator, Plan, OldVolume, OldSpan, Volume, Span}
 use Rattle.desk_sql.specs.Schema.{desk_schema, schema_to, HasTable}
 use Rattle.desk_sql.specs.Finding.{Holds}
 use Rattle.sqlite.specs.Effect.{Database}
@@ -32,9 +32,9 @@ use Rattle.sqlite.specs.Tree.{Trees}
 use Rattle.desk_sql.specs.Rows.{Tables}
 use Rattle.desk_sql.specs.Refusals.{IsSure}
 use Rattle.desk_sql.specs.Statements.{Selects, SelectsAll, name_row, key_row}
-use Rattle.desk_sql.proofs.SureTexts.{all_operators_sure, all_plans_sure, all_volumes_sure, all_spans_sure}
-use Rattle.desk_sql.proofs.Texts.{operator_named_text, all_operators_text, plan_of_text, all_plans_text, volumes_of_text, all_volumes_text, all_spans_text, own_plans_text, rival_spans_text}
-use Rattle.desk_sql.proofs.QueryTexts.{IsQueryIn, IsQuery, IsWhole, query_of, operator_named_is, operator_named_query, all_operators_is, all_operators_query, plan_of_is, plan_of_query, all_plans_is, all_plans_query, volumes_of_is, volumes_of_query, all_volumes_is, all_volumes_query, all_spans_is, all_spans_query, own_plans_is, own_plans_query, rival_spans_is, rival_spans_query}
+use Rattle.desk_sql.proofs.SureTexts.{all_operators_sure, all_plans_sure, all_volumes_sure, all_covers_sure, all_spans_sure, all_old_volumes_sure, all_old_spans_sure}
+use Rattle.desk_sql.proofs.Texts.{operator_named_text, all_operators_text, plan_of_text, all_plans_text, volumes_of_text, all_volumes_text, all_covers_text, all_spans_text, all_old_volumes_text, all_old_spans_text, own_plans_text, rival_spans_text}
+use Rattle.desk_sql.proofs.QueryTexts.{IsQueryIn, IsQuery, IsWhole, query_of, operator_named_is, operator_named_query, all_operators_is, all_operators_query, plan_of_is, plan_of_query, all_plans_is, all_plans_query, volumes_of_is, volumes_of_query, all_volumes_is, all_volumes_query, all_covers_is, all_covers_query, all_spans_is, all_spans_query, all_old_volumes_is, all_old_volumes_query, all_old_spans_is, all_old_spans_query, own_plans_is, own_plans_query, rival_spans_is, rival_spans_query}
 use Rattle.desk_sql.proofs.ReadLemmas.{was_open, answer_rows, may_answer, may_show, scanned, equals_text, equals, either_true, le_number, ge_number, lt_number, gt_number}
 
 -- a value that a desk's rows have, whenever something is shown
@@ -270,20 +270,43 @@ volumes_of_selected =
     (λ key db. scanned (λ r. key_row key ∷ r ∷ []) volumes_of_query.filter volumes_of_query.project
     (columns 8) (is_of key.operator key.id) (λ r. refl)
     (λ r. ap₂ (λ a b. a && b) (equals_text (column r 1) key.operator)
-    (both_hold _ ∙ equals_text (column r 2) key.id)) (db.trees 4))
+    (both_hold _ ∙ equals_text (column r 2) key.id)) (db.trees 9))
 
 pub all_volumes_selected : SelectsAll Volume all_volumes_text (0 ∷ 1 ∷ 2 ∷ []) (λ db. (tables_of db).volumes)
 all_volumes_selected =
     selects_all all_volumes_text _ _ _ _ _ _ all_volumes_is all_volumes_sure (0 ∷ 1 ∷ 2 ∷ []) _
     (λ e. refl) (λ x y. refl)
     (λ db. scanned (λ r. [] ∷ r ∷ []) all_volumes_query.filter all_volumes_query.project (columns 8)
-    (λ r. true) (λ r. refl) (λ r. refl) (db 4) ∙ every (map (columns 8) (db 4)))
+    (λ r. true) (λ r. refl) (λ r. refl) (db 9) ∙ every (map (columns 8) (db 9)))
+
+pub all_covers_selected : SelectsAll Volume all_covers_text (0 ∷ 1 ∷ 2 ∷ []) (λ db. (tables_of db).covers)
+all_covers_selected =
+    selects_all all_covers_text _ _ _ _ _ _ all_covers_is all_covers_sure (0 ∷ 1 ∷ 2 ∷ []) _
+    (λ e. refl) (λ x y. refl)
+    (λ db. scanned (λ r. [] ∷ r ∷ []) all_covers_query.filter all_covers_query.project cover_columns
+    (λ r. true) (λ r. refl) (λ r. refl) (db 9) ∙ every (map cover_columns (db 9)))
 
 pub all_spans_selected : SelectsAll Span all_spans_text (0 ∷ 1 ∷ 2 ∷ 3 ∷ []) (λ db. (tables_of db).spans)
 all_spans_selected =
     selects_all all_spans_text _ _ _ _ _ _ all_spans_is all_spans_sure (0 ∷ 1 ∷ 2 ∷ 3 ∷ []) _
     (λ e. refl) (λ x y. refl)
     (λ db. scanned (λ r. [] ∷ r ∷ []) all_spans_query.filter all_spans_query.project (columns 10)
+    (λ r. true) (λ r. refl) (λ r. refl) (db 11) ∙ every (map (columns 10) (db 11)))
+
+pub all_old_volumes_selected :
+    SelectsAll OldVolume all_old_volumes_text (0 ∷ 1 ∷ 2 ∷ []) (λ db. (tables_of db).old_volumes)
+all_old_volumes_selected =
+    selects_all all_old_volumes_text _ _ _ _ _ _ all_old_volumes_is all_old_volumes_sure (0 ∷ 1 ∷ 2 ∷ []) _
+    (λ e. refl) (λ x y. refl)
+    (λ db. scanned (λ r. [] ∷ r ∷ []) all_old_volumes_query.filter all_old_volumes_query.project (columns 8)
+    (λ r. true) (λ r. refl) (λ r. refl) (db 4) ∙ every (map (columns 8) (db 4)))
+
+pub all_old_spans_selected :
+    SelectsAll OldSpan all_old_spans_text (0 ∷ 1 ∷ 2 ∷ 3 ∷ []) (λ db. (tables_of db).old_spans)
+all_old_spans_selected =
+    selects_all all_old_spans_text _ _ _ _ _ _ all_old_spans_is all_old_spans_sure (0 ∷ 1 ∷ 2 ∷ 3 ∷ []) _
+    (λ e. refl) (λ x y. refl)
+    (λ db. scanned (λ r. [] ∷ r ∷ []) all_old_spans_query.filter all_old_spans_query.project (columns 10)
     (λ r. true) (λ r. refl) (λ r. refl) (db 6) ∙ every (map (columns 10) (db 6)))
 
 pub own_plans_selected :
@@ -291,7 +314,7 @@ pub own_plans_selected :
 own_plans_selected =
     selects own_plans_text _ _ _ _ _ own_plans_is name_row (1 ∷ 5 ∷ []) _ (λ e. refl) (λ x y. refl)
     (λ name db. joined_rows (name_row name) own_plans_query.filter own_plans_query.project (is_by name)
-    (λ p s. refl) (λ p s. own_test name p s) (db.trees 2) (db.trees 4))
+    (λ p s. refl) (λ p s. own_test name p s) (db.trees 2) (db.trees 9))
 
 -- ---- the spans that may stand in the way of a plan
 
@@ -334,7 +357,7 @@ rival_rows operator id reach low db rows desk h =
     (one_plan (eval_all rival_spans_query.project) (λ s. params ∷ s ∷ [])
     (λ s. list_all (holds (params ∷ s ∷ [])) rival_spans_query.filter) (columns 10)
     (is_wanted operator id reach low) held_columns (λ s. refl) true
-    (λ s. rival_test operator id reach low s ∙ sym (both_hold _)) (db.trees 6))
+    (λ s. rival_test operator id reach low s ∙ sym (both_hold _)) (db.trees 11))
     (may_show rival_spans_text _ _ _ _ _ rival_spans_is params db rows h)
 
 pub rival_spans_selected : SelectsRivals rival_spans_text

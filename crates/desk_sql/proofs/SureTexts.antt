@@ -13,12 +13,12 @@ use Rattle.sqlite.specs.Listing.{understood}
 use Rattle.sqlite_schema.specs.declared.schema.Index.{Index}
 use Rattle.sqlite.specs.Table.{Table}
 use Rattle.desk_sql.specs.declared.opening.numbers.DeskTable.{DeskTable}
-use Rattle.desk_sql.specs.declared.opening.numbers.DeskTable.TheVariants.{Operator, Plan, Volume, Span}
+use Rattle.desk_sql.specs.declared.opening.numbers.DeskTable.TheVariants.{Operator, Plan, OldVolume, OldSpan, Volume, Span}
 use Rattle.desk_sql.specs.Schema.{schema_to}
 use Rattle.desk_sql.specs.Refusals.{NeverRefuses, IsSure}
-use Rattle.desk_sql.proofs.Texts.{all_operators_text, all_plans_text, all_volumes_text, all_spans_text, operator_rowids_text, plan_rowids_text, volume_rowids_text, span_rowids_text}
+use Rattle.desk_sql.proofs.Texts.{all_operators_text, all_plans_text, all_volumes_text, all_covers_text, all_spans_text, all_old_volumes_text, all_old_spans_text, operator_rowids_text, plan_rowids_text, old_volume_rowids_text, old_span_rowids_text, volume_rowids_text, span_rowids_text}
 use Rattle.sqlite.proofs.Callers.{command_of}
-use Rattle.desk_sql.proofs.QueryTexts.{IsQueryIn, query_of, operator_rowids_is, plan_rowids_is, volume_rowids_is, span_rowids_is, all_operators_is, all_plans_is, all_volumes_is, all_spans_is}
+use Rattle.desk_sql.proofs.QueryTexts.{IsQueryIn, query_of, operator_rowids_is, plan_rowids_is, old_volume_rowids_is, old_span_rowids_is, volume_rowids_is, span_rowids_is, all_operators_is, all_plans_is, all_volumes_is, all_covers_is, all_spans_is, all_old_volumes_is, all_old_spans_is}
 
 -- the query's types do not fit the tables
 abbrev Misfits : Query → Schema → Trees → Type 0
@@ -151,6 +151,71 @@ all_spans_sure others indexes = record {
     refl,
     omega arith,
     known_never _ _ _ _ _ _ (all_spans_is others indexes) (λ trees misfit. true≢false misfit),
+  );
+  unlisted = refl;
+}
+
+pub all_covers_sure : IsSureWith Volume all_covers_text
+unfolding understood everything
+all_covers_sure others indexes = record {
+  means = (
+    refl,
+    refl,
+    refl,
+    omega arith,
+    known_never _ _ _ _ _ _ (all_covers_is others indexes) (λ trees misfit. true≢false misfit),
+  );
+  unlisted = refl;
+}
+
+pub all_old_volumes_sure : IsSureWith OldVolume all_old_volumes_text
+unfolding understood everything
+all_old_volumes_sure others indexes = record {
+  means = (
+    refl,
+    refl,
+    refl,
+    omega arith,
+    known_never _ _ _ _ _ _ (all_old_volumes_is others indexes) (λ trees misfit. true≢false misfit),
+  );
+  unlisted = refl;
+}
+
+pub all_old_spans_sure : IsSureWith OldSpan all_old_spans_text
+unfolding understood everything
+all_old_spans_sure others indexes = record {
+  means = (
+    refl,
+    refl,
+    refl,
+    omega arith,
+    known_never _ _ _ _ _ _ (all_old_spans_is others indexes) (λ trees misfit. true≢false misfit),
+  );
+  unlisted = refl;
+}
+
+pub old_volume_rowids_sure : IsSureWith OldVolume old_volume_rowids_text
+unfolding understood everything
+old_volume_rowids_sure others indexes = record {
+  means = (
+    refl,
+    refl,
+    refl,
+    omega arith,
+    known_never _ _ _ _ _ _ (old_volume_rowids_is others indexes) (λ trees misfit. true≢false misfit),
+  );
+  unlisted = refl;
+}
+
+pub old_span_rowids_sure : IsSureWith OldSpan old_span_rowids_text
+unfolding understood everything
+old_span_rowids_sure others indexes = record {
+  means = (
+    refl,
+    refl,
+    refl,
+    omega arith,
+    known_never _ _ _ _ _ _ (old_span_rowids_is others indexes) (λ trees misfit. true≢false misfit),
   );
   unlisted = refl;
 }

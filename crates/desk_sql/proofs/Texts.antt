@@ -8,15 +8,25 @@ operator_text = codes
 abbrev pub plan_text : List ℕ
 plan_text = codes "CREATE TABLE plan (operator TEXT NOT NULL, id TEXT NOT NULL, priority INTEGER NOT NULL, usage INTEGER NOT NULL, aircraft INTEGER NOT NULL, PRIMARY KEY (operator, id), FOREIGN KEY (operator) REFERENCES operator (name)) STRICT"
 
+abbrev pub old_volume_text : List ℕ
+old_volume_text = codes "CREATE TABLE volume (operator TEXT NOT NULL, id TEXT NOT NULL, place INTEGER NOT NULL, lower INTEGER NOT NULL, upper INTEGER NOT NULL, start INTEGER NOT NULL, stop INTEGER NOT NULL, asked BLOB NOT NULL, PRIMARY KEY (operator, id, place), FOREIGN KEY (operator, id) REFERENCES plan (operator, id) ON DELETE CASCADE) STRICT"
+
+abbrev pub old_span_text : List ℕ
+old_span_text = codes "CREATE TABLE span (operator TEXT NOT NULL, id TEXT NOT NULL, place INTEGER NOT NULL, first INTEGER NOT NULL, last INTEGER NOT NULL, lower INTEGER NOT NULL, upper INTEGER NOT NULL, start INTEGER NOT NULL, stop INTEGER NOT NULL, priority INTEGER NOT NULL, PRIMARY KEY (operator, id, place, first), FOREIGN KEY (operator, id) REFERENCES plan (operator, id) ON DELETE CASCADE) STRICT"
+
+abbrev pub old_first_text : List ℕ
+old_first_text = codes
+    "CREATE INDEX span_first ON span (first, last, lower, upper, start, stop, priority, operator, id)"
+
 abbrev pub volume_text : List ℕ
-volume_text = codes "CREATE TABLE volume (operator TEXT NOT NULL, id TEXT NOT NULL, place INTEGER NOT NULL, lower INTEGER NOT NULL, upper INTEGER NOT NULL, start INTEGER NOT NULL, stop INTEGER NOT NULL, asked BLOB NOT NULL, PRIMARY KEY (operator, id, place), FOREIGN KEY (operator, id) REFERENCES plan (operator, id) ON DELETE CASCADE) STRICT"
+volume_text = codes "CREATE TABLE volume2 (operator TEXT NOT NULL, id TEXT NOT NULL, place INTEGER NOT NULL, lower INTEGER NOT NULL, upper INTEGER NOT NULL, start INTEGER NOT NULL, stop INTEGER NOT NULL, asked BLOB NOT NULL, canon BLOB NOT NULL, PRIMARY KEY (operator, id, place), FOREIGN KEY (operator, id) REFERENCES plan (operator, id) ON DELETE CASCADE) STRICT"
 
 abbrev pub span_text : List ℕ
-span_text = codes "CREATE TABLE span (operator TEXT NOT NULL, id TEXT NOT NULL, place INTEGER NOT NULL, first INTEGER NOT NULL, last INTEGER NOT NULL, lower INTEGER NOT NULL, upper INTEGER NOT NULL, start INTEGER NOT NULL, stop INTEGER NOT NULL, priority INTEGER NOT NULL, PRIMARY KEY (operator, id, place, first), FOREIGN KEY (operator, id) REFERENCES plan (operator, id) ON DELETE CASCADE) STRICT"
+span_text = codes "CREATE TABLE span2 (operator TEXT NOT NULL, id TEXT NOT NULL, place INTEGER NOT NULL, first INTEGER NOT NULL, last INTEGER NOT NULL, lower INTEGER NOT NULL, upper INTEGER NOT NULL, start INTEGER NOT NULL, stop INTEGER NOT NULL, priority INTEGER NOT NULL, PRIMARY KEY (operator, id, place, first), FOREIGN KEY (operator, id) REFERENCES plan (operator, id) ON DELETE CASCADE) STRICT"
 
 abbrev pub first_text : List ℕ
 first_text = codes
-    "CREATE INDEX span_first ON span (first, last, lower, upper, start, stop, priority, operator, id)"
+    "CREATE INDEX span2_first ON span2 (first, last, lower, upper, start, stop, priority, operator, id)"
 
 abbrev pub operator_named_text : List ℕ
 operator_named_text = codes "SELECT name, ceiling FROM operator WHERE name = ?1"
@@ -32,23 +42,34 @@ all_plans_text = codes "SELECT operator, id, priority, usage, aircraft FROM plan
 
 abbrev pub volumes_of_text : List ℕ
 volumes_of_text = codes
-    "SELECT operator, id, place, lower, upper, start, stop, asked FROM volume WHERE operator = ?1 AND id = ?2 ORDER BY place"
+    "SELECT operator, id, place, lower, upper, start, stop, asked FROM volume2 WHERE operator = ?1 AND id = ?2 ORDER BY place"
 
 abbrev pub all_volumes_text : List ℕ
 all_volumes_text = codes
-    "SELECT operator, id, place, lower, upper, start, stop, asked FROM volume ORDER BY operator, id, place"
+    "SELECT operator, id, place, lower, upper, start, stop, asked FROM volume2 ORDER BY operator, id, place"
 
 abbrev pub all_spans_text : List ℕ
 all_spans_text = codes
+    "SELECT operator, id, place, first, last, lower, upper, start, stop, priority FROM span2 ORDER BY operator, id, place, first"
+
+abbrev pub all_covers_text : List ℕ
+all_covers_text = codes "SELECT operator, id, place, canon FROM volume2 ORDER BY operator, id, place"
+
+abbrev pub all_old_volumes_text : List ℕ
+all_old_volumes_text = codes
+    "SELECT operator, id, place, lower, upper, start, stop, asked FROM volume ORDER BY operator, id, place"
+
+abbrev pub all_old_spans_text : List ℕ
+all_old_spans_text = codes
     "SELECT operator, id, place, first, last, lower, upper, start, stop, priority FROM span ORDER BY operator, id, place, first"
 
 abbrev pub own_plans_text : List ℕ
 own_plans_text = codes
-    "SELECT plan.operator, plan.id, plan.priority, plan.usage, plan.aircraft, volume.place, volume.lower, volume.upper, volume.start, volume.stop, volume.asked FROM plan JOIN volume ON volume.operator = plan.operator AND volume.id = plan.id WHERE plan.operator = ?1 ORDER BY plan.id, volume.place"
+    "SELECT plan.operator, plan.id, plan.priority, plan.usage, plan.aircraft, volume2.place, volume2.lower, volume2.upper, volume2.start, volume2.stop, volume2.asked FROM plan JOIN volume2 ON volume2.operator = plan.operator AND volume2.id = plan.id WHERE plan.operator = ?1 ORDER BY plan.id, volume2.place"
 
 abbrev pub rival_spans_text : List ℕ
 rival_spans_text = codes
-    "SELECT first, last, lower, upper, start, stop, priority FROM span WHERE first >= ?10 AND first <= ?1 AND last >= ?2 AND lower < ?3 AND upper > ?4 AND start < ?5 AND stop > ?6 AND priority >= ?7 AND (operator <> ?8 OR id <> ?9) ORDER BY first"
+    "SELECT first, last, lower, upper, start, stop, priority FROM span2 WHERE first >= ?10 AND first <= ?1 AND last >= ?2 AND lower < ?3 AND upper > ?4 AND start < ?5 AND stop > ?6 AND priority >= ?7 AND (operator <> ?8 OR id <> ?9) ORDER BY first"
 
 abbrev pub insert_operator_text : List ℕ
 insert_operator_text = codes "INSERT INTO operator (name, ceiling) VALUES (?1, ?2)"
@@ -59,11 +80,11 @@ insert_plan_text = codes
 
 abbrev pub insert_volume_text : List ℕ
 insert_volume_text = codes
-    "INSERT INTO volume (operator, id, place, lower, upper, start, stop, asked) VALUES (?1, ?2, ?3, ?4, ?5, ?6, ?7, ?8)"
+    "INSERT INTO volume2 (operator, id, place, lower, upper, start, stop, asked, canon) VALUES (?1, ?2, ?3, ?4, ?5, ?6, ?7, ?8, ?9)"
 
 abbrev pub insert_span_text : List ℕ
 insert_span_text = codes
-    "INSERT INTO span (operator, id, place, first, last, lower, upper, start, stop, priority) VALUES (?1, ?2, ?3, ?4, ?5, ?6, ?7, ?8, ?9, ?10)"
+    "INSERT INTO span2 (operator, id, place, first, last, lower, upper, start, stop, priority) VALUES (?1, ?2, ?3, ?4, ?5, ?6, ?7, ?8, ?9, ?10)"
 
 abbrev pub set_ceiling_text : List ℕ
 set_ceiling_text = codes "UPDATE operator SET ceiling = ?2 WHERE name = ?1"
@@ -76,7 +97,13 @@ abbrev pub remove_plan_text : List ℕ
 remove_plan_text = codes "DELETE FROM plan WHERE operator = ?1 AND id = ?2"
 
 abbrev pub remove_spans_text : List ℕ
-remove_spans_text = codes "DELETE FROM span WHERE operator = ?1 AND id = ?2"
+remove_spans_text = codes "DELETE FROM span2 WHERE operator = ?1 AND id = ?2"
+
+abbrev pub empty_old_volumes_text : List ℕ
+empty_old_volumes_text = codes "DELETE FROM volume"
+
+abbrev pub empty_old_spans_text : List ℕ
+empty_old_spans_text = codes "DELETE FROM span"
 
 abbrev pub count_plans_text : List ℕ
 count_plans_text = codes "SELECT COUNT(*) FROM plan WHERE operator = ?1"
@@ -87,8 +114,14 @@ operator_rowids_text = codes "SELECT rowid FROM operator ORDER BY rowid"
 abbrev pub plan_rowids_text : List ℕ
 plan_rowids_text = codes "SELECT rowid FROM plan ORDER BY rowid"
 
+abbrev pub old_volume_rowids_text : List ℕ
+old_volume_rowids_text = codes "SELECT rowid FROM volume ORDER BY rowid"
+
+abbrev pub old_span_rowids_text : List ℕ
+old_span_rowids_text = codes "SELECT rowid FROM span ORDER BY rowid"
+
 abbrev pub volume_rowids_text : List ℕ
-volume_rowids_text = codes "SELECT rowid FROM volume ORDER BY rowid"
+volume_rowids_text = codes "SELECT rowid FROM volume2 ORDER BY rowid"
 
 abbrev pub span_rowids_text : List ℕ
-span_rowids_text = codes "SELECT rowid FROM span ORDER BY rowid"
+span_rowids_text = codes "SELECT rowid FROM span2 ORDER BY rowid"

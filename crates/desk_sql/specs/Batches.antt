@@ -1,6 +1,7 @@
 -- Several rows at once.
-use Rattle.std.specs.Prelude.{◌≡◌, ℕ, Bool, not, List, ◌∷◌, ◌++◌, filter, IsTrue, IsPermutation}
+use Rattle.std.specs.Prelude.{◌≡◌, ℕ, Bool, not, List, [], ◌∷◌, ◌++◌, filter, IsTrue, IsPermutation}
 use Rattle.std.specs.List.{list_any}
+use Rattle.sqlite.specs.declared.types.Value.TheVariants.{Blob}
 use Rattle.sqlite.specs.Order.{Row}
 use Rattle.sqlite.specs.Store.{Ghosts}
 use Rattle.sqlite.specs.Effect.{IsDatabase}
@@ -8,17 +9,25 @@ use Rattle.sqlite.specs.State.{HasCleanDisk}
 use Rattle.sqlite.specs.Held.{Held, state}
 use Rattle.desk_sql.specs.declared.changing.writing.VolumeRecord.{VolumeRecord}
 use Rattle.desk_sql.specs.declared.changing.writing.SpanRecord.{SpanRecord}
-use Rattle.desk_sql.specs.Rows.{IsDesk, Tables, is_of, is_not_of, left_without, volume_row, span_row}
+use Rattle.desk_sql.specs.Rows.{IsDesk, Tables, is_of, is_not_of, left_without, volume_row, cover_row, span_row}
 
 abbrev pub volume_of : VolumeRecord → Row
 volume_of v = volume_row v.operator.now v.id.now v.place v.lower v.upper v.start v.stop v.asked.now
 
+abbrev pub cover_of : VolumeRecord → Row
+cover_of v = cover_row v.operator.now v.id.now v.place v.canon.now
+
+-- the whole row of `volume2`
+abbrev pub volume_params : VolumeRecord → Row
+volume_params v = volume_of v ++ Blob v.canon.now ∷ []
+
 abbrev pub span_of : SpanRecord → Row
 span_of s = span_row s.operator.now s.id.now s.place s.first s.last s.lower s.upper s.start s.stop s.priority
 
-abbrev pub AddsVolumes : List Row → Tables → Tables → Type 0
-AddsVolumes rows old new = IsPermutation (rows ++ old.volumes) new.volumes
-    × (new ≡ record old { volumes = new.volumes })
+abbrev pub AddsVolumes : List Row → List Row → Tables → Tables → Type 0
+AddsVolumes rows covers old new = IsPermutation (rows ++ old.volumes) new.volumes
+    × IsPermutation (covers ++ old.covers) new.covers
+    × (new ≡ record old { volumes = new.volumes; covers = new.covers })
 
 abbrev pub AddsSpans : List Row → Tables → Tables → Type 0
 AddsSpans rows old new = IsPermutation (rows ++ old.spans) new.spans
@@ -30,11 +39,14 @@ IsUnderWay g h = HasCleanDisk (state g h) → IsTrue (state g h).is_open × IsTr
     × IsDesk (state g h).now × IsDatabase (state g h).now
 
 -- what there was of the plan goes, and this comes
-pub record PutsPlan (operator id : List ℕ) (plan : Row) (volumes spans : List Row)
+pub record PutsPlan (operator id : List ℕ) (plan : Row) (volumes covers spans : List Row)
     (old new : Tables) : Type 0 where
   pub operators : new.operators ≡ old.operators
   pub plans : IsPermutation (plan ∷ filter (is_not_of operator id) old.plans) new.plans
+  pub old_volumes : new.old_volumes ≡ left_without operator id old old.old_volumes
+  pub old_spans : new.old_spans ≡ left_without operator id old old.old_spans
   pub with_volumes : IsPermutation (volumes ++ left_without operator id old old.volumes) new.volumes
+  pub with_covers : IsPermutation (covers ++ left_without operator id old old.covers) new.covers
   pub with_spans : IsPermutation (spans ++ left_without operator id old old.spans) new.spans
 
 -- of none of these plans
@@ -51,6 +63,9 @@ RemovesPlans operator ids old new =
     new ≡ record {
       operators = old.operators;
       plans = filter (is_of_none operator ids) old.plans;
+      old_volumes = filter (is_of_none operator (ids_there operator ids old)) old.old_volumes;
+      old_spans = filter (is_of_none operator (ids_there operator ids old)) old.old_spans;
       volumes = filter (is_of_none operator (ids_there operator ids old)) old.volumes;
+      covers = filter (is_of_none operator (ids_there operator ids old)) old.covers;
       spans = filter (is_of_none operator (ids_there operator ids old)) old.spans;
     }

@@ -60,13 +60,13 @@ abbrev pub FitsPlan : List ℕ → List ℕ → Row → Database → Type 0
 FitsPlan operator id row db = IsShort operator × IsShort id
     × IsNewRow 2 row (db.trees 2) (tables_of db.trees).plans × HasKey 1 row (tables_of db.trees).operators
 
-abbrev pub FitsVolume : List ℕ → List ℕ → List ℕ → Row → Database → Type 0
-FitsVolume operator id asked row db = IsShort operator × IsShort id × IsShort asked
-    × IsNewRow 3 row (db.trees 4) (tables_of db.trees).volumes × HasKey 2 row (tables_of db.trees).plans
+abbrev pub FitsVolume : List ℕ → List ℕ → List ℕ → List ℕ → Row → Database → Type 0
+FitsVolume operator id asked canon row db = IsShort operator × IsShort id × IsShort asked × IsShort canon
+    × IsNewRow 3 row (db.trees 9) (tables_of db.trees).volumes × HasKey 2 row (tables_of db.trees).plans
 
 abbrev pub FitsSpan : List ℕ → List ℕ → Row → Database → Type 0
 FitsSpan operator id row db = IsShort operator × IsShort id
-    × IsNewRow 4 row (db.trees 6) (tables_of db.trees).spans × HasKey 2 row (tables_of db.trees).plans
+    × IsNewRow 4 row (db.trees 11) (tables_of db.trees).spans × HasKey 2 row (tables_of db.trees).plans
 
 -- ---- what stops a statement
 

@@ -18,8 +18,8 @@ use Rattle.sqlite.specs.State.{HasCleanDisk}
 use Rattle.sqlite.specs.Held.{Held, state}
 use Rattle.sqlite.specs.Effect.{Database}
 use Rattle.desk_sql.specs.declared.opening.finding.Made.{Made}
-use Rattle.desk_sql.specs.declared.opening.finding.Made.TheVariants.{Nothing, Operators, Plans, Volumes, Spans, All}
-use Rattle.desk_sql.specs.Schema.{schema_of, column_of, table_of, span_first}
+use Rattle.desk_sql.specs.declared.opening.finding.Made.TheVariants.{Nothing, Operators, Plans, OldVolumes, OldIndex, Volumes, Spans, All}
+use Rattle.desk_sql.specs.Schema.{schema_of, column_of, table_of, old_span_first, span_first}
 
 -- what is shown, if it means something, is so
 abbrev pub Holds : {S : Type 0} → Ghosts S → Held S → (Database → Type 0) → Type 0
@@ -70,6 +70,9 @@ text name = column_of name kind.Text
 abbrev pub number : List ℕ → Column
 number name = column_of name kind.Integer
 
+abbrev pub bytes : List ℕ → Column
+bytes name = column_of name kind.Blob
+
 abbrev pub place_columns : List Column
 place_columns = text (codes "operator") ∷ text (codes "id") ∷ number (codes "place") ∷ []
 
@@ -78,6 +81,10 @@ altitude_columns = number (codes "lower") ∷ number (codes "upper") ∷ []
 
 abbrev pub extent_columns : List Column
 extent_columns = altitude_columns ++ number (codes "start") ∷ number (codes "stop") ∷ []
+
+-- the cells that were asked for, and those of the canonical cover
+abbrev pub cell_columns : List Column
+cell_columns = bytes (codes "asked") ∷ bytes (codes "canon") ∷ []
 
 -- the index that SQLite makes for the primary key of the table in the tree before its own
 abbrev pub key_index : List ℕ → ℕ → List ℕ → Index
@@ -90,20 +97,40 @@ operator_index = key_index (codes "sqlite_autoindex_operator_1") 0 (1 ∷ [])
 unfoldable pub plan_index : Index
 plan_index = key_index (codes "sqlite_autoindex_plan_1") 2 (1 ∷ 2 ∷ [])
 
+unfoldable pub old_volume_index : Index
+old_volume_index = key_index (codes "sqlite_autoindex_volume_1") 4 (1 ∷ 2 ∷ 3 ∷ [])
+
+unfoldable pub old_span_index : Index
+old_span_index = key_index (codes "sqlite_autoindex_span_1") 6 (1 ∷ 2 ∷ 3 ∷ 4 ∷ [])
+
+unfoldable pub old_first_index : Index
+old_first_index = record old_span_first { tree = 8 }
+
 unfoldable pub volume_index : Index
-volume_index = key_index (codes "sqlite_autoindex_volume_1") 4 (1 ∷ 2 ∷ 3 ∷ [])
+volume_index = key_index (codes "sqlite_autoindex_volume2_1") 9 (1 ∷ 2 ∷ 3 ∷ [])
 
 unfoldable pub span_index : Index
-span_index = key_index (codes "sqlite_autoindex_span_1") 6 (1 ∷ 2 ∷ 3 ∷ 4 ∷ [])
+span_index = key_index (codes "sqlite_autoindex_span2_1") 11 (1 ∷ 2 ∷ 3 ∷ 4 ∷ [])
 
 unfoldable pub first_index : Index
-first_index = record span_first { tree = 8 }
+first_index = record span_first { tree = 13 }
 
--- the indexes, when the tables and the index are made so far
+-- the indexes of version 1's keys, and then others
+abbrev pub old_indexes_and : List Index → List Index
+old_indexes_and others = operator_index ∷ plan_index ∷ old_volume_index ∷ old_span_index ∷ others
+
+-- the index over the leaves of `span`, and those that come after it when the tables are made so far
+abbrev pub later_indexes : Made → List Index
+later_indexes OldIndex = old_first_index ∷ []
+later_indexes Volumes = old_first_index ∷ volume_index ∷ []
+later_indexes Spans = old_first_index ∷ volume_index ∷ span_index ∷ []
+later_indexes All = old_first_index ∷ volume_index ∷ span_index ∷ first_index ∷ []
+later_indexes _ = []
+
+-- the indexes, when the tables and the indexes are made so far
 abbrev pub indexes_of : Made → List Index
 indexes_of Nothing = []
 indexes_of Operators = operator_index ∷ []
 indexes_of Plans = operator_index ∷ plan_index ∷ []
-indexes_of Volumes = operator_index ∷ plan_index ∷ volume_index ∷ []
-indexes_of Spans = operator_index ∷ plan_index ∷ volume_index ∷ span_index ∷ []
-indexes_of All = operator_index ∷ plan_index ∷ volume_index ∷ span_index ∷ first_index ∷ []
+indexes_of OldVolumes = operator_index ∷ plan_index ∷ old_volume_index ∷ []
+indexes_of made = old_indexes_and (later_indexes made)

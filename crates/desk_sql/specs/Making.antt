@@ -1,4 +1,4 @@
--- How the tables and the index are made, one after the other.
+-- How the tables and the indexes are made, one after the other.
 use Rattle.std.specs.Prelude.{◌≡◌, ◌⊎◌, IsTrue, ℕ}
 use Rattle.sqlite.specs.Tree.{Trees}
 use Rattle.sqlite.specs.Effect.{IsDatabase}
@@ -7,14 +7,17 @@ use Rattle.sqlite.specs.State.{HasCleanDisk}
 use Rattle.sqlite.specs.Held.{Held, state}
 use Rattle.desk_sql.specs.Schema.{desk_schema}
 use Rattle.desk_sql.specs.declared.opening.finding.Made.{Made}
-use Rattle.desk_sql.specs.declared.opening.finding.Made.TheVariants.{Nothing, Operators, Plans, Volumes, Spans, All}
+use Rattle.desk_sql.specs.declared.opening.finding.Made.TheVariants.{Nothing, Operators, Plans, OldVolumes, OldSpans, OldIndex, Volumes, Spans, All}
 use Rattle.desk_sql.specs.Rows.{IsDesk, IsMadeTo, tables_of, tables_at}
 
 -- how many tables and indexes are still to be made
 abbrev pub left_to_make : Made → ℕ
-left_to_make Nothing = 5
-left_to_make Operators = 4
-left_to_make Plans = 3
+left_to_make Nothing = 8
+left_to_make Operators = 7
+left_to_make Plans = 6
+left_to_make OldVolumes = 5
+left_to_make OldSpans = 4
+left_to_make OldIndex = 3
 left_to_make Volumes = 2
 left_to_make Spans = 1
 left_to_make All = 0

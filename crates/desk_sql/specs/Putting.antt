@@ -22,8 +22,8 @@ HasRoomFor count rows = (count < 2 ^ 63) × HasRoom count rows
 -- a change takes the room of at most so many plans, volumes and spans
 pub record TakesRoom (plans volumes spans : ℕ) (old new : Trees) : Type 0 where
   pub of_plans : (left : ℕ) → HasRoomFor (plans + left) (old 2) → HasRoomFor left (new 2)
-  pub of_volumes : (left : ℕ) → HasRoomFor (volumes + left) (old 4) → HasRoomFor left (new 4)
-  pub of_spans : (left : ℕ) → HasRoomFor (spans + left) (old 6) → HasRoomFor left (new 6)
+  pub of_volumes : (left : ℕ) → HasRoomFor (volumes + left) (old 9) → HasRoomFor left (new 9)
+  pub of_spans : (left : ℕ) → HasRoomFor (spans + left) (old 11) → HasRoomFor left (new 11)
 
 -- so does a text, whatever it is given
 pub record AddsAtMost {Given : Type 0} (text : List ℕ) (params : Given → Row)
@@ -58,12 +58,13 @@ pub record AreNewRows (width : ℕ) (rows stored shown plans : List Row) : Type 
   pub free : AllByRecursion (λ r. LacksKey width r shown) rows
   pub planned : AllByRecursion (λ r. HasKey 2 r plans) rows
 
-abbrev pub AreNewVolumes : List Row → Database → Type 0
-AreNewVolumes rows db =
-    AreNewRows 3 rows (db.trees 4) (tables_of db.trees).volumes (tables_of db.trees).plans
+-- volumes, and their covers
+abbrev pub AreNewVolumes : List Row → List Row → Database → Type 0
+AreNewVolumes rows covers db =
+    AreNewRows 3 rows (db.trees 9) (tables_of db.trees).volumes (tables_of db.trees).plans × AreShort covers
 
 abbrev pub AreNewSpans : List Row → Database → Type 0
-AreNewSpans rows db = AreNewRows 4 rows (db.trees 6) (tables_of db.trees).spans (tables_of db.trees).plans
+AreNewSpans rows db = AreNewRows 4 rows (db.trees 11) (tables_of db.trees).spans (tables_of db.trees).plans
 
 -- ---- a plan with its volumes and spans
 
@@ -74,13 +75,15 @@ pub record AreOfPlan (operator id : List ℕ) (width : ℕ) (rows : List Row) : 
   pub apart : HaveOwnKeys width rows
 
 -- a plan of a listed operator, for whose rows there is room
-pub record IsPuttable (operator id : List ℕ) (plan : Row) (volumes spans : List Row) (db : Database) : Type 0
+pub record IsPuttable (operator id : List ℕ) (plan : Row) (volumes covers spans : List Row)
+    (db : Database) : Type 0
   where
     pub operator_short : IsShort operator
     pub id_short : IsShort id
     pub listed : HasKey 1 plan (tables_of db.trees).operators
     pub volumes_of : AreOfPlan operator id 3 volumes
+    pub short_covers : AreShort covers
     pub spans_of : AreOfPlan operator id 4 spans
     pub plan_room : HasRoomFor 1 (db.trees 2)
-    pub volume_room : HasRoomFor (length volumes) (db.trees 4)
-    pub span_room : HasRoomFor (length spans) (db.trees 6)
+    pub volume_room : HasRoomFor (length volumes) (db.trees 9)
+    pub span_room : HasRoomFor (length spans) (db.trees 11)

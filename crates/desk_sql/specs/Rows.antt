@@ -1,4 +1,4 @@
--- The rows of the four tables, as a caller sees them.
+-- The rows of the six tables, as a caller sees them.
 use Rattle.std.specs.Prelude.{◌≡◌, ℕ, ℤ, pos, Bool, true, false, ◌&&◌, ◌||◌, not, List, [], ◌∷◌, map, drop, filter, ◌++◌, IsPermutation, IsSorted, if◌then◌else◌}
 use Rattle.std.specs.Ordering.{is_eq, is_lt, is_le, is_gt, is_ge, ordering_then}
 use Rattle.std.specs.declared.cmp.Ordering.{Ordering}
@@ -12,7 +12,7 @@ use Rattle.sqlite.specs.Tree.{Trees, rowid, IsAscending}
 use Rattle.sqlite.specs.View.{is_int}
 use Rattle.sqlite.specs.Effect.{Database}
 use Rattle.desk_sql.specs.declared.opening.finding.Made.{Made}
-use Rattle.desk_sql.specs.declared.opening.finding.Made.TheVariants.{Nothing, Operators, Plans, Volumes, Spans, All}
+use Rattle.desk_sql.specs.declared.opening.finding.Made.TheVariants.{Nothing, Operators, Plans, OldVolumes, OldSpans, OldIndex, Volumes, Spans, All}
 use Rattle.desk_sql.specs.declared.opening.numbers.DeskTable.{DeskTable}
 use Rattle.desk_sql.specs.Schema.{desk_schema, schema_of, tree_of, has_table}
 use Rattle.desk_sql.specs.declared.reading.rivals.Reach.{Reach}
@@ -30,6 +30,10 @@ abbrev pub volume_row : List ℕ → List ℕ → ℕ → ℤ → ℤ → ℤ �
 volume_row operator id place lower upper start stop asked =
     Text operator ∷ Text id ∷ Int (pos place) ∷ Int lower ∷ Int upper ∷ Int start ∷ Int stop ∷ Blob asked ∷ []
 
+-- the ids of a volume's canonical cover, and which volume it is
+abbrev pub cover_row : List ℕ → List ℕ → ℕ → List ℕ → Row
+cover_row operator id place canon = Text operator ∷ Text id ∷ Int (pos place) ∷ Blob canon ∷ []
+
 abbrev pub span_row : List ℕ → List ℕ → ℕ → ℤ → ℤ → ℤ → ℤ → ℤ → ℤ → ℕ → Row
 span_row operator id place first last lower upper start stop priority =
     Text operator ∷ Text id ∷ Int (pos place) ∷ Int first ∷ Int last ∷ Int lower ∷ Int upper ∷ Int start
@@ -44,7 +48,7 @@ is_text v text = is_eq (value_cmp v (Text text))
 abbrev pub is_by : List ℕ → Row → Bool
 is_by operator row = is_text (column row 0) operator
 
--- of this plan: of `plan`, `volume` and `span`
+-- of this plan: of each table but `operator`
 abbrev pub is_of : List ℕ → List ℕ → Row → Bool
 is_of operator id row = is_by operator row && is_text (column row 1) id
 
@@ -53,27 +57,50 @@ is_not_of operator id row = not (is_of operator id row)
 
 -- ---- the tables
 
--- the rows of each table, as a query shows them: without their rowids
+-- the rows of each table, as a query shows them: without their rowids. Those of `volume2` are seen in two
+-- parts, each with the key: `volumes` without `canon`, and `covers` with `canon` alone
 pub record Tables : Type 0 where
   pub operators : List Row
   pub plans : List Row
+  pub old_volumes : List Row
+  pub old_spans : List Row
   pub volumes : List Row
+  pub covers : List Row
   pub spans : List Row
 
 -- so many columns of a stored row, which begins with its rowid
 abbrev pub columns : ℕ → Row → Row
 columns width row = map (column row) (range_with_len 1 width)
 
+-- `operator`, `id`, `place` and `canon` of a stored row of `volume2`
+abbrev pub cover_columns : Row → Row
+cover_columns row = map (column row) (1 ∷ 2 ∷ 3 ∷ 9 ∷ [])
+
 abbrev pub tables_of : Trees → Tables
 tables_of db = record {
   operators = map (columns 2) (db 0);
   plans = map (columns 5) (db 2);
-  volumes = map (columns 8) (db 4);
-  spans = map (columns 10) (db 6);
+  old_volumes = map (columns 8) (db 4);
+  old_spans = map (columns 10) (db 6);
+  volumes = map (columns 8) (db 9);
+  covers = map cover_columns (db 9);
+  spans = map (columns 10) (db 11);
 }
 
 abbrev pub no_rows : Tables
-no_rows = record { operators = []; plans = []; volumes = []; spans = [] }
+no_rows = record {
+  operators = [];
+  plans = [];
+  old_volumes = [];
+  old_spans = [];
+  volumes = [];
+  covers = [];
+  spans = [];
+}
+
+-- the rows of version 1's tables, and none of the others
+abbrev pub old_tables_of : Trees → Tables
+old_tables_of db = record (tables_of db) { volumes = []; covers = []; spans = [] }
 
 -- the rows of what is made so far; a table that isn't made has none
 abbrev pub tables_at : Made → Trees → Tables
@@ -81,9 +108,20 @@ tables_at Nothing db = no_rows
 tables_at Operators db = record no_rows { operators = map (columns 2) (db 0) }
 tables_at Plans db =
     record no_rows { operators = map (columns 2) (db 0); plans = map (columns 5) (db 2) }
+tables_at OldVolumes db = record (old_tables_of db) { old_spans = [] }
+tables_at OldSpans db = old_tables_of db
+tables_at OldIndex db = old_tables_of db
 tables_at Volumes db = record (tables_of db) { spans = [] }
 tables_at Spans db = tables_of db
 tables_at All db = tables_of db
+
+abbrev pub has_rows : List Row → Bool
+has_rows [] = false
+has_rows (row ∷ rows) = true
+
+-- whether one of version 1's own tables has a row
+abbrev pub has_old_rows : Tables → Bool
+has_old_rows t = has_rows t.old_volumes || has_rows t.old_spans
 
 -- ---- changes of the tables
 
@@ -94,9 +132,11 @@ AddsOperator row old new = IsPermutation (row ∷ old.operators) new.operators
 abbrev pub AddsPlan : Row → Tables → Tables → Type 0
 AddsPlan row old new = IsPermutation (row ∷ old.plans) new.plans × (new ≡ record old { plans = new.plans })
 
-abbrev pub AddsVolume : Row → Tables → Tables → Type 0
-AddsVolume row old new = IsPermutation (row ∷ old.volumes) new.volumes
-    × (new ≡ record old { volumes = new.volumes })
+-- a volume and its cover, which are one row of `volume2`
+abbrev pub AddsVolume : Row → Row → Tables → Tables → Type 0
+AddsVolume row cover old new = IsPermutation (row ∷ old.volumes) new.volumes
+    × IsPermutation (cover ∷ old.covers) new.covers
+    × (new ≡ record old { volumes = new.volumes; covers = new.covers })
 
 abbrev pub AddsSpan : Row → Tables → Tables → Type 0
 AddsSpan row old new = IsPermutation (row ∷ old.spans) new.spans × (new ≡ record old { spans = new.spans })
@@ -112,12 +152,21 @@ RemovesPlan operator id old new =
     new ≡ record {
       operators = old.operators;
       plans = filter (is_not_of operator id) old.plans;
+      old_volumes = left_without operator id old old.old_volumes;
+      old_spans = left_without operator id old old.old_spans;
       volumes = left_without operator id old old.volumes;
+      covers = left_without operator id old old.covers;
       spans = left_without operator id old old.spans;
     }
 
 abbrev pub RemovesSpans : List ℕ → List ℕ → Tables → Tables → Type 0
 RemovesSpans operator id old new = new ≡ record old { spans = filter (is_not_of operator id) old.spans }
+
+abbrev pub RemovesOldVolumes : Tables → Tables → Type 0
+RemovesOldVolumes old new = new ≡ record old { old_volumes = [] }
+
+abbrev pub RemovesOldSpans : Tables → Tables → Type 0
+RemovesOldSpans old new = new ≡ record old { old_spans = [] }
 
 -- this row in place of each that passes
 abbrev pub with_row : (Row → Bool) → Row → List Row → List Row
@@ -144,7 +193,10 @@ pub record ClosesPlan (operator id : List ℕ) (priority aircraft : ℕ) (old ne
   pub operators : new.operators ≡ old.operators
   pub plans : IsPermutation (with_row (is_of operator id)
       (plan_row operator id priority 2 aircraft) old.plans) new.plans
+  pub old_volumes : new.old_volumes ≡ old.old_volumes
+  pub old_spans : new.old_spans ≡ old.old_spans
   pub volumes : new.volumes ≡ old.volumes
+  pub covers : new.covers ≡ old.covers
   pub spans : new.spans ≡ filter (is_not_of operator id) old.spans
 
 -- rowids are whole numbers, and none comes twice: what makes a DELETE remove just the rows that it names
@@ -220,13 +272,15 @@ pub record Lists (cells : List ℕ) (wanted rows : List Row) : Type 0 where
   pub same : IsPermutation wanted rows
   pub sorted : IsSorted (by_cells cells) rows
 
--- a database with the desk's tables and their index
+-- a database with the desk's tables and their indexes
 pub record IsDesk (db : Database) : Type 0 where
   pub schema : db.schema ≡ desk_schema
   pub operators : AreNumbered (db.trees 0)
   pub plans : AreNumbered (db.trees 2)
-  pub volumes : AreNumbered (db.trees 4)
-  pub spans : AreNumbered (db.trees 6)
+  pub old_volumes : AreNumbered (db.trees 4)
+  pub old_spans : AreNumbered (db.trees 6)
+  pub volumes : AreNumbered (db.trees 9)
+  pub spans : AreNumbered (db.trees 11)
 
 -- the rows of each table that is made so far
 abbrev pub AreNumberedTo : Made → Trees → Type 0

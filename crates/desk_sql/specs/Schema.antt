@@ -1,4 +1,6 @@
--- The schema of a desk's database, version 1.
+-- The schema of a desk's database, version 2. Version 1 is what there is of it up to the index `span_first`,
+-- with its rows in `volume` and `span`, which are empty in version 2: they stay, so that a file of version 1
+-- grows to this schema.
 use Rattle.std.specs.Prelude.{true, false, [], ◌∷◌, List, ℕ, Bool, None, codes, ◌≡◌}
 use Rattle.sqlite.specs.Collation.TheVariants.{Binary}
 use Rattle.sqlite.specs.declared.types.Value.TheVariants.{Null}
@@ -14,7 +16,7 @@ use Rattle.sqlite_value.specs.Keys.{plain}
 use Rattle.sqlite_catalog.specs.Change.{created, indexed}
 use Rattle.sqlite.specs.Effect.{Database}
 use Rattle.desk_sql.specs.declared.opening.finding.Made.{Made}
-use Rattle.desk_sql.specs.declared.opening.finding.Made.TheVariants.{Nothing, Operators, Plans, Volumes, Spans, All}
+use Rattle.desk_sql.specs.declared.opening.finding.Made.TheVariants.{Nothing, Operators, Plans, OldVolumes, OldSpans, OldIndex, Volumes, Spans, All}
 use Rattle.desk_sql.specs.declared.opening.numbers.DeskTable.{DeskTable}
 use Rattle.desk_sql.specs.declared.opening.numbers.DeskTable.TheVariants as desk
 
@@ -76,16 +78,35 @@ plan_table = table_of (codes "plan")
     ∷ column_of (codes "usage") Integer ∷ column_of (codes "aircraft") Integer ∷ [])
     (1 ∷ 2 ∷ []) (to_operator ∷ [])
 
-abbrev pub volume_table : Table
-volume_table = table_of (codes "volume")
+-- version 1's volumes
+abbrev pub old_volume_table : Table
+old_volume_table = table_of (codes "volume")
     (column_of (codes "operator") Text ∷ column_of (codes "id") Text ∷ column_of (codes "place") Integer
     ∷ column_of (codes "lower") Integer ∷ column_of (codes "upper") Integer
     ∷ column_of (codes "start") Integer ∷ column_of (codes "stop") Integer ∷ column_of (codes "asked") Blob
     ∷ [])
     (1 ∷ 2 ∷ 3 ∷ []) (to_plan ∷ [])
 
+-- version 1's spans
+abbrev pub old_span_table : Table
+old_span_table = table_of (codes "span")
+    (column_of (codes "operator") Text ∷ column_of (codes "id") Text ∷ column_of (codes "place") Integer
+    ∷ column_of (codes "first") Integer ∷ column_of (codes "last") Integer
+    ∷ column_of (codes "lower") Integer ∷ column_of (codes "upper") Integer
+    ∷ column_of (codes "start") Integer ∷ column_of (codes "stop") Integer
+    ∷ column_of (codes "priority") Integer ∷ [])
+    (1 ∷ 2 ∷ 3 ∷ 4 ∷ []) (to_plan ∷ [])
+
+abbrev pub volume_table : Table
+volume_table = table_of (codes "volume2")
+    (column_of (codes "operator") Text ∷ column_of (codes "id") Text ∷ column_of (codes "place") Integer
+    ∷ column_of (codes "lower") Integer ∷ column_of (codes "upper") Integer
+    ∷ column_of (codes "start") Integer ∷ column_of (codes "stop") Integer ∷ column_of (codes "asked") Blob
+    ∷ column_of (codes "canon") Blob ∷ [])
+    (1 ∷ 2 ∷ 3 ∷ []) (to_plan ∷ [])
+
 abbrev pub span_table : Table
-span_table = table_of (codes "span")
+span_table = table_of (codes "span2")
     (column_of (codes "operator") Text ∷ column_of (codes "id") Text ∷ column_of (codes "place") Integer
     ∷ column_of (codes "first") Integer ∷ column_of (codes "last") Integer
     ∷ column_of (codes "lower") Integer ∷ column_of (codes "upper") Integer
@@ -96,44 +117,68 @@ span_table = table_of (codes "span")
 abbrev pub blank_schema : Schema
 blank_schema = record { tables = []; indexes = []; views = [] }
 
--- the tables made in this order: `operator` is tree 0, `plan` 2, `volume` 4, `span` 6, and their keys'
--- indexes are the trees between
+-- the tables made in this order: `operator` is tree 0, `plan` 2, `volume` 4, `span` 6, `volume2` 9 and
+-- `span2` 11. Their keys' indexes are the trees 1, 3, 5, 7, 10 and 12, and the indexes over the leaves of
+-- spans 8 and 13
 abbrev pub operator_schema : Schema
 operator_schema = created blank_schema operator_table
 
 abbrev pub plan_schema : Schema
 plan_schema = created operator_schema plan_table
 
-abbrev pub volume_schema : Schema
-volume_schema = created plan_schema volume_table
+abbrev pub old_volume_schema : Schema
+old_volume_schema = created plan_schema old_volume_table
 
-abbrev pub table_schema : Schema
-table_schema = created volume_schema span_table
+abbrev pub old_table_schema : Schema
+old_table_schema = created old_volume_schema old_span_table
 
 -- spans by their leaves, with all that the query of rivals reads
-abbrev pub span_first : Index
-span_first = record {
-  name = codes "span_first";
+abbrev pub first_of : List ℕ → ℕ → Index
+first_of name table = record {
+  name = name;
   tree = 0;
-  table = 6;
+  table = table;
   columns = 4 ∷ 5 ∷ 6 ∷ 7 ∷ 8 ∷ 9 ∷ 10 ∷ 1 ∷ 2 ∷ [];
   order = plain;
   is_unique = false;
 }
 
--- `span` as it stands among the tables
-abbrev pub span_made : Table
-span_made = record span_table { tree = 6 }
+abbrev pub old_span_first : Index
+old_span_first = first_of (codes "span_first") 6
 
--- the tables, and the index, which is tree 8
+-- `span` as it stands among the tables
+abbrev pub old_span_made : Table
+old_span_made = record old_span_table { tree = 6 }
+
+-- version 1: its tables, and its index, which is tree 8
+abbrev pub old_schema : Schema
+old_schema = indexed old_table_schema old_span_made old_span_first
+
+abbrev pub volume_schema : Schema
+volume_schema = created old_schema volume_table
+
+abbrev pub table_schema : Schema
+table_schema = created volume_schema span_table
+
+abbrev pub span_first : Index
+span_first = first_of (codes "span2_first") 11
+
+-- `span2` as it stands among the tables
+abbrev pub span_made : Table
+span_made = record span_table { tree = 11 }
+
+-- all tables, and both indexes
 abbrev pub desk_schema : Schema
 desk_schema = indexed table_schema span_made span_first
 
--- what there is when the tables and the index are made so far
+-- what there is when the tables and the indexes are made so far
 abbrev pub schema_of : Made → Schema
 schema_of Nothing = blank_schema
 schema_of Operators = operator_schema
 schema_of Plans = plan_schema
+schema_of OldVolumes = old_volume_schema
+schema_of OldSpans = old_table_schema
+schema_of OldIndex = old_schema
 schema_of Volumes = volume_schema
 schema_of Spans = table_schema
 schema_of All = desk_schema
@@ -146,22 +191,39 @@ operator_made = record operator_table { tree = 0 }
 abbrev pub plan_made : Table
 plan_made = record plan_table { tree = 2 }
 
+abbrev pub old_volume_made : Table
+old_volume_made = record old_volume_table { tree = 4 }
+
 abbrev pub volume_made : Table
-volume_made = record volume_table { tree = 4 }
+volume_made = record volume_table { tree = 9 }
+
+-- the tables of version 1, and then others
+abbrev pub old_tables_and : List Table → List Table
+old_tables_and others = operator_made ∷ plan_made ∷ old_volume_made ∷ old_span_made ∷ others
 
 -- a table, those that are made before it, and then others
 abbrev pub tables_to : DeskTable → List Table → List Table
 tables_to desk.Operator others = operator_made ∷ others
 tables_to desk.Plan others = operator_made ∷ plan_made ∷ others
-tables_to desk.Volume others = operator_made ∷ plan_made ∷ volume_made ∷ others
-tables_to desk.Span others = operator_made ∷ plan_made ∷ volume_made ∷ span_made ∷ others
+tables_to desk.OldVolume others = operator_made ∷ plan_made ∷ old_volume_made ∷ others
+tables_to desk.OldSpan others = old_tables_and others
+tables_to desk.Volume others = old_tables_and (volume_made ∷ others)
+tables_to desk.Span others = old_tables_and (volume_made ∷ span_made ∷ others)
 
 -- the tree that has the rows of a table
 abbrev pub tree_of : DeskTable → ℕ
 tree_of desk.Operator = 0
 tree_of desk.Plan = 2
-tree_of desk.Volume = 4
-tree_of desk.Span = 6
+tree_of desk.OldVolume = 4
+tree_of desk.OldSpan = 6
+tree_of desk.Volume = 9
+tree_of desk.Span = 11
+
+-- whether the table is one of version 1
+abbrev pub is_old : DeskTable → Bool
+is_old desk.Volume = false
+is_old desk.Span = false
+is_old _ = true
 
 -- whether there is the table when the tables are made so far
 abbrev pub has_table : Made → DeskTable → Bool
@@ -171,6 +233,12 @@ has_table Operators _ = false
 has_table Plans desk.Operator = true
 has_table Plans desk.Plan = true
 has_table Plans _ = false
+has_table OldVolumes desk.Operator = true
+has_table OldVolumes desk.Plan = true
+has_table OldVolumes desk.OldVolume = true
+has_table OldVolumes _ = false
+has_table OldSpans table = is_old table
+has_table OldIndex table = is_old table
 has_table Volumes desk.Span = false
 has_table Volumes _ = true
 has_table Spans _ = true

@@ -1,5 +1,5 @@
 -- What a text of SQL selects, changes or makes.
-use Rattle.std.specs.Prelude.{◌≡◌, false, ℕ, pos, List, [], ◌∷◌, length, map, Option, None, Result, Ok, Err}
+use Rattle.std.specs.Prelude.{◌≡◌, ⊤, false, ℕ, pos, List, [], ◌∷◌, length, map, Option, None, Result, Ok, Err}
 use Rattle.sqlite.specs.declared.types.Value.TheVariants.{Int, Text}
 use Rattle.sqlite.specs.Order.{Row}
 use Rattle.sqlite.specs.Tree.{Trees, rowid}
@@ -23,6 +23,10 @@ use Rattle.desk_sql.specs.Refusals.{IsSure}
 use Rattle.desk_sql.specs.Rivals.{MayRead}
 
 -- ---- what a text is given, as its parameters in turn
+
+-- nothing
+abbrev pub no_params : ⊤ → Row
+no_params _ = []
 
 -- an operator's name
 abbrev pub name_row : List ℕ → Row

@@ -6,13 +6,17 @@ pub mod laws;
 mod opening;
 mod reading;
 
+pub use changing::batch::{insert_spans, insert_volumes};
+pub use changing::removing::{empty_old_spans, empty_old_volumes};
 pub use changing::transactions::{clear_plans, close_plan, is_enrolled, put_operator, put_plan};
 pub use changing::writing::{PlanRecord, SpanRecord, VolumeRecord};
 pub use opening::finding::{Made, find_tables};
 pub use opening::making::complete_tables;
 pub use opening::numbers::DeskTable;
+pub use opening::old::has_old_rows;
 pub use reading::counting::own_count;
+pub use reading::old::{all_old_spans, all_old_volumes};
 pub use reading::queries::{operator_named, own_plans, plan_of, volumes_of};
 pub use reading::rivals::{Reach, rival_spans};
 pub use reading::taking::TakeRow;
-pub use reading::whole::{all_operators, all_plans, all_spans, all_volumes};
+pub use reading::whole::{all_covers, all_operators, all_plans, all_spans, all_volumes};

@@ -3,6 +3,7 @@
 pub(crate) mod answer;
 pub(crate) mod asking;
 pub(crate) mod counting;
+pub(crate) mod old;
 pub(crate) mod queries;
 pub(crate) mod rivals;
 pub(crate) mod taking;

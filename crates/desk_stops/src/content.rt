@@ -1,9 +1,11 @@
 //! What a store holds, as a text.
 
+use crate::moving::Told;
 use anyhow::{Context, bail};
 use desk_rules::operator::Operator;
 use desk_rules::plan::PlanRow;
 use desk_store::PlanStore;
+use sqlite::Row;
 use std::alloc::Global;
 use std::fmt::Write;
 
@@ -18,12 +20,17 @@ pub struct Content {
 }
 
 impl Content {
-    /// What a store holds of the operators.
-    pub fn of<S: PlanStore>(alloc: Global, store: &mut S) -> anyhow::Result<Content> {
-        let mut content = Content {
+    /// Nothing.
+    pub fn none(alloc: Global) -> Content {
+        Content {
             text: String::new(alloc),
             plans: 0,
-        };
+        }
+    }
+
+    /// What a store holds of the operators.
+    pub fn of<S: PlanStore>(alloc: Global, store: &mut S) -> anyhow::Result<Content> {
+        let mut content = Content::none(alloc);
         for name in OPERATORS {
             content.read(store, name)?;
         }
@@ -45,6 +52,21 @@ impl Content {
     fn append(&mut self, name: &str, ceiling: Option<u32>, rows: &[PlanRow]) -> anyhow::Result<()> {
         writeln!(self.text, "{name} {ceiling:?} {rows:?}")?;
         self.plans = self.plans.saturating_add(rows.len());
+        Ok(())
+    }
+
+    /// Appends the rows of a table.
+    pub fn add_rows(&mut self, table: &str, rows: &[Row]) -> anyhow::Result<()> {
+        writeln!(self.text, "{table} {rows:?}")?;
+        if table == "plan" {
+            self.plans = rows.len();
+        }
+        Ok(())
+    }
+
+    /// Appends what is told of it.
+    pub fn tell(&mut self, told: &Told) -> anyhow::Result<()> {
+        writeln!(self.text, "{told}")?;
         Ok(())
     }
 

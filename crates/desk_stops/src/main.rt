@@ -4,6 +4,8 @@
 //! standard input is a change: the first ones make the content with which each stopped change begins.
 //! Printed is, for each stopped change, how many stops left the content as it was before it, as it is after
 //! it, and otherwise, which none may; after an answer only the content after it is right.
+//! Files of schema 1 are made by statements of SQL, and stopped while they are moved to schema 2; what is
+//! left is compared by the rows of all tables then, and by what is told if it is adopted.
 //! `Line` has the forms of the lines.
 #![tactic(auto)]
 
@@ -12,8 +14,10 @@ mod applying;
 mod content;
 mod disk;
 mod line;
+mod moving;
 mod opening;
 mod round;
+mod tables;
 mod tally;
 mod trial;
 

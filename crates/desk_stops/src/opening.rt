@@ -11,7 +11,8 @@ use std::alloc::Global;
 /// A store over files of which one may stop.
 pub type FusedStore = SqliteStore<FileStore<Fuse<Memory>>>;
 
-type FusedConnection = Connection<FileStore<Fuse<Memory>>>;
+/// A connection to such files.
+pub type FusedConnection = Connection<FileStore<Fuse<Memory>>>;
 
 // Few pages are kept, since a round takes as long as it takes to drop them.
 const OPTIONS: Options = Options {
@@ -29,8 +30,8 @@ pub fn open(alloc: Global, files: FusedFiles) -> Result<FusedStore, FusedFiles> 
     }
 }
 
-// A connection to the database of the files, or the files if there is none.
-fn connect(alloc: Global, files: FusedFiles) -> Result<FusedConnection, FusedFiles>
+/// A connection to the database of the files, or the files if there is none.
+pub fn connect(alloc: Global, files: FusedFiles) -> Result<FusedConnection, FusedFiles>
     ensures settled { IfOk result (λ c. c.in_transaction ≡ false) }
 {
     if !files.may_be_used() {
@@ -56,7 +57,8 @@ pub fn close_store(store: FusedStore) -> FusedFiles {
     close(store.release())
 }
 
-fn close(connection: FusedConnection) -> FusedFiles {
+/// The files of a connection, which is closed as far as they let it.
+pub fn close(connection: FusedConnection) -> FusedFiles {
     match connection.close_files() {
         Ok(files) => files,
         Err((_, store)) => store.close(),

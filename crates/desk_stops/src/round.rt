@@ -67,7 +67,8 @@ fn change_over(alloc: Global, files: FusedFiles, act: &Act) -> anyhow::Result<(C
     }
 }
 
-fn when(stopped: bool, answered: bool) -> Came {
+/// When a stop came, by whether one of the files stopped and whether the change was answered.
+pub fn when(stopped: bool, answered: bool) -> Came {
     match (stopped, answered) {
         (false, _) => Came::Never,
         (true, false) => Came::Unanswered,

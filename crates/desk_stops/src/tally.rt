@@ -3,6 +3,7 @@
 use crate::act::Act;
 use crate::content::Content;
 use crate::disk::Image;
+use crate::moving::move_edges;
 use crate::round::{Came, content_of, image_after};
 use anyhow::bail;
 use std::alloc::Global;
@@ -71,6 +72,17 @@ impl Edges {
         let after = content_of(alloc, &image_after(alloc, image, act)?)?;
         if before == after {
             bail!("a change that changes nothing");
+        }
+        Ok(Edges { before, after })
+    }
+}
+
+impl Edges {
+    /// Those of the move of files of these bytes to schema 2.
+    pub fn of_move(alloc: Global, image: &Image) -> anyhow::Result<Edges> {
+        let (before, after) = move_edges(alloc, image)?;
+        if before == after {
+            bail!("a move that changes nothing");
         }
         Ok(Edges { before, after })
     }

@@ -20,7 +20,7 @@ use Rattle.desk_store.specs.Changes.{filed_by}
 use Rattle.desk_store.specs.declared.change.Change.{Change}
 use Rattle.desk_store.specs.declared.change.Change.TheVariants.{Enrol, Put, Close}
 use Rattle.desk_tables.specs.Content.{IsId, IsPlan, IsContent}
-use Rattle.desk_tables.specs.Tables.{id_text, usage_number, aircraft_number, plan_row, plan_rows, area_rows, ArePlanSpanRows, AreTables}
+use Rattle.desk_tables.specs.Tables.{id_text, usage_number, aircraft_number, plan_row, plan_rows, area_rows, area_covers, ArePlanSpanRows, AreTables}
 use Rattle.desk_tables.specs.Lookups.{own_of}
 use Rattle.desk_tables.specs.TableChanges.{ChangesRows, PutsRows, ClosesRows, ClearsRows, IsWithin}
 use Rattle.desk_tables.specs.Store.{Stands}
@@ -105,24 +105,27 @@ module _ {S : Type 0} (g : Ghosts S) (old new : Held S) (w : World) (stood : Sta
         (λ clean. low_fits name ceiling w (low clean)) (named name ceiling valid)
         (λ one two clean h t e. enrolled name ceiling w one two h t e)
 
-    pub stands_put : (operator : List ℕ) (row : PlanRow) (text : List ℕ) (volumes spans : List Row)
+    pub stands_put : (operator : List ℕ) (row : PlanRow) (text : List ℕ) (volumes covers spans : List Row)
         → text
         ≡ id_text row.id → volumes ≡ area_rows (filed_by operator row)
+        → covers ≡ area_covers (filed_by operator row)
         → ArePlanSpanRows (filed_by operator row) spans → IsPlan row
         → (HasCleanDisk (state g new) → Commits g old new
         (PutsPlan operator text (sql.plan_row operator text row.priority (usage_number row.usage)
-        (aircraft_number row.aircraft)) volumes spans))
+        (aircraft_number row.aircraft)) volumes covers spans))
         → (HasCleanDisk (state g old) → IsFitting (Put operator row) w)
         → Stands g new (changed_by (Put operator row) w)
-    stands_put operator row text volumes spans is are span_rows plan done fits =
+    stands_put operator row text volumes covers spans is are covers_are span_rows plan done fits =
         stands_changed (Put operator row) (PutsPlan operator (id_text row.id)
         (plan_row (filed_by operator row))
-        (area_rows (filed_by operator row)) spans)
+        (area_rows (filed_by operator row)) (area_covers (filed_by operator row)) spans)
         (λ clean. subst (λ rows. Commits g old new (PutsPlan operator (id_text row.id)
-        (plan_row (filed_by operator row)) rows spans)) are
+        (plan_row (filed_by operator row)) (area_rows (filed_by operator row)) rows spans)) covers_are
+        (subst (λ rows. Commits g old new (PutsPlan operator (id_text row.id)
+        (plan_row (filed_by operator row)) rows covers spans)) are
         (subst (λ t. Commits g old new (PutsPlan operator t
         (sql.plan_row operator t row.priority (usage_number row.usage) (aircraft_number row.aircraft))
-        volumes spans)) is (done clean)))
+        volumes covers spans)) is (done clean))))
         fits (within_put operator row plan) (λ one two clean h t e. put_asked operator row one two
         (put_is_put (filed_by operator row) w one two spans h plan t span_rows e))
 
@@ -202,22 +205,26 @@ module _ {S : Type 0} (g : Ghosts S) (old new : Held S) (w : World) (stood : Sta
       (λ clean. low_fits name ceiling w (low clean)) (named name ceiling valid)
       (λ one two clean h t e. enrolled name ceiling w one two h t e)
 
-  pub left_put : (operator : List ℕ) (row : PlanRow) (text : List ℕ) (volumes spans : List Row)
+  pub left_put : (operator : List ℕ) (row : PlanRow) (text : List ℕ) (volumes covers spans : List Row)
       → text ≡ id_text row.id → volumes ≡ area_rows (filed_by operator row)
+      → covers ≡ area_covers (filed_by operator row)
       → ArePlanSpanRows (filed_by operator row) spans → IsPlan row
       → MayMake g old new (PutsPlan operator text
       (sql.plan_row operator text row.priority (usage_number row.usage)
-      (aircraft_number row.aircraft)) volumes spans)
+      (aircraft_number row.aircraft)) volumes covers spans)
       → (HasCleanDisk (state g old) → IsFitting (Put operator row) w)
       → MayHave g old new (changed_by (Put operator row) w)
-  left_put operator row text volumes spans is are span_rows plan makes fits =
+  left_put operator row text volumes covers spans is are covers_are span_rows plan makes fits =
       left_changed (Put operator row) (PutsPlan operator (id_text row.id)
-      (plan_row (filed_by operator row)) (area_rows (filed_by operator row)) spans)
+      (plan_row (filed_by operator row)) (area_rows (filed_by operator row))
+      (area_covers (filed_by operator row)) spans)
       (subst (λ rows. MayMake g old new (PutsPlan operator (id_text row.id)
-      (plan_row (filed_by operator row)) rows spans)) are
+      (plan_row (filed_by operator row)) (area_rows (filed_by operator row)) rows spans)) covers_are
+      (subst (λ rows. MayMake g old new (PutsPlan operator (id_text row.id)
+      (plan_row (filed_by operator row)) rows covers spans)) are
       (subst (λ t. MayMake g old new (PutsPlan operator t
       (sql.plan_row operator t row.priority (usage_number row.usage) (aircraft_number row.aircraft))
-      volumes spans)) is makes))
+      volumes covers spans)) is makes)))
       fits (within_put operator row plan) (λ one two clean h t e. put_asked operator row one two
       (put_is_put (filed_by operator row) w one two spans h plan t span_rows e))
 

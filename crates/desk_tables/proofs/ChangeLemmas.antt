@@ -1,6 +1,6 @@
 -- What changes of a desk do to its tables.
 use Rattle.std.proofs.Common.{◌≡◌, ℕ, ◌+◌, Bool, true, false, ◌&&◌, not, cond, List, [], ◌∷◌, ◌++◌, map, refl, sym, ap, subst, ◌∙◌, Less, Equal, Greater, IsPermutation, IsTrue}
-use Rattle.std.specs.List.{AllByRecursion, filter}
+use Rattle.std.specs.List.{AllByRecursion, filter, flat_map}
 use Rattle.std.specs.List.Sorted.{IsStrictlySortedBy}
 use Rattle.std.specs.declared.cmp.Ordering.{Ordering}
 use Rattle.std.specs.Ordering.{ordering_then, is_eq, match_ordering}
@@ -27,11 +27,11 @@ use Rattle.desk_store.specs.laws.Change.{stays, cleared_plans, close_filed, clos
 use Rattle.desk_store.specs.StoreChange.{changed_by, IsFitting}
 use Rattle.desk_store.specs.declared.change.Change.{Change}
 use Rattle.desk_store.specs.declared.change.Change.TheVariants.{Enrol, Put, Close, Clear}
-use Rattle.desk_tables.specs.Tables.{id_text, operator_row, operator_rows, plan_row, plan_rows, volume_row, volume_rows_from, area_rows, volume_rows, AreSpanRows, AreTables}
+use Rattle.desk_tables.specs.Tables.{id_text, operator_row, operator_rows, plan_row, plan_rows, volume_row, rows_from, area_rows, volume_rows, cover_row, area_covers, cover_rows, AreSpanRows, HasNoOldRows, AreTables}
 use Rattle.desk_tables.specs.Content.{IsId, IsPlan, IsContent}
 use Rattle.desk_tables.specs.TableChanges.{with_usage, EnrolsRows, PutsRows, ClosesRows, ClearsRows, ChangesRows, IsWithin, closed_if, is_left}
 use Rattle.desk_tables.proofs.RowLemmas.{after_key}
-use Rattle.desk_tables.proofs.FilterLemmas.{ArePlans, turned, own_row, other_row, left_row, plans_filtered, volumes_filtered, plan_spans_filtered, spans_filtered, spans_moved}
+use Rattle.desk_tables.proofs.FilterLemmas.{ArePlans, turned, own_row, other_row, left_row, plans_filtered, volumes_filtered, covers_filtered, plan_spans_filtered, spans_filtered, spans_moved}
 
 -- tables that have the rows of plans in some order
 abbrev HaveSpans : List Filed → List Row → Type 0
@@ -48,15 +48,19 @@ have_spans ps qs spans h (rows, are, in_tables) =
     )
 
 in_any_order : (tables : Tables) (w : World) (ps : List Filed) → IsPermutation ps w.plans
-    → IsPermutation (operator_rows w) tables.operators
+    → HasNoOldRows tables → IsPermutation (operator_rows w) tables.operators
     → IsPermutation (plan_rows ps) tables.plans → IsPermutation (volume_rows ps) tables.volumes
+    → IsPermutation (cover_rows ps) tables.covers
     → HaveSpans ps tables.spans → AreTables tables w
-in_any_order tables w ps h operators plans volumes spans = record {
+in_any_order tables w ps h old operators plans volumes covers spans = record {
+  old = old;
   operators = operators;
   plans = IsPermutation-trans (plan_rows w.plans) (plan_rows ps) tables.plans
       (IsPermutation-map plan_row w.plans ps back) plans;
   volumes = IsPermutation-trans (volume_rows w.plans) (volume_rows ps) tables.volumes
       (IsPermutation-flat_map area_rows w.plans ps back) volumes;
+  covers = IsPermutation-trans (cover_rows w.plans) (cover_rows ps) tables.covers
+      (IsPermutation-flat_map area_covers w.plans ps back) covers;
   spans = have_spans ps w.plans tables.spans h spans;
 } where
   back : IsPermutation w.plans ps
@@ -182,9 +186,11 @@ enrol_tables : (name : List ℕ) (ceiling : ℕ) (w : World) (old new : Tables) 
     → EnrolsRows name ceiling old new → AreTables new (with_operator w name ceiling)
 unfolding with_operator
 enrol_tables name ceiling w old new h t e = record {
+  old = e.no_old t.old;
   operators = operators;
   plans = IsPermutation-trans (plan_rows w.plans) old.plans new.plans t.plans e.plans;
   volumes = IsPermutation-trans (volume_rows w.plans) old.volumes new.volumes t.volumes e.volumes;
+  covers = IsPermutation-trans (cover_rows w.plans) old.covers new.covers t.covers e.covers;
   spans = (t.spans.0, t.spans.1, IsPermutation-trans t.spans.0 old.spans new.spans t.spans.2 e.spans);
 } where
   row : Row
@@ -231,6 +237,11 @@ module _ (test : Filed → Bool) (row_test : Row → Bool)
       (volumes_filtered test row_test same w.plans h.rows)
       (IsPermutation-filter row_test (volume_rows w.plans) old.volumes t.volumes)
 
+  pub covers_left : IsPermutation (cover_rows (filter test w.plans)) (filter row_test old.covers)
+  covers_left = subst (λ xs. IsPermutation xs (filter row_test old.covers))
+      (covers_filtered test row_test same w.plans h.rows)
+      (IsPermutation-filter row_test (cover_rows w.plans) old.covers t.covers)
+
   pub spans_left : HaveSpans (filter test w.plans) (filter row_test old.spans)
   spans_left = (
     filter row_test t.spans.0,
@@ -247,13 +258,17 @@ put_tables o row w old new h within t e =
     in_any_order new (record w { plans = replaced o (put_row row (plans_of o w)) w.plans }) qs
     (subst (IsPermutation qs) (inserted o row w.plans h.world.plans)
     (put_moves p w.plans h.world.plans))
+    (e.no_old t.old)
     (IsPermutation-trans (operator_rows w) old.operators new.operators t.operators e.operators)
     (IsPermutation-trans (plan_rows qs) (plan_row p ∷ filter test old.plans) new.plans
     (IsPermutation-cons (plan_row p) (plan_rows (filter (other p) w.plans)) (filter test old.plans)
     (plans_left (other p) test same old w h t)) e.plans)
     (IsPermutation-trans (volume_rows qs) (area_rows p ++ filter test old.volumes) new.volumes
     (IsPermutation-append_right (area_rows p) (volume_rows (filter (other p) w.plans))
-    (filter test old.volumes) (volumes_left (other p) test same old w h t)) e.volumes) (
+    (filter test old.volumes) (volumes_left (other p) test same old w h t)) e.volumes)
+    (IsPermutation-trans (cover_rows qs) (area_covers p ++ filter test old.covers) new.covers
+    (IsPermutation-append_right (area_covers p) (cover_rows (filter (other p) w.plans))
+    (filter test old.covers) (covers_left (other p) test same old w h t)) e.covers) (
       e.spans.0 ++ left.0,
       (e.spans.0, left.0, refl, e.spans.1, left.1),
       IsPermutation-trans (e.spans.0 ++ left.0) (e.spans.0 ++ filter test old.spans) new.spans
@@ -283,11 +298,14 @@ clear_tables o ids w old new h within t e =
     in_any_order new (record w { plans = replaced o (clear_rows ids (plans_of o w)) w.plans }) qs
     (IsPermutation-same qs (replaced o (clear_rows ids (plans_of o w)) w.plans)
     (cleared_plans o ids w.plans h.world.plans))
+    (e.no_old t.old)
     (IsPermutation-trans (operator_rows w) old.operators new.operators t.operators e.operators)
     (IsPermutation-trans (plan_rows qs) (filter test old.plans) new.plans
     (plans_left (stays o ids) test same old w h t) e.plans)
     (IsPermutation-trans (volume_rows qs) (filter test old.volumes) new.volumes
     (volumes_left (stays o ids) test same old w h t) e.volumes)
+    (IsPermutation-trans (cover_rows qs) (filter test old.covers) new.covers
+    (covers_left (stays o ids) test same old w h t) e.covers)
     (left.0, left.1, IsPermutation-trans left.0 (filter test old.spans) new.spans left.2 e.spans) where
       test : Row → Bool
       test = is_left o ids
@@ -318,20 +336,33 @@ plans_closed o id (p ∷ ps) hi h = λ i. one i ∷ plans_closed o id ps hi h.1 
   one = ap (λ b. cond b (with_usage 2 (plan_row p)) (plan_row p))
       (own_row o id p (after_key (plan_row p)) hi h.0.id) ∙ by_test (is_own o id p)
 
-same_places : (p : Filed) (n : ℕ) (vs : List Block)
-    → volume_rows_from (record { operator = p.operator; row = closed p.row }) n vs
-    ≡ volume_rows_from p n vs
-same_places p n [] = refl
-same_places p n (v ∷ vs) = ap (λ rows. volume_row p n v ∷ rows) (same_places p (n + 1) vs)
+-- rows of volumes, if a row of a closed plan is what it was
+module _ (row : Filed → ℕ → Block → Row) (same : (p : Filed) (n : ℕ) (v : Block)
+    → row (record { operator = p.operator; row = closed p.row }) n v ≡ row p n v) where
+  same_places : (p : Filed) (n : ℕ) (vs : List Block)
+      → rows_from row (record { operator = p.operator; row = closed p.row }) n vs ≡ rows_from row p n vs
+  same_places p n [] = refl
+  same_places p n (v ∷ vs) = λ i. same p n v i ∷ same_places p (n + 1) vs i
+
+  areas_closed : (o id : List ℕ) (ps : List Filed) → flat_map (λ p. rows_from row p 0 p.row.area) ps
+      ≡ flat_map (λ p. rows_from row p 0 p.row.area) (map (close_filed o id) ps)
+  areas_closed o id [] = refl
+  areas_closed o id (p ∷ ps) = λ i. by_test (is_own o id p) i ++ areas_closed o id ps i where
+    rows_of : Filed → List Row
+    rows_of q = rows_from row q 0 q.row.area
+
+    by_test : (b : Bool) → rows_of p
+        ≡ rows_of (cond b (record { operator = p.operator; row = closed p.row }) p)
+    by_test true = sym (same_places p 0 p.row.area)
+    by_test false = refl
 
 volumes_closed : (o id : List ℕ) (ps : List Filed) → volume_rows ps
     ≡ volume_rows (map (close_filed o id) ps)
-volumes_closed o id [] = refl
-volumes_closed o id (p ∷ ps) = λ i. by_test (is_own o id p) i ++ volumes_closed o id ps i where
-  by_test : (b : Bool) → area_rows p
-      ≡ area_rows (cond b (record { operator = p.operator; row = closed p.row }) p)
-  by_test true = sym (same_places p 0 p.row.area)
-  by_test false = refl
+volumes_closed = areas_closed volume_row (λ p n v. refl)
+
+covers_closed : (o id : List ℕ) (ps : List Filed) → cover_rows ps
+    ≡ cover_rows (map (close_filed o id) ps)
+covers_closed = areas_closed cover_row (λ p n v. refl)
 
 spans_closed : (o id : List ℕ) (ps : List Filed) (rows : List Row) → IsId id → ArePlans ps
     → AreSpanRows ps rows → AreSpanRows (map (close_filed o id) ps)
@@ -359,13 +390,16 @@ close_tables o id w old new h within t e =
     in_any_order new (record w { plans = replaced o (close_row id (plans_of o w)) w.plans }) qs
     (IsPermutation-same qs (replaced o (close_row id (plans_of o w)) w.plans)
     (closed_plans o id w.plans h.world.plans))
+    (e.no_old t.old)
     (IsPermutation-trans (operator_rows w) old.operators new.operators t.operators e.operators)
     (IsPermutation-trans (plan_rows qs) (map (closed_if o id) old.plans) new.plans
     (subst (λ xs. IsPermutation xs (map (closed_if o id) old.plans))
     (plans_closed o id w.plans within h.rows)
     (IsPermutation-map (closed_if o id) (plan_rows w.plans) old.plans t.plans)) e.plans)
     (subst (λ xs. IsPermutation xs new.volumes) (volumes_closed o id w.plans)
-    (IsPermutation-trans (volume_rows w.plans) old.volumes new.volumes t.volumes e.volumes)) (
+    (IsPermutation-trans (volume_rows w.plans) old.volumes new.volumes t.volumes e.volumes))
+    (subst (λ xs. IsPermutation xs new.covers) (covers_closed o id w.plans)
+    (IsPermutation-trans (cover_rows w.plans) old.covers new.covers t.covers e.covers)) (
       filter test t.spans.0,
       spans_closed o id w.plans t.spans.0 within h.rows t.spans.1,
       IsPermutation-trans (filter test t.spans.0) (filter test old.spans) new.spans

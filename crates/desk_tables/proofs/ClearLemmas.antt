@@ -11,8 +11,9 @@ use Rattle.desk_sql.specs.Rows.{Tables, is_of}
 use Rattle.desk_sql.specs.Batches.{RemovesPlans, is_of_none}
 use Rattle.desk_store.specs.World.{Filed, World}
 use Rattle.desk_store.specs.laws.Order.{all_weaker}
-use Rattle.desk_tables.specs.Tables.{id_text, plan_row, plan_rows, volume_rows_from, area_rows, volume_rows, span_row, AreSpanRowsFrom, ArePlanSpanRows, AreSpanRows, AreTables}
+use Rattle.desk_tables.specs.Tables.{id_text, plan_row, plan_rows, volume_row, rows_from, volume_rows, cover_row, cover_rows, span_row, AreSpanRowsFrom, ArePlanSpanRows, AreSpanRows, AreTables}
 use Rattle.desk_tables.specs.TableChanges.{ClearsRows, is_left}
+use Rattle.desk_tables.proofs.RowLemmas.{after_place, placed, placed_rows}
 
 texts_any : (operator : List ℕ) (r : Row) (ids : List (List ℕ))
     → list_any (λ text. is_of operator text r) (map id_text ids)
@@ -61,16 +62,26 @@ module _ (operator : List ℕ) (has : List ℕ → Bool) where
         by_tests true false e f ih = let no : false ≡ true = f refl in cc
         by_tests false false e f ih = ih
 
-  volumes_planned : (p : Filed) → IsPlanned (plan_row p) → (n : ℕ) (vs : List Block)
-      → AllByRecursion IsPlanned (volume_rows_from p n vs)
-  volumes_planned p h n [] = tt
-  volumes_planned p h n (v ∷ vs) = (h, volumes_planned p h (n + 1) vs)
+  placed_planned : (more : Filed → ℕ → Block → Row) (p : Filed) → IsPlanned (plan_row p) → (n : ℕ)
+      (vs : List Block) → AllByRecursion IsPlanned (rows_from (placed more) p n vs)
+  placed_planned more p h n [] = tt
+  placed_planned more p h n (v ∷ vs) = (h, placed_planned more p h (n + 1) vs)
+
+  all_placed : (more : Filed → ℕ → Block → Row) (ps : List Filed)
+      → AllByRecursion (λ p. IsPlanned (plan_row p)) ps
+      → AllByRecursion IsPlanned (placed_rows more ps)
+  all_placed more [] h = tt
+  all_placed more (p ∷ ps) h =
+      all_append IsPlanned (rows_from (placed more) p 0 p.row.area) (placed_rows more ps)
+      (placed_planned more p h.0 0 p.row.area) (all_placed more ps h.1)
 
   all_volumes : (ps : List Filed) → AllByRecursion (λ p. IsPlanned (plan_row p)) ps
       → AllByRecursion IsPlanned (volume_rows ps)
-  all_volumes [] h = tt
-  all_volumes (p ∷ ps) h = all_append IsPlanned (area_rows p) (volume_rows ps)
-      (volumes_planned p h.0 0 p.row.area) (all_volumes ps h.1)
+  all_volumes = all_placed (after_place volume_row)
+
+  all_covers : (ps : List Filed) → AllByRecursion (λ p. IsPlanned (plan_row p)) ps
+      → AllByRecursion IsPlanned (cover_rows ps)
+  all_covers = all_placed (after_place cover_row)
 
   spans_on : (p : Filed) → IsPlanned (plan_row p) → (n : ℕ) (v : Block) (spans : List Span)
       → AllByRecursion IsPlanned (map (span_row p n v) spans)
@@ -143,17 +154,26 @@ pub removal_is_clear : (operator : List ℕ) (ids : List (List ℕ)) (w : World)
     → AreTables old w → RemovesPlans operator (map id_text ids) old new
     → ClearsRows operator ids old new
 removal_is_clear operator ids w old new t e = record {
+  no_old = λ none. record {
+    volumes = ap (λ x. x.old_volumes) e ∙ ap (filter gone) none.volumes;
+    spans = ap (λ x. x.old_spans) e ∙ ap (filter gone) none.spans;
+  };
   operators = IsPermutation-same old.operators new.operators (sym (ap (λ x. x.operators) e));
   plans = IsPermutation-same (filter (is_left operator ids) old.plans) new.plans
       (filter_same (is_left operator ids) (is_of_none operator (map id_text ids)) old.plans
       (λ r. ap not (sym (texts_any operator r ids))) ∙ sym (ap (λ x. x.plans) e));
   volumes = left_alike operator has ids (volume_rows w.plans) old.volumes new.volumes
       (all_volumes operator has w.plans planned) t.volumes (ap (λ x. x.volumes) e);
+  covers = left_alike operator has ids (cover_rows w.plans) old.covers new.covers
+      (all_covers operator has w.plans planned) t.covers (ap (λ x. x.covers) e);
   spans = left_alike operator has ids t.spans.0 old.spans new.spans
       (all_spans operator has w.plans planned t.spans.0 t.spans.1) t.spans.2 (ap (λ x. x.spans) e);
 } where
   has : List ℕ → Bool
   has text = list_any (is_of operator text) old.plans
+
+  gone : Row → Bool
+  gone = is_of_none operator (filter has (map id_text ids))
 
   planned : AllByRecursion (λ p. (text : List ℕ) → is_of operator text (plan_row p) ≡ true → has text
       ≡ true)

@@ -90,6 +90,10 @@ module _ (o id : List ℕ) (head : Row) (priority aircraft : ℕ)
         → AreTables old w → heads ≡ plan_rows (own_of o id w) → heads ≡ head ∷ rest
         → ClosesPlan o (id_text id) priority aircraft old new → ClosesRows o id old new
     close_is_close w old new heads rest h hi t are some e = record {
+      no_old = λ none. record {
+        volumes = e.old_volumes ∙ none.volumes;
+        spans = e.old_spans ∙ none.spans;
+      };
       operators = IsPermutation-same old.operators new.operators (sym e.operators);
       plans = IsPermutation-trans (map (closed_if o id) old.plans)
           (map (closed_if o id) (plan_rows w.plans))
@@ -105,6 +109,7 @@ module _ (o id : List ℕ) (head : Row) (priority aircraft : ℕ)
           t.plans))
           e.plans);
       volumes = IsPermutation-same old.volumes new.volumes (sym e.volumes);
+      covers = IsPermutation-same old.covers new.covers (sym e.covers);
       spans = IsPermutation-same _ new.spans (sym e.spans);
     }
 

@@ -257,7 +257,7 @@ live_spans p rows h =
     (live p.row.usage h) in
     ((λ t. subst (λ T. T) same t), λ t. subst (λ T. T) (sym same) t)
 
-empty_if : (rows : List Row) (t : Bool) → t ≡ nat_eq (length rows) 0 → IsTrue t ↔ (rows ≡ [])
+pub empty_if : (rows : List Row) (t : Bool) → t ≡ nat_eq (length rows) 0 → IsTrue t ↔ (rows ≡ [])
 empty_if [] t e = ((λ y. refl), λ h. e)
 empty_if (r ∷ rows) t e = ((λ y. absurd (some (length rows) (sym e ∙ y))), λ h. cc) where
   some : (n : ℕ) → nat_eq (suc n) 0 ≡ true → ⊥

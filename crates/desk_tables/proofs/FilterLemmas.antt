@@ -18,11 +18,11 @@ use Rattle.desk_sql.specs.Rows.{is_of, is_not_of}
 use Rattle.desk_store.specs.World.{Filed, text_cmp}
 use Rattle.desk_store.specs.Rows.{is_own}
 use Rattle.desk_store.specs.laws.Change.{stays}
-use Rattle.desk_tables.specs.Tables.{id_text, plan_row, plan_rows, volume_row, volume_rows_from, area_rows, volume_rows, span_row, AreSpanRowsFrom, ArePlanSpanRows, AreSpanRows}
+use Rattle.desk_tables.specs.Tables.{id_text, plan_row, plan_rows, volume_row, rows_from, volume_rows, cover_row, cover_rows, span_row, AreSpanRowsFrom, ArePlanSpanRows, AreSpanRows}
 use Rattle.desk_tables.specs.Content.{IsId, IsPlan}
 use Rattle.desk_tables.specs.TableChanges.{is_left}
 use Rattle.desk_tables.proofs.IdLemmas.{text_order}
-use Rattle.desk_tables.proofs.RowLemmas.{after_key}
+use Rattle.desk_tables.proofs.RowLemmas.{after_key, after_place, placed, placed_rows}
 
 abbrev pub ArePlans : List Filed → Type 0
 ArePlans ps = AllByRecursion (λ p. IsPlan p.row) ps
@@ -80,28 +80,39 @@ module _ (test : Filed → Bool) (row_test : Row → Bool)
   all_or_none true r rows = refl
   all_or_none false r rows = refl
 
-  area_filtered : (q : Filed) → IsPlan q.row → (n : ℕ) (vs : List Block)
-      → filter row_test (volume_rows_from q n vs) ≡ cond (test q) (volume_rows_from q n vs) []
-  area_filtered q h n [] = none (test q) where
-    none : (b : Bool) → ◌≡◌ {A = List Row} [] (cond b [] [])
-    none true = refl
-    none false = refl
-  area_filtered q h n (v ∷ vs) =
-      (λ i. cond (same q (after_key (volume_row q n v)) h i)
-      (volume_row q n v ∷ area_filtered q h (n + 1) vs i) (area_filtered q h (n + 1) vs i))
-      ∙ all_or_none (test q) (volume_row q n v) (volume_rows_from q (n + 1) vs)
+  -- the rows of volumes, whatever they have after their place
+  module _ (more : Filed → ℕ → Block → Row) where
+    area_filtered : (q : Filed) → IsPlan q.row → (n : ℕ) (vs : List Block)
+        → filter row_test (rows_from (placed more) q n vs) ≡ cond (test q) (rows_from (placed more) q n vs) []
+    area_filtered q h n [] = none (test q) where
+      none : (b : Bool) → ◌≡◌ {A = List Row} [] (cond b [] [])
+      none true = refl
+      none false = refl
+    area_filtered q h n (v ∷ vs) =
+        (λ i. cond (same q (after_key (placed more q n v)) h i)
+        (placed more q n v ∷ area_filtered q h (n + 1) vs i) (area_filtered q h (n + 1) vs i))
+        ∙ all_or_none (test q) (placed more q n v) (rows_from (placed more) q (n + 1) vs)
+
+    pub placed_filtered : (ps : List Filed) → ArePlans ps → filter row_test (placed_rows more ps)
+        ≡ placed_rows more (filter test ps)
+    placed_filtered [] h = refl
+    placed_filtered (p ∷ ps) h =
+        filter-append row_test (rows_from (placed more) p 0 p.row.area) (placed_rows more ps)
+        ∙ (λ i. area_filtered p h.0 0 p.row.area i ++ placed_filtered ps h.1 i)
+        ∙ by_test (test p) where
+          by_test : (b : Bool) → cond b (rows_from (placed more) p 0 p.row.area) []
+              ++ placed_rows more (filter test ps)
+              ≡ placed_rows more (cond b (p ∷ filter test ps) (filter test ps))
+          by_test true = refl
+          by_test false = refl
 
   pub volumes_filtered : (ps : List Filed) → ArePlans ps → filter row_test (volume_rows ps)
       ≡ volume_rows (filter test ps)
-  volumes_filtered [] h = refl
-  volumes_filtered (p ∷ ps) h =
-      filter-append row_test (area_rows p) (volume_rows ps)
-      ∙ (λ i. area_filtered p h.0 0 p.row.area i ++ volumes_filtered ps h.1 i)
-      ∙ by_test (test p) where
-        by_test : (b : Bool) → cond b (area_rows p) [] ++ volume_rows (filter test ps)
-            ≡ volume_rows (cond b (p ∷ filter test ps) (filter test ps))
-        by_test true = refl
-        by_test false = refl
+  volumes_filtered = placed_filtered (after_place volume_row)
+
+  pub covers_filtered : (ps : List Filed) → ArePlans ps → filter row_test (cover_rows ps)
+      ≡ cover_rows (filter test ps)
+  covers_filtered = placed_filtered (after_place cover_row)
 
   on_spans_filtered : (q : Filed) → IsPlan q.row → (n : ℕ) (v : Block) (spans : List Span)
       → filter row_test (map (span_row q n v) spans) ≡ cond (test q) (map (span_row q n v) spans) []

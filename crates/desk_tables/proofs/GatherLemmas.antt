@@ -4,6 +4,7 @@ use Rattle.std.specs.List.{AllByRecursion}
 use Rattle.std.proofs.lemmas.Bool.Decides.{nat_tests}
 use Rattle.std.proofs.lemmas.List.{length-append, length-map}
 use Rattle.sqlite_value.specs.Order.{Row}
+use Rattle.volume4d.specs.Limits.{max_volumes}
 use Rattle.volume4d.specs.Volume.{Block, is_area}
 use Rattle.desk_rules.specs.declared.plan.PlanRow.{PlanRow}
 use Rattle.desk_store.specs.World.{Filed}
@@ -113,15 +114,15 @@ never_cut plans (Some head) volumes ps way off =
     let none = no_rows way.plan (length volumes) way.rest way.more way.each.1 way.rows in
     whole_area plans head volumes [] (map (λ p. p.row) ps) way none.0 off
 
--- a listing has at most eight rows a plan
+-- a listing has at most as many rows a plan as an area may have volumes
 volumes_long : (p : Filed) (n : ℕ) (vs : List Block) → length (volume_rows_from p n vs) ≡ length vs
 volumes_long p n [] = refl
 volumes_long p n (v ∷ vs) = ap suc (volumes_long p (n + 1) vs)
 
-area_short : (vs : List Block) → is_area vs ≡ true → length vs ≤ 8
+area_short : (vs : List Block) → is_area vs ≡ true → length vs ≤ max_volumes
 area_short vs h = grind (arith, nat_tests, h)
 
-pub listing_short : (ps : List Filed) → ArePlans ps → length (listing_rows ps) ≤ 8 * length ps
+pub listing_short : (ps : List Filed) → ArePlans ps → length (listing_rows ps) ≤ max_volumes * length ps
 listing_short [] h = omega arith
 listing_short (p ∷ ps) h = omega (
   arith,

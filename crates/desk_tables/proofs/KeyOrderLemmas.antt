@@ -19,14 +19,15 @@ use Rattle.desk_rules.specs.Plan.{is_live}
 use Rattle.desk_sql.specs.Rows.{Tables, Lists, by_cells}
 use Rattle.desk_store.specs.World.{Filed, Listed, World, text_cmp, listed_cmp, filed_cmp}
 use Rattle.desk_store.specs.laws.Order.{all_weaker, all_append}
-use Rattle.desk_tables.specs.Tables.{id_text, operator_row, operator_rows, plan_row, plan_rows, volume_row, volume_rows_from, area_rows, volume_rows, span_row, AreSpanRowsFrom, ArePlanSpanRows, AreSpanRows, AreTables}
+use Rattle.desk_tables.specs.Tables.{id_text, operator_row, operator_rows, plan_row, plan_rows, volume_row, rows_from, volume_rows_from, volume_rows, cover_row, cover_rows, span_row, AreSpanRowsFrom, ArePlanSpanRows, AreSpanRows, HasNoOldRows, AreTables}
 use Rattle.desk_tables.specs.Content.{IsPlan, IsContent}
-use Rattle.desk_tables.specs.Opening.{AreRows, AreSortedByKey}
+use Rattle.desk_tables.specs.Opening.{AreRows, AreAllRows, AreSortedByKey}
+use Rattle.desk_tables.specs.Moving.{AreOldTables, AreSortedOld, HasNoNewRows}
 use Rattle.desk_tables.proofs.IdLemmas.{text_order, then_then}
-use Rattle.desk_tables.proofs.RowLemmas.{after_key}
+use Rattle.desk_tables.proofs.RowLemmas.{after_key, after_place, placed, placed_rows}
 use Rattle.desk_tables.proofs.FilterLemmas.{ArePlans}
 use Rattle.desk_tables.proofs.ListingLemmas.{in_order, places_less, filed_total}
-use Rattle.desk_tables.proofs.PlanLemmas.{HasKey, area_keyed}
+use Rattle.desk_tables.proofs.PlanLemmas.{HasKey, placed_keyed}
 use Rattle.desk_tables.proofs.SpanLemmas.{spans_keyed}
 
 -- ---- operators
@@ -112,34 +113,51 @@ plans_up (p ∷ ps) h s = one_more [] p (plan_row p ∷ []) (plan_rows ps) h.0
 
 -- ---- volumes
 
-later_areas : (p : Filed) (qs : List Filed) → ArePlans qs
-    → AllByRecursion (λ q. filed_cmp p q ≡ Less) qs
-    → AllByRecursion (IsLater p) (volume_rows qs)
-later_areas p [] h s = tt
-later_areas p (q ∷ qs) h s = all_append (IsLater p) (area_rows q) (volume_rows qs)
-    (later_rows p q (area_rows q) h.0 s.0 (area_keyed q 0 q.row.area)) (later_areas p qs h.1 s.1)
+module _ (more : Filed → ℕ → Block → Row) where
+  abbrev rows_of : Filed → List Row
+  rows_of p = rows_from (placed more) p 0 p.row.area
 
-places_after : (p : Filed) (n m : ℕ) (v : Block) (us : List Block) → IsPlan p.row → n < m
-    → AllByRecursion (Below (2 ∷ []) (volume_row p n v)) (volume_rows_from p m us)
-places_after p n m v [] hp h = tt
-places_after p n m v (u ∷ us) hp h = (
-  same_below (2 ∷ []) p (volume_row p n v) (volume_row p m u) hp (after_key (volume_row p n v), refl)
-      (after_key (volume_row p m u), refl) (ap (λ o. ordering_then o Equal) (places_less n m h)),
-  places_after p n (m + 1) v us hp (omega (arith, h)),
-)
+  later_areas : (p : Filed) (qs : List Filed) → ArePlans qs
+      → AllByRecursion (λ q. filed_cmp p q ≡ Less) qs
+      → AllByRecursion (IsLater p) (placed_rows more qs)
+  later_areas p [] h s = tt
+  later_areas p (q ∷ qs) h s = all_append (IsLater p) (rows_of q) (placed_rows more qs)
+      (later_rows p q (rows_of q) h.0 s.0 (placed_keyed more q 0 q.row.area)) (later_areas p qs h.1 s.1)
+
+  places_after : (p : Filed) (n m : ℕ) (v : Block) (us : List Block) → IsPlan p.row → n < m
+      → AllByRecursion (Below (2 ∷ []) (placed more p n v)) (rows_from (placed more) p m us)
+  places_after p n m v [] hp h = tt
+  places_after p n m v (u ∷ us) hp h = (
+    same_below (2 ∷ []) p (placed more p n v) (placed more p m u) hp
+        (after_key (placed more p n v), refl)
+        (after_key (placed more p m u), refl) (ap (λ o. ordering_then o Equal) (places_less n m h)),
+    places_after p n (m + 1) v us hp (omega (arith, h)),
+  )
+
+  pub places_up : (p : Filed) (n : ℕ) (vs : List Block) → IsPlan p.row
+      → IsAscending (Below (2 ∷ [])) (rows_from (placed more) p n vs)
+  places_up p n [] hp = tt
+  places_up p n (v ∷ vs) hp = (places_after p n (n + 1) v vs hp (omega arith), places_up p (n + 1) vs hp)
+
+  placed_up : (ps : List Filed) → ArePlans ps → IsStrictlySortedBy filed_cmp ps
+      → IsAscending (Below (2 ∷ [])) (placed_rows more ps)
+  unfolding IsStrictlySortedBy
+  placed_up [] h s = tt
+  placed_up (p ∷ ps) h s = one_more (2 ∷ []) p (rows_of p) (placed_rows more ps) h.0
+      (placed_keyed more p 0 p.row.area)
+      (places_up p 0 p.row.area h.0) (later_areas p ps h.1 s.0) (placed_up ps h.1 s.1)
 
 pub area_up : (p : Filed) (n : ℕ) (vs : List Block) → IsPlan p.row
     → IsAscending (Below (2 ∷ [])) (volume_rows_from p n vs)
-area_up p n [] hp = tt
-area_up p n (v ∷ vs) hp = (places_after p n (n + 1) v vs hp (omega arith), area_up p (n + 1) vs hp)
+area_up = places_up (after_place volume_row)
 
 volumes_up : (ps : List Filed) → ArePlans ps → IsStrictlySortedBy filed_cmp ps
     → IsAscending (Below (2 ∷ [])) (volume_rows ps)
-unfolding IsStrictlySortedBy
-volumes_up [] h s = tt
-volumes_up (p ∷ ps) h s = one_more (2 ∷ []) p (area_rows p) (volume_rows ps) h.0
-    (area_keyed p 0 p.row.area)
-    (area_up p 0 p.row.area h.0) (later_areas p ps h.1 s.0) (volumes_up ps h.1 s.1)
+volumes_up = placed_up (after_place volume_row)
+
+covers_up : (ps : List Filed) → ArePlans ps → IsStrictlySortedBy filed_cmp ps
+    → IsAscending (Below (2 ∷ [])) (cover_rows ps)
+covers_up = placed_up (after_place cover_row)
 
 -- ---- spans
 
@@ -251,21 +269,42 @@ spans_up (p ∷ ps) rows h s (front, rest, are, own, then) =
 
 -- ---- all tables
 
--- what is read in the order of its keys is the rows of the content in that order
-pub are_rows : (t rows : Tables) (w : World) → IsContent w → AreTables t w → AreSortedByKey t rows
+-- what is read in the order of its keys, of the four tables that a content's rows are in, is the rows of the
+-- content in that order
+rows_are : (operators plans volumes spans : List Row) (rows : Tables) (w : World) → IsContent w
+    → IsPermutation (operator_rows w) operators → IsPermutation (plan_rows w.plans) plans
+    → IsPermutation (volume_rows w.plans) volumes
+    → ((rs : List Row) × AreSpanRows w.plans rs × IsPermutation rs spans)
+    → Lists (0 ∷ []) operators rows.operators → Lists (0 ∷ 1 ∷ []) plans rows.plans
+    → Lists (0 ∷ 1 ∷ 2 ∷ []) volumes rows.volumes → Lists (0 ∷ 1 ∷ 2 ∷ 3 ∷ []) spans rows.spans
     → AreRows rows w
-are_rows t rows w h are lists =
-    let spans = are.spans in record {
-      operator_part = in_order (0 ∷ []) (operator_rows w) t.operators rows.operators
-          (operators_up w.operators h.world.operators) are.operators lists.operator_part;
-      plan_part = in_order (0 ∷ 1 ∷ []) (plan_rows w.plans) t.plans rows.plans
-          (plans_up w.plans h.rows h.world.plans) are.plans lists.plan_part;
-      volume_part = in_order (0 ∷ 1 ∷ 2 ∷ []) (volume_rows w.plans) t.volumes rows.volumes
-          (volumes_up w.plans h.rows h.world.plans) are.volumes lists.volume_part;
-      span_part = subst (AreSpanRows w.plans) (sym
-          (in_order (0 ∷ 1 ∷ 2 ∷ 3 ∷ []) spans.0 t.spans rows.spans
-          (spans_up w.plans spans.0 h.rows h.world.plans spans.1) spans.2 lists.span_part)) spans.1;
-    }
+rows_are operators plans volumes spans rows w h one two three four a b c d = record {
+  operator_part = in_order (0 ∷ []) (operator_rows w) operators rows.operators
+      (operators_up w.operators h.world.operators) one a;
+  plan_part = in_order (0 ∷ 1 ∷ []) (plan_rows w.plans) plans rows.plans
+      (plans_up w.plans h.rows h.world.plans) two b;
+  volume_part = in_order (0 ∷ 1 ∷ 2 ∷ []) (volume_rows w.plans) volumes rows.volumes
+      (volumes_up w.plans h.rows h.world.plans) three c;
+  span_part = subst (AreSpanRows w.plans) (sym
+      (in_order (0 ∷ 1 ∷ 2 ∷ 3 ∷ []) four.0 spans rows.spans
+      (spans_up w.plans four.0 h.rows h.world.plans four.1) four.2 d)) four.1;
+}
+
+pub are_rows : (t rows : Tables) (w : World) → IsContent w → AreTables t w → AreSortedByKey t rows
+    → AreAllRows rows w
+are_rows t rows w h are lists = record {
+  rows = rows_are t.operators t.plans t.volumes t.spans rows w h are.operators are.plans are.volumes
+      are.spans lists.operator_part lists.plan_part lists.volume_part lists.span_part;
+  covers = in_order (0 ∷ 1 ∷ 2 ∷ []) (cover_rows w.plans) t.covers rows.covers
+      (covers_up w.plans h.rows h.world.plans) are.covers lists.cover_part;
+}
+
+-- so it is of tables of schema 1
+pub are_old_rows : (t rows : Tables) (w : World) → IsContent w → AreOldTables t w → AreSortedOld t rows
+    → AreRows rows w
+are_old_rows t rows w h are lists =
+    rows_are t.operators t.plans t.old_volumes t.old_spans rows w h are.operators are.plans are.volumes
+    are.spans lists.operator_part lists.plan_part lists.volume_part lists.span_part
 
 moved : (cells : List ℕ) (xs wanted rows : List Row) → rows ≡ xs → Lists cells wanted rows
     → IsPermutation xs wanted
@@ -273,12 +312,27 @@ moved cells xs wanted rows e lists = subst (λ rs. IsPermutation rs wanted) e
     (IsPermutation-sym wanted rows lists.same)
 
 -- and tables read so are the content's
-pub are_tables : (t rows : Tables) (w : World) → AreSortedByKey t rows → AreRows rows w → AreTables t w
-are_tables t rows w lists are = record {
+pub are_tables : (t rows : Tables) (w : World) → HasNoOldRows t → AreSortedByKey t rows
+    → AreAllRows rows w → AreTables t w
+are_tables t rows w old lists all = let are = all.rows in record {
+  old = old;
   operators = moved (0 ∷ []) (operator_rows w) t.operators rows.operators are.operator_part
       lists.operator_part;
   plans = moved (0 ∷ 1 ∷ []) (plan_rows w.plans) t.plans rows.plans are.plan_part lists.plan_part;
   volumes = moved (0 ∷ 1 ∷ 2 ∷ []) (volume_rows w.plans) t.volumes rows.volumes are.volume_part
       lists.volume_part;
+  covers = moved (0 ∷ 1 ∷ 2 ∷ []) (cover_rows w.plans) t.covers rows.covers all.covers lists.cover_part;
   spans = (rows.spans, are.span_part, IsPermutation-sym t.spans rows.spans lists.span_part.same);
+}
+
+pub are_old_tables : (t rows : Tables) (w : World) → HasNoNewRows t → AreSortedOld t rows → AreRows rows w
+    → AreOldTables t w
+are_old_tables t rows w new lists are = record {
+  new = new;
+  operators = moved (0 ∷ []) (operator_rows w) t.operators rows.operators are.operator_part
+      lists.operator_part;
+  plans = moved (0 ∷ 1 ∷ []) (plan_rows w.plans) t.plans rows.plans are.plan_part lists.plan_part;
+  volumes = moved (0 ∷ 1 ∷ 2 ∷ []) (volume_rows w.plans) t.old_volumes rows.volumes are.volume_part
+      lists.volume_part;
+  spans = (rows.spans, are.span_part, IsPermutation-sym t.old_spans rows.spans lists.span_part.same);
 }

@@ -1,5 +1,5 @@
 -- What a crash leaves is read as one content.
-use Rattle.std.proofs.Common.{◌≡◌, ◌⊎◌, inl, inr, Option, Some, None, IsSome, IsTrue, length, refl, sym, ap, subst, ◌∙◌, arith, true≢false}
+use Rattle.std.proofs.Common.{◌≡◌, ◌⊎◌, inl, inr, Option, Some, None, IsSome, IsTrue, length, refl, sym, ap, subst, ◌∙◌, arith, true, true≢false}
 use Rattle.std.specs.Coded.{Coded-set}
 use Rattle.std.proofs.Math.Logic.{∥∥₁_elim, ∥∥₁_map}
 use Rattle.sqlite_trees.specs.declared.store.Store.{Ghosts}
@@ -13,20 +13,20 @@ use Rattle.sqlite.specs.Held.{Held, state}
 use Rattle.sqlite.specs.Files.{over_files, file_state}
 use Rattle.sqlite.proofs.Theorems.{next_run}
 use Rattle.desk_sql.specs.declared.opening.finding.Made.{Made}
-use Rattle.desk_sql.specs.declared.opening.finding.Made.TheVariants.{Nothing, Operators, Plans, Volumes, Spans, All}
+use Rattle.desk_sql.specs.declared.opening.finding.Made.TheVariants.{Nothing, Operators, Plans, OldVolumes, OldSpans, OldIndex, Volumes, Spans, All}
 use Rattle.desk_sql.specs.Schema.{blank_schema, desk_schema, schema_of}
-use Rattle.desk_sql.specs.Rows.{IsDesk, IsMadeTo, Tables, tables_of, tables_at}
+use Rattle.desk_sql.specs.Rows.{IsDesk, IsMadeTo, Tables, tables_of, tables_at, has_old_rows}
 use Rattle.desk_store.specs.World.{World}
 use Rattle.desk_store.specs.Crashes.{LeavesOnly, LeavesOldOr}
 use Rattle.desk_store.specs.contracts.list.ListStore as list
 use Rattle.desk_tables.specs.declared.opening.open.OpenFault.{OpenFault}
-use Rattle.desk_tables.specs.declared.opening.open.OpenFault.TheVariants.{OutOfMemory, Store, NotADesk}
+use Rattle.desk_tables.specs.declared.opening.open.OpenFault.TheVariants.{OutOfMemory, Store, NotADesk, OldSchema}
 use Rattle.desk_tables.specs.Tables.{AreTables}
 use Rattle.desk_tables.specs.Content.{IsContent}
 use Rattle.desk_tables.specs.Store.{IsStanding, Stands}
 use Rattle.desk_tables.specs.Opening.{IsPart, AreNoContent}
 use Rattle.desk_tables.specs.Leaving.{HasWorld, ReadsAs, MayLeave, MayHave, IsUntaken, IsFoundAfter, BeginsAfter, IsRefusedAfter}
-use Rattle.desk_tables.proofs.OpeningLemmas.{made_desk}
+use Rattle.desk_tables.proofs.OpeningLemmas.{made_desk, old_rows_none}
 
 -- the law `one_content`
 abbrev pub HaveOneContent : Type 0
@@ -77,11 +77,14 @@ module _ (law : HaveOneContent) where
 
 -- part of the tables and the index is not a desk's schema
 only_all : (made : Made) → schema_of made ≡ desk_schema → made ≡ All
-only_all Nothing e = let tables : 0 ≡ 4 = ap (λ s. length s.tables) e in absurd (omega (arith, tables))
-only_all Operators e = let tables : 1 ≡ 4 = ap (λ s. length s.tables) e in absurd (omega (arith, tables))
-only_all Plans e = let tables : 2 ≡ 4 = ap (λ s. length s.tables) e in absurd (omega (arith, tables))
-only_all Volumes e = let tables : 3 ≡ 4 = ap (λ s. length s.tables) e in absurd (omega (arith, tables))
-only_all Spans e = let indexes : 4 ≡ 5 = ap (λ s. length s.indexes) e in absurd (omega (arith, indexes))
+only_all Nothing e = let tables : 0 ≡ 6 = ap (λ s. length s.tables) e in absurd (omega (arith, tables))
+only_all Operators e = let tables : 1 ≡ 6 = ap (λ s. length s.tables) e in absurd (omega (arith, tables))
+only_all Plans e = let tables : 2 ≡ 6 = ap (λ s. length s.tables) e in absurd (omega (arith, tables))
+only_all OldVolumes e = let tables : 3 ≡ 6 = ap (λ s. length s.tables) e in absurd (omega (arith, tables))
+only_all OldSpans e = let tables : 4 ≡ 6 = ap (λ s. length s.tables) e in absurd (omega (arith, tables))
+only_all OldIndex e = let tables : 4 ≡ 6 = ap (λ s. length s.tables) e in absurd (omega (arith, tables))
+only_all Volumes e = let tables : 5 ≡ 6 = ap (λ s. length s.tables) e in absurd (omega (arith, tables))
+only_all Spans e = let indexes : 7 ≡ 8 = ap (λ s. length s.indexes) e in absurd (omega (arith, indexes))
 only_all All e = refl
 
 -- a database with no table
@@ -100,9 +103,12 @@ untaken db sound un w has =
       | inl (inr numbers) ↦ numbers.unsound (subst (λ made. IsMadeTo made db)
           (sym (only_all numbers.made (sym numbers.schema ∙ same))) (made_desk db
           (subst (λ schema. IsDesk (record { schema = schema; trees = db.trees })) (sym same) has.desk)))
-      | inr (inl others) ↦ others All same
-      | inr (inr none) ↦ subst (λ made. AreNoContent (tables_at made db.trees))
+      | inr (inl (inl others)) ↦ others All same
+      | inr (inl (inr none)) ↦ subst (λ made. AreNoContent (tables_at made db.trees))
           (only_all none.made (sym none.desk.schema ∙ same)) none.none w has.content has.tables
+      | inr (inr rows) ↦ true≢false (sym (subst (λ made. has_old_rows (tables_at made db.trees) ≡ true)
+          (only_all rows.made (sym rows.desk.schema ∙ same)) rows.old)
+          ∙ old_rows_none (tables_of db.trees) has.tables.old)
     ]
 
 -- what leaves a content, or one of two, leaves nothing that is no desk's
@@ -178,7 +184,8 @@ module _ {D E : Type 0} {g : disk.Ghosts D} {k : disk.Ghosts E} (last : Held (Fi
 
       by_fault : (e : OpenFault) → it.error ≡ e → ⊥
       by_fault OutOfMemory is = it.room is
-      by_fault NotADesk is = taken (inr (it.refused.none is it.clean it.live))
+      by_fault NotADesk is = taken (inr (inl (it.refused.none is it.clean it.live)))
+      by_fault OldSchema is = taken (inr (inr (it.refused.old is it.clean it.live)))
       by_fault Store is = elim (it.refused.cause it.clean it.live is) [
         | inl (inl failed) ↦ it.quiet failed
         | inl (inr limited) ↦ (let none = subst IsSome it.refused.fresh.unlimited limited in cc)

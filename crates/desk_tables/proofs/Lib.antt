@@ -27,6 +27,7 @@ pub mod AssemblyLemmas
 pub mod OpeningLemmas
 pub mod UnreadLemmas
 pub mod ExactLemmas
+pub mod CoverLemmas
 pub mod GiantLemmas
 pub mod LengthLemmas
 pub mod AskingLemmas
@@ -36,3 +37,4 @@ pub mod CauseLemmas
 pub mod SlabLemmas
 pub mod StatesLemmas
 pub mod PuttableLemmas
+pub mod MovingLemmas

@@ -1,5 +1,5 @@
 -- What a store begins with, from what was found.
-use Rattle.std.proofs.Common.{◌≡◌, ◌≢◌, ◌≤◌, Bool, true, false, if◌then◌else◌, ◌∙◌, sym, ap, refl, OnOk, OnErr, subst, arith, inl, inr, IsTrue, Result, Ok, Err, IfOk, IfErr}
+use Rattle.std.proofs.Common.{◌≡◌, ◌≢◌, ◌≤◌, List, [], ◌∷◌, ◌||◌, Bool, true, false, if◌then◌else◌, ◌∙◌, sym, ap, refl, OnOk, OnErr, subst, arith, inl, inr, IsTrue, Result, Ok, Err, IfOk, IfErr}
 use Rattle.std.specs.Prelude.{IsSome}
 use Rattle.std.specs.Result.{IsErrAnd}
 use Rattle.sqlite.specs.declared.error.Error.{Error}
@@ -11,28 +11,36 @@ use Rattle.sqlite.specs.State.{HasCleanDisk}
 use Rattle.sqlite.specs.Held.{Held, state}
 use Rattle.sqlite.specs.Effect.{Database}
 use Rattle.desk_sql.specs.declared.opening.finding.Made.{Made}
-use Rattle.desk_sql.specs.declared.opening.finding.Made.TheVariants.{Nothing, Operators, Plans, Volumes, Spans, All}
+use Rattle.desk_sql.specs.declared.opening.finding.Made.TheVariants.{Nothing, Operators, Plans, OldVolumes, OldSpans, OldIndex, Volumes, Spans, All}
 use Rattle.desk_sql.specs.declared.opening.numbers.DeskTable.TheVariants as desk
 use Rattle.desk_sql.specs.Schema.{tree_of, has_table}
-use Rattle.desk_sql.specs.Rows.{IsDesk, IsMadeTo, AreNumbered, Tables, tables_of, tables_at}
-use Rattle.desk_sql.specs.Effects.{IsKept}
+use Rattle.desk_sql.specs.Rows.{IsDesk, IsMadeTo, AreNumbered, Tables, tables_of, tables_at, has_rows, has_old_rows}
+use Rattle.desk_sql.specs.Effects.{IsKept, ShowsAsBefore}
 use Rattle.desk_sql.specs.Frames.{OnlyReads}
 use Rattle.desk_sql.specs.Finding.{Holds}
 use Rattle.desk_sql.specs.Refusals.{IsRefusal, IsUnread}
+use Rattle.sqlite_value.specs.Order.{Row}
 use Rattle.desk_store.specs.World.{World}
 use Rattle.desk_tables.specs.declared.opening.open.OpenFault.{OpenFault}
-use Rattle.desk_tables.specs.declared.opening.open.OpenFault.TheVariants.{NotADesk, OutOfMemory, Store}
+use Rattle.desk_tables.specs.declared.opening.open.OpenFault.TheVariants.{NotADesk, OldSchema, OutOfMemory, Store}
 use Rattle.desk_tables.specs.Content.{IsContent}
 use Rattle.desk_tables.specs.Store.{Stands}
-use Rattle.desk_tables.specs.Tables.{AreTables}
-use Rattle.desk_tables.specs.Opening.{AreSortedByKey, AreRows, IsContentOf, AreNoContent, IsPart, WasCompleted, BeginsWith, ShowsNoDesk, IsNoDesk, HasFailed, BlamesReading, BlamesDatabase, is_memory, open_fault_of}
+use Rattle.desk_tables.specs.Tables.{HasNoOldRows, AreTables}
+use Rattle.desk_tables.specs.Opening.{AreSortedByKey, AreAllRows, HasRowsOld, HasNewRows, HasOldRows, IsContentOf, AreNoContent, IsPart, BeganBlank, WasCompleted, BeginsWith, ShowsNoDesk, ShowsOldRows, IsNoDesk, IsUnmade, HasFailed, BlamesReading, BlamesDatabase, is_memory, open_fault_of}
 use Rattle.desk_tables.proofs.KeyOrderLemmas.{are_rows, are_tables}
 
--- no error of SQLite says that there is no desk
+-- no error of SQLite says that there is no desk, or that there are rows of schema 1
 pub never_no_desk : (e : Error) → open_fault_of e ≢ NotADesk
 never_no_desk e is = by (is_memory e) is
   where
     by : (memory : Bool) → (if memory then OutOfMemory else Store) ≢ NotADesk
+    by true is = cc
+    by false is = cc
+
+pub never_old : (e : Error) → open_fault_of e ≢ OldSchema
+never_old e is = by (is_memory e) is
+  where
+    by : (memory : Bool) → (if memory then OutOfMemory else Store) ≢ OldSchema
     by true is = cc
     by false is = cc
 
@@ -42,6 +50,8 @@ desk_made db made = record {
   schema = made.schema;
   operators = made.rows desk.Operator refl;
   plans = made.rows desk.Plan refl;
+  old_volumes = made.rows desk.OldVolume refl;
+  old_spans = made.rows desk.OldSpan refl;
   volumes = made.rows desk.Volume refl;
   spans = made.rows desk.Span refl;
 }
@@ -53,6 +63,8 @@ made_desk db is = record {
   rows = λ table there. elim table as (λ t. AreNumbered (db.trees (tree_of t))) [
     | desk.Operator ↦ is.operators
     | desk.Plan ↦ is.plans
+    | desk.OldVolume ↦ is.old_volumes
+    | desk.OldSpan ↦ is.old_spans
     | desk.Volume ↦ is.volumes
     | desk.Span ↦ is.spans
   ];
@@ -124,25 +136,31 @@ module _ {S : Type 0} (g : Ghosts S) where
       }
 
   -- rows of no content are no desk's, also before what was kept
-  none_shown : (made : Made) (a b c : Held S) → IsKept g a b → Holds g b (IsMadeTo made) → IsKept g b c
+  none_shown : (made : Made) (a b c : Held S) → IsKept g a b → Holds g b (IsMadeTo made)
+      → Holds g b (HasNewRows made) → IsKept g b c
       → doubt (state g b).is_clean ≤ doubt (state g c).is_clean
       → (HasCleanDisk (state g c) → AreNoContent (tables_at made (state g b).now.trees)) → ShowsNoDesk g a c
-  none_shown made a b c one part two rises none = λ clean live.
+  none_shown made a b c one part new two rises none = λ clean live.
       let after = two clean live in
       let was : HasCleanDisk (state g b) = omega (arith, rises, clean) in
       let before = one was after.was_open in
       subst IsNoDesk before.now
-      (inr (record { made = made; desk = part was after.was_open; none = none clean }))
+      (inr (record {
+        made = made;
+        desk = part was after.was_open;
+        new = new was after.was_open;
+        none = none clean;
+      }))
 
   pub none_of : {V : Type 0} (made : Made) (r : Result V OpenFault) (a b c : Held S) → IsKept g a b
-      → Holds g b (IsMadeTo made) → OnErr r (IsKept g b c)
+      → Holds g b (IsMadeTo made) → Holds g b (HasNewRows made) → OnErr r (IsKept g b c)
       → doubt (state g b).is_clean ≤ doubt (state g c).is_clean
       → (HasCleanDisk (state g c) → IfErr r (λ e. e ≡ NotADesk
       → AreNoContent (tables_at made (state g b).now.trees)))
       → IfErr r (λ e. e ≡ NotADesk → ShowsNoDesk g a c)
-  none_of made (Ok v) a b c one part two rises none = tt
-  none_of made (Err e) a b c one part two rises none =
-      λ n. none_shown made a b c one part two rises (λ clean. none clean n)
+  none_of made (Ok v) a b c one part new two rises none = tt
+  none_of made (Err e) a b c one part new two rises none =
+      λ n. none_shown made a b c one part new two rises (λ clean. none clean n)
 
   -- tables that are completed after what was kept were completed since before
   pub begins_completed : {V : Type 0} (made : Made) (world : V → World) (r : Result V OpenFault)
@@ -162,6 +180,73 @@ module _ {S : Type 0} (g : Ghosts S) where
         whole = it.whole;
         same = it.same ∙ ap (λ (db : Database). tables_at it.made db.trees) before.now;
       }))
+
+-- what is said of an opening since a reading is said of it since before the reading
+module _ {S : Type 0} (g : Ghosts S) (a b c : Held S) (reads : OnlyReads g a b)
+    (rises : doubt (state g b).is_clean ≤ doubt (state g c).is_clean) where
+  same_before : HasCleanDisk (state g c) → IsTrue (state g b).is_open → ShowsAsBefore g a b
+  same_before clean live = reads.kept (omega (arith, rises, clean)) live
+
+  pub begins_then : {V : Type 0} (world : V → World) (r : Result V OpenFault)
+      → (HasCleanDisk (state g c) → OnOk r (IsTrue (state g b).is_open))
+      → IfOk r (λ v. BeginsWith g b c (world v)) → IfOk r (λ v. BeginsWith g a c (world v))
+  begins_then world (Err e) opened begins = tt
+  begins_then world (Ok v) opened begins = λ clean live.
+      let before = same_before clean (opened clean) in
+      elim (begins clean live) [
+        | inl blank ↦ inl (subst (λ db. BeganBlank db (world v)) before.now blank)
+        | inr (inl was) ↦ inr (inl (record {
+          standing = record {
+            content = was.standing.content;
+            desk = subst IsDesk before.now was.standing.desk;
+            tables = subst (λ (db : Database). AreTables (tables_of db.trees) (world v)) before.now
+                was.standing.tables;
+          };
+          kept = record {
+            was_open = before.was_open;
+            now = was.kept.now ∙ before.now;
+            committed = was.kept.committed ∙ before.committed;
+          };
+        }))
+        | inr (inr part) ↦ inr (inr (record {
+          made = part.made;
+          part = subst (IsPart part.made) before.now part.part;
+          rows = subst (λ (db : Database). IsContentOf (tables_at part.made db.trees) (world v)) before.now
+              part.rows;
+          whole = part.whole;
+          same = part.same ∙ ap (λ (db : Database). tables_at part.made db.trees) before.now;
+        }))
+      ]
+
+  pub none_then : {V : Type 0} (r : Result V OpenFault) → OnErr r (IsKept g b c)
+      → IfErr r (λ e. e ≡ NotADesk → ShowsNoDesk g b c) → IfErr r (λ e. e ≡ NotADesk → ShowsNoDesk g a c)
+  none_then (Ok v) kept none = tt
+  none_then (Err e) kept none = λ is clean live.
+      subst IsNoDesk (same_before clean (kept clean live).was_open).now (none is clean live)
+
+  pub cause_then : {V : Type 0} (r : Result V OpenFault) → OnErr r (IsKept g b c)
+      → IfErr r (BlamesDatabase g b c) → IfErr r (BlamesDatabase g a c)
+  cause_then (Ok v) kept cause = tt
+  cause_then (Err e) kept cause = λ clean live told. elim (cause clean live told) [
+    | inl (inl failed) ↦ inl (inl (omega (arith, failed, reads.faults)))
+    | inl (inr limited) ↦ inl (inr (subst IsSome reads.limit limited))
+    | inr unmade ↦ inr (subst IsUnmade (same_before clean (kept clean live).was_open).now unmade)
+  ]
+
+-- rows of schema 1 were there before a reading
+pub old_shown : {S : Type 0} (g : Ghosts S) (made : Made) (a b : Held S) → OnlyReads g a b
+    → Holds g b (IsMadeTo made) → Holds g b (HasRowsOld made true) → ShowsOldRows g a b
+old_shown g made a b reads part old clean live =
+    let before = reads.kept clean live in
+    subst HasOldRows before.now (record { made = made; desk = part clean live; old = old clean live })
+
+-- what was found so still is, after a reading
+pub rows_on : {S : Type 0} (g : Ghosts S) (made : Made) (old : Bool) (b c : Held S) → OnlyReads g b c
+    → (HasCleanDisk (state g c) → old ≡ has_old_rows (tables_at made (state g b).now.trees))
+    → Holds g c (HasRowsOld made old)
+rows_on g made old b c reads value clean live =
+    let before = reads.kept clean live in
+    ap (λ (db : Database). has_old_rows (tables_at made db.trees)) before.now ∙ sym (value clean)
 
 -- what is said of an error, once it is told on
 pub told_as : {V : Type 0} (P : OpenFault → Type 0) (r : Result V OpenFault) (e : OpenFault)
@@ -223,22 +308,40 @@ module _ {S : Type 0} (g : Ghosts S) where
 
 -- what is read in the order of its keys has the tables' content, or theirs is none
 none_there : (t rows : Tables) → AreSortedByKey t rows
-    → ((w : World) → IsContent w → AreRows rows w → ⊥)
+    → ((w : World) → IsContent w → AreAllRows rows w → ⊥)
     → AreNoContent t
 none_there t rows lists none = λ w h are. none w h (are_rows t rows w h are lists)
 
+no_rows : (rows : List Row) → has_rows rows ≡ false → rows ≡ []
+no_rows [] none = refl
+no_rows (r ∷ rows) none = cc
+
+no_old_rows : (t : Tables) → has_old_rows t ≡ false → HasNoOldRows t
+no_old_rows t none =
+    let parts = or_parts (has_rows t.old_volumes) (has_rows t.old_spans) none in record {
+      volumes = no_rows t.old_volumes parts.0;
+      spans = no_rows t.old_spans parts.1;
+    } where
+      or_parts : (a b : Bool) → (a || b) ≡ false → (a ≡ false) × (b ≡ false)
+      or_parts true b h = cc
+      or_parts false b h = (refl, h)
+
+-- a content has no rows of schema 1
+pub old_rows_none : (t : Tables) → HasNoOldRows t → has_old_rows t ≡ false
+old_rows_none t old = λ i. has_rows (old.volumes i) || has_rows (old.spans i)
+
 module _ (t rows : Tables) {V : Type 0} where
-  pub have_content : (world : V → World) (r : Result V OpenFault) → AreSortedByKey t rows
-      → IfOk r (λ v. IsContent (world v) × AreRows rows (world v))
+  pub have_content : (world : V → World) (r : Result V OpenFault) → has_old_rows t ≡ false
+      → AreSortedByKey t rows → IfOk r (λ v. IsContent (world v) × AreAllRows rows (world v))
       → IfOk r (λ v. IsContentOf t (world v))
-  have_content world (Ok v) lists read = record {
+  have_content world (Ok v) new lists read = record {
     content = read.0;
-    tables = are_tables t rows (world v) lists read.1;
+    tables = are_tables t rows (world v) (no_old_rows t new) lists read.1;
   }
-  have_content world (Err e) lists read = tt
+  have_content world (Err e) new lists read = tt
 
   pub of_none : (r : Result V OpenFault) → AreSortedByKey t rows
-      → IfErr r (λ e. e ≡ NotADesk → (w : World) → IsContent w → ¬ AreRows rows w)
+      → IfErr r (λ e. e ≡ NotADesk → (w : World) → IsContent w → ¬ AreAllRows rows w)
       → IfErr r (λ e. e ≡ NotADesk → AreNoContent t)
   of_none (Ok v) lists none = tt
   of_none (Err e) lists none = λ n. none_there t rows lists (none n)
@@ -248,6 +351,9 @@ pub some_operators : (made : Made) → made ≢ Nothing → has_table made desk.
 some_operators Nothing some = absurd (some refl)
 some_operators Operators some = refl
 some_operators Plans some = refl
+some_operators OldVolumes some = refl
+some_operators OldSpans some = refl
+some_operators OldIndex some = refl
 some_operators Volumes some = refl
 some_operators Spans some = refl
 some_operators All some = refl

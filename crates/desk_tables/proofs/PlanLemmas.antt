@@ -10,11 +10,11 @@ use Rattle.sqlite_value.specs.Order.{Row}
 use Rattle.volume4d.specs.Volume.{Block}
 use Rattle.desk_store.specs.World.{Filed, text_cmp, filed_cmp}
 use Rattle.desk_store.specs.laws.Order.{all_weaker, all_append}
-use Rattle.desk_tables.specs.Tables.{id_text, plan_row, plan_rows, volume_row, volume_rows_from, area_rows, volume_rows}
+use Rattle.desk_tables.specs.Tables.{id_text, plan_row, plan_rows, volume_row, rows_from, volume_rows_from, area_rows, volume_rows}
 use Rattle.desk_tables.specs.Content.{IsPlan}
 use Rattle.desk_tables.specs.Records.{IsFiled, AreRowsOf}
 use Rattle.desk_tables.specs.Opening.{ArePlanRows, is_of}
-use Rattle.desk_tables.proofs.RowLemmas.{after_key}
+use Rattle.desk_tables.proofs.RowLemmas.{after_key, after_place, placed}
 use Rattle.desk_tables.proofs.IdLemmas.{text_order}
 use Rattle.desk_tables.proofs.FilterLemmas.{ArePlans, turned}
 use Rattle.desk_tables.proofs.ListingLemmas.{filed_total, own_at}
@@ -46,10 +46,14 @@ pub none_mine : (p q : Filed) (rows : List Row) → IsPlan p.row → IsPlan q.ro
 none_mine p q rows hp hq e keyed = all_weaker (HasKey q) (λ r. of p r ≡ false)
     (λ r k. of_key p q r hp hq k ∙ ap is_eq e) rows keyed
 
+pub placed_keyed : (more : Filed → ℕ → Block → Row) (p : Filed) (n : ℕ) (vs : List Block)
+    → AllByRecursion (HasKey p) (rows_from (placed more) p n vs)
+placed_keyed more p n [] = tt
+placed_keyed more p n (v ∷ vs) = ((after_key (placed more p n v), refl), placed_keyed more p (n + 1) vs)
+
 pub area_keyed : (p : Filed) (n : ℕ) (vs : List Block)
     → AllByRecursion (HasKey p) (volume_rows_from p n vs)
-area_keyed p n [] = tt
-area_keyed p n (v ∷ vs) = ((after_key (volume_row p n v), refl), area_keyed p (n + 1) vs)
+area_keyed = placed_keyed (after_place volume_row)
 
 volumes_of_others : (p : Filed) (qs : List Filed) → IsPlan p.row → ArePlans qs
     → AllByRecursion (λ q. filed_cmp p q ≡ Less) qs

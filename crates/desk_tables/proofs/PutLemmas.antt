@@ -9,11 +9,11 @@ use Rattle.desk_sql.specs.Rows.{Tables, is_of, is_not_of, left_without}
 use Rattle.desk_sql.specs.Batches.{PutsPlan}
 use Rattle.desk_store.specs.World.{Filed, World}
 use Rattle.desk_store.specs.Rows.{is_own}
-use Rattle.desk_tables.specs.Tables.{id_text, plan_row, plan_rows, area_rows, volume_rows, ArePlanSpanRows, AreSpanRows, AreTables}
+use Rattle.desk_tables.specs.Tables.{id_text, plan_row, plan_rows, area_rows, volume_rows, area_covers, cover_rows, ArePlanSpanRows, AreSpanRows, AreTables}
 use Rattle.desk_tables.specs.Content.{IsId, IsPlan, IsContent}
 use Rattle.desk_tables.specs.TableChanges.{PutsRows}
 use Rattle.desk_tables.proofs.RowLemmas.{after_key}
-use Rattle.desk_tables.proofs.FilterLemmas.{ArePlans, own_row, other_row, volumes_filtered, plan_spans_filtered}
+use Rattle.desk_tables.proofs.FilterLemmas.{ArePlans, own_row, other_row, volumes_filtered, covers_filtered, plan_spans_filtered}
 
 abbrev NoneOwn : List ℕ → List ℕ → List Filed → Type 0
 NoneOwn o id ps = AllByRecursion (λ q. not (is_own o id q) ≡ true) ps
@@ -76,17 +76,37 @@ module _ (o id : List ℕ) (tables : Tables) (w : World) (hi : IsId id) (h : IsC
       w.plans
       h.rows ∙ ap volume_rows (filter_all (λ q. not (is_own o id q)) w.plans (absent e)))
 
+  pub covers_left : IsPermutation (filter (is_not_of o (id_text id)) tables.covers)
+      (left_without o (id_text id) tables tables.covers)
+  covers_left = left_is (cover_rows w.plans) tables.covers t.covers
+      (λ e. covers_filtered (λ q. not (is_own o id q)) (is_not_of o (id_text id)) (other_row o id hi)
+      w.plans
+      h.rows ∙ ap cover_rows (filter_all (λ q. not (is_own o id q)) w.plans (absent e)))
+
   pub spans_left : IsPermutation (filter (is_not_of o (id_text id)) tables.spans)
       (left_without o (id_text id) tables tables.spans)
   spans_left = left_is t.spans.0 tables.spans t.spans.2
       (λ e. spans_untouched o id w.plans t.spans.0 hi h.rows (absent e) t.spans.1)
 
+-- of no rows none is left
+none_without : (o text : List ℕ) (tables : Tables) (rows : List Row) → rows ≡ []
+    → left_without o text tables rows ≡ []
+none_without o text tables rows none =
+    by_test (list_any (is_of o text) tables.plans) ∙ none where
+      by_test : (b : Bool) → cond b (filter (is_not_of o text) rows) rows ≡ rows
+      by_test true = ap (filter (is_not_of o text)) none ∙ sym none
+      by_test false = refl
+
 pub put_is_put : (p : Filed) (w : World) (old new : Tables) (spans : List Row) → IsContent w
     → IsPlan p.row
     → AreTables old w → ArePlanSpanRows p spans
-    → PutsPlan p.operator (id_text p.row.id) (plan_row p) (area_rows p) spans old new
+    → PutsPlan p.operator (id_text p.row.id) (plan_row p) (area_rows p) (area_covers p) spans old new
     → PutsRows p old new
 put_is_put p w old new spans h hp t are e = record {
+  no_old = λ none. record {
+    volumes = e.old_volumes ∙ none_without p.operator (id_text p.row.id) old old.old_volumes none.volumes;
+    spans = e.old_spans ∙ none_without p.operator (id_text p.row.id) old old.old_spans none.spans;
+  };
   operators = IsPermutation-same old.operators new.operators (sym e.operators);
   plans = e.plans;
   volumes = IsPermutation-trans (area_rows p ++ filter test old.volumes)
@@ -94,6 +114,11 @@ put_is_put p w old new spans h hp t are e = record {
       (IsPermutation-append_right (area_rows p) (filter test old.volumes)
       (left_without p.operator (id_text p.row.id) old old.volumes)
       (volumes_left p.operator p.row.id old w hp.id h t)) e.with_volumes;
+  covers = IsPermutation-trans (area_covers p ++ filter test old.covers)
+      (area_covers p ++ left_without p.operator (id_text p.row.id) old old.covers) new.covers
+      (IsPermutation-append_right (area_covers p) (filter test old.covers)
+      (left_without p.operator (id_text p.row.id) old old.covers)
+      (covers_left p.operator p.row.id old w hp.id h t)) e.with_covers;
   spans = (
     spans,
     are,

@@ -1,5 +1,5 @@
 -- The rows of a plan of a content can be put, where there is room for them.
-use Rattle.std.proofs.Common.{◌≡◌, ◌+◌, ◌*◌, ℕ, Bool, true, false, MatchBool, not, ◌&&◌, ◌||◌, cond, List, [], ◌∷◌, drop, length, map, Some, refl, sym, ap, subst, ◌∙◌, arith, IsTrue, Less, Equal, Greater}
+use Rattle.std.proofs.Common.{◌≡◌, ◌≤◌, ◌+◌, ◌*◌, ℕ, Bool, true, false, MatchBool, not, ◌&&◌, ◌||◌, cond, List, [], ◌∷◌, drop, length, map, Some, refl, sym, ap, subst, ◌∙◌, arith, IsTrue, Less, Equal, Greater}
 use Rattle.std.specs.Prelude.{IsSome, is_some, nat_le}
 use Rattle.std.specs.Int.{w64, to_be_bytes}
 use Rattle.std.specs.List.{AllByRecursion, find, flat_map, list_all, list_any}
@@ -16,9 +16,10 @@ use Rattle.sqlite_trees.proofs.ListLemmas.{ascending_weaker}
 use Rattle.sqlite.specs.Ops.{is_null}
 use Rattle.sqlite.specs.Effect.{Database}
 use Rattle.s2_cover.specs.declared.spans.Span.{Span}
-use Rattle.volume4d.specs.FootprintBytes.{footprint_bytes}
-use Rattle.volume4d.specs.Limits.{max_cells}
-use Rattle.volume4d.specs.Shape.{Shape, cells, rectangle, is_footprint}
+use Rattle.s2_cover.specs.CanonicalList.{canonical_list}
+use Rattle.volume4d.specs.FootprintBytes.{HasValidParts, footprint_bytes}
+use Rattle.volume4d.specs.Limits.{max_cells, max_cover}
+use Rattle.volume4d.specs.Shape.{Shape, cells, rectangle, is_footprint, shape_positions}
 use Rattle.volume4d.specs.Volume.{Block}
 use Rattle.desk_rules.specs.declared.plan.PlanRow.{PlanRow}
 use Rattle.desk_rules.specs.Name.{is_operator_name}
@@ -32,7 +33,7 @@ use Rattle.desk_store.specs.StoreChange.{IsFitting}
 use Rattle.desk_store.specs.declared.change.Change.TheVariants.{Put}
 use Rattle.desk_store.specs.World.{Filed, Listed, World, ceiling_of, text_cmp}
 use Rattle.desk_store.specs.laws.Order.{all_weaker, all_append}
-use Rattle.desk_tables.specs.Tables.{id_text, operator_row, area_rows, volume_rows_from, span_row, AreSpanRowsFrom, ArePlanSpanRows, AreTables}
+use Rattle.desk_tables.specs.Tables.{id_text, operator_row, area_rows, area_covers, rows_from, volume_rows_from, cover_row, span_row, AreSpanRowsFrom, ArePlanSpanRows, AreTables}
 use Rattle.desk_tables.specs.Content.{IsBlock, IsPlan}
 use Rattle.desk_tables.specs.Causes.{HasRoomForPlan}
 use Rattle.desk_tables.proofs.CauseLemmas.{name_short}
@@ -115,6 +116,16 @@ module _ (p : Filed) (name : IsShort p.operator) (text : IsShort (id_text p.row.
     by_live true k = area_spans_short 0 p.row.area rows k
     by_live false k = subst AreShort (sym k) tt
 
+  -- where a cover has at most so many cells
+  covers_short : ((shape : Shape) → IsTrue (is_footprint shape) → HasValidParts shape
+      → length (canonical_list (shape_positions shape)) ≤ max_cover)
+      → (n : ℕ) (vs : List Block) → AllByRecursion IsBlock vs → AreShort (rows_from cover_row p n vs)
+  covers_short few n [] h = tt
+  covers_short few n (v ∷ vs) h =
+      let count = few v.footprint h.0.limits h.0.valid in
+      let long = id_bytes (canonical_list (shape_positions v.footprint)) in
+      ((name, (text, (tt, (omega (arith, count, long), tt)))), covers_short few (n + 1) vs h.1)
+
 -- ---- how many
 
 volumes_count : (p : Filed) (n : ℕ) (vs : List Block) → length (volume_rows_from p n vs) ≡ length vs
@@ -153,13 +164,17 @@ listed_for operator row w fits = fits.2
 
 -- ---- a put
 
-pub puttable : (operator : List ℕ) (row : PlanRow) (text : List ℕ) (volumes spans : List Row) (w : World)
+pub puttable : ((shape : Shape) → IsTrue (is_footprint shape) → HasValidParts shape
+    → length (canonical_list (shape_positions shape)) ≤ max_cover)
+    → (operator : List ℕ) (row : PlanRow) (text : List ℕ) (volumes covers spans : List Row) (w : World)
     (db : Database) (priority usage aircraft : ℕ) → text ≡ id_text row.id
-    → volumes ≡ area_rows (filed_by operator row) → ArePlanSpanRows (filed_by operator row) spans → IsPlan row
+    → volumes ≡ area_rows (filed_by operator row) → covers ≡ area_covers (filed_by operator row)
+    → ArePlanSpanRows (filed_by operator row) spans → IsPlan row
     → IsTrue (is_operator_name operator) → IsShort text → IsFitting (Put operator row) w
     → AreTables (tables_of db.trees) w → HasRoomForPlan (filed_by operator row) db
-    → IsPuttable operator text (sql.plan_row operator text priority usage aircraft) volumes spans db
-puttable operator row text volumes spans w db priority usage aircraft is are span_rows plan valid short fits
+    → IsPuttable operator text (sql.plan_row operator text priority usage aircraft) volumes covers spans db
+puttable few operator row text volumes covers spans w db priority usage aircraft is are covers_are span_rows
+    plan valid short fits
     tables room =
     let p = filed_by operator row in
     let name = name_short operator valid in
@@ -183,8 +198,9 @@ puttable operator row text volumes spans w db priority usage aircraft is are spa
         own = own_rows p spans (spans_keyed p spans span_rows);
         apart = spans_apart spans (plan_up p spans plan span_rows);
       });
+      short_covers = subst AreShort (sym covers_are) (covers_short p name id_short few 0 row.area plan.each);
       plan_room = room.plan;
-      volume_room = subst (λ rows. HasRoomFor (length rows) (db.trees 4)) (sym are)
-          (subst (λ n. HasRoomFor n (db.trees 4)) (sym (volumes_count p 0 row.area)) room.volumes);
+      volume_room = subst (λ rows. HasRoomFor (length rows) (db.trees 9)) (sym are)
+          (subst (λ n. HasRoomFor n (db.trees 9)) (sym (volumes_count p 0 row.area)) room.volumes);
       span_room = room.spans spans span_rows;
     }

@@ -14,7 +14,7 @@ use Rattle.volume4d.specs.Slabs.{AreVolumeSlabs}
 use Rattle.volume4d.specs.Volume.{Block}
 use Rattle.desk_sql.specs.Rows as sql
 use Rattle.desk_store.specs.World.{Filed}
-use Rattle.desk_tables.specs.Tables.{id_text, volume_row, volume_rows_from, span_row, AreSpanRowsFrom}
+use Rattle.desk_tables.specs.Tables.{id_text, rows_from, volume_row, volume_rows_from, canon_bytes, cover_row, span_row, AreSpanRowsFrom}
 use Rattle.desk_tables.specs.PlanRows.{volume_record, slab_record}
 
 -- two lists that are shown alike are alike at each place
@@ -45,14 +45,27 @@ length_taken (v ∷ vs) (suc i) h = let more : length (take i vs) ≡ i =
 
 -- ---- volumes
 
-volumes_more : (p : Filed) (n : ℕ) (us : List Block) (v : Block) → volume_rows_from p n (us ++ v ∷ [])
-    ≡ volume_rows_from p n us ++ volume_row p (n + length us) v ∷ []
-volumes_more p n [] v = let none : n ≡ n + length {A = Block} [] = omega arith
-    in ap (λ m. volume_row p m v ∷ []) none
-volumes_more p n (u ∷ us) v =
+rows_more : (row : Filed → ℕ → Block → Row) (p : Filed) (n : ℕ) (us : List Block) (v : Block)
+    → rows_from row p n (us ++ v ∷ []) ≡ rows_from row p n us ++ row p (n + length us) v ∷ []
+rows_more row p n [] v = let none : n ≡ n + length {A = Block} [] = omega arith
+    in ap (λ m. row p m v ∷ []) none
+rows_more row p n (u ∷ us) v =
     let next : (n + 1) + length us ≡ n + length (u ∷ us) = omega arith in
-    ap (λ rows. volume_row p n u ∷ rows) (volumes_more p (n + 1) us v
-    ∙ ap (λ m. volume_rows_from p (n + 1) us ++ volume_row p m v ∷ []) next)
+    ap (λ rows. row p n u ∷ rows) (rows_more row p (n + 1) us v
+    ∙ ap (λ m. rows_from row p (n + 1) us ++ row p m v ∷ []) next)
+
+-- the row of the next volume is put after those so far
+row_put : (row : Filed → ℕ → Block → Row) (p : Filed) (vs : List Block) (i place : ℕ) (v d : Block)
+    (rows : List Row) (next : Row) → i < length vs → v ≡ get_or vs i d → place ≡ i
+    → rows ≡ rows_from row p 0 (take i vs) → ((n : ℕ) → place ≡ n → next ≡ row p n v)
+    → rows ++ next ∷ [] ≡ rows_from row p 0 (take (i + 1) vs)
+row_put row p vs i place v d rows next h is at before put =
+    let there : place ≡ 0 + length (take i vs) = at ∙ sym (length_taken vs i h)
+    ∙ zeros (length (take i vs)) in
+    (λ j. before j ++ put (0 + length (take i vs)) there j ∷ [])
+    ∙ sym (rows_more row p 0 (take i vs) v) ∙ ap (rows_from row p 0) (sym (taken vs i v d h is)) where
+      zeros : (n : ℕ) → n ≡ 0 + n
+      zeros n = omega arith
 
 pub volume_put : (p : Filed) (vs : List Block) (i place : ℕ) (v d : Block) (rows : List Row) (row : Row)
     (text : List ℕ) (asked : List ℕ) → i < length vs → v ≡ get_or vs i d → place ≡ i → text
@@ -61,13 +74,18 @@ pub volume_put : (p : Filed) (vs : List Block) (i place : ℕ) (v d : Block) (ro
     ≡ volume_record p.operator text place v.window asked → rows ++ row ∷ []
     ≡ volume_rows_from p 0 (take (i + 1) vs)
 volume_put p vs i place v d rows row text asked h is at named bytes before put =
-    let there : place ≡ 0 + length (take i vs) = at ∙ sym (length_taken vs i h)
-    ∙ zeros (length (take i vs)) in
-    (λ j. before j ++ (put ∙ (λ k. volume_record p.operator (named k) (there k) v.window (bytes k))) j
-    ∷ [])
-    ∙ sym (volumes_more p 0 (take i vs) v) ∙ ap (volume_rows_from p 0) (sym (taken vs i v d h is)) where
-      zeros : (n : ℕ) → n ≡ 0 + n
-      zeros n = omega arith
+    row_put volume_row p vs i place v d rows row h is at before
+    (λ n there. put ∙ (λ k. volume_record p.operator (named k) (there k) v.window (bytes k)))
+
+pub cover_put : (p : Filed) (vs : List Block) (i place : ℕ) (v d : Block) (rows : List Row) (row : Row)
+    (text : List ℕ) (canon : List ℕ) → i < length vs → v ≡ get_or vs i d → place ≡ i → text
+    ≡ id_text p.row.id
+    → canon ≡ canon_bytes v.footprint → rows ≡ rows_from cover_row p 0 (take i vs) → row
+    ≡ sql.cover_row p.operator text place canon → rows ++ row ∷ []
+    ≡ rows_from cover_row p 0 (take (i + 1) vs)
+cover_put p vs i place v d rows row text canon h is at named bytes before put =
+    row_put cover_row p vs i place v d rows row h is at before
+    (λ n there. put ∙ (λ k. sql.cover_row p.operator (named k) (there k) (bytes k)))
 
 -- ---- spans
 

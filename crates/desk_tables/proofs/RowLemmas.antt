@@ -1,6 +1,6 @@
 -- The rows of a world ascend in each table, so a table's rows in that order are one list.
 use Rattle.std.proofs.Common.{◌≡◌, ℕ, ℤ, pos, zero, suc, ◌+◌, ◌<◌, ◌≤◌, Bool, true, false, List, [], ◌∷◌, ◌++◌, drop, map, length, refl, sym, ap, subst, ◌∙◌, arith, Less, Equal, Greater, is_lt, IsPermutation, IsSorted, IsTrue}
-use Rattle.std.specs.List.{AllByRecursion}
+use Rattle.std.specs.List.{AllByRecursion, flat_map}
 use Rattle.std.specs.List.Sorted.{IsStrictlySortedBy}
 use Rattle.std.specs.Ordering.{ordering_then, ordering_reverse, int_cmp}
 use Rattle.std.proofs.lemmas.Cmp.{tied_itself}
@@ -14,13 +14,25 @@ use Rattle.sqlite_keyed.proofs.ListLemmas.{all_map, all_weaker, ascending-append
 use Rattle.sqlite_keyed.proofs.SortLemmas.{sorted_unique}
 use Rattle.volume4d.specs.Volume.{Block}
 use Rattle.desk_store.specs.World.{Filed, Listed, text_cmp, listed_cmp, filed_cmp}
-use Rattle.desk_tables.specs.Tables.{id_text, operator_row, plan_row, plan_rows, volume_row, volume_rows_from, area_rows, volume_rows}
+use Rattle.desk_tables.specs.Tables.{id_text, operator_row, plan_row, plan_rows, volume_row, rows_from, volume_rows_from, area_rows, volume_rows}
 use Rattle.desk_tables.specs.Content.{IsPlan}
 use Rattle.desk_tables.proofs.IdLemmas.{text_order, then_then}
 
 -- what a row has after its operator and its id
 abbrev pub after_key : Row → Row
 after_key r = drop 2 r
+
+-- the row of a volume at a place, which begins with its plan's key and its place
+abbrev pub placed : (Filed → ℕ → Block → Row) → Filed → ℕ → Block → Row
+placed more p n v = Text p.operator ∷ Text (id_text p.row.id) ∷ Int (pos n) ∷ more p n v
+
+-- such rows of all volumes of plans
+abbrev pub placed_rows : (Filed → ℕ → Block → Row) → List Filed → List Row
+placed_rows more ps = flat_map (λ p. rows_from (placed more) p 0 p.row.area) ps
+
+-- what a row of `volume` has after the place, and what a cover's has
+abbrev pub after_place : (Filed → ℕ → Block → Row) → Filed → ℕ → Block → Row
+after_place row p n v = drop 3 (row p n v)
 
 -- a row comes before another
 abbrev pub Below : Row → Row → Type 0

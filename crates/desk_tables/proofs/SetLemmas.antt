@@ -77,9 +77,14 @@ any_named name (l ∷ ls) = λ i. named_row name l i || any_named name ls i
 pub operator_is_put : (name : List ℕ) (ceiling : ℕ) (w : World) (old new : Tables) → IsContent w
     → AreTables old w → PutsOperator name ceiling old new → EnrolsRows name ceiling old new
 operator_is_put name ceiling w old new h t e = record {
+  no_old = λ none. record {
+    volumes = ap (λ x. x.old_volumes) e.1 ∙ none.volumes;
+    spans = ap (λ x. x.old_spans) e.1 ∙ none.spans;
+  };
   operators = by_test (list_any (sql.is_by name) old.operators) refl e.0;
   plans = IsPermutation-same old.plans new.plans (sym (ap (λ x. x.plans) e.1));
   volumes = IsPermutation-same old.volumes new.volumes (sym (ap (λ x. x.volumes) e.1));
+  covers = IsPermutation-same old.covers new.covers (sym (ap (λ x. x.covers) e.1));
   spans = IsPermutation-same old.spans new.spans (sym (ap (λ x. x.spans) e.1));
 } where
   kept : IsPermutation (sql.operator_row name ceiling

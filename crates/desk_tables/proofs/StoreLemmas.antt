@@ -17,7 +17,7 @@ use Rattle.sqlite.specs.State.{HasCleanDisk}
 use Rattle.sqlite.specs.Held.{Held, state}
 use Rattle.desk_sql.specs.Rows as sql
 use Rattle.desk_sql.specs.Rows.{Tables, IsDesk, Lists, tables_of}
-use Rattle.desk_sql.specs.Effects.{IsReady, Commits}
+use Rattle.desk_sql.specs.Effects.{IsReady, IsKept, Commits}
 use Rattle.desk_sql.specs.Frames.{OnlyReads}
 use Rattle.desk_sql.specs.Making.{Completes}
 use Rattle.desk_sql.specs.Rows.{no_rows}
@@ -49,6 +49,21 @@ module _ {S : Type 0} (g : Ghosts S) (old new : Held S) (w : World) (stood : Sta
             desk = subst IsDesk (sym shows.now) before.desk;
             tables = subst (λ db. AreTables (tables_of db.trees) w) (sym shows.now) before.tables;
           }
+
+  -- so does a refusal that keeps what was there
+  pub kept_stands : new.in_transaction ≡ false → doubt (state g old).is_clean ≤ doubt (state g new).is_clean
+      → IsKept g old new → Stands g new w
+  kept_stands settled rises kept = record {
+    settled = settled;
+    standing = λ clean live.
+        let shows = kept clean live in
+        let before = stood.standing (omega (arith, rises, clean)) shows.was_open in
+        record {
+          content = before.content;
+          desk = subst IsDesk (sym shows.now) before.desk;
+          tables = subst (λ db. AreTables (tables_of db.trees) w) (sym shows.now) before.tables;
+        };
+  }
 
   -- and answers from what stands
   pub stood_then : {V E : Type 0} (r : Result V E) → OnOk r (IsTrue (state g old).is_open)
@@ -190,9 +205,11 @@ nothing_is_content = record {
 
 nothing_has_no_rows : AreTables no_rows nothing
 nothing_has_no_rows = record {
+  old = record { volumes = refl; spans = refl };
   operators = IsPermutation-refl [];
   plans = IsPermutation-refl [];
   volumes = IsPermutation-refl [];
+  covers = IsPermutation-refl [];
   spans = ([], refl, IsPermutation-refl []);
 }
 

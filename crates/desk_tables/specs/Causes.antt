@@ -17,15 +17,15 @@ use Rattle.desk_store.specs.declared.fault.StoreFault.TheVariants.{Store}
 use Rattle.desk_tables.specs.Opening.{HasFailed}
 use Rattle.desk_tables.specs.Tables.{ArePlanSpanRows}
 
--- `span` has 2 ^ 64 - 1 rows and more
+-- `span2` has 2 ^ 64 - 1 rows and more
 abbrev pub HasTooManySpans : Database → Type 0
 HasTooManySpans db = 2 ^ 64 - 1 ≤ length (tables_of db.trees).spans
 
 -- rowids are left for a plan's row, and for those of its volumes and spans
 pub record HasRoomForPlan (p : Filed) (db : Database) : Type 0 where
   pub plan : HasRoomFor 1 (db.trees 2)
-  pub volumes : HasRoomFor (length p.row.area) (db.trees 4)
-  pub spans : (rows : List Row) → ArePlanSpanRows p rows → HasRoomFor (length rows) (db.trees 6)
+  pub volumes : HasRoomFor (length p.row.area) (db.trees 9)
+  pub spans : (rows : List Row) → ArePlanSpanRows p rows → HasRoomFor (length rows) (db.trees 11)
 
 module _ {S : Type 0} (g : Ghosts S) (old new : Held S) where
   -- over an open connection a fault of the store's own is the disk's, or the connection allows a statement

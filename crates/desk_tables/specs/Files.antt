@@ -1,5 +1,5 @@
 -- What a store over files begins with, and why files are refused.
-use Rattle.std.specs.Prelude.{◌≡◌, [], Result, Ok, Err, ⊤}
+use Rattle.std.specs.Prelude.{◌≡◌, ◌≢◌, ℕ, [], Result, Ok, Err, ⊤}
 use Rattle.sqlite_disk.specs.declared.Disk as disk
 use Rattle.sqlite_wal.specs.Recovery.{Image}
 use Rattle.sqlite_store.specs.declared.store.FileStore.{FileStore}
@@ -10,9 +10,10 @@ use Rattle.sqlite.specs.Start.{FindsIn}
 use Rattle.desk_sql.specs.Effects.{IsKept}
 use Rattle.desk_store.specs.World.{World}
 use Rattle.desk_tables.specs.declared.opening.open.OpenFault.{OpenFault}
-use Rattle.desk_tables.specs.declared.opening.open.OpenFault.TheVariants.{NotADesk}
+use Rattle.desk_tables.specs.declared.opening.open.OpenFault.TheVariants.{NotADesk, OldSchema}
 use Rattle.desk_tables.specs.Store.{Shown}
-use Rattle.desk_tables.specs.Opening.{BeginsWith, ShowsNoDesk, BlamesDatabase}
+use Rattle.desk_tables.specs.Opening.{BeginsWith, ShowsNoDesk, ShowsOldRows, BlamesDatabase}
+use Rattle.desk_tables.specs.Moving.{BeginsMoved, KeepsRows, ShowsNoContent}
 
 -- the files that there are where nothing was
 abbrev pub no_files : Image
@@ -37,13 +38,14 @@ module _ {D : Type 0} (g : disk.Ghosts D) (image : Image) (e : OpenFault) where
     pub opened : HasCleanDisk (file_state left) → FindsFirst image found
     pub fresh : IsNew found
     pub none : e ≡ NotADesk → ShowsNoDesk (over_files {D = D} {g = g}) found left
+    pub old : e ≡ OldSchema → ShowsOldRows (over_files {D = D} {g = g}) found left
     pub cause : BlamesDatabase (over_files {D = D} {g = g}) found left e
     pub kept : IsKept (over_files {D = D} {g = g}) found left
 
-  -- that the files hold no desk is told only of what a connection found in them. Of another fault nothing is
-  -- said: files may be refused before anything in them is read
+  -- that the files hold no desk, or rows of schema 1, is told only of what a connection found in them. Of
+  -- another fault nothing is said: files may be refused before anything in them is read
   abbrev pub FailsAs : Type 0
-  FailsAs = e ≡ NotADesk → IsRefusedIn
+  FailsAs = (e ≡ NotADesk → IsRefusedIn) × (e ≡ OldSchema → IsRefusedIn)
 
 -- a store over files, or why there is none
 abbrev pub Opened : (D : Type 0) → disk.Ghosts D → Type 0
@@ -53,3 +55,35 @@ Opened D g = Result (Shown (FileStore D g)) OpenFault
 abbrev pub FailsIn : {D : Type 0} {g : disk.Ghosts D} → Image → Opened D g → Type 0
 FailsIn {D} {g} image (Ok store) = ⊤
 FailsIn {D} {g} image (Err e) = FailsAs g image e
+
+-- ---- files that may hold rows of schema 1
+
+module _ {D : Type 0} {g : disk.Ghosts D} where
+  -- a connection finds the database of the files, and the store begins with what that connection shows, from
+  -- which so many plans were moved
+  pub record OpensMoved (image : Image) (h : Held (FileStore D g)) (w : World) (count : ℕ) : Type 0 where
+    pub found : Held (FileStore D g)
+    pub opened : HasCleanDisk (file_state h) → FindsFirst image found
+    pub begins : BeginsMoved (over_files {D = D} {g = g}) found h w count
+
+module _ {D : Type 0} (g : disk.Ghosts D) (image : Image) where
+  -- a connection finds the database of the files, and its rows, which are kept, are no content's in either
+  -- schema
+  pub record ShowsNeither : Type 0 where
+    pub found : Held (FileStore D g)
+    pub left : Held (FileStore D g)
+    pub opened : HasCleanDisk (file_state left) → FindsFirst image found
+    pub fresh : IsNew found
+    pub none : ShowsNoContent (over_files {D = D} {g = g}) found left
+    pub kept : KeepsRows (over_files {D = D} {g = g}) found left
+
+  -- why no store comes of files that may hold rows of schema 1
+  pub record FailsMovingAs (e : OpenFault) : Type 0 where
+    pub none : e ≡ NotADesk → ShowsNeither
+    pub newer : e ≢ OldSchema
+
+-- the fault, if there is one
+abbrev pub FailsMoving :
+    {D : Type 0} {g : disk.Ghosts D} → Image → Result (Shown (FileStore D g) × ℕ) OpenFault → Type 0
+FailsMoving {D} {g} image (Ok moved) = ⊤
+FailsMoving {D} {g} image (Err e) = FailsMovingAs g image e

@@ -19,7 +19,7 @@ use Rattle.desk_tables.specs.Tables.{AreTables}
 use Rattle.desk_tables.specs.Content.{IsContent}
 use Rattle.desk_tables.specs.declared.opening.open.OpenFault.{OpenFault}
 use Rattle.desk_tables.specs.declared.opening.open.OpenFault.TheVariants.{OutOfMemory}
-use Rattle.desk_tables.specs.Opening.{IsUnmade, IsNoDesk}
+use Rattle.desk_tables.specs.Opening.{IsUnmade, IsNoDesk, HasOldRows}
 use Rattle.desk_tables.specs.Files.{FindsFirst, OpensIn, IsRefusedIn}
 
 -- the trees are a desk's, list and obey its schema, and their rows are those of the content
@@ -67,7 +67,7 @@ module _ {D : Type 0} {g : disk.Ghosts D} where
 
 -- what a start does not take for a desk's tables as they are
 abbrev pub IsUntaken : Database → Type 0
-IsUntaken db = IsUnmade db ⊎ IsNoDesk db
+IsUntaken db = IsUnmade db ⊎ (IsNoDesk db ⊎ HasOldRows db)
 
 module _ {D E : Type 0} {g : disk.Ghosts D} {k : disk.Ghosts E} (last : Held (FileStore D g)) where
   -- a start finds the database in such files

@@ -11,6 +11,7 @@ pub mod Store
 pub mod Lengths
 pub mod Records
 pub mod Opening
+pub mod Moving
 pub mod Causes
 pub mod Files
 pub mod Leaving

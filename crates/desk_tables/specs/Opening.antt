@@ -20,17 +20,17 @@ use Rattle.desk_sql.specs.Schema.{blank_schema}
 use Rattle.desk_sql.specs.Finding.{HasOthers}
 use Rattle.desk_sql.specs.declared.opening.finding.Made.{Made}
 use Rattle.desk_sql.specs.declared.opening.finding.Made.TheVariants.{All}
-use Rattle.desk_sql.specs.Rows.{IsDesk, IsMadeTo, Tables, Lists, tables_of, tables_at}
+use Rattle.desk_sql.specs.Rows.{IsDesk, IsMadeTo, Tables, Lists, tables_of, tables_at, has_old_rows}
 use Rattle.desk_sql.specs.Refusals.{HasDiskFailed, IsMisnumbered}
 use Rattle.desk_sql.specs.Effects.{ShowsAsBefore}
 use Rattle.desk_store.specs.World.{Filed, Listed, World, IsListed, text_cmp, listed_cmp, filed_cmp, rows_by}
-use Rattle.desk_tables.specs.Tables.{operator_row, operator_rows, plan_rows, volume_rows, AreSpanRows}
+use Rattle.desk_tables.specs.Tables.{operator_row, operator_rows, plan_rows, volume_rows, cover_rows, AreSpanRows}
 use Rattle.desk_tables.specs.Tables.{AreTables}
 use Rattle.desk_tables.specs.Content.{IsContent}
 use Rattle.desk_tables.specs.declared.opening.exact.RowFault.{RowFault}
 use Rattle.desk_tables.specs.declared.opening.exact.RowFault.TheVariants as row
 use Rattle.desk_tables.specs.declared.opening.open.OpenFault.{OpenFault}
-use Rattle.desk_tables.specs.declared.opening.open.OpenFault.TheVariants.{OutOfMemory, Store, NotADesk}
+use Rattle.desk_tables.specs.declared.opening.open.OpenFault.TheVariants.{OutOfMemory, Store, NotADesk, OldSchema}
 use Rattle.desk_tables.specs.Records.{IsOperator, IsFiled}
 use Rattle.desk_tables.specs.Store.{IsStanding}
 
@@ -39,6 +39,7 @@ abbrev pub fault_text : OpenFault → List ℕ
 fault_text OutOfMemory = codes "out of memory"
 fault_text Store = codes "the database failed"
 fault_text NotADesk = codes "the tables are not a desk's"
+fault_text OldSchema = codes "the tables are of schema 1"
 
 abbrev pub is_memory : Error → Bool
 is_memory (SqliteFailure code.OutOfMemory) = true
@@ -89,12 +90,17 @@ pub record AreAgreed (ls : List Listed) (ps : List Filed) (rows : List Row) : Ty
   pub shared : AreShared ls ps
   pub spans : AreSpanRows ps rows
 
--- the tables, each in the order of its key, have the rows of the world in that order
+-- the tables, each in the order of its key, have the rows of the world in that order, but for the covers
 pub record AreRows (t : Tables) (w : World) : Type 0 where
   pub operator_part : t.operators ≡ operator_rows w
   pub plan_part : t.plans ≡ plan_rows w.plans
   pub volume_part : t.volumes ≡ volume_rows w.plans
   pub span_part : AreSpanRows w.plans t.spans
+
+-- and its covers
+pub record AreAllRows (t : Tables) (w : World) : Type 0 where
+  pub rows : AreRows t w
+  pub covers : t.covers ≡ cover_rows w.plans
 
 -- an element is below the first of a list, if there is one
 abbrev pub is_below_first : {X : Type 0} → (X → X → Ordering) → X → List X → Bool
@@ -106,6 +112,7 @@ pub record AreSortedByKey (t rows : Tables) : Type 0 where
   pub operator_part : Lists (0 ∷ []) t.operators rows.operators
   pub plan_part : Lists (0 ∷ 1 ∷ []) t.plans rows.plans
   pub volume_part : Lists (0 ∷ 1 ∷ 2 ∷ []) t.volumes rows.volumes
+  pub cover_part : Lists (0 ∷ 1 ∷ 2 ∷ []) t.covers rows.covers
   pub span_part : Lists (0 ∷ 1 ∷ 2 ∷ 3 ∷ []) t.spans rows.spans
 
 -- ---- what a store begins with
@@ -142,15 +149,29 @@ pub record WasCompleted {S : Type 0} (g : Ghosts S) (old new : Held S) (w : Worl
   pub whole : IsDesk (state g new).now
   pub same : tables_of (state g new).now.trees ≡ tables_at made (state g old).now.trees
 
--- a desk's tables, so far as they are made, and rows of no content
+-- a desk's tables, so far as they are made, with no row of schema 1, and rows of no content
 pub record HasNoContent (db : Database) : Type 0 where
   pub made : Made
   pub desk : IsMadeTo made db
+  pub new : has_old_rows (tables_at made db.trees) ≡ false
   pub none : AreNoContent (tables_at made db.trees)
 
 -- the schema is another than a desk's, or the rows are those of no content
 abbrev pub IsNoDesk : Database → Type 0
 IsNoDesk db = HasOthers db ⊎ HasNoContent db
+
+-- a desk's tables, so far as they are made, with a row in those of schema 1
+pub record HasOldRows (db : Database) : Type 0 where
+  pub made : Made
+  pub desk : IsMadeTo made db
+  pub old : has_old_rows (tables_at made db.trees) ≡ true
+
+-- whether there are rows of schema 1
+abbrev pub HasRowsOld : Made → Bool → Database → Type 0
+HasRowsOld made old db = has_old_rows (tables_at made db.trees) ≡ old
+
+abbrev pub HasNewRows : Made → Database → Type 0
+HasNewRows made = HasRowsOld made false
 
 -- some of a desk's tables, or the index, were to be made, or the rowids of a desk's are not those of a sound
 -- one
@@ -167,6 +188,10 @@ module _ {S : Type 0} (g : Ghosts S) (old new : Held S) where
   -- what is shown is no desk's
   abbrev pub ShowsNoDesk : Type 0
   ShowsNoDesk = HasCleanDisk (state g new) → IsTrue (state g new).is_open → IsNoDesk (state g old).now
+
+  -- what is shown has rows of schema 1
+  abbrev pub ShowsOldRows : Type 0
+  ShowsOldRows = HasCleanDisk (state g new) → IsTrue (state g new).is_open → HasOldRows (state g old).now
 
   -- the disk failed meanwhile, or the connection allows a statement but few steps
   abbrev pub HasFailed : Type 0

@@ -5,11 +5,16 @@ use Rattle.desk_sql.specs.Rows as sql
 use Rattle.volume4d.specs.FootprintBytes.{footprint_bytes}
 use Rattle.volume4d.specs.Volume.{Block}
 use Rattle.volume4d.specs.Windows.{WindowParts}
+use Rattle.desk_tables.specs.Tables.{canon_bytes}
 use Rattle.volume4d.specs.declared.slab.Slab.{Slab}
 
 -- the bytes of each volume's footprint
 abbrev pub AreAskedOf : List Block → List (List ℕ) → Type 0
 AreAskedOf volumes asked = asked ≡ map (λ v. footprint_bytes v.footprint) volumes
+
+-- the bytes of each volume's canonical cover
+abbrev pub AreCanonOf : List Block → List (List ℕ) → Type 0
+AreCanonOf volumes canon = canon ≡ map (λ v. canon_bytes v.footprint) volumes
 
 abbrev pub volume_record : List ℕ → List ℕ → ℕ → WindowParts → List ℕ → Row
 volume_record operator id place w asked = sql.volume_row operator id place w.lower w.upper w.start w.end asked

@@ -11,7 +11,7 @@ use Rattle.desk_store.specs.World.{Filed}
 use Rattle.desk_store.specs.Changes.{filed_by}
 use Rattle.desk_store.specs.declared.change.Change.{Change}
 use Rattle.desk_store.specs.declared.change.Change.TheVariants.{Enrol, Put, Close, Clear}
-use Rattle.desk_tables.specs.Tables.{id_text, usage_number, plan_row, area_rows, ArePlanSpanRows}
+use Rattle.desk_tables.specs.Tables.{id_text, usage_number, plan_row, area_rows, area_covers, ArePlanSpanRows, HasNoOldRows}
 use Rattle.desk_tables.specs.Content.{IsId, IsPlan}
 
 -- a row of none of an operator's plans of these ids
@@ -29,35 +29,44 @@ closed_if operator id row =
 
 -- the operator's row is put in place of the one of its name, or added
 pub record EnrolsRows (name : List ℕ) (ceiling : ℕ) (old new : Tables) : Type 0 where
+  pub no_old : HasNoOldRows old → HasNoOldRows new
   pub operators :
       IsPermutation (operator_row name ceiling ∷ filter (λ r. not (is_by name r)) old.operators) new.operators
   pub plans : IsPermutation old.plans new.plans
   pub volumes : IsPermutation old.volumes new.volumes
+  pub covers : IsPermutation old.covers new.covers
   pub spans : IsPermutation old.spans new.spans
 
 -- the plan's rows are put in place of those of its key
 pub record PutsRows (p : Filed) (old new : Tables) : Type 0 where
+  pub no_old : HasNoOldRows old → HasNoOldRows new
   pub operators : IsPermutation old.operators new.operators
   pub plans :
       IsPermutation (plan_row p ∷ filter (is_not_of p.operator (id_text p.row.id)) old.plans) new.plans
   pub volumes :
       IsPermutation (area_rows p ++ filter (is_not_of p.operator (id_text p.row.id)) old.volumes) new.volumes
+  pub covers :
+      IsPermutation (area_covers p ++ filter (is_not_of p.operator (id_text p.row.id)) old.covers) new.covers
   pub spans :
       (rows : List Row) × ArePlanSpanRows p rows
       × IsPermutation (rows ++ filter (is_not_of p.operator (id_text p.row.id)) old.spans) new.spans
 
 -- the plan's row is closed, and its spans are taken out
 pub record ClosesRows (operator id : List ℕ) (old new : Tables) : Type 0 where
+  pub no_old : HasNoOldRows old → HasNoOldRows new
   pub operators : IsPermutation old.operators new.operators
   pub plans : IsPermutation (map (closed_if operator id) old.plans) new.plans
   pub volumes : IsPermutation old.volumes new.volumes
+  pub covers : IsPermutation old.covers new.covers
   pub spans : IsPermutation (filter (is_not_of operator (id_text id)) old.spans) new.spans
 
 -- the rows of the plans are taken out
 pub record ClearsRows (operator : List ℕ) (ids : List (List ℕ)) (old new : Tables) : Type 0 where
+  pub no_old : HasNoOldRows old → HasNoOldRows new
   pub operators : IsPermutation old.operators new.operators
   pub plans : IsPermutation (filter (is_left operator ids) old.plans) new.plans
   pub volumes : IsPermutation (filter (is_left operator ids) old.volumes) new.volumes
+  pub covers : IsPermutation (filter (is_left operator ids) old.covers) new.covers
   pub spans : IsPermutation (filter (is_left operator ids) old.spans) new.spans
 
 unfoldable pub ChangesRows : Change → Tables → Tables → Type 0

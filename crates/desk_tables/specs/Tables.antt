@@ -1,6 +1,7 @@
--- The rows of a world in the four tables of schema 1.
+-- The rows of a world in the tables of schema 2.
 use Rattle.std.specs.Prelude.{◌≡◌, ℕ, ◌+◌, pos, List, [], ◌∷◌, ◌++◌, map, MatchBool}
 use Rattle.std.specs.List.{flat_map}
+use Rattle.std.specs.Int.{w64, to_be_bytes}
 use Rattle.std.specs.List.Sorted.{IsPermutation}
 use Rattle.uuid.specs.Text.{hyphenated_text, lower}
 use Rattle.sqlite_value.specs.Order.{Row}
@@ -8,8 +9,9 @@ use Rattle.desk_sql.specs.Rows as sql
 use Rattle.desk_sql.specs.Rows.{Tables}
 use Rattle.s2_cover.specs.declared.spans.Span.{Span}
 use Rattle.s2_cover.specs.Ranges.{IsRanges}
+use Rattle.s2_cover.specs.CanonicalList.{canonical_list}
 use Rattle.volume4d.specs.FootprintBytes.{footprint_bytes}
-use Rattle.volume4d.specs.Shape.{shape_positions}
+use Rattle.volume4d.specs.Shape.{Shape, shape_positions}
 use Rattle.volume4d.specs.Volume.{Block}
 use Rattle.desk_rules.specs.declared.words.Usage.{Usage}
 use Rattle.desk_rules.specs.declared.words.Usage.TheVariants as usage
@@ -48,6 +50,14 @@ volume_row p place v =
     (id_text p.row.id) place v.window.lower v.window.upper v.window.start v.window.end
     (footprint_bytes v.footprint)
 
+-- the ids of the canonical cover of a footprint's leaves, ascending, each as eight bytes, the most
+-- significant first
+abbrev pub canon_bytes : Shape → List ℕ
+canon_bytes shape = flat_map (λ id. to_be_bytes w64 id) (canonical_list (shape_positions shape))
+
+abbrev pub cover_row : Filed → ℕ → Block → Row
+cover_row p place v = sql.cover_row p.operator (id_text p.row.id) place (canon_bytes v.footprint)
+
 abbrev pub span_row : Filed → ℕ → Block → Span → Row
 span_row p place v span =
     sql.span_row p.operator (id_text p.row.id) place (pos span.first)
@@ -60,16 +70,26 @@ operator_rows w = map operator_row w.operators
 abbrev pub plan_rows : List Filed → List Row
 plan_rows ps = map plan_row ps
 
--- the places of an area's volumes go up from a first one
+-- a row for each volume of an area, whose places go up from a first one
+abbrev pub rows_from : (Filed → ℕ → Block → Row) → Filed → ℕ → List Block → List Row
+rows_from row p place [] = []
+rows_from row p place (v ∷ vs) = row p place v ∷ rows_from row p (place + 1) vs
+
 abbrev pub volume_rows_from : Filed → ℕ → List Block → List Row
-volume_rows_from p place [] = []
-volume_rows_from p place (v ∷ vs) = volume_row p place v ∷ volume_rows_from p (place + 1) vs
+volume_rows_from = rows_from volume_row
 
 abbrev pub area_rows : Filed → List Row
 area_rows p = volume_rows_from p 0 p.row.area
 
 abbrev pub volume_rows : List Filed → List Row
 volume_rows ps = flat_map area_rows ps
+
+-- the covers of a plan's volumes, by place, and those of plans one after the other
+abbrev pub area_covers : Filed → List Row
+area_covers p = rows_from cover_row p 0 p.row.area
+
+abbrev pub cover_rows : List Filed → List Row
+cover_rows ps = flat_map area_covers ps
 
 -- one row for each range of the leaves of each volume
 abbrev pub AreSpanRowsFrom : Filed → ℕ → List Block → List Row → Type 0
@@ -87,9 +107,16 @@ AreSpanRows [] rows = rows ≡ []
 AreSpanRows (p ∷ ps) rows =
     (front rest : List Row) × (rows ≡ front ++ rest) × ArePlanSpanRows p front × AreSpanRows ps rest
 
+-- the tables that schema 1 has and schema 2 doesn't use have no row
+pub record HasNoOldRows (tables : Tables) : Type 0 where
+  pub volumes : tables.old_volumes ≡ []
+  pub spans : tables.old_spans ≡ []
+
 -- up to order, the tables have exactly the rows of the world
 pub record AreTables (tables : Tables) (w : World) : Type 0 where
+  pub old : HasNoOldRows tables
   pub operators : IsPermutation (operator_rows w) tables.operators
   pub plans : IsPermutation (plan_rows w.plans) tables.plans
   pub volumes : IsPermutation (volume_rows w.plans) tables.volumes
+  pub covers : IsPermutation (cover_rows w.plans) tables.covers
   pub spans : (rows : List Row) × AreSpanRows w.plans rows × IsPermutation rows tables.spans

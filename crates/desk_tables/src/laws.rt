@@ -13,7 +13,7 @@ ghost use Rattle.desk_store.specs.World.{Filed, World, text_cmp};
 ghost use Rattle.desk_store.specs.StoreChange.{changed_by, IsFitting};
 ghost use Rattle.desk_store.specs.declared.change.Change.{Change};
 ghost use Rattle.desk_store.specs.Crashes.{LeavesOnly, LeavesOldOr};
-ghost use Rattle.desk_tables.specs.Tables.{id_text, aircraft_number, plan_row, area_rows};
+ghost use Rattle.desk_tables.specs.Tables.{id_text, aircraft_number, plan_row, area_rows, area_covers};
 ghost use Rattle.desk_tables.specs.Tables.{ArePlanSpanRows, AreTables};
 ghost use Rattle.desk_tables.specs.Content.{IsId, IsPlan, IsContent};
 ghost use Rattle.desk_tables.specs.Lookups.{own_of};
@@ -64,7 +64,7 @@ pub fn a_changed_content_is_a_content()
 pub fn a_plan_put_changes_rows()
     ensures { (p : Filed) (w : World) (old new : Tables) (spans : List Row) → IsContent w
         → IsPlan p.row → AreTables old w → ArePlanSpanRows p spans
-        → PutsPlan p.operator (id_text p.row.id) (plan_row p) (area_rows p) spans old new
+        → PutsPlan p.operator (id_text p.row.id) (plan_row p) (area_rows p) (area_covers p) spans old new
         → PutsRows p old new }
 {}
 

@@ -1,6 +1,7 @@
 //! The tables of a desk: the rows that its operators and plans have in SQLite, and what rows stand for.
 #![tactic(auto)]
 
+mod canon;
 mod changing;
 mod kept;
 pub mod laws;

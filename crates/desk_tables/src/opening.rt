@@ -1,7 +1,9 @@
 //! Opening a database: what tables it has, and the content whose rows they are.
 
 pub(crate) mod content;
+pub(crate) mod covers;
 pub(crate) mod exact;
 pub(crate) mod files;
 pub(crate) mod finding;
+pub(crate) mod moving;
 pub(crate) mod open;

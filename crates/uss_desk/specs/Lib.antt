@@ -1,3 +1,4 @@
--- Read first: Running, Opening.
+-- Read first: Running, Opening, Migrating.
 pub mod Opening
+pub mod Migrating
 pub mod Running

@@ -17,6 +17,7 @@ abbrev pub open_failure : OpenFault → Failure
 open_failure opening.OutOfMemory = failure.Memory
 open_failure opening.Store = failure.Store
 open_failure opening.NotADesk = failure.NotADesk
+open_failure opening.OldSchema = failure.OldSchema
 
 -- memory ran out: nothing else keeps a desk in memory from being opened
 abbrev pub IsMemory : Failure → Type 0
@@ -33,7 +34,8 @@ module _ {D : Type 0} (g : disk.Ghosts D) where
   BeginsIn image w =
       ((held : Held (FileStore D g)) × OpensIn image held w.content) × (w.permitted ≡ [])
 
-  -- the failure is that of files that can't be opened, or of a database that is no desk's or can't be read
+  -- the failure is that of files that can't be opened, or of a database that is no desk's, has rows of
+  -- schema 1, or can't be read
   abbrev pub FailsAt : Image → Failure → Type 0
   FailsAt image f = (fault : OpenFault) × (f ≡ open_failure fault) × FailsAs g image fault
 

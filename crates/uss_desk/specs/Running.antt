@@ -19,6 +19,7 @@ use Rattle.desk_line.specs.Exits.{failure_status}
 use Rattle.desk_line.specs.Printing.{IsPrinted}
 use Rattle.desk_program.specs.Running.{IsCarriedOut}
 use Rattle.desk_program.specs.Serving.{Arrival}
+use Rattle.uss_desk.specs.Migrating.{IsMigrated}
 use Rattle.uss_desk.specs.Opening.{BeginsIn, FailsAt, IsBlank, IsMemory}
 
 -- the store of a desk over tables is honest: its disk has returned what was written
@@ -56,7 +57,8 @@ module _ {M : Type 0} {m : disk.Ghosts M} {D : Type 0} {g : disk.Ghosts D} where
       (memory ≡ None)
       × IsRun over_files (BeginsIn g image) (FailsAt g image) line status files from to old new out now
 
-  -- what a line says is done: at a desk over the database that it names, or by printing alone
+  -- what a line says is done: at a desk over the database that it names, by printing alone, or by moving the
+  -- plans of that database
   abbrev pub IsDone :
       Image → Line → ℕ → Option (Parts (Shown (FileStore M m)))
       → Option (Parts (Shown (FileStore D g)))
@@ -74,3 +76,6 @@ module _ {M : Type 0} {m : disk.Ghosts M} {D : Type 0} {g : disk.Ghosts D} where
   IsDone image (line.Cover cover) status memory files from to old new out now =
       (memory ≡ None) × (files ≡ None) × (to ≡ from) × (new ≡ old)
       × IsPrinted (line.Cover cover) status out now
+  IsDone image (line.Migrate migrate) status memory files from to old new out now =
+      (memory ≡ None) × (to ≡ from) × (new ≡ old)
+      × IsMigrated image migrate.database status files out now

@@ -57,5 +57,6 @@ pub fn open_failure(fault: &OpenFault) -> Failure
         OpenFault::OutOfMemory => Failure::Memory,
         OpenFault::Store => Failure::Store,
         OpenFault::NotADesk => Failure::NotADesk,
+        OpenFault::OldSchema => Failure::OldSchema,
     }
 }

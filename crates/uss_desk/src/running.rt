@@ -4,6 +4,7 @@ ghost use Rattle.sqlite_wal.specs.Files.{image_at};
 ghost use Rattle.desk_line.specs.Lines.{HasDatabase, IsLine};
 ghost use Rattle.uss_desk.specs.Running.{IsDone, IsRunOver};
 
+use crate::migrating::migrate;
 use crate::opening::{open_file, open_in_memory};
 use desk_line::{Database, Line, print_line};
 use desk_program::{Port, run_opened};
@@ -19,7 +20,8 @@ pub type MemoryDesk = Desk<SqliteStore<FileStore<Ram>>>;
 /// A desk over the database in files, where `F` stands for what they held.
 pub type FileDesk<F> = Desk<SqliteStore<FileStore<FileFrom<F>>>>;
 
-/// Does what a line says, and answers the exit status and the desk at which it was done, if there was one.
+/// Does what a line says, and answers the exit status and the desk at which it was done, if there was one;
+/// after a move, the desk over the plans that were moved.
 pub fn run_line<F: Start, P: Port, R: Read, W: Write, E: Write>(
     rt: &HostRuntime,
     line: &Line,
@@ -58,6 +60,10 @@ pub fn run_line<F: Start, P: Port, R: Read, W: Write, E: Write>(
         ),
         Line::Token(_) | Line::Cover(_) => {
             (print_line(rt.alloc(), line, output, errors), None, None)
+        }
+        Line::Migrate(words) => {
+            let (status, desk) = migrate(rt, &words.database, start, output, errors);
+            (status, None, desk)
         }
     }
 }

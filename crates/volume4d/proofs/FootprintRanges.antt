@@ -45,7 +45,7 @@ ranges_on shape set spans below ranges = record {
 }
 
 -- the positions of a cell list's leaves
-cells_below : (ids : List ℕ) (p : ℕ) → p < 6 * 2 ^ 60
+pub cells_below : (ids : List ℕ) (p : ℕ) → p < 6 * 2 ^ 60
     → shape_positions (cells ids) p ≡ leaves_of ids p
 cells_below ids p below =
     ap (λ b. b && leaves_of ids (position_of (grid_leaf_at p))) (leaf_at_passes p below)
@@ -57,7 +57,7 @@ pub cell_ranges : (ids : List ℕ) (spans : List Span) → IsRanges (leaves_of i
 cell_ranges ids spans ranges = ranges_on (cells ids) (leaves_of ids) spans (cells_below ids) ranges
 
 -- the positions of a rectangle's leaves
-rectangle_below : (r : RectParts) (p : ℕ) → p < 6 * 2 ^ 60
+pub rectangle_below : (r : RectParts) (p : ℕ) → p < 6 * 2 ^ 60
     → shape_positions (rectangle r) p ≡ rect_leaves r p
 unfolding wide_set
 rectangle_below r p below = ap (λ b. b && wide_has (widened r) (grid_leaf_at p))

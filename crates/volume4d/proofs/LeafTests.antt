@@ -10,7 +10,7 @@ use Rattle.volume4d.specs.laws.Point.{leaf_test}
 pub leaf_at_passes : (position : ℕ) → position < 6 * 2 ^ 60 → is_leaf (grid_leaf_at position) ≡ true
 leaf_at_passes position below = (leaf_test (grid_leaf_at position)).1 (leaf_is position below)
 
-face_at : (position : ℕ) → (grid_leaf_at position).face ≡ position / 2 ^ 60
+pub face_at : (position : ℕ) → (grid_leaf_at position).face ≡ position / 2 ^ 60
 unfolding grid_leaf_at
 face_at position = refl
 

@@ -4,6 +4,7 @@ pub mod RectReadings
 pub mod Extents
 pub mod LeafTests
 pub mod FootprintRanges
+pub mod CoverCounts
 pub mod SlabPoints
 pub mod Filled
 pub mod PointsIn

@@ -12,5 +12,5 @@ window_fault_text TooLong = codes "a volume lasts at most 86400 s"
 
 abbrev pub volume_fault_text : VolumeFault → List ℕ
 volume_fault_text Cells = codes "a cell list has 1 to 64 cells"
-volume_fault_text TooManyCells = codes "a rectangle takes at most 256 cells"
+volume_fault_text TooManyCells = codes "a rectangle takes at most 1,024 cells"
 volume_fault_text OutOfMemory = codes "out of memory"

@@ -23,11 +23,11 @@ max_cells = 64
 
 -- the most cells of the canonical cover of a rectangle
 abbrev pub max_cover : ℕ
-max_cover = 256
+max_cover = 1024
 
 -- the most volumes of an area
 abbrev pub max_volumes : ℕ
-max_volumes = 8
+max_volumes = 32
 
 -- altitudes lower <= a < upper within the limits
 abbrev pub within_altitudes : ℤ → ℤ → Bool

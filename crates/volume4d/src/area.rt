@@ -16,9 +16,9 @@ use std::alloc::{AllocError, Global};
 use std::marker::Model;
 
 /// The most volumes of an area.
-pub const MAX_VOLUMES: usize = 8;
+pub const MAX_VOLUMES: usize = 32;
 
-/// The volumes of a plan (`Volume4D` of ASTM F3548-21), always 1 to 8 of them. A point belongs to
+/// The volumes of a plan (`Volume4D` of ASTM F3548-21), always 1 to 32 of them. A point belongs to
 /// the area if it belongs to one of the volumes.
 #[derive(Debug, Drop)]
 pub struct Area {
@@ -37,7 +37,7 @@ impl Model for Area {
 }
 
 impl Area {
-    /// The area of these volumes, or `None` if they are not 1 to 8; they are dropped then.
+    /// The area of these volumes, or `None` if they are not 1 to 32; they are dropped then.
     pub fn try_new(volumes: Vec<Volume>) -> Option<Area>
         ensures { result ≡ (if is_area volumes.items then Some volumes.items else None) }
     {

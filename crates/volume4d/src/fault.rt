@@ -12,7 +12,7 @@ use std::fmt;
 pub enum VolumeFault {
     /// A cell list does not have 1 to 64 cells.
     Cells,
-    /// The canonical cover of a rectangle has more than 256 cells.
+    /// The canonical cover of a rectangle has more than 1,024 cells.
     TooManyCells,
     /// Memory ran out.
     OutOfMemory,
@@ -27,7 +27,7 @@ impl fmt::Display for VolumeFault {
     fn fmt<W: fmt::Write>(&self, f: &mut fmt::Formatter<W>) -> fmt::Result {
         f.pad(match self {
             VolumeFault::Cells => "a cell list has 1 to 64 cells",
-            VolumeFault::TooManyCells => "a rectangle takes at most 256 cells",
+            VolumeFault::TooManyCells => "a rectangle takes at most 1,024 cells",
             VolumeFault::OutOfMemory => "out of memory",
         })
     }

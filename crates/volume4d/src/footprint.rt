@@ -29,7 +29,7 @@ const RECTANGLE_BYTES: usize = 18;
 pub const MAX_CELLS: usize = 64;
 
 /// The most cells of the canonical cover of a rectangle.
-pub const MAX_COVER: u32 = 256;
+pub const MAX_COVER: u32 = 1024;
 
 /// The ground that a volume covers.
 #[derive(Debug, Drop)]
@@ -97,7 +97,7 @@ impl Footprint {
     /// # Errors
     ///
     /// `Cells` if a cell list does not have 1 to 64 cells, `TooManyCells` if the canonical cover of a
-    /// rectangle has more than 256, `OutOfMemory` if memory runs out.
+    /// rectangle has more than 1,024, `OutOfMemory` if memory runs out.
     pub(crate) fn ranges(&self, alloc: Global) -> Result<Ranges, VolumeFault>
         ensures ok { IfOk result (HasRanges (shape_of self.now)) }
         ensures err { IfErr result (IsFaultOf (shape_of self.now)) }

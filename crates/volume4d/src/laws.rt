@@ -1,12 +1,28 @@
-//! Laws of the definition of a footprint's bytes. Each is the contract of a function that does
-//! nothing.
+//! Laws of the definitions of footprints. Each is the contract of a function that does nothing else.
 
-ghost use Rattle.std.specs.Prelude.{◌≡◌};
-ghost use Rattle.volume4d.specs.Shape.{Shape};
+ghost use Rattle.std.specs.Prelude.{◌≡◌, ◌≤◌, IsTrue, length};
+ghost use Rattle.s2_cover.specs.CanonicalList.{canonical_list};
+ghost use Rattle.volume4d.specs.Limits.{max_cover};
+ghost use Rattle.volume4d.specs.Shape.{Shape, is_footprint, shape_positions};
 ghost use Rattle.volume4d.specs.FootprintBytes.{HasValidParts, footprint_bytes};
+
+use s2_cover::laws::{
+    canonical_list_is, equal_sets_have_equal_covers, one_canonical_list, shortest,
+};
 
 /// Two footprints that have the same bytes are the same.
 pub fn one_shape()
     ensures { (one other : Shape) → HasValidParts one → HasValidParts other
         → footprint_bytes one ≡ footprint_bytes other → one ≡ other }
 {}
+
+/// The canonical cover of a footprint has at most as many cells as that of a rectangle may have.
+pub fn covers_are_few()
+    ensures { (shape : Shape) → IsTrue (is_footprint shape) → HasValidParts shape
+        → length (canonical_list (shape_positions shape)) ≤ max_cover }
+{
+    one_canonical_list();
+    equal_sets_have_equal_covers();
+    canonical_list_is();
+    shortest();
+}

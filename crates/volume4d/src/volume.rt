@@ -54,7 +54,7 @@ impl Volume {
     /// # Errors
     ///
     /// `Cells` if a cell list does not have 1 to 64 cells, `TooManyCells` if the canonical cover of a
-    /// rectangle has more than 256, `OutOfMemory` if memory runs out.
+    /// rectangle has more than 1,024, `OutOfMemory` if memory runs out.
     pub fn try_new(
         alloc: Global,
         footprint: Footprint,

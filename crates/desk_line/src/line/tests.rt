@@ -59,6 +59,16 @@ fn reads_enrol(rt: HostRuntime) -> Result<(), Fail> {
     Ok(())
 }
 
+#[test]
+fn reads_migrate(rt: HostRuntime) -> Result<(), Fail> {
+    let words = ["migrate", "--db", "desk.db"];
+    let Ok(Line::Migrate(migrate)) = line_of(rt.alloc(), &words)? else {
+        return Err(Fail::from("no line"));
+    };
+    assert!(rt; is_file(&migrate.database, "desk.db"));
+    Ok(())
+}
+
 // Whether a database is in the file of this path.
 fn is_file(database: &Database, wanted: &str) -> bool {
     matches!(database, Database::File(path) if path.as_str() == wanted)
@@ -115,6 +125,8 @@ fn refuses_words(rt: HostRuntime) -> Result<(), Fail> {
         &["play", "--at", "253370764801"],
         &["enrol", "alfa", "1"],
         &["enrol", "--db", "d", "alfa"],
+        &["migrate"],
+        &["migrate", "d"],
     ] {
         assert!(rt; is_refused(alloc, words)?);
     }

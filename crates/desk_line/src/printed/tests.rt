@@ -86,7 +86,7 @@ fn tells_covers(rt: HostRuntime) -> Result<(), Fail> {
         ((0, LAST, 0, LAST / 2), 0, "04\n1c\n2 cells, 2 ranges\n", ""),
         ((0, LAST / 2, 0, LAST), 0, "04\n0c\n2 cells, 1 ranges\n", ""),
         ((0, LAST, 0, LAST), 0, "1\n1 cells, 1 ranges\n", ""),
-        ((0, 0, 0, 16_384), 3, "", "uss_desk: too_many_cells\n"),
+        ((0, 0, 0, 65_536), 3, "", "uss_desk: too_many_cells\n"),
         ((1, 0, 0, 0), 3, "", "uss_desk: order\n"),
         ((0, 0, 0, LAST + 1), 3, "", "uss_desk: coordinate\n"),
     ];

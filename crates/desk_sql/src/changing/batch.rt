@@ -3,7 +3,7 @@ ghost use Rattle.std.specs.String.{string_bytes};
 ghost use Rattle.sqlite.specs.Effect.{IsDatabase};
 ghost use Rattle.sqlite.specs.State.{HasCleanDisk, KeepsCommit};
 ghost use Rattle.sqlite.specs.Held.{state};
-ghost use Rattle.desk_sql.specs.Batches.{volume_of, span_of, AddsVolumes, AddsSpans, RemovesPlans, IsUnderWay};
+ghost use Rattle.desk_sql.specs.Batches.{volume_of, cover_of, span_of, AddsVolumes, AddsSpans, RemovesPlans, IsUnderWay};
 ghost use Rattle.desk_sql.specs.Effects.{IsReady, Makes};
 ghost use Rattle.desk_sql.specs.Frames.{Remembers};
 ghost use Rattle.desk_sql.specs.Finding.{Holds};
@@ -15,7 +15,7 @@ use crate::changing::removing::{remove_plan, remove_plan_text};
 use crate::changing::writing::{SpanRecord, VolumeRecord, insert_span, insert_volume};
 use sqlite::{Alter, Error, Transaction};
 
-/// Adds these rows to `volume`.
+/// Adds these rows to `volume2`.
 pub fn insert_volumes<S: Alter>(
     tx: &mut Transaction<'_, S>,
     rows: &[VolumeRecord<'_>],
@@ -24,11 +24,12 @@ pub fn insert_volumes<S: Alter>(
     ensures same_reference { tx.new.conn.ghost_name ≡ tx.old.conn.ghost_name }
     ensures done { HasCleanDisk (state S.Store tx.new.conn.now)
         → OnOk result (Makes S.Store tx.old.conn.now tx.new.conn.now (AddsVolumes
-        (map volume_of rows.now))) }
+        (map volume_of rows.now) (map cover_of rows.now))) }
     ensures undone { HasCleanDisk (state S.Store tx.new.conn.now)
         → OnErr result (KeepsCommit (state S.Store tx.old.conn.now)
         (state S.Store tx.new.conn.now)) }
-    ensures cause { AreNewVolumes (map volume_of rows.now) (state S.Store tx.old.conn.now).now
+    ensures cause { AreNewVolumes (map volume_of rows.now) (map cover_of rows.now)
+        (state S.Store tx.old.conn.now).now
         → HasCleanDisk (state S.Store tx.new.conn.now)
         → IfErr result (IsRefusal S.Store tx.old.conn.now tx.new.conn.now) }
     ensures room { HasCleanDisk (state S.Store tx.new.conn.now)
@@ -42,7 +43,7 @@ pub fn insert_volumes<S: Alter>(
     Ok(())
 }
 
-/// Adds these rows to `span`.
+/// Adds these rows to `span2`.
 pub fn insert_spans<S: Alter>(
     tx: &mut Transaction<'_, S>,
     rows: &[SpanRecord<'_>],

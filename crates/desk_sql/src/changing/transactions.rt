@@ -4,7 +4,7 @@ ghost use Rattle.sqlite.specs.Held.{state};
 ghost use Rattle.desk_sql.specs.Rows.{PutsOperator, ClosesPlan, is_by, plan_row, tables_of};
 ghost use Rattle.std.specs.List.{list_any};
 ghost use Rattle.std.specs.String.{string_bytes};
-ghost use Rattle.desk_sql.specs.Batches.{PutsPlan, RemovesPlans, volume_of, span_of};
+ghost use Rattle.desk_sql.specs.Batches.{PutsPlan, RemovesPlans, volume_of, cover_of, span_of};
 ghost use Rattle.desk_sql.specs.Changing.{AreLow, HasRoom, IsShort};
 ghost use Rattle.desk_sql.specs.Putting.{IsPuttable};
 ghost use Rattle.desk_sql.specs.Refusals.{IsRefusal};
@@ -59,11 +59,13 @@ pub fn put_plan<S: Alter>(
         → OnOk result (Commits S.Store connection.old connection.new
         (PutsPlan plan.entry.operator.now plan.entry.id.now
         (plan_row plan.entry.operator.now plan.entry.id.now plan.entry.priority plan.entry.usage
-        plan.entry.aircraft) (map volume_of volumes.now) (map span_of spans.now))) }
+        plan.entry.aircraft) (map volume_of volumes.now) (map cover_of volumes.now)
+        (map span_of spans.now))) }
     ensures kept { OnErr result (IsKept S.Store connection.old connection.new) }
     ensures cause { IsPuttable plan.entry.operator.now plan.entry.id.now
         (plan_row plan.entry.operator.now plan.entry.id.now plan.entry.priority plan.entry.usage
-        plan.entry.aircraft) (map volume_of volumes.now) (map span_of spans.now)
+        plan.entry.aircraft) (map volume_of volumes.now) (map cover_of volumes.now)
+        (map span_of spans.now)
         (state S.Store connection.old).now
         → HasCleanDisk (state S.Store connection.new)
         → IsTrue (state S.Store connection.new).is_open
@@ -72,7 +74,8 @@ pub fn put_plan<S: Alter>(
     ensures crash { MayMake S.Store connection.old connection.new
         (PutsPlan plan.entry.operator.now plan.entry.id.now
         (plan_row plan.entry.operator.now plan.entry.id.now plan.entry.priority plan.entry.usage
-        plan.entry.aircraft) (map volume_of volumes.now) (map span_of spans.now)) }
+        plan.entry.aircraft) (map volume_of volumes.now) (map cover_of volumes.now)
+        (map span_of spans.now)) }
 {
     settled_and_sound(connection);
     let mut tx = connection.transaction();

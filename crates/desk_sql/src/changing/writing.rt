@@ -1,10 +1,10 @@
 ghost use Rattle.std.specs.Prelude.{◌≡◌, IfErr, OnOk, OnErr};
 ghost use Rattle.sqlite.specs.State.{HasCleanDisk, KeepsCommit};
 ghost use Rattle.sqlite.specs.Held.{state};
-ghost use Rattle.desk_sql.specs.Rows.{operator_row, plan_row, volume_row, span_row, AddsOperator, AddsPlan, AddsVolume, AddsSpan};
+ghost use Rattle.desk_sql.specs.Rows.{operator_row, plan_row, volume_row, cover_row, span_row, AddsOperator, AddsPlan, AddsVolume, AddsSpan};
 ghost use Rattle.desk_sql.specs.Effects.{IsReady, Makes};
 ghost use Rattle.desk_sql.specs.Frames.{Remembers};
-ghost use Rattle.desk_sql.specs.Batches.{volume_of, span_of, IsUnderWay};
+ghost use Rattle.desk_sql.specs.Batches.{volume_of, cover_of, volume_params, span_of, IsUnderWay};
 ghost use Rattle.desk_sql.specs.Changing.{FitsOperator, FitsPlan, FitsVolume, FitsSpan, IsSureChange};
 ghost use Rattle.desk_sql.specs.Putting.{AddsAtMost, TakesRoom};
 ghost use Rattle.desk_sql.specs.Refusals.{IsRefusal};
@@ -23,7 +23,7 @@ pub struct PlanRecord<'a> {
     pub aircraft: u32,
 }
 
-/// A row of `volume`: altitudes in decimetres above the WGS84 ellipsoid, moments in seconds since 1970.
+/// A row of `volume2`: altitudes in decimetres above the WGS84 ellipsoid, moments in seconds since 1970.
 #[derive(Clone, Copy, Debug)]
 pub struct VolumeRecord<'a> {
     pub operator: &'a str,
@@ -34,9 +34,11 @@ pub struct VolumeRecord<'a> {
     pub start: i64,
     pub stop: i64,
     pub asked: &'a [u8],
+    /// The ids of the volume's canonical cover, ascending, eight bytes each, the most significant first.
+    pub canon: &'a [u8],
 }
 
-/// A row of `span`: leaf positions, altitudes in decimetres above the WGS84 ellipsoid, moments in
+/// A row of `span2`: leaf positions, altitudes in decimetres above the WGS84 ellipsoid, moments in
 /// seconds since 1970.
 #[derive(Clone, Copy, Debug)]
 pub struct SpanRecord<'a> {
@@ -130,16 +132,16 @@ pub fn insert_plan<S: Alter>(
 
 #[tactic(auto, using(crate::proofs::InsertLemmas::insert_volume_changes, crate::proofs::Added::volume))]
 fn insert_volume_text() -> &'static str
-    ensures changed { Changes result.now volume_of (λ v. AddsVolume (volume_of v)) }
-    ensures sure { IsSureChange result.now volume_of
-        (λ v. FitsVolume v.operator.now v.id.now v.asked.now (volume_of v)) }
-    ensures room { AddsAtMost result.now volume_of 0 1 0 }
+    ensures changed { Changes result.now volume_params (λ v. AddsVolume (volume_of v) (cover_of v)) }
+    ensures sure { IsSureChange result.now volume_params
+        (λ v. FitsVolume v.operator.now v.id.now v.asked.now v.canon.now (volume_of v)) }
+    ensures room { AddsAtMost result.now volume_params 0 1 0 }
 {
-    "INSERT INTO volume (operator, id, place, lower, upper, start, stop, asked) \
-     VALUES (?1, ?2, ?3, ?4, ?5, ?6, ?7, ?8)"
+    "INSERT INTO volume2 (operator, id, place, lower, upper, start, stop, asked, canon) \
+     VALUES (?1, ?2, ?3, ?4, ?5, ?6, ?7, ?8, ?9)"
 }
 
-/// Adds a row to `volume`.
+/// Adds a row to `volume2`.
 pub fn insert_volume<S: Alter>(
     tx: &mut Transaction<'_, S>,
     row: VolumeRecord<'_>,
@@ -149,13 +151,15 @@ pub fn insert_volume<S: Alter>(
     ensures done { HasCleanDisk (state S.Store tx.new.conn.now)
         → OnOk result (Makes S.Store tx.old.conn.now tx.new.conn.now (AddsVolume
         (volume_row row.entry.operator.now row.entry.id.now row.entry.place row.entry.lower
-        row.entry.upper row.entry.start row.entry.stop row.entry.asked.now))) }
+        row.entry.upper row.entry.start row.entry.stop row.entry.asked.now)
+        (cover_row row.entry.operator.now row.entry.id.now row.entry.place row.entry.canon.now))) }
     ensures undone { HasCleanDisk (state S.Store tx.new.conn.now)
         → OnErr result (KeepsCommit (state S.Store tx.old.conn.now)
         (state S.Store tx.new.conn.now)) }
     ensures cause { IsUnderWay S.Store tx.old.conn.now → FitsVolume row.entry.operator.now row.entry.id.now
-        row.entry.asked.now (volume_row row.entry.operator.now row.entry.id.now row.entry.place
-        row.entry.lower row.entry.upper row.entry.start row.entry.stop row.entry.asked.now)
+        row.entry.asked.now row.entry.canon.now
+        (volume_row row.entry.operator.now row.entry.id.now row.entry.place row.entry.lower
+        row.entry.upper row.entry.start row.entry.stop row.entry.asked.now)
         (state S.Store tx.old.conn.now).now → HasCleanDisk (state S.Store tx.new.conn.now)
         → IfErr result (IsRefusal S.Store tx.old.conn.now tx.new.conn.now) }
     ensures room { HasCleanDisk (state S.Store tx.new.conn.now)
@@ -174,7 +178,8 @@ pub fn insert_volume<S: Alter>(
             row.upper,
             row.start,
             row.stop,
-            row.asked
+            row.asked,
+            row.canon
         ],
     )?;
     Ok(())
@@ -187,11 +192,11 @@ fn insert_span_text() -> &'static str
         (λ s. FitsSpan s.operator.now s.id.now (span_of s)) }
     ensures room { AddsAtMost result.now span_of 0 0 1 }
 {
-    "INSERT INTO span (operator, id, place, first, last, lower, upper, start, stop, priority) \
+    "INSERT INTO span2 (operator, id, place, first, last, lower, upper, start, stop, priority) \
      VALUES (?1, ?2, ?3, ?4, ?5, ?6, ?7, ?8, ?9, ?10)"
 }
 
-/// Adds a row to `span`.
+/// Adds a row to `span2`.
 pub fn insert_span<S: Alter>(tx: &mut Transaction<'_, S>, row: SpanRecord<'_>) -> Result<(), Error>
     requires ready { IsReady S.Store tx.old.conn.now }
     ensures same_reference { tx.new.conn.ghost_name ≡ tx.old.conn.ghost_name }

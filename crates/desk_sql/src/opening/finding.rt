@@ -13,7 +13,7 @@ use crate::opening::matching::made_in;
 use crate::opening::numbers::{DeskTable, test_tables};
 use sqlite::{Alter, Connection, Error};
 
-/// How far a desk's tables and their index are made, which come in this order.
+/// How far a desk's tables and their indexes are made, which come in this order.
 #[derive(Clone, Copy, Debug, PartialEq, Eq)]
 pub enum Made {
     /// There is no table, index or view.
@@ -22,11 +22,17 @@ pub enum Made {
     Operators,
     /// There are `operator` and `plan`.
     Plans,
-    /// There are `operator`, `plan` and `volume`.
+    /// There are these and `volume`, which version 1 of the schema has.
+    OldVolumes,
+    /// There are these and `span`, which version 1 has.
+    OldSpans,
+    /// There are these and the index over the leaves of `span`: all of version 1.
+    OldIndex,
+    /// There are these and `volume2`.
     Volumes,
-    /// There are `operator`, `plan`, `volume` and `span`.
+    /// There are these and `span2`.
     Spans,
-    /// There are these and the index over the leaves of spans.
+    /// There are these and the index over the leaves of `span2`.
     All,
 }
 
@@ -39,6 +45,11 @@ impl Made {
             Made::Nothing => false,
             Made::Operators => matches!(table, DeskTable::Operator),
             Made::Plans => matches!(table, DeskTable::Operator | DeskTable::Plan),
+            Made::OldVolumes => matches!(
+                table,
+                DeskTable::Operator | DeskTable::Plan | DeskTable::OldVolume
+            ),
+            Made::OldSpans | Made::OldIndex => table.is_old(),
             Made::Volumes => !matches!(table, DeskTable::Span),
             Made::Spans | Made::All => true,
         }

@@ -1,4 +1,4 @@
-//! How the tables and the index are made.
+//! How the tables and the indexes are made.
 
 ghost use Rattle.std.specs.Prelude.{◌≡◌, ◌≢◌, false, suc, IfSome, IfNone, IsTrue, OnOk, OnErr};
 ghost use Rattle.sqlite.specs.Effect.{IsDatabase};
@@ -32,9 +32,9 @@ fn plan_text() -> &'static str
      FOREIGN KEY (operator) REFERENCES operator (name)) STRICT"
 }
 
-#[tactic(auto, using(crate::proofs::CreateLemmas::volume_extends))]
-fn volume_text() -> &'static str
-    ensures { Extends result.now Made.Plans Made.Volumes }
+#[tactic(auto, using(crate::proofs::CreateLemmas::old_volume_extends))]
+fn old_volume_text() -> &'static str
+    ensures { Extends result.now Made.Plans Made.OldVolumes }
 {
     "CREATE TABLE volume (operator TEXT NOT NULL, id TEXT NOT NULL, place INTEGER NOT NULL, \
      lower INTEGER NOT NULL, upper INTEGER NOT NULL, start INTEGER NOT NULL, \
@@ -42,9 +42,9 @@ fn volume_text() -> &'static str
      FOREIGN KEY (operator, id) REFERENCES plan (operator, id) ON DELETE CASCADE) STRICT"
 }
 
-#[tactic(auto, using(crate::proofs::CreateLemmas::span_extends))]
-fn span_text() -> &'static str
-    ensures { Extends result.now Made.Volumes Made.Spans }
+#[tactic(auto, using(crate::proofs::CreateLemmas::old_span_extends))]
+fn old_span_text() -> &'static str
+    ensures { Extends result.now Made.OldVolumes Made.OldSpans }
 {
     "CREATE TABLE span (operator TEXT NOT NULL, id TEXT NOT NULL, place INTEGER NOT NULL, \
      first INTEGER NOT NULL, last INTEGER NOT NULL, lower INTEGER NOT NULL, \
@@ -53,12 +53,43 @@ fn span_text() -> &'static str
      FOREIGN KEY (operator, id) REFERENCES plan (operator, id) ON DELETE CASCADE) STRICT"
 }
 
+#[tactic(auto, using(crate::proofs::CreateLemmas::old_first_extends))]
+fn old_first_text() -> &'static str
+    ensures { Extends result.now Made.OldSpans Made.OldIndex }
+{
+    "CREATE INDEX span_first ON span \
+     (first, last, lower, upper, start, stop, priority, operator, id)"
+}
+
+#[tactic(auto, using(crate::proofs::CreateLemmas::volume_extends))]
+fn volume_text() -> &'static str
+    ensures { Extends result.now Made.OldIndex Made.Volumes }
+{
+    "CREATE TABLE volume2 (operator TEXT NOT NULL, id TEXT NOT NULL, place INTEGER NOT NULL, \
+     lower INTEGER NOT NULL, upper INTEGER NOT NULL, start INTEGER NOT NULL, \
+     stop INTEGER NOT NULL, asked BLOB NOT NULL, canon BLOB NOT NULL, \
+     PRIMARY KEY (operator, id, place), \
+     FOREIGN KEY (operator, id) REFERENCES plan (operator, id) ON DELETE CASCADE) STRICT"
+}
+
+#[tactic(auto, using(crate::proofs::CreateLemmas::span_extends))]
+fn span_text() -> &'static str
+    ensures { Extends result.now Made.Volumes Made.Spans }
+{
+    "CREATE TABLE span2 (operator TEXT NOT NULL, id TEXT NOT NULL, place INTEGER NOT NULL, \
+     first INTEGER NOT NULL, last INTEGER NOT NULL, lower INTEGER NOT NULL, \
+     upper INTEGER NOT NULL, start INTEGER NOT NULL, stop INTEGER NOT NULL, \
+     priority INTEGER NOT NULL, \
+     PRIMARY KEY (operator, id, place, first), \
+     FOREIGN KEY (operator, id) REFERENCES plan (operator, id) ON DELETE CASCADE) STRICT"
+}
+
 // The columns after `last` are those that the query of rivals reads, so that it reads the index alone.
 #[tactic(auto, using(crate::proofs::CreateLemmas::first_extends))]
 fn first_text() -> &'static str
     ensures { Extends result.now Made.Spans Made.All }
 {
-    "CREATE INDEX span_first ON span \
+    "CREATE INDEX span2_first ON span2 \
      (first, last, lower, upper, start, stop, priority, operator, id)"
 }
 
@@ -71,7 +102,10 @@ fn next_step(made: Made) -> Option<(Made, &'static str)>
     match made {
         Made::Nothing => Some((Made::Operators, operator_text())),
         Made::Operators => Some((Made::Plans, plan_text())),
-        Made::Plans => Some((Made::Volumes, volume_text())),
+        Made::Plans => Some((Made::OldVolumes, old_volume_text())),
+        Made::OldVolumes => Some((Made::OldSpans, old_span_text())),
+        Made::OldSpans => Some((Made::OldIndex, old_first_text())),
+        Made::OldIndex => Some((Made::Volumes, volume_text())),
         Made::Volumes => Some((Made::Spans, span_text())),
         Made::Spans => Some((Made::All, first_text())),
         Made::All => None,
@@ -100,8 +134,8 @@ fn make_rest<S: Alter>(tx: &mut Transaction<'_, S>, made: Made) -> Result<(), Er
     Ok(())
 }
 
-/// Makes those of a desk's tables, and of its index, that aren't there, as one transaction. The rows of the
-/// others stay.
+/// Makes those of a desk's tables, and of their indexes, that aren't there, as one transaction. The rows of
+/// the others stay.
 pub fn complete_tables<S: Alter>(connection: &mut Connection<S>, made: Made) -> Result<(), Error>
     requires missing { made ≢ Made.All }
     requires at { Holds S.Store connection.old (IsMadeTo made) }

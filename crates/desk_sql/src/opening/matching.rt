@@ -4,11 +4,13 @@ ghost use Rattle.std.specs.Prelude.{◌≡◌, ◌≢◌, ◌↔◌, ◌<◌, �
 ghost use Rattle.std.specs.Prelude.{MatchOption};
 ghost use Rattle.sqlite_value.specs.Keys.{plain};
 ghost use Rattle.sqlite_schema.specs.declared.schema.Action.TheVariants.{NoAction};
-ghost use Rattle.desk_sql.specs.Schema.{column_of, operator_table, plan_table, volume_table, span_table};
-ghost use Rattle.desk_sql.specs.Schema.{to_operator, to_plan, schema_of};
+ghost use Rattle.desk_sql.specs.Schema.{column_of, operator_table, plan_table, old_volume_table};
+ghost use Rattle.desk_sql.specs.Schema.{old_span_table, volume_table, span_table, old_tables_and, first_of};
+ghost use Rattle.desk_sql.specs.Schema.{volume_made, span_made, to_operator, to_plan, schema_of};
 ghost use Rattle.desk_sql.specs.Finding.{no_stamps, without_extras, plain_table, place_columns};
-ghost use Rattle.desk_sql.specs.Finding.{extent_columns, key_index, indexes_of};
-ghost use Rattle.desk_sql.specs.Finding.{operator_index, plan_index, volume_index, span_index, first_index};
+ghost use Rattle.desk_sql.specs.Finding.{cell_columns, extent_columns, key_index, indexes_of, later_indexes};
+ghost use Rattle.desk_sql.specs.Finding.{operator_index, plan_index, old_volume_index, old_span_index};
+ghost use Rattle.desk_sql.specs.Finding.{old_indexes_and, old_first_index, volume_index, span_index, first_index};
 
 use crate::opening::finding::Made;
 use sqlite_items::Items;
@@ -54,7 +56,7 @@ fn are_plan_columns(columns: &[Column]) -> bool
     }
 }
 
-/// Whether these begin the columns of `volume` and `span`.
+/// Whether these begin the columns of the tables of volumes and of spans.
 fn is_place(operator: &Column, id: &Column, place: &Column) -> bool
     ensures { IsTrue result ↔ (operator.now ∷ id.now ∷ place.now ∷ [] ≡ place_columns) }
 {
@@ -85,8 +87,32 @@ fn are_bounds(columns: &[Column], name: &[u8], kind: Kind) -> bool
     }
 }
 
-fn are_volume_columns(columns: &[Column]) -> bool
-    ensures { IsTrue result ↔ (columns.now ≡ volume_table.columns) }
+/// Whether these are the cells that were asked for, and the cells of the canonical cover.
+fn are_cells(columns: &[Column]) -> bool
+    ensures { IsTrue result ↔ (columns.now ≡ cell_columns) }
+{
+    match columns {
+        [asked, canon] => {
+            is_column(asked, b"asked", Kind::Blob) && is_column(canon, b"canon", Kind::Blob)
+        }
+        _ => false,
+    }
+}
+
+/// Whether these are the columns of an extent, and then those of cells.
+fn are_bounds_and_cells(columns: &[Column]) -> bool
+    ensures { IsTrue result ↔ (columns.now ≡ extent_columns ++ cell_columns) }
+{
+    match columns {
+        [lower, upper, start, stop, cells @ ..] => {
+            is_extent(lower, upper, start, stop) && are_cells(cells)
+        }
+        _ => false,
+    }
+}
+
+fn are_old_volume_columns(columns: &[Column]) -> bool
+    ensures { IsTrue result ↔ (columns.now ≡ old_volume_table.columns) }
 {
     match columns {
         [operator, id, place, bounds @ ..] => {
@@ -96,6 +122,18 @@ fn are_volume_columns(columns: &[Column]) -> bool
     }
 }
 
+fn are_volume_columns(columns: &[Column]) -> bool
+    ensures { IsTrue result ↔ (columns.now ≡ volume_table.columns) }
+{
+    match columns {
+        [operator, id, place, rest @ ..] => {
+            is_place(operator, id, place) && are_bounds_and_cells(rest)
+        }
+        _ => false,
+    }
+}
+
+/// Whether these are the columns of `span2`, which are those of `span`.
 fn are_span_columns(columns: &[Column]) -> bool
     ensures { IsTrue result ↔ (columns.now ≡ span_table.columns) }
 {
@@ -246,20 +284,56 @@ fn is_plan_table(table: &Table) -> bool
         && refers_to_operator(table.references.as_slice())
 }
 
-fn is_volume_table(table: &Table) -> bool
-    ensures { IsTrue result ↔ (table.now ≡ record volume_table { tree = 4 }) }
+fn is_old_volume_table(table: &Table) -> bool
+    ensures { IsTrue result ↔ (table.now ≡ record old_volume_table { tree = 4 }) }
 {
     is_plain_table(table, b"volume", 4, [1, 2, 3].as_slice())
+        && are_old_volume_columns(table.columns.as_slice())
+        && refers_to_plan(table.references.as_slice())
+}
+
+fn is_old_span_table(table: &Table) -> bool
+    ensures { IsTrue result ↔ (table.now ≡ record old_span_table { tree = 6 }) }
+{
+    is_plain_table(table, b"span", 6, [1, 2, 3, 4].as_slice())
+        && are_span_columns(table.columns.as_slice())
+        && refers_to_plan(table.references.as_slice())
+}
+
+fn is_volume_table(table: &Table) -> bool
+    ensures { IsTrue result ↔ (table.now ≡ record volume_table { tree = 9 }) }
+{
+    is_plain_table(table, b"volume2", 9, [1, 2, 3].as_slice())
         && are_volume_columns(table.columns.as_slice())
         && refers_to_plan(table.references.as_slice())
 }
 
 fn is_span_table(table: &Table) -> bool
-    ensures { IsTrue result ↔ (table.now ≡ record span_table { tree = 6 }) }
+    ensures { IsTrue result ↔ (table.now ≡ record span_table { tree = 11 }) }
 {
-    is_plain_table(table, b"span", 6, [1, 2, 3, 4].as_slice())
+    is_plain_table(table, b"span2", 11, [1, 2, 3, 4].as_slice())
         && are_span_columns(table.columns.as_slice())
         && refers_to_plan(table.references.as_slice())
+}
+
+/// Whether these are the tables of version 1, in their order.
+fn are_old_tables(operator: &Table, plan: &Table, volume: &Table, span: &Table) -> bool
+    ensures { IsTrue result ↔ (operator.now ∷ plan.now ∷ volume.now ∷ span.now ∷ [] ≡ old_tables_and []) }
+{
+    is_operator_table(operator)
+        && is_plan_table(plan)
+        && is_old_volume_table(volume)
+        && is_old_span_table(span)
+}
+
+/// Whether these are `volume2` and `span2`.
+fn are_new_tables(tables: &[Table]) -> bool
+    ensures { IsTrue result ↔ (tables.now ≡ volume_made ∷ span_made ∷ []) }
+{
+    match tables {
+        [volume, span] => is_volume_table(volume) && is_span_table(span),
+        _ => false,
+    }
 }
 
 /// Whether these are the tables that are made so far, in their order.
@@ -270,14 +344,17 @@ fn are_tables(made: Made, tables: &[Table]) -> bool
         (Made::Nothing, []) => true,
         (Made::Operators, [operator]) => is_operator_table(operator),
         (Made::Plans, [operator, plan]) => is_operator_table(operator) && is_plan_table(plan),
-        (Made::Volumes, [operator, plan, volume]) => {
-            is_operator_table(operator) && is_plan_table(plan) && is_volume_table(volume)
+        (Made::OldVolumes, [operator, plan, volume]) => {
+            is_operator_table(operator) && is_plan_table(plan) && is_old_volume_table(volume)
         }
-        (Made::Spans | Made::All, [operator, plan, volume, span]) => {
-            is_operator_table(operator)
-                && is_plan_table(plan)
-                && is_volume_table(volume)
-                && is_span_table(span)
+        (Made::OldSpans | Made::OldIndex, [operator, plan, volume, span]) => {
+            are_old_tables(operator, plan, volume, span)
+        }
+        (Made::Volumes, [operator, plan, volume, span, volume2]) => {
+            are_old_tables(operator, plan, volume, span) && is_volume_table(volume2)
+        }
+        (Made::Spans | Made::All, [operator, plan, volume, span, new @ ..]) => {
+            are_old_tables(operator, plan, volume, span) && are_new_tables(new)
         }
         _ => false,
     }
@@ -310,16 +387,16 @@ fn is_plan_index(index: &Index) -> bool
     is_key_index(index, b"sqlite_autoindex_plan_1", 2, [1, 2].as_slice())
 }
 
-#[tactic(auto, unfolding(crate::specs::Finding::volume_index))]
-fn is_volume_index(index: &Index) -> bool
-    ensures { IsTrue result ↔ (index.now ≡ volume_index) }
+#[tactic(auto, unfolding(crate::specs::Finding::old_volume_index))]
+fn is_old_volume_index(index: &Index) -> bool
+    ensures { IsTrue result ↔ (index.now ≡ old_volume_index) }
 {
     is_key_index(index, b"sqlite_autoindex_volume_1", 4, [1, 2, 3].as_slice())
 }
 
-#[tactic(auto, unfolding(crate::specs::Finding::span_index))]
-fn is_span_index(index: &Index) -> bool
-    ensures { IsTrue result ↔ (index.now ≡ span_index) }
+#[tactic(auto, unfolding(crate::specs::Finding::old_span_index))]
+fn is_old_span_index(index: &Index) -> bool
+    ensures { IsTrue result ↔ (index.now ≡ old_span_index) }
 {
     is_key_index(
         index,
@@ -329,17 +406,85 @@ fn is_span_index(index: &Index) -> bool
     )
 }
 
-/// Whether it is the index over the leaves of spans, made after the tables.
+#[tactic(auto, unfolding(crate::specs::Finding::volume_index))]
+fn is_volume_index(index: &Index) -> bool
+    ensures { IsTrue result ↔ (index.now ≡ volume_index) }
+{
+    is_key_index(
+        index,
+        b"sqlite_autoindex_volume2_1",
+        9,
+        [1, 2, 3].as_slice(),
+    )
+}
+
+#[tactic(auto, unfolding(crate::specs::Finding::span_index))]
+fn is_span_index(index: &Index) -> bool
+    ensures { IsTrue result ↔ (index.now ≡ span_index) }
+{
+    is_key_index(
+        index,
+        b"sqlite_autoindex_span2_1",
+        11,
+        [1, 2, 3, 4].as_slice(),
+    )
+}
+
+/// Whether it is an index over the leaves of spans, made after the table in the tree `table`.
+fn is_leaf_index(index: &Index, name: &[u8], tree: u32, table: u32) -> bool
+    ensures { IsTrue result ↔ (index.now ≡ record (first_of name.now table) { tree = tree }) }
+{
+    is_name(&index.name, name)
+        && index.tree == tree
+        && index.table == table
+        && are_places(&index.columns, [4, 5, 6, 7, 8, 9, 10, 1, 2].as_slice())
+        && index.order.digits == 0
+        && !index.is_unique
+}
+
+#[tactic(auto, unfolding(crate::specs::Finding::old_first_index))]
+fn is_old_first_index(index: &Index) -> bool
+    ensures { IsTrue result ↔ (index.now ≡ old_first_index) }
+{
+    is_leaf_index(index, b"span_first", 8, 6)
+}
+
 #[tactic(auto, unfolding(crate::specs::Finding::first_index))]
 fn is_first_index(index: &Index) -> bool
     ensures { IsTrue result ↔ (index.now ≡ first_index) }
 {
-    is_name(&index.name, b"span_first")
-        && index.tree == 8
-        && index.table == 6
-        && are_places(&index.columns, [4, 5, 6, 7, 8, 9, 10, 1, 2].as_slice())
-        && index.order.digits == 0
-        && !index.is_unique
+    is_leaf_index(index, b"span2_first", 13, 11)
+}
+
+/// Whether these are the indexes of version 1's keys, in their order.
+fn are_old_indexes(operator: &Index, plan: &Index, volume: &Index, span: &Index) -> bool
+    ensures { IsTrue result ↔ (operator.now ∷ plan.now ∷ volume.now ∷ span.now ∷ [] ≡ old_indexes_and []) }
+{
+    is_operator_index(operator)
+        && is_plan_index(plan)
+        && is_old_volume_index(volume)
+        && is_old_span_index(span)
+}
+
+/// Whether these are the index over the leaves of `span`, and those that come after it once so much is made.
+fn are_later_indexes(made: Made, indexes: &[Index]) -> bool
+    ensures { IsTrue result ↔ (indexes.now ≡ later_indexes made) }
+{
+    match (made, indexes) {
+        (Made::OldIndex, [old]) => is_old_first_index(old),
+        (Made::Volumes, [old, volume]) => is_old_first_index(old) && is_volume_index(volume),
+        (Made::Spans, [old, volume, span]) => {
+            is_old_first_index(old) && is_volume_index(volume) && is_span_index(span)
+        }
+        (Made::All, [old, volume, span, first]) => {
+            is_old_first_index(old)
+                && is_volume_index(volume)
+                && is_span_index(span)
+                && is_first_index(first)
+        }
+        (Made::OldIndex | Made::Volumes | Made::Spans | Made::All, _) => false,
+        (_, indexes) => indexes.is_empty(),
+    }
 }
 
 /// Whether these are the indexes that are made so far, in their order.
@@ -350,22 +495,13 @@ fn are_indexes(made: Made, indexes: &[Index]) -> bool
         (Made::Nothing, []) => true,
         (Made::Operators, [operator]) => is_operator_index(operator),
         (Made::Plans, [operator, plan]) => is_operator_index(operator) && is_plan_index(plan),
-        (Made::Volumes, [operator, plan, volume]) => {
-            is_operator_index(operator) && is_plan_index(plan) && is_volume_index(volume)
+        (Made::OldVolumes, [operator, plan, volume]) => {
+            is_operator_index(operator) && is_plan_index(plan) && is_old_volume_index(volume)
         }
-        (Made::Spans, [operator, plan, volume, span]) => {
-            is_operator_index(operator)
-                && is_plan_index(plan)
-                && is_volume_index(volume)
-                && is_span_index(span)
-        }
-        (Made::All, [operator, plan, volume, span, first]) => {
-            is_operator_index(operator)
-                && is_plan_index(plan)
-                && is_volume_index(volume)
-                && is_span_index(span)
-                && is_first_index(first)
-        }
+        (
+            Made::OldSpans | Made::OldIndex | Made::Volumes | Made::Spans | Made::All,
+            [operator, plan, volume, span, later @ ..],
+        ) => are_old_indexes(operator, plan, volume, span) && are_later_indexes(made, later),
         _ => false,
     }
 }
@@ -383,28 +519,25 @@ fn is_made(schema: &Schema, made: Made) -> bool
     schema.views.is_empty()
 }
 
-/// How far a desk's tables and index are made, if there is nothing else.
+/// How far a desk's tables and indexes are made, if there is nothing else.
 pub(crate) fn made_in(schema: &Schema) -> Option<Made>
     ensures { MatchOption result ((made : Made) → schema.now ≢ schema_of made)
         (λ made. schema.now ≡ schema_of made) }
 {
-    if is_made(schema, Made::All) {
-        return Some(Made::All);
-    }
-    if is_made(schema, Made::Nothing) {
-        return Some(Made::Nothing);
-    }
-    if is_made(schema, Made::Operators) {
-        return Some(Made::Operators);
-    }
-    if is_made(schema, Made::Plans) {
-        return Some(Made::Plans);
-    }
-    if is_made(schema, Made::Volumes) {
-        return Some(Made::Volumes);
-    }
-    if is_made(schema, Made::Spans) {
-        return Some(Made::Spans);
+    'steps: for made in [
+        Made::All,
+        Made::Spans,
+        Made::Volumes,
+        Made::OldIndex,
+        Made::OldSpans,
+        Made::OldVolumes,
+        Made::Plans,
+        Made::Operators,
+        Made::Nothing,
+    ] {
+        if is_made(schema, made) {
+            return Some(made);
+        }
     }
     None
 }

@@ -4,7 +4,7 @@ ghost use Rattle.std.specs.Prelude.{◌≡◌, ◌↔◌, [], ◌∷◌, true, f
 ghost use Rattle.sqlite.specs.Tree.{rowid};
 ghost use Rattle.sqlite.specs.State.{HasCleanDisk};
 ghost use Rattle.sqlite.specs.Held.{state};
-ghost use Rattle.desk_sql.specs.Schema.{HasTable, schema_of, has_table, tree_of};
+ghost use Rattle.desk_sql.specs.Schema.{HasTable, schema_of, has_table, is_old, tree_of};
 ghost use Rattle.desk_sql.specs.Rows.{AreNumbered, IsMadeTo};
 ghost use Rattle.desk_sql.specs.Refusals.{IsUnnumbered, IsUnread};
 ghost use Rattle.desk_sql.specs.Statements.{SelectsAll, rowids};
@@ -65,20 +65,35 @@ pub enum DeskTable {
     Operator,
     /// `plan`
     Plan,
-    /// `volume`
+    /// `volume`, whose rows are those of version 1 of the schema
+    OldVolume,
+    /// `span`, whose rows are those of version 1
+    OldSpan,
+    /// `volume2`
     Volume,
-    /// `span`
+    /// `span2`
     Span,
 }
 
-fn rowids_text(table: DeskTable) -> &'static str
+impl DeskTable {
+    /// Whether version 1 of the schema has it.
+    pub(crate) fn is_old(self) -> bool
+        ensures { result ≡ is_old self }
+    {
+        !matches!(self, DeskTable::Volume | DeskTable::Span)
+    }
+}
+
+pub(crate) fn rowids_text(table: DeskTable) -> &'static str
     ensures { SelectsAll table result.now (0 ∷ []) (λ db. rowids (db (tree_of table))) }
 {
     match table {
         DeskTable::Operator => "SELECT rowid FROM operator ORDER BY rowid",
         DeskTable::Plan => "SELECT rowid FROM plan ORDER BY rowid",
-        DeskTable::Volume => "SELECT rowid FROM volume ORDER BY rowid",
-        DeskTable::Span => "SELECT rowid FROM span ORDER BY rowid",
+        DeskTable::OldVolume => "SELECT rowid FROM volume ORDER BY rowid",
+        DeskTable::OldSpan => "SELECT rowid FROM span ORDER BY rowid",
+        DeskTable::Volume => "SELECT rowid FROM volume2 ORDER BY rowid",
+        DeskTable::Span => "SELECT rowid FROM span2 ORDER BY rowid",
     }
 }
 
@@ -135,6 +150,8 @@ pub(crate) fn test_tables<S: Alter>(connection: &mut Connection<S>, made: Made) 
 {
     test_made(connection, made, DeskTable::Operator)?;
     test_made(connection, made, DeskTable::Plan)?;
+    test_made(connection, made, DeskTable::OldVolume)?;
+    test_made(connection, made, DeskTable::OldSpan)?;
     test_made(connection, made, DeskTable::Volume)?;
     test_made(connection, made, DeskTable::Span)
 }

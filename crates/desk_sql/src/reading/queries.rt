@@ -77,7 +77,7 @@ fn volumes_of_text() -> &'static str
         (λ key t. filter (is_of key.operator key.id) t.volumes) }
     ensures sure { IsSureFor result.now key_row }
 {
-    "SELECT operator, id, place, lower, upper, start, stop, asked FROM volume \
+    "SELECT operator, id, place, lower, upper, start, stop, asked FROM volume2 \
      WHERE operator = ?1 AND id = ?2 ORDER BY place"
 }
 
@@ -108,14 +108,14 @@ fn own_plans_text() -> &'static str
     ensures shown { Selects result.now name_row (1 ∷ 5 ∷ []) (λ name. with_volumes (is_by name)) }
     ensures sure { IsSureFor result.now name_row }
 {
-    "SELECT plan.operator, plan.id, plan.priority, plan.usage, plan.aircraft, volume.place, \
-     volume.lower, volume.upper, volume.start, volume.stop, volume.asked \
-     FROM plan JOIN volume ON volume.operator = plan.operator AND volume.id = plan.id \
-     WHERE plan.operator = ?1 ORDER BY plan.id, volume.place"
+    "SELECT plan.operator, plan.id, plan.priority, plan.usage, plan.aircraft, volume2.place, \
+     volume2.lower, volume2.upper, volume2.start, volume2.stop, volume2.asked \
+     FROM plan JOIN volume2 ON volume2.operator = plan.operator AND volume2.id = plan.id \
+     WHERE plan.operator = ?1 ORDER BY plan.id, volume2.place"
 }
 
 /// Hands over, one at a time, each plan of an operator with each of its volumes: the columns of `plan`,
-/// and then those of `volume` from `place` on. By id and place.
+/// and then those of `volume2` from `place` to `asked`. By id and place.
 ///
 /// # Errors
 ///

@@ -34,12 +34,12 @@ fn rival_spans_text() -> &'static str
     ensures shown { SelectsRivals result.now }
     ensures sure { IsSureFor result.now rivals_row }
 {
-    "SELECT first, last, lower, upper, start, stop, priority FROM span \
+    "SELECT first, last, lower, upper, start, stop, priority FROM span2 \
      WHERE first >= ?10 AND first <= ?1 AND last >= ?2 AND lower < ?3 AND upper > ?4 \
      AND start < ?5 AND stop > ?6 AND priority >= ?7 AND (operator <> ?8 OR id <> ?9) ORDER BY first"
 }
 
-/// Hands over, one at a time and by `first`, the columns of `span` from `first` on of each span that is
+/// Hands over, one at a time and by `first`, the columns of `span2` from `first` on of each span that is
 /// reached and begins at the leaf position `low` or later, but for those of the plan of this operator with
 /// this id. Rows that begin before `low`, or after the reach, are not looked at.
 ///

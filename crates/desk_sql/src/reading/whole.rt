@@ -85,7 +85,7 @@ pub fn all_plans<S: Alter>(
 fn all_volumes_text() -> &'static str
     ensures { SelectsAll DeskTable.Volume result.now (0 ∷ 1 ∷ 2 ∷ []) (λ db. (tables_of db).volumes) }
 {
-    "SELECT operator, id, place, lower, upper, start, stop, asked FROM volume \
+    "SELECT operator, id, place, lower, upper, start, stop, asked FROM volume2 \
      ORDER BY operator, id, place"
 }
 
@@ -115,11 +115,44 @@ pub fn all_volumes<S: Alter>(
     }
 }
 
+#[tactic(auto, using(crate::proofs::StatementLemmas::all_covers_selected))]
+fn all_covers_text() -> &'static str
+    ensures { SelectsAll DeskTable.Volume result.now (0 ∷ 1 ∷ 2 ∷ []) (λ db. (tables_of db).covers) }
+{
+    "SELECT operator, id, place, canon FROM volume2 ORDER BY operator, id, place"
+}
+
+/// The rows `operator`, `id`, `place`, `canon` of all volumes, by operator, id and place; none if the table
+/// isn't made.
+pub fn all_covers<S: Alter>(
+    alloc: Global,
+    connection: &mut Connection<S>,
+    made: Made,
+) -> Result<Vec<Row>, Error>
+    requires part { Holds S.Store connection.old (IsMadeTo made) }
+    requires settled { connection.old.in_transaction ≡ false }
+    ensures value { HasCleanDisk (state S.Store connection.new)
+        → IfOk result (λ rows. Lists (0 ∷ 1 ∷ 2 ∷ []) ((tables_at made
+        (state S.Store connection.old).now.trees).covers) rows.items) }
+    ensures open { has_table made DeskTable.Volume ≡ true → HasCleanDisk (state S.Store connection.new)
+        → OnOk result (IsTrue (state S.Store connection.old).is_open) }
+    ensures cause { HasCleanDisk (state S.Store connection.new)
+        → IsTrue (state S.Store connection.new).is_open
+        → IfErr result (IsRefusal S.Store connection.old connection.new) }
+    ensures reads { OnlyReads S.Store connection.old connection.new }
+{
+    if made.has(DeskTable::Volume) {
+        ask(connection, all_covers_text())
+    } else {
+        Ok(Vec::new(alloc))
+    }
+}
+
 #[tactic(auto, using(crate::proofs::StatementLemmas::all_spans_selected))]
 fn all_spans_text() -> &'static str
     ensures { SelectsAll DeskTable.Span result.now (0 ∷ 1 ∷ 2 ∷ 3 ∷ []) (λ db. (tables_of db).spans) }
 {
-    "SELECT operator, id, place, first, last, lower, upper, start, stop, priority FROM span \
+    "SELECT operator, id, place, first, last, lower, upper, start, stop, priority FROM span2 \
      ORDER BY operator, id, place, first"
 }
 

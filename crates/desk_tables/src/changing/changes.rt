@@ -18,6 +18,7 @@ ghost use Rattle.desk_tables.specs.Store.{Stands};
 ghost use Rattle.desk_tables.specs.Lengths.{IsKnownPlan, BringsKnown, Keeps};
 ghost use Rattle.desk_tables.specs.Leaving.{MayHave};
 
+use crate::canon::canons_of;
 use crate::changing::records::{
     aircraft_number, asked_of, lengths_with, span_rows, texts_of, usage_number, volume_rows,
 };
@@ -34,6 +35,7 @@ use s2_cover::laws::one_list_of_ranges;
 use sqlite::{Connection, Row};
 use sqlite_trees::store::Alter;
 use std::alloc::Global;
+use volume4d::laws::covers_are_few;
 
 /// Makes a change that fits what the store keeps, as one transaction. The answer is how long spans are then.
 ///
@@ -141,7 +143,8 @@ fn put<S: Alter>(
     let mut buffer = [0u8; 36];
     let id = row.id.encode(&mut buffer);
     let asked = asked_of(alloc, row.area.volumes())?;
-    let volumes = volume_rows(alloc, operator.as_str(), id, row, &asked)?;
+    let canon = canons_of(alloc, row.area.volumes())?;
+    let volumes = volume_rows(alloc, operator.as_str(), id, row, &asked, &canon)?;
     let spans = span_rows(alloc, operator.as_str(), id, row)?;
     let head = PlanRecord {
         operator: operator.as_str(),
@@ -151,6 +154,7 @@ fn put<S: Alter>(
         aircraft: aircraft_number(row.aircraft),
     };
     one_list_of_ranges();
+    covers_are_few();
     match put_plan(connection, head, &volumes, &spans) {
         Ok(()) => Ok(lengths_with(lengths, &spans)),
         Err(e) => Err(fault_of(e)),

@@ -4,13 +4,14 @@ ghost use Rattle.std.specs.Prelude.{◌≡◌, ◌≤◌, ◌<◌, ◌+◌, ◌^
 ghost use Rattle.std.specs.List.{AllByRecursion};
 ghost use Rattle.std.specs.String.{string_bytes};
 ghost use Rattle.volume4d.specs.FootprintBytes.{footprint_bytes};
-ghost use Rattle.desk_sql.specs.Batches.{volume_of, span_of};
+ghost use Rattle.desk_sql.specs.Rows.{cover_row};
+ghost use Rattle.desk_sql.specs.Batches.{volume_of, cover_of, span_of};
 ghost use Rattle.desk_store.specs.Changes.{filed_by};
 ghost use Rattle.desk_tables.specs.Tables as spec;
-ghost use Rattle.desk_tables.specs.Tables.{id_text, area_rows, ArePlanSpanRows, AreSpanRowsFrom};
+ghost use Rattle.desk_tables.specs.Tables.{id_text, area_rows, area_covers, ArePlanSpanRows, AreSpanRowsFrom};
 ghost use Rattle.desk_tables.specs.Content.{IsId, IsBlock};
 ghost use Rattle.desk_tables.specs.Lengths.{IsKnownRow, Keeps};
-ghost use Rattle.desk_tables.specs.PlanRows.{volume_record, slab_record, AreAskedOf};
+ghost use Rattle.desk_tables.specs.PlanRows.{volume_record, slab_record, AreAskedOf, AreCanonOf};
 
 use crate::lengths::Lengths;
 use desk_rules::plan::PlanRow;
@@ -104,31 +105,39 @@ pub(crate) fn volume_rows<'a>(
     id: &'a str,
     plan: &PlanRow,
     asked: &'a [Vec<u8>],
+    canon: &'a [Vec<u8>],
 ) -> Result<Vec<VolumeRecord<'a>>, AllocError>
     requires named { id.now ≡ id_text plan.now.id }
     requires same { AreAskedOf plan.now.area (map (λ bytes. bytes.items) asked.now) }
-    ensures { IfOk result (λ rows. map volume_of rows.items
+    requires covered { AreCanonOf plan.now.area (map (λ bytes. bytes.items) canon.now) }
+    ensures volumes { IfOk result (λ rows. map volume_of rows.items
         ≡ area_rows (filed_by operator.now plan.now)) }
+    ensures covers { IfOk result (λ rows. map cover_of rows.items
+        ≡ area_covers (filed_by operator.now plan.now)) }
 {
     let volumes = plan.area.volumes();
     let mut rows = Vec::new(alloc);
     let mut place = 0u32;
     for volume in volumes {
-        rows.push(volume_row(operator, id, place, volume, &asked[place as usize]))?;
+        let at = place as usize;
+        rows.push(volume_row(operator, id, place, volume, &asked[at], &canon[at]))?;
         place += 1;
     }
     Ok(rows)
 }
 
-// The row of a volume at a place, with the bytes of its footprint.
+// The row of a volume at a place, with the bytes of its footprint and those of its cover.
 fn volume_row<'a>(
     operator: &'a str,
     id: &'a str,
     place: u32,
     volume: &Volume,
     asked: &'a [u8],
+    canon: &'a [u8],
 ) -> VolumeRecord<'a>
-    ensures { volume_of result ≡ volume_record operator.now id.now place volume.now.window asked.now }
+    ensures volume { volume_of result
+        ≡ volume_record operator.now id.now place volume.now.window asked.now }
+    ensures cover { cover_of result ≡ cover_row operator.now id.now place canon.now }
 {
     let window = volume.window();
     VolumeRecord {
@@ -140,6 +149,7 @@ fn volume_row<'a>(
         start: window.start(),
         stop: window.end(),
         asked,
+        canon,
     }
 }
 

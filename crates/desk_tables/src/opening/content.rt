@@ -22,16 +22,18 @@ use std::alloc::{AllocError, AllocFailed, Global};
 use std::marker::Model;
 use volume4d::laws::one_shape;
 
-/// The rows of the four tables, each by the columns of its key.
+/// The rows of the tables, each by the columns of its key; those of `volume2` in two parts.
 #[derive(Drop)]
 pub(crate) struct TableRows {
     pub operators: Vec<Row>,
     pub plans: Vec<Row>,
     pub volumes: Vec<Row>,
+    pub covers: Vec<Row>,
     pub spans: Vec<Row>,
 }
 
 impl Model for TableRows {
+    ghost use Rattle.std.specs.Prelude.{[]};
     ghost use Rattle.desk_sql.specs.Rows.{Tables};
 
     ghost Value = { Tables };
@@ -39,7 +41,10 @@ impl Model for TableRows {
     ghost view = { λ t. record {
       operators = t.operators.items;
       plans = t.plans.items;
+      old_volumes = [];
+      old_spans = [];
       volumes = t.volumes.items;
+      covers = t.covers.items;
       spans = t.spans.items;
     } };
 }
@@ -81,7 +86,7 @@ impl<T: Drop> From<AllocFailed<T>> for RowFault {
     }
 }
 
-/// The content whose rows these are.
+/// The content whose rows these are, but for the covers.
 ///
 /// # Errors
 ///

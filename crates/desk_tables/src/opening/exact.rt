@@ -275,7 +275,7 @@ fn has_leaves_of(row: &Row, slab: &Slab) -> bool
 }
 
 // Whether a row of so many columns begins with an operator's name and the text of an id.
-fn is_keyed(row: &Row, operator: &str, id: &str, width: usize) -> bool
+pub(crate) fn is_keyed(row: &Row, operator: &str, id: &str, width: usize) -> bool
     ensures { IsTrue result ↔ IsKeyed operator.now id.now width row.now }
 {
     if row.column_count() != width {
@@ -325,7 +325,7 @@ fn is_number_at(row: &Row, at: usize, number: i64) -> bool
 }
 
 // Whether a column is this count.
-fn is_count_at(row: &Row, at: usize, count: u64) -> bool
+pub(crate) fn is_count_at(row: &Row, at: usize, count: u64) -> bool
     ensures { IsTrue result ↔ (column row.now at ≡ Int (pos count)) }
 {
     match row.get_ref(at) {

@@ -14,22 +14,26 @@ ghost use Rattle.desk_tables.specs.Store.{Stands};
 ghost use Rattle.desk_store.specs.World.{World};
 ghost use Rattle.desk_tables.specs.Content.{IsContent};
 ghost use Rattle.desk_tables.specs.Lengths.{Bounds, IsKnownRow, Keeps};
-ghost use Rattle.desk_tables.specs.Opening.{AreSortedByKey, AreRows, IsContentOf, AreNoContent};
-ghost use Rattle.desk_tables.specs.Opening.{BeginsWith, WasCompleted, ShowsNoDesk};
+ghost use Rattle.desk_tables.specs.Opening.{AreSortedByKey, AreAllRows, IsContentOf, AreNoContent};
+ghost use Rattle.desk_tables.specs.Opening.{BeginsWith, HasRowsOld, HasNewRows, WasCompleted};
+ghost use Rattle.desk_tables.specs.Opening.{ShowsNoDesk, ShowsOldRows};
 ghost use Rattle.desk_tables.specs.Opening.{BlamesReading, BlamesDatabase};
 
 use crate::kept::Kept;
 use crate::lengths::Lengths;
 use crate::opening::content::{TableRows, content_in};
+use crate::opening::covers::covers_agree;
 use crate::opening::open::OpenFault;
 use desk_sql::{
-    DeskTable, Made, all_operators, all_plans, all_spans, all_volumes, complete_tables, find_tables,
+    DeskTable, Made, all_covers, all_operators, all_plans, all_spans, all_volumes, complete_tables,
+    find_tables, has_old_rows,
 };
 use s2_cover::laws::one_list_of_ranges;
 use sqlite::{Connection, Row};
 use sqlite_trees::store::Alter;
 use sqlite_value::value::ValueRef;
 use std::alloc::Global;
+use volume4d::laws::one_shape;
 
 /// The world that the database stands for: that of the rows in a desk's tables; and how long the spans in it
 /// are. A database with no table gets a desk's, and its world is empty. One with part of them, or without the
@@ -37,8 +41,8 @@ use std::alloc::Global;
 ///
 /// # Errors
 ///
-/// `OutOfMemory` if memory runs out. `Store` if SQLite refuses for another cause. `NotADesk` if there
-/// are other tables, or if the rows are those of no content.
+/// `OutOfMemory` if memory runs out. `Store` if SQLite refuses for another cause. `OldSchema` if there are
+/// rows of schema 1. `NotADesk` if there are other tables, or if the rows are those of no content.
 pub(crate) fn world_in<S: Alter>(
     alloc: Global,
     connection: &mut Connection<S>,
@@ -50,16 +54,72 @@ pub(crate) fn world_in<S: Alter>(
     ensures bounded { IfOk result (λ found. Bounds found.1 found.0.world) }
     ensures none { IfErr result (λ e. e ≡ OpenFault.NotADesk →
         ShowsNoDesk S.Store connection.old connection.new) }
+    ensures old { IfErr result (λ e. e ≡ OpenFault.OldSchema →
+        ShowsOldRows S.Store connection.old connection.new) }
     ensures cause { IfErr result (BlamesDatabase S.Store connection.old connection.new) }
     ensures kept { OnErr result (IsKept S.Store connection.old connection.new) }
     ensures doubt { doubt (state S.Store connection.old).is_clean
         ≤ doubt (state S.Store connection.new).is_clean }
 {
-    match find_tables(connection)? {
-        Some(Made::All) => found_in(alloc, connection, Made::All),
-        Some(Made::Nothing) => Ok((made_in(connection)?, Lengths::new())),
-        Some(made) => completed_in(alloc, connection, made),
-        None => Err(OpenFault::NotADesk),
+    let (made, old) = tables_found(connection)?;
+    if old {
+        return Err(OpenFault::OldSchema);
+    }
+    world_of(alloc, connection, made)
+}
+
+/// How far a desk's tables are made, and whether there are rows of schema 1.
+pub(crate) fn tables_found<S: Alter>(
+    connection: &mut Connection<S>,
+) -> Result<(Made, bool), OpenFault>
+    requires settled { connection.old.in_transaction ≡ false }
+    ensures part { IfOk result (λ found. Holds S.Store connection.new (IsMadeTo found.0)) }
+    ensures rows { IfOk result (λ found.
+        Holds S.Store connection.new (HasRowsOld found.0 found.1)) }
+    ensures some { IfOk result (λ found. found.1 ≡ true → found.0 ≢ Made.Nothing) }
+    ensures none { IfErr result (λ e. e ≡ OpenFault.NotADesk →
+        ShowsNoDesk S.Store connection.old connection.new) }
+    ensures newer { IfErr result (λ e. e ≢ OpenFault.OldSchema) }
+    ensures cause { IfErr result (BlamesDatabase S.Store connection.old connection.new) }
+    ensures reads { OnlyReads S.Store connection.old connection.new }
+{
+    let Some(made) = find_tables(connection)? else {
+        return Err(OpenFault::NotADesk);
+    };
+    if made == Made::Nothing {
+        return Ok((made, false));
+    }
+    let old = has_old_rows(connection, made)?;
+    Ok((made, old))
+}
+
+/// The world that the database stands for, in which there are no rows of schema 1.
+pub(crate) fn world_of<S: Alter>(
+    alloc: Global,
+    connection: &mut Connection<S>,
+    made: Made,
+) -> Result<(Kept, Lengths), OpenFault>
+    requires part { Holds S.Store connection.old (IsMadeTo made) }
+    requires new { Holds S.Store connection.old (HasNewRows made) }
+    requires settled { connection.old.in_transaction ≡ false }
+    ensures begins { IfOk result (λ found.
+        BeginsWith S.Store connection.old connection.new found.0.world) }
+    ensures stands { IfOk result (λ found. Stands S.Store connection.new found.0.world) }
+    ensures bounded { IfOk result (λ found. Bounds found.1 found.0.world) }
+    ensures none { IfErr result (λ e. e ≡ OpenFault.NotADesk →
+        ShowsNoDesk S.Store connection.old connection.new) }
+    ensures newer { IfErr result (λ e. e ≢ OpenFault.OldSchema) }
+    ensures cause { IfErr result (BlamesDatabase S.Store connection.old connection.new) }
+    ensures opened { HasCleanDisk (state S.Store connection.new) →
+        OnOk result (IsTrue (state S.Store connection.old).is_open) }
+    ensures kept { OnErr result (IsKept S.Store connection.old connection.new) }
+    ensures doubt { doubt (state S.Store connection.old).is_clean
+        ≤ doubt (state S.Store connection.new).is_clean }
+{
+    match made {
+        Made::All => found_in(alloc, connection, Made::All),
+        Made::Nothing => Ok((made_in(connection)?, Lengths::new())),
+        made => completed_in(alloc, connection, made),
     }
 }
 
@@ -71,7 +131,8 @@ pub(crate) fn made_in<S: Alter>(connection: &mut Connection<S>) -> Result<Kept, 
     ensures stands { IfOk result (λ kept. Stands S.Store connection.new kept.world) }
     ensures open { HasCleanDisk (state S.Store connection.new) →
         OnOk result (IsTrue (state S.Store connection.old).is_open) }
-    ensures fault { IfErr result (λ e. e ≢ OpenFault.NotADesk) }
+    ensures fault { IfErr result (λ e. (e ≢ OpenFault.NotADesk)
+        × (e ≢ OpenFault.OldSchema)) }
     ensures kept { OnErr result (IsKept S.Store connection.old connection.new) }
     ensures doubt { doubt (state S.Store connection.old).is_clean
         ≤ doubt (state S.Store connection.new).is_clean }
@@ -88,6 +149,7 @@ fn completed_in<S: Alter>(
     made: Made,
 ) -> Result<(Kept, Lengths), OpenFault>
     requires part { Holds S.Store connection.old (IsMadeTo made) }
+    requires new { Holds S.Store connection.old (HasNewRows made) }
     requires missing { made ≢ Made.All }
     requires some { made ≢ Made.Nothing }
     requires settled { connection.old.in_transaction ≡ false }
@@ -98,6 +160,7 @@ fn completed_in<S: Alter>(
     ensures none { HasCleanDisk (state S.Store connection.new) → IfErr result (λ e.
         e ≡ OpenFault.NotADesk →
         AreNoContent (tables_at made (state S.Store connection.old).now.trees)) }
+    ensures newer { IfErr result (λ e. e ≢ OpenFault.OldSchema) }
     ensures open { HasCleanDisk (state S.Store connection.new) →
         OnOk result (IsTrue (state S.Store connection.old).is_open) }
     ensures kept { OnErr result (IsKept S.Store connection.old connection.new) }
@@ -116,6 +179,7 @@ fn found_in<S: Alter>(
     made: Made,
 ) -> Result<(Kept, Lengths), OpenFault>
     requires part { Holds S.Store connection.old (IsMadeTo made) }
+    requires new { Holds S.Store connection.old (HasNewRows made) }
     requires some { has_table made DeskTable.Operator ≡ true }
     requires settled { connection.old.in_transaction ≡ false }
     ensures value { HasCleanDisk (state S.Store connection.new) → IfOk result (λ found.
@@ -124,6 +188,7 @@ fn found_in<S: Alter>(
     ensures none { HasCleanDisk (state S.Store connection.new) → IfErr result (λ e.
         e ≡ OpenFault.NotADesk →
         AreNoContent (tables_at made (state S.Store connection.old).now.trees)) }
+    ensures newer { IfErr result (λ e. e ≢ OpenFault.OldSchema) }
     ensures open { HasCleanDisk (state S.Store connection.new) →
         OnOk result (IsTrue (state S.Store connection.old).is_open) }
     ensures cause { IfErr result (BlamesReading S.Store connection.old connection.new) }
@@ -134,7 +199,7 @@ fn found_in<S: Alter>(
 }
 
 // How long the spans of these rows of `span` are.
-fn lengths_in(rows: &[Row]) -> Lengths
+pub(crate) fn lengths_in(rows: &[Row]) -> Lengths
     ensures { AllByRecursion (IsKnownRow result) rows.now }
 {
     let mut lengths = Lengths::new();
@@ -159,18 +224,24 @@ fn length_with(lengths: &Lengths, row: &Row) -> Lengths
 
 // The world whose rows these are.
 fn kept_of(alloc: Global, rows: &TableRows) -> Result<(Kept, Lengths), OpenFault>
-    ensures value { IfOk result (λ found. IsContent found.0.world × AreRows rows.now found.0.world) }
+    ensures value { IfOk result (λ found.
+        IsContent found.0.world × AreAllRows rows.now found.0.world) }
     ensures bounded { IfOk result (λ found. Bounds found.1 found.0.world) }
     ensures none { IfErr result (λ e. e ≡ OpenFault.NotADesk →
-        (w : World) → IsContent w → ¬ AreRows rows.now w) }
-    ensures fault { IfErr result (λ e. e ≢ OpenFault.Store) }
+        (w : World) → IsContent w → ¬ AreAllRows rows.now w) }
+    ensures fault { IfErr result (λ e. (e ≢ OpenFault.Store)
+        × (e ≢ OpenFault.OldSchema)) }
 {
+    one_shape();
     one_list_of_ranges();
     let content = content_in(alloc, rows)?;
+    if !covers_agree(alloc, &content.plans, &rows.covers)? {
+        return Err(OpenFault::NotADesk);
+    }
     Ok((Kept::of(&content), lengths_in(&rows.spans)))
 }
 
-// The rows of the four tables, each by the columns of its key; of those that aren't made none.
+// The rows of the tables of schema 2, each by the columns of its key; of those that aren't made none.
 #[tactic(auto, using(crate::proofs::FrameLemmas::reads_then, crate::proofs::OpeningLemmas::part_on))]
 fn rows_in<S: Alter>(
     alloc: Global,
@@ -184,18 +255,21 @@ fn rows_in<S: Alter>(
         IfOk result (AreSortedByKey (tables_at made (state S.Store connection.old).now.trees)) }
     ensures open { HasCleanDisk (state S.Store connection.new) →
         OnOk result (IsTrue (state S.Store connection.old).is_open) }
-    ensures fault { IfErr result (λ e. e ≢ OpenFault.NotADesk) }
+    ensures fault { IfErr result (λ e. (e ≢ OpenFault.NotADesk)
+        × (e ≢ OpenFault.OldSchema)) }
     ensures cause { IfErr result (BlamesReading S.Store connection.old connection.new) }
     ensures reads { OnlyReads S.Store connection.old connection.new }
 {
     let operators = all_operators(alloc, connection, made)?;
     let plans = all_plans(alloc, connection, made)?;
     let volumes = all_volumes(alloc, connection, made)?;
+    let covers = all_covers(alloc, connection, made)?;
     let spans = all_spans(alloc, connection, made)?;
     Ok(TableRows {
         operators,
         plans,
         volumes,
+        covers,
         spans,
     })
 }

@@ -1,15 +1,17 @@
 //! Stores of plans made over connections.
 
-ghost use Rattle.std.specs.Prelude.{◌≡◌, ◌≤◌, [], false, IfOk, IfErr, MatchResult};
+ghost use Rattle.std.specs.Prelude.{◌≡◌, ◌≢◌, ◌≤◌, [], false, IfOk, IfErr, MatchResult};
 ghost use Rattle.sqlite_trees.specs.View.{doubt};
 ghost use Rattle.sqlite.specs.Held.{state};
 ghost use Rattle.desk_sql.specs.Effects.{IsKept};
-ghost use Rattle.desk_tables.specs.Opening.{BeginsWith, ShowsNoDesk, BlamesDatabase};
+ghost use Rattle.desk_tables.specs.Moving.{BeginsMoved, BlamesMove, KeepsRows, ShowsNoContent};
+ghost use Rattle.desk_tables.specs.Opening.{BeginsWith, ShowsNoDesk, ShowsOldRows, BlamesDatabase};
 ghost use Rattle.desk_tables.specs.Leaving.{IsSettledAt};
 
 use crate::lengths::Lengths;
 use crate::opening::exact::RowFault;
 use crate::opening::finding::{made_in, world_in};
+use crate::opening::moving::moved_world_in;
 use crate::store::SqliteStore;
 use desk_sql::{Made, find_tables};
 use desk_store::StoreFault;
@@ -49,6 +51,8 @@ pub enum OpenFault {
     Store,
     /// There are other tables than a desk's, or their rows are those of no content.
     NotADesk,
+    /// There are rows of schema 1, which have to be migrated.
+    OldSchema,
 }
 
 impl fmt::Display for OpenFault {
@@ -62,6 +66,7 @@ impl fmt::Display for OpenFault {
             OpenFault::OutOfMemory => "out of memory",
             OpenFault::Store => "the database failed",
             OpenFault::NotADesk => "the tables are not a desk's",
+            OpenFault::OldSchema => "the tables are of schema 1",
         })
     }
 }
@@ -79,6 +84,17 @@ impl From<sqlite::Error> for OpenFault {
             sqlite::Error::SqliteFailure(ErrorCode::OutOfMemory) => OpenFault::OutOfMemory,
             _ => OpenFault::Store,
         }
+    }
+}
+
+impl From<AllocError> for OpenFault {
+    ghost use Rattle.std.specs.Prelude.{◌≡◌};
+    ghost use Rattle.desk_tables.specs.declared.opening.open.OpenFault.TheVariants.{OutOfMemory};
+
+    ghost from_gives = { λ _ fault. fault ≡ OutOfMemory };
+
+    fn from(_error: AllocError) -> OpenFault {
+        OpenFault::OutOfMemory
     }
 }
 
@@ -128,8 +144,9 @@ impl<S: Alter> SqliteStore<S> {
     /// # Errors
     ///
     /// The connection, with the rows that it had, and the first of these that applies: `OutOfMemory` if
-    /// memory runs out, `Store` if SQLite refuses for another cause, and `NotADesk` if there are other
-    /// tables than a desk's, or if their rows are those of no content.
+    /// memory runs out, `Store` if SQLite refuses for another cause, `OldSchema` if there are rows of
+    /// schema 1, and `NotADesk` if there are other tables than a desk's, or if their rows are those of no
+    /// content.
     pub fn adopt(
         alloc: Global,
         mut connection: Connection<S>,
@@ -140,6 +157,8 @@ impl<S: Alter> SqliteStore<S> {
         ensures left { IfOk result (λ store. IsSettledAt S.Store store.held store.world) }
         ensures none { IfErr result (λ refused. refused.fault ≡ OpenFault.NotADesk →
             ShowsNoDesk S.Store connection refused.connection) }
+        ensures old { IfErr result (λ refused. refused.fault ≡ OpenFault.OldSchema →
+            ShowsOldRows S.Store connection refused.connection) }
         ensures cause { IfErr result (λ refused.
             BlamesDatabase S.Store connection refused.connection refused.fault) }
         ensures kept { IfErr result (λ refused. IsKept S.Store connection refused.connection) }
@@ -156,15 +175,53 @@ impl<S: Alter> SqliteStore<S> {
             Err(fault) => Err(AdoptFault { fault, connection }),
         }
     }
+
+    /// The store over a connection, as `adopt` gives it, and how many plans were moved to it from schema 1.
+    /// Where there are rows of schema 1, they are replaced by those of the same content in schema 2, in one
+    /// transaction. Where there are none, no plan is moved, and the number is 0. More plans than the number
+    /// can tell are told as its greatest value.
+    ///
+    /// # Errors
+    ///
+    /// The connection, with the rows that it had, and the first of these that applies: `OutOfMemory` if
+    /// memory runs out, `Store` if SQLite refuses for another cause, and `NotADesk` if there are other tables
+    /// than a desk's, or if their rows are neither those of a content in schema 1 nor those of one in
+    /// schema 2.
+    pub fn adopt_old(
+        alloc: Global,
+        mut connection: Connection<S>,
+    ) -> Result<(SqliteStore<S>, u32), AdoptFault<S>>
+        requires settled { connection.in_transaction ≡ false }
+        ensures begins { IfOk result (λ moved.
+            BeginsMoved S.Store connection moved.0.held moved.0.world moved.1) }
+        ensures left { IfOk result (λ moved. IsSettledAt S.Store moved.0.held moved.0.world) }
+        ensures none { IfErr result (λ refused. refused.fault ≡ OpenFault.NotADesk →
+            ShowsNoContent S.Store connection refused.connection) }
+        ensures newer { IfErr result (λ refused. refused.fault ≢ OpenFault.OldSchema) }
+        ensures cause { IfErr result (λ refused.
+            BlamesMove S.Store connection refused.connection refused.fault) }
+        ensures kept { IfErr result (λ refused. KeepsRows S.Store connection refused.connection) }
+        ensures doubt { MatchResult result
+            (λ moved. doubt (state S.Store connection).is_clean
+            ≤ doubt (state S.Store moved.0.held).is_clean)
+            (λ refused. doubt (state S.Store connection).is_clean
+            ≤ doubt (state S.Store refused.connection).is_clean) }
+    {
+        match moved_world_in(alloc, &mut connection) {
+            Ok((kept, lengths, count)) => {
+                let store = SqliteStore::with(alloc, connection, kept, lengths, StoreFault::Store);
+                Ok((store, count))
+            }
+            Err(fault) => Err(AdoptFault { fault, connection }),
+        }
+    }
 }
 
 // A store of no operators and no plans over files in memory.
 fn over_ram(alloc: Global) -> Result<SqliteStore<FileStore<Ram>>, OpenFault>
     ensures { IfOk result (λ store. store.world ≡ record { operators = []; plans = [] }) }
 {
-    let Ok(page) = blank_database(alloc) else {
-        return Err(OpenFault::OutOfMemory);
-    };
+    let page = blank_database(alloc)?;
     let files = Files {
         log: Ram::new(alloc),
         db: Ram::of(page),

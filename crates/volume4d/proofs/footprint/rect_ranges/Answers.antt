@@ -1,6 +1,7 @@
 use Rattle.std.proofs.Common.{length, subst}
 use Rattle.std.proofs.lemmas.Bool.Decides.{nat_tests}
 use Rattle.std.proofs.Common.{arith, ◌≤◌}
+use Rattle.volume4d.specs.Limits.{max_cover}
 use Rattle.s2_cover.specs.CanonicalList.{canonical_list}
 use Rattle.s2_cover.specs.Rectangles.{rect_leaves}
 use Rattle.volume4d.proofs.FootprintRanges.{rectangle_ranges}
@@ -10,8 +11,8 @@ pub returns-in_ok-ranges-in-Ok-clause-ok : goal.returns-in_ok-ranges-in-Ok-claus
 returns-in_ok-ranges-in-Ok-clause-ok c =
     let rect = c.args.rect.now in
     let spans = c.in_ok-ranges-in-Ok.field-0 in
-    let few : length (canonical_list (rect_leaves rect)) ≤ 256 =
-    subst (λ ids. length ids ≤ 256) c.in-Ok.ensures.list c.in-Ok.ensures.few in
+    let few : length (canonical_list (rect_leaves rect)) ≤ max_cover =
+    subst (λ ids. length ids ≤ max_cover) c.in-Ok.ensures.list c.in-Ok.ensures.few in
     record {
       limits = grind (arith, nat_tests, few);
       ranges =

@@ -2,7 +2,7 @@ use Rattle.std.proofs.Common.{refl, map, take, ◌∙◌, ◌+◌, arith, rules}
 use Rattle.std.proofs.lemmas.List.{map_more}
 use Rattle.sqlite.specs.State.{HasCleanDisk}
 use Rattle.sqlite.specs.Held.{state}
-use Rattle.desk_sql.specs.Batches.{volume_of, AddsVolumes}
+use Rattle.desk_sql.specs.Batches.{volume_of, cover_of, AddsVolumes}
 use Rattle.desk_sql.specs.Refusals.{IsRefusal}
 use Rattle.desk_sql.proofs.BatchLemmas.{begins, goes_on, no_volumes, more_volumes, refused_on, way_on}
 use Rattle.desk_sql.proofs.NewRows.{takes_none, takes_both, volume_fits}
@@ -13,7 +13,8 @@ pub rows-init : goal.rows-init
 rows-init g c = (
   refl,
   begins g.S.Store c.args.tx.now.conn.now
-      (AddsVolumes (map volume_of (take 0 c.args.rows.now))) no_volumes c.requires.under_way,
+      (AddsVolumes (map volume_of (take 0 c.args.rows.now)) (map cover_of (take 0 c.args.rows.now)))
+      no_volumes c.requires.under_way,
   λ clean. takes_none (state g.S.Store c.args.tx.now.conn.now).now.trees,
 )
 
@@ -26,9 +27,11 @@ rows-preserved g c =
     let at = c.rows.row-index in (
       c.insert_volume.ensures.same_reference ∙ c.rows.invariant.0,
       goes_on g.S.Store c.args.tx.now.conn.now c.rows.tx.conn.now c.insert_volume.new.tx.conn.now
-          (AddsVolumes (map volume_of (take at rows))) _ (AddsVolumes (map volume_of (take (at + 1) rows)))
-          (more_volumes (map volume_of (take at rows)) _ (map volume_of (take (at + 1) rows))
-          (map_more volume_of rows at _ c.rows-test.true))
+          (AddsVolumes (map volume_of (take at rows)) (map cover_of (take at rows))) _
+          (AddsVolumes (map volume_of (take (at + 1) rows)) (map cover_of (take (at + 1) rows)))
+          (more_volumes (map volume_of (take at rows)) (map cover_of (take at rows)) _ _
+          (map volume_of (take (at + 1) rows)) (map cover_of (take (at + 1) rows))
+          (map_more volume_of rows at _ c.rows-test.true) (map_more cover_of rows at _ c.rows-test.true))
           c.rows.invariant.1 c.insert_volume.ensures.remembered
           c.in_ok-insert_volume.ensures.done,
       λ clean. takes_both 0 at 0 0 1 0 (state g.S.Store c.args.tx.now.conn.now).now.trees
@@ -44,7 +47,7 @@ returns-in_err-insert_volume-clause-cause g c new clean =
     let mid = c.rows.tx.conn.now in
     let rows = c.args.rows.now in
     let at = c.rows.row-index in
-    let changes = AddsVolumes (map volume_of (take at rows)) in
+    let changes = AddsVolumes (map volume_of (take at rows)) (map cover_of (take at rows)) in
     let early : HasCleanDisk (state g.S.Store mid) =
     omega (arith, c.insert_volume.ensures.remembered.doubt, clean) in
     let it : IsRefusal g.S.Store old c.insert_volume.new.tx.conn.now c.in_err-insert_volume.field-0.0 =

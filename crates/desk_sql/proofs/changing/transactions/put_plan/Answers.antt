@@ -1,7 +1,7 @@
 use Rattle.std.proofs.Common.{arith, length, map, rules}
 use Rattle.sqlite.specs.State.{HasCleanDisk}
 use Rattle.sqlite.specs.Held.{state}
-use Rattle.desk_sql.specs.Batches.{span_of, volume_of}
+use Rattle.desk_sql.specs.Batches.{cover_of, span_of, volume_of}
 use Rattle.desk_sql.specs.Effects.{Makes}
 use Rattle.desk_sql.specs.Putting.{AreNewSpans, AreNewVolumes, TakesRoom}
 use Rattle.desk_sql.specs.Rows.{RemovesPlan}
@@ -15,6 +15,7 @@ pub returns-in_err-insert_volumes-clause-cause : goal.returns-in_err-insert_volu
 returns-in_err-insert_volumes-clause-cause g c put clean live =
     let plan = c.args.plan in
     let volumes = map volume_of c.args.volumes.now in
+    let covers = map cover_of c.args.volumes.now in
     let spans = map span_of c.args.spans.now in
     let begun = c.transaction-tx.result.conn.now in
     let cut = before c.insert_plan.ensures.remembered in
@@ -23,12 +24,13 @@ returns-in_err-insert_volumes-clause-cause g c put clean live =
     → Makes g.S.Store begun cut (RemovesPlan plan.operator.now plan.id.now) = search rules in
     let room : HasCleanDisk (state g.S.Store cut)
     → TakesRoom 0 0 0 (state g.S.Store begun).now.trees (state g.S.Store cut).now.trees = search rules in
-    let fits : HasCleanDisk (state g.S.Store planned) → AreNewVolumes volumes (state g.S.Store planned).now =
-    λ clean.
+    let fits : HasCleanDisk (state g.S.Store planned)
+    → AreNewVolumes volumes covers (state g.S.Store planned).now = λ clean.
     let early : HasCleanDisk (state g.S.Store cut) =
     omega (arith, c.insert_plan.ensures.remembered.doubt, clean) in
     volumes_in_turn g.S.Store c.args.connection.now begun cut plan.operator.now plan.id.now plan.priority
-    plan.usage plan.aircraft volumes spans c.transaction-tx.ensures.begun put (removed early) (room early)
+    plan.usage plan.aircraft volumes covers spans c.transaction-tx.ensures.begun put (removed early)
+    (room early)
     planned (c.in_ok-insert_plan.ensures.done clean) (c.in_ok-insert_plan.ensures.room clean) in
     search (rules, fits)
 
@@ -36,6 +38,7 @@ pub returns-in_err-insert_spans-clause-cause : goal.returns-in_err-insert_spans-
 returns-in_err-insert_spans-clause-cause g c put clean live =
     let plan = c.args.plan in
     let volumes = map volume_of c.args.volumes.now in
+    let covers = map cover_of c.args.volumes.now in
     let spans = map span_of c.args.spans.now in
     let begun = c.transaction-tx.result.conn.now in
     let cut = before c.insert_plan.ensures.remembered in
@@ -52,7 +55,8 @@ returns-in_err-insert_spans-clause-cause g c put clean live =
     let early : HasCleanDisk (state g.S.Store cut) =
     omega (arith, c.insert_plan.ensures.remembered.doubt, mid) in
     spans_in_turn g.S.Store c.args.connection.now begun cut plan.operator.now plan.id.now plan.priority
-    plan.usage plan.aircraft volumes spans c.transaction-tx.ensures.begun put (removed early) (room early)
+    plan.usage plan.aircraft volumes covers spans c.transaction-tx.ensures.begun put (removed early)
+    (room early)
     planned (c.in_ok-insert_plan.ensures.done mid) (c.in_ok-insert_plan.ensures.room mid)
     (length c.args.volumes.now) filled (c.in_ok-insert_volumes.ensures.done clean)
     (c.in_ok-insert_volumes.ensures.room clean) in

@@ -4,7 +4,7 @@ use Rattle.sqlite_value.specs.Value.{owned}
 use Rattle.sqlite.specs.declared.types.Value.TheVariants.{Int}
 use Rattle.sqlite.specs.State.{HasCleanDisk}
 use Rattle.sqlite.specs.Held.{state}
-use Rattle.desk_sql.specs.Rows.{volume_row, AddsVolume}
+use Rattle.desk_sql.specs.Rows.{volume_row, cover_row, AddsVolume}
 use Rattle.desk_sql.specs.Refusals.{IsRefusal}
 use Rattle.desk_sql.proofs.StopLemmas.{refused_change}
 use Rattle.desk_sql.proofs.WriteLemmas.{makes, changed}
@@ -25,7 +25,8 @@ returns-clause-done g c clean =
     search (rules, ints, to_z-of_z, c.params-to_sql-7.ensures) in
     makes g.S.Store old new c.requires.ready (omega (arith, c.run.ensures.remembered.doubt, clean))
     (AddsVolume (volume_row c.args.row.operator.now c.args.row.id.now c.args.row.place c.args.row.lower
-    c.args.row.upper c.args.row.start c.args.row.stop c.args.row.asked.now))
+    c.args.row.upper c.args.row.start c.args.row.stop c.args.row.asked.now)
+    (cover_row c.args.row.operator.now c.args.row.id.now c.args.row.place c.args.row.canon.now))
     (c.in_ok-run.ensures.shown clean)
     (λ desk. changed _ _ _ c.insert_volume_text.ensures.changed c.args.row (state g.S.Store old)
     (state g.S.Store new) desk c.in_ok-run.field-0
@@ -38,6 +39,7 @@ returns-clause-done g c clean =
       start,
       stop,
       c.params-to_sql-8.ensures,
+      c.params-to_sql-9.ensures,
     ) at (c.in_ok-run.ensures.ran clean)))
 
 pub returns-in_err-run-clause-cause : goal.returns-in_err-run-clause-cause
@@ -65,6 +67,7 @@ returns-in_err-run-clause-cause g c way fits clean =
       start,
       stop,
       c.params-to_sql-8.ensures,
+      c.params-to_sql-9.ensures,
     ) at
     (c.in_err-run.ensures.stopped clean (way early).1)) in
     search (rules, it)
@@ -95,4 +98,5 @@ returns-clause-room g c clean =
       start,
       stop,
       c.params-to_sql-8.ensures,
+      c.params-to_sql-9.ensures,
     ) at (c.in_ok-run.ensures.ran clean))

@@ -1,4 +1,4 @@
-use Rattle.std.proofs.Common.{ap, ◌∙◌, sym, rules}
+use Rattle.std.proofs.Common.{◌∙◌, sym, rules}
 use Rattle.desk_sql.proofs.SchemaLemmas.{has_indexes, has_no_views, is_schema}
 use Rattle.desk_sql.proofs.opening.matching.is_made.Goals as goal
 

@@ -1,7 +1,7 @@
 use Rattle.std.proofs.Common.{[], ◌∷◌, sym, subst}
 use Rattle.desk_sql.specs.Schema.{tree_of}
 use Rattle.desk_sql.specs.Statements.{SelectsAll, rowids}
-use Rattle.desk_sql.proofs.RowidLemmas.{operator_rowids_selected, plan_rowids_selected, volume_rowids_selected, span_rowids_selected}
+use Rattle.desk_sql.proofs.RowidLemmas.{operator_rowids_selected, plan_rowids_selected, old_volume_rowids_selected, old_span_rowids_selected, volume_rowids_selected, span_rowids_selected}
 use Rattle.desk_sql.proofs.opening.numbers.rowids_text.Goals as goal
 
 pub returns-in-Operator : goal.returns-in-Operator
@@ -11,6 +11,14 @@ returns-in-Operator c = subst (λ table. SelectsAll table _ (0 ∷ []) (λ db. r
 pub returns-in-Plan : goal.returns-in-Plan
 returns-in-Plan c = subst (λ table. SelectsAll table _ (0 ∷ []) (λ db. rowids (db (tree_of table))))
     (sym c.in-Plan.is) plan_rowids_selected
+
+pub returns-in-OldVolume : goal.returns-in-OldVolume
+returns-in-OldVolume c = subst (λ table. SelectsAll table _ (0 ∷ []) (λ db. rowids (db (tree_of table))))
+    (sym c.in-OldVolume.is) old_volume_rowids_selected
+
+pub returns-in-OldSpan : goal.returns-in-OldSpan
+returns-in-OldSpan c = subst (λ table. SelectsAll table _ (0 ∷ []) (λ db. rowids (db (tree_of table))))
+    (sym c.in-OldSpan.is) old_span_rowids_selected
 
 pub returns-in-Volume : goal.returns-in-Volume
 returns-in-Volume c = subst (λ table. SelectsAll table _ (0 ∷ []) (λ db. rowids (db (tree_of table))))

@@ -1,8 +1,8 @@
-use Rattle.std.proofs.Common.{arith, [], ◌∷◌, sym, ◌∙◌, true, false}
+use Rattle.std.proofs.Common.{arith, [], ◌∷◌, sym, ◌∙◌, true}
 use Rattle.sqlite.specs.Held.{state}
 use Rattle.desk_sql.specs.declared.opening.numbers.DeskTable.TheVariants.{Span}
 use Rattle.desk_sql.specs.Rows.{tables_of, Lists}
-use Rattle.desk_sql.proofs.AskLemmas.{all_selected, shown_at, spans_at, lists_none, reads_none}
+use Rattle.desk_sql.proofs.AskLemmas.{all_selected, shown_at, spans_at}
 use Rattle.desk_sql.proofs.SchemaLemmas.{has_made}
 use Rattle.desk_sql.proofs.StatementLemmas.{if_read}
 use Rattle.desk_sql.proofs.reading.whole.all_spans.Goals as goal

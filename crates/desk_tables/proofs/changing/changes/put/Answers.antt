@@ -4,10 +4,10 @@ use Rattle.sqlite.specs.State.{HasCleanDisk}
 use Rattle.sqlite.specs.Held.{state}
 use Rattle.desk_sql.specs.Rows as sql
 use Rattle.desk_sql.specs.Putting.{IsPuttable}
-use Rattle.desk_sql.specs.Batches.{PutsPlan, volume_of, span_of}
+use Rattle.desk_sql.specs.Batches.{PutsPlan, volume_of, cover_of, span_of}
 use Rattle.desk_sql.specs.Effects.{Commits, MayMake}
 use Rattle.desk_store.specs.Changes.{filed_by}
-use Rattle.desk_tables.specs.Tables.{usage_number, aircraft_number, area_rows, ArePlanSpanRows}
+use Rattle.desk_tables.specs.Tables.{usage_number, aircraft_number, area_rows, area_covers, ArePlanSpanRows}
 use Rattle.desk_tables.specs.Content.{IsBlock}
 use Rattle.desk_tables.specs.Lengths.{IsKnownRow}
 use Rattle.desk_tables.proofs.ParseLemmas.{parsed_id, parsed_short}
@@ -15,6 +15,7 @@ use Rattle.desk_tables.proofs.LengthLemmas.{plan_near}
 use Rattle.desk_tables.proofs.CauseLemmas.{blamed}
 use Rattle.desk_tables.proofs.PuttableLemmas.{puttable}
 use Rattle.desk_tables.proofs.AfterLemmas.{stands_put, left_put}
+use Rattle.desk_tables.proofs.StoreLemmas.{kept_stands}
 use Rattle.desk_tables.proofs.changing.changes.put.Goals as goal
 
 pub returns-in-Ok-clause-ok : goal.returns-in-Ok-clause-ok
@@ -24,13 +25,16 @@ returns-in-Ok-clause-ok g c =
     let operator = c.args.operator.now in
     let row = c.args.row.now in
     let text = c.encode-id.result.now in
-    let volumes = map volume_of c.deref-2.result.now in
-    let spans = map span_of c.deref-3.result.now in
+    let volumes = map volume_of c.deref-3.result.now in
+    let covers = map cover_of c.deref-3.result.now in
+    let spans = map span_of c.deref-4.result.now in
     stands_put g.S.Store old new c.args.kept.now.world c.requires.stands c.in-Ok.ensures.over.mode
-    c.in-Ok.ensures.over.doubt operator row text volumes spans c.encode-id.ensures.text
-    (ap (map volume_of) c.deref-2.ensures.value ∙ c.in_ok-volumes.ensures
+    c.in-Ok.ensures.over.doubt operator row text volumes covers spans c.encode-id.ensures.text
+    (ap (map volume_of) c.deref-3.ensures.value ∙ c.in_ok-volumes.ensures.volumes
     ∙ ap (λ name. area_rows (filed_by name row)) c.as_str.ensures.value)
-    (subst (ArePlanSpanRows (filed_by operator row)) (sym (ap (map span_of) c.deref-3.ensures.value))
+    (ap (map cover_of) c.deref-3.ensures.value ∙ c.in_ok-volumes.ensures.covers
+    ∙ ap (λ name. area_covers (filed_by name row)) c.as_str.ensures.value)
+    (subst (ArePlanSpanRows (filed_by operator row)) (sym (ap (map span_of) c.deref-4.ensures.value))
     (subst (λ name. ArePlanSpanRows (filed_by name row) (map span_of c.in_ok-spans.spans.items))
     c.as_str-2.ensures.value c.in_ok-spans.ensures))
     (record {
@@ -40,12 +44,13 @@ returns-in-Ok-clause-ok g c =
     })
     (λ clean. subst (λ name. Commits g.S.Store old new
     (PutsPlan name text (sql.plan_row name text row.priority (usage_number row.usage)
-    (aircraft_number row.aircraft)) volumes spans)) c.as_str-3.ensures.value
+    (aircraft_number row.aircraft)) volumes covers spans)) c.as_str-3.ensures.value
     (subst (λ usage. Commits g.S.Store old new (PutsPlan c.as_str-3.result.now text
     (sql.plan_row c.as_str-3.result.now text row.priority usage (aircraft_number row.aircraft)) volumes
-    spans)) c.usage_number.ensures
+    covers spans)) c.usage_number.ensures
     (subst (λ aircraft. Commits g.S.Store old new (PutsPlan c.as_str-3.result.now text
-    (sql.plan_row c.as_str-3.result.now text row.priority c.usage_number.result aircraft) volumes spans))
+    (sql.plan_row c.as_str-3.result.now text row.priority c.usage_number.result aircraft)
+    volumes covers spans))
     c.aircraft_number.ensures
     (c.in-Ok.ensures.done clean))))
     c.requires.fits
@@ -70,13 +75,16 @@ returns-in-Ok-clause-crash g c =
     let operator = c.args.operator.now in
     let row = c.args.row.now in
     let text = c.encode-id.result.now in
-    let volumes = map volume_of c.deref-2.result.now in
-    let spans = map span_of c.deref-3.result.now in
+    let volumes = map volume_of c.deref-3.result.now in
+    let covers = map cover_of c.deref-3.result.now in
+    let spans = map span_of c.deref-4.result.now in
     left_put g.S.Store old new c.args.kept.now.world c.requires.stands c.put_plan.ensures.over.doubt operator
-    row text volumes spans c.encode-id.ensures.text
-    (ap (map volume_of) c.deref-2.ensures.value ∙ c.in_ok-volumes.ensures
+    row text volumes covers spans c.encode-id.ensures.text
+    (ap (map volume_of) c.deref-3.ensures.value ∙ c.in_ok-volumes.ensures.volumes
     ∙ ap (λ name. area_rows (filed_by name row)) c.as_str.ensures.value)
-    (subst (ArePlanSpanRows (filed_by operator row)) (sym (ap (map span_of) c.deref-3.ensures.value))
+    (ap (map cover_of) c.deref-3.ensures.value ∙ c.in_ok-volumes.ensures.covers
+    ∙ ap (λ name. area_covers (filed_by name row)) c.as_str.ensures.value)
+    (subst (ArePlanSpanRows (filed_by operator row)) (sym (ap (map span_of) c.deref-4.ensures.value))
     (subst (λ name. ArePlanSpanRows (filed_by name row) (map span_of c.in_ok-spans.spans.items))
     c.as_str-2.ensures.value c.in_ok-spans.ensures))
     (record {
@@ -86,12 +94,13 @@ returns-in-Ok-clause-crash g c =
     })
     (subst (λ name. MayMake g.S.Store old new
     (PutsPlan name text (sql.plan_row name text row.priority (usage_number row.usage)
-    (aircraft_number row.aircraft)) volumes spans)) c.as_str-3.ensures.value
+    (aircraft_number row.aircraft)) volumes covers spans)) c.as_str-3.ensures.value
     (subst (λ usage. MayMake g.S.Store old new (PutsPlan c.as_str-3.result.now text
     (sql.plan_row c.as_str-3.result.now text row.priority usage (aircraft_number row.aircraft)) volumes
-    spans)) c.usage_number.ensures
+    covers spans)) c.usage_number.ensures
     (subst (λ aircraft. MayMake g.S.Store old new (PutsPlan c.as_str-3.result.now text
-    (sql.plan_row c.as_str-3.result.now text row.priority c.usage_number.result aircraft) volumes spans))
+    (sql.plan_row c.as_str-3.result.now text row.priority c.usage_number.result aircraft)
+    volumes covers spans))
     c.aircraft_number.ensures c.put_plan.ensures.crash)))
     c.requires.fits
 
@@ -102,13 +111,16 @@ returns-clause-crash g c =
     let operator = c.args.operator.now in
     let row = c.args.row.now in
     let text = c.encode-id.result.now in
-    let volumes = map volume_of c.deref-2.result.now in
-    let spans = map span_of c.deref-3.result.now in
+    let volumes = map volume_of c.deref-3.result.now in
+    let covers = map cover_of c.deref-3.result.now in
+    let spans = map span_of c.deref-4.result.now in
     left_put g.S.Store old new c.args.kept.now.world c.requires.stands c.put_plan.ensures.over.doubt operator
-    row text volumes spans c.encode-id.ensures.text
-    (ap (map volume_of) c.deref-2.ensures.value ∙ c.in_ok-volumes.ensures
+    row text volumes covers spans c.encode-id.ensures.text
+    (ap (map volume_of) c.deref-3.ensures.value ∙ c.in_ok-volumes.ensures.volumes
     ∙ ap (λ name. area_rows (filed_by name row)) c.as_str.ensures.value)
-    (subst (ArePlanSpanRows (filed_by operator row)) (sym (ap (map span_of) c.deref-3.ensures.value))
+    (ap (map cover_of) c.deref-3.ensures.value ∙ c.in_ok-volumes.ensures.covers
+    ∙ ap (λ name. area_covers (filed_by name row)) c.as_str.ensures.value)
+    (subst (ArePlanSpanRows (filed_by operator row)) (sym (ap (map span_of) c.deref-4.ensures.value))
     (subst (λ name. ArePlanSpanRows (filed_by name row) (map span_of c.in_ok-spans.spans.items))
     c.as_str-2.ensures.value c.in_ok-spans.ensures))
     (record {
@@ -118,12 +130,13 @@ returns-clause-crash g c =
     })
     (subst (λ name. MayMake g.S.Store old new
     (PutsPlan name text (sql.plan_row name text row.priority (usage_number row.usage)
-    (aircraft_number row.aircraft)) volumes spans)) c.as_str-3.ensures.value
+    (aircraft_number row.aircraft)) volumes covers spans)) c.as_str-3.ensures.value
     (subst (λ usage. MayMake g.S.Store old new (PutsPlan c.as_str-3.result.now text
     (sql.plan_row c.as_str-3.result.now text row.priority usage (aircraft_number row.aircraft)) volumes
-    spans)) c.usage_number.ensures
+    covers spans)) c.usage_number.ensures
     (subst (λ aircraft. MayMake g.S.Store old new (PutsPlan c.as_str-3.result.now text
-    (sql.plan_row c.as_str-3.result.now text row.priority c.usage_number.result aircraft) volumes spans))
+    (sql.plan_row c.as_str-3.result.now text row.priority c.usage_number.result aircraft)
+    volumes covers spans))
     c.aircraft_number.ensures c.put_plan.ensures.crash)))
     c.requires.fits
 
@@ -134,15 +147,19 @@ returns-clause-cause g c room clean live =
     let operator = c.args.operator.now in
     let row = c.args.row.now in
     let text = c.encode-id.result.now in
-    let volumes = map volume_of c.deref-2.result.now in
-    let spans = map span_of c.deref-3.result.now in
+    let volumes = map volume_of c.deref-3.result.now in
+    let covers = map cover_of c.deref-3.result.now in
+    let spans = map span_of c.deref-4.result.now in
     let early : HasCleanDisk (state g.S.Store old) = omega (arith, c.put_plan.ensures.over.doubt, clean) in
     let stood = c.requires.stands.standing early (c.in-Err.ensures.kept clean live).was_open in
-    let it = puttable operator row text volumes spans c.args.kept.now.world (state g.S.Store old).now
-    row.priority c.usage_number.result c.aircraft_number.result c.encode-id.ensures.text
-    (ap (map volume_of) c.deref-2.ensures.value ∙ c.in_ok-volumes.ensures
+    let it = puttable c.covers_are_few.ensures operator row text volumes covers spans
+    c.args.kept.now.world (state g.S.Store old).now row.priority c.usage_number.result
+    c.aircraft_number.result c.encode-id.ensures.text
+    (ap (map volume_of) c.deref-3.ensures.value ∙ c.in_ok-volumes.ensures.volumes
     ∙ ap (λ name. area_rows (filed_by name row)) c.as_str.ensures.value)
-    (subst (ArePlanSpanRows (filed_by operator row)) (sym (ap (map span_of) c.deref-3.ensures.value))
+    (ap (map cover_of) c.deref-3.ensures.value ∙ c.in_ok-volumes.ensures.covers
+    ∙ ap (λ name. area_covers (filed_by name row)) c.as_str.ensures.value)
+    (subst (ArePlanSpanRows (filed_by operator row)) (sym (ap (map span_of) c.deref-4.ensures.value))
     (subst (λ name. ArePlanSpanRows (filed_by name row) (map span_of c.in_ok-spans.spans.items))
     c.as_str-2.ensures.value c.in_ok-spans.ensures))
     (record {
@@ -155,5 +172,10 @@ returns-clause-cause g c room clean live =
     (c.requires.fits early) stood.tables room in
     blamed g.S.Store old new c.in-Err.e c.fault_of.result c.fault_of.ensures
     (c.in-Err.ensures.cause (subst (λ name. IsPuttable name text
-    (sql.plan_row name text row.priority c.usage_number.result c.aircraft_number.result) volumes spans
+    (sql.plan_row name text row.priority c.usage_number.result c.aircraft_number.result) volumes covers spans
     (state g.S.Store old).now) (sym c.as_str-3.ensures.value) it)) clean live
+
+pub returns-clause-err : goal.returns-clause-err
+returns-clause-err g c =
+    kept_stands g.S.Store c.args.connection.now c.put_plan.new.connection c.args.kept.now.world
+    c.requires.stands c.put_plan.ensures.over.mode c.put_plan.ensures.over.doubt c.in-Err.ensures.kept

@@ -1,3 +1,4 @@
+use Rattle.std.proofs.Common.{arith}
 use Rattle.sqlite.specs.Held.{state}
 use Rattle.desk_sql.specs.Rows.{tables_at}
 use Rattle.desk_tables.proofs.OpeningLemmas.{have_content, of_none}
@@ -6,8 +7,10 @@ use Rattle.desk_tables.proofs.opening.finding.found_in.Goals as goal
 pub returns-clause-value : goal.returns-clause-value
 returns-clause-value g c = λ clean.
     have_content (tables_at c.args.made (state g.S.Store c.args.connection.now).now.trees) _
-    (λ found. found.0.world)
-    c.kept_of.result (c.in_ok-rows.ensures.value clean) c.kept_of.ensures.value
+    (λ found. found.0.world) c.kept_of.result
+    (c.requires.new (omega (arith, c.in_ok-rows.ensures.reads.doubt, clean))
+    (c.in_ok-rows.ensures.open clean))
+    (c.in_ok-rows.ensures.value clean) c.kept_of.ensures.value
 
 pub returns-clause-none : goal.returns-clause-none
 returns-clause-none g c = λ clean.

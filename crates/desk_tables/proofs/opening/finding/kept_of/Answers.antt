@@ -1,14 +1,26 @@
-use Rattle.std.proofs.Common.{◌∙◌, ap, sym, subst}
+use Rattle.std.proofs.Common.{◌∙◌, ap, sym, subst, true≢false}
 use Rattle.std.specs.List.{AllByRecursion}
 use Rattle.desk_sql.specs.Rows.{Tables}
 use Rattle.desk_tables.specs.Lengths.{Bounds, IsKnownRow}
+use Rattle.desk_tables.specs.Tables.{cover_rows}
+use Rattle.desk_store.specs.World.{World}
+use Rattle.desk_tables.proofs.CoverLemmas.{no_covers}
 use Rattle.desk_tables.proofs.LengthLemmas.{bounds_of}
 use Rattle.desk_tables.proofs.opening.finding.kept_of.Goals as goal
 
 pub returns-clause-bounded : goal.returns-clause-bounded
 returns-clause-bounded c =
-    let spans = c.deref.ensures.value ∙ ap (λ (t : Tables). t.spans) c.rows.view_is in
+    let spans = c.deref-3.ensures.value ∙ ap (λ (t : Tables). t.spans) c.rows.view_is in
     subst (Bounds c.lengths_in.result) (sym c.of.ensures)
     (bounds_of c.one_list_of_ranges.ensures c.lengths_in.result c.in_ok-content.content c.args.rows.now.spans
     c.in_ok-content.ensures.ok.1.span_part
     (subst (AllByRecursion (IsKnownRow c.lengths_in.result)) spans c.lengths_in.ensures))
+
+pub returns-then-not-branch-clause-none : goal.returns-then-not-branch-clause-none
+returns-then-not-branch-clause-none c = λ _.
+    let plans = c.deref.ensures.value ∙ ap (λ (w : World). w.plans) c.content.view_is in
+    let covers = c.deref-2.ensures.value ∙ ap (λ (t : Tables). t.covers) c.rows.view_is in
+    no_covers c.one_shape.ensures c.args.rows.now c.in_ok-content.content c.in_ok-content.ensures.ok.0
+    c.in_ok-content.ensures.ok.1
+    (λ all. true≢false (sym (c.in_ok-covers_agree.ensures.1 (covers ∙ all ∙ ap cover_rows (sym plans)))
+    ∙ c.if-not-branch.true))

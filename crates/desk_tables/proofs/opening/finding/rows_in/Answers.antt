@@ -7,8 +7,20 @@ returns-in_err-spans-clause-cause g c =
     let one = c.all_operators.ensures in
     let two = c.all_plans.ensures in
     let three = c.all_volumes.ensures in
-    let blames = blames_reading g.S.Store c.args.connection.now c.all_volumes.new.connection
+    let four = c.all_covers.ensures in
+    let blames = blames_reading g.S.Store c.args.connection.now c.all_covers.new.connection
     c.all_spans.new.connection c.in_err-spans.field-0.0
+    (omega (arith, one.reads.faults, two.reads.faults, three.reads.faults, four.reads.faults))
+    (four.reads.limit ∙ three.reads.limit ∙ two.reads.limit ∙ one.reads.limit) c.in_err-spans.ensures.cause in
+    search (rules, blames)
+
+pub returns-in_err-covers-clause-cause : goal.returns-in_err-covers-clause-cause
+returns-in_err-covers-clause-cause g c =
+    let one = c.all_operators.ensures in
+    let two = c.all_plans.ensures in
+    let three = c.all_volumes.ensures in
+    let blames = blames_reading g.S.Store c.args.connection.now c.all_volumes.new.connection
+    c.all_covers.new.connection c.in_err-covers.field-0.0
     (omega (arith, one.reads.faults, two.reads.faults, three.reads.faults))
-    (three.reads.limit ∙ two.reads.limit ∙ one.reads.limit) c.in_err-spans.ensures.cause in
+    (three.reads.limit ∙ two.reads.limit ∙ one.reads.limit) c.in_err-covers.ensures.cause in
     search (rules, blames)

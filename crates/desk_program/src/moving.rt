@@ -1,0 +1,37 @@
+//! The line that tells how many plans were moved to schema 2.
+
+ghost use Rattle.std.specs.Prelude.{◌≡◌, IfOk, string_bytes};
+ghost use Rattle.desk_program.specs.Moving as spec;
+ghost use Rattle.desk_program.specs.Moving.{IsCountPrinted};
+
+use desk_line::{Failure, conclude};
+use desk_wire::write_whole;
+use std::alloc::{AllocError, Global};
+use std::io::Write;
+
+/// Prints how many plans were moved, and answers the exit status. The word of a failure goes to `errors`; a
+/// fault there is passed over.
+pub fn print_migrated<W: Write, E: Write>(
+    alloc: Global,
+    count: u32,
+    output: &mut W,
+    errors: &mut E,
+) -> u8
+    ensures { IsCountPrinted count result (W.contents output.old) (W.contents output.new) }
+{
+    let Ok(text) = migrated_text(alloc, count) else {
+        return conclude(errors, Err(Failure::Memory));
+    };
+    match write_whole(output, text.as_bytes()) {
+        Ok(()) => 0,
+        Err(_) => conclude(errors, Err(Failure::Write)),
+    }
+}
+
+// The line that tells how many plans were moved.
+#[tactic(auto, unfolding(crate::specs::Moving::migrated_line))]
+fn migrated_text(alloc: Global, count: u32) -> Result<String, AllocError>
+    ensures { IfOk result (λ text. string_bytes text ≡ spec.migrated_line count) }
+{
+    format!(in alloc; "migrated {count} plans\n")
+}

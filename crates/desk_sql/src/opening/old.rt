@@ -1,0 +1,76 @@
+//! Whether there are rows of version 1 of the schema.
+
+ghost use Rattle.std.specs.Prelude.{◌≡◌, ◌&&◌, true, false, IsTrue, IfOk, IfErr, OnOk};
+ghost use Rattle.sqlite.specs.State.{HasCleanDisk};
+ghost use Rattle.sqlite.specs.Held.{state};
+ghost use Rattle.desk_sql.specs.Schema.{HasTable, has_table, tree_of};
+ghost use Rattle.desk_sql.specs.Rows.{IsMadeTo, has_old_rows, has_rows, tables_at};
+ghost use Rattle.desk_sql.specs.Finding.{Holds};
+ghost use Rattle.desk_sql.specs.Refusals.{IsRefusal};
+ghost use Rattle.desk_sql.specs.Frames.{OnlyReads};
+
+use crate::opening::finding::Made;
+use crate::opening::numbers::{DeskTable, rowids_text};
+use crate::reading::asking::ask;
+use sqlite::{Alter, Connection, Error};
+
+/// Whether a table has a row.
+fn has_row<S: Alter>(connection: &mut Connection<S>, table: DeskTable) -> Result<bool, Error>
+    requires known { Holds S.Store connection.old (HasTable table) }
+    requires settled { connection.old.in_transaction ≡ false }
+    ensures value { HasCleanDisk (state S.Store connection.new)
+        → IfOk result (λ found. found
+        ≡ has_rows ((state S.Store connection.old).now.trees (tree_of table))) }
+    ensures open { HasCleanDisk (state S.Store connection.new)
+        → OnOk result (IsTrue (state S.Store connection.old).is_open) }
+    ensures cause { HasCleanDisk (state S.Store connection.new)
+        → IsTrue (state S.Store connection.new).is_open
+        → IfErr result (IsRefusal S.Store connection.old connection.new) }
+    ensures reads { OnlyReads S.Store connection.old connection.new }
+{
+    let rows = ask(connection, rowids_text(table))?;
+    Ok(!rows.is_empty())
+}
+
+/// Whether a table that may not be made has a row.
+fn has_row_in<S: Alter>(
+    connection: &mut Connection<S>,
+    made: Made,
+    table: DeskTable,
+) -> Result<bool, Error>
+    requires part { Holds S.Store connection.old (IsMadeTo made) }
+    requires settled { connection.old.in_transaction ≡ false }
+    ensures value { HasCleanDisk (state S.Store connection.new)
+        → IfOk result (λ found. found ≡ (has_table made table
+        && has_rows ((state S.Store connection.old).now.trees (tree_of table)))) }
+    ensures open { has_table made table ≡ true → HasCleanDisk (state S.Store connection.new)
+        → OnOk result (IsTrue (state S.Store connection.old).is_open) }
+    ensures cause { HasCleanDisk (state S.Store connection.new)
+        → IsTrue (state S.Store connection.new).is_open
+        → IfErr result (IsRefusal S.Store connection.old connection.new) }
+    ensures reads { OnlyReads S.Store connection.old connection.new }
+{
+    if made.has(table) {
+        has_row(connection, table)
+    } else {
+        Ok(false)
+    }
+}
+
+/// Whether `volume` or `span` has a row: those are of version 1 of the schema.
+pub fn has_old_rows<S: Alter>(connection: &mut Connection<S>, made: Made) -> Result<bool, Error>
+    requires part { Holds S.Store connection.old (IsMadeTo made) }
+    requires settled { connection.old.in_transaction ≡ false }
+    ensures value { HasCleanDisk (state S.Store connection.new)
+        → IfOk result (λ found. found ≡ has_old_rows (tables_at made
+        (state S.Store connection.old).now.trees)) }
+    ensures cause { HasCleanDisk (state S.Store connection.new)
+        → IsTrue (state S.Store connection.new).is_open
+        → IfErr result (IsRefusal S.Store connection.old connection.new) }
+    ensures reads { OnlyReads S.Store connection.old connection.new }
+{
+    if has_row_in(connection, made, DeskTable::OldVolume)? {
+        return Ok(true);
+    }
+    has_row_in(connection, made, DeskTable::OldSpan)
+}

@@ -1,0 +1,85 @@
+//! The rows of version 1 of the schema, as a migration reads them.
+
+ghost use Rattle.std.specs.Prelude.{◌≡◌, [], ◌∷◌, true, false, IfOk, IfErr, OnOk, IsTrue};
+ghost use Rattle.sqlite.specs.State.{HasCleanDisk};
+ghost use Rattle.sqlite.specs.Held.{state};
+ghost use Rattle.desk_sql.specs.Schema.{has_table};
+ghost use Rattle.desk_sql.specs.Rows.{IsMadeTo, tables_of, tables_at, Lists};
+ghost use Rattle.desk_sql.specs.Finding.{Holds};
+ghost use Rattle.desk_sql.specs.Refusals.{IsRefusal};
+ghost use Rattle.desk_sql.specs.Statements.{SelectsAll};
+ghost use Rattle.desk_sql.specs.Frames.{OnlyReads};
+
+use crate::opening::finding::Made;
+use crate::opening::numbers::DeskTable;
+use crate::reading::asking::ask;
+use sqlite::{Alter, Connection, Error, Row};
+use std::alloc::Global;
+
+#[tactic(auto, using(crate::proofs::StatementLemmas::all_old_volumes_selected))]
+fn all_old_volumes_text() -> &'static str
+    ensures { SelectsAll DeskTable.OldVolume result.now (0 ∷ 1 ∷ 2 ∷ []) (λ db. (tables_of db).old_volumes) }
+{
+    "SELECT operator, id, place, lower, upper, start, stop, asked FROM volume \
+     ORDER BY operator, id, place"
+}
+
+/// The rows of `volume`, with the columns of `volumes_of`, by operator, id and place; none if the
+/// table isn't made.
+pub fn all_old_volumes<S: Alter>(
+    alloc: Global,
+    connection: &mut Connection<S>,
+    made: Made,
+) -> Result<Vec<Row>, Error>
+    requires part { Holds S.Store connection.old (IsMadeTo made) }
+    requires settled { connection.old.in_transaction ≡ false }
+    ensures value { HasCleanDisk (state S.Store connection.new)
+        → IfOk result (λ rows. Lists (0 ∷ 1 ∷ 2 ∷ []) ((tables_at made
+        (state S.Store connection.old).now.trees).old_volumes) rows.items) }
+    ensures open { has_table made DeskTable.OldVolume ≡ true → HasCleanDisk (state S.Store connection.new)
+        → OnOk result (IsTrue (state S.Store connection.old).is_open) }
+    ensures cause { HasCleanDisk (state S.Store connection.new)
+        → IsTrue (state S.Store connection.new).is_open
+        → IfErr result (IsRefusal S.Store connection.old connection.new) }
+    ensures reads { OnlyReads S.Store connection.old connection.new }
+{
+    if made.has(DeskTable::OldVolume) {
+        ask(connection, all_old_volumes_text())
+    } else {
+        Ok(Vec::new(alloc))
+    }
+}
+
+#[tactic(auto, using(crate::proofs::StatementLemmas::all_old_spans_selected))]
+fn all_old_spans_text() -> &'static str
+    ensures { SelectsAll DeskTable.OldSpan result.now (0 ∷ 1 ∷ 2 ∷ 3 ∷ []) (λ db. (tables_of db).old_spans) }
+{
+    "SELECT operator, id, place, first, last, lower, upper, start, stop, priority FROM span \
+     ORDER BY operator, id, place, first"
+}
+
+/// The rows `operator`, `id`, `place`, `first`, `last`, `lower`, `upper`, `start`, `stop`, `priority`
+/// of `span`, by operator, id, place and first; none if the table isn't made.
+pub fn all_old_spans<S: Alter>(
+    alloc: Global,
+    connection: &mut Connection<S>,
+    made: Made,
+) -> Result<Vec<Row>, Error>
+    requires part { Holds S.Store connection.old (IsMadeTo made) }
+    requires settled { connection.old.in_transaction ≡ false }
+    ensures value { HasCleanDisk (state S.Store connection.new)
+        → IfOk result (λ rows. Lists (0 ∷ 1 ∷ 2 ∷ 3 ∷ []) ((tables_at made
+        (state S.Store connection.old).now.trees).old_spans) rows.items) }
+    ensures open { has_table made DeskTable.OldSpan ≡ true → HasCleanDisk (state S.Store connection.new)
+        → OnOk result (IsTrue (state S.Store connection.old).is_open) }
+    ensures cause { HasCleanDisk (state S.Store connection.new)
+        → IsTrue (state S.Store connection.new).is_open
+        → IfErr result (IsRefusal S.Store connection.old connection.new) }
+    ensures reads { OnlyReads S.Store connection.old connection.new }
+{
+    if made.has(DeskTable::OldSpan) {
+        ask(connection, all_old_spans_text())
+    } else {
+        Ok(Vec::new(alloc))
+    }
+}

@@ -1,0 +1,467 @@
+-- The move of a content from schema 1 to schema 2.
+use Rattle.std.proofs.Common.{◌≡◌, ◌≢◌, ◌≤◌, ◌↔◌, ◌⊎◌, ℕ, ◌^◌, ◌-◌, length, Bool, true, false, List, [], ◌∷◌, ◌++◌, Result, Ok, Err, IfOk, IfErr, OnOk, OnErr, IsTrue, refl, sym, ap, subst, ◌∙◌, arith, inl, inr, append_assoc, IsPermutation}
+use Rattle.std.specs.List.{flat_map, AllByRecursion}
+use Rattle.std.proofs.lemmas.List.{append-nil}
+use Rattle.std.proofs.lemmas.Grind.{flat_map-append}
+use Rattle.std.proofs.lemmas.List.Sorted.{IsPermutation-refl, IsPermutation-trans, IsPermutation-append_comm, IsPermutation-append_left, IsPermutation-append_right, IsPermutation-sym, length_permutation}
+use Rattle.sqlite_trees.specs.declared.store.Store.{Ghosts}
+use Rattle.sqlite_trees.specs.View.{doubt}
+use Rattle.sqlite_value.specs.Order.{Row}
+use Rattle.sqlite.specs.Effect.{Database, IsDatabase}
+use Rattle.sqlite.specs.State.{HasCleanDisk}
+use Rattle.sqlite.specs.Held.{Held, state}
+use Rattle.s2_cover.specs.CanonicalList.{canonical_list}
+use Rattle.s2_cover.specs.Rectangles.{RectParts}
+use Rattle.volume4d.specs.FootprintBytes.{HasValidParts, footprint_bytes}
+use Rattle.volume4d.specs.Shape.{Shape, cells, rectangle, shape_positions}
+use Rattle.desk_sql.specs.declared.opening.finding.Made.{Made}
+use Rattle.desk_sql.specs.declared.opening.finding.Made.TheVariants.{All}
+use Rattle.desk_sql.specs.Rows.{IsDesk, IsMadeTo, Tables, Lists, RemovesOldVolumes, RemovesOldSpans, tables_of, tables_at, has_old_rows}
+use Rattle.desk_sql.specs.Effects.{IsKept, ShowsAsBefore, Makes, Commits}
+use Rattle.desk_sql.specs.Frames.{OnlyReads, Remembers}
+use Rattle.desk_sql.specs.Batches.{IsUnderWay}
+use Rattle.desk_sql.specs.Finding.{Holds, HasOthers}
+use Rattle.desk_store.specs.World.{Filed, World}
+use Rattle.desk_tables.specs.Tables.{AreTables, HasNoOldRows, area_rows, area_covers, volume_rows, cover_rows, ArePlanSpanRows, AreSpanRows}
+use Rattle.desk_tables.specs.Content.{IsContent}
+use Rattle.desk_tables.specs.declared.opening.open.OpenFault.{OpenFault}
+use Rattle.desk_tables.specs.declared.opening.open.OpenFault.TheVariants.{NotADesk}
+use Rattle.desk_tables.specs.Opening.{AreRows, BeginsWith, BlamesDatabase, HasNoContent, HasOldRows, HasRowsOld, ShowsNoDesk}
+use Rattle.desk_tables.specs.Moving.{AddsPlanRows, AddsPlansRows, AreOldTables, AreNoOldContent, AreSortedOld, BeginsMoved, BlamesMove, HasNoNewRows, HasNoOldContent, IsOldArea, IsOldContent, IsOldContentOf, IsOldShape, IsWhole, KeepsRows, MovesRows, ShowsNoContent, WasMoved, old_max_cover, told_count}
+use Rattle.desk_tables.proofs.ContentLemmas.{one_plans}
+use Rattle.desk_tables.proofs.KeyOrderLemmas.{are_old_rows, are_old_tables}
+use Rattle.desk_tables.proofs.OpeningLemmas.{desk_made, made_desk, none_then, cause_then}
+
+-- ---- a loop that adds the rows of a plan at each turn
+
+pub record HasAdded {S : Type 0} (g : Ghosts S) (old now : Held S)
+    (Changes : Tables → Tables → Type 0) : Type
+    0 where
+  pub remembered : Remembers g old now
+  pub made : HasCleanDisk (state g now) → Makes g old now Changes
+
+pub begins : {S : Type 0} (g : Ghosts S) (old : Held S) (Changes : Tables → Tables → Type 0)
+    → ((t : Tables) → Changes t t) → IsUnderWay g old → HasAdded g old old Changes
+begins g old Changes none under = record {
+  remembered = record {
+    limit = refl;
+    doubt = omega arith;
+    faults = omega arith;
+    spared = λ clean db left. left;
+  };
+  made = λ clean. let h = under clean in record {
+    was_open = h.0;
+    is_open = h.0;
+    begun = h.1;
+    committed = refl;
+    desk = h.2;
+    sound = h.3;
+    changed = none (tables_of (state g old).now.trees);
+  };
+}
+
+pub remembers_then : {S : Type 0} (g : Ghosts S) (old mid new : Held S) → Remembers g old mid
+    → Remembers g mid new → Remembers g old new
+remembers_then g old mid new one two = record {
+  limit = two.limit ∙ one.limit;
+  doubt = omega (arith, one.doubt, two.doubt);
+  faults = omega (arith, one.faults, two.faults);
+  spared = λ clean db left. one.spared (omega (arith, two.doubt, clean)) db (two.spared clean db left);
+}
+
+-- two changes within a transaction, one after the other
+pub makes_then : {S : Type 0} (g : Ghosts S) (old mid new : Held S)
+    (Before Step After : Tables → Tables → Type 0)
+    → ((a b c : Tables) → Before a b → Step b c → After a c)
+    → Makes g old mid Before → Makes g mid new Step → Makes g old new After
+makes_then g old mid new Before Step After joins first last = record {
+  was_open = first.was_open;
+  is_open = last.is_open;
+  begun = last.begun;
+  committed = last.committed ∙ first.committed;
+  desk = last.desk;
+  sound = last.sound;
+  changed = joins (tables_of (state g old).now.trees) (tables_of (state g mid).now.trees)
+      (tables_of (state g new).now.trees) first.changed last.changed;
+}
+
+pub goes_on : {S : Type 0} (g : Ghosts S) (old mid new : Held S)
+    (Before Step After : Tables → Tables → Type 0)
+    → ((a b c : Tables) → Before a b → Step b c → After a c)
+    → HasAdded g old mid Before → Remembers g mid new
+    → (HasCleanDisk (state g new) → Makes g mid new Step) → HasAdded g old new After
+goes_on g old mid new Before Step After joins so_far turn step = record {
+  remembered = remembers_then g old mid new so_far.remembered turn;
+  made = λ clean. makes_then g old mid new Before Step After joins
+      (so_far.made (omega (arith, turn.doubt, clean))) (step clean);
+}
+
+-- the transaction goes on
+pub way_on : {S : Type 0} (g : Ghosts S) (old now : Held S) (Changes : Tables → Tables → Type 0)
+    → HasAdded g old now Changes → IsUnderWay g now
+way_on g old now Changes added clean = let made = added.made clean in
+    (made.is_open, made.begun, made.desk, made.sound)
+
+-- ---- rows that were added
+
+pub no_plans : (t : Tables) → AddsPlansRows [] t t
+no_plans t = record {
+  operators = refl;
+  plans = refl;
+  old_volumes = refl;
+  old_spans = refl;
+  with_volumes = IsPermutation-refl t.volumes;
+  with_covers = IsPermutation-refl t.covers;
+  with_spans = ([], refl, IsPermutation-refl t.spans);
+}
+
+-- further rows after those that were added
+further : (xs ys old mid new : List Row) → IsPermutation (xs ++ old) mid → IsPermutation (ys ++ mid) new
+    → IsPermutation ((xs ++ ys) ++ old) new
+further xs ys old mid new first last =
+    IsPermutation-trans ((xs ++ ys) ++ old) ((ys ++ xs) ++ old) new
+    (IsPermutation-append_left old (xs ++ ys) (ys ++ xs) (IsPermutation-append_comm xs ys))
+    (subst (λ rs. IsPermutation rs new) (sym (append_assoc ys xs old))
+    (IsPermutation-trans (ys ++ (xs ++ old)) (ys ++ mid) new
+    (IsPermutation-append_right ys (xs ++ old) mid first) last))
+
+one_more : (f : Filed → List Row) (ps : List Filed) (p : Filed)
+    → flat_map f (ps ++ p ∷ []) ≡ flat_map f ps ++ f p
+one_more f ps p = flat_map-append f ps (p ∷ []) ∙ ap (λ rs. flat_map f ps ++ rs) (append-nil (f p))
+
+spans_more : (ps : List Filed) (p : Filed) (rows mine : List Row) → AreSpanRows ps rows
+    → ArePlanSpanRows p mine → AreSpanRows (ps ++ p ∷ []) (rows ++ mine)
+spans_more [] p rows mine e own =
+    (mine, [], ap (λ rs. rs ++ mine) e ∙ sym (append-nil mine), own, refl)
+spans_more (q ∷ ps) p rows mine (front, rest, are, first, then) own = (
+  front,
+  rest ++ mine,
+  ap (λ rs. rs ++ mine) are ∙ append_assoc front rest mine,
+  first,
+  spans_more ps p rest mine then own,
+)
+
+pub more_plans : (ps : List Filed) (p : Filed) (all : List Filed) → all ≡ ps ++ p ∷ [] → (a b c : Tables)
+    → AddsPlansRows ps a b → AddsPlanRows p b c → AddsPlansRows all a c
+more_plans ps p all is a b c first last =
+    subst (λ qs. AddsPlansRows qs a c) (sym is) (record {
+      operators = last.operators ∙ first.operators;
+      plans = last.plans ∙ first.plans;
+      old_volumes = last.old_volumes ∙ first.old_volumes;
+      old_spans = last.old_spans ∙ first.old_spans;
+      with_volumes = subst (λ rs. IsPermutation (rs ++ a.volumes) c.volumes) (sym (one_more area_rows ps p))
+          (further (volume_rows ps) (area_rows p) a.volumes b.volumes c.volumes first.with_volumes
+          last.with_volumes);
+      with_covers = subst (λ rs. IsPermutation (rs ++ a.covers) c.covers) (sym (one_more area_covers ps p))
+          (further (cover_rows ps) (area_covers p) a.covers b.covers c.covers first.with_covers
+          last.with_covers);
+      with_spans = (
+        first.with_spans.0 ++ last.with_spans.0,
+        spans_more ps p first.with_spans.0 last.with_spans.0 first.with_spans.1 last.with_spans.1,
+        further first.with_spans.0 last.with_spans.0 a.spans b.spans c.spans first.with_spans.2
+            last.with_spans.2,
+      );
+    })
+
+-- ---- rows that went, and those that came
+
+pub no_old_left : (a b c : Tables) → RemovesOldVolumes a b → RemovesOldSpans b c
+    → c ≡ record a { old_volumes = []; old_spans = [] }
+no_old_left a b c one two = two ∙ ap (λ (t : Tables). record t { old_spans = [] }) one
+
+pub moves : (ps : List Filed) (a b c : Tables) → b ≡ record a { old_volumes = []; old_spans = [] }
+    → AddsPlansRows ps b c → MovesRows ps a c
+moves ps a b c is adds = record {
+  operators = adds.operators ∙ ap (λ (t : Tables). t.operators) is;
+  plans = adds.plans ∙ ap (λ (t : Tables). t.plans) is;
+  old_volumes = adds.old_volumes ∙ ap (λ (t : Tables). t.old_volumes) is;
+  old_spans = adds.old_spans ∙ ap (λ (t : Tables). t.old_spans) is;
+  with_volumes = subst (λ (t : Tables). IsPermutation (volume_rows ps ++ t.volumes) c.volumes) is
+      adds.with_volumes;
+  with_covers = subst (λ (t : Tables). IsPermutation (cover_rows ps ++ t.covers) c.covers) is
+      adds.with_covers;
+  with_spans = subst (λ (t : Tables). (rows : List Row) × AreSpanRows ps rows
+      × IsPermutation (rows ++ t.spans) c.spans) is adds.with_spans;
+}
+
+-- tables of schema 1 whose rows are moved have the rows of the same world in schema 2
+pub moved_tables : (a b : Tables) (w : World) → AreOldTables a w → MovesRows w.plans a b → AreTables b w
+moved_tables a b w are moved = record {
+  old = record { volumes = moved.old_volumes; spans = moved.old_spans };
+  operators = subst (IsPermutation _) (sym moved.operators) are.operators;
+  plans = subst (IsPermutation _) (sym moved.plans) are.plans;
+  volumes = alone (volume_rows w.plans) a.volumes b.volumes are.new.volumes moved.with_volumes;
+  covers = alone (cover_rows w.plans) a.covers b.covers are.new.covers moved.with_covers;
+  spans = let it = moved.with_spans in (it.0, it.1, alone it.0 a.spans b.spans are.new.spans it.2);
+} where
+  alone : (rows old new : List Row) → old ≡ [] → IsPermutation (rows ++ old) new → IsPermutation rows new
+  alone rows old new none same =
+      subst (λ rs. IsPermutation rs new) (ap (λ rs. rows ++ rs) none ∙ append-nil rows) same
+
+-- ---- a test of one after the other
+
+-- all pass if and only if those that are left do
+abbrev pub AllIf : {A : Type 0} → (A → Type 0) → List A → List A → Type 0
+AllIf P all left = AllByRecursion P all ↔ AllByRecursion P left
+
+module _ {A : Type 0} (P : A → Type 0) (all : List A) where
+  pub all_on : (left later : List A) (x : A) → AllIf P all left → left ≡ x ∷ later → P x
+      → AllIf P all later
+  all_on left later x before is passes = (
+    λ h. (subst (AllByRecursion P) is (before.0 h)).1,
+    λ h. before.1 (subst (AllByRecursion P) (sym is) (passes, h)),
+  )
+
+  pub all_stops : (left later : List A) (x : A) → AllIf P all left → left ≡ x ∷ later → (P x → ⊥)
+      → AllByRecursion P all → ⊥
+  all_stops left later x before is fails h = fails (subst (AllByRecursion P) is (before.0 h)).0
+
+  pub all_end : (left : List A) → AllIf P all left → left ≡ [] → AllByRecursion P all
+  all_end left before none = before.1 (subst (AllByRecursion P) (sym none) tt)
+
+-- ---- the limits of schema 1
+
+pub old_cells : (shape : Shape) (ids : List ℕ) → shape ≡ cells ids → IsOldShape shape
+old_cells shape ids is = subst IsOldShape (sym is) tt
+
+-- a rectangle is within them if its canonical cover is
+pub old_rectangle : (shape : Shape) (r : RectParts) (ids : List ℕ) → shape ≡ rectangle r
+    → ids ≡ canonical_list (shape_positions shape) → (length ids ≤ old_max_cover) ↔ IsOldShape shape
+old_rectangle shape r ids is cover = (
+  λ few. subst IsOldShape (sym is)
+      (subst (λ s. length (canonical_list (shape_positions s)) ≤ old_max_cover) is
+      (subst (λ xs. length xs ≤ old_max_cover) cover few)),
+  λ old. subst (λ xs. length xs ≤ old_max_cover) (sym cover)
+      (subst (λ s. length (canonical_list (shape_positions s)) ≤ old_max_cover) (sym is)
+      (subst IsOldShape is old)),
+)
+
+-- ---- tables with no row
+
+no_rows_if : (xs rows : List Row) (keys : List ℕ) → Lists keys xs rows → (rows ≡ []) ↔ (xs ≡ [])
+no_rows_if xs rows keys lists = (
+  λ none. nothing xs (subst (IsPermutation xs) none lists.same),
+  λ none. nothing rows (subst (λ ys. IsPermutation rows ys) none
+      (IsPermutation-sym xs rows lists.same)),
+) where
+  nothing : (ys : List Row) → IsPermutation ys [] → ys ≡ []
+  nothing [] same = refl
+  nothing (y ∷ ys) same = absurd (omega (arith, length_permutation (y ∷ ys) [] same))
+
+pub none_new : (t : Tables) (volumes covers spans : List Row) (empty : Bool)
+    → Lists (0 ∷ 1 ∷ 2 ∷ []) t.volumes volumes → Lists (0 ∷ 1 ∷ 2 ∷ []) t.covers covers
+    → Lists (0 ∷ 1 ∷ 2 ∷ 3 ∷ []) t.spans spans
+    → IsTrue empty ↔ ((volumes ≡ []) × (covers ≡ []) × (spans ≡ [])) → IsTrue empty ↔ HasNoNewRows t
+none_new t volumes covers spans empty one two three is =
+    let first = no_rows_if t.volumes volumes (0 ∷ 1 ∷ 2 ∷ []) one in
+    let second = no_rows_if t.covers covers (0 ∷ 1 ∷ 2 ∷ []) two in
+    let third = no_rows_if t.spans spans (0 ∷ 1 ∷ 2 ∷ 3 ∷ []) three in (
+      λ h. let parts = is.0 h in record {
+        volumes = first.0 parts.0;
+        covers = second.0 parts.1;
+        spans = third.0 parts.2;
+      },
+      λ none. is.1 (first.1 none.volumes, second.1 none.covers, third.1 none.spans),
+    )
+
+-- ---- a content of schema 1
+
+-- contents whose rows are read alike have the same plans
+pub no_old_areas : ((one other : Shape) → HasValidParts one → HasValidParts other
+    → footprint_bytes one ≡ footprint_bytes other → one ≡ other)
+    → (t : Tables) (v : World) → IsContent v → AreRows t v
+    → (AllByRecursion (λ (p : Filed). IsOldArea p.row.area) v.plans → ⊥)
+    → (w : World) → IsOldContent w → AreRows t w → ⊥
+no_old_areas one_shape t v hv rows off w hw are =
+    let plans = one_plans one_shape v.plans w.plans hv.rows hw.content.rows
+    (sym rows.plan_part ∙ are.plan_part) (sym rows.volume_part ∙ are.volume_part) in
+    off (subst (AllByRecursion (λ (p : Filed). IsOldArea p.row.area)) (sym plans) hw.areas)
+
+module _ (t rows : Tables) {V : Type 0} where
+  pub have_old_content : (world : V → World) (r : Result V OpenFault) → HasNoNewRows t
+      → AreSortedOld t rows → IfOk r (λ v. IsOldContent (world v) × AreRows rows (world v))
+      → IfOk r (λ v. IsOldContentOf t (world v))
+  have_old_content world (Ok v) none lists read = record {
+    content = read.0;
+    tables = are_old_tables t rows (world v) none lists read.1;
+  }
+  have_old_content world (Err e) none lists read = tt
+
+  pub of_no_old : (r : Result V OpenFault) → AreSortedOld t rows
+      → IfErr r (λ e. e ≡ NotADesk → (w : World) → IsOldContent w → ¬ AreRows rows w)
+      → IfErr r (λ e. e ≡ NotADesk → AreNoOldContent t)
+  of_no_old (Ok v) lists none = tt
+  of_no_old (Err e) lists none = λ n w old are. none n w old (are_old_rows t rows w old.content are lists)
+
+-- rows in the tables of schema 2 are no content's of schema 1
+pub none_with_new : (t : Tables) → ¬ HasNoNewRows t → AreNoOldContent t
+none_with_new t some = λ w old are. some are.new
+
+-- ---- what is left of a connection
+
+module _ {S : Type 0} (g : Ghosts S) where
+  -- a content that was read, and whose rows were moved
+  pub was_moved : (made : Made) (w : World) (a b c d : Held S) → Holds g a (IsMadeTo made)
+      → Holds g a (HasRowsOld made true) → OnlyReads g a b → HasCleanDisk (state g b)
+      → IsWhole g made b c → Commits g c d (MovesRows w.plans)
+      → IsOldContentOf (tables_at made (state g a).now.trees) w → WasMoved g a d w
+  was_moved made w a b c d part old reads clean whole done rows =
+      let shows = reads.kept clean whole.was_open in
+      let first : HasCleanDisk (state g a) = omega (arith, reads.doubt, clean) in record {
+        made = made;
+        desk = part first shows.was_open;
+        old_rows = old first shows.was_open;
+        rows = rows;
+        standing = record {
+          content = rows.content.content;
+          desk = done.desk;
+          tables = moved_tables (tables_of (state g c).now.trees) (tables_of (state g d).now.trees) w
+              (subst (λ t. AreOldTables t w)
+              (sym (whole.same ∙ ap (λ (db : Database). tables_at made db.trees) shows.now)) rows.tables)
+              done.changed;
+        };
+      }
+
+  -- where nothing was missing, nothing is made
+  pub whole_already : (made : Made) (a : Held S) → Holds g a (IsMadeTo made) → made ≡ All
+      → HasCleanDisk (state g a) → IsTrue (state g a).is_open → IsWhole g made a a
+  whole_already made a part all = λ clean live. record {
+    was_open = live;
+    desk = desk_made (state g a).now
+        (subst (λ m. IsMadeTo m (state g a).now) all (part clean live));
+    same = ap (λ m. tables_at m (state g a).now.trees) (sym all);
+  }
+
+  -- the same before a reading
+  pub moved_since : (w : World) (a b c : Held S) → ShowsAsBefore g a b → WasMoved g b c w
+      → WasMoved g a c w
+  moved_since w a b c shows was = record {
+    made = was.made;
+    desk = subst (IsMadeTo was.made) shows.now was.desk;
+    old_rows = ap (λ (db : Database). has_old_rows (tables_at was.made db.trees)) (sym shows.now)
+        ∙ was.old_rows;
+    rows = subst (λ (db : Database). IsOldContentOf (tables_at was.made db.trees) w) shows.now was.rows;
+    standing = was.standing;
+  }
+
+  -- what is kept keeps rows
+  pub keeps_rows : (a b : Held S) → IsKept g a b → KeepsRows g a b
+  keeps_rows a b kept = λ clean live. inl (kept clean live)
+
+  -- rows that are kept since a reading
+  pub keeps_since : (a b c : Held S) → IsKept g a b → doubt (state g b).is_clean ≤ doubt (state g c).is_clean
+      → KeepsRows g b c → KeepsRows g a c
+  keeps_since a b c one rises two = λ clean live. elim (two clean live) [
+    | inl same ↦
+        let before = one (omega (arith, rises, clean)) same.was_open in
+        inl (record {
+          was_open = before.was_open;
+          now = same.now ∙ before.now;
+          committed = same.committed ∙ before.committed;
+        })
+    | inr rows ↦
+        let before = one (omega (arith, rises, clean)) rows.was_open in
+        inr (record {
+          made = rows.made;
+          next = rows.next;
+          was_open = before.was_open;
+          desk = subst (IsMadeTo rows.made) before.now rows.desk;
+          after = rows.after;
+          same = rows.same ∙ ap (λ (db : Database). tables_at rows.made db.trees) before.now;
+        })
+  ]
+
+  -- tables that were completed, and then kept
+  pub keeps_whole : (made : Made) (b c d : Held S) → Holds g b (IsMadeTo made)
+      → doubt (state g b).is_clean ≤ doubt (state g c).is_clean
+      → doubt (state g c).is_clean ≤ doubt (state g d).is_clean
+      → (HasCleanDisk (state g c) → IsTrue (state g c).is_open → IsWhole g made b c)
+      → IsKept g c d → KeepsRows g b d
+  keeps_whole made b c d part one two done kept = λ clean live.
+      let shows = kept clean live in
+      let mid : HasCleanDisk (state g c) = omega (arith, two, clean) in
+      let whole = done mid shows.was_open in
+      inr (record {
+        made = made;
+        next = All;
+        was_open = whole.was_open;
+        desk = part (omega (arith, one, mid)) whole.was_open;
+        after = subst (IsMadeTo All) (sym shows.now) (made_desk (state g c).now whole.desk);
+        same = ap (λ (db : Database). tables_of db.trees) shows.now ∙ whole.same;
+      })
+
+  was_live : (b c : Held S) → KeepsRows g b c → HasCleanDisk (state g c) → IsTrue (state g c).is_open
+      → IsTrue (state g b).is_open
+  was_live b c kept clean live = elim (kept clean live) [
+    | inl same ↦ same.was_open
+    | inr rows ↦ rows.was_open
+  ]
+
+-- what is said of a move since a reading is said of it since before the reading
+module _ {S : Type 0} (g : Ghosts S) (a b c : Held S) (reads : OnlyReads g a b)
+    (rises : doubt (state g b).is_clean ≤ doubt (state g c).is_clean) where
+  before_move : HasCleanDisk (state g c) → IsTrue (state g b).is_open → ShowsAsBefore g a b
+  before_move clean live = reads.kept (omega (arith, rises, clean)) live
+
+  pub begins_moved : {V : Type 0} (world : V → World) (count : V → ℕ) (r : Result V OpenFault)
+      → (HasCleanDisk (state g c) → OnOk r (IsTrue (state g b).is_open))
+      → (HasCleanDisk (state g c) → IfOk r (λ v. (count v ≡ told_count (world v).plans)
+      × WasMoved g b c (world v)))
+      → IfOk r (λ v. BeginsMoved g a c (world v) (count v))
+  begins_moved world count (Err e) opened was = tt
+  begins_moved world count (Ok v) opened was = λ clean live.
+      inr ((was clean).0, moved_since g (world v) a b c (before_move clean (opened clean)) (was clean).1)
+
+  pub keeps_moved : {V : Type 0} (r : Result V OpenFault) → OnErr r (KeepsRows g b c)
+      → OnErr r (KeepsRows g a c)
+  keeps_moved (Ok v) kept = tt
+  keeps_moved (Err e) kept = keeps_since g a b c reads.kept rises kept
+
+  pub none_moved : {V : Type 0} (made : Made) (r : Result V OpenFault) → Holds g b (IsMadeTo made)
+      → Holds g b (HasRowsOld made true) → OnErr r (KeepsRows g b c)
+      → (HasCleanDisk (state g c) → IfErr r (λ e. e ≡ NotADesk
+      → AreNoOldContent (tables_at made (state g b).now.trees)))
+      → IfErr r (λ e. e ≡ NotADesk → ShowsNoContent g a c)
+  none_moved made (Ok v) part old kept none = tt
+  none_moved made (Err e) part old kept none = λ is clean live.
+      let was = was_live g b c kept clean live in
+      let mid : HasCleanDisk (state g b) = omega (arith, rises, clean) in
+      let shows = before_move clean was in
+      subst (λ (db : Database). HasOthers db ⊎ (HasNoContent db ⊎ HasNoOldContent db)) shows.now
+      (inr (inr (record { made = made; desk = part mid was; old = old mid was; none = none clean is })))
+
+  pub cause_moved : {V : Type 0} (made : Made) (r : Result V OpenFault) → Holds g b (IsMadeTo made)
+      → Holds g b (HasRowsOld made true) → OnErr r (KeepsRows g b c) → IfErr r (BlamesMove g a c)
+  cause_moved made (Ok v) part old kept = tt
+  cause_moved made (Err e) part old kept = λ clean live told.
+      let was = was_live g b c kept clean live in
+      let mid : HasCleanDisk (state g b) = omega (arith, rises, clean) in
+      let shows = before_move clean was in
+      inr (inr (subst HasOldRows shows.now (record { made = made; desk = part mid was; old = old mid was })))
+
+-- an opening that moves nothing is a move of no plan
+module _ {S : Type 0} (g : Ghosts S) (a c : Held S) where
+  pub begins_unmoved : (w : World) → BeginsWith g a c w → BeginsMoved g a c w 0
+  begins_unmoved w found = λ clean live. inl (refl, found)
+
+  pub none_unmoved : ShowsNoDesk g a c → ShowsNoContent g a c
+  none_unmoved none = λ clean live. elim (none clean live) [
+    | inl others ↦ inl others
+    | inr rows ↦ inr (inl rows)
+  ]
+
+  pub cause_unmoved : (e : OpenFault) → BlamesDatabase g a c e → BlamesMove g a c e
+  cause_unmoved e cause = λ clean live told. elim (cause clean live told) [
+    | inl failed ↦ inl failed
+    | inr unmade ↦ inr (inl unmade)
+  ]
+
+-- and so is a refusal of such an opening, since before a reading
+module _ {S : Type 0} (g : Ghosts S) (a b c : Held S) (reads : OnlyReads g a b)
+    (rises : doubt (state g b).is_clean ≤ doubt (state g c).is_clean) (e : OpenFault)
+    (kept : IsKept g b c) where
+  pub none_later : (e ≡ NotADesk → ShowsNoDesk g b c) → e ≡ NotADesk → ShowsNoContent g a c
+  none_later none is = none_unmoved g a c (none_then g a b c reads rises {V = Unit {0}} (Err e) kept none is)
+
+  pub cause_later : BlamesDatabase g b c e → BlamesMove g a c e
+  cause_later cause = cause_unmoved g a c e (cause_then g a b c reads rises {V = Unit {0}} (Err e) kept cause)

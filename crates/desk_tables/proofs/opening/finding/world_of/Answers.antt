@@ -1,0 +1,63 @@
+use Rattle.std.proofs.Common.{rules, ◌≢◌, arith}
+use Rattle.desk_sql.specs.declared.opening.finding.Made.TheVariants.{Nothing, All}
+use Rattle.desk_sql.specs.Finding.{Holds}
+use Rattle.desk_sql.specs.Rows.{IsMadeTo}
+use Rattle.desk_tables.specs.Opening.{BlamesDatabase, HasNewRows}
+use Rattle.desk_tables.proofs.FrameLemmas.{reads_itself}
+use Rattle.desk_tables.proofs.OpeningLemmas.{none_of, begins_found, begins_completed, kept_on_err, found_stands, blames_part, blames_completing, told_as}
+use Rattle.desk_tables.proofs.opening.finding.world_of.Goals as goal
+
+pub returns-in_err-made_in-in-Nothing-clause-cause : goal.returns-in_err-made_in-in-Nothing-clause-cause
+returns-in_err-made_in-in-Nothing-clause-cause g c =
+    let old = c.args.connection.now in
+    let part : Holds g.S.Store old (IsMadeTo Nothing) = search rules in
+    told_as (BlamesDatabase g.S.Store old c.made_in.new.connection) c.from_residual.result _
+    c.from_residual.ensures.1
+    (blames_part g.S.Store Nothing c.in_err-made_in-in-Nothing.field-0.0 old old c.made_in.new.connection
+    (λ e. cc) (reads_itself g.S.Store old c.requires.settled).kept part
+    c.in_err-made_in-in-Nothing.ensures.kept c.made_in.ensures.doubt)
+
+pub returns-in-All-clause-stands : goal.returns-in-All-clause-stands
+returns-in-All-clause-stands g c =
+    let whole : Holds g.S.Store c.args.connection.now (IsMadeTo All) = search rules in
+    found_stands g.S.Store (λ found. found.0.world) c.found_in.result c.args.connection.now
+    c.found_in.new.connection whole c.found_in.ensures.reads c.found_in.ensures.value
+
+pub returns-in-All-clause-begins : goal.returns-in-All-clause-begins
+returns-in-All-clause-begins g c =
+    let old = c.args.connection.now in
+    begins_found g.S.Store (λ found. found.0.world) c.found_in.result old old c.found_in.new.connection
+    (reads_itself g.S.Store old c.requires.settled).kept
+    c.found_in.ensures.reads (returns-in-All-clause-stands g c)
+
+pub returns-in-All-clause-none : goal.returns-in-All-clause-none
+returns-in-All-clause-none g c =
+    let old = c.args.connection.now in
+    let whole : Holds g.S.Store old (IsMadeTo All) = search rules in
+    let new : Holds g.S.Store old (HasNewRows All) = search rules in
+    none_of g.S.Store All c.found_in.result old old c.found_in.new.connection
+    (reads_itself g.S.Store old c.requires.settled).kept whole new
+    (kept_on_err c.found_in.result c.found_in.ensures.reads.kept)
+    c.found_in.ensures.reads.doubt c.found_in.ensures.none
+
+pub returns-in_default : goal.returns-in_default
+returns-in_default g c =
+    let old = c.args.connection.now in
+    let new = c.completed_in.new.connection in
+    let made = c.args.made in
+    let kept = (reads_itself g.S.Store old c.requires.settled).kept in
+    let missing : made ≢ All = search rules in
+    let done = c.completed_in.ensures in record {
+      begins = begins_completed g.S.Store made (λ found. found.0.world) c.completed_in.result old old new
+          kept done.doubt done.open done.value;
+      stands = done.stands;
+      bounded = done.bounded;
+      none = none_of g.S.Store made c.completed_in.result old old new kept c.requires.part c.requires.new
+          done.kept done.doubt done.none;
+      newer = done.newer;
+      cause = blames_completing g.S.Store made c.completed_in.result old old new missing kept c.requires.part
+          done.kept done.doubt;
+      opened = done.open;
+      kept = done.kept;
+      doubt = done.doubt;
+    }

@@ -1,0 +1,25 @@
+use Rattle.std.proofs.Common.{◌∙◌, ap, sym, subst, true≢false}
+use Rattle.std.specs.List.{AllByRecursion}
+use Rattle.desk_sql.specs.Rows.{Tables}
+use Rattle.desk_store.specs.World.{Filed, World}
+use Rattle.desk_tables.specs.Lengths.{IsKnownRow}
+use Rattle.desk_tables.specs.Moving.{IsOldArea}
+use Rattle.desk_tables.proofs.LengthLemmas.{bounds_of}
+use Rattle.desk_tables.proofs.MovingLemmas.{no_old_areas}
+use Rattle.desk_tables.proofs.opening.moving.old_content_in.Goals as goal
+
+pub returns-then-not-branch-clause-none : goal.returns-then-not-branch-clause-none
+returns-then-not-branch-clause-none c = λ _.
+    let plans = c.deref.ensures.value ∙ ap (λ (w : World). w.plans) c.content.view_is in
+    no_old_areas c.one_shape.ensures c.args.rows.now c.in_ok-content.content c.in_ok-content.ensures.ok.0
+    c.in_ok-content.ensures.ok.1
+    (λ all. true≢false (sym (c.in_ok-are_old.ensures.1
+    (subst (AllByRecursion (λ (p : Filed). IsOldArea p.row.area)) (sym plans) all))
+    ∙ c.if-not-branch.true))
+
+pub returns-clause-bounded : goal.returns-clause-bounded
+returns-clause-bounded c =
+    let spans = c.deref-2.ensures.value ∙ ap (λ (t : Tables). t.spans) c.rows.view_is in
+    bounds_of c.one_list_of_ranges.ensures c.lengths_in-lengths.result c.in_ok-content.content
+    c.args.rows.now.spans c.in_ok-content.ensures.ok.1.span_part
+    (subst (AllByRecursion (IsKnownRow c.lengths_in-lengths.result)) spans c.lengths_in-lengths.ensures)

@@ -1,0 +1,357 @@
+//! How a content of schema 1 is moved to schema 2.
+
+ghost use Rattle.std.specs.Prelude.{◌≡◌, ◌≢◌, ◌≤◌, ◌↔◌, ◌-◌, ◌^◌, [], true, false, IfOk, IfErr, OnOk, OnErr, IsTrue, length};
+ghost use Rattle.std.specs.List.{AllByRecursion};
+ghost use Rattle.sqlite_trees.specs.View.{doubt};
+ghost use Rattle.sqlite.specs.State.{HasCleanDisk, KeepsCommit};
+ghost use Rattle.sqlite.specs.Held.{state};
+ghost use Rattle.desk_sql.specs.Schema.{has_table};
+ghost use Rattle.desk_sql.specs.Rows.{IsMadeTo, tables_at};
+ghost use Rattle.desk_sql.specs.Batches.{IsUnderWay};
+ghost use Rattle.desk_sql.specs.Effects.{IsReady, IsKept, Makes, Commits};
+ghost use Rattle.desk_sql.specs.Frames.{IsOver, OnlyReads, Remembers};
+ghost use Rattle.desk_sql.specs.Finding.{Holds};
+ghost use Rattle.desk_store.specs.World.{World};
+ghost use Rattle.desk_tables.specs.Content.{IsContent};
+ghost use Rattle.desk_tables.specs.Lengths.{Bounds};
+ghost use Rattle.desk_tables.specs.Store.{Stands};
+ghost use Rattle.desk_tables.specs.Opening.{AreRows, BlamesReading, HasRowsOld};
+ghost use Rattle.desk_tables.specs.Moving.{AddsPlanRows, AddsPlansRows, MovesRows, AreNoOldContent};
+ghost use Rattle.desk_tables.specs.Moving.{BeginsMoved, BlamesMove, KeepsRows, IsOldArea, IsOldContent};
+ghost use Rattle.desk_tables.specs.Moving.{HasNoNewRows, IsWhole};
+ghost use Rattle.desk_tables.specs.Moving.{AreSortedOld, IsOldContentOf, IsOldShape};
+ghost use Rattle.desk_tables.specs.Moving.{ShowsNoContent, WasMoved, told_count};
+
+use crate::canon::canons_of;
+use crate::changing::records::{asked_of, span_rows, volume_rows};
+use crate::kept::Kept;
+use crate::lengths::Lengths;
+use crate::opening::content::{Content, TableRows, content_in};
+use crate::opening::exact::FiledPlan;
+use crate::opening::finding::{lengths_in, tables_found, world_of};
+use crate::opening::open::OpenFault;
+use desk_sql::laws::settled_and_sound;
+use desk_sql::{
+    DeskTable, Made, all_covers, all_old_spans, all_old_volumes, all_operators, all_plans,
+    all_spans, all_volumes, complete_tables, empty_old_spans, empty_old_volumes, insert_spans,
+    insert_volumes,
+};
+use s2_cover::laws::{canonical_list_is, one_canonical_list, one_list_of_ranges};
+use sqlite::{Connection, Row, Transaction};
+use sqlite_trees::store::Alter;
+use std::alloc::{AllocError, Global};
+use volume4d::laws::one_shape;
+use volume4d::{Footprint, Volume};
+
+// The most volumes of a plan in schema 1.
+const OLD_MAX_VOLUMES: usize = 8;
+
+// The most cells of the canonical cover of a rectangle in schema 1.
+const OLD_MAX_COVER: usize = 256;
+
+/// The world that the database stands for, in either schema, how long the spans in it are, and how many plans
+/// were moved from schema 1 to schema 2. In schema 2 it is as `world_in` has it, and none were moved.
+///
+/// # Errors
+///
+/// `OutOfMemory` if memory runs out. `Store` if SQLite refuses for another cause. `NotADesk` if there are
+/// other tables, or if the rows are those of no content in either schema. The rows are then what they were.
+pub(crate) fn moved_world_in<S: Alter>(
+    alloc: Global,
+    connection: &mut Connection<S>,
+) -> Result<(Kept, Lengths, u32), OpenFault>
+    requires settled { connection.old.in_transaction ≡ false }
+    ensures begins { IfOk result (λ moved.
+        BeginsMoved S.Store connection.old connection.new moved.0.world moved.2) }
+    ensures stands { IfOk result (λ moved. Stands S.Store connection.new moved.0.world) }
+    ensures bounded { IfOk result (λ moved. Bounds moved.1 moved.0.world) }
+    ensures none { IfErr result (λ e. e ≡ OpenFault.NotADesk →
+        ShowsNoContent S.Store connection.old connection.new) }
+    ensures newer { IfErr result (λ e. e ≢ OpenFault.OldSchema) }
+    ensures cause { IfErr result (BlamesMove S.Store connection.old connection.new) }
+    ensures kept { OnErr result (KeepsRows S.Store connection.old connection.new) }
+    ensures doubt { doubt (state S.Store connection.old).is_clean
+        ≤ doubt (state S.Store connection.new).is_clean }
+{
+    let (made, old) = tables_found(connection)?;
+    if old {
+        return moved_in(alloc, connection, made);
+    }
+    let (kept, lengths) = world_of(alloc, connection, made)?;
+    Ok((kept, lengths, 0))
+}
+
+// The world whose rows the tables of schema 1 have, which are moved.
+#[tactic(auto, using(crate::proofs::OpeningLemmas::some_operators))]
+fn moved_in<S: Alter>(
+    alloc: Global,
+    connection: &mut Connection<S>,
+    made: Made,
+) -> Result<(Kept, Lengths, u32), OpenFault>
+    requires part { Holds S.Store connection.old (IsMadeTo made) }
+    requires rows { Holds S.Store connection.old (HasRowsOld made true) }
+    requires some { made ≢ Made.Nothing }
+    requires settled { connection.old.in_transaction ≡ false }
+    ensures begins { HasCleanDisk (state S.Store connection.new) → IfOk result (λ moved.
+        (moved.2 ≡ told_count moved.0.world.plans)
+        × WasMoved S.Store connection.old connection.new moved.0.world) }
+    ensures stands { IfOk result (λ moved. Stands S.Store connection.new moved.0.world) }
+    ensures bounded { IfOk result (λ moved. Bounds moved.1 moved.0.world) }
+    ensures none { HasCleanDisk (state S.Store connection.new) → IfErr result (λ e.
+        e ≡ OpenFault.NotADesk →
+        AreNoOldContent (tables_at made (state S.Store connection.old).now.trees)) }
+    ensures newer { IfErr result (λ e. e ≢ OpenFault.OldSchema) }
+    ensures opened { HasCleanDisk (state S.Store connection.new) →
+        OnOk result (IsTrue (state S.Store connection.old).is_open) }
+    ensures kept { OnErr result (KeepsRows S.Store connection.old connection.new) }
+    ensures doubt { doubt (state S.Store connection.old).is_clean
+        ≤ doubt (state S.Store connection.new).is_clean }
+{
+    let (content, lengths) = old_found_in(alloc, connection, made)?;
+    make_whole(connection, made)?;
+    rewrite(alloc, connection, &content.plans)?;
+    let count = u32::try_from(content.plans.len()).unwrap_or(u32::MAX);
+    Ok((Kept::of(&content), lengths, count))
+}
+
+// Makes what is missing of a desk's tables. The rows that there are stay.
+fn make_whole<S: Alter>(connection: &mut Connection<S>, made: Made) -> Result<(), OpenFault>
+    requires part { Holds S.Store connection.old (IsMadeTo made) }
+    requires settled { connection.old.in_transaction ≡ false }
+    ensures done { HasCleanDisk (state S.Store connection.new) → IsTrue (state S.Store connection.new).is_open
+        → OnOk result (IsWhole S.Store made connection.old connection.new) }
+    ensures kept { OnErr result (IsKept S.Store connection.old connection.new) }
+    ensures fault { IfErr result (λ e. (e ≢ OpenFault.NotADesk) × (e ≢ OpenFault.OldSchema)) }
+    ensures over { IsOver S.Store connection.old connection.new }
+{
+    if made == Made::All {
+        return Ok(());
+    }
+    complete_tables(connection, made)?;
+    Ok(())
+}
+
+// The rows of schema 1 go, and those of schema 2 of these plans come, as one transaction.
+fn rewrite<S: Alter>(
+    alloc: Global,
+    connection: &mut Connection<S>,
+    plans: &[FiledPlan],
+) -> Result<(), OpenFault>
+    requires ready { IsReady S.Store connection.old }
+    requires settled { connection.old.in_transaction ≡ false }
+    ensures done { HasCleanDisk (state S.Store connection.new)
+        → OnOk result (Commits S.Store connection.old connection.new (MovesRows plans.now)) }
+    ensures kept { OnErr result (IsKept S.Store connection.old connection.new) }
+    ensures fault { IfErr result (λ e. (e ≢ OpenFault.NotADesk) × (e ≢ OpenFault.OldSchema)) }
+    ensures over { IsOver S.Store connection.old connection.new }
+{
+    settled_and_sound(connection);
+    let mut tx = connection.transaction();
+    empty_old_volumes(&mut tx)?;
+    empty_old_spans(&mut tx)?;
+    write_plans(alloc, &mut tx, plans)?;
+    tx.commit()?;
+    Ok(())
+}
+
+// Adds the rows of plans in schema 2.
+fn write_plans<S: Alter>(
+    alloc: Global,
+    tx: &mut Transaction<'_, S>,
+    plans: &[FiledPlan],
+) -> Result<(), OpenFault>
+    requires under_way { IsUnderWay S.Store tx.old.conn.now }
+    ensures same_reference { tx.new.conn.ghost_name ≡ tx.old.conn.ghost_name }
+    ensures done { HasCleanDisk (state S.Store tx.new.conn.now)
+        → OnOk result (Makes S.Store tx.old.conn.now tx.new.conn.now (AddsPlansRows plans.now)) }
+    ensures undone { HasCleanDisk (state S.Store tx.new.conn.now)
+        → OnErr result (KeepsCommit (state S.Store tx.old.conn.now)
+        (state S.Store tx.new.conn.now)) }
+    ensures fault { IfErr result (λ e. (e ≢ OpenFault.NotADesk) × (e ≢ OpenFault.OldSchema)) }
+    ensures remembered { Remembers S.Store tx.old.conn.now tx.new.conn.now }
+{
+    'plans: for plan in plans {
+        write_plan(alloc, tx, plan)?;
+    }
+    Ok(())
+}
+
+// Adds the rows of a plan in schema 2.
+fn write_plan<S: Alter>(
+    alloc: Global,
+    tx: &mut Transaction<'_, S>,
+    plan: &FiledPlan,
+) -> Result<(), OpenFault>
+    requires under_way { IsUnderWay S.Store tx.old.conn.now }
+    ensures same_reference { tx.new.conn.ghost_name ≡ tx.old.conn.ghost_name }
+    ensures done { HasCleanDisk (state S.Store tx.new.conn.now)
+        → OnOk result (Makes S.Store tx.old.conn.now tx.new.conn.now (AddsPlanRows plan.now)) }
+    ensures undone { HasCleanDisk (state S.Store tx.new.conn.now)
+        → OnErr result (KeepsCommit (state S.Store tx.old.conn.now)
+        (state S.Store tx.new.conn.now)) }
+    ensures fault { IfErr result (λ e. (e ≢ OpenFault.NotADesk) × (e ≢ OpenFault.OldSchema)) }
+    ensures remembered { Remembers S.Store tx.old.conn.now tx.new.conn.now }
+{
+    let mut buffer = [0u8; 36];
+    let id = plan.row.id.encode(&mut buffer);
+    let operator = plan.operator.as_str();
+    let asked = asked_of(alloc, plan.row.area.volumes())?;
+    let canon = canons_of(alloc, plan.row.area.volumes())?;
+    let volumes = volume_rows(alloc, operator, id, &plan.row, &asked, &canon)?;
+    let spans = span_rows(alloc, operator, id, &plan.row)?;
+    insert_volumes(tx, &volumes)?;
+    insert_spans(tx, &spans)?;
+    Ok(())
+}
+
+// The content whose rows the tables of schema 1 have, and how long the spans in it are.
+fn old_found_in<S: Alter>(
+    alloc: Global,
+    connection: &mut Connection<S>,
+    made: Made,
+) -> Result<(Content, Lengths), OpenFault>
+    requires part { Holds S.Store connection.old (IsMadeTo made) }
+    requires some { has_table made DeskTable.Operator ≡ true }
+    requires settled { connection.old.in_transaction ≡ false }
+    ensures value { HasCleanDisk (state S.Store connection.new) → IfOk result (λ found.
+        IsOldContentOf (tables_at made (state S.Store connection.old).now.trees) found.0) }
+    ensures bounded { IfOk result (λ found. Bounds found.1 found.0) }
+    ensures none { HasCleanDisk (state S.Store connection.new) → IfErr result (λ e.
+        e ≡ OpenFault.NotADesk →
+        AreNoOldContent (tables_at made (state S.Store connection.old).now.trees)) }
+    ensures newer { IfErr result (λ e. e ≢ OpenFault.OldSchema) }
+    ensures open { HasCleanDisk (state S.Store connection.new) →
+        OnOk result (IsTrue (state S.Store connection.old).is_open) }
+    ensures cause { IfErr result (BlamesReading S.Store connection.old connection.new) }
+    ensures reads { OnlyReads S.Store connection.old connection.new }
+{
+    if !are_new_empty(alloc, connection, made)? {
+        return Err(OpenFault::NotADesk);
+    }
+    let rows = old_rows_in(alloc, connection, made)?;
+    old_content_in(alloc, &rows)
+}
+
+// Whether the tables that schema 2 has alone have no row.
+fn are_new_empty<S: Alter>(
+    alloc: Global,
+    connection: &mut Connection<S>,
+    made: Made,
+) -> Result<bool, OpenFault>
+    requires part { Holds S.Store connection.old (IsMadeTo made) }
+    requires settled { connection.old.in_transaction ≡ false }
+    ensures value { HasCleanDisk (state S.Store connection.new) → IfOk result (λ empty.
+        IsTrue empty ↔ HasNoNewRows (tables_at made (state S.Store connection.old).now.trees)) }
+    ensures fault { IfErr result (λ e. (e ≢ OpenFault.NotADesk)
+        × (e ≢ OpenFault.OldSchema)) }
+    ensures cause { IfErr result (BlamesReading S.Store connection.old connection.new) }
+    ensures reads { OnlyReads S.Store connection.old connection.new }
+{
+    let volumes = all_volumes(alloc, connection, made)?;
+    let covers = all_covers(alloc, connection, made)?;
+    let spans = all_spans(alloc, connection, made)?;
+    Ok(are_empty(&volumes, &covers, &spans))
+}
+
+// Whether three lists of rows are empty.
+fn are_empty(one: &[Row], two: &[Row], three: &[Row]) -> bool
+    ensures { IsTrue result ↔ ((one.now ≡ []) × (two.now ≡ []) × (three.now ≡ [])) }
+{
+    one.is_empty() && two.is_empty() && three.is_empty()
+}
+
+// The rows of schema 1's tables, each by the columns of its key; of those that aren't made none. The covers
+// are none.
+fn old_rows_in<S: Alter>(
+    alloc: Global,
+    connection: &mut Connection<S>,
+    made: Made,
+) -> Result<TableRows, OpenFault>
+    requires part { Holds S.Store connection.old (IsMadeTo made) }
+    requires some { has_table made DeskTable.Operator ≡ true }
+    requires settled { connection.old.in_transaction ≡ false }
+    ensures value { HasCleanDisk (state S.Store connection.new) → IfOk result
+        (AreSortedOld (tables_at made (state S.Store connection.old).now.trees)) }
+    ensures open { HasCleanDisk (state S.Store connection.new) →
+        OnOk result (IsTrue (state S.Store connection.old).is_open) }
+    ensures fault { IfErr result (λ e. (e ≢ OpenFault.NotADesk)
+        × (e ≢ OpenFault.OldSchema)) }
+    ensures cause { IfErr result (BlamesReading S.Store connection.old connection.new) }
+    ensures reads { OnlyReads S.Store connection.old connection.new }
+{
+    let operators = all_operators(alloc, connection, made)?;
+    let plans = all_plans(alloc, connection, made)?;
+    let volumes = all_old_volumes(alloc, connection, made)?;
+    let spans = all_old_spans(alloc, connection, made)?;
+    let covers = Vec::new(alloc);
+    Ok(TableRows {
+        operators,
+        plans,
+        volumes,
+        covers,
+        spans,
+    })
+}
+
+// The content of these rows, which has to be within the limits of schema 1, and how long the spans in it are.
+fn old_content_in(alloc: Global, rows: &TableRows) -> Result<(Content, Lengths), OpenFault>
+    ensures value { IfOk result (λ found. IsOldContent found.0 × AreRows rows.now found.0) }
+    ensures bounded { IfOk result (λ found. Bounds found.1 found.0) }
+    ensures none { IfErr result (λ e. e ≡ OpenFault.NotADesk →
+        (w : World) → IsOldContent w → ¬ AreRows rows.now w) }
+    ensures fault { IfErr result (λ e. (e ≢ OpenFault.Store)
+        × (e ≢ OpenFault.OldSchema)) }
+{
+    one_shape();
+    one_list_of_ranges();
+    let content = content_in(alloc, rows)?;
+    if !are_old(&content.plans)? {
+        return Err(OpenFault::NotADesk);
+    }
+    let lengths = lengths_in(&rows.spans);
+    Ok((content, lengths))
+}
+
+// Whether plans are within the limits of schema 1.
+fn are_old(plans: &[FiledPlan]) -> Result<bool, AllocError>
+    ensures { IfOk result (λ are. IsTrue are ↔ AllByRecursion (λ p. IsOldArea p.row.area) plans.now) }
+{
+    let mut left = plans;
+    'plan: while let Some((plan, later)) = left.split_first() {
+        if !is_old_area(plan.row.area.volumes())? {
+            return Ok(false);
+        }
+        left = later;
+    }
+    Ok(true)
+}
+
+// Whether the volumes of a plan are within the limits of schema 1.
+fn is_old_area(volumes: &[Volume]) -> Result<bool, AllocError>
+    ensures { IfOk result (λ is. IsTrue is ↔ IsOldArea volumes.now) }
+{
+    if volumes.len() > OLD_MAX_VOLUMES {
+        return Ok(false);
+    }
+    let mut left = volumes;
+    'volume: while let Some((volume, later)) = left.split_first() {
+        if !is_old_volume(volume)? {
+            return Ok(false);
+        }
+        left = later;
+    }
+    Ok(true)
+}
+
+// Whether a volume's footprint is within the limits of schema 1.
+fn is_old_volume(volume: &Volume) -> Result<bool, AllocError>
+    ensures { IfOk result (λ is. IsTrue is ↔ IsOldShape volume.now.footprint) }
+{
+    if let Footprint::Cells(_) = volume.footprint() {
+        return Ok(true);
+    }
+    one_canonical_list();
+    canonical_list_is();
+    let cover = volume.cover()?;
+    Ok(cover.cells().len() <= OLD_MAX_COVER)
+}
