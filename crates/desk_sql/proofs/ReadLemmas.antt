@@ -39,14 +39,20 @@ use Rattle.desk_sql.proofs.QueryTexts.{IsQueryIn, query_of}
 -- ---- the connection was open, and shows what it showed
 
 showed : (old new : State) (text : List ℕ) (c : Compiled) (params : Row) (rows : List Row)
-    (r : Option Returning) → ShowsRows old new text c params rows r → IsTrue old.is_open
-showed old new text c params rows None h = h.3.0.was_open
-showed old new text c params rows (Some what) h = h.1.shown.was_open
+    (r : Option Returning) → ShowsRows old new text c params rows r
+    → IsTrue old.is_open × IsTrue new.is_open
+showed old new text c params rows None h = (h.3.0.was_open, h.3.0.is_open)
+showed old new text c params rows (Some what) h = (h.1.shown.was_open, h.1.shown.is_open)
 
 pub was_open : (text : List ℕ) (params : Row) (old new : State) (rows : List Row)
     → Shown text params old new rows → IsTrue old.is_open
 unfolding Shown
-was_open text params old new rows h = showed old new text h.0 _ rows h.0.returning h.2
+was_open text params old new rows h = (showed old new text h.0 _ rows h.0.returning h.2).0
+
+is_open : (text : List ℕ) (params : Row) (old new : State) (rows : List Row)
+    → Shown text params old new rows → IsTrue new.is_open
+unfolding Shown
+is_open text params old new rows h = (showed old new text h.0 _ rows h.0.returning h.2).1
 
 unchanged_if : (old new : State) (text : List ℕ) (c : Compiled) (params : Row) (rows : List Row)
     (r : Option Returning) → r ≡ None → ShowsRows old new text c params rows r → IsUnchanged old new
@@ -110,6 +116,15 @@ pub open_if : {V : Type 0} (items : V → List Row) (text : List ℕ) (params : 
     → OnOk r (IsTrue old.is_open)
 open_if items text params old new (Ok v) shown = was_open text params old new (items v) shown
 open_if items text params old new (Err e) shown = tt
+
+-- and leaves it open
+pub open_after : {V : Type 0} (items : V → List Row) (text : List ℕ) (params : Row) (old new : State)
+    (r : Result V Error)
+    → (HasCleanDisk new → IfOk r (λ v. Shown text params old new (items v)))
+    → OnOk r (HasCleanDisk new → IsTrue old.is_open → IsTrue new.is_open)
+open_after items text params old new (Ok v) shown =
+    λ clean was. is_open text params old new (items v) (shown clean)
+open_after items text params old new (Err e) shown = tt
 
 -- ---- the answer of a query
 

@@ -12,7 +12,15 @@ use Rattle.desk_sql.specs.Rows.{IsDesk, Tables, tables_of}
 abbrev pub IsReady : {S : Type 0} → Ghosts S → Held S → Type 0
 IsReady g h = HasCleanDisk (state g h) → IsTrue (state g h).is_open → IsDesk (state g h).now
 
+-- over a clean disk the connection is open
+abbrev pub IsOpenIfClean : {S : Type 0} → Ghosts S → Held S → Type 0
+IsOpenIfClean g h = HasCleanDisk (state g h) → IsTrue (state g h).is_open
+
 module _ {S : Type 0} (g : Ghosts S) (old new : Held S) where
+  -- a connection that was open is open
+  abbrev pub StaysOpen : Type 0
+  StaysOpen = HasCleanDisk (state g new) → IsTrue (state g old).is_open → IsTrue (state g new).is_open
+
   -- the connection shows what it showed
   pub record ShowsAsBefore : Type 0 where
     pub was_open : IsTrue (state g old).is_open

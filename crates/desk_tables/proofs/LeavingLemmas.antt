@@ -162,7 +162,7 @@ module _ {D E : Type 0} {g : disk.Ghosts D} {k : disk.Ghosts E} (last : Held (Fi
           files = it.files;
           first = it.opens.opened it.clean;
         } in
-        elim (it.opens.begins it.clean it.live) [
+        elim (it.opens.begins it.clean (it.opens.live it.clean)) [
           | inl blank ↦ absurd (never_untaken it.opens.found after (inl (inl (
             Nothing,
             nothing_made

@@ -7,7 +7,7 @@ use Rattle.sqlite.specs.State.{HasCleanDisk}
 use Rattle.sqlite.specs.Held.{Held, IsNew}
 use Rattle.sqlite.specs.Files.{over_files, file_state, IsOpened}
 use Rattle.sqlite.specs.Start.{FindsIn}
-use Rattle.desk_sql.specs.Effects.{IsKept}
+use Rattle.desk_sql.specs.Effects.{IsKept, IsOpenIfClean}
 use Rattle.desk_store.specs.World.{World}
 use Rattle.desk_tables.specs.declared.opening.open.OpenFault.{OpenFault}
 use Rattle.desk_tables.specs.declared.opening.open.OpenFault.TheVariants.{NotADesk, OldSchema}
@@ -24,10 +24,12 @@ abbrev pub FindsFirst : {D : Type 0} {g : disk.Ghosts D} → Image → Held (Fil
 FindsFirst image found = IsOpened found × FindsIn image (file_state found)
 
 module _ {D : Type 0} {g : disk.Ghosts D} where
-  -- a connection finds the database of the files, and the store begins with what that connection shows
+  -- a connection finds the database of the files, and is open; the store begins with what that connection
+  -- shows
   pub record OpensIn (image : Image) (h : Held (FileStore D g)) (w : World) : Type 0 where
     pub found : Held (FileStore D g)
     pub opened : HasCleanDisk (file_state h) → FindsFirst image found
+    pub live : IsOpenIfClean (over_files {D = D} {g = g}) h
     pub begins : BeginsWith (over_files {D = D} {g = g}) found h w
 
 module _ {D : Type 0} (g : disk.Ghosts D) (image : Image) (e : OpenFault) where
@@ -59,11 +61,12 @@ FailsIn {D} {g} image (Err e) = FailsAs g image e
 -- ---- files that may hold rows of schema 1
 
 module _ {D : Type 0} {g : disk.Ghosts D} where
-  -- a connection finds the database of the files, and the store begins with what that connection shows, from
-  -- which so many plans were moved
+  -- a connection finds the database of the files, and is open; the store begins with what that connection
+  -- shows, from which so many plans were moved
   pub record OpensMoved (image : Image) (h : Held (FileStore D g)) (w : World) (count : ℕ) : Type 0 where
     pub found : Held (FileStore D g)
     pub opened : HasCleanDisk (file_state h) → FindsFirst image found
+    pub live : IsOpenIfClean (over_files {D = D} {g = g}) h
     pub begins : BeginsMoved (over_files {D = D} {g = g}) found h w count
 
 module _ {D : Type 0} (g : disk.Ghosts D) (image : Image) where

@@ -76,13 +76,12 @@ module _ {D E : Type 0} {g : disk.Ghosts D} {k : disk.Ghosts E} (last : Held (Fi
     pub files : IsLeftBy last image
     pub first : FindsFirst image found
 
-  -- a store begins over such files, on a clean disk, with a connection that is open
+  -- a store begins over such files, on a clean disk
   pub record BeginsAfter (new : Held (FileStore E k)) (w : World) : Type 0 where
     pub image : Image
     pub files : IsLeftBy last image
     pub opens : OpensIn image new w
     pub clean : HasCleanDisk (file_state new)
-    pub live : IsTrue (file_state new).is_open
 
 module _ {D : Type 0} {g : disk.Ghosts D} (last : Held (FileStore D g)) {E : Type 0} (k : disk.Ghosts E) where
   -- such files are opened, and refused though memory is left, the disk is clean and had no fault, and the

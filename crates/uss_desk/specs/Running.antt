@@ -1,5 +1,5 @@
 -- Running: what comes of a line, from the database that it names to the exit status.
-use Rattle.std.specs.Prelude.{◌≡◌, ℕ, List, Option, None, Some}
+use Rattle.std.specs.Prelude.{◌≡◌, ◌≤◌, ℕ, List, Option, None, Some}
 use Rattle.sqlite_trees.specs.declared.store.Store.{Ghosts}
 use Rattle.sqlite_trees.specs.View.{doubt}
 use Rattle.sqlite_disk.specs.declared.Disk as disk
@@ -7,9 +7,12 @@ use Rattle.sqlite_wal.specs.Recovery.{Image}
 use Rattle.sqlite_store.specs.declared.store.FileStore.{FileStore}
 use Rattle.sqlite.specs.Files.{over_files}
 use Rattle.sqlite.specs.Held.{state}
+use Rattle.desk_store.specs.World.{World}
 use Rattle.desk_store.specs.Faults.{IsHonest}
-use Rattle.desk_run.specs.DeskWorld.{DeskWorld, Parts, world_of}
+use Rattle.desk_store.specs.Crashes.{LeavesOnly}
+use Rattle.desk_run.specs.DeskWorld.{Parts}
 use Rattle.desk_tables.specs.Store.{Shown}
+use Rattle.desk_tables.specs.Leaving.{MayLeave}
 use Rattle.desk_line.specs.declared.failure.Failure.{Failure}
 use Rattle.desk_line.specs.declared.line.Database.{Database}
 use Rattle.desk_line.specs.declared.line.Database.TheVariants.{InMemory, File}
@@ -17,31 +20,40 @@ use Rattle.desk_line.specs.declared.line.Line.{Line}
 use Rattle.desk_line.specs.declared.line.Line.TheVariants as line
 use Rattle.desk_line.specs.Exits.{failure_status}
 use Rattle.desk_line.specs.Printing.{IsPrinted}
+use Rattle.desk_program.specs.Keeping.{IsLineKept}
 use Rattle.desk_program.specs.Running.{IsCarriedOut}
 use Rattle.desk_program.specs.Serving.{Arrival}
 use Rattle.uss_desk.specs.Migrating.{IsMigrated}
-use Rattle.uss_desk.specs.Opening.{BeginsIn, FailsAt, IsBlank, IsMemory}
+use Rattle.uss_desk.specs.Opening.{BeginsIn, FailsAt, IsBlank, IsMemory, world_in}
 
 -- the store of a desk over tables is honest: its disk has returned what was written
 abbrev pub IsSound : {S : Type 0} → Ghosts S → Parts (Shown S) → Type 0
 IsSound g desk = IsHonest (doubt (state g desk.store.held).is_clean)
 
--- the world of a desk over tables
-abbrev pub world_in : {S : Type 0} → Parts (Shown S) → DeskWorld
-world_in desk = world_of (λ s. s.world) desk
+-- what may be found once the line ended, if what the desk began with was all that could be found then
+abbrev pub IsKeptSince :
+    {S : Type 0} → Ghosts S → Line → ℕ → Option (List Arrival) → Option (List Arrival) → Option (List ℕ)
+    → Option (List ℕ) → Option (List ℕ) → Option (List ℕ) → Parts (Shown S) → Parts (Shown S) → Type 0
+IsKeptSince g line status from to old new out now begun desk =
+    IsSound g desk → LeavesOnly begun.store.world (MayLeave g begun.store.held)
+    → (found : Option World) → MayLeave g desk.store.held found
+    → IsLineKept (IsSound g desk) line status from to old new out now (world_in begun) (world_in desk) found
 
--- a line is carried out at a desk that began in such a world; or no desk was opened, for such a failure: the
--- status is its, no connection is taken, nothing is read, and nothing is written
+-- a line is carried out at a desk that began so, whose disk was then in no more doubt than it is now; or no
+-- desk was opened, for such a failure: the status is its, no connection is taken, nothing is read, and
+-- nothing is written
 abbrev pub IsRun :
-    {S : Type 0} → Ghosts S → (DeskWorld → Type 0) → (Failure → Type 0) → Line → ℕ → Option (Parts (Shown S))
-    → Option (List Arrival) → Option (List Arrival) → Option (List ℕ) → Option (List ℕ) → Option (List ℕ)
-    → Option (List ℕ) → Type 0
-IsRun g Begins Fails line status None from to old new out now =
+    {S : Type 0} → Ghosts S → (Parts (Shown S) → Type 0) → (Failure → Type 0) → Line → ℕ
+    → Option (Parts (Shown S)) → Option (List Arrival) → Option (List Arrival) → Option (List ℕ)
+    → Option (List ℕ) → Option (List ℕ) → Option (List ℕ) → Type 0
+IsRun {S} g Begins Fails line status None from to old new out now =
     (failure : Failure) × Fails failure × (status ≡ failure_status failure)
     × (to ≡ from) × (new ≡ old) × (now ≡ out)
-IsRun g Begins Fails line status (Some desk) from to old new out now =
-    (begun : DeskWorld) × Begins begun
-    × IsCarriedOut (IsSound g desk) line status from to old new out now begun (world_in desk)
+IsRun {S} g Begins Fails line status (Some desk) from to old new out now =
+    (begun : Parts (Shown S)) × Begins begun
+    × (doubt (state g begun.store.held).is_clean ≤ doubt (state g desk.store.held).is_clean)
+    × IsCarriedOut (IsSound g desk) line status from to old new out now (world_in begun) (world_in desk)
+    × IsKeptSince g line status from to old new out now begun desk
 
 module _ {M : Type 0} {m : disk.Ghosts M} {D : Type 0} {g : disk.Ghosts D} where
   -- a line is carried out at a desk in memory, which begins blank, or over the database in files that held

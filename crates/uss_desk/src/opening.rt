@@ -1,10 +1,9 @@
 //! Desks over databases, or why a database can't be opened.
 
-ghost use Rattle.std.specs.Prelude.{◌≡◌, [], IfErr, IfOk};
+ghost use Rattle.std.specs.Prelude.{◌≡◌, IfErr, IfOk};
 ghost use Rattle.sqlite_wal.specs.Files.{image_at};
-ghost use Rattle.desk_tables.specs.Files.{OpensIn};
 ghost use Rattle.uss_desk.specs.Opening as spec;
-ghost use Rattle.uss_desk.specs.Opening.{IsOpenedIn, IsMemory};
+ghost use Rattle.uss_desk.specs.Opening.{IsBlank, IsMemory, IsOpenedIn};
 
 use desk_line::Failure;
 use desk_run::Desk;
@@ -19,8 +18,7 @@ use std::alloc::Global;
 ///
 /// `Memory` if memory runs out.
 pub fn open_in_memory(alloc: Global) -> Result<Desk<SqliteStore<FileStore<Ram>>>, Failure>
-    ensures empty { IfOk result (λ desk. desk.store.world ≡ record { operators = []; plans = [] }) }
-    ensures none { IfOk result (λ desk. desk.permitted ≡ []) }
+    ensures blank { IfOk result IsBlank }
     ensures failure { IfErr result IsMemory }
 {
     match SqliteStore::in_memory(alloc) {
@@ -39,9 +37,7 @@ pub fn open_file<F: Start>(
     path: &str,
     start: F,
 ) -> Result<Desk<SqliteStore<FileStore<FileFrom<F>>>>, Failure>
-    ensures begins { IfOk result (λ desk. OpensIn (image_at F.Start) desk.store.held desk.store.world) }
-    ensures none { IfOk result (λ desk. desk.permitted ≡ []) }
-    ensures opened { IsOpenedIn (image_at F.Start) result }
+    ensures { IsOpenedIn (image_at F.Start) result }
 {
     match SqliteStore::open_from(rt, path, start) {
         Ok(store) => Ok(Desk::new(store)),

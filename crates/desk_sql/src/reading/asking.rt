@@ -1,6 +1,7 @@
 ghost use Rattle.std.specs.Prelude.{◌≡◌, [], false, IfOk, IfErr, OnOk, IsTrue};
 ghost use Rattle.sqlite.specs.State.{HasCleanDisk, Shown};
 ghost use Rattle.sqlite.specs.Held.{state};
+ghost use Rattle.desk_sql.specs.Effects.{StaysOpen};
 ghost use Rattle.desk_sql.specs.Finding.{Holds};
 ghost use Rattle.desk_sql.specs.Refusals.{IsSure, IsRefusal};
 ghost use Rattle.desk_sql.specs.Frames.{OnlyReads};
@@ -17,6 +18,7 @@ pub(crate) fn ask<S: Alter>(connection: &mut Connection<S>, query: &str) -> Resu
         (state S.Store connection.new) rows.items) }
     ensures open { HasCleanDisk (state S.Store connection.new)
         → OnOk result (IsTrue (state S.Store connection.old).is_open) }
+    ensures live { OnOk result (StaysOpen S.Store connection.old connection.new) }
     ensures cause { HasCleanDisk (state S.Store connection.new)
         → IsTrue (state S.Store connection.new).is_open
         → IfErr result (IsRefusal S.Store connection.old connection.new) }

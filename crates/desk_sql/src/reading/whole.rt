@@ -5,6 +5,7 @@ ghost use Rattle.sqlite.specs.State.{HasCleanDisk};
 ghost use Rattle.sqlite.specs.Held.{state};
 ghost use Rattle.desk_sql.specs.Schema.{has_table};
 ghost use Rattle.desk_sql.specs.Rows.{IsMadeTo, tables_of, tables_at, Lists};
+ghost use Rattle.desk_sql.specs.Effects.{StaysOpen};
 ghost use Rattle.desk_sql.specs.Finding.{Holds};
 ghost use Rattle.desk_sql.specs.Refusals.{IsRefusal};
 ghost use Rattle.desk_sql.specs.Statements.{SelectsAll};
@@ -36,6 +37,7 @@ pub fn all_operators<S: Alter>(
         (state S.Store connection.old).now.trees).operators) rows.items) }
     ensures open { has_table made DeskTable.Operator ≡ true → HasCleanDisk (state S.Store connection.new)
         → OnOk result (IsTrue (state S.Store connection.old).is_open) }
+    ensures live { OnOk result (StaysOpen S.Store connection.old connection.new) }
     ensures cause { HasCleanDisk (state S.Store connection.new)
         → IsTrue (state S.Store connection.new).is_open
         → IfErr result (IsRefusal S.Store connection.old connection.new) }
@@ -69,6 +71,7 @@ pub fn all_plans<S: Alter>(
         (state S.Store connection.old).now.trees).plans) rows.items) }
     ensures open { has_table made DeskTable.Plan ≡ true → HasCleanDisk (state S.Store connection.new)
         → OnOk result (IsTrue (state S.Store connection.old).is_open) }
+    ensures live { OnOk result (StaysOpen S.Store connection.old connection.new) }
     ensures cause { HasCleanDisk (state S.Store connection.new)
         → IsTrue (state S.Store connection.new).is_open
         → IfErr result (IsRefusal S.Store connection.old connection.new) }
@@ -103,6 +106,7 @@ pub fn all_volumes<S: Alter>(
         (state S.Store connection.old).now.trees).volumes) rows.items) }
     ensures open { has_table made DeskTable.Volume ≡ true → HasCleanDisk (state S.Store connection.new)
         → OnOk result (IsTrue (state S.Store connection.old).is_open) }
+    ensures live { OnOk result (StaysOpen S.Store connection.old connection.new) }
     ensures cause { HasCleanDisk (state S.Store connection.new)
         → IsTrue (state S.Store connection.new).is_open
         → IfErr result (IsRefusal S.Store connection.old connection.new) }
@@ -136,6 +140,7 @@ pub fn all_covers<S: Alter>(
         (state S.Store connection.old).now.trees).covers) rows.items) }
     ensures open { has_table made DeskTable.Volume ≡ true → HasCleanDisk (state S.Store connection.new)
         → OnOk result (IsTrue (state S.Store connection.old).is_open) }
+    ensures live { OnOk result (StaysOpen S.Store connection.old connection.new) }
     ensures cause { HasCleanDisk (state S.Store connection.new)
         → IsTrue (state S.Store connection.new).is_open
         → IfErr result (IsRefusal S.Store connection.old connection.new) }
@@ -170,6 +175,7 @@ pub fn all_spans<S: Alter>(
         (state S.Store connection.old).now.trees).spans) rows.items) }
     ensures open { has_table made DeskTable.Span ≡ true → HasCleanDisk (state S.Store connection.new)
         → OnOk result (IsTrue (state S.Store connection.old).is_open) }
+    ensures live { OnOk result (StaysOpen S.Store connection.old connection.new) }
     ensures cause { HasCleanDisk (state S.Store connection.new)
         → IsTrue (state S.Store connection.new).is_open
         → IfErr result (IsRefusal S.Store connection.old connection.new) }

@@ -7,7 +7,7 @@ ghost use Rattle.sqlite.specs.State.{HasCleanDisk};
 ghost use Rattle.sqlite.specs.Held.{state};
 ghost use Rattle.desk_sql.specs.Schema.{has_table};
 ghost use Rattle.desk_sql.specs.Rows.{IsMadeTo, tables_at};
-ghost use Rattle.desk_sql.specs.Effects.{IsKept};
+ghost use Rattle.desk_sql.specs.Effects.{IsKept, IsOpenIfClean};
 ghost use Rattle.desk_sql.specs.Frames.{OnlyReads};
 ghost use Rattle.desk_sql.specs.Finding.{Holds};
 ghost use Rattle.desk_tables.specs.Store.{Stands};
@@ -52,6 +52,7 @@ pub(crate) fn world_in<S: Alter>(
         BeginsWith S.Store connection.old connection.new found.0.world) }
     ensures stands { IfOk result (λ found. Stands S.Store connection.new found.0.world) }
     ensures bounded { IfOk result (λ found. Bounds found.1 found.0.world) }
+    ensures live { OnOk result (IsOpenIfClean S.Store connection.new) }
     ensures none { IfErr result (λ e. e ≡ OpenFault.NotADesk →
         ShowsNoDesk S.Store connection.old connection.new) }
     ensures old { IfErr result (λ e. e ≡ OpenFault.OldSchema →
@@ -112,6 +113,7 @@ pub(crate) fn world_of<S: Alter>(
     ensures cause { IfErr result (BlamesDatabase S.Store connection.old connection.new) }
     ensures opened { HasCleanDisk (state S.Store connection.new) →
         OnOk result (IsTrue (state S.Store connection.old).is_open) }
+    ensures live { OnOk result (IsOpenIfClean S.Store connection.new) }
     ensures kept { OnErr result (IsKept S.Store connection.old connection.new) }
     ensures doubt { doubt (state S.Store connection.old).is_clean
         ≤ doubt (state S.Store connection.new).is_clean }
@@ -131,6 +133,7 @@ pub(crate) fn made_in<S: Alter>(connection: &mut Connection<S>) -> Result<Kept, 
     ensures stands { IfOk result (λ kept. Stands S.Store connection.new kept.world) }
     ensures open { HasCleanDisk (state S.Store connection.new) →
         OnOk result (IsTrue (state S.Store connection.old).is_open) }
+    ensures live { OnOk result (IsOpenIfClean S.Store connection.new) }
     ensures fault { IfErr result (λ e. (e ≢ OpenFault.NotADesk)
         × (e ≢ OpenFault.OldSchema)) }
     ensures kept { OnErr result (IsKept S.Store connection.old connection.new) }
@@ -163,6 +166,7 @@ fn completed_in<S: Alter>(
     ensures newer { IfErr result (λ e. e ≢ OpenFault.OldSchema) }
     ensures open { HasCleanDisk (state S.Store connection.new) →
         OnOk result (IsTrue (state S.Store connection.old).is_open) }
+    ensures live { OnOk result (IsOpenIfClean S.Store connection.new) }
     ensures kept { OnErr result (IsKept S.Store connection.old connection.new) }
     ensures doubt { doubt (state S.Store connection.old).is_clean
         ≤ doubt (state S.Store connection.new).is_clean }
@@ -191,6 +195,7 @@ fn found_in<S: Alter>(
     ensures newer { IfErr result (λ e. e ≢ OpenFault.OldSchema) }
     ensures open { HasCleanDisk (state S.Store connection.new) →
         OnOk result (IsTrue (state S.Store connection.old).is_open) }
+    ensures live { OnOk result (IsOpenIfClean S.Store connection.new) }
     ensures cause { IfErr result (BlamesReading S.Store connection.old connection.new) }
     ensures reads { OnlyReads S.Store connection.old connection.new }
 {
@@ -255,6 +260,7 @@ fn rows_in<S: Alter>(
         IfOk result (AreSortedByKey (tables_at made (state S.Store connection.old).now.trees)) }
     ensures open { HasCleanDisk (state S.Store connection.new) →
         OnOk result (IsTrue (state S.Store connection.old).is_open) }
+    ensures live { OnOk result (IsOpenIfClean S.Store connection.new) }
     ensures fault { IfErr result (λ e. (e ≢ OpenFault.NotADesk)
         × (e ≢ OpenFault.OldSchema)) }
     ensures cause { IfErr result (BlamesReading S.Store connection.old connection.new) }

@@ -8,7 +8,7 @@ ghost use Rattle.sqlite.specs.Held.{state};
 ghost use Rattle.desk_sql.specs.Schema.{has_table};
 ghost use Rattle.desk_sql.specs.Rows.{IsMadeTo, tables_at};
 ghost use Rattle.desk_sql.specs.Batches.{IsUnderWay};
-ghost use Rattle.desk_sql.specs.Effects.{IsReady, IsKept, Makes, Commits};
+ghost use Rattle.desk_sql.specs.Effects.{IsReady, IsKept, IsOpenIfClean, Makes, Commits};
 ghost use Rattle.desk_sql.specs.Frames.{IsOver, OnlyReads, Remembers};
 ghost use Rattle.desk_sql.specs.Finding.{Holds};
 ghost use Rattle.desk_store.specs.World.{World};
@@ -65,6 +65,7 @@ pub(crate) fn moved_world_in<S: Alter>(
         BeginsMoved S.Store connection.old connection.new moved.0.world moved.2) }
     ensures stands { IfOk result (λ moved. Stands S.Store connection.new moved.0.world) }
     ensures bounded { IfOk result (λ moved. Bounds moved.1 moved.0.world) }
+    ensures live { OnOk result (IsOpenIfClean S.Store connection.new) }
     ensures none { IfErr result (λ e. e ≡ OpenFault.NotADesk →
         ShowsNoContent S.Store connection.old connection.new) }
     ensures newer { IfErr result (λ e. e ≢ OpenFault.OldSchema) }
@@ -103,6 +104,7 @@ fn moved_in<S: Alter>(
     ensures newer { IfErr result (λ e. e ≢ OpenFault.OldSchema) }
     ensures opened { HasCleanDisk (state S.Store connection.new) →
         OnOk result (IsTrue (state S.Store connection.old).is_open) }
+    ensures live { OnOk result (IsOpenIfClean S.Store connection.new) }
     ensures kept { OnErr result (KeepsRows S.Store connection.old connection.new) }
     ensures doubt { doubt (state S.Store connection.old).is_clean
         ≤ doubt (state S.Store connection.new).is_clean }

@@ -3,7 +3,7 @@
 ghost use Rattle.std.specs.Prelude.{◌≡◌, ◌≢◌, ◌≤◌, [], false, IfOk, IfErr, MatchResult};
 ghost use Rattle.sqlite_trees.specs.View.{doubt};
 ghost use Rattle.sqlite.specs.Held.{state};
-ghost use Rattle.desk_sql.specs.Effects.{IsKept};
+ghost use Rattle.desk_sql.specs.Effects.{IsKept, IsOpenIfClean};
 ghost use Rattle.desk_tables.specs.Moving.{BeginsMoved, BlamesMove, KeepsRows, ShowsNoContent};
 ghost use Rattle.desk_tables.specs.Opening.{BeginsWith, ShowsNoDesk, ShowsOldRows, BlamesDatabase};
 ghost use Rattle.desk_tables.specs.Leaving.{IsSettledAt};
@@ -136,10 +136,9 @@ impl SqliteStore<FileStore<Ram>> {
 }
 
 impl<S: Alter> SqliteStore<S> {
-    /// The store over a connection. In a database with no table a desk's tables are made, and the
-    /// world is empty. A desk's tables stay as they are, and the world is the content whose rows they
-    /// have. That holds while the disk has returned what was written and no fault has shut the
-    /// connection.
+    /// The store over a connection, which is open. In a database with no table a desk's tables are made,
+    /// and the world is empty. A desk's tables stay as they are, and the world is the content whose rows
+    /// they have. That holds while the disk has returned what was written.
     ///
     /// # Errors
     ///
@@ -154,6 +153,7 @@ impl<S: Alter> SqliteStore<S> {
         requires settled { connection.in_transaction ≡ false }
         ensures begins { IfOk result (λ store.
             BeginsWith S.Store connection store.held store.world) }
+        ensures live { IfOk result (λ store. IsOpenIfClean S.Store store.held) }
         ensures left { IfOk result (λ store. IsSettledAt S.Store store.held store.world) }
         ensures none { IfErr result (λ refused. refused.fault ≡ OpenFault.NotADesk →
             ShowsNoDesk S.Store connection refused.connection) }
@@ -194,6 +194,7 @@ impl<S: Alter> SqliteStore<S> {
         requires settled { connection.in_transaction ≡ false }
         ensures begins { IfOk result (λ moved.
             BeginsMoved S.Store connection moved.0.held moved.0.world moved.1) }
+        ensures live { IfOk result (λ moved. IsOpenIfClean S.Store moved.0.held) }
         ensures left { IfOk result (λ moved. IsSettledAt S.Store moved.0.held moved.0.world) }
         ensures none { IfErr result (λ refused. refused.fault ≡ OpenFault.NotADesk →
             ShowsNoContent S.Store connection refused.connection) }

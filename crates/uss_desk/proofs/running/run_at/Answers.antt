@@ -13,7 +13,7 @@ returns-in-File g c =
       refl,
       run_or_not over_files (BeginsIn _ image) (FailsAt _ image) c.args.line.now _ _ _ _ _ _
           c.open_file-opened.result done.result
-          (opened_in image c.open_file-opened.result c.open_file-opened.ensures.opened).0
-          (opened_in image c.open_file-opened.result c.open_file-opened.ensures.opened).1
-          done.ensures.opened done.ensures.unopened,
+          (opened_in image c.open_file-opened.result c.open_file-opened.ensures).0
+          (opened_in image c.open_file-opened.result c.open_file-opened.ensures).1
+          done.ensures.opened done.ensures.kept done.ensures.unopened,
     )

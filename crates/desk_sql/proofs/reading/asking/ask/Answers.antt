@@ -3,7 +3,7 @@ use Rattle.sqlite.specs.State.{HasCleanDisk}
 use Rattle.sqlite.specs.Held.{state}
 use Rattle.desk_sql.specs.Effects.{IsKept, Spares}
 use Rattle.desk_sql.specs.Refusals.{IsRefusal}
-use Rattle.desk_sql.proofs.ReadLemmas.{open_if, if_either, unprepared}
+use Rattle.desk_sql.proofs.ReadLemmas.{open_after, open_if, if_either, unprepared}
 use Rattle.desk_sql.proofs.AskLemmas.{refused_unprepared, refused_after, sure_plain}
 use Rattle.desk_sql.proofs.LeavingLemmas.{shown_after, kept_by_query, spared_after, reads_unprepared, reads_prepared}
 use Rattle.desk_sql.proofs.reading.asking.ask.Goals as goal
@@ -42,6 +42,11 @@ pub returns-clause-open : goal.returns-clause-open
 returns-clause-open g c clean =
     open_if (λ v. v.items) c.args.query.now _ (state g.S.Store c.args.connection.now)
     (state g.S.Store c.query_all.new.conn) c.query_all.result (returns-clause-shown g c clean)
+
+pub returns-clause-live : goal.returns-clause-live
+returns-clause-live g c =
+    open_after (λ v. v.items) c.args.query.now [] (state g.S.Store c.args.connection.now)
+    (state g.S.Store c.query_all.new.conn) c.query_all.result (returns-clause-shown g c)
 
 pub returns-clause-reads : goal.returns-clause-reads
 returns-clause-reads g c =

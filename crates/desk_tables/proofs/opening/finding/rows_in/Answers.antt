@@ -1,4 +1,6 @@
 use Rattle.std.proofs.Common.{◌∙◌, arith, rules}
+use Rattle.sqlite.specs.State.{HasCleanDisk}
+use Rattle.sqlite.specs.Held.{state}
 use Rattle.desk_tables.proofs.OpeningLemmas.{blames_reading}
 use Rattle.desk_tables.proofs.opening.finding.rows_in.Goals as goal
 
@@ -24,3 +26,17 @@ returns-in_err-covers-clause-cause g c =
     (omega (arith, one.reads.faults, two.reads.faults, three.reads.faults))
     (three.reads.limit ∙ two.reads.limit ∙ one.reads.limit) c.in_err-covers.ensures.cause in
     search (rules, blames)
+
+pub returns-clause-live : goal.returns-clause-live
+returns-clause-live g c = λ clean.
+    let four : HasCleanDisk (state g.S.Store c.all_covers.new.connection) =
+    omega (arith, c.all_spans.ensures.reads.doubt, clean) in
+    let three : HasCleanDisk (state g.S.Store c.all_volumes.new.connection) =
+    omega (arith, c.all_covers.ensures.reads.doubt, four) in
+    let two : HasCleanDisk (state g.S.Store c.all_plans.new.connection) =
+    omega (arith, c.all_volumes.ensures.reads.doubt, three) in
+    let one : HasCleanDisk (state g.S.Store c.all_operators.new.connection) =
+    omega (arith, c.all_plans.ensures.reads.doubt, two) in
+    c.in_ok-spans.ensures.live clean (c.in_ok-covers.ensures.live four
+    (c.in_ok-volumes.ensures.live three (c.in_ok-plans.ensures.live two
+    (c.in_ok-operators.ensures.live one (c.in_ok-operators.ensures.open c.requires.some one)))))

@@ -58,6 +58,7 @@ returns-in_default g c =
       cause = blames_completing g.S.Store made c.completed_in.result old old new missing kept c.requires.part
           done.kept done.doubt;
       opened = done.open;
+      live = done.live;
       kept = done.kept;
       doubt = done.doubt;
     }

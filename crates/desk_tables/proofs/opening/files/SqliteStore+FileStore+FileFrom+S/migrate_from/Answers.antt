@@ -12,6 +12,7 @@ returns-in-Ok-adopt_old-clause-begins g c =
     λ clean. omega (arith, c.in-Ok-adopt_old.ensures.doubt, clean) in record {
       found = c.in-Ok.connection;
       opened = λ clean. (c.in-Ok.ensures.opened (was clean), c.in-Ok.ensures.found (was clean));
+      live = c.in-Ok-adopt_old.ensures.live;
       begins = c.in-Ok-adopt_old.ensures.begins;
     }
 
