@@ -1,9 +1,8 @@
-use Rattle.std.proofs.Common.{ap, arith, sym, subst}
+use Rattle.std.proofs.Common.{ap, sym, subst}
 use Rattle.sqlite_wal.specs.Files.{image_at}
 use Rattle.sqlite.specs.Files.{over_files}
 use Rattle.desk_tables.specs.Files.{OpensIn}
 use Rattle.desk_tables.specs.Leaving.{IsSettledAt}
-use Rattle.uss_desk.specs.Opening.{BeginsIn}
 use Rattle.uss_desk.proofs.opening.open_file.Goals as goal
 
 pub returns-in-Ok : goal.returns-in-Ok

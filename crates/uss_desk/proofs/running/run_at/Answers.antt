@@ -1,9 +1,20 @@
 use Rattle.std.proofs.Common.{refl}
 use Rattle.sqlite_wal.specs.Files.{image_at}
 use Rattle.sqlite.specs.Files.{over_files}
-use Rattle.uss_desk.specs.Opening.{BeginsIn, FailsAt}
+use Rattle.uss_desk.specs.Opening.{BeginsIn, FailsAt, IsBlank, IsMemory}
 use Rattle.uss_desk.proofs.RunLemmas.{opened_in, run_or_not}
 use Rattle.uss_desk.proofs.running.run_at.Goals as goal
+
+pub returns-in-InMemory : goal.returns-in-InMemory
+returns-in-InMemory g c =
+    let opened = c.open_in_memory-opened in
+    let done = c.run_opened-status in
+    rw c.in-InMemory.is (
+      refl,
+      run_or_not over_files IsBlank IsMemory c.args.line.now _ _ _ _ _ _ opened.result done.result
+          opened.ensures.blank opened.ensures.failure done.ensures.opened done.ensures.kept
+          done.ensures.unopened,
+    )
 
 pub returns-in-File : goal.returns-in-File
 returns-in-File g c =
