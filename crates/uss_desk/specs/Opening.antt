@@ -77,6 +77,15 @@ module _ {D : Type 0} {g : disk.Ghosts D} (image : Image) where
   IsMovedAt InMemory moved = moved ≡ Err failure.Store
   IsMovedAt (File path) moved = IsMovedIn moved
 
+-- where a database is
+abbrev pub IsInMemory : Database → Type 0
+IsInMemory InMemory = ⊤
+IsInMemory (File path) = ⊥
+
+abbrev pub IsInFiles : Database → Type 0
+IsInFiles InMemory = ⊥
+IsInFiles (File path) = ⊤
+
 -- what is opened for a line: a desk in memory or one over files
 abbrev pub OpenedDesk : {M : Type 0} → disk.Ghosts M → {D : Type 0} → disk.Ghosts D → Type 0
 OpenedDesk {M} m {D} g = Opened (Parts (Shown (FileStore M m))) (Parts (Shown (FileStore D g)))
@@ -84,14 +93,10 @@ OpenedDesk {M} m {D} g = Opened (Parts (Shown (FileStore M m))) (Parts (Shown (F
 module _ {M : Type 0} {m : disk.Ghosts M} {D : Type 0} {g : disk.Ghosts D} (image : Image) where
   -- what is opened over a database: a blank desk in memory, or a desk over files that held this; or why not
   abbrev pub IsOpenedAt : Database → OpenedDesk m g → Type 0
-  IsOpenedAt InMemory opened.Nothing = ⊥
-  IsOpenedAt InMemory (opened.Memory desk) = IfOk desk IsBlank × IfErr desk IsMemory
-  IsOpenedAt InMemory (opened.Files desk) = ⊥
-  IsOpenedAt InMemory (opened.Moved moved) = ⊥
-  IsOpenedAt (File path) opened.Nothing = ⊥
-  IsOpenedAt (File path) (opened.Memory desk) = ⊥
-  IsOpenedAt (File path) (opened.Files desk) = IsOpenedIn image desk
-  IsOpenedAt (File path) (opened.Moved moved) = ⊥
+  IsOpenedAt database opened.Nothing = ⊥
+  IsOpenedAt database (opened.Memory desk) = IsInMemory database × IfOk desk IsBlank × IfErr desk IsMemory
+  IsOpenedAt database (opened.Files desk) = IsInFiles database × IsOpenedIn image desk
+  IsOpenedAt database (opened.Moved moved) = ⊥
 
   -- what is opened over a database whose plans of schema 1 are to be moved
   abbrev pub IsOpenedToMove : Database → OpenedDesk m g → Type 0
@@ -100,11 +105,18 @@ module _ {M : Type 0} {m : disk.Ghosts M} {D : Type 0} {g : disk.Ghosts D} (imag
   IsOpenedToMove database (opened.Files desk) = ⊥
   IsOpenedToMove database (opened.Moved moved) = IsMovedAt image database moved
 
+  -- nothing is opened for a line that is printed alone
+  abbrev pub IsNothing : OpenedDesk m g → Type 0
+  IsNothing opened.Nothing = ⊤
+  IsNothing (opened.Memory desk) = ⊥
+  IsNothing (opened.Files desk) = ⊥
+  IsNothing (opened.Moved moved) = ⊥
+
   -- what is opened for a line, by the database that it names
   abbrev pub IsOpenedFor : Line → OpenedDesk m g → Type 0
   IsOpenedFor (line.Play play) it = IsOpenedAt play.database it
   IsOpenedFor (line.Enrol enrol) it = IsOpenedAt enrol.database it
   IsOpenedFor (line.Serve serve) it = IsOpenedAt serve.database it
   IsOpenedFor (line.Migrate migrate) it = IsOpenedToMove migrate.database it
-  IsOpenedFor (line.Token token) it = it ≡ opened.Nothing
-  IsOpenedFor (line.Cover cover) it = it ≡ opened.Nothing
+  IsOpenedFor (line.Token token) it = IsNothing it
+  IsOpenedFor (line.Cover cover) it = IsNothing it

@@ -1,0 +1,19 @@
+use Rattle.std.proofs.Common.{ap, sym, subst}
+use Rattle.sqlite_wal.specs.Files.{image_at}
+use Rattle.sqlite.specs.Files.{over_files}
+use Rattle.desk_tables.specs.Files.{OpensIn}
+use Rattle.desk_tables.specs.Guarding.{IsGuarded}
+use Rattle.desk_tables.specs.Leaving.{IsSettledAt}
+use Rattle.uss_desk.proofs.opening.open_file.Goals as goal
+
+pub returns-in-Ok : goal.returns-in-Ok
+returns-in-Ok g c =
+    let opens = subst (λ d. OpensIn (image_at g.F.Start) d.store.held d.store.world) (sym c.new.ensures)
+    c.in-Ok.ensures.begins in
+    let left = subst (λ d. IsSettledAt over_files d.store.held d.store.world) (sym c.new.ensures)
+    c.in-Ok.ensures.left in record {
+      opens = opens;
+      left = λ clean. left clean (opens.live clean);
+      guarded = subst (λ d. IsGuarded d.store.held) (sym c.new.ensures) c.in-Ok.ensures.guarded;
+      none = ap (λ d. d.permitted) c.new.ensures;
+    }
