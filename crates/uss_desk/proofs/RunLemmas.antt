@@ -12,42 +12,22 @@ use Rattle.desk_tables.specs.Store.{Shown}
 use Rattle.desk_line.specs.declared.failure.Failure.{Failure}
 use Rattle.desk_line.specs.declared.line.Line.{Line}
 use Rattle.desk_line.specs.declared.line.Line.TheVariants as line
-use Rattle.desk_line.specs.Lines.{HasDatabase, IsPrintable}
 use Rattle.desk_program.specs.Serving.{Arrival}
 use Rattle.uss_desk.specs.declared.opening.Opened.TheVariants as opened
 use Rattle.uss_desk.specs.Guarding.{Account, IsTrueOrCollided}
 use Rattle.uss_desk.specs.Opening.{IsOpenedFor, IsOpenedIn}
 use Rattle.uss_desk.specs.Running.{IsDoneAt, StaysGuarded}
 
-module _ {M : Type 0} {m : disk.Ghosts M} {D : Type 0} {g : disk.Ghosts D} (image : Image) where
-  -- nothing is opened for a line that is printed alone
-  pub for_nothing : (it : Line) → IsOpenedFor {m = m} {g = g} image it opened.Nothing → IsPrintable it
-  for_nothing (line.Play play) opens = absurd opens
-  for_nothing (line.Token token) opens = tt
-  for_nothing (line.Serve serve) opens = absurd opens
-  for_nothing (line.Cover cover) opens = tt
-  for_nothing (line.Enrol enrol) opens = absurd opens
-  for_nothing (line.Migrate migrate) opens = absurd opens
-
-  -- a desk in memory is opened for a line that names a database
-  pub for_memory : (it : Line) (desk : Result (Parts (Shown (FileStore M m))) Failure)
-      → IsOpenedFor {m = m} {g = g} image it (opened.Memory desk) → HasDatabase it
-  for_memory (line.Play play) desk opens = tt
-  for_memory (line.Token token) desk opens = absurd opens
-  for_memory (line.Serve serve) desk opens = tt
-  for_memory (line.Cover cover) desk opens = absurd opens
-  for_memory (line.Enrol enrol) desk opens = tt
-  for_memory (line.Migrate migrate) desk opens = absurd opens
-
-  -- and so is one over files, which held this
-  pub for_files : (it : Line) (desk : Result (Parts (Shown (FileStore D g))) Failure)
-      → IsOpenedFor {m = m} {g = g} image it (opened.Files desk) → HasDatabase it × IsOpenedIn image desk
-  for_files (line.Play play) desk opens = (tt, opens.1)
-  for_files (line.Token token) desk opens = absurd opens
-  for_files (line.Serve serve) desk opens = (tt, opens.1)
-  for_files (line.Cover cover) desk opens = absurd opens
-  for_files (line.Enrol enrol) desk opens = (tt, opens.1)
-  for_files (line.Migrate migrate) desk opens = absurd opens
+-- a desk over files is opened for a line that names them, and they held this
+pub for_files : {M : Type 0} (m : disk.Ghosts M) {D : Type 0} {g : disk.Ghosts D} (image : Image) (it : Line)
+    → (desk : Result (Parts (Shown (FileStore D g))) Failure)
+    → IsOpenedFor {m = m} {g = g} image it (opened.Files desk) → IsOpenedIn image desk
+for_files m image (line.Play play) desk opens = opens.1
+for_files m image (line.Token token) desk opens = absurd opens
+for_files m image (line.Serve serve) desk opens = opens.1
+for_files m image (line.Cover cover) desk opens = absurd opens
+for_files m image (line.Enrol enrol) desk opens = opens.1
+for_files m image (line.Migrate migrate) desk opens = absurd opens
 
 -- a flag that is up leaves no doubt
 no_doubt : (clean : Bool) → IsTrue clean → doubt clean ≡ 0
