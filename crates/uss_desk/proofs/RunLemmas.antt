@@ -2,10 +2,13 @@
 use Rattle.std.proofs.Common.{◌≡◌, ℕ, List, Option, None, Some, Result, Ok, Err, IfOk, Bool, true, IsTrue, inl, inr, refl, sym, subst}
 use Rattle.sqlite_trees.specs.View.{doubt}
 use Rattle.sqlite_disk.specs.declared.Disk as disk
+use Rattle.sqlite_disk.specs.declared.Files.{Files}
 use Rattle.sqlite_disk.specs.Events.{Event, replay}
+use Rattle.sqlite_wal.specs.Reads.{AreClean}
 use Rattle.sqlite_wal.specs.Recovery.{Image}
 use Rattle.sqlite_store.specs.declared.store.FileStore.{FileStore}
 use Rattle.sqlite.specs.Files.{file_state, over_files}
+use Rattle.sqlite.specs.Closing.{IsCopied}
 use Rattle.sqlite.proofs.Shield.{shield_means}
 use Rattle.desk_run.specs.DeskWorld.{Parts}
 use Rattle.desk_tables.specs.Store.{Shown}
@@ -14,6 +17,7 @@ use Rattle.desk_line.specs.declared.line.Line.{Line}
 use Rattle.desk_line.specs.declared.line.Line.TheVariants as line
 use Rattle.desk_program.specs.Serving.{Arrival}
 use Rattle.uss_desk.specs.declared.opening.Opened.TheVariants as opened
+use Rattle.uss_desk.specs.Closing.{IsClosed}
 use Rattle.uss_desk.specs.Guarding.{Account, IsTrueOrCollided}
 use Rattle.uss_desk.specs.Opening.{IsOpenedFor, IsOpenedIn}
 use Rattle.uss_desk.specs.Running.{IsDoneAt, StaysGuarded}
@@ -59,3 +63,11 @@ stays_guarded account fair clean image it from to old new out now status (Ok des
     λ honest. true_or_collided account fair clean left (done.2 (opens.guarded honest))
 stays_guarded account fair clean image it from to old new out now status (Ok desk) None opens done = done
 stays_guarded account fair clean image it from to old new out now status (Err f) left opens done = tt
+
+-- a desk whose store was closed, by what the store is
+pub is_closed : {D : Type 0} {g : disk.Ghosts D} (desk : Parts (Shown (FileStore D g)))
+    → (store : Shown (FileStore D g)) (status : ℕ) (files : Files D) → store ≡ desk.store
+    → (AreClean g files.log files.db → IsCopied store.held files)
+    → IsClosed (Some desk) status status (Some files)
+is_closed {D} {g} desk store status files same copied =
+    (refl, subst (λ s. AreClean g files.log files.db → IsCopied s.held files) same copied)
