@@ -1,5 +1,6 @@
 """Files that are damaged, and requests by chance."""
 import pathlib
+import subprocess
 from typing import NamedTuple
 
 from lies.desk import Complaint, play
@@ -7,6 +8,8 @@ from lies.flights import Flight, World, clear, delete, list_all, put, show
 
 CELLS = 8
 NUMBERS = 30
+# the first table of a desk, to which it makes the others. A file that sqlite3 makes has no sums
+FIRST_TABLE = "CREATE TABLE operator (name TEXT NOT NULL, ceiling INTEGER NOT NULL, PRIMARY KEY (name)) STRICT"
 
 
 class Made(NamedTuple):
@@ -45,6 +48,12 @@ def later_changes(operators, cells):
             yield clear, operator, 18 + number
             yield clear, operator - 1, 24 + number
             yield put, operator, NUMBERS + number, Flight(cells, 40)
+
+
+def make_without_sums(path, operators):
+    """Makes a file without sums, as `make_file` does one with sums."""
+    subprocess.run(["sqlite3", str(path), FIRST_TABLE], check=True)
+    return make_file(path, operators)
 
 
 def make_file(path, operators, numbers=NUMBERS, cells=CELLS):

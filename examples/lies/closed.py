@@ -1,6 +1,6 @@
-"""Damage in a closed file between two lines: it is refused, or has the same content; pages of an older state that are
-whole may show another one."""
-from lies.changes import make_file
+"""Damage in a closed file between two lines. It is refused, or has the same content; pages of an older state, each of
+them whole, may show another one, and so may a file without sums."""
+from lies.changes import make_file, make_without_sums
 from lies.damage import (
     PAGE, SECTOR, bit, burst, cut, damaged, older_page, older_pages, pair_of_bits, swapped, zeroed,
 )
@@ -23,15 +23,20 @@ KINDS = [
 
 def closed(counts, room, times):
     """The part."""
-    made = make_file(room / "closed.db", 4)
+    damage_all(counts, "FILE", make_file(room / "closed.db", 4), times, False)
+    damage_all(counts, "FILE without sums", make_without_sums(room / "without.db", 4), times, True)
+
+
+def damage_all(counts, what, made, times, may_differ):
+    """Damages a closed file in all kinds. `may_differ` tells whether each kind may show another content."""
     right = read_all(made.world)[1]
-    for name, kind, often, may_differ in KINDS:
+    for name, kind, often, is_whole in KINDS:
 
         def trial(path, chance):
             path.write_bytes(damaged(made.data, made.older, kind, chance))
-            return judged(path, made.world, right, may_differ)
+            return judged(path, made.world, right, may_differ or is_whole)
 
-        counts.try_all(f"FILE between lines, {name}", trial, often * times)
+        counts.try_all(f"{what} between lines, {name}", trial, often * times)
 
 
 def judged(path, world, right, may_differ):

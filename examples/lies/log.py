@@ -33,6 +33,11 @@ def frames_of(log):
     return count
 
 
+def live_part(log):
+    """The head of a log and these frames."""
+    return log[: HEAD + frames_of(log) * FRAME]
+
+
 def leave(counts, room):
     """Serves a file until its log was copied into it once and has grown again, and kills the desk."""
     path, chance = room / "killed.db", random.Random("killed")
@@ -53,8 +58,8 @@ def leave(counts, room):
             if len(worlds) > 1000:
                 raise Complaint("the log is never copied into FILE")
     log = log_of(path).read_bytes()
-    end = HEAD + frames_of(log) * FRAME
-    return Left(path.read_bytes(), log[:end], log[end:], logs[0], worlds)
+    live = live_part(log)
+    return Left(path.read_bytes(), live, log[len(live) :], logs[0], worlds)
 
 
 def swapped_frames(data, _, chance):

@@ -1,15 +1,17 @@
-"""Damage under a running desk: each answer is right, or a 500 after which it ends."""
+"""Damage under a running desk, in FILE and in FILE-wal: each answer is right, or a 500 after which the desk ends."""
 from faults.scenario import answer
-from lies.changes import make_file, step_by_chance
-from lies.damage import PAGE, SECTOR, bit, changed_pages, flip
-from lies.desk import Complaint, Desk, log_of, opened
+from lies.changes import change_by_chance, make_file, step_by_chance
+from lies.damage import PAGE, SECTOR, changed_pages, flip
+from lies.desk import Complaint, Desk, copy_pair, log_of, opened
 from lies.flights import read_all
+from lies.log import live_part
 
 # the pages that a desk keeps in memory
 CACHE = 2_000
 STORE = answer(500, '{"error":"store"}')
 OPERATORS, NUMBERS, CELLS = 10, 100, 40
 REQUESTS = 400
+CHANGES = 60
 
 
 def chosen(data, chance):
@@ -46,7 +48,13 @@ def older(data, old, chance):
         data[at : at + PAGE] = old[at : at + PAGE]
 
 
-KINDS = [("a bit of each", bits), ("a sector of zeros in each", zeros), ("moved", moved), ("of an older state", older)]
+# name, kind, and whether the next opening may show another content
+KINDS = [
+    ("a bit of each", bits, False),
+    ("a sector of zeros in each", zeros, False),
+    ("each in another's place", moved, False),
+    ("pages of an older state", older, True),
+]
 
 
 def write_over(path, before, after):
@@ -57,40 +65,64 @@ def write_over(path, before, after):
             file.write(after[at : at + PAGE])
 
 
+def asked_by_chance(desk, maker, world, chance, count):
+    """Asks until an answer isn't right, or so often. Gives the worlds that the right answers left, and after them that
+    of the request that wasn't answered right, and tells whether there was one."""
+    worlds = [world]
+    for _ in range(count):
+        asked, told, after = maker(worlds[-1], chance)
+        got = desk.ask(asked)
+        worlds.append(after)
+        if got == told:
+            continue
+        if got != STORE:
+            raise Complaint(f"after {len(worlds) - 2} right answers a wrong one: {got[:200]!r}")
+        ended = desk.ended()
+        if ended != (4, "uss_desk: broken\n"):
+            raise Complaint(f"after a 500 it ended with {ended}")
+        return worlds, True
+    return worlds, False
+
+
+def in_file(path, made, kind, chance, may_differ):
+    """Serves a copy of a large file, damages FILE meanwhile, and asks."""
+    path.write_bytes(made.data)
+    changed = bytearray(made.data)
+    kind(changed, made.older, chance)
+    with Desk(path) as desk:
+        write_over(path, made.data, changed)
+        worlds, is_broken = asked_by_chance(desk, step_by_chance, made.world, chance, REQUESTS)
+    outcome = "right answers and then a 500" if is_broken else "only right answers"
+    found = opened(path, made.world)
+    if not (found.word or may_differ or found.content in [read_all(world)[1] for world in worlds[-2:]]):
+        raise Complaint(f"{outcome}, but the next opening shows another content")
+    return outcome
+
+
+def in_log(path, made, chance):
+    """Serves a copy of a small file, flips a bit in its log after some changes, and changes more."""
+    copy_pair(made.path, path)
+    with Desk(path) as desk:
+        worlds, is_broken = asked_by_chance(desk, change_by_chance, made.world, chance, chance.randrange(3, 12))
+        data = bytearray(log_of(path).read_bytes())
+        flip(data, chance, 0, len(live_part(data)))
+        write_over(log_of(path), log_of(path).read_bytes(), data)
+        more, is_broken = asked_by_chance(desk, change_by_chance, worlds[-1], chance, CHANGES)
+    found = opened(path, made.world)
+    if not (found.word or found.content in [read_all(world)[1] for world in worlds + more]):
+        raise Complaint("the next opening shows what was never its content")
+    return "right answers and then a 500" if is_broken else "only right answers"
+
+
 def running(counts, room, times):
     """The part."""
     made = make_file(room / "large.db", OPERATORS, NUMBERS, CELLS)
     counts.expect("a file of more pages than the cache", len(made.data) > 1.4 * CACHE * PAGE)
-    for name, kind in KINDS:
+    for name, kind, may_differ in KINDS:
 
         def trial(path, chance):
-            return lied_to(path, made, kind, chance)
+            return in_file(path, made, kind, chance, may_differ)
 
-        counts.try_all(f"5 % of FILE's pages under a running desk, {name}", trial, 4 * times)
-
-
-def lied_to(path, made, kind, chance):
-    """Serves a copy, damages it meanwhile, and asks until the desk ends."""
-    path.write_bytes(made.data)
-    changed = bytearray(made.data)
-    kind(changed, made.older, chance)
-    world, count = made.world, 0
-    with Desk(path) as desk:
-        write_over(path, made.data, changed)
-        for _ in range(REQUESTS):
-            asked, told, after = step_by_chance(world, chance)
-            got = desk.ask(asked)
-            if got != told:
-                return broken(path, desk, got, [world, after])
-            world, count = after, count + 1
-    return "only right answers"
-
-
-def broken(path, desk, got, worlds):
-    """What came of an answer that isn't the right one."""
-    if got != STORE:
-        raise Complaint(f"a wrong answer: {got[:200]!r}")
-    ended = desk.ended()
-    if ended != (4, "uss_desk: broken\n"):
-        raise Complaint(f"after a 500 it ended with {ended}")
-    return "right answers and then a 500"
+        counts.try_all(f"5 % of FILE's {len(made.data) // PAGE} pages under a running desk, {name}", trial, 4 * times)
+    small = make_file(room / "small.db", 4)
+    counts.try_all("FILE-wal under a running desk, a bit", lambda *words: in_log(words[0], small, words[1]), 20 * times)

@@ -4,8 +4,8 @@ import random
 import sqlite3
 
 from faults.program import PROGRAM, finish
-from lies.changes import change_by_chance, make_file
-from lies.desk import Complaint, Desk, copy_pair, opened, play
+from lies.changes import change_by_chance, make_file, make_without_sums
+from lies.desk import Complaint, Desk, copy_pair, opened
 from lies.flights import read_all, show
 
 READS = ["PRAGMA integrity_check", "SELECT * FROM plan", "PRAGMA quick_check; SELECT count(*) FROM span2", ".dump"]
@@ -78,17 +78,15 @@ def between(made, room):
             yield f"{kind}, {text}", sqlite(copy, text)[0] == 0 and opened(copy, world) == ("store", b"")
 
 
-def without_sums(made, room):
-    """A file that has no sums keeps its kind, and sqlite3 may write to it what a desk takes."""
+def kinds(made, room):
+    """A new file has sums; one that sqlite3 made keeps its kind, and may be written to by sqlite3 again."""
     path = room / "without.db"
+    other = make_without_sums(path, 2)
     yield "a new file has sums", made.data[RESERVED] == SUM
-    text = f".filectrl reserve_bytes 0\nVACUUM INTO '{path}'"
-    source = copy_pair(made.path, room / "with.db")
-    finish(["sqlite3", str(source)], text.encode())
-    yield "a copy without sums", opened(path, made.world) == (None, read_all(made.world)[1])
-    steps = [change_by_chance(made.world, random.Random("without"))]
-    yield "a change without sums", play(path, steps) and path.read_bytes()[RESERVED] == 0
-    yield "written by sqlite3", sqlite(path, WRITES[1])[0] == 0 and opened(path, made.world).word is None
+    yield "another one keeps its kind", other.data[RESERVED] == 0
+    world = other.world._replace(ceilings=dict.fromkeys(other.world.ceilings, 60))
+    is_written = sqlite(path, "UPDATE operator SET ceiling = 60")[0] == 0
+    yield "it is written to by sqlite3", is_written and opened(path, world) == (None, read_all(world)[1])
 
 
 def writers(counts, room, _):
@@ -96,4 +94,4 @@ def writers(counts, room, _):
     made = make_file(room / "made.db", 2)
     counts.expect_all("another program, while a desk runs", meanwhile(made, room))
     counts.expect_all("another program, between two lines", between(made, room))
-    counts.expect_all("a file without sums", without_sums(made, room))
+    counts.expect_all("files with sums and without", kinds(made, room))
