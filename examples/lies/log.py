@@ -94,15 +94,20 @@ def log(counts, room, times):
     """The part."""
     left = leave(counts, room)
     reading = [read_all(world)[1] for world in left.worlds]
+    lost = []
     for name, kind, often in KINDS:
 
         def trial(path, chance):
             path.write_bytes(left.file)
             changed = damaged(left.log, left.earlier, kind, chance)
-            log_of(path).write_bytes(changed + left.rest if len(changed) == len(left.log) else changed)
-            return prefix(path, left.worlds[-1], reading)
+            if changed:
+                log_of(path).write_bytes(changed + left.rest if len(changed) == len(left.log) else changed)
+            lost.append(lost_at(path, left.worlds[-1], reading))
+            return "refused" if lost[-1] is None else "without its last changes" if lost[-1] else "the same content"
 
         counts.try_all(f"FILE-wal of a killed desk, {name}", trial, often * times)
+    changes = [number for number in lost if number]
+    print(f"lies: of {len(left.worlds) - 1} changes in {frames_of(left.log)} frames {min(changes)} to {max(changes)} were lost")
 
     def beside(path, chance):
         path.write_bytes(damaged(left.file, b"", bit, chance))
@@ -115,13 +120,12 @@ def log(counts, room, times):
     counts.try_all("FILE beside such a log, single bits", beside, 50 * times)
 
 
-def prefix(path, world, reading):
-    """What came of opening a pair whose log is damaged: `reading` has what each world answers, the newest last."""
+def lost_at(path, world, reading):
+    """How many of the last changes a pair whose log is damaged has lost, or None if it is refused. `reading` has what
+    each world answers, the newest last."""
     found = opened(path, world)
     if found.word:
-        return "refused"
-    if found.content == reading[-1]:
-        return "the same content"
+        return None
     if found.content in reading:
-        return "without its last changes"
+        return reading[::-1].index(found.content)
     raise Complaint("it opens with what was never its content")

@@ -45,8 +45,7 @@ def meanwhile(made, room):
     path = copy_pair(made.path, room / "meanwhile.db")
     with Desk(path) as desk:
         for text in READS + WRITES:
-            status, said = sqlite(path, text)
-            yield text, status != 0 and LOCKED in said
+            yield text, LOCKED in sqlite(path, text)[1]
         yield "Python's SQLite", by_python(path, READS[1]) == LOCKED
         ran = finish([PROGRAM, "enrol", "--db", str(path), "carol", "1"], b"")
         yield "a second desk", (ran.status, ran.errors) == (4, "uss_desk: store\n")
