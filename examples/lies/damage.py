@@ -4,6 +4,7 @@ bytes that a disk may show in their place. They differ."""
 PAGE = 4096
 SECTOR = 512
 BURST = 64
+# a log has a head, and frames of a head and a page each
 FRAME = 24 + PAGE
 HEAD = 32
 

@@ -3,15 +3,15 @@ import pathlib
 import shutil
 import socket
 import subprocess
-import time
 from typing import NamedTuple, Optional
 
 from faults.program import PROGRAM, finish
 from lies.flights import MOMENT, name_of, read_all
 
+# seconds in which a desk answers or ends
 PATIENCE = 120
 REFUSED = ("uss_desk: store\n", "uss_desk: not_a_desk\n")
-# as a connection of its own is; more than any part asks
+# more than any part asks
 CONNECTIONS = 100_000
 
 
@@ -100,7 +100,3 @@ def free_port():
     with socket.socket() as probe:
         probe.bind(("127.0.0.1", 0))
         return probe.getsockname()[1]
-
-
-def wait_for_moments(seconds):
-    time.sleep(seconds)

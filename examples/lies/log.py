@@ -106,8 +106,9 @@ def log(counts, room, times):
             return "refused" if lost[-1] is None else "without its last changes" if lost[-1] else "the same content"
 
         counts.try_all(f"FILE-wal of a killed desk, {name}", trial, often * times)
-    changes = [number for number in lost if number]
-    print(f"lies: of {len(left.worlds) - 1} changes in {frames_of(left.log)} frames {min(changes)} to {max(changes)} were lost")
+    some = [number for number in lost if number] or [0]
+    held = f"{len(left.worlds) - 1} changes in {frames_of(left.log)} frames"
+    print(f"lies: FILE-wal of a killed desk: of {held} {min(some)} to {max(some)} were lost", flush=True)
 
     def beside(path, chance):
         path.write_bytes(damaged(left.file, b"", bit, chance))

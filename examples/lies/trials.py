@@ -1,4 +1,4 @@
-"""Trials: each is made by chance of a seed of its own, comes to an outcome in words or to a complaint, and is counted."""
+"""Trials: each is made by chance of its own seed, comes to an outcome in words or to a complaint, and is counted."""
 import concurrent.futures
 import pathlib
 import random
