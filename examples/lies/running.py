@@ -108,10 +108,14 @@ def in_log(path, made, chance):
         flip(data, chance, 0, len(live_part(data)))
         write_over(log_of(path), log_of(path).read_bytes(), data)
         more, is_broken = asked_by_chance(desk, change_by_chance, worlds[-1], chance, CHANGES)
+    outcome = "right answers and then a 500" if is_broken else "only right answers"
     found = opened(path, made.world)
-    if not (found.word or found.content in [read_all(world)[1] for world in worlds + more]):
+    if found.word:
+        return f"{outcome}, refused afterwards"
+    reading = [read_all(world)[1] for world in worlds + more[1:]]
+    if found.content not in reading:
         raise Complaint("the next opening shows what was never its content")
-    return "right answers and then a 500" if is_broken else "only right answers"
+    return f"{outcome}, {'all' if found.content in reading[-2:] else 'not all'} of them kept"
 
 
 def running(counts, room, times):
