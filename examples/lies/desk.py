@@ -15,6 +15,10 @@ REFUSED = ("uss_desk: store\n", "uss_desk: not_a_desk\n")
 CONNECTIONS = 100_000
 
 
+class Complaint(Exception):
+    """What is wrong."""
+
+
 class Opened(NamedTuple):
     """What came of opening a file: the word with which it was refused, or all that was read of its content."""
 
@@ -50,10 +54,6 @@ def opened(path, world):
     if ran.status == 4 and ran.errors in REFUSED and not ran.output:
         return Opened(ran.errors.split()[1], b"")
     raise Complaint(f"opened again: status {ran.status}, {ran.errors!r}, {ran.output[-200:]!r}")
-
-
-class Complaint(Exception):
-    """What is wrong."""
 
 
 class Desk:

@@ -113,9 +113,10 @@ def in_log(path, made, chance):
     if found.word:
         return f"{outcome}, refused afterwards"
     reading = [read_all(world)[1] for world in worlds + more[1:]]
+    last = reading[-2:] if is_broken else reading[-1:]
     if found.content not in reading:
         raise Complaint("the next opening shows what was never its content")
-    return f"{outcome}, {'all' if found.content in reading[-2:] else 'not all'} of them kept"
+    return f"{outcome}, {'all' if found.content in last else 'not all'} of them kept"
 
 
 def running(counts, room, times):
