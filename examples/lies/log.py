@@ -1,0 +1,132 @@
+"""Damage in the log that a killed desk left: the file is refused, or has what was answered, or that without its last
+changes; and damage in FILE beside such a log."""
+import pathlib
+import random
+from typing import List, NamedTuple
+
+from lies.changes import change_by_chance, make_file
+from lies.damage import FRAME, HEAD, SECTOR, bit, burst, cut, damaged, zeroed
+from lies.desk import Complaint, Desk, log_of, opened
+from lies.flights import World, read_all
+
+# how many frames the log may hold before the next change copies it into FILE, and how many a change may write
+FRAMES = 320
+CHANGE = 100
+
+
+class Left(NamedTuple):
+    """What a killed desk left: FILE, the log's frames, what lies behind them, an earlier log whose frames were copied
+    into FILE; and the worlds since then: that of FILE alone, and after each change."""
+
+    file: bytes
+    log: bytes
+    rest: bytes
+    earlier: bytes
+    worlds: List[World]
+
+
+def frames_of(log):
+    """How many frames of a log have the salts of its head."""
+    count = 0
+    while len(log) > HEAD and log[HEAD + count * FRAME + 8 : HEAD + count * FRAME + 16] == log[16:24]:
+        count += 1
+    return count
+
+
+def live_part(log):
+    """The head of a log and these frames."""
+    return log[: HEAD + frames_of(log) * FRAME]
+
+
+def leave(counts, room):
+    """Serves a file until its log was copied into it once and has grown again, and kills the desk."""
+    path, chance = room / "killed.db", random.Random("killed")
+    world = make_file(path, 4).world
+    logs, worlds = [b""], [world]
+    with Desk(path) as desk:
+        while len(worlds) < 10 or not logs[0] or frames_of(logs[-1]) < FRAMES // 2:
+            asked, told, world = change_by_chance(world, chance)
+            if desk.ask(asked) != told:
+                raise Complaint("a change has a wrong answer")
+            log = log_of(path).read_bytes()
+            if log[16:24] == logs[-1][16:24]:
+                worlds.append(world)
+                logs[-1] = log
+            else:
+                logs, worlds = [logs[-1], log], [worlds[-1], world]
+            counts.expect("frames of the log", frames_of(log) <= FRAMES + CHANGE)
+            if len(worlds) > 1000:
+                raise Complaint("the log is never copied into FILE")
+    log = log_of(path).read_bytes()
+    live = live_part(log)
+    return Left(path.read_bytes(), live, log[len(live) :], logs[0], worlds)
+
+
+def swapped_frames(data, _, chance):
+    """Two frames at each other's place."""
+    one, other = (HEAD + number * FRAME for number in chance.sample(range((len(data) - HEAD) // FRAME), 2))
+    data[one : one + FRAME], data[other : other + FRAME] = data[other : other + FRAME], data[one : one + FRAME]
+
+
+def earlier_frames(data, earlier, chance):
+    """A frame, and all behind it, as in the log that was copied into FILE."""
+    at = HEAD + chance.randrange((min(len(data), len(earlier)) - HEAD) // FRAME) * FRAME
+    data[at:] = earlier[at : len(data)]
+
+
+def none(data, *_):
+    """No log."""
+    data.clear()
+
+
+KINDS = [
+    ("single bits", bit, 100),
+    ("64 random bytes", burst, 40),
+    ("sectors of zeros", zeroed(SECTOR), 40),
+    ("two frames swapped", swapped_frames, 30),
+    ("frames of an earlier log", earlier_frames, 30),
+    ("cut short", cut, 30),
+    ("taken away", none, 1),
+]
+
+
+def log(counts, room, times):
+    """The part."""
+    left = leave(counts, room)
+    reading = [read_all(world)[1] for world in left.worlds]
+    lost = []
+    for name, kind, often in KINDS:
+
+        def trial(path, chance):
+            path.write_bytes(left.file)
+            changed = damaged(left.log, left.earlier, kind, chance)
+            if changed:
+                log_of(path).write_bytes(changed + left.rest if len(changed) == len(left.log) else changed)
+            lost.append(lost_at(path, left.worlds[-1], reading))
+            return "refused" if lost[-1] is None else "without its last changes" if lost[-1] else "the same content"
+
+        counts.try_all(f"FILE-wal of a killed desk, {name}", trial, often * times)
+    some = [number for number in lost if number] or [0]
+    held = f"{len(left.worlds) - 1} changes in {frames_of(left.log)} frames"
+    print(f"lies: FILE-wal of a killed desk: of {held} {min(some)} to {max(some)} were lost", flush=True)
+
+    def beside(path, chance):
+        path.write_bytes(damaged(left.file, b"", bit, chance))
+        log_of(path).write_bytes(left.log + left.rest)
+        found = opened(path, left.worlds[-1])
+        if found.word or found.content == reading[-1]:
+            return "refused" if found.word else "the same content"
+        raise Complaint("it opens with another content")
+
+    counts.try_all("FILE beside such a log, single bits", beside, 50 * times)
+
+
+def lost_at(path, world, reading):
+    """How many of the last changes a pair whose log is damaged has lost, or None if it is refused. `reading` has what
+    each world answers, the newest last."""
+    found = opened(path, world)
+    if found.word:
+        return None
+    if found.content in reading:
+        return reading[::-1].index(found.content)
+    raise Complaint("it opens with what was never its content")
