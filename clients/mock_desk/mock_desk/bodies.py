@@ -2,7 +2,9 @@
 from __future__ import annotations
 
 import datetime
+import itertools
 import json
+import math
 import re
 from typing import Any, Dict, List, NamedTuple, Optional, Tuple, Union
 
@@ -25,6 +27,10 @@ TIME = re.compile(
     "([0-9]{4})-([0-9]{2})-([0-9]{2})[Tt]([0-9]{2}):([0-9]{2}):([0-9]{2})(?:[.]([0-9]+))?"
     "(?:[Zz]|([+-])([0-9]{2}):([0-9]{2}))"
 )
+# The texts and the brackets of a JSON text; its escapes, the first half of a pair that lacks the other being named.
+BRACKET = re.compile(r'"(?:[^"\\]|\\.?)*"?|[][{}]', re.DOTALL)
+ESCAPE = re.compile(r"\\(?:u[dD][89abAB]..\\u[dD][c-fC-F]|(u[dD][89a-fA-F])|.)", re.DOTALL)
+DEPTH_MOST = 127
 EPOCH = datetime.datetime(1970, 1, 1)
 
 
@@ -54,22 +60,40 @@ class Put(NamedTuple):
 
 
 def parsed(body: bytes) -> Any:
-    """The value of a JSON text; raises `bad_json`. A number that is written with a fraction or an exponent is a float."""
+    """The value of a JSON text; raises `bad_json`. A number that is no whole one is a float."""
     try:
-        return json.loads(body.decode(), parse_constant=no_json, parse_int=whole_or_float)
-    except (ValueError, RecursionError):
+        text = body.decode()
+        if depth(text) > DEPTH_MOST or any(found[1] for found in ESCAPE.finditer(text)):
+            raise ValueError(text)
+        return json.loads(text, parse_constant=no_json, parse_float=finite, parse_int=whole_or_float)
+    except ValueError:
         raise Refusal(400, "bad_json") from None
 
 
+def depth(text: str) -> int:
+    """How many arrays and objects stand in one another at most."""
+    ends = (1 if found[0] in "[{" else -1 for found in BRACKET.finditer(text) if found[0][0] != '"')
+    return max(itertools.accumulate(ends), default=0)
+
+
 def no_json(word: str) -> None:
-    """Refuses NaN and the infinities, which Python takes."""
+    """Refuses NaN and the infinities, which Python takes; raises ValueError."""
     raise ValueError(word)
 
 
+def finite(number: str) -> float:
+    """A number that a double holds; raises ValueError."""
+    found = float(number)
+    if math.isinf(found):
+        raise ValueError(number)
+    return found
+
+
 def whole_or_float(digits: str) -> Union[int, float]:
-    """A whole number that fits a signed 64-bit integer, or a float in its place."""
-    number = int(digits) if len(digits) <= 20 else 1 << 63
-    return number if -(1 << 63) <= number < 1 << 63 else float("inf")
+    """A whole number, or a float in place of what is none; raises ValueError."""
+    if digits == "-0" or len(digits) > 20:
+        return finite(digits)
+    return int(digits) if -(1 << 63) <= int(digits) < 1 << 63 else finite(digits)
 
 
 def member(holder: Dict[str, Any], name: str, kind: type) -> Any:

@@ -17,7 +17,7 @@ PHRASES = {
     403: "Forbidden",
     404: "Not Found",
     405: "Method Not Allowed",
-    413: "Content Too Large",
+    413: "Payload Too Large",
     501: "Not Implemented",
 }
 # What is asked, from left to right: the columns of STEPS.

@@ -33,7 +33,7 @@ class Request(NamedTuple):
     """A whole request."""
 
     method: str
-    target: bytes
+    target: str
     fields: List[Tuple[bytes, bytes]]
     body: bytes
 
@@ -61,7 +61,7 @@ def head_length(given: bytes) -> Optional[int]:
     return found.end() if found else None
 
 
-def read_head(head: bytes) -> Tuple[str, bytes, List[Tuple[bytes, bytes]]]:
+def read_head(head: bytes) -> Tuple[str, str, List[Tuple[bytes, bytes]]]:
     """The method, the target and the fields of a head; raises `bad_head`."""
     lines = [line[:-1] if line.endswith(b"\r") else line for line in head.split(b"\n")[:-2]]
     if lines and not lines[0]:
@@ -71,7 +71,10 @@ def read_head(head: bytes) -> Tuple[str, bytes, List[Tuple[bytes, bytes]]]:
     if not asked or not all(fields) or len(fields) > FIELDS_MOST:
         raise Refusal(400, "bad_head")
     pairs = [(field[1].lower(), field[2].rstrip(b" \t")) for field in fields if field]
-    return asked[1].decode(), asked[2], pairs
+    try:
+        return asked[1].decode(), asked[2].decode(), pairs
+    except UnicodeDecodeError:
+        raise Refusal(400, "bad_head") from None
 
 
 def body_length(fields: List[Tuple[bytes, bytes]]) -> int:
@@ -104,12 +107,9 @@ def next_request(given: bytes) -> Tuple[Optional[Request], int]:
     return Request(method, target, fields, given[length:end]), end
 
 
-def resource_of(target: bytes) -> Tuple[str, str]:
+def resource_of(target: str) -> Tuple[str, str]:
     """The resource of a path, and the id as it is written; raises `no_route`."""
-    try:
-        path = target.split(b"?")[0].decode()
-    except UnicodeDecodeError:
-        raise Refusal(404, "no_route") from None
+    path = target.split("?")[0]
     if path in PATHS:
         return PATHS[path], ""
     found = re.fullmatch("/flight_plans/([^/]+)", path)

@@ -1,0 +1,143 @@
+"""The heads of random requests, from plain to hostile."""
+from __future__ import annotations
+
+from random import Random
+from typing import List, Tuple
+
+from .scenes import FIRST_USES, NEXT_USES, Scene
+
+METHODS = ["GET", "PUT", "POST", "DELETE", "HEAD", "PATCH", "OPTIONS", "get", "X", "!#$%&'*+-.^_`|~9", "GETT"]
+PATHS = ["/", "", "*", "//status", "/status/", "/Status", "/statuss", "/flight_plans/", "/flight_plan", "/flight_plans//"]
+PATHS += ["/clear_area_requests/", "http://desk/status", "/%73tatus", "/status%3f", "/status#x", "/status;x", "/\u00e4"]
+PATHS += ["/flight_plans/x/y", "status", "desk:80", "/./status", "/flight_plans/../status", "?", "/?/status", '/"<>\\^`{|}']
+EXTRA = ["host: desk", "Accept: */*", "expect: 100-continue", "connection: keep-alive", "x-empty:", "x-blank: \t ", "X_Y.z~: 1"]
+EXTRA += ["x-operators: alfa", "x-other: a\tb  c", "x-obs: \u00e4", "upgrade: h2c", "content-type: text/plain", "x: ::"]
+ODD_NAMES = ["", "Alfa", "a b", "a_b", "z" * 33, "alfa,bravo", "\u00e4", "alfa\t", " alfa", "nobody", "a" * 64, "alfa;"]
+ODD_LENGTHS = ["", "x", "+1", "-1", "1.0", "0x1", "1 1", "1,1", "131073", "9" * 19, "1" + "0" * 18, "0" * 20, "0" * 19, "9" * 20, "\t0 "]
+# Bytes that hostile heads have in strange places.
+STRANGE = [b"\x00", b"\r", b"\n", b"\r\n", b" ", b"\t", b":", b"\x7f", b"\x80", b"\xff", b'"', b"(", b"/", b"a", b"\x0b", b"\x1f", b"\r\r\n"]
+STRANGE += [b"<", b">", b"{", b"\\", b"#", b"?", b"%", b"\xc3\xa4", b"@", b"\n ", b"\r\n\t", b"HTTP/1.1"]
+VERSIONS = ["HTTP/1.1"] * 5 + ["HTTP/1.0", "HTTP/1.2", "HTTP/2.0", "HTTP/0.9", "http/1.1", "HTTP/1.", "HTTP/1.10", "HTTP/01.1", "HTTP/1.1 ", ""]
+
+
+def field_case(name: str, dice: Random) -> str:
+    """A field's name in letters of any case."""
+    return name if dice.random() < 0.8 else "".join(dice.choice([it.upper(), it]) for it in name)
+
+
+def field(name: str, value: str, dice: Random) -> str:
+    """A field, at times with more or fewer blanks."""
+    before, after = (": ", "") if dice.random() < 0.85 else (dice.choice([":", ":  ", ":\t", ": \t "]), dice.choice(["", " ", "\t", " \t"]))
+    return field_case(name, dice) + before + value + after
+
+
+def joined(lines: List[str], dice: Random) -> bytes:
+    """The lines of a head with their ends: CR LF, or LF alone, or now and then a mixture."""
+    ends = dice.choice([["\r\n"]] * 8 + [["\n"], ["\r\n", "\n"]])
+    return "".join(line + dice.choice(ends) for line in [*lines, ""]).encode()
+
+
+def call(scene: Scene) -> Tuple[str, str, str, bytes]:
+    """An operator, and a method, a path and a body that go together."""
+    dice = scene.dice
+    kind = dice.choice(["put"] * 24 + ["show"] * 6 + ["list"] * 2 + ["delete", "clear", "status"])
+    if kind == "clear":
+        return dice.choice(scene.names), "POST", "/clear_area_requests", scene.text(scene.clear_tree())
+    operator, digits = scene.named()
+    path = f"/flight_plans/{scene.plan_id(digits)}"
+    if kind == "put":
+        again = (operator, digits) in scene.asked
+        scene.asked.append((operator, digits))
+        return operator, "PUT", path, scene.text(scene.put_tree(NEXT_USES if again else FIRST_USES))
+    body = b"" if dice.random() < 0.95 else dice.choice([b"x", b"{}", b"\r\n\r\n", b"GET /status HTTP/1.1\r\n\r\n"])
+    path = {"list": "/flight_plans", "status": "/status"}.get(kind, path)
+    return operator, "DELETE" if kind == "delete" else "GET", path, body
+
+
+def plain(scene: Scene) -> bytes:
+    """A request whose head is well formed; what it asks may be refused at place 6 or later."""
+    dice = scene.dice
+    operator, method, path, body = call(scene)
+    operators = [operator]
+    if dice.random() < 0.02:
+        method, path = dice.choice(METHODS), dice.choice([path, *PATHS])
+    if dice.random() < 0.02:
+        operators = dice.choice([[], operators * 2, [dice.choice(ODD_NAMES)], [operator, "nobody"], ["nobody"]])
+    path += dice.choice(["", "?", "?x=/status", "?a?b"]) if dice.random() < 0.04 else ""
+    lines = [field("x-operator", it, dice) for it in operators]
+    lines += dice.sample(EXTRA, dice.choice([0, 1, 1, 1, 2, 5]))
+    if body or dice.random() < 0.2:
+        lines.append(field("content-length", f"{'0' * dice.choice([0, 0, 0, 9])}{len(body)}", dice))
+    dice.shuffle(lines)
+    return joined([f"{method} {path} HTTP/1.{dice.choice('1110')}", *lines], dice) + body
+
+
+def hostile(scene: Scene) -> bytes:
+    """A request whose head or framing is seldom right, and after which the input may end."""
+    dice = scene.dice
+    how = dice.choice([at_limits, strange_bytes, strange_bytes, strange_bytes, odd_framing, odd_first_line, odd_field])
+    return how(scene)
+
+
+def at_limits(scene: Scene) -> bytes:
+    """A head or a body at its greatest length, or one past it; 64 fields or 65."""
+    dice = scene.dice
+    first = ["GET /status HTTP/1.1", f"x-operator: {scene.names[0]}"]
+    what = dice.choice(["head", "head", "fields", "body", "path"])
+    if what == "fields":
+        return joined(first + ["x: y"] * dice.choice([62, 63, 64, 65, 128]), dice)
+    if what == "body":
+        length = dice.choice([131_071, 131_072, 131_073])
+        return joined([first[0], first[1], f"content-length: {length}"], dice) + b" " * length
+    ended = b"\r\n\r\n"
+    start = b"\r\n".join(it.encode() for it in first) + b"\r\nx: "
+    if what == "path":
+        start = b"GET /status?"
+        ended = f" HTTP/1.1\r\nx-operator: {scene.names[0]}\r\n\r\n".encode()
+    length = dice.choice([16_383, 16_384, 16_385, 16_386, 20_000])
+    given = start + b"a" * (length - len(start) - len(ended)) + ended
+    return given[: dice.choice([length, length, 16_383, 16_384, 16_385])]
+
+
+def strange_bytes(scene: Scene) -> bytes:
+    """A plain request with bytes put in, put in another's place, or left out, most often in its head."""
+    dice = scene.dice
+    given = b"GET /status HTTP/1.1\r\nx-operator: alfa\r\nHost: desk\r\n\r\n" if dice.random() < 0.5 else plain(scene)
+    for _ in range(dice.choice([1, 1, 1, 2, 3])):
+        at = min(dice.randrange(len(given)), dice.randrange(160))
+        taken = dice.choice([0, 0, 1, 2])
+        given = given[:at] + (dice.choice(STRANGE) if taken < 2 or dice.random() < 0.5 else b"") + given[at + taken :]
+    return given
+
+
+def odd_framing(scene: Scene) -> bytes:
+    """Lengths and codings that are malformed, there twice, or past the limit."""
+    dice = scene.dice
+    lines = [f"content-length: {dice.choice(ODD_LENGTHS)}"]
+    if dice.random() < 0.4:
+        lines.append(f"Content-Length: {dice.choice([*ODD_LENGTHS, '0'])}")
+    if dice.random() < 0.3:
+        lines.append(dice.choice(["transfer-encoding: chunked", "Transfer-Encoding:", "transfer-encodings: x", "transfer-encoding: identity"]))
+    lines.append(f"x-operator: {dice.choice(scene.names)}")
+    dice.shuffle(lines)
+    return joined([f"{dice.choice(METHODS)} {dice.choice(['/status', *PATHS])} HTTP/1.1", *lines], dice) + b"0" * dice.choice([0, 1, 2])
+
+
+def odd_first_line(scene: Scene) -> bytes:
+    """A first line of other parts, blanks or versions."""
+    dice = scene.dice
+    blank = [dice.choice([" "] * 8 + ["  ", "\t", "", "\x0b"]) for _ in range(2)]
+    method = dice.choice(["GET"] * 6 + [*METHODS, "", "G T", "G(T", "GE\u00e4"])
+    line = dice.choice([""] * 9 + [" ", "\t", "\r\n", "\n", "\r"]) + method + blank[0]
+    line += dice.choice(["/status"] * 6 + PATHS) + blank[1] + dice.choice(VERSIONS)
+    return joined([line, f"x-operator: {scene.names[0]}"], dice)
+
+
+def odd_field(scene: Scene) -> bytes:
+    """A field that is malformed, or nearly."""
+    dice = scene.dice
+    odd = [": x", "x", "x y: z", "x : y", "x\t: y", " x: y", "\tx: y", "x:\u00e4", "\u00e4: x", "x: \x7f", "x: \x01", "x(: y", '"x": y', "x: a\rb"]
+    odd += ["x: y\r", "x/y: z", "x@y: z", "x,y: z", "!#$%&'*+-.^_`|~: z", "x:", "x: y z", "x: \x00", "x-operator", "[x]: y", "{x}: y", "\\x: y"]
+    lines = [f"x-operator: {scene.names[0]}", dice.choice(odd), *dice.sample(EXTRA, 1)]
+    dice.shuffle(lines)
+    return joined(["GET /status HTTP/1.1", *lines], dice)
