@@ -30,7 +30,7 @@ class Start(NamedTuple):
         """The words of the line, over a file or, if none is named, in memory."""
         file = ["--db", path] if path else []
         equal = ["--equal", ",".join(map(str, self.equal))] if self.equal else []
-        return ["play", "--at", str(self.moment), *file, *equal, *(f"{name}={most}" for name, most in self.enrolled)]
+        return ["play", "--at", str(self.moment), *file, *equal, "--", *(f"{name}={most}" for name, most in self.enrolled)]
 
 
 class History(NamedTuple):

@@ -10,7 +10,7 @@ from mock_desk.cells import Rectangle, Square
 
 from .trees import Members, Raw, spoil, written
 
-NAMES = ["alfa", "bravo", "c", "a-", "0-9", "z" * 32]
+NAMES = ["alfa", "bravo", "c", "-", "0-9", "z" * 32]
 MOMENTS = [1780315000] * 12 + [0, 1, 86_400, 951_782_400, 1709164800, 253_370_764_800, 253_370_764_799, 253_368_000_000]
 ALTITUDES = [-10_000, -9_999, -1, 0, 1, 500, 999, 1000, 1001, 199_999, 200_000]
 PRIORITIES = [0, 1, 9, 10, 11, 99, 100, 999, 1000]

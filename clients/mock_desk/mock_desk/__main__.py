@@ -48,7 +48,10 @@ def read_line(words: Sequence[str]) -> argparse.Namespace:
     line.add_argument("--db", default=":memory:", metavar="FILE", help="a file of this program's own")
     line.add_argument("--equal", metavar="P,P,..", help="the priorities that are permitted")
     line.add_argument("operators", nargs="*", metavar="NAME=CEILING", help="operators to enrol first")
-    return line.parse_intermixed_args(words)
+    end = words.index("--") if "--" in words else len(words)
+    found = line.parse_intermixed_args(words[:end])
+    found.operators += words[end + 1 :]
+    return found
 
 
 def small_number(text: str) -> int:
