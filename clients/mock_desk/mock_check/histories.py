@@ -12,8 +12,13 @@ from mock_desk.desk import Desk, play
 from mock_desk.store import Store
 
 from . import heads
+from .edges import edges as all_edges
 from .scenes import PRIORITIES, Scene
+from .trees import Members, written
 
+EDGES = all_edges()
+EDGES_EACH = 5
+FULL_EVERY = 60
 SECONDS_MOST = 120
 SHRINKING_SECONDS_MOST = 60
 
@@ -67,25 +72,29 @@ def make_history(seed: int, number: int) -> History:
     dice = Random(f"{seed}/{number}")
     scene = Scene(dice)
     kind = dice.choice(["plain"] * 5 + ["heads"] * 6 + ["file"] * 3)
-    if dice.random() < 0.01:
+    if number % FULL_EVERY == FULL_EVERY - 1:
         return full_history(scene)
     count = dice.randint(2, 4) if kind == "file" else 1
     starts = []
+    edges = [EDGES[(number * EDGES_EACH + step) % len(EDGES)] for step in range(EDGES_EACH)]
     for at in range(count):
         scene.moment = max(0, min(scene.moment + (dice.choice([0, 1, 60, 3600, -1]) if at else 0), 253_370_764_800))
         asked = dice.randint(0, 2) if kind == "heads" else dice.randint(3, 50)
         names = scene.names if not at else dice.sample(scene.names, dice.choice([0, 0, 1]))
         equal = tuple(sorted(set(dice.sample(scene.priorities + PRIORITIES, dice.choice([0, 0, 1, 3])))))
-        starts.append(Start(scene.moment, equal, enrolment(dice, names), requests(scene, asked, kind == "heads")))
+        given = requests(scene, asked, [] if at else edges, kind == "heads")
+        starts.append(Start(scene.moment, equal, enrolment(dice, names), given))
     return History(tuple(starts), kind == "file")
 
 
-def requests(scene: Scene, count: int, hostile: bool) -> Tuple[bytes, ...]:
-    """Plain requests, some of them asked again, and at the end perhaps a hostile or a cut one."""
+def requests(scene: Scene, count: int, edges: List[Tuple[str, str, Members]], hostile: bool) -> Tuple[bytes, ...]:
+    """Plain requests, some of them asked again, those at limits, and at the end perhaps a hostile or a cut one."""
     dice = scene.dice
     found: List[bytes] = []
     for _ in range(count):
         found.append(dice.choice(found) if found and dice.random() < 0.05 else heads.plain(scene))
+    for method, path, tree in edges:
+        found.insert(dice.randint(0, len(found)), simple(method, path, scene.names[0], written(tree, dice, False)))
     if hostile or dice.random() < 0.2:
         found.append(heads.hostile(scene))
     if found and dice.random() < 0.05:
@@ -112,7 +121,12 @@ def small_put(name: str, number: int, dice: Random) -> bytes:
     usage = dice.choice(["Planned", "Planned", "InUse"])
     basic = f'{{"usage_state":"{usage}","uas_state":"Nominal","area":[{{{block},{",".join(times)}}}]}}'
     body = f'{{"execution_style":"IfAllowed","flight_plan":{{"basic_information":{basic}}}}}'
-    return f"PUT /flight_plans/{number:032x} HTTP/1.1\nx-operator:{name}\ncontent-length:{len(body)}\n\n{body}".encode()
+    return simple("PUT", f"/flight_plans/{number:032x}", name, body.encode())
+
+
+def simple(method: str, path: str, name: str, body: bytes) -> bytes:
+    """A request with the simplest head."""
+    return f"{method} {path} HTTP/1.1\nx-operator:{name}\ncontent-length:{len(body)}\n\n".encode() + body
 
 
 def at_mock(history: History, path: str) -> Iterator[Ran]:

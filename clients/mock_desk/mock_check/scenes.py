@@ -14,6 +14,7 @@ NAMES = ["alfa", "bravo", "c", "-", "0-9", "z" * 32]
 MOMENTS = [1780315000] * 12 + [0, 1, 86_400, 951_782_400, 1709164800, 253_370_764_800, 253_370_764_799, 253_368_000_000]
 ALTITUDES = [-10_000, -9_999, -1, 0, 1, 500, 999, 1000, 1001, 199_999, 200_000]
 PRIORITIES = [0, 1, 9, 10, 11, 99, 100, 999, 1000]
+STARTS = [-86_400, -3600, -60, -1, 0, 0, 1, 60, 3600, 3600, 2_591_999, 2_592_000, 2_592_001, 2_600_000]
 LENGTHS = [1, 2, 60, 3599, 3600, 3601, 86_399, 86_400]
 ALL_USES = [(usage, aircraft) for usage in bodies.USAGES for aircraft in bodies.AIRCRAFT]
 FIRST_USES = [("Planned", "Nominal")] * 12 + [("InUse", "Nominal")] * 4 + ALL_USES
@@ -97,7 +98,7 @@ class Scene:
         self.priorities = dice.sample(PRIORITIES, dice.randint(1, 4))
         self.ids = [f"{dice.getrandbits(128):032x}" for _ in range(dice.randint(2, 12))] + ["0" * 32, "f" * 32]
         self.altitudes = sorted(dice.sample(ALTITUDES, dice.randint(2, 5)))
-        self.seconds = [self.moment + dice.choice([-60, -1, 0, 1, 60, 3600, 2_591_999, 2_592_000]) for _ in range(3)]
+        self.seconds = [self.moment + dice.choice(STARTS) for _ in range(3)]
         self.spoiled = dice.choice([0.0, 0.0, 0.05, 0.3])
         self.asked: List[Tuple[str, str]] = []
         self.heart = self.any_leaf()
@@ -175,7 +176,7 @@ class Scene:
         dice = self.dice
         lower, upper = sorted(dice.sample(self.altitudes, 2))
         start = dice.choice(self.seconds)
-        if dice.random() < 0.97 and not 0 <= start <= desk.HORIZON + self.moment:
+        if dice.random() < 0.8 and not 0 <= start <= desk.HORIZON + self.moment:
             start = self.moment
         end = start + dice.choice(LENGTHS)
         if dice.random() < self.spoiled / 6:

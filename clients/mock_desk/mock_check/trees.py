@@ -1,6 +1,7 @@
 """JSON texts as trees that may be malformed: members may stand twice, and any bytes may stand as a value."""
 from __future__ import annotations
 
+import json
 from random import Random
 from typing import Any, List, Tuple
 
@@ -120,7 +121,7 @@ STRAY = [
 def quoted(text: str, dice: Random, messy: bool) -> bytes:
     """The text of a string, some of its letters by their numbers if it is messy."""
     if not messy or dice.random() < 0.8:
-        return b'"' + text.encode() + b'"'
+        return json.dumps(text, ensure_ascii=False).encode()
     letters = (f"\\u{ord(it):04x}" if dice.random() < 0.3 else it for it in text)
     return b'"' + "".join(letters).encode() + b'"'
 
