@@ -72,31 +72,27 @@ def plain(scene: Scene) -> bytes:
     return joined([f"{method} {path} HTTP/1.{dice.choice('1110')}", *lines], dice) + body
 
 
-def hostile(scene: Scene) -> bytes:
+def hostile(scene: Scene, number: int) -> bytes:
     """A request whose head or framing is seldom right, and after which the input may end."""
-    dice = scene.dice
-    how = dice.choice([at_limits, strange_bytes, strange_bytes, strange_bytes, odd_framing, odd_first_line, odd_field])
+    limits = at_limits(scene.names[0])
+    if number % 2:
+        return limits[number // 2 % len(limits)]
+    how = scene.dice.choice([strange_bytes, strange_bytes, strange_bytes, odd_framing, odd_first_line, odd_field])
     return how(scene)
 
 
-def at_limits(scene: Scene) -> bytes:
-    """A head or a body at its greatest length, or one past it; 64 fields or 65."""
-    dice = scene.dice
-    first = ["GET /status HTTP/1.1", f"x-operator: {scene.names[0]}"]
-    what = dice.choice(["head", "head", "fields", "body", "path"])
-    if what == "fields":
-        return joined(first + ["x: y"] * dice.choice([62, 63, 64, 65, 128]), dice)
-    if what == "body":
-        length = dice.choice([131_071, 131_072, 131_073])
-        return joined([first[0], first[1], f"content-length: {length}"], dice) + b" " * length
-    ended = b"\r\n\r\n"
-    start = b"\r\n".join(it.encode() for it in first) + b"\r\nx: "
-    if what == "path":
-        start = b"GET /status?"
-        ended = f" HTTP/1.1\r\nx-operator: {scene.names[0]}\r\n\r\n".encode()
-    length = dice.choice([16_383, 16_384, 16_385, 16_386, 20_000])
-    given = start + b"a" * (length - len(start) - len(ended)) + ended
-    return given[: dice.choice([length, length, 16_383, 16_384, 16_385])]
+def at_limits(name: str) -> List[bytes]:
+    """Heads and bodies of their greatest lengths, and longer ones; 64 fields and more."""
+    first = f"GET /status HTTP/1.1\r\nx-operator: {name}\r\n"
+    found = [first + "x: y\n" * more + "\n" for more in (62, 63, 64)]
+    for length in (16_383, 16_384, 16_385, 16_386):
+        found.append(first + "x: " + "a" * (length - len(first) - 7) + "\r\n\r\n")
+        found.append(first + "x: " + "a" * (length - len(first) - 5) + "\n\n")
+        found.append(first + "x: " + "a" * (length - len(first) - 3))
+        found.append(first.replace("/status", "/status?" + "a" * (length - len(first) - 3)) + "\r\n")
+    for length in (131_071, 131_072, 131_073):
+        found.append(f"{first}content-length: {length}\r\n\r\n" + " " * length)
+    return [it.encode() for it in found]
 
 
 def strange_bytes(scene: Scene) -> bytes:

@@ -82,12 +82,12 @@ def make_history(seed: int, number: int) -> History:
         asked = dice.randint(0, 2) if kind == "heads" else dice.randint(3, 50)
         names = scene.names if not at else dice.sample(scene.names, dice.choice([0, 0, 1]))
         equal = tuple(sorted(set(dice.sample(scene.priorities + PRIORITIES, dice.choice([0, 0, 1, 3])))))
-        given = requests(scene, asked, [] if at else edges, kind == "heads")
+        given = requests(scene, asked, [] if at else edges, number if kind == "heads" or dice.random() < 0.2 else None)
         starts.append(Start(scene.moment, equal, enrolment(dice, names), given))
     return History(tuple(starts), kind == "file")
 
 
-def requests(scene: Scene, count: int, edges: List[Tuple[str, str, Members]], hostile: bool) -> Tuple[bytes, ...]:
+def requests(scene: Scene, count: int, edges: List[Tuple[str, str, Members]], hostile: Optional[int]) -> Tuple[bytes, ...]:
     """Plain requests, some of them asked again, those at limits, and at the end perhaps a hostile or a cut one."""
     dice = scene.dice
     found: List[bytes] = []
@@ -95,8 +95,8 @@ def requests(scene: Scene, count: int, edges: List[Tuple[str, str, Members]], ho
         found.append(dice.choice(found) if found and dice.random() < 0.05 else heads.plain(scene))
     for method, path, tree in edges:
         found.insert(dice.randint(0, len(found)), simple(method, path, scene.names[0], written(tree, dice, False)))
-    if hostile or dice.random() < 0.2:
-        found.append(heads.hostile(scene))
+    if hostile is not None:
+        found.append(heads.hostile(scene, hostile))
     if found and dice.random() < 0.05:
         found[-1] = found[-1][: dice.randrange(len(found[-1]))]
     return tuple(found)
