@@ -7,17 +7,53 @@ from typing import List, Tuple
 from .scenes import FIRST_USES, NEXT_USES, Scene
 
 METHODS = ["GET", "PUT", "POST", "DELETE", "HEAD", "PATCH", "OPTIONS", "get", "X", "!#$%&'*+-.^_`|~9", "GETT"]
-PATHS = ["/", "", "*", "//status", "/status/", "/Status", "/statuss", "/flight_plans/", "/flight_plan", "/flight_plans//"]
-PATHS += ["/clear_area_requests/", "http://desk/status", "/%73tatus", "/status%3f", "/status#x", "/status;x", "/\u00e4"]
-PATHS += ["/flight_plans/x/y", "status", "desk:80", "/./status", "/flight_plans/../status", "?", "/?/status", '/"<>\\^`{|}']
-EXTRA = ["host: desk", "Accept: */*", "expect: 100-continue", "connection: keep-alive", "x-empty:", "x-blank: \t ", "X_Y.z~: 1"]
-EXTRA += ["x-operators: alfa", "x-other: a\tb  c", "x-obs: \u00e4", "upgrade: h2c", "content-type: text/plain", "x: ::"]
-ODD_NAMES = ["", "Alfa", "a b", "a_b", "z" * 33, "alfa,bravo", "\u00e4", "alfa\t", " alfa", "nobody", "a" * 64, "alfa;"]
-ODD_LENGTHS = ["", "x", "+1", "-1", "1.0", "0x1", "1 1", "1,1", "131073", "9" * 19, "1" + "0" * 18, "0" * 20, "0" * 19, "9" * 20, "\t0 "]
+# fmt: off
+PATHS = [
+    "/", "", "*", "//status", "/status/", "/Status", "/statuss", "/flight_plans/", "/flight_plan",
+    "/flight_plans//", "/clear_area_requests/", "http://desk/status", "/%73tatus", "/status%3f", "/status#x",
+    "/status;x", "/\u00e4", "/flight_plans/x/y", "status", "desk:80", "/./status", "/flight_plans/../status",
+    "?", "/?/status", '/"<>\\^`{|}',
+]
+# fmt: on
+# fmt: off
+EXTRA = [
+    "host: desk", "Accept: */*", "expect: 100-continue", "connection: keep-alive", "x-empty:", "x-blank: \t ",
+    "X_Y.z~: 1", "x-operators: alfa", "x-other: a\tb  c", "x-obs: \u00e4", "upgrade: h2c",
+    "content-type: text/plain", "x: ::",
+]
+# fmt: on
+# fmt: off
+ODD_NAMES = [
+    "", "Alfa", "a b", "a_b", "z" * 33, "alfa,bravo", "\u00e4", "alfa\t", " alfa", "nobody", "a" * 64,
+    "alfa;",
+]
+# fmt: on
+# fmt: off
+ODD_LENGTHS = [
+    "", "x", "+1", "-1", "1.0", "0x1", "1 1", "1,1", "131073", "9" * 19, "1" + "0" * 18, "0" * 20, "0" * 19,
+    "9" * 20, "\t0 ",
+]
+# fmt: on
 # Bytes that hostile heads have in strange places.
-STRANGE = [b"\x00", b"\r", b"\n", b"\r\n", b" ", b"\t", b":", b"\x7f", b"\x80", b"\xff", b'"', b"(", b"/", b"a", b"\x0b", b"\x1f", b"\r\r\n"]
-STRANGE += [b"<", b">", b"{", b"\\", b"#", b"?", b"%", b"\xc3\xa4", b"@", b"\n ", b"\r\n\t", b"HTTP/1.1"]
-VERSIONS = ["HTTP/1.1"] * 5 + ["HTTP/1.0", "HTTP/1.2", "HTTP/2.0", "HTTP/0.9", "http/1.1", "HTTP/1.", "HTTP/1.10", "HTTP/01.1", "HTTP/1.1 ", ""]
+# fmt: off
+STRANGE = [
+    b"\x00", b"\r", b"\n", b"\r\n", b" ", b"\t", b":", b"\x7f", b"\x80", b"\xff", b'"', b"(", b"/", b"a",
+    b"\x0b", b"\x1f", b"\r\r\n", b"<", b">", b"{", b"\\", b"#", b"?", b"%", b"\xc3\xa4", b"@", b"\n ",
+    b"\r\n\t", b"HTTP/1.1",
+]
+# fmt: on
+VERSIONS = ["HTTP/1.1"] * 5 + [
+    "HTTP/1.0",
+    "HTTP/1.2",
+    "HTTP/2.0",
+    "HTTP/0.9",
+    "http/1.1",
+    "HTTP/1.",
+    "HTTP/1.10",
+    "HTTP/01.1",
+    "HTTP/1.1 ",
+    "",
+]
 
 
 def field_case(name: str, dice: Random) -> str:
@@ -27,7 +63,11 @@ def field_case(name: str, dice: Random) -> str:
 
 def field(name: str, value: str, dice: Random) -> str:
     """A field, at times with more or fewer blanks."""
-    before, after = (": ", "") if dice.random() < 0.85 else (dice.choice([":", ":  ", ":\t", ": \t "]), dice.choice(["", " ", "\t", " \t"]))
+    before, after = (
+        (": ", "")
+        if dice.random() < 0.85
+        else (dice.choice([":", ":  ", ":\t", ": \t "]), dice.choice(["", " ", "\t", " \t"]))
+    )
     return field_case(name, dice) + before + value + after
 
 
@@ -49,7 +89,11 @@ def call(scene: Scene) -> Tuple[str, str, str, bytes]:
         again = (operator, digits) in scene.asked
         scene.asked.append((operator, digits))
         return operator, "PUT", path, scene.text(scene.put_tree(NEXT_USES if again else FIRST_USES))
-    body = b"" if dice.random() < 0.95 else dice.choice([b"x", b"{}", b"\r\n\r\n", b"GET /status HTTP/1.1\r\n\r\n"])
+    body = (
+        b""
+        if dice.random() < 0.95
+        else dice.choice([b"x", b"{}", b"\r\n\r\n", b"GET /status HTTP/1.1\r\n\r\n"])
+    )
     path = {"list": "/flight_plans", "status": "/status"}.get(kind, path)
     return operator, "DELETE" if kind == "delete" else "GET", path, body
 
@@ -62,7 +106,9 @@ def plain(scene: Scene) -> bytes:
     if dice.random() < 0.02:
         method, path = dice.choice(METHODS), dice.choice([path, *PATHS])
     if dice.random() < 0.02:
-        operators = dice.choice([[], operators * 2, [dice.choice(ODD_NAMES)], [operator, "nobody"], ["nobody"]])
+        operators = dice.choice(
+            [[], operators * 2, [dice.choice(ODD_NAMES)], [operator, "nobody"], ["nobody"]]
+        )
     path += dice.choice(["", "?", "?x=/status", "?a?b"]) if dice.random() < 0.04 else ""
     lines = [field("x-operator", it, dice) for it in operators]
     lines += dice.sample(EXTRA, dice.choice([0, 1, 1, 1, 2, 5]))
@@ -77,7 +123,9 @@ def hostile(scene: Scene, number: int) -> bytes:
     limits = at_limits(scene.names[0])
     if number % 2:
         return limits[number // 2 % len(limits)]
-    how = scene.dice.choice([strange_bytes, strange_bytes, strange_bytes, odd_framing, odd_first_line, odd_field])
+    how = scene.dice.choice(
+        [strange_bytes, strange_bytes, strange_bytes, odd_framing, odd_first_line, odd_field]
+    )
     return how(scene)
 
 
@@ -98,11 +146,19 @@ def at_limits(name: str) -> List[bytes]:
 def strange_bytes(scene: Scene) -> bytes:
     """A plain request with bytes put in, put in another's place, or left out, most often in its head."""
     dice = scene.dice
-    given = b"GET /status HTTP/1.1\r\nx-operator: alfa\r\nHost: desk\r\n\r\n" if dice.random() < 0.5 else plain(scene)
+    given = (
+        b"GET /status HTTP/1.1\r\nx-operator: alfa\r\nHost: desk\r\n\r\n"
+        if dice.random() < 0.5
+        else plain(scene)
+    )
     for _ in range(dice.choice([1, 1, 1, 2, 3])):
         at = min(dice.randrange(len(given)), dice.randrange(160))
         taken = dice.choice([0, 0, 1, 2])
-        given = given[:at] + (dice.choice(STRANGE) if taken < 2 or dice.random() < 0.5 else b"") + given[at + taken :]
+        given = (
+            given[:at]
+            + (dice.choice(STRANGE) if taken < 2 or dice.random() < 0.5 else b"")
+            + given[at + taken :]
+        )
     return given
 
 
@@ -113,10 +169,21 @@ def odd_framing(scene: Scene) -> bytes:
     if dice.random() < 0.4:
         lines.append(f"Content-Length: {dice.choice([*ODD_LENGTHS, '0'])}")
     if dice.random() < 0.3:
-        lines.append(dice.choice(["transfer-encoding: chunked", "Transfer-Encoding:", "transfer-encodings: x", "transfer-encoding: identity"]))
+        lines.append(
+            dice.choice(
+                [
+                    "transfer-encoding: chunked",
+                    "Transfer-Encoding:",
+                    "transfer-encodings: x",
+                    "transfer-encoding: identity",
+                ]
+            )
+        )
     lines.append(f"x-operator: {dice.choice(scene.names)}")
     dice.shuffle(lines)
-    return joined([f"{dice.choice(METHODS)} {dice.choice(['/status', *PATHS])} HTTP/1.1", *lines], dice) + b"0" * dice.choice([0, 1, 2])
+    return joined(
+        [f"{dice.choice(METHODS)} {dice.choice(['/status', *PATHS])} HTTP/1.1", *lines], dice
+    ) + b"0" * dice.choice([0, 1, 2])
 
 
 def odd_first_line(scene: Scene) -> bytes:
@@ -132,8 +199,36 @@ def odd_first_line(scene: Scene) -> bytes:
 def odd_field(scene: Scene) -> bytes:
     """A field that is malformed, or nearly."""
     dice = scene.dice
-    odd = [": x", "x", "x y: z", "x : y", "x\t: y", " x: y", "\tx: y", "x:\u00e4", "\u00e4: x", "x: \x7f", "x: \x01", "x(: y", '"x": y', "x: a\rb"]
-    odd += ["x: y\r", "x/y: z", "x@y: z", "x,y: z", "!#$%&'*+-.^_`|~: z", "x:", "x: y z", "x: \x00", "x-operator", "[x]: y", "{x}: y", "\\x: y"]
+    odd = [
+        ": x",
+        "x",
+        "x y: z",
+        "x : y",
+        "x\t: y",
+        " x: y",
+        "\tx: y",
+        "x:\u00e4",
+        "\u00e4: x",
+        "x: \x7f",
+        "x: \x01",
+        "x(: y",
+        '"x": y',
+        "x: a\rb",
+    ]
+    odd += [
+        "x: y\r",
+        "x/y: z",
+        "x@y: z",
+        "x,y: z",
+        "!#$%&'*+-.^_`|~: z",
+        "x:",
+        "x: y z",
+        "x: \x00",
+        "x-operator",
+        "[x]: y",
+        "{x}: y",
+        "\\x: y",
+    ]
     lines = [f"x-operator: {scene.names[0]}", dice.choice(odd), *dice.sample(EXTRA, 1)]
     dice.shuffle(lines)
     return joined(["GET /status HTTP/1.1", *lines], dice)

@@ -35,7 +35,15 @@ class Start(NamedTuple):
         """The words of the line, over a file or, if none is named, in memory."""
         file = ["--db", path] if path else []
         equal = ["--equal", ",".join(map(str, self.equal))] if self.equal else []
-        return ["play", "--at", str(self.moment), *file, *equal, "--", *(f"{name}={most}" for name, most in self.enrolled)]
+        return [
+            "play",
+            "--at",
+            str(self.moment),
+            *file,
+            *equal,
+            "--",
+            *(f"{name}={most}" for name, most in self.enrolled),
+        ]
 
 
 class History(NamedTuple):
@@ -78,23 +86,31 @@ def make_history(seed: int, number: int) -> History:
     starts = []
     edges = [EDGES[(number * EDGES_EACH + step) % len(EDGES)] for step in range(EDGES_EACH)]
     for at in range(count):
-        scene.moment = max(0, min(scene.moment + (dice.choice([0, 1, 60, 3600, -1]) if at else 0), 253_370_764_800))
+        scene.moment = max(
+            0, min(scene.moment + (dice.choice([0, 1, 60, 3600, -1]) if at else 0), 253_370_764_800)
+        )
         asked = dice.randint(0, 2) if kind == "heads" else dice.randint(3, 50)
         names = scene.names if not at else dice.sample(scene.names, dice.choice([0, 0, 1]))
         equal = tuple(sorted(set(dice.sample(scene.priorities + PRIORITIES, dice.choice([0, 0, 1, 3])))))
-        given = requests(scene, asked, [] if at else edges, number if kind == "heads" or dice.random() < 0.2 else None)
+        given = requests(
+            scene, asked, [] if at else edges, number if kind == "heads" or dice.random() < 0.2 else None
+        )
         starts.append(Start(scene.moment, equal, enrolment(dice, names), given))
     return History(tuple(starts), kind == "file")
 
 
-def requests(scene: Scene, count: int, edges: List[Tuple[str, str, Members]], hostile: Optional[int]) -> Tuple[bytes, ...]:
+def requests(
+    scene: Scene, count: int, edges: List[Tuple[str, str, Members]], hostile: Optional[int]
+) -> Tuple[bytes, ...]:
     """Plain requests, some of them asked again, those at limits, and at the end perhaps a hostile or a cut one."""
     dice = scene.dice
     found: List[bytes] = []
     for _ in range(count):
         found.append(dice.choice(found) if found and dice.random() < 0.05 else heads.plain(scene))
     for method, path, tree in edges:
-        found.insert(dice.randint(0, len(found)), simple(method, path, scene.names[0], written(tree, dice, False)))
+        found.insert(
+            dice.randint(0, len(found)), simple(method, path, scene.names[0], written(tree, dice, False))
+        )
     if hostile is not None:
         found.append(heads.hostile(scene, hostile))
     if found and dice.random() < 0.05:
@@ -111,12 +127,17 @@ def full_history(scene: Scene) -> History:
     scene.ids = [f"{number:032x}" for number in (0, 1, 198, 199, 200, 201)]
     found += [heads.plain(scene) for _ in range(12)]
     found += [small_put(it, number, dice) for it in (other, name) for number in (0, 1, 204, 205)]
-    return History((Start(scene.moment, (), ((name, 1000), (other, 1000)), tuple(found)),), dice.random() < 0.5)
+    return History(
+        (Start(scene.moment, (), ((name, 1000), (other, 1000)), tuple(found)),), dice.random() < 0.5
+    )
 
 
 def small_put(name: str, number: int, dice: Random) -> bytes:
     """A PUT of a plan of one leaf, which meets no other of these."""
-    times = (f'"time_{it}":{{"format":"RFC3339","value":"2026-06-01T1{at}:00:00Z"}}' for it, at in (("start", 2), ("end", 3)))
+    times = (
+        f'"time_{it}":{{"format":"RFC3339","value":"2026-06-01T1{at}:00:00Z"}}'
+        for it, at in (("start", 2), ("end", 3))
+    )
     block = f'"volume":{{"altitude_lower":0,"altitude_upper":1,"cells":["{2 * number + 1:016x}"]}}'
     usage = dice.choice(["Planned", "Planned", "InUse"])
     basic = f'{{"usage_state":"{usage}","uas_state":"Nominal","area":[{{{block},{",".join(times)}}}]}}'
@@ -173,7 +194,10 @@ def compare(history: History, program: List[str]) -> Tuple[int, Optional[Differe
                 wanted = mock.answers[at] if at < len(mock.answers) else b""
                 return count, Difference(number, at, wanted, given)
             if (mock.status, mock.complained) != (status, complained):
-                ends = [f"status {it[0]}, {it[1]!r}".encode() for it in ((mock.status, mock.complained), (status, complained))]
+                ends = [
+                    f"status {it[0]}, {it[1]!r}".encode()
+                    for it in ((mock.status, mock.complained), (status, complained))
+                ]
                 return count, Difference(number, None, ends[0], ends[1])
             count += sum(1 for it in mock.answers if it)
     return count, None

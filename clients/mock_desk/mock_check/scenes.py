@@ -8,10 +8,20 @@ from typing import Any, List, Tuple
 from mock_desk import bodies, cells, desk
 from mock_desk.cells import Rectangle, Square
 
+from . import edges
 from .trees import Members, Raw, spoil, written
 
 NAMES = ["alfa", "bravo", "c", "-", "0-9", "z" * 32]
-MOMENTS = [1780315000] * 12 + [0, 1, 86_400, 951_782_400, 1709164800, 253_370_764_800, 253_370_764_799, 253_368_000_000]
+MOMENTS = [1780315000] * 12 + [
+    0,
+    1,
+    86_400,
+    951_782_400,
+    1709164800,
+    253_370_764_800,
+    253_370_764_799,
+    253_368_000_000,
+]
 ALTITUDES = [-10_000, -9_999, -1, 0, 1, 500, 999, 1000, 1001, 199_999, 200_000]
 PRIORITIES = [0, 1, 9, 10, 11, 99, 100, 999, 1000]
 STARTS = [-86_400, -3600, -60, -1, 0, 0, 1, 60, 3600, 3600, 2_591_999, 2_592_000, 2_592_001, 2_600_000]
@@ -20,62 +30,7 @@ ALL_USES = [(usage, aircraft) for usage in bodies.USAGES for aircraft in bodies.
 FIRST_USES = [("Planned", "Nominal")] * 12 + [("InUse", "Nominal")] * 4 + ALL_USES
 NEXT_USES = FIRST_USES + [("InUse", "Nominal")] * 4 + [("InUse", "OffNominal"), ("InUse", "Contingent")] * 3
 STYLES = ["IfAllowed"] * 8 + ["Hypothetical", "InReality"]
-ODD_TIMES = [
-    "2026-02-29T12:00:00Z",
-    "2024-02-29T12:00:00Z",
-    "1900-02-29T12:00:00Z",
-    "2000-02-29T12:00:00Z",
-    "2026-06-31T12:00:00Z",
-    "2026-13-01T12:00:00Z",
-    "2026-00-01T12:00:00Z",
-    "2026-06-00T12:00:00Z",
-    "2026-06-01T24:00:00Z",
-    "2026-06-01T12:60:00Z",
-    "2026-06-01T23:59:60Z",
-    "2016-12-31T23:59:60Z",
-    "2026-06-01T12:00:00+24:00",
-    "2026-06-01T12:00:00+23:60",
-    "2026-06-01T12:00:00-00:00",
-    "2026-06-01T12:00:00+00:00",
-    "2026-06-01T12:00:00+23:59",
-    "2026-06-01T12:00:00-23:59",
-    "2026-06-01T12:00:00",
-    "2026-06-01 12:00:00Z",
-    "2026-06-01T12:00Z",
-    "2026-06-01T12:00:00+0000",
-    "2026-06-01T12:00:00+00",
-    "2026-06-01T12:00:00.Z",
-    "2026-06-01T12:00:00,5Z",
-    "2026-06-01T12:00:00.5",
-    "2026-06-01T12:00:00.5 Z",
-    " 2026-06-01T12:00:00Z",
-    "2026-06-01T12:00:00Z ",
-    "2026-06-01T12:00:00Z\n",
-    "2026-6-1T12:00:00Z",
-    "+2026-06-01T12:00:00Z",
-    "02026-06-01T12:00:00Z",
-    "2026-06-01T12:00:00.%sZ" % ("0" * 43),
-    "2026-06-01T12:00:00.%sZ" % ("0" * 44),
-    "2026-06-01T12:00:00.%s1Z" % ("0" * 42),
-    "2026-06-01T12:00:00.%s1Z" % ("0" * 43),
-    "1969-12-31T23:59:59Z",
-    "1969-12-31T23:59:59.5Z",
-    "1969-12-31T23:59:59-00:01",
-    "1970-01-01T00:00:00+00:01",
-    "1970-01-01T00:00:00Z",
-    "0000-01-01T00:00:00Z",
-    "0001-01-01T00:00:00+23:59",
-    "9999-01-01T00:00:00Z",
-    "9999-01-01T00:00:00.5Z",
-    "9998-12-31T23:59:59.5Z",
-    "9999-01-01T00:00:01Z",
-    "9999-12-31T23:59:59.9-23:59",
-    "\u0662\u0660\u0662\u0666-06-01T12:00:00Z",
-    "2026-06-01T12:00:00\u00b10:00",
-    "",
-]
-ODD_TOKENS = ["", "0", "00", "2", "c", "d", "f", "B", "x", "g1", "0x1", " 1", "1 ", "1" * 17, "0" * 17, "8" * 16, "\u0661"]
-ODD_TOKENS += ["6", "a", "e", "00000000000000001", "0000000000000002", "0000000000000001", "bfffffffffffffff", "c000000000000001"]
+ODD_TIMES = [time.replace("@", "") for time in edges.TIMES] + [time for pair in edges.PAIRS for time in pair]
 
 
 def square_of(leaf: int) -> Tuple[int, int, int]:
@@ -96,7 +51,10 @@ class Scene:
         self.moment = dice.choice(MOMENTS)
         self.names = dice.sample(NAMES, dice.randint(2, 4))
         self.priorities = dice.sample(PRIORITIES, dice.randint(1, 4))
-        self.ids = [f"{dice.getrandbits(128):032x}" for _ in range(dice.randint(2, 12))] + ["0" * 32, "f" * 32]
+        self.ids = [f"{dice.getrandbits(128):032x}" for _ in range(dice.randint(2, 12))] + [
+            "0" * 32,
+            "f" * 32,
+        ]
         self.altitudes = sorted(dice.sample(ALTITUDES, dice.randint(2, 5)))
         self.seconds = [self.moment + dice.choice(STARTS) for _ in range(3)]
         self.spoiled = dice.choice([0.0, 0.0, 0.05, 0.3])
@@ -130,12 +88,13 @@ class Scene:
         face, i, j = square_of(self.heart)
         level = self.dice.choice([8, 9, 12, 20, 23, 24])
         side = 1 << 30 - level
-        ends = []
+        ends: List[int] = []
         for at in (i, j):
             low = at + self.dice.randint(-2, 1) * side + self.dice.randint(-1, 1)
             high = low + self.dice.choice([0, 1, side - 1, side, side + 1, 3 * side, 7 * side])
             ends += [min(max(it, 0), (1 << 30) - 1) for it in (low, high)]
-        return Rectangle(face, *ends, level)
+        low_i, high_i, low_j, high_j = ends
+        return Rectangle(face, low_i, high_i, low_j, high_j, level)
 
     def large_rectangle(self) -> Rectangle:
         """A rectangle about the heart whose cover has some 1,024 cells."""
@@ -147,7 +106,14 @@ class Scene:
             wide, high = self.dice.choice([1, 2, 3, 200, 255, 256, 300]), self.dice.randint(200, 1100)
             most = (1 << 30) - 1
             low_i, low_j = (min(it >> shift, (1 << level) - 1100) << shift for it in (i, j))
-            found = Rectangle(face, low_i, min(low_i + (wide << shift) - 1, most), low_j, min(low_j + (high << shift) - 1, most), level)
+            found = Rectangle(
+                face,
+                low_i,
+                min(low_i + (wide << shift) - 1, most),
+                low_j,
+                min(low_j + (high << shift) - 1, most),
+                level,
+            )
             if 1010 <= cells.cover_size(found) <= 1030:
                 break
         return found
@@ -163,8 +129,14 @@ class Scene:
         except OverflowError:
             return dice.choice(ODD_TIMES)
         sign = "-" if offset < 0 else "+"
-        zone = f"{sign}{abs(offset) // 3600:02}:{abs(offset) % 3600 // 60:02}" if offset else dice.choice(["Z", "Z", "Z", "z", "-00:00"])
-        fraction = dice.choice([""] * 6 + [".0", ".000000000000", ".5", ".999999999999999999999", ".0000000000000000000001"])
+        zone = (
+            f"{sign}{abs(offset) // 3600:02}:{abs(offset) % 3600 // 60:02}"
+            if offset
+            else dice.choice(["Z", "Z", "Z", "z", "-00:00"])
+        )
+        fraction = dice.choice(
+            [""] * 6 + [".0", ".000000000000", ".5", ".999999999999999999999", ".0000000000000000000001"]
+        )
         return local.strftime(f"%Y-%m-%d{dice.choice('TTTt')}%H:%M:%S").zfill(19) + fraction + zone
 
     def moment_tree(self, second: int) -> Members:
@@ -180,7 +152,9 @@ class Scene:
             start = self.moment
         end = start + dice.choice(LENGTHS)
         if dice.random() < self.spoiled / 6:
-            lower, upper = dice.choice([(upper, lower), (lower, lower), (-10_001, upper), (lower, 200_001), (lower - 1, upper + 1)])
+            lower, upper = dice.choice(
+                [(upper, lower), (lower, lower), (-10_001, upper), (lower, 200_001), (lower - 1, upper + 1)]
+            )
         if dice.random() < self.spoiled / 6:
             end = start + dice.choice([0, -1, 86_401, 86_400])
         return lower, upper, start, min(end, bodies.SECOND_MOST + 2)
@@ -194,7 +168,7 @@ class Scene:
         count = dice.choice([1] * 6 + [2, 3, 5, 8]) if dice.random() < 0.97 else dice.choice([63, 64, 65])
         tokens = [dice.choice(self.tokens) for _ in range(count)]
         if dice.random() < self.spoiled / 4:
-            tokens[dice.randrange(count)] = dice.choice(ODD_TOKENS)
+            tokens[dice.randrange(count)] = dice.choice(edges.TOKENS)
         return "cells", [it.upper() if dice.random() < 0.1 else it for it in tokens]
 
     def shuffled(self, pairs: Any) -> List[Any]:
@@ -215,12 +189,16 @@ class Scene:
 
     def area(self) -> List[Members]:
         """The volumes of a plan."""
-        count = self.dice.choice([1] * 7 + [2, 2, 3]) if self.dice.random() < 0.98 else self.dice.choice([8, 31, 32, 33, 0])
+        count = (
+            self.dice.choice([1] * 7 + [2, 2, 3])
+            if self.dice.random() < 0.98
+            else self.dice.choice([8, 31, 32, 33, 0])
+        )
         return [self.volume() for _ in range(count)]
 
     def strategic(self) -> List[Tuple[str, Any]]:
         """The member that tells the priority, if it is there."""
-        priority = self.dice.choice(self.priorities)
+        priority: Any = self.dice.choice(self.priorities)
         if self.dice.random() < 0.05:
             priority = self.dice.choice([-1, 1001, None, Raw(b"10.0"), Raw(b"1e1"), Raw(b"-0"), *PRIORITIES])
         if self.dice.random() < 0.05:
@@ -241,8 +219,13 @@ class Scene:
             return Members([("extent", self.volume())])
         faces = ("cells", ["1", "3", "5", "7", "9", "b"])
         block = Members([("altitude_lower", -10_000), ("altitude_upper", 200_000), faces])
-        start = min(max(0, self.moment - self.dice.choice([0, 3600])), bodies.SECOND_MOST - bodies.LENGTH_MOST)
-        times = ("time_start", self.moment_tree(start)), ("time_end", self.moment_tree(start + bodies.LENGTH_MOST))
+        start = min(
+            max(0, self.moment - self.dice.choice([0, 3600])), bodies.SECOND_MOST - bodies.LENGTH_MOST
+        )
+        times = ("time_start", self.moment_tree(start)), (
+            "time_end",
+            self.moment_tree(start + bodies.LENGTH_MOST),
+        )
         return Members([("extent", Members([("volume", block), *times]))])
 
     def text(self, tree: Members) -> bytes:
@@ -253,7 +236,9 @@ class Scene:
         body = written(tree, dice, dice.random() < 0.2)
         if dice.random() < self.spoiled / 6:
             at = dice.randrange(len(body) + 1)
-            more = dice.choice([b" ", b"\x00", b"{", b"}", b",", b'"', b"\\", b"\xff", b"\xef\xbb\xbf", b"1", b"[]"])
+            more = dice.choice(
+                [b" ", b"\x00", b"{", b"}", b",", b'"', b"\\", b"\xff", b"\xef\xbb\xbf", b"1", b"[]"]
+            )
             body = dice.choice([body[:at], body[:at] + more + body[at:], more + body, body + more, b""])
         return body
 
@@ -267,10 +252,42 @@ class Scene:
         """An id in one of its forms, or nearly one."""
         dice = self.dice
         hyphens = "-".join([digits[:8], digits[8:12], digits[12:16], digits[16:20], digits[20:]])
-        forms = [hyphens] * 12 + [digits, hyphens.upper(), digits.upper(), f"{{{hyphens}}}", f"urn:uuid:{hyphens}"]
+        forms = [hyphens] * 12 + [
+            digits,
+            hyphens.upper(),
+            digits.upper(),
+            f"{{{hyphens}}}",
+            f"urn:uuid:{hyphens}",
+        ]
         if dice.random() < self.spoiled / 4:
-            forms = [f"{{{digits}}}", f"urn:uuid:{digits}", f"URN:UUID:{hyphens}", f"urn:uuid:{{{hyphens}}}", hyphens[:-1]]
-            forms += [hyphens + "0", hyphens.replace("-", "", 1), digits + "-", f"{{{hyphens}", f"{hyphens}}}", "x", "-", "\u00e4"]
-            forms += [hyphens[:-1] + "g", f"({hyphens})", hyphens.replace("-", "_"), f"%7B{hyphens}%7D", f"urn:UUID:{hyphens}"]
-            forms += ["-" * 36, digits[:31] + "\u0660", f"{{{hyphens})", hyphens[:1] + "-" + hyphens[1:8] + hyphens[9:]]
+            forms = [
+                f"{{{digits}}}",
+                f"urn:uuid:{digits}",
+                f"URN:UUID:{hyphens}",
+                f"urn:uuid:{{{hyphens}}}",
+                hyphens[:-1],
+            ]
+            forms += [
+                hyphens + "0",
+                hyphens.replace("-", "", 1),
+                digits + "-",
+                f"{{{hyphens}",
+                f"{hyphens}}}",
+                "x",
+                "-",
+                "\u00e4",
+            ]
+            forms += [
+                hyphens[:-1] + "g",
+                f"({hyphens})",
+                hyphens.replace("-", "_"),
+                f"%7B{hyphens}%7D",
+                f"urn:UUID:{hyphens}",
+            ]
+            forms += [
+                "-" * 36,
+                digits[:31] + "\u0660",
+                f"{{{hyphens})",
+                hyphens[:1] + "-" + hyphens[1:8] + hyphens[9:],
+            ]
         return dice.choice(forms)

@@ -1,6 +1,7 @@
 """JSON texts as trees that may be malformed: members may stand twice, and any bytes may stand as a value."""
 from __future__ import annotations
 
+import copy
 import json
 from random import Random
 from typing import Any, List, Tuple
@@ -17,105 +18,29 @@ class Members(List[Tuple[str, Any]]):
     """The members of an object, in the order written."""
 
 
-# Values that may stand in the place of any other.
-STRAY = [
-    None,
-    "",
-    "x",
-    "RFC3339",
-    "Nominal",
-    0,
-    1,
-    -1,
-    [],
-    [None],
-    Members(),
-    Members([("a", 1)]),
-    *map(
-        Raw,
-        [
-            b"true",
-            b"false",
-            b"-0",
-            b"10.0",
-            b"1e1",
-            b"1E+1",
-            b"0.5",
-            b"-0.0",
-            b"1e400",
-            b"-1e400",
-            b"1e-400",
-            b"00",
-            b"01",
-            b"-",
-            b"-01",
-            b"+1",
-            b".5",
-            b"5.",
-            b"1e",
-            b"0x10",
-            b"NaN",
-            b"Infinity",
-            b"-Infinity",
-            b"nul",
-            b"True",
-            b"'x'",
-            b"2147483648",
-            b"4294967296",
-            b"4294967297",
-            b"9007199254740993",
-            b"9223372036854775807",
-            b"9223372036854775808",
-            b"-9223372036854775808",
-            b"-9223372036854775809",
-            b"18446744073709551615",
-            b"18446744073709551616",
-            b"18446744073709551626",
-            b"340282366920938463463374607431768211456",
-            b"1" * 400,
-            b"0." + b"1" * 400,
-            b'"\\ud800"',
-            b'"\\udc00\\ud800"',
-            b'"\\ud83d\\ude00"',
-            b'"\\uD83D"',
-            b'"\\ud83dx"',
-            b'"\\u12"',
-            b'"\\u00zz"',
-            b'"\\x41"',
-            b'"\\/\\b\\f\\n\\r\\t\\"\\\\"',
-            b'"\\u0000"',
-            b'"\x00"',
-            b'"\x1f"',
-            b'"\x7f"',
-            b'"\n"',
-            b'"\xc3\xa4"',
-            b'"\xff"',
-            b'"\xc0\x80"',
-            b'"\xed\xa0\x80"',
-            b'"\xf4\x90\x80\x80"',
-            b'"\xe2\x82"',
-            b'"\xf0\x9f\x98\x80"',
-            b'"',
-            b"",
-            b"[1,]",
-            b"[,1]",
-            b"[1 2]",
-            b"{,}",
-            b'{"a":1,}',
-            b'{"a"}',
-            b'{"a" 1}',
-            b"{a:1}",
-            b"{1:1}",
-            b"[1",
-            b"{",
-            b"]",
-            b"/**/1",
-            b"\x0b1",
-            b"\xc2\xa01",
-            b"\xef\xbb\xbf1",
-        ],
-    ),
+# Values as they are written, some of which are no JSON.
+# fmt: off
+WRITTEN = [
+    b"true", b"false", b"-0", b"10.0", b"1e1", b"1E+1", b"0.5", b"-0.0", b"1e400", b"-1e400", b"1e-400",
+    b"00", b"01", b"-", b"-01", b"+1", b".5", b"5.", b"1e", b"0x10", b"NaN", b"Infinity", b"-Infinity",
+    b"nul", b"True", b"'x'", b"2147483648", b"4294967296", b"4294967297", b"9007199254740993",
+    b"9223372036854775807", b"9223372036854775808", b"-9223372036854775808", b"-9223372036854775809",
+    b"18446744073709551615", b"18446744073709551616", b"18446744073709551626",
+    b"340282366920938463463374607431768211456", b"1" * 400, b"0." + b"1" * 400, b'"\\ud800"',
+    b'"\\udc00\\ud800"', b'"\\ud83d\\ude00"', b'"\\uD83D"', b'"\\ud83dx"', b'"\\u12"', b'"\\u00zz"',
+    b'"\\x41"', b'"\\/\\b\\f\\n\\r\\t\\"\\\\"', b'"\\u0000"', b'"\x00"', b'"\x1f"', b'"\x7f"', b'"\n"',
+    b'"\xc3\xa4"', b'"\xff"', b'"\xc0\x80"', b'"\xed\xa0\x80"', b'"\xf4\x90\x80\x80"', b'"\xe2\x82"',
+    b'"\xf0\x9f\x98\x80"', b'"', b"", b"[1,]", b"[,1]", b"[1 2]", b"{,}", b'{"a":1,}', b'{"a"}', b'{"a" 1}',
+    b"{a:1}", b"{1:1}", b"[1", b"{", b"]", b"/**/1", b"\x0b1", b"\xc2\xa01", b"\xef\xbb\xbf1",
 ]
+# fmt: on
+# Values that may stand in the place of any other.
+# fmt: off
+STRAY: List[Any] = [
+    None, "", "x", "RFC3339", "Nominal", 0, 1, -1, [], [None], Members(), Members([("a", 1)]),
+    *map(Raw, WRITTEN),
+]
+# fmt: on
 
 
 def quoted(text: str, dice: Random, messy: bool) -> bytes:
@@ -164,27 +89,27 @@ def nested(dice: Random) -> Raw:
 
 def stray(dice: Random) -> Any:
     """A value that is seldom right."""
-    return nested(dice) if dice.random() < 0.06 else dice.choice(STRAY)
+    return nested(dice) if dice.random() < 0.06 else copy.deepcopy(dice.choice(STRAY))
 
 
 def spoil(tree: Any, dice: Random) -> None:
     """Changes one member or element of a tree: another value, none, twice, or with another name."""
     holder = dice.choice([it for it in holders(tree) if it] or [tree])
-    if not holder:
-        return
-    at = dice.randrange(len(holder))
-    how = dice.choice(["value", "value", "none", "twice", "again", "name", "more"])
-    if not isinstance(holder, Members):
-        holder[at] = stray(dice) if how in ("value", "name", "more") else holder[at]
-        holder[at : at + 1] = {"none": [], "twice": [holder[at]] * 2}.get(how, [holder[at]])
-        return
-    name, value = holder[at]
-    changed = {
-        "value": [(name, stray(dice))],
-        "none": [],
-        "twice": [(name, stray(dice)), (name, value)],
-        "again": [(name, value), (name, stray(dice))],
-        "name": [(dice.choice([name.upper(), name + " ", "", name[:-1]]), value)],
-        "more": [(name, value), (dice.choice(["request_id", "x", "\u00e4", name + "_"]), stray(dice))],
-    }
-    holder[at : at + 1] = changed[how]
+    if holder:
+        at = dice.randrange(len(holder))
+        changed = spoiled_member if isinstance(holder, Members) else spoiled_element
+        holder[at : at + 1] = changed(holder[at], dice)
+
+
+def spoiled_element(value: Any, dice: Random) -> List[Any]:
+    """What stands in the place of an array's element."""
+    return dice.choice([[stray(dice)], [stray(dice)], [], [value, value], [value, stray(dice)]])
+
+
+def spoiled_member(member: Tuple[str, Any], dice: Random) -> List[Any]:
+    """What stands in the place of an object's member."""
+    name, value = member
+    other = name, stray(dice)
+    renamed = dice.choice([name.upper(), name + " ", "", name[:-1]]), value
+    more = dice.choice(["request_id", "x", "\u00e4", name + "_"]), stray(dice)
+    return dice.choice([[other], [other], [], [other, member], [member, other], [renamed], [member, more]])

@@ -12,6 +12,8 @@ from . import cells
 from .cells import Ranges, Rectangle
 from .requests import Refusal
 
+Footprint = Union[Tuple[int, ...], Rectangle]
+
 VOLUMES_MOST = 32
 CELLS_MOST = 64
 PRIORITY_MOST = 1000
@@ -45,7 +47,7 @@ class Volume(NamedTuple):
     upper: int
     start: int
     end: int
-    asked: Union[Tuple[int, ...], Rectangle]
+    asked: Footprint
     ranges: Ranges
 
 
@@ -176,14 +178,14 @@ def read_volume(given: Any) -> Volume:
     return volume_of(lower, upper, start, end, asked)
 
 
-def volume_of(lower: int, upper: int, start: int, end: int, asked: Union[Tuple[int, ...], Rectangle]) -> Volume:
+def volume_of(lower: int, upper: int, start: int, end: int, asked: Footprint) -> Volume:
     """A volume with the ranges of its footprint."""
-    whole = isinstance(asked, Rectangle)
-    ranges = cells.ranges_of_rectangle(asked) if whole else cells.ranges_of_cells(list(asked))
-    return Volume(lower, upper, start, end, asked, ranges)
+    if isinstance(asked, Rectangle):
+        return Volume(lower, upper, start, end, asked, cells.ranges_of_rectangle(asked))
+    return Volume(lower, upper, start, end, asked, cells.ranges_of_cells(list(asked)))
 
 
-def read_footprint(block: Dict[str, Any]) -> Union[Tuple[int, ...], Rectangle]:
+def read_footprint(block: Dict[str, Any]) -> Footprint:
     """The ids of the cells, or the rectangle, whichever alone is there; raises Fault."""
     if (block.get("cells") is None) == (block.get("rectangle") is None):
         raise Fault(block)
@@ -221,14 +223,15 @@ def second_of(text: str) -> Tuple[int, str]:
         raise Fault(text)
     fraction, sign, hours, minutes = found.groups()[6:]
     try:
-        local = datetime.datetime(*(int(it) for it in found.groups()[:6]))
+        year, month, day, hour, minute, second = (int(it) for it in found.groups()[:6])
+        local = datetime.datetime(year, month, day, hour, minute, second)
     except ValueError:
         raise Fault(text) from None
     offset = 0
     if sign:
         offset = 3600 * within(int(hours), 0, 23) + 60 * within(int(minutes), 0, 59)
-    seconds = int((local - EPOCH).total_seconds())
-    return seconds + (offset if sign == "-" else -offset), fraction or ""
+    unix = int((local - EPOCH).total_seconds())
+    return unix + (offset if sign == "-" else -offset), fraction or ""
 
 
 def shown_volume(volume: Volume) -> Dict[str, Any]:
@@ -249,4 +252,5 @@ def volume_shown(shown: Dict[str, Any]) -> Volume:
     rectangle: Optional[Dict[str, int]] = shown.get("rectangle")
     tokens: List[str] = shown.get("cells", [])
     asked = Rectangle(**rectangle) if rectangle else tuple(read_cell(token) for token in tokens)
-    return volume_of(shown["altitude_lower"], shown["altitude_upper"], shown["second_start"], shown["second_end"], asked)
+    lower, upper = shown["altitude_lower"], shown["altitude_upper"]
+    return volume_of(lower, upper, shown["second_start"], shown["second_end"], asked)

@@ -1,7 +1,7 @@
 """S2 cells by hand: tokens, the Hilbert curve, and the leaves that cells and rectangles take.
 
-Leaves are told by their ids. A list of ranges is a list of pairs (first leaf id, last leaf id), ascending, none touching
-another; between the two ends of a range every odd number is the id of a leaf.
+Leaves are told by their ids. Ranges are a list of pairs (first leaf id, last leaf id), ascending, none touching the
+next; between the two ends of a range every odd number is the id of a leaf.
 """
 from __future__ import annotations
 
@@ -14,7 +14,7 @@ LEAF_LEVEL = 30
 FACES = 6
 COVER_MOST = 1024
 LEVELS = range(8, 25)
-# The square (i, j) at each place of the curve, and how the orientation turns there; bit 0 swaps the axes, bit 1 inverts.
+# The quarter (i, j) at each place of the curve, and how the orientation turns there: bit 0 swaps axes, bit 1 inverts.
 PLACES = (
     ((0, 0), (0, 1), (1, 1), (1, 0)),
     ((0, 0), (1, 0), (1, 1), (0, 1)),
@@ -47,7 +47,7 @@ class Rectangle(NamedTuple):
 
 
 class Square(NamedTuple):
-    """A cell by its place in the grid: its corner in leaves, its side in leaves, its number among those of its level."""
+    """A cell: its corner and its side in leaves, its number among those of its level on its face."""
 
     i: int
     j: int

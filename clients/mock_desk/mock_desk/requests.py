@@ -11,7 +11,9 @@ BODY_MOST = 131_072
 
 REQUEST_LINE = re.compile(rb"([!#$%&'*+.^_`|~0-9A-Za-z-]+) ([^\x00-\x20\x7f]+) HTTP/1\.[01]")
 FIELD_LINE = re.compile(rb"([!#$%&'*+.^_`|~0-9A-Za-z-]+):[ \t]*([^\x00-\x08\x0a-\x1f\x7f]*)")
-UUID_FORMS = re.compile(r"(urn:uuid:)?{hex}|\{{{hex}\}}|[0-9a-f]{{32}}".format(hex="[0-9a-f]{8}(-[0-9a-f]{4}){3}-[0-9a-f]{12}"))
+UUID_FORMS = re.compile(
+    r"(urn:uuid:)?{hex}|\{{{hex}\}}|[0-9a-f]{{32}}".format(hex="[0-9a-f]{8}(-[0-9a-f]{4}){3}-[0-9a-f]{12}")
+)
 METHODS = {
     "status": ("GET",),
     "list": ("GET",),

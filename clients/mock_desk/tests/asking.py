@@ -1,4 +1,4 @@
-"""Requests and answers of the tests: everything at the moment 1780315000, 2026-06-01T11:56:40Z, unless it says otherwise."""
+"""Requests and answers of the tests, at the moment 1780315000, which is 2026-06-01T11:56:40Z."""
 from __future__ import annotations
 
 import json
@@ -24,7 +24,10 @@ def desk(equal: Tuple[int, ...] = (), moment: int = MOMENT, path: str = ":memory
 def request(method: str, path: str, operator: str = "alfa", body: Optional[Any] = None) -> bytes:
     """The bytes of a request."""
     text = b"" if body is None else body if isinstance(body, bytes) else json.dumps(body).encode()
-    return f"{method} {path} HTTP/1.1\r\nx-operator: {operator}\r\ncontent-length: {len(text)}\r\n\r\n".encode() + text
+    return (
+        f"{method} {path} HTTP/1.1\r\nx-operator: {operator}\r\ncontent-length: {len(text)}\r\n\r\n".encode()
+        + text
+    )
 
 
 def ask(at: Desk, *given: Any, **named: Any) -> Tuple[int, Dict[str, Any]]:
@@ -35,18 +38,32 @@ def ask(at: Desk, *given: Any, **named: Any) -> Tuple[int, Dict[str, Any]]:
     return int(head.split()[1]), json.loads(body)
 
 
-def volume(cells: Any = ("04",), lower: int = 0, upper: int = 1000, start: str = NOON, end: str = ONE, **more: Any) -> Dict[str, Any]:
+def volume(
+    cells: Any = ("04",), lower: int = 0, upper: int = 1000, start: str = NOON, end: str = ONE, **more: Any
+) -> Dict[str, Any]:
     """A volume as JSON."""
     block = {"altitude_lower": lower, "altitude_upper": upper, "cells": cells and list(cells), **more}
-    times = {"time_start": {"format": "RFC3339", "value": start}, "time_end": {"format": "RFC3339", "value": end}}
+    times = {
+        "time_start": {"format": "RFC3339", "value": start},
+        "time_end": {"format": "RFC3339", "value": end},
+    }
     return {"volume": block, **times}
 
 
-def plan(*area: Dict[str, Any], priority: int = 10, usage: str = "Planned", aircraft: str = "Nominal", style: str = "IfAllowed") -> Dict[str, Any]:
+def plan(
+    *area: Dict[str, Any],
+    priority: int = 10,
+    usage: str = "Planned",
+    aircraft: str = "Nominal",
+    style: str = "IfAllowed",
+) -> Dict[str, Any]:
     """The body of a PUT."""
     volumes: List[Dict[str, Any]] = list(area) or [volume()]
     basic = {"usage_state": usage, "uas_state": aircraft, "area": volumes}
-    return {"execution_style": style, "flight_plan": {"astm_f3548_21": {"priority": priority}, "basic_information": basic}}
+    return {
+        "execution_style": style,
+        "flight_plan": {"astm_f3548_21": {"priority": priority}, "basic_information": basic},
+    }
 
 
 def put(at: Desk, operator: str, plan_id: str, *area: Dict[str, Any], **how: Any) -> Tuple[str, str, str]:

@@ -44,9 +44,14 @@ def test_siblings_are_their_parent():
 def test_the_first_quarters_of_face_0():
     # the curve of an even face goes (0, 0), (0, 1), (1, 1), (1, 0)
     half = MOST // 2
-    quarters = [Rectangle(0, *ends, 8) for ends in ((0, half, 0, half), (0, half, half + 1, MOST), (half + 1, MOST, 0, half))]
+    quarters = [
+        Rectangle(0, *ends, 8)
+        for ends in ((0, half, 0, half), (0, half, half + 1, MOST), (half + 1, MOST, 0, half))
+    ]
     tokens = ["04", "0c", "1c"]
-    assert [cells.ranges_of_rectangle(it) for it in quarters] == [cells.ranges_of_cells([cells.cell_of(it)]) for it in tokens]
+    assert [cells.ranges_of_rectangle(it) for it in quarters] == [
+        cells.ranges_of_cells([cells.cell_of(it)]) for it in tokens
+    ]
 
 
 def test_the_first_quarters_of_face_1():
@@ -74,7 +79,13 @@ def test_cover_sizes():
 
 def test_limits_of_rectangles():
     assert Rectangle(5, 0, MOST, 0, MOST, 8).is_valid()
-    for wrong in [(6, 0, 0, 0, 0, 8), (-1, 0, 0, 0, 0, 8), (0, 1, 0, 0, 0, 8), (0, 0, 0, 1, 0, 8), (0, 0, 0, 0, 0, 7)]:
+    for wrong in [
+        (6, 0, 0, 0, 0, 8),
+        (-1, 0, 0, 0, 0, 8),
+        (0, 1, 0, 0, 0, 8),
+        (0, 0, 0, 1, 0, 8),
+        (0, 0, 0, 0, 0, 7),
+    ]:
         assert not Rectangle(*wrong).is_valid()
     for wrong in [(0, 0, 0, 0, 0, 25), (0, 0, MOST + 1, 0, 0, 8), (0, -1, 0, 0, 0, 8)]:
         assert not Rectangle(*wrong).is_valid()

@@ -14,7 +14,9 @@ READY = b'{"status":"Ready"}'
 
 def run(*words, given=b""):
     """The exit status, the standard output and the standard error of a line."""
-    ran = subprocess.run([sys.executable, "-m", "mock_desk", *words], cwd=PLACE, input=given, capture_output=True, timeout=60)
+    ran = subprocess.run(
+        [sys.executable, "-m", "mock_desk", *words], cwd=PLACE, input=given, capture_output=True, timeout=60
+    )
     return ran.returncode, ran.stdout, ran.stderr.decode()
 
 
@@ -35,13 +37,26 @@ def test_a_file(tmp_path):
 @pytest.mark.parametrize(
     "words",
     [["alfa=1001"], ["alfa=00100"], ["alfa=x"], ["Alfa=1"], ["alfa"], ["=1"]]
-    + [["--equal", it] for it in ("", "5, 10", "5,", "00010", "1001", "10,5", "10,10", ",".join(map(str, range(33))))],
+    + [
+        ["--equal", it]
+        for it in ("", "5, 10", "5,", "00010", "1001", "10,5", "10,10", ",".join(map(str, range(33))))
+    ],
 )
 def test_values(words):
     assert run("--at", "1780315000", *words) == (2, b"", "uss_desk: value\n")
 
 
-@pytest.mark.parametrize("words", [[], ["--at", "-1"], ["--at", "253370764801"], ["--port", "0"], ["--port", "1", "--requests", "0"], ["--at", "x"]])
+@pytest.mark.parametrize(
+    "words",
+    [
+        [],
+        ["--at", "-1"],
+        ["--at", "253370764801"],
+        ["--port", "0"],
+        ["--port", "1", "--requests", "0"],
+        ["--at", "x"],
+    ],
+)
 def test_lines_that_are_none(words):
     status, output, complained = run(*words)
     assert (status, output) == (2, b"") and complained

@@ -12,7 +12,10 @@ def test_the_life_of_a_plan():
     assert put(at, "alfa", ID) == ("Completed", "Planned", "")
     assert put(at, "alfa", ID, usage="InUse") == ("Completed", "OkToFly", "")
     assert put(at, "alfa", ID, usage="InUse", aircraft="Contingent") == ("Completed", "OffNominal", "")
-    assert ask(at, "DELETE", f"/flight_plans/{ID}") == (200, {"flight_plan_status": "Closed", "notes": "", "planning_result": "Completed"})
+    assert ask(at, "DELETE", f"/flight_plans/{ID}") == (
+        200,
+        {"flight_plan_status": "Closed", "notes": "", "planning_result": "Completed"},
+    )
     assert put(at, "alfa", ID) == ("Rejected", "Closed", "closed")
     assert put(at, "alfa", ID, usage="Closed") == ("Completed", "Closed", "")
 
@@ -55,8 +58,16 @@ def test_styles():
     assert put(at, "alfa", ID, style="Hypothetical") == ("Completed", "Planned", "")
     assert ask(at, "GET", f"/flight_plans/{ID}") == (404, {"error": "no_such_plan"})
     put(at, "alfa", ID)
-    assert put(at, "alfa", ID, style="InReality", aircraft="OffNominal") == ("NotSupported", "Planned", "style")
-    assert put(at, "alfa", ID, style="InReality", usage="InUse", aircraft="OffNominal") == ("Completed", "OffNominal", "")
+    assert put(at, "alfa", ID, style="InReality", aircraft="OffNominal") == (
+        "NotSupported",
+        "Planned",
+        "style",
+    )
+    assert put(at, "alfa", ID, style="InReality", usage="InUse", aircraft="OffNominal") == (
+        "Completed",
+        "OffNominal",
+        "",
+    )
     assert put(at, "alfa", ID, style="InReality", usage="Closed") == ("Completed", "Closed", "")
 
 
@@ -66,7 +77,10 @@ def test_moments():
     assert put(at, "alfa", ID, volume(start="2026-06-01T11:00:00Z", end="2026-06-01T11:56:40Z"))[2] == "ended"
     assert put(at, "alfa", ID, volume(start="2026-06-01T11:00:00Z", end="2026-06-01T11:56:41Z"))[2] == ""
     # thirty days on: 2026-07-01T11:56:40Z
-    assert put(at, "alfa", OTHER, volume(start="2026-07-01T11:56:41Z", end="2026-07-01T12:00:00Z"))[2] == "horizon"
+    assert (
+        put(at, "alfa", OTHER, volume(start="2026-07-01T11:56:41Z", end="2026-07-01T12:00:00Z"))[2]
+        == "horizon"
+    )
     assert put(at, "alfa", OTHER, volume(start="2026-07-01T11:56:40.9Z", end="2026-07-01T12:00:00Z"))[2] == ""
 
 
@@ -92,9 +106,20 @@ def test_200_plans():
 def test_a_conflict():
     at = desk()
     put(at, "alfa", ID)
-    answer = ask(at, "PUT", f"/flight_plans/{ID}", "bravo", plan(volume(["1"], 500, 2000, "2026-06-01T12:30:00Z", "2026-06-01T14:00:00Z")))
+    answer = ask(
+        at,
+        "PUT",
+        f"/flight_plans/{ID}",
+        "bravo",
+        plan(volume(["1"], 500, 2000, "2026-06-01T12:30:00Z", "2026-06-01T14:00:00Z")),
+    )
     conflict = {"altitude": 500, "cell": "0000000000000001", "priority": 10, "second": 1780317000}
-    refused = {"conflict": conflict, "flight_plan_status": "NotPlanned", "notes": "conflict", "planning_result": "Rejected"}
+    refused = {
+        "conflict": conflict,
+        "flight_plan_status": "NotPlanned",
+        "notes": "conflict",
+        "planning_result": "Rejected",
+    }
     assert answer == (200, refused)
     assert put(at, "bravo", ID, volume(["1"]), priority=9)[2] == "conflict"
     assert put(at, "bravo", ID, volume(["1"]), priority=11)[2] == ""
@@ -124,7 +149,12 @@ def test_the_greatest_priority_at_the_first_point():
     put(at, "bravo", OTHER, volume([first], 100, 200), priority=20)
     put(at, "bravo", "3" * 32, volume([first], 100, 200), priority=20)
     body = ask(at, "PUT", f"/flight_plans/{ID}", "c", plan(volume(["04"], 150, 1000)))[1]
-    assert body["conflict"] == {"altitude": 150, "cell": "0000000000000001", "priority": 20, "second": 1780315200}
+    assert body["conflict"] == {
+        "altitude": 150,
+        "cell": "0000000000000001",
+        "priority": 20,
+        "second": 1780315200,
+    }
 
 
 def test_permitted_priorities():
@@ -134,7 +164,12 @@ def test_permitted_priorities():
     assert put(at, "bravo", OTHER, priority=9)[2] == "conflict"
     put(at, "bravo", ID, priority=11)
     shown = ask(at, "GET", f"/flight_plans/{ID}", "alfa")[1]
-    assert shown["conflict"] == {"altitude": 0, "cell": "0000000000000001", "priority": 11, "second": 1780315200}
+    assert shown["conflict"] == {
+        "altitude": 0,
+        "cell": "0000000000000001",
+        "priority": 11,
+        "second": 1780315200,
+    }
 
 
 def test_shown_and_listed():
@@ -143,11 +178,24 @@ def test_shown_and_listed():
     put(at, "alfa", OTHER, volume(["0C", "1c", "0C"]), volume(None, rectangle=rectangle))
     put(at, "alfa", ID, volume(["3"]), usage="InUse")
     ask(at, "DELETE", f"/flight_plans/{ID}")
-    window = {"altitude_lower": 0, "altitude_upper": 1000, "second_end": 1780318800, "second_start": 1780315200}
-    closed = {"area": [{**window, "cells": ["3"]}], "flight_plan_id": ID, "flight_plan_status": "Closed", "priority": 10}
+    window = {
+        "altitude_lower": 0,
+        "altitude_upper": 1000,
+        "second_end": 1780318800,
+        "second_start": 1780315200,
+    }
+    closed = {
+        "area": [{**window, "cells": ["3"]}],
+        "flight_plan_id": ID,
+        "flight_plan_status": "Closed",
+        "priority": 10,
+    }
     area = [{**window, "cells": ["0c", "1c", "0c"]}, {**window, "rectangle": rectangle}]
     planned = {"area": area, "flight_plan_id": OTHER, "flight_plan_status": "Planned", "priority": 10}
-    rows = [{**closed, "uas_state": "Nominal", "usage_state": "Closed"}, {**planned, "uas_state": "Nominal", "usage_state": "Planned"}]
+    rows = [
+        {**closed, "uas_state": "Nominal", "usage_state": "Closed"},
+        {**planned, "uas_state": "Nominal", "usage_state": "Planned"},
+    ]
     assert ask(at, "GET", "/flight_plans") == (200, {"flight_plans": rows})
     assert ask(at, "GET", "/flight_plans", "bravo") == (200, {"flight_plans": []})
 
@@ -179,7 +227,9 @@ def test_two_starts_over_a_file(tmp_path):
     assert put(again, "alfa", ID, usage="InUse")[2] == "priority"
 
 
-@pytest.mark.parametrize("start, end, word", [(NOON, "2026-06-02T12:00:00Z", ""), (NOON, "2026-06-02T12:00:00.01Z", "bad_volume")])
+@pytest.mark.parametrize(
+    "start, end, word", [(NOON, "2026-06-02T12:00:00Z", ""), (NOON, "2026-06-02T12:00:00.01Z", "bad_volume")]
+)
 def test_an_end_with_a_fraction_is_a_second_later(start, end, word):
     status, body = ask(desk(), "PUT", f"/flight_plans/{ID}", "alfa", plan(volume(start=start, end=end)))
     assert body.get("error", "") == word

@@ -4,13 +4,18 @@ from asking import ID, desk, plan, request, volume
 from mock_desk.desk import play
 
 STATUS = b"GET /status HTTP/1.1\r\nx-operator: alfa\r\n"
-READY = b"HTTP/1.1 200 OK\r\ncontent-type: application/json\r\ncontent-length: 18\r\nconnection: close\r\n\r\n" b'{"status":"Ready"}'
+READY = (
+    b"HTTP/1.1 200 OK\r\ncontent-type: application/json\r\ncontent-length: 18\r\nconnection: close\r\n\r\n"
+    b'{"status":"Ready"}'
+)
 
 
 def told(given):
     """The status and the word of each answer, and the word at the end."""
     found = list(play(desk(), given))
-    return [(int(it.split()[1]), it.split(b'"')[3].decode()) for it, _ in found if it], found[-1][1] if found else ""
+    return [(int(it.split()[1]), it.split(b'"')[3].decode()) for it, _ in found if it], found[-1][
+        1
+    ] if found else ""
 
 
 def test_a_stream():
@@ -57,7 +62,10 @@ def test_the_longest_head(length, word):
 
 
 def test_codings_and_lengths():
-    assert told(STATUS + b"transfer-encoding: x\r\ncontent-length: x\r\n\r\n") == ([(501, "transfer_encoding")], "unframed")
+    assert told(STATUS + b"transfer-encoding: x\r\ncontent-length: x\r\n\r\n") == (
+        [(501, "transfer_encoding")],
+        "unframed",
+    )
     assert told(STATUS + b"content-length: 131073\r\n\r\n") == ([(413, "too_large")], "unframed")
     assert told(STATUS + b"content-length: 131072\r\n\r\n" + b" " * 131_072) == ([(200, "Ready")], "")
 
