@@ -104,11 +104,7 @@ RECTANGLES += [
     (4, 64, 65_598, 64, 127, 24),
     (4, 64, 65_599, 64, 128, 24),
 ]
-RECTANGLES += [
-    (5, 64, 64 * 257, 64, 64 * 257, 24),
-    (5, 64, 64 * 258, 64, 64 * 258, 24),
-    (5, 0, MOST, 0, MOST - 1, 8),
-]
+RECTANGLES += [(5, 64, 64 * 257, 64, 64 * 257, 24), (5, 64, 64 * 258, 64, 64 * 258, 24), (5, 0, MOST, 0, MOST - 1, 8)]
 EXTRA_DEPTHS = range(120, 130)
 
 
@@ -118,11 +114,7 @@ def moment(value: Any) -> Members:
 
 
 def extent(
-    footprint: Tuple[str, Any] = ("cells", ["1"]),
-    lower: Any = 0,
-    upper: Any = 1,
-    start: Any = NOON,
-    end: Any = ONE,
+    footprint: Tuple[str, Any] = ("cells", ["1"]), lower: Any = 0, upper: Any = 1, start: Any = NOON, end: Any = ONE
 ) -> Members:
     """A volume, which is right but for what is given."""
     block = Members([("altitude_lower", lower), ("altitude_upper", upper), footprint])
@@ -173,8 +165,7 @@ def edges() -> List[Tuple[str, str, Members]]:
     clears = [Members([("extent", it)]) for it in volumes()] + list(passed_over())
     puts = [put([extent()] * count) for count in (0, 1, 31, 32, 33)]
     puts += [
-        put([extent()], it)
-        for it in [-1, 0, 1000, 1001, None, "10", *map(Raw, NUMBERS), Raw(b"1e1"), Raw(b"true")]
+        put([extent()], it) for it in [-1, 0, 1000, 1001, None, "10", *map(Raw, NUMBERS), Raw(b"1e1"), Raw(b"true")]
     ]
     wide = extent(rectangle(1, 0, 65_536, 0, 0, 24))
     puts += [put([wide, extent(("cells", ["0"]))]), put([extent(("cells", ["0"])), wide]), put([wide], -1)]

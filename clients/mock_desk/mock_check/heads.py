@@ -89,11 +89,7 @@ def call(scene: Scene) -> Tuple[str, str, str, bytes]:
         again = (operator, digits) in scene.asked
         scene.asked.append((operator, digits))
         return operator, "PUT", path, scene.text(scene.put_tree(NEXT_USES if again else FIRST_USES))
-    body = (
-        b""
-        if dice.random() < 0.95
-        else dice.choice([b"x", b"{}", b"\r\n\r\n", b"GET /status HTTP/1.1\r\n\r\n"])
-    )
+    body = b"" if dice.random() < 0.95 else dice.choice([b"x", b"{}", b"\r\n\r\n", b"GET /status HTTP/1.1\r\n\r\n"])
     path = {"list": "/flight_plans", "status": "/status"}.get(kind, path)
     return operator, "DELETE" if kind == "delete" else "GET", path, body
 
@@ -106,9 +102,7 @@ def plain(scene: Scene) -> bytes:
     if dice.random() < 0.02:
         method, path = dice.choice(METHODS), dice.choice([path, *PATHS])
     if dice.random() < 0.02:
-        operators = dice.choice(
-            [[], operators * 2, [dice.choice(ODD_NAMES)], [operator, "nobody"], ["nobody"]]
-        )
+        operators = dice.choice([[], operators * 2, [dice.choice(ODD_NAMES)], [operator, "nobody"], ["nobody"]])
     path += dice.choice(["", "?", "?x=/status", "?a?b"]) if dice.random() < 0.04 else ""
     lines = [field("x-operator", it, dice) for it in operators]
     lines += dice.sample(EXTRA, dice.choice([0, 1, 1, 1, 2, 5]))
@@ -123,9 +117,7 @@ def hostile(scene: Scene, number: int) -> bytes:
     limits = at_limits(scene.names[0])
     if number % 2:
         return limits[number // 2 % len(limits)]
-    how = scene.dice.choice(
-        [strange_bytes, strange_bytes, strange_bytes, odd_framing, odd_first_line, odd_field]
-    )
+    how = scene.dice.choice([strange_bytes, strange_bytes, strange_bytes, odd_framing, odd_first_line, odd_field])
     return how(scene)
 
 
@@ -146,19 +138,11 @@ def at_limits(name: str) -> List[bytes]:
 def strange_bytes(scene: Scene) -> bytes:
     """A plain request with bytes put in, put in another's place, or left out, most often in its head."""
     dice = scene.dice
-    given = (
-        b"GET /status HTTP/1.1\r\nx-operator: alfa\r\nHost: desk\r\n\r\n"
-        if dice.random() < 0.5
-        else plain(scene)
-    )
+    given = b"GET /status HTTP/1.1\r\nx-operator: alfa\r\nHost: desk\r\n\r\n" if dice.random() < 0.5 else plain(scene)
     for _ in range(dice.choice([1, 1, 1, 2, 3])):
         at = min(dice.randrange(len(given)), dice.randrange(160))
         taken = dice.choice([0, 0, 1, 2])
-        given = (
-            given[:at]
-            + (dice.choice(STRANGE) if taken < 2 or dice.random() < 0.5 else b"")
-            + given[at + taken :]
-        )
+        given = given[:at] + (dice.choice(STRANGE) if taken < 2 or dice.random() < 0.5 else b"") + given[at + taken :]
     return given
 
 

@@ -86,9 +86,7 @@ def make_history(seed: int, number: int) -> History:
     starts = []
     edges = [EDGES[(number * EDGES_EACH + step) % len(EDGES)] for step in range(EDGES_EACH)]
     for at in range(count):
-        scene.moment = max(
-            0, min(scene.moment + (dice.choice([0, 1, 60, 3600, -1]) if at else 0), 253_370_764_800)
-        )
+        scene.moment = max(0, min(scene.moment + (dice.choice([0, 1, 60, 3600, -1]) if at else 0), 253_370_764_800))
         asked = dice.randint(0, 2) if kind == "heads" else dice.randint(3, 50)
         names = scene.names if not at else dice.sample(scene.names, dice.choice([0, 0, 1]))
         equal = tuple(sorted(set(dice.sample(scene.priorities + PRIORITIES, dice.choice([0, 0, 1, 3])))))
@@ -108,9 +106,7 @@ def requests(
     for _ in range(count):
         found.append(dice.choice(found) if found and dice.random() < 0.05 else heads.plain(scene))
     for method, path, tree in edges:
-        found.insert(
-            dice.randint(0, len(found)), simple(method, path, scene.names[0], written(tree, dice, False))
-        )
+        found.insert(dice.randint(0, len(found)), simple(method, path, scene.names[0], written(tree, dice, False)))
     if hostile is not None:
         found.append(heads.hostile(scene, hostile))
     if found and dice.random() < 0.05:
@@ -127,9 +123,7 @@ def full_history(scene: Scene) -> History:
     scene.ids = [f"{number:032x}" for number in (0, 1, 198, 199, 200, 201)]
     found += [heads.plain(scene) for _ in range(12)]
     found += [small_put(it, number, dice) for it in (other, name) for number in (0, 1, 204, 205)]
-    return History(
-        (Start(scene.moment, (), ((name, 1000), (other, 1000)), tuple(found)),), dice.random() < 0.5
-    )
+    return History((Start(scene.moment, (), ((name, 1000), (other, 1000)), tuple(found)),), dice.random() < 0.5)
 
 
 def small_put(name: str, number: int, dice: Random) -> bytes:

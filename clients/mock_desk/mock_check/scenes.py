@@ -51,10 +51,7 @@ class Scene:
         self.moment = dice.choice(MOMENTS)
         self.names = dice.sample(NAMES, dice.randint(2, 4))
         self.priorities = dice.sample(PRIORITIES, dice.randint(1, 4))
-        self.ids = [f"{dice.getrandbits(128):032x}" for _ in range(dice.randint(2, 12))] + [
-            "0" * 32,
-            "f" * 32,
-        ]
+        self.ids = [f"{dice.getrandbits(128):032x}" for _ in range(dice.randint(2, 12))] + ["0" * 32, "f" * 32]
         self.altitudes = sorted(dice.sample(ALTITUDES, dice.randint(2, 5)))
         self.seconds = [self.moment + dice.choice(STARTS) for _ in range(3)]
         self.spoiled = dice.choice([0.0, 0.0, 0.05, 0.3])
@@ -219,13 +216,8 @@ class Scene:
             return Members([("extent", self.volume())])
         faces = ("cells", ["1", "3", "5", "7", "9", "b"])
         block = Members([("altitude_lower", -10_000), ("altitude_upper", 200_000), faces])
-        start = min(
-            max(0, self.moment - self.dice.choice([0, 3600])), bodies.SECOND_MOST - bodies.LENGTH_MOST
-        )
-        times = ("time_start", self.moment_tree(start)), (
-            "time_end",
-            self.moment_tree(start + bodies.LENGTH_MOST),
-        )
+        start = min(max(0, self.moment - self.dice.choice([0, 3600])), bodies.SECOND_MOST - bodies.LENGTH_MOST)
+        times = ("time_start", self.moment_tree(start)), ("time_end", self.moment_tree(start + bodies.LENGTH_MOST))
         return Members([("extent", Members([("volume", block), *times]))])
 
     def text(self, tree: Members) -> bytes:
@@ -236,9 +228,7 @@ class Scene:
         body = written(tree, dice, dice.random() < 0.2)
         if dice.random() < self.spoiled / 6:
             at = dice.randrange(len(body) + 1)
-            more = dice.choice(
-                [b" ", b"\x00", b"{", b"}", b",", b'"', b"\\", b"\xff", b"\xef\xbb\xbf", b"1", b"[]"]
-            )
+            more = dice.choice([b" ", b"\x00", b"{", b"}", b",", b'"', b"\\", b"\xff", b"\xef\xbb\xbf", b"1", b"[]"])
             body = dice.choice([body[:at], body[:at] + more + body[at:], more + body, body + more, b""])
         return body
 
@@ -252,13 +242,7 @@ class Scene:
         """An id in one of its forms, or nearly one."""
         dice = self.dice
         hyphens = "-".join([digits[:8], digits[8:12], digits[12:16], digits[16:20], digits[20:]])
-        forms = [hyphens] * 12 + [
-            digits,
-            hyphens.upper(),
-            digits.upper(),
-            f"{{{hyphens}}}",
-            f"urn:uuid:{hyphens}",
-        ]
+        forms = [hyphens] * 12 + [digits, hyphens.upper(), digits.upper(), f"{{{hyphens}}}", f"urn:uuid:{hyphens}"]
         if dice.random() < self.spoiled / 4:
             forms = [
                 f"{{{digits}}}",

@@ -42,13 +42,9 @@ def read_line(words: Sequence[str]) -> argparse.Namespace:
     """The options and the operators of a line; ends with status 2 if it is malformed."""
     line = argparse.ArgumentParser(prog="mock_desk", description="The desk of docs/RULES.md, unproved.")
     how = line.add_mutually_exclusive_group(required=True)
-    how.add_argument(
-        "--at", type=number_within(0, SECOND_MOST), metavar="SECOND", help="plays the standard input"
-    )
+    how.add_argument("--at", type=number_within(0, SECOND_MOST), metavar="SECOND", help="plays the standard input")
     how.add_argument("--port", type=number_within(1, 65_535), help="serves at a port of 127.0.0.1")
-    line.add_argument(
-        "--requests", type=number_within(1, 1_000_000), help="with --port: how many connections"
-    )
+    line.add_argument("--requests", type=number_within(1, 1_000_000), help="with --port: how many connections")
     line.add_argument("--db", default=":memory:", metavar="FILE", help="a file of this program's own")
     line.add_argument("--equal", metavar="P,P,..", help="the priorities that are permitted")
     line.add_argument("operators", nargs="*", metavar="NAME=CEILING", help="operators to enrol first")

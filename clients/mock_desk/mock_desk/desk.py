@@ -92,16 +92,12 @@ def first_conflict(
     area: Tuple[Volume, ...], priority: int, others: List[Plan], equal: Tuple[int, ...]
 ) -> Optional[Conflict]:
     """The least point of an area that others block for a priority."""
-    blocking = [
-        it for it in others if it.priority > priority or it.priority == priority and priority not in equal
-    ]
+    blocking = [it for it in others if it.priority > priority or it.priority == priority and priority not in equal]
     pairs = ((own, its) for plan in blocking for its in plan.area for own in area)
     point = min(filter(None, (first_shared(own, its) for own, its in pairs)), default=None)
     if point is None:
         return None
-    return Conflict(
-        *point, max(it.priority for it in blocking if any(has_point(its, point) for its in it.area))
-    )
+    return Conflict(*point, max(it.priority for it in blocking if any(has_point(its, point) for its in it.area)))
 
 
 class Desk:
@@ -149,13 +145,9 @@ class Desk:
     def others(self, operator: str, plan_id: str) -> List[Plan]:
         """The live plans of all operators but this one."""
         filed = ((name, key, plan) for name, plans in self.store.plans.items() for key, plan in plans.items())
-        return [
-            plan for name, key, plan in filed if (name, key) != (operator, plan_id) and plan.usage != "Closed"
-        ]
+        return [plan for name, key, plan in filed if (name, key) != (operator, plan_id) and plan.usage != "Closed"]
 
-    def conflict(
-        self, operator: str, plan_id: str, area: Tuple[Volume, ...], priority: int
-    ) -> Optional[Conflict]:
+    def conflict(self, operator: str, plan_id: str, area: Tuple[Volume, ...], priority: int) -> Optional[Conflict]:
         """The conflict that an operator's plan has, or would have."""
         return first_conflict(area, priority, self.others(operator, plan_id), self.equal)
 

@@ -14,12 +14,7 @@ FIELD_LINE = re.compile(rb"([!#$%&'*+.^_`|~0-9A-Za-z-]+):[ \t]*([^\x00-\x08\x0a-
 UUID_FORMS = re.compile(
     r"(urn:uuid:)?{hex}|\{{{hex}\}}|[0-9a-f]{{32}}".format(hex="[0-9a-f]{8}(-[0-9a-f]{4}){3}-[0-9a-f]{12}")
 )
-METHODS = {
-    "status": ("GET",),
-    "list": ("GET",),
-    "plan": ("DELETE", "GET", "PUT"),
-    "clear": ("POST",),
-}
+METHODS = {"status": ("GET",), "list": ("GET",), "plan": ("DELETE", "GET", "PUT"), "clear": ("POST",)}
 PATHS = {"/status": "status", "/flight_plans": "list", "/clear_area_requests": "clear"}
 
 

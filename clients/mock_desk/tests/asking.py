@@ -25,8 +25,7 @@ def request(method: str, path: str, operator: str = "alfa", body: Optional[Any] 
     """The bytes of a request."""
     text = b"" if body is None else body if isinstance(body, bytes) else json.dumps(body).encode()
     return (
-        f"{method} {path} HTTP/1.1\r\nx-operator: {operator}\r\ncontent-length: {len(text)}\r\n\r\n".encode()
-        + text
+        f"{method} {path} HTTP/1.1\r\nx-operator: {operator}\r\ncontent-length: {len(text)}\r\n\r\n".encode() + text
     )
 
 
@@ -43,10 +42,7 @@ def volume(
 ) -> Dict[str, Any]:
     """A volume as JSON."""
     block = {"altitude_lower": lower, "altitude_upper": upper, "cells": cells and list(cells), **more}
-    times = {
-        "time_start": {"format": "RFC3339", "value": start},
-        "time_end": {"format": "RFC3339", "value": end},
-    }
+    times = {"time_start": {"format": "RFC3339", "value": start}, "time_end": {"format": "RFC3339", "value": end}}
     return {"volume": block, **times}
 
 

@@ -89,17 +89,7 @@ def test_a_member_named_twice_has_its_last_value():
 
 @pytest.mark.parametrize(
     "body",
-    [
-        b"",
-        b"{",
-        b"{} x",
-        b"{'a':1}",
-        b"\xef\xbb\xbf{}",
-        b'{"a":NaN}',
-        b'{"a":01}',
-        b'{"a":"\xff"}',
-        b'{"a":1,}',
-    ],
+    [b"", b"{", b"{} x", b"{'a':1}", b"\xef\xbb\xbf{}", b'{"a":NaN}', b'{"a":01}', b'{"a":"\xff"}', b'{"a":1,}'],
 )
 def test_no_json(body):
     assert word(body) == "bad_json"
@@ -150,9 +140,7 @@ def test_times(end, second):
 
 def test_the_first_and_the_last_second():
     at = desk(moment=0)
-    put = lambda start, end: ask(
-        at, "PUT", f"/flight_plans/{ID}", "alfa", plan(volume(start=start, end=end))
-    )[1]
+    put = lambda start, end: ask(at, "PUT", f"/flight_plans/{ID}", "alfa", plan(volume(start=start, end=end)))[1]
     assert put("1969-12-31T23:59:59Z", "1970-01-01T00:00:01Z") == {"error": "bad_volume"}
     assert put("1970-01-01T00:00:00Z", "1970-01-01T00:00:01Z")["notes"] == ""
     late = "9998-12-31T23:59:59Z"

@@ -45,8 +45,7 @@ def test_the_first_quarters_of_face_0():
     # the curve of an even face goes (0, 0), (0, 1), (1, 1), (1, 0)
     half = MOST // 2
     quarters = [
-        Rectangle(0, *ends, 8)
-        for ends in ((0, half, 0, half), (0, half, half + 1, MOST), (half + 1, MOST, 0, half))
+        Rectangle(0, *ends, 8) for ends in ((0, half, 0, half), (0, half, half + 1, MOST), (half + 1, MOST, 0, half))
     ]
     tokens = ["04", "0c", "1c"]
     assert [cells.ranges_of_rectangle(it) for it in quarters] == [

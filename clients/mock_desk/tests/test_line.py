@@ -38,8 +38,7 @@ def test_a_file(tmp_path):
     "words",
     [["alfa=1001"], ["alfa=00100"], ["alfa=x"], ["Alfa=1"], ["alfa"], ["=1"]]
     + [
-        ["--equal", it]
-        for it in ("", "5, 10", "5,", "00010", "1001", "10,5", "10,10", ",".join(map(str, range(33))))
+        ["--equal", it] for it in ("", "5, 10", "5,", "00010", "1001", "10,5", "10,10", ",".join(map(str, range(33))))
     ],
 )
 def test_values(words):

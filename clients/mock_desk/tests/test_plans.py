@@ -58,11 +58,7 @@ def test_styles():
     assert put(at, "alfa", ID, style="Hypothetical") == ("Completed", "Planned", "")
     assert ask(at, "GET", f"/flight_plans/{ID}") == (404, {"error": "no_such_plan"})
     put(at, "alfa", ID)
-    assert put(at, "alfa", ID, style="InReality", aircraft="OffNominal") == (
-        "NotSupported",
-        "Planned",
-        "style",
-    )
+    assert put(at, "alfa", ID, style="InReality", aircraft="OffNominal") == ("NotSupported", "Planned", "style")
     assert put(at, "alfa", ID, style="InReality", usage="InUse", aircraft="OffNominal") == (
         "Completed",
         "OffNominal",
@@ -77,10 +73,7 @@ def test_moments():
     assert put(at, "alfa", ID, volume(start="2026-06-01T11:00:00Z", end="2026-06-01T11:56:40Z"))[2] == "ended"
     assert put(at, "alfa", ID, volume(start="2026-06-01T11:00:00Z", end="2026-06-01T11:56:41Z"))[2] == ""
     # thirty days on: 2026-07-01T11:56:40Z
-    assert (
-        put(at, "alfa", OTHER, volume(start="2026-07-01T11:56:41Z", end="2026-07-01T12:00:00Z"))[2]
-        == "horizon"
-    )
+    assert put(at, "alfa", OTHER, volume(start="2026-07-01T11:56:41Z", end="2026-07-01T12:00:00Z"))[2] == "horizon"
     assert put(at, "alfa", OTHER, volume(start="2026-07-01T11:56:40.9Z", end="2026-07-01T12:00:00Z"))[2] == ""
 
 
@@ -149,12 +142,7 @@ def test_the_greatest_priority_at_the_first_point():
     put(at, "bravo", OTHER, volume([first], 100, 200), priority=20)
     put(at, "bravo", "3" * 32, volume([first], 100, 200), priority=20)
     body = ask(at, "PUT", f"/flight_plans/{ID}", "c", plan(volume(["04"], 150, 1000)))[1]
-    assert body["conflict"] == {
-        "altitude": 150,
-        "cell": "0000000000000001",
-        "priority": 20,
-        "second": 1780315200,
-    }
+    assert body["conflict"] == {"altitude": 150, "cell": "0000000000000001", "priority": 20, "second": 1780315200}
 
 
 def test_permitted_priorities():
@@ -164,12 +152,7 @@ def test_permitted_priorities():
     assert put(at, "bravo", OTHER, priority=9)[2] == "conflict"
     put(at, "bravo", ID, priority=11)
     shown = ask(at, "GET", f"/flight_plans/{ID}", "alfa")[1]
-    assert shown["conflict"] == {
-        "altitude": 0,
-        "cell": "0000000000000001",
-        "priority": 11,
-        "second": 1780315200,
-    }
+    assert shown["conflict"] == {"altitude": 0, "cell": "0000000000000001", "priority": 11, "second": 1780315200}
 
 
 def test_shown_and_listed():
@@ -178,12 +161,7 @@ def test_shown_and_listed():
     put(at, "alfa", OTHER, volume(["0C", "1c", "0C"]), volume(None, rectangle=rectangle))
     put(at, "alfa", ID, volume(["3"]), usage="InUse")
     ask(at, "DELETE", f"/flight_plans/{ID}")
-    window = {
-        "altitude_lower": 0,
-        "altitude_upper": 1000,
-        "second_end": 1780318800,
-        "second_start": 1780315200,
-    }
+    window = {"altitude_lower": 0, "altitude_upper": 1000, "second_end": 1780318800, "second_start": 1780315200}
     closed = {
         "area": [{**window, "cells": ["3"]}],
         "flight_plan_id": ID,

@@ -13,9 +13,7 @@ READY = (
 def told(given):
     """The status and the word of each answer, and the word at the end."""
     found = list(play(desk(), given))
-    return [(int(it.split()[1]), it.split(b'"')[3].decode()) for it, _ in found if it], found[-1][
-        1
-    ] if found else ""
+    return [(int(it.split()[1]), it.split(b'"')[3].decode()) for it, _ in found if it], found[-1][1] if found else ""
 
 
 def test_a_stream():
