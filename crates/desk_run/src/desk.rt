@@ -22,12 +22,12 @@ use std::marker::Model;
 /// What a crash leaves is the content before the call in which it came or the one after it; once the call
 /// has answered, the one after it.
 #[derive(Drop)]
-pub struct Desk<S: PlanStore> {
+pub struct Desk<S> {
     store: S,
     permitted: Permitted,
 }
 
-impl<S: PlanStore> Model for Desk<S> {
+impl<S> Model for Desk<S> {
     ghost use Rattle.desk_run.specs.DeskWorld.{Parts, parts_code};
 
     ghost Value = { Parts S };
@@ -37,15 +37,7 @@ impl<S: PlanStore> Model for Desk<S> {
     ghost view = { λ d. record { store = d.store; permitted = d.permitted } };
 }
 
-impl<S: PlanStore> Desk<S> {
-    ghost use Rattle.desk_store.specs.Frames.{Remembers};
-    ghost use Rattle.desk_store.specs.Faults.{IsHonest};
-    ghost use Rattle.desk_store.specs.Crashes.{LeavesNoMore, LeavesOldOr};
-    ghost use Rattle.desk_run.specs.DeskWorld.{IsSettled, IsSettledOrSame, enrolled, world_of};
-    ghost use Rattle.desk_run.specs.Faults.{IsBreakdown, IsStoreCounted};
-    ghost use Rattle.desk_run.specs.Verdicts.{step_by};
-    ghost use Rattle.desk_run.specs.Calls.{Tells, Prepares, CanCommit, reply_in, world_committed};
-
+impl<S> Desk<S> {
     /// A desk over a store, at which no priority is permitted.
     pub fn new(store: S) -> Desk<S>
         ensures { result ≡ record { store = store; permitted = [] } }
@@ -70,6 +62,16 @@ impl<S: PlanStore> Desk<S> {
     {
         self.permitted = permitted;
     }
+}
+
+impl<S: PlanStore> Desk<S> {
+    ghost use Rattle.desk_store.specs.Frames.{Remembers};
+    ghost use Rattle.desk_store.specs.Faults.{IsHonest};
+    ghost use Rattle.desk_store.specs.Crashes.{LeavesNoMore, LeavesOldOr};
+    ghost use Rattle.desk_run.specs.DeskWorld.{IsSettled, IsSettledOrSame, enrolled, world_of};
+    ghost use Rattle.desk_run.specs.Faults.{IsBreakdown, IsStoreCounted};
+    ghost use Rattle.desk_run.specs.Verdicts.{step_by};
+    ghost use Rattle.desk_run.specs.Calls.{Tells, Prepares, CanCommit, reply_in, world_committed};
 
     /// Lists the operator under a ceiling of at most 1,000; its plans stay.
     ///
@@ -88,7 +90,7 @@ impl<S: PlanStore> Desk<S> {
             (IsSettled S.content S.may_leave self.new) }
         ensures ceiling { (result ≡ Err DeskFault.Ceiling) ↔ (max_priority < ceiling) }
         ensures fault { IfErr result (λ e. (e ≢ DeskFault.Ceiling) → IsBreakdown e) }
-        ensures remembered { Remembers S.doubt S.faults self.old.store self.new.store }
+        ensures remembered { Remembers S.doubt S.faults S.is_shielded self.old.store self.new.store }
         ensures cause { IfErr result (IsStoreCounted S.faults self.old.store self.new.store) }
     {
         if ceiling > MAX_PRIORITY {
@@ -118,7 +120,7 @@ impl<S: PlanStore> Desk<S> {
         ensures same { world_of S.content self.new ≡ world_of S.content self.old }
         ensures crash { IsHonest (S.doubt self.new.store) →
             LeavesNoMore (S.may_leave self.old.store) (S.may_leave self.new.store) }
-        ensures remembered { Remembers S.doubt S.faults self.old.store self.new.store }
+        ensures remembered { Remembers S.doubt S.faults S.is_shielded self.old.store self.new.store }
         ensures cause { IfErr result (IsStoreCounted S.faults self.old.store self.new.store) }
     {
         prepare_over(alloc, &mut self.store, &self.permitted, moment, asked)
@@ -144,7 +146,7 @@ impl<S: PlanStore> Desk<S> {
         ensures settled { IsHonest (S.doubt self.new.store) → OnOk result
             (IsSettledOrSame S.content S.may_leave self.old self.new) }
         ensures fault { IfErr result (λ e. IsBreakdown e) }
-        ensures remembered { Remembers S.doubt S.faults self.old.store self.new.store }
+        ensures remembered { Remembers S.doubt S.faults S.is_shielded self.old.store self.new.store }
         ensures cause { IfErr result (IsStoreCounted S.faults self.old.store self.new.store) }
     {
         commit_over(&mut self.store, pending)
@@ -168,7 +170,7 @@ impl<S: PlanStore> Desk<S> {
             (IsSettled S.content S.may_leave self.old → IsSettled S.content S.may_leave self.new) }
         ensures settled { IsHonest (S.doubt self.new.store) → OnOk result
             (IsSettledOrSame S.content S.may_leave self.old self.new) }
-        ensures remembered { Remembers S.doubt S.faults self.old.store self.new.store }
+        ensures remembered { Remembers S.doubt S.faults S.is_shielded self.old.store self.new.store }
         ensures cause { IfErr result (IsStoreCounted S.faults self.old.store self.new.store) }
     {
         let pending = self.prepare(alloc, moment, asked)?;
