@@ -113,25 +113,33 @@ def plain(scene: Scene) -> bytes:
 
 
 def hostile(scene: Scene, number: int) -> bytes:
-    """A request whose head or framing is seldom right, and after which the input may end."""
+    """A request after which the input may end: of each four, three at limits and one that is seldom right."""
     limits = at_limits(scene.names[0])
-    if number % 2:
-        return limits[number // 2 % len(limits)]
-    how = scene.dice.choice([strange_bytes, strange_bytes, strange_bytes, odd_framing, odd_first_line, odd_field])
-    return how(scene)
+    if number % 4 < 3:
+        return limits[(number // 4 * 3 + number % 4) % len(limits)]
+    how = [strange_bytes, strange_bytes, strange_bytes, odd_framing, odd_first_line, odd_field]
+    return scene.dice.choice(how)(scene)
 
 
 def at_limits(name: str) -> List[bytes]:
-    """Heads and bodies of their greatest lengths, and longer ones; 64 fields and more."""
+    """Heads and bodies of their greatest lengths, and longer ones; 64 fields and more; lengths; lines before a head."""
     first = f"GET /status HTTP/1.1\r\nx-operator: {name}\r\n"
-    found = [first + "x: y\n" * more + "\n" for more in (62, 63, 64)]
-    for length in (16_383, 16_384, 16_385, 16_386):
+    found = [first + "x: y\n" * more + "\n" for more in (62, 63)]
+    found += [f"{before}{first}\r\n" for before in ("\r\n", "\n", "\r\n\n", "\r")]
+    for length in (16_384, 16_385):
         found.append(first + "x: " + "a" * (length - len(first) - 7) + "\r\n\r\n")
         found.append(first + "x: " + "a" * (length - len(first) - 5) + "\n\n")
-        found.append(first + "x: " + "a" * (length - len(first) - 3))
         found.append(first.replace("/status", "/status?" + "a" * (length - len(first) - 3)) + "\r\n")
-    for length in (131_071, 131_072, 131_073):
+    found += [first + "x: " + "a" * (length - len(first) - 3) for length in (16_383, 16_384)]
+    for length in (131_072, 131_073):
         found.append(f"{first}content-length: {length}\r\n\r\n" + " " * length)
+    for lengths in (["0" * 18 + "1"], ["0" * 19 + "1"], ["1", "1"], ["1", "x"], [""], ["9" * 19], ["+1"]):
+        fields = "".join(f"content-length: {it}\r\n" for it in lengths)
+        found += [f"{first}{fields}\r\n1"]
+    found += [
+        f"{first}transfer-encoding: identity\r\ncontent-length: x\r\n\r\n",
+        f"{first}Transfer-Encoding:\r\n\r\n",
+    ]
     return [it.encode() for it in found]
 
 

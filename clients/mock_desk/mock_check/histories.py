@@ -16,6 +16,7 @@ from .edges import edges as all_edges
 from .scenes import PRIORITIES, Scene
 from .trees import Members, written
 
+KINDS = ["plain", "heads", "file", "heads", "plain", "heads", "file"]
 EDGES = all_edges()
 EDGES_EACH = 5
 FULL_EVERY = 60
@@ -79,19 +80,20 @@ def make_history(seed: int, number: int) -> History:
     """The history of a seed and a number."""
     dice = Random(f"{seed}/{number}")
     scene = Scene(dice)
-    kind = dice.choice(["plain"] * 5 + ["heads"] * 6 + ["file"] * 3)
+    kind = KINDS[number % len(KINDS)]
     if number % FULL_EVERY == FULL_EVERY - 1:
         return full_history(scene)
     count = dice.randint(2, 4) if kind == "file" else 1
     starts = []
+    hostile = number // len(KINDS) * KINDS.count("heads") + KINDS[: number % len(KINDS)].count("heads")
     edges = [EDGES[(number * EDGES_EACH + step) % len(EDGES)] for step in range(EDGES_EACH)]
     for at in range(count):
         scene.moment = max(0, min(scene.moment + (dice.choice([0, 1, 60, 3600, -1]) if at else 0), 253_370_764_800))
         asked = dice.randint(0, 2) if kind == "heads" else dice.randint(3, 50)
-        names = scene.names if not at else dice.sample(scene.names, dice.choice([0, 0, 1]))
+        names = scene.names if not at else dice.sample(scene.names, dice.choice([0, 1, 2]))
         equal = tuple(sorted(set(dice.sample(scene.priorities + PRIORITIES, dice.choice([0, 0, 1, 3])))))
         given = requests(
-            scene, asked, [] if at else edges, number if kind == "heads" or dice.random() < 0.2 else None
+            scene, asked, [] if at else edges, hostile if kind == "heads" or dice.random() < 0.2 else None
         )
         starts.append(Start(scene.moment, equal, enrolment(dice, names), given))
     return History(tuple(starts), kind == "file")
