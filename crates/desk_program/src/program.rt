@@ -45,7 +45,7 @@ pub fn with_desk<S: PlanStore, R: Read, W: Write, E: Write>(
         (R.remaining input.old) (R.remaining input.new)
         (W.contents output.old) (W.contents output.new)
         (world_of S.content desk.old) (world_of S.content desk.new) found }
-    ensures remembered { Remembers S.doubt S.faults desk.old.store desk.new.store }
+    ensures remembered { Remembers S.doubt S.faults S.is_shielded desk.old.store desk.new.store }
 {
     match line {
         Line::Play(play) => play_line(alloc, play, desk, input, output, errors),
@@ -91,7 +91,7 @@ fn play_line<S: PlanStore, R: Read, W: Write, E: Write>(
         (R.remaining input.old) (R.remaining input.new)
         (W.contents output.old) (W.contents output.new)
         (world_of S.content desk.old) (world_of S.content desk.new) found }
-    ensures remembered { Remembers S.doubt S.faults desk.old.store desk.new.store }
+    ensures remembered { Remembers S.doubt S.faults S.is_shielded desk.old.store desk.new.store }
 {
     if let Err(fault) = set_up(desk, &play.permitted, &play.enrolments) {
         return conclude(errors, Err(Failure::from(fault)));
@@ -116,7 +116,7 @@ fn enrol_line<S: PlanStore, W: Write, E: Write>(
         (found : Option World) → S.may_leave desk.new.store found →
         FindsEnrolled enrolment.now result (W.contents output.old) (W.contents output.new)
         (world_of S.content desk.old) found }
-    ensures remembered { Remembers S.doubt S.faults desk.old.store desk.new.store }
+    ensures remembered { Remembers S.doubt S.faults S.is_shielded desk.old.store desk.new.store }
 {
     let Ok(text) = enrolled_text(alloc, enrolment) else {
         return conclude(errors, Err(Failure::Memory));
@@ -175,7 +175,7 @@ pub fn set_up<S: PlanStore>(
         (permitting (world_of S.content desk.old) permitted.now)
         (world_of S.content desk.new) found) }
     ensures fault { IfErr result IsBreakdown }
-    ensures remembered { Remembers S.doubt S.faults desk.old.store desk.new.store }
+    ensures remembered { Remembers S.doubt S.faults S.is_shielded desk.old.store desk.new.store }
 {
     desk.permit(*permitted);
     enrol_all(desk, enrolments)
@@ -197,7 +197,7 @@ fn enrol_all<S: PlanStore>(desk: &mut Desk<S>, enrolments: &[Enrolment]) -> Resu
         AreKeptSoFar (IsHonest (S.doubt desk.new.store)) enrolments.now
         (world_of S.content desk.old) (world_of S.content desk.new) found) }
     ensures fault { IfErr result IsBreakdown }
-    ensures remembered { Remembers S.doubt S.faults desk.old.store desk.new.store }
+    ensures remembered { Remembers S.doubt S.faults S.is_shielded desk.old.store desk.new.store }
 {
     for enrolment in enrolments {
         desk.enrol(&enrolment.operator, enrolment.ceiling)?;

@@ -37,7 +37,8 @@ pub fn run_opened<S: PlanStore + Drop, P: Port, R: Read, W: Write, E: Write>(
         (R.remaining input.old) (R.remaining input.new)
         (W.contents output.old) (W.contents output.new) (world_of S.content desk)
         (world_of S.content left)
-        × (S.doubt desk.store ≤ S.doubt left.store))) }
+        × (S.doubt desk.store ≤ S.doubt left.store)
+        × (S.is_shielded desk.store → S.is_shielded left.store))) }
     ensures kept { IfOk opened (λ desk. IsSomeAnd result.1 (λ left.
         IsHonest (S.doubt left.store) → IsSettled S.content S.may_leave desk →
         (found : Option World) → S.may_leave left.store found →
@@ -81,6 +82,7 @@ fn run_at<S: PlanStore, P: Port, R: Read, W: Write, E: Write>(
         (W.contents output.old) (W.contents output.new) (world_of S.content desk.old)
         (world_of S.content desk.new) found }
     ensures doubt { S.doubt desk.old.store ≤ S.doubt desk.new.store }
+    ensures shield { S.is_shielded desk.old.store → S.is_shielded desk.new.store }
 {
     match line {
         Line::Serve(words) => serve(alloc, port, words, desk, output, errors),

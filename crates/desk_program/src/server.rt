@@ -43,7 +43,7 @@ pub fn serve<S: PlanStore, P: Port, W: Write, E: Write>(
         (P.taken port.new) (world_of S.content desk.old) (world_of S.content desk.new) found }
     ensures listening { result ≡ 0 → Appends (W.contents output.old) (W.contents output.new)
         (listening_line line.now.port) }
-    ensures remembered { Remembers S.doubt S.faults desk.old.store desk.new.store }
+    ensures remembered { Remembers S.doubt S.faults S.is_shielded desk.old.store desk.new.store }
 {
     conclude(errors, serve_line(alloc, port, line, desk, output))
 }
@@ -66,7 +66,7 @@ fn serve_line<S: PlanStore, P: Port, W: Write>(
         (P.taken port.new) (world_of S.content desk.old) (world_of S.content desk.new) found }
     ensures listening { OnOk result (Appends (W.contents output.old) (W.contents output.new)
         (listening_line line.now.port)) }
-    ensures remembered { Remembers S.doubt S.faults desk.old.store desk.new.store }
+    ensures remembered { Remembers S.doubt S.faults S.is_shielded desk.old.store desk.new.store }
 {
     set_up(desk, &line.permitted, &line.enrolments)?;
     listen(alloc, port, line.port, output)?;
@@ -113,7 +113,7 @@ fn serve_connections<S: PlanStore, P: Port>(
     ensures kept { AreKept (IsHonest (S.doubt desk.new.store)) result count
         (P.taken port.old) (P.taken port.new) (world_of S.content desk.old)
         (world_of S.content desk.new) (S.may_leave desk.old.store) (S.may_leave desk.new.store) }
-    ensures remembered { Remembers S.doubt S.faults desk.old.store desk.new.store }
+    ensures remembered { Remembers S.doubt S.faults S.is_shielded desk.old.store desk.new.store }
 {
     for before in 0..count {
         serve_connection(alloc, routes, port, desk)?;
@@ -134,7 +134,7 @@ fn serve_connection<S: PlanStore, P: Port>(
     ensures kept { AreKept (IsHonest (S.doubt desk.new.store)) result 1
         (P.taken port.old) (P.taken port.new) (world_of S.content desk.old)
         (world_of S.content desk.new) (S.may_leave desk.old.store) (S.may_leave desk.new.store) }
-    ensures remembered { Remembers S.doubt S.faults desk.old.store desk.new.store }
+    ensures remembered { Remembers S.doubt S.faults S.is_shielded desk.old.store desk.new.store }
 {
     let mut client = port.take(alloc)?;
     let served = serve_next(

@@ -22,12 +22,12 @@ use std::marker::Model;
 /// What a crash leaves is the content before the call in which it came or the one after it; once the call
 /// has answered, the one after it.
 #[derive(Drop)]
-pub struct Desk<S: PlanStore> {
+pub struct Desk<S> {
     store: S,
     permitted: Permitted,
 }
 
-impl<S: PlanStore> Model for Desk<S> {
+impl<S> Model for Desk<S> {
     ghost use Rattle.desk_run.specs.DeskWorld.{Parts, parts_code};
 
     ghost Value = { Parts S };
@@ -37,15 +37,7 @@ impl<S: PlanStore> Model for Desk<S> {
     ghost view = { λ d. record { store = d.store; permitted = d.permitted } };
 }
 
-impl<S: PlanStore> Desk<S> {
-    ghost use Rattle.desk_store.specs.Frames.{Remembers};
-    ghost use Rattle.desk_store.specs.Faults.{IsHonest};
-    ghost use Rattle.desk_store.specs.Crashes.{LeavesNoMore, LeavesOldOr};
-    ghost use Rattle.desk_run.specs.DeskWorld.{IsSettled, IsSettledOrSame, enrolled, world_of};
-    ghost use Rattle.desk_run.specs.Faults.{IsBreakdown, IsStoreCounted};
-    ghost use Rattle.desk_run.specs.Verdicts.{step_by};
-    ghost use Rattle.desk_run.specs.Calls.{Tells, Prepares, CanCommit, reply_in, world_committed};
-
+impl<S> Desk<S> {
     /// A desk over a store, at which no priority is permitted.
     pub fn new(store: S) -> Desk<S>
         ensures { result ≡ record { store = store; permitted = [] } }
@@ -70,6 +62,16 @@ impl<S: PlanStore> Desk<S> {
     {
         self.permitted = permitted;
     }
+}
+
+impl<S: PlanStore> Desk<S> {
+    ghost use Rattle.desk_store.specs.Frames.{Remembers};
+    ghost use Rattle.desk_store.specs.Faults.{IsHonest};
+    ghost use Rattle.desk_store.specs.Crashes.{LeavesNoMore, LeavesOldOr};
+    ghost use Rattle.desk_run.specs.DeskWorld.{IsSettled, IsSettledOrSame, enrolled, world_of};
+    ghost use Rattle.desk_run.specs.Faults.{IsBreakdown, IsStoreCounted};
+    ghost use Rattle.desk_run.specs.Verdicts.{step_by};
+    ghost use Rattle.desk_run.specs.Calls.{Tells, Prepares, CanCommit, reply_in, world_committed};
 
     /// Lists the operator under a ceiling of at most 1,000; its plans stay.
     ///

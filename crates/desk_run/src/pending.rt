@@ -69,7 +69,7 @@ pub fn prepare_over<S: PlanStore>(
 ) -> Result<Pending, DeskFault>
     ensures value { IsHonest (S.doubt store.new) →
         Prepares (with_content permitted.now (S.content store.old)) moment asked.now result }
-    ensures reads { OnlyReads S.content S.doubt S.faults S.may_leave store.old store.new }
+    ensures reads { OnlyReads S.content S.doubt S.faults S.may_leave S.is_shielded store.old store.new }
     ensures cause { IfErr result (IsStoreCounted S.faults store.old store.new) }
 {
     let operator = &asked.operator;
@@ -107,7 +107,7 @@ pub fn commit_over<S: PlanStore>(store: &mut S, pending: Pending) -> Result<Repl
         ⊎ ((S.content store.new ≡ S.content store.old)
         × LeavesNoMore (S.may_leave store.old) (S.may_leave store.new))) }
     ensures fault { IfErr result (λ e. IsBreakdown e) }
-    ensures remembered { Remembers S.doubt S.faults store.old store.new }
+    ensures remembered { Remembers S.doubt S.faults S.is_shielded store.old store.new }
     ensures cause { IfErr result (IsStoreCounted S.faults store.old store.new) }
 {
     let Pending { reply, change } = pending;

@@ -80,7 +80,7 @@ impl<S: PlanStore> Desk<S> {
         ensures ran { IsHonest (S.doubt self.new.store) → IfOk result (λ ran.
             IsRun (world_of S.content self.old) calls.now ran (world_of S.content self.new)) }
         ensures err { OnErr result (world_of S.content self.new ≡ world_of S.content self.old) }
-        ensures remembered { Remembers S.doubt S.faults self.old.store self.new.store }
+        ensures remembered { Remembers S.doubt S.faults S.is_shielded self.old.store self.new.store }
         ensures cause { IfOk result (λ ran. ran.stopped ≡ Some DeskFault.Store →
             HasRisen (S.faults self.old.store) (S.faults self.new.store)) }
     {
@@ -108,7 +108,7 @@ fn run_over<S: PlanStore>(
     ensures ran { IsHonest (S.doubt desk.new.store) → IfOk result (λ ran.
         IsRun (world_of S.content desk.old) calls.now ran (world_of S.content desk.new)) }
     ensures err { OnErr result (world_of S.content desk.new ≡ world_of S.content desk.old) }
-    ensures remembered { Remembers S.doubt S.faults desk.old.store desk.new.store }
+    ensures remembered { Remembers S.doubt S.faults S.is_shielded desk.old.store desk.new.store }
     ensures cause { IfOk result (λ ran. ran.stopped ≡ Some DeskFault.Store →
         HasRisen (S.faults desk.old.store) (S.faults desk.new.store)) }
 {

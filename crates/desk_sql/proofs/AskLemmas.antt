@@ -171,6 +171,7 @@ reads_none g h settled = record {
   limit = refl;
   doubt = omega arith;
   faults = omega arith;
+  shield = λ s. s;
   spared = λ clean db left. left;
 }
 

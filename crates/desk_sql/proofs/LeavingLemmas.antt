@@ -179,6 +179,7 @@ reads_unprepared g old new kept mode survives = record {
   limit = survives.limit;
   doubt = survives.clean;
   faults = survives.counts;
+  shield = survives.shield;
   spared = λ clean db left. elim (survives.crash clean db left) [ inl it ↦ it | inr never ↦ absurd never ];
 }
 
@@ -193,6 +194,7 @@ reads_prepared g old mid new Committed kept mode spared first last = record {
   limit = last.limit ∙ first.limit;
   doubt = omega (arith, first.clean, last.clean);
   faults = omega (arith, first.counts, last.counts);
+  shield = λ s. last.shield (first.shield s);
   spared = spared;
 }
 
@@ -201,6 +203,7 @@ remembers_itself g h = record {
   limit = refl;
   doubt = omega arith;
   faults = omega arith;
+  shield = λ s. s;
   spared = λ clean db left. left;
 }
 
@@ -210,6 +213,7 @@ remembers_survived g old new survives = record {
   limit = survives.limit;
   doubt = survives.clean;
   faults = survives.counts;
+  shield = survives.shield;
   spared = λ clean db left. elim (survives.crash clean db left) [ inl it ↦ it | inr never ↦ absurd never ];
 }
 
@@ -219,6 +223,7 @@ remembers_then g a b c first last = record {
   limit = last.limit ∙ first.limit;
   doubt = omega (arith, first.doubt, last.doubt);
   faults = omega (arith, first.faults, last.faults);
+  shield = λ s. last.shield (first.shield s);
   spared = spared_then g a b c last.doubt first.spared last.spared;
 }
 
@@ -233,6 +238,7 @@ reads_handed g old mid first new Committed kept mode spared prepared begun last 
   limit = last.limit ∙ begun.limit ∙ prepared.limit;
   doubt = omega (arith, prepared.clean, begun.clean, last.doubt);
   faults = omega (arith, prepared.counts, begun.counts, last.faults);
+  shield = λ s. last.shield (begun.shield (prepared.shield s));
   spared = spared_then g old first new last.doubt spared last.spared;
 }
 

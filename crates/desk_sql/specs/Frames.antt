@@ -7,13 +7,14 @@ use Rattle.desk_sql.specs.Effects.{IsKept, Spares}
 
 module _ {S : Type 0} (g : Ghosts S) (old new : Held S) where
   -- a query: what is shown stays, no transaction is under way, the limit on steps stays, the disk's doubt and
-  -- the count of its faults never fall, and a crash leaves what it could leave before
+  -- the count of its faults never fall, a shield stays, and a crash leaves what it could leave before
   pub record OnlyReads : Type 0 where
     pub kept : IsKept g old new
     pub mode : new.in_transaction ≡ false
     pub limit : new.step_limit ≡ old.step_limit
     pub doubt : doubt_of (state g old).is_clean ≤ doubt_of (state g new).is_clean
     pub faults : (state g old).faults ≤ (state g new).faults
+    pub shield : (state g old).IsShielded → (state g new).IsShielded
     pub spared : Spares g old new
 
   -- a step of a query, or a statement within a transaction
@@ -21,6 +22,7 @@ module _ {S : Type 0} (g : Ghosts S) (old new : Held S) where
     pub limit : new.step_limit ≡ old.step_limit
     pub doubt : doubt_of (state g old).is_clean ≤ doubt_of (state g new).is_clean
     pub faults : (state g old).faults ≤ (state g new).faults
+    pub shield : (state g old).IsShielded → (state g new).IsShielded
     pub spared : Spares g old new
 
   -- a transaction that has ended, whatever it came to
@@ -28,3 +30,4 @@ module _ {S : Type 0} (g : Ghosts S) (old new : Held S) where
     pub mode : new.in_transaction ≡ false
     pub doubt : doubt_of (state g old).is_clean ≤ doubt_of (state g new).is_clean
     pub faults : (state g old).faults ≤ (state g new).faults
+    pub shield : (state g old).IsShielded → (state g new).IsShielded

@@ -1,6 +1,6 @@
 //! A store in memory.
 
-ghost use Rattle.std.specs.Prelude.{◌≡◌, ◌≤◌, ◌&&◌, length, [], IfOk, OnOk, OnErr};
+ghost use Rattle.std.specs.Prelude.{◌≡◌, ◌≤◌, ◌&&◌, ⊤, length, [], IfOk, OnOk, OnErr};
 ghost use Rattle.std.specs.List.Sorted.{IsNonDecreasingBy};
 ghost use Rattle.std.specs.Ordering.{is_eq};
 ghost use Rattle.volume4d.specs.Point.{Point};
@@ -75,6 +75,8 @@ impl PlanStore for ListStore {
     ghost content = { λ s. s };
 
     ghost doubt = { λ _. 0 };
+
+    ghost is_shielded = { λ _. ⊤ };
 
     ghost faults = { λ _. 0 };
 

@@ -43,34 +43,38 @@ pub trait PlanStore {
     /// for what is no desk's. A clause that speaks of it is read as said of a crash within the call too.
     ghost may_leave: { Self → Option World → Type 0 };
 
+    /// Each later read of the store's disk is tested, so that no lie of it is taken for the truth but one that
+    /// passes its test. What such a store means is said of each type of store.
+    ghost is_shielded: { Self → Type 0 };
+
     /// The operator's ceiling, at most 1,000, or none where it is not enrolled.
     fn ceiling(&mut self, operator: &Operator) -> Result<Option<u32>, StoreFault>
         ensures value { IsHonest (doubt self.new) →
             IfOk result (λ ceiling. ceiling ≡ ceiling_of operator.now (content self.old)) }
         ensures bound { IsHonest (doubt self.new) →
             IfOk result (λ ceiling. IfSome ceiling (λ n. n ≤ max_priority)) }
-        ensures reads { OnlyReads content doubt faults may_leave self.old self.new }
+        ensures reads { OnlyReads content doubt faults may_leave is_shielded self.old self.new }
         ensures cause { IfErr result (IsCounted faults self.old self.new) };
 
     /// The operator's plan of the id.
     fn plan(&mut self, operator: &Operator, id: &PlanId) -> Result<Option<PlanRow>, StoreFault>
         ensures value { IsHonest (doubt self.new) →
             IfOk result (λ row. row ≡ stored_of id.now (plans_of operator.now (content self.old))) }
-        ensures reads { OnlyReads content doubt faults may_leave self.old self.new }
+        ensures reads { OnlyReads content doubt faults may_leave is_shielded self.old self.new }
         ensures cause { IfErr result (IsCounted faults self.old self.new) };
 
     /// The states of the operator's plan of the id.
     fn states(&mut self, operator: &Operator, id: &PlanId) -> Result<Option<States>, StoreFault>
         ensures value { IsHonest (doubt self.new) → IfOk result (λ found.
             found ≡ states_of (stored_of id.now (plans_of operator.now (content self.old)))) }
-        ensures reads { OnlyReads content doubt faults may_leave self.old self.new }
+        ensures reads { OnlyReads content doubt faults may_leave is_shielded self.old self.new }
         ensures cause { IfErr result (IsCounted faults self.old self.new) };
 
     /// How many plans the operator has, closed ones too.
     fn own_count(&mut self, operator: &Operator) -> Result<u32, StoreFault>
         ensures value { IsHonest (doubt self.new) →
             IfOk result (λ count. count ≡ length (plans_of operator.now (content self.old))) }
-        ensures reads { OnlyReads content doubt faults may_leave self.old self.new }
+        ensures reads { OnlyReads content doubt faults may_leave is_shielded self.old self.new }
         ensures cause { IfErr result (IsCounted faults self.old self.new) };
 
     /// The operator's plans, at most 200, ascending by id, none twice.
@@ -80,7 +84,7 @@ pub trait PlanStore {
         ensures order { IsHonest (doubt self.new) → IfOk result (λ rows. AreInOrder rows.items) }
         ensures limit { IsHonest (doubt self.new) →
             IfOk result (λ rows. length rows.items ≤ max_plans) }
-        ensures reads { OnlyReads content doubt faults may_leave self.old self.new }
+        ensures reads { OnlyReads content doubt faults may_leave is_shielded self.old self.new }
         ensures cause { IfErr result (IsCounted faults self.old self.new) };
 
     /// Slabs held by all live plans but the operator's own of the id: at each point of the extent the
@@ -95,7 +99,7 @@ pub trait PlanStore {
     ) -> Result<Vec<Held>, StoreFault>
         ensures value { IsHonest (doubt self.new) → IfOk result (λ helds.
             AreRivals (content self.old) operator.now id.now least extent.now helds.items) }
-        ensures reads { OnlyReads content doubt faults may_leave self.old self.new }
+        ensures reads { OnlyReads content doubt faults may_leave is_shielded self.old self.new }
         ensures cause { IfErr result (IsCounted faults self.old self.new) };
 
     /// Makes the change, whole or not at all. The store may be asked for a change that fits its
@@ -110,6 +114,6 @@ pub trait PlanStore {
             (may_leave self.new) }
         ensures kept { IsHonest (doubt self.new) →
             OnOk result (LeavesOnly (content self.new) (may_leave self.new)) }
-        ensures remembered { Remembers doubt faults self.old self.new }
+        ensures remembered { Remembers doubt faults is_shielded self.old self.new }
         ensures cause { IfErr result (IsCounted faults self.old self.new) };
 }

@@ -25,6 +25,7 @@ module _ {S : Type 0} (g : Ghosts S) where
     limit = refl;
     doubt = omega arith;
     faults = omega arith;
+    shield = λ s. s;
     spared = λ clean db left. left;
   }
 
@@ -35,5 +36,6 @@ module _ {S : Type 0} (g : Ghosts S) where
     limit = two.limit ∙ one.limit;
     doubt = omega (arith, one.doubt, two.doubt);
     faults = omega (arith, one.faults, two.faults);
+    shield = λ s. two.shield (one.shield s);
     spared = λ clean db left. one.spared (omega (arith, two.doubt, clean)) db (two.spared clean db left);
   }

@@ -47,6 +47,7 @@ begins g old Changes none under = record {
     limit = refl;
     doubt = omega arith;
     faults = omega arith;
+    shield = λ s. s;
     spared = λ clean db left. left;
   };
   made = λ clean. let h = under clean in record {
@@ -66,6 +67,7 @@ remembers_then g old mid new one two = record {
   limit = two.limit ∙ one.limit;
   doubt = omega (arith, one.doubt, two.doubt);
   faults = omega (arith, one.faults, two.faults);
+  shield = λ s. two.shield (one.shield s);
   spared = λ clean db left. one.spared (omega (arith, two.doubt, clean)) db (two.spared clean db left);
 }
 

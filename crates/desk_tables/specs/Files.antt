@@ -1,16 +1,18 @@
 -- What a store over files begins with, and why files are refused.
-use Rattle.std.specs.Prelude.{◌≡◌, ◌≢◌, ℕ, [], Result, Ok, Err, ⊤}
+use Rattle.std.specs.Prelude.{◌≡◌, ◌≢◌, ℕ, true, [], Result, Ok, Err, ⊤}
 use Rattle.sqlite_disk.specs.declared.Disk as disk
 use Rattle.sqlite_wal.specs.Recovery.{Image}
 use Rattle.sqlite_store.specs.declared.store.FileStore.{FileStore}
 use Rattle.sqlite.specs.State.{HasCleanDisk}
 use Rattle.sqlite.specs.Held.{Held, IsNew}
-use Rattle.sqlite.specs.Files.{over_files, file_state, IsOpened}
+use Rattle.sqlite_store.specs.FileStore.{view}
+use Rattle.sqlite.specs.Files.{over_files, file_state, IsBlankAs, IsOpened}
 use Rattle.sqlite.specs.Start.{FindsIn}
 use Rattle.desk_sql.specs.Effects.{IsKept, IsOpenIfClean}
 use Rattle.desk_store.specs.World.{World}
 use Rattle.desk_tables.specs.declared.opening.open.OpenFault.{OpenFault}
 use Rattle.desk_tables.specs.declared.opening.open.OpenFault.TheVariants.{NotADesk, OldSchema}
+use Rattle.desk_tables.specs.Guarding.{IsGuarded}
 use Rattle.desk_tables.specs.Store.{Shown}
 use Rattle.desk_tables.specs.Opening.{BeginsWith, ShowsNoDesk, ShowsOldRows, BlamesDatabase}
 use Rattle.desk_tables.specs.Moving.{BeginsMoved, KeepsRows, ShowsNoContent}
@@ -24,11 +26,24 @@ abbrev pub FindsFirst : {D : Type 0} {g : disk.Ghosts D} → Image → Held (Fil
 FindsFirst image found = IsOpened found × FindsIn image (file_state found)
 
 module _ {D : Type 0} {g : disk.Ghosts D} where
+  -- a connection to files that held this: if the disk returned what was written so far, it finds their
+  -- database, each later read is tested, and new files have the sums of SQLite's cksumvfs
+  pub record Finds (image : Image) (found : Held (FileStore D g)) : Type 0 where
+    pub first : HasCleanDisk (file_state found) → FindsFirst image found
+    pub guarded : IsGuarded found
+    pub summed : HasCleanDisk (file_state found) → IsBlankAs true image
+        → (view found.store).has_sums ≡ true
+
   -- a connection finds the database of the files, and is open; the store begins with what that connection
   -- shows
   pub record OpensIn (image : Image) (h : Held (FileStore D g)) (w : World) : Type 0 where
     pub found : Held (FileStore D g)
     pub opened : HasCleanDisk (file_state h) → FindsFirst image found
+    -- if the disk returned what was written until the connection was there, each later read is tested
+    pub guarded : HasCleanDisk (file_state found) → (file_state h).IsShielded
+    -- new files get the sums of SQLite's cksumvfs
+    pub summed : HasCleanDisk (file_state found) → IsBlankAs true image
+        → (view found.store).has_sums ≡ true
     pub live : IsOpenIfClean (over_files {D = D} {g = g}) h
     pub begins : BeginsWith (over_files {D = D} {g = g}) found h w
 
@@ -49,6 +64,10 @@ module _ {D : Type 0} (g : disk.Ghosts D) (image : Image) (e : OpenFault) where
   abbrev pub FailsAs : Type 0
   FailsAs = (e ≡ NotADesk → IsRefusedIn) × (e ≡ OldSchema → IsRefusedIn)
 
+-- what is told of files in which nothing was read: neither what tables nor what rows they have
+abbrev pub IsUnread : OpenFault → Type 0
+IsUnread e = (e ≢ NotADesk) × (e ≢ OldSchema)
+
 -- a store over files, or why there is none
 abbrev pub Opened : (D : Type 0) → disk.Ghosts D → Type 0
 Opened D g = Result (Shown (FileStore D g)) OpenFault
@@ -66,6 +85,7 @@ module _ {D : Type 0} {g : disk.Ghosts D} where
   pub record OpensMoved (image : Image) (h : Held (FileStore D g)) (w : World) (count : ℕ) : Type 0 where
     pub found : Held (FileStore D g)
     pub opened : HasCleanDisk (file_state h) → FindsFirst image found
+    pub guarded : HasCleanDisk (file_state found) → (file_state h).IsShielded
     pub live : IsOpenIfClean (over_files {D = D} {g = g}) h
     pub begins : BeginsMoved (over_files {D = D} {g = g}) found h w count
 

@@ -15,3 +15,4 @@ pub mod Moving
 pub mod Causes
 pub mod Files
 pub mod Leaving
+pub mod Guarding

@@ -20,12 +20,14 @@ ghost use Rattle.desk_tables.specs.Lookups.{own_of};
 ghost use Rattle.desk_tables.specs.TableChanges.{ChangesRows, EnrolsRows, PutsRows};
 ghost use Rattle.desk_tables.specs.TableChanges.{ClosesRows, ClearsRows, IsWithin};
 ghost use Rattle.desk_tables.specs.Store.{IsStanding};
+ghost use Rattle.sqlite_disk.specs.Modelled.{calls_of, start_of};
+ghost use Rattle.desk_tables.specs.Guarding.{HasCollided};
 ghost use Rattle.desk_tables.specs.Leaving.{MayLeave, IsFoundAfter, BeginsAfter, IsRefusedAfter};
 
 use crate::store::SqliteStore;
 use ram_disk::Ram;
 use sqlite::FileStore;
-use sqlite_disk::Disk;
+use sqlite_disk::{Calls, Disk, Modelled, Start};
 use volume4d::laws::one_shape;
 
 /// The texts of two ids are ordered as the ids are.
@@ -125,4 +127,13 @@ pub fn a_store_begins_with_the_old_or_the_new<D: Disk, E: Disk>()
 /// A store in memory is always honest.
 pub fn a_store_in_memory_is_honest(store: &SqliteStore<FileStore<Ram>>)
     ensures { HasCleanDisk (state over_files store.now.held) }
+{}
+
+/// A store over files whose calls are recorded, each of whose reads is tested, is honest, whatever the files
+/// returned since the tests began; or a read has passed a test against a digest of 64 bits with other bytes
+/// than had been written there.
+pub fn a_shielded_store_is_honest<C: Calls, S: Start>(store: &SqliteStore<FileStore<Modelled<C, S>>>)
+    ensures { (state over_files store.now.held).IsShielded
+        → HasCleanDisk (state over_files store.now.held)
+        ⊎ HasCollided (start_of S.Start) (λ f. C.Calls.history (calls_of f)) store.now.held }
 {}

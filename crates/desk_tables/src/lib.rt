@@ -3,6 +3,7 @@
 
 mod canon;
 mod changing;
+mod closing;
 mod kept;
 pub mod laws;
 mod lengths;

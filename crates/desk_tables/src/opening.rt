@@ -7,3 +7,4 @@ pub(crate) mod files;
 pub(crate) mod finding;
 pub(crate) mod moving;
 pub(crate) mod open;
+pub(crate) mod path;

@@ -105,6 +105,8 @@ impl<S: Alter> PlanStore for SqliteStore<S> {
 
     ghost may_leave = { λ s found. MayLeave S.Store s.held found };
 
+    ghost is_shielded = { λ s. (state S.Store s.held).IsShielded };
+
     fn ceiling(&mut self, operator: &Operator) -> Result<Option<u32>, StoreFault> {
         let answer = readers::ceiling(&mut self.connection, &self.kept, operator);
         counted(&mut self.faults, self.told, answer)

@@ -1,6 +1,6 @@
 //! Calls over a store that fails.
 
-ghost use Rattle.std.specs.Prelude.{◌≡◌, ◌≤◌, ◌<◌, ◌-◌, ◌^◌, Err, OnOk, OnErr, IfErr};
+ghost use Rattle.std.specs.Prelude.{◌≡◌, ◌≤◌, ◌<◌, ◌-◌, ◌^◌, ⊤, Err, OnOk, OnErr, IfErr};
 
 use crate::given::{FIRST_PUT, ID, MOMENT, desk_of_alfa};
 use desk_rules::call::{Asked, Call};
@@ -45,6 +45,8 @@ impl PlanStore for Failing {
     ghost content = { λ s. s.list };
 
     ghost doubt = { λ _. 0 };
+
+    ghost is_shielded = { λ _. ⊤ };
 
     ghost faults = { λ s. s.fault_count };
 

@@ -56,7 +56,7 @@ pub fn answer<S: PlanStore>(
     ensures crash { IsHonest (S.doubt desk.new.store) → LeavesOldOr
         (world_after (world_of S.content desk.old) moment (asked text.now)).content
         (S.may_leave desk.old.store) (S.may_leave desk.new.store) }
-    ensures remembered { Remembers S.doubt S.faults desk.old.store desk.new.store }
+    ensures remembered { Remembers S.doubt S.faults S.is_shielded desk.old.store desk.new.store }
 {
     let routes = Routes::try_new(alloc)?;
     let answer = answer_request(alloc, &routes, desk, moment, &read_message(text))?;
@@ -95,7 +95,7 @@ pub fn answer_request<S: PlanStore>(
         IsSettled S.content S.may_leave desk.old → IsSettled S.content S.may_leave desk.new) }
     ensures settled { IsHonest (S.doubt desk.new.store) → IfOk result (λ answer.
         answer.error ≡ None → IsSettledOrSame S.content S.may_leave desk.old desk.new) }
-    ensures remembered { Remembers S.doubt S.faults desk.old.store desk.new.store }
+    ensures remembered { Remembers S.doubt S.faults S.is_shielded desk.old.store desk.new.store }
     ensures gave_up { IfOk result (λ answer. answer.status ≡ 500 → answer.error ≢ None) }
     ensures cause { IfOk result (λ answer. answer.error ≡ Some ServerError.Store →
         HasRisen (S.faults desk.old.store) (S.faults desk.new.store)) }
@@ -142,7 +142,7 @@ fn respond<S: PlanStore>(
         (IsSettled S.content S.may_leave desk.old → IsSettled S.content S.may_leave desk.new) }
     ensures settled { IsHonest (S.doubt desk.new.store) → OnOk result
         (IsSettledOrSame S.content S.may_leave desk.old desk.new) }
-    ensures remembered { Remembers S.doubt S.faults desk.old.store desk.new.store }
+    ensures remembered { Remembers S.doubt S.faults S.is_shielded desk.old.store desk.new.store }
     ensures other { IfOk result (λ r. r.status ≢ 500) }
     ensures cause { IfErr result (λ e. e ≡ ServerError.Store →
         HasRisen (S.faults desk.old.store) (S.faults desk.new.store)) }
@@ -175,7 +175,7 @@ fn answer_message<S: PlanStore>(
         (IsSettled S.content S.may_leave desk.old → IsSettled S.content S.may_leave desk.new) }
     ensures settled { IsHonest (S.doubt desk.new.store) → OnOk result
         (IsSettledOrSame S.content S.may_leave desk.old desk.new) }
-    ensures remembered { Remembers S.doubt S.faults desk.old.store desk.new.store }
+    ensures remembered { Remembers S.doubt S.faults S.is_shielded desk.old.store desk.new.store }
     ensures other { IfOk result (λ r. r.status ≢ 500) }
     ensures cause { IfErr result (λ e. e ≡ ServerError.Store →
         HasRisen (S.faults desk.old.store) (S.faults desk.new.store)) }
@@ -208,7 +208,7 @@ fn answer_call<S: PlanStore>(
         (IsSettled S.content S.may_leave desk.old → IsSettled S.content S.may_leave desk.new) }
     ensures settled { IsHonest (S.doubt desk.new.store) → OnOk result
         (IsSettledOrSame S.content S.may_leave desk.old desk.new) }
-    ensures remembered { Remembers S.doubt S.faults desk.old.store desk.new.store }
+    ensures remembered { Remembers S.doubt S.faults S.is_shielded desk.old.store desk.new.store }
     ensures other { IfOk result (λ r. r.status ≢ 500) }
     ensures cause { IfErr result (λ e. e ≡ ServerError.Store →
         HasRisen (S.faults desk.old.store) (S.faults desk.new.store)) }
@@ -242,7 +242,7 @@ fn answer_pending<S: PlanStore>(
         (IsSettled S.content S.may_leave desk.old → IsSettled S.content S.may_leave desk.new) }
     ensures settled { IsHonest (S.doubt desk.new.store) → OnOk result
         (IsSettledOrSame S.content S.may_leave desk.old desk.new) }
-    ensures remembered { Remembers S.doubt S.faults desk.old.store desk.new.store }
+    ensures remembered { Remembers S.doubt S.faults S.is_shielded desk.old.store desk.new.store }
     ensures other { IfOk result (λ r. r.status ≢ 500) }
     ensures cause { IfErr result (λ e. e ≡ ServerError.Store →
         HasRisen (S.faults desk.old.store) (S.faults desk.new.store)) }

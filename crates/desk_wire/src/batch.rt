@@ -94,7 +94,7 @@ pub fn answer_all<S: PlanStore>(
         IsFoundIn (world_of S.content desk.old) (map (λ r. (r.0, r.1.items)) requests.now)
         (answered a.ended (map (λ v. v.items) a.answers.items)) found) }
     ensures err { OnErr result (world_of S.content desk.new ≡ world_of S.content desk.old) }
-    ensures remembered { Remembers S.doubt S.faults desk.old.store desk.new.store }
+    ensures remembered { Remembers S.doubt S.faults S.is_shielded desk.old.store desk.new.store }
     ensures cause { IfOk result (λ a. a.ended ≡ AnswersEnd.Broken →
         HasFailed (IsLast (map (λ v. v.items) a.answers.items))
         (S.faults desk.old.store) (S.faults desk.new.store)) }

@@ -65,7 +65,7 @@ pub fn play_all<S: PlanStore, R: Read, W: Write>(
         IsKept result.ended (told_in_play result.ended result.answered) (R.remaining input.old)
         (W.contents output.old) (W.contents output.new)
         (world_of S.content desk.old) moment (world_of S.content desk.new) found }
-    ensures remembered { Remembers S.doubt S.faults desk.old.store desk.new.store }
+    ensures remembered { Remembers S.doubt S.faults S.is_shielded desk.old.store desk.new.store }
     ensures cause { result.ended ≡ PlayEnd.Broken →
         HasFailed (AppendsLast (W.contents output.old) (W.contents output.new))
         (S.faults desk.old.store) (S.faults desk.new.store) }
@@ -98,7 +98,7 @@ fn play_with<S: PlanStore, R: Read, W: Write>(
         IsKept result.ended (told_in_play result.ended result.answered) (R.remaining input.old)
         (W.contents output.old) (W.contents output.new)
         (world_of S.content desk.old) moment (world_of S.content desk.new) found }
-    ensures remembered { Remembers S.doubt S.faults desk.old.store desk.new.store }
+    ensures remembered { Remembers S.doubt S.faults S.is_shielded desk.old.store desk.new.store }
     ensures cause { result.ended ≡ PlayEnd.Broken →
         HasFailed (AppendsLast (W.contents output.old) (W.contents output.new))
         (S.faults desk.old.store) (S.faults desk.new.store) }

@@ -114,7 +114,7 @@ pub fn serve_one<S: PlanStore, R: Read, W: Write>(
         S.may_leave desk.new.store found → IsFoundNow result (S.may_leave desk.old.store)
         (IsTaken (R.remaining input.old) (R.remaining input.new))
         (world_of S.content desk.old) moment (world_of S.content desk.new) found }
-    ensures remembered { Remembers S.doubt S.faults desk.old.store desk.new.store }
+    ensures remembered { Remembers S.doubt S.faults S.is_shielded desk.old.store desk.new.store }
     ensures cause { IfOk result (λ served. IsGivenUp served →
         HasFailed (Appends (W.contents output.old) (W.contents output.new))
         (S.faults desk.old.store) (S.faults desk.new.store)) }
@@ -147,7 +147,7 @@ pub fn serve_next<S: PlanStore, R: Read, W: Write>(
         S.may_leave desk.new.store found → IsFoundNow result (S.may_leave desk.old.store)
         (IsTaken (R.remaining input.old) (R.remaining input.new))
         (world_of S.content desk.old) moment (world_of S.content desk.new) found }
-    ensures remembered { Remembers S.doubt S.faults desk.old.store desk.new.store }
+    ensures remembered { Remembers S.doubt S.faults S.is_shielded desk.old.store desk.new.store }
     ensures cause { IfOk result (λ served. IsGivenUp served →
         HasFailed (Appends (W.contents output.old) (W.contents output.new))
         (S.faults desk.old.store) (S.faults desk.new.store)) }

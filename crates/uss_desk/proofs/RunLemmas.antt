@@ -1,51 +1,81 @@
--- What comes of a line at the desk that was opened for it, or of none.
-use Rattle.std.proofs.Common.{◌≡◌, ◌≤◌, ℕ, List, Option, None, Some, Result, Ok, Err, IfErr, IfOk, IsSomeAnd, refl, sym, subst}
-use Rattle.sqlite_trees.specs.declared.store.Store.{Ghosts}
+-- What was opened for a line says of that line, and what comes of a desk over files whose reads are tested.
+use Rattle.std.proofs.Common.{◌≡◌, ℕ, List, Option, None, Some, Result, Ok, Err, IfOk, Bool, true, IsTrue, inl, inr, refl, sym, subst}
 use Rattle.sqlite_trees.specs.View.{doubt}
 use Rattle.sqlite_disk.specs.declared.Disk as disk
+use Rattle.sqlite_disk.specs.Events.{Event, replay}
 use Rattle.sqlite_wal.specs.Recovery.{Image}
 use Rattle.sqlite_store.specs.declared.store.FileStore.{FileStore}
-use Rattle.sqlite.specs.Held.{state}
+use Rattle.sqlite.specs.Files.{file_state, over_files}
+use Rattle.sqlite.proofs.Shield.{shield_means}
 use Rattle.desk_run.specs.DeskWorld.{Parts}
 use Rattle.desk_tables.specs.Store.{Shown}
 use Rattle.desk_line.specs.declared.failure.Failure.{Failure}
 use Rattle.desk_line.specs.declared.line.Line.{Line}
-use Rattle.desk_line.specs.Exits.{failure_status}
-use Rattle.desk_program.specs.Running.{IsCarriedOut}
+use Rattle.desk_line.specs.declared.line.Line.TheVariants as line
+use Rattle.desk_line.specs.Lines.{HasDatabase, IsPrintable}
 use Rattle.desk_program.specs.Serving.{Arrival}
-use Rattle.uss_desk.specs.Opening.{BeginsIn, FailsAt, IsOpenedIn, world_in}
-use Rattle.uss_desk.specs.Running.{IsKeptSince, IsRun, IsSound}
+use Rattle.uss_desk.specs.declared.opening.Opened.TheVariants as opened
+use Rattle.uss_desk.specs.Guarding.{Account, IsTrueOrCollided}
+use Rattle.uss_desk.specs.Opening.{IsOpenedFor, IsOpenedIn}
+use Rattle.uss_desk.specs.Running.{IsDoneAt, StaysGuarded}
 
-module _ {S : Type 0} (g : Ghosts S) (Begins : Parts (Shown S) → Type 0) (Fails : Failure → Type 0)
-    (line : Line) (from to : Option (List Arrival)) (old new out now : Option (List ℕ)) where
-  abbrev pub IsDoneAt : ℕ → Option (Parts (Shown S)) → Parts (Shown S) → Type 0
-  IsDoneAt status result desk = IsSomeAnd result (λ left.
-      IsCarriedOut (IsSound g left) line status from to old new out now (world_in desk) (world_in left)
-      × (doubt (state g desk.store.held).is_clean ≤ doubt (state g left.store.held).is_clean))
+module _ {M : Type 0} {m : disk.Ghosts M} {D : Type 0} {g : disk.Ghosts D} (image : Image) where
+  -- nothing is opened for a line that is printed alone
+  pub for_nothing : (it : Line) → IsOpenedFor {m = m} {g = g} image it opened.Nothing → IsPrintable it
+  for_nothing (line.Play play) opens = absurd opens
+  for_nothing (line.Token token) opens = tt
+  for_nothing (line.Serve serve) opens = absurd opens
+  for_nothing (line.Cover cover) opens = tt
+  for_nothing (line.Enrol enrol) opens = absurd opens
+  for_nothing (line.Migrate migrate) opens = absurd opens
 
-  abbrev pub IsKeptAt : ℕ → Option (Parts (Shown S)) → Parts (Shown S) → Type 0
-  IsKeptAt status result desk =
-      IsSomeAnd result (IsKeptSince g line status from to old new out now desk)
+  -- a desk in memory is opened for a line that names a database
+  pub for_memory : (it : Line) (desk : Result (Parts (Shown (FileStore M m))) Failure)
+      → IsOpenedFor {m = m} {g = g} image it (opened.Memory desk) → HasDatabase it
+  for_memory (line.Play play) desk opens = tt
+  for_memory (line.Token token) desk opens = absurd opens
+  for_memory (line.Serve serve) desk opens = tt
+  for_memory (line.Cover cover) desk opens = absurd opens
+  for_memory (line.Enrol enrol) desk opens = tt
+  for_memory (line.Migrate migrate) desk opens = absurd opens
 
-  pub done_at : (status : ℕ) (result : Option (Parts (Shown S))) (desk : Parts (Shown S))
-      → Begins desk → IsDoneAt status result desk → IsKeptAt status result desk
-      → IsRun g Begins Fails line status result from to old new out now
-  done_at status None desk begins done kept = absurd done
-  done_at status (Some left) desk begins done kept = (desk, begins, done.1, done.0, kept)
+  -- and so is one over files, which held this
+  pub for_files : (it : Line) (desk : Result (Parts (Shown (FileStore D g))) Failure)
+      → IsOpenedFor {m = m} {g = g} image it (opened.Files desk) → HasDatabase it × IsOpenedIn image desk
+  for_files (line.Play play) desk opens = (tt, opens.1)
+  for_files (line.Token token) desk opens = absurd opens
+  for_files (line.Serve serve) desk opens = (tt, opens.1)
+  for_files (line.Cover cover) desk opens = absurd opens
+  for_files (line.Enrol enrol) desk opens = (tt, opens.1)
+  for_files (line.Migrate migrate) desk opens = absurd opens
 
-  pub run_or_not : (opened : Result (Parts (Shown S)) Failure) (r : ℕ × Option (Parts (Shown S)))
-      → IfOk opened Begins → IfErr opened Fails → IfOk opened (IsDoneAt r.0 r.1)
-      → IfOk opened (IsKeptAt r.0 r.1)
-      → IfErr opened (λ f. (r ≡ (failure_status f, None)) × (to ≡ from) × (new ≡ old) × (now ≡ out))
-      → IsRun g Begins Fails line r.0 r.1 from to old new out now
-  run_or_not (Ok desk) r begins fails done kept undone = done_at r.0 r.1 desk begins done kept
-  run_or_not (Err f) r begins fails done kept undone =
-      subst (λ it. IsRun g Begins Fails line it.0 it.1 from to old new out now) (sym undone.0)
-      (f, fails, refl, undone.1, undone.2, undone.3)
+-- a flag that is up leaves no doubt
+no_doubt : (clean : Bool) → IsTrue clean → doubt clean ≡ 0
+unfolding doubt
+no_doubt clean up = subst (λ b. doubt b ≡ 0) (sym up) refl
 
-module _ {D : Type 0} {g : disk.Ghosts D} (image : Image) where
-  -- the two sides of an opening, each by itself
-  pub opened_in : (opened : Result (Parts (Shown (FileStore D g))) Failure) → IsOpenedIn image opened
-      → IfOk opened (BeginsIn g image) × IfErr opened (FailsAt g image)
-  opened_in (Ok desk) it = (it, tt)
-  opened_in (Err f) it = (tt, it)
+-- what a shield means of a desk over files whose calls are recorded
+true_or_collided : {D : Type 0} {g : disk.Ghosts D} (account : Account D)
+    → ((d : D) → g.is_fair d ≡ (replay (account.start d) (account.calls d)).is_fair)
+    → ((d : D) → g.is_clean d ≡ (replay (account.start d) (account.calls d)).is_honest)
+    → (desk : Parts (Shown (FileStore D g))) → (file_state desk.store.held).IsShielded
+    → IsTrueOrCollided account desk
+true_or_collided account fair clean desk shielded =
+    elim (shield_means account.start account.calls fair clean desk.store.held.store shielded) [
+      | inl up ↦ inl (no_doubt (file_state desk.store.held).is_clean up)
+      | inr collided ↦ inr collided
+    ]
+
+-- a desk that was opened over files by honest reads stays guarded
+pub stays_guarded : {D : Type 0} {g : disk.Ghosts D} (account : Account D)
+    → ((d : D) → g.is_fair d ≡ (replay (account.start d) (account.calls d)).is_fair)
+    → ((d : D) → g.is_clean d ≡ (replay (account.start d) (account.calls d)).is_honest)
+    → (image : Image) (it : Line) (from to : Option (List Arrival)) (old new out now : Option (List ℕ))
+    → (status : ℕ) (opened : Result (Parts (Shown (FileStore D g))) Failure)
+    → (left : Option (Parts (Shown (FileStore D g)))) → IsOpenedIn image opened
+    → IfOk opened (IsDoneAt over_files it from to old new out now status left)
+    → StaysGuarded account opened left
+stays_guarded account fair clean image it from to old new out now status (Ok desk) (Some left) opens done =
+    λ honest. true_or_collided account fair clean left (done.2 (opens.guarded honest))
+stays_guarded account fair clean image it from to old new out now status (Ok desk) None opens done = done
+stays_guarded account fair clean image it from to old new out now status (Err f) left opens done = tt

@@ -1,4 +1,5 @@
--- Read first: Running, Opening, Migrating.
+-- Read first: Running, Opening, Guarding, Closing.
 pub mod Opening
-pub mod Migrating
+pub mod Guarding
 pub mod Running
+pub mod Closing

@@ -1,5 +1,5 @@
--- Opening: what a desk begins with, and what a database that can't be opened means.
-use Rattle.std.specs.Prelude.{◌≡◌, [], Result, Ok, Err}
+-- Opening: what a line is carried out at, and what a database that can't be opened means.
+use Rattle.std.specs.Prelude.{◌≡◌, ℕ, [], Result, Ok, Err, IfErr, IfOk, ⊤, ⊥}
 use Rattle.sqlite_disk.specs.declared.Disk as disk
 use Rattle.sqlite_wal.specs.Recovery.{Image}
 use Rattle.sqlite_store.specs.declared.store.FileStore.{FileStore}
@@ -9,11 +9,18 @@ use Rattle.desk_store.specs.Crashes.{LeavesOnly}
 use Rattle.desk_run.specs.DeskWorld.{DeskWorld, Parts, with_content, world_of}
 use Rattle.desk_line.specs.declared.failure.Failure.{Failure}
 use Rattle.desk_line.specs.declared.failure.Failure.TheVariants as failure
-use Rattle.desk_tables.specs.Files.{FailsAs, OpensIn}
+use Rattle.desk_line.specs.declared.line.Database.{Database}
+use Rattle.desk_line.specs.declared.line.Database.TheVariants.{InMemory, File}
+use Rattle.desk_line.specs.declared.line.Line.{Line}
+use Rattle.desk_line.specs.declared.line.Line.TheVariants as line
+use Rattle.desk_tables.specs.Files.{FailsAs, FailsMovingAs, OpensIn, OpensMoved}
+use Rattle.desk_tables.specs.Guarding.{IsGuarded}
 use Rattle.desk_tables.specs.Leaving.{MayLeave}
 use Rattle.desk_tables.specs.Store.{Shown}
 use Rattle.desk_tables.specs.declared.opening.open.OpenFault.{OpenFault}
 use Rattle.desk_tables.specs.declared.opening.open.OpenFault.TheVariants as opening
+use Rattle.uss_desk.specs.declared.opening.Opened.{Opened}
+use Rattle.uss_desk.specs.declared.opening.Opened.TheVariants as opened
 
 -- why a program ends at a database that can't be opened
 abbrev pub open_failure : OpenFault → Failure
@@ -36,11 +43,13 @@ IsBlank desk = world_in desk ≡ with_content [] (record { operators = []; plans
 
 module _ {D : Type 0} (g : disk.Ghosts D) (image : Image) where
   -- the store of a desk over files that held this begins with the world that is found in them, which a crash
-  -- leaves there; and no priority is permitted
+  -- leaves there; no priority is permitted; and if the disk returned what was written so far, each later read
+  -- is tested
   pub record BeginsIn (desk : Parts (Shown (FileStore D g))) : Type 0 where
     pub opens : OpensIn image desk.store.held desk.store.world
     pub left : HasCleanDisk (file_state desk.store.held)
         → LeavesOnly desk.store.world (MayLeave over_files desk.store.held)
+    pub guarded : IsGuarded desk.store.held
     pub none : desk.permitted ≡ []
 
   -- the failure is that of files that can't be opened, or of a database that is no desk's, has rows of
@@ -48,8 +57,66 @@ module _ {D : Type 0} (g : disk.Ghosts D) (image : Image) where
   abbrev pub FailsAt : Failure → Type 0
   FailsAt f = (fault : OpenFault) × (f ≡ open_failure fault) × FailsAs g image fault
 
-module _ {D : Type 0} {g : disk.Ghosts D} where
+  -- the same of files whose plans of schema 1 are to be moved
+  abbrev pub FailsMovingAt : Failure → Type 0
+  FailsMovingAt f = (fault : OpenFault) × (f ≡ open_failure fault) × FailsMovingAs g image fault
+
+module _ {D : Type 0} {g : disk.Ghosts D} (image : Image) where
   -- a desk over files that held this, or why there is none
-  abbrev pub IsOpenedIn : Image → Result (Parts (Shown (FileStore D g))) Failure → Type 0
-  IsOpenedIn image (Ok desk) = BeginsIn g image desk
-  IsOpenedIn image (Err f) = FailsAt g image f
+  abbrev pub IsOpenedIn : Result (Parts (Shown (FileStore D g))) Failure → Type 0
+  IsOpenedIn (Ok desk) = BeginsIn g image desk
+  IsOpenedIn (Err f) = FailsAt g image f
+
+  -- a desk over files that held this, to which so many plans were moved, or why there is none
+  abbrev pub IsMovedIn : Result (Parts (Shown (FileStore D g)) × ℕ) Failure → Type 0
+  IsMovedIn (Ok moved) = OpensMoved image moved.0.store.held moved.0.store.world moved.1
+  IsMovedIn (Err f) = FailsMovingAt g image f
+
+  -- by where the database is: one in memory fails as the store does
+  abbrev pub IsMovedAt : Database → Result (Parts (Shown (FileStore D g)) × ℕ) Failure → Type 0
+  IsMovedAt InMemory moved = moved ≡ Err failure.Store
+  IsMovedAt (File path) moved = IsMovedIn moved
+
+-- where a database is
+abbrev pub IsInMemory : Database → Type 0
+IsInMemory InMemory = ⊤
+IsInMemory (File path) = ⊥
+
+abbrev pub IsInFiles : Database → Type 0
+IsInFiles InMemory = ⊥
+IsInFiles (File path) = ⊤
+
+-- what is opened for a line: a desk in memory or one over files
+abbrev pub OpenedDesk : {M : Type 0} → disk.Ghosts M → {D : Type 0} → disk.Ghosts D → Type 0
+OpenedDesk {M} m {D} g = Opened (Parts (Shown (FileStore M m))) (Parts (Shown (FileStore D g)))
+
+module _ {M : Type 0} {m : disk.Ghosts M} {D : Type 0} {g : disk.Ghosts D} (image : Image) where
+  -- what is opened over a database: a blank desk in memory, or a desk over files that held this; or why not
+  abbrev pub IsOpenedAt : Database → OpenedDesk m g → Type 0
+  IsOpenedAt database opened.Nothing = ⊥
+  IsOpenedAt database (opened.Memory desk) = IsInMemory database × IfOk desk IsBlank × IfErr desk IsMemory
+  IsOpenedAt database (opened.Files desk) = IsInFiles database × IsOpenedIn image desk
+  IsOpenedAt database (opened.Moved moved) = ⊥
+
+  -- what is opened over a database whose plans of schema 1 are to be moved
+  abbrev pub IsOpenedToMove : Database → OpenedDesk m g → Type 0
+  IsOpenedToMove database opened.Nothing = ⊥
+  IsOpenedToMove database (opened.Memory desk) = ⊥
+  IsOpenedToMove database (opened.Files desk) = ⊥
+  IsOpenedToMove database (opened.Moved moved) = IsMovedAt image database moved
+
+  -- nothing is opened for a line that is printed alone
+  abbrev pub IsNothing : OpenedDesk m g → Type 0
+  IsNothing opened.Nothing = ⊤
+  IsNothing (opened.Memory desk) = ⊥
+  IsNothing (opened.Files desk) = ⊥
+  IsNothing (opened.Moved moved) = ⊥
+
+  -- what is opened for a line, by the database that it names
+  abbrev pub IsOpenedFor : Line → OpenedDesk m g → Type 0
+  IsOpenedFor (line.Play play) it = IsOpenedAt play.database it
+  IsOpenedFor (line.Enrol enrol) it = IsOpenedAt enrol.database it
+  IsOpenedFor (line.Serve serve) it = IsOpenedAt serve.database it
+  IsOpenedFor (line.Migrate migrate) it = IsOpenedToMove migrate.database it
+  IsOpenedFor (line.Token token) it = IsNothing it
+  IsOpenedFor (line.Cover cover) it = IsNothing it

@@ -1,11 +1,12 @@
--- Running: what comes of a line, from the database that it names to the exit status.
-use Rattle.std.specs.Prelude.{◌≡◌, ◌≤◌, ℕ, List, Option, None, Some}
+-- Running: what comes of a line at what was opened for it, to the exit status.
+use Rattle.std.specs.Prelude.{◌≡◌, ◌≤◌, ℕ, List, Option, None, Some, Result, Ok, Err, IfErr, IfOk, IfSome}
+use Rattle.std.specs.Option.{IsSomeAnd}
 use Rattle.sqlite_trees.specs.declared.store.Store.{Ghosts}
 use Rattle.sqlite_trees.specs.View.{doubt}
 use Rattle.sqlite_disk.specs.declared.Disk as disk
-use Rattle.sqlite_wal.specs.Recovery.{Image}
 use Rattle.sqlite_store.specs.declared.store.FileStore.{FileStore}
-use Rattle.sqlite.specs.Files.{over_files}
+use Rattle.sqlite.specs.Files.{file_state, over_files}
+use Rattle.sqlite.specs.State.{HasCleanDisk}
 use Rattle.sqlite.specs.Held.{state}
 use Rattle.desk_store.specs.World.{World}
 use Rattle.desk_store.specs.Faults.{IsHonest}
@@ -14,17 +15,16 @@ use Rattle.desk_run.specs.DeskWorld.{Parts}
 use Rattle.desk_tables.specs.Store.{Shown}
 use Rattle.desk_tables.specs.Leaving.{MayLeave}
 use Rattle.desk_line.specs.declared.failure.Failure.{Failure}
-use Rattle.desk_line.specs.declared.line.Database.{Database}
-use Rattle.desk_line.specs.declared.line.Database.TheVariants.{InMemory, File}
 use Rattle.desk_line.specs.declared.line.Line.{Line}
-use Rattle.desk_line.specs.declared.line.Line.TheVariants as line
 use Rattle.desk_line.specs.Exits.{failure_status}
 use Rattle.desk_line.specs.Printing.{IsPrinted}
 use Rattle.desk_program.specs.Keeping.{IsLineKept}
+use Rattle.desk_program.specs.Moving.{IsCountPrinted}
 use Rattle.desk_program.specs.Running.{IsCarriedOut}
 use Rattle.desk_program.specs.Serving.{Arrival}
-use Rattle.uss_desk.specs.Migrating.{IsMigrated}
-use Rattle.uss_desk.specs.Opening.{BeginsIn, FailsAt, IsBlank, IsMemory, world_in}
+use Rattle.uss_desk.specs.declared.opening.Opened.TheVariants as opened
+use Rattle.uss_desk.specs.Guarding.{Account, IsTrueOrCollided}
+use Rattle.uss_desk.specs.Opening.{OpenedDesk, world_in}
 
 -- the store of a desk over tables is honest: its disk has returned what was written
 abbrev pub IsSound : {S : Type 0} → Ghosts S → Parts (Shown S) → Type 0
@@ -39,55 +39,71 @@ IsKeptSince g line status from to old new out now begun desk =
     → (found : Option World) → MayLeave g desk.store.held found
     → IsLineKept (IsSound g desk) line status from to old new out now (world_in begun) (world_in desk) found
 
--- a line is carried out at a desk that began so, whose disk was then in no more doubt than it is now; or no
--- desk was opened, for such a failure: the status is its, no connection is taken, nothing is read, and
--- nothing is written
-abbrev pub IsRun :
-    {S : Type 0} → Ghosts S → (Parts (Shown S) → Type 0) → (Failure → Type 0) → Line → ℕ
-    → Option (Parts (Shown S)) → Option (List Arrival) → Option (List Arrival) → Option (List ℕ)
-    → Option (List ℕ) → Option (List ℕ) → Option (List ℕ) → Type 0
-IsRun {S} g Begins Fails line status None from to old new out now =
-    (failure : Failure) × Fails failure × (status ≡ failure_status failure)
-    × (to ≡ from) × (new ≡ old) × (now ≡ out)
-IsRun {S} g Begins Fails line status (Some desk) from to old new out now =
-    (begun : Parts (Shown S)) × Begins begun
-    × (doubt (state g begun.store.held).is_clean ≤ doubt (state g desk.store.held).is_clean)
-    × IsCarriedOut (IsSound g desk) line status from to old new out now (world_in begun) (world_in desk)
-    × IsKeptSince g line status from to old new out now begun desk
+-- a line is carried out at the desk that was opened: its disk was then in no more doubt than it is now, and
+-- if each later read was tested then, each is
+abbrev pub IsDoneAt :
+    {S : Type 0} → Ghosts S → Line → Option (List Arrival) → Option (List Arrival) → Option (List ℕ)
+    → Option (List ℕ) → Option (List ℕ) → Option (List ℕ) → ℕ → Option (Parts (Shown S))
+    → Parts (Shown S) → Type 0
+IsDoneAt g line from to old new out now status left desk = IsSomeAnd left (λ left.
+    IsCarriedOut (IsSound g left) line status from to old new out now (world_in desk) (world_in left)
+    × (doubt (state g desk.store.held).is_clean ≤ doubt (state g left.store.held).is_clean)
+    × ((state g desk.store.held).IsShielded → (state g left.store.held).IsShielded))
 
-module _ {M : Type 0} {m : disk.Ghosts M} {D : Type 0} {g : disk.Ghosts D} where
-  -- a line is carried out at a desk in memory, which begins blank, or over the database in files that held
-  -- this, as its words say
-  abbrev pub IsRunOver :
-      Image → Database → Line → ℕ → Option (Parts (Shown (FileStore M m)))
-      → Option (Parts (Shown (FileStore D g)))
-      → Option (List Arrival) → Option (List Arrival) → Option (List ℕ) → Option (List ℕ) → Option (List ℕ)
-      → Option (List ℕ) → Type 0
-  IsRunOver image InMemory line status memory files from to old new out now =
-      (files ≡ None) × IsRun over_files IsBlank IsMemory line status memory from to old new out now
-  IsRunOver image (File path) line status memory files from to old new out now =
-      (memory ≡ None)
-      × IsRun over_files (BeginsIn g image) (FailsAt g image) line status files from to old new out now
+-- and what may be found once it ended
+abbrev pub IsKeptAt :
+    {S : Type 0} → Ghosts S → Line → Option (List Arrival) → Option (List Arrival) → Option (List ℕ)
+    → Option (List ℕ) → Option (List ℕ) → Option (List ℕ) → ℕ → Option (Parts (Shown S))
+    → Parts (Shown S) → Type 0
+IsKeptAt g line from to old new out now status left desk =
+    IsSomeAnd left (IsKeptSince g line status from to old new out now desk)
 
-  -- what a line says is done: at a desk over the database that it names, by printing alone, or by moving the
-  -- plans of that database
+-- no desk was opened: the status is that of the failure, no connection is taken, nothing is read, and nothing
+-- is written
+abbrev pub IsUndone :
+    {S : Type 0} → Option (List Arrival) → Option (List Arrival) → Option (List ℕ) → Option (List ℕ)
+    → Option (List ℕ) → Option (List ℕ) → ℕ → Option S → Failure → Type 0
+IsUndone from to old new out now status left failure =
+    ((status, left) ≡ (failure_status failure, None)) × (to ≡ from) × (new ≡ old) × (now ≡ out)
+
+-- a line at the desk that was opened for it, or at none
+pub record IsRun {S : Type 0} (g : Ghosts S) (opened : Result (Parts (Shown S)) Failure) (line : Line)
+    (status : ℕ) (left : Option (Parts (Shown S))) (from to : Option (List Arrival))
+    (old new out now : Option (List ℕ)) : Type 0 where
+  pub done : IfOk opened (IsDoneAt g line from to old new out now status left)
+  pub kept : IfOk opened (IsKeptAt g line from to old new out now status left)
+  pub undone : IfErr opened (IsUndone from to old new out now status left)
+
+-- if the disk returned what was written until the desk was open, it has done so to the end, whatever it
+-- returned since and whoever wrote into the files; or a digest has collided
+abbrev pub StaysGuarded :
+    {D : Type 0} {g : disk.Ghosts D} → Account D → Result (Parts (Shown (FileStore D g))) Failure
+    → Option (Parts (Shown (FileStore D g))) → Type 0
+StaysGuarded account opened left = IfOk opened (λ desk. IsSomeAnd left (λ left.
+    HasCleanDisk (file_state desk.store.held) → IsTrueOrCollided account left))
+
+-- the line that tells how many plans were moved is printed, or cut off, and the plans are moved all the same;
+-- or the move failed, and nothing is printed
+abbrev pub IsMoveTold :
+    {S : Type 0} → Result (Parts (Shown S) × ℕ) Failure → ℕ → Option (Parts (Shown S)) → Option (List ℕ)
+    → Option (List ℕ) → Type 0
+IsMoveTold (Ok moved) status left out now = (left ≡ Some moved.0) × IsCountPrinted moved.1 status out now
+IsMoveTold (Err failure) status left out now =
+    (left ≡ None) × (status ≡ failure_status failure) × (now ≡ out)
+
+module _ {M : Type 0} {m : disk.Ghosts M} {D : Type 0} {g : disk.Ghosts D} (account : Account D) where
+  -- what a line says is done: by printing alone, at a desk in memory, at one over files, which stays guarded,
+  -- or by telling how many plans were moved
   abbrev pub IsDone :
-      Image → Line → ℕ → Option (Parts (Shown (FileStore M m)))
-      → Option (Parts (Shown (FileStore D g)))
+      OpenedDesk m g → Line → ℕ → Option (Parts (Shown (FileStore M m))) → Option (Parts (Shown (FileStore D g)))
       → Option (List Arrival) → Option (List Arrival) → Option (List ℕ) → Option (List ℕ) → Option (List ℕ)
       → Option (List ℕ) → Type 0
-  IsDone image (line.Play play) status memory files from to old new out now =
-      IsRunOver image play.database (line.Play play) status memory files from to old new out now
-  IsDone image (line.Enrol enrol) status memory files from to old new out now =
-      IsRunOver image enrol.database (line.Enrol enrol) status memory files from to old new out now
-  IsDone image (line.Serve serve) status memory files from to old new out now =
-      IsRunOver image serve.database (line.Serve serve) status memory files from to old new out now
-  IsDone image (line.Token token) status memory files from to old new out now =
-      (memory ≡ None) × (files ≡ None) × (to ≡ from) × (new ≡ old)
-      × IsPrinted (line.Token token) status out now
-  IsDone image (line.Cover cover) status memory files from to old new out now =
-      (memory ≡ None) × (files ≡ None) × (to ≡ from) × (new ≡ old)
-      × IsPrinted (line.Cover cover) status out now
-  IsDone image (line.Migrate migrate) status memory files from to old new out now =
-      (memory ≡ None) × (to ≡ from) × (new ≡ old)
-      × IsMigrated image migrate.database status files out now
+  IsDone opened.Nothing line status memory files from to old new out now =
+      (memory ≡ None) × (files ≡ None) × (to ≡ from) × (new ≡ old) × IsPrinted line status out now
+  IsDone (opened.Memory desk) line status memory files from to old new out now =
+      (files ≡ None) × IsRun over_files desk line status memory from to old new out now
+  IsDone (opened.Files desk) line status memory files from to old new out now =
+      (memory ≡ None) × IsRun over_files desk line status files from to old new out now
+      × StaysGuarded account desk files
+  IsDone (opened.Moved moved) line status memory files from to old new out now =
+      (memory ≡ None) × (to ≡ from) × (new ≡ old) × IsMoveTold moved status files out now

@@ -1,23 +1,69 @@
-//! Desks over databases, or why a database can't be opened.
+//! What a line is carried out at: a desk over the database that it names, or why that can't be opened.
 
 ghost use Rattle.std.specs.Prelude.{◌≡◌, IfErr, IfOk};
 ghost use Rattle.sqlite_wal.specs.Files.{image_at};
 ghost use Rattle.uss_desk.specs.Opening as spec;
-ghost use Rattle.uss_desk.specs.Opening.{IsBlank, IsMemory, IsOpenedIn};
+ghost use Rattle.uss_desk.specs.Opening.{IsBlank, IsMemory, IsMovedAt, IsMovedIn, IsOpenedAt, IsOpenedFor};
+ghost use Rattle.uss_desk.specs.Opening.{IsOpenedIn};
 
-use desk_line::Failure;
+use desk_line::{Database, Failure, Line};
 use desk_run::Desk;
 use desk_tables::{OpenFault, SqliteStore};
 use ram_disk::Ram;
 use sqlite::{FileFrom, FileStore, Start};
 use std::alloc::Global;
 
+/// A desk in memory.
+pub type MemoryDesk = Desk<SqliteStore<FileStore<Ram>>>;
+
+/// A desk over the database in files, where `F` stands for what they held.
+pub type FileDesk<F> = Desk<SqliteStore<FileStore<FileFrom<F>>>>;
+
+/// What was opened for a line, a desk `M` in memory or one `D` over files; or why it could not be.
+#[derive(Drop)]
+pub enum Opened<M: Drop, D: Drop> {
+    /// Nothing: `token` and `cover` need no desk.
+    Nothing,
+    /// A desk in memory.
+    Memory(Result<M, Failure>),
+    /// A desk over files.
+    Files(Result<D, Failure>),
+    /// A desk over files, and how many plans were moved to it from schema 1.
+    Moved(Result<(D, u32), Failure>),
+}
+
+/// What is opened for a line, where `F` stands for what the files that it names held.
+pub type OpenedDesk<F> = Opened<MemoryDesk, FileDesk<F>>;
+
+/// Opens what a line needs; `start` stands for what the files that it names held.
+pub fn open_for<F: Start>(rt: &HostRuntime, line: &Line, start: F) -> OpenedDesk<F>
+    ensures { IsOpenedFor (image_at F.Start) line.now result }
+{
+    match line {
+        Line::Play(words) => open_database(rt, &words.database, start),
+        Line::Enrol(words) => open_database(rt, &words.database, start),
+        Line::Serve(words) => open_database(rt, &words.database, start),
+        Line::Migrate(words) => Opened::Moved(open_old(rt, &words.database, start)),
+        Line::Token(_) | Line::Cover(_) => Opened::Nothing,
+    }
+}
+
+// Opens the desk over a database.
+fn open_database<F: Start>(rt: &HostRuntime, database: &Database, start: F) -> OpenedDesk<F>
+    ensures { IsOpenedAt (image_at F.Start) database.now result }
+{
+    match database {
+        Database::InMemory => Opened::Memory(open_in_memory(rt.alloc())),
+        Database::File(path) => Opened::Files(open_file(rt, path, start)),
+    }
+}
+
 /// A desk of no operators and no plans, in memory.
 ///
 /// # Errors
 ///
 /// `Memory` if memory runs out.
-pub fn open_in_memory(alloc: Global) -> Result<Desk<SqliteStore<FileStore<Ram>>>, Failure>
+pub fn open_in_memory(alloc: Global) -> Result<MemoryDesk, Failure>
     ensures blank { IfOk result IsBlank }
     ensures failure { IfErr result IsMemory }
 {
@@ -32,15 +78,40 @@ pub fn open_in_memory(alloc: Global) -> Result<Desk<SqliteStore<FileStore<Ram>>>
 /// # Errors
 ///
 /// That of `open_failure`.
-pub fn open_file<F: Start>(
-    rt: &HostRuntime,
-    path: &str,
-    start: F,
-) -> Result<Desk<SqliteStore<FileStore<FileFrom<F>>>>, Failure>
+pub fn open_file<F: Start>(rt: &HostRuntime, path: &str, start: F) -> Result<FileDesk<F>, Failure>
     ensures { IsOpenedIn (image_at F.Start) result }
 {
     match SqliteStore::open_from(rt, path, start) {
         Ok(store) => Ok(Desk::new(store)),
+        Err(fault) => Err(open_failure(&fault)),
+    }
+}
+
+// The desk over a database that may be of schema 1, and how many plans were moved. A database in memory can't
+// have plans of schema 1, and fails as `Store`.
+fn open_old<F: Start>(
+    rt: &HostRuntime,
+    database: &Database,
+    start: F,
+) -> Result<(FileDesk<F>, u32), Failure>
+    ensures { IsMovedAt (image_at F.Start) database.now result }
+{
+    match database {
+        Database::InMemory => Err(Failure::Store),
+        Database::File(path) => open_old_file(rt, path, start),
+    }
+}
+
+// The desk over the files at a path, to which the plans of schema 1 in them were moved.
+fn open_old_file<F: Start>(
+    rt: &HostRuntime,
+    path: &str,
+    start: F,
+) -> Result<(FileDesk<F>, u32), Failure>
+    ensures { IsMovedIn (image_at F.Start) result }
+{
+    match SqliteStore::migrate_from(rt, path, start) {
+        Ok((store, count)) => Ok((Desk::new(store), count)),
         Err(fault) => Err(open_failure(&fault)),
     }
 }

@@ -1,101 +1,98 @@
-//! A line carried out, whatever the files held, and whatever the streams and the port are.
+//! A line carried out at what was opened for it, whatever the streams and the port are.
 
+ghost use Rattle.std.specs.Prelude.{◌≡◌, None, IfErr, IfOk};
 ghost use Rattle.sqlite_wal.specs.Files.{image_at};
+ghost use Rattle.sqlite.specs.Files.{over_files};
+ghost use Rattle.desk_line.specs.Exits.{failure_status};
 ghost use Rattle.desk_line.specs.Lines.{HasDatabase, IsLine};
-ghost use Rattle.uss_desk.specs.Running.{IsDone, IsRunOver};
+ghost use Rattle.uss_desk.specs.Guarding.{account_of};
+ghost use Rattle.uss_desk.specs.Opening.{IsOpenedFor};
+ghost use Rattle.uss_desk.specs.Running.{IsDone, IsDoneAt, IsKeptAt, IsMoveTold, IsUndone};
 
-use crate::migrating::migrate;
-use crate::opening::{open_file, open_in_memory};
-use desk_line::{Database, Line, print_line};
-use desk_program::{Port, run_opened};
+use crate::opening::{FileDesk, MemoryDesk, Opened, OpenedDesk};
+use desk_line::{Failure, Line, conclude, print_line};
+use desk_program::{Port, print_migrated, run_opened};
 use desk_run::Desk;
 use desk_tables::SqliteStore;
-use ram_disk::Ram;
-use sqlite::{FileFrom, FileStore, Start};
+use sqlite::{FileStore, Start};
+use sqlite_disk::Disk;
+use std::alloc::Global;
 use std::io::{Read, Write};
 
-/// A desk in memory.
-pub type MemoryDesk = Desk<SqliteStore<FileStore<Ram>>>;
-
-/// A desk over the database in files, where `F` stands for what they held.
-pub type FileDesk<F> = Desk<SqliteStore<FileStore<FileFrom<F>>>>;
-
-/// Does what a line says, and answers the exit status and the desk at which it was done, if there was one;
-/// after a move, the desk over the plans that were moved.
+/// Does what a line says at what was opened for it, and answers the exit status and the desk in memory or
+/// over files at which it was done, if there was one. The word of a failure goes to `errors`; a fault there
+/// is passed over.
 pub fn run_line<F: Start, P: Port, R: Read, W: Write, E: Write>(
-    rt: &HostRuntime,
+    alloc: Global,
     line: &Line,
-    start: F,
-    port: &mut P,
-    input: &mut R,
-    output: &mut W,
-    errors: &mut E,
-) -> (u8, Option<MemoryDesk>, Option<FileDesk<F>>)
-    requires { IsLine line.now }
-    ensures { IsDone (image_at F.Start) line.now result.0 result.1 result.2
-        (P.taken port.old) (P.taken port.new) (R.remaining input.old) (R.remaining input.new)
-        (W.contents output.old) (W.contents output.new) }
-{
-    match line {
-        Line::Play(play) => run_at(rt, &play.database, line, start, port, input, output, errors),
-        Line::Enrol(enrol) => run_at(
-            rt,
-            &enrol.database,
-            line,
-            start,
-            port,
-            input,
-            output,
-            errors,
-        ),
-        Line::Serve(serve) => run_at(
-            rt,
-            &serve.database,
-            line,
-            start,
-            port,
-            input,
-            output,
-            errors,
-        ),
-        Line::Token(_) | Line::Cover(_) => {
-            (print_line(rt.alloc(), line, output, errors), None, None)
-        }
-        Line::Migrate(words) => {
-            let (status, desk) = migrate(rt, &words.database, start, output, errors);
-            (status, None, desk)
-        }
-    }
-}
-
-// Does what a line says at a desk over a database.
-fn run_at<F: Start, P: Port, R: Read, W: Write, E: Write>(
-    rt: &HostRuntime,
-    database: &Database,
-    line: &Line,
-    start: F,
+    opened: OpenedDesk<F>,
     port: &mut P,
     input: &mut R,
     output: &mut W,
     errors: &mut E,
 ) -> (u8, Option<MemoryDesk>, Option<FileDesk<F>>)
     requires line { IsLine line.now }
-    requires desk { HasDatabase line.now }
-    ensures { IsRunOver (image_at F.Start) database.now line.now result.0 result.1 result.2
+    requires opened { IsOpenedFor (image_at F.Start) line.now opened }
+    ensures { IsDone (account_of F.Start) opened line.now result.0 result.1 result.2
         (P.taken port.old) (P.taken port.new) (R.remaining input.old) (R.remaining input.new)
         (W.contents output.old) (W.contents output.new) }
 {
-    let alloc = rt.alloc();
-    match database {
-        Database::InMemory => {
-            let opened = open_in_memory(alloc);
-            let (status, desk) = run_opened(alloc, line, opened, port, input, output, errors);
-            (status, desk, None)
+    match opened {
+        Opened::Nothing => (print_line(alloc, line, output, errors), None, None),
+        Opened::Memory(desk) => {
+            let (status, left) = run_over(alloc, line, desk, port, input, output, errors);
+            (status, left, None)
         }
-        Database::File(path) => {
-            let opened = open_file(rt, path, start);
-            let (status, desk) = run_opened(alloc, line, opened, port, input, output, errors);
-            (status, None, desk)
+        Opened::Files(desk) => {
+            let (status, left) = run_over(alloc, line, desk, port, input, output, errors);
+            (status, None, left)
         }
+        Opened::Moved(moved) => {
+            let (status, left) = tell_moved(alloc, moved, output, errors);
+            (status, None, left)
+        }
+    }
+}
+
+// Does what a line says at the desk over files that was opened, on whatever disk they are.
+fn run_over<D: Disk + Drop, P: Port, R: Read, W: Write, E: Write>(
+    alloc: Global,
+    line: &Line,
+    opened: Result<Desk<SqliteStore<FileStore<D>>>, Failure>,
+    port: &mut P,
+    input: &mut R,
+    output: &mut W,
+    errors: &mut E,
+) -> (u8, Option<Desk<SqliteStore<FileStore<D>>>>)
+    requires line { IsLine line.now }
+    requires desk { HasDatabase line.now }
+    ensures opened { IfOk opened (IsDoneAt over_files line.now (P.taken port.old) (P.taken port.new)
+        (R.remaining input.old) (R.remaining input.new) (W.contents output.old) (W.contents output.new)
+        result.0 result.1) }
+    ensures kept { IfOk opened (IsKeptAt over_files line.now (P.taken port.old) (P.taken port.new)
+        (R.remaining input.old) (R.remaining input.new) (W.contents output.old) (W.contents output.new)
+        result.0 result.1) }
+    ensures unopened { IfErr opened (λ f. (result ≡ (failure_status f, None))
+        × (P.taken port.new ≡ P.taken port.old) × (R.remaining input.new ≡ R.remaining input.old)
+        × (W.contents output.new ≡ W.contents output.old)) }
+{
+    run_opened(alloc, line, opened, port, input, output, errors)
+}
+
+// Prints how many plans were moved, or the word of the failure.
+fn tell_moved<F: Start, W: Write, E: Write>(
+    alloc: Global,
+    moved: Result<(FileDesk<F>, u32), Failure>,
+    output: &mut W,
+    errors: &mut E,
+) -> (u8, Option<FileDesk<F>>)
+    ensures { IsMoveTold moved result.0 result.1 (W.contents output.old) (W.contents output.new) }
+{
+    match moved {
+        Ok((desk, count)) => {
+            let status = print_migrated(alloc, count, output, errors);
+            (status, Some(desk))
+        }
+        Err(failure) => (conclude(errors, Err(failure)), None),
     }
 }

@@ -32,7 +32,7 @@ pub fn ready_clear<S: PlanStore>(
         IsSome (ceiling_of operator.now (S.content store.old)) }
     ensures value { IsHonest (S.doubt store.new) → Readies (S.content store.old) operator.now
         (clear_ruling (plans_of operator.now (S.content store.old)) extent.now) result }
-    ensures reads { OnlyReads S.content S.doubt S.faults S.may_leave store.old store.new }
+    ensures reads { OnlyReads S.content S.doubt S.faults S.may_leave S.is_shielded store.old store.new }
     ensures cause { IfErr result (IsStoreCounted S.faults store.old store.new) }
 {
     let rows = store.own_plans(operator)?;

@@ -37,7 +37,7 @@ pub fn conflict_of<S: PlanStore>(
     ensures value { IsHonest (S.doubt store.new) → IfOk result (λ meeting.
         meeting ≡ conflict_in permitted.now (S.content store.old) operator.now id.now area.now
         priority) }
-    ensures reads { OnlyReads S.content S.doubt S.faults S.may_leave store.old store.new }
+    ensures reads { OnlyReads S.content S.doubt S.faults S.may_leave S.is_shielded store.old store.new }
     ensures cause { IfErr result (IsCounted S.faults store.old store.new) }
 {
     let mine = area.slabs()?;
@@ -59,7 +59,7 @@ fn first_among<S: PlanStore>(
     requires order { Ascend (λ s. s) slabs.now }
     ensures value { IsHonest (S.doubt store.new) → IfOk result
         (IsFirstAmong permitted.now (S.content store.old) operator.now id.now slabs.now priority) }
-    ensures reads { OnlyReads S.content S.doubt S.faults S.may_leave store.old store.new }
+    ensures reads { OnlyReads S.content S.doubt S.faults S.may_leave S.is_shielded store.old store.new }
     ensures cause { IfErr result (IsCounted S.faults store.old store.new) }
 {
     let gap = wide_gap(slabs);
@@ -95,7 +95,7 @@ fn first_in<S: PlanStore>(
     requires { AreFilled cluster.now }
     ensures value { IsHonest (S.doubt store.new) → IfOk result
         (IsFirstAmong permitted.now (S.content store.old) operator.now id.now cluster.now priority) }
-    ensures reads { OnlyReads S.content S.doubt S.faults S.may_leave store.old store.new }
+    ensures reads { OnlyReads S.content S.doubt S.faults S.may_leave S.is_shielded store.old store.new }
     ensures cause { IfErr result (IsCounted S.faults store.old store.new) }
 {
     let extent = bounds_of(cluster);

@@ -27,7 +27,7 @@ pub fn ready_delete<S: PlanStore>(
     ensures value { IsHonest (S.doubt store.new) → Readies (S.content store.old) operator.now
         (delete_ruling (plans_of operator.now (S.content store.old)) id.now
         (stored_of id.now (plans_of operator.now (S.content store.old)))) result }
-    ensures reads { OnlyReads S.content S.doubt S.faults S.may_leave store.old store.new }
+    ensures reads { OnlyReads S.content S.doubt S.faults S.may_leave S.is_shielded store.old store.new }
     ensures cause { IfErr result (IsStoreCounted S.faults store.old store.new) }
 {
     if store.states(operator, id)?.is_none() {

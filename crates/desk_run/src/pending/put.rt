@@ -42,7 +42,7 @@ pub fn ready_put<S: PlanStore>(
         (put_ruling
         (put_outcome_in permitted.now (S.content store.old) operator.now ceiling moment put.now)
         put.now (plans_of operator.now (S.content store.old))) result }
-    ensures reads { OnlyReads S.content S.doubt S.faults S.may_leave store.old store.new }
+    ensures reads { OnlyReads S.content S.doubt S.faults S.may_leave S.is_shielded store.old store.new }
     ensures cause { IfErr result (IsStoreCounted S.faults store.old store.new) }
 {
     let verdict = verdict_on(store, permitted, moment, operator, put, ceiling)?;
@@ -79,7 +79,7 @@ fn verdict_on<S: PlanStore>(
     ensures verdict { IsHonest (S.doubt store.new) → IfOk result (λ v.
         v ≡ put_outcome_in permitted.now (S.content store.old) operator.now ceiling moment
         put.now) }
-    ensures reads { OnlyReads S.content S.doubt S.faults S.may_leave store.old store.new }
+    ensures reads { OnlyReads S.content S.doubt S.faults S.may_leave S.is_shielded store.old store.new }
     ensures cause { IfErr result (IsCounted S.faults store.old store.new) }
 {
     let (stored, own_rows) = states_and_count(store, operator, &put.id)?;
@@ -127,7 +127,7 @@ fn conflict_if<S: PlanStore>(
     ensures value { IsHonest (S.doubt store.new) → IfOk result (λ meeting.
         meeting ≡ cond needed (conflict_in permitted.now (S.content store.old) operator.now
         put.now.id put.now.area put.now.priority) None) }
-    ensures reads { OnlyReads S.content S.doubt S.faults S.may_leave store.old store.new }
+    ensures reads { OnlyReads S.content S.doubt S.faults S.may_leave S.is_shielded store.old store.new }
     ensures cause { IfErr result (IsCounted S.faults store.old store.new) }
 {
     if !needed {
@@ -146,7 +146,7 @@ fn states_and_count<S: PlanStore>(
         own.0 ≡ states_of (stored_of id.now (plans_of operator.now (S.content store.old)))) }
     ensures count { IsHonest (S.doubt store.new) → IfOk result (λ own. own.0 ≡ None →
         own.1 ≡ length (plans_of operator.now (S.content store.old))) }
-    ensures reads { OnlyReads S.content S.doubt S.faults S.may_leave store.old store.new }
+    ensures reads { OnlyReads S.content S.doubt S.faults S.may_leave S.is_shielded store.old store.new }
     ensures cause { IfErr result (IsCounted S.faults store.old store.new) }
 {
     let stored = store.states(operator, id)?;

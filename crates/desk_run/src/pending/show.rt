@@ -31,7 +31,7 @@ pub fn ready_list<S: PlanStore>(
     ensures value { IsHonest (S.doubt store.new) → Readies (S.content store.old) operator.now
         (list_ruling permitted.now (plans_of operator.now (S.content store.old))
         (held (S.content store.old) operator.now)) result }
-    ensures reads { OnlyReads S.content S.doubt S.faults S.may_leave store.old store.new }
+    ensures reads { OnlyReads S.content S.doubt S.faults S.may_leave S.is_shielded store.old store.new }
     ensures cause { IfErr result (IsStoreCounted S.faults store.old store.new) }
 {
     let plans = own_shown(alloc, store, permitted, operator)?;
@@ -51,7 +51,7 @@ fn own_shown<S: PlanStore>(
     ensures value { IsHonest (S.doubt store.new) → IfOk result (λ plans.
         plans.items ≡ map (shown_in permitted.now (S.content store.old) operator.now)
         (plans_of operator.now (S.content store.old))) }
-    ensures reads { OnlyReads S.content S.doubt S.faults S.may_leave store.old store.new }
+    ensures reads { OnlyReads S.content S.doubt S.faults S.may_leave S.is_shielded store.old store.new }
     ensures cause { IfErr result (IsCounted S.faults store.old store.new) }
 {
     let rows = store.own_plans(operator)?;
@@ -69,7 +69,7 @@ pub fn ready_show<S: PlanStore>(
         (show_ruling permitted.now (plans_of operator.now (S.content store.old))
         (held (S.content store.old) operator.now)
         (stored_of id.now (plans_of operator.now (S.content store.old)))) result }
-    ensures reads { OnlyReads S.content S.doubt S.faults S.may_leave store.old store.new }
+    ensures reads { OnlyReads S.content S.doubt S.faults S.may_leave S.is_shielded store.old store.new }
     ensures cause { IfErr result (IsStoreCounted S.faults store.old store.new) }
 {
     let Some(row) = store.plan(operator, id)? else {
@@ -92,7 +92,7 @@ fn shown_all<S: PlanStore>(
 ) -> Result<Vec<Shown>, StoreFault>
     ensures value { IsHonest (S.doubt store.new) → IfOk result (λ plans.
         plans.items ≡ map (shown_in permitted.now (S.content store.old) operator.now) rows.now) }
-    ensures reads { OnlyReads S.content S.doubt S.faults S.may_leave store.old store.new }
+    ensures reads { OnlyReads S.content S.doubt S.faults S.may_leave S.is_shielded store.old store.new }
     ensures cause { IfErr result (IsCounted S.faults store.old store.new) }
 {
     let mut plans = Vec::new(alloc);
@@ -111,7 +111,7 @@ fn shown<S: PlanStore>(
 ) -> Result<Shown, StoreFault>
     ensures value { IsHonest (S.doubt store.new) → IfOk result (λ shown.
         shown ≡ shown_in permitted.now (S.content store.old) operator.now row.now) }
-    ensures reads { OnlyReads S.content S.doubt S.faults S.may_leave store.old store.new }
+    ensures reads { OnlyReads S.content S.doubt S.faults S.may_leave S.is_shielded store.old store.new }
     ensures cause { IfErr result (IsCounted S.faults store.old store.new) }
 {
     let conflict = shown_conflict(store, permitted, operator, row)?;
@@ -131,7 +131,7 @@ fn shown_conflict<S: PlanStore>(
 ) -> Result<Option<Meeting>, StoreFault>
     ensures value { IsHonest (S.doubt store.new) → IfOk result (λ conflict.
         conflict ≡ conflict_shown_in permitted.now (S.content store.old) operator.now row.now) }
-    ensures reads { OnlyReads S.content S.doubt S.faults S.may_leave store.old store.new }
+    ensures reads { OnlyReads S.content S.doubt S.faults S.may_leave S.is_shielded store.old store.new }
     ensures cause { IfErr result (IsCounted S.faults store.old store.new) }
 {
     if !row.usage.is_live() {

@@ -60,6 +60,8 @@ pub(crate) fn make<S: Alter>(
         (BlamesChange S.Store connection.old connection.new change.now) }
     ensures doubt { doubt (state S.Store connection.old).is_clean
         ≤ doubt (state S.Store connection.new).is_clean }
+    ensures shield { (state S.Store connection.old).IsShielded
+        → (state S.Store connection.new).IsShielded }
     ensures crash { MayHave S.Store connection.old connection.new
         (changed_by change.now kept.now.world) }
     ensures open { HasCleanDisk (state S.Store connection.new)
@@ -99,6 +101,8 @@ pub(crate) fn enrol<S: Alter>(
         → IfErr result (BlamesStore S.Store connection.old connection.new) }
     ensures doubt { doubt (state S.Store connection.old).is_clean
         ≤ doubt (state S.Store connection.new).is_clean }
+    ensures shield { (state S.Store connection.old).IsShielded
+        → (state S.Store connection.new).IsShielded }
     ensures crash { MayHave S.Store connection.old connection.new
         (changed_by (change.Enrol operator.now ceiling) kept.now.world) }
     ensures open { HasCleanDisk (state S.Store connection.new)
@@ -133,6 +137,8 @@ fn put<S: Alter>(
         → IfErr result (BlamesStore S.Store connection.old connection.new) }
     ensures doubt { doubt (state S.Store connection.old).is_clean
         ≤ doubt (state S.Store connection.new).is_clean }
+    ensures shield { (state S.Store connection.old).IsShielded
+        → (state S.Store connection.new).IsShielded }
     ensures crash { MayHave S.Store connection.old connection.new
         (changed_by (change.Put operator.now row.now) kept.now.world) }
     ensures open { HasCleanDisk (state S.Store connection.new)
@@ -178,6 +184,8 @@ fn close<S: Alter>(
         → IfErr result (BlamesStore S.Store connection.old connection.new) }
     ensures doubt { doubt (state S.Store connection.old).is_clean
         ≤ doubt (state S.Store connection.new).is_clean }
+    ensures shield { (state S.Store connection.old).IsShielded
+        → (state S.Store connection.new).IsShielded }
     ensures crash { MayHave S.Store connection.old connection.new
         (changed_by (change.Close operator.now id.now) kept.now.world) }
     ensures open { HasCleanDisk (state S.Store connection.new)
@@ -227,6 +235,8 @@ fn clear<S: Alter>(
     ensures cause { IfErr result (BlamesStore S.Store connection.old connection.new) }
     ensures doubt { doubt (state S.Store connection.old).is_clean
         ≤ doubt (state S.Store connection.new).is_clean }
+    ensures shield { (state S.Store connection.old).IsShielded
+        → (state S.Store connection.new).IsShielded }
     ensures crash { MayHave S.Store connection.old connection.new
         (changed_by (change.Clear operator.now ids.now) kept.now.world) }
     ensures open { HasCleanDisk (state S.Store connection.new)

@@ -61,6 +61,8 @@ pub(crate) fn world_in<S: Alter>(
     ensures kept { OnErr result (IsKept S.Store connection.old connection.new) }
     ensures doubt { doubt (state S.Store connection.old).is_clean
         ≤ doubt (state S.Store connection.new).is_clean }
+    ensures shield { (state S.Store connection.old).IsShielded
+        → (state S.Store connection.new).IsShielded }
 {
     let (made, old) = tables_found(connection)?;
     if old {
@@ -117,6 +119,8 @@ pub(crate) fn world_of<S: Alter>(
     ensures kept { OnErr result (IsKept S.Store connection.old connection.new) }
     ensures doubt { doubt (state S.Store connection.old).is_clean
         ≤ doubt (state S.Store connection.new).is_clean }
+    ensures shield { (state S.Store connection.old).IsShielded
+        → (state S.Store connection.new).IsShielded }
 {
     match made {
         Made::All => found_in(alloc, connection, Made::All),
@@ -139,6 +143,8 @@ pub(crate) fn made_in<S: Alter>(connection: &mut Connection<S>) -> Result<Kept, 
     ensures kept { OnErr result (IsKept S.Store connection.old connection.new) }
     ensures doubt { doubt (state S.Store connection.old).is_clean
         ≤ doubt (state S.Store connection.new).is_clean }
+    ensures shield { (state S.Store connection.old).IsShielded
+        → (state S.Store connection.new).IsShielded }
 {
     complete_tables(connection, Made::Nothing)?;
     Ok(Kept::new())
@@ -170,6 +176,8 @@ fn completed_in<S: Alter>(
     ensures kept { OnErr result (IsKept S.Store connection.old connection.new) }
     ensures doubt { doubt (state S.Store connection.old).is_clean
         ≤ doubt (state S.Store connection.new).is_clean }
+    ensures shield { (state S.Store connection.old).IsShielded
+        → (state S.Store connection.new).IsShielded }
 {
     let found = found_in(alloc, connection, made)?;
     complete_tables(connection, made)?;

@@ -73,6 +73,8 @@ pub(crate) fn moved_world_in<S: Alter>(
     ensures kept { OnErr result (KeepsRows S.Store connection.old connection.new) }
     ensures doubt { doubt (state S.Store connection.old).is_clean
         ≤ doubt (state S.Store connection.new).is_clean }
+    ensures shield { (state S.Store connection.old).IsShielded
+        → (state S.Store connection.new).IsShielded }
 {
     let (made, old) = tables_found(connection)?;
     if old {
@@ -108,6 +110,8 @@ fn moved_in<S: Alter>(
     ensures kept { OnErr result (KeepsRows S.Store connection.old connection.new) }
     ensures doubt { doubt (state S.Store connection.old).is_clean
         ≤ doubt (state S.Store connection.new).is_clean }
+    ensures shield { (state S.Store connection.old).IsShielded
+        → (state S.Store connection.new).IsShielded }
 {
     let (content, lengths) = old_found_in(alloc, connection, made)?;
     make_whole(connection, made)?;

@@ -167,6 +167,8 @@ impl<S: Alter> SqliteStore<S> {
             ≤ doubt (state S.Store store.held).is_clean)
             (λ refused. doubt (state S.Store connection).is_clean
             ≤ doubt (state S.Store refused.connection).is_clean) }
+        ensures shield { IfOk result (λ store. (state S.Store connection).IsShielded
+            → (state S.Store store.held).IsShielded) }
     {
         match world_in(alloc, &mut connection) {
             Ok((kept, lengths)) => {
@@ -207,6 +209,8 @@ impl<S: Alter> SqliteStore<S> {
             ≤ doubt (state S.Store moved.0.held).is_clean)
             (λ refused. doubt (state S.Store connection).is_clean
             ≤ doubt (state S.Store refused.connection).is_clean) }
+        ensures shield { IfOk result (λ moved. (state S.Store connection).IsShielded
+            → (state S.Store moved.0.held).IsShielded) }
     {
         match moved_world_in(alloc, &mut connection) {
             Ok((kept, lengths, count)) => {

@@ -24,6 +24,7 @@ loop-enrolment-preserved g c =
       settled = λ h was. c.in_ok-enrol.ensures.kept h;
       doubt = omega (arith, c.loop-enrolment.invariant.doubt, c.enrol.ensures.remembered.doubt);
       counted = omega (arith, c.loop-enrolment.invariant.counted, c.enrol.ensures.remembered.counted);
+      shield = λ s. c.enrol.ensures.remembered.shield (c.loop-enrolment.invariant.shield s);
     }
 
 pub returns-in_err-enrol-clause-crash : goal.returns-in_err-enrol-clause-crash

@@ -16,4 +16,5 @@ invariant-loop-enrolment g l =
           → IsSettled g.S.PlanStore.content g.S.PlanStore.may_leave l.desk;
       doubt : g.S.PlanStore.doubt l.fn.desk.store ≤ g.S.PlanStore.doubt l.desk.store;
       counted : g.S.PlanStore.faults l.fn.desk.store ≤ g.S.PlanStore.faults l.desk.store;
+      shield : g.S.PlanStore.is_shielded l.fn.desk.store → g.S.PlanStore.is_shielded l.desk.store;
     }

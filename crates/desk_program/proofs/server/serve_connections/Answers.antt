@@ -33,6 +33,7 @@ loop-before-preserved g c = record {
       c.in_ok-serve_connection.was c.loop-before.before 1 xs ys);
   doubt = omega (arith, c.loop-before.invariant.doubt, c.serve_connection.ensures.remembered.doubt);
   counted = omega (arith, c.loop-before.invariant.counted, c.serve_connection.ensures.remembered.counted);
+  shield = λ s. c.serve_connection.ensures.remembered.shield (c.loop-before.invariant.shield s);
 }
 
 pub returns-clause-kept : goal.returns-clause-kept

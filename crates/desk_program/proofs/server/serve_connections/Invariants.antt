@@ -14,4 +14,5 @@ invariant-loop-before g l =
           (g.S.PlanStore.may_leave l.fn.desk.store) (g.S.PlanStore.may_leave l.desk.store);
       doubt : g.S.PlanStore.doubt l.fn.desk.store ≤ g.S.PlanStore.doubt l.desk.store;
       counted : g.S.PlanStore.faults l.fn.desk.store ≤ g.S.PlanStore.faults l.desk.store;
+      shield : g.S.PlanStore.is_shielded l.fn.desk.store → g.S.PlanStore.is_shielded l.desk.store;
     }

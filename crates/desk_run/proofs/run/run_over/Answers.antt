@@ -39,4 +39,5 @@ loop-moment-preserved g c =
           c.loop-moment.invariant.room;
       doubt = omega (arith, c.loop-moment.invariant.doubt, c.call.ensures.remembered.doubt);
       counted = omega (arith, c.loop-moment.invariant.counted, c.call.ensures.remembered.counted);
+      shield = λ s. c.call.ensures.remembered.shield (c.loop-moment.invariant.shield s);
     }

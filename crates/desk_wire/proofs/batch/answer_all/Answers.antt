@@ -56,6 +56,7 @@ loop-moment-preserved g c =
         c.loop-moment.invariant.counted,
         c.answer_request-answer.ensures.remembered.counted,
       );
+      shield = λ s. c.answer_request-answer.ensures.remembered.shield (c.loop-moment.invariant.shield s);
     }
 
 pub returns-in_default-clause-answers : goal.returns-in_default-clause-answers

@@ -19,6 +19,7 @@ loop-before-init g c = record {
   grown = grows_none (g.W.Write.contents c.args.output.now);
   doubt = omega arith;
   counted = omega arith;
+  shield = λ s. s;
 }
 
 pub returns-then-is_server_error-clause-played : goal.returns-then-is_server_error-clause-played
@@ -71,6 +72,7 @@ loop-before-preserved g c =
           (g.W.Write.contents c.serve_next.new.output) served.answer c.loop-before.invariant.grown
           served.written;
       counted = omega (arith, c.loop-before.invariant.counted, c.serve_next.ensures.remembered.counted);
+      shield = λ s. c.serve_next.ensures.remembered.shield (c.loop-before.invariant.shield s);
     }
 
 -- what is found is what was settled, or that with one request more

@@ -19,4 +19,5 @@ invariant-loop-before g l =
       doubt : g.S.PlanStore.doubt l.fn.desk.store ≤ g.S.PlanStore.doubt l.desk.store;
       grown : Grows (g.W.Write.contents l.fn.output) (g.W.Write.contents l.output);
       counted : g.S.PlanStore.faults l.fn.desk.store ≤ g.S.PlanStore.faults l.desk.store;
+      shield : g.S.PlanStore.is_shielded l.fn.desk.store → g.S.PlanStore.is_shielded l.desk.store;
     }

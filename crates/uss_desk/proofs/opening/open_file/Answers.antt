@@ -2,6 +2,7 @@ use Rattle.std.proofs.Common.{ap, sym, subst}
 use Rattle.sqlite_wal.specs.Files.{image_at}
 use Rattle.sqlite.specs.Files.{over_files}
 use Rattle.desk_tables.specs.Files.{OpensIn}
+use Rattle.desk_tables.specs.Guarding.{IsGuarded}
 use Rattle.desk_tables.specs.Leaving.{IsSettledAt}
 use Rattle.uss_desk.proofs.opening.open_file.Goals as goal
 
@@ -13,5 +14,6 @@ returns-in-Ok g c =
     c.in-Ok.ensures.left in record {
       opens = opens;
       left = λ clean. left clean (opens.live clean);
+      guarded = subst (λ d. IsGuarded d.store.held) (sym c.new.ensures) c.in-Ok.ensures.guarded;
       none = ap (λ d. d.permitted) c.new.ensures;
     }

@@ -50,6 +50,7 @@ loop-rest-preserved g c =
           (c.in_ok-meeting.ensures.reads.crash honest found may);
       doubt = omega (arith, c.in_ok-meeting.ensures.reads.doubt, so_far.doubt);
       counted = omega (arith, c.in_ok-meeting.ensures.reads.counted, so_far.counted);
+      shield = λ s. c.in_ok-meeting.ensures.reads.shield (so_far.shield s);
     }
 
 pub returns-clause-value : goal.returns-clause-value

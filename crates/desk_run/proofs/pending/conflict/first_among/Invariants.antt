@@ -26,6 +26,7 @@ invariant-loop-rest g l =
           (g.S.PlanStore.may_leave l.store);
       doubt : g.S.PlanStore.doubt l.fn.store ≤ g.S.PlanStore.doubt l.store;
       counted : g.S.PlanStore.faults l.fn.store ≤ g.S.PlanStore.faults l.store;
+      shield : g.S.PlanStore.is_shielded l.fn.store → g.S.PlanStore.is_shielded l.store;
     }
 
 abbrev pub decreases-loop-rest : goal.decreases-loop-rest

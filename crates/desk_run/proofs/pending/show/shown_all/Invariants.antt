@@ -18,4 +18,5 @@ invariant-loop-row g l =
           (g.S.PlanStore.may_leave l.store);
       doubt : g.S.PlanStore.doubt l.fn.store ≤ g.S.PlanStore.doubt l.store;
       counted : g.S.PlanStore.faults l.fn.store ≤ g.S.PlanStore.faults l.store;
+      shield : g.S.PlanStore.is_shielded l.fn.store → g.S.PlanStore.is_shielded l.store;
     }

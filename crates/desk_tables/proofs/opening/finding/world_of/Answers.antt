@@ -61,4 +61,5 @@ returns-in_default g c =
       live = done.live;
       kept = done.kept;
       doubt = done.doubt;
+      shield = done.shield;
     }

@@ -1,0 +1,35 @@
+use Rattle.std.proofs.Common.{arith}
+use Rattle.sqlite.specs.State.{HasCleanDisk}
+use Rattle.sqlite.specs.Files.{file_state}
+use Rattle.desk_tables.proofs.opening.files.adopt_old_files.Goals as goal
+
+pub returns-in-Ok-clause-begins : goal.returns-in-Ok-clause-begins
+returns-in-Ok-clause-begins g c =
+    let was : HasCleanDisk (file_state c.in-Ok.moved.0.held) → HasCleanDisk (file_state c.args.connection) =
+    λ clean. omega (arith, c.in-Ok.ensures.doubt, clean) in λ image finds. record {
+      found = c.args.connection;
+      opened = λ clean. finds.first (was clean);
+      guarded = λ clean. c.in-Ok.ensures.shield (finds.guarded clean);
+      live = c.in-Ok.ensures.live;
+      begins = c.in-Ok.ensures.begins;
+    }
+
+pub returns-in-Err-clause-fault : goal.returns-in-Err-clause-fault
+returns-in-Err-clause-fault g c =
+    let was : HasCleanDisk (file_state c.in-Err.refused.connection)
+    → HasCleanDisk (file_state c.args.connection) =
+    λ clean. omega (arith, c.in-Err.ensures.doubt, clean) in λ image finds. record {
+      none = λ none. record {
+        found = c.args.connection;
+        left = c.in-Err.refused.connection;
+        opened = λ clean. finds.first (was clean);
+        fresh = c.requires.fresh;
+        none = c.in-Err.ensures.none none;
+        kept = c.in-Err.ensures.kept;
+      };
+      newer = c.in-Err.ensures.newer;
+    }
+
+pub returns-in-Ok-clause-guarded : goal.returns-in-Ok-clause-guarded
+returns-in-Ok-clause-guarded g c = λ guarded clean.
+    c.in-Ok.ensures.shield (guarded (omega (arith, c.in-Ok.ensures.doubt, clean)))

@@ -1,0 +1,80 @@
+//! A connection to the files at a path, with the options of a desk.
+
+ghost use Rattle.std.specs.Prelude.{IfErr, IfOk, IsTrue, true, false};
+ghost use Rattle.sqlite_wal.specs.Files.{image_at};
+ghost use Rattle.sqlite_std_file.specs.File.{file_is_usable, IsFresh};
+ghost use Rattle.sqlite.specs.Held.{IsNew};
+ghost use Rattle.desk_tables.specs.Files.{Finds, IsUnread};
+
+use crate::opening::open::OpenFault;
+use sqlite::{Connection, FileFrom, FileStore, Files, Options, Start};
+use sqlite_std_file::OpenError;
+use std::hash::{BuildHasher, RandomState};
+use std::io::ErrorKind;
+
+// Whether a new file gets the sums of SQLite's cksumvfs at the ends of its pages.
+const NEW_HAS_SUMS: bool = true;
+
+// How many frames the log holds before it is copied into the database file: what some 16 changes write.
+const LOG_FRAMES: usize = 320;
+
+/// A connection to the database in the files at a path; `start` stands for what the files held. Where there
+/// are no files, they are made.
+///
+/// # Errors
+///
+/// `OutOfMemory` if memory runs out, and `Store` if the files cannot be opened for another cause.
+pub(crate) fn connect<S: Start>(
+    rt: &HostRuntime,
+    path: &str,
+    start: S,
+) -> Result<Connection<FileStore<FileFrom<S>>>, OpenFault>
+    ensures found { IfOk result (Finds (image_at S.Start)) }
+    ensures fresh { IfOk result IsNew }
+    ensures unread { IfErr result IsUnread }
+{
+    let files = open_pair(rt, path, start)?;
+    let options = options(rt)?;
+    match Connection::open_files_with(rt.alloc(), files, options, NEW_HAS_SUMS) {
+        Ok(connection) => Ok(connection),
+        Err((error, _)) => Err(OpenFault::from(error)),
+    }
+}
+
+// The two files at a path. Names that SQLite reads otherwise than as a path are refused.
+fn open_pair<S: Start>(
+    rt: &HostRuntime,
+    path: &str,
+    start: S,
+) -> Result<Files<FileFrom<S>>, OpenFault>
+    ensures log { IfOk result (λ files. IsTrue (file_is_usable S.Start files.log)) }
+    ensures db { IfOk result (λ files. IsTrue (file_is_usable S.Start files.db)) }
+    ensures fresh { IfOk result (λ files. IsFresh true files.log × IsFresh false files.db) }
+    ensures unread { IfErr result IsUnread }
+{
+    if path == ":memory:" || path.starts_with("file:") {
+        return Err(OpenFault::Store);
+    }
+    match sqlite_std_file::open(rt, path, start) {
+        Ok(files) => Ok(files),
+        Err(OpenError::OutOfMemory) => Err(OpenFault::OutOfMemory),
+        Err(OpenError::Io(error)) if error.kind() == ErrorKind::OutOfMemory => {
+            Err(OpenFault::OutOfMemory)
+        }
+        Err(_) => Err(OpenFault::Store),
+    }
+}
+
+// The options of a desk's files: the seed of the log's salts is drawn by the operating system.
+fn options(rt: &HostRuntime) -> Result<Options, OpenFault>
+    ensures { IfErr result IsUnread }
+{
+    match RandomState::new(rt) {
+        Ok(random) => {
+            let mut options = Options::new(random.hash_one(&0u8));
+            options.checkpoint_frames = LOG_FRAMES;
+            Ok(options)
+        }
+        Err(_) => Err(OpenFault::Store),
+    }
+}

@@ -1,0 +1,43 @@
+-- Guarding: what is known of a desk's files if the disk lies once the desk is opened.
+use Rattle.std.specs.Prelude.{◌⊎◌, List, ℕ}
+use Rattle.sqlite_disk.specs.declared.Disk as disk
+use Rattle.sqlite_disk.specs.declared.calls.Calls as calls
+use Rattle.sqlite_disk.specs.declared.modelled.Modelled.{Modelled}
+use Rattle.sqlite_disk.specs.declared.start.Start.{Ghosts}
+use Rattle.sqlite_disk.specs.Events.{Event, HasCollision}
+use Rattle.sqlite_disk.specs.Modelled.{start_of}
+use Rattle.sqlite_std_file.specs.declared.host.Host.{Host}
+use Rattle.sqlite_store.specs.declared.store.FileStore.{FileStore}
+use Rattle.sqlite_store.specs.FileStore.{files}
+use Rattle.sqlite.specs.Files.{file_state, over_files}
+use Rattle.sqlite.specs.State.{HasCleanDisk}
+use Rattle.desk_store.specs.Faults.{IsHonest}
+use Rattle.sqlite_trees.specs.View.{doubt}
+use Rattle.desk_run.specs.DeskWorld.{Parts}
+use Rattle.desk_tables.specs.Store.{Shown}
+
+-- of a file: the bytes that it held before its first call, and its calls since with their answers, the newest
+-- first
+pub record Account (D : Type 0) : Type 0 where
+  pub start : D → List ℕ
+  pub calls : D → List Event
+
+-- of a file of the operating system that held what `start` stands for
+abbrev pub account_of :
+    {S : Type 0} {g : calls.Ghosts Host} (start : Ghosts S) → Account (Modelled Host S g start)
+account_of start = record { start = start_of start; calls = λ f. f.calls.log.events }
+
+module _ {D : Type 0} {g : disk.Ghosts D} where
+  -- a read of the log or of the database file returned other bytes than those that had been written there, of
+  -- the same digest of 64 bits under the key that came with the files
+  abbrev pub HasCollided : Account D → Parts (Shown (FileStore D g)) → Type 0
+  HasCollided account desk =
+      let log = (files desk.store.held.store).0 in
+      let db = (files desk.store.held.store).1 in
+      HasCollision (g.key_of log) (account.start log) (account.calls log)
+      ⊎ HasCollision (g.key_of log) (account.start db) (account.calls db)
+
+  -- the disk has returned what was written, to the end; or a digest has collided
+  abbrev pub IsTrueOrCollided : Account D → Parts (Shown (FileStore D g)) → Type 0
+  IsTrueOrCollided account desk =
+      IsHonest (doubt (file_state desk.store.held).is_clean) ⊎ HasCollided account desk

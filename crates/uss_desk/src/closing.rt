@@ -1,0 +1,28 @@
+//! A desk over files, closed after its line: the database file alone holds it then.
+
+ghost use Rattle.uss_desk.specs.Closing.{IsClosed};
+
+use crate::opening::FileDesk;
+use desk_line::{Failure, conclude};
+use sqlite::{FileFrom, Files, Start};
+use std::io::Write;
+
+/// Copies the log of a desk over files into the database file, empties it, and gives the files back, with the
+/// exit status: that of the line, or that of `Store` if the line ended well and its desk can't be closed. The
+/// word of that failure goes to `errors`; a fault there is passed over. In memory there is nothing to close.
+pub fn close_after<F: Start, E: Write>(
+    status: u8,
+    desk: Option<FileDesk<F>>,
+    errors: &mut E,
+) -> (u8, Option<Files<FileFrom<F>>>)
+    ensures { IsClosed desk status result.0 result.1 }
+{
+    let Some(desk) = desk else {
+        return (status, None);
+    };
+    match desk.into_store().close() {
+        Ok(files) => (status, Some(files)),
+        Err(_) if status == 0 => (conclude(errors, Err(Failure::Store)), None),
+        Err(_) => (status, None),
+    }
+}
