@@ -12,13 +12,18 @@ mod shown;
 mod stage;
 mod step;
 
-use crate::opening::FusedStore;
+use crate::opening::Place;
 use both::Both;
+use desk_tables::SqliteStore;
 use std::alloc::Global;
 use std::io::Write;
 
 /// Plays the lines of a script.
-pub fn play<W: Write>(alloc: Global, lines: &[String], output: &mut W) -> anyhow::Result<()> {
-    let mut both: Both<FusedStore> = Both::new(alloc)?;
+pub fn play<A: Place, W: Write>(
+    alloc: Global,
+    lines: &[String],
+    output: &mut W,
+) -> anyhow::Result<()> {
+    let mut both: Both<SqliteStore<A>> = Both::new(alloc)?;
     both.play_all(lines, output)
 }

@@ -5,6 +5,7 @@ use sqlite_disk::{Crash, Disk, Fuse, Memory};
 use std::alloc::{AllocError, Global};
 use std::fmt::{self, Display, Formatter, Write};
 use std::io;
+use std::marker::PhantomData;
 
 /// A database file and its log, each with a fuse.
 pub type FusedFiles = Files<Fuse<Memory>>;
@@ -46,19 +47,21 @@ impl Display for Left {
     }
 }
 
-/// The bytes of a database file and of its log.
+/// The bytes of a database file and of its log, for tables of a place.
 #[derive(Drop)]
-pub struct Image {
+pub struct Image<A> {
     log: Vec<u8>,
     database: Vec<u8>,
+    place: PhantomData<A>,
 }
 
-impl Image {
+impl<A> Image<A> {
     /// No bytes.
-    pub fn empty(alloc: Global) -> Image {
+    pub fn empty(alloc: Global) -> Image<A> {
         Image {
             log: Vec::new(alloc),
             database: Vec::new(alloc),
+            place: PhantomData,
         }
     }
 
@@ -83,7 +86,7 @@ impl Image {
     }
 
     /// What is left in the files.
-    pub fn left(alloc: Global, mut files: FusedFiles, left: Left) -> Result<Image, AllocError> {
+    pub fn left(alloc: Global, mut files: FusedFiles, left: Left) -> Result<Image<A>, AllocError> {
         if left == Left::Synced {
             files.log.crash();
             files.db.crash();
@@ -91,12 +94,21 @@ impl Image {
         Image::of(alloc, &files)
     }
 
-    /// What is written in the files.
-    pub fn of(alloc: Global, files: &FusedFiles) -> Result<Image, AllocError> {
+    // What is written in the files.
+    fn of(alloc: Global, files: &FusedFiles) -> Result<Image<A>, AllocError> {
         Ok(Image {
             log: Vec::from_slice(alloc, files.log.inner().bytes())?,
             database: Vec::from_slice(alloc, files.db.inner().bytes())?,
+            place: PhantomData,
         })
+    }
+}
+
+/// Files with no bytes, none of which stops.
+pub fn no_files(alloc: Global) -> FusedFiles {
+    Files {
+        log: Fuse::new(Memory::new(alloc), ALL_CALLS),
+        db: Fuse::new(Memory::new(alloc), ALL_CALLS),
     }
 }
 

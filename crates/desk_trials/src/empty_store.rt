@@ -1,9 +1,10 @@
 //! Stores with which a part begins.
 
-use crate::disk::Image;
-use crate::opening::{FusedStore, open};
+use crate::disk::no_files;
+use crate::opening::{Place, open};
 use anyhow::bail;
 use desk_store::{ListStore, PlanStore};
+use desk_tables::SqliteStore;
 use std::alloc::Global;
 
 /// A store that can be made with no operators and no plans.
@@ -18,10 +19,9 @@ impl EmptyStore for ListStore {
     }
 }
 
-impl EmptyStore for FusedStore {
-    fn empty(alloc: Global) -> anyhow::Result<FusedStore> {
-        let files = Image::empty(alloc).files(alloc)?;
-        match open(alloc, files) {
+impl<A: Place> EmptyStore for SqliteStore<A> {
+    fn empty(alloc: Global) -> anyhow::Result<SqliteStore<A>> {
+        match open(alloc, no_files(alloc)) {
             Ok(store) => Ok(store),
             Err(_) => bail!("no tables in memory"),
         }

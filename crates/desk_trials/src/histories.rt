@@ -8,9 +8,10 @@ mod tally;
 
 use crate::desks::{CEILING, MOMENT, enrol};
 use crate::empty_store::EmptyStore;
-use crate::opening::FusedStore;
+use crate::opening::Place;
 use desk_run::Desk;
 use desk_store::{ListStore, PlanStore};
+use desk_tables::SqliteStore;
 use desk_wire::answer;
 use history::{History, operator_names};
 use std::alloc::Global;
@@ -18,9 +19,14 @@ use std::io::Write;
 use tally::Tally;
 
 /// Plays so many requests of the history of a seed.
-pub fn play<W: Write>(alloc: Global, seed: u64, count: u64, output: &mut W) -> anyhow::Result<()> {
+pub fn play<A: Place, W: Write>(
+    alloc: Global,
+    seed: u64,
+    count: u64,
+    output: &mut W,
+) -> anyhow::Result<()> {
     let mut listed = Desk::new(ListStore::new(alloc));
-    let mut tabled = Desk::new(FusedStore::empty(alloc)?);
+    let mut tabled = Desk::new(SqliteStore::<A>::empty(alloc)?);
     let tally = play_both(
         alloc,
         &mut listed,

@@ -19,34 +19,35 @@ mod stops;
 mod texts;
 
 use anyhow::Context;
+use opening::{FilesPlace, Place};
 use part::Part;
 use std::env;
 
 fn main(rt: HostRuntime) -> anyhow::Result<()> {
     let mut words = env::args(&rt)?;
     match words.nth(1) {
-        Some(name) => play(&rt, &Part::read(&name, &mut words)?),
-        None => play_all(&rt),
+        Some(name) => play::<FilesPlace>(&rt, &Part::read(&name, &mut words)?),
+        None => play_all::<FilesPlace>(&rt),
     }
 }
 
 // Plays all parts.
-fn play_all(rt: &HostRuntime) -> anyhow::Result<()> {
+fn play_all<A: Place>(rt: &HostRuntime) -> anyhow::Result<()> {
     let lines = lines_read(rt)?;
     for part in &Part::all(rt.alloc())? {
-        play_with(rt, part, &lines)?;
+        play_with::<A>(rt, part, &lines)?;
     }
     Ok(())
 }
 
 // Plays a part, which reads the standard input only if it has a script.
-fn play(rt: &HostRuntime, part: &Part) -> anyhow::Result<()> {
+fn play<A: Place>(rt: &HostRuntime, part: &Part) -> anyhow::Result<()> {
     let lines = if part.has_script() {
         lines_read(rt)?
     } else {
         Vec::new(rt.alloc())
     };
-    play_with(rt, part, &lines)
+    play_with::<A>(rt, part, &lines)
 }
 
 // The lines of the standard input.
@@ -59,14 +60,14 @@ fn lines_read(rt: &HostRuntime) -> anyhow::Result<Vec<String>> {
 }
 
 // Plays a part, with the lines of the standard input.
-fn play_with(rt: &HostRuntime, part: &Part, lines: &[String]) -> anyhow::Result<()> {
+fn play_with<A: Place>(rt: &HostRuntime, part: &Part, lines: &[String]) -> anyhow::Result<()> {
     let mut output = rt.stdout();
     match part {
-        Part::Cases => cases::play(rt.alloc(), script_of(lines, "cases")?, &mut output),
+        Part::Cases => cases::play::<A, _>(rt.alloc(), script_of(lines, "cases")?, &mut output),
         Part::Histories { seed, count } => {
-            histories::play(rt.alloc(), *seed, *count, &mut output)
+            histories::play::<A, _>(rt.alloc(), *seed, *count, &mut output)
         }
-        Part::Stops => stops::play(rt.alloc(), script_of(lines, "stops")?, &mut output),
+        Part::Stops => stops::play::<A, _>(rt.alloc(), script_of(lines, "stops")?, &mut output),
         Part::Refusals => refusals::play(rt, &mut output),
         Part::Bench { keeping, sizes } => bench::play(rt, keeping, *sizes),
     }

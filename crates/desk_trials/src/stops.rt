@@ -18,6 +18,7 @@ mod tables;
 mod tally;
 mod trial;
 
+use crate::opening::Place;
 use crate::script::is_silent;
 use line::Line;
 use std::alloc::Global;
@@ -25,8 +26,12 @@ use std::io::Write;
 use trial::Trial;
 
 /// Plays the lines of a script.
-pub fn play<W: Write>(alloc: Global, lines: &[String], output: &mut W) -> anyhow::Result<()> {
-    let mut trial = Trial::new(alloc);
+pub fn play<A: Place, W: Write>(
+    alloc: Global,
+    lines: &[String],
+    output: &mut W,
+) -> anyhow::Result<()> {
+    let mut trial: Trial<A> = Trial::new(alloc);
     for text in lines {
         play_line(alloc, &mut trial, text, output)?;
     }
@@ -34,9 +39,9 @@ pub fn play<W: Write>(alloc: Global, lines: &[String], output: &mut W) -> anyhow
 }
 
 // Plays a line, which may be empty or a comment.
-fn play_line<W: Write>(
+fn play_line<A: Place, W: Write>(
     alloc: Global,
-    trial: &mut Trial,
+    trial: &mut Trial<A>,
     text: &str,
     output: &mut W,
 ) -> anyhow::Result<()> {

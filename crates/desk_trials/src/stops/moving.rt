@@ -4,7 +4,7 @@ ghost use Rattle.std.specs.Prelude.{◌≡◌, false, IfOk};
 
 use crate::desks::MOMENT;
 use crate::disk::{FusedFiles, Image, Left, is_stopped};
-use crate::opening::{FusedConnection, adopt, close, connect, open, release};
+use crate::opening::{Place, open};
 use crate::stops::content::Content;
 use crate::stops::round::{Came, Stop, when};
 use crate::stops::tables::rows_of;
@@ -12,6 +12,7 @@ use anyhow::bail;
 use desk_run::Desk;
 use desk_tables::{OpenFault, SqliteStore};
 use desk_wire::answer;
+use sqlite::Connection;
 use std::alloc::Global;
 use std::fmt::{self, Display, Formatter, Write};
 
@@ -46,43 +47,43 @@ impl Display for Told {
 }
 
 // Adopts a connection: what is told, and the connection.
-fn adopted(alloc: Global, connection: FusedConnection) -> (Told, FusedConnection)
+fn adopted<A: Place>(alloc: Global, connection: Connection<A>) -> (Told, Connection<A>)
     requires settled { connection.in_transaction ≡ false }
 {
-    match adopt(alloc, connection) {
-        Ok(store) => (Told::Adopted, release(store)),
+    match SqliteStore::adopt(alloc, connection) {
+        Ok(store) => (Told::Adopted, store.release()),
         Err(refused) => (Told::Refused(refused.fault), refused.connection),
     }
 }
 
 // Moves what a connection shows to schema 2: what is told, and the connection.
-fn moved(alloc: Global, connection: FusedConnection) -> (Told, FusedConnection)
+fn moved<A: Place>(alloc: Global, connection: Connection<A>) -> (Told, Connection<A>)
     requires settled { connection.in_transaction ≡ false }
 {
     match SqliteStore::adopt_old(alloc, connection) {
-        Ok((store, count)) => (Told::Moved(count), release(store)),
+        Ok((store, count)) => (Told::Moved(count), store.release()),
         Err(refused) => (Told::Refused(refused.fault), refused.connection),
     }
 }
 
 // A connection to files of these bytes.
-fn connect_to(alloc: Global, image: &Image) -> anyhow::Result<FusedConnection>
+fn connect_to<A: Place>(alloc: Global, image: &Image<A>) -> anyhow::Result<Connection<A>>
     ensures settled { IfOk result (λ c. c.in_transaction ≡ false) }
 {
-    match connect(alloc, image.files(alloc)?) {
+    match A::connect(alloc, image.files(alloc)?) {
         Ok(connection) => Ok(connection),
         Err(_) => bail!("the files can't be opened"),
     }
 }
 
 /// The rows in files of these bytes.
-pub fn rows_left(alloc: Global, image: &Image) -> anyhow::Result<Content> {
+pub fn rows_left<A: Place>(alloc: Global, image: &Image<A>) -> anyhow::Result<Content> {
     let mut connection = connect_to(alloc, image)?;
     rows_of(alloc, &mut connection)
 }
 
 // The rows in files of these bytes, and what is told if they are adopted.
-fn state_of(alloc: Global, image: &Image) -> anyhow::Result<Content> {
+fn state_of<A: Place>(alloc: Global, image: &Image<A>) -> anyhow::Result<Content> {
     let mut content = rows_left(alloc, image)?;
     let connection = connect_to(alloc, image)?;
     let (told, _) = adopted(alloc, connection);
@@ -91,7 +92,7 @@ fn state_of(alloc: Global, image: &Image) -> anyhow::Result<Content> {
 }
 
 /// Adopts files of these bytes: what is told, and the rows that the connection shows then.
-pub fn adopt_files(alloc: Global, image: &Image) -> anyhow::Result<(Told, Content)> {
+pub fn adopt_files<A: Place>(alloc: Global, image: &Image<A>) -> anyhow::Result<(Told, Content)> {
     let connection = connect_to(alloc, image)?;
     let (told, mut connection) = adopted(alloc, connection);
     let rows = rows_of(alloc, &mut connection)?;
@@ -100,16 +101,19 @@ pub fn adopt_files(alloc: Global, image: &Image) -> anyhow::Result<(Told, Conten
 
 /// Moves files of these bytes to schema 2: what is told, the rows that the connection shows then, and what
 /// the files are.
-pub fn move_files(alloc: Global, image: &Image) -> anyhow::Result<(Told, Content, Image)> {
+pub fn move_files<A: Place>(
+    alloc: Global,
+    image: &Image<A>,
+) -> anyhow::Result<(Told, Content, Image<A>)> {
     let connection = connect_to(alloc, image)?;
     let (told, mut connection) = moved(alloc, connection);
     let rows = rows_of(alloc, &mut connection)?;
-    let left = Image::left(alloc, close(connection), Left::Synced)?;
+    let left = Image::left(alloc, A::close(connection), Left::Synced)?;
     Ok((told, rows, left))
 }
 
 /// What files of these bytes hold before they are moved and afterwards.
-pub fn move_edges(alloc: Global, image: &Image) -> anyhow::Result<(Content, Content)> {
+pub fn move_edges<A: Place>(alloc: Global, image: &Image<A>) -> anyhow::Result<(Content, Content)> {
     let before = state_of(alloc, image)?;
     let (_, _, left) = move_files(alloc, image)?;
     let after = state_of(alloc, &left)?;
@@ -117,19 +121,23 @@ pub fn move_edges(alloc: Global, image: &Image) -> anyhow::Result<(Content, Cont
 }
 
 /// Moves files of which one stops: when that came, and what is left.
-pub fn move_stopped(alloc: Global, image: &Image, stop: Stop) -> anyhow::Result<(Came, Content)> {
+pub fn move_stopped<A: Place>(
+    alloc: Global,
+    image: &Image<A>,
+    stop: Stop,
+) -> anyhow::Result<(Came, Content)> {
     let files = image.stopping(alloc, stop.stopped, stop.calls)?;
-    let (came, files) = move_over(alloc, files);
-    let left = Image::left(alloc, files, stop.left)?;
+    let (came, files) = move_over::<A>(alloc, files);
+    let left: Image<A> = Image::left(alloc, files, stop.left)?;
     Ok((came, state_of(alloc, &left)?))
 }
 
 // Moves files: when one stopped, and the files.
-fn move_over(alloc: Global, files: FusedFiles) -> (Came, FusedFiles) {
-    match connect(alloc, files) {
+fn move_over<A: Place>(alloc: Global, files: FusedFiles) -> (Came, FusedFiles) {
+    match A::connect(alloc, files) {
         Ok(connection) => {
             let (told, connection) = moved(alloc, connection);
-            let mut files = close(connection);
+            let mut files = A::close(connection);
             let came = when(is_stopped(&mut files), !told.is_refusal());
             (came, files)
         }
@@ -138,14 +146,22 @@ fn move_over(alloc: Global, files: FusedFiles) -> (Came, FusedFiles) {
 }
 
 /// Runs statements over files of these bytes: what they are afterwards.
-pub fn image_with(alloc: Global, image: &Image, sql: &str) -> anyhow::Result<Image> {
+pub fn image_with<A: Place>(
+    alloc: Global,
+    image: &Image<A>,
+    sql: &str,
+) -> anyhow::Result<Image<A>> {
     let mut connection = connect_to(alloc, image)?;
     connection.execute_batch(sql)?;
-    Ok(Image::left(alloc, close(connection), Left::Synced)?)
+    Ok(Image::left(alloc, A::close(connection), Left::Synced)?)
 }
 
 /// The texts that a query of one column lists, over files of these bytes.
-pub fn texts_in(alloc: Global, image: &Image, query: &str) -> anyhow::Result<Vec<String>> {
+pub fn texts_in<A: Place>(
+    alloc: Global,
+    image: &Image<A>,
+    query: &str,
+) -> anyhow::Result<Vec<String>> {
     let mut connection = connect_to(alloc, image)?;
     let mut texts = Vec::new(alloc);
     for row in &connection.query_all(query, &[])? {
@@ -155,8 +171,12 @@ pub fn texts_in(alloc: Global, image: &Image, query: &str) -> anyhow::Result<Vec
 }
 
 /// What a desk over files of these bytes answers.
-pub fn answer_over(alloc: Global, image: &Image, text: &[u8]) -> anyhow::Result<Vec<u8>> {
-    let Ok(store) = open(alloc, image.files(alloc)?) else {
+pub fn answer_over<A: Place>(
+    alloc: Global,
+    image: &Image<A>,
+    text: &[u8],
+) -> anyhow::Result<Vec<u8>> {
+    let Ok(store) = open::<A>(alloc, image.files(alloc)?) else {
         bail!("the files can't be opened");
     };
     let mut desk = Desk::new(store);

@@ -1,8 +1,8 @@
 //! The rows of a desk's tables, of both schemas.
 
-use crate::opening::FusedConnection;
 use crate::stops::content::Content;
-use sqlite::Row;
+use sqlite::{Connection, Row};
+use sqlite_trees::store::Alter;
 use std::alloc::Global;
 use std::fmt::Write;
 
@@ -29,7 +29,10 @@ const TABLES: [(&str, &str); 6] = [
 ];
 
 /// The rows of each table; one that isn't there has none.
-pub fn rows_of(alloc: Global, connection: &mut FusedConnection) -> anyhow::Result<Content> {
+pub fn rows_of<A: Alter + Drop>(
+    alloc: Global,
+    connection: &mut Connection<A>,
+) -> anyhow::Result<Content> {
     let mut content = Content::none(alloc);
     for (table, query) in TABLES {
         let rows = rows_in(alloc, connection, table, query)?;
@@ -38,9 +41,9 @@ pub fn rows_of(alloc: Global, connection: &mut FusedConnection) -> anyhow::Resul
     Ok(content)
 }
 
-fn rows_in(
+fn rows_in<A: Alter + Drop>(
     alloc: Global,
-    connection: &mut FusedConnection,
+    connection: &mut Connection<A>,
     table: &str,
     query: &str,
 ) -> anyhow::Result<Vec<Row>> {
@@ -52,7 +55,7 @@ fn rows_in(
 }
 
 // Whether there is a table of this name.
-fn has_table(connection: &FusedConnection, name: &str) -> bool {
+fn has_table<A: Alter + Drop>(connection: &Connection<A>, name: &str) -> bool {
     for table in connection.schema().tables.as_slice() {
         if table.name.as_slice() == name.as_bytes() {
             return true;
