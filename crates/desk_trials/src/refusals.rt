@@ -6,7 +6,7 @@
 //! them, so that no call could be made again there.
 //! Nothing is asked of standard input, since what is read would have to grow too.
 
-ghost use Rattle.std.specs.Prelude.{◌≡◌, false};
+ghost use Rattle.std.specs.Prelude.{◌≡◌, false, IfOk};
 
 mod adopting;
 mod asked;
@@ -15,7 +15,7 @@ mod ground;
 mod playing;
 mod stand;
 
-use adopting::{adopt, connect, move_again, settled};
+use adopting::{adopt, connect, move_old, put_back, settled};
 use anyhow::bail;
 use count::Refusals;
 use desk_store::{ListStore, PlanStore};
@@ -69,13 +69,50 @@ fn play_tables<A: Alter + Drop, W: Write>(
 ) -> anyhow::Result<()>
     requires settled { connection.in_transaction ≡ false }
 {
+    let connection = play_new(alloc, connection, refusals, output)?;
+    let connection = show_again(alloc, connection, refusals, output)?;
+    output.write_all(b"moved\n")?;
+    show_moved(alloc, connection, refusals, output)
+}
+
+// Plays at a desk over new tables: the connection afterwards.
+fn play_new<A: Alter + Drop, W: Write>(
+    alloc: Global,
+    connection: Connection<A>,
+    refusals: &mut Refusals,
+    output: &mut W,
+) -> anyhow::Result<Connection<A>>
+    requires settled { connection.in_transaction ≡ false }
+    ensures settled { IfOk result (λ connection. connection.in_transaction ≡ false) }
+{
     let mut stand = Stand::new(alloc, adopt(alloc, connection, refusals)?);
     play_desk(&mut stand, refusals, output)?;
-    let store = adopt(alloc, settled(stand.into_store().release())?, refusals)?;
-    let mut stand = Stand::new(alloc, store);
+    settled(stand.into_store().release())
+}
+
+// Shows what is in tables that are adopted again: the connection afterwards.
+fn show_again<A: Alter + Drop, W: Write>(
+    alloc: Global,
+    connection: Connection<A>,
+    refusals: &mut Refusals,
+    output: &mut W,
+) -> anyhow::Result<Connection<A>>
+    requires settled { connection.in_transaction ≡ false }
+{
+    let mut stand = Stand::new(alloc, adopt(alloc, connection, refusals)?);
     show_desk(&mut stand, refusals, output)?;
-    output.write_all(b"moved\n")?;
-    let (store, count) = move_again(alloc, stand.into_store(), refusals)?;
+    Ok(stand.into_store().release())
+}
+
+// Puts the rows back into schema 1, moves them again, and shows what is there.
+fn show_moved<A: Alter + Drop, W: Write>(
+    alloc: Global,
+    connection: Connection<A>,
+    refusals: &mut Refusals,
+    output: &mut W,
+) -> anyhow::Result<()> {
+    let connection = put_back(connection, refusals)?;
+    let (store, count) = move_old(alloc, connection, refusals)?;
     if count != 1 {
         bail!("{count} plans are moved, and there is one");
     }

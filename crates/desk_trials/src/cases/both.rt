@@ -9,7 +9,7 @@ use std::io::Write;
 
 /// The same steps over a list and over another kind of store.
 #[derive(Drop)]
-pub struct Both<S: EmptyStore> {
+pub struct Both<S> {
     listed: Cases<ListStore>,
     tabled: Cases<S>,
     // How many steps came to the same, and how many didn't.

@@ -37,7 +37,7 @@ impl<'l> Turn<'l> {
 
 /// Two desks with a history each.
 #[derive(Drop)]
-pub struct Pair<S: EmptyStore> {
+pub struct Pair<S> {
     one: Stage<S>,
     two: Stage<S>,
     alloc: Global,

@@ -10,7 +10,7 @@ use std::io::Write;
 
 /// A desk for the steps of cases, and two for those of pairs of histories.
 #[derive(Drop)]
-pub struct Cases<S: EmptyStore> {
+pub struct Cases<S> {
     stage: Stage<S>,
     pair: Pair<S>,
     alloc: Global,

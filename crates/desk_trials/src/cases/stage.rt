@@ -45,7 +45,7 @@ impl Moment {
 
 /// A desk over a store, and its moment.
 #[derive(Drop)]
-pub struct Stage<S: EmptyStore> {
+pub struct Stage<S> {
     desk: Desk<S>,
     moment: Moment,
     // those of the desk

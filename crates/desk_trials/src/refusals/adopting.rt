@@ -1,4 +1,4 @@
-//! Stores over tables, adopted or moved again if that was refused.
+//! Connections, and stores over them, that are adopted or moved again if that was refused.
 
 ghost use Rattle.std.specs.Prelude.{◌≡◌, false, IfOk};
 
@@ -58,14 +58,14 @@ fn adopt_refused<A: Alter + Drop>(
     }
 }
 
-/// The store over the tables of a store, whose rows are put back into schema 1 and moved again, and how many
-/// plans were moved.
-pub fn move_again<A: Alter + Drop>(
+/// The store over a connection whose rows are moved from schema 1, and how many plans were moved.
+pub fn move_old<A: Alter + Drop>(
     alloc: Global,
-    store: SqliteStore<A>,
+    connection: Connection<A>,
     refusals: &mut Refusals,
-) -> anyhow::Result<(SqliteStore<A>, u32)> {
-    let connection = put_back(store.release(), refusals)?;
+) -> anyhow::Result<(SqliteStore<A>, u32)>
+    requires settled { connection.in_transaction ≡ false }
+{
     match SqliteStore::adopt_old(alloc, connection) {
         Ok(moved) => Ok(moved),
         Err(refused) => {
@@ -107,8 +107,8 @@ pub fn settled<A: Alter + Drop>(connection: Connection<A>) -> anyhow::Result<Con
     Ok(connection)
 }
 
-// A connection to the rows put back into schema 1.
-fn put_back<A: Alter + Drop>(
+/// A connection whose rows are put back into schema 1.
+pub fn put_back<A: Alter + Drop>(
     mut connection: Connection<A>,
     refusals: &mut Refusals,
 ) -> anyhow::Result<Connection<A>>

@@ -13,7 +13,7 @@ use std::io::Write;
 
 /// A desk over a store.
 #[derive(Drop)]
-pub struct Stand<S: PlanStore> {
+pub struct Stand<S> {
     desk: Desk<S>,
     alloc: Global,
 }
