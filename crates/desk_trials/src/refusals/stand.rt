@@ -18,7 +18,7 @@ pub struct Stand<S> {
     alloc: Global,
 }
 
-impl<S: PlanStore> Stand<S> {
+impl<S> Stand<S> {
     /// A desk over a store.
     pub fn new(alloc: Global, store: S) -> Stand<S> {
         Stand {
@@ -31,7 +31,9 @@ impl<S: PlanStore> Stand<S> {
     pub fn into_store(self) -> S {
         self.desk.into_store()
     }
+}
 
+impl<S: PlanStore> Stand<S> {
     /// What is said to what is asked, without the end of its last line, or None if memory was refused.
     /// Nothing grows after a change of the desk, so no call that changed it is told of as refused.
     pub fn said(&mut self, asked: &Asked) -> Option<Vec<u8>> {
