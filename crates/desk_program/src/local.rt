@@ -7,7 +7,7 @@ ghost use Rattle.desk_line.specs.Exits.{failure_status};
 ghost use Rattle.desk_program.specs.Waiting.{moment_at};
 
 use crate::port::{Connection, Port};
-use crate::timed::{Timed, discard_rest};
+use crate::timed::{Timed, discard_extra, discard_rest};
 use desk_line::Failure;
 use std::alloc::Global;
 use std::io::{BufReader, ErrorKind};
@@ -67,9 +67,11 @@ impl<'s, N: Net, C: Clock> Port for LocalPort<'s, N, C> {
         output: Timed<'s, N::Stream, C>,
         is_whole: bool,
     ) {
-        if !is_whole {
-            let _ = discard_rest(input.get_mut(), &output);
-        }
+        let _ = if is_whole {
+            discard_extra(input.get_mut(), &output)
+        } else {
+            discard_rest(input.get_mut(), &output)
+        };
     }
 }
 

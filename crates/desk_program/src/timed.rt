@@ -21,6 +21,9 @@ const REST_READS: u32 = 100;
 /// How many bytes of that rest are read at a time.
 const REST_CHUNK: usize = 4_096;
 
+/// How many such chunks that came behind a whole request are dropped: 64 KiB.
+const EXTRA_READS: u32 = 16;
+
 /// One direction of a connection. All its reads, or all its writes, together have `PATIENCE` seconds from
 /// the first on; then they fail.
 #[derive(Drop)]
@@ -75,6 +78,23 @@ pub(crate) fn discard_rest<T: Read + OpenStream, C: Clock>(
     let mut chunk = [0u8; REST_CHUNK];
     for _ in 0..REST_READS {
         if read_briefly(input, &mut chunk)? == 0 {
+            return Ok(());
+        }
+    }
+    Ok(())
+}
+
+/// Ends the answer to a request that was read whole, and drops what has come behind it, without waiting for
+/// more: a connection that is closed before all was read takes back what was not delivered yet.
+pub(crate) fn discard_extra<T: Read + OpenStream, C: Clock>(
+    input: &mut Timed<'_, T, C>,
+    output: &Timed<'_, T, C>,
+) -> io::Result<()> {
+    output.stream.shutdown(Shutdown::Write)?;
+    input.stream.set_nonblocking(true)?;
+    let mut chunk = [0u8; REST_CHUNK];
+    for _ in 0..EXTRA_READS {
+        if input.stream.read(&mut chunk)? == 0 {
             return Ok(());
         }
     }

@@ -90,7 +90,7 @@ impl<S: PlanStore> Desk<S> {
             (IsSettled S.content S.may_leave self.new) }
         ensures ceiling { (result ≡ Err DeskFault.Ceiling) ↔ (max_priority < ceiling) }
         ensures fault { IfErr result (λ e. (e ≢ DeskFault.Ceiling) → IsBreakdown e) }
-        ensures remembered { Remembers S.doubt S.faults self.old.store self.new.store }
+        ensures remembered { Remembers S.doubt S.faults S.is_shielded self.old.store self.new.store }
         ensures cause { IfErr result (IsStoreCounted S.faults self.old.store self.new.store) }
     {
         if ceiling > MAX_PRIORITY {
@@ -120,7 +120,7 @@ impl<S: PlanStore> Desk<S> {
         ensures same { world_of S.content self.new ≡ world_of S.content self.old }
         ensures crash { IsHonest (S.doubt self.new.store) →
             LeavesNoMore (S.may_leave self.old.store) (S.may_leave self.new.store) }
-        ensures remembered { Remembers S.doubt S.faults self.old.store self.new.store }
+        ensures remembered { Remembers S.doubt S.faults S.is_shielded self.old.store self.new.store }
         ensures cause { IfErr result (IsStoreCounted S.faults self.old.store self.new.store) }
     {
         prepare_over(alloc, &mut self.store, &self.permitted, moment, asked)
@@ -146,7 +146,7 @@ impl<S: PlanStore> Desk<S> {
         ensures settled { IsHonest (S.doubt self.new.store) → OnOk result
             (IsSettledOrSame S.content S.may_leave self.old self.new) }
         ensures fault { IfErr result (λ e. IsBreakdown e) }
-        ensures remembered { Remembers S.doubt S.faults self.old.store self.new.store }
+        ensures remembered { Remembers S.doubt S.faults S.is_shielded self.old.store self.new.store }
         ensures cause { IfErr result (IsStoreCounted S.faults self.old.store self.new.store) }
     {
         commit_over(&mut self.store, pending)
@@ -170,7 +170,7 @@ impl<S: PlanStore> Desk<S> {
             (IsSettled S.content S.may_leave self.old → IsSettled S.content S.may_leave self.new) }
         ensures settled { IsHonest (S.doubt self.new.store) → OnOk result
             (IsSettledOrSame S.content S.may_leave self.old self.new) }
-        ensures remembered { Remembers S.doubt S.faults self.old.store self.new.store }
+        ensures remembered { Remembers S.doubt S.faults S.is_shielded self.old.store self.new.store }
         ensures cause { IfErr result (IsStoreCounted S.faults self.old.store self.new.store) }
     {
         let pending = self.prepare(alloc, moment, asked)?;
