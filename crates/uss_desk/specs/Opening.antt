@@ -1,5 +1,5 @@
 -- Opening: what a line is carried out at, and what a database that can't be opened means.
-use Rattle.std.specs.Prelude.{◌≡◌, ℕ, [], Result, Ok, Err, IfErr, IfOk, ⊤, ⊥}
+use Rattle.std.specs.Prelude.{◌≡◌, ℕ, [], Result, Ok, Err, IfErr, IfOk, ⊤}
 use Rattle.sqlite_disk.specs.declared.Disk as disk
 use Rattle.sqlite_wal.specs.Recovery.{Image}
 use Rattle.sqlite_store.specs.declared.store.FileStore.{FileStore}

@@ -62,9 +62,9 @@ IsKeptAt g line from to old new out now status left desk =
 -- is written
 abbrev pub IsUndone :
     {S : Type 0} → Option (List Arrival) → Option (List Arrival) → Option (List ℕ) → Option (List ℕ)
-    → Option (List ℕ) → Option (List ℕ) → ℕ → Option S → Failure → Type 0
-IsUndone from to old new out now status left failure =
-    ((status, left) ≡ (failure_status failure, None)) × (to ≡ from) × (new ≡ old) × (now ≡ out)
+    → Option (List ℕ) → Option (List ℕ) → ℕ × Option S → Failure → Type 0
+IsUndone from to old new out now ended failure =
+    (ended ≡ (failure_status failure, None)) × (to ≡ from) × (new ≡ old) × (now ≡ out)
 
 -- a line at the desk that was opened for it, or at none
 pub record IsRun {S : Type 0} (g : Ghosts S) (opened : Result (Parts (Shown S)) Failure) (line : Line)
@@ -72,7 +72,7 @@ pub record IsRun {S : Type 0} (g : Ghosts S) (opened : Result (Parts (Shown S)) 
     (old new out now : Option (List ℕ)) : Type 0 where
   pub done : IfOk opened (IsDoneAt g line from to old new out now status left)
   pub kept : IfOk opened (IsKeptAt g line from to old new out now status left)
-  pub undone : IfErr opened (IsUndone from to old new out now status left)
+  pub undone : IfErr opened (IsUndone from to old new out now (status, left))
 
 -- if the disk returned what was written until the desk was open, it has done so to the end, whatever it
 -- returned since and whoever wrote into the files; or a digest has collided

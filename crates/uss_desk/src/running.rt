@@ -1,9 +1,8 @@
 //! A line carried out at what was opened for it, whatever the streams and the port are.
 
-ghost use Rattle.std.specs.Prelude.{◌≡◌, None, IfErr, IfOk};
+ghost use Rattle.std.specs.Prelude.{IfErr, IfOk};
 ghost use Rattle.sqlite_wal.specs.Files.{image_at};
 ghost use Rattle.sqlite.specs.Files.{over_files};
-ghost use Rattle.desk_line.specs.Exits.{failure_status};
 ghost use Rattle.desk_line.specs.Lines.{HasDatabase, IsLine};
 ghost use Rattle.uss_desk.specs.Guarding.{account_of};
 ghost use Rattle.uss_desk.specs.Opening.{IsOpenedFor};
@@ -72,9 +71,9 @@ fn run_over<D: Disk + Drop, P: Port, R: Read, W: Write, E: Write>(
     ensures kept { IfOk opened (IsKeptAt over_files line.now (P.taken port.old) (P.taken port.new)
         (R.remaining input.old) (R.remaining input.new) (W.contents output.old) (W.contents output.new)
         result.0 result.1) }
-    ensures unopened { IfErr opened (λ f. (result ≡ (failure_status f, None))
-        × (P.taken port.new ≡ P.taken port.old) × (R.remaining input.new ≡ R.remaining input.old)
-        × (W.contents output.new ≡ W.contents output.old)) }
+    ensures unopened { IfErr opened (IsUndone (P.taken port.old) (P.taken port.new)
+        (R.remaining input.old) (R.remaining input.new) (W.contents output.old) (W.contents output.new)
+        result) }
 {
     run_opened(alloc, line, opened, port, input, output, errors)
 }

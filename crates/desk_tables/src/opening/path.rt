@@ -71,9 +71,11 @@ fn options(rt: &HostRuntime) -> Result<Options, OpenFault>
 {
     match RandomState::new(rt) {
         Ok(random) => {
-            let mut options = Options::new(random.hash_one(&0u8));
-            options.checkpoint_frames = LOG_FRAMES;
-            Ok(options)
+            let seed = random.hash_one(&0u8);
+            Ok(Options {
+                checkpoint_frames: LOG_FRAMES,
+                ..Options::new(seed)
+            })
         }
         Err(_) => Err(OpenFault::Store),
     }
