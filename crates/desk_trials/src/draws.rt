@@ -43,7 +43,7 @@ impl Draws {
     }
 
     /// One of these words, or none of no words.
-    pub fn pick<'l>(&mut self, words: &[&'l str]) -> &'l str {
+    pub fn pick(&mut self, words: &[&'static str]) -> &'static str {
         let at = self.below(u16::try_from(words.len()).unwrap_or(0));
         words.get(usize::from(at)).copied().unwrap_or("")
     }
