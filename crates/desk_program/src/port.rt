@@ -50,8 +50,8 @@ pub trait Port {
         ensures same { OnErr result (taken self.new ≡ taken self.old) }
         ensures fault { IfErr result (λ f. failure_status f ≡ 4) };
 
-    /// Ends a connection. If its request was read whole, what has come behind it is dropped first; else the rest
-    /// of it is read for a while.
+    /// Ends a connection. If its request was read whole, what has come behind it is dropped first; else the
+    /// rest of it is read for a while.
     fn close(&mut self, input: Self::Input, output: Self::Output, is_whole: bool)
         ensures { taken self.new ≡ taken self.old };
 }

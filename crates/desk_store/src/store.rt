@@ -43,8 +43,8 @@ pub trait PlanStore {
     /// for what is no desk's. A clause that speaks of it is read as said of a crash within the call too.
     ghost may_leave: { Self → Option World → Type 0 };
 
-    /// Each later read of the store's disk is tested, so that no lie of it is taken for the truth but one that
-    /// passes its test. What such a store means is said of each type of store.
+    /// Each later read of the store's disk is tested, so that no lie of it is taken for the truth but one
+    /// that passes its test. What such a store means is said of each type of store.
     ghost is_shielded: { Self → Type 0 };
 
     /// The operator's ceiling, at most 1,000, or none where it is not enrolled.

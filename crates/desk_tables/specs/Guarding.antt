@@ -13,8 +13,8 @@ abbrev pub IsGuarded : {D : Type 0} {g : disk.Ghosts D} → Held (FileStore D g)
 IsGuarded h = HasCleanDisk (file_state h) → (file_state h).IsShielded
 
 -- a read of the log or of the database file returned other bytes than had been written there, of the same
--- digest of 64 bits under the key that came with the files. `start` is what a file held before its first call,
--- and `calls` are its calls since with their answers, the newest first
+-- digest of 64 bits under the key that came with the files. `start` is what a file held before its first
+-- call, and `calls` are its calls since with their answers, the newest first
 abbrev pub HasCollided :
     {D : Type 0} {g : disk.Ghosts D} → (start : D → List ℕ) → (calls : D → List Event)
     → Held (FileStore D g) → Type 0

@@ -132,7 +132,9 @@ pub fn a_store_in_memory_is_honest(store: &SqliteStore<FileStore<Ram>>)
 /// A store over files whose calls are recorded, each of whose reads is tested, is honest, whatever the files
 /// returned since the tests began; or a read has passed a test against a digest of 64 bits with other bytes
 /// than had been written there.
-pub fn a_shielded_store_is_honest<C: Calls, S: Start>(store: &SqliteStore<FileStore<Modelled<C, S>>>)
+pub fn a_shielded_store_is_honest<C: Calls, S: Start>(
+    store: &SqliteStore<FileStore<Modelled<C, S>>>,
+)
     ensures { (state over_files store.now.held).IsShielded
         → HasCleanDisk (state over_files store.now.held)
         ⊎ HasCollided (start_of S.Start) (λ f. C.Calls.history (calls_of f)) store.now.held }

@@ -2,52 +2,36 @@
 use Rattle.std.proofs.Common.{◌≡◌, ℕ, List, Option, None, Some, Result, Ok, Err, IfOk, Bool, true, IsTrue, inl, inr, refl, sym, subst}
 use Rattle.sqlite_trees.specs.View.{doubt}
 use Rattle.sqlite_disk.specs.declared.Disk as disk
+use Rattle.sqlite_disk.specs.declared.Files.{Files}
 use Rattle.sqlite_disk.specs.Events.{Event, replay}
+use Rattle.sqlite_wal.specs.Reads.{AreClean}
 use Rattle.sqlite_wal.specs.Recovery.{Image}
 use Rattle.sqlite_store.specs.declared.store.FileStore.{FileStore}
 use Rattle.sqlite.specs.Files.{file_state, over_files}
+use Rattle.sqlite.specs.Closing.{IsCopied}
 use Rattle.sqlite.proofs.Shield.{shield_means}
 use Rattle.desk_run.specs.DeskWorld.{Parts}
 use Rattle.desk_tables.specs.Store.{Shown}
 use Rattle.desk_line.specs.declared.failure.Failure.{Failure}
 use Rattle.desk_line.specs.declared.line.Line.{Line}
 use Rattle.desk_line.specs.declared.line.Line.TheVariants as line
-use Rattle.desk_line.specs.Lines.{HasDatabase, IsPrintable}
 use Rattle.desk_program.specs.Serving.{Arrival}
 use Rattle.uss_desk.specs.declared.opening.Opened.TheVariants as opened
+use Rattle.uss_desk.specs.Closing.{IsClosed}
 use Rattle.uss_desk.specs.Guarding.{Account, IsTrueOrCollided}
 use Rattle.uss_desk.specs.Opening.{IsOpenedFor, IsOpenedIn}
 use Rattle.uss_desk.specs.Running.{IsDoneAt, StaysGuarded}
 
-module _ {M : Type 0} {m : disk.Ghosts M} {D : Type 0} {g : disk.Ghosts D} (image : Image) where
-  -- nothing is opened for a line that is printed alone
-  pub for_nothing : (it : Line) → IsOpenedFor {m = m} {g = g} image it opened.Nothing → IsPrintable it
-  for_nothing (line.Play play) opens = absurd opens
-  for_nothing (line.Token token) opens = tt
-  for_nothing (line.Serve serve) opens = absurd opens
-  for_nothing (line.Cover cover) opens = tt
-  for_nothing (line.Enrol enrol) opens = absurd opens
-  for_nothing (line.Migrate migrate) opens = absurd opens
-
-  -- a desk in memory is opened for a line that names a database
-  pub for_memory : (it : Line) (desk : Result (Parts (Shown (FileStore M m))) Failure)
-      → IsOpenedFor {m = m} {g = g} image it (opened.Memory desk) → HasDatabase it
-  for_memory (line.Play play) desk opens = tt
-  for_memory (line.Token token) desk opens = absurd opens
-  for_memory (line.Serve serve) desk opens = tt
-  for_memory (line.Cover cover) desk opens = absurd opens
-  for_memory (line.Enrol enrol) desk opens = tt
-  for_memory (line.Migrate migrate) desk opens = absurd opens
-
-  -- and so is one over files, which held this
-  pub for_files : (it : Line) (desk : Result (Parts (Shown (FileStore D g))) Failure)
-      → IsOpenedFor {m = m} {g = g} image it (opened.Files desk) → HasDatabase it × IsOpenedIn image desk
-  for_files (line.Play play) desk opens = (tt, opens.1)
-  for_files (line.Token token) desk opens = absurd opens
-  for_files (line.Serve serve) desk opens = (tt, opens.1)
-  for_files (line.Cover cover) desk opens = absurd opens
-  for_files (line.Enrol enrol) desk opens = (tt, opens.1)
-  for_files (line.Migrate migrate) desk opens = absurd opens
+-- a desk over files is opened for a line that names them, and they held this
+pub for_files : {M : Type 0} (m : disk.Ghosts M) {D : Type 0} {g : disk.Ghosts D} (image : Image) (it : Line)
+    → (desk : Result (Parts (Shown (FileStore D g))) Failure)
+    → IsOpenedFor {m = m} {g = g} image it (opened.Files desk) → IsOpenedIn image desk
+for_files m image (line.Play play) desk opens = opens.1
+for_files m image (line.Token token) desk opens = absurd opens
+for_files m image (line.Serve serve) desk opens = opens.1
+for_files m image (line.Cover cover) desk opens = absurd opens
+for_files m image (line.Enrol enrol) desk opens = opens.1
+for_files m image (line.Migrate migrate) desk opens = absurd opens
 
 -- a flag that is up leaves no doubt
 no_doubt : (clean : Bool) → IsTrue clean → doubt clean ≡ 0
@@ -79,3 +63,11 @@ stays_guarded account fair clean image it from to old new out now status (Ok des
     λ honest. true_or_collided account fair clean left (done.2 (opens.guarded honest))
 stays_guarded account fair clean image it from to old new out now status (Ok desk) None opens done = done
 stays_guarded account fair clean image it from to old new out now status (Err f) left opens done = tt
+
+-- a desk whose store was closed, by what the store is
+pub is_closed : {D : Type 0} {g : disk.Ghosts D} (desk : Parts (Shown (FileStore D g)))
+    → (store : Shown (FileStore D g)) (status : ℕ) (files : Files D) → store ≡ desk.store
+    → (AreClean g files.log files.db → IsCopied store.held files)
+    → IsClosed (Some desk) status status (Some files)
+is_closed {D} {g} desk store status files same copied =
+    (refl, subst (λ s. AreClean g files.log files.db → IsCopied s.held files) same copied)

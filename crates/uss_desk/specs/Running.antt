@@ -95,9 +95,9 @@ module _ {M : Type 0} {m : disk.Ghosts M} {D : Type 0} {g : disk.Ghosts D} (acco
   -- what a line says is done: by printing alone, at a desk in memory, at one over files, which stays guarded,
   -- or by telling how many plans were moved
   abbrev pub IsDone :
-      OpenedDesk m g → Line → ℕ → Option (Parts (Shown (FileStore M m))) → Option (Parts (Shown (FileStore D g)))
-      → Option (List Arrival) → Option (List Arrival) → Option (List ℕ) → Option (List ℕ) → Option (List ℕ)
-      → Option (List ℕ) → Type 0
+      OpenedDesk m g → Line → ℕ → Option (Parts (Shown (FileStore M m)))
+      → Option (Parts (Shown (FileStore D g))) → Option (List Arrival) → Option (List Arrival)
+      → Option (List ℕ) → Option (List ℕ) → Option (List ℕ) → Option (List ℕ) → Type 0
   IsDone opened.Nothing line status memory files from to old new out now =
       (memory ≡ None) × (files ≡ None) × (to ≡ from) × (new ≡ old) × IsPrinted line status out now
   IsDone (opened.Memory desk) line status memory files from to old new out now =

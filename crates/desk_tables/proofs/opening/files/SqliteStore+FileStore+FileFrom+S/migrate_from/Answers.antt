@@ -2,7 +2,8 @@ use Rattle.sqlite_wal.specs.Files.{image_at}
 use Rattle.desk_tables.proofs.opening.files.SqliteStore+FileStore+FileFrom+S.migrate_from.Goals as goal
 
 pub returns-clause-begins : goal.returns-clause-begins
-returns-clause-begins g c = c.adopt_old_files.ensures.begins (image_at g.S.Start) c.in_ok-connect.ensures.found
+returns-clause-begins g c = c.adopt_old_files.ensures.begins (image_at g.S.Start)
+    c.in_ok-connect.ensures.found
 
 pub returns-clause-guarded : goal.returns-clause-guarded
 returns-clause-guarded g c = c.adopt_old_files.ensures.guarded c.in_ok-connect.ensures.found.guarded

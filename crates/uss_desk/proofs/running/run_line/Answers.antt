@@ -1,0 +1,19 @@
+use Rattle.std.proofs.Common.{refl, subst}
+use Rattle.sqlite_wal.specs.Files.{image_at}
+use Rattle.uss_desk.specs.Guarding.{account_of}
+use Rattle.uss_desk.specs.Opening.{IsOpenedFor}
+use Rattle.uss_desk.proofs.RunLemmas.{for_files, stays_guarded}
+use Rattle.uss_desk.proofs.running.run_line.Goals as goal
+
+pub returns-in-Files : goal.returns-in-Files
+returns-in-Files g c =
+    let image = image_at g.F.Start in
+    let ended = c.run_over-status-in-Files in
+    let opens = for_files _ image c.args.line.now c.in-Files.desk
+    (subst (IsOpenedFor image c.args.line.now) c.in-Files.is c.requires.opened) in
+    rw c.in-Files.is (
+      refl,
+      record { done = ended.ensures.opened; kept = ended.ensures.kept; undone = ended.ensures.unopened },
+      stays_guarded (account_of g.F.Start) (λ _. refl) (λ _. refl) image c.args.line.now _ _ _ _ _ _
+          ended.result.0 c.in-Files.desk ended.result.1 opens ended.ensures.opened,
+    )
