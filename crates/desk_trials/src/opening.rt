@@ -28,6 +28,9 @@ pub type FilesPlace = FileStore<Fuse<Memory>>;
 // drop them.
 const CACHED_PAGES: usize = 16;
 
+// Whether new files get sums on their pages, as a desk's do.
+const NEW_HAS_SUMS: bool = true;
+
 impl Place for FilesPlace {
     fn connect(alloc: Global, files: FusedFiles) -> Result<Connection<FilesPlace>, FusedFiles> {
         if !files.may_be_used() {
@@ -37,7 +40,7 @@ impl Place for FilesPlace {
             cache_pages: CACHED_PAGES,
             ..Options::new(1)
         };
-        match Connection::open_files(alloc, files, options) {
+        match Connection::open_files_with(alloc, files, options, NEW_HAS_SUMS) {
             Ok(connection) => Ok(connection),
             Err((_, left)) => Err(left.into_files()),
         }
