@@ -9,7 +9,7 @@ from uss_desk_client.areas import AreaError, Rectangle, Volume
 from uss_desk_client.geojson import collection, features_of_reasons, geometries, lines_in, shape_in
 from uss_desk_client.picture import page_of, svg_of
 from uss_desk_client.shapes import Circle, Corridor, Polygon, ShapeError, Union
-from uss_desk_client.tokens import id_of, leaves_of, level_of, token_of
+from uss_desk_client.tokens import evenly, id_of, leaves_of, level_of, token_of
 from uss_desk_client.why import Reasons, why
 
 CELLS = ("478fc2d01", "478fc2d03", "478fc2d05", "478fc2d07")
@@ -94,3 +94,12 @@ def test_no_tokens(token):
 
 def test_leaves():
     assert leaves_of(1 << 60) == (1, (1 << 61) - 1) and leaves_of(1) == (1, 1)
+
+
+@pytest.mark.parametrize("tokens, at_most, found", [
+    (["1"], 1, ["1"]), (["1"], 3, ["1"]), (["1"], 4, ["04", "0c", "14", "1c"]), (["0000000000000001"], 9, ["0000000000000001"]),
+    (["1", "3"], 5, ["04", "0c", "14", "1c", "3"]), (["1"], 7, ["01", "03", "05", "07", "0c", "14", "1c"]),
+    (["3", "04"], 5, ["04", "24", "2c", "34", "3c"]),
+])
+def test_cells_are_cut_evenly(tokens, at_most, found):
+    assert evenly(tokens, at_most) == found

@@ -16,14 +16,16 @@ from typing import Any, Callable, List, Optional, Sequence
 
 from uss_desk_client import limits
 from uss_desk_client.answers import Answer, NotTaken, Plan
-from uss_desk_client.areas import AreaError, Volume, area_of
+from uss_desk_client.areas import AreaError, Volume, area_of, area_over
 from uss_desk_client.checking import check
 from uss_desk_client.desk import Desk, DeskError, new_id
 from uss_desk_client.geojson import collection, features_of_plan, features_of_reasons, lines_in, read_document
 from uss_desk_client.geojson import shape_in
 from uss_desk_client.picture import headline, numbered, page_of, svg_of, windows
-from uss_desk_client.shapes import ShapeError
-from uss_desk_client.units import UnitError, exact, read_time, time_text
+from uss_desk_client.shapes import ShapeError, cells_of
+from uss_desk_client.tokens import evenly
+from uss_desk_client.units import UnitError, decimetres_down, decimetres_up, exact, read_time, second_down
+from uss_desk_client.units import second_up, time_text
 from uss_desk_client.why import why
 
 DONE, REFUSED, WORDS, FILE, DESK = 0, 1, 2, 3, 4
@@ -146,6 +148,13 @@ def area_asked(asked: Any, document: Any) -> List[Volume]:
                    asked.start, asked.end, asked.cells)
 
 
+def area_looked_at(asked: Any, document: Any) -> List[Volume]:
+    """The area in cells that are cut as evenly as their number allows."""
+    cells = cells_of(shape_in(document, asked.radius, asked.width), asked.cells)
+    return area_over(evenly(cells, asked.cells), decimetres_down(asked.altitude[0]), decimetres_up(asked.altitude[1]),
+                     second_down(asked.start), second_up(asked.end))
+
+
 def run_plan(asked: Any) -> int:
     area = area_asked(asked, read_document(asked.file))
     desk, plan_id = desk_of(asked), asked.id or new_id()
@@ -222,7 +231,7 @@ def run_why(asked: Any) -> int:
     is_svg = bool(asked.picture) and asked.picture.endswith(".svg")
     if asked.picture and not is_svg and not asked.picture.endswith((".html", ".htm")):
         return fail("--picture is a FILE.svg or a FILE.html", WORDS)
-    reasons = why(desk_of(asked), area_asked(asked, document), asked.priority, asked.id)
+    reasons = why(desk_of(asked), area_looked_at(asked, document), asked.priority, asked.id)
     if asked.geojson:
         write(asked.geojson, json.dumps(collection(features_of_reasons(reasons))) + "\n")
     if asked.picture:

@@ -102,21 +102,30 @@ def cells_drawn(reasons: Reasons, at: Map) -> List[str]:
         path, ring = at.path(ring_of(cell)), ring_of(cell)
         found.append(f'<path d="{path}" fill="{colours(reasons)[worst[cell]]}" stroke="#5c1a12"/>')
         found.append(f'<path d="{path}" fill="url(#hatch)"/>')
-        corners = [at.point(place) for place in ring]
-        x, y = sum(point[0] for point in corners) / 4, sum(point[1] for point in corners) / 4
-        wide = max(point[0] for point in corners) - min(point[0] for point in corners)
-        if wide >= 15:
-            size = 11 if wide >= 22 else 9
-            found.append(text(x, y + 4, str(number), size, 'text-anchor="middle" font-weight="bold" stroke="#fff" '
-                              'stroke-width="3" paint-order="stroke"'))
+        found += label_drawn(number, [at.point(place) for place in ring],
+                             [at.point((it.conflict.longitude, it.conflict.latitude)) for it in reasons.blocked
+                              if it.cell == cell])
     return found
 
 
+def label_drawn(number: int, corners: List[Tuple[float, float]], rings: List[Tuple[float, float]]) -> List[str]:
+    """The number of a cell at its middle, or beneath a ring that is there; none in a cell that is too small."""
+    x, y = sum(point[0] for point in corners) / 4, sum(point[1] for point in corners) / 4
+    wide = max(point[0] for point in corners) - min(point[0] for point in corners)
+    if wide < 15:
+        return []
+    if any(abs(ring[0] - x) < 9 and abs(ring[1] - y) < 9 for ring in rings):
+        y += 12
+    return [text(x, y + 4, str(number), 11 if wide >= 22 else 9, 'text-anchor="middle" font-weight="bold" stroke="#fff" '
+                 'stroke-width="3" paint-order="stroke"')]
+
+
 def points_drawn(reasons: Reasons, at: Map) -> List[str]:
-    found = []
+    found, size = [], 3.2 if len(reasons.blocked) <= 40 else 2.0
     for it in reasons.blocked:
         x, y = at.point((it.conflict.longitude, it.conflict.latitude))
-        found.append(f'<circle cx="{x:.1f}" cy="{y:.1f}" r="3.2" fill="#fff" stroke="#000" stroke-width="1.3"/>')
+        found.append(f'<circle cx="{x:.1f}" cy="{y:.1f}" r="{size}" fill="#fff" stroke="#000" '
+                     f'stroke-width="{size * 0.4:.1f}"/>')
     return found
 
 
@@ -175,6 +184,12 @@ def list_drawn(reasons: Reasons) -> List[str]:
     return found
 
 
+def footnote(reasons: Reasons) -> List[str]:
+    lines = ("Of a blocked cell the first blocked point (a ring) is told: the least",
+             "leaf, then altitude, then second. Who holds it isn't told.") if reasons.blocked else ()
+    return [text(LIST_LEFT, HEIGHT - 44 + 16 * at, line, 11, 'fill="#4a5360"') for at, line in enumerate(lines)]
+
+
 def svg_of(reasons: Reasons, lines: Sequence[Sequence[Place]]) -> str:
     """The picture of a flight's cells. `lines` are the rings and paths of the flight as it was drawn."""
     cells = [ring_of(cell) for cell in reasons.free_cells + reasons.blocked_cells]
@@ -194,10 +209,7 @@ def svg_of(reasons: Reasons, lines: Sequence[Sequence[Place]]) -> str:
         *points_drawn(reasons, at),
         *frame_drawn(at),
         *list_drawn(reasons),
-        text(LIST_LEFT, HEIGHT - 44, "Of a blocked cell the first blocked point (a ring) is told: the least", 11,
-             'fill="#4a5360"'),
-        text(LIST_LEFT, HEIGHT - 28, "leaf, then altitude, then second. Who holds it isn't told.", 11,
-             'fill="#4a5360"'),
+        *footnote(reasons),
         "</svg>",
     ]
     return "\n".join(parts) + "\n"

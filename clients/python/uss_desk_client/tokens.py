@@ -2,7 +2,7 @@
 from __future__ import annotations
 
 import re
-from typing import Optional, Tuple
+from typing import Iterable, List, Optional, Tuple
 
 TOKEN = re.compile(r"[0-9A-Fa-f]{1,16}")
 FACES = 6
@@ -38,3 +38,28 @@ def leaves_of(number: int) -> Tuple[int, int]:
     """The least and the greatest id of the leaves of the cell with this id."""
     half = lowest_bit(number) - 1
     return number - half, number + half
+
+
+def children_of(number: int) -> List[int]:
+    """The ids of the four cells that the cell with this id is made of, ascending; it is no leaf."""
+    bit = lowest_bit(number)
+    return [number - bit + (2 * child + 1) * (bit >> 2) for child in range(4)]
+
+
+def evenly(tokens: Iterable[str], at_most: int) -> List[str]:
+    """The same leaves in at most so many cells, if they are fewer now, ascending by id: the largest cells are cut
+    into their four children first. Tokens that name no cell are left out."""
+    levels: List[List[int]] = [[] for _ in range(31)]
+    for number in (id_of(token) for token in tokens):
+        if number is not None:
+            levels[level_of(number)].append(number)
+    count = sum(map(len, levels))
+    for level in range(30):
+        cut = min(len(levels[level]), max(0, at_most - count) // 3)
+        for number in sorted(levels[level])[:cut]:
+            levels[level].remove(number)
+            levels[level + 1] += children_of(number)
+        count += 3 * cut
+        if levels[level]:
+            break
+    return [token_of(number) for number in sorted(number for cells in levels for number in cells)]
