@@ -1,7 +1,8 @@
 """The parts of clients_check, one after the other."""
 import collections
+import contextlib
+import io
 import json
-import math
 import os
 import random
 import subprocess
@@ -15,7 +16,7 @@ import pywraps2 as s2
 
 from clients.bodies import MOMENT, bodies
 from clients.running import DESK, OPERATORS, TOP, Checks, Setting, asked, at, play
-from uss_desk_client import Circle, Desk, Polygon, Refused, Volume, area_of, cells_of, check, check_clear, new_id, why
+from uss_desk_client import Circle, Desk, Polygon, Refused, Volume, area_of, area_over, cells_of, check, check_clear, new_id, why
 from uss_desk_client.tokens import id_of, leaves_of
 
 MESSAGES = TOP / "examples" / "clients" / "interuss"
@@ -33,7 +34,7 @@ def run(only, count, seed):
     if only in (None, "bodies"):
         random_bodies(checks, count, seed)
     with Setting() as setting:
-        for name, part in (("client", through_client), ("command", command_line), ("bridge", through_bridge),
+        for name, part in (("client", through_client), ("page", page), ("command", command_line), ("bridge", through_bridge),
                            ("kills", killed)):
             if only in (None, name):
                 begun = time.monotonic()
@@ -114,7 +115,7 @@ def through_client(checks, setting):
     checks.told("free again", "Completed", bravo.try_plan(area_of(Polygon(WOOD), (60, 120), at(12), at(13)), 10).result)
     thirty_hours(checks, alfa)
     clockwise(checks, alfa)
-    checks.told("cleared", 1, alfa.clear(area_of(Polygon(FIELD), (-1_000, 20_000), at(0), at(24))[0]).count)
+    checks.told("cleared", 1, alfa.clear(area_of(Polygon(FIELD), (-1_000, 20_000), at(0), at(24))).count)
     checks.told("left", 2, len(alfa.plans()))
     refusals(checks, setting)
 
@@ -136,7 +137,7 @@ def blocked_for_another(checks, alfa, bravo, field):
     conflict = bravo.try_plan(closely[1], 10).conflict
     checks.holds("the leaf lies in both polygons, but for a cell's width",
                  max(metres_from(ring, conflict) for ring in (FIELD, WOOD)) < 25)
-    checks.told("the close plan is cleared", 1, alfa.clear(closely[0][0]).count)
+    checks.told("the close plan is cleared", 1, alfa.clear(closely[0][:1]).count)
     reasons = why(bravo, wood, 10)
     both = {cell for cell in wood[0].cells if any(meets(cell, other) for other in field[0].cells)}
     checks.told("why tells the cells that meet", both, set(reasons.blocked_cells))
@@ -161,8 +162,6 @@ def clockwise(checks, alfa):
     area = area_of(Polygon(FAR[::-1]), (200, 210), at(12), at(13))
     checks.told("clockwise", cells_of(Polygon(FAR)), list(area[0].cells))
     checks.told("clockwise planned", "Completed", alfa.plan(new_id(), area, 1).result)
-    there = math.prod(1 for _ in area)
-    checks.told("clockwise: one volume", 1, there)
 
 
 def refusals(checks, setting):
@@ -183,7 +182,19 @@ def refusals(checks, setting):
                     (refused.word, refused.fault.volume, refused.fault.member))
 
 
-# ---- the command
+# ---- what docs/CLIENTS.md has
+
+def page(checks, setting):
+    """The first lines of Python of docs/CLIENTS.md, asked of this desk for tomorrow."""
+    text = (TOP / "docs" / "CLIENTS.md").read_text(encoding="utf-8")
+    lines = text.split("```python\n")[1].split("```")[0]
+    lines = lines.replace("https://DESK", setting.url).replace('password=".."', 'password="a"')
+    printed, names = io.StringIO(), {}
+    with contextlib.redirect_stdout(printed):
+        exec(lines.replace("2026-06-01", f"{at(0):%Y-%m-%d}"), names)
+    checks.told("the page's lines", "Completed, Planned\n", printed.getvalue())
+    checks.told("the page's plan", "Closed", names["desk"].show(names["plan_id"]).status)
+
 
 def command_line(checks, setting):
     """The lines that docs/CLIENTS.md has."""
@@ -287,7 +298,7 @@ def killed(checks, setting):
     there, once."""
     alfa, wanted, results = setting.desk_itself("alfa"), {}, []
     for begin in (0, 24, 48):
-        alfa.clear(Volume(("1", "3", "5", "7", "9", "b"), -10_000, 200_000, second(at(begin)), second(at(begin + 24))))
+        alfa.clear(area_over(["1", "3", "5", "7", "9", "b"], -10_000, 200_000, second(at(begin)), second(at(begin + 24))))
     checks.told("before the kills", 0, len(alfa.plans()))
     starts = setting.starts
     with Killer(setting) as killer:

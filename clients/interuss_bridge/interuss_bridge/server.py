@@ -74,7 +74,7 @@ class Bridge:
         count = 0
         try:
             for volume in extent_of(message):
-                count += (await self._ask(self._desk.clear, volume)).count
+                count += (await self._ask(self._desk.clear, [volume])).count
         except (NotSupported, NoAnswer) as why:
             return web.json_response(outcome(False, f"cleared {count}, then: {why}" if count else str(why)))
         return web.json_response(outcome(True, f"cleared {count}"))

@@ -8,7 +8,7 @@ import pytest
 
 from uss_desk_client import desk as desk_module
 from uss_desk_client.areas import Volume
-from uss_desk_client.answers import NotTaken
+from uss_desk_client.answers import NotTaken, Plan
 from uss_desk_client.desk import BadAnswer, Desk, NoAnswer, NoSuchPlan, Refused, is_as_put, put_body
 
 ID = "11111111-1111-4111-8111-111111111111"
@@ -142,9 +142,17 @@ def test_no_server_changes_nothing():
 def test_a_clear_and_a_close_asked_again():
     cleared = (200, {"outcome": {"message": "cleared 2", "success": True}})
     _, desk = asks(HANG_UP, cleared)
-    assert (desk.clear(AREA[0]).count, True) == (2, True)
+    told = desk.clear(AREA)
+    assert (told.count, told.was_lost) == (2, True)
     _, desk = asks(HANG_UP, (200, {"flight_plan_status": "Closed", "notes": "", "planning_result": "Completed"}))
     assert desk.close(ID).was_lost
+
+
+def test_a_path_has_the_whole_id():
+    server, desk = asks(NO_PLAN)
+    with pytest.raises(NoSuchPlan):
+        desk.show("a/b?c")
+    assert server.asked[0][1] == "/flight_plans/a%2Fb%3Fc"
 
 
 def test_activation_repeats_what_is_stored():
@@ -185,7 +193,6 @@ def test_no_urls(words):
 
 
 def test_what_stands_is_told_from_what_does_not():
-    from uss_desk_client.answers import Plan
     stored = Plan.from_answer(SHOWN[1])
     body = put_body(AREA, "Planned", "Nominal", 10, "IfAllowed")
     assert is_as_put(stored, body)

@@ -5,7 +5,7 @@ import random
 import pywraps2 as s2
 import pytest
 
-from uss_desk_client.shapes import Circle, Corridor, Polygon, ShapeError, Union, cells_of
+from uss_desk_client.shapes import Circle, Corridor, Polygon, ShapeError, Shapes, cells_of
 from uss_desk_client.tokens import id_of, leaves_of
 
 SQUARE = [(8.0, 47.0), (8.01, 47.0), (8.01, 47.01), (8.0, 47.01)]
@@ -117,7 +117,7 @@ def test_over_the_antimeridian_and_a_pole():
 
 
 def test_several_shapes():
-    both = cells_of(Union([Circle((8, 47), 100), Circle((9, 47), 100)]))
+    both = cells_of(Shapes([Circle((8, 47), 100), Circle((9, 47), 100)]))
     assert has(both, 8, 47) and has(both, 9, 47) and len(both) <= 64
 
 
@@ -138,7 +138,7 @@ def test_more_cells_follow_more_closely():
     (Circle((8, 47), 0), "above 0"),
     (Circle((8, 47), 2e7), "a quarter of the globe"),
     (Corridor([(8, 47), (8, 47)], 10), "at least two places"),
-    (Union([]), "no shape"),
+    (Shapes([]), "no shape"),
 ])
 def test_shapes_without_a_cover(shape, told):
     with pytest.raises(ShapeError, match=told):

@@ -8,7 +8,7 @@ from uss_desk_client.answers import Answer, Conflict, NotTaken
 from uss_desk_client.areas import AreaError, Rectangle, Volume
 from uss_desk_client.geojson import collection, features_of_reasons, geometries, lines_in, shape_in
 from uss_desk_client.picture import page_of, svg_of
-from uss_desk_client.shapes import Circle, Corridor, Polygon, ShapeError, Union
+from uss_desk_client.shapes import Circle, Corridor, Polygon, ShapeError, Shapes
 from uss_desk_client.tokens import evenly, id_of, leaves_of, level_of, token_of
 from uss_desk_client.why import Reasons, why
 
@@ -22,7 +22,7 @@ class ListedDesk:
     def __init__(self, *leaves, note="conflict"):
         self.leaves, self.note, self.asked = sorted(leaves), note, 0
 
-    def try_plan(self, area, priority, plan_id):
+    def try_plan(self, area, priority, plan_id, usage):
         self.asked += 1
         for leaf in self.leaves:
             if any(low <= leaf <= high for cell in area[0].cells for low, high in [leaves_of(id_of(cell))]):
@@ -45,7 +45,7 @@ def test_the_blocked_cells_are_found_by_one_request_each_and_one(blocked):
 
 def test_another_refusal_is_raised():
     class Ended(ListedDesk):
-        def try_plan(self, area, priority, plan_id):
+        def try_plan(self, area, priority, plan_id, usage):
             return Answer("Rejected", "NotPlanned", "ended")
     with pytest.raises(NotTaken, match="clock"):
         why(Ended(), [volume(CELLS)])
@@ -72,7 +72,7 @@ def test_shapes_of_geojson():
     assert isinstance(shape_in({"type": "LineString", "coordinates": [[8, 47], [9, 47]]}, width=10), Corridor)
     assert shape_in({"type": "Point", "coordinates": [8, 47]}, radius=5) == Circle([8, 47], 5)
     both = {"type": "FeatureCollection", "features": [{"type": "Feature", "geometry": FIELD}] * 2}
-    assert isinstance(shape_in(both), Union)
+    assert isinstance(shape_in(both), Shapes)
     assert len(geometries({"type": "MultiPolygon", "coordinates": [FIELD["coordinates"]] * 3})) == 3
     for wrong in ({}, [], None, {"type": "Polygon"}, {"type": "Feature", "geometry": None},
                   {"type": "Point", "coordinates": [8, 47]}, {"type": "LineString", "coordinates": [[8, 47], [9, 47]]}):

@@ -14,8 +14,8 @@ import ssl
 import time
 import uuid
 from dataclasses import dataclass
-from typing import Any, Dict, List, Mapping, Optional, Sequence
-from urllib.parse import urlsplit
+from typing import Any, Dict, List, Mapping, Optional, Sequence, Tuple, Union
+from urllib.parse import quote, urlsplit
 
 from uss_desk_client.answers import Answer, Cleared, Plan
 from uss_desk_client.areas import Volume
@@ -52,6 +52,7 @@ AGAIN = (429, 500, 502, 503, 504)
 """Statuses after which a request is asked again."""
 UNTOUCHED = (429,)
 """Of these, those after which nothing was done."""
+PLANS, CLEARS = "/flight_plans", "/clear_area_requests"
 FIRST_PAUSE, LONGEST_PAUSE = 0.2, 5.0
 """Seconds before a request is asked again, at first and at most."""
 
@@ -120,6 +121,10 @@ class Response:
         return str(word) if word else WORDS.get(self.status, "")
 
 
+def path_of(plan_id: str) -> str:
+    return f"{PLANS}/{quote(plan_id, safe='')}"
+
+
 def new_id() -> str:
     """A new id for a plan."""
     return str(uuid.uuid4())
@@ -175,9 +180,11 @@ class Desk:
         """Plans a flight under an id of the caller's choice (`new_id`), or replaces a planned one."""
         return self.put(plan_id, put_body(area, "Planned", "Nominal", priority, "IfAllowed"))
 
-    def try_plan(self, area: Sequence[Volume], priority: int = 0, plan_id: Optional[str] = None) -> Answer:
-        """What `plan` would answer now; nothing is stored. With a plan's id its stored version doesn't block."""
-        return self.put(plan_id or new_id(), put_body(area, "Planned", "Nominal", priority, "Hypothetical"))
+    def try_plan(self, area: Sequence[Volume], priority: int = 0, plan_id: Optional[str] = None,
+                 usage: str = "Planned") -> Answer:
+        """What `plan` would answer now, or `activate` with the usage InUse; nothing is stored. With a plan's id its
+        stored version doesn't block."""
+        return self.put(plan_id or new_id(), put_body(area, usage, "Nominal", priority, "Hypothetical"))
 
     def activate(self, plan_id: str, area: Optional[Sequence[Volume]] = None,
                  priority: Optional[int] = None) -> Answer:
@@ -196,33 +203,37 @@ class Desk:
 
     def close(self, plan_id: str) -> Answer:
         """Closes a plan. A closed one stays closed."""
-        path = f"/flight_plans/{plan_id}"
+        path = path_of(plan_id)
         response, was_lost = self._again("DELETE", path, None)
         return Answer.from_answer(self._object(response, path), was_lost)
 
     def show(self, plan_id: str) -> Plan:
         """A plan, with its conflict if it has one now."""
-        return Plan.from_answer(self._read(f"/flight_plans/{plan_id}"))
+        return Plan.from_answer(self._read(path_of(plan_id)))
 
     def plans(self) -> List[Plan]:
         """All plans of the operator, closed ones too, ascending by id."""
-        return [Plan.from_answer(shown) for shown in self._read("/flight_plans")["flight_plans"]]
+        return [Plan.from_answer(shown) for shown in self._read(PLANS)["flight_plans"]]
 
-    def clear(self, extent: Volume) -> Cleared:
-        """Removes the operator's plans, closed ones too, that share a point with a volume."""
-        path = "/clear_area_requests"
-        response, was_lost = self._again("POST", path, {"extent": extent.to_json()})
-        message = str(self._object(response, path)["outcome"]["message"])
-        return Cleared(int(message.split()[-1]), was_lost)
+    def clear(self, area: Sequence[Volume]) -> Cleared:
+        """Removes the operator's plans, closed ones too, that share a point with a volume of an area, which may be of
+        any size: one request for each volume."""
+        count, is_lost = 0, False
+        for extent in area:
+            body = {"extent": extent.to_json()}
+            response, was_lost = self._again("POST", CLEARS, body)
+            count += int(str(self._object(response, CLEARS, body)["outcome"]["message"]).split()[-1])
+            is_lost = is_lost or was_lost
+        return Cleared(count, is_lost)
 
     def put(self, plan_id: str, body: Mapping[str, Any]) -> Answer:
         """Asks a PUT with this body. One that may have been done is looked for, and put again if it isn't there."""
-        until = Deadline(self._patience)
+        until, path = Deadline(self._patience), path_of(plan_id)
         was_lost = False
         while True:
-            tried = self._try("PUT", f"/flight_plans/{plan_id}", body, until)
-            if not isinstance(tried, Unsettled):
-                return Answer.from_answer(self._object(tried, "PUT", body), was_lost)
+            tried = self._try("PUT", path, body, until)
+            if isinstance(tried, Response):
+                return Answer.from_answer(self._object(tried, path, body), was_lost)
             was_lost = was_lost or tried.may_stand
             until.wait(tried, was_lost)
             if tried.may_stand and body.get("execution_style") != "Hypothetical":
@@ -249,24 +260,26 @@ class Desk:
 
     def _find(self, plan_id: str, until: Deadline) -> Optional[Plan]:
         """The plan as it is stored, or None if there is none or it couldn't be told."""
-        tried = self._try("GET", f"/flight_plans/{plan_id}", None, until)
+        path = path_of(plan_id)
+        tried = self._try("GET", path, None, until)
         if isinstance(tried, Unsettled) or tried.status == 404:
             return None
-        return Plan.from_answer(self._object(tried, "GET"))
+        return Plan.from_answer(self._object(tried, path))
 
-    def _again(self, method: str, path: str, body: Optional[Mapping[str, Any]]) -> Any:
+    def _again(self, method: str, path: str, body: Optional[Mapping[str, Any]]) -> Tuple[Response, bool]:
         """The answer to a request that may be asked any number of times, and whether an earlier one was lost."""
         until = Deadline(self._patience)
         was_lost = False
         while True:
             tried = self._try(method, path, body, until)
-            if not isinstance(tried, Unsettled):
+            if isinstance(tried, Response):
                 return tried, was_lost
             was_lost = was_lost or (tried.may_stand and method != "GET")
             until.wait(tried, was_lost)
 
-    def _try(self, method: str, path: str, body: Optional[Mapping[str, Any]], until: Deadline) -> Any:
-        """One attempt: a Response, or an Unsettled if the request is to be asked again."""
+    def _try(self, method: str, path: str, body: Optional[Mapping[str, Any]],
+             until: Deadline) -> Union[Response, Unsettled]:
+        """One attempt, after which the request is settled or is to be asked again."""
         try:
             response = self._ask(method, path, body, min(self._timeout, max(until.left(), 0.1)))
         except Lost as lost:

@@ -8,7 +8,7 @@ import pywraps2 as s2
 
 from uss_desk_client.answers import Plan
 from uss_desk_client.areas import Volume
-from uss_desk_client.shapes import Circle, Corridor, Place, Polygon, Shape, ShapeError, Union
+from uss_desk_client.shapes import Circle, Corridor, Place, Polygon, Shape, ShapeError, Shapes
 from uss_desk_client.units import Metres, time_text
 from uss_desk_client.why import Reasons
 
@@ -50,7 +50,7 @@ def shape_of(geometry: Dict[str, Any], radius: Optional[Metres], width: Optional
 def shape_in(document: Any, radius: Optional[Metres] = None, width: Optional[Metres] = None) -> Shape:
     """The shape of all geometries of a document. Lines need a `width`, points a `radius`, both in metres."""
     shapes = [shape_of(geometry, radius, width) for geometry in geometries(document)]
-    return shapes[0] if len(shapes) == 1 else Union(shapes)
+    return shapes[0] if len(shapes) == 1 else Shapes(shapes)
 
 
 def lines_in(document: Any) -> List[List[Place]]:

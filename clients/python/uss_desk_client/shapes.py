@@ -103,7 +103,7 @@ class Corridor(Shape):
 
 
 @dataclass(frozen=True)
-class Union(Shape):
+class Shapes(Shape):
     """All places of some shapes."""
 
     shapes: Sequence[Shape]

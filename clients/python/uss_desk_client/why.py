@@ -10,7 +10,7 @@ from typing import List, Optional, Sequence, Tuple
 
 from uss_desk_client.answers import Conflict, NotTaken
 from uss_desk_client.areas import AreaError, Volume
-from uss_desk_client.desk import Desk
+from uss_desk_client.desk import Desk, NoSuchPlan
 from uss_desk_client.tokens import id_of, leaves_of
 
 
@@ -60,14 +60,14 @@ def why(desk: Desk, area: Sequence[Volume], priority: int = 0, plan_id: Optional
     `Desk`; an AreaError if a volume has a rectangle in place of cells.
     """
     found: List[Blocked] = []
-    requests = 0
+    requests, usage = 0, usage_of(desk, plan_id)
     for volume in area:
         if volume.rectangle:
             raise AreaError("of a rectangle it can't be told which of its cells are blocked: use cells")
         rest = sorted(volume.cells, key=number_of)
         while rest:
             requests += 1
-            answer = desk.try_plan([replace(volume, cells=tuple(rest))], priority, plan_id)
+            answer = desk.try_plan([replace(volume, cells=tuple(rest))], priority, plan_id, usage)
             if answer.is_completed:
                 break
             if not answer.conflict:
@@ -76,6 +76,16 @@ def why(desk: Desk, area: Sequence[Volume], priority: int = 0, plan_id: Optional
             found += [Blocked(cell, volume, answer.conflict) for cell in rest if has_leaf(cell, leaf)]
             rest = [cell for cell in rest if leaves_of(number_of(cell))[0] > leaf]
     return Reasons(tuple(area), priority, tuple(found), requests)
+
+
+def usage_of(desk: Desk, plan_id: Optional[str]) -> str:
+    """The usage to ask for: a plan that is in use can't be planned again."""
+    if plan_id is None:
+        return "Planned"
+    try:
+        return "InUse" if desk.show(plan_id).usage == "InUse" else "Planned"
+    except NoSuchPlan:
+        return "Planned"
 
 
 def has_leaf(cell: str, leaf: int) -> bool:
