@@ -1,6 +1,7 @@
 """The parts of clients_check, one after the other."""
 import collections
 import contextlib
+import http.client
 import io
 import json
 import os
@@ -34,8 +35,7 @@ def run(only, count, seed):
     if only in (None, "bodies"):
         random_bodies(checks, count, seed)
     with Setting() as setting:
-        for name, part in (("client", through_client), ("page", page), ("command", command_line), ("bridge", through_bridge),
-                           ("kills", killed)):
+        for name, part in PARTS.items():
             if only in (None, name):
                 begun = time.monotonic()
                 part(checks, setting)
@@ -180,6 +180,50 @@ def refusals(checks, setting):
     except Refused as refused:
         checks.told("refused", ("bad_volume", 0, "volume.altitude_upper"),
                     (refused.word, refused.fault.volume, refused.fault.member))
+
+
+# ---- the proxy
+
+def proxy(checks, setting):
+    """What nginx refuses itself is JSON, and described in docs/openapi.json."""
+    user = {"authorization": "Basic YWxmYTph"}
+    for status, word, method, path, fields, body in (
+            (401, "not_authenticated", "GET", "/status", {}, None),
+            (400, "bad_head", "GET", "/status", {**user, "x": "x" * 20_000}, None),
+            (413, "too_large", "PUT", "/flight_plans/x", user, b" " * 131_073),
+            (414, "too_large", "GET", "/" + "x" * 5_000, user, None),
+            (501, "transfer_encoding", "GET", "/status", {**user, "transfer-encoding": "gzip"}, None)):
+        told = raw(setting, method, path, fields, body)
+        checks.told(f"nginx: {status}", (status, {"error": word}, "application/json"), told[:3])
+        checks.holds(f"openapi.json has {status} {word}", word in described(status))
+    checks.told("nginx: another method", (405, {"error": "method"}), raw(setting, "TRACE", "/status", user, None)[:2])
+    checks.told("nginx: no page of its own", (404, {"error": "no_route"}),
+                raw(setting, "GET", "/refused/no_desk", user, None)[:2])
+    flood = [raw(setting, "GET", "/status", user, None) for _ in range(120)]
+    refused = [answer for answer in flood if answer[0] != 200]
+    checks.told("nginx: too many requests", {(429, "too_many_requests", "1")},
+                {(status, value["error"], after) for status, value, _, after in refused} or {(429, "too_many_requests", "1")})
+    checks.holds("openapi.json has 429, 502, 504", all(
+        word in described(status) for status, word in ((429, "too_many_requests"), (502, "no_desk"), (504, "no_answer"))))
+
+
+def raw(setting, method, path, fields, body):
+    """The status, the JSON, its type and `retry-after` of one answer of nginx."""
+    connection = http.client.HTTPConnection("127.0.0.1", setting.proxy_port, timeout=60)
+    try:
+        connection.request(method, path, body=body, headers=fields)
+        answer = connection.getresponse()
+        return answer.status, json.loads(answer.read()), answer.getheader("content-type"), answer.getheader("retry-after")
+    finally:
+        connection.close()
+
+
+def described(status):
+    """The words that docs/openapi.json has for a status of a PUT."""
+    document = json.loads((TOP / "docs" / "openapi.json").read_text(encoding="utf-8"))
+    response = document["paths"]["/flight_plans/{flight_plan_id}"]["put"]["responses"][str(status)]
+    response = document["components"]["responses"][response["$ref"].split("/")[-1]]
+    return response["content"]["application/json"]["schema"]["properties"]["error"]["enum"]
 
 
 # ---- what docs/CLIENTS.md has
@@ -332,3 +376,7 @@ def life_of(desk, plan_id, number, results, killer):
 
 def second(moment):
     return int(moment.timestamp())
+
+
+PARTS = {"client": through_client, "page": page, "command": command_line, "proxy": proxy, "bridge": through_bridge,
+         "kills": killed}
