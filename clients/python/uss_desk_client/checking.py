@@ -179,11 +179,22 @@ def hint(value: Any) -> str:
 # ---- a volume
 
 def read_volume(volume: Any, at: Optional[int]) -> Window:
-    """The times of a volume, or the first thing that is wrong with it: its form and limits, then its cover's size."""
+    """The times of a volume, or the first thing that is wrong with it: its form and limits, then its cover's size.
+    `at` is its number in the area; the extent of a clear has none."""
+    before = "" if at is not None else "extent."
     for member, limit in faults_of(volume):
-        word = "too_many_cells" if member == "volume.rectangle" and "canonical cover" in limit else "bad_volume"
-        raise Wrong(word, member if at is not None else f"extent.{member}".rstrip("."), limit, at)
+        raise Wrong("bad_volume", before + member, limit, at)
+    rectangle = volume["volume"].get("rectangle")
+    if rectangle is not None and has_large_cover(rectangle):
+        raise Wrong("too_many_cells", f"{before}volume.rectangle",
+                    f"a canonical cover of at most {limits.MAX_COVER:,} cells: take a lower level", at)
     return Window(time_of(volume, "time_start"), time_of(volume, "time_end"))
+
+
+def has_large_cover(rectangle: Mapping[str, int]) -> bool:
+    """Whether a rectangle that is well formed has more cells in its cover than it may."""
+    i, j = ((rectangle[f"{axis}_min"], rectangle[f"{axis}_max"]) for axis in "ij")
+    return cover_size(i, j, rectangle["level"], limits.MAX_COVER) > limits.MAX_COVER
 
 
 def time_of(volume: Any, name: str) -> int:
@@ -277,9 +288,6 @@ def faults_of_rectangle(rectangle: Any) -> Iterator[Tuple[str, str]]:
             yield f"volume.rectangle.{axis}_max", f"{greatest:,}: at least {axis}_min, which is {least:,}"
     if not limits.LEAST_LEVEL <= level <= limits.GREATEST_LEVEL:
         yield "volume.rectangle.level", f"{level}: {limits.LEAST_LEVEL} to {limits.GREATEST_LEVEL}"
-        return
-    if cover_size((i_min, i_max), (j_min, j_max), level, limits.MAX_COVER) > limits.MAX_COVER:
-        yield "volume.rectangle", f"a canonical cover of at most {limits.MAX_COVER:,} cells: take a lower level"
 
 
 # ---- the rules that ask for the moment, the ceiling and what is stored
