@@ -304,7 +304,7 @@ def through_bridge(checks, setting):
 
 # ---- kills
 
-PLANS, STEPS_A_KILL = 60, 14
+PLANS, STEPS_A_KILL = 40, 14
 
 
 class Killer:
@@ -352,7 +352,7 @@ def killed(checks, setting):
     checks.told("while the desk is killed", {"Completed"}, {answer.result for answer in results})
     checks.told("what was answered is there, once", wanted,
                 {plan.plan_id: (plan.status, plan.priority) for plan in alfa.plans()})
-    checks.holds("the desk was killed", setting.starts - starts >= 4)
+    checks.holds("the desk was killed", setting.starts - starts >= 3)
     lost = sum(answer.was_lost for answer in results)
     print(f"kills: {setting.starts - starts} starts, {lost} of {len(results)} answers were lost at first")
 
