@@ -1,0 +1,121 @@
+"""The bridge as an HTTP server: one operator's messages, asked of the desk one after the other."""
+from __future__ import annotations
+
+import asyncio
+import json
+from datetime import datetime, timezone
+from typing import Any, Awaitable, Callable, Dict, Optional, TypeVar
+
+from aiohttp import web
+
+from interuss_bridge.messages import Malformed, NotSupported, extent_of, planning_response, read_object, response_of
+from interuss_bridge.messages import upsert_of
+from uss_desk_client import Desk, DeskError, NoAnswer, NoSuchPlan, Refused
+
+Result = TypeVar("Result")
+Handler = Callable[[web.Request], Awaitable[web.StreamResponse]]
+API_NAME = "Flight Planning Automated Testing Interface"
+
+
+class Bridge:
+    """Takes messages for one operator. `tells_conflict` puts the member `has_conflict` into responses, for editions
+    that have it."""
+
+    def __init__(self, desk: Desk, tells_conflict: bool = False) -> None:
+        self._desk, self._tells_conflict = desk, tells_conflict
+        self._turn: Optional[asyncio.Lock] = None
+
+    def application(self) -> web.Application:
+        application = web.Application(middlewares=[worded])
+        application.add_routes([
+            web.get("/status", self.status),
+            web.put("/flight_plans/{flight_plan_id}", self.upsert),
+            web.delete("/flight_plans/{flight_plan_id}", self.delete),
+            web.post("/clear_area_requests", self.clear),
+        ])
+        return application
+
+    async def _ask(self, call: Callable[..., Result], *words: Any) -> Result:
+        """A call of the client, which waits, in a thread of its own; one at a time, in the order of the messages."""
+        self._turn = self._turn or asyncio.Lock()
+        async with self._turn:
+            return await asyncio.get_running_loop().run_in_executor(None, call, *words)
+
+    async def status(self, _: web.Request) -> web.Response:
+        try:
+            status = await self._ask(self._desk.status)
+        except NoAnswer:
+            status = "Starting"
+        return web.json_response({"status": status, "api_name": API_NAME, "api_version": "v1"})
+
+    async def upsert(self, request: web.Request) -> web.Response:
+        plan_id = request.match_info["flight_plan_id"]
+        message = read_object(await request.read())
+        try:
+            asked = upsert_of(message)
+        except NotSupported as why:
+            return await self._as_stored("NotSupported", plan_id, str(why))
+        try:
+            answer = await self._ask(self._desk.put, plan_id, asked.body)
+        except NoAnswer as why:
+            return await self._as_stored("Failed", plan_id, str(why))
+        return web.json_response(response_of(answer, self._tells_conflict))
+
+    async def delete(self, request: web.Request) -> web.Response:
+        plan_id = request.match_info["flight_plan_id"]
+        try:
+            answer = await self._ask(self._desk.close, plan_id)
+        except NoAnswer as why:
+            return await self._as_stored("Failed", plan_id, str(why))
+        return web.json_response(response_of(answer, self._tells_conflict))
+
+    async def clear(self, request: web.Request) -> web.Response:
+        message = read_object(await request.read())
+        count = 0
+        try:
+            for volume in extent_of(message):
+                count += (await self._ask(self._desk.clear, [volume])).count
+        except (NotSupported, NoAnswer) as why:
+            return web.json_response(outcome(False, f"cleared {count}, then: {why}" if count else str(why)))
+        return web.json_response(outcome(True, f"cleared {count}"))
+
+    async def _as_stored(self, result: str, plan_id: str, notes: str) -> web.Response:
+        """A result that changed nothing, as far as is known, with the status of the plan as it is stored."""
+        try:
+            status = (await self._ask(self._desk.show, plan_id)).status
+        except NoSuchPlan:
+            status = "NotPlanned"
+        return web.json_response(planning_response(result, status, notes, False if self._tells_conflict else None))
+
+
+def outcome(is_success: bool, message: str) -> Dict[str, Any]:
+    """A ClearAreaResponse."""
+    now = datetime.now(timezone.utc).strftime("%Y-%m-%dT%H:%M:%SZ")
+    return {"outcome": {"success": is_success, "message": message, "timestamp": now}}
+
+
+@web.middleware
+async def worded(request: web.Request, handler: Handler) -> web.StreamResponse:
+    """Refusals as JSON: {"error":WORD,"message":TEXT}."""
+    try:
+        return await handler(request)
+    except Malformed as why:
+        return refusal(400, "bad_message", str(why))
+    except NoSuchPlan as why:
+        return refusal(404, why.word, why.advice)
+    except Refused as why:
+        is_callers = why.status in (400, 413)
+        return refusal(why.status if is_callers else 502, why.word, str(why.fault or why.advice))
+    except DeskError as why:
+        return refusal(502, "bad_gateway", str(why))
+    except web.HTTPException as why:
+        names = {404: "no_route", 405: "method", 413: "too_large"}
+        answer = refusal(why.status, names.get(why.status, "bad_message"), why.reason)
+        if "allow" in why.headers:
+            answer.headers["allow"] = why.headers["allow"]
+        return answer
+
+
+def refusal(status: int, name: str, message: str) -> web.Response:
+    return web.Response(status=status, content_type="application/json",
+                        text=json.dumps({"error": name, "message": message}))

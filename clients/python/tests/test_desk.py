@@ -1,0 +1,203 @@
+"""Asking a server that loses requests and answers: a list of what it does, one after the other."""
+import json
+import socket
+import threading
+import time
+
+import pytest
+
+from uss_desk_client import desk as desk_module
+from uss_desk_client.areas import Volume
+from uss_desk_client.answers import NotTaken, Plan
+from uss_desk_client.desk import BadAnswer, Desk, NoAnswer, NoSuchPlan, Refused, is_as_put, put_body
+
+ID = "11111111-1111-4111-8111-111111111111"
+AREA = [Volume(("04",), 0, 1_000, 1_780_315_200, 1_780_318_800)]
+DONE = (200, {"flight_plan_status": "Planned", "notes": "", "planning_result": "Completed"})
+SHOWN = (200, {"area": [{"altitude_lower": 0, "altitude_upper": 1000, "cells": ["04"], "second_end": 1780318800,
+                         "second_start": 1780315200}], "flight_plan_id": ID, "flight_plan_status": "Planned",
+               "priority": 10, "uas_state": "Nominal", "usage_state": "Planned"})
+NO_PLAN = (404, {"error": "no_such_plan"})
+BLOCKED = (200, {"conflict": {"altitude": 500, "cell": "0000000000000001", "priority": 10, "second": 1780317000},
+                 "flight_plan_status": "NotPlanned", "notes": "conflict", "planning_result": "Rejected"})
+HANG_UP = None
+
+
+class Server:
+    """A server at a port, which does what a script says: an answer (status, value, fields), or it hangs up."""
+
+    def __init__(self, *script):
+        self.asked = []
+        self._script = list(script)
+        self._socket = socket.create_server(("127.0.0.1", 0))
+        self.url = f"http://127.0.0.1:{self._socket.getsockname()[1]}"
+        threading.Thread(target=self._run, daemon=True).start()
+
+    def _run(self):
+        for act in self._script:
+            connection, _ = self._socket.accept()
+            with connection:
+                head, body = self._request(connection)
+                self.asked.append((head.split(" ", 2)[0], head.split(" ", 2)[1], head, body))
+                if act is not HANG_UP:
+                    connection.sendall(self._answer(*act))
+        self._socket.close()
+
+    @staticmethod
+    def _request(connection):
+        data = b""
+        while b"\r\n\r\n" not in data:
+            data += connection.recv(65_536)
+        head, body = data.split(b"\r\n\r\n", 1)
+        lengths = [line for line in head.lower().split(b"\r\n") if line.startswith(b"content-length:")]
+        while lengths and len(body) < int(lengths[0].split(b":")[1]):
+            body += connection.recv(65_536)
+        return head.decode(), body
+
+    @staticmethod
+    def _answer(status, value, fields=""):
+        body = value if isinstance(value, bytes) else json.dumps(value).encode()
+        return f"HTTP/1.1 {status} X\r\n{fields}content-length: {len(body)}\r\n\r\n".encode() + body
+
+    @property
+    def methods(self):
+        return [asked[0] for asked in self.asked]
+
+
+@pytest.fixture(autouse=True)
+def no_pauses(monkeypatch):
+    monkeypatch.setattr(desk_module, "FIRST_PAUSE", 0.01)
+
+
+def asks(*script, **words):
+    server = Server(*script)
+    return server, Desk(server.url, **{"operator": "alfa", "timeout": 5, **words})
+
+
+def test_a_plan_is_put():
+    server, desk = asks(DONE)
+    answer = desk.plan(ID, AREA, 10)
+    assert answer.is_completed and answer.status == "Planned" and not answer.was_lost
+    method, path, head, body = server.asked[0]
+    assert (method, path) == ("PUT", f"/flight_plans/{ID}") and "x-operator: alfa" in head
+    assert json.loads(body)["flight_plan"]["basic_information"]["area"][0]["volume"]["cells"] == ["04"]
+
+
+def test_a_user_has_a_password_and_no_operator():
+    server, desk = asks((200, {"status": "Ready"}), operator=None, user="alfa", password="p:w")
+    assert desk.status() == "Ready"
+    assert "authorization: Basic YWxmYTpwOnc=" in server.asked[0][2] and "x-operator" not in server.asked[0][2]
+
+
+def test_a_conflict():
+    _, desk = asks(BLOCKED)
+    answer = desk.plan(ID, AREA, 10)
+    assert not answer.is_completed and answer.note == "conflict" and answer.conflict.priority == 10
+    assert answer.conflict.altitude_metres == 50 and answer.conflict.time.isoformat() == "2026-06-01T12:30:00+00:00"
+    assert abs(answer.conflict.latitude + 35.264390) < 1e-5 and abs(answer.conflict.longitude + 45) < 1e-5
+    with pytest.raises(NotTaken, match="priority 10"):
+        answer.demand()
+
+
+@pytest.mark.parametrize("lost", [HANG_UP, (500, {"error": "store"}), (502, b"<html>"), (503, b""), (504, b"")])
+def test_a_put_whose_answer_was_lost_and_that_stands_is_not_put_again(lost):
+    server, desk = asks(lost, SHOWN)
+    answer = desk.plan(ID, AREA, 10)
+    assert answer.is_completed and answer.was_lost and server.methods == ["PUT", "GET"]
+
+
+@pytest.mark.parametrize("found", [NO_PLAN, (200, {**SHOWN[1], "priority": 9}), HANG_UP])
+def test_a_put_that_is_not_there_is_put_again(found):
+    server, desk = asks(HANG_UP, found, DONE)
+    answer = desk.plan(ID, AREA, 10)
+    assert answer.is_completed and answer.was_lost and server.methods == ["PUT", "GET", "PUT"]
+
+
+def test_a_dry_run_is_asked_again_at_once():
+    server, desk = asks(HANG_UP, BLOCKED)
+    assert desk.try_plan(AREA, 10).note == "conflict" and server.methods == ["PUT", "PUT"]
+
+
+def test_too_many_requests_are_waited_for():
+    server, desk = asks((429, b"", "retry-after: 1\r\n"), DONE)
+    begun = time.monotonic()
+    assert not desk.plan(ID, AREA, 10).was_lost
+    assert 1 <= time.monotonic() - begun < 4 and server.methods == ["PUT", "PUT"]
+
+
+def test_patience_ends():
+    server, desk = asks(*[(502, b"")] * 1_000, patience=0.3)
+    with pytest.raises(NoAnswer, match="may stand") as ended:
+        desk.plan(ID, AREA, 10)
+    assert ended.value.may_stand and 2 <= len(server.asked) < 100
+
+
+def test_no_server_changes_nothing():
+    with socket.create_server(("127.0.0.1", 0)) as held:
+        port = held.getsockname()[1]
+    with pytest.raises(NoAnswer, match="nothing was changed"):
+        Desk(f"http://127.0.0.1:{port}", operator="alfa", patience=0.2).plan(ID, AREA)
+
+
+def test_a_clear_and_a_close_asked_again():
+    cleared = (200, {"outcome": {"message": "cleared 2", "success": True}})
+    _, desk = asks(HANG_UP, cleared)
+    told = desk.clear(AREA)
+    assert (told.count, told.was_lost) == (2, True)
+    _, desk = asks(HANG_UP, (200, {"flight_plan_status": "Closed", "notes": "", "planning_result": "Completed"}))
+    assert desk.close(ID).was_lost
+
+
+def test_a_path_has_the_whole_id():
+    server, desk = asks(NO_PLAN)
+    with pytest.raises(NoSuchPlan):
+        desk.show("a/b?c")
+    assert server.asked[0][1] == "/flight_plans/a%2Fb%3Fc"
+
+
+def test_activation_repeats_what_is_stored():
+    server, desk = asks(SHOWN, DONE)
+    desk.activate(ID)
+    body = json.loads(server.asked[1][3])
+    assert server.methods == ["GET", "PUT"]
+    assert body == {**put_body(AREA, "InUse", "Nominal", 10, "IfAllowed")}
+
+
+def test_refusals():
+    _, desk = asks(NO_PLAN, (401, b"<html>"), (403, {"error": "unknown_operator"}), (404, b"<html>"), (200, b"hello"))
+    with pytest.raises(NoSuchPlan):
+        desk.show(ID)
+    with pytest.raises(Refused, match="unauthorized.*ask the keeper"):
+        desk.status()
+    with pytest.raises(Refused, match="unknown_operator"):
+        desk.plans()
+    with pytest.raises(BadAnswer):
+        desk.status()
+    with pytest.raises(BadAnswer):
+        desk.status()
+
+
+def test_a_refusal_names_the_volume():
+    _, desk = asks((400, {"error": "bad_volume"}))
+    with pytest.raises(Refused) as refused:
+        desk.plan(ID, [AREA[0], Volume(("04",), 0, 300_000, 0, 1)])
+    assert (refused.value.fault.volume, refused.value.fault.member) == (1, "volume.altitude_upper")
+
+
+@pytest.mark.parametrize("words", [("desk.example",), ("ftp://x",), ("http://x?y",)])
+def test_no_urls(words):
+    with pytest.raises(ValueError):
+        Desk(*words, operator="alfa")
+    with pytest.raises(ValueError):
+        Desk("http://x")
+
+
+def test_what_stands_is_told_from_what_does_not():
+    stored = Plan.from_answer(SHOWN[1])
+    body = put_body(AREA, "Planned", "Nominal", 10, "IfAllowed")
+    assert is_as_put(stored, body)
+    assert is_as_put(stored, put_body([Volume(("0400",), 0, 1_000, 1_780_315_200, 1_780_318_800)], "Planned", "Nominal",
+                                      10, "IfAllowed"))
+    for other in (put_body(AREA, "InUse", "Nominal", 10, "IfAllowed"), put_body(AREA, "Planned", "Nominal", 0, ""),
+                  put_body(AREA * 2, "Planned", "Nominal", 10, ""), put_body(AREA, "Closed", "Nominal", 10, "")):
+        assert not is_as_put(stored, other)

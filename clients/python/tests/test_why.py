@@ -1,0 +1,105 @@
+"""What blocks a flight, asked of a desk that is a list of blocked leaves; and its pictures."""
+import json
+from xml.dom import minidom
+
+import pytest
+
+from uss_desk_client.answers import Answer, Conflict, NotTaken
+from uss_desk_client.areas import AreaError, Rectangle, Volume
+from uss_desk_client.geojson import collection, features_of_reasons, geometries, lines_in, shape_in
+from uss_desk_client.picture import page_of, svg_of
+from uss_desk_client.shapes import Circle, Corridor, Polygon, ShapeError, Shapes
+from uss_desk_client.tokens import evenly, id_of, leaves_of, level_of, token_of
+from uss_desk_client.why import Reasons, why
+
+CELLS = ("478fc2d01", "478fc2d03", "478fc2d05", "478fc2d07")
+FIELD = {"type": "Polygon", "coordinates": [[[8.0, 47.0], [8.01, 47.0], [8.01, 47.01], [8.0, 47.0]]]}
+
+
+class ListedDesk:
+    """Tells the least of some leaves that lies in a cell of the plan."""
+
+    def __init__(self, *leaves, note="conflict"):
+        self.leaves, self.note, self.asked = sorted(leaves), note, 0
+
+    def try_plan(self, area, priority, plan_id, usage):
+        self.asked += 1
+        for leaf in self.leaves:
+            if any(low <= leaf <= high for cell in area[0].cells for low, high in [leaves_of(id_of(cell))]):
+                return Answer("Rejected", "NotPlanned", self.note, Conflict(f"{leaf:016x}", 600, 5, 30))
+        return Answer("Completed", "Planned")
+
+
+def volume(cells):
+    return Volume(tuple(cells), 600, 1_200, 0, 60)
+
+
+@pytest.mark.parametrize("blocked", [(), (0,), (3,), (0, 1, 2, 3), (1, 3)])
+def test_the_blocked_cells_are_found_by_one_request_each_and_one(blocked):
+    desk = ListedDesk(*(leaves_of(id_of(CELLS[at]))[0] + 4 for at in blocked))
+    reasons = why(desk, [volume(CELLS[::-1])], 10)
+    assert reasons.blocked_cells == [CELLS[at] for at in blocked]
+    assert reasons.free_cells == [cell for at, cell in enumerate(CELLS) if at not in blocked]
+    assert desk.asked == reasons.requests == len(blocked) + (3 not in blocked)
+
+
+def test_another_refusal_is_raised():
+    class Ended(ListedDesk):
+        def try_plan(self, area, priority, plan_id, usage):
+            return Answer("Rejected", "NotPlanned", "ended")
+    with pytest.raises(NotTaken, match="clock"):
+        why(Ended(), [volume(CELLS)])
+    with pytest.raises(AreaError):
+        why(ListedDesk(), [Volume((), 0, 1, 0, 1, Rectangle(0, 0, 1, 0, 1, 24))])
+
+
+def test_pictures_and_geojson():
+    reasons = why(ListedDesk(leaves_of(id_of(CELLS[1]))[0]), [volume(CELLS)], 10)
+    picture = svg_of(reasons, lines_in(FIELD))
+    minidom.parseString(picture)
+    assert "blocked in 1 of 4 cells" in picture and "priority 30" in picture
+    page = page_of(reasons, lines_in(FIELD))
+    assert CELLS[1] in page and "src=" not in page and "href=" not in page
+    features = json.loads(json.dumps(collection(features_of_reasons(reasons))))["features"]
+    assert [one["properties"]["state"] for one in features] == ["blocked", *["free"] * 3, "first blocked point"]
+    ring = features[0]["geometry"]["coordinates"][0][0]
+    assert len(ring) == 5 and ring[0] == ring[-1]
+    assert "Nothing blocks" in svg_of(Reasons((volume(CELLS),), 10, (), 1), [])
+
+
+def test_shapes_of_geojson():
+    assert shape_in({"type": "Feature", "geometry": FIELD}) == Polygon(FIELD["coordinates"][0], [], is_straight=True)
+    assert isinstance(shape_in({"type": "LineString", "coordinates": [[8, 47], [9, 47]]}, width=10), Corridor)
+    assert shape_in({"type": "Point", "coordinates": [8, 47]}, radius=5) == Circle([8, 47], 5)
+    both = {"type": "FeatureCollection", "features": [{"type": "Feature", "geometry": FIELD}] * 2}
+    assert isinstance(shape_in(both), Shapes)
+    assert len(geometries({"type": "MultiPolygon", "coordinates": [FIELD["coordinates"]] * 3})) == 3
+    for wrong in ({}, [], None, {"type": "Polygon"}, {"type": "Feature", "geometry": None},
+                  {"type": "Point", "coordinates": [8, 47]}, {"type": "LineString", "coordinates": [[8, 47], [9, 47]]}):
+        with pytest.raises(ShapeError):
+            shape_in(wrong)
+
+
+@pytest.mark.parametrize("token, number, level", [
+    ("1", 1 << 60, 0), ("B", 0xB << 60, 0), ("04", 0x04 << 56, 1), ("0000000000000001", 1, 30), ("04000000", 1 << 58, 1)])
+def test_tokens(token, number, level):
+    assert id_of(token) == number and level_of(number) == level
+    assert id_of(token_of(number)) == number
+
+
+@pytest.mark.parametrize("token", ["", "0", "2", "c", "d", "f", "x", "00000000000000001", "0000000000000002", " 1", "1\n"])
+def test_no_tokens(token):
+    assert id_of(token) is None
+
+
+def test_leaves():
+    assert leaves_of(1 << 60) == (1, (1 << 61) - 1) and leaves_of(1) == (1, 1)
+
+
+@pytest.mark.parametrize("tokens, at_most, found", [
+    (["1"], 1, ["1"]), (["1"], 3, ["1"]), (["1"], 4, ["04", "0c", "14", "1c"]), (["0000000000000001"], 9, ["0000000000000001"]),
+    (["1", "3"], 5, ["04", "0c", "14", "1c", "3"]), (["1"], 7, ["01", "03", "05", "07", "0c", "14", "1c"]),
+    (["3", "04"], 5, ["04", "24", "2c", "34", "3c"]),
+])
+def test_cells_are_cut_evenly(tokens, at_most, found):
+    assert evenly(tokens, at_most) == found

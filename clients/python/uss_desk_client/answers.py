@@ -1,0 +1,149 @@
+"""What the desk answers, as values: results of requests, conflicts, plans."""
+from __future__ import annotations
+
+from dataclasses import dataclass
+from datetime import datetime
+from typing import Any, Mapping, Optional, Tuple
+
+import pywraps2 as s2
+
+from uss_desk_client.areas import Volume
+from uss_desk_client.units import datetime_of
+
+COMPLETED = "Completed"
+
+ADVICE = {
+    "style": "the desk takes InReality only to report OffNominal or Contingent and to close: use IfAllowed",
+    "state": "the plan's state doesn't allow this (docs/RULES.md, States): show it",
+    "closed": "the plan is closed and stays so: plan under a new id",
+    "not_planned": "there is no plan with this id to close: list the plans",
+    "ended": "a volume's time is over at the desk's clock: use later times, or clear the plan",
+    "horizon": "a volume starts more than thirty days ahead: plan it later",
+    "priority": "the priority is above the operator's ceiling: lower it, or ask the keeper of the desk",
+    "plans_limit": "the operator has 200 plans, closed ones too: clear those whose time is over",
+    "conflict": "a point of the flight is blocked: avoid it (uss-plan why draws where), or use a higher priority",
+}
+"""What to do after each note."""
+
+
+@dataclass(frozen=True)
+class Conflict:
+    """The first blocked point of a plan: the least by leaf id, then altitude, then second. Others may follow."""
+
+    cell: str
+    """The token of the leaf, always 16 digits."""
+    altitude: int
+    """Decimetres above the WGS84 ellipsoid."""
+    second: int
+    """A Unix second."""
+    priority: int
+    """The greatest priority that other plans hold at the point."""
+
+    @classmethod
+    def from_answer(cls, told: Mapping[str, Any]) -> Conflict:
+        return cls(str(told["cell"]), int(told["altitude"]), int(told["second"]), int(told["priority"]))
+
+    @property
+    def longitude(self) -> float:
+        """Degrees of the leaf's centre; a leaf is about a centimetre wide."""
+        return float(s2.S2CellId.FromToken(self.cell).ToLatLng().lng().degrees())
+
+    @property
+    def latitude(self) -> float:
+        """Degrees of the leaf's centre."""
+        return float(s2.S2CellId.FromToken(self.cell).ToLatLng().lat().degrees())
+
+    @property
+    def altitude_metres(self) -> float:
+        return self.altitude / 10
+
+    @property
+    def time(self) -> datetime:
+        return datetime_of(self.second)
+
+    def __str__(self) -> str:
+        return (f"priority {self.priority} at {self.latitude:.6f} {self.longitude:.6f}, {self.altitude_metres:g} m, "
+                f"{self.time:%Y-%m-%d %H:%M:%S}Z")
+
+
+@dataclass(frozen=True)
+class Answer:
+    """What came of a request to plan, change, report or close. `is_completed` says whether it was done."""
+
+    result: str
+    """`Completed`, `Rejected` or `NotSupported`."""
+    status: str
+    """The status of the plan as it is stored now: NotPlanned, Planned, OkToFly, OffNominal or Closed."""
+    note: str = ""
+    """Why it was refused, a word of docs/RULES.md; empty if it was done."""
+    conflict: Optional[Conflict] = None
+    """With the note `conflict`: the first blocked point."""
+    was_lost: bool = False
+    """The first answer was lost, and this one is what the desk showed, or answered when it was asked again."""
+
+    @classmethod
+    def from_answer(cls, told: Mapping[str, Any], was_lost: bool = False) -> Answer:
+        conflict = told.get("conflict")
+        return cls(str(told["planning_result"]), str(told["flight_plan_status"]), str(told.get("notes", "")),
+                   Conflict.from_answer(conflict) if conflict else None, was_lost)
+
+    @property
+    def is_completed(self) -> bool:
+        return self.result == COMPLETED
+
+    @property
+    def advice(self) -> str:
+        """What to do; empty if it was done."""
+        return "" if self.is_completed else ADVICE.get(self.note, "see docs/RULES.md")
+
+    def demand(self) -> Answer:
+        """This answer if the request was done; else a NotTaken is raised."""
+        if not self.is_completed:
+            raise NotTaken(self)
+        return self
+
+    def __str__(self) -> str:
+        where = f" ({self.conflict})" if self.conflict else ""
+        return f"{self.result}, {self.status}" + ("" if self.is_completed else f": {self.note}{where}: {self.advice}")
+
+
+class NotTaken(Exception):
+    """A request was decided, and refused; `answer` says why."""
+
+    def __init__(self, answer: Answer) -> None:
+        super().__init__(str(answer))
+        self.answer = answer
+
+
+@dataclass(frozen=True)
+class Plan:
+    """A plan of the operator, as it is stored."""
+
+    plan_id: str
+    status: str
+    """Planned, OkToFly, OffNominal or Closed."""
+    usage: str
+    """Planned, InUse or Closed."""
+    aircraft: str
+    """Nominal, OffNominal or Contingent."""
+    priority: int
+    area: Tuple[Volume, ...]
+    conflict: Optional[Conflict]
+    """The first point at which the plan would be refused now, if it is live and there is one."""
+
+    @classmethod
+    def from_answer(cls, shown: Mapping[str, Any]) -> Plan:
+        conflict = shown.get("conflict")
+        return cls(str(shown["flight_plan_id"]), str(shown["flight_plan_status"]), str(shown["usage_state"]),
+                   str(shown["uas_state"]), int(shown["priority"]),
+                   tuple(Volume.from_answer(volume) for volume in shown["area"]),
+                   Conflict.from_answer(conflict) if conflict else None)
+
+
+@dataclass(frozen=True)
+class Cleared:
+    """How many plans a clear removed."""
+
+    count: int
+    was_lost: bool = False
+    """The first answer was lost: `count` has only what was left when the desk was asked again."""
