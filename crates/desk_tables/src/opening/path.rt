@@ -15,7 +15,7 @@ use std::io::ErrorKind;
 // Whether a new file gets the sums of SQLite's cksumvfs at the ends of its pages.
 const NEW_HAS_SUMS: bool = true;
 
-// How many frames the log holds before it is copied into the database file: what some 16 changes write.
+// How many frames the log holds before it is copied into the database file: what 20 to 60 changes write.
 const LOG_FRAMES: usize = 320;
 
 /// A connection to the database in the files at a path; `start` stands for what the files held. Where there
