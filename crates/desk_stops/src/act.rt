@@ -1,0 +1,158 @@
+//! Changes of a store, asked of itself or of a desk over it.
+
+use anyhow::Context;
+use desk_rules::call::{Asked, Call};
+use desk_rules::operator::Operator;
+use desk_rules::plan::{PlanRow, PutCall};
+use desk_rules::plan_id::PlanId;
+use desk_rules::words::{Aircraft, Style, Usage};
+use desk_store::Change;
+use s2_cellid::CellId;
+use std::alloc::Global;
+use volume4d::{Area, Footprint, Volume, Window};
+
+/// A change, asked of a store or of a desk over it.
+///
+/// EXTENT is `LOWER UPPER START END TOKEN`: decimetres, Unix seconds and a cell.
+#[derive(Debug, Drop)]
+pub enum Act {
+    /// `store enrol OPERATOR CEILING`, `store put OPERATOR ID PRIORITY EXTENT`, `store close OPERATOR ID`.
+    Apply(Change),
+    /// `store clear OPERATOR ID ID`.
+    ClearBoth {
+        operator: Operator,
+        one: PlanId,
+        other: PlanId,
+    },
+    /// `desk enrol OPERATOR CEILING`.
+    Enrol {
+        operator: Operator,
+        ceiling: u32,
+    },
+    /// `desk put OPERATOR ID PRIORITY EXTENT`, `desk delete OPERATOR ID`, `desk clear OPERATOR EXTENT`.
+    Call(Asked),
+}
+
+impl Act {
+    /// The change that some words ask.
+    pub fn parse(alloc: Global, words: &[&str]) -> anyhow::Result<Act> {
+        match words {
+            ["store", "clear", operator, one, other] => Ok(Act::ClearBoth {
+                operator: operator_of(operator)?,
+                one: id_of(one)?,
+                other: id_of(other)?,
+            }),
+            ["store", kind, operator, words @ ..] => {
+                let operator = operator_of(operator)?;
+                Ok(Act::Apply(change_of(alloc, kind, operator, words)?))
+            }
+            ["desk", "enrol", operator, ceiling] => Ok(Act::Enrol {
+                operator: operator_of(operator)?,
+                ceiling: ceiling.parse()?,
+            }),
+            ["desk", kind, operator, words @ ..] => {
+                let operator = operator_of(operator)?;
+                let call = call_of(alloc, kind, words)?;
+                Ok(Act::Call(Asked { operator, call }))
+            }
+            _ => None.context("a change of no known form"),
+        }
+    }
+}
+
+// A change of a store.
+fn change_of(
+    alloc: Global,
+    kind: &str,
+    operator: Operator,
+    words: &[&str],
+) -> anyhow::Result<Change> {
+    match (kind, words) {
+        ("enrol", [ceiling]) => Ok(Change::Enrol {
+            operator,
+            ceiling: ceiling.parse()?,
+        }),
+        ("put", [id, priority, extent @ ..]) => Ok(Change::Put {
+            operator,
+            row: row_of(alloc, id, priority, extent)?,
+        }),
+        ("close", [id]) => Ok(Change::Close {
+            operator,
+            id: id_of(id)?,
+        }),
+        _ => None.context("a change of no known form"),
+    }
+}
+
+// A call to a desk.
+fn call_of(alloc: Global, kind: &str, words: &[&str]) -> anyhow::Result<Call> {
+    match (kind, words) {
+        ("put", [id, priority, extent @ ..]) => {
+            Ok(Call::Put(put_of(row_of(alloc, id, priority, extent)?)))
+        }
+        ("delete", [id]) => Ok(Call::Delete(id_of(id)?)),
+        ("clear", extent) => Ok(Call::Clear(volume_of(alloc, extent)?)),
+        _ => None.context("a call of no known form"),
+    }
+}
+
+// A request to plan a row.
+fn put_of(row: PlanRow) -> PutCall {
+    PutCall {
+        id: row.id,
+        style: Style::IfAllowed,
+        usage: row.usage,
+        aircraft: row.aircraft,
+        priority: row.priority,
+        area: row.area,
+    }
+}
+
+fn row_of(alloc: Global, id: &str, priority: &str, extent: &[&str]) -> anyhow::Result<PlanRow> {
+    Ok(PlanRow {
+        id: id_of(id)?,
+        priority: priority.parse()?,
+        usage: Usage::Planned,
+        aircraft: Aircraft::Nominal,
+        area: area_of(alloc, extent)?,
+    })
+}
+
+// The area of one volume.
+fn area_of(alloc: Global, extent: &[&str]) -> anyhow::Result<Area> {
+    let volumes = vec![in alloc; volume_of(alloc, extent)?]?;
+    Area::try_new(volumes).context("no area")
+}
+
+fn volume_of(alloc: Global, extent: &[&str]) -> anyhow::Result<Volume> {
+    let [lower, upper, start, end, token] = extent else {
+        return None.context("no extent");
+    };
+    let window = window_of(lower, upper, start, end)?;
+    let footprint = footprint_of(alloc, token)?;
+    Volume::try_new(alloc, footprint, window)
+        .ok()
+        .context("no volume")
+}
+
+fn window_of(lower: &str, upper: &str, start: &str, end: &str) -> anyhow::Result<Window> {
+    Window::try_new(lower.parse()?, upper.parse()?, start.parse()?, end.parse()?)
+        .ok()
+        .context("no window")
+}
+
+// The footprint of one cell.
+fn footprint_of(alloc: Global, token: &str) -> anyhow::Result<Footprint> {
+    let cell = CellId::from_token(token.as_bytes())
+        .ok()
+        .context("no cell")?;
+    Ok(Footprint::Cells(vec![in alloc; cell]?))
+}
+
+fn operator_of(name: &str) -> anyhow::Result<Operator> {
+    Operator::try_new(name.as_bytes()).context("no name")
+}
+
+fn id_of(text: &str) -> anyhow::Result<PlanId> {
+    PlanId::try_parse(text).context("no id")
+}

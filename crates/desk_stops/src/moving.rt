@@ -1,0 +1,166 @@
+//! Files that are adopted, and files that are moved from schema 1 to schema 2.
+
+ghost use Rattle.std.specs.Prelude.{◌≡◌, false, IfOk};
+
+use crate::content::Content;
+use crate::disk::{FusedFiles, Image, Left, is_stopped};
+use crate::opening::{FusedConnection, close, connect, open};
+use crate::round::{Came, Stop, when};
+use crate::tables::rows_of;
+use anyhow::bail;
+use desk_run::Desk;
+use desk_tables::{OpenFault, SqliteStore};
+use desk_wire::answer;
+use std::alloc::Global;
+use std::fmt::{self, Display, Formatter, Write};
+
+/// The moment of all requests (2026-06-01T11:56:40Z).
+const MOMENT: i64 = 1_780_315_000;
+
+/// What is told of a database.
+#[derive(Clone, Copy, Debug, PartialEq, Eq)]
+pub enum Told {
+    /// It is adopted.
+    Adopted,
+    /// It is adopted, and so many plans were moved.
+    Moved(u32),
+    /// It is refused.
+    Refused(OpenFault),
+}
+
+impl Told {
+    fn is_refusal(self) -> bool {
+        match self {
+            Told::Adopted | Told::Moved(_) => false,
+            Told::Refused(_) => true,
+        }
+    }
+}
+
+impl Display for Told {
+    fn fmt<W: Write>(&self, f: &mut Formatter<W>) -> fmt::Result {
+        match self {
+            Told::Adopted => f.write_str("a desk's tables"),
+            Told::Moved(count) => write!(f, "{count} moved"),
+            Told::Refused(fault) => write!(f, "{fault}"),
+        }
+    }
+}
+
+// Adopts a connection: what is told, and the connection.
+fn adopted(alloc: Global, connection: FusedConnection) -> (Told, FusedConnection)
+    requires settled { connection.in_transaction ≡ false }
+{
+    match SqliteStore::adopt(alloc, connection) {
+        Ok(store) => (Told::Adopted, store.release()),
+        Err(refused) => (Told::Refused(refused.fault), refused.connection),
+    }
+}
+
+// Moves what a connection shows to schema 2: what is told, and the connection.
+fn moved(alloc: Global, connection: FusedConnection) -> (Told, FusedConnection)
+    requires settled { connection.in_transaction ≡ false }
+{
+    match SqliteStore::adopt_old(alloc, connection) {
+        Ok((store, count)) => (Told::Moved(count), store.release()),
+        Err(refused) => (Told::Refused(refused.fault), refused.connection),
+    }
+}
+
+// A connection to files of these bytes.
+fn connect_to(alloc: Global, image: &Image) -> anyhow::Result<FusedConnection>
+    ensures settled { IfOk result (λ c. c.in_transaction ≡ false) }
+{
+    match connect(alloc, image.files(alloc)?) {
+        Ok(connection) => Ok(connection),
+        Err(_) => bail!("the files can't be opened"),
+    }
+}
+
+/// The rows in files of these bytes.
+pub fn rows_left(alloc: Global, image: &Image) -> anyhow::Result<Content> {
+    let mut connection = connect_to(alloc, image)?;
+    rows_of(alloc, &mut connection)
+}
+
+// The rows in files of these bytes, and what is told if they are adopted.
+fn state_of(alloc: Global, image: &Image) -> anyhow::Result<Content> {
+    let mut content = rows_left(alloc, image)?;
+    let connection = connect_to(alloc, image)?;
+    let (told, _) = adopted(alloc, connection);
+    content.tell(&told)?;
+    Ok(content)
+}
+
+/// Adopts files of these bytes: what is told, and the rows that the connection shows then.
+pub fn adopt_files(alloc: Global, image: &Image) -> anyhow::Result<(Told, Content)> {
+    let connection = connect_to(alloc, image)?;
+    let (told, mut connection) = adopted(alloc, connection);
+    let rows = rows_of(alloc, &mut connection)?;
+    Ok((told, rows))
+}
+
+/// Moves files of these bytes to schema 2: what is told, the rows that the connection shows then, and what
+/// the files are.
+pub fn move_files(alloc: Global, image: &Image) -> anyhow::Result<(Told, Content, Image)> {
+    let connection = connect_to(alloc, image)?;
+    let (told, mut connection) = moved(alloc, connection);
+    let rows = rows_of(alloc, &mut connection)?;
+    let left = Image::left(alloc, close(connection), Left::Synced)?;
+    Ok((told, rows, left))
+}
+
+/// What files of these bytes hold before they are moved and afterwards.
+pub fn move_edges(alloc: Global, image: &Image) -> anyhow::Result<(Content, Content)> {
+    let before = state_of(alloc, image)?;
+    let (_, _, left) = move_files(alloc, image)?;
+    let after = state_of(alloc, &left)?;
+    Ok((before, after))
+}
+
+/// Moves files of which one stops: when that came, and what is left.
+pub fn move_stopped(alloc: Global, image: &Image, stop: Stop) -> anyhow::Result<(Came, Content)> {
+    let files = image.stopping(alloc, stop.stopped, stop.calls)?;
+    let (came, files) = move_over(alloc, files);
+    let left = Image::left(alloc, files, stop.left)?;
+    Ok((came, state_of(alloc, &left)?))
+}
+
+// Moves files: when one stopped, and the files.
+fn move_over(alloc: Global, files: FusedFiles) -> (Came, FusedFiles) {
+    match connect(alloc, files) {
+        Ok(connection) => {
+            let (told, connection) = moved(alloc, connection);
+            let mut files = close(connection);
+            let came = when(is_stopped(&mut files), !told.is_refusal());
+            (came, files)
+        }
+        Err(files) => (Came::Unanswered, files),
+    }
+}
+
+/// Runs statements over files of these bytes: what they are afterwards.
+pub fn image_with(alloc: Global, image: &Image, sql: &str) -> anyhow::Result<Image> {
+    let mut connection = connect_to(alloc, image)?;
+    connection.execute_batch(sql)?;
+    Ok(Image::left(alloc, close(connection), Left::Synced)?)
+}
+
+/// The texts that a query of one column lists, over files of these bytes.
+pub fn texts_in(alloc: Global, image: &Image, query: &str) -> anyhow::Result<Vec<String>> {
+    let mut connection = connect_to(alloc, image)?;
+    let mut texts = Vec::new(alloc);
+    for row in &connection.query_all(query, &[])? {
+        texts.push(row.get(0)?)?;
+    }
+    Ok(texts)
+}
+
+/// What a desk over files of these bytes answers.
+pub fn answer_over(alloc: Global, image: &Image, text: &str) -> anyhow::Result<Vec<u8>> {
+    let Ok(store) = open(alloc, image.files(alloc)?) else {
+        bail!("the files can't be opened");
+    };
+    let mut desk = Desk::new(store);
+    Ok(answer(alloc, &mut desk, MOMENT, text.as_bytes())?)
+}
