@@ -5,7 +5,8 @@ use Rattle.uss_desk.proofs.closing.close_after.Goals as goal
 
 pub returns-in-Ok : goal.returns-in-Ok
 returns-in-Ok g c = rw c.in-Some.is
-    (is_closed c.in-Some.desk c.into_store.result c.args.status c.in-Ok.files c.into_store.ensures c.in-Ok.ensures.copied)
+    (is_closed c.in-Some.desk c.into_store.result c.args.status c.in-Ok.files c.into_store.ensures
+    c.in-Ok.ensures.copied)
 
 pub returns-in-Err-2 : goal.returns-in-Err-2
 returns-in-Err-2 g c = rw c.in-Some.is
