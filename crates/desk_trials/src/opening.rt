@@ -6,8 +6,8 @@ ghost use Rattle.std.specs.Prelude.{◌≡◌, false, IfOk};
 
 use crate::disk::FusedFiles;
 use desk_tables::SqliteStore;
-use sqlite::{Connection, FileStore, Options};
-use sqlite_disk::{Fuse, Memory};
+use sqlite::{Connection, FileStore, Files, Options};
+use sqlite_disk::{Disk, Fuse, Memory};
 use sqlite_trees::store::Alter;
 use std::alloc::Global;
 
@@ -21,6 +21,26 @@ pub trait Place: Alter + Drop {
     fn close(connection: Connection<Self>) -> FusedFiles;
 }
 
+/// A disk that stands for the disk in memory with a fuse, which is one. A place is over any, since the checker
+/// takes no impl for a store at a disk that is named.
+pub trait Fused: Disk + Drop {
+    /// These files, as files of this disk.
+    fn of_fused(files: FusedFiles) -> Files<Self>;
+
+    /// Files of this disk, as files in memory with a fuse.
+    fn into_fused(files: Files<Self>) -> FusedFiles;
+}
+
+impl Fused for Fuse<Memory> {
+    fn of_fused(files: FusedFiles) -> Files<Fuse<Memory>> {
+        files
+    }
+
+    fn into_fused(files: Files<Fuse<Memory>>) -> FusedFiles {
+        files
+    }
+}
+
 /// The place of all parts that have their tables in files in memory.
 pub type FilesPlace = FileStore<Fuse<Memory>>;
 
@@ -28,26 +48,30 @@ pub type FilesPlace = FileStore<Fuse<Memory>>;
 // drop them.
 const CACHED_PAGES: usize = 16;
 
-impl Place for FilesPlace {
-    fn connect(alloc: Global, files: FusedFiles) -> Result<Connection<FilesPlace>, FusedFiles> {
+// Whether new files get sums on their pages, as a desk's do.
+const NEW_HAS_SUMS: bool = true;
+
+impl<D: Fused> Place for FileStore<D> {
+    fn connect(alloc: Global, files: FusedFiles) -> Result<Connection<FileStore<D>>, FusedFiles> {
+        let files = D::of_fused(files);
         if !files.may_be_used() {
-            return Err(files);
+            return Err(D::into_fused(files));
         }
         let options = Options {
             cache_pages: CACHED_PAGES,
             ..Options::new(1)
         };
-        match Connection::open_files(alloc, files, options) {
+        match Connection::open_files_with(alloc, files, options, NEW_HAS_SUMS) {
             Ok(connection) => Ok(connection),
-            Err((_, left)) => Err(left.into_files()),
+            Err((_, left)) => Err(D::into_fused(left.into_files())),
         }
     }
 
-    fn close(connection: Connection<FilesPlace>) -> FusedFiles {
-        match connection.close_files() {
+    fn close(connection: Connection<FileStore<D>>) -> FusedFiles {
+        D::into_fused(match connection.close_files() {
             Ok(files) => files,
             Err((_, store)) => store.close(),
-        }
+        })
     }
 }
 
