@@ -30,9 +30,12 @@ def wrong_whole(ran, answers):
 
 
 def wrong_failure(ran, answers, words):
-    """A run that ends with status 4 has given right answers, and then one 500 or none, with its word."""
+    """A run that ends with status 4 has given right answers, and then one 500 or none, with its word. After all answers
+    its files could not be closed, for whatever cause, which loses nothing."""
     broken, ended = words
     count, rest = told(ran.output, answers)
+    if ran.errors == "uss_desk: store\n" and count == len(answers) and not rest:
+        return None
     if ran.errors == "uss_desk: broken\n":
         right = rest == answer(500, f'{{"error":"{broken}"}}')
     elif ran.errors == f"uss_desk: {ended}\n":
