@@ -17,7 +17,7 @@ use Rattle.desk_line.specs.declared.line.Play.{Play as PlayWords}
 use Rattle.desk_line.specs.declared.line.Serve.{Serve as ServeWords}
 use Rattle.desk_line.specs.Exits.{failure_after, failure_at, failure_status}
 use Rattle.desk_program.specs.Enrolling.{permitting, with_operators}
-use Rattle.desk_program.specs.Keeping.{AreKept, AreKeptSoFar, FindsEnrolled, IsFoundServed, IsLeftByOne, IsPlayKept, IsPortKept}
+use Rattle.desk_program.specs.Keeping.{AreKept, AreKeptSoFar, IsFoundServed, IsLeftByOne, IsPlayKept, IsPortKept}
 use Rattle.desk_program.specs.Playing.{status_after}
 use Rattle.desk_program.specs.Serving.{Arrival, EndsAfter, Exchange, Takes, failing}
 use Rattle.desk_program.proofs.ServedLemmas.{all_then, both_served, both_taken, none_taken, one_ends, served_then, stops}
@@ -42,15 +42,6 @@ kept_so_far H es w v after e count before now few same listed next only crash p 
         ⊎ (found ≡ Some (with_operators w (take (count + 1) es)).content)
     by (inl is) = inl (only found is ∙ ap (λ x. Some x.content) (listed p))
     by (inr is) = inr (is ∙ ap (λ x. Some x.content) next)
-
--- what is found if an enrolment failed, or was made
-pub kept_or_old : (e : Enrolment) (status : ℕ) (out now : Option (List ℕ)) (w : DeskWorld)
-    (before : Type 0) (found : Option World) → status ≡ 4 → now ≡ out
-    → (before → found ≡ Some w.content)
-    → before ⊎ (found ≡ Some (enrolled w e.operator e.ceiling).content)
-    → FindsEnrolled e status out now w found
-kept_or_old e status out now w before found four same only (inl is) = inr (four, same, only is)
-kept_or_old e status out now w before found four same only (inr is) = inl is
 
 -- ---- connections
 

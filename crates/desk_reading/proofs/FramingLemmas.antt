@@ -1,12 +1,7 @@
 -- A search upwards for the least number that passes a test.
-use Rattle.std.proofs.Common.{◌≡◌, ℕ, zero, suc, ◌+◌, ◌<◌, Bool, true, false, Some, None, arith, sym, add-one, inl, inr}
+use Rattle.std.proofs.Common.{◌≡◌, ℕ, zero, suc, ◌<◌, Bool, true, Some, None, arith, sym, inl, inr}
 use Rattle.std.proofs.lemmas.Bool.{cases_eq}
 use Rattle.desk_reading.specs.Framing.{least}
-
--- no number below n passes, and n doesn't
-pub least_more : (test : ℕ → Bool) (n : ℕ) → least test n ≡ None → test n ≡ false → least test (n + 1)
-    ≡ None
-least_more test n none fails = rw (add-one, none, fails)
 
 -- no number below n passes, and n does
 pub least_found : (test : ℕ → Bool) (n bound : ℕ) → least test n ≡ None → test n ≡ true → n < bound

@@ -78,11 +78,6 @@ note_from call moment stored own_rows ceiling blocked =
     ∷ note_where (is_check step && blocked) note.Conflict
     ∷ [])
 
--- the same by the stored plan
-abbrev pub note_of : PutCall → ℤ → Option PlanRow → ℕ → ℕ → Bool → Option Note
-note_of call moment stored own_rows ceiling blocked =
-    note_from call moment (states_of stored) own_rows ceiling blocked
-
 -- the result of a refused request: an unsupported style is NotSupported, all else Rejected
 abbrev pub refused_result : Note → PlanResult
 refused_result note.Style = result.NotSupported
@@ -146,10 +141,6 @@ verdict_from call stored conflict None =
       meeting = None;
       effect = styled_effect call.style (step_effect (step_from stored call));
     }
-
--- the same by the stored plan
-abbrev pub verdict_by : PutCall → Option PlanRow → Option Spot → Option Note → Verdict
-verdict_by call stored conflict note = verdict_from call (states_of stored) conflict note
 
 -- the outcome of a request at a moment, given the states of the operator's plan with its id, the number
 -- of the operator's plans, the operator's ceiling and the conflict of the requested area

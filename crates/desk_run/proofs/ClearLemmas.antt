@@ -12,8 +12,6 @@ use Rattle.std.proofs.lemmas.List.Elements.{filter-append, All-from_recursion}
 use Rattle.std.proofs.lemmas.List.Kept.{IsStrictlySortedBy-filter}
 use Rattle.std.proofs.lemmas.Map.Keys.{IsDistinct-from_sorted}
 use Rattle.std.proofs.Math.Bool.{or-false}
-use Rattle.std.specs.Bool.{◌==◌}
-use Rattle.std.proofs.lemmas.Bool.Decides.{nat_tests}
 use Rattle.volume4d.specs.declared.slab.Slab.{Slab}
 use Rattle.volume4d.specs.Point.{Point}
 use Rattle.volume4d.specs.Slab.{slabs_have}
@@ -211,13 +209,6 @@ pub slabs_alone : (extent : Block) (given slabs : List Slab) → given ≡ slabs
     → ((x : Point) → slabs_have slabs x ≡ block_has extent x) → AreSlabsOf given (extent ∷ [])
 slabs_alone extent given slabs same h x =
     ap (λ s. slabs_have s x) same ∙ h x ∙ sym (or-false (block_has extent x))
-
--- a list's length is 0 where the test says so
-pub no_items : (n m : ℕ) → true ≡ (n == 0) → n ≡ m → m ≡ 0
-no_items n m e same = grind (arith, nat_tests)
-
-pub some_items : (n m : ℕ) → false ≡ (n == 0) → n ≡ m → 0 < m
-some_items n m e same = grind (arith, nat_tests)
 
 -- nothing is pending where no plan is taken out
 pub none_cleared : (w : World) (o : List ℕ) (extent : Block) (ids : List (List ℕ))

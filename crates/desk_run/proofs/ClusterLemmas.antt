@@ -1,14 +1,14 @@
 -- The first blocked point of a list of slabs, from its first cluster and the rest.
-use Rattle.std.proofs.Common.{◌≡◌, ℕ, ◌+◌, ◌-◌, ◌<◌, ◌≤◌, Bool, true, false, ◌&&◌, ◌||◌, ◌⊎◌, List, [], ◌∷◌, length, take, drop, Option, Some, None, is_some, refl, sym, ap, ◌∙◌, subst, arith, inl, inr, length-take, length-drop}
+use Rattle.std.proofs.Common.{◌≡◌, ℕ, ◌+◌, ◌-◌, ◌≤◌, Bool, true, false, ◌&&◌, ◌||◌, ◌⊎◌, List, [], ◌∷◌, length, drop, Option, Some, None, is_some, refl, sym, ap, ◌∙◌, subst, inl, inr}
 use Rattle.std.specs.List.{All}
 use Rattle.std.specs.declared.cmp.Ordering.TheVariants.{Less}
 use Rattle.std.proofs.lemmas.Bool.{and_parts, or_cases, or_right, false_from_ne_true}
-use Rattle.std.proofs.lemmas.List.Elements.{All-take, All-drop}
+use Rattle.std.proofs.lemmas.List.Elements.{All-drop}
 use Rattle.std.proofs.lemmas.List.Sorted.{IsNonDecreasingBy-drop}
 use Rattle.volume4d.specs.declared.slab.Slab.{Slab}
 use Rattle.volume4d.specs.Point.{Point, point_cmp}
 use Rattle.volume4d.specs.Slab.{slabs_have}
-use Rattle.volume4d.specs.Bounds.{IsFilled, AreFilled}
+use Rattle.volume4d.specs.Bounds.{IsFilled}
 use Rattle.volume4d.specs.Sweep.{Ascend}
 use Rattle.volume4d.specs.Meeting.{Spot, IsFirst}
 use Rattle.volume4d.specs.Clusters.{IsCluster}
@@ -86,12 +86,6 @@ module _ (permitted : List ℕ) (levels : Point → Option ℕ) (priority : ℕ)
         ]);
   }
 
-  pub cluster_filled : All IsFilled slabs → AreFilled cluster
-  cluster_filled each = record {
-    some = omega (arith, split.some, split.within, ap length split.cluster_is, length-take split.count slabs);
-    each = subst (All IsFilled) (sym split.cluster_is) (All-take IsFilled split.count slabs each);
-  }
-
   pub later_filled : All IsFilled slabs → All IsFilled later
   later_filled each = subst (All IsFilled) (sym split.later_is) (All-drop IsFilled split.count slabs each)
 
@@ -99,10 +93,6 @@ module _ (permitted : List ℕ) (levels : Point → Option ℕ) (priority : ℕ)
   later_order order =
       subst (Ascend (λ s. s)) (sym split.later_is)
       (IsNonDecreasingBy-drop (λ s. s.first) split.count slabs order)
-
-  pub later_is_less : length later < length slabs
-  later_is_less =
-      omega (arith, split.some, split.within, ap length split.later_is, length-drop split.count slabs)
 
   pub met : (o : Option Spot) → is_some o ≡ true → IsFirst (among cluster) levels o
       → IsFirst (among slabs) levels o

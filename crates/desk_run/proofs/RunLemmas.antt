@@ -1,17 +1,15 @@
 -- Runs: the calls answered so far.
-use Rattle.std.proofs.Common.{◌≡◌, ℕ, ℤ, ◌+◌, ◌<◌, List, [], ◌∷◌, ◌++◌, length, take, get_or, map, Result, Ok, Err, inl, inr, OnOk, OnErr, refl, sym, ap, subst, ◌∙◌}
+use Rattle.std.proofs.Common.{◌≡◌, ℕ, ℤ, ◌+◌, ◌<◌, List, [], ◌∷◌, ◌++◌, length, take, get_or, map, Result, Ok, Err, OnOk, OnErr, refl, sym, ap, ◌∙◌}
 use Rattle.std.proofs.lemmas.List.{take_more, map-append, length-append}
 use Rattle.desk_run.specs.DeskWorld.{DeskWorld}
 use Rattle.desk_rules.specs.declared.call.Asked.{Asked}
 use Rattle.desk_rules.specs.declared.reply.Reply.{Reply}
 use Rattle.desk_run.specs.declared.fault.DeskFault.{DeskFault}
 use Rattle.desk_run.specs.declared.fault.DeskFault.TheVariants.{OutOfMemory, Store, UnknownOperator, NoSuchPlan, Ceiling}
-use Rattle.desk_run.specs.declared.run.Ran.{Ran}
 use Rattle.desk_run.specs.declared.run.Outcome.{Outcome}
 use Rattle.desk_run.specs.Verdicts.{told_to, step}
 use Rattle.desk_run.specs.Calls.{Tells}
-use Rattle.desk_run.specs.Runs.{told_in, world_left, told_by, outcome_of, EndsAt, IsRun}
-use Rattle.desk_run.specs.Faults.{IsBreakdown}
+use Rattle.desk_run.specs.Runs.{told_in, world_left, told_by, outcome_of}
 
 -- the first calls are answered
 pub record AreAnswered (w : DeskWorld) (calls : List (ℤ × Asked)) (n : ℕ) (outcomes : List Outcome)
@@ -19,12 +17,6 @@ pub record AreAnswered (w : DeskWorld) (calls : List (ℤ × Asked)) (n : ℕ) (
   pub told : map told_by outcomes ≡ told_in w (take n calls)
   pub left : now ≡ world_left w (take n calls)
   pub count : length outcomes ≡ n
-
-pub none_answered : (w now : DeskWorld) (calls : List (ℤ × Asked)) (outcomes : List Outcome) → outcomes ≡ []
-    → now
-    ≡ w → AreAnswered w calls 0 outcomes now
-none_answered w now calls outcomes is same = record
-    { told = ap (map told_by) is; left = same; count = ap length is }
 
 told_more : (w : DeskWorld) (calls : List (ℤ × Asked)) (call : ℤ × Asked) → told_in w (calls ++ call ∷ [])
     ≡ told_in w calls ++ told_to (world_left w calls) call.1.operator call.0 call.1.call ∷ []
@@ -78,31 +70,3 @@ answered_is w after moment asked (Err NoSuchPlan) o told ok err is =
 answered_is w after moment asked (Err OutOfMemory) o told ok err is = cc
 answered_is w after moment asked (Err Store) o told ok err is = cc
 answered_is w after moment asked (Err Ceiling) o told ok err is = cc
-
--- what stops a run changed nothing
-pub stopped_is : (w after : DeskWorld) (r : Result Reply DeskFault) (fault : DeskFault)
-    → OnErr r (after ≡ w)
-    → outcome_of r ≡ Err fault → after ≡ w
-stopped_is w after (Ok reply) fault err is = cc
-stopped_is w after (Err e) fault err is = err
-
--- and is a breakdown
-pub breaks_down : (w : DeskWorld) (moment : ℤ) (asked : Asked) (r : Result Reply DeskFault)
-    (fault : DeskFault)
-    → Tells w moment asked r → outcome_of r ≡ Err fault → IsBreakdown fault
-breaks_down w moment asked (Ok reply) fault told is = cc
-breaks_down w moment asked (Err UnknownOperator) fault told is = cc
-breaks_down w moment asked (Err NoSuchPlan) fault told is = cc
-breaks_down w moment asked (Err OutOfMemory) fault told is = inl cc
-breaks_down w moment asked (Err Store) fault told is = inr cc
-breaks_down w moment asked (Err Ceiling) fault told is = absurd told
-
--- a run of the calls answered
-pub run_is : (w after : DeskWorld) (calls : List (ℤ × Asked)) (n : ℕ) (ran : Ran)
-    → AreAnswered w calls n ran.outcomes.items after → EndsAt ran.stopped n (length calls)
-    → IsRun w calls ran after
-run_is w after calls n ran h ends = record {
-  told = h.told ∙ ap (λ k. told_in w (take k calls)) (sym h.count);
-  left = h.left ∙ ap (λ k. world_left w (take k calls)) (sym h.count);
-  ends = subst (λ k. EndsAt ran.stopped k (length calls)) (sym h.count) ends;
-}

@@ -24,10 +24,8 @@ use Rattle.desk_sql.specs.declared.opening.finding.Made.TheVariants.{Nothing, Op
 use Rattle.desk_sql.specs.declared.opening.numbers.DeskTable.{DeskTable}
 use Rattle.desk_sql.specs.declared.opening.numbers.DeskTable.TheVariants.{Operator, Plan, OldVolume, OldSpan, Volume, Span}
 use Rattle.desk_sql.specs.Schema.{HasTable, has_table}
-use Rattle.desk_sql.specs.Frames.{OnlyReads}
 use Rattle.desk_sql.specs.Finding.{Holds}
 use Rattle.sqlite.specs.Tree.{Trees}
-use Rattle.std.proofs.lemmas.List.Sorted.{IsPermutation-refl}
 use Rattle.desk_sql.specs.Rows.{Lists, Tables, tables_of, tables_at}
 use Rattle.desk_sql.specs.Statements.{SelectsAll}
 use Rattle.desk_sql.proofs.ReadLemmas.{shown_read}
@@ -156,24 +154,6 @@ all_selected table text cells wanted known old new rows has h =
     (shown_read text [] old new rows refl (sure_plain old.now.schema text sure) sure.unlisted h)
 
 -- ---- tables that may not be made
-
-pub lists_none : (cells : List ℕ) → Lists cells [] []
-lists_none cells = record {
-  same = IsPermutation-refl [];
-  sorted = λ k d low high. absurd (omega (arith, high));
-}
-
--- no question is asked
-pub reads_none : {S : Type 0} (g : Ghosts S) (h : Held S) → h.in_transaction ≡ false → OnlyReads g h h
-reads_none g h settled = record {
-  kept = λ clean live. record { was_open = live; now = refl; committed = refl };
-  mode = settled;
-  limit = refl;
-  doubt = omega arith;
-  faults = omega arith;
-  shield = λ s. s;
-  spared = λ clean db left. left;
-}
 
 -- what a table that is made shows is its part of what is made so far
 pub shown_at : {V : Type 0} (part : Tables → List Row) (table : DeskTable) (made : Made)

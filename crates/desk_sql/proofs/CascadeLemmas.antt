@@ -93,13 +93,6 @@ span_works depth olds = refl
 
 -- ---- what an old row's key is
 
-pub text_is : (v : Value) (t : List ℕ) → is_text v t ≡ true → is_same v v ≡ true
-text_is Null t h = absurd (true≢false (sym h ∙ ap is_eq (value_cmp-Null (Text t))))
-text_is (Int n) t h = ap is_eq (tied_itself value_cmp_total (Int n))
-text_is (Real n) t h = ap is_eq (tied_itself value_cmp_total (Real n))
-text_is (Text n) t h = ap is_eq (tied_itself value_cmp_total (Text n))
-text_is (Blob n) t h = ap is_eq (tied_itself value_cmp_total (Blob n))
-
 equal_of : (o : Ordering) → is_eq o ≡ true → o ≡ Equal
 equal_of Less h = cc
 equal_of Equal h = refl

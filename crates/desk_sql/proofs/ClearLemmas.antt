@@ -52,10 +52,6 @@ same_id operator id other q r one two three =
 
 -- ---- rows that are left
 
-either_is : (a b : Bool) → (a || b) ≡ true → (a ≡ false → b ≡ true) × (b ≡ false → a ≡ true)
-either_is true b h = ((λ e. cc), (λ e. refl))
-either_is false b h = ((λ e. h), (λ e. cc))
-
 any_more : {X : Type 0} (test : X → Bool) (xs : List X) (x : X) → list_any test (xs ++ x ∷ [])
     ≡ (list_any test xs || test x)
 any_more test [] x = by_test (test x) where

@@ -24,7 +24,7 @@ use Rattle.desk_sql.specs.Rows.{IsDesk, IsMadeTo, AreNumbered, tables_at, tables
 use Rattle.desk_sql.specs.Finding.{Holds}
 use Rattle.desk_sql.specs.Effects.{Spares}
 use Rattle.desk_sql.specs.Frames.{Remembers}
-use Rattle.desk_sql.proofs.LeavingLemmas.{remembers_itself, remembers_then}
+use Rattle.desk_sql.proofs.LeavingLemmas.{remembers_then}
 use Rattle.desk_sql.specs.Statements.{MayWrite, Extends, enforced}
 use Rattle.desk_sql.proofs.Texts.{operator_text, plan_text, old_volume_text, old_span_text, old_first_text, volume_text, span_text, first_text}
 use Rattle.desk_sql.proofs.TextLemmas.{operator_is, plan_is, old_volume_is, old_span_is, old_first_is, volume_is, span_is, first_is}
@@ -415,24 +415,6 @@ pub record HasGrown {S : Type 0} (g : Ghosts S) (made at : Made) (old now : Held
   pub remembered : Remembers g old now
   pub grown : HasCleanDisk (state g now) → (at ≢ made) ⊎ IsTrue (state g now).is_open
       → Grows g made at old now
-
-pub grown_none : {S : Type 0} (g : Ghosts S) (made : Made) (old : Held S) → Holds g old (IsMadeTo made)
-    → IsTrue old.in_transaction → Holds g old IsDatabase → HasGrown g made made old old
-grown_none g made old has begun sound = record {
-  remembered = remembers_itself g old;
-  grown = λ clean early. elim early [
-    | inl later ↦ absurd (later refl)
-    | inr live ↦ record {
-      was_open = live;
-      is_open = live;
-      begun = begun;
-      committed = refl;
-      has = has clean live;
-      sound = sound clean live;
-      same = refl;
-    }
-  ];
-}
 
 pub grown_more : {S : Type 0} (g : Ghosts S) (made at next : Made) (old mid new : Held S)
     → HasGrown g made at old mid → Remembers g mid new

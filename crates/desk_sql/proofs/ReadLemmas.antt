@@ -1,5 +1,5 @@
 -- From what a query shows to the rows of the tables.
-use Rattle.std.proofs.Common.{◌≡◌, ◌⊎◌, inl, inr, ℕ, List, [], ◌∷◌, ◌++◌, map, filter, Bool, true, false, cond, None, Some, Option, IsTrue, Ok, Err, Result, refl, sym, ap, ap₂, subst, ◌∙◌, IfOk, OnOk, IfErr, not, ℤ, ◌&&◌, ◌||◌, if◌then◌else◌, Ordering, Less, Equal, Greater}
+use Rattle.std.proofs.Common.{◌≡◌, ◌⊎◌, inl, inr, ℕ, List, [], ◌∷◌, ◌++◌, map, filter, Bool, true, false, cond, None, Some, Option, IsTrue, Ok, Err, Result, refl, sym, ap, ap₂, subst, ◌∙◌, IfOk, OnOk, not, ℤ, ◌&&◌, ◌||◌, if◌then◌else◌, Ordering, Less, Equal, Greater}
 use Rattle.std.specs.List.{flat_map, list_all}
 use Rattle.std.specs.List.Sorted.{IsPermutation}
 use Rattle.std.proofs.lemmas.List.Sorted.{IsPermutation-map}
@@ -102,13 +102,6 @@ module _ {S : Type 0} (g : Ghosts S) (old new : Held S) where
   module _ {V : Type 0} (items : V → List Row) (text : List ℕ) (params : Row)
       (plain : Holds g old (λ db. IsPlain (understood db.schema text)))
       (settled : IsTrue (state g old).is_open → (state g old).now ≡ (state g old).committed) where
-    pub kept_if : (r : Result V Error) → HasCleanDisk (state g old)
-        → IfOk r (λ v. Shown text params (state g old) (state g new) (items v))
-        → IfErr r (FailsToQuery text params (state g old) (state g new))
-        → IsTrue (state g new).is_open → ShowsAsBefore g old new
-    kept_if (Ok v) clean shown _ live =
-        if_unchanged (unmoved text params _ _ _ (plain clean (was_open text params _ _ _ shown)) shown)
-    kept_if (Err e) clean _ fails live = if_either settled live (failed text params _ _ e fails)
 
 -- an answer comes from an open connection alone
 pub open_if : {V : Type 0} (items : V → List Row) (text : List ℕ) (params : Row) (old new : State)
@@ -253,15 +246,6 @@ ne_is : (o : Ordering) → is_ne o ≡ not (is_eq o)
 ne_is Less = refl
 ne_is Equal = refl
 ne_is Greater = refl
-
-pub differs_text : (v : Value) (t : List ℕ) → is_true (binary (Compare Ne Binary) v (Text t))
-    ≡ differs v (Text t)
-unfolding binary
-differs_text Null t = refl
-differs_text (Int n) t = truth_of _ ∙ ne_is _
-differs_text (Real n) t = truth_of _ ∙ ne_is _
-differs_text (Text n) t = truth_of _ ∙ ne_is _
-differs_text (Blob n) t = truth_of _ ∙ ne_is _
 
 compared : (v : Value) (b : Bool) → is_true (if is_null v || false then Null else from_truth (Some b))
     ≡ (not (is_null v) && b)

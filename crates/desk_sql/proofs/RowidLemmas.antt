@@ -25,8 +25,7 @@ use Rattle.sqlite.specs.declared.error.Error.TheVariants.{SqliteFailure}
 use Rattle.sqlite.specs.declared.error.ErrorCode.TheVariants.{DatabaseCorrupt}
 use Rattle.sqlite.specs.Table.{Table}
 use Rattle.sqlite_schema.specs.declared.schema.Index.{Index}
-use Rattle.desk_sql.specs.declared.opening.finding.Made.{Made}
-use Rattle.desk_sql.specs.Schema.{schema_of, schema_to, has_table, tree_of, HasTable}
+use Rattle.desk_sql.specs.Schema.{schema_to, tree_of, HasTable}
 use Rattle.desk_sql.specs.Rows.{AreNumbered, Lists, by_cells}
 use Rattle.desk_sql.specs.Refusals.{IsRefusal, IsUnnumbered, IsUnread, IsMisnumbered, IsSure}
 use Rattle.desk_sql.specs.Statements.{SelectsAll, rowids}
@@ -237,19 +236,6 @@ module _ {S : Type 0} (g : Ghosts S) (old new : Held S) (text : List ℕ) (table
       subst (λ (db : Database). AreNumbered (db.trees (tree_of table))) (sym before.now)
       (numbered_by ((state g old).now.trees (tree_of table)) rows all.same up)
 
--- what a later call keeps
-pub still : {S : Type 0} (g : Ghosts S) (old new : Held S) (Is : Database → Type 0) → Holds g old Is
-    → (HasCleanDisk (state g new) → HasCleanDisk (state g old)) → IsKept g old new → Holds g new Is
-still g old new Is holds was kept clean live = let before = kept clean live
-    in subst Is (sym before.now) (holds (was clean) before.was_open)
-
-pub kept_on : {S : Type 0} (g : Ghosts S) (old mid new : Held S) → IsKept g old mid
-    → (HasCleanDisk (state g new) → HasCleanDisk (state g mid)) → IsKept g mid new → IsKept g old new
-kept_on g old mid new first was second clean live =
-    let b = second clean live in
-    let a = first (was clean) b.was_open in
-    record { was_open = a.was_open; now = b.now ∙ a.now; committed = b.committed ∙ a.committed }
-
 -- ---- rows that are numbered show rowids that rise
 
 then_is : (o : Ordering) → is_lt (ordering_then o Equal) ≡ is_lt o
@@ -317,24 +303,6 @@ module _ {S : Type 0} (g : Ghosts S) (old new : Held S) (text : List ℕ) (table
   unnumbered_if known clean live rows shown (Ok v) broken told = tt
   unnumbered_if known clean live rows shown (Err e) broken told =
       inr (told, λ num. broken (rises_if rows (known clean live) num shown))
-
--- what that says of all tables that are made
-pub unread_by : {S V : Type 0} (g : Ghosts S) (made : Made) (table : DeskTable) (old new : Held S)
-    → (HasCleanDisk (state g new) → HasCleanDisk (state g old)) → IsKept g old new
-    → Holds g old (λ (db : Database). db.schema ≡ schema_of made) → has_table made table ≡ true
-    → HasCleanDisk (state g new) → IsTrue (state g new).is_open
-    → (r : Result V Error) → OnErr r (IsKept g old new) → IfErr r (IsUnnumbered g old new table)
-    → IfErr r (IsUnread g old new)
-unread_by g made table old new was kept known there clean live (Ok v) on why = tt
-unread_by g made table old new was kept known there clean live (Err e) on (inl h) = inl h
-unread_by g made table old new was kept known there clean live (Err e) on (inr h) = inr (
-  h.0,
-  record {
-    made = made;
-    schema = known (was clean) (kept clean live).was_open;
-    unsound = λ is. h.1 (is.rows table there);
-  },
-)
 
 module _ {S : Type 0} (g : Ghosts S) (old mid new : Held S)
     (fewer : (state g old).faults ≤ (state g mid).faults) (limit : mid.step_limit ≡ old.step_limit)

@@ -3,7 +3,6 @@ use Rattle.std.proofs.Common.{◌≡◌, ℕ, ◌+◌, ◌<◌, Bool, true, fals
 use Rattle.std.specs.Prelude.{nat_le, max}
 use Rattle.std.proofs.lemmas.Bool.Decides.{nat_tests}
 use Rattle.std.proofs.lemmas.List.Folds.{list_any_more}
-use Rattle.desk_rules.specs.declared.plan.PlanRow.{PlanRow}
 use Rattle.volume4d.specs.declared.slab.Slab.{Slab}
 use Rattle.volume4d.specs.declared.slab.Held.{Held}
 use Rattle.volume4d.specs.Point.{Point}
@@ -11,8 +10,7 @@ use Rattle.volume4d.specs.Volume.{area_has}
 use Rattle.volume4d.specs.Slab.{slab_has, slabs_have, top_held}
 use Rattle.volume4d.specs.Level.{greater, level_where}
 use Rattle.volume4d.specs.laws.Level.{greater_none, greater_assoc, top_held-push, top_held-nil}
-use Rattle.desk_rules.specs.laws.Plan.{top_priority-cons, top_priority-nil}
-use Rattle.desk_rules.specs.Plan.{is_live, row_holds, top_priority}
+use Rattle.desk_rules.specs.Plan.{is_live, row_holds}
 use Rattle.desk_rules.specs.Conflict.{at_least}
 use Rattle.desk_store.specs.World.{Filed}
 use Rattle.desk_store.specs.Rows.{is_own, rival_level, rivals_top}
@@ -127,50 +125,6 @@ rival_adds n o id p x own e =
       by_tests true false f = refl
 
 -- ---- rows of plans, whosever they are
-
--- the step of a loop over the rows
-pub row_added : (n : ℕ) (row : PlanRow) (rows : List PlanRow) (x : Point) (before after all : Option ℕ)
-    → after ≡ greater before (at_least n (level_where (row_holds row x) row.priority))
-    → greater before (at_least n (top_priority (row ∷ rows) x)) ≡ all
-    → greater after (at_least n (top_priority rows x)) ≡ all
-row_added n row rows x before after all more e =
-    ap (λ l. greater l (at_least n (top_priority rows x))) more
-    ∙ greater_assoc before (at_least n (level_where (row_holds row x) row.priority)) _
-    ∙ ap (greater before) (sym (ap (at_least n) (top_priority-cons row rows x)
-    ∙ at_least_greater n (level_where (row_holds row x) row.priority) (top_priority rows x))) ∙ e
-
--- its end
-pub rows_end : (n : ℕ) (rows : List PlanRow) (x : Point) (level all : Option ℕ) → rows ≡ []
-    → greater level (at_least n (top_priority rows x)) ≡ all → level ≡ all
-rows_end n rows x level all none e =
-    sym (ap (λ rs. greater level (at_least n (top_priority rs x))) none
-    ∙ ap (λ l. greater level (at_least n l)) (top_priority-nil x) ∙ greater_none level) ∙ e
-
--- a row that isn't live, or of a lower priority, adds nothing
-pub low_row_adds_none : (n : ℕ) (row : PlanRow) (x : Point) (level : Option ℕ)
-    → (is_live row.usage && nat_le n row.priority) ≡ false → level
-    ≡ greater level (at_least n (level_where (row_holds row x) row.priority))
-unfolding row_holds
-low_row_adds_none n row x level e =
-    sym (ap (greater level) (by_tests (is_live row.usage) (area_has row.area x) e) ∙ greater_none level)
-  where
-    by_tests : (l a : Bool) → (l && nat_le n row.priority) ≡ false
-        → at_least n (level_where (l && a) row.priority) ≡ None
-    by_tests false a f = refl
-    by_tests true true f = ap (λ b. cond b (Some row.priority) None) f
-    by_tests true false f = refl
-
--- every other row adds its priority where its area has the point
-pub row_adds : (n : ℕ) (row : PlanRow) (x : Point) → (is_live row.usage && nat_le n row.priority) ≡ true
-    → level_where (area_has row.area x) row.priority
-    ≡ at_least n (level_where (row_holds row x) row.priority)
-unfolding row_holds
-row_adds n row x e = sym (by_tests (is_live row.usage) (area_has row.area x) e) where
-  by_tests : (l a : Bool) → (l && nat_le n row.priority) ≡ true
-      → at_least n (level_where (l && a) row.priority) ≡ level_where a row.priority
-  by_tests false a f = cc
-  by_tests true true f = ap (λ b. cond b (Some row.priority) None) f
-  by_tests true false f = refl
 
 -- ---- slabs
 

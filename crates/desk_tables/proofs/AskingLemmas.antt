@@ -1,6 +1,5 @@
 -- Questions of the spans of others, one after the other over a connection.
-use Rattle.std.proofs.Common.{◌<◌, ℕ, ◌+◌, inl, inr, Bool, List, [], ◌++◌, length, take, get_or, Result, Ok, Err, IfOk, OnOk, IsTrue, sym, ap, subst, arith}
-use Rattle.std.specs.Prelude.{IsSome}
+use Rattle.std.proofs.Common.{◌<◌, ℕ, ◌+◌, Bool, List, ◌++◌, length, take, get_or, Result, Ok, Err, IfOk, OnOk, IsTrue, sym, ap, subst, arith}
 use Rattle.std.proofs.lemmas.List.{take_more}
 use Rattle.sqlite_trees.specs.declared.store.Store.{Ghosts}
 use Rattle.sqlite_value.specs.Order.{Row}
@@ -11,12 +10,10 @@ use Rattle.volume4d.specs.declared.slab.Held.{Held as One}
 use Rattle.desk_sql.specs.Frames.{OnlyReads}
 use Rattle.desk_sql.specs.Rows.{tables_of}
 use Rattle.desk_store.specs.World.{World}
-use Rattle.desk_store.specs.declared.fault.StoreFault.{StoreFault}
-use Rattle.desk_tables.specs.Causes.{BlamesSpans, HasTooManySpans}
 use Rattle.desk_tables.specs.Rivals.{HaveTaken, HaveTakenAll}
 use Rattle.desk_tables.specs.Store.{Stands}
-use Rattle.desk_tables.proofs.HeldLemmas.{none_taken, all_taken}
-use Rattle.desk_tables.proofs.FrameLemmas.{reads_itself, reads_then}
+use Rattle.desk_tables.proofs.HeldLemmas.{all_taken}
+use Rattle.desk_tables.proofs.FrameLemmas.{reads_then}
 
 module _ {S : Type 0} (g : Ghosts S) where
   -- some questions are answered, and nothing was changed
@@ -30,14 +27,6 @@ module _ {S : Type 0} (g : Ghosts S) where
           → HaveTakenAll asked questions (tables_of (state g old).now.trees).spans helds
 
   module _ (w : World) (asked : Span → Row → Bool) where
-    pub asking_begins : (h : Held S) → Stands g h w → IsAsking h h w asked [] []
-    asking_begins h stands = record {
-      stands = stands;
-      reads = reads_itself g h stands.settled;
-      opened = λ clean some. absurd (omega (arith, some));
-      taken = λ clean. none_taken asked (tables_of (state g h).now.trees).spans;
-    }
-
     module _ (old mid new : Held S) (all : List Span) (i : ℕ) (d : Span) (helds more : List One)
         (before : IsAsking old mid w asked (take i all) helds)
         (reads : OnlyReads g mid new) where
@@ -62,16 +51,6 @@ module _ {S : Type 0} (g : Ghosts S) where
             helds more (before.taken (was_clean clean))
             (subst (λ spans. HaveTaken (asked (get_or all i d)) spans more) same (taken clean)));
       }
-
-      -- why a later question fails
-      pub blames_since : (e : StoreFault) → BlamesSpans g mid new e → BlamesSpans g old new e
-      blames_since e blames clean live is =
-          let shown = before.reads.kept (was_clean clean) (reads.kept clean live).was_open in
-          elim (blames clean live is) [
-            | inl (inl disk) ↦ inl (inl (omega (arith, before.reads.faults, disk)))
-            | inl (inr steps) ↦ inl (inr (subst IsSome before.reads.limit steps))
-            | inr many ↦ inr (subst HasTooManySpans shown.now many)
-          ]
 
 pub both_ok : {V E A : Type 0} {P Q : V → Type 0} (r : Result V E) → OnOk r A → IfOk r P
     → ((v : V) → A → P v → Q v) → IfOk r Q

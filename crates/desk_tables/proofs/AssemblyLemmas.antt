@@ -41,11 +41,6 @@ named o (l ∷ ls) h e = by_test (is_eq (text_cmp o l.name)) refl e (named o ls 
       (sym (exact_bytes o l.name (is_equal (text_cmp o l.name) f))) h.0
   by_test false f g ih = ih g
 
-operators_within : (w : World) → IsContent w → AllByRecursion IsOperator w.operators
-operators_within w h = both (λ l. IsTrue (is_operator_name l.name)) (λ l. l.ceiling ≤ max_priority)
-    IsOperator
-    (λ l name low. record { name = name; ceiling = low }) w.operators h.names h.world.ceilings
-
 filed_within : (w : World) → IsContent w → AllByRecursion IsFiled w.plans
 filed_within w h =
     both (λ p. IsPlan p.row) (λ p. IsTrue (is_operator_name p.operator)
@@ -55,10 +50,6 @@ filed_within w h =
     (λ p. IsTrue (is_operator_name p.operator) × (p.row.priority ≤ max_priority))
     (λ p there low. (named p.operator w.operators h.names (if_listed w.operators w.plans p there), low))
     w.plans h.world.listed h.world.priorities)
-
-pub operator_rows_of : (t : Tables) (w : World) → IsContent w → AreRows t w
-    → AreOperatorRows w.operators t.operators
-operator_rows_of t w h are = record { within = operators_within w h; are = are.operator_part }
 
 pub plan_rows_of : (t : Tables) (w : World) → IsContent w → AreRows t w
     → ArePlanRows w.plans t.plans t.volumes
@@ -128,12 +119,6 @@ no_plans inside t heads volumes view one two none w h are =
     none w.plans h.world.plans (subst (λ rs. ArePlanRows w.plans rs volumes)
     (sym (one ∙ ap (λ x. x.plans) view)) (subst (ArePlanRows w.plans t.plans)
     (sym (two ∙ ap (λ x. x.volumes) view)) (plan_rows_of t w h are)))
-
-pub no_operators : (inside t : Tables) (rows : List Row) → inside ≡ t → rows ≡ inside.operators
-    → ((ls : List Listed) → AreOperatorRows ls rows → ⊥) → (w : World) → IsContent w → AreRows t w → ⊥
-no_operators inside t rows view one none w h are =
-    none w.operators (subst (AreOperatorRows w.operators) (sym (one ∙ ap (λ x. x.operators) view))
-    (operator_rows_of t w h are))
 
 module _ (one_shape : (one other : Shape) → HasValidParts one → HasValidParts other
     → footprint_bytes one

@@ -1,5 +1,5 @@
 -- Each row of a listing of plans is gathered.
-use Rattle.std.proofs.Common.{◌≡◌, inl, inr, ℕ, suc, ◌+◌, ◌*◌, ◌^◌, ◌<◌, ◌≤◌, Bool, true, false, cond, Option, Some, None, List, [], ◌∷◌, ◌++◌, length, map, refl, sym, ap, subst, ◌∙◌, arith, append-nil, true≢false}
+use Rattle.std.proofs.Common.{◌≡◌, inl, inr, ℕ, suc, ◌+◌, ◌*◌, ◌^◌, ◌<◌, ◌≤◌, true, false, Option, Some, None, List, [], ◌∷◌, ◌++◌, length, map, refl, sym, ap, subst, ◌∙◌, arith, append-nil, true≢false}
 use Rattle.std.specs.List.{AllByRecursion}
 use Rattle.std.proofs.lemmas.Bool.Decides.{nat_tests}
 use Rattle.std.proofs.lemmas.List.{length-append, length-map}
@@ -132,14 +132,3 @@ listing_short (p ∷ ps) h = omega (
   area_short p.row.area h.0.volumes,
   listing_short ps h.1,
 )
-
--- volumes that are no area
-pub no_area_of : (found : Option Head) (head : Head) (volumes items : List Block) → Some head ≡ found
-    → items ≡ volumes → ◌≡◌ {A = Option (List Block)} None (cond (is_area items) (Some items) None)
-    → HasNoArea found volumes
-no_area_of None head volumes items is same none = cc
-no_area_of (Some h) head volumes items is same none =
-    subst (λ vs. is_area vs ≡ false) same (by_test (is_area items) none) where
-      by_test : (b : Bool) → ◌≡◌ {A = Option (List Block)} None (cond b (Some items) None) → b ≡ false
-      by_test true k = cc
-      by_test false k = refl

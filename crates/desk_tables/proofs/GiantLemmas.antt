@@ -1,13 +1,12 @@
 -- The giants that are kept, after one more is put among them.
-use Rattle.std.proofs.Common.{◌≡◌, ℕ, ◌+◌, ◌≤◌, suc, zero, inl, inr, Bool, true, false, ◌||◌, List, [], ◌∷◌, Option, ◌<◌, length, get_or, set, take, refl, sym, ap, ◌∙◌, subst, arith, ◌++◌}
+use Rattle.std.proofs.Common.{◌≡◌, ℕ, ◌+◌, ◌≤◌, suc, zero, inl, inr, Bool, true, false, ◌||◌, List, [], ◌∷◌, Option, ◌<◌, length, get_or, set, take, refl, sym, ap, ◌∙◌, subst, arith}
 use Rattle.std.specs.List.{AllByRecursion, list_any}
-use Rattle.std.specs.Prelude.{IsTrue, nat_le}
-use Rattle.std.proofs.lemmas.Bool.Decides.{nat_tests}
-use Rattle.std.proofs.lemmas.List.Folds.{list_any-append, list_any_more}
+use Rattle.std.specs.Prelude.{IsTrue}
+use Rattle.std.proofs.lemmas.List.Folds.{list_any_more}
 use Rattle.s2_cover.specs.declared.spans.Span.{Span}
 use Rattle.volume4d.specs.declared.slab.Slab.{Slab}
 use Rattle.desk_tables.specs.declared.lengths.Lengths.{Lengths}
-use Rattle.desk_tables.specs.Lengths.{AreWhole, IsAmong, IsKnown, IsLow, IsBoundedBy, IsWithin, Keeps, begins_in, takes_in}
+use Rattle.desk_tables.specs.Lengths.{AreWhole, IsAmong, IsWithin, Keeps, begins_in, takes_in}
 
 or_left : (a b : Bool) → a ≡ true → (a || b) ≡ true
 or_left a b h = ap (λ c. c || b) h
@@ -51,17 +50,6 @@ keeps_giants old new same more span known = elim known [
 
 -- ---- the walk along the giants, for the questions
 
--- a question more that is for a span, and those that there were
-asked_last : (span question : Span) (questions : List Span) → begins_in span question ≡ true
-    → list_any (begins_in span) (questions ++ question ∷ []) ≡ true
-asked_last span question questions h = list_any-append (begins_in span) questions (question ∷ [])
-    ∙ or_right (list_any (begins_in span) questions) _ (or_left (begins_in span question) false h)
-
-asked_still : (span question : Span) (questions : List Span) → list_any (begins_in span) questions ≡ true
-    → list_any (begins_in span) (questions ++ question ∷ []) ≡ true
-asked_still span question questions h = list_any-append (begins_in span) questions (question ∷ [])
-    ∙ or_left (list_any (begins_in span) questions) _ h
-
 module _ (extent : Slab) (low : ℕ) where
   abbrev pub AreFor : Option Span → List Span → Type 0
   AreFor giant questions =
@@ -71,9 +59,6 @@ module _ (extent : Slab) (low : ℕ) where
   pub record AreAskedFor (giants : List (Option Span)) (questions : List Span) : Type 0 where
     pub whole : AreWhole extent (λ span. IsAmong giants span × (span.first < low)) questions
     pub within : AllByRecursion (IsWithin extent) questions
-
-  pub asked_begin : AreAskedFor [] []
-  asked_begin = record { whole = λ span one ends begins. cc; within = tt }
 
   pub asked_on : (giants : List (Option Span)) (i : ℕ) (d : Option Span) (old new : List Span)
       → i < length giants → AreAskedFor (take i giants) old → AreFor (get_or giants i d) new
@@ -91,19 +76,3 @@ module _ (extent : Slab) (low : ℕ) where
         → (b || takes_in span (get_or giants i d)) ≡ true → list_any (begins_in span) new ≡ true
     by_place span early ends begins true was h = kept span (before.whole span (was, early) ends begins)
     by_place span early ends begins false was h = here span (h, early) ends begins
-
-  -- and one question for the others
-  pub asked_whole : (lengths : Lengths) (questions : List Span)
-      → IsLow low extent (IsBoundedBy lengths.bound) → AreAskedFor lengths.giants questions
-      → AreWhole extent (IsKnown lengths) (questions ++ record { first = low; last = extent.last } ∷ [])
-  asked_whole lengths questions is_low asked span known ends begins =
-      by_test (nat_le low span.first) refl where
-        by_test : (b : Bool) → nat_le low span.first ≡ b
-            → list_any (begins_in span) (questions ++ record { first = low; last = extent.last } ∷ []) ≡ true
-        by_test true late = asked_last span (record { first = low; last = extent.last }) questions
-            (grind (arith, nat_tests, late, begins))
-        by_test false late = elim known [
-          | inl short ↦ absurd (grind (arith, nat_tests, late, is_low span short ends begins))
-          | inr among ↦ asked_still span (record { first = low; last = extent.last }) questions
-              (asked.whole span (among, grind (arith, nat_tests, late)) ends begins)
-        ]

@@ -7,7 +7,7 @@ use Rattle.std.proofs.Math.Bool.{and_assoc, and-or_distrib_left, and-or_distrib_
 use Rattle.std.proofs.lemmas.Int.{ints}
 use Rattle.std.proofs.lemmas.List.{append-nil}
 use Rattle.std.proofs.lemmas.List.Concat.{flat_map-append, flat_map-cons}
-use Rattle.std.proofs.lemmas.List.Sorted.{IsPermutation-append, IsPermutation-refl}
+use Rattle.std.proofs.lemmas.List.Sorted.{IsPermutation-append}
 use Rattle.std.proofs.lemmas.Bool.{and_parts}
 use Rattle.std.proofs.lemmas.Bool.Decides.{nat_tests}
 use Rattle.sqlite_value.specs.declared.value.Value.{Value}
@@ -489,9 +489,6 @@ taken_both (g ∷ helds) more (r ∷ rows) others h k = (h.0, taken_both helds m
 module _ (asked : Span → Row → Bool) (spans : List Row) where
   abbrev found : Span → List Row
   found question = map held_columns (filter (asked question) spans)
-
-  pub none_taken : HaveTakenAll asked [] spans []
-  none_taken = ([], IsPermutation-refl [], tt)
 
   pub all_taken : (questions : List Span) (question : Span) (helds more : List Held)
       → HaveTakenAll asked questions spans helds → HaveTaken (asked question) spans more

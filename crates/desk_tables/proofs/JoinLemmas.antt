@@ -13,7 +13,7 @@ use Rattle.desk_tables.specs.declared.reading.values.Head.{Head}
 use Rattle.desk_tables.specs.Tables.{plan_row, volume_row}
 use Rattle.desk_tables.specs.Content.{IsId, IsBlock}
 use Rattle.desk_tables.specs.Reading.{IsVolumeAt, IsHead, is_later, joined_from, listing_rows}
-use Rattle.desk_tables.specs.Gathering.{plan_with, closed_plans, IsUnderWay, Leads, HasGathered}
+use Rattle.desk_tables.specs.Gathering.{plan_with, closed_plans, IsUnderWay, Leads}
 use Rattle.desk_tables.proofs.FilterLemmas.{ArePlans}
 
 no_area : (area : List Block) → IsTrue (is_area area) → area ≡ [] → ⊥
@@ -233,9 +233,6 @@ ended plans (Some head) volumes ps h way =
     sym (append-nil (closed_plans plans (Some head) volumes))
     ∙ ap (λ qs. closed_plans plans (Some head) volumes ++ map (λ p. p.row) qs) (sym none.1)
     ∙ closes plans head volumes [] (map (λ p. p.row) ps) way none.0
-
-pub none_yet : HasGathered [] None [] []
-none_yet ps left h e = (refl, e)
 
 -- ---- counts
 

@@ -309,9 +309,6 @@ pub bounds_after : (old next : Lengths) (change : Change) (w : World) → Bounds
 bounds_after old next change w was more brings =
     record { known = changed_known next change w brings (kept_plans old next more w.plans was.known) }
 
-pub bounds_kept : (old next : Lengths) (w : World) → Bounds old w → Keeps old next → Bounds next w
-bounds_kept old next w was more = record { known = kept_plans old next more w.plans was.known }
-
 pub bounds_of : ((set : ℕ → Bool) (one other : List Span) → IsRanges set one → IsRanges set other
     → one ≡ other) → (lengths : Lengths) (w : World) (rows : List Row) → AreSpanRows w.plans rows
     → AllByRecursion (IsKnownRow lengths) rows → Bounds lengths w

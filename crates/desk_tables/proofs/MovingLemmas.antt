@@ -13,21 +13,21 @@ use Rattle.sqlite.specs.Held.{Held, state}
 use Rattle.s2_cover.specs.CanonicalList.{canonical_list}
 use Rattle.s2_cover.specs.Rectangles.{RectParts}
 use Rattle.volume4d.specs.FootprintBytes.{HasValidParts, footprint_bytes}
-use Rattle.volume4d.specs.Shape.{Shape, cells, rectangle, shape_positions}
+use Rattle.volume4d.specs.Shape.{Shape, rectangle, shape_positions}
 use Rattle.desk_sql.specs.declared.opening.finding.Made.{Made}
 use Rattle.desk_sql.specs.declared.opening.finding.Made.TheVariants.{All}
-use Rattle.desk_sql.specs.Rows.{IsDesk, IsMadeTo, Tables, Lists, RemovesOldVolumes, RemovesOldSpans, tables_of, tables_at, has_old_rows}
-use Rattle.desk_sql.specs.Effects.{IsKept, ShowsAsBefore, Makes, Commits}
+use Rattle.desk_sql.specs.Rows.{IsDesk, IsMadeTo, Tables, Lists, tables_of, tables_at, has_old_rows}
+use Rattle.desk_sql.specs.Effects.{IsKept, ShowsAsBefore, Makes}
 use Rattle.desk_sql.specs.Frames.{OnlyReads, Remembers}
 use Rattle.desk_sql.specs.Batches.{IsUnderWay}
 use Rattle.desk_sql.specs.Finding.{Holds, HasOthers}
 use Rattle.desk_store.specs.World.{Filed, World}
-use Rattle.desk_tables.specs.Tables.{AreTables, HasNoOldRows, area_rows, area_covers, volume_rows, cover_rows, ArePlanSpanRows, AreSpanRows}
+use Rattle.desk_tables.specs.Tables.{HasNoOldRows, area_rows, area_covers, volume_rows, cover_rows, ArePlanSpanRows, AreSpanRows}
 use Rattle.desk_tables.specs.Content.{IsContent}
 use Rattle.desk_tables.specs.declared.opening.open.OpenFault.{OpenFault}
 use Rattle.desk_tables.specs.declared.opening.open.OpenFault.TheVariants.{NotADesk}
 use Rattle.desk_tables.specs.Opening.{AreRows, BeginsWith, BlamesDatabase, HasNoContent, HasOldRows, HasRowsOld, ShowsNoDesk}
-use Rattle.desk_tables.specs.Moving.{AddsPlanRows, AddsPlansRows, AreOldTables, AreNoOldContent, AreSortedOld, BeginsMoved, BlamesMove, HasNoNewRows, HasNoOldContent, IsOldArea, IsOldContent, IsOldContentOf, IsOldShape, IsWhole, KeepsRows, MovesRows, ShowsNoContent, WasMoved, old_max_cover, told_count}
+use Rattle.desk_tables.specs.Moving.{AddsPlanRows, AddsPlansRows, AreNoOldContent, AreSortedOld, BeginsMoved, BlamesMove, HasNoNewRows, HasNoOldContent, IsOldArea, IsOldContent, IsOldContentOf, IsOldShape, IsWhole, KeepsRows, ShowsNoContent, WasMoved, old_max_cover, told_count}
 use Rattle.desk_tables.proofs.ContentLemmas.{one_plans}
 use Rattle.desk_tables.proofs.KeyOrderLemmas.{are_old_rows, are_old_tables}
 use Rattle.desk_tables.proofs.OpeningLemmas.{desk_made, made_desk, none_then, cause_then}
@@ -167,39 +167,6 @@ more_plans ps p all is a b c first last =
 
 -- ---- rows that went, and those that came
 
-pub no_old_left : (a b c : Tables) → RemovesOldVolumes a b → RemovesOldSpans b c
-    → c ≡ record a { old_volumes = []; old_spans = [] }
-no_old_left a b c one two = two ∙ ap (λ (t : Tables). record t { old_spans = [] }) one
-
-pub moves : (ps : List Filed) (a b c : Tables) → b ≡ record a { old_volumes = []; old_spans = [] }
-    → AddsPlansRows ps b c → MovesRows ps a c
-moves ps a b c is adds = record {
-  operators = adds.operators ∙ ap (λ (t : Tables). t.operators) is;
-  plans = adds.plans ∙ ap (λ (t : Tables). t.plans) is;
-  old_volumes = adds.old_volumes ∙ ap (λ (t : Tables). t.old_volumes) is;
-  old_spans = adds.old_spans ∙ ap (λ (t : Tables). t.old_spans) is;
-  with_volumes = subst (λ (t : Tables). IsPermutation (volume_rows ps ++ t.volumes) c.volumes) is
-      adds.with_volumes;
-  with_covers = subst (λ (t : Tables). IsPermutation (cover_rows ps ++ t.covers) c.covers) is
-      adds.with_covers;
-  with_spans = subst (λ (t : Tables). (rows : List Row) × AreSpanRows ps rows
-      × IsPermutation (rows ++ t.spans) c.spans) is adds.with_spans;
-}
-
--- tables of schema 1 whose rows are moved have the rows of the same world in schema 2
-pub moved_tables : (a b : Tables) (w : World) → AreOldTables a w → MovesRows w.plans a b → AreTables b w
-moved_tables a b w are moved = record {
-  old = record { volumes = moved.old_volumes; spans = moved.old_spans };
-  operators = subst (IsPermutation _) (sym moved.operators) are.operators;
-  plans = subst (IsPermutation _) (sym moved.plans) are.plans;
-  volumes = alone (volume_rows w.plans) a.volumes b.volumes are.new.volumes moved.with_volumes;
-  covers = alone (cover_rows w.plans) a.covers b.covers are.new.covers moved.with_covers;
-  spans = let it = moved.with_spans in (it.0, it.1, alone it.0 a.spans b.spans are.new.spans it.2);
-} where
-  alone : (rows old new : List Row) → old ≡ [] → IsPermutation (rows ++ old) new → IsPermutation rows new
-  alone rows old new none same =
-      subst (λ rs. IsPermutation rs new) (ap (λ rs. rows ++ rs) none ∙ append-nil rows) same
-
 -- ---- a test of one after the other
 
 -- all pass if and only if those that are left do
@@ -207,24 +174,8 @@ abbrev pub AllIf : {A : Type 0} → (A → Type 0) → List A → List A → Typ
 AllIf P all left = AllByRecursion P all ↔ AllByRecursion P left
 
 module _ {A : Type 0} (P : A → Type 0) (all : List A) where
-  pub all_on : (left later : List A) (x : A) → AllIf P all left → left ≡ x ∷ later → P x
-      → AllIf P all later
-  all_on left later x before is passes = (
-    λ h. (subst (AllByRecursion P) is (before.0 h)).1,
-    λ h. before.1 (subst (AllByRecursion P) (sym is) (passes, h)),
-  )
-
-  pub all_stops : (left later : List A) (x : A) → AllIf P all left → left ≡ x ∷ later → (P x → ⊥)
-      → AllByRecursion P all → ⊥
-  all_stops left later x before is fails h = fails (subst (AllByRecursion P) is (before.0 h)).0
-
-  pub all_end : (left : List A) → AllIf P all left → left ≡ [] → AllByRecursion P all
-  all_end left before none = before.1 (subst (AllByRecursion P) (sym none) tt)
 
 -- ---- the limits of schema 1
-
-pub old_cells : (shape : Shape) (ids : List ℕ) → shape ≡ cells ids → IsOldShape shape
-old_cells shape ids is = subst IsOldShape (sym is) tt
 
 -- a rectangle is within them if its canonical cover is
 pub old_rectangle : (shape : Shape) (r : RectParts) (ids : List ℕ) → shape ≡ rectangle r
@@ -295,35 +246,9 @@ module _ (t rows : Tables) {V : Type 0} where
   of_no_old (Ok v) lists none = tt
   of_no_old (Err e) lists none = λ n w old are. none n w old (are_old_rows t rows w old.content are lists)
 
--- rows in the tables of schema 2 are no content's of schema 1
-pub none_with_new : (t : Tables) → ¬ HasNoNewRows t → AreNoOldContent t
-none_with_new t some = λ w old are. some are.new
-
 -- ---- what is left of a connection
 
 module _ {S : Type 0} (g : Ghosts S) where
-  -- a content that was read, and whose rows were moved
-  pub was_moved : (made : Made) (w : World) (a b c d : Held S) → Holds g a (IsMadeTo made)
-      → Holds g a (HasRowsOld made true) → OnlyReads g a b → HasCleanDisk (state g b)
-      → IsWhole g made b c → Commits g c d (MovesRows w.plans)
-      → IsOldContentOf (tables_at made (state g a).now.trees) w → WasMoved g a d w
-  was_moved made w a b c d part old reads clean whole done rows =
-      let shows = reads.kept clean whole.was_open in
-      let first : HasCleanDisk (state g a) = omega (arith, reads.doubt, clean) in record {
-        made = made;
-        desk = part first shows.was_open;
-        old_rows = old first shows.was_open;
-        rows = rows;
-        standing = record {
-          content = rows.content.content;
-          desk = done.desk;
-          tables = moved_tables (tables_of (state g c).now.trees) (tables_of (state g d).now.trees) w
-              (subst (λ t. AreOldTables t w)
-              (sym (whole.same ∙ ap (λ (db : Database). tables_at made db.trees) shows.now)) rows.tables)
-              done.changed;
-        };
-      }
-
   -- where nothing was missing, nothing is made
   pub whole_already : (made : Made) (a : Held S) → Holds g a (IsMadeTo made) → made ≡ All
       → HasCleanDisk (state g a) → IsTrue (state g a).is_open → IsWhole g made a a
@@ -345,10 +270,6 @@ module _ {S : Type 0} (g : Ghosts S) where
     rows = subst (λ (db : Database). IsOldContentOf (tables_at was.made db.trees) w) shows.now was.rows;
     standing = was.standing;
   }
-
-  -- what is kept keeps rows
-  pub keeps_rows : (a b : Held S) → IsKept g a b → KeepsRows g a b
-  keeps_rows a b kept = λ clean live. inl (kept clean live)
 
   -- rows that are kept since a reading
   pub keeps_since : (a b c : Held S) → IsKept g a b → doubt (state g b).is_clean ≤ doubt (state g c).is_clean

@@ -1,5 +1,5 @@
 -- What a store begins with, from what was found.
-use Rattle.std.proofs.Common.{◌≡◌, ◌≢◌, ◌≤◌, List, [], ◌∷◌, ◌||◌, Bool, true, false, if◌then◌else◌, ◌∙◌, sym, ap, refl, OnOk, OnErr, subst, arith, inl, inr, IsTrue, Result, Ok, Err, IfOk, IfErr}
+use Rattle.std.proofs.Common.{◌≡◌, ◌≢◌, ◌≤◌, List, [], ◌∷◌, ◌||◌, Bool, true, false, ◌∙◌, sym, ap, refl, OnOk, OnErr, subst, arith, inl, inr, IsTrue, Result, Ok, Err, IfOk, IfErr}
 use Rattle.std.specs.Prelude.{IsSome}
 use Rattle.std.specs.Result.{IsErrAnd}
 use Rattle.sqlite.specs.declared.error.Error.{Error}
@@ -22,27 +22,12 @@ use Rattle.desk_sql.specs.Refusals.{IsRefusal, IsUnread}
 use Rattle.sqlite_value.specs.Order.{Row}
 use Rattle.desk_store.specs.World.{World}
 use Rattle.desk_tables.specs.declared.opening.open.OpenFault.{OpenFault}
-use Rattle.desk_tables.specs.declared.opening.open.OpenFault.TheVariants.{NotADesk, OldSchema, OutOfMemory, Store}
+use Rattle.desk_tables.specs.declared.opening.open.OpenFault.TheVariants.{NotADesk, OutOfMemory, Store}
 use Rattle.desk_tables.specs.Content.{IsContent}
 use Rattle.desk_tables.specs.Store.{Stands}
 use Rattle.desk_tables.specs.Tables.{HasNoOldRows, AreTables}
-use Rattle.desk_tables.specs.Opening.{AreSortedByKey, AreAllRows, HasRowsOld, HasNewRows, HasOldRows, IsContentOf, AreNoContent, IsPart, BeganBlank, WasCompleted, BeginsWith, ShowsNoDesk, ShowsOldRows, IsNoDesk, IsUnmade, HasFailed, BlamesReading, BlamesDatabase, is_memory, open_fault_of}
+use Rattle.desk_tables.specs.Opening.{AreSortedByKey, AreAllRows, HasNewRows, IsContentOf, AreNoContent, IsPart, BeganBlank, WasCompleted, BeginsWith, ShowsNoDesk, IsNoDesk, IsUnmade, HasFailed, BlamesReading, BlamesDatabase, open_fault_of}
 use Rattle.desk_tables.proofs.KeyOrderLemmas.{are_rows, are_tables}
-
--- no error of SQLite says that there is no desk, or that there are rows of schema 1
-pub never_no_desk : (e : Error) → open_fault_of e ≢ NotADesk
-never_no_desk e is = by (is_memory e) is
-  where
-    by : (memory : Bool) → (if memory then OutOfMemory else Store) ≢ NotADesk
-    by true is = cc
-    by false is = cc
-
-pub never_old : (e : Error) → open_fault_of e ≢ OldSchema
-never_old e is = by (is_memory e) is
-  where
-    by : (memory : Bool) → (if memory then OutOfMemory else Store) ≢ OldSchema
-    by true is = cc
-    by false is = cc
 
 -- what is made as a whole is a desk
 pub desk_made : (db : Database) → IsMadeTo All db → IsDesk db
@@ -120,20 +105,6 @@ module _ {S : Type 0} (g : Ghosts S) where
           committed = last.committed ∙ first.committed;
         };
       }))
-
-  -- what a refusal keeps since what was kept
-  pub kept_both : {V : Type 0} (r : Result V OpenFault) (a b c : Held S) → IsKept g a b
-      → OnErr r (IsKept g b c) → doubt (state g b).is_clean ≤ doubt (state g c).is_clean
-      → OnErr r (IsKept g a c)
-  kept_both (Ok v) a b c one two rises = tt
-  kept_both (Err e) a b c one two rises = λ clean live.
-      let last = two clean live in
-      let first = one (omega (arith, rises, clean)) last.was_open in
-      record {
-        was_open = first.was_open;
-        now = last.now ∙ first.now;
-        committed = last.committed ∙ first.committed;
-      }
 
   -- rows of no content are no desk's, also before what was kept
   none_shown : (made : Made) (a b c : Held S) → IsKept g a b → Holds g b (IsMadeTo made)
@@ -232,21 +203,6 @@ module _ {S : Type 0} (g : Ghosts S) (a b c : Held S) (reads : OnlyReads g a b)
     | inl (inr limited) ↦ inl (inr (subst IsSome reads.limit limited))
     | inr unmade ↦ inr (subst IsUnmade (same_before clean (kept clean live).was_open).now unmade)
   ]
-
--- rows of schema 1 were there before a reading
-pub old_shown : {S : Type 0} (g : Ghosts S) (made : Made) (a b : Held S) → OnlyReads g a b
-    → Holds g b (IsMadeTo made) → Holds g b (HasRowsOld made true) → ShowsOldRows g a b
-old_shown g made a b reads part old clean live =
-    let before = reads.kept clean live in
-    subst HasOldRows before.now (record { made = made; desk = part clean live; old = old clean live })
-
--- what was found so still is, after a reading
-pub rows_on : {S : Type 0} (g : Ghosts S) (made : Made) (old : Bool) (b c : Held S) → OnlyReads g b c
-    → (HasCleanDisk (state g c) → old ≡ has_old_rows (tables_at made (state g b).now.trees))
-    → Holds g c (HasRowsOld made old)
-rows_on g made old b c reads value clean live =
-    let before = reads.kept clean live in
-    ap (λ (db : Database). has_old_rows (tables_at made db.trees)) before.now ∙ sym (value clean)
 
 -- what is said of an error, once it is told on
 pub told_as : {V : Type 0} (P : OpenFault → Type 0) (r : Result V OpenFault) (e : OpenFault)

@@ -1,7 +1,6 @@
 -- Operators read from their rows, one after the other.
 use Rattle.std.proofs.Common.{◌≡◌, List, [], ◌∷◌, ◌++◌, map, refl, sym, ap, ◌∙◌, append_assoc}
 use Rattle.std.specs.List.{AllByRecursion}
-use Rattle.std.proofs.lemmas.List.{append-nil}
 use Rattle.sqlite_value.specs.Order.{Row}
 use Rattle.desk_store.specs.World.{Listed}
 use Rattle.desk_store.specs.laws.Order.{all_append}
@@ -14,9 +13,6 @@ pub record AreListed (rows : List Row) (ls : List Listed) (left : List Row) : Ty
   pub within : AllByRecursion IsOperator ls
   pub so_far : rows ≡ map operator_row ls ++ left
   pub remain : (ks : List Listed) → AreOperatorRows ks rows → (more : List Listed) × AreOperatorRows more left
-
-pub begin : (rows : List Row) → AreListed rows [] rows
-begin rows = record { within = tt; so_far = refl; remain = λ ks h. (ks, h) }
 
 rows_append : (ls ks : List Listed) → map operator_row (ls ++ ks) ≡ map operator_row ls ++ map operator_row ks
 rows_append [] ks = refl
@@ -53,10 +49,3 @@ refused rows ls left later row h some none ks are = let (more, there) = h.remain
           let both : row ∷ later ≡ operator_row m ∷ map operator_row ms = sym some ∙ there.are in
           let first : row ≡ operator_row m = cc in
           none m there.within.0 first
-
-pub end : (rows : List Row) (ls : List Listed) (left : List Row) → AreListed rows ls left → left ≡ []
-    → AreOperatorRows ls rows
-end rows ls left h none = record {
-  within = h.within;
-  are = h.so_far ∙ ap (λ rs. map operator_row ls ++ rs) none ∙ append-nil (map operator_row ls);
-}

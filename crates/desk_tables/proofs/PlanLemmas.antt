@@ -90,14 +90,6 @@ pub record AreFiled (heads volumes : List Row) (ps : List Filed) (left rest : Li
   pub remain : (qs : List Filed) → IsStrictlySortedBy filed_cmp qs → ArePlanRows qs heads volumes
       → (more : List Filed) × IsStrictlySortedBy filed_cmp more × ArePlanRows more left rest
 
-pub begin : (heads volumes : List Row) → AreFiled heads volumes [] heads volumes
-begin heads volumes = record {
-  within = tt;
-  heads_so_far = refl;
-  areas_so_far = refl;
-  remain = λ qs s h. (qs, s, h);
-}
-
 heads_append : (ps qs : List Filed) → plan_rows (ps ++ qs) ≡ plan_rows ps ++ plan_rows qs
 heads_append [] qs = refl
 heads_append (p ∷ ps) qs = ap (λ rs. plan_row p ∷ rs) (heads_append ps qs)
@@ -170,23 +162,3 @@ module _ (left later rest mine more : List Row) (head : Row) (count : ℕ) (some
       → IsStrictlySortedBy filed_cmp qs → ArePlanRows qs heads volumes → ⊥
   refused heads volumes ps h none qs s k = let (those, sorted, there) = h.remain qs s k
       in not_first none those sorted there
-
-pub end : (heads volumes : List Row) (ps : List Filed) (left rest : List Row)
-    → AreFiled heads volumes ps left rest → left ≡ [] → rest ≡ [] → ArePlanRows ps heads volumes
-end heads volumes ps left rest h none_left none_over = record {
-  within = h.within;
-  plans = h.heads_so_far ∙ ap (λ rs. plan_rows ps ++ rs) none_left ∙ append-nil (plan_rows ps);
-  areas = h.areas_so_far ∙ ap (λ rs. volume_rows ps ++ rs) none_over ∙ append-nil (volume_rows ps);
-}
-
--- rows of volumes are left over
-pub left_over : (heads volumes : List Row) (ps : List Filed) (left rest : List Row)
-    → AreFiled heads volumes ps left rest → left ≡ [] → (rest ≡ [] → ⊥)
-    → (qs : List Filed) → IsStrictlySortedBy filed_cmp qs → ArePlanRows qs heads volumes → ⊥
-left_over heads volumes ps left rest h none_left over qs s k = let (those, sorted, there) =
-    h.remain qs s k
-    in by_those those there where
-      by_those : (those : List Filed) → ArePlanRows those left rest → ⊥
-      by_those [] there = over there.areas
-      by_those (q ∷ qs) there = let nil : [] ≡ plan_row q ∷ plan_rows qs = sym none_left ∙ there.plans
-          in cc

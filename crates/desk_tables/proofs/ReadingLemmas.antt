@@ -1,5 +1,5 @@
 -- From rows to what they stand for.
-use Rattle.std.proofs.Common.{◌≡◌, ℕ, ℤ, pos, zero, suc, ◌+◌, ◌<◌, inl, Bool, true, false, cond, List, [], ◌∷◌, ◌++◌, length, take, get_or, Option, Some, None, Result, Ok, Err, refl, sym, ap, subst, ◌∙◌, arith}
+use Rattle.std.proofs.Common.{◌≡◌, ℕ, ℤ, zero, suc, ◌+◌, ◌<◌, inl, Bool, true, false, cond, List, [], ◌∷◌, ◌++◌, length, take, get_or, Option, Some, None, Result, Ok, Err, refl, sym, ap, subst, ◌∙◌, arith}
 use Rattle.std.specs.List.{AllByRecursion, AllZip}
 use Rattle.sqlite_value.specs.declared.value.Value.{Value}
 use Rattle.sqlite_value.specs.declared.value.Value.TheVariants.{Int, Text, Blob}
@@ -14,11 +14,9 @@ use Rattle.volume4d.specs.declared.window.WindowFault.TheVariants.{Altitude, Tim
 use Rattle.uuid.specs.Text.{parsed}
 use Rattle.uuid.proofs.RoundTrips.{parses_hyphenated}
 use Rattle.volume4d.specs.Volume.{is_area}
-use Rattle.desk_rules.specs.declared.plan.PlanRow.{PlanRow}
-use Rattle.desk_tables.specs.Tables.{id_text, usage_number, aircraft_number}
+use Rattle.desk_tables.specs.Tables.{id_text}
 use Rattle.desk_tables.specs.Content.{IsId, IsBlock}
-use Rattle.desk_tables.specs.Reading.{IsVolumeAt, IsHead}
-use Rattle.desk_tables.proofs.ContentLemmas.{one_usage, one_aircraft}
+use Rattle.desk_tables.specs.Reading.{IsVolumeAt}
 
 pub window_is : (e w : WindowParts) → ◌≡◌ {A = Result WindowParts WindowFault} (Ok w)
     (window_or_fault e) → w
@@ -116,21 +114,3 @@ id_is text found id v e h is k =
     parses_hyphenated 97 id (inl refl) is.sixteen is.are_bytes in
     let both : Some found ≡ Some id = e ∙ ap parsed same ∙ sym parses in
     cc
-
-pub plan_is : (row : Row) (plan p : PlanRow) (one_id : (id : List ℕ) → IsId id → column row 1
-    ≡ Text (id_text id) → plan.id ≡ id) → column row 2 ≡ Int (pos plan.priority)
-    → column row 3 ≡ Int (pos (usage_number plan.usage)) → column row 4
-    ≡ Int (pos (aircraft_number plan.aircraft)) → IsId p.id → IsHead row p → plan.area ≡ p.area → plan
-    ≡ p
-plan_is row plan p one_id n u a is h area = λ i. record {
-  id = one_id p.id is h.id i;
-  priority = one_count plan.priority p.priority (column row 2) n h.priority i;
-  usage = one_usage plan.usage p.usage (one_count (usage_number plan.usage) (usage_number p.usage)
-      (column row 3) u h.usage) i;
-  aircraft = one_aircraft plan.aircraft p.aircraft
-      (one_count (aircraft_number plan.aircraft) (aircraft_number p.aircraft) (column row 4) a
-      h.aircraft) i;
-  area = area i;
-} where
-  one_count : (m n : ℕ) (v : Value) → v ≡ Int (pos m) → v ≡ Int (pos n) → m ≡ n
-  one_count m n v h k = cc

@@ -54,10 +54,6 @@ pub record AreLeft (plans : List Filed) (rows : List Row) (others : List Filed) 
     pub sorted : IsStrictlySortedBy filed_cmp others
     pub same : AreSpanRows plans rows ↔ AreSpanRows others left
 
-pub begin : (plans : List Filed) (rows : List Row) → ArePlans plans → IsStrictlySortedBy filed_cmp plans
-    → AreLeft plans rows plans rows
-begin plans rows h s = record { within = h; sorted = s; same = (λ k. k, λ k. k) }
-
 module _ (plans : List Filed) (rows : List Row) (others later : List Filed) (plan : Filed)
     (left mine more : List Row) (count : ℕ) (h : AreLeft plans rows others left)
     (some : others ≡ plan ∷ later) (counted : count ≡ prefix_len (of plan) left)
@@ -105,11 +101,3 @@ module _ (plans : List Filed) (rows : List Row) (others later : List Filed) (pla
 
   pub stops : (ArePlanSpanRows plan mine → ⊥) → IsTrue false ↔ AreSpanRows plans rows
   stops none = (λ t. absurd (true≢false (sym t)), λ k. absurd (none (all_taken k).0))
-
-pub ends : (plans : List Filed) (rows : List Row) (others : List Filed) (left : List Row)
-    → AreLeft plans rows others left → others ≡ [] → (r : Bool) → (IsTrue r → left ≡ [])
-    → (left ≡ [] → IsTrue r) → IsTrue r ↔ AreSpanRows plans rows
-ends plans rows others left h none r to from = (
-  λ t. h.same.1 (subst (λ ps. AreSpanRows ps left) (sym none) (to t)),
-  λ k. from (subst (λ ps. AreSpanRows ps left) none (h.same.0 k)),
-)

@@ -17,7 +17,7 @@ use Rattle.sqlite.specs.State.{HasCleanDisk}
 use Rattle.sqlite.specs.Held.{Held, state}
 use Rattle.desk_sql.specs.Rows as sql
 use Rattle.desk_sql.specs.Rows.{Tables, IsDesk, Lists, tables_of}
-use Rattle.desk_sql.specs.Effects.{IsReady, IsKept, Commits}
+use Rattle.desk_sql.specs.Effects.{IsKept, Commits}
 use Rattle.desk_sql.specs.Frames.{OnlyReads}
 use Rattle.desk_sql.specs.Making.{Completes}
 use Rattle.desk_sql.specs.Rows.{no_rows}
@@ -33,9 +33,6 @@ use Rattle.desk_tables.specs.Store.{IsStanding, Stands}
 use Rattle.desk_tables.proofs.FilterLemmas.{turned}
 
 module _ {S : Type 0} (g : Ghosts S) (old new : Held S) (w : World) (stood : Stands g old w) where
-  pub is_ready : IsReady g old
-  is_ready clean live = (stood.standing clean live).desk
-
   -- a query leaves what stands
   pub still_stands : OnlyReads g old new → Stands g new w
   still_stands reads = record { settled = reads.mode; standing = λ clean live. standing clean live }
@@ -64,13 +61,6 @@ module _ {S : Type 0} (g : Ghosts S) (old new : Held S) (w : World) (stood : Sta
           tables = subst (λ db. AreTables (tables_of db.trees) w) (sym shows.now) before.tables;
         };
   }
-
-  -- and answers from what stands
-  pub stood_then : {V E : Type 0} (r : Result V E) → OnOk r (IsTrue (state g old).is_open)
-      → doubt (state g old).is_clean ≤ doubt (state g new).is_clean → HasCleanDisk (state g new)
-      → OnOk r (IsStanding g old w)
-  stood_then (Ok v) live rises clean = stood.standing (omega (arith, rises, clean)) live
-  stood_then (Err e) live rises clean = tt
 
 one_row : (r : Row) (rows : List Row) → IsPermutation (r ∷ []) rows → rows ≡ r ∷ []
 one_row r [] same = absurd (omega (arith, length_permutation (r ∷ []) [] same))

@@ -18,14 +18,6 @@ pub record HaveAnswers {R V : Type 0} (shown : R → Sent) (items : V → List �
   pub first : AreFirst w (map shown requests) n (map items answers) now
   pub count : length answers ≡ n
 
-pub none_answered : {R V : Type 0} (shown : R → Sent) (items : V → List ℕ) (w now : DeskWorld)
-    (requests : List R)
-    (answers : List V) → answers ≡ [] → now ≡ w → HaveAnswers shown items w requests 0 answers now
-none_answered shown items w now requests answers is same = record {
-  first = record { told = ap (map items) is; left = same };
-  count = ap length is;
-}
-
 pub told_more : (w : DeskWorld) (requests : List Sent) (r : Sent) → answers_to w (requests ++ r ∷ [])
     ≡ answers_to w requests ++ text_for (world_left w requests) r.0 (asked r.1) ∷ []
 told_more w [] r = refl

@@ -215,14 +215,6 @@ told_cut old now new text first next end some none fails short =
     in
     told_all old new text IsCut all end (is_cut_head text some none fails short)
 
--- at the end of the reader's bytes inside a body
-pub told_short : (old now new : Option (List ℕ)) (body : List ℕ) (size : ℕ) → Consumes old now body
-    → Consumes now new [] → IsAtEnd new → length body < size → IfSome old (λ rest. length rest < size)
-told_short old now new body size first next end short =
-    let all = subst (Consumes old new) (append-nil body) (Consumes-trans old now new body [] first next)
-    in
-    told_all old new body (λ rest. length rest < size) all end short
-
 -- the stream of a front and a short body
 pub told_cut_body : (old now : Option (List ℕ)) (text : List ℕ) → Consumes old now text
     → 0 < length text

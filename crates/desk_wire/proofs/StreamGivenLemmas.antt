@@ -332,13 +332,6 @@ fewer_quiet o moment n m stream h none =
     ∙ ap (requests_of o) (take_sent moment n (requests_in m stream))
     ∙ quiet_take o n (at_moment moment (requests_in m stream)) none
 
-told_upto : (ended : PlayEnd) (count : ℕ) → told_in_play ended count ≤ count
-told_upto End count = omega arith
-told_upto Unframed count = omega arith
-told_upto Broken count = omega arith
-told_upto Limit count = omega arith
-told_upto (Fault fault) count = omega arith
-
 module _ (o stream : List ℕ) (w : DeskWorld) (moment : ℤ) (count : ℕ)
     (none : requests_of o (at_moment moment (requests_in (count + 1) stream)) ≡ []) where
   -- the world that the first requests leave

@@ -1,6 +1,6 @@
 -- Spellings of ids: digits, their values, and the zeros at their end.
 use Rattle.std.proofs.Common.{◌≡◌, ◌≢◌, ℕ, zero, suc, ◌+◌, ◌-◌, ◌*◌, ◌/◌, ◌%◌, ◌^◌, ◌<◌, ◌≤◌, List, [], ◌∷◌, ◌++◌, length, take, drop, replicate, get_or, refl, sym, ◌∙◌, ap, arith, inl, inr}
-use Rattle.std.specs.Prelude.{Bool, true, false, not, Result, Err, MatchResult, IsOk, IsTrue, reverse, Ok}
+use Rattle.std.specs.Prelude.{Bool, true, false, not, IsTrue, reverse}
 use Rattle.std.specs.Char.{is_digit, digit_char, digit_value, is_ascii_uppercase}
 use Rattle.std.specs.List.{list_all, suffix_len}
 use Rattle.std.specs.Str.Parse.{digits_value, digits_value_after, AllDigits}
@@ -320,12 +320,6 @@ ascii_digits (c ∷ cs) digits (suc i) = ascii_digits cs digits.1 i
 -- hex digits are text
 pub hex_is_text : (text : List ℕ) → IsTrue (is_hex text) → IsUtf8 text
 hex_is_text text hex = IsUtf8-from_ascii text (ascii_digits text (all_digits text hex))
-
--- a result whose error can't be is Ok
-pub no_error : {T E : Type 0} (r : Result T E) (P : T → Type 0) (Q : E → Type 0)
-    → MatchResult r P Q → ((e : E) → Q e → ⊥) → IsOk r
-no_error (Ok x) P Q is never = refl
-no_error (Err e) P Q is never = absurd (never e is)
 
 -- a digit in base 16 takes four bits
 pow_of_16 : (k : ℕ) → 2 ^ (4 * k) ≡ 16 ^ k

@@ -27,11 +27,6 @@ not_low side least greatest n low = grind (arith, nat_tests)
 not_high : (side least greatest n : ℕ) → greatest < n / side → is_along side least greatest n ≡ false
 not_high side least greatest n high = grind (arith, nat_tests)
 
-pub before_all : (side least greatest first last : ℕ) → 0 < side → last / side < least
-    → AllIn first last (is_along side least greatest) false
-before_all side least greatest first last some before n low high =
-    not_low side least greatest n (omega (arith, div_mono n last side some high, before))
-
 pub after_all : (side least greatest first last : ℕ) → 0 < side → greatest < first / side
     → AllIn first last (is_along side least greatest) false
 after_all side least greatest first last some after n low high =

@@ -1,7 +1,6 @@
 -- The walks down the levels, one level at a step.
-use Rattle.std.proofs.Common.{◌≡◌, ℕ, ◌+◌, ◌-◌, ◌*◌, ◌/◌, ◌%◌, ◌^◌, ◌<◌, ◌≤◌, bit_and, refl, sym, ◌∙◌, arith}
+use Rattle.std.proofs.Common.{◌≡◌, ℕ, ◌+◌, ◌-◌, ◌*◌, ◌/◌, ◌%◌, ◌^◌, ◌<◌, bit_and, refl, sym, ◌∙◌, arith}
 use Rattle.std.proofs.lemmas.Nat.{pow-add, shr-shr, and_mask}
-use Rattle.std.proofs.Math.Nat.{pow-le-pow_right}
 use Rattle.s2_hilbert.specs.Curve.{quadrant_at, place_of, turned, quadrant_of, place, turn_at}
 use Rattle.s2_hilbert.specs.laws.Quadrant.{is_place, is_quadrant}
 use Rattle.s2_hilbert.specs.laws.Place.{split_at, quadrant_below, power_of_four}
@@ -84,14 +83,6 @@ walk_goes_on levels turn i j step at along bit next inside bit_is next_is walked
       place_below = rw power (omega (arith, walked.place_below));
     }
 
-pub walk_ends : (levels turn i j at along : ℕ) → HasWalked levels turn i j levels at along → along
-    ≡ place levels turn i j
-walk_ends levels turn i j at along walked =
-    let none : levels - levels ≡ 0 = omega arith in
-    let i_is : i / 2 ^ 0 ≡ i = omega arith in
-    let j_is : j / 2 ^ 0 ≡ j = omega arith in
-    rw (none, i_is, j_is) at walked.place_is
-
 -- the places on the level above
 quarter : (along n : ℕ) → along / 4 ^ n / 4 ≡ along / 4 ^ (n + 1)
 quarter along n =
@@ -154,13 +145,3 @@ search_goes_on turn along step at i j next inside next_is found =
       i_below = rw power (omega (arith, found.i_below));
       j_below = rw power (omega (arith, found.j_below));
     }
-
-pub search_ends : (turn along at i j : ℕ) → HasFound turn along 30 at i j → place 30 turn i j ≡ along
-search_ends turn along at i j found = found.place_is ∙ omega arith
-
-pub search_fits : (turn along step at i j : ℕ) → step < 30 → HasFound turn along step at i j → (i < 2 ^ 29)
-    × (j < 2 ^ 29)
-search_fits turn along step at i j inside found =
-    let within : step ≤ 29 = omega arith in
-    let power : 2 ^ step ≤ 2 ^ 29 = pow-le-pow_right (omega arith) within in
-    (omega (arith, power, found.i_below), omega (arith, power, found.j_below))

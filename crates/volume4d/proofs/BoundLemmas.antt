@@ -1,11 +1,11 @@
 -- The smallest slab round slabs that each have a point.
-use Rattle.std.proofs.Common.{◌≡◌, ℕ, ◌+◌, ◌<◌, ◌≤◌, ℤ, pos, ◌-ℤ◌, ◌≤ℤ◌, ◌<ℤ◌, Bool, true, leb, List, length, get_or, take, sym, ◌∙◌, subst, arith}
+use Rattle.std.proofs.Common.{◌≡◌, ℕ, ◌+◌, ◌<◌, ◌≤◌, ℤ, pos, ◌-ℤ◌, ◌≤ℤ◌, ◌<ℤ◌, true, leb, List, length, get_or, take, sym, subst, arith}
 use Rattle.std.specs.Prelude.{All, int_le, int_lt}
 use Rattle.std.specs.Int.{int_min, int_max}
 use Rattle.std.proofs.lemmas.Int.{ints}
 use Rattle.std.proofs.lemmas.Bool.Decides.{nat_tests}
 use Rattle.std.proofs.lemmas.List.{take_all}
-use Rattle.std.proofs.lemmas.List.Elements.{All-nil, All-get_or, All-from_get_or, All-more, All-weaker, All-contains}
+use Rattle.std.proofs.lemmas.List.Elements.{All-get_or, All-from_get_or, All-more, All-weaker, All-contains}
 use Rattle.std.proofs.lemmas.List.Folds.{Any-from_list_any, list_any_at}
 use Rattle.s2_hilbert.specs.Curve.{position_of, grid_leaf_at}
 use Rattle.s2_hilbert.specs.laws.Curve.{position_undone}
@@ -196,15 +196,6 @@ pub record IsRound (slabs : List Slab) (count : ℕ) (bounds : Slab) : Type 0 wh
   pub round : All (λ s. IsWithin s bounds) (take count slabs)
   pub least : (outer : Slab) → All (λ s. IsWithin s outer) slabs → IsWithin bounds outer
 
-pub none_yet : (slabs : List Slab) (slab : Slab) → slab ≡ get_or slabs 0 slab → 0 < length slabs
-    → IsRound slabs 0 slab
-none_yet slabs slab is some = record {
-  round = All-nil (λ s. IsWithin s slab);
-  least = λ outer all.
-      subst (λ s. IsWithin s outer) (sym is)
-      (All-get_or (λ s. IsWithin s outer) slabs 0 slab some all);
-}
-
 pub one_more : (slabs : List Slab) (count : ℕ) (slab bounds more : Slab) → count < length slabs
     → slab ≡ get_or slabs count slab → IsRound slabs count bounds → IsJoin bounds slab more
     → IsRound slabs (count + 1) more
@@ -240,11 +231,3 @@ bounds_are slabs count bounds all_of filled so_far = record {
 } where
   round : All (λ s. IsWithin s bounds) slabs
   round = subst (All (λ s. IsWithin s bounds)) (take_all count slabs all_of) so_far.round
-
--- the same set of points has the same bounds
-pub bounds_same : (f g : Point → Bool) (slab : Slab) → ((x : Point) → f x ≡ g x) → IsBounds f slab
-    → IsBounds g slab
-bounds_same f g slab same bounds = record {
-  has = λ x passes. bounds.has x (same x ∙ passes);
-  smallest = λ other has. bounds.smallest other (λ x passes. has x (sym (same x) ∙ passes));
-}

@@ -1,40 +1,18 @@
 -- Slabs parted at a gap.
-use Rattle.std.proofs.Common.{◌≡◌, ℕ, ◌+◌, ◌<◌, ◌≤◌, Bool, true, false, ◌||◌, List, length, get_or, take, drop, [], sym, ap, ◌∙◌, arith, take-append-drop, inl, inr}
+use Rattle.std.proofs.Common.{◌≡◌, ℕ, ◌<◌, ◌≤◌, Bool, true, false, ◌||◌, List, length, get_or, take, drop, sym, ap, ◌∙◌, arith, take-append-drop}
 use Rattle.std.specs.List.{list_any}
-use Rattle.std.proofs.lemmas.Bool.{or_cases}
-use Rattle.std.proofs.lemmas.Bool.Decides.{nat_tests}
-use Rattle.std.proofs.lemmas.List.{drop_all}
-use Rattle.std.proofs.lemmas.List.Folds.{list_any-append, list_any_more}
+use Rattle.std.proofs.lemmas.List.Folds.{list_any-append}
 use Rattle.s2_hilbert.specs.Curve.{position_of}
 use Rattle.volume4d.specs.declared.slab.Slab.{Slab}
 use Rattle.volume4d.specs.Point.{Point}
 use Rattle.volume4d.specs.Slab.{slab_has, slabs_have}
 use Rattle.volume4d.specs.Sweep.{Ascend}
 use Rattle.volume4d.specs.Clusters.{AreInTurn, IsCluster}
-use Rattle.volume4d.proofs.PointsIn.{IsIn-from_has}
 use Rattle.volume4d.proofs.Sweeping.{later_begin, not_less_after}
 
 -- no point of the first slabs lies after the position
 abbrev pub ReachTo : ℕ → List Slab → Type 0
 ReachTo reach slabs = (x : Point) → slabs_have slabs x ≡ true → position_of x.leaf ≤ reach
-
-ends_after : (s : Slab) (x : Point) → slab_has s x ≡ true → position_of x.leaf ≤ s.last
-ends_after s x h = let last = (IsIn-from_has s x h).last in grind (arith, nat_tests)
-
-pub reach_none : (reach : ℕ) (slabs : List Slab) → ReachTo reach (take 0 slabs)
-reach_none reach slabs x h = cc
-
-pub reach_more : (slabs : List Slab) (n : ℕ) (slab : Slab) (reach more : ℕ) → n < length slabs
-    → slab ≡ get_or slabs n slab → ReachTo reach (take n slabs) → reach ≤ more → slab.last ≤ more
-    → ReachTo more (take (n + 1) slabs)
-reach_more slabs n slab reach more below is so_far up last x h =
-    elim (or_cases (slabs_have (take n slabs) x) (slab_has slab x) (sym parted ∙ h)) [
-      | inl before ↦ omega (arith, so_far x before, up)
-      | inr here ↦ omega (arith, ends_after slab x here, last)
-    ] where
-      parted : slabs_have (take (n + 1) slabs) x ≡ (slabs_have (take n slabs) x || slab_has slab x)
-      parted = list_any_more (λ s. slab_has s x) slabs n slab below
-          ∙ ap (λ s. slabs_have (take n slabs) x || slab_has s x) (sym is)
 
 -- what begins after all points of the first slabs comes in turn
 pub in_turn_at : (slabs : List Slab) (n : ℕ) (slab : Slab) (reach : ℕ) → n < length slabs
@@ -43,12 +21,6 @@ pub in_turn_at : (slabs : List Slab) (n : ℕ) (slab : Slab) (reach : ℕ) → n
 in_turn_at slabs n slab reach below is up so_far far x y early late e =
     let begins = later_begin (λ s. s) slabs n slab y below is up late in
     not_less_after (position_of x.leaf) (position_of y.leaf) _ (omega (arith, so_far x early, far, begins)) e
-
-pub none_later : (slabs : List Slab) (n : ℕ) → length slabs ≤ n → AreInTurn (take n slabs) (drop n slabs)
-none_later slabs n all_of x y early late e =
-    absurd (no_point (drop n slabs) (drop_all n slabs all_of) late) where
-      no_point : (rest : List Slab) → rest ≡ [] → slabs_have rest y ≡ true → ⊥
-      no_point rest is h = let none = ap (λ l. slabs_have l y) is in cc
 
 pub cluster_at : (slabs cluster later : List Slab) (n : ℕ) → 0 < n → n ≤ length slabs
     → cluster ≡ take n slabs → later ≡ drop n slabs → AreInTurn (take n slabs) (drop n slabs)

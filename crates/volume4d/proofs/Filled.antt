@@ -1,9 +1,9 @@
 -- The slabs of volumes each have a point.
-use Rattle.std.proofs.Common.{◌≡◌, ℕ, ◌+◌, ◌<◌, ◌≤◌, ℤ, ◌<ℤ◌, true, List, [], ◌∷◌, ◌++◌, length, get_or, take, sym, ap, ◌∙◌, subst, arith}
+use Rattle.std.proofs.Common.{◌≡◌, ℕ, ◌+◌, ◌<◌, ℤ, ◌<ℤ◌, true, List, [], ◌∷◌, ◌++◌, length, get_or, take, sym, ap, ◌∙◌, subst, arith}
 use Rattle.std.specs.Prelude.{All, map, int_lt}
 use Rattle.std.proofs.lemmas.Int.{ints}
 use Rattle.std.proofs.lemmas.Bool.{and_parts}
-use Rattle.std.proofs.lemmas.List.{length-map, length-append, take_more, take_all}
+use Rattle.std.proofs.lemmas.List.{length-map, length-append, take_more}
 use Rattle.std.proofs.lemmas.List.Elements.{All-nil, All-append, All-cons, All-head, All-tail}
 use Rattle.std.specs.List.Sorted.{IsPermutation}
 use Rattle.std.proofs.lemmas.List.Sorted.{All-permutation, length_permutation}
@@ -68,11 +68,6 @@ one_more_volume volumes count volume slabs more below is so_far next filled = re
   each = All-append IsFilled slabs more so_far.each filled.each;
   some = λ any. omega (arith, length-append slabs more, filled.some);
 }
-
-pub all_volumes : (volumes : List Block) (count : ℕ) (slabs : List Slab) → length volumes ≤ count
-    → AreSoFar (take count volumes) slabs → AreSoFar volumes slabs
-all_volumes volumes count slabs end so_far =
-    subst (λ all. AreSoFar all slabs) (take_all count volumes end) so_far
 
 -- in whatever order they stand
 pub filled_again : (slabs others : List Slab) → IsPermutation slabs others → AreFilled slabs

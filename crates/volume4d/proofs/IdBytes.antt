@@ -24,12 +24,6 @@ length-bytes_of (id ∷ ids) =
 pub cell_below : (id : ℕ) → IsCellId id → id < 2 ^ 64
 cell_below id valid = grind arith
 
--- the first eights of the bytes of ids are the ids' bytes
-pub cut_bytes_of : (ids : List ℕ) → first_chunks 8 (length ids) (bytes_of ids)
-    ≡ map (λ id. to_be_bytes w64 id) ids
-cut_bytes_of [] = refl
-cut_bytes_of (id ∷ ids) = ap (λ rest. to_be_bytes w64 id ∷ rest) (cut_bytes_of ids)
-
 -- and back: the ids are read from their bytes
 pub ids_again : (ids : List ℕ) → All IsCellId ids → ids_of (first_chunks 8 (length ids) (bytes_of ids))
     ≡ ids

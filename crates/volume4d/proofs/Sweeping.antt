@@ -126,14 +126,6 @@ module _ {A : Type 0} (slab_of : A → Slab) where
         → slabs_have mine x ≡ (slabs_have lanes x || slabs_have left x)
     pub up : Ascend (λ s. s) left
 
-  pub sweep_begins : (mine : List Slab) (theirs : List A) (lanes : List Slab) → Ascend (λ s. s) mine
-      → ((x : Point) → slabs_have lanes x ≡ false) → IsSweeping mine theirs 0 lanes mine None
-  sweep_begins mine theirs lanes up none = record {
-    met = λ x. and_last (slabs_have mine x) false;
-    rest = λ x d some later. sym (ap (λ b. b || slabs_have mine x) (none x));
-    up = up;
-  }
-
   -- one more of theirs
   pub sweep_goes_on : (mine : List Slab) (theirs : List A) (n count : ℕ) (item : A)
       (lanes left more rest : List Slab) (found next new : Option Point)
@@ -212,14 +204,6 @@ begun_stops other list n slab o below is up met late =
     first_point_same _ _ (λ x. and_last (slab_has other x) (slabs_have list x)) o
     (sweep_stops (λ s. s) (slab_has other) list n slab o below is up
     (first_point_same _ _ (λ x. and_last (slabs_have (take n list) x) (slab_has other x)) o met) late)
-
--- a slab that is over where another begins shares no point with it
-pub over_apart : (slab other : Slab) → IsOver other.first slab → (x : Point)
-    → (slab_has slab x && slab_has other x) ≡ false
-over_apart slab other over x = by_other (slab_has other x) refl where
-  by_other : (b : Bool) → slab_has other x ≡ b → (slab_has slab x && b) ≡ false
-  by_other true has = ap (λ b. b && true) (over x (begins_up_to other x has))
-  by_other false has = and_last (slab_has slab x) false
 
 any_set : (p : Slab → Bool) (list : List Slab) (place : ℕ) (new d : Slab) → place < length list
     → p (get_or list place d) ≡ false → list_any p (set list place new) ≡ (list_any p list || p new)

@@ -277,14 +277,6 @@ odd_place position positive fits =
       | inr none ↦ omega (arith, none)
     ]
 
--- each leaf is a cell, and has itself alone
-pub leaf_is_cell : (position : ℕ) → position < 6 * 2 ^ 60 → IsCellId (leaf_id_at position)
-leaf_is_cell position below =
-    let id = leaf_id_at position in
-    let place : lowest_place id ≡ 0 = odd_place position (omega arith) (omega arith) in
-    let on_face : face_of id < 6 = omega arith in
-    grind (arith, nat_tests)
-
 pub leaf_has_itself : (position p : ℕ) → position < 6 * 2 ^ 60
     → IsTrue (cell_has (leaf_id_at position) p) ↔ (p ≡ position)
 leaf_has_itself position p below =

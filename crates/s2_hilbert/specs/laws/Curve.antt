@@ -8,9 +8,6 @@ use Rattle.s2_hilbert.specs.Grid.{GridLeaf, grid_leaf, IsLeaf, side_of, GridSqua
 use Rattle.s2_hilbert.specs.Curve.{place, turn_at, position_of, grid_leaf_at, leaf_count, first_position, last_position}
 use Rattle.s2_hilbert.specs.laws.Place.{place_below, turn_below, split_at, same_point, is_point, four_pow_pos}
 
-abbrev pub whole : ℕ
-whole = 2 ^ 60
-
 -- the place of a leaf on its face's curve
 abbrev pub place_on_face : GridLeaf → ℕ
 place_on_face leaf = place 30 (leaf.face % 2) leaf.i leaf.j

@@ -18,11 +18,6 @@ pub place-suc : (n turn i j : ℕ) → place (suc n) turn i j
 unfolding place
 place-suc n turn i j = refl
 
-pub turn_at-suc : (n turn i j : ℕ) → turn_at (suc n) turn i j
-    ≡ turn_at n (turned turn (next_place n turn i j)) (i % 2 ^ n) (j % 2 ^ n)
-unfolding turn_at
-turn_at-suc n turn i j = refl
-
 pub next_below : (n turn i j : ℕ) → turn < 4 → next_place n turn i j < 4
 next_below n turn i j below = (is_quadrant turn (quadrant_of n i j) below (quadrant_below n i j)).place_below
 

@@ -29,11 +29,6 @@ greater_comm None (Some b) = refl
 greater_comm (Some a) None = refl
 greater_comm (Some a) (Some b) = ap Some (max_comm a b)
 
-pub greatest-append : (xs ys : List ℕ) → greatest (xs ++ ys) ≡ greater (greatest xs) (greatest ys)
-greatest-append [] ys = refl
-greatest-append (x ∷ xs) ys = ap (greater (Some x)) (greatest-append xs ys)
-    ∙ sym (greater_assoc (Some x) (greatest xs) (greatest ys))
-
 pub top_by-cons :
     {A : Type 0} (p : A → Bool) (f : A → ℕ) (x : A) (xs : List A)
     → top_by p f (x ∷ xs) ≡ greater (level_where (p x) (f x)) (top_by p f xs)
