@@ -15,9 +15,6 @@ ghost use Rattle.desk_line.specs.Printing.{rect_parts, told_of_token};
 ghost use Rattle.desk_line.specs.Written.{HasBegun};
 ghost use Rattle.desk_line.specs.declared.failure.Failure.TheVariants.{Memory};
 
-#[cfg(test)]
-mod tests;
-
 use crate::failure::{Failure, conclude};
 use crate::line::{Cover as CoverWords, Line};
 use cover_picture::picture_of;
