@@ -12,18 +12,19 @@ mod shown;
 mod stage;
 mod step;
 
-use crate::opening::Place;
+use crate::opening::Fused;
 use both::Both;
 use desk_tables::SqliteStore;
+use sqlite::FileStore;
 use std::alloc::Global;
 use std::io::Write;
 
 /// Plays the lines of a script.
-pub fn play<A: Place, W: Write>(
+pub fn play<D: Fused, W: Write>(
     alloc: Global,
     lines: &[String],
     output: &mut W,
 ) -> anyhow::Result<()> {
-    let mut both: Both<SqliteStore<A>> = Both::new(alloc)?;
+    let mut both: Both<SqliteStore<FileStore<D>>> = Both::new(alloc)?;
     both.play_all(lines, output)
 }

@@ -47,21 +47,21 @@ impl Display for Left {
     }
 }
 
-/// The bytes of a database file and of its log, for tables of a place.
+/// The bytes of a database file and of its log, for tables over a disk.
 #[derive(Drop)]
-pub struct Image<A> {
+pub struct Image<D> {
     log: Vec<u8>,
     database: Vec<u8>,
-    place: PhantomData<A>,
+    disk: PhantomData<D>,
 }
 
-impl<A> Image<A> {
+impl<D> Image<D> {
     /// No bytes.
-    pub fn empty(alloc: Global) -> Image<A> {
+    pub fn empty(alloc: Global) -> Image<D> {
         Image {
             log: Vec::new(alloc),
             database: Vec::new(alloc),
-            place: PhantomData,
+            disk: PhantomData,
         }
     }
 
@@ -86,7 +86,7 @@ impl<A> Image<A> {
     }
 
     /// What is left in the files.
-    pub fn left(alloc: Global, mut files: FusedFiles, left: Left) -> Result<Image<A>, AllocError> {
+    pub fn left(alloc: Global, mut files: FusedFiles, left: Left) -> Result<Image<D>, AllocError> {
         if left == Left::Synced {
             files.log.crash();
             files.db.crash();
@@ -95,11 +95,11 @@ impl<A> Image<A> {
     }
 
     // What is written in the files.
-    fn of(alloc: Global, files: &FusedFiles) -> Result<Image<A>, AllocError> {
+    fn of(alloc: Global, files: &FusedFiles) -> Result<Image<D>, AllocError> {
         Ok(Image {
             log: Vec::from_slice(alloc, files.log.inner().bytes())?,
             database: Vec::from_slice(alloc, files.db.inner().bytes())?,
-            place: PhantomData,
+            disk: PhantomData,
         })
     }
 }

@@ -1,10 +1,11 @@
 //! Stores with which a part begins.
 
 use crate::disk::no_files;
-use crate::opening::{Place, open};
+use crate::opening::{Fused, open};
 use anyhow::bail;
 use desk_store::{ListStore, PlanStore};
 use desk_tables::SqliteStore;
+use sqlite::FileStore;
 use std::alloc::Global;
 
 /// A store that can be made with no operators and no plans.
@@ -19,8 +20,8 @@ impl EmptyStore for ListStore {
     }
 }
 
-impl<A: Place> EmptyStore for SqliteStore<A> {
-    fn empty(alloc: Global) -> anyhow::Result<SqliteStore<A>> {
+impl<D: Fused> EmptyStore for SqliteStore<FileStore<D>> {
+    fn empty(alloc: Global) -> anyhow::Result<SqliteStore<FileStore<D>>> {
         match open(alloc, no_files(alloc)) {
             Ok(store) => Ok(store),
             Err(_) => bail!("no tables in memory"),

@@ -8,25 +8,26 @@ mod tally;
 
 use crate::desks::{CEILING, MOMENT, enrol};
 use crate::empty_store::EmptyStore;
-use crate::opening::Place;
+use crate::opening::Fused;
 use desk_run::Desk;
 use desk_store::{ListStore, PlanStore};
 use desk_tables::SqliteStore;
 use desk_wire::answer;
 use history::{History, operator_names};
+use sqlite::FileStore;
 use std::alloc::Global;
 use std::io::Write;
 use tally::Tally;
 
 /// Plays so many requests of the history of a seed.
-pub fn play<A: Place, W: Write>(
+pub fn play<D: Fused, W: Write>(
     alloc: Global,
     seed: u64,
     count: u64,
     output: &mut W,
 ) -> anyhow::Result<()> {
     let mut listed = Desk::new(ListStore::new(alloc));
-    let mut tabled = Desk::new(SqliteStore::<A>::empty(alloc)?);
+    let mut tabled = Desk::new(SqliteStore::<FileStore<D>>::empty(alloc)?);
     let tally = play_both(
         alloc,
         &mut listed,

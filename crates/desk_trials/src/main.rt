@@ -19,35 +19,36 @@ mod stops;
 mod texts;
 
 use anyhow::Context;
-use opening::{FilesPlace, Place};
+use opening::Fused;
 use part::Part;
+use sqlite_disk::{Fuse, Memory};
 use std::env;
 
 fn main(rt: HostRuntime) -> anyhow::Result<()> {
     let mut words = env::args(&rt)?;
     match words.nth(1) {
-        Some(name) => play::<FilesPlace>(&rt, &Part::read(&name, &mut words)?),
-        None => play_all::<FilesPlace>(&rt),
+        Some(name) => play::<Fuse<Memory>>(&rt, &Part::read(&name, &mut words)?),
+        None => play_all::<Fuse<Memory>>(&rt),
     }
 }
 
 // Plays all parts.
-fn play_all<A: Place>(rt: &HostRuntime) -> anyhow::Result<()> {
+fn play_all<D: Fused>(rt: &HostRuntime) -> anyhow::Result<()> {
     let lines = lines_read(rt)?;
     for part in &Part::all(rt.alloc())? {
-        play_with::<A>(rt, part, &lines)?;
+        play_with::<D>(rt, part, &lines)?;
     }
     Ok(())
 }
 
 // Plays a part, which reads the standard input only if it has a script.
-fn play<A: Place>(rt: &HostRuntime, part: &Part) -> anyhow::Result<()> {
+fn play<D: Fused>(rt: &HostRuntime, part: &Part) -> anyhow::Result<()> {
     let lines = if part.has_script() {
         lines_read(rt)?
     } else {
         Vec::new(rt.alloc())
     };
-    play_with::<A>(rt, part, &lines)
+    play_with::<D>(rt, part, &lines)
 }
 
 // The lines of the standard input.
@@ -60,14 +61,14 @@ fn lines_read(rt: &HostRuntime) -> anyhow::Result<Vec<String>> {
 }
 
 // Plays a part, with the lines of the standard input.
-fn play_with<A: Place>(rt: &HostRuntime, part: &Part, lines: &[String]) -> anyhow::Result<()> {
+fn play_with<D: Fused>(rt: &HostRuntime, part: &Part, lines: &[String]) -> anyhow::Result<()> {
     let mut output = rt.stdout();
     match part {
-        Part::Cases => cases::play::<A, _>(rt.alloc(), script_of(lines, "cases")?, &mut output),
+        Part::Cases => cases::play::<D, _>(rt.alloc(), script_of(lines, "cases")?, &mut output),
         Part::Histories { seed, count } => {
-            histories::play::<A, _>(rt.alloc(), *seed, *count, &mut output)
+            histories::play::<D, _>(rt.alloc(), *seed, *count, &mut output)
         }
-        Part::Stops => stops::play::<A, _>(rt.alloc(), script_of(lines, "stops")?, &mut output),
+        Part::Stops => stops::play::<D, _>(rt.alloc(), script_of(lines, "stops")?, &mut output),
         Part::Refusals => refusals::play(rt, &mut output),
         Part::Bench { keeping, sizes } => bench::play(rt, keeping, *sizes),
     }

@@ -18,7 +18,7 @@ mod tables;
 mod tally;
 mod trial;
 
-use crate::opening::Place;
+use crate::opening::Fused;
 use crate::script::is_silent;
 use line::Line;
 use std::alloc::Global;
@@ -26,12 +26,12 @@ use std::io::Write;
 use trial::Trial;
 
 /// Plays the lines of a script.
-pub fn play<A: Place, W: Write>(
+pub fn play<D: Fused, W: Write>(
     alloc: Global,
     lines: &[String],
     output: &mut W,
 ) -> anyhow::Result<()> {
-    let mut trial: Trial<A> = Trial::new(alloc);
+    let mut trial: Trial<D> = Trial::new(alloc);
     for text in lines {
         play_line(alloc, &mut trial, text, output)?;
     }
@@ -39,9 +39,9 @@ pub fn play<A: Place, W: Write>(
 }
 
 // Plays a line, which may be empty or a comment.
-fn play_line<A: Place, W: Write>(
+fn play_line<D: Fused, W: Write>(
     alloc: Global,
-    trial: &mut Trial<A>,
+    trial: &mut Trial<D>,
     text: &str,
     output: &mut W,
 ) -> anyhow::Result<()> {

@@ -4,7 +4,7 @@ ghost use Rattle.std.specs.Prelude.{◌≡◌, false, IfOk};
 
 use crate::desks::MOMENT;
 use crate::disk::{FusedFiles, Image, Left, is_stopped};
-use crate::opening::{Place, open};
+use crate::opening::{Fused, close, connect, open};
 use crate::stops::content::Content;
 use crate::stops::round::{Came, Stop, when};
 use crate::stops::tables::rows_of;
@@ -12,7 +12,7 @@ use anyhow::bail;
 use desk_run::Desk;
 use desk_tables::{OpenFault, SqliteStore};
 use desk_wire::answer;
-use sqlite::Connection;
+use sqlite::{Connection, FileStore};
 use std::alloc::Global;
 use std::fmt::{self, Display, Formatter, Write};
 
@@ -47,7 +47,10 @@ impl Display for Told {
 }
 
 // Adopts a connection: what is told, and the connection.
-fn adopted<A: Place>(alloc: Global, connection: Connection<A>) -> (Told, Connection<A>)
+fn adopted<D: Fused>(
+    alloc: Global,
+    connection: Connection<FileStore<D>>,
+) -> (Told, Connection<FileStore<D>>)
     requires settled { connection.in_transaction ≡ false }
 {
     match SqliteStore::adopt(alloc, connection) {
@@ -57,7 +60,10 @@ fn adopted<A: Place>(alloc: Global, connection: Connection<A>) -> (Told, Connect
 }
 
 // Moves what a connection shows to schema 2: what is told, and the connection.
-fn moved<A: Place>(alloc: Global, connection: Connection<A>) -> (Told, Connection<A>)
+fn moved<D: Fused>(
+    alloc: Global,
+    connection: Connection<FileStore<D>>,
+) -> (Told, Connection<FileStore<D>>)
     requires settled { connection.in_transaction ≡ false }
 {
     match SqliteStore::adopt_old(alloc, connection) {
@@ -67,23 +73,23 @@ fn moved<A: Place>(alloc: Global, connection: Connection<A>) -> (Told, Connectio
 }
 
 // A connection to files of these bytes.
-fn connect_to<A: Place>(alloc: Global, image: &Image<A>) -> anyhow::Result<Connection<A>>
+fn connect_to<D: Fused>(alloc: Global, image: &Image<D>) -> anyhow::Result<Connection<FileStore<D>>>
     ensures settled { IfOk result (λ c. c.in_transaction ≡ false) }
 {
-    match A::connect(alloc, image.files(alloc)?) {
+    match connect::<D>(alloc, image.files(alloc)?) {
         Ok(connection) => Ok(connection),
         Err(_) => bail!("the files can't be opened"),
     }
 }
 
 /// The rows in files of these bytes.
-pub fn rows_left<A: Place>(alloc: Global, image: &Image<A>) -> anyhow::Result<Content> {
+pub fn rows_left<D: Fused>(alloc: Global, image: &Image<D>) -> anyhow::Result<Content> {
     let mut connection = connect_to(alloc, image)?;
     rows_of(alloc, &mut connection)
 }
 
 // The rows in files of these bytes, and what is told if they are adopted.
-fn state_of<A: Place>(alloc: Global, image: &Image<A>) -> anyhow::Result<Content> {
+fn state_of<D: Fused>(alloc: Global, image: &Image<D>) -> anyhow::Result<Content> {
     let mut content = rows_left(alloc, image)?;
     let connection = connect_to(alloc, image)?;
     let (told, _) = adopted(alloc, connection);
@@ -92,7 +98,7 @@ fn state_of<A: Place>(alloc: Global, image: &Image<A>) -> anyhow::Result<Content
 }
 
 /// Adopts files of these bytes: what is told, and the rows that the connection shows then.
-pub fn adopt_files<A: Place>(alloc: Global, image: &Image<A>) -> anyhow::Result<(Told, Content)> {
+pub fn adopt_files<D: Fused>(alloc: Global, image: &Image<D>) -> anyhow::Result<(Told, Content)> {
     let connection = connect_to(alloc, image)?;
     let (told, mut connection) = adopted(alloc, connection);
     let rows = rows_of(alloc, &mut connection)?;
@@ -101,19 +107,19 @@ pub fn adopt_files<A: Place>(alloc: Global, image: &Image<A>) -> anyhow::Result<
 
 /// Moves files of these bytes to schema 2: what is told, the rows that the connection shows then, and what
 /// the files are.
-pub fn move_files<A: Place>(
+pub fn move_files<D: Fused>(
     alloc: Global,
-    image: &Image<A>,
-) -> anyhow::Result<(Told, Content, Image<A>)> {
+    image: &Image<D>,
+) -> anyhow::Result<(Told, Content, Image<D>)> {
     let connection = connect_to(alloc, image)?;
     let (told, mut connection) = moved(alloc, connection);
     let rows = rows_of(alloc, &mut connection)?;
-    let left = Image::left(alloc, A::close(connection), Left::Synced)?;
+    let left = Image::left(alloc, close(connection), Left::Synced)?;
     Ok((told, rows, left))
 }
 
 /// What files of these bytes hold before they are moved and afterwards.
-pub fn move_edges<A: Place>(alloc: Global, image: &Image<A>) -> anyhow::Result<(Content, Content)> {
+pub fn move_edges<D: Fused>(alloc: Global, image: &Image<D>) -> anyhow::Result<(Content, Content)> {
     let before = state_of(alloc, image)?;
     let (_, _, left) = move_files(alloc, image)?;
     let after = state_of(alloc, &left)?;
@@ -121,23 +127,23 @@ pub fn move_edges<A: Place>(alloc: Global, image: &Image<A>) -> anyhow::Result<(
 }
 
 /// Moves files of which one stops: when that came, and what is left.
-pub fn move_stopped<A: Place>(
+pub fn move_stopped<D: Fused>(
     alloc: Global,
-    image: &Image<A>,
+    image: &Image<D>,
     stop: Stop,
 ) -> anyhow::Result<(Came, Content)> {
     let files = image.stopping(alloc, stop.stopped, stop.calls)?;
-    let (came, files) = move_over::<A>(alloc, files);
-    let left: Image<A> = Image::left(alloc, files, stop.left)?;
+    let (came, files) = move_over::<D>(alloc, files);
+    let left: Image<D> = Image::left(alloc, files, stop.left)?;
     Ok((came, state_of(alloc, &left)?))
 }
 
 // Moves files: when one stopped, and the files.
-fn move_over<A: Place>(alloc: Global, files: FusedFiles) -> (Came, FusedFiles) {
-    match A::connect(alloc, files) {
+fn move_over<D: Fused>(alloc: Global, files: FusedFiles) -> (Came, FusedFiles) {
+    match connect::<D>(alloc, files) {
         Ok(connection) => {
             let (told, connection) = moved(alloc, connection);
-            let mut files = A::close(connection);
+            let mut files = close(connection);
             let came = when(is_stopped(&mut files), !told.is_refusal());
             (came, files)
         }
@@ -146,20 +152,20 @@ fn move_over<A: Place>(alloc: Global, files: FusedFiles) -> (Came, FusedFiles) {
 }
 
 /// Runs statements over files of these bytes: what they are afterwards.
-pub fn image_with<A: Place>(
+pub fn image_with<D: Fused>(
     alloc: Global,
-    image: &Image<A>,
+    image: &Image<D>,
     sql: &str,
-) -> anyhow::Result<Image<A>> {
+) -> anyhow::Result<Image<D>> {
     let mut connection = connect_to(alloc, image)?;
     connection.execute_batch(sql)?;
-    Ok(Image::left(alloc, A::close(connection), Left::Synced)?)
+    Ok(Image::left(alloc, close(connection), Left::Synced)?)
 }
 
 /// The texts that a query of one column lists, over files of these bytes.
-pub fn texts_in<A: Place>(
+pub fn texts_in<D: Fused>(
     alloc: Global,
-    image: &Image<A>,
+    image: &Image<D>,
     query: &str,
 ) -> anyhow::Result<Vec<String>> {
     let mut connection = connect_to(alloc, image)?;
@@ -171,12 +177,12 @@ pub fn texts_in<A: Place>(
 }
 
 /// What a desk over files of these bytes answers.
-pub fn answer_over<A: Place>(
+pub fn answer_over<D: Fused>(
     alloc: Global,
-    image: &Image<A>,
+    image: &Image<D>,
     text: &[u8],
 ) -> anyhow::Result<Vec<u8>> {
-    let Ok(store) = open::<A>(alloc, image.files(alloc)?) else {
+    let Ok(store) = open::<D>(alloc, image.files(alloc)?) else {
         bail!("the files can't be opened");
     };
     let mut desk = Desk::new(store);

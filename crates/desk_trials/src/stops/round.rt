@@ -1,7 +1,7 @@
 //! Rounds: a change over files of which one stops.
 
 use crate::disk::{FusedFiles, Image, Left, Stopped, is_stopped};
-use crate::opening::{Place, close_store, open};
+use crate::opening::{Fused, close_store, open};
 use crate::stops::act::Act;
 use crate::stops::applying::make;
 use crate::stops::content::Content;
@@ -29,43 +29,43 @@ pub enum Came {
 }
 
 /// Opens files of which one stops: what is left, or None if they open before that.
-pub fn open_stopped<A: Place>(
+pub fn open_stopped<D: Fused>(
     alloc: Global,
-    image: &Image<A>,
+    image: &Image<D>,
     stop: Stop,
 ) -> anyhow::Result<Option<Content>> {
     let files = image.stopping(alloc, stop.stopped, stop.calls)?;
-    match open::<A>(alloc, files) {
+    match open::<D>(alloc, files) {
         Ok(_) => Ok(None),
-        Err(files) => Ok(Some(content_left::<A>(alloc, files, stop.left)?)),
+        Err(files) => Ok(Some(content_left::<D>(alloc, files, stop.left)?)),
     }
 }
 
 /// Makes a change over files of which one stops: when that came, and what is left.
-pub fn change_stopped<A: Place>(
+pub fn change_stopped<D: Fused>(
     alloc: Global,
-    image: &Image<A>,
+    image: &Image<D>,
     act: &Act,
     stop: Stop,
 ) -> anyhow::Result<(Came, Content)> {
     let files = image.stopping(alloc, stop.stopped, stop.calls)?;
-    let (came, files) = change_over::<A>(alloc, files, act)?;
-    Ok((came, content_left::<A>(alloc, files, stop.left)?))
+    let (came, files) = change_over::<D>(alloc, files, act)?;
+    Ok((came, content_left::<D>(alloc, files, stop.left)?))
 }
 
 // What files hold after a stop.
-fn content_left<A: Place>(alloc: Global, files: FusedFiles, left: Left) -> anyhow::Result<Content> {
-    let image: Image<A> = Image::left(alloc, files, left)?;
+fn content_left<D: Fused>(alloc: Global, files: FusedFiles, left: Left) -> anyhow::Result<Content> {
+    let image: Image<D> = Image::left(alloc, files, left)?;
     content_of(alloc, &image)
 }
 
 // Makes a change over files: when one stopped, and the files.
-fn change_over<A: Place>(
+fn change_over<D: Fused>(
     alloc: Global,
     files: FusedFiles,
     act: &Act,
 ) -> anyhow::Result<(Came, FusedFiles)> {
-    match open::<A>(alloc, files) {
+    match open::<D>(alloc, files) {
         Ok(store) => {
             let (store, answered) = make(alloc, store, act);
             let mut files = close_store(store);
@@ -86,20 +86,20 @@ pub fn when(stopped: bool, answered: bool) -> Came {
 }
 
 /// What files of these bytes hold.
-pub fn content_of<A: Place>(alloc: Global, image: &Image<A>) -> anyhow::Result<Content> {
-    match open::<A>(alloc, image.files(alloc)?) {
+pub fn content_of<D: Fused>(alloc: Global, image: &Image<D>) -> anyhow::Result<Content> {
+    match open::<D>(alloc, image.files(alloc)?) {
         Ok(mut store) => Content::of(alloc, &mut store),
         Err(_) => bail!("what is left can't be opened"),
     }
 }
 
 /// Makes a change over files of these bytes, with no stop: what they are afterwards.
-pub fn image_after<A: Place>(
+pub fn image_after<D: Fused>(
     alloc: Global,
-    image: &Image<A>,
+    image: &Image<D>,
     act: &Act,
-) -> anyhow::Result<Image<A>> {
-    let Ok(store) = open::<A>(alloc, image.files(alloc)?) else {
+) -> anyhow::Result<Image<D>> {
+    let Ok(store) = open::<D>(alloc, image.files(alloc)?) else {
         bail!("the files can't be opened");
     };
     let (store, answered) = make(alloc, store, act);

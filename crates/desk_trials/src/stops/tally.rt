@@ -1,7 +1,7 @@
 //! How many stops left what.
 
 use crate::disk::Image;
-use crate::opening::Place;
+use crate::opening::Fused;
 use crate::stops::act::Act;
 use crate::stops::content::Content;
 use crate::stops::moving::move_edges;
@@ -68,7 +68,7 @@ pub struct Edges {
 
 impl Edges {
     /// Those of a change that is made over files of these bytes.
-    pub fn of<A: Place>(alloc: Global, image: &Image<A>, act: &Act) -> anyhow::Result<Edges> {
+    pub fn of<D: Fused>(alloc: Global, image: &Image<D>, act: &Act) -> anyhow::Result<Edges> {
         let before = content_of(alloc, image)?;
         let after = content_of(alloc, &image_after(alloc, image, act)?)?;
         if before == after {
@@ -80,7 +80,7 @@ impl Edges {
 
 impl Edges {
     /// Those of the move of files of these bytes to schema 2.
-    pub fn of_move<A: Place>(alloc: Global, image: &Image<A>) -> anyhow::Result<Edges> {
+    pub fn of_move<D: Fused>(alloc: Global, image: &Image<D>) -> anyhow::Result<Edges> {
         let (before, after) = move_edges(alloc, image)?;
         if before == after {
             bail!("a move that changes nothing");

@@ -1,7 +1,7 @@
 //! The trial: changes that are made, and changes that are stopped at each call of the disk.
 
 use crate::disk::{Image, Left, Stopped};
-use crate::opening::Place;
+use crate::opening::Fused;
 use crate::stops::act::Act;
 use crate::stops::content::Content;
 use crate::stops::line::Line;
@@ -28,8 +28,8 @@ const WAYS: [(Stopped, Left); 4] = [
 
 /// The files with which each stopped change begins.
 #[derive(Drop)]
-pub struct Trial<A> {
-    image: Image<A>,
+pub struct Trial<D> {
+    image: Image<D>,
     // how many calls of each file it takes to open them, or less
     opening: Opening,
     alloc: Global,
@@ -41,9 +41,9 @@ struct Opening {
     database: u64,
 }
 
-impl<A: Place> Trial<A> {
+impl<D: Fused> Trial<D> {
     /// Files with no bytes.
-    pub fn new(alloc: Global) -> Trial<A> {
+    pub fn new(alloc: Global) -> Trial<D> {
         Trial {
             image: Image::empty(alloc),
             opening: Opening::unknown(),
