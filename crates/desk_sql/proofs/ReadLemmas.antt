@@ -99,10 +99,6 @@ module _ {S : Type 0} (g : Ghosts S) (old new : Held S) where
       let back = h.undone live in
       record { was_open = was; now = back.0 ∙ sym (settled was); committed = back.1 }
 
-  module _ {V : Type 0} (items : V → List Row) (text : List ℕ) (params : Row)
-      (plain : Holds g old (λ db. IsPlain (understood db.schema text)))
-      (settled : IsTrue (state g old).is_open → (state g old).now ≡ (state g old).committed) where
-
 -- an answer comes from an open connection alone
 pub open_if : {V : Type 0} (items : V → List Row) (text : List ℕ) (params : Row) (old new : State)
     (r : Result V Error) → IfOk r (λ v. Shown text params old new (items v))

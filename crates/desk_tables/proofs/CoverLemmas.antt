@@ -18,9 +18,6 @@ pub record IsAfter (p : Filed) (area : List Block) (rows : List Row) (i : ℕ) (
     pub same : (x : List Row) → (rows ≡ rows_from cover_row p 0 area ++ x)
         ↔ (rest ≡ rows_from cover_row p i (drop i area) ++ x)
 
-module _ (p : Filed) (area : List Block) (rows : List Row) (i : ℕ) (rest : List Row) (v : Block)
-    (here : drop i area ≡ v ∷ drop (i + 1) area) (before : IsAfter p area rows i rest) where
-
 -- the rows are covers of all plans if and only if those that are left are covers of the others
 pub record Agreeing (plans : List Filed) (rows : List Row) (others : List Filed) (left : List Row) : Type 0
   where

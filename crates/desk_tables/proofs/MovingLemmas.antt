@@ -173,8 +173,6 @@ more_plans ps p all is a b c first last =
 abbrev pub AllIf : {A : Type 0} → (A → Type 0) → List A → List A → Type 0
 AllIf P all left = AllByRecursion P all ↔ AllByRecursion P left
 
-module _ {A : Type 0} (P : A → Type 0) (all : List A) where
-
 -- ---- the limits of schema 1
 
 -- a rectangle is within them if its canonical cover is
