@@ -98,7 +98,8 @@ def city(count):
 
 def strips(count):
     """Plans on one ground at altitudes of their own, each of 32 strips, one above the other, of one column."""
-    column = {"face": 0, "i_min": COLUMN, "i_max": COLUMN, "j_min": FIRST_ROW, "j_max": FIRST_ROW + ROWS - 1, "level": 24}
+    rows = {"j_min": FIRST_ROW, "j_max": FIRST_ROW + ROWS - 1}
+    column = {"face": 0, "i_min": COLUMN, "i_max": COLUMN, **rows, "level": 24}
     for number in range(count):
         lowers = range(320 * number, 320 * (number + 1), 10)
         yield put("op0", uuid.UUID(int=number + 1), [volume({"rectangle": column}, at, at + 10) for at in lowers])
