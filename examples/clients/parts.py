@@ -24,6 +24,13 @@ MESSAGES = TOP / "examples" / "clients" / "interuss"
 FIELD = [(8.5400, 47.3700), (8.5560, 47.3690), (8.5600, 47.3790), (8.5480, 47.3830), (8.5390, 47.3780)]
 WOOD = [(8.5500, 47.3750), (8.5700, 47.3740), (8.5690, 47.3850), (8.5520, 47.3860)]
 FAR = [(8.7000, 47.5000), (8.7100, 47.5000), (8.7100, 47.5060), (8.7000, 47.5060)]
+CELL = "479aa0a5c"
+"""A cell within FIELD, 300 m wide."""
+BEGINNING = [(-45.010, -35.272), (-44.988, -35.271), (-44.990, -35.255), (-45.011, -35.258)]
+AROUND_IT = [(-45.004, -35.267), (-44.980, -35.266), (-44.982, -35.249), (-45.003, -35.252)]
+"""Two polygons around the place where the curve of all leaves begins, on three faces."""
+EARTH = 6_371_000
+"""Metres: its mean radius."""
 
 
 def run(only, count, seed):
@@ -83,18 +90,34 @@ def random_bodies(checks, count, seed):
 # ---- the client
 
 def metres_from(ring, conflict):
-    """How far a conflict lies from a polygon; 0 within it."""
+    """How far a conflict's leaf, by its centre, lies from a polygon; 0 within it."""
     loop = s2.S2Loop()
     loop.Init([s2.S2LatLng.FromDegrees(latitude, longitude).ToPoint() for longitude, latitude in ring])
     loop.Normalize()
     place = s2.S2LatLng.FromDegrees(conflict.latitude, conflict.longitude).ToPoint()
-    return 0.0 if loop.Contains(place) else loop.GetDistance(place).radians() * 6_371_000
+    return 0.0 if loop.Contains(place) else loop.GetDistance(place).radians() * EARTH
 
 
-def has_leaf(area, conflict):
+def cells_with_leaf(area, conflict):
+    """The cells of an area that have a conflict's leaf."""
     leaf = id_of(conflict.cell)
-    return any(least <= leaf <= greatest for volume in area for cell in volume.cells
-               for least, greatest in [leaves_of(id_of(cell))])
+    return [cell for volume in area for cell in volume.cells for least, greatest in [leaves_of(id_of(cell))]
+            if least <= leaf <= greatest]
+
+
+def size_of(cell):
+    """The metres from one corner of a cell to the farthest other one."""
+    corners = [s2.S2Cell(s2.S2CellId.FromToken(cell)).GetS2LatLngVertex(at) for at in range(4)]
+    return max(one.GetDistance(other).radians() for one in corners for other in corners) * EARTH
+
+
+def along_grid(cell):
+    """A polygon some millimetres within the edges of a cell, so that its cover is this cell."""
+    middle = s2.S2CellId.FromToken(cell).ToLatLng()
+    corners = [s2.S2Cell(s2.S2CellId.FromToken(cell)).GetS2LatLngVertex(at) for at in range(4)]
+    return [tuple(corner + (centre - corner) * 1e-5 for corner, centre in (
+        (place.lng().degrees(), middle.lng().degrees()), (place.lat().degrees(), middle.lat().degrees())))
+        for place in corners]
 
 
 def through_client(checks, setting):
@@ -131,17 +154,29 @@ def blocked_for_another(checks, alfa, bravo, field):
     checks.told("blocked", ("Rejected", "NotPlanned", "conflict"), (*result_of(answer), answer.note))
     conflict = answer.conflict
     checks.told("blocked from", (100.0, at(12, 30), 10), (conflict.altitude_metres, conflict.time, conflict.priority))
-    checks.holds("the leaf lies in both covers", has_leaf(field, conflict) and has_leaf(wood, conflict))
-    closely = [area_of(Polygon(ring), (60, 120), at(20), at(21), 1_000) for ring in (FIELD, WOOD)]
-    checks.told("planned closely", "Completed", alfa.plan(new_id(), closely[0], 10).result)
-    conflict = bravo.try_plan(closely[1], 10).conflict
-    checks.holds("the leaf lies in both polygons, but for a cell's width",
-                 max(metres_from(ring, conflict) for ring in (FIELD, WOOD)) < 25)
-    checks.told("the close plan is cleared", 1, alfa.clear(closely[0][:1]).count)
+    for ring, area in ((FIELD, field), (WOOD, wood)):
+        cells = cells_with_leaf(area, conflict)
+        checks.holds("the leaf lies in both covers", cells)
+        checks.holds("the leaf lies at most a cell's size outside of both polygons",
+                     metres_from(ring, conflict) <= max(map(size_of, cells), default=0))
+    in_both_polygons(checks, alfa, bravo)
     reasons = why(bravo, wood, 10)
     both = {cell for cell in wood[0].cells if any(meets(cell, other) for other in field[0].cells)}
     checks.told("why tells the cells that meet", both, set(reasons.blocked_cells))
     checks.told("over it", "Completed", bravo.try_plan(wood, 11).result)
+
+
+def in_both_polygons(checks, alfa, bravo):
+    """The blocked leaf lies in both polygons. Before it on the curve, a centimetre away, comes a leaf that isn't in
+    both covers: so this is tried where a polygon's edge is that of its cover, and where no leaf comes before."""
+    for name, one, other in (("a field along the grid", along_grid(CELL), FIELD),
+                             ("the curve's beginning", BEGINNING, AROUND_IT)):
+        areas = [area_of(Polygon(ring), (60, 120), at(20), at(21)) for ring in (one, other)]
+        checks.told(f"{name}: planned", "Completed", alfa.plan(new_id(), areas[0], 10).result)
+        conflict = bravo.try_plan(areas[1], 10).conflict
+        checks.told(f"{name}: the leaf lies in both polygons", [0.0, 0.0],
+                    [metres_from(ring, conflict) for ring in (one, other)])
+        checks.told(f"{name}: cleared", 1, alfa.clear(areas[0]).count)
 
 
 def meets(cell, other):
