@@ -36,6 +36,16 @@ def in_second(*path):
     return ("flight_plan", "basic_information", "area", 1, *path)
 
 
+def test_a_body_is_as_large_as_it_is_sent():
+    """The limit is 131,072 bytes, and the client sends no blanks."""
+    body = {**BODY, "x": [0] * 50_000}
+    text = json.dumps(body, separators=(",", ":"))
+    body["y"] = "z" * (131_072 - len(text) - len(',"y":""'))
+    assert len(json.dumps(body, separators=(",", ":"))) == 131_072 and check(body) is None
+    body["y"] += "z"
+    assert check(body).word == "too_large"
+
+
 def test_a_good_body():
     assert check(BODY) is None
     assert check(json.dumps(BODY).encode(), moment=MOMENT, ceiling=10, stored="NotPlanned") is None
