@@ -17,7 +17,8 @@ import pywraps2 as s2
 
 from clients.bodies import MOMENT, bodies
 from clients.running import DESK, OPERATORS, TOP, Checks, Setting, asked, at, play
-from uss_desk_client import Circle, Desk, Polygon, Refused, Volume, area_of, area_over, cells_of, check, check_clear, new_id, why
+from uss_desk_client import Circle, Desk, Polygon, Refused, Volume, area_of, area_over, cells_of, check, check_clear
+from uss_desk_client import new_id, why
 from uss_desk_client.tokens import id_of, leaves_of
 
 MESSAGES = TOP / "examples" / "clients" / "interuss"
@@ -264,15 +265,37 @@ def described(status):
 # ---- what docs/CLIENTS.md has
 
 def page(checks, setting):
-    """The first lines of Python of docs/CLIENTS.md, asked of this desk for tomorrow."""
+    """The lines of Python and those of the terminal that docs/CLIENTS.md begins with, asked of this desk."""
     text = (TOP / "docs" / "CLIENTS.md").read_text(encoding="utf-8")
     lines = text.split("```python\n")[1].split("```")[0]
-    lines = lines.replace("https://DESK", setting.url).replace('password=".."', 'password="a"')
     printed, names = io.StringIO(), {}
     with contextlib.redirect_stdout(printed):
-        exec(lines.replace("2026-06-01", f"{at(0):%Y-%m-%d}"), names)
+        exec(lines.replace('"http://127.0.0.1:8080", operator="alfa"', f'"{setting.url}", user="alfa", password="a"'), names)
     checks.told("the page's lines", "Completed, Planned\n", printed.getvalue())
     checks.told("the page's plan", "Closed", names["desk"].show(names["plan_id"]).status)
+    lines = [line[4:] for line in text.split("The same from a terminal")[1].split("## When it is refused")[0].splitlines()
+             if line.startswith("    ")]
+    at_list = next(at for at, line in enumerate(lines) if line.endswith(" list"))
+    status, output = in_shell(setting, lines[1:at_list])
+    plan_id, _, told = output.partition("  ")
+    checks.told("the page's plan in a terminal", (0, "Completed, OkToFly\n"), (status, told))
+    status, output = in_shell(setting, lines[at_list:], plan_id)
+    checks.told("the page's list, show and close", (0, ["no conflict", f"{plan_id}  Completed, Closed"]),
+                (status, output.splitlines()[-2:]))
+
+
+def in_shell(setting, lines, plan_id=""):
+    """The exit status and the output of lines of a terminal, asked as alfa of this desk."""
+    ran = subprocess.run(["bash", "-e"], input="\n".join(["python3() { \"$PYTHON\" \"$@\"; }", *lines]).replace(" ID", f" {plan_id}"),
+                         capture_output=True, text=True, timeout=120, check=False, cwd=setting.folder, env={
+                             **os.environ, **environment(setting, "alfa"), "PYTHON": sys.executable})
+    return ran.returncode, ran.stdout
+
+
+def environment(setting, name):
+    """What a terminal has, to ask as an operator of this desk."""
+    return {"PYTHONPATH": str(TOP / "clients" / "python"), "USS_DESK_URL": setting.url, "USS_DESK_USER": name,
+            "USS_DESK_PASSWORD": OPERATORS[name], "PYTHONDONTWRITEBYTECODE": "1"}
 
 
 def command_line(checks, setting):
@@ -306,9 +329,7 @@ def command_line(checks, setting):
 def uss_plan(setting, name, *words):
     """The exit status and the output of a line."""
     ran = subprocess.run([sys.executable, "-m", "uss_desk_client", *words], capture_output=True, text=True, timeout=120,
-                         check=False, cwd=setting.folder, env={
-                             **os.environ, "PYTHONPATH": str(TOP / "clients" / "python"), "USS_DESK_URL": setting.url,
-                             "USS_DESK_USER": name, "USS_DESK_PASSWORD": OPERATORS[name], "PYTHONDONTWRITEBYTECODE": "1"})
+                         check=False, cwd=setting.folder, env={**os.environ, **environment(setting, name)})
     return ran.returncode, ran.stdout
 
 

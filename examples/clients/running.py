@@ -160,7 +160,7 @@ class Setting:
 
 def asked(method, url, body):
     """The status and the body of an answer; requests of the bridge alone."""
-    request = urllib.request.Request(url, method=method, data=body)
+    request = urllib.request.Request(url, method=method, data=body, headers={"content-type": "application/json"})
     try:
         with urllib.request.urlopen(request, timeout=PATIENCE) as answer:
             return answer.status, answer.read()

@@ -5,13 +5,14 @@ README.md beside this package says member by member what becomes of what.
 from __future__ import annotations
 
 import json
-from decimal import Decimal
+from decimal import Decimal, InvalidOperation
 from typing import Any, Dict, List, Mapping, NamedTuple, Optional, Sequence, Tuple
 
 from uss_desk_client import Answer, AreaError, Circle, Polygon, ShapeError, UnitError, Volume, area_of
 from uss_desk_client import limits
 from uss_desk_client.shapes import Shape
-from uss_desk_client.units import Metres, decimetres_down, decimetres_up, read_time, second_down, second_up
+from uss_desk_client.units import MOST_METRES, Metres, decimetres_down, decimetres_up, read_time, second_down
+from uss_desk_client.units import second_up
 
 STYLES = ("Hypothetical", "IfAllowed", "InReality")
 USAGES = ("Planned", "InUse", "Closed")
@@ -57,10 +58,17 @@ def no_constant(word: str) -> Any:
     raise ValueError(f"{word} is no number")
 
 
+def decimal_of(digits: str) -> Decimal:
+    try:
+        return Decimal(digits)
+    except InvalidOperation:
+        raise ValueError(f"{digits[:20]} has too large an exponent") from None
+
+
 def read_object(data: bytes) -> Mapping[str, Any]:
     """The object that a body is. Numbers with a point are kept as they were written."""
     try:
-        value = json.loads(data.decode("utf-8"), parse_float=Decimal, parse_constant=no_constant)
+        value = json.loads(data.decode("utf-8"), parse_float=decimal_of, parse_constant=no_constant)
     except (ValueError, RecursionError) as wrong:
         raise Malformed(f"the body is no JSON: {wrong}") from None
     if not isinstance(value, dict):
@@ -87,6 +95,8 @@ def number(value: Mapping[str, Any], name: str, path: str) -> Metres:
     found = value.get(name)
     if isinstance(found, bool) or not isinstance(found, (int, Decimal)):
         raise Malformed(f"{path} is no number")
+    if Decimal(found).copy_abs() > MOST_METRES:
+        raise Malformed(f"{path} is above {MOST_METRES:,}")
     return found
 
 

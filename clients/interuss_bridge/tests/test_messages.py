@@ -1,6 +1,7 @@
 """What messages ask, member by member, with the numbers written by hand; README.md says the same."""
 import copy
 import json
+import random
 
 import pytest
 
@@ -95,10 +96,50 @@ def test_what_the_desk_has_no_words_for(path, value, told):
         asked(put(path, value))
 
 
-@pytest.mark.parametrize("data", [b"", b"[]", b"{", b"\xff", b'{"a":NaN}'])
+@pytest.mark.parametrize("data", [b"", b"[]", b"{", b"\xff", b'{"a":NaN}', b'{"a":1e99999999999999999999}', b"[" * 9_999])
 def test_no_objects(data):
     with pytest.raises(Malformed):
         read_object(data)
+
+
+@pytest.mark.parametrize("number", ["1e400", "1e999999999", "1" * 400, "-1e10"])
+@pytest.mark.parametrize("path", [
+    (*AREA, "volume", "altitude_upper", "value"), (*AREA, "volume", "outline_polygon", "vertices", 0, "lng")])
+def test_huge_numbers(path, number):
+    with pytest.raises(Malformed, match="above 1,000,000,000"):
+        upsert_of(read_object(json.dumps(put(path, "NUMBER")).replace('"NUMBER"', number).encode()))
+
+
+def places(value, path=()):
+    """The paths of all members and items of a value."""
+    for name, part in value.items() if isinstance(value, dict) else enumerate(value) if isinstance(value, list) else ():
+        yield (*path, name)
+        yield from places(part, (*path, name))
+
+
+ODD = [None, True, 0, -1, 91, 1e9, 1e-300, 2**70, "", "x", [], {}, [[]], [{}], {"value": 1}, "W84", "1970-01-01T00:00:00Z",
+       "9999-12-31T23:59:59Z", "\ud800", [VOLUME] * 40, {"lat": 0, "lng": 0}]
+
+
+@pytest.mark.parametrize("seed", range(300))
+def test_whatever_comes_is_read_or_refused(seed):
+    some = random.Random(seed)
+    message = copy.deepcopy({**MESSAGE, "extent": VOLUME})
+    if some.random() < 0.3:
+        message["extent"]["volume"]["outline_circle"] = {
+            "center": {"lat": 47, "lng": 8}, "radius": {"value": 300, "units": "M"}}
+        del message["extent"]["volume"]["outline_polygon"]
+    for _ in range(some.choice([1, 1, 2, 3])):
+        *before, last = some.choice(list(places(message)))
+        holder = message
+        for name in before:
+            holder = holder[name]
+        holder[last] = copy.deepcopy(some.choice(ODD))
+    for read in (upsert_of, extent_of):
+        try:
+            read(read_object(json.dumps(message).encode()))
+        except (Malformed, NotSupported) as refused:
+            assert str(refused)
 
 
 def test_a_circle_and_30_hours():
