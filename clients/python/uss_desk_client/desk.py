@@ -184,9 +184,9 @@ class Desk:
 
     # ---- what is asked
 
-    def status(self) -> str:
-        """`Ready`."""
-        return told(lambda value: str(value["status"]), self._read("/status"))
+    def status(self, patience: Optional[float] = None) -> str:
+        """`Ready`; a NoAnswer if the desk doesn't answer within the patience, or another number of seconds."""
+        return told(lambda value: str(value["status"]), self._read("/status", patience))
 
     def plan(self, plan_id: str, area: Sequence[Volume], priority: int = 0) -> Answer:
         """Plans a flight under an id of the caller's choice (`new_id`), or replaces a planned one."""
@@ -270,8 +270,8 @@ class Desk:
             stored.area if area is None else area, usage, aircraft,
             stored.priority if priority is None else priority, "IfAllowed"))
 
-    def _read(self, path: str) -> Any:
-        return self._object(self._again("GET", path, None)[0], path)
+    def _read(self, path: str, patience: Optional[float] = None) -> Any:
+        return self._object(self._again("GET", path, None, patience)[0], path)
 
     def _find(self, plan_id: str, until: Deadline) -> Optional[Plan]:
         """The plan as it is stored, or None if there is none or it couldn't be told."""
@@ -281,9 +281,10 @@ class Desk:
             return None
         return told(Plan.from_answer, self._object(tried, path))
 
-    def _again(self, method: str, path: str, body: Optional[Mapping[str, Any]]) -> Tuple[Response, bool]:
+    def _again(self, method: str, path: str, body: Optional[Mapping[str, Any]],
+               patience: Optional[float] = None) -> Tuple[Response, bool]:
         """The answer to a request that may be asked any number of times, and whether an earlier one was lost."""
-        until = Deadline(self._patience)
+        until = Deadline(self._patience if patience is None else patience)
         was_lost = False
         while True:
             tried = self._try(method, path, body, until)
