@@ -53,8 +53,8 @@ def run(only, count, seed):
 
 
 def tests(checks):
-    """The tests of both packages."""
-    for name in ("python", "interuss_bridge"):
+    """The tests of each package."""
+    for name in ("python", "interuss_bridge", "mock_desk"):
         words = [sys.executable, "-m", "pytest", "-q", "-p", "no:cacheprovider"]
         ran = subprocess.run(words, cwd=TOP / "clients" / name, capture_output=True, text=True, check=False,
                              env={**os.environ, "PYTHONDONTWRITEBYTECODE": "1"})
