@@ -239,8 +239,8 @@ def proxy(checks, setting):
     refused = [answer for answer in flood if answer[0] != 200]
     checks.told("nginx: too many requests", {(429, "too_many_requests", "5")},
                 {(status, value["error"], after) for status, value, _, after in refused})
-    checks.holds("openapi.json has 429, 502, 504", all(
-        word in described(status) for status, word in ((429, "too_many_requests"), (502, "bad_gateway"), (504, "gateway_timeout"))))
+    words = {429: "too_many_requests", 502: "bad_gateway", 504: "gateway_timeout"}
+    checks.holds("openapi.json has 429, 502, 504", all(word in described(status) for status, word in words.items()))
 
 
 def raw(setting, method, path, fields, body):
@@ -249,7 +249,8 @@ def raw(setting, method, path, fields, body):
     try:
         connection.request(method, path, body=body, headers=fields)
         answer = connection.getresponse()
-        return answer.status, json.loads(answer.read()), answer.getheader("content-type"), answer.getheader("retry-after")
+        value = json.loads(answer.read())
+        return answer.status, value, answer.getheader("content-type"), answer.getheader("retry-after")
     finally:
         connection.close()
 
@@ -268,13 +269,14 @@ def page(checks, setting):
     """The lines of Python and those of the terminal that docs/CLIENTS.md begins with, asked of this desk."""
     text = (TOP / "docs" / "CLIENTS.md").read_text(encoding="utf-8")
     lines = text.split("```python\n")[1].split("```")[0]
+    lines = lines.replace('"http://127.0.0.1:8080", operator="alfa"', f'"{setting.url}", user="alfa", password="a"')
     printed, names = io.StringIO(), {}
     with contextlib.redirect_stdout(printed):
-        exec(lines.replace('"http://127.0.0.1:8080", operator="alfa"', f'"{setting.url}", user="alfa", password="a"'), names)
+        exec(lines, names)
     checks.told("the page's lines", "Completed, Planned\n", printed.getvalue())
     checks.told("the page's plan", "Closed", names["desk"].show(names["plan_id"]).status)
-    lines = [line[4:] for line in text.split("The same from a terminal")[1].split("## When it is refused")[0].splitlines()
-             if line.startswith("    ")]
+    text = text.split("The same from a terminal")[1].split("## When it is refused")[0]
+    lines = [line[4:] for line in text.splitlines() if line.startswith("    ")]
     at_list = next(at for at, line in enumerate(lines) if line.endswith(" list"))
     status, output = in_shell(setting, lines[1:at_list])
     plan_id, _, told = output.partition("  ")
@@ -286,9 +288,10 @@ def page(checks, setting):
 
 def in_shell(setting, lines, plan_id=""):
     """The exit status and the output of lines of a terminal, asked as alfa of this desk."""
-    ran = subprocess.run(["bash", "-e"], input="\n".join(["python3() { \"$PYTHON\" \"$@\"; }", *lines]).replace(" ID", f" {plan_id}"),
-                         capture_output=True, text=True, timeout=120, check=False, cwd=setting.folder, env={
-                             **os.environ, **environment(setting, "alfa"), "PYTHON": sys.executable})
+    script = "\n".join(['python3() { "$PYTHON" "$@"; }', *lines]).replace(" ID", f" {plan_id}")
+    ran = subprocess.run(["bash", "-e"], input=script, capture_output=True, text=True, timeout=120, check=False,
+                         cwd=setting.folder,
+                         env={**os.environ, **environment(setting, "alfa"), "PYTHON": sys.executable})
     return ran.returncode, ran.stdout
 
 
@@ -303,18 +306,22 @@ def command_line(checks, setting):
     field = setting.folder / "field.geojson"
     ring = [list(place) for place in (*FIELD, FIELD[0])]
     field.write_text(json.dumps({"type": "Feature", "geometry": {"type": "Polygon", "coordinates": [ring]}}))
-    flight = ["--altitude", "60", "120", "--from", f"{at(15):%Y-%m-%dT%H:%M:%SZ}", "--to", f"{at(16):%Y-%m-%dT%H:%M:%SZ}"]
-    status, output = uss_plan(setting, "carol", "plan", "--polygon", str(field), *flight, "--priority", "30", "--activate")
+    day = f"{at(0):%Y-%m-%d}"
+    flight = ["--altitude", "60", "120", "--from", f"{day}T15:00:00Z", "--to", f"{day}T16:00:00Z"]
+    higher = [*flight, "--priority", "30", "--activate"]
+    status, output = uss_plan(setting, "carol", "plan", "--polygon", str(field), *higher)
     plan_id, _, told = output.partition("  ")
     checks.told("uss-plan plan", (0, "Completed, OkToFly\n"), (status, told))
     status, output = uss_plan(setting, "bravo", "plan", "--polygon", str(field), *flight)
-    checks.told("uss-plan blocked", (1, True), (status, "Rejected, NotPlanned: conflict (priority 30 at 47.3" in output))
+    checks.told("uss-plan blocked", (1, True),
+                (status, "Rejected, NotPlanned: conflict (priority 30 at 47.3" in output))
     status, output = uss_plan(setting, "carol", "list")
     checks.told("uss-plan list", (0, ["OkToFly"]), (status, [line.split()[1] for line in output.splitlines()[1:]]))
     status, output = uss_plan(setting, "carol", "show", plan_id)
     checks.told("uss-plan show", (0, "no conflict"), (status, output.splitlines()[-1]))
     picture, cells = setting.folder / "why.svg", setting.folder / "why.geojson"
-    status, output = uss_plan(setting, "bravo", "why", str(field), *flight, "--picture", str(picture), "--geojson", str(cells))
+    drawn = ["--picture", str(picture), "--geojson", str(cells)]
+    status, output = uss_plan(setting, "bravo", "why", str(field), *flight, *drawn)
     checks.told("uss-plan why", (1, "A flight of priority 0 is blocked in"), (status, output[:36]))
     minidom.parse(str(picture))
     states = {one["properties"]["state"] for one in json.loads(cells.read_text())["features"]}
@@ -397,8 +404,9 @@ def killed(checks, setting):
     """Plans, changes and closes at the desk's own port, while it is killed and started again: what was answered is
     there, once."""
     alfa, wanted, results = setting.desk_itself("alfa"), {}, []
-    for begin in (0, 24, 48):
-        alfa.clear(area_over(["1", "3", "5", "7", "9", "b"], -10_000, 200_000, second(at(begin)), second(at(begin + 24))))
+    faces = ["1", "3", "5", "7", "9", "b"]
+    for begin in (-24, 0, 24, 48):
+        alfa.clear(area_over(faces, -10_000, 200_000, second(at(begin)), second(at(begin + 24))))
     checks.told("before the kills", 0, len(alfa.plans()))
     starts = setting.starts
     with Killer(setting) as killer:

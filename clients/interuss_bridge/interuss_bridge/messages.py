@@ -170,7 +170,7 @@ def parts_of(volume: Any, path: str) -> Tuple[Shape, Altitudes, Times]:
     if not isinstance(volume, dict):
         raise Malformed(f"{path} is no object")
     inner = member(volume, "volume", f"{path}.volume")
-    altitudes = tuple(altitude_of(inner, name, f"{path}.volume.{name}") for name in ("altitude_lower", "altitude_upper"))
+    altitudes = [altitude_of(inner, name, f"{path}.volume.{name}") for name in ("altitude_lower", "altitude_upper")]
     times = [time_of(volume, name, f"{path}.{name}") for name in ("time_start", "time_end")]
     shape = outline_of(inner, f"{path}.volume")
     if times[0] is None or times[1] is None:

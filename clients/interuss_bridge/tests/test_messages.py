@@ -10,7 +10,8 @@ from uss_desk_client import Answer, Conflict
 
 VOLUME = {
     "volume": {
-        "outline_polygon": {"vertices": [{"lat": 47.0, "lng": 8.0}, {"lat": 47.0, "lng": 8.01}, {"lat": 47.01, "lng": 8.01}]},
+        "outline_polygon": {"vertices": [
+            {"lat": 47.0, "lng": 8.0}, {"lat": 47.0, "lng": 8.01}, {"lat": 47.01, "lng": 8.01}]},
         "altitude_lower": {"value": 60.05, "reference": "W84", "units": "M"},
         "altitude_upper": {"value": 120, "reference": "W84", "units": "M"},
     },
@@ -96,7 +97,8 @@ def test_what_the_desk_has_no_words_for(path, value, told):
         asked(put(path, value))
 
 
-@pytest.mark.parametrize("data", [b"", b"[]", b"{", b"\xff", b'{"a":NaN}', b'{"a":1e99999999999999999999}', b"[" * 9_999])
+@pytest.mark.parametrize("data", [b"", b"[]", b"{", b"\xff", b'{"a":NaN}', b'{"a":1e99999999999999999999}',
+                                  b"[" * 9_999])
 def test_no_objects(data):
     with pytest.raises(Malformed):
         read_object(data)
@@ -117,8 +119,8 @@ def places(value, path=()):
         yield from places(part, (*path, name))
 
 
-ODD = [None, True, 0, -1, 91, 1e9, 1e-300, 2**70, "", "x", [], {}, [[]], [{}], {"value": 1}, "W84", "1970-01-01T00:00:00Z",
-       "9999-12-31T23:59:59Z", "\ud800", [VOLUME] * 40, {"lat": 0, "lng": 0}]
+ODD = [None, True, 0, -1, 91, 1e9, 1e-300, 2**70, "", "x", [], {}, [[]], [{}], {"value": 1}, "W84",
+       "1970-01-01T00:00:00Z", "9999-12-31T23:59:59Z", "\ud800", [VOLUME] * 40, {"lat": 0, "lng": 0}]
 
 
 @pytest.mark.parametrize("seed", range(300))
@@ -166,5 +168,6 @@ def test_answers():
                     "includes_advisories": "NoAdvisoriesOrConditions"}
     blocked = Answer("Rejected", "NotPlanned", "conflict", Conflict("0000000000000001", 600, NOON, 30))
     told = response_of(blocked, True)
-    assert told["has_conflict"] is True and told["notes"].startswith("conflict (priority 30 at -35.264390 -45.000000, 60 m")
+    assert told["has_conflict"] is True
+    assert told["notes"].startswith("conflict (priority 30 at -35.264390 -45.000000, 60 m")
     assert response_of(Answer("Completed", "Planned"), True)["has_conflict"] is False

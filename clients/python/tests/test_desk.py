@@ -188,7 +188,8 @@ def test_a_refusal_is_told_once():
     _, desk = asks((400, {"error": "bad_volume"}), (403, {"error": "unknown_operator"}))
     with pytest.raises(Refused) as refused:
         desk.plan(ID, [Volume(("x",), 0, 1, 0, 1)])
-    assert str(refused.value) == "400 bad_volume: volume 0: volume.cells[0]: the token of an S2 cell, 1 to 16 hex digits"
+    assert str(refused.value) == (
+        "400 bad_volume: volume 0: volume.cells[0]: the token of an S2 cell, 1 to 16 hex digits")
     with pytest.raises(Refused) as refused:
         desk.plan(ID, AREA)
     assert str(refused.value) == "403 unknown_operator: the operator isn't enrolled: ask the keeper of the desk"

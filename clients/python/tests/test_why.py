@@ -69,9 +69,10 @@ def test_pictures_and_geojson():
 
 def reasons_of(cells, priority_of):
     """All cells blocked, each at its first leaf, at a priority that is told by its number."""
-    asked = volume(cells)
-    return Reasons((asked,), 10, tuple(Blocked(cell, asked, Conflict(f"{leaves_of(id_of(cell))[0]:016x}", 600, 5, priority_of(at)))
-                                       for at, cell in enumerate(cells)), len(cells))
+    asked, leaves = volume(cells), [f"{leaves_of(id_of(cell))[0]:016x}" for cell in cells]
+    return Reasons((asked,), 10, tuple(
+        Blocked(cell, asked, Conflict(leaf, 600, 5, priority_of(at)))
+        for at, (cell, leaf) in enumerate(zip(cells, leaves))), len(cells))
 
 
 def texts_of(picture):
@@ -118,13 +119,15 @@ def test_shapes_of_geojson():
 
 
 @pytest.mark.parametrize("token, number, level", [
-    ("1", 1 << 60, 0), ("B", 0xB << 60, 0), ("04", 0x04 << 56, 1), ("0000000000000001", 1, 30), ("04000000", 1 << 58, 1)])
+    ("1", 1 << 60, 0), ("B", 0xB << 60, 0), ("04", 0x04 << 56, 1), ("0000000000000001", 1, 30),
+    ("04000000", 1 << 58, 1)])
 def test_tokens(token, number, level):
     assert id_of(token) == number and level_of(number) == level
     assert id_of(token_of(number)) == number
 
 
-@pytest.mark.parametrize("token", ["", "0", "2", "c", "d", "f", "x", "00000000000000001", "0000000000000002", " 1", "1\n"])
+@pytest.mark.parametrize("token", ["", "0", "2", "c", "d", "f", "x", "00000000000000001", "0000000000000002", " 1",
+                                   "1\n"])
 def test_no_tokens(token):
     assert id_of(token) is None
 
@@ -134,7 +137,8 @@ def test_leaves():
 
 
 @pytest.mark.parametrize("tokens, at_most, found", [
-    (["1"], 1, ["1"]), (["1"], 3, ["1"]), (["1"], 4, ["04", "0c", "14", "1c"]), (["0000000000000001"], 9, ["0000000000000001"]),
+    (["1"], 1, ["1"]), (["1"], 3, ["1"]), (["1"], 4, ["04", "0c", "14", "1c"]),
+    (["0000000000000001"], 9, ["0000000000000001"]),
     (["1", "3"], 5, ["04", "0c", "14", "1c", "3"]), (["1"], 7, ["01", "03", "05", "07", "0c", "14", "1c"]),
     (["3", "04"], 5, ["04", "24", "2c", "34", "3c"]),
 ])
