@@ -275,15 +275,26 @@ def page(checks, setting):
         exec(lines, names)
     checks.told("the page's lines", "Completed, Planned\n", printed.getvalue())
     checks.told("the page's plan", "Closed", names["desk"].show(names["plan_id"]).status)
-    text = text.split("The same from a terminal")[1].split("## When it is refused")[0]
-    lines = [line[4:] for line in text.splitlines() if line.startswith("    ")]
+    lines = lines_of(text, "The same from a terminal", "## When it is refused")
     at_list = next(at for at, line in enumerate(lines) if line.endswith(" list"))
     status, output = in_shell(setting, lines[1:at_list])
     plan_id, _, told = output.partition("  ")
     checks.told("the page's plan in a terminal", (0, "Completed, OkToFly\n"), (status, told))
+    asked_why = lines_of(text, "## What blocks a flight", "## When others")
+    why_lines = "\n".join(["day=$(date -u -d tomorrow +%F)", *asked_why])
+    for priority, blocked, told in ((10, 1, "A flight of priority 10 is blocked in 64 of 64 cells"),
+                                    (11, 0, "Nothing blocks this flight of priority 11")):
+        status, output = in_shell(setting, [why_lines.replace("--priority 10", f"--priority {priority}")])
+        checks.told("the page's why", (blocked, told), (status, output.splitlines()[0]))
     status, output = in_shell(setting, lines[at_list:], plan_id)
     checks.told("the page's list, show and close", (0, ["no conflict", f"{plan_id}  Completed, Closed"]),
                 (status, output.splitlines()[-2:]))
+
+
+def lines_of(text, begin, end):
+    """The lines of a terminal between two places of a page."""
+    part = text.split(begin)[1].split(end)[0]
+    return [line[4:] for line in part.splitlines() if line.startswith("    ")]
 
 
 def in_shell(setting, lines, plan_id=""):
