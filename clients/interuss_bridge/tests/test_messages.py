@@ -162,6 +162,18 @@ def test_an_extent_without_altitudes_is_of_all():
         extent_of({"extent": extent})
 
 
+def test_an_extent_of_many_days():
+    extent = copy.deepcopy(VOLUME)
+    message = {"request_id": "r", "extent": extent}
+    extent["time_start"]["value"], extent["time_end"]["value"] = "2026-06-01T00:00:00Z", "2026-08-04T00:00:00Z"
+    days = extent_of(read_object(json.dumps(message).encode()))
+    assert len(days) == 64 and days[0].cells == days[63].cells
+    assert all(one.end == other.start == one.start + 86_400 for one, other in zip(days, days[1:]))
+    extent["time_end"]["value"] = "2026-08-04T00:00:00.1Z"
+    with pytest.raises(NotSupported, match="65 days are too many"):
+        extent_of(read_object(json.dumps(message).encode()))
+
+
 def test_answers():
     done = response_of(Answer("Completed", "OkToFly"), False)
     assert done == {"planning_result": "Completed", "flight_plan_status": "OkToFly",
