@@ -1,17 +1,20 @@
 -- The volumes of live plans, as they are kept in memory.
 use Rattle.std.specs.Prelude.{◌≡◌, ℕ, ◌+◌, ◌≤◌, Bool, true, not, ◌&&◌, nat_le, int_lt, List, [], ◌∷◌, ◌++◌, MatchBool, length}
-use Rattle.std.specs.List.{AllZip, list_any}
+use Rattle.std.specs.List.{AllByRecursion, AllZip, list_any}
 use Rattle.std.specs.List.Sorted.{IsPermutation, IsStrictlySortedBy}
 use Rattle.std.specs.Ordering.{is_eq}
 use Rattle.volume4d.specs.declared.slab.Slab.{Slab}
 use Rattle.volume4d.specs.Volume.{Block, block_has}
-use Rattle.volume4d.specs.Bounds.{IsBounds}
+use Rattle.volume4d.specs.Bounds.{IsBounds, IsWithin}
 use Rattle.desk_rules.specs.Plan.{is_live}
 use Rattle.desk_store.specs.World.{Filed, World, text_cmp, filed_cmp}
 use Rattle.desk_store.specs.Changes.{filed_by}
 use Rattle.desk_store.specs.declared.change.Change.{Change}
 use Rattle.desk_store.specs.declared.change.Change.TheVariants.{Enrol, Put, Close, Clear}
 use Rattle.desk_live.specs.declared.volume.LiveVolume.{LiveVolume}
+use Rattle.desk_live.specs.declared.fence.Fence.{Fence}
+use Rattle.desk_live.specs.declared.chunk.Chunk.{Chunk}
+use Rattle.desk_live.specs.declared.live.Gathering.{Gathering}
 use Rattle.desk_live.specs.declared.live.LiveVolumes.{LiveVolumes}
 
 -- a volume of a plan: whose it is, the plan's priority, and the smallest slab that has all its points
@@ -40,19 +43,43 @@ pub record AreLive (w : World) (lives : List LiveVolume) : Type 0 where
 
 -- the volumes of some of a plan's area are added, or those of a plan
 abbrev pub AddsVolumes : Filed → List Block → List LiveVolume → List LiveVolume → Type 0
-AddsVolumes p area old new = (more : List LiveVolume) × (new ≡ old ++ more) × AllZip (IsLiveVolume p) area more
+AddsVolumes p area old new =
+    (more : List LiveVolume) × (new ≡ old ++ more) × AllZip (IsLiveVolume p) area more
 
 abbrev pub AddsPlan : Filed → List LiveVolume → List LiveVolume → Type 0
 AddsPlan p old new = (more : List LiveVolume) × (new ≡ old ++ more) × AreVolumesOf p more
 
 -- ---- what is kept
 
-abbrev pub volumes_of : LiveVolumes → List LiveVolume
-volumes_of kept = kept.volumes.items
+-- it lies within a fence, and has no greater priority
+pub record IsFenced (fence : Fence) (live : LiveVolume) : Type 0 where
+  pub within : IsWithin live.bounds fence.bounds
+  pub top : live.priority ≤ fence.top
 
--- it has room for so many more
+-- each volume of each chunk lies within its fence
+abbrev pub AreFenced : List Chunk → Type 0
+AreFenced chunks = AllByRecursion (λ c. AllByRecursion (IsFenced c.fence) c.volumes.items) chunks
+
+-- the volumes of chunks, and all that are kept
+abbrev pub volumes_in : List Chunk → List LiveVolume
+volumes_in [] = []
+volumes_in (c ∷ cs) = c.volumes.items ++ volumes_in cs
+
+abbrev pub volumes_of : LiveVolumes → List LiveVolume
+volumes_of kept = volumes_in kept.chunks.items ++ kept.young.items
+
+-- each live volume of a world is kept once, within the fence of its chunk if it is in one
+pub record AreKept (kept : LiveVolumes) (w : World) : Type 0 where
+  pub live : AreLive w (volumes_of kept)
+  pub fenced : AreFenced kept.chunks.items
+
+-- the volumes of plans that were gathered
+abbrev pub gathered_in : Gathering → List LiveVolume
+gathered_in gathering = gathering.volumes.items
+
+-- there is room for so many more
 abbrev pub HasRoomFor : LiveVolumes → ℕ → Type 0
-HasRoomFor kept count = length kept.volumes.items + count ≤ kept.volumes.cap
+HasRoomFor kept count = length kept.young.items + count ≤ kept.young.cap
 
 -- ---- changes
 
@@ -90,3 +117,11 @@ overlap one other =
 abbrev pub is_near : List ℕ → List ℕ → ℕ → Slab → LiveVolume → Bool
 is_near operator id least extent live =
     overlap live.bounds extent && (nat_le least live.priority && not (is_of operator id live))
+
+-- a fence has a priority at least, and meets an extent
+abbrev pub may_meet : ℕ → Slab → Fence → Bool
+may_meet least extent fence = overlap fence.bounds extent && nat_le least fence.top
+
+abbrev pub is_near_in : List ℕ → List ℕ → ℕ → Slab → Chunk → Bool
+is_near_in operator id least extent chunk =
+    may_meet least extent chunk.fence && list_any (is_near operator id least extent) chunk.volumes.items

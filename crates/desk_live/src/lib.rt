@@ -2,8 +2,11 @@
 #![tactic(auto)]
 
 mod changing;
+mod chunk;
+mod fence;
 mod live;
+mod order;
 mod volume;
 
-pub use live::LiveVolumes;
+pub use live::{Gathering, LiveVolumes};
 pub use volume::LiveVolume;

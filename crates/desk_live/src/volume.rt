@@ -16,9 +16,9 @@ use volume4d::{Slab, Volume, bounds_of};
 pub struct LiveVolume {
     operator: Operator,
     id: PlanId,
-    priority: u32,
+    pub(crate) priority: u32,
     // the smallest slab that has all its points
-    bounds: Slab,
+    pub(crate) bounds: Slab,
 }
 
 impl LiveVolume {
@@ -75,8 +75,8 @@ impl LiveVolume {
     }
 }
 
-// Whether two slabs meet in seconds, in altitudes and in leaves.
-fn overlap(one: &Slab, other: &Slab) -> bool
+/// Whether two slabs meet in seconds, in altitudes and in leaves.
+pub(crate) fn overlap(one: &Slab, other: &Slab) -> bool
     ensures { result ≡ spec.overlap one.now other.now }
 {
     if !meet_in_time(one, other) {

@@ -153,6 +153,16 @@ are_live w lives order volumes = record {
   same = IsPermutation-refl lives;
 }
 
+-- and in another
+pub live_permuted : (w : World) (lives others : List LiveVolume) → AreLive w lives
+    → IsPermutation lives others → AreLive w others
+live_permuted w lives others h same = record {
+  order = h.order;
+  listed = h.listed;
+  volumes = h.volumes;
+  same = IsPermutation-trans h.listed lives others h.same same;
+}
+
 pub none_live : AreLive (record { operators = []; plans = [] }) []
 unfolding IsStrictlySortedBy
 none_live = are_live (record { operators = []; plans = [] }) [] tt refl
@@ -257,9 +267,14 @@ put_live o row w old fresh h brought =
     (fresh ++ filter kept h.listed) (filter kept old ++ fresh)
     (replaced_sorted o (put_row row (plans_of o w)) w.plans
     (put_sorted row (plans_of o w) (rows_sorted o w.plans h.order)) h.order)
-    (subst (IsPermutation (p ∷ left)) (inserted o row w.plans h.order) (put_moves p w.plans h.order))
-    (fresh, filter kept h.listed, refl, brought, plans_filtered (other p) kept
-    (λ q v live is. ap not (same_key o row.id q v live is)) w.plans h.listed h.volumes)
+    (subst (IsPermutation (p ∷ left)) (inserted o row w.plans h.order) (put_moves p w.plans h.order)) (
+      fresh,
+      filter kept h.listed,
+      refl,
+      brought,
+      plans_filtered (other p) kept
+          (λ q v live is. ap not (same_key o row.id q v live is)) w.plans h.listed h.volumes,
+    )
     (IsPermutation-trans (fresh ++ filter kept h.listed) (fresh ++ filter kept old)
     (filter kept old ++ fresh)
     (IsPermutation-append_right fresh (filter kept h.listed) (filter kept old)
@@ -305,7 +320,8 @@ close_live o id w old h =
           (λ q r e. key_stays (is_own o id q) q (is_own o id r) r ∙ e)
 
 clear_live : (o : List ℕ) (ids : List (List ℕ)) (w : World) (old : List LiveVolume) → AreLive w old
-    → AreLive (with_plans w o (clear_rows ids (plans_of o w))) (filter (λ live. not (is_of_any o ids live)) old)
+    → AreLive (with_plans w o (clear_rows ids (plans_of o w)))
+    (filter (λ live. not (is_of_any o ids live)) old)
 unfolding with_plans
 clear_live o ids w old h =
     record {

@@ -1,7 +1,7 @@
 -- Where no live volume is near there is no rival, with proofs.
-use Rattle.std.proofs.Common.{◌≡◌, ℕ, ℤ, Bool, true, false, leb, MatchBool, ◌&&◌, ◌||◌, not, cond, List, [], ◌∷◌, Option, Some, None, refl, sym, ap, ◌∙◌, arith}
-use Rattle.std.specs.Prelude.{int_le, int_lt, max, nat_le}
-use Rattle.std.specs.List.{AllZip, list_any}
+use Rattle.std.proofs.Common.{◌≡◌, ℕ, ℤ, Bool, true, false, leb, MatchBool, ◌&&◌, ◌||◌, not, cond, List, [], ◌∷◌, ◌++◌, Option, Some, None, refl, sym, ap, ◌∙◌, arith}
+use Rattle.std.specs.Prelude.{◌≤◌, ◌≤ℤ◌, int_le, int_lt, max, nat_le}
+use Rattle.std.specs.List.{AllByRecursion, AllZip, list_any}
 use Rattle.std.proofs.lemmas.Int.{ints}
 use Rattle.std.proofs.lemmas.Bool.{and_parts, true≢false}
 use Rattle.std.proofs.lemmas.Bool.Decides.{nat_tests}
@@ -9,6 +9,7 @@ use Rattle.std.proofs.lemmas.List.Folds.{list_any-append}
 use Rattle.std.proofs.lemmas.List.Sorted.{list_any-IsPermutation}
 use Rattle.s2_hilbert.specs.Curve.{position_of}
 use Rattle.volume4d.specs.declared.slab.Slab.{Slab}
+use Rattle.volume4d.specs.Bounds.{IsWithin}
 use Rattle.volume4d.specs.Level.{greater, level_where}
 use Rattle.volume4d.specs.laws.Level.{top_held-nil}
 use Rattle.volume4d.specs.Point.{Point, is_leaf}
@@ -20,8 +21,10 @@ use Rattle.desk_store.specs.World.{Filed, World}
 use Rattle.desk_store.specs.Rows.{is_own, rival_level, rivals_top}
 use Rattle.desk_store.specs.Rivals.{AreRivals}
 use Rattle.desk_store.specs.laws.Rival.{rivals_top-cons, rivals_top-nil, held_by_rivals}
+use Rattle.desk_live.specs.declared.chunk.Chunk.{Chunk}
+use Rattle.desk_live.specs.declared.fence.Fence.{Fence}
 use Rattle.desk_live.specs.declared.volume.LiveVolume.{LiveVolume}
-use Rattle.desk_live.specs.Live.{IsLiveVolume, AreVolumesOf, AreVolumes, AreLive, is_of, overlap, is_near}
+use Rattle.desk_live.specs.Live.{IsLiveVolume, AreVolumesOf, AreVolumes, AreLive, AreFenced, IsFenced, is_near, is_near_in, is_of, may_meet, overlap, volumes_in}
 use Rattle.desk_live.specs.laws.Live.{same_key}
 
 -- ---- slabs with a point in common
@@ -182,3 +185,94 @@ module _ (o id : List ℕ) (least : ℕ) (extent : Slab) where
       ∙ sym (ap (at_least least) (sym (held_by_rivals o id w x))
       ∙ plans_alone x w.plans h.listed h.volumes
       (list_any-IsPermutation near h.listed lives h.same ∙ far) here)
+
+-- ---- fences
+
+lower_still : (a b d : ℤ) → a ≤ℤ b → int_lt b d ≡ true → int_lt a d ≡ true
+lower_still a b d h k = grind (arith, ints, h)
+
+upper_still : (a b d : ℤ) → a ≤ℤ b → int_lt d a ≡ true → int_lt d b ≡ true
+upper_still a b d h k = grind (arith, ints, h)
+
+first_still : (a b d : ℕ) → a ≤ b → nat_le b d ≡ true → nat_le a d ≡ true
+first_still a b d h k = grind (arith, nat_tests)
+
+last_still : (a b d : ℕ) → a ≤ b → nat_le d a ≡ true → nat_le d b ≡ true
+last_still a b d h k = grind (arith, nat_tests)
+
+-- what overlaps a slab overlaps one round it
+overlaps_round : (inner outer other : Slab) → IsWithin inner outer → overlap inner other ≡ true
+    → overlap outer other ≡ true
+overlaps_round inner outer other w h =
+    let parts = and_parts (int_lt inner.start other.end && int_lt other.start inner.end) _ h in
+    let times = and_parts (int_lt inner.start other.end) _ parts.0 in
+    let more = and_parts (int_lt inner.lower other.upper && int_lt other.lower inner.upper) _ parts.1 in
+    let altitudes = and_parts (int_lt inner.lower other.upper) _ more.0 in
+    let leaves = and_parts (nat_le inner.first other.last) _ more.1 in
+    both (int_lt outer.start other.end && int_lt other.start outer.end) _
+    (both (int_lt outer.start other.end) _
+    (lower_still outer.start inner.start other.end w.start times.0)
+    (upper_still inner.end outer.end other.start w.end times.1))
+    (both (int_lt outer.lower other.upper && int_lt other.lower outer.upper) _
+    (both (int_lt outer.lower other.upper) _
+    (lower_still outer.lower inner.lower other.upper w.lower altitudes.0)
+    (upper_still inner.upper outer.upper other.lower w.upper altitudes.1))
+    (both (nat_le outer.first other.last) _
+    (first_still outer.first inner.first other.last w.first leaves.0)
+    (last_still inner.last outer.last other.first w.last leaves.1)))
+
+module _ (o id : List ℕ) (least : ℕ) (extent : Slab) where
+  -- a volume that is near meets the fence that it lies within
+  meets_fence : (fence : Fence) (live : LiveVolume) → IsFenced fence live
+      → is_near o id least extent live ≡ true → may_meet least extent fence ≡ true
+  meets_fence fence live h k =
+      let parts = and_parts (overlap live.bounds extent) _ k in
+      let high = and_parts (nat_le least live.priority) _ parts.1 in
+      both (overlap fence.bounds extent) _ (overlaps_round live.bounds fence.bounds extent h.within parts.0)
+      (last_still live.priority fence.top least h.top high.0)
+
+  one_meets : (fence : Fence) (lives : List LiveVolume) → AllByRecursion (IsFenced fence) lives
+      → list_any (is_near o id least extent) lives ≡ true → may_meet least extent fence ≡ true
+  one_meets fence [] h k = absurd (true≢false (sym k))
+  one_meets fence (l ∷ lives) h k =
+      go (is_near o id least extent l) refl k (λ more. one_meets fence lives h.1 more) where
+        go : (b : Bool) → is_near o id least extent l ≡ b
+            → (b || list_any (is_near o id least extent) lives) ≡ true
+            → (list_any (is_near o id least extent) lives ≡ true → may_meet least extent fence ≡ true)
+            → may_meet least extent fence ≡ true
+        go true e k ih = meets_fence fence l h.0 e
+        go false e k ih = ih k
+
+  chunk_near : (c : Chunk) → AllByRecursion (IsFenced c.fence) c.volumes.items
+      → is_near_in o id least extent c ≡ list_any (is_near o id least extent) c.volumes.items
+  chunk_near c h = go (list_any (is_near o id least extent) c.volumes.items) refl where
+    go : (b : Bool) → list_any (is_near o id least extent) c.volumes.items ≡ b
+        → (may_meet least extent c.fence && b) ≡ b
+    go true e = ap (λ m. m && true) (one_meets c.fence c.volumes.items h e)
+    go false e = and_none (may_meet least extent c.fence) where
+      and_none : (m : Bool) → (m && false) ≡ false
+      and_none true = refl
+      and_none false = refl
+
+  -- chunks within their fences hide no volume that is near
+  pub near_in : (cs : List Chunk) → AreFenced cs → list_any (is_near_in o id least extent) cs
+      ≡ list_any (is_near o id least extent) (volumes_in cs)
+  near_in [] h = refl
+  near_in (c ∷ cs) h = (λ i. chunk_near c h.0 i || near_in cs h.1 i)
+      ∙ sym (list_any-append (is_near o id least extent) c.volumes.items (volumes_in cs))
+
+  -- what is near in chunks is near among all, and what is near in none is near among the others alone
+  pub seen : (cs : List Chunk) (ys : List LiveVolume) → AreFenced cs
+      → true ≡ list_any (is_near_in o id least extent) cs
+      → true ≡ list_any (is_near o id least extent) (volumes_in cs ++ ys)
+  seen cs ys h e =
+      ap (λ b. b || list_any (is_near o id least extent) ys) (e ∙ near_in cs h)
+      ∙ sym (list_any-append (is_near o id least extent) (volumes_in cs) ys)
+
+  pub unseen : (cs : List Chunk) (ys : List LiveVolume) (found : Bool) → AreFenced cs
+      → false ≡ list_any (is_near_in o id least extent) cs
+      → found ≡ list_any (is_near o id least extent) ys
+      → found ≡ list_any (is_near o id least extent) (volumes_in cs ++ ys)
+  unseen cs ys found h e k =
+      k ∙ ap (λ b. b || list_any (is_near o id least extent) ys) (e ∙ near_in cs h)
+      ∙ sym (list_any-append (is_near o id least extent) (volumes_in cs) ys)

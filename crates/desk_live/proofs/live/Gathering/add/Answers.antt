@@ -1,7 +1,7 @@
 use Rattle.std.proofs.lemmas.Result.{on_ok_weaker}
 use Rattle.desk_store.specs.Changes.{filed_by}
 use Rattle.desk_live.proofs.VolumeLemmas.{plan_added}
-use Rattle.desk_live.proofs.live.LiveVolumes.add.Goals as goal
+use Rattle.desk_live.proofs.live.Gathering.add.Goals as goal
 
 pub returns : goal.returns
 returns c =
