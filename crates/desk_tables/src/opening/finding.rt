@@ -13,13 +13,15 @@ ghost use Rattle.desk_sql.specs.Finding.{Holds};
 ghost use Rattle.desk_tables.specs.Store.{Stands};
 ghost use Rattle.desk_store.specs.World.{World};
 ghost use Rattle.desk_tables.specs.Content.{IsContent};
-ghost use Rattle.desk_tables.specs.Lengths.{Bounds, IsKnownRow, Keeps};
+ghost use Rattle.desk_tables.specs.Known.{Knows};
+ghost use Rattle.desk_tables.specs.Lengths.{IsKnownRow, Keeps};
 ghost use Rattle.desk_tables.specs.Opening.{AreSortedByKey, AreAllRows, IsContentOf, AreNoContent};
 ghost use Rattle.desk_tables.specs.Opening.{BeginsWith, HasRowsOld, HasNewRows, WasCompleted};
 ghost use Rattle.desk_tables.specs.Opening.{ShowsNoDesk, ShowsOldRows};
 ghost use Rattle.desk_tables.specs.Opening.{BlamesReading, BlamesDatabase};
 
 use crate::kept::Kept;
+use crate::known::{Known, live_among};
 use crate::lengths::Lengths;
 use crate::opening::content::{TableRows, content_in};
 use crate::opening::covers::covers_agree;
@@ -35,9 +37,9 @@ use sqlite_value::value::ValueRef;
 use std::alloc::Global;
 use volume4d::laws::one_shape;
 
-/// The world that the database stands for: that of the rows in a desk's tables; and how long the spans in it
-/// are. A database with no table gets a desk's, and its world is empty. One with part of them, or without the
-/// index, gets what is missing, if its rows are those of a content.
+/// The world that the database stands for: that of the rows in a desk's tables; and what is known of its
+/// plans. A database with no table gets a desk's, and its world is empty. One with part of them, or without
+/// the index, gets what is missing, if its rows are those of a content.
 ///
 /// # Errors
 ///
@@ -46,12 +48,12 @@ use volume4d::laws::one_shape;
 pub(crate) fn world_in<S: Alter>(
     alloc: Global,
     connection: &mut Connection<S>,
-) -> Result<(Kept, Lengths), OpenFault>
+) -> Result<(Kept, Known), OpenFault>
     requires settled { connection.old.in_transaction ≡ false }
     ensures begins { IfOk result (λ found.
         BeginsWith S.Store connection.old connection.new found.0.world) }
     ensures stands { IfOk result (λ found. Stands S.Store connection.new found.0.world) }
-    ensures bounded { IfOk result (λ found. Bounds found.1 found.0.world) }
+    ensures bounded { IfOk result (λ found. Knows found.1 found.0.world) }
     ensures live { OnOk result (IsOpenIfClean S.Store connection.new) }
     ensures none { IfErr result (λ e. e ≡ OpenFault.NotADesk →
         ShowsNoDesk S.Store connection.old connection.new) }
@@ -101,14 +103,14 @@ pub(crate) fn world_of<S: Alter>(
     alloc: Global,
     connection: &mut Connection<S>,
     made: Made,
-) -> Result<(Kept, Lengths), OpenFault>
+) -> Result<(Kept, Known), OpenFault>
     requires part { Holds S.Store connection.old (IsMadeTo made) }
     requires new { Holds S.Store connection.old (HasNewRows made) }
     requires settled { connection.old.in_transaction ≡ false }
     ensures begins { IfOk result (λ found.
         BeginsWith S.Store connection.old connection.new found.0.world) }
     ensures stands { IfOk result (λ found. Stands S.Store connection.new found.0.world) }
-    ensures bounded { IfOk result (λ found. Bounds found.1 found.0.world) }
+    ensures bounded { IfOk result (λ found. Knows found.1 found.0.world) }
     ensures none { IfErr result (λ e. e ≡ OpenFault.NotADesk →
         ShowsNoDesk S.Store connection.old connection.new) }
     ensures newer { IfErr result (λ e. e ≢ OpenFault.OldSchema) }
@@ -124,7 +126,7 @@ pub(crate) fn world_of<S: Alter>(
 {
     match made {
         Made::All => found_in(alloc, connection, Made::All),
-        Made::Nothing => Ok((made_in(connection)?, Lengths::new())),
+        Made::Nothing => Ok((made_in(connection)?, Known::new(alloc))),
         made => completed_in(alloc, connection, made),
     }
 }
@@ -156,7 +158,7 @@ fn completed_in<S: Alter>(
     alloc: Global,
     connection: &mut Connection<S>,
     made: Made,
-) -> Result<(Kept, Lengths), OpenFault>
+) -> Result<(Kept, Known), OpenFault>
     requires part { Holds S.Store connection.old (IsMadeTo made) }
     requires new { Holds S.Store connection.old (HasNewRows made) }
     requires missing { made ≢ Made.All }
@@ -165,7 +167,7 @@ fn completed_in<S: Alter>(
     ensures value { HasCleanDisk (state S.Store connection.new) → IfOk result (λ found.
         WasCompleted S.Store connection.old connection.new found.0.world) }
     ensures stands { IfOk result (λ found. Stands S.Store connection.new found.0.world) }
-    ensures bounded { IfOk result (λ found. Bounds found.1 found.0.world) }
+    ensures bounded { IfOk result (λ found. Knows found.1 found.0.world) }
     ensures none { HasCleanDisk (state S.Store connection.new) → IfErr result (λ e.
         e ≡ OpenFault.NotADesk →
         AreNoContent (tables_at made (state S.Store connection.old).now.trees)) }
@@ -189,14 +191,14 @@ fn found_in<S: Alter>(
     alloc: Global,
     connection: &mut Connection<S>,
     made: Made,
-) -> Result<(Kept, Lengths), OpenFault>
+) -> Result<(Kept, Known), OpenFault>
     requires part { Holds S.Store connection.old (IsMadeTo made) }
     requires new { Holds S.Store connection.old (HasNewRows made) }
     requires some { has_table made DeskTable.Operator ≡ true }
     requires settled { connection.old.in_transaction ≡ false }
     ensures value { HasCleanDisk (state S.Store connection.new) → IfOk result (λ found.
         IsContentOf (tables_at made (state S.Store connection.old).now.trees) found.0.world) }
-    ensures bounded { IfOk result (λ found. Bounds found.1 found.0.world) }
+    ensures bounded { IfOk result (λ found. Knows found.1 found.0.world) }
     ensures none { HasCleanDisk (state S.Store connection.new) → IfErr result (λ e.
         e ≡ OpenFault.NotADesk →
         AreNoContent (tables_at made (state S.Store connection.old).now.trees)) }
@@ -236,10 +238,10 @@ fn length_with(lengths: &Lengths, row: &Row) -> Lengths
 }
 
 // The world whose rows these are.
-fn kept_of(alloc: Global, rows: &TableRows) -> Result<(Kept, Lengths), OpenFault>
+fn kept_of(alloc: Global, rows: &TableRows) -> Result<(Kept, Known), OpenFault>
     ensures value { IfOk result (λ found.
         IsContent found.0.world × AreAllRows rows.now found.0.world) }
-    ensures bounded { IfOk result (λ found. Bounds found.1 found.0.world) }
+    ensures bounded { IfOk result (λ found. Knows found.1 found.0.world) }
     ensures none { IfErr result (λ e. e ≡ OpenFault.NotADesk →
         (w : World) → IsContent w → ¬ AreAllRows rows.now w) }
     ensures fault { IfErr result (λ e. (e ≢ OpenFault.Store)
@@ -251,7 +253,11 @@ fn kept_of(alloc: Global, rows: &TableRows) -> Result<(Kept, Lengths), OpenFault
     if !covers_agree(alloc, &content.plans, &rows.covers)? {
         return Err(OpenFault::NotADesk);
     }
-    Ok((Kept::of(&content), lengths_in(&rows.spans)))
+    let known = Known {
+        lengths: lengths_in(&rows.spans),
+        live: live_among(alloc, &content.plans)?,
+    };
+    Ok((Kept::of(&content), known))
 }
 
 // The rows of the tables of schema 2, each by the columns of its key; of those that aren't made none.

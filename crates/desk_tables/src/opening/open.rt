@@ -8,7 +8,7 @@ ghost use Rattle.desk_tables.specs.Moving.{BeginsMoved, BlamesMove, KeepsRows, S
 ghost use Rattle.desk_tables.specs.Opening.{BeginsWith, ShowsNoDesk, ShowsOldRows, BlamesDatabase};
 ghost use Rattle.desk_tables.specs.Leaving.{IsSettledAt};
 
-use crate::lengths::Lengths;
+use crate::known::Known;
 use crate::opening::exact::RowFault;
 use crate::opening::finding::{made_in, world_in};
 use crate::opening::moving::moved_world_in;
@@ -171,8 +171,8 @@ impl<S: Alter> SqliteStore<S> {
             → (state S.Store store.held).IsShielded) }
     {
         match world_in(alloc, &mut connection) {
-            Ok((kept, lengths)) => {
-                Ok(SqliteStore::with(alloc, connection, kept, lengths, StoreFault::Store))
+            Ok((kept, known)) => {
+                Ok(SqliteStore::with(alloc, connection, kept, known, StoreFault::Store))
             }
             Err(fault) => Err(AdoptFault { fault, connection }),
         }
@@ -213,8 +213,8 @@ impl<S: Alter> SqliteStore<S> {
             → (state S.Store moved.0.held).IsShielded) }
     {
         match moved_world_in(alloc, &mut connection) {
-            Ok((kept, lengths, count)) => {
-                let store = SqliteStore::with(alloc, connection, kept, lengths, StoreFault::Store);
+            Ok((kept, known, count)) => {
+                let store = SqliteStore::with(alloc, connection, kept, known, StoreFault::Store);
                 Ok((store, count))
             }
             Err(fault) => Err(AdoptFault { fault, connection }),
@@ -260,6 +260,6 @@ fn over_blank<S: Alter + Drop>(
         return Err(OpenFault::Store);
     };
     let kept = made_in(&mut connection)?;
-    let lengths = Lengths::new();
-    Ok(SqliteStore::with(alloc, connection, kept, lengths, StoreFault::OutOfMemory))
+    let known = Known::new(alloc);
+    Ok(SqliteStore::with(alloc, connection, kept, known, StoreFault::OutOfMemory))
 }

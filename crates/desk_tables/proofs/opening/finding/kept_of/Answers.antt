@@ -1,7 +1,8 @@
 use Rattle.std.proofs.Common.{◌∙◌, ap, sym, subst, true≢false}
 use Rattle.std.specs.List.{AllByRecursion}
 use Rattle.desk_sql.specs.Rows.{Tables}
-use Rattle.desk_tables.specs.Lengths.{Bounds, IsKnownRow}
+use Rattle.desk_tables.specs.Known.{Knows}
+use Rattle.desk_tables.specs.Lengths.{IsKnownRow}
 use Rattle.desk_tables.specs.Tables.{cover_rows}
 use Rattle.desk_store.specs.World.{World}
 use Rattle.desk_tables.proofs.CoverLemmas.{no_covers}
@@ -11,10 +12,14 @@ use Rattle.desk_tables.proofs.opening.finding.kept_of.Goals as goal
 pub returns-clause-bounded : goal.returns-clause-bounded
 returns-clause-bounded c =
     let spans = c.deref-3.ensures.value ∙ ap (λ (t : Tables). t.spans) c.rows.view_is in
-    subst (Bounds c.lengths_in.result) (sym c.of.ensures)
-    (bounds_of c.one_list_of_ranges.ensures c.lengths_in.result c.in_ok-content.content c.args.rows.now.spans
-    c.in_ok-content.ensures.ok.1.span_part
-    (subst (AllByRecursion (IsKnownRow c.lengths_in.result)) spans c.lengths_in.ensures))
+    let plans = c.deref-4.ensures.value ∙ ap (λ (w : World). w.plans) c.content.view_is in
+    let content = c.in_ok-content.content in
+    subst (Knows _) (sym c.of.ensures) (record {
+      lengths = bounds_of c.one_list_of_ranges.ensures c.lengths_in.result content c.args.rows.now.spans
+          c.in_ok-content.ensures.ok.1.span_part
+          (subst (AllByRecursion (IsKnownRow c.lengths_in.result)) spans c.lengths_in.ensures);
+      live = c.in_ok-live_among.ensures content c.in_ok-content.ensures.ok.0.world.plans (sym plans);
+    })
 
 pub returns-then-not-branch-clause-none : goal.returns-then-not-branch-clause-none
 returns-then-not-branch-clause-none c = λ _.

@@ -6,7 +6,7 @@ use Rattle.desk_tables.specs.Rivals.{HaveTakenAll, is_asked}
 use Rattle.desk_tables.proofs.ParseLemmas.{parsed_id}
 use Rattle.desk_tables.proofs.AskingLemmas.{both_ok}
 use Rattle.desk_tables.proofs.HeldLemmas.{are_rivals}
-use Rattle.desk_tables.proofs.reading.readers.rivals.Goals as goal
+use Rattle.desk_tables.proofs.reading.readers.rivals_in_tables.Goals as goal
 
 pub returns-clause-value : goal.returns-clause-value
 returns-clause-value g c = λ clean.
