@@ -33,7 +33,8 @@ pub record AreCut (all : List LiveVolume) (chunks : List Chunk) (rest : List Liv
   pub fenced : AreFenced chunks
 
 pub cut_goes_on : (all : List LiveVolume) (chunks next : List Chunk)
-    (rest others more later : List LiveVolume) (first : LiveVolume) (c : Chunk) → AreCut all chunks rest → rest ≡ first ∷ others
+    (rest others more later : List LiveVolume) (first : LiveVolume) (c : Chunk)
+    → AreCut all chunks rest → rest ≡ first ∷ others
     → others ≡ more ++ later → c.volumes.items ≡ first ∷ more → IsWhole c → next ≡ chunks ++ c ∷ []
     → AreCut all next later
 cut_goes_on all chunks next rest others more later first c cut is parts has whole then = record {
