@@ -1,8 +1,9 @@
 -- Serving: what a desk at a port prints, and what its connections leave.
-use Rattle.std.specs.Prelude.{◌≡◌, ◌≤◌, ◌⊎◌, ⊤, ℕ, ℤ, List, [], ◌∷◌, ◌++◌, All, map, length, codes, decimal, Option, Some, None, Result, Ok, Err}
+use Rattle.std.specs.Prelude.{◌≡◌, ◌≤◌, ◌⊎◌, ⊤, ℕ, ℤ, Bool, true, List, [], ◌∷◌, ◌++◌, All, map, length, codes, decimal, Option, Some, None, Result, Ok, Err}
 use Rattle.desk_run.specs.DeskWorld.{DeskWorld}
 use Rattle.desk_wire.specs.Serving.{HasServed}
 use Rattle.desk_wire.specs.declared.stream.Served.{Served}
+use Rattle.desk_wire.specs.declared.stream.Served.TheVariants.{Answered, End}
 use Rattle.desk_wire.specs.declared.stream.ServeFault.{ServeFault}
 use Rattle.desk_line.specs.declared.failure.Failure.{Failure}
 use Rattle.desk_line.specs.declared.line.Serve.{Serve as ServeWords}
@@ -36,6 +37,12 @@ pub record Exchange : Type 0 where
   pub out : Option (List ℕ)
   pub now : Option (List ℕ)
   pub served : Result Served ServeFault
+
+-- no byte of the request of a connection is left unread, as far as is known
+abbrev pub is_whole : Result Served ServeFault → Bool
+is_whole (Ok (Answered status framed)) = framed
+is_whole (Ok End) = true
+is_whole (Err fault) = true
 
 -- the requests of connections are served one after the other, each at the moment of its connection
 abbrev pub AreServed : Type 0 → List Exchange → DeskWorld → DeskWorld → Type 0

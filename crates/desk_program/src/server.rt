@@ -9,6 +9,7 @@ ghost use Rattle.desk_line.specs.Exits.{failure_at, failure_status};
 ghost use Rattle.desk_line.specs.Lines.{IsServe};
 ghost use Rattle.desk_run.specs.DeskWorld.{IsSettled, world_of};
 ghost use Rattle.desk_program.specs.Keeping.{AreKept, IsPortKept, IsServeKept};
+ghost use Rattle.desk_program.specs.Serving as spec;
 ghost use Rattle.desk_program.specs.Serving.{AreTaken, IsLineServed, IsAtPort, listening_line, failing};
 
 use crate::port::{Connection, Port};
@@ -150,7 +151,9 @@ fn serve_connection<S: PlanStore, P: Port>(
 }
 
 // Whether no byte of the request is left unread, as far as is known.
-fn is_whole(served: &Result<Served, ServeFault>) -> bool {
+fn is_whole(served: &Result<Served, ServeFault>) -> bool
+    ensures { result ≡ spec.is_whole served.now }
+{
     !matches!(served, Ok(Served::Answered { framed: false, .. }))
 }
 
