@@ -4,7 +4,7 @@ ghost use Rattle.std.specs.Prelude.{◌≡◌, ◌≢◌, None, Some, Err, Ok, I
 ghost use Rattle.std.specs.IoError.{error_kind};
 ghost use Rattle.std.specs.Time.{system_time_nanos};
 ghost use Rattle.desk_wire.specs.Moments.{IsMoment};
-ghost use Rattle.desk_line.specs.Exits.{failure_status};
+ghost use Rattle.desk_program.specs.Serving.{IsDenied};
 ghost use Rattle.desk_program.specs.Waiting.{moment_at};
 
 use crate::port::{Connection, Port};
@@ -81,7 +81,7 @@ impl<'s, N: Net, C: Clock> Port for LocalPort<'s, N, C> {
 
 // The stream of the next connection. Those that are given up before they are taken are passed over.
 fn accept_from<L: OpenListener>(listener: &L) -> Result<L::Stream, Failure>
-    ensures { IfErr result (λ f. failure_status f ≡ 4) }
+    ensures { IfErr result IsDenied }
 {
     for accepted in listener.incoming() {
         if let Some(stream) = stream_of(accepted)? {
@@ -116,7 +116,7 @@ where
     T: std::io::Read + std::io::Write + OpenStream + Drop,
     ensures moment { IfOk result (λ c. moment_at (system_time_nanos now) ≡ Some c.moment) }
     ensures range { IfOk result (λ c. IsMoment c.moment) }
-    ensures fault { IfErr result (λ f. failure_status f ≡ 4) }
+    ensures fault { IfErr result IsDenied }
 {
     let Some(moment) = moment_in(now) else {
         return Err(Failure::Clock);

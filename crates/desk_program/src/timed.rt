@@ -2,6 +2,8 @@
 
 ghost use Rattle.std.specs.Prelude.{◌≡◌, ◌+◌, ◌≤◌, None, Some, IfSome, IfOk, IsSomeAnd, option_map};
 ghost use Rattle.std.specs.Duration.{as_nanos};
+ghost use Rattle.std.specs.Io.{ReadsAtMost, WritesAtMost};
+ghost use Rattle.std.specs.Io.KnownBytes.{ReadConsumes, WriteAppends};
 ghost use Rattle.std.specs.Time.{instant_nanos};
 ghost use Rattle.desk_program.specs.Waiting.{end_of, patience};
 
@@ -47,7 +49,12 @@ impl<'c, T, C> Timed<'c, T, C> {
 impl<T: Read + OpenStream, C: Clock> Read for Timed<'_, T, C> {
     ghost remaining = { λ s. T.remaining s.stream };
 
-    fn read(&mut self, room: &mut [u8]) -> io::Result<usize> {
+    fn read(&mut self, room: &mut [u8]) -> io::Result<usize>
+        ensures bound { ReadsAtMost result room.new }
+        ensures bytes { ReadConsumes (T.remaining self.old.stream) (T.remaining self.new.stream) result
+            room.new }
+        ensures kept { IfSome self.old.end (λ last. self.new.end ≡ Some last) }
+    {
         let left = time_left(Instant::now(self.clock)?, &mut self.end)?;
         self.stream.set_read_timeout(Some(left))?;
         self.stream.read(room)
@@ -57,7 +64,12 @@ impl<T: Read + OpenStream, C: Clock> Read for Timed<'_, T, C> {
 impl<T: Write + OpenStream, C: Clock> Write for Timed<'_, T, C> {
     ghost contents = { λ s. T.contents s.stream };
 
-    fn write(&mut self, bytes: &[u8]) -> io::Result<usize> {
+    fn write(&mut self, bytes: &[u8]) -> io::Result<usize>
+        ensures bound { WritesAtMost result bytes.now }
+        ensures bytes { WriteAppends (T.contents self.old.stream) (T.contents self.new.stream) result
+            bytes.now }
+        ensures kept { IfSome self.old.end (λ last. self.new.end ≡ Some last) }
+    {
         let left = time_left(Instant::now(self.clock)?, &mut self.end)?;
         self.stream.set_write_timeout(Some(left))?;
         self.stream.write(bytes)
