@@ -1,6 +1,6 @@
 //! Tests of what no stored run can say: what words of the command line say, and what is printed without a
-//! desk; a store that fails, a reader that is interrupted, a writer that is cut off, clients that hang up
-//! or are slow, how many pairs of slabs are compared. They stand apart so that the crates under test are
+//! desk; a store that fails, a reader that is interrupted, a writer that is cut off, clients that hang up,
+//! how many pairs of slabs are compared. They stand apart so that the crates under test are
 //! proved once and not again with their tests.
 #![tactic(auto)]
 
@@ -16,8 +16,6 @@ mod program;
 mod server;
 #[cfg(test)]
 mod sweep;
-#[cfg(test)]
-mod waiting;
 #[cfg(test)]
 mod wire;
 #[cfg(test)]
