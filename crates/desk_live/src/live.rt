@@ -42,8 +42,8 @@ impl LiveVolumes {
         }
     }
 
-    /// Whether a volume of a priority at least, of another plan than the operator's of the id, may have a point
-    /// of an extent.
+    /// Whether a volume of a priority at least, of another plan than the operator's of the id, may have a
+    /// point of an extent.
     pub fn may_hold(&self, operator: &Operator, id: &PlanId, least: u32, extent: &Slab) -> bool
         ensures near { AreFenced self.now.chunks.items → result
             ≡ list_any (is_near operator.now id.now least extent.now) (volumes_of self.now) }
