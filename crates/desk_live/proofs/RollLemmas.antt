@@ -16,35 +16,6 @@ pub record IsSoFar (s : PlanState) (plans : List PlanState) (at : ℕ) : Type 0 
   pub within : at ≤ length plans
   pub place : put_state s plans ≡ take at plans ++ put_state s (drop at plans)
 
-pub so_far_begins : (s : PlanState) (plans : List PlanState) → IsSoFar s plans 0
-so_far_begins s plans = record { within = omega arith; place = refl }
-
-pub so_far_goes_on : (s : PlanState) (plans : List PlanState) (at : ℕ) (p : PlanState) → IsSoFar s plans at
-    → at < length plans → p ≡ get_or plans at p → text_cmp s.id p.id ≡ Greater → IsSoFar s plans (at + 1)
-so_far_goes_on s plans at p before below is later = record {
-  within = omega (arith, below);
-  place = before.place ∙ ap (λ ps. take at plans ++ put_state s ps) here
-      ∙ ap (λ n. take at plans ++ match_ordering n (s ∷ p ∷ rest) (s ∷ rest) (p ∷ put_state s rest)) later
-      ∙ sym (append_assoc (take at plans) (p ∷ []) (put_state s rest))
-      ∙ ap (λ ps. ps ++ put_state s rest)
-      (ap (λ q. take at plans ++ q ∷ []) is ∙ sym (take_more plans at p below));
-} where
-  rest : List PlanState
-  rest = drop (at + 1) plans
-
-  here : drop at plans ≡ p ∷ rest
-  here = drop_more plans at p below ∙ ap (λ q. q ∷ rest) (sym is)
-
--- no plan is left, or one that comes with the plan's or after it
-pub before_none : (s : PlanState) (plans : List PlanState) (at : ℕ) → length plans ≤ at
-    → IsBefore s (drop at plans)
-before_none s plans at past = subst (IsBefore s) (sym (drop_of_length-le plans past)) tt
-
-pub before_one : (s : PlanState) (plans : List PlanState) (at : ℕ) (p : PlanState) → at < length plans
-    → p ≡ get_or plans at p → text_cmp s.id p.id ≢ Greater → IsBefore s (drop at plans)
-before_one s plans at p below is earlier =
-    subst (IsBefore s) (sym (drop_more plans at p below ∙ ap (λ q. q ∷ drop (at + 1) plans) (sym is))) earlier
-
 -- ---- put there
 
 length_take : (at : ℕ) (xs : List PlanState) → at ≤ length xs → length (take at xs) ≡ at
@@ -56,36 +27,26 @@ length_take (suc at) (x ∷ xs) h = let rest = length_take at xs (omega (arith, 
 pub put_over : (s : PlanState) (plans : List PlanState) (at : ℕ) → at ≤ length plans
     → put_state s plans ≡ take at plans ++ put_state s (drop at plans)
     → true ≡ begins_with s (drop at plans) → set plans at s ≡ put_state s plans
-put_over s plans at within place begins = go (drop at plans) (sym (take_then at plans)) begins ∙ sym place where
-  take_then : (n : ℕ) (xs : List PlanState) → take n xs ++ drop n xs ≡ xs
-  take_then zero xs = refl
-  take_then (suc n) [] = refl
-  take_then (suc n) (x ∷ xs) = ap (λ ys. x ∷ ys) (take_then n xs)
+put_over s plans at within place begins =
+    go (drop at plans) (sym (take_then at plans)) begins ∙ sym place where
+      take_then : (n : ℕ) (xs : List PlanState) → take n xs ++ drop n xs ≡ xs
+      take_then zero xs = refl
+      take_then (suc n) [] = refl
+      take_then (suc n) (x ∷ xs) = ap (λ ys. x ∷ ys) (take_then n xs)
 
-  by_order : (p : PlanState) (rest : List PlanState) (n : Ordering) → true ≡ is_eq n
-      → s ∷ rest ≡ match_ordering n (s ∷ p ∷ rest) (s ∷ rest) (p ∷ put_state s rest)
-  by_order p rest Less e = cc
-  by_order p rest Equal e = refl
-  by_order p rest Greater e = cc
+      by_order : (p : PlanState) (rest : List PlanState) (n : Ordering) → true ≡ is_eq n
+          → s ∷ rest ≡ match_ordering n (s ∷ p ∷ rest) (s ∷ rest) (p ∷ put_state s rest)
+      by_order p rest Less e = cc
+      by_order p rest Equal e = refl
+      by_order p rest Greater e = cc
 
-  go : (left : List PlanState) → plans ≡ take at plans ++ left → true ≡ begins_with s left
-      → set plans at s ≡ take at plans ++ put_state s left
-  go [] is e = cc
-  go (p ∷ rest) is e =
-      (λ i. set (is i) (sym (length_take at plans within) i) s)
-      ∙ set-append_seam (take at plans) p rest s
-      ∙ ap (λ ps. take at plans ++ ps) (by_order p rest (text_cmp s.id p.id) e)
-
--- before it
-pub put_before : (s : PlanState) (left : List PlanState) → IsBefore s left → false ≡ begins_with s left
-    → put_state s left ≡ s ∷ left
-put_before s [] before e = refl
-put_before s (p ∷ left) before e = go (text_cmp s.id p.id) refl e where
-  go : (n : Ordering) → text_cmp s.id p.id ≡ n → false ≡ is_eq n
-      → match_ordering n (s ∷ p ∷ left) (s ∷ left) (p ∷ put_state s left) ≡ s ∷ p ∷ left
-  go Less f e = refl
-  go Equal f e = cc
-  go Greater f e = absurd (before f)
+      go : (left : List PlanState) → plans ≡ take at plans ++ left → true ≡ begins_with s left
+          → set plans at s ≡ take at plans ++ put_state s left
+      go [] is e = cc
+      go (p ∷ rest) is e =
+          (λ i. set (is i) (sym (length_take at plans within) i) s)
+          ∙ set-append_seam (take at plans) p rest s
+          ∙ ap (λ ps. take at plans ++ ps) (by_order p rest (text_cmp s.id p.id) e)
 
 -- ---- each plan in turn
 

@@ -1,5 +1,5 @@
-//! What is kept of a desk in memory beside its tables: the volumes of live plans, whose each is, its priority and
-//! bounds round it; and the roll of operators, with their ceilings and the states of their plans.
+//! What is kept of a desk in memory beside its tables: the volumes of live plans, whose each is, its priority
+//! and bounds round it; and the roll of operators, with their ceilings and the states of their plans.
 #![tactic(auto)]
 
 mod account;

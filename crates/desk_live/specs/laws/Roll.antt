@@ -138,8 +138,10 @@ rows_after q [] p = go (is_by q p) where
   go false = refl
 rows_after q (r ∷ ps) p = go (is_by q r) (is_by q p) (rows_after q ps p) where
   go : (b c : Bool) → rows_by q (ps ++ p ∷ []) ≡ cond c (rows_by q ps ++ p.row ∷ []) (rows_by q ps)
-      → map (λ (s : Filed). s.row) (cond b (r ∷ filter (is_by q) (ps ++ p ∷ [])) (filter (is_by q) (ps ++ p ∷ [])))
-      ≡ cond c (map (λ (s : Filed). s.row) (cond b (r ∷ filter (is_by q) ps) (filter (is_by q) ps)) ++ p.row ∷ [])
+      → map (λ (s : Filed). s.row)
+      (cond b (r ∷ filter (is_by q) (ps ++ p ∷ [])) (filter (is_by q) (ps ++ p ∷ [])))
+      ≡ cond c
+      (map (λ (s : Filed). s.row) (cond b (r ∷ filter (is_by q) ps) (filter (is_by q) ps)) ++ p.row ∷ [])
       (map (λ (s : Filed). s.row) (cond b (r ∷ filter (is_by q) ps) (filter (is_by q) ps)))
   go true true ih = ap (λ rows. r.row ∷ rows) ih
   go true false ih = ap (λ rows. r.row ∷ rows) ih
@@ -189,7 +191,8 @@ clear_states : (ids : List (List ℕ)) (rows : List PlanRow)
     → filter (λ s. not (is_named ids s)) (map state_of rows) ≡ map state_of (clear_rows ids rows)
 clear_states ids [] = refl
 clear_states ids (r ∷ rows) = go (not (changes.is_named ids r)) (clear_states ids rows) where
-  go : (b : Bool) → filter (λ s. not (is_named ids s)) (map state_of rows) ≡ map state_of (clear_rows ids rows)
+  go : (b : Bool)
+      → filter (λ s. not (is_named ids s)) (map state_of rows) ≡ map state_of (clear_rows ids rows)
       → cond b (state_of r ∷ filter (λ s. not (is_named ids s)) (map state_of rows))
       (filter (λ s. not (is_named ids s)) (map state_of rows))
       ≡ map state_of (cond b (r ∷ clear_rows ids rows) (clear_rows ids rows))
@@ -216,7 +219,8 @@ listed_own o ceiling (l ∷ ls) = go (text_cmp o l.name) refl (listed_own o ceil
   go Less e ih = mine (l ∷ ls)
   go Equal e ih = mine ls
   go Greater e ih = ap (λ t. option_map (λ (k : Listed). k.ceiling)
-      (cond (is_eq t) (Some l) (find (λ (k : Listed). is_eq (text_cmp o k.name)) (list_operator o ceiling ls)))) e
+      (cond (is_eq t) (Some l)
+      (find (λ (k : Listed). is_eq (text_cmp o k.name)) (list_operator o ceiling ls)))) e
       ∙ ih
 
 listed_others : (o : List ℕ) (ceiling : ℕ) (q : List ℕ) (ls : List Listed) → is_eq (text_cmp q o) ≡ false
@@ -311,7 +315,8 @@ states_found id [] = refl
 states_found id (r ∷ rows) = go (is_eq (text_cmp id r.id)) (states_found id rows) where
   go : (b : Bool) → option_map (λ s. s.states) (find (has_id id) (map state_of rows))
       ≡ option_map states_in (find (world.has_id id) rows)
-      → option_map (λ (s : PlanState). s.states) (cond b (Some (state_of r)) (find (has_id id) (map state_of rows)))
+      → option_map (λ (s : PlanState). s.states)
+      (cond b (Some (state_of r)) (find (has_id id) (map state_of rows)))
       ≡ option_map states_in (cond b (Some r) (find (world.has_id id) rows))
   go true ih = refl
   go false ih = ih

@@ -11,6 +11,7 @@ returns-clause-kept c = λ ls ps h.
     let old = c.args.accounts.now.entries in
     let none = absent (account_in o old) c.if-has_account.ensures in
     let made : Account = record { ceiling = None; plans = c.new.result } in
-    written_same o old c.insert.new.self.entries made ls ps (record { each = c.in_ok-insert.ensures.updates.0 })
+    written_same o old c.insert.new.self.entries made ls ps
+    (record { each = c.in_ok-insert.ensures.updates.0 })
     h (sym (ap (option_and_then (λ (a : Account). a.ceiling)) none))
     (c.new.ensures.items ∙ sym (ap plans_or_none none))
