@@ -38,3 +38,5 @@ pub mod SlabLemmas
 pub mod StatesLemmas
 pub mod PuttableLemmas
 pub mod MovingLemmas
+pub mod CopyLemmas
+pub mod LookLemmas

@@ -70,7 +70,7 @@ one_row r (s ∷ []) same =
     (All-from_recursion (λ x. x ≡ r) (r ∷ []) (refl, tt)))).0
 one_row r (s ∷ t ∷ rows) same = absurd (omega (arith, length_permutation (r ∷ []) (s ∷ t ∷ rows) same))
 
-no_row : (rows : List Row) → IsPermutation [] rows → rows ≡ []
+pub no_row : (rows : List Row) → IsPermutation [] rows → rows ≡ []
 no_row [] same = refl
 no_row (r ∷ rows) same = absurd (omega (arith, length_permutation [] (r ∷ rows) same))
 
@@ -175,7 +175,7 @@ weaker (Err e) f h = tt
 
 -- ---- tables with no row
 
-abbrev nothing : World
+abbrev pub nothing : World
 nothing = record { operators = []; plans = [] }
 
 nothing_is_content : IsContent nothing

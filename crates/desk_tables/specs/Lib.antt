@@ -12,6 +12,7 @@ pub mod Lengths
 pub mod Records
 pub mod Opening
 pub mod Moving
+pub mod Copying
 pub mod Causes
 pub mod Files
 pub mod Leaving

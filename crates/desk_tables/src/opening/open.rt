@@ -171,9 +171,14 @@ impl<S: Alter> SqliteStore<S> {
             → (state S.Store store.held).IsShielded) }
     {
         match world_in(alloc, &mut connection) {
-            Ok((kept, lengths)) => {
-                Ok(SqliteStore::with(alloc, connection, kept, lengths, StoreFault::Store))
-            }
+            Ok((kept, lengths, is_enrolled)) => Ok(SqliteStore::with(
+                alloc,
+                connection,
+                kept,
+                lengths,
+                StoreFault::Store,
+                is_enrolled,
+            )),
             Err(fault) => Err(AdoptFault { fault, connection }),
         }
     }
@@ -214,7 +219,14 @@ impl<S: Alter> SqliteStore<S> {
     {
         match moved_world_in(alloc, &mut connection) {
             Ok((kept, lengths, count)) => {
-                let store = SqliteStore::with(alloc, connection, kept, lengths, StoreFault::Store);
+                let store = SqliteStore::with(
+                    alloc,
+                    connection,
+                    kept,
+                    lengths,
+                    StoreFault::Store,
+                    true,
+                );
                 Ok((store, count))
             }
             Err(fault) => Err(AdoptFault { fault, connection }),
@@ -261,5 +273,12 @@ fn over_blank<S: Alter + Drop>(
     };
     let kept = made_in(&mut connection)?;
     let lengths = Lengths::new();
-    Ok(SqliteStore::with(alloc, connection, kept, lengths, StoreFault::OutOfMemory))
+    Ok(SqliteStore::with(
+        alloc,
+        connection,
+        kept,
+        lengths,
+        StoreFault::OutOfMemory,
+        false,
+    ))
 }
