@@ -17,13 +17,21 @@ import pywraps2 as s2
 
 from clients.bodies import MOMENT, bodies
 from clients.running import DESK, OPERATORS, TOP, Checks, Setting, asked, at, play
-from uss_desk_client import Circle, Desk, Polygon, Refused, Volume, area_of, area_over, cells_of, check, check_clear, new_id, why
+from uss_desk_client import Circle, Desk, Polygon, Refused, Volume, area_of, area_over, cells_of, check, check_clear
+from uss_desk_client import new_id, why
 from uss_desk_client.tokens import id_of, leaves_of
 
 MESSAGES = TOP / "examples" / "clients" / "interuss"
 FIELD = [(8.5400, 47.3700), (8.5560, 47.3690), (8.5600, 47.3790), (8.5480, 47.3830), (8.5390, 47.3780)]
 WOOD = [(8.5500, 47.3750), (8.5700, 47.3740), (8.5690, 47.3850), (8.5520, 47.3860)]
 FAR = [(8.7000, 47.5000), (8.7100, 47.5000), (8.7100, 47.5060), (8.7000, 47.5060)]
+CELL = "479aa0a5c"
+"""A cell within FIELD, 300 m wide."""
+BEGINNING = [(-45.010, -35.272), (-44.988, -35.271), (-44.990, -35.255), (-45.011, -35.258)]
+AROUND_IT = [(-45.004, -35.267), (-44.980, -35.266), (-44.982, -35.249), (-45.003, -35.252)]
+"""Two polygons around the place where the curve of all leaves begins, on three faces."""
+EARTH = 6_371_000
+"""Metres: its mean radius."""
 
 
 def run(only, count, seed):
@@ -45,8 +53,8 @@ def run(only, count, seed):
 
 
 def tests(checks):
-    """The tests of both packages."""
-    for name in ("python", "interuss_bridge"):
+    """The tests of each package."""
+    for name in ("python", "interuss_bridge", "mock_desk"):
         words = [sys.executable, "-m", "pytest", "-q", "-p", "no:cacheprovider"]
         ran = subprocess.run(words, cwd=TOP / "clients" / name, capture_output=True, text=True, check=False,
                              env={**os.environ, "PYTHONDONTWRITEBYTECODE": "1"})
@@ -83,18 +91,34 @@ def random_bodies(checks, count, seed):
 # ---- the client
 
 def metres_from(ring, conflict):
-    """How far a conflict lies from a polygon; 0 within it."""
+    """How far a conflict's leaf, by its centre, lies from a polygon; 0 within it."""
     loop = s2.S2Loop()
     loop.Init([s2.S2LatLng.FromDegrees(latitude, longitude).ToPoint() for longitude, latitude in ring])
     loop.Normalize()
     place = s2.S2LatLng.FromDegrees(conflict.latitude, conflict.longitude).ToPoint()
-    return 0.0 if loop.Contains(place) else loop.GetDistance(place).radians() * 6_371_000
+    return 0.0 if loop.Contains(place) else loop.GetDistance(place).radians() * EARTH
 
 
-def has_leaf(area, conflict):
+def cells_with_leaf(area, conflict):
+    """The cells of an area that have a conflict's leaf."""
     leaf = id_of(conflict.cell)
-    return any(least <= leaf <= greatest for volume in area for cell in volume.cells
-               for least, greatest in [leaves_of(id_of(cell))])
+    return [cell for volume in area for cell in volume.cells for least, greatest in [leaves_of(id_of(cell))]
+            if least <= leaf <= greatest]
+
+
+def size_of(cell):
+    """The metres from one corner of a cell to the farthest other one."""
+    corners = [s2.S2Cell(s2.S2CellId.FromToken(cell)).GetS2LatLngVertex(at) for at in range(4)]
+    return max(one.GetDistance(other).radians() for one in corners for other in corners) * EARTH
+
+
+def along_grid(cell):
+    """A polygon some millimetres within the edges of a cell, so that its cover is this cell."""
+    middle = s2.S2CellId.FromToken(cell).ToLatLng()
+    corners = [s2.S2Cell(s2.S2CellId.FromToken(cell)).GetS2LatLngVertex(at) for at in range(4)]
+    return [tuple(corner + (centre - corner) * 1e-5 for corner, centre in (
+        (place.lng().degrees(), middle.lng().degrees()), (place.lat().degrees(), middle.lat().degrees())))
+        for place in corners]
 
 
 def through_client(checks, setting):
@@ -131,17 +155,29 @@ def blocked_for_another(checks, alfa, bravo, field):
     checks.told("blocked", ("Rejected", "NotPlanned", "conflict"), (*result_of(answer), answer.note))
     conflict = answer.conflict
     checks.told("blocked from", (100.0, at(12, 30), 10), (conflict.altitude_metres, conflict.time, conflict.priority))
-    checks.holds("the leaf lies in both covers", has_leaf(field, conflict) and has_leaf(wood, conflict))
-    closely = [area_of(Polygon(ring), (60, 120), at(20), at(21), 1_000) for ring in (FIELD, WOOD)]
-    checks.told("planned closely", "Completed", alfa.plan(new_id(), closely[0], 10).result)
-    conflict = bravo.try_plan(closely[1], 10).conflict
-    checks.holds("the leaf lies in both polygons, but for a cell's width",
-                 max(metres_from(ring, conflict) for ring in (FIELD, WOOD)) < 25)
-    checks.told("the close plan is cleared", 1, alfa.clear(closely[0][:1]).count)
+    for ring, area in ((FIELD, field), (WOOD, wood)):
+        cells = cells_with_leaf(area, conflict)
+        checks.holds("the leaf lies in both covers", cells)
+        checks.holds("the leaf lies at most a cell's size outside of both polygons",
+                     metres_from(ring, conflict) <= max(map(size_of, cells), default=0))
+    in_both_polygons(checks, alfa, bravo)
     reasons = why(bravo, wood, 10)
     both = {cell for cell in wood[0].cells if any(meets(cell, other) for other in field[0].cells)}
     checks.told("why tells the cells that meet", both, set(reasons.blocked_cells))
     checks.told("over it", "Completed", bravo.try_plan(wood, 11).result)
+
+
+def in_both_polygons(checks, alfa, bravo):
+    """The blocked leaf lies in both polygons. Before it on the curve, a centimetre away, comes a leaf that isn't in
+    both covers: so this is tried where a polygon's edge is that of its cover, and where no leaf comes before."""
+    for name, one, other in (("a field along the grid", along_grid(CELL), FIELD),
+                             ("the curve's beginning", BEGINNING, AROUND_IT)):
+        areas = [area_of(Polygon(ring), (60, 120), at(20), at(21)) for ring in (one, other)]
+        checks.told(f"{name}: planned", "Completed", alfa.plan(new_id(), areas[0], 10).result)
+        conflict = bravo.try_plan(areas[1], 10).conflict
+        checks.told(f"{name}: the leaf lies in both polygons", [0.0, 0.0],
+                    [metres_from(ring, conflict) for ring in (one, other)])
+        checks.told(f"{name}: cleared", 1, alfa.clear(areas[0]).count)
 
 
 def meets(cell, other):
@@ -203,8 +239,8 @@ def proxy(checks, setting):
     refused = [answer for answer in flood if answer[0] != 200]
     checks.told("nginx: too many requests", {(429, "too_many_requests", "5")},
                 {(status, value["error"], after) for status, value, _, after in refused})
-    checks.holds("openapi.json has 429, 502, 504", all(
-        word in described(status) for status, word in ((429, "too_many_requests"), (502, "bad_gateway"), (504, "gateway_timeout"))))
+    words = {429: "too_many_requests", 502: "bad_gateway", 504: "gateway_timeout"}
+    checks.holds("openapi.json has 429, 502, 504", all(word in described(status) for status, word in words.items()))
 
 
 def raw(setting, method, path, fields, body):
@@ -213,7 +249,8 @@ def raw(setting, method, path, fields, body):
     try:
         connection.request(method, path, body=body, headers=fields)
         answer = connection.getresponse()
-        return answer.status, json.loads(answer.read()), answer.getheader("content-type"), answer.getheader("retry-after")
+        value = json.loads(answer.read())
+        return answer.status, value, answer.getheader("content-type"), answer.getheader("retry-after")
     finally:
         connection.close()
 
@@ -229,15 +266,50 @@ def described(status):
 # ---- what docs/CLIENTS.md has
 
 def page(checks, setting):
-    """The first lines of Python of docs/CLIENTS.md, asked of this desk for tomorrow."""
+    """The lines of Python and those of the terminal that docs/CLIENTS.md begins with, asked of this desk."""
     text = (TOP / "docs" / "CLIENTS.md").read_text(encoding="utf-8")
     lines = text.split("```python\n")[1].split("```")[0]
-    lines = lines.replace("https://DESK", setting.url).replace('password=".."', 'password="a"')
+    lines = lines.replace('"http://127.0.0.1:8080", operator="alfa"', f'"{setting.url}", user="alfa", password="a"')
     printed, names = io.StringIO(), {}
     with contextlib.redirect_stdout(printed):
-        exec(lines.replace("2026-06-01", f"{at(0):%Y-%m-%d}"), names)
+        exec(lines, names)
     checks.told("the page's lines", "Completed, Planned\n", printed.getvalue())
     checks.told("the page's plan", "Closed", names["desk"].show(names["plan_id"]).status)
+    lines = lines_of(text, "The same from a terminal", "## When it is refused")
+    at_list = next(at for at, line in enumerate(lines) if line.endswith(" list"))
+    status, output = in_shell(setting, lines[1:at_list])
+    plan_id, _, told = output.partition("  ")
+    checks.told("the page's plan in a terminal", (0, "Completed, OkToFly\n"), (status, told))
+    asked_why = lines_of(text, "## What blocks a flight", "## When others")
+    why_lines = "\n".join(["day=$(date -u -d tomorrow +%F)", *asked_why])
+    for priority, blocked, told in ((10, 1, "A flight of priority 10 is blocked in 64 of 64 cells"),
+                                    (11, 0, "Nothing blocks this flight of priority 11")):
+        status, output = in_shell(setting, [why_lines.replace("--priority 10", f"--priority {priority}")])
+        checks.told("the page's why", (blocked, told), (status, output.splitlines()[0]))
+    status, output = in_shell(setting, lines[at_list:], plan_id)
+    checks.told("the page's list, show and close", (0, ["no conflict", f"{plan_id}  Completed, Closed"]),
+                (status, output.splitlines()[-2:]))
+
+
+def lines_of(text, begin, end):
+    """The lines of a terminal between two places of a page."""
+    part = text.split(begin)[1].split(end)[0]
+    return [line[4:] for line in part.splitlines() if line.startswith("    ")]
+
+
+def in_shell(setting, lines, plan_id=""):
+    """The exit status and the output of lines of a terminal, asked as alfa of this desk."""
+    script = "\n".join(['python3() { "$PYTHON" "$@"; }', *lines]).replace(" ID", f" {plan_id}")
+    ran = subprocess.run(["bash", "-e"], input=script, capture_output=True, text=True, timeout=120, check=False,
+                         cwd=setting.folder,
+                         env={**os.environ, **environment(setting, "alfa"), "PYTHON": sys.executable})
+    return ran.returncode, ran.stdout
+
+
+def environment(setting, name):
+    """What a terminal has, to ask as an operator of this desk."""
+    return {"PYTHONPATH": str(TOP / "clients" / "python"), "USS_DESK_URL": setting.url, "USS_DESK_USER": name,
+            "USS_DESK_PASSWORD": OPERATORS[name], "PYTHONDONTWRITEBYTECODE": "1"}
 
 
 def command_line(checks, setting):
@@ -245,18 +317,22 @@ def command_line(checks, setting):
     field = setting.folder / "field.geojson"
     ring = [list(place) for place in (*FIELD, FIELD[0])]
     field.write_text(json.dumps({"type": "Feature", "geometry": {"type": "Polygon", "coordinates": [ring]}}))
-    flight = ["--altitude", "60", "120", "--from", f"{at(15):%Y-%m-%dT%H:%M:%SZ}", "--to", f"{at(16):%Y-%m-%dT%H:%M:%SZ}"]
-    status, output = uss_plan(setting, "carol", "plan", "--polygon", str(field), *flight, "--priority", "30", "--activate")
+    day = f"{at(0):%Y-%m-%d}"
+    flight = ["--altitude", "60", "120", "--from", f"{day}T15:00:00Z", "--to", f"{day}T16:00:00Z"]
+    higher = [*flight, "--priority", "30", "--activate"]
+    status, output = uss_plan(setting, "carol", "plan", "--polygon", str(field), *higher)
     plan_id, _, told = output.partition("  ")
     checks.told("uss-plan plan", (0, "Completed, OkToFly\n"), (status, told))
     status, output = uss_plan(setting, "bravo", "plan", "--polygon", str(field), *flight)
-    checks.told("uss-plan blocked", (1, True), (status, "Rejected, NotPlanned: conflict (priority 30 at 47.3" in output))
+    checks.told("uss-plan blocked", (1, True),
+                (status, "Rejected, NotPlanned: conflict (priority 30 at 47.3" in output))
     status, output = uss_plan(setting, "carol", "list")
     checks.told("uss-plan list", (0, ["OkToFly"]), (status, [line.split()[1] for line in output.splitlines()[1:]]))
     status, output = uss_plan(setting, "carol", "show", plan_id)
     checks.told("uss-plan show", (0, "no conflict"), (status, output.splitlines()[-1]))
     picture, cells = setting.folder / "why.svg", setting.folder / "why.geojson"
-    status, output = uss_plan(setting, "bravo", "why", str(field), *flight, "--picture", str(picture), "--geojson", str(cells))
+    drawn = ["--picture", str(picture), "--geojson", str(cells)]
+    status, output = uss_plan(setting, "bravo", "why", str(field), *flight, *drawn)
     checks.told("uss-plan why", (1, "A flight of priority 0 is blocked in"), (status, output[:36]))
     minidom.parse(str(picture))
     states = {one["properties"]["state"] for one in json.loads(cells.read_text())["features"]}
@@ -271,9 +347,7 @@ def command_line(checks, setting):
 def uss_plan(setting, name, *words):
     """The exit status and the output of a line."""
     ran = subprocess.run([sys.executable, "-m", "uss_desk_client", *words], capture_output=True, text=True, timeout=120,
-                         check=False, cwd=setting.folder, env={
-                             **os.environ, "PYTHONPATH": str(TOP / "clients" / "python"), "USS_DESK_URL": setting.url,
-                             "USS_DESK_USER": name, "USS_DESK_PASSWORD": OPERATORS[name], "PYTHONDONTWRITEBYTECODE": "1"})
+                         check=False, cwd=setting.folder, env={**os.environ, **environment(setting, name)})
     return ran.returncode, ran.stdout
 
 
@@ -341,8 +415,9 @@ def killed(checks, setting):
     """Plans, changes and closes at the desk's own port, while it is killed and started again: what was answered is
     there, once."""
     alfa, wanted, results = setting.desk_itself("alfa"), {}, []
-    for begin in (0, 24, 48):
-        alfa.clear(area_over(["1", "3", "5", "7", "9", "b"], -10_000, 200_000, second(at(begin)), second(at(begin + 24))))
+    faces = ["1", "3", "5", "7", "9", "b"]
+    for begin in (-24, 0, 24, 48):
+        alfa.clear(area_over(faces, -10_000, 200_000, second(at(begin)), second(at(begin + 24))))
     checks.told("before the kills", 0, len(alfa.plans()))
     starts = setting.starts
     with Killer(setting) as killer:

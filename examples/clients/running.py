@@ -95,7 +95,8 @@ class Setting:
 
     def __enter__(self):
         for name in OPERATORS:
-            subprocess.run([DESK, "enrol", "--db", str(self.folder / "desk.db"), name, "100"], check=True, timeout=PATIENCE)
+            words = [DESK, "enrol", "--db", str(self.folder / "desk.db"), name, "100"]
+            subprocess.run(words, check=True, timeout=PATIENCE)
         threading.Thread(target=self._keep, daemon=True).start()
         until("the desk", lambda: self.starts and self.is_listening_desk())
         self._start_proxy()
@@ -116,7 +117,8 @@ class Setting:
         """Starts the desk, and again each time that it ends."""
         with open(self.folder / "output", "w", encoding="utf-8") as output:
             while not self._is_ending:
-                words = ["serve", "--db", str(self.folder / "desk.db"), "--port", str(self.port), "--requests", "1000000"]
+                words = ["serve", "--db", str(self.folder / "desk.db"), "--port", str(self.port),
+                         "--requests", "1000000"]
                 self._desk = subprocess.Popen([DESK, *words], stdout=output, stderr=subprocess.DEVNULL)
                 self.starts += 1
                 self._desk.wait()
@@ -160,7 +162,7 @@ class Setting:
 
 def asked(method, url, body):
     """The status and the body of an answer; requests of the bridge alone."""
-    request = urllib.request.Request(url, method=method, data=body)
+    request = urllib.request.Request(url, method=method, data=body, headers={"content-type": "application/json"})
     try:
         with urllib.request.urlopen(request, timeout=PATIENCE) as answer:
             return answer.status, answer.read()

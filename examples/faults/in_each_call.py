@@ -1,6 +1,6 @@
 """Runs a program, and refuses it the Nth growth of memory after each of its writes to the standard output.
 
-usage: in_each_call.py N PROGRAM
+usage: in_each_call.py N PROGRAM [WORD ..]
 
 The kernel asks here before each mapping of memory and each such write (seccomp's notifications, Linux 5.6). glibc is
 told to make each allocation by one mapping, and tries a second one if that is refused, which is refused too. By 0

@@ -11,8 +11,8 @@ from faults.scenario import MOMENT, OPERATORS, READING
 
 TOP = pathlib.Path(__file__).resolve().parent.parent.parent
 PROGRAM = os.environ.get("PROGRAM", str(TOP / "crates" / "uss_desk" / "out" / "uss_desk"))
-# Makes calls that grow, and makes each again if it was refused.
-CALLS = TOP / "crates" / "desk_refusals"
+# Its part `refusals` makes calls that grow, and makes each again if it was refused.
+CALLS = TOP / "crates" / "desk_trials"
 FAULTS = pathlib.Path(__file__).resolve().parent
 PATIENCE = 300
 # With -f each line of strace begins with the number of a process.

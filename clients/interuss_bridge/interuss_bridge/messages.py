@@ -5,13 +5,14 @@ README.md beside this package says member by member what becomes of what.
 from __future__ import annotations
 
 import json
-from decimal import Decimal
+from decimal import Decimal, InvalidOperation
 from typing import Any, Dict, List, Mapping, NamedTuple, Optional, Sequence, Tuple
 
-from uss_desk_client import Answer, AreaError, Circle, Polygon, ShapeError, UnitError, Volume, area_of
-from uss_desk_client import limits
+from uss_desk_client import Answer, AreaError, Circle, Polygon, ShapeError, Volume, area_over, cells_of, limits
+from uss_desk_client.areas import days_of
 from uss_desk_client.shapes import Shape
-from uss_desk_client.units import Metres, decimetres_down, decimetres_up, read_time, second_down, second_up
+from uss_desk_client.units import MOST_METRES, Metres, decimetres_down, decimetres_up, read_time, second_down
+from uss_desk_client.units import second_up
 
 STYLES = ("Hypothetical", "IfAllowed", "InReality")
 USAGES = ("Planned", "InUse", "Closed")
@@ -57,10 +58,17 @@ def no_constant(word: str) -> Any:
     raise ValueError(f"{word} is no number")
 
 
+def decimal_of(digits: str) -> Decimal:
+    try:
+        return Decimal(digits)
+    except InvalidOperation:
+        raise ValueError(f"{digits[:20]} has too large an exponent") from None
+
+
 def read_object(data: bytes) -> Mapping[str, Any]:
     """The object that a body is. Numbers with a point are kept as they were written."""
     try:
-        value = json.loads(data.decode("utf-8"), parse_float=Decimal, parse_constant=no_constant)
+        value = json.loads(data.decode("utf-8"), parse_float=decimal_of, parse_constant=no_constant)
     except (ValueError, RecursionError) as wrong:
         raise Malformed(f"the body is no JSON: {wrong}") from None
     if not isinstance(value, dict):
@@ -87,6 +95,8 @@ def number(value: Mapping[str, Any], name: str, path: str) -> Metres:
     found = value.get(name)
     if isinstance(found, bool) or not isinstance(found, (int, Decimal)):
         raise Malformed(f"{path} is no number")
+    if Decimal(found).copy_abs() > MOST_METRES:
+        raise Malformed(f"{path} is above {MOST_METRES:,}")
     return found
 
 
@@ -134,7 +144,11 @@ def volumes_of(volume: Any, path: str) -> List[Volume]:
     shape, altitudes, times = parts_of(volume, path)
     if None in altitudes:
         raise NotSupported(f"{path}.volume: the desk wants both altitudes")
-    return cut(shape, altitudes, times, path)
+    reach, cells = reach_of(altitudes, times, path), cells_over(shape, path)
+    try:
+        return area_over(cells, *reach)
+    except AreaError as wrong:
+        raise NotSupported(f"{path}: {wrong}") from None
 
 
 def extent_of(message: Mapping[str, Any]) -> List[Volume]:
@@ -143,12 +157,12 @@ def extent_of(message: Mapping[str, Any]) -> List[Volume]:
     if not isinstance(message.get("request_id"), str):
         raise Malformed("request_id is no text")
     shape, (lower, upper), times = parts_of(member(message, "extent", "extent"), "extent")
-    reach = (Decimal(limits.LOWEST) / 10 if lower is None else lower, Decimal(limits.HIGHEST) / 10 if upper is None
-             else upper)
-    volumes = cut(shape, reach, times, "extent")
-    if len(volumes) > MOST_CLEARS:
-        raise NotSupported(f"extent: {len(volumes)} days are too many to clear at once")
-    return volumes
+    altitudes = (limits.LOWEST // 10 if lower is None else lower, limits.HIGHEST // 10 if upper is None else upper)
+    reach, cells = reach_of(altitudes, times, "extent"), cells_over(shape, "extent")
+    days = days_of(reach.start, reach.end)
+    if len(days) > MOST_CLEARS:
+        raise NotSupported(f"extent: {len(days)} days are too many to clear at once: at most {MOST_CLEARS}")
+    return [Volume(cells, reach.lower, reach.upper, start, end) for start, end in days]
 
 
 Altitudes = Tuple[Optional[Metres], Optional[Metres]]
@@ -160,7 +174,7 @@ def parts_of(volume: Any, path: str) -> Tuple[Shape, Altitudes, Times]:
     if not isinstance(volume, dict):
         raise Malformed(f"{path} is no object")
     inner = member(volume, "volume", f"{path}.volume")
-    altitudes = tuple(altitude_of(inner, name, f"{path}.volume.{name}") for name in ("altitude_lower", "altitude_upper"))
+    altitudes = [altitude_of(inner, name, f"{path}.volume.{name}") for name in ("altitude_lower", "altitude_upper")]
     times = [time_of(volume, name, f"{path}.{name}") for name in ("time_start", "time_end")]
     shape = outline_of(inner, f"{path}.volume")
     if times[0] is None or times[1] is None:
@@ -168,24 +182,34 @@ def parts_of(volume: Any, path: str) -> Tuple[Shape, Altitudes, Times]:
     return shape, (altitudes[0], altitudes[1]), (times[0], times[1])
 
 
-def cut(shape: Shape, altitudes: Altitudes, times: Times, path: str) -> List[Volume]:
-    """The desk's volumes over an outline, of at most 64 cells and a day each."""
+class Reach(NamedTuple):
+    """Decimetres and Unix seconds that contain a message's altitudes and times."""
+
+    lower: int
+    upper: int
+    start: int
+    end: int
+
+
+def reach_of(altitudes: Altitudes, times: Times, path: str) -> Reach:
     lower, upper = altitudes
     assert lower is not None and upper is not None
-    least, greatest = decimetres_down(lower), decimetres_up(upper)
-    start, end = second_down(times[0]), second_up(times[1])
-    if lower >= upper or start >= end:
+    reach = Reach(decimetres_down(lower), decimetres_up(upper), second_down(times[0]), second_up(times[1]))
+    if lower >= upper or reach.start >= reach.end:
         raise Malformed(f"{path}: a volume ends above and after its beginning")
-    if least < limits.LOWEST or greatest > limits.HIGHEST:
+    if reach.lower < limits.LOWEST or reach.upper > limits.HIGHEST:
         raise NotSupported(f"{path}: the desk has altitudes from {limits.LOWEST // 10} to {limits.HIGHEST // 10} m")
-    if start < 0 or end > limits.LAST_SECOND:
+    if reach.start < 0 or reach.end > limits.LAST_SECOND:
         raise NotSupported(f"{path}: the desk has times of the years 1970 to 9998")
+    return reach
+
+
+def cells_over(shape: Shape, path: str) -> Tuple[str, ...]:
+    """At most 64 cells that contain an outline."""
     try:
-        return area_of(shape, (lower, upper), *times)
+        return tuple(cells_of(shape))
     except ShapeError as wrong:
         raise Malformed(f"{path}: {wrong}") from None
-    except (AreaError, UnitError) as wrong:
-        raise NotSupported(f"{path}: {wrong}") from None
 
 
 def altitude_of(inner: Mapping[str, Any], name: str, path: str) -> Optional[Metres]:

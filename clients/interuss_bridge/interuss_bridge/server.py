@@ -15,6 +15,8 @@ from uss_desk_client import Desk, DeskError, NoAnswer, NoSuchPlan, Refused
 Result = TypeVar("Result")
 Handler = Callable[[web.Request], Awaitable[web.StreamResponse]]
 API_NAME = "Flight Planning Automated Testing Interface"
+STATUS_PATIENCE = 2.0
+"""Seconds after which a desk that doesn't answer is told as starting."""
 
 
 class Bridge:
@@ -43,7 +45,7 @@ class Bridge:
 
     async def status(self, _: web.Request) -> web.Response:
         try:
-            status = await self._ask(self._desk.status)
+            status = await asyncio.get_running_loop().run_in_executor(None, self._desk.status, STATUS_PATIENCE)
         except NoAnswer:
             status = "Starting"
         return web.json_response({"status": status, "api_name": API_NAME, "api_version": "v1"})

@@ -1,6 +1,7 @@
 """What messages ask, member by member, with the numbers written by hand; README.md says the same."""
 import copy
 import json
+import random
 
 import pytest
 
@@ -9,7 +10,8 @@ from uss_desk_client import Answer, Conflict
 
 VOLUME = {
     "volume": {
-        "outline_polygon": {"vertices": [{"lat": 47.0, "lng": 8.0}, {"lat": 47.0, "lng": 8.01}, {"lat": 47.01, "lng": 8.01}]},
+        "outline_polygon": {"vertices": [
+            {"lat": 47.0, "lng": 8.0}, {"lat": 47.0, "lng": 8.01}, {"lat": 47.01, "lng": 8.01}]},
         "altitude_lower": {"value": 60.05, "reference": "W84", "units": "M"},
         "altitude_upper": {"value": 120, "reference": "W84", "units": "M"},
     },
@@ -95,10 +97,51 @@ def test_what_the_desk_has_no_words_for(path, value, told):
         asked(put(path, value))
 
 
-@pytest.mark.parametrize("data", [b"", b"[]", b"{", b"\xff", b'{"a":NaN}'])
+@pytest.mark.parametrize("data", [b"", b"[]", b"{", b"\xff", b'{"a":NaN}', b'{"a":1e99999999999999999999}',
+                                  b"[" * 9_999])
 def test_no_objects(data):
     with pytest.raises(Malformed):
         read_object(data)
+
+
+@pytest.mark.parametrize("number", ["1e400", "1e999999999", "1" * 400, "-1e10"])
+@pytest.mark.parametrize("path", [
+    (*AREA, "volume", "altitude_upper", "value"), (*AREA, "volume", "outline_polygon", "vertices", 0, "lng")])
+def test_huge_numbers(path, number):
+    with pytest.raises(Malformed, match="above 1,000,000,000"):
+        upsert_of(read_object(json.dumps(put(path, "NUMBER")).replace('"NUMBER"', number).encode()))
+
+
+def places(value, path=()):
+    """The paths of all members and items of a value."""
+    for name, part in value.items() if isinstance(value, dict) else enumerate(value) if isinstance(value, list) else ():
+        yield (*path, name)
+        yield from places(part, (*path, name))
+
+
+ODD = [None, True, 0, -1, 91, 1e9, 1e-300, 2**70, "", "x", [], {}, [[]], [{}], {"value": 1}, "W84",
+       "1970-01-01T00:00:00Z", "9999-12-31T23:59:59Z", "\ud800", [VOLUME] * 40, {"lat": 0, "lng": 0}]
+
+
+@pytest.mark.parametrize("seed", range(300))
+def test_whatever_comes_is_read_or_refused(seed):
+    some = random.Random(seed)
+    message = copy.deepcopy({**MESSAGE, "extent": VOLUME})
+    if some.random() < 0.3:
+        message["extent"]["volume"]["outline_circle"] = {
+            "center": {"lat": 47, "lng": 8}, "radius": {"value": 300, "units": "M"}}
+        del message["extent"]["volume"]["outline_polygon"]
+    for _ in range(some.choice([1, 1, 2, 3])):
+        *before, last = some.choice(list(places(message)))
+        holder = message
+        for name in before:
+            holder = holder[name]
+        holder[last] = copy.deepcopy(some.choice(ODD))
+    for read in (upsert_of, extent_of):
+        try:
+            read(read_object(json.dumps(message).encode()))
+        except (Malformed, NotSupported) as refused:
+            assert str(refused)
 
 
 def test_a_circle_and_30_hours():
@@ -119,11 +162,24 @@ def test_an_extent_without_altitudes_is_of_all():
         extent_of({"extent": extent})
 
 
+def test_an_extent_of_many_days():
+    extent = copy.deepcopy(VOLUME)
+    message = {"request_id": "r", "extent": extent}
+    extent["time_start"]["value"], extent["time_end"]["value"] = "2026-06-01T00:00:00Z", "2026-08-04T00:00:00Z"
+    days = extent_of(read_object(json.dumps(message).encode()))
+    assert len(days) == 64 and days[0].cells == days[63].cells
+    assert all(one.end == other.start == one.start + 86_400 for one, other in zip(days, days[1:]))
+    extent["time_end"]["value"] = "2026-08-04T00:00:00.1Z"
+    with pytest.raises(NotSupported, match="65 days are too many"):
+        extent_of(read_object(json.dumps(message).encode()))
+
+
 def test_answers():
     done = response_of(Answer("Completed", "OkToFly"), False)
     assert done == {"planning_result": "Completed", "flight_plan_status": "OkToFly",
                     "includes_advisories": "NoAdvisoriesOrConditions"}
     blocked = Answer("Rejected", "NotPlanned", "conflict", Conflict("0000000000000001", 600, NOON, 30))
     told = response_of(blocked, True)
-    assert told["has_conflict"] is True and told["notes"].startswith("conflict (priority 30 at -35.264390 -45.000000, 60 m")
+    assert told["has_conflict"] is True
+    assert told["notes"].startswith("conflict (priority 30 at -35.264390 -45.000000, 60 m")
     assert response_of(Answer("Completed", "Planned"), True)["has_conflict"] is False

@@ -36,6 +36,16 @@ def in_second(*path):
     return ("flight_plan", "basic_information", "area", 1, *path)
 
 
+def test_a_body_is_as_large_as_it_is_sent():
+    """The limit is 131,072 bytes, and the client sends no blanks."""
+    body = {**BODY, "x": [0] * 50_000}
+    text = json.dumps(body, separators=(",", ":"))
+    body["y"] = "z" * (131_072 - len(text) - len(',"y":""'))
+    assert len(json.dumps(body, separators=(",", ":"))) == 131_072 and check(body) is None
+    body["y"] += "z"
+    assert check(body).word == "too_large"
+
+
 def test_a_good_body():
     assert check(BODY) is None
     assert check(json.dumps(BODY).encode(), moment=MOMENT, ceiling=10, stored="NotPlanned") is None
@@ -78,7 +88,8 @@ def test_one_wrong_member(path, value, word, volume, member):
 
 
 @pytest.mark.parametrize("name, value, word, member", [
-    ("face", 6, "bad_volume", ".face"), ("i_min", 101, "bad_volume", ".i_max"), ("j_max", 2**30, "bad_volume", ".j_max"),
+    ("face", 6, "bad_volume", ".face"), ("i_min", 101, "bad_volume", ".i_max"),
+    ("j_max", 2**30, "bad_volume", ".j_max"),
     ("level", 25, "bad_volume", ".level"), ("level", 7, "bad_volume", ".level"), ("j_min", -1, "bad_volume", ".j_min"),
     ("i_max", 2**30 - 1, "too_many_cells", ""),
 ])
@@ -97,8 +108,9 @@ def test_the_first_fault_decides():
 
 
 @pytest.mark.parametrize("text, word", [
-    (b"", "bad_json"), (b"{", "bad_json"), (b"\xff", "bad_json"), (b"\xef\xbb\xbf{}", "bad_json"), (b'{"a":NaN}', "bad_json"),
-    (b'{"a":1e400}', "bad_json"), (b'{"a":01}', "bad_json"), (b'{"a":"\\ud800"}', "bad_json"), (b'{"a":"\t"}', "bad_json"),
+    (b"", "bad_json"), (b"{", "bad_json"), (b"\xff", "bad_json"), (b"\xef\xbb\xbf{}", "bad_json"),
+    (b'{"a":NaN}', "bad_json"), (b'{"a":1e400}', "bad_json"), (b'{"a":01}', "bad_json"),
+    (b'{"a":"\\ud800"}', "bad_json"), (b'{"a":"\t"}', "bad_json"),
     (b"[" * 128 + b"]" * 128, "bad_json"), (b"[" * 127 + b"]" * 127, "bad_member"), (b"{}", "bad_member"),
     (b'{"a":"[[["}', "bad_member"), (b" " * 131_073, "too_large"), (b"[]", "bad_member"),
 ])

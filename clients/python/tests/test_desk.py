@@ -184,6 +184,68 @@ def test_a_refusal_names_the_volume():
     assert (refused.value.fault.volume, refused.value.fault.member) == (1, "volume.altitude_upper")
 
 
+def test_a_refusal_is_told_once():
+    _, desk = asks((400, {"error": "bad_volume"}), (403, {"error": "unknown_operator"}))
+    with pytest.raises(Refused) as refused:
+        desk.plan(ID, [Volume(("x",), 0, 1, 0, 1)])
+    assert str(refused.value) == (
+        "400 bad_volume: volume 0: volume.cells[0]: the token of an S2 cell, 1 to 16 hex digits")
+    with pytest.raises(Refused) as refused:
+        desk.plan(ID, AREA)
+    assert str(refused.value) == "403 unknown_operator: the operator isn't enrolled: ask the keeper of the desk"
+
+
+def test_a_closed_plan_is_not_changed():
+    closed = (200, {**SHOWN[1], "flight_plan_status": "Closed", "usage_state": "Closed"})
+    refused = (200, {"flight_plan_status": "Closed", "notes": "closed", "planning_result": "Rejected"})
+    server, desk = asks(closed, refused)
+    assert desk.change(ID, priority=5).note == "closed"
+    assert json.loads(server.asked[1][3])["flight_plan"]["basic_information"]["usage_state"] == "Planned"
+
+
+def test_a_change_in_use_stays_so_and_is_nominal():
+    server, desk = asks((200, {**SHOWN[1], "flight_plan_status": "OffNominal", "usage_state": "InUse",
+                               "uas_state": "OffNominal"}), DONE)
+    desk.change(ID, priority=5)
+    assert json.loads(server.asked[1][3]) == put_body(AREA, "InUse", "Nominal", 5, "IfAllowed")
+
+
+def test_a_malformed_put_that_was_lost_is_put_again():
+    server, desk = asks((502, b""), SHOWN, (400, {"error": "bad_member"}))
+    with pytest.raises(Refused, match="flight_plan"):
+        desk.put(ID, {"execution_style": "IfAllowed"})
+    assert server.methods == ["PUT", "GET", "PUT"]
+
+
+def test_a_lost_put_that_is_refused_then_is_an_answer():
+    server, desk = asks((504, b""), NO_PLAN, BLOCKED)
+    answer = desk.plan(ID, AREA, 10)
+    assert (answer.note, answer.was_lost, server.methods) == ("conflict", True, ["PUT", "GET", "PUT"])
+
+
+def test_a_close_by_put_that_was_lost_is_seen():
+    closed = (200, {**SHOWN[1], "flight_plan_status": "Closed", "usage_state": "Closed", "priority": 3})
+    server, desk = asks(HANG_UP, closed)
+    assert desk.put(ID, put_body(AREA, "Closed", "Nominal", 10, "IfAllowed")).status == "Closed"
+
+
+def test_a_dry_run_without_an_answer_changed_nothing():
+    _, desk = asks(*[(502, b"")] * 1_000, patience=0.2)
+    with pytest.raises(NoAnswer, match="nothing was changed"):
+        desk.try_plan(AREA)
+
+
+@pytest.mark.parametrize("value", [[], {}, "x", {"status": 1, "flight_plans": [{}], "planning_result": "Completed"},
+                                   {"outcome": {"message": "none"}, "flight_plans": 5, "area": [{}]},
+                                   {"outcome": {"message": ""}}, {"outcome": 1}])
+def test_answers_of_another_server(value):
+    _, desk = asks(*[(200, value)] * 5)
+    for call in (lambda: desk.plan(ID, AREA), lambda: desk.close(ID), lambda: desk.show(ID), desk.plans,
+                 lambda: desk.clear(AREA)):
+        with pytest.raises(BadAnswer):
+            call()
+
+
 @pytest.mark.parametrize("words", [("desk.example",), ("ftp://x",), ("http://x?y",)])
 def test_no_urls(words):
     with pytest.raises(ValueError):

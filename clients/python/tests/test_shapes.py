@@ -5,7 +5,7 @@ import random
 import pywraps2 as s2
 import pytest
 
-from uss_desk_client.shapes import Circle, Corridor, Polygon, ShapeError, Shapes, cells_of
+from uss_desk_client.shapes import GREATEST_RADIUS, Circle, Corridor, Polygon, ShapeError, Shapes, cells_of, followed
 from uss_desk_client.tokens import id_of, leaves_of
 
 SQUARE = [(8.0, 47.0), (8.01, 47.0), (8.01, 47.01), (8.0, 47.01)]
@@ -85,6 +85,43 @@ def test_a_cover_contains_its_corridor():
                  y + share * (v - y) + reach * math.sin(angle) / 111_400)
         assert has(cells, *place)
     assert not has(cells, 8.05, 47.05)
+
+
+def point(longitude, latitude):
+    return s2.S2LatLng.FromDegrees(latitude, longitude)
+
+
+@pytest.mark.parametrize("seed", range(60))
+def test_straight_lines_are_followed_within_a_centimetre(seed):
+    some = random.Random(seed)
+    size, turn = 10 ** some.uniform(-3, 0.5), some.uniform(0, 2 * math.pi)
+    begin = some.uniform(-179, 179), some.uniform(-80, 80)
+    step = size * math.cos(turn), size * math.sin(turn)
+    end = (begin[0] + step[0] + 540) % 360 - 180, begin[1] + step[1]
+    line = s2.S2Polyline()
+    line.InitFromS2LatLngs([point(*place) for place in followed([begin, end], is_ring=False)])
+    for at in range(101):
+        longitude = (begin[0] + step[0] * at / 100 + 540) % 360 - 180
+        place = point(longitude, begin[1] + step[1] * at / 100)
+        near = line.Project(place.ToPoint())[0]
+        assert s2.S2LatLng(near).GetDistance(place).radians() * GREATEST_RADIUS < 0.0101
+
+
+@pytest.mark.parametrize("gap", [5e-324, 1e-16, 1e-14])
+def test_places_that_are_one_to_s2_do_not_end_the_program(gap):
+    twice = [(8, gap), (8, 0), (8.01, 0), (8.01, 0.01), (8, 0.01)]
+    assert cells_of(Polygon(twice)) == cells_of(Polygon(twice[1:])) == cells_of(Polygon(twice[1:] + twice[:1]))
+    with pytest.raises(ShapeError, match="twice"):
+        cells_of(Polygon([(8, 0), (8.01, 0), (8.005, 0.005), (8, gap), (8.005, 0.01)]))
+    with pytest.raises(ShapeError, match="at least two places"):
+        cells_of(Corridor([(8, 0), (8, gap)], 10))
+
+
+def test_a_pole_and_the_antimeridian_are_one_place_however_they_are_written():
+    assert cells_of(Polygon([(0, 90), (120, 90), (10, 89.99), (20, 89.99)])) == cells_of(
+        Polygon([(77, 90), (10, 89.99), (20, 89.99)]))
+    assert cells_of(Polygon([(180, 0), (-180, 0), (-179.99, 0), (-179.99, 0.01)])) == cells_of(
+        Polygon([(-180, 0), (-179.99, 0), (-179.99, 0.01)]))
 
 
 def test_the_way_around_and_the_last_place_are_the_same_to_a_ring():

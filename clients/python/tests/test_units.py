@@ -1,5 +1,6 @@
 """Rounding outward, and times as the desk reads them; the answers are written by hand."""
 from datetime import datetime, timedelta, timezone
+from decimal import Decimal
 
 import pytest
 
@@ -9,13 +10,15 @@ from uss_desk_client.units import time_text
 
 @pytest.mark.parametrize("metres, down, up", [
     (60, 600, 600), (60.05, 600, 601), (-0.01, -1, 0), (0.1, 1, 1), (0.3, 3, 3), (1e-9, 0, 1), (-12.34, -124, -123),
-    (19.999999999, 199, 200),
+    (19.999999999, 199, 200), (Decimal("60." + "0" * 40 + "1"), 600, 601), (Decimal("-1E-999999999"), -1, 0),
+    (10 ** 9, 10 ** 10, 10 ** 10),
 ])
 def test_altitudes_are_rounded_outward(metres, down, up):
     assert (decimetres_down(metres), decimetres_up(metres)) == (down, up)
 
 
-@pytest.mark.parametrize("metres", [float("nan"), float("inf"), True, "60", None])
+@pytest.mark.parametrize("metres", [float("nan"), float("inf"), True, "60", None, 1e300, Decimal("1E+999999999"),
+                                    Decimal("sNaN"), -10 ** 400])
 def test_no_number_of_metres(metres):
     with pytest.raises(UnitError):
         decimetres_down(metres)
@@ -55,7 +58,7 @@ def test_a_moment_is_rounded_outward():
     assert time_text(1_780_315_200) == "2026-06-01T12:00:00Z"
 
 
-@pytest.mark.parametrize("time", [datetime(2026, 6, 1), "soon", 1.5, None, True])
+@pytest.mark.parametrize("time", [datetime(2026, 6, 1), "soon", 1.5, None, True, 1_780_315_200_000, -10 ** 20])
 def test_no_moments(time):
     with pytest.raises(UnitError):
         second_down(time)

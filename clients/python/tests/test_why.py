@@ -8,9 +8,9 @@ from uss_desk_client.answers import Answer, Conflict, NotTaken
 from uss_desk_client.areas import AreaError, Rectangle, Volume
 from uss_desk_client.geojson import collection, features_of_reasons, geometries, lines_in, shape_in
 from uss_desk_client.picture import page_of, svg_of
-from uss_desk_client.shapes import Circle, Corridor, Polygon, ShapeError, Shapes
+from uss_desk_client.shapes import Circle, Corridor, Polygon, ShapeError, Shapes, cells_of
 from uss_desk_client.tokens import evenly, id_of, leaves_of, level_of, token_of
-from uss_desk_client.why import Reasons, why
+from uss_desk_client.why import Blocked, Reasons, why
 
 CELLS = ("478fc2d01", "478fc2d03", "478fc2d05", "478fc2d07")
 FIELD = {"type": "Polygon", "coordinates": [[[8.0, 47.0], [8.01, 47.0], [8.01, 47.01], [8.0, 47.0]]]}
@@ -67,6 +67,44 @@ def test_pictures_and_geojson():
     assert "Nothing blocks" in svg_of(Reasons((volume(CELLS),), 10, (), 1), [])
 
 
+def reasons_of(cells, priority_of):
+    """All cells blocked, each at its first leaf, at a priority that is told by its number."""
+    asked, leaves = volume(cells), [f"{leaves_of(id_of(cell))[0]:016x}" for cell in cells]
+    return Reasons((asked,), 10, tuple(
+        Blocked(cell, asked, Conflict(leaf, 600, 5, priority_of(at)))
+        for at, (cell, leaf) in enumerate(zip(cells, leaves))), len(cells))
+
+
+def texts_of(picture):
+    """Each text of a picture with its place."""
+    return [(float(one.getAttribute("x")), float(one.getAttribute("y")), one.firstChild.data)
+            for one in minidom.parseString(picture).getElementsByTagName("text")]
+
+
+@pytest.mark.parametrize("priority_of", [lambda at: 30, lambda at: 10 + at])
+def test_a_picture_of_many_priorities_keeps_within_its_frame(priority_of):
+    picture = svg_of(reasons_of(evenly(["1"], 64), priority_of), [])
+    assert all(0 < x < 1_090 and 0 < y < 680 for x, y, _ in texts_of(picture))
+    words = [words for _, _, words in texts_of(picture)]
+    told = next(int(word.split()[1]) for word in words if word.endswith(" more"))
+    assert 64 - told == sum(word.startswith("1970-01-01 00:00:05") for word in words) >= 14
+    assert "free" not in words and "the flight as it was drawn" not in words
+
+
+def test_a_picture_over_the_antimeridian_is_of_the_flight_alone():
+    ring = [(179.99, -17.01), (-179.98, -17.0), (-179.98, -16.98), (179.99, -17.01)]
+    words = [words for _, _, words in texts_of(svg_of(reasons_of(cells_of(Polygon(ring)), lambda at: 5), [ring]))]
+    assert {"179.99° E", "180.00° E", "179.99° W", "17.00° S"} <= set(words)
+
+
+def test_a_circle_is_drawn():
+    point = {"type": "Point", "coordinates": [8, 60]}
+    (line,) = lines_in(point, 1_000)
+    assert line[0] == line[-1] and abs(max(place[1] for place in line) - 60 - 1_000 / 111_195) < 1e-6
+    assert abs(max(place[0] for place in line) - 8 - 2_000 / 111_195) < 1e-6
+    assert lines_in(point) == [] == lines_in({"type": "Point", "coordinates": [8, 90]}, 1_000)
+
+
 def test_shapes_of_geojson():
     assert shape_in({"type": "Feature", "geometry": FIELD}) == Polygon(FIELD["coordinates"][0], [], is_straight=True)
     assert isinstance(shape_in({"type": "LineString", "coordinates": [[8, 47], [9, 47]]}, width=10), Corridor)
@@ -81,13 +119,15 @@ def test_shapes_of_geojson():
 
 
 @pytest.mark.parametrize("token, number, level", [
-    ("1", 1 << 60, 0), ("B", 0xB << 60, 0), ("04", 0x04 << 56, 1), ("0000000000000001", 1, 30), ("04000000", 1 << 58, 1)])
+    ("1", 1 << 60, 0), ("B", 0xB << 60, 0), ("04", 0x04 << 56, 1), ("0000000000000001", 1, 30),
+    ("04000000", 1 << 58, 1)])
 def test_tokens(token, number, level):
     assert id_of(token) == number and level_of(number) == level
     assert id_of(token_of(number)) == number
 
 
-@pytest.mark.parametrize("token", ["", "0", "2", "c", "d", "f", "x", "00000000000000001", "0000000000000002", " 1", "1\n"])
+@pytest.mark.parametrize("token", ["", "0", "2", "c", "d", "f", "x", "00000000000000001", "0000000000000002", " 1",
+                                   "1\n"])
 def test_no_tokens(token):
     assert id_of(token) is None
 
@@ -97,7 +137,8 @@ def test_leaves():
 
 
 @pytest.mark.parametrize("tokens, at_most, found", [
-    (["1"], 1, ["1"]), (["1"], 3, ["1"]), (["1"], 4, ["04", "0c", "14", "1c"]), (["0000000000000001"], 9, ["0000000000000001"]),
+    (["1"], 1, ["1"]), (["1"], 3, ["1"]), (["1"], 4, ["04", "0c", "14", "1c"]),
+    (["0000000000000001"], 9, ["0000000000000001"]),
     (["1", "3"], 5, ["04", "0c", "14", "1c", "3"]), (["1"], 7, ["01", "03", "05", "07", "0c", "14", "1c"]),
     (["3", "04"], 5, ["04", "24", "2c", "34", "3c"]),
 ])

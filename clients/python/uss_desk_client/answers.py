@@ -28,7 +28,10 @@ ADVICE = {
 
 @dataclass(frozen=True)
 class Conflict:
-    """The first blocked point of a plan: the least by leaf id, then altitude, then second. Others may follow."""
+    """The first blocked point of a plan: the least by leaf id, then altitude, then second. Others may follow.
+
+    Its leaf is in the covers of both flights, and may lie up to a cell's size outside of their shapes.
+    """
 
     cell: str
     """The token of the leaf, always 16 digits."""

@@ -100,7 +100,7 @@ def check_clear(body: Body) -> Optional[Fault]:
 
 def value_of(body: Body) -> Any:
     """The JSON value of a body."""
-    text = json.dumps(body) if isinstance(body, Mapping) else body
+    text = json.dumps(body, separators=(",", ":")) if isinstance(body, Mapping) else body
     data = text.encode("utf-8", "surrogatepass") if isinstance(text, str) else text
     if len(data) > limits.MAX_BODY:
         raise Wrong("too_large", "", f"{len(data):,} bytes: at most {limits.MAX_BODY:,}")

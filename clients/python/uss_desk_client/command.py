@@ -11,21 +11,20 @@ import argparse
 import json
 import os
 import sys
-from datetime import datetime
 from typing import Any, Callable, List, Optional, Sequence
 
 from uss_desk_client import limits
 from uss_desk_client.answers import Answer, NotTaken, Plan
-from uss_desk_client.areas import AreaError, Volume, area_of, area_over
+from uss_desk_client.areas import AreaError, Rectangle, Volume, area_of, area_over
 from uss_desk_client.checking import check
-from uss_desk_client.desk import Desk, DeskError, new_id
+from uss_desk_client.desk import Desk, DeskError, NoAnswer, new_id
 from uss_desk_client.geojson import collection, features_of_plan, features_of_reasons, lines_in, read_document
 from uss_desk_client.geojson import shape_in
 from uss_desk_client.picture import headline, numbered, page_of, svg_of, windows
 from uss_desk_client.shapes import ShapeError, cells_of
 from uss_desk_client.tokens import evenly
-from uss_desk_client.units import UnitError, decimetres_down, decimetres_up, exact, read_time, second_down
-from uss_desk_client.units import second_up, time_text
+from uss_desk_client.units import UnitError, datetime_of, decimetres_down, decimetres_up, exact, read_time
+from uss_desk_client.units import second_down, second_up, time_text
 from uss_desk_client.why import why
 
 DONE, REFUSED, WORDS, FILE, DESK = 0, 1, 2, 3, 4
@@ -40,8 +39,10 @@ def main(words: Optional[Sequence[str]] = None) -> int:
         return fail(str(wrong), FILE)
     except NotTaken as refused:
         return fail(str(refused), REFUSED)
-    except (DeskError, ValueError) as wrong:
+    except DeskError as wrong:
         return fail(str(wrong), DESK)
+    except ValueError as wrong:
+        return fail(str(wrong), WORDS)
     except BrokenPipeError:
         os.dup2(os.open(os.devnull, os.O_WRONLY), sys.stdout.fileno())
         return FILE
@@ -132,12 +133,12 @@ def moment(word: str) -> str:
 def desk_of(asked: Any) -> Desk:
     if not asked.url:
         raise ValueError("no desk is named: use --url or USS_DESK_URL")
-    if asked.operator:
-        return Desk(asked.url, operator=asked.operator, patience=asked.patience)
     password = os.environ.get("USS_DESK_PASSWORD", "")
     if asked.password_file:
         with open(asked.password_file, encoding="utf-8") as file:
             password = file.readline().rstrip("\n")
+    if asked.operator:
+        return Desk(asked.url, operator=asked.operator, patience=asked.patience)
     return Desk(asked.url, user=asked.user, password=password, patience=asked.patience)
 
 
@@ -158,9 +159,12 @@ def area_looked_at(asked: Any, document: Any) -> List[Volume]:
 def run_plan(asked: Any) -> int:
     area = area_asked(asked, read_document(asked.file))
     desk, plan_id = desk_of(asked), asked.id or new_id()
-    answer = desk.plan(plan_id, area, asked.priority)
-    if answer.is_completed and asked.activate:
-        answer = desk.activate(plan_id, area, asked.priority)
+    try:
+        answer = desk.plan(plan_id, area, asked.priority)
+        if answer.is_completed and asked.activate:
+            answer = desk.activate(plan_id, area, asked.priority)
+    except NoAnswer as lost:
+        return fail(f"{plan_id}: {lost}", DESK)
     return tell(plan_id, answer)
 
 
@@ -176,21 +180,34 @@ def run_list(asked: Any) -> int:
     elif not plans:
         print("no plans")
     else:
-        print(table(("id", "status", "priority", "from", "to", "metres", "cells", "conflict"), map(row_of, plans)))
+        print(table(("id", "status", "priority", "from (UTC)", "to (UTC)", "metres", "cells", "conflict"),
+                    map(row_of, plans)))
     return DONE
 
 
 def row_of(plan: Plan) -> Sequence[str]:
     area = plan.area
-    cells = {cell for volume in area for cell in volume.cells}
     return (plan.plan_id, plan.status, str(plan.priority), short(min(volume.start for volume in area)),
             short(max(volume.end for volume in area)),
-            f"{min(volume.lower_metres for volume in area):g}-{max(volume.upper_metres for volume in area):g}",
-            str(len(cells)), f"priority {plan.conflict.priority}" if plan.conflict else "")
+            f"{min(volume.lower_metres for volume in area):g} to {max(volume.upper_metres for volume in area):g}",
+            footprint(area), f"priority {plan.conflict.priority}" if plan.conflict else "")
+
+
+def footprint(area: Sequence[Volume]) -> str:
+    """How many cells an area has, and rectangles."""
+    cells = {cell for volume in area for cell in volume.cells}
+    rectangles = {volume.rectangle for volume in area if volume.rectangle}
+    told = f"{len(rectangles)} rectangle{'s' * (len(rectangles) > 1)}"
+    return str(len(cells)) if not rectangles else f"{len(cells)} and {told}" if cells else told
+
+
+def rectangle_told(rectangle: Rectangle) -> str:
+    return (f"rectangle: face {rectangle.face}, i {rectangle.i_min} to {rectangle.i_max}, "
+            f"j {rectangle.j_min} to {rectangle.j_max}, level {rectangle.level}")
 
 
 def short(second: int) -> str:
-    return datetime.fromisoformat(time_text(second)[:-1]).strftime("%m-%d %H:%M")
+    return f"{datetime_of(second):%Y-%m-%d %H:%M}"
 
 
 def table(names: Sequence[str], rows: Any) -> str:
@@ -207,7 +224,8 @@ def run_show(asked: Any) -> int:
         return DONE
     print(f"{plan.plan_id}  {plan.status} ({plan.usage}, {plan.aircraft}), priority {plan.priority}")
     rows = [(str(at), time_text(volume.start), time_text(volume.end), f"{volume.lower_metres:g}",
-             f"{volume.upper_metres:g}", f"rectangle {volume.rectangle}" if volume.rectangle else str(len(volume.cells)))
+             f"{volume.upper_metres:g}",
+             rectangle_told(volume.rectangle) if volume.rectangle else str(len(volume.cells)))
             for at, volume in enumerate(plan.area)]
     print(table(("volume", "from", "to", "lower m", "upper m", "cells"), rows))
     print(f"conflict: {plan.conflict}" if plan.conflict else "no conflict")
@@ -235,7 +253,7 @@ def run_why(asked: Any) -> int:
     if asked.geojson:
         write(asked.geojson, json.dumps(collection(features_of_reasons(reasons))) + "\n")
     if asked.picture:
-        write(asked.picture, (svg_of if is_svg else page_of)(reasons, lines_in(document)))
+        write(asked.picture, (svg_of if is_svg else page_of)(reasons, lines_in(document, asked.radius)))
     if asked.geojson != "-":
         print(headline(reasons))
         print(windows(reasons))
@@ -243,7 +261,8 @@ def run_why(asked: Any) -> int:
                  time_text(it.conflict.second), f"{it.conflict.latitude:.6f}", f"{it.conflict.longitude:.6f}")
                 for number, it in numbered(reasons)]
         if rows:
-            print(table(("cell", "token", "priority", "metres", "time", "latitude", "longitude"), rows))
+            print("The first blocked point of each:")
+            print(table(("cell", "token", "priority held", "metres", "time", "latitude", "longitude"), rows))
     return REFUSED if reasons.blocked else DONE
 
 

@@ -14,13 +14,15 @@ import ssl
 import time
 import uuid
 from dataclasses import dataclass
-from typing import Any, Dict, List, Mapping, Optional, Sequence, Tuple, Union
+from typing import Any, Callable, Dict, List, Mapping, Optional, Sequence, Tuple, TypeVar, Union
 from urllib.parse import quote, urlsplit
 
 from uss_desk_client.answers import Answer, Cleared, Plan
 from uss_desk_client.areas import Volume
 from uss_desk_client.checking import Fault, check, check_clear
 from uss_desk_client.units import second_down, second_up
+
+Told = TypeVar("Told")
 
 ADVICE = {
     "too_large": "the request is too large: a body has at most 131,072 bytes, a head 16,384",
@@ -68,7 +70,7 @@ class Refused(DeskError):
     def __init__(self, status: int, word: str, fault: Optional[Fault] = None) -> None:
         self.status, self.word, self.fault = status, word, fault
         self.advice = ADVICE.get(word, "see docs/RULES.md")
-        super().__init__(f"{status} {word}: {fault or self.advice}")
+        super().__init__(f"{status} {fault}" if fault else f"{status} {word}: {self.advice}")
 
 
 class NoSuchPlan(Refused):
@@ -122,6 +124,14 @@ class Response:
         return str(word) if word else WORDS.get(self.status, "")
 
 
+def told(make: Callable[[Any], Told], value: Any) -> Told:
+    """What is made of an answer; a BadAnswer if it has another form than a desk's."""
+    try:
+        return make(value)
+    except (AttributeError, IndexError, KeyError, TypeError, ValueError) as wrong:
+        raise BadAnswer(f"the answer isn't that of a desk: {wrong!r} in {str(value)[:80]}") from None
+
+
 def path_of(plan_id: str) -> str:
     return f"{PLANS}/{quote(plan_id, safe='')}"
 
@@ -150,9 +160,10 @@ class Desk:
     """A desk, asked as one operator.
 
     `Desk("https://desk.example", user="alfa", password=..)` asks behind a proxy that authenticates;
-    `Desk("http://127.0.0.1:8080", operator="alfa")` asks at the desk's own port. `timeout` is how many seconds one
-    attempt may take, `patience` how many all attempts of a call may take together. Methods raise Refused (NoSuchPlan)
-    if the desk refuses a request, NoAnswer if none came, BadAnswer; a PUT that was decided and refused is an Answer.
+    `Desk("http://127.0.0.1:8080", operator="alfa")` asks at the desk's own port. `timeout` is how many seconds an
+    attempt waits for the next bytes, `patience` after how many a request isn't asked again. Methods raise Refused
+    (NoSuchPlan) if the desk refuses a request, NoAnswer if none came, BadAnswer; a PUT that was decided and refused is
+    an Answer.
     """
 
     def __init__(self, url: str, *, operator: Optional[str] = None, user: Optional[str] = None, password: str = "",
@@ -173,9 +184,9 @@ class Desk:
 
     # ---- what is asked
 
-    def status(self) -> str:
-        """`Ready`."""
-        return str(self._read("/status")["status"])
+    def status(self, patience: Optional[float] = None) -> str:
+        """`Ready`; a NoAnswer if the desk doesn't answer within the patience, or another number of seconds."""
+        return told(lambda value: str(value["status"]), self._read("/status", patience))
 
     def plan(self, plan_id: str, area: Sequence[Volume], priority: int = 0) -> Answer:
         """Plans a flight under an id of the caller's choice (`new_id`), or replaces a planned one."""
@@ -198,23 +209,24 @@ class Desk:
         return self._put_again(plan_id, "InUse", aircraft, area, priority)
 
     def change(self, plan_id: str, area: Optional[Sequence[Volume]] = None, priority: Optional[int] = None) -> Answer:
-        """Changes the area or the priority of a plan, which stays planned or in use; in use, it is nominal then."""
+        """Changes the area or the priority of a plan, which stays planned or in use; in use, it is nominal then. Of a
+        closed plan the desk refuses it."""
         stored = self.show(plan_id)
-        return self._put_stored(stored, stored.usage, "Nominal", area, priority)
+        return self._put_stored(stored, "InUse" if stored.usage == "InUse" else "Planned", "Nominal", area, priority)
 
     def close(self, plan_id: str) -> Answer:
         """Closes a plan. A closed one stays closed."""
         path = path_of(plan_id)
         response, was_lost = self._again("DELETE", path, None)
-        return Answer.from_answer(self._object(response, path), was_lost)
+        return told(lambda value: Answer.from_answer(value, was_lost), self._object(response, path))
 
     def show(self, plan_id: str) -> Plan:
         """A plan, with its conflict if it has one now."""
-        return Plan.from_answer(self._read(path_of(plan_id)))
+        return told(Plan.from_answer, self._read(path_of(plan_id)))
 
     def plans(self) -> List[Plan]:
         """All plans of the operator, closed ones too, ascending by id."""
-        return [Plan.from_answer(shown) for shown in self._read(PLANS)["flight_plans"]]
+        return told(lambda value: list(map(Plan.from_answer, value["flight_plans"])), self._read(PLANS))
 
     def clear(self, area: Sequence[Volume]) -> Cleared:
         """Removes the operator's plans, closed ones too, that share a point with a volume of an area, which may be of
@@ -223,21 +235,23 @@ class Desk:
         for extent in area:
             body = {"extent": extent.to_json()}
             response, was_lost = self._again("POST", CLEARS, body)
-            count += int(str(self._object(response, CLEARS, body)["outcome"]["message"]).split()[-1])
+            count += told(lambda value: int(value["outcome"]["message"].split()[-1]),
+                          self._object(response, CLEARS, body))
             is_lost = is_lost or was_lost
         return Cleared(count, is_lost)
 
     def put(self, plan_id: str, body: Mapping[str, Any]) -> Answer:
         """Asks a PUT with this body. One that may have been done is looked for, and put again if it isn't there."""
         until, path = Deadline(self._patience), path_of(plan_id)
-        was_lost = False
+        was_lost, is_stored = False, body.get("execution_style") != "Hypothetical"
         while True:
             tried = self._try("PUT", path, body, until)
             if isinstance(tried, Response):
-                return Answer.from_answer(self._object(tried, path, body), was_lost)
+                answered = self._object(tried, path, body)
+                return told(lambda value: Answer.from_answer(value, was_lost), answered)
             was_lost = was_lost or tried.may_stand
-            until.wait(tried, was_lost)
-            if tried.may_stand and body.get("execution_style") != "Hypothetical":
+            until.wait(tried, was_lost and is_stored)
+            if tried.may_stand and is_stored:
                 stored = self._find(plan_id, until)
                 if stored and is_as_put(stored, body):
                     return Answer("Completed", stored.status, was_lost=True)
@@ -256,8 +270,8 @@ class Desk:
             stored.area if area is None else area, usage, aircraft,
             stored.priority if priority is None else priority, "IfAllowed"))
 
-    def _read(self, path: str) -> Any:
-        return self._object(self._again("GET", path, None)[0], path)
+    def _read(self, path: str, patience: Optional[float] = None) -> Any:
+        return self._object(self._again("GET", path, None, patience)[0], path)
 
     def _find(self, plan_id: str, until: Deadline) -> Optional[Plan]:
         """The plan as it is stored, or None if there is none or it couldn't be told."""
@@ -265,11 +279,12 @@ class Desk:
         tried = self._try("GET", path, None, until)
         if isinstance(tried, Unsettled) or tried.status == 404:
             return None
-        return Plan.from_answer(self._object(tried, path))
+        return told(Plan.from_answer, self._object(tried, path))
 
-    def _again(self, method: str, path: str, body: Optional[Mapping[str, Any]]) -> Tuple[Response, bool]:
+    def _again(self, method: str, path: str, body: Optional[Mapping[str, Any]],
+               patience: Optional[float] = None) -> Tuple[Response, bool]:
         """The answer to a request that may be asked any number of times, and whether an earlier one was lost."""
-        until = Deadline(self._patience)
+        until = Deadline(self._patience if patience is None else patience)
         was_lost = False
         while True:
             tried = self._try(method, path, body, until)
@@ -369,7 +384,9 @@ def seconds_of(field: Optional[str]) -> float:
 
 
 def is_as_put(stored: Plan, body: Mapping[str, Any]) -> bool:
-    """Whether a stored plan is what a body asks for."""
+    """Whether a stored plan is what a body asks for; none is what a malformed one asks for."""
+    if check(body):
+        return False
     plan = body["flight_plan"]
     basic = plan["basic_information"]
     if basic["usage_state"] == "Closed":

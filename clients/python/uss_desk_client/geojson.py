@@ -2,6 +2,7 @@
 from __future__ import annotations
 
 import json
+import math
 from typing import Any, Dict, Iterable, List, Optional, Sequence, Tuple
 
 import pywraps2 as s2
@@ -13,6 +14,8 @@ from uss_desk_client.units import Metres, time_text
 from uss_desk_client.why import Reasons
 
 Feature = Dict[str, Any]
+METRES_A_DEGREE = 111_195.0
+"""Of latitude, in pictures."""
 
 
 def geometries(document: Any) -> List[Dict[str, Any]]:
@@ -53,15 +56,28 @@ def shape_in(document: Any, radius: Optional[Metres] = None, width: Optional[Met
     return shapes[0] if len(shapes) == 1 else Shapes(shapes)
 
 
-def lines_in(document: Any) -> List[List[Place]]:
-    """The rings and paths of a document, to be drawn."""
+def ring_around(place: Place, radius: Metres) -> List[Place]:
+    """Places some metres around a place, to be drawn; none at a pole."""
+    up = float(radius) / METRES_A_DEGREE
+    shorten = math.cos(math.radians(place[1]))
+    if shorten < 0.01 or up > 45:
+        return []
+    turns = [2 * math.pi * part / 72 for part in range(73)]
+    return [(place[0] + up / shorten * math.cos(turn), place[1] + up * math.sin(turn)) for turn in turns[:-1]] + [
+        (place[0] + up / shorten, place[1])]
+
+
+def lines_in(document: Any, radius: Optional[Metres] = None) -> List[List[Place]]:
+    """The rings and paths of a document, to be drawn, and the circles of a radius around its points."""
     lines: List[List[Place]] = []
     for geometry in geometries(document):
         if geometry["type"] == "Polygon":
             lines += [[(place[0], place[1]) for place in ring] for ring in geometry["coordinates"]]
         elif geometry["type"] == "LineString":
             lines.append([(place[0], place[1]) for place in geometry["coordinates"]])
-    return lines
+        elif radius is not None:
+            lines.append(ring_around((geometry["coordinates"][0], geometry["coordinates"][1]), radius))
+    return [line for line in lines if line]
 
 
 def read_document(path: str) -> Any:

@@ -27,6 +27,8 @@ GREATEST_RADIUS = 6_399_594.0
 """Metres: the greatest radius of curvature, at the poles."""
 MARGIN = 1e-10
 """Radians, less than a millimetre: how much circles and corridors are widened against rounding."""
+SAME_WITHIN = 1e-12
+"""Radians, a hundredth of a millimetre: places that are nearer to each other are taken for one."""
 STRAIGHT_WITHIN = 0.01
 """Metres: how closely a line that is straight in longitude and latitude is followed."""
 FEWEST_CELLS = 6
@@ -90,8 +92,7 @@ class Corridor(Shape):
     is_straight: bool = False
 
     def covering(self, at_most: int) -> List[Any]:
-        path = [place_of(place) for place in self.path]
-        path = [here for at, here in enumerate(path) if at == 0 or spot_of(here) != spot_of(path[at - 1])]
+        path = that_move([place_of(place) for place in self.path])
         if len(path) < 2:
             raise ShapeError("a corridor has at least two places that differ")
         if self.is_straight:
@@ -165,14 +166,6 @@ def place_of(pair: Sequence[float]) -> Place:
     return float(longitude), float(latitude)
 
 
-def spot_of(place: Place) -> Place:
-    """The place itself under one pair, however it is written: at a pole, on the antimeridian."""
-    longitude, latitude = place
-    if abs(latitude) == 90:
-        return 0.0, latitude
-    return (180.0 if longitude == -180 else longitude + 0.0), latitude + 0.0
-
-
 def angle_of(metres: Metres) -> float:
     """An angle in radians that is at least so many metres long, in whatever direction and latitude."""
     try:
@@ -194,6 +187,20 @@ def vector_of(place: Place) -> Vector:
     longitude, latitude = math.radians(place[0]), math.radians(place[1])
     return (math.cos(latitude) * math.cos(longitude), math.cos(latitude) * math.sin(longitude),
             math.sin(latitude))
+
+
+def is_same(one: Place, other: Place) -> bool:
+    """Whether two pairs are one place: at a pole and on the antimeridian it may be written in several ways."""
+    return math.dist(vector_of(one), vector_of(other)) < SAME_WITHIN
+
+
+def that_move(places: Iterable[Place]) -> List[Place]:
+    """The places without those that are where the one before them is."""
+    kept: List[Place] = []
+    for place in places:
+        if not kept or not is_same(kept[-1], place):
+            kept.append(place)
+    return kept
 
 
 def length_of(begin: Place, end: Place) -> float:
@@ -251,9 +258,8 @@ def loop_of(ring: Sequence[Place], is_straight: bool) -> Any:
 
 def open_ring(ring: Sequence[Place]) -> List[Place]:
     """The places of a ring, each once in a row, the first not again at the end."""
-    places = [place_of(place) for place in ring]
-    kept = [here for at, here in enumerate(places) if at == 0 or spot_of(here) != spot_of(places[at - 1])]
-    if len(kept) > 1 and spot_of(kept[0]) == spot_of(kept[-1]):
+    kept = that_move(place_of(place) for place in ring)
+    while len(kept) > 1 and is_same(kept[0], kept[-1]):
         kept.pop()
     if len(kept) < 3:
         raise ShapeError(f"a ring has at least three places that differ, and this one has {len(kept)}")
@@ -279,15 +285,19 @@ def is_in_reach(places: List[Place]) -> None:
 
 def followed(places: List[Place], is_ring: bool) -> List[Place]:
     """The places with others between them, so that the shortest lines between neighbours keep within a centimetre
-    of those that are straight in longitude and latitude."""
+    of those that are straight in longitude and latitude.
+
+    On a straight line that goes x to the east and y to the north, both in radians, at the latitude p, the shortest
+    one departs by at most an eighth of x (x sin p cos p + 2 y sin p).
+    """
     found: List[Place] = []
     ends = places[1:] + places[:1] if is_ring else places[1:]
     for begin, end in zip(places, ends):
         step = turn(begin, end)
         latitude = math.radians(max(abs(begin[1]), abs(end[1])))
-        steepest = math.sin(2 * min(latitude, math.pi / 4)) / 2
-        apart = GREATEST_RADIUS * math.radians(step) ** 2 * steepest / 8
-        parts = max(1, math.ceil(math.sqrt(apart / STRAIGHT_WITHIN)))
+        east, north = math.radians(abs(step)), math.radians(abs(end[1] - begin[1]))
+        bent = east * math.sin(2 * min(latitude, math.pi / 4)) / 2 + 2 * north * math.sin(latitude)
+        parts = max(1, math.ceil(math.sqrt(GREATEST_RADIUS * east * bent / 8 / STRAIGHT_WITHIN)))
         if len(found) + parts > MOST_PLACES:
             raise ShapeError("the edges are too long to follow lines that are straight in longitude and "
                              "latitude: use several shapes, or shortest lines")
@@ -333,14 +343,13 @@ def neighbours(places: List[Place]) -> Iterable[Tuple[int, int]]:
 
 def is_simple(places: List[Place]) -> None:
     """A ShapeError if a ring comes to a place twice, or crosses itself."""
-    spots = {spot_of(place) for place in places}
     points = [point_of(place) for place in places]
-    if len(spots) < len(places):
-        twice = next(place for at, place in enumerate(places)
-                     if spot_of(place) in {spot_of(other) for other in places[:at]})
-        raise ShapeError(f"the ring comes to {twice} twice: cut it into several rings")
     for first, second in neighbours(places):
         after, beyond = (first + 1) % len(points), (second + 1) % len(points)
+        for one in (first, after):
+            for other in (second, beyond):
+                if one != other and is_same(places[one], places[other]):
+                    raise ShapeError(f"the ring comes to {places[one]} twice: cut it into several rings")
         if {first, after} & {second, beyond}:
             continue
         if s2.CrossingSign(points[first], points[after], points[second], points[beyond]) > 0:

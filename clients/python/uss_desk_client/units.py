@@ -24,24 +24,33 @@ class UnitError(ValueError):
     """A length, an altitude or a time that can't be told to the desk."""
 
 
+MOST_METRES = 10 ** 9
+
+
 def exact(number: Metres) -> Decimal:
-    """A number of metres as the decimal that was written; a UnitError if it is no finite number."""
+    """A number of metres as the decimal that was written; a UnitError if it is no number, or a huge one."""
     if isinstance(number, bool) or not isinstance(number, (int, float, Decimal)):
         raise UnitError(f"{number!r} is no number of metres")
     decimal = Decimal(str(number))
-    if not decimal.is_finite():
-        raise UnitError(f"{number!r} is no finite number of metres")
+    if not decimal.is_finite() or decimal.copy_abs() > MOST_METRES:
+        raise UnitError(f"{str(number)[:20]} is no number of metres up to {MOST_METRES:,}")
     return decimal
+
+
+def decimetres(metres: Metres) -> Decimal:
+    """Ten times the number, with all its digits. (The arithmetic of Decimal would round to 28.)"""
+    sign, digits, exponent = exact(metres).as_tuple()
+    return Decimal((sign, digits, int(exponent) + 1))
 
 
 def decimetres_down(metres: Metres) -> int:
     """The greatest whole number of decimetres that is at most so many metres: for a lower altitude."""
-    return int((exact(metres) * 10).to_integral_value(rounding=ROUND_FLOOR))
+    return int(decimetres(metres).to_integral_value(rounding=ROUND_FLOOR))
 
 
 def decimetres_up(metres: Metres) -> int:
     """The least whole number of decimetres that is at least so many metres: for an upper altitude."""
-    return int((exact(metres) * 10).to_integral_value(rounding=ROUND_CEILING))
+    return int(decimetres(metres).to_integral_value(rounding=ROUND_CEILING))
 
 
 def is_date(year: int, month: int, day: int) -> bool:
@@ -90,6 +99,8 @@ def instant(time: Time) -> Tuple[int, bool]:
             raise UnitError(f"{time!r} is no time of RFC 3339 with Z or an offset, as 2026-06-01T12:00:00Z")
         return found
     if isinstance(time, int) and not isinstance(time, bool):
+        if not FIRST_INSTANT <= time <= LAST_INSTANT:
+            raise UnitError(f"{time} is no Unix second of the years to 9999: are these milliseconds?")
         return time, False
     raise UnitError(f"{time!r} is no time: a datetime with an offset, a text of RFC 3339 or a Unix second")
 

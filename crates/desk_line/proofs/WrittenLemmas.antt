@@ -6,7 +6,8 @@ use Rattle.std.specs.Io.KnownBytes.{Appends}
 use Rattle.desk_wire.specs.Serving.{BreaksOff}
 use Rattle.desk_wire.specs.declared.stream.ServeFault.{ServeFault}
 use Rattle.desk_wire.specs.declared.stream.ServeFault.TheVariants.{Read, Write, CutShort, OutOfMemory}
-use Rattle.desk_line.specs.Exits.{failure_status, serving_failure}
+use Rattle.desk_line.specs.declared.failure.Failure.TheVariants as failure
+use Rattle.desk_line.specs.Exits.{serving_failure}
 use Rattle.desk_line.specs.Written.{HasBegun}
 
 -- all of it
@@ -57,9 +58,9 @@ pub begun_either : {A : Type 0} (bytes : List ℕ) (out now : Option (List ℕ))
 begun_either bytes out now (Ok value) ok err = begun_whole bytes out now ok
 begun_either bytes out now (Err f) ok err = begun_part bytes out now f err
 
--- a write that failed is a failure of status 4
+-- what a write that failed is told as
 pub write_failed : (bytes : List ℕ) (out now : Option (List ℕ)) (f : ServeFault) → BreaksOff bytes out now f
-    → failure_status (serving_failure f) ≡ 4
+    → serving_failure f ≡ failure.Write
 write_failed bytes out now (Write sent) h = refl
 write_failed bytes out now Read h = absurd h
 write_failed bytes out now CutShort h = absurd h

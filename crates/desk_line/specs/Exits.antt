@@ -1,5 +1,5 @@
 -- Exits: the status with which the program ends, and the word that it prints.
-use Rattle.std.specs.Prelude.{◌≡◌, ℕ, ◌==◌, if◌then◌else◌, List, ◌++◌, codes, Option, Some, None, Result, Ok, Err}
+use Rattle.std.specs.Prelude.{◌≡◌, ◌⊎◌, ℕ, ◌==◌, if◌then◌else◌, List, ◌++◌, codes, Option, Some, None, Result, Ok, Err}
 use Rattle.desk_run.specs.declared.fault.DeskFault.{DeskFault}
 use Rattle.desk_run.specs.declared.fault.DeskFault.TheVariants as desk
 use Rattle.desk_wire.specs.declared.play.PlayEnd.{PlayEnd}
@@ -76,11 +76,40 @@ abbrev pub exit_status : {A : Type 0} → Result A Failure → ℕ
 exit_status (Ok done) = 0
 exit_status (Err failure) = failure_status failure
 
+-- how a line ended: its exit status, and what the error writer held before and holds now
+pub record Ending : Type 0 where
+  pub status : ℕ
+  pub before : Option (List ℕ)
+  pub now : Option (List ℕ)
+
+abbrev pub ending : ℕ → Option (List ℕ) → Option (List ℕ) → Ending
+ending status before now = record { status = status; before = before; now = now }
+
 -- the line of a failure is written, or a beginning of it if the writer takes no more; and nothing if nothing
 -- failed
 abbrev pub IsConcluded : {A : Type 0} → Result A Failure → Option (List ℕ) → Option (List ℕ) → Type 0
 IsConcluded (Ok done) out now = now ≡ out
 IsConcluded (Err f) out now = HasBegun (failure_line f) out now
+
+-- a line ended with what was done: the exit status and the line of the failure are of one failure
+abbrev pub EndsWith : {A : Type 0} → Result A Failure → Ending → Type 0
+EndsWith done end = (end.status ≡ exit_status done) × IsConcluded done end.before end.now
+
+-- a line ended well
+abbrev pub EndsWell : Ending → Type 0
+EndsWell end = (end.status ≡ 0) × (end.now ≡ end.before)
+
+-- a line ended with this failure
+abbrev pub FailsWith : Failure → Ending → Type 0
+FailsWith f end = (end.status ≡ failure_status f) × HasBegun (failure_line f) end.before end.now
+
+-- what a line ends with if an enrolment isn't made and was not refused: memory ran out, or the store failed
+abbrev pub IsBreakdown : Failure → Type 0
+IsBreakdown f = (f ≡ failure.Memory) ⊎ (f ≡ failure.Store)
+
+-- a line ended so
+abbrev pub IsBrokenDown : Ending → Type 0
+IsBrokenDown end = FailsWith failure.Memory end ⊎ FailsWith failure.Store end
 
 -- what a request without a whole answer means
 abbrev pub serving_failure : ServeFault → Failure

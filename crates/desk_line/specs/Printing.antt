@@ -16,7 +16,7 @@ use Rattle.desk_line.specs.declared.failure.Failure.TheVariants as failure
 use Rattle.desk_line.specs.declared.line.Cover.{Cover as CoverWords}
 use Rattle.desk_line.specs.declared.line.Line.{Line}
 use Rattle.desk_line.specs.declared.line.Line.TheVariants as line
-use Rattle.desk_line.specs.Exits.{failure_status}
+use Rattle.desk_line.specs.Exits.{EndsWith, Ending}
 use Rattle.desk_line.specs.Written.{HasBegun}
 
 -- the line that tells a cell: a leaf's token is its id in 16 hex digits
@@ -81,17 +81,19 @@ IsTold (line.Cover words) told = IsRectTold words.is_picture (rect_or_fault (rec
 IsTold (line.Enrol enrol) told = ⊥
 IsTold (line.Migrate migrate) told = ⊥
 
--- what was told is printed, or the status says why there is nothing to tell
-abbrev pub IsShown : Result (List ℕ) Failure → ℕ → Option (List ℕ) → Option (List ℕ) → Type 0
-IsShown (Ok text) status out now = (status ≡ 0) × Appends out now text
-IsShown (Err f) status out now = (status ≡ failure_status f) × (now ≡ out)
-
 -- memory ran out and nothing is printed, or a write failed after a beginning of what is told
-abbrev pub IsGivenUp : Line → Option (List ℕ) → Option (List ℕ) → Type 0
-IsGivenUp line out now = (now ≡ out) ⊎ ((text : List ℕ) × IsTold line (Ok text) × HasBegun text out now)
+abbrev pub IsGivenUp : Line → Failure → Option (List ℕ) → Option (List ℕ) → Type 0
+IsGivenUp line f out now = ((f ≡ failure.Memory) × (now ≡ out))
+    ⊎ ((f ≡ failure.Write) × ((text : List ℕ) × IsTold line (Ok text) × HasBegun text out now))
 
--- what a line prints, and its exit status; 4 if memory ran out or a write failed
-abbrev pub IsPrinted : Line → ℕ → Option (List ℕ) → Option (List ℕ) → Type 0
-IsPrinted line status out now =
-    ((status ≡ 4) × IsGivenUp line out now)
-    ⊎ ((told : Result (List ℕ) Failure) × IsTold line told × IsShown told status out now)
+-- what came of a line: what is told of it is printed, or it has a failure and nothing is printed, or it is
+-- given up
+abbrev pub IsShown : Line → Result ⊤ Failure → Option (List ℕ) → Option (List ℕ) → Type 0
+IsShown line (Ok done) out now = (text : List ℕ) × IsTold line (Ok text) × Appends out now text
+IsShown line (Err f) out now = IsGivenUp line f out now ⊎ (IsTold line (Err f) × (now ≡ out))
+
+-- what a line prints, and how it ends
+pub record IsPrinted (line : Line) (end : Ending) (out now : Option (List ℕ)) : Type 0 where
+  pub done : Result ⊤ Failure
+  pub ends : EndsWith done end
+  pub shown : IsShown line done out now

@@ -18,9 +18,6 @@ ghost use Rattle.desk_line.specs.Lines.{AreEnrolments, IsEnrol, IsLine, IsPlay, 
 ghost use Rattle.desk_line.specs.Lines.{max_connections, max_port, min_connections, min_port};
 ghost use Rattle.desk_line.specs.Lines.{named_file};
 
-#[cfg(test)]
-mod tests;
-
 use crate::command::make_command;
 use crate::equal::{permitted_by, priority_of};
 use clap::ArgMatches;

@@ -1,22 +1,19 @@
 //! What the lines print that need no desk: the cell of a token, and the cover of a rectangle.
 
-ghost use Rattle.std.specs.Prelude.{◌≡◌, ◌⊎◌, ℕ, List, IfOk, IfErr, OnOk, Ok, Err, length, string_bytes};
+ghost use Rattle.std.specs.Prelude.{◌≡◌, ◌⊎◌, List, IfOk, IfErr, OnOk, Ok, Err, length, string_bytes};
 ghost use Rattle.std.specs.Io.KnownBytes.{Appends};
 ghost use Rattle.s2_cellid.specs.Token.{read_token};
 ghost use Rattle.s2_cover.specs.Leaves.{leaves_of};
 ghost use Rattle.s2_cover.specs.Ranges.{IsRanges};
 ghost use Rattle.s2_cover.specs.Rectangles.{rect_or_fault};
 ghost use Rattle.s2_cover.specs.declared.spans.Span.{Span};
-ghost use Rattle.desk_line.specs.Exits.{failure_status};
+ghost use Rattle.desk_line.specs.Exits.{ending};
 ghost use Rattle.desk_line.specs.Lines.{IsPrintable};
 ghost use Rattle.desk_line.specs.Printing as spec;
-ghost use Rattle.desk_line.specs.Printing.{IsCoverText, IsGivenUp, IsPrinted, IsRectTold, IsTold};
+ghost use Rattle.desk_line.specs.Printing.{IsCoverText, IsPrinted, IsRectTold, IsShown, IsTold};
 ghost use Rattle.desk_line.specs.Printing.{rect_parts, told_of_token};
 ghost use Rattle.desk_line.specs.Written.{HasBegun};
-ghost use Rattle.desk_line.specs.declared.failure.Failure.TheVariants.{Memory};
-
-#[cfg(test)]
-mod tests;
+ghost use Rattle.desk_line.specs.declared.failure.Failure.TheVariants.{Memory, Write};
 
 use crate::failure::{Failure, conclude};
 use crate::line::{Cover as CoverWords, Line};
@@ -38,7 +35,8 @@ pub fn print_line<W: Write, E: Write>(
     errors: &mut E,
 ) -> u8
     requires { IsPrintable line.now }
-    ensures { IsPrinted line.now result (W.contents output.old) (W.contents output.new) }
+    ensures { IsPrinted line.now (ending result (E.contents errors.old) (E.contents errors.new))
+        (W.contents output.old) (W.contents output.new) }
 {
     conclude(errors, print_text(alloc, line, output))
 }
@@ -46,11 +44,7 @@ pub fn print_line<W: Write, E: Write>(
 // Prints the text of a line.
 fn print_text<W: Write>(alloc: Global, line: &Line, output: &mut W) -> Result<(), Failure>
     requires { IsPrintable line.now }
-    ensures ok { OnOk result ((text : List ℕ) × IsTold line.now (Ok text)
-        × Appends (W.contents output.old) (W.contents output.new) text) }
-    ensures err { IfErr result (λ f. ((failure_status f ≡ 4)
-        × IsGivenUp line.now (W.contents output.old) (W.contents output.new))
-        ⊎ (IsTold line.now (Err f) × (W.contents output.new ≡ W.contents output.old))) }
+    ensures { IsShown line.now result (W.contents output.old) (W.contents output.new) }
 {
     let text = text_of(alloc, line)?;
     write_text(output, &text)
@@ -60,7 +54,7 @@ fn print_text<W: Write>(alloc: Global, line: &Line, output: &mut W) -> Result<()
 #[tactic(auto, using(crate::proofs::WrittenLemmas::begun_part, crate::proofs::WrittenLemmas::write_failed))]
 fn write_text<W: Write>(output: &mut W, text: &str) -> Result<(), Failure>
     ensures ok { OnOk result (Appends (W.contents output.old) (W.contents output.new) text.now) }
-    ensures err { IfErr result (λ f. (failure_status f ≡ 4)
+    ensures err { IfErr result (λ f. (f ≡ Write)
         × HasBegun text.now (W.contents output.old) (W.contents output.new)) }
 {
     write_whole(output, text.as_bytes())?;

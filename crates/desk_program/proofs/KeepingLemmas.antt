@@ -1,8 +1,9 @@
 -- What may be found of a desk's content, over several connections and enrolments.
-use Rattle.std.proofs.Common.{◌≡◌, ◌≤◌, ◌<◌, ◌⊎◌, inl, inr, ◌+◌, ℕ, ℤ, List, [], ◌∷◌, ◌++◌, ◌∙◌, Option, Some, Result, Ok, Err, IfErr, OnErr, length, map, take, refl, ap, sym, subst, arith}
+use Rattle.std.proofs.Common.{◌≡◌, ◌≤◌, ◌<◌, ◌⊎◌, inl, inr, ◌+◌, ℕ, ℤ, List, [], ◌∷◌, ◌++◌, ◌∙◌, Option, Some, Result, Ok, Err, OnErr, length, map, take, refl, ap, sym, subst, arith}
 use Rattle.std.specs.Prelude.{⊤}
 use Rattle.std.specs.Result.{IsErrAnd}
 use Rattle.std.proofs.lemmas.List.{length-append, map-append}
+use Rattle.std.proofs.lemmas.List.Elements.{All-append, All-cons, All-nil}
 use Rattle.desk_store.specs.World.{World}
 use Rattle.desk_store.specs.Crashes.{LeavesOldOr}
 use Rattle.desk_run.specs.DeskWorld.{DeskWorld, enrolled}
@@ -15,12 +16,12 @@ use Rattle.desk_line.specs.declared.failure.Failure.{Failure}
 use Rattle.desk_line.specs.declared.line.Enrolment.{Enrolment}
 use Rattle.desk_line.specs.declared.line.Play.{Play as PlayWords}
 use Rattle.desk_line.specs.declared.line.Serve.{Serve as ServeWords}
-use Rattle.desk_line.specs.Exits.{failure_after, failure_at, failure_status}
+use Rattle.desk_line.specs.Exits.{Ending, EndsWith, failure_after, failure_at}
 use Rattle.desk_program.specs.Enrolling.{permitting, with_operators}
 use Rattle.desk_program.specs.Keeping.{AreKept, AreKeptSoFar, IsFoundServed, IsLeftByOne, IsPlayKept, IsPortKept}
-use Rattle.desk_program.specs.Playing.{status_after}
-use Rattle.desk_program.specs.Serving.{Arrival, EndsAfter, Exchange, Takes, failing}
-use Rattle.desk_program.proofs.ServedLemmas.{all_then, both_served, both_taken, none_taken, one_ends, served_then, stops}
+use Rattle.desk_program.specs.Playing.{done_unless}
+use Rattle.desk_program.specs.Serving.{EndsAfter, Exchange, Grows, IsDenied, IsUnsent, Traffic, failing, is_whole}
+use Rattle.desk_program.proofs.ServedLemmas.{all_then, all_unsent, both_more, both_served, none_more, one_ends, served_then, stops}
 
 -- ---- enrolments
 
@@ -74,7 +75,7 @@ both_found xs ys u v w before mid found first (inr p) = by (first p.1)
 -- so many connections, and then others
 module _ {A B C : Type 0} where
   pub both_kept : (H K : Type 0) → (K → H) → (first : Result A Failure) (then : Result B Failure)
-      (whole : Result C Failure) (m k n : ℕ) (a b c : Option (List Arrival)) (u v w : DeskWorld)
+      (whole : Result C Failure) (m k n : ℕ) (a b c : Traffic) (u v w : DeskWorld)
       (before mid now : Option World → Type 0) → AreKept H first m a b u v before mid
       → AreKept K then k b c v w mid now → m + k ≤ n
       → ((xs ys : List Exchange) → EndsAfter first m xs → EndsAfter then k ys
@@ -86,9 +87,15 @@ module _ {A B C : Type 0} where
         taken = record {
           exchanges = xs ++ ys;
           few = omega (arith, length-append xs ys, h.taken.few, t.taken.few, few);
-          taken = subst (λ z. Takes a c z) (sym (map-append (λ x. x.arrival) xs ys))
-              (both_taken a b c (map (λ x. x.arrival) xs) (map (λ x. x.arrival) ys) h.taken.taken
-              t.taken.taken);
+          taken = subst (λ z. Grows a.taken c.taken z) (sym (map-append (λ x. x.arrival) xs ys))
+              (both_more a.taken b.taken c.taken (map (λ x. x.arrival) xs) (map (λ x. x.arrival) ys)
+              h.taken.taken t.taken.taken);
+          closed = subst (λ z. Grows a.closed c.closed z) (sym (map-append (λ x. x.parting) xs ys))
+              (both_more a.closed b.closed c.closed (map (λ x. x.parting) xs) (map (λ x. x.parting) ys)
+              h.taken.closed t.taken.closed);
+          fresh = All-append (λ x. IsUnsent a x.out) xs ys h.taken.fresh
+              (all_unsent a b (map (λ x. x.parting) xs) h.taken.closed ys t.taken.fresh);
+          told = All-append (λ x. x.parting.is_whole ≡ is_whole x.served) xs ys h.taken.told t.taken.told;
           served = both_served K xs ys u v w (all_then H K by xs u v h.taken.served) t.taken.served;
           ends = ends xs ys h.taken.ends t.taken.ends;
         };
@@ -98,14 +105,17 @@ module _ {A B C : Type 0} where
 
 -- nothing is taken
 pub none_kept : {A : Type 0} (H : Type 0) (done : Result A Failure) (count : ℕ)
-    (old new : Option (List Arrival)) (w after : DeskWorld) (before now : Option World → Type 0)
+    (old new : Traffic) (w after : DeskWorld) (before now : Option World → Type 0)
     → new ≡ old → after ≡ w → EndsAfter done count []
     → ((found : Option World) → now found → before found) → AreKept H done count old new w after before now
 none_kept H done count old new w after before now same left ends stays = record {
   taken = record {
     exchanges = [];
     few = omega arith;
-    taken = none_taken old new same;
+    taken = none_more old.taken new.taken (ap (λ v. v.taken) same);
+    closed = none_more old.closed new.closed (ap (λ v. v.closed) same);
+    fresh = All-nil (λ x. IsUnsent old x.out);
+    told = All-nil (λ x. x.parting.is_whole ≡ is_whole x.served);
     served = left;
     ends = ends;
   };
@@ -114,41 +124,49 @@ none_kept H done count old new w after before now same left ends stays = record 
 
 -- one connection is taken
 one_found : (x : Exchange) (w after : DeskWorld) (before : Type 0) (found : Option World)
-    → HasServed ⊤ x.served x.arrival.bytes x.unread x.out x.now w x.arrival.moment after
-    → IsFoundNow x.served (λ z. before) (IsTaken x.arrival.bytes x.unread) w x.arrival.moment after found
+    → HasServed ⊤ x.served x.arrival.bytes x.parting.unread x.out x.parting.sent w x.arrival.moment after
+    → IsFoundNow x.served (λ z. before) (IsTaken x.arrival.bytes x.parting.unread) w x.arrival.moment after
+    found
     → IsFoundServed (x ∷ []) after found ⊎ ((after ≡ w) × before)
 one_found x w after before found served (inl is) = inl (inl is)
 one_found x w after before found served (inr p) = by p.1
   where
     by : before ⊎ ((¬ IsCertain x.served)
-        × IsLeftBy (IsTaken x.arrival.bytes x.unread) w x.arrival.moment found)
+        × IsLeftBy (IsTaken x.arrival.bytes x.parting.unread) w x.arrival.moment found)
         → IsFoundServed (x ∷ []) after found ⊎ ((after ≡ w) × before)
     by (inl h) = inr (p.0, h)
     by (inr h) = inl (inr (inl (
       h.0,
-      subst (λ v. HasServed ⊤ x.served x.arrival.bytes x.unread x.out x.now v x.arrival.moment after)
+      subst (λ v. HasServed ⊤ x.served x.arrival.bytes x.parting.unread x.out x.parting.sent v
+          x.arrival.moment after)
           (sym p.0) served,
-      subst (λ v. IsLeftBy (IsTaken x.arrival.bytes x.unread) v x.arrival.moment found) (sym p.0) h.1,
+      subst (λ v. IsLeftBy (IsTaken x.arrival.bytes x.parting.unread) v x.arrival.moment found) (sym p.0) h.1,
     )))
 
 pub one_kept : {A : Type 0} (H : Type 0) (done : Result A Failure) (x : Exchange)
-    (old new : Option (List Arrival)) (w after : DeskWorld) (before now : Option World → Type 0)
-    → Takes old new (x.arrival ∷ [])
-    → HasServed H x.served x.arrival.bytes x.unread x.out x.now w x.arrival.moment after
-    → failing done ≡ failure_at x.served → IfErr done (λ f. failure_status f ≡ 4)
+    (old new : Traffic) (w after : DeskWorld) (before now : Option World → Type 0)
+    → Grows old.taken new.taken (x.arrival ∷ []) → Grows old.closed new.closed (x.parting ∷ [])
+    → IsUnsent old x.out → x.parting.is_whole ≡ is_whole x.served
+    → HasServed H x.served x.arrival.bytes x.parting.unread x.out x.parting.sent w x.arrival.moment after
+    → failing done ≡ failure_at x.served
     → (H → (found : Option World) → now found → IsFoundNow x.served before
-    (IsTaken x.arrival.bytes x.unread) w x.arrival.moment after found)
+    (IsTaken x.arrival.bytes x.parting.unread) w x.arrival.moment after found)
     → AreKept H done 1 old new w after before now
-one_kept H done x old new w after before now takes served is fault finds = record {
+one_kept H done x old new w after before now takes closes fresh told served is finds = record {
   taken = record {
     exchanges = x ∷ [];
     few = omega arith;
     taken = takes;
+    closed = closes;
+    fresh = All-cons (λ z. IsUnsent old z.out) x [] fresh (All-nil (λ z. IsUnsent old z.out));
+    told = All-cons (λ z. z.parting.is_whole ≡ is_whole z.served) x [] told
+        (All-nil (λ z. z.parting.is_whole ≡ is_whole z.served));
     served = (after, served, refl);
-    ends = one_ends done x is fault;
+    ends = one_ends done x is;
   };
   finds = λ p found may. one_found x w after (before found) found
-      (served_then H ⊤ (λ k. p) x.served x.arrival.bytes x.unread x.out x.now w x.arrival.moment after served)
+      (served_then H ⊤ (λ k. p) x.served x.arrival.bytes x.parting.unread x.out x.parting.sent w
+      x.arrival.moment after served)
       (finds p found may);
 }
 
@@ -164,7 +182,7 @@ module _ {A : Type 0} (H : Type 0) (done : Result A Failure) (serve : ServeWords
     (w begun after : DeskWorld) (before now : Option World → Type 0) (p : H)
     (listed : H → begun ≡ with_operators (permitting w serve.permitted) serve.enrolments.items)
     (only : (found : Option World) → before found → found ≡ Some begun.content) where
-  pub port_kept : (old mid new : Option (List Arrival)) → mid ≡ old
+  pub port_kept : (old mid new : Traffic) → mid ≡ old
       → AreKept H done serve.connections mid new begun after before now
       → (found : Option World) → now found → IsPortKept H done serve old new w after found
   port_kept old mid new same kept found may =
@@ -175,31 +193,31 @@ module _ {A : Type 0} (H : Type 0) (done : Result A Failure) (serve : ServeWords
       )
 
   -- the operators are listed, and no connection is taken
-  pub unserved_kept : (f : Failure) (old new : Option (List Arrival)) → IsErrAnd done (λ e. e ≡ f)
-      → failure_status f ≡ 4 → new ≡ old → after ≡ begun
+  pub unserved_kept : (f : Failure) (old new : Traffic) → IsErrAnd done (λ e. e ≡ f)
+      → IsDenied f → new ≡ old → after ≡ begun
       → ((found : Option World) → now found → before found)
       → (found : Option World) → now found → IsPortKept H done serve old new w after found
-  unserved_kept f old new is four same left stays = port_kept old old new refl
+  unserved_kept f old new is denied same left stays = port_kept old old new refl
       (none_kept H done serve.connections old new begun after before now same left
-      (stops done f is four serve.connections []) stays)
+      (stops done f is serve.connections [] denied) stays)
 
 -- ---- a run over the input
 
-module _ (H : Type 0) (play : PlayWords) (status : ℕ) (ended : PlayEnd) (answered : ℕ)
+module _ (H : Type 0) (play : PlayWords) (end : Ending) (ended : PlayEnd) (answered : ℕ)
     (old new out now : Option (List ℕ)) (w begun after : DeskWorld) (given : ℤ)
-    (status_is : status ≡ status_after (failure_after ended)) (same : given ≡ play.moment)
+    (ends : EndsWith (done_unless (failure_after ended)) end) (same : given ≡ play.moment)
     (listed : H → begun ≡ with_operators (permitting w play.permitted) play.enrolments.items)
     (played : HasPlayed H ended answered old new out now begun given after) where
   pub run_kept : H → (found : Option World)
       → IsKept ended (told_in_play ended answered) old out now begun given after found
-      → IsPlayKept H play status old new out now w after found
+      → IsPlayKept H play end old new out now w after found
   run_kept p found kept =
       let start = with_operators (permitting w play.permitted) play.enrolments.items in
       inl (
         record {
           ended = ended;
           answered = answered;
-          status_is = status_is;
+          ends = ends;
           played = λ h. subst (λ m. HasPlayed H ended answered old new out now start m after) same
               (subst (λ v. HasPlayed H ended answered old new out now v given after) (listed h) played);
         },

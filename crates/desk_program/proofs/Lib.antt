@@ -2,3 +2,5 @@ mod ServedLemmas
 mod EnrolLemmas
 mod MomentLemmas
 mod KeepingLemmas
+mod BegunLemmas
+mod EndLemmas

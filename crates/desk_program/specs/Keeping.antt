@@ -12,10 +12,10 @@ use Rattle.desk_line.specs.declared.line.Line.{Line}
 use Rattle.desk_line.specs.declared.line.Line.TheVariants as line
 use Rattle.desk_line.specs.declared.line.Play.{Play as PlayWords}
 use Rattle.desk_line.specs.declared.line.Serve.{Serve as ServeWords}
-use Rattle.desk_line.specs.Exits.{exit_status}
+use Rattle.desk_line.specs.Exits.{Ending, EndsWith, IsBrokenDown}
 use Rattle.desk_program.specs.Enrolling.{AreListedSoFar, permitting, with_operators}
 use Rattle.desk_program.specs.Playing.{IsNotPlayed, IsPlayed}
-use Rattle.desk_program.specs.Serving.{AreTaken, Arrival, Exchange, HasBegun, IsNotBegun}
+use Rattle.desk_program.specs.Serving.{AreTaken, Exchange, HasBegun, IsNotBegun, Traffic}
 
 -- the first operators are listed, and not all of them; what is found has these, or these and the next one
 pub record AreKeptSoFar (H : Type 0) (es : List Enrolment) (w after : DeskWorld) (found : Option World) :
@@ -26,40 +26,40 @@ pub record AreKeptSoFar (H : Type 0) (es : List Enrolment) (w after : DeskWorld)
 
 -- what is found has the operator listed; or it is what was there before, and nothing was printed
 abbrev pub FindsEnrolled :
-    Enrolment → ℕ → Option (List ℕ) → Option (List ℕ) → DeskWorld → Option World → Type 0
-FindsEnrolled e status out now w found = (found ≡ Some (enrolled w e.operator e.ceiling).content)
-    ⊎ ((status ≡ 4) × (now ≡ out) × (found ≡ Some w.content))
+    Enrolment → Ending → Option (List ℕ) → Option (List ℕ) → DeskWorld → Option World → Type 0
+FindsEnrolled e end out now w found = (found ≡ Some (enrolled w e.operator e.ceiling).content)
+    ⊎ (IsBrokenDown end × (now ≡ out) × (found ≡ Some w.content))
 
 -- the requests of the input are played, and what is found is theirs; or an operator could not be listed
 abbrev pub IsPlayKept :
-    Type 0 → PlayWords → ℕ → Option (List ℕ) → Option (List ℕ) → Option (List ℕ) → Option (List ℕ)
+    Type 0 → PlayWords → Ending → Option (List ℕ) → Option (List ℕ) → Option (List ℕ) → Option (List ℕ)
     → DeskWorld → DeskWorld → Option World → Type 0
-IsPlayKept H play status old new out now w after found =
-    ((run : IsPlayed H play status old new out now w after)
+IsPlayKept H play end old new out now w after found =
+    ((run : IsPlayed H play end old new out now w after)
     × IsKept run.ended (told_in_play run.ended run.answered) old out now
     (with_operators (permitting w play.permitted) play.enrolments.items) play.moment after found)
-    ⊎ (IsNotPlayed H play status old new out now w after
+    ⊎ (IsNotPlayed H play end old new out now w after
     × AreKeptSoFar H play.enrolments.items (permitting w play.permitted) after found)
 
 -- by the line that is carried out, by reading and writing alone
 abbrev pub IsLinePlayKept :
-    Type 0 → Line → ℕ → Option (List ℕ) → Option (List ℕ) → Option (List ℕ) → Option (List ℕ)
+    Type 0 → Line → Ending → Option (List ℕ) → Option (List ℕ) → Option (List ℕ) → Option (List ℕ)
     → DeskWorld → DeskWorld → Option World → Type 0
-IsLinePlayKept H (line.Play play) status old new out now w after found =
-    IsPlayKept H play status old new out now w after found
-IsLinePlayKept H (line.Enrol enrol) status old new out now w after found =
-    FindsEnrolled enrol.enrolment status out now w found
-IsLinePlayKept H (line.Token token) status old new out now w after found = ⊥
-IsLinePlayKept H (line.Serve serve) status old new out now w after found = ⊥
-IsLinePlayKept H (line.Cover cover) status old new out now w after found = ⊥
-IsLinePlayKept H (line.Migrate migrate) status old new out now w after found = ⊥
+IsLinePlayKept H (line.Play play) end old new out now w after found =
+    IsPlayKept H play end old new out now w after found
+IsLinePlayKept H (line.Enrol enrol) end old new out now w after found =
+    FindsEnrolled enrol.enrolment end out now w found
+IsLinePlayKept H (line.Token token) end old new out now w after found = ⊥
+IsLinePlayKept H (line.Serve serve) end old new out now w after found = ⊥
+IsLinePlayKept H (line.Cover cover) end old new out now w after found = ⊥
+IsLinePlayKept H (line.Migrate migrate) end old new out now w after found = ⊥
 
 -- the request of a connection left a world as it was, its answer was a 500 or is not whole, and what is
 -- found is what this request would leave there
 abbrev pub IsLeftUncertain : DeskWorld → Option World → Exchange → Type 0
 IsLeftUncertain w found x = (¬ IsCertain x.served)
-    × HasServed ⊤ x.served x.arrival.bytes x.unread x.out x.now w x.arrival.moment w
-    × IsLeftBy (IsTaken x.arrival.bytes x.unread) w x.arrival.moment found
+    × HasServed ⊤ x.served x.arrival.bytes x.parting.unread x.out x.parting.sent w x.arrival.moment w
+    × IsLeftBy (IsTaken x.arrival.bytes x.parting.unread) w x.arrival.moment found
 
 -- the same of one of these connections
 abbrev pub IsLeftByOne : DeskWorld → Option World → List Exchange → Type 0
@@ -74,7 +74,7 @@ IsFoundServed xs after found = (found ≡ Some after.content) ⊎ IsLeftByOne af
 -- connections are taken, and that is what is found, where `now` says what may be found now; or, if their
 -- requests left all as it was, what might have been found before
 pub record AreKept {A : Type 0} (H : Type 0) (done : Result A Failure) (count : ℕ)
-    (old new : Option (List Arrival)) (w after : DeskWorld) (before now : Option World → Type 0) :
+    (old new : Traffic) (w after : DeskWorld) (before now : Option World → Type 0) :
     Type 0 where
   pub taken : AreTaken H done count old new w after
   pub finds : H → (found : Option World) → now found
@@ -82,7 +82,7 @@ pub record AreKept {A : Type 0} (H : Type 0) (done : Result A Failure) (count : 
 
 -- connections are taken once all operators are listed, or an operator could not be listed
 abbrev pub IsPortKept :
-    {A : Type 0} → Type 0 → Result A Failure → ServeWords → Option (List Arrival) → Option (List Arrival)
+    {A : Type 0} → Type 0 → Result A Failure → ServeWords → Traffic → Traffic
     → DeskWorld → DeskWorld → Option World → Type 0
 IsPortKept H done serve old new w after found =
     ((port : HasBegun H done serve old new w after) × IsFoundServed port.taken.exchanges after found)
@@ -90,22 +90,22 @@ IsPortKept H done serve old new w after found =
     × AreKeptSoFar H serve.enrolments.items (permitting w serve.permitted) after found)
 
 -- a line of `serve` is carried out, and that is what is found
-pub record IsServeKept (H : Type 0) (serve : ServeWords) (status : ℕ)
-    (old new : Option (List Arrival)) (w after : DeskWorld) (found : Option World) : Type 0 where
+pub record IsServeKept (H : Type 0) (serve : ServeWords) (end : Ending)
+    (old new : Traffic) (w after : DeskWorld) (found : Option World) : Type 0 where
   pub done : Result ⊤ Failure
-  pub status_is : status ≡ exit_status done
+  pub ends : EndsWith done end
   pub kept : IsPortKept H done serve old new w after found
 
--- by the line that is carried out at a desk. `from` and `to` are the connections taken before and after
+-- by the line that is carried out at a desk. `from` and `to` are what the port told before and tells after
 abbrev pub IsLineKept :
-    Type 0 → Line → ℕ → Option (List Arrival) → Option (List Arrival) → Option (List ℕ) → Option (List ℕ)
+    Type 0 → Line → Ending → Traffic → Traffic → Option (List ℕ) → Option (List ℕ)
     → Option (List ℕ) → Option (List ℕ) → DeskWorld → DeskWorld → Option World → Type 0
-IsLineKept H (line.Play play) status from to old new out now w after found =
-    IsLinePlayKept H (line.Play play) status old new out now w after found
-IsLineKept H (line.Enrol enrol) status from to old new out now w after found =
-    IsLinePlayKept H (line.Enrol enrol) status old new out now w after found
-IsLineKept H (line.Serve serve) status from to old new out now w after found =
-    IsServeKept H serve status from to w after found
-IsLineKept H (line.Token token) status from to old new out now w after found = ⊥
-IsLineKept H (line.Cover cover) status from to old new out now w after found = ⊥
-IsLineKept H (line.Migrate migrate) status from to old new out now w after found = ⊥
+IsLineKept H (line.Play play) end from to old new out now w after found =
+    IsLinePlayKept H (line.Play play) end old new out now w after found
+IsLineKept H (line.Enrol enrol) end from to old new out now w after found =
+    IsLinePlayKept H (line.Enrol enrol) end old new out now w after found
+IsLineKept H (line.Serve serve) end from to old new out now w after found =
+    IsServeKept H serve end from to w after found
+IsLineKept H (line.Token token) end from to old new out now w after found = ⊥
+IsLineKept H (line.Cover cover) end from to old new out now w after found = ⊥
+IsLineKept H (line.Migrate migrate) end from to old new out now w after found = ⊥

@@ -1,14 +1,16 @@
 -- Moving: the line that tells how many plans were moved, and what is printed of it.
 use Rattle.std.specs.Prelude.{◌≡◌, ◌⊎◌, ℕ, List, ◌++◌, codes, decimal, Option}
 use Rattle.std.specs.Io.KnownBytes.{Appends}
+use Rattle.desk_line.specs.declared.failure.Failure.TheVariants as failure
+use Rattle.desk_line.specs.Exits.{Ending, EndsWell, FailsWith}
 use Rattle.desk_program.specs.Enrolling.{IsCutOff}
 
 unfoldable pub migrated_line : ℕ → List ℕ
 migrated_line count = codes "migrated " ++ (decimal count ++ codes " plans\n")
 
 -- the line is printed; or it is cut off, since a write failed; or nothing is printed, since memory ran out
-abbrev pub IsCountPrinted : ℕ → ℕ → Option (List ℕ) → Option (List ℕ) → Type 0
-IsCountPrinted count status out now =
-    ((status ≡ 0) × Appends out now (migrated_line count))
-    ⊎ ((status ≡ 4) × IsCutOff (migrated_line count) out now)
-    ⊎ ((status ≡ 4) × (now ≡ out))
+abbrev pub IsCountPrinted : ℕ → Ending → Option (List ℕ) → Option (List ℕ) → Type 0
+IsCountPrinted count end out now =
+    (EndsWell end × Appends out now (migrated_line count))
+    ⊎ (FailsWith failure.Write end × IsCutOff (migrated_line count) out now)
+    ⊎ (FailsWith failure.Memory end × (now ≡ out))

@@ -4,21 +4,24 @@ use Rattle.std.specs.Io.KnownBytes.{Appends}
 use Rattle.desk_run.specs.DeskWorld.{DeskWorld}
 use Rattle.desk_line.specs.declared.line.Line.{Line}
 use Rattle.desk_line.specs.declared.line.Line.TheVariants as line
+use Rattle.desk_line.specs.Exits.{Ending}
+use Rattle.desk_line.specs.Written.{HasBegun}
 use Rattle.desk_program.specs.Playing.{IsLinePlayed}
-use Rattle.desk_program.specs.Serving.{Arrival, IsLineServed, listening_line}
+use Rattle.desk_program.specs.Serving.{IsLineServed, Traffic, listening_line}
 
 -- `play` and `enrol` take no connection; `serve` reads no input, and prints that it listens. `from` and `to`
--- are the connections taken before and after
+-- are what the port told before and tells after
 abbrev pub IsCarriedOut :
-    Type 0 → Line → ℕ → Option (List Arrival) → Option (List Arrival) → Option (List ℕ) → Option (List ℕ)
+    Type 0 → Line → Ending → Traffic → Traffic → Option (List ℕ) → Option (List ℕ)
     → Option (List ℕ) → Option (List ℕ) → DeskWorld → DeskWorld → Type 0
-IsCarriedOut H (line.Play play) status from to old new out now w after =
-    (to ≡ from) × IsLinePlayed H (line.Play play) status old new out now w after
-IsCarriedOut H (line.Enrol enrol) status from to old new out now w after =
-    (to ≡ from) × IsLinePlayed H (line.Enrol enrol) status old new out now w after
-IsCarriedOut H (line.Serve serve) status from to old new out now w after =
-    (new ≡ old) × IsLineServed H serve status from to w after
-    × (status ≡ 0 → Appends out now (listening_line serve.port))
-IsCarriedOut H (line.Token token) status from to old new out now w after = ⊥
-IsCarriedOut H (line.Cover cover) status from to old new out now w after = ⊥
-IsCarriedOut H (line.Migrate migrate) status from to old new out now w after = ⊥
+IsCarriedOut H (line.Play play) end from to old new out now w after =
+    (to ≡ from) × IsLinePlayed H (line.Play play) end old new out now w after
+IsCarriedOut H (line.Enrol enrol) end from to old new out now w after =
+    (to ≡ from) × IsLinePlayed H (line.Enrol enrol) end old new out now w after
+IsCarriedOut H (line.Serve serve) end from to old new out now w after =
+    (new ≡ old) × IsLineServed H serve end from to w after
+    × HasBegun (listening_line serve.port) out now
+    × (end.status ≡ 0 → Appends out now (listening_line serve.port))
+IsCarriedOut H (line.Token token) end from to old new out now w after = ⊥
+IsCarriedOut H (line.Cover cover) end from to old new out now w after = ⊥
+IsCarriedOut H (line.Migrate migrate) end from to old new out now w after = ⊥

@@ -1,12 +1,15 @@
 -- Serving: what a desk at a port prints, and what its connections leave.
-use Rattle.std.specs.Prelude.{◌≡◌, ◌≤◌, ◌⊎◌, ⊤, ℕ, ℤ, List, [], ◌∷◌, ◌++◌, All, map, length, codes, decimal, Option, Some, None, Result, Ok, Err}
+use Rattle.std.specs.Prelude.{◌≡◌, ◌≤◌, ◌⊎◌, ⊤, ℕ, ℤ, Bool, true, List, [], ◌∷◌, ◌++◌, All, map, length, codes, decimal, Option, Some, None, IfSome, Result, Ok, Err}
+use Rattle.std.specs.Result.{IsErrAnd}
 use Rattle.desk_run.specs.DeskWorld.{DeskWorld}
 use Rattle.desk_wire.specs.Serving.{HasServed}
 use Rattle.desk_wire.specs.declared.stream.Served.{Served}
+use Rattle.desk_wire.specs.declared.stream.Served.TheVariants.{Answered, End}
 use Rattle.desk_wire.specs.declared.stream.ServeFault.{ServeFault}
 use Rattle.desk_line.specs.declared.failure.Failure.{Failure}
 use Rattle.desk_line.specs.declared.line.Serve.{Serve as ServeWords}
-use Rattle.desk_line.specs.Exits.{exit_status, failure_at, failure_status}
+use Rattle.desk_line.specs.declared.failure.Failure.TheVariants as failure
+use Rattle.desk_line.specs.Exits.{Ending, EndsWith, IsBreakdown, failure_at}
 use Rattle.desk_program.specs.Enrolling.{AreListedSoFar, permitting, with_operators}
 
 -- what is printed when the port is listened at
@@ -22,27 +25,62 @@ pub record Arrival : Type 0 where
 abbrev pub arrived : ℤ → Option (List ℕ) → Arrival
 arrived moment bytes = record { moment = moment; bytes = bytes }
 
--- the connections taken, where they are known, are followed by these
-abbrev pub Takes : Option (List Arrival) → Option (List Arrival) → List Arrival → Type 0
-Takes None new more = ⊤
-Takes (Some old) None more = ⊥
-Takes (Some old) (Some new) more = new ≡ old ++ more
+-- a connection as it is closed: the bytes of its client that are left unread and those that it was sent, if
+-- they are known, and whether its request is said to have been read whole
+pub record Parting : Type 0 where
+  pub unread : Option (List ℕ)
+  pub sent : Option (List ℕ)
+  pub is_whole : Bool
 
--- a connection, and what came of its request: the bytes that are left unread, and those that its client was
--- sent before and after, if they are known
+abbrev pub parted : Option (List ℕ) → Option (List ℕ) → Bool → Parting
+parted unread sent is_whole = record { unread = unread; sent = sent; is_whole = is_whole }
+
+-- what a port tells: the connections that were taken, and those that were closed, in their order, if they are
+-- known
+pub record Traffic : Type 0 where
+  pub taken : Option (List Arrival)
+  pub closed : Option (List Parting)
+
+abbrev pub untold : Traffic
+untold = record { taken = None; closed = None }
+
+-- what is known is followed by these
+abbrev pub Grows : {A : Type 0} → Option (List A) → Option (List A) → List A → Type 0
+Grows None new more = ⊤
+Grows (Some old) None more = ⊥
+Grows (Some old) (Some new) more = new ≡ old ++ more
+
+-- a connection is taken; and one is closed
+abbrev pub Takes : Traffic → Traffic → Arrival → Type 0
+Takes old new arrival = Grows old.taken new.taken (arrival ∷ []) × (new.closed ≡ old.closed)
+
+abbrev pub Closes : Traffic → Traffic → Parting → Type 0
+Closes old new parting = Grows old.closed new.closed (parting ∷ []) × (new.taken ≡ old.taken)
+
+-- at a port that tells what it closes, nothing was sent yet
+abbrev pub IsUnsent : Traffic → Option (List ℕ) → Type 0
+IsUnsent port out = IfSome port.closed (λ partings. out ≡ Some [])
+
+-- a connection, what its client was sent before, if that is known, what came of its request, and the
+-- connection as it is closed then
 pub record Exchange : Type 0 where
   pub arrival : Arrival
-  pub unread : Option (List ℕ)
   pub out : Option (List ℕ)
-  pub now : Option (List ℕ)
   pub served : Result Served ServeFault
+  pub parting : Parting
+
+-- no byte of the request of a connection is left unread, as far as is known
+abbrev pub is_whole : Result Served ServeFault → Bool
+is_whole (Ok (Answered status framed)) = framed
+is_whole (Ok End) = true
+is_whole (Err fault) = true
 
 -- the requests of connections are served one after the other, each at the moment of its connection
 abbrev pub AreServed : Type 0 → List Exchange → DeskWorld → DeskWorld → Type 0
 AreServed H [] w after = after ≡ w
 AreServed H (x ∷ xs) w after =
     (between : DeskWorld)
-    × HasServed H x.served x.arrival.bytes x.unread x.out x.now w x.arrival.moment between
+    × HasServed H x.served x.arrival.bytes x.parting.unread x.out x.parting.sent w x.arrival.moment between
     × AreServed H xs between after
 
 -- why the desk ends after a result; none if it goes on
@@ -50,45 +88,59 @@ abbrev pub failing : {A : Type 0} → Result A Failure → Option Failure
 failing (Ok done) = None
 failing (Err failure) = Some failure
 
+-- the machine denied memory, a write, a connection or the moment
+abbrev pub IsDenied : Failure → Type 0
+IsDenied f = (f ≡ failure.Memory) ⊎ (f ≡ failure.Write) ⊎ (f ≡ failure.Network) ⊎ (f ≡ failure.Clock)
+
+-- the failure is what the last of these connections ended the desk with, or the machine denied something
+-- after them; none before ended the desk
+abbrev pub EndsBy : Failure → List Exchange → Type 0
+EndsBy f [] = IsDenied f
+EndsBy f (x ∷ xs) =
+    ((failure_at x.served ≡ None) × EndsBy f xs) ⊎ ((failure_at x.served ≡ Some f) × (xs ≡ []))
+
 -- no more connections are taken, since they are as many as were asked for, and the desk failed at none; or
--- since the machine denied something
+-- by why the desk ended
 abbrev pub EndsAfter : {A : Type 0} → Result A Failure → ℕ → List Exchange → Type 0
 EndsAfter (Ok done) count exchanges =
     (length exchanges ≡ count) × All (λ x. failure_at x.served ≡ None) exchanges
-EndsAfter (Err failure) count exchanges = failure_status failure ≡ 4
+EndsAfter (Err failure) count exchanges = EndsBy failure exchanges
 
 -- connections are taken, at most so many, and what is left is what their requests leave
 pub record AreTaken {A : Type 0} (H : Type 0) (done : Result A Failure) (count : ℕ)
-    (old new : Option (List Arrival)) (w after : DeskWorld) : Type 0 where
+    (old new : Traffic) (w after : DeskWorld) : Type 0 where
   pub exchanges : List Exchange
   pub few : length exchanges ≤ count
-  pub taken : Takes old new (map (λ x. x.arrival) exchanges)
+  pub taken : Grows old.taken new.taken (map (λ x. x.arrival) exchanges)
+  pub closed : Grows old.closed new.closed (map (λ x. x.parting) exchanges)
+  pub fresh : All (λ x. IsUnsent old x.out) exchanges
+  pub told : All (λ x. x.parting.is_whole ≡ is_whole x.served) exchanges
   pub served : AreServed H exchanges w after
   pub ends : EndsAfter done count exchanges
 
 -- the line's priorities are permitted and its operators listed, and then connections are taken
 pub record HasBegun {A : Type 0} (H : Type 0) (done : Result A Failure) (serve : ServeWords)
-    (old new : Option (List Arrival)) (w after : DeskWorld) : Type 0 where
+    (old new : Traffic) (w after : DeskWorld) : Type 0 where
   pub begun : DeskWorld
   pub listed : H → begun ≡ with_operators (permitting w serve.permitted) serve.enrolments.items
   pub taken : AreTaken H done serve.connections old new begun after
 
 -- an operator could not be listed: those before it are, and no connection is taken
 pub record IsNotBegun {A : Type 0} (H : Type 0) (done : Result A Failure) (serve : ServeWords)
-    (old new : Option (List Arrival)) (w after : DeskWorld) : Type 0 where
-  pub status_is : exit_status done ≡ 4
+    (old new : Traffic) (w after : DeskWorld) : Type 0 where
+  pub broken : IsErrAnd done IsBreakdown
   pub untaken : new ≡ old
   pub listed : AreListedSoFar H serve.enrolments.items (permitting w serve.permitted) after
 
 abbrev pub IsAtPort :
-    {A : Type 0} → Type 0 → Result A Failure → ServeWords → Option (List Arrival) → Option (List Arrival)
+    {A : Type 0} → Type 0 → Result A Failure → ServeWords → Traffic → Traffic
     → DeskWorld → DeskWorld → Type 0
 IsAtPort H done serve old new w after =
     HasBegun H done serve old new w after ⊎ IsNotBegun H done serve old new w after
 
--- a line of `serve` is carried out, and the exit status tells how that ended
-pub record IsLineServed (H : Type 0) (serve : ServeWords) (status : ℕ)
-    (old new : Option (List Arrival)) (w after : DeskWorld) : Type 0 where
+-- a line of `serve` is carried out, and ends as that does
+pub record IsLineServed (H : Type 0) (serve : ServeWords) (end : Ending)
+    (old new : Traffic) (w after : DeskWorld) : Type 0 where
   pub done : Result ⊤ Failure
-  pub status_is : status ≡ exit_status done
+  pub ends : EndsWith done end
   pub came : IsAtPort H done serve old new w after

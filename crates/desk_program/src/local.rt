@@ -1,16 +1,17 @@
 //! A port of 127.0.0.1, with the moments of the clock.
 
-ghost use Rattle.std.specs.Prelude.{◌≡◌, IfErr, IfOk, IfSome};
+ghost use Rattle.std.specs.Prelude.{◌≡◌, ◌≢◌, None, Some, Err, Ok, IfErr, IfOk};
+ghost use Rattle.std.specs.IoError.{error_kind};
 ghost use Rattle.std.specs.Time.{system_time_nanos};
 ghost use Rattle.desk_wire.specs.Moments.{IsMoment};
-ghost use Rattle.desk_line.specs.Exits.{failure_status};
+ghost use Rattle.desk_program.specs.Serving.{IsDenied};
 ghost use Rattle.desk_program.specs.Waiting.{moment_at};
 
 use crate::port::{Connection, Port};
 use crate::timed::{Timed, discard_extra, discard_rest};
 use desk_line::Failure;
 use std::alloc::Global;
-use std::io::{BufReader, ErrorKind};
+use std::io::{self, BufReader, ErrorKind};
 use std::net::{Ipv4Addr, Net, OpenListener, OpenStream, TcpListener};
 use std::time::{Clock, SystemTime};
 use volume4d::MAX_SECOND;
@@ -58,7 +59,10 @@ impl<'s, N: Net, C: Clock> Port for LocalPort<'s, N, C> {
             return Err(Failure::Network);
         };
         let stream = accept_from(listener)?;
-        connection_of(alloc, self.clock, stream)
+        let Ok(now) = SystemTime::now(self.clock) else {
+            return Err(Failure::Clock);
+        };
+        connection_of(alloc, self.clock, now, stream)
     }
 
     fn close(
@@ -77,30 +81,44 @@ impl<'s, N: Net, C: Clock> Port for LocalPort<'s, N, C> {
 
 // The stream of the next connection. Those that are given up before they are taken are passed over.
 fn accept_from<L: OpenListener>(listener: &L) -> Result<L::Stream, Failure>
-    ensures { IfErr result (λ f. failure_status f ≡ 4) }
+    ensures { IfErr result IsDenied }
 {
-    for stream in listener.incoming() {
-        match stream {
-            Ok(stream) => return Ok(stream),
-            Err(error) if error.kind() == ErrorKind::ConnectionAborted => {}
-            Err(_) => return Err(Failure::Network),
+    for accepted in listener.incoming() {
+        if let Some(stream) = stream_of(accepted)? {
+            return Ok(stream);
         }
     }
     Err(Failure::Network)
 }
 
-// The connection of a stream, with the moment of the clock.
+// The stream of a connection that was accepted. None if it was given up before.
+fn stream_of<T: Drop>(accepted: io::Result<T>) -> Result<Option<T>, Failure>
+    ensures ok { IfOk accepted (λ stream. result ≡ Ok (Some stream)) }
+    ensures passed { IfErr accepted (λ e. error_kind e ≡ ErrorKind.ConnectionAborted → result ≡ Ok None) }
+    ensures ends { IfErr accepted (λ e. error_kind e ≢ ErrorKind.ConnectionAborted
+        → result ≡ Err Failure.Network) }
+{
+    match accepted {
+        Ok(stream) => Ok(Some(stream)),
+        Err(error) if error.kind() == ErrorKind::ConnectionAborted => Ok(None),
+        Err(_) => Err(Failure::Network),
+    }
+}
+
+// The connection of a stream, taken at a time of the clock.
 fn connection_of<'s, T, C: Clock>(
     alloc: Global,
     clock: &'s C,
+    now: SystemTime,
     stream: T,
 ) -> Result<Connection<BufReader<Timed<'s, T, C>>, Timed<'s, T, C>>, Failure>
 where
     T: std::io::Read + std::io::Write + OpenStream + Drop,
-    ensures moment { IfOk result (λ c. IsMoment c.moment) }
-    ensures fault { IfErr result (λ f. failure_status f ≡ 4) }
+    ensures moment { IfOk result (λ c. moment_at (system_time_nanos now) ≡ Some c.moment) }
+    ensures range { IfOk result (λ c. IsMoment c.moment) }
+    ensures fault { IfErr result IsDenied }
 {
-    let Some(moment) = moment_of(clock) else {
+    let Some(moment) = moment_in(now) else {
         return Err(Failure::Clock);
     };
     let Ok(other) = stream.try_clone() else {
@@ -114,13 +132,6 @@ where
         }),
         Err(_) => Err(Failure::Memory),
     }
-}
-
-// The moment that the clock tells, if it is in range.
-fn moment_of<C: Clock>(clock: &C) -> Option<i64>
-    ensures { IfSome result IsMoment }
-{
-    moment_in(SystemTime::now(clock).ok()?)
 }
 
 // The moment of a time, if it is in range.

@@ -1,6 +1,7 @@
 //! The line that tells how many plans were moved to schema 2.
 
 ghost use Rattle.std.specs.Prelude.{◌≡◌, IfOk, string_bytes};
+ghost use Rattle.desk_line.specs.Exits.{ending};
 ghost use Rattle.desk_program.specs.Moving as spec;
 ghost use Rattle.desk_program.specs.Moving.{IsCountPrinted};
 
@@ -17,7 +18,8 @@ pub fn print_migrated<W: Write, E: Write>(
     output: &mut W,
     errors: &mut E,
 ) -> u8
-    ensures { IsCountPrinted count result (W.contents output.old) (W.contents output.new) }
+    ensures { IsCountPrinted count (ending result (E.contents errors.old) (E.contents errors.new))
+        (W.contents output.old) (W.contents output.new) }
 {
     let Ok(text) = migrated_text(alloc, count) else {
         return conclude(errors, Err(Failure::Memory));

@@ -1,9 +1,9 @@
 //! Where a desk gets its connections from.
 
-ghost use Rattle.std.specs.Prelude.{◌≡◌, ◌∷◌, [], List, Option, None, IfOk, IfErr, OnErr};
+ghost use Rattle.std.specs.Prelude.{◌≡◌, IfOk, IfErr, OnErr};
 ghost use Rattle.desk_wire.specs.Moments.{IsMoment};
-ghost use Rattle.desk_line.specs.Exits.{failure_status};
-ghost use Rattle.desk_program.specs.Serving.{Arrival, Takes, arrived};
+ghost use Rattle.desk_program.specs.Serving.{Closes, IsDenied, IsUnsent, Takes, Traffic};
+ghost use Rattle.desk_program.specs.Serving.{arrived, parted, untold};
 
 use desk_line::Failure;
 use std::alloc::Global;
@@ -26,8 +26,8 @@ pub trait Port {
 
     type Output: Write + Drop;
 
-    /// The connections that were taken, in their order, if they are known.
-    ghost taken: { Self → Option (List Arrival) } = { λ _. None };
+    /// The connections that were taken, and those that were closed, in their order, if they are known.
+    ghost traffic: { Self → Traffic } = { λ _. untold };
 
     /// Listens at the port of this number.
     ///
@@ -35,8 +35,8 @@ pub trait Port {
     ///
     /// `Network` if the port can't be had.
     fn listen(&mut self, number: u16) -> Result<(), Failure>
-        ensures same { taken self.new ≡ taken self.old }
-        ensures fault { IfErr result (λ f. failure_status f ≡ 4) };
+        ensures same { traffic self.new ≡ traffic self.old }
+        ensures fault { IfErr result IsDenied };
 
     /// Takes the next connection.
     ///
@@ -45,13 +45,15 @@ pub trait Port {
     /// `Network` if none can be taken, `Clock` if the clock gives no moment in range, `Memory`.
     fn take(&mut self, alloc: Global) -> Result<Connection<Self::Input, Self::Output>, Failure>
         ensures moment { IfOk result (λ c. IsMoment c.moment) }
-        ensures taken { IfOk result (λ c. Takes (taken self.old) (taken self.new)
-            (arrived c.moment (Self.Input.remaining c.input) ∷ [])) }
-        ensures same { OnErr result (taken self.new ≡ taken self.old) }
-        ensures fault { IfErr result (λ f. failure_status f ≡ 4) };
+        ensures taken { IfOk result (λ c. Takes (traffic self.old) (traffic self.new)
+            (arrived c.moment (Self.Input.remaining c.input))) }
+        ensures unsent { IfOk result (λ c. IsUnsent (traffic self.old) (Self.Output.contents c.output)) }
+        ensures same { OnErr result (traffic self.new ≡ traffic self.old) }
+        ensures fault { IfErr result IsDenied };
 
     /// Ends a connection. If its request was read whole, what has come behind it is dropped first; else the
     /// rest of it is read for a while.
     fn close(&mut self, input: Self::Input, output: Self::Output, is_whole: bool)
-        ensures { taken self.new ≡ taken self.old };
+        ensures { Closes (traffic self.old) (traffic self.new)
+            (parted (Self.Input.remaining input) (Self.Output.contents output) is_whole) };
 }

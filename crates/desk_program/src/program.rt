@@ -7,13 +7,13 @@ ghost use Rattle.desk_store.specs.Frames.{Remembers};
 ghost use Rattle.desk_store.specs.Faults.{IsHonest};
 ghost use Rattle.desk_store.specs.World.{World};
 ghost use Rattle.desk_line.specs.Exits as spec;
-ghost use Rattle.desk_line.specs.Exits.{exit_status};
+ghost use Rattle.desk_line.specs.Exits.{ending};
 ghost use Rattle.desk_rules.specs.Limits.{max_priority};
 ghost use Rattle.desk_line.specs.Lines.{AreEnrolments, HasDesk, IsLine, IsPlay};
 ghost use Rattle.desk_program.specs.Enrolling as enrolling;
 ghost use Rattle.desk_program.specs.Enrolling.{AreListedSoFar, permitting, with_operators};
 ghost use Rattle.desk_program.specs.Keeping.{AreKeptSoFar, FindsEnrolled, IsLinePlayKept, IsPlayKept};
-ghost use Rattle.desk_program.specs.Playing.{IsEnrolled, IsLinePlayed, IsNotPlayed, IsPlayed, status_after};
+ghost use Rattle.desk_program.specs.Playing.{IsEnrolled, IsLinePlayed, IsNotPlayed, IsPlayed, done_unless};
 
 use desk_line::{Enrolment, Failure, Line, Play, conclude};
 use desk_rules::permission::Permitted;
@@ -35,13 +35,15 @@ pub fn with_desk<S: PlanStore, R: Read, W: Write, E: Write>(
 ) -> u8
     requires line { IsLine line.now }
     requires desk { HasDesk line.now }
-    ensures played { IsLinePlayed (IsHonest (S.doubt desk.new.store)) line.now result
+    ensures played { IsLinePlayed (IsHonest (S.doubt desk.new.store)) line.now
+        (ending result (E.contents errors.old) (E.contents errors.new))
         (R.remaining input.old) (R.remaining input.new)
         (W.contents output.old) (W.contents output.new)
         (world_of S.content desk.old) (world_of S.content desk.new) }
     ensures kept { IsHonest (S.doubt desk.new.store) → IsSettled S.content S.may_leave desk.old →
         (found : Option World) → S.may_leave desk.new.store found →
-        IsLinePlayKept (IsHonest (S.doubt desk.new.store)) line.now result
+        IsLinePlayKept (IsHonest (S.doubt desk.new.store)) line.now
+        (ending result (E.contents errors.old) (E.contents errors.new))
         (R.remaining input.old) (R.remaining input.new)
         (W.contents output.old) (W.contents output.new)
         (world_of S.content desk.old) (world_of S.content desk.new) found }
@@ -77,17 +79,20 @@ fn play_line<S: PlanStore, R: Read, W: Write, E: Write>(
     errors: &mut E,
 ) -> u8
     requires { IsPlay play.now }
-    ensures played { IsPlayed (IsHonest (S.doubt desk.new.store)) play.now result
+    ensures played { IsPlayed (IsHonest (S.doubt desk.new.store)) play.now
+        (ending result (E.contents errors.old) (E.contents errors.new))
         (R.remaining input.old) (R.remaining input.new)
         (W.contents output.old) (W.contents output.new) (world_of S.content desk.old)
         (world_of S.content desk.new)
-        ⊎ IsNotPlayed (IsHonest (S.doubt desk.new.store)) play.now result
+        ⊎ IsNotPlayed (IsHonest (S.doubt desk.new.store)) play.now
+        (ending result (E.contents errors.old) (E.contents errors.new))
         (R.remaining input.old) (R.remaining input.new)
         (W.contents output.old) (W.contents output.new) (world_of S.content desk.old)
         (world_of S.content desk.new) }
     ensures kept { IsHonest (S.doubt desk.new.store) → IsSettled S.content S.may_leave desk.old →
         (found : Option World) → S.may_leave desk.new.store found →
-        IsPlayKept (IsHonest (S.doubt desk.new.store)) play.now result
+        IsPlayKept (IsHonest (S.doubt desk.new.store)) play.now
+        (ending result (E.contents errors.old) (E.contents errors.new))
         (R.remaining input.old) (R.remaining input.new)
         (W.contents output.old) (W.contents output.new)
         (world_of S.content desk.old) (world_of S.content desk.new) found }
@@ -109,12 +114,15 @@ fn enrol_line<S: PlanStore, W: Write, E: Write>(
     errors: &mut E,
 ) -> u8
     requires { enrolment.now.ceiling ≤ max_priority }
-    ensures enrolled { IsEnrolled (IsHonest (S.doubt desk.new.store)) enrolment.now result
+    ensures enrolled { IsEnrolled (IsHonest (S.doubt desk.new.store)) enrolment.now
+        (ending result (E.contents errors.old) (E.contents errors.new))
         (W.contents output.old) (W.contents output.new) (world_of S.content desk.old)
         (world_of S.content desk.new) }
     ensures kept { IsHonest (S.doubt desk.new.store) → IsSettled S.content S.may_leave desk.old →
         (found : Option World) → S.may_leave desk.new.store found →
-        FindsEnrolled enrolment.now result (W.contents output.old) (W.contents output.new)
+        FindsEnrolled enrolment.now
+        (ending result (E.contents errors.old) (E.contents errors.new))
+        (W.contents output.old) (W.contents output.new)
         (world_of S.content desk.old) found }
     ensures remembered { Remembers S.doubt S.faults S.is_shielded desk.old.store desk.new.store }
 {
@@ -142,7 +150,7 @@ fn enrolled_text(alloc: Global, enrolment: &Enrolment) -> Result<String, AllocEr
 
 // Whether a run over the input came to the input's end, by its own end.
 fn done_after(ended: PlayEnd) -> Result<(), Failure>
-    ensures { exit_status result ≡ status_after (spec.failure_after ended) }
+    ensures { result ≡ done_unless (spec.failure_after ended) }
 {
     match failure_after(ended) {
         None => Ok(()),

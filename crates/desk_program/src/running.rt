@@ -4,7 +4,7 @@ ghost use Rattle.std.specs.Prelude.{◌≡◌, ◌≤◌, Option, None, IfErr, I
 ghost use Rattle.std.specs.Option.{IsSomeAnd};
 ghost use Rattle.desk_store.specs.Faults.{IsHonest};
 ghost use Rattle.desk_store.specs.World.{World};
-ghost use Rattle.desk_line.specs.Exits.{failure_status};
+ghost use Rattle.desk_line.specs.Exits.{FailsWith, ending};
 ghost use Rattle.desk_line.specs.Lines.{HasDatabase, IsLine};
 ghost use Rattle.desk_run.specs.DeskWorld.{IsSettled, world_of};
 ghost use Rattle.desk_program.specs.Keeping.{IsLineKept};
@@ -33,8 +33,9 @@ pub fn run_opened<S: PlanStore + Drop, P: Port, R: Read, W: Write, E: Write>(
     requires line { IsLine line.now }
     requires desk { HasDatabase line.now }
     ensures opened { IfOk opened (λ desk. IsSomeAnd result.1 (λ left.
-        IsCarriedOut (IsHonest (S.doubt left.store)) line.now result.0 (P.taken port.old) (P.taken port.new)
-        (R.remaining input.old) (R.remaining input.new)
+        IsCarriedOut (IsHonest (S.doubt left.store)) line.now
+        (ending result.0 (E.contents errors.old) (E.contents errors.new)) (P.traffic port.old)
+        (P.traffic port.new) (R.remaining input.old) (R.remaining input.new)
         (W.contents output.old) (W.contents output.new) (world_of S.content desk)
         (world_of S.content left)
         × (S.doubt desk.store ≤ S.doubt left.store)
@@ -42,12 +43,15 @@ pub fn run_opened<S: PlanStore + Drop, P: Port, R: Read, W: Write, E: Write>(
     ensures kept { IfOk opened (λ desk. IsSomeAnd result.1 (λ left.
         IsHonest (S.doubt left.store) → IsSettled S.content S.may_leave desk →
         (found : Option World) → S.may_leave left.store found →
-        IsLineKept (IsHonest (S.doubt left.store)) line.now result.0
-        (P.taken port.old) (P.taken port.new) (R.remaining input.old) (R.remaining input.new)
+        IsLineKept (IsHonest (S.doubt left.store)) line.now
+        (ending result.0 (E.contents errors.old) (E.contents errors.new))
+        (P.traffic port.old) (P.traffic port.new) (R.remaining input.old) (R.remaining input.new)
         (W.contents output.old) (W.contents output.new) (world_of S.content desk)
         (world_of S.content left) found)) }
-    ensures unopened { IfErr opened (λ f. (result ≡ (failure_status f, None))
-        × (P.taken port.new ≡ P.taken port.old) × (R.remaining input.new ≡ R.remaining input.old)
+    ensures unopened { IfErr opened (λ f.
+        FailsWith f (ending result.0 (E.contents errors.old) (E.contents errors.new))
+        × (result.1 ≡ None) × (P.traffic port.new ≡ P.traffic port.old)
+        × (R.remaining input.new ≡ R.remaining input.old)
         × (W.contents output.new ≡ W.contents output.old)) }
 {
     match opened {
@@ -71,14 +75,16 @@ fn run_at<S: PlanStore, P: Port, R: Read, W: Write, E: Write>(
 ) -> u8
     requires line { IsLine line.now }
     requires desk { HasDatabase line.now }
-    ensures done { IsCarriedOut (IsHonest (S.doubt desk.new.store)) line.now result
-        (P.taken port.old) (P.taken port.new) (R.remaining input.old) (R.remaining input.new)
+    ensures done { IsCarriedOut (IsHonest (S.doubt desk.new.store)) line.now
+        (ending result (E.contents errors.old) (E.contents errors.new))
+        (P.traffic port.old) (P.traffic port.new) (R.remaining input.old) (R.remaining input.new)
         (W.contents output.old) (W.contents output.new) (world_of S.content desk.old)
         (world_of S.content desk.new) }
     ensures kept { IsHonest (S.doubt desk.new.store) → IsSettled S.content S.may_leave desk.old →
         (found : Option World) → S.may_leave desk.new.store found →
-        IsLineKept (IsHonest (S.doubt desk.new.store)) line.now result
-        (P.taken port.old) (P.taken port.new) (R.remaining input.old) (R.remaining input.new)
+        IsLineKept (IsHonest (S.doubt desk.new.store)) line.now
+        (ending result (E.contents errors.old) (E.contents errors.new))
+        (P.traffic port.old) (P.traffic port.new) (R.remaining input.old) (R.remaining input.new)
         (W.contents output.old) (W.contents output.new) (world_of S.content desk.old)
         (world_of S.content desk.new) found }
     ensures doubt { S.doubt desk.old.store ≤ S.doubt desk.new.store }

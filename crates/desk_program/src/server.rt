@@ -1,15 +1,17 @@
 //! The desk at a port: one request a connection, one connection after the other.
 
-ghost use Rattle.std.specs.Prelude.{◌≡◌, ◌≤◌, ◌⊎◌, Option, IfOk, IfErr, IfSome, OnOk, string_bytes};
+ghost use Rattle.std.specs.Prelude.{◌≡◌, ◌≤◌, ◌⊎◌, Option, IfOk, IfErr, OnOk, string_bytes};
 ghost use Rattle.std.specs.Io.KnownBytes.{Appends};
 ghost use Rattle.desk_store.specs.Frames.{Remembers};
 ghost use Rattle.desk_store.specs.Faults.{IsHonest};
 ghost use Rattle.desk_store.specs.World.{World};
-ghost use Rattle.desk_line.specs.Exits.{failure_at, failure_status};
+ghost use Rattle.desk_line.specs.Exits.{ending, failure_at};
 ghost use Rattle.desk_line.specs.Lines.{IsServe};
+ghost use Rattle.desk_line.specs.Written.{HasBegun};
 ghost use Rattle.desk_run.specs.DeskWorld.{IsSettled, world_of};
 ghost use Rattle.desk_program.specs.Keeping.{AreKept, IsPortKept, IsServeKept};
-ghost use Rattle.desk_program.specs.Serving.{AreTaken, IsLineServed, IsAtPort, listening_line, failing};
+ghost use Rattle.desk_program.specs.Serving as spec;
+ghost use Rattle.desk_program.specs.Serving.{AreTaken, IsAtPort, IsDenied, IsLineServed, failing, listening_line};
 
 use crate::port::{Connection, Port};
 use crate::program::set_up;
@@ -34,13 +36,18 @@ pub fn serve<S: PlanStore, P: Port, W: Write, E: Write>(
     errors: &mut E,
 ) -> u8
     requires { IsServe line.now }
-    ensures served { IsLineServed (IsHonest (S.doubt desk.new.store)) line.now result
-        (P.taken port.old) (P.taken port.new) (world_of S.content desk.old)
+    ensures served { IsLineServed (IsHonest (S.doubt desk.new.store)) line.now
+        (ending result (E.contents errors.old) (E.contents errors.new))
+        (P.traffic port.old) (P.traffic port.new) (world_of S.content desk.old)
         (world_of S.content desk.new) }
     ensures kept { IsHonest (S.doubt desk.new.store) → IsSettled S.content S.may_leave desk.old →
         (found : Option World) → S.may_leave desk.new.store found →
-        IsServeKept (IsHonest (S.doubt desk.new.store)) line.now result (P.taken port.old)
-        (P.taken port.new) (world_of S.content desk.old) (world_of S.content desk.new) found }
+        IsServeKept (IsHonest (S.doubt desk.new.store)) line.now
+        (ending result (E.contents errors.old) (E.contents errors.new))
+        (P.traffic port.old) (P.traffic port.new) (world_of S.content desk.old)
+        (world_of S.content desk.new) found }
+    ensures printed { HasBegun (listening_line line.now.port) (W.contents output.old)
+        (W.contents output.new) }
     ensures listening { result ≡ 0 → Appends (W.contents output.old) (W.contents output.new)
         (listening_line line.now.port) }
     ensures remembered { Remembers S.doubt S.faults S.is_shielded desk.old.store desk.new.store }
@@ -58,12 +65,14 @@ fn serve_line<S: PlanStore, P: Port, W: Write>(
 ) -> Result<(), Failure>
     requires { IsServe line.now }
     ensures served { IsAtPort (IsHonest (S.doubt desk.new.store)) result line.now
-        (P.taken port.old) (P.taken port.new) (world_of S.content desk.old)
+        (P.traffic port.old) (P.traffic port.new) (world_of S.content desk.old)
         (world_of S.content desk.new) }
     ensures kept { IsHonest (S.doubt desk.new.store) → IsSettled S.content S.may_leave desk.old →
         (found : Option World) → S.may_leave desk.new.store found →
-        IsPortKept (IsHonest (S.doubt desk.new.store)) result line.now (P.taken port.old)
-        (P.taken port.new) (world_of S.content desk.old) (world_of S.content desk.new) found }
+        IsPortKept (IsHonest (S.doubt desk.new.store)) result line.now (P.traffic port.old)
+        (P.traffic port.new) (world_of S.content desk.old) (world_of S.content desk.new) found }
+    ensures printed { HasBegun (listening_line line.now.port) (W.contents output.old)
+        (W.contents output.new) }
     ensures listening { OnOk result (Appends (W.contents output.old) (W.contents output.new)
         (listening_line line.now.port)) }
     ensures remembered { Remembers S.doubt S.faults S.is_shielded desk.old.store desk.new.store }
@@ -81,13 +90,24 @@ fn listen<P: Port, W: Write>(
     number: u16,
     output: &mut W,
 ) -> Result<(), Failure>
-    ensures fault { IfErr result (λ f. failure_status f ≡ 4) }
-    ensures same { P.taken port.new ≡ P.taken port.old }
+    ensures fault { IfErr result IsDenied }
+    ensures same { P.traffic port.new ≡ P.traffic port.old }
+    ensures printed { HasBegun (listening_line number) (W.contents output.old) (W.contents output.new) }
     ensures listening { OnOk result (Appends (W.contents output.old) (W.contents output.new)
         (listening_line number)) }
 {
     port.listen(number)?;
     let text = listening_text(alloc, number)?;
+    print_text(output, &text)
+}
+
+// Prints a text.
+#[tactic(auto, using(crate::proofs::BegunLemmas::begun_part, crate::proofs::BegunLemmas::write_failed))]
+fn print_text<W: Write>(output: &mut W, text: &str) -> Result<(), Failure>
+    ensures ok { OnOk result (Appends (W.contents output.old) (W.contents output.new) text.now) }
+    ensures err { IfErr result (λ f. (f ≡ Failure.Write)
+        × HasBegun text.now (W.contents output.old) (W.contents output.new)) }
+{
     write_whole(output, text.as_bytes())?;
     Ok(())
 }
@@ -108,10 +128,10 @@ fn serve_connections<S: PlanStore, P: Port>(
     desk: &mut Desk<S>,
 ) -> Result<(), Failure>
     ensures served { AreTaken (IsHonest (S.doubt desk.new.store)) result count
-        (P.taken port.old) (P.taken port.new) (world_of S.content desk.old)
+        (P.traffic port.old) (P.traffic port.new) (world_of S.content desk.old)
         (world_of S.content desk.new) }
     ensures kept { AreKept (IsHonest (S.doubt desk.new.store)) result count
-        (P.taken port.old) (P.taken port.new) (world_of S.content desk.old)
+        (P.traffic port.old) (P.traffic port.new) (world_of S.content desk.old)
         (world_of S.content desk.new) (S.may_leave desk.old.store) (S.may_leave desk.new.store) }
     ensures remembered { Remembers S.doubt S.faults S.is_shielded desk.old.store desk.new.store }
 {
@@ -129,10 +149,10 @@ fn serve_connection<S: PlanStore, P: Port>(
     desk: &mut Desk<S>,
 ) -> Result<(), Failure>
     ensures served { AreTaken (IsHonest (S.doubt desk.new.store)) result 1
-        (P.taken port.old) (P.taken port.new) (world_of S.content desk.old)
+        (P.traffic port.old) (P.traffic port.new) (world_of S.content desk.old)
         (world_of S.content desk.new) }
     ensures kept { AreKept (IsHonest (S.doubt desk.new.store)) result 1
-        (P.taken port.old) (P.taken port.new) (world_of S.content desk.old)
+        (P.traffic port.old) (P.traffic port.new) (world_of S.content desk.old)
         (world_of S.content desk.new) (S.may_leave desk.old.store) (S.may_leave desk.new.store) }
     ensures remembered { Remembers S.doubt S.faults S.is_shielded desk.old.store desk.new.store }
 {
@@ -150,14 +170,15 @@ fn serve_connection<S: PlanStore, P: Port>(
 }
 
 // Whether no byte of the request is left unread, as far as is known.
-fn is_whole(served: &Result<Served, ServeFault>) -> bool {
+fn is_whole(served: &Result<Served, ServeFault>) -> bool
+    ensures { result ≡ spec.is_whole served.now }
+{
     !matches!(served, Ok(Served::Answered { framed: false, .. }))
 }
 
 // Whether the desk goes on after what came of a request.
 fn done_after(served: Result<Served, ServeFault>) -> Result<(), Failure>
-    ensures value { failing result ≡ failure_at served }
-    ensures fault { IfErr result (λ f. failure_status f ≡ 4) }
+    ensures { failing result ≡ failure_at served }
 {
     match failure_of(served) {
         None => Ok(()),
@@ -168,8 +189,7 @@ fn done_after(served: Result<Served, ServeFault>) -> Result<(), Failure>
 // Why a desk ends after what came of a request: it failed, or memory ran out. It goes on after a fault
 // of one connection.
 fn failure_of(served: Result<Served, ServeFault>) -> Option<Failure>
-    ensures value { result ≡ failure_at served }
-    ensures fault { IfSome result (λ f. failure_status f ≡ 4) }
+    ensures { result ≡ failure_at served }
 {
     match served {
         Ok(Served::Answered { status, .. }) if status == SERVER_ERROR => Some(Failure::Broken),

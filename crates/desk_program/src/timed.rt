@@ -1,9 +1,11 @@
 //! Reads and writes that end in time, so that a client that stalls does not hold the desk.
 
-ghost use Rattle.std.specs.Prelude.{◌≡◌, ◌+◌, ◌≤◌, ℕ, None, Some, IfSome, IfOk, IsSomeAnd};
+ghost use Rattle.std.specs.Prelude.{◌≡◌, ◌+◌, ◌≤◌, None, Some, IfSome, IfOk, IsSomeAnd, option_map};
 ghost use Rattle.std.specs.Duration.{as_nanos};
+ghost use Rattle.std.specs.Io.{ReadsAtMost, WritesAtMost};
+ghost use Rattle.std.specs.Io.KnownBytes.{ReadConsumes, WriteAppends};
 ghost use Rattle.std.specs.Time.{instant_nanos};
-ghost use Rattle.desk_program.specs.Waiting.{patience};
+ghost use Rattle.desk_program.specs.Waiting.{end_of, patience};
 
 use std::io::{self, ErrorKind, Read, Write};
 use std::net::{OpenStream, Shutdown};
@@ -47,8 +49,13 @@ impl<'c, T, C> Timed<'c, T, C> {
 impl<T: Read + OpenStream, C: Clock> Read for Timed<'_, T, C> {
     ghost remaining = { λ s. T.remaining s.stream };
 
-    fn read(&mut self, room: &mut [u8]) -> io::Result<usize> {
-        let left = time_left(self.clock, &mut self.end)?;
+    fn read(&mut self, room: &mut [u8]) -> io::Result<usize>
+        ensures bound { ReadsAtMost result room.new }
+        ensures bytes { ReadConsumes (T.remaining self.old.stream) (T.remaining self.new.stream) result
+            room.new }
+        ensures kept { IfSome self.old.end (λ last. self.new.end ≡ Some last) }
+    {
+        let left = time_left(Instant::now(self.clock)?, &mut self.end)?;
         self.stream.set_read_timeout(Some(left))?;
         self.stream.read(room)
     }
@@ -57,8 +64,13 @@ impl<T: Read + OpenStream, C: Clock> Read for Timed<'_, T, C> {
 impl<T: Write + OpenStream, C: Clock> Write for Timed<'_, T, C> {
     ghost contents = { λ s. T.contents s.stream };
 
-    fn write(&mut self, bytes: &[u8]) -> io::Result<usize> {
-        let left = time_left(self.clock, &mut self.end)?;
+    fn write(&mut self, bytes: &[u8]) -> io::Result<usize>
+        ensures bound { WritesAtMost result bytes.now }
+        ensures bytes { WriteAppends (T.contents self.old.stream) (T.contents self.new.stream) result
+            bytes.now }
+        ensures kept { IfSome self.old.end (λ last. self.new.end ≡ Some last) }
+    {
+        let left = time_left(Instant::now(self.clock)?, &mut self.end)?;
         self.stream.set_write_timeout(Some(left))?;
         self.stream.write(bytes)
     }
@@ -106,22 +118,26 @@ fn read_briefly<T: Read + OpenStream, C: Clock>(
     input: &mut Timed<'_, T, C>,
     room: &mut [u8],
 ) -> io::Result<usize> {
-    let left = time_left(input.clock, &mut input.end)?;
+    let left = time_left(Instant::now(input.clock)?, &mut input.end)?;
     let wait = left.min(Duration::from_millis(REST_WAIT));
     input.stream.set_read_timeout(Some(wait))?;
     input.stream.read(room)
 }
 
-// How long a read or a write may wait that has to end with the others by `end`. Their time begins with the
-// first of them, and no later one puts its end off.
-fn time_left<C: Clock>(clock: &C, end: &mut Option<Instant>) -> io::Result<Duration>
+// How long a read or a write may wait now that has to end with the others by `end`. Their time begins with
+// the first of them, and no later one puts its end off.
+fn time_left(now: Instant, end: &mut Option<Instant>) -> io::Result<Duration>
     ensures kept { IfSome end.old (λ last. end.new ≡ Some last) }
     ensures first { end.old ≡ None → IfOk result (λ left. as_nanos left ≡ patience) }
     ensures left { IfOk result (λ left. IsSomeAnd end.new (λ last.
-        (now : ℕ) × (now + as_nanos left ≡ instant_nanos last))) }
+        instant_nanos now + as_nanos left ≡ instant_nanos last)) }
+    ensures whole { IfOk result (λ left. instant_nanos now + as_nanos left
+        ≡ end_of (option_map instant_nanos end.old) (instant_nanos now)) }
 {
-    let now = Instant::now(clock)?;
-    let last = end.unwrap_or(end_after(now)?);
+    let last = match *end {
+        Some(last) => last,
+        None => end_after(now)?,
+    };
     *end = Some(last);
     left_until(last, now)
 }

@@ -14,7 +14,6 @@ use Rattle.desk_tables.specs.Content.{IsContent}
 use Rattle.desk_tables.specs.Store.{Stands}
 use Rattle.desk_tables.specs.Tables.{operator_row, operator_rows, plan_row, plan_rows, volume_rows, cover_rows, AreTables}
 use Rattle.desk_tables.specs.Copying.{AddsHeadRows, AddsOperatorRows, AddsWorldRows}
-use Rattle.desk_tables.specs.Moving.{AddsPlansRows}
 use Rattle.desk_tables.proofs.MovingLemmas.{further}
 use Rattle.desk_tables.proofs.StoreLemmas.{no_row, nothing}
 
@@ -72,29 +71,6 @@ more_heads ps p all is a b c first last =
       covers = ap (λ (t : Tables). t.covers) last.1 ∙ first.covers;
       spans = ap (λ (t : Tables). t.spans) last.1 ∙ first.spans;
     })
-
--- ---- all rows of a world
-
-pub adds_world : (w : World) (a b c d : Tables) → AddsOperatorRows w.operators a b
-    → AddsHeadRows w.plans b c → AddsPlansRows w.plans c d → AddsWorldRows w a d
-adds_world w a b c d one two three = record {
-  operators = subst (λ rs. IsPermutation (operator_rows w ++ a.operators) rs)
-      (sym (three.operators ∙ two.operators)) one.operators;
-  plans = subst (λ rs. IsPermutation (plan_rows w.plans ++ a.plans) rs) (sym three.plans)
-      (subst (λ rs. IsPermutation (plan_rows w.plans ++ rs) c.plans) one.plans two.plans);
-  old_volumes = three.old_volumes ∙ two.old_volumes ∙ one.old_volumes;
-  old_spans = three.old_spans ∙ two.old_spans ∙ one.old_spans;
-  with_volumes = subst (λ rs. IsPermutation (volume_rows w.plans ++ rs) d.volumes)
-      (two.volumes ∙ one.volumes) three.with_volumes;
-  with_covers = subst (λ rs. IsPermutation (cover_rows w.plans ++ rs) d.covers)
-      (two.covers ∙ one.covers) three.with_covers;
-  with_spans = (
-    three.with_spans.0,
-    three.with_spans.1,
-    subst (λ rs. IsPermutation (three.with_spans.0 ++ rs) d.spans) (two.spans ∙ one.spans)
-        three.with_spans.2,
-  );
-}
 
 -- ---- what stands then
 

@@ -9,6 +9,7 @@ pub mod Lookups
 pub mod Rivals
 pub mod Store
 pub mod Lengths
+pub mod Known
 pub mod Records
 pub mod Opening
 pub mod Moving

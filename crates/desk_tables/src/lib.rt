@@ -5,6 +5,7 @@ mod canon;
 mod changing;
 mod closing;
 mod kept;
+mod known;
 pub mod laws;
 mod lengths;
 mod opening;

@@ -3,13 +3,13 @@
 ghost use Rattle.std.specs.Prelude.{◌≡◌, ◌≤◌, Ok, Err, IsErr, IfErr, MatchResult};
 ghost use Rattle.desk_store.specs.Faults.{HasRisen};
 ghost use Rattle.desk_tables.specs.Store.{Stands};
-ghost use Rattle.desk_tables.specs.Lengths.{Bounds};
+ghost use Rattle.desk_tables.specs.Known.{Knows};
 ghost use Rattle.desk_tables.specs.Leaving.{IsSettledAt};
 
 use crate::changing::changes;
 use crate::kept::Kept;
+use crate::known::Known;
 use crate::laws::one_content;
-use crate::lengths::Lengths;
 use crate::reading::readers;
 use desk_rules::operator::Operator;
 use desk_rules::plan::{PlanRow, States};
@@ -30,8 +30,8 @@ use volume4d::{Held, Slab};
 pub struct SqliteStore<S: Alter> {
     connection: Connection<S>,
     kept: Kept,
-    // how long the spans of live plans are; of a plan that is gone they are forgotten at an opening alone
-    lengths: Lengths,
+    // of live plans: bounds round each volume, and how long spans are, which is forgotten at an opening alone
+    known: Known,
     // how many faults of its own it has met, up to the type's last value
     faults: u64,
     // what a fault of its own is told as: a disk in memory fails only where it gets no memory
@@ -43,7 +43,7 @@ pub struct SqliteStore<S: Alter> {
 
 impl<S: Alter> Model for SqliteStore<S> {
     ghost use Rattle.desk_tables.specs.Store.{Shown, shown_code, Stands};
-    ghost use Rattle.desk_tables.specs.Lengths.{Bounds};
+    ghost use Rattle.desk_tables.specs.Known.{Knows};
 
     ghost Value = { Shown S };
 
@@ -55,23 +55,23 @@ impl<S: Alter> Model for SqliteStore<S> {
       faults = s.faults;
     } };
 
-    ghost invariant = { λ s. Stands S.Store s.connection s.kept.world × Bounds s.lengths s.kept.world };
+    ghost invariant = { λ s. Stands S.Store s.connection s.kept.world × Knows s.known s.kept.world };
 }
 
 impl<S: Alter> SqliteStore<S> {
-    /// A store over a connection, with the world that its rows are, and how long the spans in it are. What
-    /// SQLite fails at for another cause than memory is told as `told`; whether it begins with an operator, of
-    /// which no clause speaks, as `is_enrolled`.
+    /// A store over a connection, with the world that its rows are, and what is known of its plans. What
+    /// SQLite fails at for another cause than memory is told as `told`; whether it begins with an operator,
+    /// of which no clause speaks, as `is_enrolled`.
     pub(crate) fn with(
         alloc: Global,
         connection: Connection<S>,
         kept: Kept,
-        lengths: Lengths,
+        known: Known,
         told: StoreFault,
         is_enrolled: bool,
     ) -> SqliteStore<S>
         requires stands { Stands S.Store connection kept.world }
-        requires bounded { Bounds lengths kept.world }
+        requires bounded { Knows known kept.world }
         ensures value { result ≡ record { held = connection; world = kept.world; faults = 0 } }
         ensures left { IsSettledAt S.Store connection kept.world }
     {
@@ -80,7 +80,7 @@ impl<S: Alter> SqliteStore<S> {
         SqliteStore {
             connection,
             kept,
-            lengths,
+            known,
             faults: 0,
             told,
             is_enrolled,
@@ -157,24 +157,25 @@ impl<S: Alter> PlanStore for SqliteStore<S> {
             id,
             least,
             extent,
-            &self.lengths,
+            &self.known,
         );
         counted(&mut self.faults, self.told, answer)
     }
 
     fn apply(&mut self, change: &Change) -> Result<(), StoreFault> {
         one_content();
+        let fresh = self.known.live.prepare(self.alloc, change)?;
         match changes::make(
             self.alloc,
             &mut self.connection,
             &self.kept,
-            &self.lengths,
+            &self.known.lengths,
             change,
         ) {
             Ok(lengths) => {
                 settled_and_sound(&self.connection);
                 self.kept = Kept::after(&self.kept, change);
-                self.lengths = lengths;
+                self.known.follow(change, lengths, &fresh);
                 Ok(())
             }
             Err(e) => counted(&mut self.faults, self.told, Err(e)),

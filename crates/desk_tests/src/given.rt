@@ -26,6 +26,11 @@ pub const COMPLETED: &[u8] = b"HTTP/1.1 200 OK\r\ncontent-type: application/json
 content-length: 73\r\nconnection: close\r\n\r\n\
 {\"flight_plan_status\":\"Planned\",\"notes\":\"\",\"planning_result\":\"Completed\"}";
 
+/// Its answer once its time is over.
+pub const LATE: &[u8] = b"HTTP/1.1 200 OK\r\ncontent-type: application/json\r\n\
+content-length: 80\r\nconnection: close\r\n\r\n\
+{\"flight_plan_status\":\"NotPlanned\",\"notes\":\"ended\",\"planning_result\":\"Rejected\"}";
+
 /// A desk at which `alfa` is enrolled.
 pub fn desk_of_alfa(alloc: Global) -> Result<Desk<ListStore>, DeskFault> {
     let mut desk = Desk::new(ListStore::new(alloc));

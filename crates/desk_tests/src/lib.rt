@@ -1,12 +1,15 @@
-//! Tests of what no stored run can say: a store that fails, a reader that is interrupted, a writer that is
-//! cut off, clients that hang up, how many pairs of slabs are compared. They stand apart so that the crates
-//! under test are proved once and not again with their tests.
+//! Tests of what no stored run can say: what words of the command line say, and what is printed without a
+//! desk; a store that fails, a reader that is interrupted, a writer that is cut off, clients that hang up,
+//! how many pairs of slabs are compared. They stand apart so that the crates under test are
+//! proved once and not again with their tests.
 #![tactic(auto)]
 
 #[cfg(test)]
 mod failing;
 #[cfg(test)]
 mod given;
+#[cfg(test)]
+mod printed;
 #[cfg(test)]
 mod program;
 #[cfg(test)]
@@ -15,3 +18,5 @@ mod server;
 mod sweep;
 #[cfg(test)]
 mod wire;
+#[cfg(test)]
+mod words;

@@ -4,7 +4,7 @@ ghost use Rattle.std.specs.Prelude.{IfOk};
 ghost use Rattle.std.specs.Int.{IsInRange};
 ghost use Rattle.desk_line.specs.Lines.{IsServe};
 
-use crate::given::{COMPLETED, FIRST_PUT};
+use crate::given::{COMPLETED, FIRST_PUT, LATE};
 use desk_line::{Database, Enrolment, Serve};
 use desk_program::{LocalPort, serve};
 use desk_rules::operator::Operator;
@@ -67,7 +67,7 @@ fn read_by(alloc: Global, mut client: TcpStream) -> Result<Vec<u8>, Fail> {
 }
 
 // The line of `serve` at port 1 for so many connections, with `alfa`.
-fn serve_line(alloc: Global, connections: u32) -> Result<Serve, Fail>
+pub fn serve_line(alloc: Global, connections: u32) -> Result<Serve, Fail>
     requires { IsInRange 1 1000000 connections }
     ensures { IfOk result IsServe }
 {
@@ -138,6 +138,22 @@ fn takes_moments_in_range(rt: HostRuntime) -> Result<(), Fail> {
         };
         check_served(&rt, rt.alloc(), net, 1, row)?;
         drop(client);
+    }
+    Ok(())
+}
+
+// The moment is the clock's: a plan that ends at second 1,780,318,800 is completed one second before, and
+// refused one minute after.
+#[test]
+fn asks_the_clock(rt: HostRuntime) -> Result<(), Fail> {
+    for (second, answer) in [(1_780_318_799, COMPLETED), (1_780_318_860, LATE)] {
+        let listener = TcpListener::bind(&rt, (Ipv4Addr::LOCALHOST, 0u16))?;
+        let client = client_of(&rt, listener.local_addr()?, FIRST_PUT)?;
+        let net = Listened {
+            listener: &listener,
+        };
+        check_served(&rt, rt.alloc(), net, 1, (second, ""))?;
+        assert_eq!(rt; read_by(rt.alloc(), client)?.as_slice(), answer);
     }
     Ok(())
 }

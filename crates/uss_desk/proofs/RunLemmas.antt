@@ -13,9 +13,10 @@ use Rattle.sqlite.proofs.Shield.{shield_means}
 use Rattle.desk_run.specs.DeskWorld.{Parts}
 use Rattle.desk_tables.specs.Store.{Shown}
 use Rattle.desk_line.specs.declared.failure.Failure.{Failure}
+use Rattle.desk_line.specs.Exits.{Ending, ending}
 use Rattle.desk_line.specs.declared.line.Line.{Line}
 use Rattle.desk_line.specs.declared.line.Line.TheVariants as line
-use Rattle.desk_program.specs.Serving.{Arrival}
+use Rattle.desk_program.specs.Serving.{Traffic}
 use Rattle.uss_desk.specs.declared.opening.Opened.TheVariants as opened
 use Rattle.uss_desk.specs.Closing.{IsClosed}
 use Rattle.uss_desk.specs.Guarding.{Account, IsTrueOrCollided}
@@ -54,20 +55,20 @@ true_or_collided account fair clean desk shielded =
 pub stays_guarded : {D : Type 0} {g : disk.Ghosts D} (account : Account D)
     → ((d : D) → g.is_fair d ≡ (replay (account.start d) (account.calls d)).is_fair)
     → ((d : D) → g.is_clean d ≡ (replay (account.start d) (account.calls d)).is_honest)
-    → (image : Image) (it : Line) (from to : Option (List Arrival)) (old new out now : Option (List ℕ))
-    → (status : ℕ) (opened : Result (Parts (Shown (FileStore D g))) Failure)
+    → (image : Image) (it : Line) (from to : Traffic) (old new out now : Option (List ℕ))
+    → (end : Ending) (opened : Result (Parts (Shown (FileStore D g))) Failure)
     → (left : Option (Parts (Shown (FileStore D g)))) → IsOpenedIn image opened
-    → IfOk opened (IsDoneAt over_files it from to old new out now status left)
+    → IfOk opened (IsDoneAt over_files it from to old new out now end left)
     → StaysGuarded account opened left
-stays_guarded account fair clean image it from to old new out now status (Ok desk) (Some left) opens done =
+stays_guarded account fair clean image it from to old new out now end (Ok desk) (Some left) opens done =
     λ honest. true_or_collided account fair clean left (done.2 (opens.guarded honest))
-stays_guarded account fair clean image it from to old new out now status (Ok desk) None opens done = done
-stays_guarded account fair clean image it from to old new out now status (Err f) left opens done = tt
+stays_guarded account fair clean image it from to old new out now end (Ok desk) None opens done = done
+stays_guarded account fair clean image it from to old new out now end (Err f) left opens done = tt
 
 -- a desk whose store was closed, by what the store is
 pub is_closed : {D : Type 0} {g : disk.Ghosts D} (desk : Parts (Shown (FileStore D g)))
-    → (store : Shown (FileStore D g)) (status : ℕ) (files : Files D) → store ≡ desk.store
-    → (AreClean g files.log files.db → IsCopied store.held files)
-    → IsClosed (Some desk) status status (Some files)
-is_closed {D} {g} desk store status files same copied =
-    (refl, subst (λ s. AreClean g files.log files.db → IsCopied s.held files) same copied)
+    → (store : Shown (FileStore D g)) (status : ℕ) (told : Option (List ℕ)) (files : Files D)
+    → store ≡ desk.store → (AreClean g files.log files.db → IsCopied store.held files)
+    → IsClosed (Some desk) status (ending status told told) (Some files)
+is_closed {D} {g} desk store status told files same copied =
+    (refl, refl, subst (λ s. AreClean g files.log files.db → IsCopied s.held files) same copied)

@@ -1,5 +1,6 @@
 //! A desk over files, closed after its line: the database file alone holds it then.
 
+ghost use Rattle.desk_line.specs.Exits.{ending};
 ghost use Rattle.uss_desk.specs.Closing.{IsClosed};
 
 use crate::opening::FileDesk;
@@ -15,7 +16,8 @@ pub fn close_after<F: Start, E: Write>(
     desk: Option<FileDesk<F>>,
     errors: &mut E,
 ) -> (u8, Option<Files<FileFrom<F>>>)
-    ensures { IsClosed desk status result.0 result.1 }
+    ensures { IsClosed desk status
+        (ending result.0 (E.contents errors.old) (E.contents errors.new)) result.1 }
 {
     let Some(desk) = desk else {
         return (status, None);

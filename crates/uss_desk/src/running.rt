@@ -3,6 +3,7 @@
 ghost use Rattle.std.specs.Prelude.{IfErr, IfOk};
 ghost use Rattle.sqlite_wal.specs.Files.{image_at};
 ghost use Rattle.sqlite.specs.Files.{over_files};
+ghost use Rattle.desk_line.specs.Exits.{ending};
 ghost use Rattle.desk_line.specs.Lines.{HasDatabase, IsLine};
 ghost use Rattle.uss_desk.specs.Guarding.{account_of};
 ghost use Rattle.uss_desk.specs.Opening.{IsOpenedFor};
@@ -32,8 +33,9 @@ pub fn run_line<F: Start, P: Port, R: Read, W: Write, E: Write>(
 ) -> (u8, Option<MemoryDesk>, Option<FileDesk<F>>)
     requires line { IsLine line.now }
     requires opened { IsOpenedFor (image_at F.Start) line.now opened }
-    ensures { IsDone (account_of F.Start) opened line.now result.0 result.1 result.2
-        (P.taken port.old) (P.taken port.new) (R.remaining input.old) (R.remaining input.new)
+    ensures { IsDone (account_of F.Start) opened line.now
+        (ending result.0 (E.contents errors.old) (E.contents errors.new)) result.1 result.2
+        (P.traffic port.old) (P.traffic port.new) (R.remaining input.old) (R.remaining input.new)
         (W.contents output.old) (W.contents output.new) }
 {
     match opened {
@@ -65,15 +67,15 @@ fn run_over<D: Disk + Drop, P: Port, R: Read, W: Write, E: Write>(
 ) -> (u8, Option<Desk<SqliteStore<FileStore<D>>>>)
     requires line { IsLine line.now }
     requires desk { HasDatabase line.now }
-    ensures opened { IfOk opened (IsDoneAt over_files line.now (P.taken port.old) (P.taken port.new)
+    ensures opened { IfOk opened (IsDoneAt over_files line.now (P.traffic port.old) (P.traffic port.new)
         (R.remaining input.old) (R.remaining input.new) (W.contents output.old) (W.contents output.new)
-        result.0 result.1) }
-    ensures kept { IfOk opened (IsKeptAt over_files line.now (P.taken port.old) (P.taken port.new)
+        (ending result.0 (E.contents errors.old) (E.contents errors.new)) result.1) }
+    ensures kept { IfOk opened (IsKeptAt over_files line.now (P.traffic port.old) (P.traffic port.new)
         (R.remaining input.old) (R.remaining input.new) (W.contents output.old) (W.contents output.new)
-        result.0 result.1) }
-    ensures unopened { IfErr opened (IsUndone (P.taken port.old) (P.taken port.new)
+        (ending result.0 (E.contents errors.old) (E.contents errors.new)) result.1) }
+    ensures unopened { IfErr opened (IsUndone (P.traffic port.old) (P.traffic port.new)
         (R.remaining input.old) (R.remaining input.new) (W.contents output.old) (W.contents output.new)
-        result) }
+        (ending result.0 (E.contents errors.old) (E.contents errors.new)) result.1) }
 {
     run_opened(alloc, line, opened, port, input, output, errors)
 }
@@ -85,7 +87,8 @@ fn tell_moved<F: Start, W: Write, E: Write>(
     output: &mut W,
     errors: &mut E,
 ) -> (u8, Option<FileDesk<F>>)
-    ensures { IsMoveTold moved result.0 result.1 (W.contents output.old) (W.contents output.new) }
+    ensures { IsMoveTold moved (ending result.0 (E.contents errors.old) (E.contents errors.new)) result.1
+        (W.contents output.old) (W.contents output.new) }
 {
     match moved {
         Ok((desk, count)) => {

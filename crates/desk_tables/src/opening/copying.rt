@@ -11,13 +11,13 @@ ghost use Rattle.desk_sql.specs.Rows.{AddsOperator, AddsPlan};
 ghost use Rattle.desk_sql.specs.Schema.{blank_schema};
 ghost use Rattle.desk_tables.specs.Content.{IsContent};
 ghost use Rattle.desk_tables.specs.Leaving.{IsSettledAt};
-ghost use Rattle.desk_tables.specs.Lengths.{Bounds};
+ghost use Rattle.desk_tables.specs.Known.{Knows};
 ghost use Rattle.desk_tables.specs.Tables.{operator_row, plan_row};
 ghost use Rattle.desk_tables.specs.Copying.{AddsHeadRows, AddsOperatorRows, AddsWorldRows};
 
 use crate::changing::records::{aircraft_number, usage_number};
 use crate::kept::Kept;
-use crate::lengths::Lengths;
+use crate::known::Known;
 use crate::opening::content::Content;
 use crate::opening::exact::{FiledPlan, ListedOperator};
 use crate::opening::finding::made_in;
@@ -41,11 +41,11 @@ pub(crate) fn store_of<S: Alter + Drop>(
     alloc: Global,
     mut connection: Connection<S>,
     content: &Content,
-    lengths: Lengths,
+    known: Known,
 ) -> Result<SqliteStore<S>, OpenFault>
     requires settled { connection.in_transaction ≡ false }
     requires content { IsContent content.now }
-    requires bounded { Bounds lengths content.now }
+    requires bounded { Knows known content.now }
     ensures value { IfOk result (λ store. store.world ≡ content.now) }
     ensures blank { IfOk result (λ store. HasCleanDisk (state S.Store store.held)
         → (state S.Store connection).now.schema ≡ blank_schema) }
@@ -63,7 +63,7 @@ pub(crate) fn store_of<S: Alter + Drop>(
     made_in(&mut connection)?;
     fill(alloc, &mut connection, &content.operators, &content.plans)?;
     let kept = Kept::of(content);
-    Ok(SqliteStore::with(alloc, connection, kept, lengths, StoreFault::Store, true))
+    Ok(SqliteStore::with(alloc, connection, kept, known, StoreFault::Store, true))
 }
 
 // Adds the rows of operators and plans, as one transaction.

@@ -11,9 +11,9 @@ ghost use Rattle.desk_tables.specs.Leaving.{IsSettledAt};
 ghost use Rattle.desk_store.specs.World.{World};
 ghost use Rattle.desk_tables.specs.Content.{IsContent};
 ghost use Rattle.desk_tables.specs.Copying.{AreCounted, FailsLooking, FailsLookingIn, IsMadeIn, LooksIn};
-ghost use Rattle.desk_tables.specs.Lengths.{Bounds};
+ghost use Rattle.desk_tables.specs.Known.{Knows};
 
-use crate::lengths::Lengths;
+use crate::known::Known;
 use crate::opening::content::Content;
 use crate::opening::copying::store_of;
 use crate::opening::looking::{Holdings, holdings_of, read_content};
@@ -113,8 +113,8 @@ impl SqliteStore<FileStore<FileFrom<Unknown>>> {
     }
 }
 
-/// What the files at a path hold, and the connection with which it was read; `start` stands for what the files
-/// held. No table is made and no row changed. Where there is no log beside the file, one is made.
+/// What the files at a path hold, and the connection with which it was read; `start` stands for what the
+/// files held. No table is made and no row changed. Where there is no log beside the file, one is made.
 ///
 /// # Errors
 ///
@@ -155,8 +155,8 @@ pub fn copy_from<S: Start, N: Start>(
     ensures fault { FailsLookingIn (image_at S.Start) result }
 {
     let alloc = rt.alloc();
-    let (connection, content, lengths, old) = read_files(alloc, connect_there(rt, path, start)?)?;
-    let store = store_files(alloc, connect_new(rt, to, other)?, &content, lengths)?;
+    let (connection, content, known, old) = read_files(alloc, connect_there(rt, path, start)?)?;
+    let store = store_files(alloc, connect_new(rt, to, other)?, &content, known)?;
     Ok((connection, (store, holdings_of(&content, old))))
 }
 
@@ -164,17 +164,17 @@ pub fn copy_from<S: Start, N: Start>(
 fn read_files<D: Disk + Drop>(
     alloc: Global,
     mut connection: Connection<FileStore<D>>,
-) -> Result<(Connection<FileStore<D>>, Content, Lengths, bool), OpenFault>
+) -> Result<(Connection<FileStore<D>>, Content, Known, bool), OpenFault>
     requires fresh { IsNew connection }
     ensures looks { (image : Image) → Finds image connection → IfOk result (λ found.
         LooksIn image found.0 found.3 found.1) }
     ensures content { IfOk result (λ found. IsContent found.1) }
-    ensures bounded { IfOk result (λ found. Bounds found.2 found.1) }
+    ensures bounded { IfOk result (λ found. Knows found.2 found.1) }
     ensures fault { (image : Image) → Finds image connection → IfErr result
         (FailsLooking D.Disk image) }
 {
-    let (content, lengths, old) = read_content(alloc, &mut connection)?;
-    Ok((connection, content, lengths, old))
+    let (content, known, old) = read_content(alloc, &mut connection)?;
+    Ok((connection, content, known, old))
 }
 
 // The store of a content in new files.
@@ -182,18 +182,18 @@ fn store_files<D: Disk + Drop>(
     alloc: Global,
     connection: Connection<FileStore<D>>,
     content: &Content,
-    lengths: Lengths,
+    known: Known,
 ) -> Result<SqliteStore<FileStore<D>>, OpenFault>
     requires fresh { IsNew connection }
     requires content { IsContent content.now }
-    requires bounded { Bounds lengths content.now }
+    requires bounded { Knows known content.now }
     ensures value { IfOk result (λ store. store.world ≡ content.now) }
     ensures made { (image : Image) → Finds image connection → IfOk result (λ store.
         IsMadeIn image store.held) }
     ensures left { IfOk result (λ store. IsSettledAt over_files store.held store.world) }
     ensures fault { IfErr result (λ e. (e ≢ OpenFault.NotADesk) × (e ≢ OpenFault.OldSchema)) }
 {
-    store_of(alloc, connection, content, lengths)
+    store_of(alloc, connection, content, known)
 }
 
 // The store over a connection that was opened to files, as `adopt` gives it, on whatever disk they are. A

@@ -13,13 +13,15 @@ ghost use Rattle.desk_sql.specs.Finding.{Holds};
 ghost use Rattle.desk_tables.specs.Store.{Stands};
 ghost use Rattle.desk_store.specs.World.{World};
 ghost use Rattle.desk_tables.specs.Content.{IsContent};
-ghost use Rattle.desk_tables.specs.Lengths.{Bounds, IsKnownRow, Keeps};
+ghost use Rattle.desk_tables.specs.Known.{Knows};
+ghost use Rattle.desk_tables.specs.Lengths.{IsKnownRow, Keeps};
 ghost use Rattle.desk_tables.specs.Opening.{AreSortedByKey, AreAllRows, IsContentOf, AreNoContent};
 ghost use Rattle.desk_tables.specs.Opening.{BeginsWith, HasRowsOld, HasNewRows, WasCompleted};
 ghost use Rattle.desk_tables.specs.Opening.{ShowsNoDesk, ShowsOldRows};
 ghost use Rattle.desk_tables.specs.Opening.{BlamesReading, BlamesDatabase};
 
 use crate::kept::Kept;
+use crate::known::{Known, live_among};
 use crate::lengths::Lengths;
 use crate::opening::content::{Content, TableRows, content_in};
 use crate::opening::covers::covers_agree;
@@ -35,10 +37,10 @@ use sqlite_value::value::ValueRef;
 use std::alloc::Global;
 use volume4d::laws::one_shape;
 
-/// The world that the database stands for: that of the rows in a desk's tables; how long the spans in it are;
+/// The world that the database stands for: that of the rows in a desk's tables; what is known of its plans;
 /// and whether it has an operator, of which no clause speaks. A database with no table gets a desk's, and its
-/// world is empty. One with part of them, or without the index, gets what is missing, if its rows are those of
-/// a content.
+/// world is empty. One with part of them, or without the index, gets what is missing, if its rows are those
+/// of a content.
 ///
 /// # Errors
 ///
@@ -47,12 +49,12 @@ use volume4d::laws::one_shape;
 pub(crate) fn world_in<S: Alter>(
     alloc: Global,
     connection: &mut Connection<S>,
-) -> Result<(Kept, Lengths, bool), OpenFault>
+) -> Result<(Kept, Known, bool), OpenFault>
     requires settled { connection.old.in_transaction ≡ false }
     ensures begins { IfOk result (λ found.
         BeginsWith S.Store connection.old connection.new found.0.world) }
     ensures stands { IfOk result (λ found. Stands S.Store connection.new found.0.world) }
-    ensures bounded { IfOk result (λ found. Bounds found.1 found.0.world) }
+    ensures bounded { IfOk result (λ found. Knows found.1 found.0.world) }
     ensures live { OnOk result (IsOpenIfClean S.Store connection.new) }
     ensures none { IfErr result (λ e. e ≡ OpenFault.NotADesk →
         ShowsNoDesk S.Store connection.old connection.new) }
@@ -102,14 +104,14 @@ pub(crate) fn world_of<S: Alter>(
     alloc: Global,
     connection: &mut Connection<S>,
     made: Made,
-) -> Result<(Kept, Lengths, bool), OpenFault>
+) -> Result<(Kept, Known, bool), OpenFault>
     requires part { Holds S.Store connection.old (IsMadeTo made) }
     requires new { Holds S.Store connection.old (HasNewRows made) }
     requires settled { connection.old.in_transaction ≡ false }
     ensures begins { IfOk result (λ found.
         BeginsWith S.Store connection.old connection.new found.0.world) }
     ensures stands { IfOk result (λ found. Stands S.Store connection.new found.0.world) }
-    ensures bounded { IfOk result (λ found. Bounds found.1 found.0.world) }
+    ensures bounded { IfOk result (λ found. Knows found.1 found.0.world) }
     ensures none { IfErr result (λ e. e ≡ OpenFault.NotADesk →
         ShowsNoDesk S.Store connection.old connection.new) }
     ensures newer { IfErr result (λ e. e ≢ OpenFault.OldSchema) }
@@ -125,7 +127,7 @@ pub(crate) fn world_of<S: Alter>(
 {
     match made {
         Made::All => found_in(alloc, connection, Made::All),
-        Made::Nothing => Ok((made_in(connection)?, Lengths::new(), false)),
+        Made::Nothing => Ok((made_in(connection)?, Known::new(alloc), false)),
         made => completed_in(alloc, connection, made),
     }
 }
@@ -157,7 +159,7 @@ fn completed_in<S: Alter>(
     alloc: Global,
     connection: &mut Connection<S>,
     made: Made,
-) -> Result<(Kept, Lengths, bool), OpenFault>
+) -> Result<(Kept, Known, bool), OpenFault>
     requires part { Holds S.Store connection.old (IsMadeTo made) }
     requires new { Holds S.Store connection.old (HasNewRows made) }
     requires missing { made ≢ Made.All }
@@ -166,7 +168,7 @@ fn completed_in<S: Alter>(
     ensures value { HasCleanDisk (state S.Store connection.new) → IfOk result (λ found.
         WasCompleted S.Store connection.old connection.new found.0.world) }
     ensures stands { IfOk result (λ found. Stands S.Store connection.new found.0.world) }
-    ensures bounded { IfOk result (λ found. Bounds found.1 found.0.world) }
+    ensures bounded { IfOk result (λ found. Knows found.1 found.0.world) }
     ensures none { HasCleanDisk (state S.Store connection.new) → IfErr result (λ e.
         e ≡ OpenFault.NotADesk →
         AreNoContent (tables_at made (state S.Store connection.old).now.trees)) }
@@ -190,14 +192,14 @@ fn found_in<S: Alter>(
     alloc: Global,
     connection: &mut Connection<S>,
     made: Made,
-) -> Result<(Kept, Lengths, bool), OpenFault>
+) -> Result<(Kept, Known, bool), OpenFault>
     requires part { Holds S.Store connection.old (IsMadeTo made) }
     requires new { Holds S.Store connection.old (HasNewRows made) }
     requires some { has_table made DeskTable.Operator ≡ true }
     requires settled { connection.old.in_transaction ≡ false }
     ensures value { HasCleanDisk (state S.Store connection.new) → IfOk result (λ found.
         IsContentOf (tables_at made (state S.Store connection.old).now.trees) found.0.world) }
-    ensures bounded { IfOk result (λ found. Bounds found.1 found.0.world) }
+    ensures bounded { IfOk result (λ found. Knows found.1 found.0.world) }
     ensures none { HasCleanDisk (state S.Store connection.new) → IfErr result (λ e.
         e ≡ OpenFault.NotADesk →
         AreNoContent (tables_at made (state S.Store connection.old).now.trees)) }
@@ -208,17 +210,17 @@ fn found_in<S: Alter>(
     ensures cause { IfErr result (BlamesReading S.Store connection.old connection.new) }
     ensures reads { OnlyReads S.Store connection.old connection.new }
 {
-    let (content, lengths) = content_found(alloc, connection, made)?;
+    let (content, known) = content_found(alloc, connection, made)?;
     let is_enrolled = !content.operators.is_empty();
-    Ok((Kept::of(&content), lengths, is_enrolled))
+    Ok((Kept::of(&content), known, is_enrolled))
 }
 
-/// The content whose rows the tables have, so far as they are made, and how long the spans in it are.
+/// The content whose rows the tables have, so far as they are made, and what is known of its plans.
 pub(crate) fn content_found<S: Alter>(
     alloc: Global,
     connection: &mut Connection<S>,
     made: Made,
-) -> Result<(Content, Lengths), OpenFault>
+) -> Result<(Content, Known), OpenFault>
     requires part { Holds S.Store connection.old (IsMadeTo made) }
     requires new { Holds S.Store connection.old (HasNewRows made) }
     requires some { has_table made DeskTable.Operator ≡ true }
@@ -226,7 +228,7 @@ pub(crate) fn content_found<S: Alter>(
     ensures value { HasCleanDisk (state S.Store connection.new) → IfOk result (λ found.
         IsContentOf (tables_at made (state S.Store connection.old).now.trees) found.0) }
     ensures content { IfOk result (λ found. IsContent found.0) }
-    ensures bounded { IfOk result (λ found. Bounds found.1 found.0) }
+    ensures bounded { IfOk result (λ found. Knows found.1 found.0) }
     ensures none { HasCleanDisk (state S.Store connection.new) → IfErr result (λ e.
         e ≡ OpenFault.NotADesk →
         AreNoContent (tables_at made (state S.Store connection.old).now.trees)) }
@@ -265,11 +267,11 @@ fn length_with(lengths: &Lengths, row: &Row) -> Lengths
     }
 }
 
-// The content whose rows these are, and how long the spans in it are.
-fn content_of(alloc: Global, rows: &TableRows) -> Result<(Content, Lengths), OpenFault>
+// The content whose rows these are, and what is known of its plans.
+fn content_of(alloc: Global, rows: &TableRows) -> Result<(Content, Known), OpenFault>
     ensures value { IfOk result (λ found.
         IsContent found.0 × AreAllRows rows.now found.0) }
-    ensures bounded { IfOk result (λ found. Bounds found.1 found.0) }
+    ensures bounded { IfOk result (λ found. Knows found.1 found.0) }
     ensures none { IfErr result (λ e. e ≡ OpenFault.NotADesk →
         (w : World) → IsContent w → ¬ AreAllRows rows.now w) }
     ensures fault { IfErr result (λ e. (e ≢ OpenFault.Store)
@@ -281,8 +283,11 @@ fn content_of(alloc: Global, rows: &TableRows) -> Result<(Content, Lengths), Ope
     if !covers_agree(alloc, &content.plans, &rows.covers)? {
         return Err(OpenFault::NotADesk);
     }
-    let lengths = lengths_in(&rows.spans);
-    Ok((content, lengths))
+    let known = Known {
+        lengths: lengths_in(&rows.spans),
+        live: live_among(alloc, &content.plans)?,
+    };
+    Ok((content, known))
 }
 
 // The rows of the tables of schema 2, each by the columns of its key; of those that aren't made none.

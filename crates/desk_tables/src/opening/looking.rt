@@ -9,12 +9,12 @@ ghost use Rattle.desk_sql.specs.Finding.{Holds};
 ghost use Rattle.desk_sql.specs.Rows.{IsMadeTo, tables_at};
 ghost use Rattle.desk_store.specs.World.{World};
 ghost use Rattle.desk_tables.specs.Content.{IsContent};
-ghost use Rattle.desk_tables.specs.Lengths.{Bounds};
+ghost use Rattle.desk_tables.specs.Known.{Knows};
 ghost use Rattle.desk_tables.specs.Opening.{BlamesDatabase, BlamesReading, HasRowsOld};
 ghost use Rattle.desk_tables.specs.Copying as spec;
 ghost use Rattle.desk_tables.specs.Copying.{AreCounted, AreNoContentIn, IsContentIn, ShowsContent, ShowsNone};
 
-use crate::lengths::Lengths;
+use crate::known::Known;
 use crate::opening::content::Content;
 use crate::opening::exact::FiledPlan;
 use crate::opening::finding::{content_found, tables_found};
@@ -78,7 +78,7 @@ pub(crate) fn holdings_of(content: &Content, is_old: bool) -> Holdings
     }
 }
 
-/// The content whose rows a database has, how long the spans in it are, and whether the rows are those of
+/// The content whose rows a database has, what is known of its plans, and whether the rows are those of
 /// schema 1.
 ///
 /// # Errors
@@ -87,12 +87,12 @@ pub(crate) fn holdings_of(content: &Content, is_old: bool) -> Holdings
 pub(crate) fn read_content<S: Alter>(
     alloc: Global,
     connection: &mut Connection<S>,
-) -> Result<(Content, Lengths, bool), OpenFault>
+) -> Result<(Content, Known, bool), OpenFault>
     requires settled { connection.old.in_transaction ≡ false }
     ensures value { IfOk result (λ found.
         ShowsContent S.Store connection.old connection.new found.2 found.0) }
     ensures content { IfOk result (λ found. IsContent found.0) }
-    ensures bounded { IfOk result (λ found. Bounds found.1 found.0) }
+    ensures bounded { IfOk result (λ found. Knows found.1 found.0) }
     ensures none { IfErr result (λ e. e ≡ OpenFault.NotADesk →
         ShowsNone S.Store connection.old connection.new) }
     ensures newer { IfErr result (λ e. e ≢ OpenFault.OldSchema) }
@@ -103,8 +103,8 @@ pub(crate) fn read_content<S: Alter>(
     if made == Made::Nothing {
         return Err(OpenFault::NotADesk);
     }
-    let (content, lengths) = content_at(alloc, connection, made, old)?;
-    Ok((content, lengths, old))
+    let (content, known) = content_at(alloc, connection, made, old)?;
+    Ok((content, known, old))
 }
 
 // The content whose rows the tables have, in schema 1 if that has rows, else in schema 2.
@@ -114,7 +114,7 @@ fn content_at<S: Alter>(
     connection: &mut Connection<S>,
     made: Made,
     old: bool,
-) -> Result<(Content, Lengths), OpenFault>
+) -> Result<(Content, Known), OpenFault>
     requires part { Holds S.Store connection.old (IsMadeTo made) }
     requires rows { Holds S.Store connection.old (HasRowsOld made old) }
     requires some { made ≢ Made.Nothing }
@@ -122,7 +122,7 @@ fn content_at<S: Alter>(
     ensures value { HasCleanDisk (state S.Store connection.new) → IfOk result (λ found.
         IsContentIn old (tables_at made (state S.Store connection.old).now.trees) found.0) }
     ensures content { IfOk result (λ found. IsContent found.0) }
-    ensures bounded { IfOk result (λ found. Bounds found.1 found.0) }
+    ensures bounded { IfOk result (λ found. Knows found.1 found.0) }
     ensures none { HasCleanDisk (state S.Store connection.new) → IfErr result (λ e.
         e ≡ OpenFault.NotADesk →
         AreNoContentIn old (tables_at made (state S.Store connection.old).now.trees)) }

@@ -13,7 +13,7 @@ ghost use Rattle.desk_sql.specs.Frames.{IsOver, OnlyReads, Remembers};
 ghost use Rattle.desk_sql.specs.Finding.{Holds};
 ghost use Rattle.desk_store.specs.World.{World};
 ghost use Rattle.desk_tables.specs.Content.{IsContent};
-ghost use Rattle.desk_tables.specs.Lengths.{Bounds};
+ghost use Rattle.desk_tables.specs.Known.{Knows};
 ghost use Rattle.desk_tables.specs.Store.{Stands};
 ghost use Rattle.desk_tables.specs.Opening.{AreRows, BlamesReading, HasRowsOld};
 ghost use Rattle.desk_tables.specs.Moving.{AddsPlanRows, AddsPlansRows, MovesRows, AreNoOldContent};
@@ -25,7 +25,7 @@ ghost use Rattle.desk_tables.specs.Moving.{ShowsNoContent, WasMoved, told_count}
 use crate::canon::canons_of;
 use crate::changing::records::{asked_of, span_rows, volume_rows};
 use crate::kept::Kept;
-use crate::lengths::Lengths;
+use crate::known::{Known, live_among};
 use crate::opening::content::{Content, TableRows, content_in};
 use crate::opening::exact::FiledPlan;
 use crate::opening::finding::{lengths_in, tables_found, world_of};
@@ -49,7 +49,7 @@ const OLD_MAX_VOLUMES: usize = 8;
 // The most cells of the canonical cover of a rectangle in schema 1.
 const OLD_MAX_COVER: usize = 256;
 
-/// The world that the database stands for, in either schema, how long the spans in it are, and how many plans
+/// The world that the database stands for, in either schema, what is known of its plans, and how many plans
 /// were moved from schema 1 to schema 2. In schema 2 it is as `world_in` has it, and none were moved.
 ///
 /// # Errors
@@ -59,12 +59,12 @@ const OLD_MAX_COVER: usize = 256;
 pub(crate) fn moved_world_in<S: Alter>(
     alloc: Global,
     connection: &mut Connection<S>,
-) -> Result<(Kept, Lengths, u32), OpenFault>
+) -> Result<(Kept, Known, u32), OpenFault>
     requires settled { connection.old.in_transaction ≡ false }
     ensures begins { IfOk result (λ moved.
         BeginsMoved S.Store connection.old connection.new moved.0.world moved.2) }
     ensures stands { IfOk result (λ moved. Stands S.Store connection.new moved.0.world) }
-    ensures bounded { IfOk result (λ moved. Bounds moved.1 moved.0.world) }
+    ensures bounded { IfOk result (λ moved. Knows moved.1 moved.0.world) }
     ensures live { OnOk result (IsOpenIfClean S.Store connection.new) }
     ensures none { IfErr result (λ e. e ≡ OpenFault.NotADesk →
         ShowsNoContent S.Store connection.old connection.new) }
@@ -80,8 +80,8 @@ pub(crate) fn moved_world_in<S: Alter>(
     if old {
         return moved_in(alloc, connection, made);
     }
-    let (kept, lengths, _) = world_of(alloc, connection, made)?;
-    Ok((kept, lengths, 0))
+    let (kept, known, _) = world_of(alloc, connection, made)?;
+    Ok((kept, known, 0))
 }
 
 // The world whose rows the tables of schema 1 have, which are moved.
@@ -90,7 +90,7 @@ fn moved_in<S: Alter>(
     alloc: Global,
     connection: &mut Connection<S>,
     made: Made,
-) -> Result<(Kept, Lengths, u32), OpenFault>
+) -> Result<(Kept, Known, u32), OpenFault>
     requires part { Holds S.Store connection.old (IsMadeTo made) }
     requires rows { Holds S.Store connection.old (HasRowsOld made true) }
     requires some { made ≢ Made.Nothing }
@@ -99,7 +99,7 @@ fn moved_in<S: Alter>(
         (moved.2 ≡ told_count moved.0.world.plans)
         × WasMoved S.Store connection.old connection.new moved.0.world) }
     ensures stands { IfOk result (λ moved. Stands S.Store connection.new moved.0.world) }
-    ensures bounded { IfOk result (λ moved. Bounds moved.1 moved.0.world) }
+    ensures bounded { IfOk result (λ moved. Knows moved.1 moved.0.world) }
     ensures none { HasCleanDisk (state S.Store connection.new) → IfErr result (λ e.
         e ≡ OpenFault.NotADesk →
         AreNoOldContent (tables_at made (state S.Store connection.old).now.trees)) }
@@ -113,11 +113,11 @@ fn moved_in<S: Alter>(
     ensures shield { (state S.Store connection.old).IsShielded
         → (state S.Store connection.new).IsShielded }
 {
-    let (content, lengths) = old_found_in(alloc, connection, made)?;
+    let (content, known) = old_found_in(alloc, connection, made)?;
     make_whole(connection, made)?;
     rewrite(alloc, connection, &content.plans)?;
     let count = u32::try_from(content.plans.len()).unwrap_or(u32::MAX);
-    Ok((Kept::of(&content), lengths, count))
+    Ok((Kept::of(&content), known, count))
 }
 
 // Makes what is missing of a desk's tables. The rows that there are stay.
@@ -210,19 +210,19 @@ fn write_plan<S: Alter>(
     Ok(())
 }
 
-/// The content whose rows the tables of schema 1 have, and how long the spans in it are.
+/// The content whose rows the tables of schema 1 have, and what is known of its plans.
 pub(crate) fn old_found_in<S: Alter>(
     alloc: Global,
     connection: &mut Connection<S>,
     made: Made,
-) -> Result<(Content, Lengths), OpenFault>
+) -> Result<(Content, Known), OpenFault>
     requires part { Holds S.Store connection.old (IsMadeTo made) }
     requires some { has_table made DeskTable.Operator ≡ true }
     requires settled { connection.old.in_transaction ≡ false }
     ensures value { HasCleanDisk (state S.Store connection.new) → IfOk result (λ found.
         IsOldContentOf (tables_at made (state S.Store connection.old).now.trees) found.0) }
     ensures content { IfOk result (λ found. IsContent found.0) }
-    ensures bounded { IfOk result (λ found. Bounds found.1 found.0) }
+    ensures bounded { IfOk result (λ found. Knows found.1 found.0) }
     ensures none { HasCleanDisk (state S.Store connection.new) → IfErr result (λ e.
         e ≡ OpenFault.NotADesk →
         AreNoOldContent (tables_at made (state S.Store connection.old).now.trees)) }
@@ -300,10 +300,10 @@ fn old_rows_in<S: Alter>(
     })
 }
 
-// The content of these rows, which has to be within the limits of schema 1, and how long the spans in it are.
-fn old_content_in(alloc: Global, rows: &TableRows) -> Result<(Content, Lengths), OpenFault>
+// The content of these rows, which has to be within the limits of schema 1, and what is known of its plans.
+fn old_content_in(alloc: Global, rows: &TableRows) -> Result<(Content, Known), OpenFault>
     ensures value { IfOk result (λ found. IsOldContent found.0 × AreRows rows.now found.0) }
-    ensures bounded { IfOk result (λ found. Bounds found.1 found.0) }
+    ensures bounded { IfOk result (λ found. Knows found.1 found.0) }
     ensures none { IfErr result (λ e. e ≡ OpenFault.NotADesk →
         (w : World) → IsOldContent w → ¬ AreRows rows.now w) }
     ensures fault { IfErr result (λ e. (e ≢ OpenFault.Store)
@@ -315,8 +315,11 @@ fn old_content_in(alloc: Global, rows: &TableRows) -> Result<(Content, Lengths),
     if !are_old(&content.plans)? {
         return Err(OpenFault::NotADesk);
     }
-    let lengths = lengths_in(&rows.spans);
-    Ok((content, lengths))
+    let known = Known {
+        lengths: lengths_in(&rows.spans),
+        live: live_among(alloc, &content.plans)?,
+    };
+    Ok((content, known))
 }
 
 // Whether plans are within the limits of schema 1.

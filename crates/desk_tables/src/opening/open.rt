@@ -8,7 +8,7 @@ ghost use Rattle.desk_tables.specs.Moving.{BeginsMoved, BlamesMove, KeepsRows, S
 ghost use Rattle.desk_tables.specs.Opening.{BeginsWith, ShowsNoDesk, ShowsOldRows, BlamesDatabase};
 ghost use Rattle.desk_tables.specs.Leaving.{IsSettledAt};
 
-use crate::lengths::Lengths;
+use crate::known::Known;
 use crate::opening::exact::RowFault;
 use crate::opening::finding::{made_in, world_in};
 use crate::opening::moving::moved_world_in;
@@ -171,11 +171,11 @@ impl<S: Alter> SqliteStore<S> {
             → (state S.Store store.held).IsShielded) }
     {
         match world_in(alloc, &mut connection) {
-            Ok((kept, lengths, is_enrolled)) => Ok(SqliteStore::with(
+            Ok((kept, known, is_enrolled)) => Ok(SqliteStore::with(
                 alloc,
                 connection,
                 kept,
-                lengths,
+                known,
                 StoreFault::Store,
                 is_enrolled,
             )),
@@ -218,12 +218,12 @@ impl<S: Alter> SqliteStore<S> {
             → (state S.Store moved.0.held).IsShielded) }
     {
         match moved_world_in(alloc, &mut connection) {
-            Ok((kept, lengths, count)) => {
+            Ok((kept, known, count)) => {
                 let store = SqliteStore::with(
                     alloc,
                     connection,
                     kept,
-                    lengths,
+                    known,
                     StoreFault::Store,
                     true,
                 );
@@ -272,12 +272,12 @@ fn over_blank<S: Alter + Drop>(
         return Err(OpenFault::Store);
     };
     let kept = made_in(&mut connection)?;
-    let lengths = Lengths::new();
+    let known = Known::new(alloc);
     Ok(SqliteStore::with(
         alloc,
         connection,
         kept,
-        lengths,
+        known,
         StoreFault::OutOfMemory,
         false,
     ))

@@ -17,12 +17,14 @@ ghost use Rattle.desk_tables.specs.Gathering.{HasGathered, HasNoArea};
 ghost use Rattle.desk_tables.specs.Lookups.{own_of};
 ghost use Rattle.desk_tables.specs.Causes.{BlamesSpans, BlamesStore};
 ghost use Rattle.desk_tables.specs.Store.{Stands};
+ghost use Rattle.desk_tables.specs.Known.{Knows};
 ghost use Rattle.desk_tables.specs.Lengths.{Bounds, IsWithin};
 ghost use Rattle.desk_tables.specs.Rivals.{HaveTaken, HaveTakenAll, is_asked};
 ghost use Rattle.desk_sql.specs.Frames.{OnlyReads};
 ghost use Rattle.desk_sql.specs.Rows.{tables_of};
 
 use crate::kept::Kept;
+use crate::known::Known;
 use crate::lengths::Lengths;
 use crate::reading::listing::Gather;
 use crate::reading::rivals::{Rivals, reach_from};
@@ -326,14 +328,50 @@ fn asked_all<S: Alter>(
 }
 
 /// The slabs that live plans but the operator's own of the id hold, of those of a priority at least,
-/// where they meet an extent. How long the spans of live plans are says at which leaves one begins that
-/// reaches the extent: no row is read that begins at another.
+/// where they meet an extent. No row is read if the bounds of none of their volumes meet it.
 ///
 /// # Errors
 ///
 /// `OutOfMemory` if memory runs out. `Store` if SQLite refuses the query for another cause, or if
 /// a row is no slab's.
+#[tactic(auto, using(crate::proofs::FrameLemmas::reads_itself))]
 pub(crate) fn rivals<S: Alter>(
+    alloc: Global,
+    connection: &mut Connection<S>,
+    kept: &Kept,
+    operator: &Operator,
+    id: &PlanId,
+    least: u32,
+    extent: &Slab,
+    known: &Known,
+) -> Result<Vec<Held>, StoreFault>
+    requires stands { Stands S.Store connection.old kept.now.world }
+    requires bounded { Knows known.now kept.now.world }
+    ensures value { HasCleanDisk (state S.Store connection.new) → IfOk result (λ helds.
+        AreRivals kept.now.world operator.now id.now least extent.now helds.items) }
+    ensures cause { IfErr result (BlamesSpans S.Store connection.old connection.new) }
+    ensures stands { Stands S.Store connection.new kept.now.world }
+    ensures reads { OnlyReads S.Store connection.old connection.new }
+{
+    if !known.live.may_hold(operator, id, least, extent) {
+        return Ok(Vec::new(alloc));
+    }
+    rivals_in_tables(
+        alloc,
+        connection,
+        kept,
+        operator,
+        id,
+        least,
+        extent,
+        &known.lengths,
+    )
+}
+
+// The slabs that live plans but the operator's own of the id hold, of those of a priority at least, where
+// they meet an extent, as the tables have them. How long the spans of live plans are says at which leaves one
+// begins that reaches the extent: no row is read that begins at another.
+fn rivals_in_tables<S: Alter>(
     alloc: Global,
     connection: &mut Connection<S>,
     kept: &Kept,

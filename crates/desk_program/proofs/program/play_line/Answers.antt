@@ -1,12 +1,45 @@
-use Rattle.std.proofs.Common.{ap, ◌∙◌, inl, subst, to_z, of_z, w64}
+use Rattle.std.proofs.Common.{ap, ◌∙◌, inl, inr, subst, to_z, of_z, w64}
 use Rattle.desk_store.specs.Faults.{IsHonest}
 use Rattle.desk_store.specs.laws.Fault.{was_honest}
 use Rattle.desk_run.specs.DeskWorld.{world_of}
 use Rattle.desk_wire.specs.Playing.{HasPlayed}
-use Rattle.desk_program.specs.Enrolling.{permitting, with_operators}
+use Rattle.desk_line.specs.Exits.{EndsWith, ending}
+use Rattle.desk_program.specs.Enrolling.{AreListedSoFar, permitting, with_operators}
+use Rattle.desk_program.specs.Keeping.{AreKeptSoFar}
+use Rattle.desk_program.proofs.EndLemmas.{not_played}
 use Rattle.desk_program.proofs.KeepingLemmas.{run_kept}
 use Rattle.desk_program.proofs.MomentLemmas.{same_moment}
 use Rattle.desk_program.proofs.program.play_line.Goals as goal
+
+pub returns-in-Err-clause-played : goal.returns-in-Err-clause-played
+returns-in-Err-clause-played g c =
+    let w = world_of g.S.PlanStore.content c.args.desk.now in
+    let after = world_of g.S.PlanStore.content c.set_up.new.desk in
+    let honest = IsHonest (g.S.PlanStore.doubt c.set_up.new.desk.store) in
+    let end = ending c.conclude.result (g.E.Write.contents c.args.errors.now)
+    (g.E.Write.contents c.conclude.new.errors) in
+    inr (not_played honest c.args.play.now end (g.R.Read.remaining c.args.input.now)
+    (g.W.Write.contents c.args.output.now) w after c.in-Err.fault c.from.result c.from.ensures
+    c.in-Err.ensures.fault (c.conclude.ensures.status, c.conclude.ensures.told)
+    (subst (λ es. AreListedSoFar honest es (permitting w c.args.play.now.permitted) after)
+    c.deref.ensures.value c.in-Err.ensures.err))
+
+pub returns-in-Err-clause-kept : goal.returns-in-Err-clause-kept
+returns-in-Err-clause-kept g c = λ p settled found may.
+    let w = world_of g.S.PlanStore.content c.args.desk.now in
+    let after = world_of g.S.PlanStore.content c.set_up.new.desk in
+    let honest = IsHonest (g.S.PlanStore.doubt c.set_up.new.desk.store) in
+    let end = ending c.conclude.result (g.E.Write.contents c.args.errors.now)
+    (g.E.Write.contents c.conclude.new.errors) in
+    inr (
+      not_played honest c.args.play.now end (g.R.Read.remaining c.args.input.now)
+          (g.W.Write.contents c.args.output.now) w after c.in-Err.fault c.from.result c.from.ensures
+          c.in-Err.ensures.fault (c.conclude.ensures.status, c.conclude.ensures.told)
+          (subst (λ es. AreListedSoFar honest es (permitting w c.args.play.now.permitted) after)
+          c.deref.ensures.value c.in-Err.ensures.err),
+      subst (λ es. AreKeptSoFar honest es (permitting w c.args.play.now.permitted) after found)
+          c.deref.ensures.value (c.in-Err.ensures.crash p settled found may),
+    )
 
 pub returns-clause-played : goal.returns-clause-played
 returns-clause-played g c =
@@ -23,7 +56,9 @@ returns-clause-played g c =
     inl (record {
       ended = played.ended;
       answered = played.answered;
-      status_is = c.conclude-2.ensures.status ∙ c.done_after.ensures;
+      ends = subst (λ d. EndsWith d (ending c.conclude-2.result (g.E.Write.contents c.args.errors.now)
+          (g.E.Write.contents c.conclude-2.new.errors))) c.done_after.ensures
+          (c.conclude-2.ensures.status, c.conclude-2.ensures.told);
       played = λ h.
           let listed = c.in_default.ensures.ok (was_honest c.play_all-played.ensures.remembered.doubt h)
           ∙ ap (with_operators permitted) c.deref.ensures.value in
@@ -39,12 +74,15 @@ returns-clause-kept g c = λ p settled found may.
     let before = was_honest c.play_all-played.ensures.remembered.doubt p in
     let played = c.play_all-played.result in
     let w = world_of g.S.PlanStore.content c.args.desk.now in
-    run_kept (IsHonest (g.S.PlanStore.doubt c.play_all-played.new.desk.store)) c.args.play.now _ played.ended
-    played.answered (g.R.Read.remaining c.args.input.now)
+    let end = ending c.conclude-2.result (g.E.Write.contents c.args.errors.now)
+    (g.E.Write.contents c.conclude-2.new.errors) in
+    run_kept (IsHonest (g.S.PlanStore.doubt c.play_all-played.new.desk.store)) c.args.play.now end
+    played.ended played.answered (g.R.Read.remaining c.args.input.now)
     (g.R.Read.remaining c.play_all-played.new.input) (g.W.Write.contents c.args.output.now)
     (g.W.Write.contents c.play_all-played.new.output) w (world_of g.S.PlanStore.content c.set_up.new.desk)
     (world_of g.S.PlanStore.content c.play_all-played.new.desk) _
-    (c.conclude-2.ensures.status ∙ c.done_after.ensures)
+    (subst (λ d. EndsWith d end) c.done_after.ensures
+    (c.conclude-2.ensures.status, c.conclude-2.ensures.told))
     (same_moment c.args.play.now.moment c.requires.moment)
     (λ h. c.in_default.ensures.ok (was_honest c.play_all-played.ensures.remembered.doubt h)
     ∙ ap (with_operators (permitting w c.args.play.now.permitted)) c.deref.ensures.value)

@@ -15,9 +15,9 @@ returns-in_err-serve_connection-clause-kept g c =
     c.from_residual.result
     c.loop-before.before 1 c.args.count _ _ _ _ _ _ _ _ _ c.loop-before.invariant.kept
     c.serve_connection.ensures.kept (omega (arith, c.loop-before-test.true))
-    (λ xs ys first then. stops_by c.from_residual.result c.in_err-serve_connection.field-0.0
-    c.serve_connection.result c.from_residual.ensures.1 c.in_err-serve_connection.was c.args.count 1 xs ys
-    then)
+    (λ xs ys. stops_by (tt {0}) c.from_residual.result c.in_err-serve_connection.field-0.0
+    c.serve_connection.result c.from_residual.ensures.1 c.in_err-serve_connection.was c.loop-before.before
+    c.args.count 1 xs ys)
 
 pub returns-in_err-serve_connection-clause-served : goal.returns-in_err-serve_connection-clause-served
 returns-in_err-serve_connection-clause-served g c = (returns-in_err-serve_connection-clause-kept g c).taken
@@ -41,7 +41,7 @@ returns-clause-kept g c =
     let all : c.loop-before.before ≡ c.args.count =
     omega (arith, c.loop-before-test.false, c.loop-before.auto.before-end) in
     subst (λ n. AreKept {A = Unit {0}} (IsHonest (g.S.PlanStore.doubt c.loop-before.desk.store)) (Ok tt) n
-    (g.P.Port.taken c.args.port.now) (g.P.Port.taken c.loop-before.port)
+    (g.P.Port.traffic c.args.port.now) (g.P.Port.traffic c.loop-before.port)
     (world_of g.S.PlanStore.content c.args.desk.now) (world_of g.S.PlanStore.content c.loop-before.desk)
     (g.S.PlanStore.may_leave c.args.desk.now.store) (g.S.PlanStore.may_leave c.loop-before.desk.store)) all
     c.loop-before.invariant.kept

@@ -9,7 +9,7 @@ abbrev pub invariant-loop-before : goal.invariant-loop-before
 invariant-loop-before g l =
     record {
       kept : AreKept {A = Unit {0}} (IsHonest (g.S.PlanStore.doubt l.desk.store)) (Ok tt) l.before
-          (g.P.Port.taken l.fn.port) (g.P.Port.taken l.port)
+          (g.P.Port.traffic l.fn.port) (g.P.Port.traffic l.port)
           (world_of g.S.PlanStore.content l.fn.desk) (world_of g.S.PlanStore.content l.desk)
           (g.S.PlanStore.may_leave l.fn.desk.store) (g.S.PlanStore.may_leave l.desk.store);
       doubt : g.S.PlanStore.doubt l.fn.desk.store ≤ g.S.PlanStore.doubt l.desk.store;

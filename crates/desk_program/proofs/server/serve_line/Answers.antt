@@ -23,7 +23,7 @@ pub returns-in_err-routes-clause-served : goal.returns-in_err-routes-clause-serv
 returns-in_err-routes-clause-served g c =
     unserved (IsHonest (g.S.PlanStore.doubt c.set_up.new.desk.store)) c.from_residual-in_err-routes.result
     failure.Memory c.args.line.now _ _ (world_of g.S.PlanStore.content c.args.desk.now)
-    (world_of g.S.PlanStore.content c.set_up.new.desk) c.from_residual-in_err-routes.ensures.1 refl
+    (world_of g.S.PlanStore.content c.set_up.new.desk) c.from_residual-in_err-routes.ensures.1 (inl refl)
     c.in_ok-listen.ensures.same (λ h. c.in_ok-set_up.ensures.ok h
     ∙ ap (with_operators (permitting (world_of g.S.PlanStore.content c.args.desk.now)
     c.args.line.now.permitted)) c.deref.ensures.value)
@@ -39,7 +39,7 @@ returns-clause-served g c =
       listed = λ h. c.in_ok-set_up.ensures.ok (was_honest c.serve_connections.ensures.remembered.doubt h)
           ∙ ap (with_operators (permitting w c.args.line.now.permitted)) c.deref.ensures.value;
       taken = subst (λ v. AreTaken honest c.serve_connections.result c.args.line.now.connections v
-          (g.P.Port.taken c.serve_connections.new.port) begun after) c.in_ok-listen.ensures.same
+          (g.P.Port.traffic c.serve_connections.new.port) begun after) c.in_ok-listen.ensures.same
           c.serve_connections.ensures.served;
     })
 
@@ -64,7 +64,7 @@ returns-in_err-routes-clause-kept g c = λ p settled.
     (λ h. c.in_ok-set_up.ensures.ok h
     ∙ ap (with_operators (permitting (world_of g.S.PlanStore.content c.args.desk.now)
     c.args.line.now.permitted)) c.deref.ensures.value) (c.in_ok-set_up.ensures.kept p settled)
-    failure.Memory _ _ c.from_residual-in_err-routes.ensures.1 refl c.in_ok-listen.ensures.same refl
+    failure.Memory _ _ c.from_residual-in_err-routes.ensures.1 (inl refl) c.in_ok-listen.ensures.same refl
     (λ found may. may)
 
 pub returns-clause-kept : goal.returns-clause-kept

@@ -15,5 +15,5 @@ returns-in-Files g c =
       refl,
       record { done = ended.ensures.opened; kept = ended.ensures.kept; undone = ended.ensures.unopened },
       stays_guarded (account_of g.F.Start) (λ _. refl) (λ _. refl) image c.args.line.now _ _ _ _ _ _
-          ended.result.0 c.in-Files.desk ended.result.1 opens ended.ensures.opened,
+          _ c.in-Files.desk ended.result.1 opens ended.ensures.opened,
     )

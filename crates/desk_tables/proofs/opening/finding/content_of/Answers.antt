@@ -1,6 +1,7 @@
 use Rattle.std.proofs.Common.{◌∙◌, ap, sym, subst, true≢false}
 use Rattle.std.specs.List.{AllByRecursion}
 use Rattle.desk_sql.specs.Rows.{Tables}
+use Rattle.desk_tables.specs.Known.{Knows}
 use Rattle.desk_tables.specs.Lengths.{IsKnownRow}
 use Rattle.desk_tables.specs.Tables.{cover_rows}
 use Rattle.desk_store.specs.World.{World}
@@ -11,9 +12,14 @@ use Rattle.desk_tables.proofs.opening.finding.content_of.Goals as goal
 pub returns-clause-bounded : goal.returns-clause-bounded
 returns-clause-bounded c =
     let spans = c.deref-3.ensures.value ∙ ap (λ (t : Tables). t.spans) c.rows.view_is in
-    bounds_of c.one_list_of_ranges.ensures c.lengths_in-lengths.result c.in_ok-content.content
-    c.args.rows.now.spans c.in_ok-content.ensures.ok.1.span_part
-    (subst (AllByRecursion (IsKnownRow c.lengths_in-lengths.result)) spans c.lengths_in-lengths.ensures)
+    let plans = c.deref-4.ensures.value ∙ ap (λ (w : World). w.plans) c.content.view_is in
+    let content = c.in_ok-content.content in
+    record {
+      lengths = bounds_of c.one_list_of_ranges.ensures c.lengths_in.result content c.args.rows.now.spans
+          c.in_ok-content.ensures.ok.1.span_part
+          (subst (AllByRecursion (IsKnownRow c.lengths_in.result)) spans c.lengths_in.ensures);
+      live = c.in_ok-live_among.ensures content c.in_ok-content.ensures.ok.0.world.plans (sym plans);
+    }
 
 pub returns-then-not-branch-clause-none : goal.returns-then-not-branch-clause-none
 returns-then-not-branch-clause-none c = λ _.

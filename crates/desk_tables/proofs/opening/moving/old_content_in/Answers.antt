@@ -20,6 +20,10 @@ returns-then-not-branch-clause-none c = λ _.
 pub returns-clause-bounded : goal.returns-clause-bounded
 returns-clause-bounded c =
     let spans = c.deref-2.ensures.value ∙ ap (λ (t : Tables). t.spans) c.rows.view_is in
-    bounds_of c.one_list_of_ranges.ensures c.lengths_in-lengths.result c.in_ok-content.content
-    c.args.rows.now.spans c.in_ok-content.ensures.ok.1.span_part
-    (subst (AllByRecursion (IsKnownRow c.lengths_in-lengths.result)) spans c.lengths_in-lengths.ensures)
+    let plans = c.deref-3.ensures.value ∙ ap (λ (w : World). w.plans) c.content.view_is in
+    let content = c.in_ok-content.content in record {
+      lengths = bounds_of c.one_list_of_ranges.ensures c.lengths_in.result content c.args.rows.now.spans
+          c.in_ok-content.ensures.ok.1.span_part
+          (subst (AllByRecursion (IsKnownRow c.lengths_in.result)) spans c.lengths_in.ensures);
+      live = c.in_ok-live_among.ensures content c.in_ok-content.ensures.ok.0.world.plans (sym plans);
+    }

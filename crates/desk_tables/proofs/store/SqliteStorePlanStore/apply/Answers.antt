@@ -2,19 +2,29 @@ use Rattle.std.proofs.Common.{sym, subst}
 use Rattle.desk_store.specs.StoreChange.{changed_by}
 use Rattle.desk_store.specs.Crashes.{LeavesOldOr, LeavesOnly}
 use Rattle.desk_tables.specs.Store.{Stands}
-use Rattle.desk_tables.specs.Lengths.{Bounds}
+use Rattle.desk_tables.specs.Known.{Knows}
 use Rattle.desk_tables.specs.Leaving.{MayLeave}
-use Rattle.desk_tables.proofs.LengthLemmas.{bounds_after}
 use Rattle.desk_tables.proofs.LeavingLemmas.{leaves_or_changed, leaves_what_stands}
 use Rattle.desk_tables.proofs.store.SqliteStorePlanStore.apply.Goals as goal
 
 pub invariant_of-self : goal.invariant_of-self
-invariant_of-self g c =
+invariant_of-self g c = (
+  c.self.invariant.0,
+  record {
+    lengths = c.self.invariant.1.lengths;
+    live = c.prepare.ensures.kept c.self.inside.kept.world c.self.invariant.1.live;
+  },
+)
+
+pub invariant_of-self-in-Ok : goal.invariant_of-self-in-Ok
+invariant_of-self-in-Ok g c =
     let after = sym c.after-self-inside.ensures in (
       subst (Stands g.S.Store c.make.new.connection) after c.in-Ok.ensures.ok,
-      subst (Bounds c.in-Ok.lengths) after (bounds_after c.self.inside.lengths c.in-Ok.lengths
-          c.args.change.now c.self.inside.kept.world c.self.invariant.1 c.in-Ok.ensures.known.0
-          c.in-Ok.ensures.known.1),
+      subst (Knows c.follow.new.self) after
+          (c.follow.ensures c.self.inside.kept.world (record {
+            lengths = c.self.invariant.1.lengths;
+            live = c.prepare.ensures.kept c.self.inside.kept.world c.self.invariant.1.live;
+          })),
     )
 
 pub returns-in-Ok-clause-crash : goal.returns-in-Ok-clause-crash
@@ -36,8 +46,17 @@ returns-in-Ok-clause-kept g c = λ honest.
     (c.in-Ok.ensures.committed honest) (c.settled_and_sound.ensures.sound live).0
     (λ db may. g.met.S.Store.settled new.store db live may))
 
-pub returns-in-Err-clause-crash : goal.returns-in-Err-clause-crash
-returns-in-Err-clause-crash g c = λ honest.
+pub invariant_of-self-in-Err : goal.invariant_of-self-in-Err
+invariant_of-self-in-Err g c = (
+  c.in-Err.ensures.err,
+  record {
+    lengths = c.self.invariant.1.lengths;
+    live = c.prepare.ensures.kept c.self.inside.kept.world c.self.invariant.1.live;
+  },
+)
+
+pub returns-clause-crash : goal.returns-clause-crash
+returns-clause-crash g c = λ honest.
     let new = c.make.new.connection in
     let change = c.args.change.now in
     subst (λ s. LeavesOldOr (changed_by change s.world) (MayLeave g.S.Store s.held)

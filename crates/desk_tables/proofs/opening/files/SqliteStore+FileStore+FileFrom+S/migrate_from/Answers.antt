@@ -9,4 +9,5 @@ pub returns-clause-guarded : goal.returns-clause-guarded
 returns-clause-guarded g c = c.adopt_old_files.ensures.guarded c.in_ok-connect_there.ensures.found.guarded
 
 pub returns-clause-fault : goal.returns-clause-fault
-returns-clause-fault g c = c.adopt_old_files.ensures.fault (image_at g.S.Start) c.in_ok-connect_there.ensures.found
+returns-clause-fault g c = c.adopt_old_files.ensures.fault (image_at g.S.Start)
+    c.in_ok-connect_there.ensures.found

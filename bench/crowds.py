@@ -1,0 +1,133 @@
+"""Requests of a crowded sky: a city at work, and the most that one operator may plan.
+
+City: flights start from 20 hubs of one cell of level 10, and go straight over up to 64 cells of level 17, for ten
+minutes of 25 days, in one of four bands of altitude, so that most share ground and time and altitude keep them apart.
+The other rows are plans of the greatest number of volumes, all of one operator, which never meet one another.
+"""
+
+import datetime
+import json
+import random
+import uuid
+
+CITY_LEVEL, CITY_SIDE, HUBS, REACH = 17, 128, 20, 40
+CORNER = (37 * CITY_SIDE, 90 * CITY_SIDE)
+VOLUMES, CELLS = 32, 64
+# a column of 1,024 squares of level 24, in leaves, whose cover has 1,024 cells and 768 ranges
+COLUMN, FIRST_ROW, ROWS = 64 * 8_388_609, 64 * 256, 64 * 1024
+# where the children of a square stand on the curve, by its orientation, and how the orientation turns
+CHILDREN = ((0, 1, 3, 2), (0, 2, 3, 1), (3, 2, 0, 1), (3, 1, 0, 2))
+TURNS = (1, 0, 0, 3)
+
+
+def token_of(cell):
+    """The token of a cell id."""
+    return f"{cell:016x}".rstrip("0")
+
+
+def cell_at(level, position):
+    """The id of the cell of face 0 at a position of its level."""
+    free = 2 * (30 - level)
+    return position << free + 1 | 1 << free
+
+
+def position(level, i, j):
+    """The position on the curve of a square of face 0."""
+    at = turn = 0
+    for bit in range(level - 1, -1, -1):
+        child = CHILDREN[turn].index(2 * (i >> bit & 1) + (j >> bit & 1))
+        at, turn = 4 * at + child, turn ^ TURNS[child]
+    return at
+
+
+def request(method, path, operator, body=b""):
+    """A request's bytes."""
+    head = f"{method} {path} HTTP/1.1\r\nhost: desk\r\nx-operator: {operator}\r\ncontent-length: {len(body)}\r\n\r\n"
+    return head.encode() + body
+
+
+def volume(shape, lower, upper, start="2026-06-01T12:00:00Z", end="2026-06-01T13:00:00Z"):
+    """A volume of a shape: cells or a rectangle."""
+    moment = lambda value: {"format": "RFC3339", "value": value}
+    return {
+        "time_end": moment(end),
+        "time_start": moment(start),
+        "volume": {"altitude_lower": lower, "altitude_upper": upper, **shape},
+    }
+
+
+def put(operator, plan, volumes, priority=10):
+    """A PUT of a plan."""
+    asked = {
+        "execution_style": "IfAllowed",
+        "flight_plan": {
+            "astm_f3548_21": {"priority": priority},
+            "basic_information": {"area": volumes, "uas_state": "Nominal", "usage_state": "Planned"},
+        },
+        "request_id": "r1",
+    }
+    return request("PUT", f"/flight_plans/{plan}", operator, json.dumps(asked, separators=(",", ":")).encode())
+
+
+def line(one, other):
+    """The squares between two, both included, each once, at most CELLS of them."""
+    steps = max(abs(other[0] - one[0]), abs(other[1] - one[1]), 1)
+    way = [tuple(a + (b - a) * step // steps for a, b in zip(one, other)) for step in range(steps + 1)]
+    return list(dict.fromkeys(way))[:CELLS]
+
+
+def flight(chance, hubs):
+    """A volume of a flight in the city."""
+    hub = chance.choice(hubs)
+    to = [min(max(at + chance.randrange(-REACH, REACH + 1), 0), CITY_SIDE - 1) for at in hub]
+    squares = [position(CITY_LEVEL, CORNER[0] + i, CORNER[1] + j) for i, j in line(hub, to)]
+    start = datetime.datetime(2026, 6, 1, 12, 10) + datetime.timedelta(minutes=chance.randrange(25 * 24 * 60))
+    written = [at.strftime("%Y-%m-%dT%H:%M:%SZ") for at in (start, start + datetime.timedelta(minutes=10))]
+    band = chance.randrange(4) * 300
+    cells = [token_of(cell_at(CITY_LEVEL, square)) for square in squares]
+    return volume({"cells": cells}, band, band + 300, *written)
+
+
+def city(count):
+    """So many first PUTs of a city, 200 an operator."""
+    chance = random.Random(7)
+    hubs = [(chance.randrange(CITY_SIDE), chance.randrange(CITY_SIDE)) for _ in range(HUBS)]
+    for number in range(count):
+        yield put(f"op{number // 200}", uuid.UUID(int=chance.getrandbits(128)), [flight(chance, hubs)])
+
+
+def strips(count):
+    """Plans on one ground at altitudes of their own, each of 32 strips, one above the other, of one column."""
+    rows = {"j_min": FIRST_ROW, "j_max": FIRST_ROW + ROWS - 1}
+    column = {"face": 0, "i_min": COLUMN, "i_max": COLUMN, **rows, "level": 24}
+    for number in range(count):
+        lowers = range(320 * number, 320 * (number + 1), 10)
+        yield put("op0", uuid.UUID(int=number + 1), [volume({"rectangle": column}, at, at + 10) for at in lowers])
+
+
+def random_cells(chance, count):
+    """Random cells of level 16."""
+    return [token_of(chance.randrange(6) << 61 | chance.randrange(1 << 32) << 29 | 1 << 28) for _ in range(count)]
+
+
+def same(count):
+    """Plans of 32 volumes of 64 cells, the same cells in each, at altitudes of their own."""
+    chance = random.Random(5)
+    areas = [{"cells": random_cells(chance, CELLS)} for _ in range(VOLUMES)]
+    for number in range(count):
+        lower = 100 * number
+        yield put("op0", uuid.UUID(int=number + 1), [volume(area, lower, lower + 100) for area in areas])
+
+
+def comb(count):
+    """Plans of 32 volumes of 64 cells whose leaves lie side by side, in one window and at the same altitudes."""
+    for number in range(count):
+        places = [[cell_at(20, ((at * CELLS + cell) * 2 * count + 2 * number)) for cell in range(CELLS)]
+                  for at in range(VOLUMES)]
+        areas = [{"cells": [token_of(cell) for cell in cells]} for cells in places]
+        yield put("op0", uuid.UUID(int=number + 1), [volume(area, 0, 1000) for area in areas])
+
+
+LISTED = {"strips": strips, "same": same, "comb": comb}
+SHOWN_LIST = request("GET", "/flight_plans", "op0")
+OVER_A_FACE = [put("op1", uuid.UUID(int=1), [volume({"cells": ["1"]}, -10_000, 200_000)], priority=5)]

@@ -1,0 +1,3 @@
+pub mod VolumeLemmas
+pub mod FenceLemmas
+pub mod ChunkLemmas

@@ -1,0 +1,127 @@
+-- The volumes of live plans, as they are kept in memory.
+use Rattle.std.specs.Prelude.{◌≡◌, ℕ, ◌+◌, ◌≤◌, Bool, true, not, ◌&&◌, nat_le, int_lt, List, [], ◌∷◌, ◌++◌, MatchBool, length}
+use Rattle.std.specs.List.{AllByRecursion, AllZip, list_any}
+use Rattle.std.specs.List.Sorted.{IsPermutation, IsStrictlySortedBy}
+use Rattle.std.specs.Ordering.{is_eq}
+use Rattle.volume4d.specs.declared.slab.Slab.{Slab}
+use Rattle.volume4d.specs.Volume.{Block, block_has}
+use Rattle.volume4d.specs.Bounds.{IsBounds, IsWithin}
+use Rattle.desk_rules.specs.Plan.{is_live}
+use Rattle.desk_store.specs.World.{Filed, World, text_cmp, filed_cmp}
+use Rattle.desk_store.specs.Changes.{filed_by}
+use Rattle.desk_store.specs.declared.change.Change.{Change}
+use Rattle.desk_store.specs.declared.change.Change.TheVariants.{Enrol, Put, Close, Clear}
+use Rattle.desk_live.specs.declared.volume.LiveVolume.{LiveVolume}
+use Rattle.desk_live.specs.declared.fence.Fence.{Fence}
+use Rattle.desk_live.specs.declared.chunk.Chunk.{Chunk}
+use Rattle.desk_live.specs.declared.live.Gathering.{Gathering}
+use Rattle.desk_live.specs.declared.live.LiveVolumes.{LiveVolumes}
+
+-- a volume of a plan: whose it is, the plan's priority, and the smallest slab that has all its points
+pub record IsLiveVolume (p : Filed) (v : Block) (live : LiveVolume) : Type 0 where
+  pub operator : live.operator ≡ p.operator
+  pub id : live.id ≡ p.row.id
+  pub priority : live.priority ≡ p.row.priority
+  pub bounds : IsBounds (block_has v) live.bounds
+
+-- one for each volume of a plan that is live, in their order; none of one that is closed
+abbrev pub AreVolumesOf : Filed → List LiveVolume → Type 0
+AreVolumesOf p lives = MatchBool (is_live p.row.usage) (AllZip (IsLiveVolume p) p.row.area lives) (lives ≡ [])
+
+-- those of plans, one plan after the other
+abbrev pub AreVolumes : List Filed → List LiveVolume → Type 0
+AreVolumes [] lives = lives ≡ []
+AreVolumes (p ∷ ps) lives =
+    (front rest : List LiveVolume) × (lives ≡ front ++ rest) × AreVolumesOf p front × AreVolumes ps rest
+
+-- each live volume of a world is among these once, and nothing else is
+pub record AreLive (w : World) (lives : List LiveVolume) : Type 0 where
+  pub order : IsStrictlySortedBy filed_cmp w.plans
+  pub listed : List LiveVolume
+  pub volumes : AreVolumes w.plans listed
+  pub same : IsPermutation listed lives
+
+-- the volumes of some of a plan's area are added, or those of a plan
+abbrev pub AddsVolumes : Filed → List Block → List LiveVolume → List LiveVolume → Type 0
+AddsVolumes p area old new =
+    (more : List LiveVolume) × (new ≡ old ++ more) × AllZip (IsLiveVolume p) area more
+
+abbrev pub AddsPlan : Filed → List LiveVolume → List LiveVolume → Type 0
+AddsPlan p old new = (more : List LiveVolume) × (new ≡ old ++ more) × AreVolumesOf p more
+
+-- ---- what is kept
+
+-- it lies within a fence, and has no greater priority
+pub record IsFenced (fence : Fence) (live : LiveVolume) : Type 0 where
+  pub within : IsWithin live.bounds fence.bounds
+  pub top : live.priority ≤ fence.top
+
+-- each volume of each chunk lies within its fence
+abbrev pub AreFenced : List Chunk → Type 0
+AreFenced chunks = AllByRecursion (λ c. AllByRecursion (IsFenced c.fence) c.volumes.items) chunks
+
+-- the volumes of chunks, and all that are kept
+abbrev pub volumes_in : List Chunk → List LiveVolume
+volumes_in [] = []
+volumes_in (c ∷ cs) = c.volumes.items ++ volumes_in cs
+
+abbrev pub volumes_of : LiveVolumes → List LiveVolume
+volumes_of kept = volumes_in kept.chunks.items ++ kept.young.items
+
+-- each live volume of a world is kept once, within the fence of its chunk if it is in one
+pub record AreKept (kept : LiveVolumes) (w : World) : Type 0 where
+  pub live : AreLive w (volumes_of kept)
+  pub fenced : AreFenced kept.chunks.items
+
+-- the volumes of plans that were gathered
+abbrev pub gathered_in : Gathering → List LiveVolume
+gathered_in gathering = gathering.volumes.items
+
+-- there is room for so many more
+abbrev pub HasRoomFor : LiveVolumes → ℕ → Type 0
+HasRoomFor kept count = length kept.young.items + count ≤ kept.young.cap
+
+-- ---- changes
+
+-- it is of the operator's plan of the id
+abbrev pub is_of : List ℕ → List ℕ → LiveVolume → Bool
+is_of operator id live = is_eq (text_cmp id live.id) && is_eq (text_cmp operator live.operator)
+
+abbrev pub is_of_any : List ℕ → List (List ℕ) → LiveVolume → Bool
+is_of_any operator ids live = list_any (λ id. is_of operator id live) ids
+
+-- a change takes out the volumes of the plans that it names
+abbrev pub stays_at : Change → LiveVolume → Bool
+stays_at (Enrol operator ceiling) live = true
+stays_at (Put operator row) live = not (is_of operator row.id live)
+stays_at (Close operator id) live = not (is_of operator id live)
+stays_at (Clear operator ids) live = not (is_of_any operator ids.items live)
+
+-- and a put brings those of its plan
+abbrev pub AreBrought : Change → List LiveVolume → Type 0
+AreBrought (Enrol operator ceiling) fresh = fresh ≡ []
+AreBrought (Put operator row) fresh = AreVolumesOf (filed_by operator row) fresh
+AreBrought (Close operator id) fresh = fresh ≡ []
+AreBrought (Clear operator ids) fresh = fresh ≡ []
+
+-- ---- questions
+
+-- two slabs meet in seconds, in altitudes and in leaves
+abbrev pub overlap : Slab → Slab → Bool
+overlap one other =
+    (int_lt one.start other.end && int_lt other.start one.end)
+    && ((int_lt one.lower other.upper && int_lt other.lower one.upper)
+    && (nat_le one.first other.last && nat_le other.first one.last))
+
+-- it has a priority at least, is none of the operator's plan of the id, and its bounds meet an extent
+abbrev pub is_near : List ℕ → List ℕ → ℕ → Slab → LiveVolume → Bool
+is_near operator id least extent live =
+    overlap live.bounds extent && (nat_le least live.priority && not (is_of operator id live))
+
+-- a fence has a priority at least, and meets an extent
+abbrev pub may_meet : ℕ → Slab → Fence → Bool
+may_meet least extent fence = overlap fence.bounds extent && nat_le least fence.top
+
+abbrev pub is_near_in : List ℕ → List ℕ → ℕ → Slab → Chunk → Bool
+is_near_in operator id least extent chunk =
+    may_meet least extent chunk.fence && list_any (is_near operator id least extent) chunk.volumes.items

@@ -1,0 +1,102 @@
+//! What a change does to a list of volumes of live plans.
+
+ghost use Rattle.std.specs.Prelude.{◌≡◌, ◌≤◌, ◌+◌, ◌++◌, length, IfOk, OnOk};
+ghost use Rattle.std.specs.List.{filter};
+ghost use Rattle.desk_store.specs.Changes.{filed_by};
+ghost use Rattle.desk_live.specs.Live.{AddsPlan, AreBrought, stays_at};
+ghost use Rattle.desk_live.specs.Live as spec;
+
+use crate::volume::LiveVolume;
+use desk_rules::operator::Operator;
+use desk_rules::plan::PlanRow;
+use desk_rules::plan_id::PlanId;
+use desk_store::Change;
+use std::alloc::{AllocError, Global};
+
+/// Appends the volumes of an operator's plan, if it is live.
+///
+/// # Errors
+///
+/// `AllocError` if memory runs out.
+pub(crate) fn push_plan(
+    volumes: &mut Vec<LiveVolume>,
+    operator: &Operator,
+    row: &PlanRow,
+) -> Result<(), AllocError>
+    ensures { OnOk result (AddsPlan (filed_by operator.now row.now) volumes.old.items
+        volumes.new.items) }
+{
+    if row.usage.is_live() {
+        push_area(volumes, operator, row)
+    } else {
+        Ok(())
+    }
+}
+
+// Appends the volumes of an operator's plan.
+fn push_area(
+    volumes: &mut Vec<LiveVolume>,
+    operator: &Operator,
+    row: &PlanRow,
+) -> Result<(), AllocError>
+    ensures { OnOk result (spec.AddsVolumes (filed_by operator.now row.now) row.now.area
+        volumes.old.items volumes.new.items) }
+{
+    for volume in row.area.volumes() {
+        volumes.push(LiveVolume::try_new(operator, row, volume)?)?;
+    }
+    Ok(())
+}
+
+/// The volumes that a change brings.
+///
+/// # Errors
+///
+/// `AllocError` if memory runs out.
+pub(crate) fn brought_by(alloc: Global, change: &Change) -> Result<Vec<LiveVolume>, AllocError>
+    ensures { IfOk result (λ fresh. AreBrought change.now fresh.items) }
+{
+    let mut fresh = Vec::new(alloc);
+    if let Change::Put { operator, row } = change {
+        push_plan(&mut fresh, operator, row)?;
+    }
+    Ok(fresh)
+}
+
+/// Takes out the volumes of the plans that a change names.
+pub(crate) fn leave(volumes: &mut Vec<LiveVolume>, change: &Change)
+    ensures items { volumes.new.items ≡ filter (stays_at change.now) volumes.old.items }
+    ensures room { volumes.new.cap ≡ volumes.old.cap }
+    ensures fewer { length volumes.new.items ≤ length volumes.old.items }
+{
+    volumes.retain(|live| stays(live, change));
+}
+
+// Whether a change leaves a volume.
+fn stays(live: &LiveVolume, change: &Change) -> bool
+    ensures { result ≡ stays_at change.now live.now }
+{
+    match change {
+        Change::Enrol { .. } => true,
+        Change::Put { operator, row } => !live.is_of(operator, &row.id),
+        Change::Close { operator, id } => !live.is_of(operator, id),
+        Change::Clear { operator, ids } => !is_of_any(live, operator, ids),
+    }
+}
+
+// Whether a volume is of one of the operator's plans of these ids.
+fn is_of_any(live: &LiveVolume, operator: &Operator, ids: &[PlanId]) -> bool
+    ensures { result ≡ spec.is_of_any operator.now ids.now live.now }
+{
+    ids.iter().any(|id| live.is_of(operator, id))
+}
+
+/// Appends volumes for which there is room.
+pub(crate) fn push_all(volumes: &mut Vec<LiveVolume>, fresh: &[LiveVolume])
+    requires { length volumes.old.items + length fresh.now ≤ volumes.old.cap }
+    ensures { volumes.new.items ≡ volumes.old.items ++ fresh.now }
+{
+    for live in fresh {
+        volumes.push_reserved(*live);
+    }
+}

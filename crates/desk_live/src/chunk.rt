@@ -1,0 +1,146 @@
+//! Chunks of volumes, each within a fence of its own, so that most are passed over unread.
+
+ghost use Rattle.std.specs.Prelude.{◌≡◌, ◌∷◌, ◌++◌, IfOk, IsPermutation};
+ghost use Rattle.std.specs.List.{AllByRecursion, filter, list_any};
+ghost use Rattle.desk_live.specs.Live as spec;
+ghost use Rattle.desk_live.specs.Live.{AreFenced, IsFenced, is_near, is_near_in, stays_at, volumes_in};
+
+use crate::changing::leave;
+use crate::fence::Fence;
+use crate::order::put_in_order;
+use crate::volume::LiveVolume;
+use desk_rules::operator::Operator;
+use desk_rules::plan_id::PlanId;
+use desk_store::Change;
+use std::alloc::{AllocError, Global};
+use volume4d::Slab;
+
+// The most volumes of a chunk, but for one.
+const MORE: usize = 63;
+
+/// Volumes within a fence.
+#[derive(Drop)]
+pub(crate) struct Chunk {
+    fence: Fence,
+    volumes: Vec<LiveVolume>,
+}
+
+impl Chunk {
+    // Of a volume and some more.
+    fn try_new(alloc: Global, first: &LiveVolume, more: &[LiveVolume]) -> Result<Chunk, AllocError>
+        ensures same { IfOk result (λ chunk. chunk.volumes.items ≡ first.now ∷ more.now) }
+        ensures fenced { IfOk result (λ chunk.
+            AllByRecursion (IsFenced chunk.fence) chunk.volumes.items) }
+    {
+        let mut volumes = Vec::new(alloc);
+        volumes.push(*first)?;
+        volumes.extend_from_slice(more)?;
+        Ok(Chunk {
+            fence: Fence::round(first, more),
+            volumes,
+        })
+    }
+
+    // Whether a volume is near, and the fence says that one may be.
+    fn is_near(&self, operator: &Operator, id: &PlanId, least: u32, extent: &Slab) -> bool
+        ensures { result ≡ is_near_in operator.now id.now least extent.now self.now }
+    {
+        if !self.fence.may_meet(least, extent) {
+            return false;
+        }
+        any_near(&self.volumes, operator, id, least, extent)
+    }
+}
+
+/// Whether one of some volumes is near.
+pub(crate) fn any_near(
+    lives: &[LiveVolume],
+    operator: &Operator,
+    id: &PlanId,
+    least: u32,
+    extent: &Slab,
+) -> bool
+    ensures { result ≡ list_any (is_near operator.now id.now least extent.now) lives.now }
+{
+    lives
+        .iter()
+        .any(|live| live.is_near(operator, id, least, extent))
+}
+
+/// Whether a volume of one of some chunks is near, and its fence says that one may be.
+pub(crate) fn any_near_in(
+    chunks: &[Chunk],
+    operator: &Operator,
+    id: &PlanId,
+    least: u32,
+    extent: &Slab,
+) -> bool
+    ensures { result ≡ list_any (is_near_in operator.now id.now least extent.now) chunks.now }
+{
+    chunks
+        .iter()
+        .any(|chunk| chunk.is_near(operator, id, least, extent))
+}
+
+// Volumes in chunks, those that follow each other together.
+fn chunked(alloc: Global, lives: &[LiveVolume]) -> Result<Vec<Chunk>, AllocError>
+    ensures same { IfOk result (λ chunks. volumes_in chunks.items ≡ lives.now) }
+    ensures fenced { IfOk result (λ chunks. AreFenced chunks.items) }
+{
+    let mut chunks = Vec::new(alloc);
+    let mut rest = lives;
+    while let Some((first, others)) = rest.split_first() {
+        let (more, later) = others.split_at(others.len().min(MORE));
+        chunks.push(Chunk::try_new(alloc, first, more)?)?;
+        rest = later;
+    }
+    Ok(chunks)
+}
+
+/// The volumes of chunks, and some more, in chunks anew.
+///
+/// # Errors
+///
+/// `AllocError` if memory runs out.
+pub(crate) fn rechunked(
+    alloc: Global,
+    chunks: &[Chunk],
+    more: &[LiveVolume],
+) -> Result<Vec<Chunk>, AllocError>
+    ensures same { IfOk result (λ anew.
+        IsPermutation (volumes_in chunks.now ++ more.now) (volumes_in anew.items)) }
+    ensures fenced { IfOk result (λ anew. AreFenced anew.items) }
+{
+    let mut all = gathered(alloc, chunks, more)?;
+    put_in_order(&mut all);
+    chunked(alloc, &all)
+}
+
+// The volumes of chunks, and some more.
+fn gathered(
+    alloc: Global,
+    chunks: &[Chunk],
+    more: &[LiveVolume],
+) -> Result<Vec<LiveVolume>, AllocError>
+    ensures { IfOk result (λ all. all.items ≡ volumes_in chunks.now ++ more.now) }
+{
+    let mut all = Vec::new(alloc);
+    for chunk in chunks {
+        all.extend_from_slice(&chunk.volumes)?;
+    }
+    all.extend_from_slice(more)?;
+    Ok(all)
+}
+
+/// Takes the volumes of the plans that a change names out of chunks.
+pub(crate) fn leave_each(chunks: &mut Vec<Chunk>, change: &Change)
+    ensures same { volumes_in chunks.new.items
+        ≡ filter (stays_at change.now) (volumes_in chunks.old.items) }
+    ensures fenced { AreFenced chunks.old.items → AreFenced chunks.new.items }
+{
+    let mut at = 0;
+    while at < chunks.len() {
+        leave(&mut chunks[at].volumes, change);
+        at += 1;
+    }
+}

@@ -1,0 +1,145 @@
+//! The volumes of all live plans.
+
+ghost use Rattle.std.specs.Prelude.{◌≡◌, ◌++◌, ◌∷◌, [], List, false, length, IfOk, OnOk};
+ghost use Rattle.std.specs.List.{filter, list_any};
+ghost use Rattle.std.specs.List.Sorted.{IsStrictlySortedBy};
+ghost use Rattle.desk_store.specs.World.{Filed, World, filed_cmp};
+ghost use Rattle.desk_store.specs.Changes.{filed_by};
+ghost use Rattle.desk_store.specs.Rivals.{AreRivals};
+ghost use Rattle.desk_store.specs.StoreChange.{changed_by};
+ghost use Rattle.desk_live.specs.Live.{AreBrought, AreFenced, AreKept, AreVolumes, HasRoomFor};
+ghost use Rattle.desk_live.specs.Live.{gathered_in, is_near, stays_at, volumes_of};
+
+use crate::changing::{brought_by, leave, push_all, push_plan};
+use crate::chunk::{Chunk, any_near, any_near_in, leave_each, rechunked};
+use crate::volume::LiveVolume;
+use desk_rules::operator::Operator;
+use desk_rules::plan::PlanRow;
+use desk_rules::plan_id::PlanId;
+use desk_store::Change;
+use std::alloc::{AllocError, Global};
+use volume4d::Slab;
+
+// So many volumes may be in no chunk, and two more for each chunk.
+const YOUNG: usize = 64;
+
+/// The volumes of all live plans, most of them in chunks.
+#[derive(Drop)]
+pub struct LiveVolumes {
+    chunks: Vec<Chunk>,
+    // those that came last
+    young: Vec<LiveVolume>,
+}
+
+impl LiveVolumes {
+    /// Of no plan.
+    pub fn new(alloc: Global) -> LiveVolumes
+        ensures { AreKept result (record { operators = []; plans = [] }) }
+    {
+        LiveVolumes {
+            chunks: Vec::new(alloc),
+            young: Vec::new(alloc),
+        }
+    }
+
+    /// Whether a volume of a priority at least, of another plan than the operator's of the id, may have a
+    /// point of an extent.
+    pub fn may_hold(&self, operator: &Operator, id: &PlanId, least: u32, extent: &Slab) -> bool
+        ensures near { AreFenced self.now.chunks.items → result
+            ≡ list_any (is_near operator.now id.now least extent.now) (volumes_of self.now) }
+        ensures none { (w : World) → AreKept self.now w → result ≡ false
+            → AreRivals w operator.now id.now least extent.now [] }
+    {
+        if any_near_in(&self.chunks, operator, id, least, extent) {
+            return true;
+        }
+        any_near(&self.young, operator, id, least, extent)
+    }
+
+    /// The volumes that a change brings, for which there is room then.
+    ///
+    /// # Errors
+    ///
+    /// `AllocError` if memory runs out.
+    pub fn prepare(&mut self, alloc: Global, change: &Change) -> Result<Vec<LiveVolume>, AllocError>
+        ensures kept { (w : World) → AreKept self.old w → AreKept self.new w }
+        ensures brought { IfOk result (λ fresh. AreBrought change.now fresh.items) }
+        ensures room { IfOk result (λ fresh. HasRoomFor self.new (length fresh.items)) }
+    {
+        self.settle(alloc)?;
+        let fresh = brought_by(alloc, change)?;
+        self.young.reserve(fresh.len())?;
+        Ok(fresh)
+    }
+
+    /// Takes out the volumes of the plans that a change names, and adds those that it brings, for which there
+    /// is room.
+    pub fn follow(&mut self, change: &Change, fresh: &[LiveVolume])
+        requires room { HasRoomFor self.old (length fresh.now) }
+        requires brought { AreBrought change.now fresh.now }
+        ensures same { volumes_of self.new
+            ≡ filter (stays_at change.now) (volumes_of self.old) ++ fresh.now }
+        ensures kept { (w : World) → AreKept self.old w → AreKept self.new (changed_by change.now w) }
+    {
+        leave_each(&mut self.chunks, change);
+        leave(&mut self.young, change);
+        push_all(&mut self.young, fresh);
+    }
+
+    // Puts all volumes into chunks anew, if many are in none.
+    fn settle(&mut self, alloc: Global) -> Result<(), AllocError>
+        ensures { (w : World) → AreKept self.old w → AreKept self.new w }
+    {
+        let few = self.chunks.len().saturating_mul(2).saturating_add(YOUNG);
+        if self.young.len() <= few {
+            return Ok(());
+        }
+        self.chunks = rechunked(alloc, &self.chunks, &self.young)?;
+        self.young.clear();
+        Ok(())
+    }
+}
+
+/// Gathers the volumes of plans, one plan after the other.
+#[derive(Drop)]
+pub struct Gathering {
+    volumes: Vec<LiveVolume>,
+}
+
+impl Gathering {
+    /// Of no plan.
+    pub fn new(alloc: Global) -> Gathering
+        ensures { AreVolumes [] (gathered_in result) }
+    {
+        Gathering {
+            volumes: Vec::new(alloc),
+        }
+    }
+
+    /// Adds the volumes of one more plan of an operator, if it is live.
+    ///
+    /// # Errors
+    ///
+    /// `AllocError` if memory runs out.
+    pub fn add(&mut self, operator: &Operator, row: &PlanRow) -> Result<(), AllocError>
+        ensures { OnOk result ((ps : List Filed) → AreVolumes ps (gathered_in self.old) →
+            AreVolumes (ps ++ filed_by operator.now row.now ∷ []) (gathered_in self.new)) }
+    {
+        push_plan(&mut self.volumes, operator, row)
+    }
+
+    /// The volumes of the plans, in chunks.
+    ///
+    /// # Errors
+    ///
+    /// `AllocError` if memory runs out.
+    pub fn finish(self, alloc: Global) -> Result<LiveVolumes, AllocError>
+        ensures { IfOk result (λ kept. (w : World) → IsStrictlySortedBy filed_cmp w.plans
+            → AreVolumes w.plans (gathered_in self) → AreKept kept w) }
+    {
+        Ok(LiveVolumes {
+            chunks: rechunked(alloc, &[], &self.volumes)?,
+            young: Vec::new(alloc),
+        })
+    }
+}

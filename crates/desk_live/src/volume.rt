@@ -1,0 +1,110 @@
+//! A volume of a live plan.
+
+ghost use Rattle.std.specs.Prelude.{◌≡◌, ◌&&◌, int_lt, nat_le, IfOk};
+ghost use Rattle.desk_store.specs.Changes.{filed_by};
+ghost use Rattle.desk_live.specs.Live as spec;
+ghost use Rattle.desk_live.specs.Live.{IsLiveVolume};
+
+use desk_rules::operator::Operator;
+use desk_rules::plan::PlanRow;
+use desk_rules::plan_id::PlanId;
+use std::alloc::AllocError;
+use volume4d::{Slab, Volume, bounds_of};
+
+/// A volume of a live plan: whose it is, the plan's priority, and bounds round the volume.
+#[derive(Clone, Copy, Debug)]
+pub struct LiveVolume {
+    operator: Operator,
+    id: PlanId,
+    pub(crate) priority: u32,
+    // the smallest slab that has all its points
+    pub(crate) bounds: Slab,
+}
+
+impl LiveVolume {
+    /// A volume of an operator's plan.
+    ///
+    /// # Errors
+    ///
+    /// `AllocError` if memory runs out.
+    #[tactic(auto, using(crate::proofs::VolumeLemmas::bounds_alike))]
+    pub(crate) fn try_new(
+        operator: &Operator,
+        row: &PlanRow,
+        volume: &Volume,
+    ) -> Result<LiveVolume, AllocError>
+        ensures { IfOk result (IsLiveVolume (filed_by operator.now row.now) volume.now) }
+    {
+        let slabs = volume.slabs()?;
+        Ok(LiveVolume {
+            operator: *operator,
+            id: row.id,
+            priority: row.priority,
+            bounds: bounds_of(&slabs),
+        })
+    }
+
+    /// Whether it is of the operator's plan of the id.
+    pub(crate) fn is_of(&self, operator: &Operator, id: &PlanId) -> bool
+        ensures { result ≡ spec.is_of operator.now id.now self.now }
+    {
+        if !id.cmp(&self.id).is_eq() {
+            return false;
+        }
+        operator.cmp(&self.operator).is_eq()
+    }
+
+    /// Whether it has a priority at least, is none of the operator's plan of the id, and its bounds have a
+    /// point of an extent.
+    pub(crate) fn is_near(
+        &self,
+        operator: &Operator,
+        id: &PlanId,
+        least: u32,
+        extent: &Slab,
+    ) -> bool
+        ensures { result ≡ spec.is_near operator.now id.now least extent.now self.now }
+    {
+        if !overlap(&self.bounds, extent) {
+            return false;
+        }
+        if self.priority < least {
+            return false;
+        }
+        !self.is_of(operator, id)
+    }
+}
+
+/// Whether two slabs meet in seconds, in altitudes and in leaves.
+pub(crate) fn overlap(one: &Slab, other: &Slab) -> bool
+    ensures { result ≡ spec.overlap one.now other.now }
+{
+    if !meet_in_time(one, other) {
+        return false;
+    }
+    if !meet_in_height(one, other) {
+        return false;
+    }
+    meet_on_ground(one, other)
+}
+
+// Whether two slabs have a second in common.
+fn meet_in_time(one: &Slab, other: &Slab) -> bool
+    ensures { result ≡ (int_lt one.now.start other.now.end && int_lt other.now.start one.now.end) }
+{
+    one.start < other.end && other.start < one.end
+}
+
+// Whether two slabs have an altitude in common.
+fn meet_in_height(one: &Slab, other: &Slab) -> bool
+    ensures { result ≡ (int_lt one.now.lower other.now.upper && int_lt other.now.lower one.now.upper) }
+{
+    one.lower < other.upper && other.lower < one.upper
+}
+
+// Whether two slabs have a leaf in common.
+fn meet_on_ground(one: &Slab, other: &Slab) -> bool
+    ensures { result ≡ (nat_le one.now.first other.now.last && nat_le other.now.first one.now.last) }
+{
+    one.first <= other.last && other.first <= one.last
+}

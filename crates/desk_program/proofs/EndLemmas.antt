@@ -1,0 +1,39 @@
+-- How a line ends if an operator isn't enrolled.
+use Rattle.std.proofs.Common.{◌≡◌, ◌⊎◌, ◌∙◌, inl, inr, ap, refl, subst, ℕ, List, Option, Result, Ok, Err}
+use Rattle.std.specs.Prelude.{⊤}
+use Rattle.desk_run.specs.DeskWorld.{DeskWorld}
+use Rattle.desk_run.specs.declared.fault.DeskFault.{DeskFault}
+use Rattle.desk_run.specs.Faults.{IsBreakdown as IsDeskBreakdown}
+use Rattle.desk_line.specs.declared.failure.Failure.{Failure}
+use Rattle.desk_line.specs.declared.line.Play.{Play as PlayWords}
+use Rattle.desk_line.specs.Exits.{Ending, EndsWith, FailsWith, IsBreakdown, IsBrokenDown, enrolment_failure}
+use Rattle.desk_program.specs.Enrolling.{AreListedSoFar, permitting}
+use Rattle.desk_program.specs.Playing.{IsNotPlayed}
+
+-- what it is told as
+told_breakdown : (fault : DeskFault) (f : Failure) → f ≡ enrolment_failure fault → IsDeskBreakdown fault
+    → IsBreakdown f
+told_breakdown fault f is (inl memory) = inl (is ∙ ap enrolment_failure memory)
+told_breakdown fault f is (inr store) = inr (is ∙ ap enrolment_failure store)
+
+ends_broken : (f : Failure) (end : Ending) → IsBreakdown f → EndsWith {A = ⊤} (Err f) end
+    → IsBrokenDown end
+ends_broken f end (inl memory) ends = inl (subst (λ v. FailsWith v end) memory ends)
+ends_broken f end (inr store) ends = inr (subst (λ v. FailsWith v end) store ends)
+
+broken_down : (fault : DeskFault) (f : Failure) (end : Ending) → f ≡ enrolment_failure fault
+    → IsDeskBreakdown fault → EndsWith {A = ⊤} (Err f) end → IsBrokenDown end
+broken_down fault f end is down ends = ends_broken f end (told_breakdown fault f is down) ends
+
+-- nothing is played then
+pub not_played : (H : Type 0) (play : PlayWords) (end : Ending) (old out : Option (List ℕ))
+    (w after : DeskWorld) (fault : DeskFault) (f : Failure) → f ≡ enrolment_failure fault
+    → IsDeskBreakdown fault → EndsWith {A = ⊤} (Err f) end
+    → AreListedSoFar H play.enrolments.items (permitting w play.permitted) after
+    → IsNotPlayed H play end old old out out w after
+not_played H play end old out w after fault f is down ends listed = record {
+  ends = broken_down fault f end is down ends;
+  listed = listed;
+  unread = refl;
+  unwritten = refl;
+}

@@ -1,0 +1,10 @@
+-- What is known of a store's plans without a look into its tables.
+use Rattle.desk_store.specs.World.{World}
+use Rattle.desk_live.specs.Live.{AreKept}
+use Rattle.desk_tables.specs.declared.known.Known.{Known}
+use Rattle.desk_tables.specs.Lengths.{Bounds}
+
+-- how long their spans are at most, and each live volume
+pub record Knows (known : Known) (w : World) : Type 0 where
+  pub lengths : Bounds known.lengths w
+  pub live : AreKept known.live w

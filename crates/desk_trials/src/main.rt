@@ -1,0 +1,80 @@
+//! Trials of the desk over a list and over tables: the one program that drives a store over tables, so that
+//! all of SQLite is proved and built once for all of them. `Part` has the forms of the words; without a word
+//! all parts are played one after the other, in the order of their stored run.
+#![tactic(auto)]
+
+mod bench;
+mod cases;
+mod desks;
+mod disk;
+mod draws;
+mod empty_store;
+mod histories;
+mod named;
+mod opening;
+mod part;
+mod refusals;
+mod script;
+mod stops;
+mod texts;
+
+use anyhow::Context;
+use opening::Fused;
+use part::Part;
+use sqlite_disk::{Fuse, Memory};
+use std::env;
+
+fn main(rt: HostRuntime) -> anyhow::Result<()> {
+    let mut words = env::args(&rt)?;
+    match words.nth(1) {
+        Some(name) => play::<Fuse<Memory>>(&rt, &Part::read(&name, &mut words)?),
+        None => play_all::<Fuse<Memory>>(&rt),
+    }
+}
+
+// Plays all parts.
+fn play_all<D: Fused>(rt: &HostRuntime) -> anyhow::Result<()> {
+    let lines = lines_read(rt)?;
+    for part in &Part::all(rt.alloc())? {
+        play_with::<D>(rt, part, &lines)?;
+    }
+    Ok(())
+}
+
+// Plays a part, which reads the standard input only if it has a script.
+fn play<D: Fused>(rt: &HostRuntime, part: &Part) -> anyhow::Result<()> {
+    let lines = if part.has_script() {
+        lines_read(rt)?
+    } else {
+        Vec::new(rt.alloc())
+    };
+    play_with::<D>(rt, part, &lines)
+}
+
+// The lines of the standard input.
+fn lines_read(rt: &HostRuntime) -> anyhow::Result<Vec<String>> {
+    let mut lines = Vec::new(rt.alloc());
+    for line in rt.lines(rt.alloc()) {
+        lines.push(line?)?;
+    }
+    Ok(lines)
+}
+
+// Plays a part, with the lines of the standard input.
+fn play_with<D: Fused>(rt: &HostRuntime, part: &Part, lines: &[String]) -> anyhow::Result<()> {
+    let mut output = rt.stdout();
+    match part {
+        Part::Cases => cases::play::<D, _>(rt.alloc(), script_of(lines, "cases")?, &mut output),
+        Part::Histories { seed, count } => {
+            histories::play::<D, _>(rt.alloc(), *seed, *count, &mut output)
+        }
+        Part::Stops => stops::play::<D, _>(rt.alloc(), script_of(lines, "stops")?, &mut output),
+        Part::Refusals => refusals::play(rt, &mut output),
+        Part::Bench { keeping, sizes } => bench::play(rt, keeping, *sizes),
+    }
+}
+
+// The script of a part.
+fn script_of<'l>(lines: &'l [String], name: &str) -> anyhow::Result<&'l [String]> {
+    script::part_of(lines, name).context("a part has no script")
+}

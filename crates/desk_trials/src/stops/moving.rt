@@ -1,0 +1,190 @@
+//! Files that are adopted, and files that are moved from schema 1 to schema 2.
+
+ghost use Rattle.std.specs.Prelude.{◌≡◌, false, IfOk};
+
+use crate::desks::MOMENT;
+use crate::disk::{FusedFiles, Image, Left, is_stopped};
+use crate::opening::{Fused, close, connect, open};
+use crate::stops::content::Content;
+use crate::stops::round::{Came, Stop, when};
+use crate::stops::tables::rows_of;
+use anyhow::bail;
+use desk_run::Desk;
+use desk_tables::{OpenFault, SqliteStore};
+use desk_wire::answer;
+use sqlite::{Connection, FileStore};
+use std::alloc::Global;
+use std::fmt::{self, Display, Formatter, Write};
+
+/// What is told of a database.
+#[derive(Clone, Copy, Debug, PartialEq, Eq)]
+pub enum Told {
+    /// It is adopted.
+    Adopted,
+    /// It is adopted, and so many plans were moved.
+    Moved(u32),
+    /// It is refused.
+    Refused(OpenFault),
+}
+
+impl Told {
+    fn is_refusal(self) -> bool {
+        match self {
+            Told::Adopted | Told::Moved(_) => false,
+            Told::Refused(_) => true,
+        }
+    }
+}
+
+impl Display for Told {
+    fn fmt<W: Write>(&self, f: &mut Formatter<W>) -> fmt::Result {
+        match self {
+            Told::Adopted => f.write_str("a desk's tables"),
+            Told::Moved(count) => write!(f, "{count} moved"),
+            Told::Refused(fault) => write!(f, "{fault}"),
+        }
+    }
+}
+
+// Adopts a connection: what is told, and the connection.
+fn adopted<D: Fused>(
+    alloc: Global,
+    connection: Connection<FileStore<D>>,
+) -> (Told, Connection<FileStore<D>>)
+    requires settled { connection.in_transaction ≡ false }
+{
+    match SqliteStore::adopt(alloc, connection) {
+        Ok(store) => (Told::Adopted, store.release()),
+        Err(refused) => (Told::Refused(refused.fault), refused.connection),
+    }
+}
+
+// Moves what a connection shows to schema 2: what is told, and the connection.
+fn moved<D: Fused>(
+    alloc: Global,
+    connection: Connection<FileStore<D>>,
+) -> (Told, Connection<FileStore<D>>)
+    requires settled { connection.in_transaction ≡ false }
+{
+    match SqliteStore::adopt_old(alloc, connection) {
+        Ok((store, count)) => (Told::Moved(count), store.release()),
+        Err(refused) => (Told::Refused(refused.fault), refused.connection),
+    }
+}
+
+// A connection to files of these bytes.
+fn connect_to<D: Fused>(alloc: Global, image: &Image<D>) -> anyhow::Result<Connection<FileStore<D>>>
+    ensures settled { IfOk result (λ c. c.in_transaction ≡ false) }
+{
+    match connect::<D>(alloc, image.files(alloc)?) {
+        Ok(connection) => Ok(connection),
+        Err(_) => bail!("the files can't be opened"),
+    }
+}
+
+/// The rows in files of these bytes.
+pub fn rows_left<D: Fused>(alloc: Global, image: &Image<D>) -> anyhow::Result<Content> {
+    let mut connection = connect_to(alloc, image)?;
+    rows_of(alloc, &mut connection)
+}
+
+// The rows in files of these bytes, and what is told if they are adopted.
+fn state_of<D: Fused>(alloc: Global, image: &Image<D>) -> anyhow::Result<Content> {
+    let mut content = rows_left(alloc, image)?;
+    let connection = connect_to(alloc, image)?;
+    let (told, _) = adopted(alloc, connection);
+    content.tell(&told)?;
+    Ok(content)
+}
+
+/// Adopts files of these bytes: what is told, and the rows that the connection shows then.
+pub fn adopt_files<D: Fused>(alloc: Global, image: &Image<D>) -> anyhow::Result<(Told, Content)> {
+    let connection = connect_to(alloc, image)?;
+    let (told, mut connection) = adopted(alloc, connection);
+    let rows = rows_of(alloc, &mut connection)?;
+    Ok((told, rows))
+}
+
+/// Moves files of these bytes to schema 2: what is told, the rows that the connection shows then, and what
+/// the files are.
+pub fn move_files<D: Fused>(
+    alloc: Global,
+    image: &Image<D>,
+) -> anyhow::Result<(Told, Content, Image<D>)> {
+    let connection = connect_to(alloc, image)?;
+    let (told, mut connection) = moved(alloc, connection);
+    let rows = rows_of(alloc, &mut connection)?;
+    let left = Image::left(alloc, close(connection), Left::Synced)?;
+    Ok((told, rows, left))
+}
+
+/// What files of these bytes hold before they are moved and afterwards.
+pub fn move_edges<D: Fused>(alloc: Global, image: &Image<D>) -> anyhow::Result<(Content, Content)> {
+    let before = state_of(alloc, image)?;
+    let (_, _, left) = move_files(alloc, image)?;
+    let after = state_of(alloc, &left)?;
+    Ok((before, after))
+}
+
+/// Moves files of which one stops: when that came, and what is left.
+pub fn move_stopped<D: Fused>(
+    alloc: Global,
+    image: &Image<D>,
+    stop: Stop,
+) -> anyhow::Result<(Came, Content)> {
+    let files = image.stopping(alloc, stop.stopped, stop.calls)?;
+    let (came, files) = move_over::<D>(alloc, files);
+    let left: Image<D> = Image::left(alloc, files, stop.left)?;
+    Ok((came, state_of(alloc, &left)?))
+}
+
+// Moves files: when one stopped, and the files.
+fn move_over<D: Fused>(alloc: Global, files: FusedFiles) -> (Came, FusedFiles) {
+    match connect::<D>(alloc, files) {
+        Ok(connection) => {
+            let (told, connection) = moved(alloc, connection);
+            let mut files = close(connection);
+            let came = when(is_stopped(&mut files), !told.is_refusal());
+            (came, files)
+        }
+        Err(files) => (Came::Unanswered, files),
+    }
+}
+
+/// Runs statements over files of these bytes: what they are afterwards.
+pub fn image_with<D: Fused>(
+    alloc: Global,
+    image: &Image<D>,
+    sql: &str,
+) -> anyhow::Result<Image<D>> {
+    let mut connection = connect_to(alloc, image)?;
+    connection.execute_batch(sql)?;
+    Ok(Image::left(alloc, close(connection), Left::Synced)?)
+}
+
+/// The texts that a query of one column lists, over files of these bytes.
+pub fn texts_in<D: Fused>(
+    alloc: Global,
+    image: &Image<D>,
+    query: &str,
+) -> anyhow::Result<Vec<String>> {
+    let mut connection = connect_to(alloc, image)?;
+    let mut texts = Vec::new(alloc);
+    for row in &connection.query_all(query, &[])? {
+        texts.push(row.get(0)?)?;
+    }
+    Ok(texts)
+}
+
+/// What a desk over files of these bytes answers.
+pub fn answer_over<D: Fused>(
+    alloc: Global,
+    image: &Image<D>,
+    text: &[u8],
+) -> anyhow::Result<Vec<u8>> {
+    let Ok(store) = open::<D>(alloc, image.files(alloc)?) else {
+        bail!("the files can't be opened");
+    };
+    let mut desk = Desk::new(store);
+    Ok(answer(alloc, &mut desk, MOMENT, text)?)
+}
