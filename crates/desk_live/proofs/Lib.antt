@@ -1,3 +1,4 @@
 pub mod VolumeLemmas
 pub mod FenceLemmas
 pub mod ChunkLemmas
+pub mod RollLemmas

@@ -1,3 +1,4 @@
--- Read first: Live. What stands in laws/ is checked and needn't be read.
+-- Read first: Live, Roll. What stands in laws/ is checked and needn't be read.
 pub mod Live
+pub mod Roll
 pub mod laws

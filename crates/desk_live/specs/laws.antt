@@ -2,3 +2,4 @@
 pub mod Lists
 pub mod Live
 pub mod Near
+pub mod Roll

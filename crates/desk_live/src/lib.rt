@@ -1,12 +1,16 @@
-//! The volumes of live plans in memory: whose each is, its priority, and bounds round it.
+//! What is kept of a desk in memory beside its tables: the volumes of live plans, whose each is, its priority
+//! and bounds round it; and the roll of operators, with their ceilings and the states of their plans.
 #![tactic(auto)]
 
+mod account;
 mod changing;
 mod chunk;
 mod fence;
 mod live;
 mod order;
+mod roll;
 mod volume;
 
 pub use live::{Gathering, LiveVolumes};
+pub use roll::Roll;
 pub use volume::LiveVolume;

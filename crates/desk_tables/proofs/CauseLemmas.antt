@@ -59,19 +59,6 @@ module _ {S : Type 0} (g : Ghosts S) where
     | inr (inr steps) ↦ inr steps.1
   ]
 
-  -- the same where a refusal may have one cause more, which the rows of a content have not
-  pub blamed_but : (old new : Held S) (error : Error) (fault : StoreFault)
-      → (fault ≡ Store → error ≢ SqliteFailure code.OutOfMemory) → (P : Type 0)
-      → (HasCleanDisk (state g new) → IsTrue (state g new).is_open
-      → error ≢ SqliteFailure code.OutOfMemory → IsRefusal g old new error ⊎ P)
-      → (HasCleanDisk (state g new) → IsTrue (state g new).is_open → ¬ P)
-      → BlamesStore g old new fault
-  blamed_but old new error fault other P refusal never clean live is =
-      elim (refusal clean live (other is)) [
-        | inl refused ↦ blamed old new error fault other (λ c l. refused) clean live is
-        | inr more ↦ absurd (never clean live more)
-      ]
-
   pub blamed_since : (old mid new : Held S) (fault : StoreFault)
       → (state g old).faults ≤ (state g mid).faults → mid.step_limit ≡ old.step_limit
       → BlamesStore g mid new fault → BlamesStore g old new fault

@@ -1,13 +1,13 @@
 -- The join of plans with volumes, of the plans of a world.
-use Rattle.std.proofs.Common.{◌≡◌, ℕ, pos, ◌+◌, ◌<◌, Bool, true, false, ◌&&◌, cond, List, [], ◌∷◌, ◌++◌, length, map, Some, refl, sym, ap, subst, ◌∙◌, arith, Less, Equal, IsPermutation}
+use Rattle.std.proofs.Common.{◌≡◌, ℕ, pos, ◌+◌, ◌<◌, Bool, true, false, ◌&&◌, cond, List, [], ◌∷◌, ◌++◌, map, Some, refl, sym, ap, subst, ◌∙◌, arith, Less, Equal, IsPermutation}
 use Rattle.std.specs.List.{AllByRecursion, filter, find, flat_map}
 use Rattle.std.specs.List.Sorted.{IsStrictlySortedBy}
 use Rattle.std.specs.Ordering.{ordering_then, ordering_reverse, is_eq}
 use Rattle.std.specs.Cmp.Lexicographic.{nat_list_cmp_total}
 use Rattle.std.proofs.lemmas.Cmp.{tied_itself}
-use Rattle.std.proofs.lemmas.List.{append-nil, length-map}
+use Rattle.std.proofs.lemmas.List.{append-nil}
 use Rattle.std.proofs.lemmas.List.Kept.{IsStrictlySortedBy-filter}
-use Rattle.std.proofs.lemmas.List.Sorted.{length_permutation, IsPermutation-trans, IsPermutation-map}
+use Rattle.std.proofs.lemmas.List.Sorted.{IsPermutation-trans, IsPermutation-map}
 use Rattle.sqlite_value.specs.declared.value.Value.TheVariants.{Int, Text}
 use Rattle.sqlite_value.specs.Order.{Row, value_cmp}
 use Rattle.sqlite_value.proofs.OrderLemmas.{value_cmp_total, value_cmp-Text}
@@ -16,7 +16,7 @@ use Rattle.sqlite_keyed.proofs.ListLemmas.{IsPermutation-filter, IsPermutation-f
 use Rattle.volume4d.specs.Volume.{Block}
 use Rattle.desk_sql.specs.Rows as sql
 use Rattle.desk_sql.specs.Rows.{Tables, Lists, by_cells, joined, has_volume, with_volumes}
-use Rattle.desk_store.specs.World.{Filed, World, text_cmp, filed_cmp, is_by, plans_of}
+use Rattle.desk_store.specs.World.{Filed, World, text_cmp, filed_cmp, is_by}
 use Rattle.desk_store.specs.laws.Order.{all_filter, all_append, all_kept, by_ids, name_of}
 use Rattle.desk_store.specs.Rows.{is_own}
 use Rattle.desk_tables.specs.Tables.{id_text, plan_row, plan_rows, volume_row, area_rows, volume_rows, AreTables}
@@ -221,13 +221,3 @@ own_listing tables w o rows h t lists =
 
 pub own_plans_are : (w : World) (o : List ℕ) → IsContent w → ArePlans (filter (is_by o) w.plans)
 own_plans_are w o h = all_filter (λ p. IsPlan p.row) (is_by o) w.plans h.rows
-
--- the rows of an operator in a table of plans are as many as its plans
-pub own_length : (tables : Tables) (w : World) (o : List ℕ) → IsContent w → AreTables tables w
-    → length (filter (sql.is_by o) tables.plans) ≡ length (plans_of o w)
-own_length tables w o h t =
-    length_permutation (filter (sql.is_by o) (plan_rows w.plans)) (filter (sql.is_by o) tables.plans)
-    (IsPermutation-filter (sql.is_by o) (plan_rows w.plans) tables.plans t.plans)
-    ∙ ap length (heads_filtered (is_by o) (sql.is_by o) (own_test o) w.plans h.rows)
-    ∙ length-map (filter (is_by o) w.plans) plan_row
-    ∙ sym (length-map (filter (is_by o) w.plans) (λ p. p.row))

@@ -35,6 +35,5 @@ pub mod LeavingLemmas
 pub mod GatherLemmas
 pub mod CauseLemmas
 pub mod SlabLemmas
-pub mod StatesLemmas
 pub mod PuttableLemmas
 pub mod MovingLemmas

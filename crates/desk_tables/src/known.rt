@@ -1,24 +1,26 @@
 //! What a store knows of its plans without a look into its tables.
 
-ghost use Rattle.std.specs.Prelude.{◌≡◌, [], length, IfOk};
+ghost use Rattle.std.specs.Prelude.{◌≡◌, [], length, IfOk, OnOk};
 ghost use Rattle.std.specs.List.Sorted.{IsStrictlySortedBy};
 ghost use Rattle.desk_store.specs.World.{World, filed_cmp};
 ghost use Rattle.desk_store.specs.StoreChange.{changed_by};
 ghost use Rattle.desk_live.specs.Live.{AreBrought, AreKept, HasRoomFor};
+ghost use Rattle.desk_live.specs.Roll.{AreAccountsOf, IsReadyFor, accounts_of};
 ghost use Rattle.desk_tables.specs.Known.{Knows};
 ghost use Rattle.desk_tables.specs.Lengths.{BringsKnown, Keeps};
 
 use crate::lengths::Lengths;
-use crate::opening::exact::FiledPlan;
-use desk_live::{Gathering, LiveVolume, LiveVolumes};
+use crate::opening::exact::{FiledPlan, ListedOperator};
+use desk_live::{Gathering, LiveVolume, LiveVolumes, Roll};
 use desk_store::Change;
 use std::alloc::{AllocError, Global};
 
-/// How long the spans of live plans are, and bounds round each of their volumes.
+/// How long the spans of live plans are, bounds round each of their volumes, and the roll of operators.
 #[derive(Drop)]
 pub(crate) struct Known {
     pub lengths: Lengths,
     pub live: LiveVolumes,
+    pub roll: Roll,
 }
 
 impl Known {
@@ -29,19 +31,41 @@ impl Known {
         Known {
             lengths: Lengths::new(),
             live: LiveVolumes::new(alloc),
+            roll: Roll::new(alloc),
         }
     }
 
-    /// Follows a change, with the lengths after it and the volumes that it brings.
+    /// The volumes that a change brings. There is room then for all that it adds.
+    ///
+    /// # Errors
+    ///
+    /// `AllocError` if memory runs out.
+    pub(crate) fn prepare(
+        &mut self,
+        alloc: Global,
+        change: &Change,
+    ) -> Result<Vec<LiveVolume>, AllocError>
+        ensures kept { (w : World) → Knows self.old w → Knows self.new w }
+        ensures brought { IfOk result (λ fresh. AreBrought change.now fresh.items) }
+        ensures room { IfOk result (λ fresh. HasRoomFor self.new.live (length fresh.items)) }
+        ensures ready { OnOk result (IsReadyFor change.now self.new.roll) }
+    {
+        self.roll.prepare(alloc, change)?;
+        self.live.prepare(alloc, change)
+    }
+
+    /// Follows a change, for which there is room, with the lengths after it and the volumes that it brings.
     pub(crate) fn follow(&mut self, change: &Change, lengths: Lengths, fresh: &[LiveVolume])
         requires room { HasRoomFor self.old.live (length fresh.now) }
         requires brought { AreBrought change.now fresh.now }
+        requires ready { IsReadyFor change.now self.old.roll }
         requires kept { Keeps self.old.lengths lengths }
         requires brings { BringsKnown lengths change.now }
         ensures { (w : World) → Knows self.old w → Knows self.new (changed_by change.now w) }
     {
         self.lengths = lengths;
         self.live.follow(change, fresh);
+        self.roll.follow(change);
     }
 }
 
@@ -59,4 +83,34 @@ pub(crate) fn live_among(alloc: Global, plans: &[FiledPlan]) -> Result<LiveVolum
         gathering.add(&plan.operator, &plan.row)?;
     }
     gathering.finish(alloc)
+}
+
+/// The roll of operators and their plans.
+///
+/// # Errors
+///
+/// `AllocError` if memory runs out.
+pub(crate) fn roll_of(
+    alloc: Global,
+    operators: &[ListedOperator],
+    plans: &[FiledPlan],
+) -> Result<Roll, AllocError>
+    ensures { IfOk result (λ roll. AreAccountsOf operators.now plans.now (accounts_of roll)) }
+{
+    let mut roll = roll_with(alloc, operators)?;
+    for plan in plans {
+        roll.file(alloc, &plan.operator, &plan.row)?;
+    }
+    Ok(roll)
+}
+
+// The roll of operators without plans.
+fn roll_with(alloc: Global, operators: &[ListedOperator]) -> Result<Roll, AllocError>
+    ensures { IfOk result (λ roll. AreAccountsOf operators.now [] (accounts_of roll)) }
+{
+    let mut roll = Roll::new(alloc);
+    for listed in operators {
+        roll.list(alloc, &listed.operator, listed.ceiling)?;
+    }
+    Ok(roll)
 }

@@ -2,6 +2,7 @@
 
 ghost use Rattle.std.specs.Prelude.{◌≡◌, ◌≤◌, Ok, Err, IsErr, IfErr, MatchResult};
 ghost use Rattle.desk_store.specs.Faults.{HasRisen};
+ghost use Rattle.desk_sql.specs.Effects.{IsOpenIfClean};
 ghost use Rattle.desk_tables.specs.Store.{Stands};
 ghost use Rattle.desk_tables.specs.Known.{Knows};
 ghost use Rattle.desk_tables.specs.Leaving.{IsSettledAt};
@@ -30,7 +31,8 @@ use volume4d::{Held, Slab};
 pub struct SqliteStore<S: Alter> {
     connection: Connection<S>,
     kept: Kept,
-    // of live plans: bounds round each volume, and how long spans are, which is forgotten at an opening alone
+    // the roll of operators; and of live plans bounds round each volume, and how long spans are, which is
+    // forgotten at an opening alone
     known: Known,
     // how many faults of its own it has met, up to the type's last value
     faults: u64,
@@ -42,6 +44,9 @@ pub struct SqliteStore<S: Alter> {
 impl<S: Alter> Model for SqliteStore<S> {
     ghost use Rattle.desk_tables.specs.Store.{Shown, shown_code, Stands};
     ghost use Rattle.desk_tables.specs.Known.{Knows};
+    ghost use Rattle.desk_store.specs.World.{IsWorld};
+    ghost use Rattle.sqlite.specs.Held.{state};
+    ghost use Rattle.sqlite.specs.State.{HasCleanDisk};
 
     ghost Value = { Shown S };
 
@@ -53,7 +58,8 @@ impl<S: Alter> Model for SqliteStore<S> {
       faults = s.faults;
     } };
 
-    ghost invariant = { λ s. Stands S.Store s.connection s.kept.world × Knows s.known s.kept.world };
+    ghost invariant = { λ s. Stands S.Store s.connection s.kept.world × Knows s.known s.kept.world
+        × (HasCleanDisk (state S.Store s.connection) → IsWorld s.kept.world) };
 }
 
 impl<S: Alter> SqliteStore<S> {
@@ -68,6 +74,7 @@ impl<S: Alter> SqliteStore<S> {
     ) -> SqliteStore<S>
         requires stands { Stands S.Store connection kept.world }
         requires bounded { Knows known kept.world }
+        requires live { IsOpenIfClean S.Store connection }
         ensures value { result ≡ record { held = connection; world = kept.world; faults = 0 } }
         ensures left { IsSettledAt S.Store connection kept.world }
     {
@@ -108,8 +115,7 @@ impl<S: Alter> PlanStore for SqliteStore<S> {
     ghost is_shielded = { λ s. (state S.Store s.held).IsShielded };
 
     fn ceiling(&mut self, operator: &Operator) -> Result<Option<u32>, StoreFault> {
-        let answer = readers::ceiling(&mut self.connection, &self.kept, operator);
-        counted(&mut self.faults, self.told, answer)
+        Ok(self.known.roll.ceiling(operator))
     }
 
     fn plan(&mut self, operator: &Operator, id: &PlanId) -> Result<Option<PlanRow>, StoreFault> {
@@ -118,13 +124,11 @@ impl<S: Alter> PlanStore for SqliteStore<S> {
     }
 
     fn states(&mut self, operator: &Operator, id: &PlanId) -> Result<Option<States>, StoreFault> {
-        let answer = readers::states(&mut self.connection, &self.kept, operator, id);
-        counted(&mut self.faults, self.told, answer)
+        Ok(self.known.roll.states(operator, id))
     }
 
     fn own_count(&mut self, operator: &Operator) -> Result<u32, StoreFault> {
-        let answer = readers::own_count(&mut self.connection, &self.kept, operator);
-        counted(&mut self.faults, self.told, answer)
+        Ok(self.known.roll.count(operator))
     }
 
     fn own_plans(&mut self, operator: &Operator) -> Result<Vec<PlanRow>, StoreFault> {
@@ -154,7 +158,7 @@ impl<S: Alter> PlanStore for SqliteStore<S> {
 
     fn apply(&mut self, change: &Change) -> Result<(), StoreFault> {
         one_content();
-        let fresh = self.known.live.prepare(self.alloc, change)?;
+        let fresh = self.known.prepare(self.alloc, change)?;
         match changes::make(
             self.alloc,
             &mut self.connection,

@@ -21,7 +21,7 @@ ghost use Rattle.desk_tables.specs.Opening.{ShowsNoDesk, ShowsOldRows};
 ghost use Rattle.desk_tables.specs.Opening.{BlamesReading, BlamesDatabase};
 
 use crate::kept::Kept;
-use crate::known::{Known, live_among};
+use crate::known::{Known, live_among, roll_of};
 use crate::lengths::Lengths;
 use crate::opening::content::{TableRows, content_in};
 use crate::opening::covers::covers_agree;
@@ -256,6 +256,7 @@ fn kept_of(alloc: Global, rows: &TableRows) -> Result<(Kept, Known), OpenFault>
     let known = Known {
         lengths: lengths_in(&rows.spans),
         live: live_among(alloc, &content.plans)?,
+        roll: roll_of(alloc, &content.operators, &content.plans)?,
     };
     Ok((Kept::of(&content), known))
 }

@@ -25,7 +25,7 @@ ghost use Rattle.desk_tables.specs.Moving.{ShowsNoContent, WasMoved, told_count}
 use crate::canon::canons_of;
 use crate::changing::records::{asked_of, span_rows, volume_rows};
 use crate::kept::Kept;
-use crate::known::{Known, live_among};
+use crate::known::{Known, live_among, roll_of};
 use crate::opening::content::{Content, TableRows, content_in};
 use crate::opening::exact::FiledPlan;
 use crate::opening::finding::{lengths_in, tables_found, world_of};
@@ -317,6 +317,7 @@ fn old_content_in(alloc: Global, rows: &TableRows) -> Result<(Content, Known), O
     let known = Known {
         lengths: lengths_in(&rows.spans),
         live: live_among(alloc, &content.plans)?,
+        roll: roll_of(alloc, &content.operators, &content.plans)?,
     };
     Ok((content, known))
 }

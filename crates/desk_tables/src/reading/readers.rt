@@ -1,14 +1,13 @@
 //! What a store answers, read from its tables.
 
-ghost use Rattle.std.specs.Prelude.{◌≡◌, ◌≢◌, ◌≤◌, ◌<◌, ◌^◌, List, IfErr, IfOk, IfSome, IsOk, OnOk, IsTrue, length, map};
+ghost use Rattle.std.specs.Prelude.{◌≡◌, ◌≢◌, ◌≤◌, ◌<◌, ◌^◌, List, IfErr, IfOk, IsOk, OnOk, IsTrue, length, map};
 ghost use Rattle.std.specs.List.{AllByRecursion, AllZip};
 ghost use Rattle.std.specs.Result.{IsErrAnd};
 ghost use Rattle.sqlite.specs.State.{HasCleanDisk};
 ghost use Rattle.sqlite.specs.Held.{state};
-ghost use Rattle.desk_rules.specs.Limits.{max_plans, max_priority};
-ghost use Rattle.desk_rules.specs.States.{states_of};
+ghost use Rattle.desk_rules.specs.Limits.{max_plans};
 ghost use Rattle.desk_rules.specs.declared.plan.PlanRow.{PlanRow as Plan};
-ghost use Rattle.desk_store.specs.World.{AreInOrder, Filed, ceiling_of, plans_of, stored_of};
+ghost use Rattle.desk_store.specs.World.{AreInOrder, Filed, plans_of, stored_of};
 ghost use Rattle.desk_store.specs.Rivals.{AreRivals};
 ghost use Rattle.desk_tables.specs.Tables.{plan_rows, volume_rows};
 ghost use Rattle.desk_tables.specs.Content.{IsBlock, IsContent, IsId, IsPlan};
@@ -28,46 +27,17 @@ use crate::known::Known;
 use crate::lengths::Lengths;
 use crate::reading::listing::Gather;
 use crate::reading::rivals::{Rivals, reach_from};
-use crate::reading::values::{area_in, ceiling_in, fault_of, plan_in, states_in};
+use crate::reading::values::{area_in, fault_of, plan_in};
 use desk_rules::operator::Operator;
-use desk_rules::plan::{PlanRow, States};
+use desk_rules::plan::PlanRow;
 use desk_rules::plan_id::PlanId;
-use desk_sql::{
-    operator_named, own_count as plan_count, own_plans as own_listing, plan_of, rival_spans,
-    volumes_of,
-};
+use desk_sql::{own_plans as own_listing, plan_of, rival_spans, volumes_of};
 use desk_store::StoreFault;
 use s2_cover::Span;
 use sqlite::{Connection, Error, ErrorCode, Row};
 use sqlite_trees::store::Alter;
 use std::alloc::Global;
 use volume4d::{Held, Slab};
-
-/// The operator's ceiling, at most 1,000, or none if it is not enrolled.
-///
-/// # Errors
-///
-/// `OutOfMemory` if memory runs out. `Store` if SQLite refuses the query for another cause, or if
-/// the row has no ceiling.
-pub(crate) fn ceiling<S: Alter>(
-    connection: &mut Connection<S>,
-    kept: &Kept,
-    operator: &Operator,
-) -> Result<Option<u32>, StoreFault>
-    requires { Stands S.Store connection.old kept.now.world }
-    ensures value { HasCleanDisk (state S.Store connection.new) →
-        IfOk result (λ found. found ≡ ceiling_of operator.now kept.now.world) }
-    ensures bound { HasCleanDisk (state S.Store connection.new) →
-        IfOk result (λ found. IfSome found (λ n. n ≤ max_priority)) }
-    ensures cause { IfErr result (BlamesStore S.Store connection.old connection.new) }
-    ensures stands { Stands S.Store connection.new kept.now.world }
-    ensures reads { OnlyReads S.Store connection.old connection.new }
-{
-    match operator_named(connection, operator.as_str()) {
-        Ok(rows) => ceiling_in(&rows),
-        Err(e) => Err(fault_of(e)),
-    }
-}
 
 /// The row of `plan` of the operator's plan of the id, if it is stored.
 ///
@@ -94,29 +64,6 @@ pub(crate) fn heads<S: Alter>(
         Ok(rows) => Ok(rows),
         Err(e) => Err(fault_of(e)),
     }
-}
-
-/// The states of the operator's plan of the id, or none if it is not stored, by the row of `plan` alone.
-///
-/// # Errors
-///
-/// `OutOfMemory` if memory runs out. `Store` if SQLite refuses the query for another cause, or if the
-/// row has no states.
-pub(crate) fn states<S: Alter>(
-    connection: &mut Connection<S>,
-    kept: &Kept,
-    operator: &Operator,
-    id: &PlanId,
-) -> Result<Option<States>, StoreFault>
-    requires { Stands S.Store connection.old kept.now.world }
-    ensures value { HasCleanDisk (state S.Store connection.new) → IfOk result (λ found.
-        found ≡ states_of (stored_of id.now (plans_of operator.now kept.now.world))) }
-    ensures cause { IfErr result (BlamesStore S.Store connection.old connection.new) }
-    ensures stands { Stands S.Store connection.new kept.now.world }
-    ensures reads { OnlyReads S.Store connection.old connection.new }
-{
-    let rows = heads(connection, kept, operator, id)?;
-    states_in(&rows)
 }
 
 // The rows of `volume` of the operator's plan of the id, by place.
@@ -227,29 +174,6 @@ pub(crate) fn own_plans<S: Alter>(
     let mut gather = Gather::new(alloc);
     let taken = own_listing(connection, operator.as_str(), &mut gather);
     gathered(taken, gather)
-}
-
-/// How many plans the operator has.
-///
-/// # Errors
-///
-/// `OutOfMemory` if memory runs out. `Store` if SQLite refuses the query for another cause.
-pub(crate) fn own_count<S: Alter>(
-    connection: &mut Connection<S>,
-    kept: &Kept,
-    operator: &Operator,
-) -> Result<u32, StoreFault>
-    requires { Stands S.Store connection.old kept.now.world }
-    ensures value { HasCleanDisk (state S.Store connection.new) →
-        IfOk result (λ count. count ≡ length (plans_of operator.now kept.now.world)) }
-    ensures cause { IfErr result (BlamesStore S.Store connection.old connection.new) }
-    ensures stands { Stands S.Store connection.new kept.now.world }
-    ensures reads { OnlyReads S.Store connection.old connection.new }
-{
-    match plan_count(connection, operator.as_str()) {
-        Ok(count) => Ok(count),
-        Err(e) => Err(fault_of(e)),
-    }
 }
 
 // The slabs of spans that were handed over, if all were.

@@ -9,17 +9,15 @@ ghost use Rattle.sqlite_value.specs.declared.value.Value.TheVariants.{Int, Text,
 ghost use Rattle.sqlite_value.specs.Order.{column};
 ghost use Rattle.volume4d.specs.Volume.{Block, is_area};
 ghost use Rattle.desk_rules.specs.declared.plan.PlanRow.{PlanRow as Plan};
-ghost use Rattle.desk_rules.specs.declared.plan.States.{States as PlanStates};
 ghost use Rattle.desk_rules.specs.declared.words.Usage.{Usage as Use};
 ghost use Rattle.desk_rules.specs.declared.words.Aircraft.{Aircraft as State};
 ghost use Rattle.desk_tables.specs.Tables.{id_text, usage_number, aircraft_number};
 ghost use Rattle.desk_tables.specs.Content.{IsId, IsBlock};
 ghost use Rattle.desk_tables.specs.Reading.{IsVolumeAt, IsHead};
-ghost use Rattle.desk_tables.specs.Lookups.{AreStatesAt, AreStatesIn, HasNoCeiling, HasNoStates, IsCeilingIn};
 ghost use Rattle.desk_tables.specs.Records.{AreNumbersOf};
 ghost use Rattle.desk_tables.specs.Gathering.{plan_with};
 
-use desk_rules::plan::{PlanRow, States};
+use desk_rules::plan::PlanRow;
 use desk_rules::plan_id::PlanId;
 use desk_rules::words::{Aircraft, Usage};
 use desk_store::StoreFault;
@@ -269,46 +267,4 @@ pub(crate) fn plan_in(row: &Row, area: Area) -> Result<PlanRow, StoreFault>
 {
     let head = head_in(row)?;
     Ok(head.with(area))
-}
-
-/// The ceiling in the row of an operator, or none where there is no row.
-///
-/// # Errors
-///
-/// `OutOfMemory` if memory runs out. `Store` if the row has no ceiling.
-pub(crate) fn ceiling_in(rows: &[Row]) -> Result<Option<u32>, StoreFault>
-    ensures value { IfOk result (IsCeilingIn rows.now) }
-    ensures none { IfErr result (λ e. e ≡ StoreFault.Store → HasNoCeiling rows.now) }
-{
-    match rows.first() {
-        Some(row) => Ok(Some(count_at(row, 1)?)),
-        None => Ok(None),
-    }
-}
-
-// The states of a plan in its row of `plan`.
-fn states_at(row: &Row) -> Result<States, StoreFault>
-    ensures value { IfOk result (AreStatesAt row.now) }
-    ensures none { IfErr result (λ e. e ≡ StoreFault.Store →
-        (states : PlanStates) → ¬ AreStatesAt row.now states) }
-{
-    Ok(States {
-        usage: usage_in(row)?,
-        aircraft: aircraft_in(row)?,
-    })
-}
-
-/// The states of the plan whose row of `plan` is the first, or none where there is no row.
-///
-/// # Errors
-///
-/// `OutOfMemory` if memory runs out. `Store` if the row has no states.
-pub(crate) fn states_in(rows: &[Row]) -> Result<Option<States>, StoreFault>
-    ensures value { IfOk result (AreStatesIn rows.now) }
-    ensures none { IfErr result (λ e. e ≡ StoreFault.Store → HasNoStates rows.now) }
-{
-    let Some(row) = rows.first() else {
-        return Ok(None);
-    };
-    Ok(Some(states_at(row)?))
 }

@@ -2,6 +2,7 @@ use Rattle.std.proofs.Common.{◌∙◌, ap, sym, subst, true≢false}
 use Rattle.std.specs.List.{AllByRecursion}
 use Rattle.desk_sql.specs.Rows.{Tables}
 use Rattle.desk_tables.specs.Known.{Knows}
+use Rattle.desk_live.specs.Roll.{AreAccountsOf, accounts_of}
 use Rattle.desk_tables.specs.Lengths.{IsKnownRow}
 use Rattle.desk_tables.specs.Tables.{cover_rows}
 use Rattle.desk_store.specs.World.{World}
@@ -13,12 +14,17 @@ pub returns-clause-bounded : goal.returns-clause-bounded
 returns-clause-bounded c =
     let spans = c.deref-3.ensures.value ∙ ap (λ (t : Tables). t.spans) c.rows.view_is in
     let plans = c.deref-4.ensures.value ∙ ap (λ (w : World). w.plans) c.content.view_is in
+    let operators = c.deref-5.ensures.value ∙ ap (λ (w : World). w.operators) c.content.view_is in
+    let again = c.deref-6.ensures.value ∙ ap (λ (w : World). w.plans) c.content.view_is in
     let content = c.in_ok-content.content in
     subst (Knows _) (sym c.of.ensures) (record {
       lengths = bounds_of c.one_list_of_ranges.ensures c.lengths_in.result content c.args.rows.now.spans
           c.in_ok-content.ensures.ok.1.span_part
           (subst (AllByRecursion (IsKnownRow c.lengths_in.result)) spans c.lengths_in.ensures);
       live = c.in_ok-live_among.ensures content c.in_ok-content.ensures.ok.0.world.plans (sym plans);
+      roll = subst (λ ls. AreAccountsOf ls content.plans (accounts_of c.in_ok-roll_of.field-0)) operators
+          (subst (λ ps. AreAccountsOf c.deref-5.result.now ps (accounts_of c.in_ok-roll_of.field-0)) again
+          c.in_ok-roll_of.ensures);
     })
 
 pub returns-then-not-branch-clause-none : goal.returns-then-not-branch-clause-none

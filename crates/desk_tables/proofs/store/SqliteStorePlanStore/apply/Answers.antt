@@ -1,4 +1,4 @@
-use Rattle.std.proofs.Common.{sym, subst}
+use Rattle.std.proofs.Common.{arith, sym, subst}
 use Rattle.desk_store.specs.StoreChange.{changed_by}
 use Rattle.desk_store.specs.Crashes.{LeavesOldOr, LeavesOnly}
 use Rattle.desk_tables.specs.Store.{Stands}
@@ -10,21 +10,19 @@ use Rattle.desk_tables.proofs.store.SqliteStorePlanStore.apply.Goals as goal
 pub invariant_of-self : goal.invariant_of-self
 invariant_of-self g c = (
   c.self.invariant.0,
-  record {
-    lengths = c.self.invariant.1.lengths;
-    live = c.prepare.ensures.kept c.self.inside.kept.world c.self.invariant.1.live;
-  },
+  c.prepare.ensures.kept c.self.inside.kept.world c.self.invariant.1,
+  c.self.invariant.2,
 )
 
 pub invariant_of-self-in-Ok : goal.invariant_of-self-in-Ok
 invariant_of-self-in-Ok g c =
-    let after = sym c.after-self-inside.ensures in (
-      subst (Stands g.S.Store c.make.new.connection) after c.in-Ok.ensures.ok,
+    let after = sym c.after-self-inside.ensures in
+    let stands = subst (Stands g.S.Store c.make.new.connection) after c.in-Ok.ensures.ok in (
+      stands,
       subst (Knows c.follow.new.self) after
-          (c.follow.ensures c.self.inside.kept.world (record {
-            lengths = c.self.invariant.1.lengths;
-            live = c.prepare.ensures.kept c.self.inside.kept.world c.self.invariant.1.live;
-          })),
+          (c.follow.ensures c.self.inside.kept.world
+          (c.prepare.ensures.kept c.self.inside.kept.world c.self.invariant.1)),
+      λ clean. (stands.standing clean (c.in-Ok.ensures.open clean)).content.world,
     )
 
 pub returns-in-Ok-clause-crash : goal.returns-in-Ok-clause-crash
@@ -49,10 +47,8 @@ returns-in-Ok-clause-kept g c = λ honest.
 pub invariant_of-self-in-Err : goal.invariant_of-self-in-Err
 invariant_of-self-in-Err g c = (
   c.in-Err.ensures.err,
-  record {
-    lengths = c.self.invariant.1.lengths;
-    live = c.prepare.ensures.kept c.self.inside.kept.world c.self.invariant.1.live;
-  },
+  c.prepare.ensures.kept c.self.inside.kept.world c.self.invariant.1,
+  λ clean. c.self.invariant.2 (omega (arith, c.make.ensures.doubt, clean)),
 )
 
 pub returns-clause-crash : goal.returns-clause-crash

@@ -1,0 +1,7 @@
+use Rattle.std.proofs.Common.{[], take}
+use Rattle.desk_live.specs.Roll.{AreAccountsOf, accounts_of}
+use Rattle.desk_tables.proofs.known.roll_with.Given as goal
+
+-- the operators so far
+abbrev pub invariant-loop-listed : goal.invariant-loop-listed
+invariant-loop-listed l = AreAccountsOf (take l.listed-index l.operators) [] (accounts_of l.roll)
