@@ -37,6 +37,7 @@ simple_local a b c d e f g h i x is =
 pub word_simple : (w : Word) → (rule_of_word w).is_simple ≡ true
 word_simple word.Database = refl
 word_simple word.GivenDatabase = refl
+word_simple word.NewFile = refl
 word_simple word.Moment = refl
 word_simple word.Port = refl
 word_simple word.Connections = refl

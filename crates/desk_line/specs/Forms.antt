@@ -3,7 +3,7 @@ use Rattle.std.specs.Prelude.{map}
 use Rattle.clap.specs.Simple.{Shape}
 use Rattle.clap.specs.Walk.{Rule}
 use Rattle.desk_line.specs.Grammar.{connections, coordinate, database, enrolments, equal, line_shape, moment}
-use Rattle.desk_line.specs.Grammar.{needed}
+use Rattle.desk_line.specs.Grammar.{needed, new_file}
 use Rattle.desk_line.specs.Grammar.{picture, port, small, value, token}
 use Rattle.desk_line.specs.declared.command.Form.{Form}
 use Rattle.desk_line.specs.declared.command.Word.{Word}
@@ -12,6 +12,7 @@ use Rattle.desk_line.specs.declared.command.Word.TheVariants as word
 abbrev pub rule_of_word : Word → Rule
 rule_of_word word.Database = database
 rule_of_word word.GivenDatabase = needed database
+rule_of_word word.NewFile = new_file
 rule_of_word word.Moment = moment
 rule_of_word word.Port = port
 rule_of_word word.Connections = connections

@@ -16,6 +16,7 @@ use Rattle.volume4d.specs.Limits.{max_second}
 use Rattle.desk_line.specs.Equal.{ArePermittedBy, priority_in}
 use Rattle.desk_line.specs.Lines.{file_of, max_connections, max_port}
 use Rattle.desk_line.specs.Lines.{min_connections, min_port, named_file}
+use Rattle.desk_line.specs.declared.line.Copying.{Copying as CopyWords}
 use Rattle.desk_line.specs.declared.line.Cover.{Cover as CoverWords}
 use Rattle.desk_line.specs.declared.line.Enrol.{Enrol as EnrolWords}
 use Rattle.desk_line.specs.declared.line.Enrolment.{Enrolment}
@@ -24,6 +25,8 @@ use Rattle.desk_line.specs.declared.line.Line.TheVariants as line
 use Rattle.desk_line.specs.declared.line.Migrate.{Migrate as MigrateWords}
 use Rattle.desk_line.specs.declared.line.Play.{Play as PlayWords}
 use Rattle.desk_line.specs.declared.line.Serve.{Serve as ServeWords}
+use Rattle.desk_line.specs.declared.line.Task.{Task}
+use Rattle.desk_line.specs.declared.line.Task.TheVariants as task
 
 -- ---- the words
 
@@ -53,6 +56,10 @@ flag id name = record (new_rule id) { long = Some name; action = Some SetTrue }
 
 abbrev pub database : Rule
 database = option (codes "database") (codes "db")
+
+-- the file that `copy` makes
+abbrev pub new_file : Rule
+new_file = needed (option (codes "to") (codes "to"))
 
 abbrev pub moment : Rule
 moment = needed (number 0 max_second (option (codes "moment") (codes "at")))
@@ -109,6 +116,12 @@ words_of_enrol = needed database ∷ needed (value (codes "NAME")) ∷ needed (v
 abbrev pub words_of_migrate : List Rule
 words_of_migrate = needed database ∷ []
 
+abbrev pub words_of_check : List Rule
+words_of_check = needed database ∷ []
+
+abbrev pub words_of_copy : List Rule
+words_of_copy = needed database ∷ new_file ∷ []
+
 -- a line: its first word, and its further words
 abbrev pub line_shape : Text → List Rule → Shape
 line_shape name rules = record (new_shape name) { rules = rules }
@@ -122,6 +135,8 @@ line_shapes =
     ∷ line_shape (codes "cover") words_of_cover
     ∷ line_shape (codes "enrol") words_of_enrol
     ∷ line_shape (codes "migrate") words_of_migrate
+    ∷ line_shape (codes "check") words_of_check
+    ∷ line_shape (codes "copy") words_of_copy
     ∷ []
 
 -- a program that takes no line: `--version` and `--help` are answered
@@ -211,6 +226,10 @@ pub record IsEnrolGiven (rows : List Row) (enrol : EnrolWords) : Type 0 where
 abbrev pub IsMigrateGiven : List Row → MigrateWords → Type 0
 IsMigrateGiven rows migrate = file_of migrate.database ≡ file_given rows
 
+pub record IsCopyGiven (rows : List Row) (copy : CopyWords) : Type 0 where
+  pub database : file_of copy.database ≡ file_given rows
+  pub to : first_of (codes "to") rows ≡ Some (string_bytes copy.to)
+
 -- the first word of a line
 abbrev pub name_of : Line → Text
 name_of (line.Play play) = codes "play"
@@ -229,8 +248,19 @@ HasGiven rows (line.Cover cover) = IsCoverGiven rows cover
 HasGiven rows (line.Enrol enrol) = IsEnrolGiven rows enrol
 HasGiven rows (line.Migrate migrate) = IsMigrateGiven rows migrate
 
--- the line that these words are, the first of them the program's own name
-pub record IsGiven (words : List Text) (line : Line) : Type 0 where
+-- the first word of a task
+abbrev pub word_of : Task → Text
+word_of (task.Run it) = name_of it
+word_of (task.Check database) = codes "check"
+word_of (task.Copy copy) = codes "copy"
+
+abbrev pub HasTaskGiven : List Row → Task → Type 0
+HasTaskGiven rows (task.Run it) = HasGiven rows it
+HasTaskGiven rows (task.Check database) = file_of database ≡ file_given rows
+HasTaskGiven rows (task.Copy copy) = IsCopyGiven rows copy
+
+-- the task that these words are, the first of them the program's own name
+pub record IsGiven (words : List Text) (task : Task) : Type 0 where
   pub rows : List Row
-  pub found : subcommand_of program words ≡ Some (name_of line, rows)
-  pub values : HasGiven rows line
+  pub found : subcommand_of program words ≡ Some (word_of task, rows)
+  pub values : HasTaskGiven rows task

@@ -12,6 +12,8 @@ use Rattle.desk_line.specs.declared.line.Line.{Line}
 use Rattle.desk_line.specs.declared.line.Line.TheVariants.{Play, Token, Serve, Cover, Enrol, Migrate}
 use Rattle.desk_line.specs.declared.line.Play.{Play as PlayWords}
 use Rattle.desk_line.specs.declared.line.Serve.{Serve as ServeWords}
+use Rattle.desk_line.specs.declared.line.Task.{Task}
+use Rattle.desk_line.specs.declared.line.Task.TheVariants.{Run, Check, Copy}
 
 abbrev pub min_port : ℕ
 min_port = 1
@@ -62,6 +64,11 @@ IsLine (Serve serve) = IsServe serve
 IsLine (Cover cover) = ⊤
 IsLine (Enrol enrol) = IsEnrol enrol
 IsLine (Migrate migrate) = ⊤
+
+abbrev pub IsTask : Task → Type 0
+IsTask (Run line) = IsLine line
+IsTask (Check database) = ⊤
+IsTask (Copy copy) = ⊤
 
 -- a line that is carried out at a desk, by reading and writing alone
 abbrev pub HasDesk : Line → Type 0

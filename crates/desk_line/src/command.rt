@@ -29,6 +29,8 @@ enum Word {
     Database,
     // The file, which may not.
     GivenDatabase,
+    // The new file.
+    NewFile,
     Moment,
     Port,
     Connections,
@@ -43,7 +45,7 @@ enum Word {
     Picture,
 }
 
-static FORMS: [Form; 6] = [
+static FORMS: [Form; 8] = [
     Form {
         name: "play",
         about: "Answers the requests of the standard input",
@@ -91,6 +93,16 @@ static FORMS: [Form; 6] = [
         name: "migrate",
         about: "Moves the plans of a database of schema 1 to schema 2",
         words: &[Word::GivenDatabase],
+    },
+    Form {
+        name: "check",
+        about: "Tells what a database holds, and changes nothing in it",
+        words: &[Word::GivenDatabase],
+    },
+    Form {
+        name: "copy",
+        about: "Makes a new file of what a database holds, in schema 2",
+        words: &[Word::GivenDatabase, Word::NewFile],
     },
 ];
 
@@ -152,6 +164,7 @@ fn arg_of<'a>(alloc: Global, word: &Word) -> Arg<'a>
     match word {
         Word::Database => database_arg(alloc),
         Word::GivenDatabase => database_arg(alloc).required(true),
+        Word::NewFile => new_file_arg(alloc),
         Word::Moment => moment_arg(alloc),
         Word::Port => port_arg(alloc),
         Word::Connections => connections_arg(alloc),
@@ -172,6 +185,16 @@ fn database_arg<'a>(alloc: Global) -> Arg<'a>
         .long("db")
         .value_name("FILE")
         .help("The SQLite database of operators and plans, or :memory: for one in memory")
+}
+
+fn new_file_arg<'a>(alloc: Global) -> Arg<'a>
+    ensures { rule_of result ≡ spec.new_file }
+{
+    Arg::new(alloc, "to")
+        .long("to")
+        .value_name("NEW")
+        .help("The new file, where there is none yet")
+        .required(true)
 }
 
 fn moment_arg<'a>(alloc: Global) -> Arg<'a>

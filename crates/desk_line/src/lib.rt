@@ -10,6 +10,7 @@ mod printed;
 
 pub use failure::{Failure, conclude};
 pub use line::{
-    Cover, Database, Enrol, Enrolment, Line, Migrate, Play, Serve, WordsFault, read_words,
+    Copying, Cover, Database, Enrol, Enrolment, Line, Migrate, Play, Serve, Task, WordsFault,
+    read_words,
 };
 pub use printed::print_line;

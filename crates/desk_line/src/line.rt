@@ -10,11 +10,12 @@ ghost use Rattle.desk_rules.specs.Limits.{max_priority};
 ghost use Rattle.desk_line.specs.Equal.{ArePermittedBy};
 ghost use Rattle.desk_wire.specs.Moments.{IsMoment};
 ghost use Rattle.desk_line.specs.Grammar as spec;
-ghost use Rattle.desk_line.specs.Grammar.{AreEnrolmentsGiven, HasGiven, IsCoverGiven, IsEnrolGiven};
-ghost use Rattle.desk_line.specs.Grammar.{IsGiven, IsMigrateGiven, IsPlayGiven, IsServeGiven};
+ghost use Rattle.desk_line.specs.Grammar.{AreEnrolmentsGiven, HasGiven, HasTaskGiven, IsCopyGiven};
+ghost use Rattle.desk_line.specs.Grammar.{IsCoverGiven, IsEnrolGiven, IsGiven, IsMigrateGiven, IsPlayGiven};
+ghost use Rattle.desk_line.specs.Grammar.{IsServeGiven};
 ghost use Rattle.desk_line.specs.Grammar.{enrolment_given, enrolment_in, file_given, name_of, number_given};
-ghost use Rattle.desk_line.specs.Grammar.{program, second_given};
-ghost use Rattle.desk_line.specs.Lines.{AreEnrolments, IsEnrol, IsLine, IsPlay, IsServe, file_of};
+ghost use Rattle.desk_line.specs.Grammar.{program, second_given, word_of};
+ghost use Rattle.desk_line.specs.Lines.{AreEnrolments, IsEnrol, IsLine, IsPlay, IsServe, IsTask, file_of};
 ghost use Rattle.desk_line.specs.Lines.{max_connections, max_port, min_connections, min_port};
 ghost use Rattle.desk_line.specs.Lines.{named_file};
 
@@ -48,6 +49,17 @@ pub enum Line {
     Enrol(Enrol),
     /// `migrate`: moves the plans of a database of schema 1 to schema 2.
     Migrate(Migrate),
+}
+
+/// What the program is asked for: a line at a desk or without one, or what a keeper does to a file.
+#[derive(Debug, Drop)]
+pub enum Task {
+    /// A line.
+    Run(Line),
+    /// `check`: tells what a database holds.
+    Check(Database),
+    /// `copy`: makes a new file of what a database holds.
+    Copy(Copying),
 }
 
 /// Where operators and plans are kept.
@@ -122,6 +134,15 @@ pub struct Migrate {
     pub database: Database,
 }
 
+/// The words of `copy`.
+#[derive(Debug, Drop)]
+pub struct Copying {
+    /// What is copied.
+    pub database: Database,
+    /// The path of the new file.
+    pub to: String,
+}
+
 /// An operator to be enrolled, `NAME=CEILING`.
 #[derive(Clone, Copy, Debug)]
 pub struct Enrolment {
@@ -170,13 +191,13 @@ impl From<clap::Error> for WordsFault {
 /// # Errors
 ///
 /// `OutOfMemory`; `Words` if `clap` refuses them, or a number is out of range; `Value`.
-pub fn read_words(alloc: Global, words: &[String]) -> Result<Line, WordsFault>
-    ensures valid { IfOk result IsLine }
+pub fn read_words(alloc: Global, words: &[String]) -> Result<Task, WordsFault>
+    ensures valid { IfOk result IsTask }
     ensures given { IfOk result (IsGiven (map string_bytes words.now)) }
 {
     let matches = matches_of(alloc, words)?;
     match matches.subcommand() {
-        Some((name, given)) => read_line(alloc, name, given),
+        Some((name, given)) => read_task(alloc, name, given),
         None => Err(WordsFault::Value),
     }
 }
@@ -187,6 +208,19 @@ fn matches_of(alloc: Global, words: &[String]) -> Result<ArgMatches<'_>, WordsFa
         subcommand_rows_of matches ≡ subcommand_of program (map string_bytes words.now)) }
 {
     Ok(make_command(alloc)?.try_get_matches_from(words)?)
+}
+
+// The task of this name, by the values that were given.
+fn read_task(alloc: Global, name: &str, given: &ArgMatches<'_>) -> Result<Task, WordsFault>
+    ensures valid { IfOk result IsTask }
+    ensures name { IfOk result (λ task. word_of task ≡ name.now) }
+    ensures given { IfOk result (HasTaskGiven (rows_of (found_of given.now))) }
+{
+    match name {
+        "check" => Ok(Task::Check(read_database(alloc, given)?)),
+        "copy" => Ok(Task::Copy(read_copy(alloc, given)?)),
+        _ => Ok(Task::Run(read_line(alloc, name, given)?)),
+    }
 }
 
 // The line of this name, by the values that were given.
@@ -366,6 +400,19 @@ fn read_migrate(alloc: Global, given: &ArgMatches<'_>) -> Result<Migrate, AllocE
 {
     Ok(Migrate {
         database: read_database(alloc, given)?,
+    })
+}
+
+// The words of `copy`.
+fn read_copy(alloc: Global, given: &ArgMatches<'_>) -> Result<Copying, WordsFault>
+    ensures { IfOk result (IsCopyGiven (rows_of (found_of given.now))) }
+{
+    let Some(to) = text_of(given, "to") else {
+        return Err(WordsFault::Value);
+    };
+    Ok(Copying {
+        database: read_database(alloc, given)?,
+        to: String::from_str(alloc, to)?,
     })
 }
 

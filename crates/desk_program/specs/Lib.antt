@@ -6,3 +6,4 @@ pub mod Waiting
 pub mod Keeping
 pub mod Running
 pub mod Moving
+pub mod Looking

@@ -3,6 +3,7 @@
 #![tactic(auto)]
 
 mod local;
+mod looking;
 mod moving;
 mod port;
 mod program;
@@ -11,6 +12,7 @@ mod server;
 mod timed;
 
 pub use local::LocalPort;
+pub use looking::{CheckedFile, print_checked, print_copied};
 pub use moving::print_migrated;
 pub use port::{Connection, Port};
 pub use program::with_desk;

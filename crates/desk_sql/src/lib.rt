@@ -9,7 +9,7 @@ mod reading;
 pub use changing::batch::{insert_spans, insert_volumes};
 pub use changing::removing::{empty_old_spans, empty_old_volumes};
 pub use changing::transactions::{clear_plans, close_plan, is_enrolled, put_operator, put_plan};
-pub use changing::writing::{PlanRecord, SpanRecord, VolumeRecord};
+pub use changing::writing::{PlanRecord, SpanRecord, VolumeRecord, insert_operator, insert_plan};
 pub use opening::finding::{Made, find_tables};
 pub use opening::making::complete_tables;
 pub use opening::numbers::DeskTable;

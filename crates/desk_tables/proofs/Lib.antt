@@ -37,3 +37,5 @@ pub mod CauseLemmas
 pub mod SlabLemmas
 pub mod PuttableLemmas
 pub mod MovingLemmas
+pub mod CopyLemmas
+pub mod LookLemmas

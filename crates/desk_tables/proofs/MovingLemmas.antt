@@ -118,7 +118,7 @@ no_plans t = record {
 }
 
 -- further rows after those that were added
-further : (xs ys old mid new : List Row) → IsPermutation (xs ++ old) mid → IsPermutation (ys ++ mid) new
+pub further : (xs ys old mid new : List Row) → IsPermutation (xs ++ old) mid → IsPermutation (ys ++ mid) new
     → IsPermutation ((xs ++ ys) ++ old) new
 further xs ys old mid new first last =
     IsPermutation-trans ((xs ++ ys) ++ old) ((ys ++ xs) ++ old) new

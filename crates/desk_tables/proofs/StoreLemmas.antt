@@ -47,6 +47,10 @@ module _ {S : Type 0} (g : Ghosts S) (old new : Held S) (w : World) (stood : Sta
         };
   }
 
+pub no_row : (rows : List Row) → IsPermutation [] rows → rows ≡ []
+no_row [] same = refl
+no_row (r ∷ rows) same = absurd (omega (arith, length_permutation [] (r ∷ rows) same))
+
 pub weaker : {V E : Type 0} {P Q : V → Type 0} (r : Result V E) → ((v : V) → P v → Q v) → IfOk r P
     → IfOk r Q
 weaker (Ok v) f h = f v h
@@ -54,7 +58,7 @@ weaker (Err e) f h = tt
 
 -- ---- tables with no row
 
-abbrev nothing : World
+abbrev pub nothing : World
 nothing = record { operators = []; plans = [] }
 
 nothing_is_content : IsContent nothing

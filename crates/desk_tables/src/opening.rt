@@ -1,10 +1,12 @@
 //! Opening a database: what tables it has, and the content whose rows they are.
 
 pub(crate) mod content;
+pub(crate) mod copying;
 pub(crate) mod covers;
 pub(crate) mod exact;
 pub(crate) mod files;
 pub(crate) mod finding;
+pub(crate) mod looking;
 pub(crate) mod moving;
 pub(crate) mod open;
 pub(crate) mod path;

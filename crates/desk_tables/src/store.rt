@@ -38,6 +38,8 @@ pub struct SqliteStore<S: Alter> {
     faults: u64,
     // what a fault of its own is told as: a disk in memory fails only where it gets no memory
     told: StoreFault,
+    // whether an operator was listed when it was opened
+    is_enrolled: bool,
     alloc: Global,
 }
 
@@ -64,13 +66,15 @@ impl<S: Alter> Model for SqliteStore<S> {
 
 impl<S: Alter> SqliteStore<S> {
     /// A store over a connection, with the world that its rows are, and what is known of its plans. What
-    /// SQLite fails at for another cause than memory is told as `told`.
+    /// SQLite fails at for another cause than memory is told as `told`; whether it begins with an operator,
+    /// of which no clause speaks, as `is_enrolled`.
     pub(crate) fn with(
         alloc: Global,
         connection: Connection<S>,
         kept: Kept,
         known: Known,
         told: StoreFault,
+        is_enrolled: bool,
     ) -> SqliteStore<S>
         requires stands { Stands S.Store connection kept.world }
         requires bounded { Knows known kept.world }
@@ -86,8 +90,14 @@ impl<S: Alter> SqliteStore<S> {
             known,
             faults: 0,
             told,
+            is_enrolled,
             alloc,
         }
+    }
+
+    /// Whether the store began with an operator, or with plans that were moved. No clause speaks of it.
+    pub fn has_begun_enrolled(&self) -> bool {
+        self.is_enrolled
     }
 
     /// The connection, in which the rows of the four tables are those of the store's content.

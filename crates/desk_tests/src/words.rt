@@ -1,11 +1,11 @@
 //! Words, and the lines that they are.
 
-use desk_line::{Database, Line, WordsFault, read_words};
+use desk_line::{Database, Line, Task, WordsFault, read_words};
 use std::alloc::{AllocError, Global};
 use std::test::Fail;
 
-// The line of words behind the program's name.
-fn line_of(alloc: Global, words: &[&str]) -> Result<Result<Line, WordsFault>, AllocError> {
+// The task of words behind the program's name.
+fn task_of(alloc: Global, words: &[&str]) -> Result<Result<Task, WordsFault>, AllocError> {
     let mut all = Vec::new(alloc);
     all.push(String::from_str(alloc, "uss_desk")?)?;
     for word in words {
@@ -14,14 +14,22 @@ fn line_of(alloc: Global, words: &[&str]) -> Result<Result<Line, WordsFault>, Al
     Ok(read_words(alloc, &all))
 }
 
+// The line of words behind the program's name.
+fn line_of(alloc: Global, words: &[&str]) -> Result<Option<Line>, AllocError> {
+    match task_of(alloc, words)? {
+        Ok(Task::Run(line)) => Ok(Some(line)),
+        _ => Ok(None),
+    }
+}
+
 // Whether the words are no line for a bad value.
 fn is_bad_value(alloc: Global, words: &[&str]) -> Result<bool, AllocError> {
-    Ok(matches!(line_of(alloc, words)?, Err(WordsFault::Value)))
+    Ok(matches!(task_of(alloc, words)?, Err(WordsFault::Value)))
 }
 
 // Whether the words are none of the forms.
 fn is_refused(alloc: Global, words: &[&str]) -> Result<bool, AllocError> {
-    Ok(matches!(line_of(alloc, words)?, Err(WordsFault::Words(_))))
+    Ok(matches!(task_of(alloc, words)?, Err(WordsFault::Words(_))))
 }
 
 #[test]
@@ -34,7 +42,7 @@ fn reads_play(rt: HostRuntime) -> Result<(), Fail> {
         "bravo=1000",
         "alfa=7",
     ];
-    let Ok(Line::Play(play)) = line_of(rt.alloc(), &words)? else {
+    let Some(Line::Play(play)) = line_of(rt.alloc(), &words)? else {
         return Err(Fail::from("no line"));
     };
     assert_eq!(rt; play.moment, 1_780_315_000);
@@ -49,7 +57,7 @@ fn reads_play(rt: HostRuntime) -> Result<(), Fail> {
 #[test]
 fn reads_enrol(rt: HostRuntime) -> Result<(), Fail> {
     let words = ["enrol", "--db", "desk.db", "alfa", "100"];
-    let Ok(Line::Enrol(enrol)) = line_of(rt.alloc(), &words)? else {
+    let Some(Line::Enrol(enrol)) = line_of(rt.alloc(), &words)? else {
         return Err(Fail::from("no line"));
     };
     assert!(rt; is_file(&enrol.database, "desk.db"));
@@ -62,10 +70,31 @@ fn reads_enrol(rt: HostRuntime) -> Result<(), Fail> {
 #[test]
 fn reads_migrate(rt: HostRuntime) -> Result<(), Fail> {
     let words = ["migrate", "--db", "desk.db"];
-    let Ok(Line::Migrate(migrate)) = line_of(rt.alloc(), &words)? else {
+    let Some(Line::Migrate(migrate)) = line_of(rt.alloc(), &words)? else {
         return Err(Fail::from("no line"));
     };
     assert!(rt; is_file(&migrate.database, "desk.db"));
+    Ok(())
+}
+
+#[test]
+fn reads_check(rt: HostRuntime) -> Result<(), Fail> {
+    let words = ["check", "--db", "desk.db"];
+    let Ok(Task::Check(database)) = task_of(rt.alloc(), &words)? else {
+        return Err(Fail::from("no check"));
+    };
+    assert!(rt; is_file(&database, "desk.db"));
+    Ok(())
+}
+
+#[test]
+fn reads_copy(rt: HostRuntime) -> Result<(), Fail> {
+    let words = ["copy", "--db", "desk.db", "--to", "new.db"];
+    let Ok(Task::Copy(copy)) = task_of(rt.alloc(), &words)? else {
+        return Err(Fail::from("no copy"));
+    };
+    assert!(rt; is_file(&copy.database, "desk.db"));
+    assert_eq!(rt; copy.to.as_str(), "new.db");
     Ok(())
 }
 
@@ -81,13 +110,13 @@ fn reads_databases(rt: HostRuntime) -> Result<(), Fail> {
         ["play", "--at", "0"].as_slice(),
         &["play", "--db", ":memory:", "--at", "0"],
     ] {
-        let Ok(Line::Play(play)) = line_of(alloc, words)? else {
+        let Some(Line::Play(play)) = line_of(alloc, words)? else {
             return Err(Fail::from("no line"));
         };
         assert!(rt; matches!(play.database, Database::InMemory));
     }
     let words = ["serve", "--port", "1", "--db", "a b", "--requests", "1"];
-    let Ok(Line::Serve(serve)) = line_of(alloc, &words)? else {
+    let Some(Line::Serve(serve)) = line_of(alloc, &words)? else {
         return Err(Fail::from("no line"));
     };
     assert!(rt; is_file(&serve.database, "a b"));
@@ -126,6 +155,10 @@ fn refuses_words(rt: HostRuntime) -> Result<(), Fail> {
         &["enrol", "alfa", "1"],
         &["enrol", "--db", "d", "alfa"],
         &["migrate"],
+        &["check"],
+        &["check", "d"],
+        &["copy", "--db", "d"],
+        &["copy", "--to", "d"],
         &["migrate", "d"],
     ] {
         assert!(rt; is_refused(alloc, words)?);

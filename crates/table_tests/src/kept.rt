@@ -4,7 +4,7 @@ ghost use Rattle.std.specs.Prelude.{◌≡◌, false, IfOk, IsTrue};
 ghost use Rattle.sqlite_disk.specs.Memory.{memory_is_usable};
 ghost use Rattle.desk_line.specs.Lines.{IsPlay};
 
-use desk_line::{Line, Play, read_words};
+use desk_line::{Line, Play, Task, read_words};
 use desk_program::with_desk;
 use desk_run::Desk;
 use desk_store::PlanStore;
@@ -50,7 +50,7 @@ fn play_line(alloc: Global, more: &[&str]) -> Result<Play, Fail>
         words.push(String::from_str(alloc, word)?)?;
     }
     match read_words(alloc, &words) {
-        Ok(Line::Play(play)) => Ok(play),
+        Ok(Task::Run(Line::Play(play))) => Ok(play),
         _ => Err(Fail::from("no line")),
     }
 }

@@ -1,5 +1,6 @@
--- Read first: Running, Opening, Guarding, Closing.
+-- Read first: Running, Opening, Guarding, Closing, Keeping.
 pub mod Opening
 pub mod Guarding
 pub mod Running
 pub mod Closing
+pub mod Keeping

@@ -6,6 +6,7 @@ ghost use Rattle.uss_desk.specs.Opening as spec;
 ghost use Rattle.uss_desk.specs.Opening.{IsBlank, IsMemory, IsMovedAt, IsMovedIn, IsOpenedAt, IsOpenedFor};
 ghost use Rattle.uss_desk.specs.Opening.{IsOpenedIn};
 
+use crate::causes::tell_unenrolled;
 use desk_line::{Database, Failure, Line};
 use desk_run::Desk;
 use desk_tables::{OpenFault, SqliteStore};
@@ -40,21 +41,35 @@ pub fn open_for<F: Start>(rt: &HostRuntime, line: &Line, start: F) -> OpenedDesk
     ensures { IsOpenedFor (image_at F.Start) line.now result }
 {
     match line {
-        Line::Play(words) => open_database(rt, &words.database, start),
-        Line::Enrol(words) => open_database(rt, &words.database, start),
-        Line::Serve(words) => open_database(rt, &words.database, start),
+        Line::Play(words) => {
+            open_database(rt, &words.database, words.enrolments.is_empty(), start)
+        }
+        Line::Enrol(words) => open_database(rt, &words.database, false, start),
+        Line::Serve(words) => {
+            open_database(rt, &words.database, words.enrolments.is_empty(), start)
+        }
         Line::Migrate(words) => Opened::Moved(open_old(rt, &words.database, start)),
         Line::Token(_) | Line::Cover(_) => Opened::Nothing,
     }
 }
 
-// Opens the desk over a database.
-fn open_database<F: Start>(rt: &HostRuntime, database: &Database, start: F) -> OpenedDesk<F>
+// Opens the desk over a database. If it is to be told that no operator is enrolled (`is_told`), it is.
+fn open_database<F: Start>(
+    rt: &HostRuntime,
+    database: &Database,
+    is_told: bool,
+    start: F,
+) -> OpenedDesk<F>
     ensures { IsOpenedAt (image_at F.Start) database.now result }
 {
     match database {
-        Database::InMemory => Opened::Memory(open_in_memory(rt.alloc())),
-        Database::File(path) => Opened::Files(open_file(rt, path, start)),
+        Database::InMemory => {
+            if is_told {
+                tell_unenrolled(rt, None);
+            }
+            Opened::Memory(open_in_memory(rt.alloc()))
+        }
+        Database::File(path) => Opened::Files(open_file(rt, path, is_told, start)),
     }
 }
 
@@ -73,16 +88,27 @@ pub fn open_in_memory(alloc: Global) -> Result<MemoryDesk, Failure>
     }
 }
 
-/// The desk over the database in the files at a path; `start` stands for what the files held.
+/// The desk over the database in the files at a path; `start` stands for what the files held. If it is to be
+/// told that no operator is enrolled (`is_told`), it is.
 ///
 /// # Errors
 ///
 /// That of `open_failure`.
-pub fn open_file<F: Start>(rt: &HostRuntime, path: &str, start: F) -> Result<FileDesk<F>, Failure>
+pub fn open_file<F: Start>(
+    rt: &HostRuntime,
+    path: &str,
+    is_told: bool,
+    start: F,
+) -> Result<FileDesk<F>, Failure>
     ensures { IsOpenedIn (image_at F.Start) result }
 {
     match SqliteStore::open_from(rt, path, start) {
-        Ok(store) => Ok(Desk::new(store)),
+        Ok(store) => {
+            if is_told && !store.has_begun_enrolled() {
+                tell_unenrolled(rt, Some(path));
+            }
+            Ok(Desk::new(store))
+        }
         Err(fault) => Err(open_failure(&fault)),
     }
 }

@@ -54,6 +54,8 @@ impl Model for TableRows {
 pub(crate) struct Content {
     pub operators: Vec<ListedOperator>,
     pub plans: Vec<FiledPlan>,
+    // how many rows of spans it was read from
+    pub spans: usize,
 }
 
 impl Model for Content {
@@ -100,7 +102,11 @@ pub(crate) fn content_in(alloc: Global, rows: &TableRows) -> Result<Content, Row
     let operators = operators_in(alloc, &rows.operators)?;
     let plans = plans_in(alloc, &rows.plans, &rows.volumes)?;
     if are_content(&operators, &plans, &rows.spans)? {
-        Ok(Content { operators, plans })
+        Ok(Content {
+            operators,
+            plans,
+            spans: rows.spans.len(),
+        })
     } else {
         Err(RowFault::NoDesk)
     }

@@ -1,6 +1,6 @@
 //! Stores of plans over files.
 
-ghost use Rattle.std.specs.Prelude.{IfOk};
+ghost use Rattle.std.specs.Prelude.{◌≡◌, ◌≢◌, IfErr, IfOk};
 ghost use Rattle.sqlite_wal.specs.Files.{image_at};
 ghost use Rattle.sqlite_wal.specs.Recovery.{Image};
 ghost use Rattle.sqlite.specs.Held.{IsNew};
@@ -8,13 +8,27 @@ ghost use Rattle.sqlite.specs.Files.{over_files};
 ghost use Rattle.desk_tables.specs.Files.{Finds, OpensIn, FailsIn, FailsMoving, OpensMoved, no_files};
 ghost use Rattle.desk_tables.specs.Guarding.{IsGuarded};
 ghost use Rattle.desk_tables.specs.Leaving.{IsSettledAt};
+ghost use Rattle.desk_store.specs.World.{World};
+ghost use Rattle.desk_tables.specs.Content.{IsContent};
+ghost use Rattle.desk_tables.specs.Copying.{AreCounted, FailsLooking, FailsLookingIn, IsMadeIn, LooksIn};
+ghost use Rattle.desk_tables.specs.Known.{Knows};
 
+use crate::known::Known;
+use crate::opening::content::Content;
+use crate::opening::copying::store_of;
+use crate::opening::looking::{Holdings, holdings_of, read_content};
 use crate::opening::open::OpenFault;
-use crate::opening::path::connect;
+use crate::opening::path::{connect, connect_new, connect_there};
 use crate::store::SqliteStore;
 use sqlite::{Connection, FileFrom, FileStore, Start, Unknown};
 use sqlite_disk::Disk;
 use std::alloc::Global;
+
+/// A connection to the database that was copied, the store of its content, and what it holds.
+pub type Copied<D, E> = (
+    Connection<FileStore<D>>,
+    (SqliteStore<FileStore<E>>, Holdings),
+);
 
 impl<S: Start> SqliteStore<FileStore<FileFrom<S>>> {
     /// The store over the database in the files at a path, as `adopt` gives it; `start` stands for what
@@ -40,14 +54,13 @@ impl<S: Start> SqliteStore<FileStore<FileFrom<S>>> {
     }
 
     /// The store over the database in the files at a path, and how many plans were moved to it from schema 1,
-    /// as `adopt_old` gives them; `start` stands for what the files held. Where there are no files, they are
-    /// made.
+    /// as `adopt_old` gives them; `start` stands for what the files held.
     ///
     /// # Errors
     ///
-    /// `OutOfMemory` if memory runs out. `Store` if the files cannot be opened, or if SQLite refuses for
-    /// another cause. `NotADesk` if there are other tables than a desk's, or if their rows are neither those
-    /// of a content in schema 1 nor those of one in schema 2.
+    /// `OutOfMemory` if memory runs out. `Store` if there is no file, if the files cannot be opened, or if
+    /// SQLite refuses for another cause. `NotADesk` if there are other tables than a desk's, or if their rows
+    /// are neither those of a content in schema 1 nor those of one in schema 2.
     pub fn migrate_from(
         rt: &HostRuntime,
         path: &str,
@@ -59,7 +72,7 @@ impl<S: Start> SqliteStore<FileStore<FileFrom<S>>> {
         ensures guarded { IfOk result (λ moved. IsGuarded moved.0.held) }
         ensures fault { FailsMoving (image_at S.Start) result }
     {
-        adopt_old_files(rt.alloc(), connect(rt, path, start)?)
+        adopt_old_files(rt.alloc(), connect_there(rt, path, start)?)
     }
 }
 
@@ -98,6 +111,89 @@ impl SqliteStore<FileStore<FileFrom<Unknown>>> {
     {
         SqliteStore::migrate_from(rt, path, Unknown)
     }
+}
+
+/// What the files at a path hold, and the connection with which it was read; `start` stands for what the
+/// files held. No table is made and no row changed. Where there is no log beside the file, one is made.
+///
+/// # Errors
+///
+/// `OutOfMemory` if memory runs out. `Store` if there is no file, if the files cannot be opened, or if SQLite
+/// refuses for another cause. `NotADesk` if there is no table, if there are other tables than a desk's, or if
+/// the rows are those of no content in either schema.
+pub fn look_at<S: Start>(
+    rt: &HostRuntime,
+    path: &str,
+    start: S,
+) -> Result<(Connection<FileStore<FileFrom<S>>>, Holdings), OpenFault>
+    ensures looks { IfOk result (λ found. (w : World) × AreCounted found.1 w
+        × LooksIn (image_at S.Start) found.0 found.1.is_old w) }
+    ensures fault { FailsLookingIn (image_at S.Start) result }
+{
+    let (connection, content, _, old) = read_files(rt.alloc(), connect_there(rt, path, start)?)?;
+    Ok((connection, holdings_of(&content, old)))
+}
+
+/// A store of the content of the files at a path in new files at another, with the connection to the first
+/// and what it holds; `start` and `other` stand for what these files held. In the first no table is made and
+/// no row changed. If the store can't be made, the new files are left half made.
+///
+/// # Errors
+///
+/// Those of `look_at`, and `Store` if there is a file at the other path or if the new files fail.
+pub fn copy_from<S: Start, N: Start>(
+    rt: &HostRuntime,
+    path: &str,
+    start: S,
+    to: &str,
+    other: N,
+) -> Result<Copied<FileFrom<S>, FileFrom<N>>, OpenFault>
+    ensures looks { IfOk result (λ copied. AreCounted copied.1.1 copied.1.0.world
+        × LooksIn (image_at S.Start) copied.0 copied.1.1.is_old copied.1.0.world) }
+    ensures made { IfOk result (λ copied. IsMadeIn (image_at N.Start) copied.1.0.held) }
+    ensures left { IfOk result (λ copied. IsSettledAt over_files copied.1.0.held copied.1.0.world) }
+    ensures fault { FailsLookingIn (image_at S.Start) result }
+{
+    let alloc = rt.alloc();
+    let (connection, content, known, old) = read_files(alloc, connect_there(rt, path, start)?)?;
+    let store = store_files(alloc, connect_new(rt, to, other)?, &content, known)?;
+    Ok((connection, (store, holdings_of(&content, old))))
+}
+
+// The content of files, with the connection with which it was read.
+fn read_files<D: Disk + Drop>(
+    alloc: Global,
+    mut connection: Connection<FileStore<D>>,
+) -> Result<(Connection<FileStore<D>>, Content, Known, bool), OpenFault>
+    requires fresh { IsNew connection }
+    ensures looks { (image : Image) → Finds image connection → IfOk result (λ found.
+        LooksIn image found.0 found.3 found.1) }
+    ensures content { IfOk result (λ found. IsContent found.1) }
+    ensures bounded { IfOk result (λ found. Knows found.2 found.1) }
+    ensures fault { (image : Image) → Finds image connection → IfErr result
+        (FailsLooking D.Disk image) }
+{
+    let (content, known, old) = read_content(alloc, &mut connection)?;
+    Ok((connection, content, known, old))
+}
+
+// The store of a content in new files.
+fn store_files<D: Disk + Drop>(
+    alloc: Global,
+    connection: Connection<FileStore<D>>,
+    content: &Content,
+    known: Known,
+) -> Result<SqliteStore<FileStore<D>>, OpenFault>
+    requires fresh { IsNew connection }
+    requires content { IsContent content.now }
+    requires bounded { Knows known content.now }
+    ensures value { IfOk result (λ store. store.world ≡ content.now) }
+    ensures made { (image : Image) → Finds image connection → IfOk result (λ store.
+        IsMadeIn image store.held) }
+    ensures left { IfOk result (λ store. IsSettledAt over_files store.held store.world) }
+    ensures fault { IfErr result (λ e. (e ≢ OpenFault.NotADesk) × (e ≢ OpenFault.OldSchema)) }
+{
+    store_of(alloc, connection, content, known)
 }
 
 // The store over a connection that was opened to files, as `adopt` gives it, on whatever disk they are. A

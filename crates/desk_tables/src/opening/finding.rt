@@ -23,7 +23,7 @@ ghost use Rattle.desk_tables.specs.Opening.{BlamesReading, BlamesDatabase};
 use crate::kept::Kept;
 use crate::known::{Known, live_among, roll_of};
 use crate::lengths::Lengths;
-use crate::opening::content::{TableRows, content_in};
+use crate::opening::content::{Content, TableRows, content_in};
 use crate::opening::covers::covers_agree;
 use crate::opening::open::OpenFault;
 use desk_sql::{
@@ -37,9 +37,10 @@ use sqlite_value::value::ValueRef;
 use std::alloc::Global;
 use volume4d::laws::one_shape;
 
-/// The world that the database stands for: that of the rows in a desk's tables; and what is known of its
-/// plans. A database with no table gets a desk's, and its world is empty. One with part of them, or without
-/// the index, gets what is missing, if its rows are those of a content.
+/// The world that the database stands for: that of the rows in a desk's tables; what is known of its plans;
+/// and whether it has an operator, of which no clause speaks. A database with no table gets a desk's, and its
+/// world is empty. One with part of them, or without the index, gets what is missing, if its rows are those
+/// of a content.
 ///
 /// # Errors
 ///
@@ -48,7 +49,7 @@ use volume4d::laws::one_shape;
 pub(crate) fn world_in<S: Alter>(
     alloc: Global,
     connection: &mut Connection<S>,
-) -> Result<(Kept, Known), OpenFault>
+) -> Result<(Kept, Known, bool), OpenFault>
     requires settled { connection.old.in_transaction ≡ false }
     ensures begins { IfOk result (λ found.
         BeginsWith S.Store connection.old connection.new found.0.world) }
@@ -103,7 +104,7 @@ pub(crate) fn world_of<S: Alter>(
     alloc: Global,
     connection: &mut Connection<S>,
     made: Made,
-) -> Result<(Kept, Known), OpenFault>
+) -> Result<(Kept, Known, bool), OpenFault>
     requires part { Holds S.Store connection.old (IsMadeTo made) }
     requires new { Holds S.Store connection.old (HasNewRows made) }
     requires settled { connection.old.in_transaction ≡ false }
@@ -126,7 +127,7 @@ pub(crate) fn world_of<S: Alter>(
 {
     match made {
         Made::All => found_in(alloc, connection, Made::All),
-        Made::Nothing => Ok((made_in(connection)?, Known::new(alloc))),
+        Made::Nothing => Ok((made_in(connection)?, Known::new(alloc), false)),
         made => completed_in(alloc, connection, made),
     }
 }
@@ -158,7 +159,7 @@ fn completed_in<S: Alter>(
     alloc: Global,
     connection: &mut Connection<S>,
     made: Made,
-) -> Result<(Kept, Known), OpenFault>
+) -> Result<(Kept, Known, bool), OpenFault>
     requires part { Holds S.Store connection.old (IsMadeTo made) }
     requires new { Holds S.Store connection.old (HasNewRows made) }
     requires missing { made ≢ Made.All }
@@ -191,7 +192,7 @@ fn found_in<S: Alter>(
     alloc: Global,
     connection: &mut Connection<S>,
     made: Made,
-) -> Result<(Kept, Known), OpenFault>
+) -> Result<(Kept, Known, bool), OpenFault>
     requires part { Holds S.Store connection.old (IsMadeTo made) }
     requires new { Holds S.Store connection.old (HasNewRows made) }
     requires some { has_table made DeskTable.Operator ≡ true }
@@ -209,8 +210,37 @@ fn found_in<S: Alter>(
     ensures cause { IfErr result (BlamesReading S.Store connection.old connection.new) }
     ensures reads { OnlyReads S.Store connection.old connection.new }
 {
+    let (content, known) = content_found(alloc, connection, made)?;
+    let is_enrolled = !content.operators.is_empty();
+    Ok((Kept::of(&content), known, is_enrolled))
+}
+
+/// The content whose rows the tables have, so far as they are made, and what is known of its plans.
+pub(crate) fn content_found<S: Alter>(
+    alloc: Global,
+    connection: &mut Connection<S>,
+    made: Made,
+) -> Result<(Content, Known), OpenFault>
+    requires part { Holds S.Store connection.old (IsMadeTo made) }
+    requires new { Holds S.Store connection.old (HasNewRows made) }
+    requires some { has_table made DeskTable.Operator ≡ true }
+    requires settled { connection.old.in_transaction ≡ false }
+    ensures value { HasCleanDisk (state S.Store connection.new) → IfOk result (λ found.
+        IsContentOf (tables_at made (state S.Store connection.old).now.trees) found.0) }
+    ensures content { IfOk result (λ found. IsContent found.0) }
+    ensures bounded { IfOk result (λ found. Knows found.1 found.0) }
+    ensures none { HasCleanDisk (state S.Store connection.new) → IfErr result (λ e.
+        e ≡ OpenFault.NotADesk →
+        AreNoContent (tables_at made (state S.Store connection.old).now.trees)) }
+    ensures newer { IfErr result (λ e. e ≢ OpenFault.OldSchema) }
+    ensures open { HasCleanDisk (state S.Store connection.new) →
+        OnOk result (IsTrue (state S.Store connection.old).is_open) }
+    ensures live { OnOk result (IsOpenIfClean S.Store connection.new) }
+    ensures cause { IfErr result (BlamesReading S.Store connection.old connection.new) }
+    ensures reads { OnlyReads S.Store connection.old connection.new }
+{
     let rows = rows_in(alloc, connection, made)?;
-    kept_of(alloc, &rows)
+    content_of(alloc, &rows)
 }
 
 // How long the spans of these rows of `span` are.
@@ -237,11 +267,11 @@ fn length_with(lengths: &Lengths, row: &Row) -> Lengths
     }
 }
 
-// The world whose rows these are.
-fn kept_of(alloc: Global, rows: &TableRows) -> Result<(Kept, Known), OpenFault>
+// The content whose rows these are, and what is known of its plans.
+fn content_of(alloc: Global, rows: &TableRows) -> Result<(Content, Known), OpenFault>
     ensures value { IfOk result (λ found.
-        IsContent found.0.world × AreAllRows rows.now found.0.world) }
-    ensures bounded { IfOk result (λ found. Knows found.1 found.0.world) }
+        IsContent found.0 × AreAllRows rows.now found.0) }
+    ensures bounded { IfOk result (λ found. Knows found.1 found.0) }
     ensures none { IfErr result (λ e. e ≡ OpenFault.NotADesk →
         (w : World) → IsContent w → ¬ AreAllRows rows.now w) }
     ensures fault { IfErr result (λ e. (e ≢ OpenFault.Store)
@@ -258,7 +288,7 @@ fn kept_of(alloc: Global, rows: &TableRows) -> Result<(Kept, Known), OpenFault>
         live: live_among(alloc, &content.plans)?,
         roll: roll_of(alloc, &content.operators, &content.plans)?,
     };
-    Ok((Kept::of(&content), known))
+    Ok((content, known))
 }
 
 // The rows of the tables of schema 2, each by the columns of its key; of those that aren't made none.

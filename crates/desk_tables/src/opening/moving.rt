@@ -80,7 +80,7 @@ pub(crate) fn moved_world_in<S: Alter>(
     if old {
         return moved_in(alloc, connection, made);
     }
-    let (kept, known) = world_of(alloc, connection, made)?;
+    let (kept, known, _) = world_of(alloc, connection, made)?;
     Ok((kept, known, 0))
 }
 
@@ -160,8 +160,8 @@ fn rewrite<S: Alter>(
     Ok(())
 }
 
-// Adds the rows of plans in schema 2.
-fn write_plans<S: Alter>(
+/// Adds the rows of plans in schema 2.
+pub(crate) fn write_plans<S: Alter>(
     alloc: Global,
     tx: &mut Transaction<'_, S>,
     plans: &[FiledPlan],
@@ -210,8 +210,8 @@ fn write_plan<S: Alter>(
     Ok(())
 }
 
-// The content whose rows the tables of schema 1 have, and what is known of its plans.
-fn old_found_in<S: Alter>(
+/// The content whose rows the tables of schema 1 have, and what is known of its plans.
+pub(crate) fn old_found_in<S: Alter>(
     alloc: Global,
     connection: &mut Connection<S>,
     made: Made,
@@ -221,6 +221,7 @@ fn old_found_in<S: Alter>(
     requires settled { connection.old.in_transaction ≡ false }
     ensures value { HasCleanDisk (state S.Store connection.new) → IfOk result (λ found.
         IsOldContentOf (tables_at made (state S.Store connection.old).now.trees) found.0) }
+    ensures content { IfOk result (λ found. IsContent found.0) }
     ensures bounded { IfOk result (λ found. Knows found.1 found.0) }
     ensures none { HasCleanDisk (state S.Store connection.new) → IfErr result (λ e.
         e ≡ OpenFault.NotADesk →

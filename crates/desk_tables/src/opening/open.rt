@@ -171,9 +171,14 @@ impl<S: Alter> SqliteStore<S> {
             → (state S.Store store.held).IsShielded) }
     {
         match world_in(alloc, &mut connection) {
-            Ok((kept, known)) => {
-                Ok(SqliteStore::with(alloc, connection, kept, known, StoreFault::Store))
-            }
+            Ok((kept, known, is_enrolled)) => Ok(SqliteStore::with(
+                alloc,
+                connection,
+                kept,
+                known,
+                StoreFault::Store,
+                is_enrolled,
+            )),
             Err(fault) => Err(AdoptFault { fault, connection }),
         }
     }
@@ -214,7 +219,14 @@ impl<S: Alter> SqliteStore<S> {
     {
         match moved_world_in(alloc, &mut connection) {
             Ok((kept, known, count)) => {
-                let store = SqliteStore::with(alloc, connection, kept, known, StoreFault::Store);
+                let store = SqliteStore::with(
+                    alloc,
+                    connection,
+                    kept,
+                    known,
+                    StoreFault::Store,
+                    true,
+                );
                 Ok((store, count))
             }
             Err(fault) => Err(AdoptFault { fault, connection }),
@@ -261,5 +273,12 @@ fn over_blank<S: Alter + Drop>(
     };
     let kept = made_in(&mut connection)?;
     let known = Known::new(alloc);
-    Ok(SqliteStore::with(alloc, connection, kept, known, StoreFault::OutOfMemory))
+    Ok(SqliteStore::with(
+        alloc,
+        connection,
+        kept,
+        known,
+        StoreFault::OutOfMemory,
+        false,
+    ))
 }

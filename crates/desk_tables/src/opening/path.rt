@@ -9,6 +9,7 @@ ghost use Rattle.desk_tables.specs.Files.{Finds, IsUnread};
 use crate::opening::open::OpenFault;
 use sqlite::{Connection, FileFrom, FileStore, Files, Options, Start};
 use sqlite_std_file::OpenError;
+use std::fs::{exists, metadata};
 use std::hash::{BuildHasher, RandomState};
 use std::io::ErrorKind;
 
@@ -38,6 +39,46 @@ pub(crate) fn connect<S: Start>(
     match Connection::open_files_with(rt.alloc(), files, options, NEW_HAS_SUMS) {
         Ok(connection) => Ok(connection),
         Err((error, _)) => Err(OpenFault::from(error)),
+    }
+}
+
+/// A connection to files that are there already, as `connect` gives it.
+///
+/// # Errors
+///
+/// Those of `connect`, and `Store` if there is no file at the path, or an empty one.
+pub(crate) fn connect_there<S: Start>(
+    rt: &HostRuntime,
+    path: &str,
+    start: S,
+) -> Result<Connection<FileStore<FileFrom<S>>>, OpenFault>
+    ensures found { IfOk result (Finds (image_at S.Start)) }
+    ensures fresh { IfOk result IsNew }
+    ensures unread { IfErr result IsUnread }
+{
+    match metadata(rt, path) {
+        Ok(found) if found.len() > 0 => connect(rt, path, start),
+        _ => Err(OpenFault::Store),
+    }
+}
+
+/// A connection to files that are made, as `connect` gives it.
+///
+/// # Errors
+///
+/// Those of `connect`, and `Store` if there is something at the path.
+pub(crate) fn connect_new<S: Start>(
+    rt: &HostRuntime,
+    path: &str,
+    start: S,
+) -> Result<Connection<FileStore<FileFrom<S>>>, OpenFault>
+    ensures found { IfOk result (Finds (image_at S.Start)) }
+    ensures fresh { IfOk result IsNew }
+    ensures unread { IfErr result IsUnread }
+{
+    match exists(rt, path) {
+        Ok(false) => connect(rt, path, start),
+        _ => Err(OpenFault::Store),
     }
 }
 

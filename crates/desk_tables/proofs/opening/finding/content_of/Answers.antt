@@ -8,7 +8,7 @@ use Rattle.desk_tables.specs.Tables.{cover_rows}
 use Rattle.desk_store.specs.World.{World}
 use Rattle.desk_tables.proofs.CoverLemmas.{no_covers}
 use Rattle.desk_tables.proofs.LengthLemmas.{bounds_of}
-use Rattle.desk_tables.proofs.opening.finding.kept_of.Goals as goal
+use Rattle.desk_tables.proofs.opening.finding.content_of.Goals as goal
 
 pub returns-clause-bounded : goal.returns-clause-bounded
 returns-clause-bounded c =
@@ -17,7 +17,7 @@ returns-clause-bounded c =
     let operators = c.deref-5.ensures.value ∙ ap (λ (w : World). w.operators) c.content.view_is in
     let again = c.deref-6.ensures.value ∙ ap (λ (w : World). w.plans) c.content.view_is in
     let content = c.in_ok-content.content in
-    subst (Knows _) (sym c.of.ensures) (record {
+    record {
       lengths = bounds_of c.one_list_of_ranges.ensures c.lengths_in.result content c.args.rows.now.spans
           c.in_ok-content.ensures.ok.1.span_part
           (subst (AllByRecursion (IsKnownRow c.lengths_in.result)) spans c.lengths_in.ensures);
@@ -25,7 +25,7 @@ returns-clause-bounded c =
       roll = subst (λ ls. AreAccountsOf ls content.plans (accounts_of c.in_ok-roll_of.field-0)) operators
           (subst (λ ps. AreAccountsOf c.deref-5.result.now ps (accounts_of c.in_ok-roll_of.field-0)) again
           c.in_ok-roll_of.ensures);
-    })
+    }
 
 pub returns-then-not-branch-clause-none : goal.returns-then-not-branch-clause-none
 returns-then-not-branch-clause-none c = λ _.

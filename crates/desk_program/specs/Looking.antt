@@ -1,0 +1,36 @@
+-- Looking: the lines that tell a keeper what a file holds and what was copied, and what is printed of them.
+use Rattle.std.specs.Prelude.{◌≡◌, ◌⊎◌, ℕ, ◌/◌, ◌%◌, Bool, true, false, List, ◌++◌, codes, decimal, if◌then◌else◌, Option}
+use Rattle.std.specs.Io.KnownBytes.{Appends}
+use Rattle.desk_line.specs.declared.failure.Failure.TheVariants as failure
+use Rattle.desk_line.specs.Exits.{Ending, EndsWell, FailsWith}
+use Rattle.desk_program.specs.Enrolling.{IsCutOff}
+use Rattle.desk_program.specs.declared.looking.CheckedFile.{CheckedFile}
+
+unfoldable pub counts_text : CheckedFile → List ℕ
+counts_text file =
+    codes "schema " ++ (decimal (if file.is_old then 1 else 2)
+    ++ (codes ", sums " ++ ((if file.has_sums then codes "yes" else codes "no")
+    ++ (codes ", " ++ (decimal file.operators ++ (codes " operators, " ++ (decimal file.plans
+    ++ (codes " plans, " ++ (decimal file.live ++ (codes " live, " ++ (decimal file.spans
+    ++ codes " spans")))))))))))
+
+-- sizes in megabytes, with one digit after the point, rounded down
+unfoldable pub sizes_text : CheckedFile → List ℕ
+sizes_text file =
+    codes ", " ++ (decimal (file.size / 100000 / 10) ++ (codes "." ++ (decimal (file.size / 100000 % 10)
+    ++ (codes " MB, " ++ (decimal (file.log / 100000 / 10) ++ (codes "." ++ (decimal (file.log / 100000 % 10)
+    ++ codes " MB in the log\n")))))))
+
+-- the line of `check`
+abbrev pub checked_line : CheckedFile → List ℕ
+checked_line file = counts_text file ++ sizes_text file
+
+unfoldable pub copied_line : ℕ → ℕ → List ℕ
+copied_line operators plans =
+    codes "copied " ++ (decimal operators ++ (codes " operators, " ++ (decimal plans ++ codes " plans\n")))
+
+-- a text is printed; or it is cut off, since a write failed; or nothing is printed, since memory ran out
+abbrev pub IsTextPrinted : List ℕ → Ending → Option (List ℕ) → Option (List ℕ) → Type 0
+IsTextPrinted text end out now =
+    (EndsWell end × Appends out now text) ⊎ (FailsWith failure.Write end × IsCutOff text out now)
+    ⊎ (FailsWith failure.Memory end × (now ≡ out))

@@ -1,0 +1,83 @@
+-- What is read of a database in either schema is what it showed before.
+use Rattle.std.proofs.Common.{◌≡◌, ◌≤◌, inl, inr, Bool, true, false, Result, Ok, Err, IfOk, IfErr, IsTrue, sym, subst, arith}
+use Rattle.std.specs.Result.{IsErrAnd}
+use Rattle.sqlite_disk.specs.declared.Disk as disk
+use Rattle.sqlite_wal.specs.Recovery.{Image}
+use Rattle.sqlite_trees.specs.declared.store.Store.{Ghosts}
+use Rattle.sqlite_store.specs.declared.store.FileStore.{FileStore}
+use Rattle.sqlite_trees.specs.View.{doubt}
+use Rattle.sqlite.specs.Effect.{Database}
+use Rattle.sqlite.specs.State.{HasCleanDisk}
+use Rattle.sqlite.specs.Held.{Held, state}
+use Rattle.sqlite.specs.Files.{file_state, over_files}
+use Rattle.desk_sql.specs.declared.opening.finding.Made.{Made}
+use Rattle.desk_sql.specs.Effects.{IsOpenIfClean}
+use Rattle.desk_sql.specs.Schema.{blank_schema}
+use Rattle.desk_sql.specs.Finding.{Holds}
+use Rattle.desk_sql.specs.Frames.{OnlyReads}
+use Rattle.desk_sql.specs.Rows.{IsMadeTo, tables_at, has_old_rows}
+use Rattle.desk_tables.specs.declared.opening.open.OpenFault.{OpenFault}
+use Rattle.desk_tables.specs.declared.opening.open.OpenFault.TheVariants.{NotADesk}
+use Rattle.desk_tables.specs.Files.{Finds}
+use Rattle.desk_tables.specs.Store.{Shown}
+use Rattle.desk_tables.specs.Opening.{HasRowsOld, ShowsNoDesk}
+use Rattle.desk_tables.specs.Copying.{AreNoContentIn, FailsLooking, FailsLookingIn, HoldsNone, IsMadeIn, ShowsNone}
+
+none_held : (made : Made) (old : Bool) (db : Database) → IsMadeTo made db
+    → has_old_rows (tables_at made db.trees) ≡ old → AreNoContentIn old (tables_at made db.trees)
+    → HoldsNone db
+none_held made true db desk rows none =
+    inr (inr (inr (record { made = made; desk = desk; old = rows; none = none })))
+none_held made false db desk rows none =
+    inr (inr (inl (record { made = made; desk = desk; new = rows; none = none })))
+
+module _ {S : Type 0} (g : Ghosts S) where
+  -- what shows no desk's tables or rows shows no content
+  pub none_shown : (a c : Held S) → ShowsNoDesk g a c → ShowsNone g a c
+  none_shown a c none = λ clean live. elim (none clean live) [
+    | inl others ↦ inr (inl others)
+    | inr rows ↦ inr (inr (inl rows))
+  ]
+
+-- what has no content after a reading has none before it
+module _ {S : Type 0} (g : Ghosts S) (a b c : Held S) (made : Made) (old : Bool) (reads : OnlyReads g a b)
+    (part : Holds g b (IsMadeTo made)) (rows : Holds g b (HasRowsOld made old)) (later : OnlyReads g b c)
+  where
+    pub none_later_shown : {V : Type 0} (r : Result V OpenFault)
+        → (HasCleanDisk (state g c) → IfErr r (λ e. e ≡ NotADesk
+        → AreNoContentIn old (tables_at made (state g b).now.trees)))
+        → IfErr r (λ e. e ≡ NotADesk → ShowsNone g a c)
+    none_later_shown (Ok v) none = tt
+    none_later_shown (Err e) none = λ is clean live.
+        let mid : HasCleanDisk (state g b) = omega (arith, later.doubt, clean) in
+        let was = (later.kept clean live).was_open in
+        let shows = reads.kept mid was in
+        subst HoldsNone shows.now
+        (none_held made old (state g b).now (part mid was) (rows mid was) (none clean is))
+
+-- ---- over files
+
+module _ {D : Type 0} {g : disk.Ghosts D} (image : Image) where
+  -- what is said of a fault, once it is told on
+  pub fails_as : {V : Type 0} (r : Result (Held (FileStore D g) × V) OpenFault) (e : OpenFault)
+      → IsErrAnd r (λ fault. fault ≡ e) → FailsLooking g image e → FailsLookingIn image r
+  fails_as (Ok v) e is fails = tt
+  fails_as (Err f) e is fails = subst (FailsLooking g image) (sym is) fails
+
+  -- a store that was made over a connection to files was made in these files
+  pub made_files : (a : Held (FileStore D g)) (r : Result (Shown (FileStore D g)) OpenFault)
+      → Finds image a
+      → IfOk r (λ store. HasCleanDisk (file_state store.held) → (file_state a).now.schema ≡ blank_schema)
+      → IfOk r (λ store. IsOpenIfClean (over_files {D = D} {g = g}) store.held)
+      → IfOk r (λ store. doubt (file_state a).is_clean ≤ doubt (file_state store.held).is_clean)
+      → IfOk r (λ store. (file_state a).IsShielded → (file_state store.held).IsShielded)
+      → IfOk r (λ store. IsMadeIn image store.held)
+  made_files a (Err e) finds blank live rises shield = tt
+  made_files a (Ok store) finds blank live rises shield = record {
+    found = a;
+    opened = λ clean. finds.first (omega (arith, rises, clean));
+    blank = blank;
+    guarded = λ clean. shield (finds.guarded clean);
+    summed = finds.summed;
+    live = live;
+  }

@@ -1,0 +1,144 @@
+-- Copying: what a database holds, read in either schema, and a new one that gets its content.
+use Rattle.std.specs.Prelude.{◌≡◌, ◌≢◌, ◌⊎◌, ⊤, ℕ, Bool, true, false, List, ◌++◌, length, map, filter, IsTrue, IsPermutation, Result, Ok, Err}
+use Rattle.sqlite_disk.specs.declared.Disk as disk
+use Rattle.sqlite_wal.specs.Recovery.{Image}
+use Rattle.sqlite_trees.specs.declared.store.Store.{Ghosts}
+use Rattle.sqlite_store.specs.declared.store.FileStore.{FileStore}
+use Rattle.sqlite_store.specs.FileStore.{view}
+use Rattle.sqlite_value.specs.Order.{Row}
+use Rattle.sqlite.specs.Effect.{Database}
+use Rattle.sqlite.specs.State.{HasCleanDisk}
+use Rattle.sqlite.specs.Held.{Held, IsNew, state}
+use Rattle.sqlite.specs.Files.{over_files, file_state, IsBlankAs}
+use Rattle.desk_sql.specs.Effects.{IsOpenIfClean}
+use Rattle.desk_sql.specs.Frames.{OnlyReads}
+use Rattle.desk_sql.specs.Schema.{blank_schema}
+use Rattle.desk_sql.specs.declared.opening.finding.Made.{Made}
+use Rattle.desk_sql.specs.declared.opening.finding.Made.TheVariants.{Nothing}
+use Rattle.desk_sql.specs.Finding.{HasOthers}
+use Rattle.desk_sql.specs.Rows.{IsMadeTo, Tables, tables_at, has_old_rows}
+use Rattle.desk_rules.specs.Plan.{is_live}
+use Rattle.desk_store.specs.World.{Filed, Listed, World}
+use Rattle.desk_tables.specs.Tables.{operator_row, operator_rows, plan_rows, volume_rows, cover_rows, AreSpanRows}
+use Rattle.desk_tables.specs.Opening.{IsContentOf, HasNoContent, AreNoContent}
+use Rattle.desk_tables.specs.Moving.{IsOldContentOf, HasNoOldContent, AreNoOldContent}
+use Rattle.desk_tables.specs.Files.{FindsFirst}
+use Rattle.desk_tables.specs.declared.opening.looking.Holdings.{Holdings}
+use Rattle.desk_tables.specs.declared.opening.open.OpenFault.{OpenFault}
+use Rattle.desk_tables.specs.declared.opening.open.OpenFault.TheVariants.{NotADesk, OldSchema}
+
+-- ---- what a database holds
+
+-- the rows of this content, in schema 1 or in schema 2
+abbrev pub IsContentIn : Bool → Tables → World → Type 0
+IsContentIn true tables w = IsOldContentOf tables w
+IsContentIn false tables w = IsContentOf tables w
+
+abbrev pub AreNoContentIn : Bool → Tables → Type 0
+AreNoContentIn true tables = AreNoOldContent tables
+AreNoContentIn false tables = AreNoContent tables
+
+-- a desk's tables, so far as they are made, with the rows of this content: in schema 1 if that has rows, else
+-- in schema 2
+pub record HoldsContent (old : Bool) (w : World) (db : Database) : Type 0 where
+  pub made : Made
+  pub desk : IsMadeTo made db
+  pub schema : has_old_rows (tables_at made db.trees) ≡ old
+  pub rows : IsContentIn old (tables_at made db.trees) w
+
+-- no table at all, other tables than a desk's, or rows of no content in either schema
+abbrev pub HoldsNone : Database → Type 0
+HoldsNone db = (db.schema ≡ blank_schema) ⊎ (HasOthers db ⊎ (HasNoContent db ⊎ HasNoOldContent db))
+
+-- how many plans are not closed
+abbrev pub live_count : List Filed → ℕ
+live_count ps = length (filter (λ p. is_live p.row.usage) ps)
+
+-- they are counted
+pub record AreCounted (h : Holdings) (w : World) : Type 0 where
+  pub operators : h.operators ≡ length w.operators
+  pub plans : h.plans ≡ length w.plans
+  pub live : h.live ≡ live_count w.plans
+
+module _ {S : Type 0} (g : Ghosts S) (old new : Held S) where
+  -- what is shown is no content
+  abbrev pub ShowsNone : Type 0
+  ShowsNone = HasCleanDisk (state g new) → IsTrue (state g new).is_open → HoldsNone (state g old).now
+
+  -- over a clean disk, what was shown has the rows of this content
+  abbrev pub ShowsContent : Bool → World → Type 0
+  ShowsContent schema w = HasCleanDisk (state g new) → HoldsContent schema w (state g old).now
+
+-- ---- over files
+
+module _ {D : Type 0} {g : disk.Ghosts D} (image : Image) where
+  -- a connection finds the database of the files, which has the rows of this content, and is left as it was
+  pub record LooksIn (left : Held (FileStore D g)) (old : Bool) (w : World) : Type 0 where
+    pub found : Held (FileStore D g)
+    pub opened : HasCleanDisk (file_state left) → FindsFirst image found
+    pub shows : ShowsContent (over_files {D = D} {g = g}) found left old w
+    pub reads : OnlyReads (over_files {D = D} {g = g}) found left
+
+  -- a connection found no table in files, and the store of a content was made there
+  pub record IsMadeIn (h : Held (FileStore D g)) : Type 0 where
+    pub found : Held (FileStore D g)
+    pub opened : HasCleanDisk (file_state h) → FindsFirst image found
+    pub blank : HasCleanDisk (file_state h) → (file_state found).now.schema ≡ blank_schema
+    pub guarded : HasCleanDisk (file_state found) → (file_state h).IsShielded
+    pub summed : HasCleanDisk (file_state found) → IsBlankAs true image
+        → (view found.store).has_sums ≡ true
+    pub live : IsOpenIfClean (over_files {D = D} {g = g}) h
+
+module _ {D : Type 0} (g : disk.Ghosts D) (image : Image) where
+  -- a connection finds that the database of the files has no content, and leaves it
+  pub record FindsNone : Type 0 where
+    pub found : Held (FileStore D g)
+    pub left : Held (FileStore D g)
+    pub opened : HasCleanDisk (file_state left) → FindsFirst image found
+    pub fresh : IsNew found
+    pub none : ShowsNone (over_files {D = D} {g = g}) found left
+    pub reads : OnlyReads (over_files {D = D} {g = g}) found left
+
+-- that files hold no content is told only of what a connection found in them; of rows of schema 1 it is never
+-- told
+abbrev pub FailsLooking : {D : Type 0} (g : disk.Ghosts D) → Image → OpenFault → Type 0
+FailsLooking g image e = (e ≡ NotADesk → FindsNone g image) × (e ≢ OldSchema)
+
+-- the fault, if there is one
+abbrev pub FailsLookingIn :
+    {V D : Type 0} {g : disk.Ghosts D} → Image → Result (Held (FileStore D g) × V) OpenFault → Type 0
+FailsLookingIn {V} {D} {g} image (Ok found) = ⊤
+FailsLookingIn {V} {D} {g} image (Err e) = FailsLooking g image e
+
+-- ---- a content that is written
+
+-- the rows of operators are added
+pub record AddsOperatorRows (ls : List Listed) (old new : Tables) : Type 0 where
+  pub operators : IsPermutation (map operator_row ls ++ old.operators) new.operators
+  pub plans : new.plans ≡ old.plans
+  pub old_volumes : new.old_volumes ≡ old.old_volumes
+  pub old_spans : new.old_spans ≡ old.old_spans
+  pub volumes : new.volumes ≡ old.volumes
+  pub covers : new.covers ≡ old.covers
+  pub spans : new.spans ≡ old.spans
+
+-- the rows of plans in `plan` are added
+pub record AddsHeadRows (ps : List Filed) (old new : Tables) : Type 0 where
+  pub operators : new.operators ≡ old.operators
+  pub plans : IsPermutation (plan_rows ps ++ old.plans) new.plans
+  pub old_volumes : new.old_volumes ≡ old.old_volumes
+  pub old_spans : new.old_spans ≡ old.old_spans
+  pub volumes : new.volumes ≡ old.volumes
+  pub covers : new.covers ≡ old.covers
+  pub spans : new.spans ≡ old.spans
+
+-- the rows of a world are added
+pub record AddsWorldRows (w : World) (old new : Tables) : Type 0 where
+  pub operators : IsPermutation (operator_rows w ++ old.operators) new.operators
+  pub plans : IsPermutation (plan_rows w.plans ++ old.plans) new.plans
+  pub old_volumes : new.old_volumes ≡ old.old_volumes
+  pub old_spans : new.old_spans ≡ old.old_spans
+  pub with_volumes : IsPermutation (volume_rows w.plans ++ old.volumes) new.volumes
+  pub with_covers : IsPermutation (cover_rows w.plans ++ old.covers) new.covers
+  pub with_spans :
+      (rows : List Row) × AreSpanRows w.plans rows × IsPermutation (rows ++ old.spans) new.spans

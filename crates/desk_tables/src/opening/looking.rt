@@ -1,0 +1,154 @@
+//! What a database holds, in either schema, read without a change.
+
+ghost use Rattle.std.specs.Prelude.{◌≡◌, ◌≢◌, false, IfOk, IfErr, OnOk, IsTrue};
+ghost use Rattle.sqlite.specs.State.{HasCleanDisk};
+ghost use Rattle.sqlite.specs.Held.{state};
+ghost use Rattle.desk_rules.specs.Plan.{is_live};
+ghost use Rattle.desk_sql.specs.Frames.{OnlyReads};
+ghost use Rattle.desk_sql.specs.Finding.{Holds};
+ghost use Rattle.desk_sql.specs.Rows.{IsMadeTo, tables_at};
+ghost use Rattle.desk_store.specs.World.{World};
+ghost use Rattle.desk_tables.specs.Content.{IsContent};
+ghost use Rattle.desk_tables.specs.Known.{Knows};
+ghost use Rattle.desk_tables.specs.Opening.{BlamesDatabase, BlamesReading, HasRowsOld};
+ghost use Rattle.desk_tables.specs.Copying as spec;
+ghost use Rattle.desk_tables.specs.Copying.{AreCounted, AreNoContentIn, IsContentIn, ShowsContent, ShowsNone};
+
+use crate::known::Known;
+use crate::opening::content::Content;
+use crate::opening::exact::FiledPlan;
+use crate::opening::finding::{content_found, tables_found};
+use crate::opening::moving::old_found_in;
+use crate::opening::open::OpenFault;
+use desk_rules::words::Usage;
+use desk_sql::Made;
+use sqlite::Connection;
+use sqlite_trees::store::Alter;
+use std::alloc::Global;
+
+/// What a database holds.
+#[derive(Clone, Copy, Debug, PartialEq, Eq)]
+pub struct Holdings {
+    /// Whether the rows are those of schema 1.
+    pub is_old: bool,
+    /// How many operators there are.
+    pub operators: usize,
+    /// How many plans there are, closed ones too.
+    pub plans: usize,
+    /// How many of them are not closed.
+    pub live: usize,
+    /// How many rows of spans there are.
+    pub spans: usize,
+}
+
+/// How many operators and plans a database holds, in either schema. It makes and changes nothing.
+///
+/// # Errors
+///
+/// `OutOfMemory` if memory runs out. `Store` if SQLite refuses for another cause. `NotADesk` if there is no
+/// table, if there are other tables than a desk's, or if the rows are those of no content in either schema.
+pub fn look_into<S: Alter>(
+    alloc: Global,
+    connection: &mut Connection<S>,
+) -> Result<Holdings, OpenFault>
+    requires settled { connection.old.in_transaction ≡ false }
+    ensures value { IfOk result (λ holdings. (w : World) × AreCounted holdings w
+        × ShowsContent S.Store connection.old connection.new holdings.is_old w) }
+    ensures none { IfErr result (λ e. e ≡ OpenFault.NotADesk →
+        ShowsNone S.Store connection.old connection.new) }
+    ensures newer { IfErr result (λ e. e ≢ OpenFault.OldSchema) }
+    ensures cause { IfErr result (BlamesDatabase S.Store connection.old connection.new) }
+    ensures reads { OnlyReads S.Store connection.old connection.new }
+{
+    let (content, _, old) = read_content(alloc, connection)?;
+    Ok(holdings_of(&content, old))
+}
+
+/// How many operators and plans a content has, and whether it was read in schema 1.
+pub(crate) fn holdings_of(content: &Content, is_old: bool) -> Holdings
+    ensures counted { AreCounted result content.now }
+    ensures schema { result.is_old ≡ is_old }
+{
+    Holdings {
+        is_old,
+        operators: content.operators.len(),
+        plans: content.plans.len(),
+        live: live_count(&content.plans),
+        spans: content.spans,
+    }
+}
+
+/// The content whose rows a database has, what is known of its plans, and whether the rows are those of
+/// schema 1.
+///
+/// # Errors
+///
+/// Those of `look_into`.
+pub(crate) fn read_content<S: Alter>(
+    alloc: Global,
+    connection: &mut Connection<S>,
+) -> Result<(Content, Known, bool), OpenFault>
+    requires settled { connection.old.in_transaction ≡ false }
+    ensures value { IfOk result (λ found.
+        ShowsContent S.Store connection.old connection.new found.2 found.0) }
+    ensures content { IfOk result (λ found. IsContent found.0) }
+    ensures bounded { IfOk result (λ found. Knows found.1 found.0) }
+    ensures none { IfErr result (λ e. e ≡ OpenFault.NotADesk →
+        ShowsNone S.Store connection.old connection.new) }
+    ensures newer { IfErr result (λ e. e ≢ OpenFault.OldSchema) }
+    ensures cause { IfErr result (BlamesDatabase S.Store connection.old connection.new) }
+    ensures reads { OnlyReads S.Store connection.old connection.new }
+{
+    let (made, old) = tables_found(connection)?;
+    if made == Made::Nothing {
+        return Err(OpenFault::NotADesk);
+    }
+    let (content, known) = content_at(alloc, connection, made, old)?;
+    Ok((content, known, old))
+}
+
+// The content whose rows the tables have, in schema 1 if that has rows, else in schema 2.
+#[tactic(auto, using(crate::proofs::OpeningLemmas::some_operators))]
+fn content_at<S: Alter>(
+    alloc: Global,
+    connection: &mut Connection<S>,
+    made: Made,
+    old: bool,
+) -> Result<(Content, Known), OpenFault>
+    requires part { Holds S.Store connection.old (IsMadeTo made) }
+    requires rows { Holds S.Store connection.old (HasRowsOld made old) }
+    requires some { made ≢ Made.Nothing }
+    requires settled { connection.old.in_transaction ≡ false }
+    ensures value { HasCleanDisk (state S.Store connection.new) → IfOk result (λ found.
+        IsContentIn old (tables_at made (state S.Store connection.old).now.trees) found.0) }
+    ensures content { IfOk result (λ found. IsContent found.0) }
+    ensures bounded { IfOk result (λ found. Knows found.1 found.0) }
+    ensures none { HasCleanDisk (state S.Store connection.new) → IfErr result (λ e.
+        e ≡ OpenFault.NotADesk →
+        AreNoContentIn old (tables_at made (state S.Store connection.old).now.trees)) }
+    ensures newer { IfErr result (λ e. e ≢ OpenFault.OldSchema) }
+    ensures open { HasCleanDisk (state S.Store connection.new) →
+        OnOk result (IsTrue (state S.Store connection.old).is_open) }
+    ensures cause { IfErr result (BlamesReading S.Store connection.old connection.new) }
+    ensures reads { OnlyReads S.Store connection.old connection.new }
+{
+    if old {
+        old_found_in(alloc, connection, made)
+    } else {
+        content_found(alloc, connection, made)
+    }
+}
+
+// How many plans are not closed.
+fn live_count(plans: &[FiledPlan]) -> usize
+    ensures { result ≡ spec.live_count plans.now }
+{
+    plans.iter().filter(|plan| is_live(plan)).count()
+}
+
+// Whether a plan is not closed.
+fn is_live(plan: &FiledPlan) -> bool
+    ensures { result ≡ is_live plan.now.row.usage }
+{
+    plan.row.usage != Usage::Closed
+}

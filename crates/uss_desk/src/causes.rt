@@ -1,0 +1,119 @@
+//! Why a file can't be opened, as far as that can be told afterwards: a line for the keeper, of which no clause
+//! speaks.
+
+use crate::opening::{Opened, OpenedDesk};
+use desk_line::{Database, Failure, Line};
+use desk_wire::write_whole;
+use sqlite::{Start, Unknown};
+use sqlite_std_file::OpenError;
+use std::alloc::{AllocError, Global};
+use std::fs::{self, File, OpenOptions};
+use std::io::{ErrorKind, Read, Write};
+
+// What a database file begins with.
+const MAGIC: &[u8; 16] = b"SQLite format 3\0";
+
+/// Tells why the file of `migrate` can't be opened, if it can't.
+pub fn tell_cause<F: Start, E: Write>(
+    rt: &HostRuntime,
+    line: &Line,
+    opened: &OpenedDesk<F>,
+    errors: &mut E,
+) {
+    if let Line::Migrate(words) = line
+        && let Database::File(path) = &words.database
+        && let Opened::Moved(Err(failure)) = opened
+    {
+        tell(rt, path, *failure, errors);
+    }
+}
+
+/// Tells why the file at a path can't be opened: `uss_desk: PATH: CAUSE`. A fault of the writer is passed over.
+pub fn tell<E: Write>(rt: &HostRuntime, path: &str, failure: Failure, errors: &mut E) {
+    let cause = match failure {
+        Failure::Store => store_cause(rt, path),
+        Failure::NotADesk => {
+            "no table, other tables than a desk's or in another order, or rows of no content"
+        }
+        Failure::OldSchema => "rows of schema 1: migrate it",
+        _ => return,
+    };
+    tell_of(rt.alloc(), path, cause, errors);
+}
+
+/// Tells that a desk has no operator: that in the file at the path, or one in memory. A fault of the stream is
+/// passed over.
+pub fn tell_unenrolled(rt: &HostRuntime, path: Option<&str>) {
+    let path = path.unwrap_or(":memory:");
+    let text = "no operator is enrolled, so each request is answered 403";
+    tell_of(rt.alloc(), path, text, &mut rt.stderr());
+}
+
+/// Prints `uss_desk: PATH: TEXT`. A fault of the writer is passed over, and so is want of memory.
+pub fn tell_of<E: Write>(alloc: Global, path: &str, text: &str, errors: &mut E) {
+    if let Ok(text) = line_of(alloc, path, text) {
+        let _ = write_whole(errors, text.as_bytes());
+    }
+}
+
+fn line_of(alloc: Global, path: &str, text: &str) -> Result<String, AllocError> {
+    format!(in alloc; "uss_desk: {path}: {text}\n")
+}
+
+// Why SQLite refuses a file.
+fn store_cause(rt: &HostRuntime, path: &str) -> &'static str {
+    if path.starts_with("file:") {
+        return "a name that SQLite reads otherwise than as a path";
+    }
+    match fs::metadata(rt, path) {
+        Err(error) if error.kind() == ErrorKind::NotFound => return "no such file",
+        Err(error) if error.kind() == ErrorKind::PermissionDenied => return "no right to reach it",
+        Err(_) => return "it can't be reached",
+        Ok(found) if !found.is_file() => return "no file",
+        Ok(found) if found.len() == 0 => return "an empty file",
+        Ok(_) => {}
+    }
+    if let Some(cause) = right_cause(rt, path) {
+        return cause;
+    }
+    match sqlite_std_file::open(rt, path, Unknown) {
+        Err(OpenError::Busy) => return "in use by another program",
+        Err(OpenError::HotJournal) =>
+            return "a journal of SQLite beside it: open it with sqlite3 first",
+        Err(OpenError::Io(_)) => {
+            return "no right to its log or folder, a second name, or a disk that fails";
+        }
+        _ => {}
+    }
+    match begins(rt, path) {
+        Some(true) => {
+            "a damaged page, the log of another file, rows that break a key, or a disk that fails"
+        }
+        Some(false) => "no SQLite database",
+        None => "it can't be read",
+    }
+}
+
+// Whether a right to a file is missing.
+fn right_cause(rt: &HostRuntime, path: &str) -> Option<&'static str> {
+    match File::open(rt, path) {
+        Err(error) if error.kind() == ErrorKind::PermissionDenied => Some("no right to read it"),
+        _ => match OpenOptions::new().read(true).write(true).open(rt, path) {
+            Err(error) if error.kind() == ErrorKind::PermissionDenied => {
+                Some("no right to write it")
+            }
+            _ => None,
+        },
+    }
+}
+
+// Whether a file begins as a database does; None if it can't be read.
+fn begins(rt: &HostRuntime, path: &str) -> Option<bool> {
+    let mut first = [0u8; 16];
+    let mut file = File::open(rt, path).ok()?;
+    match file.read_exact(&mut first) {
+        Ok(()) => Some(first == *MAGIC),
+        Err(error) if error.kind() == ErrorKind::UnexpectedEof => Some(false),
+        Err(_) => None,
+    }
+}
