@@ -1,9 +1,10 @@
 -- What a crash leaves is read as one content.
-use Rattle.std.proofs.Common.{◌≡◌, ◌⊎◌, inl, inr, Option, Some, None, IsSome, IsTrue, length, refl, sym, ap, subst, ◌∙◌, arith, true, true≢false}
+use Rattle.std.proofs.Common.{◌≡◌, ◌⊎◌, inl, inr, ◌≢◌, Option, Some, None, IsSome, IfSome, IsTrue, length, refl, sym, ap, subst, ◌∙◌, arith, true, true≢false}
 use Rattle.std.specs.Coded.{Coded-set}
 use Rattle.std.proofs.Math.Logic.{∥∥₁_elim, ∥∥₁_map}
 use Rattle.sqlite_trees.specs.declared.store.Store.{Ghosts}
 use Rattle.sqlite_disk.specs.declared.Disk as disk
+use Rattle.sqlite_wal.specs.Recovery.{Image}
 use Rattle.sqlite_store.specs.declared.store.FileStore.{FileStore}
 use Rattle.sqlite_catalog.proofs.ReadLemmas.{lists_once}
 use Rattle.sqlite.specs.Tree.{Trees}
@@ -24,8 +25,9 @@ use Rattle.desk_tables.specs.declared.opening.open.OpenFault.TheVariants.{OutOfM
 use Rattle.desk_tables.specs.Tables.{AreTables}
 use Rattle.desk_tables.specs.Content.{IsContent}
 use Rattle.desk_tables.specs.Store.{IsStanding, Stands}
+use Rattle.desk_tables.specs.Files.{AreRefused, IsUnread}
 use Rattle.desk_tables.specs.Opening.{IsPart, AreNoContent}
-use Rattle.desk_tables.specs.Leaving.{HasWorld, ReadsAs, MayLeave, MayHave, IsUntaken, IsFoundAfter, BeginsAfter, IsRefusedAfter}
+use Rattle.desk_tables.specs.Leaving.{HasWorld, ReadsAs, MayLeave, MayHave, IsUntaken, IsFoundAfter, BeginsAfter, IsLeftBy, IsLegible, IsRefusedAfter, IsRefusedAtRest}
 use Rattle.desk_tables.proofs.OpeningLemmas.{made_desk, old_rows_none}
 
 -- the law `one_content`
@@ -173,24 +175,45 @@ module _ {D E : Type 0} {g : disk.Ghosts D} {k : disk.Ghosts E} (last : Held (Fi
               (inl (inl (part.made, part.part))))
         ]
 
-    pub never_refused : IsRefusedAfter last k → ⊥
-    never_refused it = by_fault it.error refl where
-      taken : IsUntaken (file_state it.refused.found).now → ⊥
-      taken = never_untaken it.refused.found (record {
+    module _ (e : OpenFault) (left : Held (FileStore E k)) where
+      taken : (it : IsRefusedAfter last e left) → IsUntaken (file_state it.refused.found).now → ⊥
+      taken it = never_untaken it.refused.found (record {
         image = it.image;
         files = it.files;
-        first = it.refused.opened it.clean;
+        first = it.refused.opened it.legible.0;
       })
 
-      by_fault : (e : OpenFault) → it.error ≡ e → ⊥
-      by_fault OutOfMemory is = it.room is
-      by_fault NotADesk is = taken (inr (inl (it.refused.none is it.clean it.live)))
-      by_fault OldSchema is = taken (inr (inr (it.refused.old is it.clean it.live)))
-      by_fault Store is = elim (it.refused.cause it.clean it.live is) [
-        | inl (inl failed) ↦ it.quiet failed
-        | inl (inr limited) ↦ (let none = subst IsSome it.refused.fresh.unlimited limited in cc)
-        | inr unmade ↦ taken (inl unmade)
-      ]
+      -- that there is no desk, or one of schema 1, is never told of them
+      pub never_none : IsRefusedAfter last e left → e ≢ NotADesk
+      never_none it is = taken it (inr (inl (it.refused.none is it.legible.0 it.legible.1)))
+
+      pub never_old : IsRefusedAfter last e left → e ≢ OldSchema
+      never_old it is = taken it (inr (inr (it.refused.old is it.legible.0 it.legible.1)))
+
+      pub never_refused : IsRefusedAtRest last e left → ⊥
+      never_refused it = by_fault e refl where
+        by_fault : (f : OpenFault) → e ≡ f → ⊥
+        by_fault OutOfMemory is = it.room is
+        by_fault NotADesk is = never_none it.after is
+        by_fault OldSchema is = never_old it.after is
+        by_fault Store is = elim (it.after.refused.cause it.after.legible.0 it.after.legible.1 is) [
+          | inl (inl failed) ↦ it.quiet failed
+          | inl (inr limited) ↦ (let none = subst IsSome it.after.refused.fresh.unlimited limited in cc)
+          | inr unmade ↦ taken it.after (inl unmade)
+        ]
+
+    -- of such files neither is told, by a connection that can be read or by none
+    pub not_told : (image : Image) → IsLeftBy last image → (e : OpenFault)
+        → (connection : Option (Held (FileStore E k))) → AreRefused image e connection
+        → IfSome connection IsLegible → IsUnread e
+    not_told image files e None unread legible = unread
+    not_told image files e (Some left) refused legible =
+        let after : IsRefusedAfter last e left = record {
+          image = image;
+          files = files;
+          refused = refused;
+          legible = legible;
+        } in (never_none e left after, never_old e left after)
 
   pub begins_alone : (new : Held (FileStore E k)) (w other : World)
       → LeavesOnly w (MayLeave over_files last) → BeginsAfter last new other → other ≡ w

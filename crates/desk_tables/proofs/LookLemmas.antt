@@ -1,6 +1,5 @@
 -- What is read of a database in either schema is what it showed before.
 use Rattle.std.proofs.Common.{◌≡◌, ◌≤◌, inl, inr, Bool, true, false, Result, Ok, Err, IfOk, IfErr, IsTrue, sym, subst, arith}
-use Rattle.std.specs.Result.{IsErrAnd}
 use Rattle.sqlite_disk.specs.declared.Disk as disk
 use Rattle.sqlite_wal.specs.Recovery.{Image}
 use Rattle.sqlite_trees.specs.declared.store.Store.{Ghosts}
@@ -21,7 +20,7 @@ use Rattle.desk_tables.specs.declared.opening.open.OpenFault.TheVariants.{NotADe
 use Rattle.desk_tables.specs.Files.{Finds}
 use Rattle.desk_tables.specs.Store.{Shown}
 use Rattle.desk_tables.specs.Opening.{HasRowsOld, ShowsNoDesk}
-use Rattle.desk_tables.specs.Copying.{AreNoContentIn, FailsLooking, FailsLookingIn, HoldsNone, IsMadeIn, ShowsNone}
+use Rattle.desk_tables.specs.Copying.{AreNoContentIn, HoldsNone, IsMadeIn, ShowsNone}
 
 none_held : (made : Made) (old : Bool) (db : Database) → IsMadeTo made db
     → has_old_rows (tables_at made db.trees) ≡ old → AreNoContentIn old (tables_at made db.trees)
@@ -58,12 +57,6 @@ module _ {S : Type 0} (g : Ghosts S) (a b c : Held S) (made : Made) (old : Bool)
 -- ---- over files
 
 module _ {D : Type 0} {g : disk.Ghosts D} (image : Image) where
-  -- what is said of a fault, once it is told on
-  pub fails_as : {V : Type 0} (r : Result (Held (FileStore D g) × V) OpenFault) (e : OpenFault)
-      → IsErrAnd r (λ fault. fault ≡ e) → FailsLooking g image e → FailsLookingIn image r
-  fails_as (Ok v) e is fails = tt
-  fails_as (Err f) e is fails = subst (FailsLooking g image) (sym is) fails
-
   -- a store that was made over a connection to files was made in these files
   pub made_files : (a : Held (FileStore D g)) (r : Result (Shown (FileStore D g)) OpenFault)
       → Finds image a

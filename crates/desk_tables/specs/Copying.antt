@@ -1,5 +1,5 @@
 -- Copying: what a database holds, read in either schema, and a new one that gets its content.
-use Rattle.std.specs.Prelude.{◌≡◌, ◌≢◌, ◌⊎◌, ⊤, ℕ, Bool, true, false, List, ◌++◌, length, map, filter, IsTrue, IsPermutation, Result, Ok, Err}
+use Rattle.std.specs.Prelude.{◌≡◌, ◌≢◌, ◌⊎◌, ℕ, Bool, true, false, List, ◌++◌, length, map, filter, IsTrue, IsPermutation, Option, Some, None}
 use Rattle.sqlite_disk.specs.declared.Disk as disk
 use Rattle.sqlite_wal.specs.Recovery.{Image}
 use Rattle.sqlite_trees.specs.declared.store.Store.{Ghosts}
@@ -20,9 +20,9 @@ use Rattle.desk_sql.specs.Rows.{IsMadeTo, Tables, tables_at, has_old_rows}
 use Rattle.desk_rules.specs.Plan.{is_live}
 use Rattle.desk_store.specs.World.{Filed, Listed, World}
 use Rattle.desk_tables.specs.Tables.{operator_row, operator_rows, plan_rows, volume_rows, cover_rows, AreSpanRows}
-use Rattle.desk_tables.specs.Opening.{IsContentOf, HasNoContent, AreNoContent}
+use Rattle.desk_tables.specs.Opening.{IsContentOf, HasNoContent, AreNoContent, BlamesDatabase}
 use Rattle.desk_tables.specs.Moving.{IsOldContentOf, HasNoOldContent, AreNoOldContent}
-use Rattle.desk_tables.specs.Files.{FindsFirst}
+use Rattle.desk_tables.specs.Files.{FindsFirst, IsUnread}
 use Rattle.desk_tables.specs.declared.opening.looking.Holdings.{Holdings}
 use Rattle.desk_tables.specs.declared.opening.open.OpenFault.{OpenFault}
 use Rattle.desk_tables.specs.declared.opening.open.OpenFault.TheVariants.{NotADesk, OldSchema}
@@ -89,26 +89,22 @@ module _ {D : Type 0} {g : disk.Ghosts D} (image : Image) where
         → (view found.store).has_sums ≡ true
     pub live : IsOpenIfClean (over_files {D = D} {g = g}) h
 
-module _ {D : Type 0} (g : disk.Ghosts D) (image : Image) where
-  -- a connection finds that the database of the files has no content, and leaves it
-  pub record FindsNone : Type 0 where
+module _ {D : Type 0} {g : disk.Ghosts D} (image : Image) (e : OpenFault) where
+  -- the connection that is left had found the database of the files, which it leaves, and what it showed says
+  -- why no content is read in it
+  pub record IsUnreadIn (left : Held (FileStore D g)) : Type 0 where
     pub found : Held (FileStore D g)
-    pub left : Held (FileStore D g)
     pub opened : HasCleanDisk (file_state left) → FindsFirst image found
     pub fresh : IsNew found
-    pub none : ShowsNone (over_files {D = D} {g = g}) found left
+    pub none : e ≡ NotADesk → ShowsNone (over_files {D = D} {g = g}) found left
+    pub newer : e ≢ OldSchema
+    pub cause : BlamesDatabase (over_files {D = D} {g = g}) found left e
     pub reads : OnlyReads (over_files {D = D} {g = g}) found left
 
--- that files hold no content is told only of what a connection found in them; of rows of schema 1 it is never
--- told
-abbrev pub FailsLooking : {D : Type 0} (g : disk.Ghosts D) → Image → OpenFault → Type 0
-FailsLooking g image e = (e ≡ NotADesk → FindsNone g image) × (e ≢ OldSchema)
-
--- the fault, if there is one
-abbrev pub FailsLookingIn :
-    {V D : Type 0} {g : disk.Ghosts D} → Image → Result (Held (FileStore D g) × V) OpenFault → Type 0
-FailsLookingIn {V} {D} {g} image (Ok found) = ⊤
-FailsLookingIn {V} {D} {g} image (Err e) = FailsLooking g image e
+  -- files of which no content is told were read so; or it isn't said of them that they have none
+  abbrev pub AreNotRead : Option (Held (FileStore D g)) → Type 0
+  AreNotRead None = IsUnread e
+  AreNotRead (Some left) = IsUnreadIn left
 
 -- ---- a content that is written
 

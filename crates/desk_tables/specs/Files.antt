@@ -1,5 +1,5 @@
 -- What a store over files begins with, and why files are refused.
-use Rattle.std.specs.Prelude.{◌≡◌, ◌≢◌, ℕ, true, [], Result, Ok, Err, ⊤}
+use Rattle.std.specs.Prelude.{◌≡◌, ◌≢◌, ℕ, true, [], Option, Some, None}
 use Rattle.sqlite_disk.specs.declared.Disk as disk
 use Rattle.sqlite_wal.specs.Recovery.{Image}
 use Rattle.sqlite_store.specs.declared.store.FileStore.{FileStore}
@@ -13,9 +13,8 @@ use Rattle.desk_store.specs.World.{World}
 use Rattle.desk_tables.specs.declared.opening.open.OpenFault.{OpenFault}
 use Rattle.desk_tables.specs.declared.opening.open.OpenFault.TheVariants.{NotADesk, OldSchema}
 use Rattle.desk_tables.specs.Guarding.{IsGuarded}
-use Rattle.desk_tables.specs.Store.{Shown}
 use Rattle.desk_tables.specs.Opening.{BeginsWith, ShowsNoDesk, ShowsOldRows, BlamesDatabase}
-use Rattle.desk_tables.specs.Moving.{BeginsMoved, KeepsRows, ShowsNoContent}
+use Rattle.desk_tables.specs.Moving.{BeginsMoved, BlamesMove, KeepsRows, ShowsNoContent}
 
 -- the files that there are where nothing was
 abbrev pub no_files : Image
@@ -47,11 +46,15 @@ module _ {D : Type 0} {g : disk.Ghosts D} where
     pub live : IsOpenIfClean (over_files {D = D} {g = g}) h
     pub begins : BeginsWith (over_files {D = D} {g = g}) found h w
 
-module _ {D : Type 0} (g : disk.Ghosts D) (image : Image) (e : OpenFault) where
-  -- a connection finds the database of the files, and what it shows says why it is no store's
-  pub record IsRefusedIn : Type 0 where
+-- what is told of files in which nothing was read: neither what tables nor what rows they have
+abbrev pub IsUnread : OpenFault → Type 0
+IsUnread e = (e ≢ NotADesk) × (e ≢ OldSchema)
+
+module _ {D : Type 0} {g : disk.Ghosts D} (image : Image) (e : OpenFault) where
+  -- the connection that is left had found the database of the files, and what it showed says why it is no
+  -- store's
+  pub record IsRefusedIn (left : Held (FileStore D g)) : Type 0 where
     pub found : Held (FileStore D g)
-    pub left : Held (FileStore D g)
     pub opened : HasCleanDisk (file_state left) → FindsFirst image found
     pub fresh : IsNew found
     pub none : e ≡ NotADesk → ShowsNoDesk (over_files {D = D} {g = g}) found left
@@ -59,23 +62,11 @@ module _ {D : Type 0} (g : disk.Ghosts D) (image : Image) (e : OpenFault) where
     pub cause : BlamesDatabase (over_files {D = D} {g = g}) found left e
     pub kept : IsKept (over_files {D = D} {g = g}) found left
 
-  -- that the files hold no desk, or rows of schema 1, is told only of what a connection found in them. Of
-  -- another fault nothing is said: files may be refused before anything in them is read
-  abbrev pub FailsAs : Type 0
-  FailsAs = (e ≡ NotADesk → IsRefusedIn) × (e ≡ OldSchema → IsRefusedIn)
-
--- what is told of files in which nothing was read: neither what tables nor what rows they have
-abbrev pub IsUnread : OpenFault → Type 0
-IsUnread e = (e ≢ NotADesk) × (e ≢ OldSchema)
-
--- a store over files, or why there is none
-abbrev pub Opened : (D : Type 0) → disk.Ghosts D → Type 0
-Opened D g = Result (Shown (FileStore D g)) OpenFault
-
--- the fault, if there is one
-abbrev pub FailsIn : {D : Type 0} {g : disk.Ghosts D} → Image → Opened D g → Type 0
-FailsIn {D} {g} image (Ok store) = ⊤
-FailsIn {D} {g} image (Err e) = FailsAs g image e
+  -- files of which no store comes are refused by the connection that is left; or there was none, and nothing
+  -- in them was read
+  abbrev pub AreRefused : Option (Held (FileStore D g)) → Type 0
+  AreRefused None = IsUnread e
+  AreRefused (Some left) = IsRefusedIn left
 
 -- ---- files that may hold rows of schema 1
 
@@ -89,24 +80,19 @@ module _ {D : Type 0} {g : disk.Ghosts D} where
     pub live : IsOpenIfClean (over_files {D = D} {g = g}) h
     pub begins : BeginsMoved (over_files {D = D} {g = g}) found h w count
 
-module _ {D : Type 0} (g : disk.Ghosts D) (image : Image) where
-  -- a connection finds the database of the files, and its rows, which are kept, are no content's in either
-  -- schema
-  pub record ShowsNeither : Type 0 where
+module _ {D : Type 0} {g : disk.Ghosts D} (image : Image) (e : OpenFault) where
+  -- the connection that is left had found the database of the files, and what it showed says why its plans
+  -- can't be moved; the rows are kept
+  pub record IsMoveRefusedIn (left : Held (FileStore D g)) : Type 0 where
     pub found : Held (FileStore D g)
-    pub left : Held (FileStore D g)
     pub opened : HasCleanDisk (file_state left) → FindsFirst image found
     pub fresh : IsNew found
-    pub none : ShowsNoContent (over_files {D = D} {g = g}) found left
+    pub none : e ≡ NotADesk → ShowsNoContent (over_files {D = D} {g = g}) found left
+    pub newer : e ≢ OldSchema
+    pub cause : BlamesMove (over_files {D = D} {g = g}) found left e
     pub kept : KeepsRows (over_files {D = D} {g = g}) found left
 
-  -- why no store comes of files that may hold rows of schema 1
-  pub record FailsMovingAs (e : OpenFault) : Type 0 where
-    pub none : e ≡ NotADesk → ShowsNeither
-    pub newer : e ≢ OldSchema
-
--- the fault, if there is one
-abbrev pub FailsMoving :
-    {D : Type 0} {g : disk.Ghosts D} → Image → Result (Shown (FileStore D g) × ℕ) OpenFault → Type 0
-FailsMoving {D} {g} image (Ok moved) = ⊤
-FailsMoving {D} {g} image (Err e) = FailsMovingAs g image e
+  -- files that may hold rows of schema 1 are refused so; or nothing in them was read
+  abbrev pub AreNotMoved : Option (Held (FileStore D g)) → Type 0
+  AreNotMoved None = IsUnread e
+  AreNotMoved (Some left) = IsMoveRefusedIn left

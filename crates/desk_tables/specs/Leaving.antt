@@ -69,6 +69,10 @@ module _ {D : Type 0} {g : disk.Ghosts D} where
 abbrev pub IsUntaken : Database → Type 0
 IsUntaken db = IsUnmade db ⊎ (IsNoDesk db ⊎ HasOldRows db)
 
+-- a connection is open, on a clean disk: what it shows is what the files have
+abbrev pub IsLegible : {D : Type 0} {g : disk.Ghosts D} → Held (FileStore D g) → Type 0
+IsLegible h = HasCleanDisk (file_state h) × IsTrue (file_state h).is_open
+
 module _ {D E : Type 0} {g : disk.Ghosts D} {k : disk.Ghosts E} (last : Held (FileStore D g)) where
   -- a start finds the database in such files
   pub record IsFoundAfter (found : Held (FileStore E k)) : Type 0 where
@@ -83,15 +87,18 @@ module _ {D E : Type 0} {g : disk.Ghosts D} {k : disk.Ghosts E} (last : Held (Fi
     pub opens : OpensIn image new w
     pub clean : HasCleanDisk (file_state new)
 
-module _ {D : Type 0} {g : disk.Ghosts D} (last : Held (FileStore D g)) {E : Type 0} (k : disk.Ghosts E) where
-  -- such files are opened, and refused though memory is left, the disk is clean and had no fault, and the
-  -- connection is open
+module _ {D E : Type 0} {g : disk.Ghosts D} {k : disk.Ghosts E} (last : Held (FileStore D g)) (e : OpenFault)
+    (left : Held (FileStore E k))
+  where
+  -- such files are opened, and refused by a connection that is left open, on a clean disk
   pub record IsRefusedAfter : Type 0 where
     pub image : Image
     pub files : IsLeftBy last image
-    pub error : OpenFault
-    pub refused : IsRefusedIn k image error
-    pub clean : HasCleanDisk (file_state refused.left)
-    pub live : IsTrue (file_state refused.left).is_open
-    pub room : error ≢ OutOfMemory
-    pub quiet : ¬ HasDiskFailed over_files refused.found refused.left
+    pub refused : IsRefusedIn image e left
+    pub legible : IsLegible left
+
+  -- though memory is left, and the disk had no fault
+  pub record IsRefusedAtRest : Type 0 where
+    pub after : IsRefusedAfter
+    pub room : e ≢ OutOfMemory
+    pub quiet : ¬ HasDiskFailed over_files after.refused.found left

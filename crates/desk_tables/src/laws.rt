@@ -22,8 +22,14 @@ ghost use Rattle.desk_tables.specs.TableChanges.{ClosesRows, ClearsRows, IsWithi
 ghost use Rattle.desk_tables.specs.Store.{IsStanding};
 ghost use Rattle.sqlite_disk.specs.Modelled.{calls_of, start_of};
 ghost use Rattle.desk_tables.specs.Guarding.{HasCollided};
-ghost use Rattle.desk_tables.specs.Leaving.{MayLeave, IsFoundAfter, BeginsAfter, IsRefusedAfter};
+ghost use Rattle.std.specs.Prelude.{IfSome};
+ghost use Rattle.sqlite_wal.specs.Recovery.{Image};
+ghost use Rattle.desk_tables.specs.Files.{AreRefused, IsUnread};
+ghost use Rattle.desk_tables.specs.declared.opening.open.OpenFault.{OpenFault};
+ghost use Rattle.desk_tables.specs.Leaving.{MayLeave, IsFoundAfter, BeginsAfter, IsLeftBy, IsLegible};
+ghost use Rattle.desk_tables.specs.Leaving.{IsRefusedAtRest};
 
+use crate::opening::files::FilesFault;
 use crate::store::SqliteStore;
 use ram_disk::Ram;
 use sqlite::FileStore;
@@ -107,8 +113,19 @@ pub fn a_store_begins_with_what_was_left<D: Disk, E: Disk>()
     ensures begins { (last : Held (FileStore D D.Disk)) (new : Held (FileStore E E.Disk))
         (w other : World) → LeavesOnly w (MayLeave over_files last) → BeginsAfter last new other
         → other ≡ w }
-    ensures taken { (last : Held (FileStore D D.Disk)) (w : World)
-        → LeavesOnly w (MayLeave over_files last) → ¬ IsRefusedAfter last E.Disk }
+    ensures taken { (last : Held (FileStore D D.Disk)) (w : World) (e : OpenFault)
+        (left : Held (FileStore E E.Disk))
+        → LeavesOnly w (MayLeave over_files last) → ¬ IsRefusedAtRest last e left }
+{}
+
+/// What is told of files in which a connection left one content is never that they hold no desk, or rows of
+/// schema 1: `refused` is what an opening of them told, with its connection open and its disk clean, if it had
+/// one.
+pub fn a_desk_is_not_told_as_none<D: Disk, E: Disk>(refused: &FilesFault<FileStore<E>>)
+    ensures { (last : Held (FileStore D D.Disk)) (image : Image) (w : World)
+        → LeavesOnly w (MayLeave over_files last) → IsLeftBy last image
+        → AreRefused image refused.now.fault refused.now.connection
+        → IfSome refused.now.connection IsLegible → IsUnread refused.now.fault }
 {}
 
 /// After a crash in the midst of a change, a store begins with the content before the change or with the one
@@ -118,10 +135,11 @@ pub fn a_store_begins_with_the_old_or_the_new<D: Disk, E: Disk>()
         (before after other : World) → LeavesOnly before (MayLeave over_files old)
         → LeavesOldOr after (MayLeave over_files old) (MayLeave over_files last)
         → BeginsAfter last new other → ∥ (other ≡ before) ⊎ (other ≡ after) ∥₁ }
-    ensures taken { (old last : Held (FileStore D D.Disk)) (before after : World)
+    ensures taken { (old last : Held (FileStore D D.Disk)) (before after : World) (e : OpenFault)
+        (left : Held (FileStore E E.Disk))
         → LeavesOnly before (MayLeave over_files old)
         → LeavesOldOr after (MayLeave over_files old) (MayLeave over_files last)
-        → ¬ IsRefusedAfter last E.Disk }
+        → ¬ IsRefusedAtRest last e left }
 {}
 
 /// A store in memory is always honest.

@@ -12,7 +12,7 @@ mod opening;
 mod reading;
 mod store;
 
-pub use opening::files::{Copied, copy_from, look_at};
+pub use opening::files::{Copied, FilesFault, copy_from, look_at};
 pub use opening::looking::{Holdings, look_into};
 pub use opening::open::{AdoptFault, OpenFault};
 pub use store::SqliteStore;

@@ -1,28 +1,33 @@
 //! Stores of plans over files.
 
-ghost use Rattle.std.specs.Prelude.{◌≡◌, ◌≢◌, IfErr, IfOk};
+ghost use Rattle.std.specs.Prelude.{◌≡◌, IfErr, IfOk};
 ghost use Rattle.sqlite_wal.specs.Files.{image_at};
 ghost use Rattle.sqlite_wal.specs.Recovery.{Image};
 ghost use Rattle.sqlite.specs.Held.{IsNew};
 ghost use Rattle.sqlite.specs.Files.{over_files};
-ghost use Rattle.desk_tables.specs.Files.{Finds, OpensIn, FailsIn, FailsMoving, OpensMoved, no_files};
+ghost use Rattle.desk_tables.specs.Files.{AreNotMoved, AreRefused, Finds, IsUnread, OpensIn, OpensMoved};
+ghost use Rattle.desk_tables.specs.Files.{no_files};
 ghost use Rattle.desk_tables.specs.Guarding.{IsGuarded};
 ghost use Rattle.desk_tables.specs.Leaving.{IsSettledAt};
 ghost use Rattle.desk_store.specs.World.{World};
 ghost use Rattle.desk_tables.specs.Content.{IsContent};
-ghost use Rattle.desk_tables.specs.Copying.{AreCounted, FailsLooking, FailsLookingIn, IsMadeIn, LooksIn};
+ghost use Rattle.desk_tables.specs.Copying.{AreCounted, AreNotRead, IsMadeIn, LooksIn};
 ghost use Rattle.desk_tables.specs.Known.{Knows};
 
 use crate::known::Known;
 use crate::opening::content::Content;
 use crate::opening::copying::store_of;
 use crate::opening::looking::{Holdings, holdings_of, read_content};
-use crate::opening::open::OpenFault;
+use crate::opening::open::{AdoptFault, OpenFault};
 use crate::opening::path::{connect, connect_new, connect_there};
 use crate::store::SqliteStore;
 use sqlite::{Connection, FileFrom, FileStore, Start, Unknown};
 use sqlite_disk::Disk;
+use sqlite_trees::store::Alter;
 use std::alloc::Global;
+
+// A connection to files, the content that was read with it, what is known of it, and whether it is of schema 1.
+type ReadFiles<S> = (Connection<S>, Content, Known, bool);
 
 /// A connection to the database that was copied, the store of its content, and what it holds.
 pub type Copied<D, E> = (
@@ -30,27 +35,42 @@ pub type Copied<D, E> = (
     (SqliteStore<FileStore<E>>, Holdings),
 );
 
+/// Why files were refused, with the connection that read them, if there was one.
+#[derive(Drop)]
+pub struct FilesFault<S: Alter> {
+    /// What was found in them, or what kept them from being read.
+    pub fault: OpenFault,
+    /// The connection, with the rows that it had; none if nothing in the files was read.
+    pub connection: Option<Connection<S>>,
+}
+
 impl<S: Start> SqliteStore<FileStore<FileFrom<S>>> {
     /// The store over the database in the files at a path, as `adopt` gives it; `start` stands for what
     /// the files held. Where there are no files, they are made.
     ///
     /// # Errors
     ///
-    /// `OutOfMemory` if memory runs out. `Store` if the files cannot be opened, or if SQLite refuses for
-    /// another cause. `OldSchema` if there are rows of schema 1. `NotADesk` if there are other tables than
-    /// a desk's, or if their rows are those of no content.
+    /// The connection, if there was one, and `OutOfMemory` if memory runs out. `Store` if the files cannot be
+    /// opened, or if SQLite refuses for another cause. `OldSchema` if there are rows of schema 1. `NotADesk`
+    /// if there are other tables than a desk's, or if their rows are those of no content.
     pub fn open_from(
         rt: &HostRuntime,
         path: &str,
         start: S,
-    ) -> Result<SqliteStore<FileStore<FileFrom<S>>>, OpenFault>
+    ) -> Result<SqliteStore<FileStore<FileFrom<S>>>, FilesFault<FileStore<FileFrom<S>>>>
         ensures begins { IfOk result (λ store.
             OpensIn (image_at S.Start) store.held store.world) }
         ensures left { IfOk result (λ store. IsSettledAt over_files store.held store.world) }
         ensures guarded { IfOk result (λ store. IsGuarded store.held) }
-        ensures fault { FailsIn (image_at S.Start) result }
+        ensures fault { IfErr result (λ e. AreRefused (image_at S.Start) e.fault e.connection) }
     {
-        adopt_files(rt.alloc(), connect(rt, path, start)?)
+        match connect(rt, path, start) {
+            Ok(connection) => adopt_files(rt.alloc(), connection),
+            Err(fault) => Err(FilesFault {
+            fault,
+            connection: None,
+        }),
+        }
     }
 
     /// The store over the database in the files at a path, and how many plans were moved to it from schema 1,
@@ -58,21 +78,28 @@ impl<S: Start> SqliteStore<FileStore<FileFrom<S>>> {
     ///
     /// # Errors
     ///
-    /// `OutOfMemory` if memory runs out. `Store` if there is no file, if the files cannot be opened, or if
-    /// SQLite refuses for another cause. `NotADesk` if there are other tables than a desk's, or if their rows
-    /// are neither those of a content in schema 1 nor those of one in schema 2.
+    /// The connection, if there was one, and `OutOfMemory` if memory runs out. `Store` if there is no file, if
+    /// the files cannot be opened, or if SQLite refuses for another cause. `NotADesk` if there are other
+    /// tables than a desk's, or if their rows are neither those of a content in schema 1 nor those of one in
+    /// schema 2.
     pub fn migrate_from(
         rt: &HostRuntime,
         path: &str,
         start: S,
-    ) -> Result<(SqliteStore<FileStore<FileFrom<S>>>, u32), OpenFault>
+    ) -> Result<(SqliteStore<FileStore<FileFrom<S>>>, u32), FilesFault<FileStore<FileFrom<S>>>>
         ensures begins { IfOk result (λ moved.
             OpensMoved (image_at S.Start) moved.0.held moved.0.world moved.1) }
         ensures left { IfOk result (λ moved. IsSettledAt over_files moved.0.held moved.0.world) }
         ensures guarded { IfOk result (λ moved. IsGuarded moved.0.held) }
-        ensures fault { FailsMoving (image_at S.Start) result }
+        ensures fault { IfErr result (λ e. AreNotMoved (image_at S.Start) e.fault e.connection) }
     {
-        adopt_old_files(rt.alloc(), connect_there(rt, path, start)?)
+        match connect_there(rt, path, start) {
+            Ok(connection) => adopt_old_files(rt.alloc(), connection),
+            Err(fault) => Err(FilesFault {
+            fault,
+            connection: None,
+        }),
+        }
     }
 }
 
@@ -86,10 +113,10 @@ impl SqliteStore<FileStore<FileFrom<Unknown>>> {
     pub fn open(
         rt: &HostRuntime,
         path: &str,
-    ) -> Result<SqliteStore<FileStore<FileFrom<Unknown>>>, OpenFault>
+    ) -> Result<SqliteStore<FileStore<FileFrom<Unknown>>>, FilesFault<FileStore<FileFrom<Unknown>>>>
         ensures begins { IfOk result (λ store. OpensIn no_files store.held store.world) }
         ensures left { IfOk result (λ store. IsSettledAt over_files store.held store.world) }
-        ensures fault { FailsIn no_files result }
+        ensures fault { IfErr result (λ e. AreRefused no_files e.fault e.connection) }
     {
         SqliteStore::open_from(rt, path, Unknown)
     }
@@ -103,11 +130,14 @@ impl SqliteStore<FileStore<FileFrom<Unknown>>> {
     pub fn migrate(
         rt: &HostRuntime,
         path: &str,
-    ) -> Result<(SqliteStore<FileStore<FileFrom<Unknown>>>, u32), OpenFault>
+    ) -> Result<
+        (SqliteStore<FileStore<FileFrom<Unknown>>>, u32),
+        FilesFault<FileStore<FileFrom<Unknown>>>,
+    >
         ensures begins { IfOk result (λ moved.
             OpensMoved no_files moved.0.held moved.0.world moved.1) }
         ensures left { IfOk result (λ moved. IsSettledAt over_files moved.0.held moved.0.world) }
-        ensures fault { FailsMoving no_files result }
+        ensures fault { IfErr result (λ e. AreNotMoved no_files e.fault e.connection) }
     {
         SqliteStore::migrate_from(rt, path, Unknown)
     }
@@ -118,19 +148,22 @@ impl SqliteStore<FileStore<FileFrom<Unknown>>> {
 ///
 /// # Errors
 ///
-/// `OutOfMemory` if memory runs out. `Store` if there is no file, if the files cannot be opened, or if SQLite
-/// refuses for another cause. `NotADesk` if there is no table, if there are other tables than a desk's, or if
+/// The connection, if there was one, and `OutOfMemory` if memory runs out. `Store` if there is no file, if the
+/// files cannot be opened, or if SQLite refuses for another cause. `NotADesk` if there is no table, if there are other tables than a desk's, or if
 /// the rows are those of no content in either schema.
 pub fn look_at<S: Start>(
     rt: &HostRuntime,
     path: &str,
     start: S,
-) -> Result<(Connection<FileStore<FileFrom<S>>>, Holdings), OpenFault>
+) -> Result<
+    (Connection<FileStore<FileFrom<S>>>, Holdings),
+    FilesFault<FileStore<FileFrom<S>>>,
+>
     ensures looks { IfOk result (λ found. (w : World) × AreCounted found.1 w
         × LooksIn (image_at S.Start) found.0 found.1.is_old w) }
-    ensures fault { FailsLookingIn (image_at S.Start) result }
+    ensures fault { IfErr result (λ e. AreNotRead (image_at S.Start) e.fault e.connection) }
 {
-    let (connection, content, _, old) = read_files(rt.alloc(), connect_there(rt, path, start)?)?;
+    let (connection, content, _, old) = read_there(rt, path, start)?;
     Ok((connection, holdings_of(&content, old)))
 }
 
@@ -140,41 +173,89 @@ pub fn look_at<S: Start>(
 ///
 /// # Errors
 ///
-/// Those of `look_at`, and `Store` if there is a file at the other path or if the new files fail.
+/// Those of `look_at`, and without a connection `OutOfMemory`, or `Store` if there is a file at the other path
+/// or if the new files fail.
 pub fn copy_from<S: Start, N: Start>(
     rt: &HostRuntime,
     path: &str,
     start: S,
     to: &str,
     other: N,
-) -> Result<Copied<FileFrom<S>, FileFrom<N>>, OpenFault>
+) -> Result<Copied<FileFrom<S>, FileFrom<N>>, FilesFault<FileStore<FileFrom<S>>>>
     ensures looks { IfOk result (λ copied. AreCounted copied.1.1 copied.1.0.world
         × LooksIn (image_at S.Start) copied.0 copied.1.1.is_old copied.1.0.world) }
     ensures made { IfOk result (λ copied. IsMadeIn (image_at N.Start) copied.1.0.held) }
     ensures left { IfOk result (λ copied. IsSettledAt over_files copied.1.0.held copied.1.0.world) }
-    ensures fault { FailsLookingIn (image_at S.Start) result }
+    ensures fault { IfErr result (λ e. AreNotRead (image_at S.Start) e.fault e.connection) }
 {
-    let alloc = rt.alloc();
-    let (connection, content, known, old) = read_files(alloc, connect_there(rt, path, start)?)?;
-    let store = store_files(alloc, connect_new(rt, to, other)?, &content, known)?;
-    Ok((connection, (store, holdings_of(&content, old))))
+    let (connection, content, known, old) = read_there(rt, path, start)?;
+    match store_at(rt, to, other, &content, known) {
+        Ok(store) => Ok((connection, (store, holdings_of(&content, old)))),
+        Err(fault) => Err(FilesFault {
+            fault,
+            connection: None,
+        }),
+    }
+}
+
+// The content of the files at a path, with the connection with which it was read.
+fn read_there<S: Start>(
+    rt: &HostRuntime,
+    path: &str,
+    start: S,
+) -> Result<ReadFiles<FileStore<FileFrom<S>>>, FilesFault<FileStore<FileFrom<S>>>>
+    ensures looks { IfOk result (λ found. LooksIn (image_at S.Start) found.0 found.3 found.1) }
+    ensures content { IfOk result (λ found. IsContent found.1) }
+    ensures bounded { IfOk result (λ found. Knows found.2 found.1) }
+    ensures fault { IfErr result (λ e. AreNotRead (image_at S.Start) e.fault e.connection) }
+{
+    match connect_there(rt, path, start) {
+        Ok(connection) => read_files(rt.alloc(), connection),
+        Err(fault) => Err(FilesFault {
+            fault,
+            connection: None,
+        }),
+    }
 }
 
 // The content of files, with the connection with which it was read.
 fn read_files<D: Disk + Drop>(
     alloc: Global,
     mut connection: Connection<FileStore<D>>,
-) -> Result<(Connection<FileStore<D>>, Content, Known, bool), OpenFault>
+) -> Result<ReadFiles<FileStore<D>>, FilesFault<FileStore<D>>>
     requires fresh { IsNew connection }
     ensures looks { (image : Image) → Finds image connection → IfOk result (λ found.
         LooksIn image found.0 found.3 found.1) }
     ensures content { IfOk result (λ found. IsContent found.1) }
     ensures bounded { IfOk result (λ found. Knows found.2 found.1) }
-    ensures fault { (image : Image) → Finds image connection → IfErr result
-        (FailsLooking D.Disk image) }
+    ensures fault { (image : Image) → Finds image connection → IfErr result (λ e.
+        AreNotRead image e.fault e.connection) }
 {
-    let (content, known, old) = read_content(alloc, &mut connection)?;
-    Ok((connection, content, known, old))
+    match read_content(alloc, &mut connection) {
+        Ok((content, known, old)) => Ok((connection, content, known, old)),
+        Err(fault) => Err(FilesFault {
+            fault,
+            connection: Some(connection),
+        }),
+    }
+}
+
+// The store of a content in new files at a path.
+fn store_at<S: Start>(
+    rt: &HostRuntime,
+    path: &str,
+    start: S,
+    content: &Content,
+    known: Known,
+) -> Result<SqliteStore<FileStore<FileFrom<S>>>, OpenFault>
+    requires content { IsContent content.now }
+    requires bounded { Knows known content.now }
+    ensures value { IfOk result (λ store. store.world ≡ content.now) }
+    ensures made { IfOk result (λ store. IsMadeIn (image_at S.Start) store.held) }
+    ensures left { IfOk result (λ store. IsSettledAt over_files store.held store.world) }
+    ensures fault { IfErr result IsUnread }
+{
+    store_files(rt.alloc(), connect_new(rt, path, start)?, content, known)
 }
 
 // The store of a content in new files.
@@ -191,7 +272,7 @@ fn store_files<D: Disk + Drop>(
     ensures made { (image : Image) → Finds image connection → IfOk result (λ store.
         IsMadeIn image store.held) }
     ensures left { IfOk result (λ store. IsSettledAt over_files store.held store.world) }
-    ensures fault { IfErr result (λ e. (e ≢ OpenFault.NotADesk) × (e ≢ OpenFault.OldSchema)) }
+    ensures fault { IfErr result IsUnread }
 {
     store_of(alloc, connection, content, known)
 }
@@ -201,17 +282,21 @@ fn store_files<D: Disk + Drop>(
 fn adopt_files<D: Disk + Drop>(
     alloc: Global,
     connection: Connection<FileStore<D>>,
-) -> Result<SqliteStore<FileStore<D>>, OpenFault>
+) -> Result<SqliteStore<FileStore<D>>, FilesFault<FileStore<D>>>
     requires fresh { IsNew connection }
     ensures begins { (image : Image) → Finds image connection → IfOk result (λ store.
         OpensIn image store.held store.world) }
     ensures left { IfOk result (λ store. IsSettledAt over_files store.held store.world) }
     ensures guarded { IsGuarded connection → IfOk result (λ store. IsGuarded store.held) }
-    ensures fault { (image : Image) → Finds image connection → FailsIn image result }
+    ensures fault { (image : Image) → Finds image connection → IfErr result (λ e.
+        AreRefused image e.fault e.connection) }
 {
     match SqliteStore::adopt(alloc, connection) {
         Ok(store) => Ok(store),
-        Err(refused) => Err(refused.fault),
+        Err(AdoptFault { fault, connection }) => Err(FilesFault {
+            fault,
+            connection: Some(connection),
+        }),
     }
 }
 
@@ -219,16 +304,20 @@ fn adopt_files<D: Disk + Drop>(
 fn adopt_old_files<D: Disk + Drop>(
     alloc: Global,
     connection: Connection<FileStore<D>>,
-) -> Result<(SqliteStore<FileStore<D>>, u32), OpenFault>
+) -> Result<(SqliteStore<FileStore<D>>, u32), FilesFault<FileStore<D>>>
     requires fresh { IsNew connection }
     ensures begins { (image : Image) → Finds image connection → IfOk result (λ moved.
         OpensMoved image moved.0.held moved.0.world moved.1) }
     ensures left { IfOk result (λ moved. IsSettledAt over_files moved.0.held moved.0.world) }
     ensures guarded { IsGuarded connection → IfOk result (λ moved. IsGuarded moved.0.held) }
-    ensures fault { (image : Image) → Finds image connection → FailsMoving image result }
+    ensures fault { (image : Image) → Finds image connection → IfErr result (λ e.
+        AreNotMoved image e.fault e.connection) }
 {
     match SqliteStore::adopt_old(alloc, connection) {
         Ok(moved) => Ok(moved),
-        Err(refused) => Err(refused.fault),
+        Err(AdoptFault { fault, connection }) => Err(FilesFault {
+            fault,
+            connection: Some(connection),
+        }),
     }
 }

@@ -6,5 +6,5 @@ returns-clause-begins g c = λ old last new before after other only may.
     begins_either last old before after only may new other
 
 pub returns-clause-taken : goal.returns-clause-taken
-returns-clause-taken g c = λ old last before after only may.
-    never_refused last (either_content old last before after only may)
+returns-clause-taken g c = λ old last before after e left only may.
+    never_refused last (either_content old last before after only may) e left

@@ -5,4 +5,4 @@ pub returns-clause-begins : goal.returns-clause-begins
 returns-clause-begins g c = begins_alone
 
 pub returns-clause-taken : goal.returns-clause-taken
-returns-clause-taken g c = λ last w only. never_refused last (only_content last w only)
+returns-clause-taken g c = λ last w e left only. never_refused last (only_content last w only) e left

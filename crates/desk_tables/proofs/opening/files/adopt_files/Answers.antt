@@ -1,7 +1,6 @@
 use Rattle.std.proofs.Common.{arith}
 use Rattle.sqlite.specs.State.{HasCleanDisk}
 use Rattle.sqlite.specs.Files.{file_state}
-use Rattle.desk_tables.specs.Files.{IsRefusedIn}
 use Rattle.desk_tables.proofs.opening.files.adopt_files.Goals as goal
 
 pub returns-in-Ok-clause-begins : goal.returns-in-Ok-clause-begins
@@ -18,19 +17,16 @@ returns-in-Ok-clause-begins g c =
 
 pub returns-in-Err-clause-fault : goal.returns-in-Err-clause-fault
 returns-in-Err-clause-fault g c =
-    let was : HasCleanDisk (file_state c.in-Err.refused.connection)
-    → HasCleanDisk (file_state c.args.connection) =
-    λ clean. omega (arith, c.in-Err.ensures.doubt, clean) in λ image finds.
-    let refused : IsRefusedIn _ image c.in-Err.refused.fault = record {
+    let was : HasCleanDisk (file_state c.in-Err.connection) → HasCleanDisk (file_state c.args.connection) =
+    λ clean. omega (arith, c.in-Err.ensures.doubt, clean) in λ image finds. record {
       found = c.args.connection;
-      left = c.in-Err.refused.connection;
       opened = λ clean. finds.first (was clean);
       fresh = c.requires.fresh;
       none = c.in-Err.ensures.none;
       old = c.in-Err.ensures.old;
       cause = c.in-Err.ensures.cause;
       kept = c.in-Err.ensures.kept;
-    } in ((λ none. refused), λ old. refused)
+    }
 
 pub returns-in-Ok-clause-guarded : goal.returns-in-Ok-clause-guarded
 returns-in-Ok-clause-guarded g c = λ guarded clean.

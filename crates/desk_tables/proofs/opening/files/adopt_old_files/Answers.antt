@@ -16,18 +16,15 @@ returns-in-Ok-clause-begins g c =
 
 pub returns-in-Err-clause-fault : goal.returns-in-Err-clause-fault
 returns-in-Err-clause-fault g c =
-    let was : HasCleanDisk (file_state c.in-Err.refused.connection)
-    → HasCleanDisk (file_state c.args.connection) =
+    let was : HasCleanDisk (file_state c.in-Err.connection) → HasCleanDisk (file_state c.args.connection) =
     λ clean. omega (arith, c.in-Err.ensures.doubt, clean) in λ image finds. record {
-      none = λ none. record {
-        found = c.args.connection;
-        left = c.in-Err.refused.connection;
-        opened = λ clean. finds.first (was clean);
-        fresh = c.requires.fresh;
-        none = c.in-Err.ensures.none none;
-        kept = c.in-Err.ensures.kept;
-      };
+      found = c.args.connection;
+      opened = λ clean. finds.first (was clean);
+      fresh = c.requires.fresh;
+      none = c.in-Err.ensures.none;
       newer = c.in-Err.ensures.newer;
+      cause = c.in-Err.ensures.cause;
+      kept = c.in-Err.ensures.kept;
     }
 
 pub returns-in-Ok-clause-guarded : goal.returns-in-Ok-clause-guarded

@@ -1,0 +1,6 @@
+use Rattle.desk_tables.proofs.LeavingLemmas.{only_content, not_told}
+use Rattle.desk_tables.proofs.laws.a_desk_is_not_told_as_none.Goals as goal
+
+pub returns-clause : goal.returns-clause
+returns-clause g c = λ last image w only files.
+    not_told last (only_content last w only) image files c.args.refused.now.fault c.args.refused.now.connection
