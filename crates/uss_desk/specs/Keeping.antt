@@ -1,5 +1,6 @@
 -- Keeping: what a keeper is told of a file, and what is copied of it.
-use Rattle.std.specs.Prelude.{◌≡◌, ◌⊎◌, ⊤, ℕ, List, length, Option, None, Some, Result, Ok, Err}
+use Rattle.std.specs.Prelude.{◌≡◌, ◌⊎◌, ℕ, List, length, Option, None, Some}
+use Rattle.std.specs.Option.{IsSomeAnd}
 use Rattle.sqlite_disk.specs.declared.Disk as disk
 use Rattle.sqlite_disk.specs.declared.Files.{Files}
 use Rattle.sqlite_wal.specs.Reads.{AreClean}
@@ -13,10 +14,11 @@ use Rattle.desk_line.specs.declared.failure.Failure.{Failure}
 use Rattle.desk_line.specs.Exits.{Ending, failure_status}
 use Rattle.desk_program.specs.Looking.{IsTextPrinted, checked_line, copied_line}
 use Rattle.desk_program.specs.declared.looking.CheckedFile.{CheckedFile}
-use Rattle.desk_tables.specs.Copying.{AreCounted, FailsLooking, IsMadeIn, LooksIn, live_count}
+use Rattle.desk_tables.specs.Copying.{AreCounted, AreNotRead, IsMadeIn, LooksIn, live_count}
 use Rattle.desk_tables.specs.Leaving.{IsSettledAt}
 use Rattle.desk_tables.specs.declared.opening.looking.Holdings.{Holdings}
 use Rattle.desk_tables.specs.declared.opening.open.OpenFault.{OpenFault}
+use Rattle.uss_desk.specs.declared.opening.Unopened.{Unopened}
 use Rattle.uss_desk.specs.Opening.{open_failure}
 
 -- the numbers of operators and plans are those of the content
@@ -30,25 +32,29 @@ abbrev pub IsToldAs : List ℕ → ℕ → Option (List ℕ) → Option (List �
 IsToldAs text status out now =
     (end : Ending) × (end.status ≡ status) × IsTextPrinted text end out now
 
-module _ {D : Type 0} (g : disk.Ghosts D) (image : Image) where
-  -- why files that held this have no content that is told
-  abbrev pub FailsToLookAs : Failure → Type 0
-  FailsToLookAs f = (fault : OpenFault) × (f ≡ open_failure fault) × FailsLooking g image fault
-
 module _ {D : Type 0} {g : disk.Ghosts D} (image : Image) where
-  abbrev pub FailsToLook : {V : Type 0} → Result (Held (FileStore D g) × V) Failure → Type 0
-  FailsToLook (Ok found) = ⊤
-  FailsToLook (Err f) = FailsToLookAs g image f
+  -- why files that held this have no content that is told: what the connection showed, or nothing in them was
+  -- read
+  abbrev pub FailsToLook : Unopened (Held (FileStore D g)) → Type 0
+  FailsToLook it =
+      (fault : OpenFault) × (it.failure ≡ open_failure fault) × AreNotRead image fault it.connection
 
-  -- what files that held this hold is told, as it was read by a connection that leaves it; or a failure is, and
-  -- nothing is printed
-  abbrev pub IsChecked :
-      ℕ → Option (Held (FileStore D g)) → Option (List ℕ) → Option (List ℕ) → Type 0
-  IsChecked status None out now =
-      (f : Failure) × (status ≡ failure_status f) × (now ≡ out) × FailsToLookAs g image f
-  IsChecked status (Some left) out now =
+  -- the content that a connection read in files that held this, and leaves, is told
+  abbrev pub IsContentTold : ℕ → Held (FileStore D g) → Option (List ℕ) → Option (List ℕ) → Type 0
+  IsContentTold status left out now =
       (file : CheckedFile) × (w : World) × TellsHoldings file w × LooksIn image left file.is_old w
       × IsToldAs (checked_line file) status out now
+
+  -- or a failure is, and nothing is printed
+  abbrev pub IsFailureTold :
+      ℕ → Option (Held (FileStore D g)) → Option (List ℕ) → Option (List ℕ) → Type 0
+  IsFailureTold status left out now = (it : Unopened (Held (FileStore D g))) × (it.connection ≡ left)
+      × (status ≡ failure_status it.failure) × (now ≡ out) × FailsToLook it
+
+  abbrev pub IsChecked :
+      ℕ → Option (Held (FileStore D g)) → Option (List ℕ) → Option (List ℕ) → Type 0
+  IsChecked status left out now =
+      IsSomeAnd left (λ left. IsContentTold status left out now) ⊎ IsFailureTold status left out now
 
 module _ {D E : Type 0} {g : disk.Ghosts D} {k : disk.Ghosts E} (image other : Image) where
   -- a connection to files that held this leaves them, and new files, whose log is empty, have their content: a

@@ -7,17 +7,14 @@ ghost use Rattle.desk_tables.specs.Copying.{AreCounted, LooksIn};
 ghost use Rattle.uss_desk.specs.Keeping.{FailsToLook, IsChecked, IsCopied, IsCopyMade, TellsHoldings};
 
 use crate::causes::{tell, tell_of};
-use crate::opening::open_failure;
+use crate::opening::{Look, Unopened, open_failure};
 use desk_line::{Copying, Database, Failure, conclude};
 use desk_program::{CheckedFile, print_checked, print_copied};
 use desk_tables::{Holdings, copy_from, look_at};
-use sqlite::{Connection, FileFrom, FileStore, Files, Start};
+use sqlite::{FileFrom, Files, Start};
 use std::alloc::{AllocError, Global};
 use std::fs::{self, File};
 use std::io::{self, Read, Write};
-
-/// A connection with which a file was read, where `F` stands for what the file held.
-pub type Look<F> = Connection<FileStore<FileFrom<F>>>;
 
 /// What was copied: the connection to it, the new files, and what they hold.
 pub type Copies<F, N> = (Look<F>, (Files<FileFrom<N>>, Holdings));
@@ -36,8 +33,8 @@ struct Bulk {
     log: u64,
 }
 
-/// Prints what a database holds, and answers the exit status and the connection with which it was read, if it
-/// holds something. It is left as it is. Why it can't be read, and the word of the failure, go to `errors`; a
+/// Prints what a database holds, and answers the exit status and the connection with which it was read, if
+/// there was one. It is left as it is. Why it can't be read, and the word of the failure, go to `errors`; a
 /// fault there is passed over.
 pub fn check_file<F: Start, W: Write, E: Write>(
     rt: &HostRuntime,
@@ -54,11 +51,14 @@ pub fn check_file<F: Start, W: Write, E: Write>(
             let status = print_checked(rt.alloc(), &file, output, errors);
             (status, Some(connection))
         }
-        Err(failure) => {
+        Err(Unopened {
+            failure,
+            connection,
+        }) => {
             if let Database::File(path) = database {
-                tell(rt, path, failure, errors);
+                tell(rt, path, failure, connection.is_some(), errors);
             }
-            (conclude(errors, Err(failure)), None)
+            (conclude(errors, Err(failure)), connection)
         }
     }
 }
@@ -68,18 +68,29 @@ fn look_for<F: Start>(
     rt: &HostRuntime,
     database: &Database,
     start: F,
-) -> Result<(Look<F>, CheckedFile), Failure>
+) -> Result<(Look<F>, CheckedFile), Unopened<Look<F>>>
     ensures looks { IfOk result (λ found. (w : World) × TellsHoldings found.1 w
         × LooksIn (image_at F.Start) found.0 found.1.is_old w) }
-    ensures fault { FailsToLook (image_at F.Start) result }
+    ensures fault { IfErr result (FailsToLook (image_at F.Start)) }
 {
     let Database::File(path) = database else {
-        return Err(Failure::Store);
+        return Err(Unopened {
+            failure: Failure::Store,
+            connection: None,
+        });
     };
-    let bulk = bulk_of(rt, path)?;
+    let Ok(bulk) = bulk_of(rt, path) else {
+        return Err(Unopened {
+            failure: Failure::Memory,
+            connection: None,
+        });
+    };
     match look_at(rt, path, start) {
         Ok((connection, holdings)) => Ok((connection, told_of(&holdings, bulk))),
-        Err(fault) => Err(open_failure(&fault)),
+        Err(refused) => Err(Unopened {
+            failure: open_failure(&refused.fault),
+            connection: refused.connection,
+        }),
     }
 }
 
@@ -207,9 +218,9 @@ fn copy_to<F: Start, N: Start, E: Write>(
             Ok(files) => Ok((connection, (files, holdings))),
             Err(_) => Err(Failure::Store),
         },
-        Err(fault) => {
-            let failure = open_failure(&fault);
-            tell(rt, path, failure, errors);
+        Err(refused) => {
+            let failure = open_failure(&refused.fault);
+            tell(rt, path, failure, refused.connection.is_some(), errors);
             Err(failure)
         }
     }

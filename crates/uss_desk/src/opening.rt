@@ -11,7 +11,7 @@ use desk_line::{Database, Failure, Line};
 use desk_run::Desk;
 use desk_tables::{OpenFault, SqliteStore};
 use ram_disk::Ram;
-use sqlite::{FileFrom, FileStore, Start};
+use sqlite::{Connection, FileFrom, FileStore, Start};
 use std::alloc::Global;
 
 /// A desk in memory.
@@ -20,21 +20,34 @@ pub type MemoryDesk = Desk<SqliteStore<FileStore<Ram>>>;
 /// A desk over the database in files, where `F` stands for what they held.
 pub type FileDesk<F> = Desk<SqliteStore<FileStore<FileFrom<F>>>>;
 
-/// What was opened for a line, a desk `M` in memory or one `D` over files; or why it could not be.
+/// Why a database was not opened, with the connection `C` that read it, if there was one.
 #[derive(Drop)]
-pub enum Opened<M: Drop, D: Drop> {
+pub struct Unopened<C: Drop> {
+    /// The failure with which the line ends.
+    pub failure: Failure,
+    /// The connection; none if nothing in the database was read.
+    pub connection: Option<C>,
+}
+
+/// A connection with which files were read, where `F` stands for what they held.
+pub type Look<F> = Connection<FileStore<FileFrom<F>>>;
+
+/// What was opened for a line, a desk `M` in memory or one `D` over files; or why it could not be, which is `U`
+/// for files.
+#[derive(Drop)]
+pub enum Opened<M: Drop, D: Drop, U: Drop> {
     /// Nothing: `token` and `cover` need no desk.
     Nothing,
     /// A desk in memory.
     Memory(Result<M, Failure>),
     /// A desk over files.
-    Files(Result<D, Failure>),
+    Files(Result<D, U>),
     /// A desk over files, and how many plans were moved to it from schema 1.
-    Moved(Result<(D, u32), Failure>),
+    Moved(Result<(D, u32), U>),
 }
 
 /// What is opened for a line, where `F` stands for what the files that it names held.
-pub type OpenedDesk<F> = Opened<MemoryDesk, FileDesk<F>>;
+pub type OpenedDesk<F> = Opened<MemoryDesk, FileDesk<F>, Unopened<Look<F>>>;
 
 /// Opens what a line needs; `start` stands for what the files that it names held.
 pub fn open_for<F: Start>(rt: &HostRuntime, line: &Line, start: F) -> OpenedDesk<F>
@@ -93,13 +106,13 @@ pub fn open_in_memory(alloc: Global) -> Result<MemoryDesk, Failure>
 ///
 /// # Errors
 ///
-/// That of `open_failure`.
+/// The failure is that of `open_failure`.
 pub fn open_file<F: Start>(
     rt: &HostRuntime,
     path: &str,
     is_told: bool,
     start: F,
-) -> Result<FileDesk<F>, Failure>
+) -> Result<FileDesk<F>, Unopened<Look<F>>>
     ensures { IsOpenedIn (image_at F.Start) result }
 {
     match SqliteStore::open_from(rt, path, start) {
@@ -109,7 +122,10 @@ pub fn open_file<F: Start>(
             }
             Ok(Desk::new(store))
         }
-        Err(fault) => Err(open_failure(&fault)),
+        Err(refused) => Err(Unopened {
+            failure: open_failure(&refused.fault),
+            connection: refused.connection,
+        }),
     }
 }
 
@@ -119,11 +135,14 @@ fn open_old<F: Start>(
     rt: &HostRuntime,
     database: &Database,
     start: F,
-) -> Result<(FileDesk<F>, u32), Failure>
+) -> Result<(FileDesk<F>, u32), Unopened<Look<F>>>
     ensures { IsMovedAt (image_at F.Start) database.now result }
 {
     match database {
-        Database::InMemory => Err(Failure::Store),
+        Database::InMemory => Err(Unopened {
+            failure: Failure::Store,
+            connection: None,
+        }),
         Database::File(path) => open_old_file(rt, path, start),
     }
 }
@@ -133,12 +152,15 @@ fn open_old_file<F: Start>(
     rt: &HostRuntime,
     path: &str,
     start: F,
-) -> Result<(FileDesk<F>, u32), Failure>
+) -> Result<(FileDesk<F>, u32), Unopened<Look<F>>>
     ensures { IsMovedIn (image_at F.Start) result }
 {
     match SqliteStore::migrate_from(rt, path, start) {
         Ok((store, count)) => Ok((Desk::new(store), count)),
-        Err(fault) => Err(open_failure(&fault)),
+        Err(refused) => Err(Unopened {
+            failure: open_failure(&refused.fault),
+            connection: refused.connection,
+        }),
     }
 }
 
