@@ -90,15 +90,15 @@ module _ {D E : Type 0} {g : disk.Ghosts D} {k : disk.Ghosts E} (last : Held (Fi
 module _ {D E : Type 0} {g : disk.Ghosts D} {k : disk.Ghosts E} (last : Held (FileStore D g)) (e : OpenFault)
     (left : Held (FileStore E k))
   where
-  -- such files are opened, and refused by a connection that is left open, on a clean disk
-  pub record IsRefusedAfter : Type 0 where
-    pub image : Image
-    pub files : IsLeftBy last image
-    pub refused : IsRefusedIn image e left
-    pub legible : IsLegible left
+    -- such files are opened, and refused by a connection that is left open, on a clean disk
+    pub record IsRefusedAfter : Type 0 where
+      pub image : Image
+      pub files : IsLeftBy last image
+      pub refused : IsRefusedIn image e left
+      pub legible : IsLegible left
 
-  -- though memory is left, and the disk had no fault
-  pub record IsRefusedAtRest : Type 0 where
-    pub after : IsRefusedAfter
-    pub room : e ≢ OutOfMemory
-    pub quiet : ¬ HasDiskFailed over_files after.refused.found left
+    -- though memory is left, and the disk had no fault
+    pub record IsRefusedAtRest : Type 0 where
+      pub after : IsRefusedAfter
+      pub room : e ≢ OutOfMemory
+      pub quiet : ¬ HasDiskFailed over_files after.refused.found left

@@ -119,8 +119,8 @@ pub fn a_store_begins_with_what_was_left<D: Disk, E: Disk>()
 {}
 
 /// What is told of files in which a connection left one content is never that they hold no desk, or rows of
-/// schema 1: `refused` is what an opening of them told, with its connection open and its disk clean, if it had
-/// one.
+/// schema 1: `refused` is what an opening of them told, with its connection open and its disk clean, if it
+/// had one.
 pub fn a_desk_is_not_told_as_none<D: Disk, E: Disk>(refused: &FilesFault<FileStore<E>>)
     ensures { (last : Held (FileStore D D.Disk)) (image : Image) (w : World)
         → LeavesOnly w (MayLeave over_files last) → IsLeftBy last image

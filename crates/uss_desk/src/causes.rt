@@ -28,7 +28,13 @@ pub fn tell_cause<F: Start, E: Write>(
         && let Database::File(path) = &words.database
         && let Opened::Moved(Err(unopened)) = opened
     {
-        tell(rt, path, unopened.failure, unopened.connection.is_some(), errors);
+        tell(
+            rt,
+            path,
+            unopened.failure,
+            unopened.connection.is_some(),
+            errors,
+        );
     }
 }
 

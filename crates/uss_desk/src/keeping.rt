@@ -51,10 +51,12 @@ pub fn check_file<F: Start, W: Write, E: Write>(
             let status = print_checked(rt.alloc(), &file, output, errors);
             (status, Some(connection))
         }
-        Err(Unopened {
-            failure,
-            connection,
-        }) => {
+        Err(
+            Unopened {
+                failure,
+                connection,
+            },
+        ) => {
             if let Database::File(path) = database {
                 tell(rt, path, failure, connection.is_some(), errors);
             }

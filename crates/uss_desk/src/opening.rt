@@ -32,8 +32,8 @@ pub struct Unopened<C: Drop> {
 /// A connection with which files were read, where `F` stands for what they held.
 pub type Look<F> = Connection<FileStore<FileFrom<F>>>;
 
-/// What was opened for a line, a desk `M` in memory or one `D` over files; or why it could not be, which is `U`
-/// for files.
+/// What was opened for a line, a desk `M` in memory or one `D` over files; or why it could not be, which is
+/// `U` for files.
 #[derive(Drop)]
 pub enum Opened<M: Drop, D: Drop, U: Drop> {
     /// Nothing: `token` and `cover` need no desk.

@@ -26,7 +26,8 @@ use sqlite_disk::Disk;
 use sqlite_trees::store::Alter;
 use std::alloc::Global;
 
-// A connection to files, the content that was read with it, what is known of it, and whether it is of schema 1.
+// A connection to files, the content that was read with it, what is known of it, and whether it is of
+// schema 1.
 type ReadFiles<S> = (Connection<S>, Content, Known, bool);
 
 /// A connection to the database that was copied, the store of its content, and what it holds.
@@ -67,9 +68,9 @@ impl<S: Start> SqliteStore<FileStore<FileFrom<S>>> {
         match connect(rt, path, start) {
             Ok(connection) => adopt_files(rt.alloc(), connection),
             Err(fault) => Err(FilesFault {
-            fault,
-            connection: None,
-        }),
+                fault,
+                connection: None,
+            }),
         }
     }
 
@@ -78,8 +79,8 @@ impl<S: Start> SqliteStore<FileStore<FileFrom<S>>> {
     ///
     /// # Errors
     ///
-    /// The connection, if there was one, and `OutOfMemory` if memory runs out. `Store` if there is no file, if
-    /// the files cannot be opened, or if SQLite refuses for another cause. `NotADesk` if there are other
+    /// The connection, if there was one, and `OutOfMemory` if memory runs out. `Store` if there is no file,
+    /// if the files cannot be opened, or if SQLite refuses for another cause. `NotADesk` if there are other
     /// tables than a desk's, or if their rows are neither those of a content in schema 1 nor those of one in
     /// schema 2.
     pub fn migrate_from(
@@ -96,9 +97,9 @@ impl<S: Start> SqliteStore<FileStore<FileFrom<S>>> {
         match connect_there(rt, path, start) {
             Ok(connection) => adopt_old_files(rt.alloc(), connection),
             Err(fault) => Err(FilesFault {
-            fault,
-            connection: None,
-        }),
+                fault,
+                connection: None,
+            }),
         }
     }
 }
@@ -148,17 +149,14 @@ impl SqliteStore<FileStore<FileFrom<Unknown>>> {
 ///
 /// # Errors
 ///
-/// The connection, if there was one, and `OutOfMemory` if memory runs out. `Store` if there is no file, if the
-/// files cannot be opened, or if SQLite refuses for another cause. `NotADesk` if there is no table, if there are other tables than a desk's, or if
-/// the rows are those of no content in either schema.
+/// The connection, if there was one, and `OutOfMemory` if memory runs out. `Store` if there is no file, if
+/// the files cannot be opened, or if SQLite refuses for another cause. `NotADesk` if there is no table, if
+/// there are other tables than a desk's, or if the rows are those of no content in either schema.
 pub fn look_at<S: Start>(
     rt: &HostRuntime,
     path: &str,
     start: S,
-) -> Result<
-    (Connection<FileStore<FileFrom<S>>>, Holdings),
-    FilesFault<FileStore<FileFrom<S>>>,
->
+) -> Result<(Connection<FileStore<FileFrom<S>>>, Holdings), FilesFault<FileStore<FileFrom<S>>>>
     ensures looks { IfOk result (λ found. (w : World) × AreCounted found.1 w
         × LooksIn (image_at S.Start) found.0 found.1.is_old w) }
     ensures fault { IfErr result (λ e. AreNotRead (image_at S.Start) e.fault e.connection) }
@@ -173,8 +171,8 @@ pub fn look_at<S: Start>(
 ///
 /// # Errors
 ///
-/// Those of `look_at`, and without a connection `OutOfMemory`, or `Store` if there is a file at the other path
-/// or if the new files fail.
+/// Those of `look_at`, and without a connection `OutOfMemory`, or `Store` if there is a file at the other
+/// path or if the new files fail.
 pub fn copy_from<S: Start, N: Start>(
     rt: &HostRuntime,
     path: &str,

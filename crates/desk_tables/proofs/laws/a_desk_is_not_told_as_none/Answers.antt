@@ -3,4 +3,5 @@ use Rattle.desk_tables.proofs.laws.a_desk_is_not_told_as_none.Goals as goal
 
 pub returns-clause : goal.returns-clause
 returns-clause g c = λ last image w only files.
-    not_told last (only_content last w only) image files c.args.refused.now.fault c.args.refused.now.connection
+    let told = c.args.refused.now in
+    not_told last (only_content last w only) image files told.fault told.connection
