@@ -18,7 +18,7 @@ use crate::known::Known;
 use crate::opening::content::Content;
 use crate::opening::copying::store_of;
 use crate::opening::looking::{Holdings, holdings_of, read_content};
-use crate::opening::open::{AdoptFault, OpenFault};
+use crate::opening::open::OpenFault;
 use crate::opening::path::{connect, connect_new, connect_there};
 use crate::store::SqliteStore;
 use sqlite::{Connection, FileFrom, FileStore, Start, Unknown};
@@ -291,9 +291,9 @@ fn adopt_files<D: Disk + Drop>(
 {
     match SqliteStore::adopt(alloc, connection) {
         Ok(store) => Ok(store),
-        Err(AdoptFault { fault, connection }) => Err(FilesFault {
-            fault,
-            connection: Some(connection),
+        Err(refused) => Err(FilesFault {
+            fault: refused.fault,
+            connection: Some(refused.connection),
         }),
     }
 }
@@ -313,9 +313,9 @@ fn adopt_old_files<D: Disk + Drop>(
 {
     match SqliteStore::adopt_old(alloc, connection) {
         Ok(moved) => Ok(moved),
-        Err(AdoptFault { fault, connection }) => Err(FilesFault {
-            fault,
-            connection: Some(connection),
+        Err(refused) => Err(FilesFault {
+            fault: refused.fault,
+            connection: Some(refused.connection),
         }),
     }
 }

@@ -16,7 +16,8 @@ returns-in-Ok-clause-begins g c =
 
 pub returns-in-Err-clause-fault : goal.returns-in-Err-clause-fault
 returns-in-Err-clause-fault g c =
-    let was : HasCleanDisk (file_state c.in-Err.connection) → HasCleanDisk (file_state c.args.connection) =
+    let was : HasCleanDisk (file_state c.in-Err.refused.connection)
+    → HasCleanDisk (file_state c.args.connection) =
     λ clean. omega (arith, c.in-Err.ensures.doubt, clean) in λ image finds. record {
       found = c.args.connection;
       opened = λ clean. finds.first (was clean);
