@@ -40,8 +40,8 @@ module _ {D : Type 0} {g : disk.Ghosts D} (image : Image) where
   FailsToLook (Ok found) = ⊤
   FailsToLook (Err f) = FailsToLookAs g image f
 
-  -- what files that held this hold is told, as it was read by a connection that leaves it; or a failure is, and
-  -- nothing is printed
+  -- what files that held this hold is told, as it was read by a connection that leaves it; or a failure is,
+  -- and nothing is printed
   abbrev pub IsChecked :
       ℕ → Option (Held (FileStore D g)) → Option (List ℕ) → Option (List ℕ) → Type 0
   IsChecked status None out now =
@@ -51,8 +51,8 @@ module _ {D : Type 0} {g : disk.Ghosts D} (image : Image) where
       × IsToldAs (checked_line file) status out now
 
 module _ {D E : Type 0} {g : disk.Ghosts D} {k : disk.Ghosts E} (image other : Image) where
-  -- a connection to files that held this leaves them, and new files, whose log is empty, have their content: a
-  -- store of it was made there and closed
+  -- a connection to files that held this leaves them, and new files, whose log is empty, have their content:
+  -- a store of it was made there and closed
   pub record IsCopyMade (copies : Held (FileStore D g) × (Files E × Holdings)) : Type 0 where
     pub w : World
     pub held : Held (FileStore E k)
@@ -65,6 +65,7 @@ module _ {D E : Type 0} {g : disk.Ghosts D} {k : disk.Ghosts E} (image other : I
   -- how much was copied is told; or a failure is, and nothing is printed
   abbrev pub IsCopied :
       ℕ → Option (Held (FileStore D g) × (Files E × Holdings)) → Option (List ℕ) → Option (List ℕ) → Type 0
-  IsCopied status None out now = (f : Failure) × (status ≡ failure_status f) × (now ≡ out)
+  IsCopied status None out now =
+      (f : Failure) × (status ≡ failure_status f) × (now ≡ out) × FailsToLookAs g image f
   IsCopied status (Some copies) out now =
       IsCopyMade copies × IsToldAs (copied_line copies.1.1.operators copies.1.1.plans) status out now
