@@ -34,8 +34,8 @@ pub struct CheckedFile {
     pub log: u64,
 }
 
-/// Prints what a file holds, and answers the exit status. The word of a failure goes to `errors`; a fault there
-/// is passed over.
+/// Prints what a file holds, and answers the exit status. The word of a failure goes to `errors`; a fault
+/// there is passed over.
 pub fn print_checked<W: Write, E: Write>(
     alloc: Global,
     file: &CheckedFile,
@@ -52,8 +52,8 @@ pub fn print_checked<W: Write, E: Write>(
     }
 }
 
-/// Prints how many operators and plans were copied, and answers the exit status. The word of a failure goes to
-/// `errors`; a fault there is passed over.
+/// Prints how many operators and plans were copied, and answers the exit status. The word of a failure goes
+/// to `errors`; a fault there is passed over.
 pub fn print_copied<W: Write, E: Write>(
     alloc: Global,
     operators: usize,

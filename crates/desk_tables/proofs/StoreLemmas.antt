@@ -1,5 +1,5 @@
 -- What stands after a query, and what its answer is of the world.
-use Rattle.std.proofs.Common.{◌≡◌, ◌≤◌, false, List, [], ◌∷◌, IsPermutation, Result, Ok, Err, IfOk, IsOk, OnOk, refl, sym, subst, arith, IsTrue}
+use Rattle.std.proofs.Common.{◌≡◌, ◌≤◌, false, List, [], ◌∷◌, Result, Ok, Err, IfOk, IsOk, OnOk, refl, sym, subst, arith, IsTrue, IsPermutation}
 use Rattle.std.specs.List.Sorted.{IsStrictlySortedBy}
 use Rattle.std.proofs.lemmas.List.Sorted.{IsPermutation-refl, length_permutation}
 use Rattle.sqlite_trees.specs.declared.store.Store.{Ghosts}

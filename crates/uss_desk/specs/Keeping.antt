@@ -1,6 +1,5 @@
 -- Keeping: what a keeper is told of a file, and what is copied of it.
-use Rattle.std.specs.Prelude.{◌≡◌, ◌⊎◌, ℕ, List, length, Option, None, Some}
-use Rattle.std.specs.Option.{IsSomeAnd}
+use Rattle.std.specs.Prelude.{◌≡◌, ◌⊎◌, ℕ, List, length, Option, Result, Ok, Err}
 use Rattle.sqlite_disk.specs.declared.Disk as disk
 use Rattle.sqlite_disk.specs.declared.Files.{Files}
 use Rattle.sqlite_wal.specs.Reads.{AreClean}
@@ -39,26 +38,23 @@ module _ {D : Type 0} {g : disk.Ghosts D} (image : Image) where
   FailsToLook it =
       (fault : OpenFault) × (it.failure ≡ open_failure fault) × AreNotRead image fault it.connection
 
-  -- the content that a connection read in files that held this, and leaves, is told
-  abbrev pub IsContentTold : ℕ → Held (FileStore D g) → Option (List ℕ) → Option (List ℕ) → Type 0
-  IsContentTold status left out now =
+  -- a failure is told, and nothing is printed
+  abbrev pub IsUntold :
+      ℕ → Unopened (Held (FileStore D g)) → Option (List ℕ) → Option (List ℕ) → Type 0
+  IsUntold status it out now = (status ≡ failure_status it.failure) × (now ≡ out) × FailsToLook it
+
+  -- what files that held this hold is told, as it was read by a connection that leaves it; or a failure is
+  abbrev pub IsChecked :
+      ℕ → Result (Held (FileStore D g)) (Unopened (Held (FileStore D g))) → Option (List ℕ)
+      → Option (List ℕ) → Type 0
+  IsChecked status (Err it) out now = IsUntold status it out now
+  IsChecked status (Ok left) out now =
       (file : CheckedFile) × (w : World) × TellsHoldings file w × LooksIn image left file.is_old w
       × IsToldAs (checked_line file) status out now
 
-  -- or a failure is, and nothing is printed
-  abbrev pub IsFailureTold :
-      ℕ → Option (Held (FileStore D g)) → Option (List ℕ) → Option (List ℕ) → Type 0
-  IsFailureTold status left out now = (it : Unopened (Held (FileStore D g))) × (it.connection ≡ left)
-      × (status ≡ failure_status it.failure) × (now ≡ out) × FailsToLook it
-
-  abbrev pub IsChecked :
-      ℕ → Option (Held (FileStore D g)) → Option (List ℕ) → Option (List ℕ) → Type 0
-  IsChecked status left out now =
-      IsSomeAnd left (λ left. IsContentTold status left out now) ⊎ IsFailureTold status left out now
-
 module _ {D E : Type 0} {g : disk.Ghosts D} {k : disk.Ghosts E} (image other : Image) where
-  -- a connection to files that held this leaves them, and new files, whose log is empty, have their content: a
-  -- store of it was made there and closed
+  -- a connection to files that held this leaves them, and new files, whose log is empty, have their content:
+  -- a store of it was made there and closed
   pub record IsCopyMade (copies : Held (FileStore D g) × (Files E × Holdings)) : Type 0 where
     pub w : World
     pub held : Held (FileStore E k)
@@ -68,9 +64,10 @@ module _ {D E : Type 0} {g : disk.Ghosts D} {k : disk.Ghosts E} (image other : I
     pub settled : IsSettledAt over_files held w
     pub closed : AreClean k copies.1.0.log copies.1.0.db → IsClosedInto held copies.1.0
 
-  -- how much was copied is told; or a failure is, and nothing is printed
+  -- how much was copied is told; or a failure is
   abbrev pub IsCopied :
-      ℕ → Option (Held (FileStore D g) × (Files E × Holdings)) → Option (List ℕ) → Option (List ℕ) → Type 0
-  IsCopied status None out now = (f : Failure) × (status ≡ failure_status f) × (now ≡ out)
-  IsCopied status (Some copies) out now =
+      ℕ → Result (Held (FileStore D g) × (Files E × Holdings)) (Unopened (Held (FileStore D g)))
+      → Option (List ℕ) → Option (List ℕ) → Type 0
+  IsCopied status (Err it) out now = IsUntold image status it out now
+  IsCopied status (Ok copies) out now =
       IsCopyMade copies × IsToldAs (copied_line copies.1.1.operators copies.1.1.plans) status out now

@@ -1,5 +1,5 @@
-//! Why a file can't be opened, as far as that can be told afterwards: a line for the keeper, of which no clause
-//! speaks.
+//! Why a file can't be opened, as far as that can be told afterwards: a line for the keeper, of which no
+//! clause speaks.
 
 use crate::opening::{Opened, OpenedDesk};
 use desk_line::{Database, Failure, Line};
@@ -9,6 +9,10 @@ use sqlite_std_file::OpenError;
 use std::alloc::{AllocError, Global};
 use std::fs::{self, File, OpenOptions};
 use std::io::{ErrorKind, Read, Write};
+
+const NO_PATH: &str = "a name that SQLite reads otherwise than as a path";
+
+const TAKEN: &str = "it is there already";
 
 // What a database file begins with.
 const MAGIC: &[u8; 16] = b"SQLite format 3\0";
@@ -59,8 +63,8 @@ pub fn tell<E: Write>(
     tell_of(rt.alloc(), path, cause, errors);
 }
 
-/// Tells that a desk has no operator: that in the file at the path, or one in memory. A fault of the stream is
-/// passed over.
+/// Tells that a desk has no operator: that in the file at the path, or one in memory. A fault of the stream
+/// is passed over.
 pub fn tell_unenrolled(rt: &HostRuntime, path: Option<&str>) {
     let path = path.unwrap_or(":memory:");
     let text = "no operator is enrolled, so each request is answered 403";
@@ -78,10 +82,38 @@ fn line_of(alloc: Global, path: &str, text: &str) -> Result<String, AllocError> 
     format!(in alloc; "uss_desk: {path}: {text}\n")
 }
 
+/// Why there can be no new file at a path, if that is so: it is no path, or something is there.
+pub fn new_cause(rt: &HostRuntime, path: &str) -> Option<&'static str> {
+    if path == ":memory:" || path.starts_with("file:") {
+        return Some(NO_PATH);
+    }
+    match fs::exists(rt, path) {
+        Ok(false) => None,
+        _ => Some(TAKEN),
+    }
+}
+
+/// Why a file can't be made at a path, if that is so; it is tried, and gone again.
+pub fn room_cause(rt: &HostRuntime, path: &str) -> Option<&'static str> {
+    let made = OpenOptions::new()
+        .write(true)
+        .create_new(true)
+        .open(rt, path);
+    match made.and_then(|_| fs::remove_file(rt, path)) {
+        Ok(()) => None,
+        Err(error) => Some(match error.kind() {
+            ErrorKind::AlreadyExists => TAKEN,
+            ErrorKind::NotFound => "no such folder",
+            ErrorKind::PermissionDenied => "no right to make it",
+            _ => "it can't be made",
+        }),
+    }
+}
+
 // Why SQLite refuses a file.
 fn store_cause(rt: &HostRuntime, path: &str) -> &'static str {
     if path.starts_with("file:") {
-        return "a name that SQLite reads otherwise than as a path";
+        return NO_PATH;
     }
     match fs::metadata(rt, path) {
         Err(error) if error.kind() == ErrorKind::NotFound => return "no such file",

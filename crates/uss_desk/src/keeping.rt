@@ -6,7 +6,7 @@ ghost use Rattle.desk_store.specs.World.{World};
 ghost use Rattle.desk_tables.specs.Copying.{AreCounted, LooksIn};
 ghost use Rattle.uss_desk.specs.Keeping.{FailsToLook, IsChecked, IsCopied, IsCopyMade, TellsHoldings};
 
-use crate::causes::{tell, tell_of};
+use crate::causes::{new_cause, room_cause, tell, tell_of};
 use crate::opening::{Look, Unopened, open_failure};
 use desk_line::{Copying, Database, Failure, conclude};
 use desk_program::{CheckedFile, print_checked, print_copied};
@@ -25,6 +25,15 @@ const RESERVED_AT: usize = 20;
 
 const RESERVED_FOR_SUMS: u8 = 8;
 
+// The names of a new file and of its log: those that they get at last, and those that they have before.
+#[derive(Drop)]
+struct Names {
+    to: String,
+    to_log: String,
+    part: String,
+    part_log: String,
+}
+
 // What is known of a file beside what it holds.
 #[derive(Clone, Copy)]
 struct Bulk {
@@ -33,8 +42,7 @@ struct Bulk {
     log: u64,
 }
 
-/// Prints what a database holds, and answers the exit status and the connection with which it was read, if
-/// there was one. It is left as it is. Why it can't be read, and the word of the failure, go to `errors`; a
+/// Prints what a database holds, and answers the exit status and the connection with which it was read. It is left as it is. Why it can't be read, and the word of the failure, go to `errors`; a
 /// fault there is passed over.
 pub fn check_file<F: Start, W: Write, E: Write>(
     rt: &HostRuntime,
@@ -42,25 +50,21 @@ pub fn check_file<F: Start, W: Write, E: Write>(
     start: F,
     output: &mut W,
     errors: &mut E,
-) -> (u8, Option<Look<F>>)
+) -> (u8, Result<Look<F>, Unopened<Look<F>>>)
     ensures { IsChecked (image_at F.Start) result.0 result.1 (W.contents output.old)
         (W.contents output.new) }
 {
     match look_for(rt, database, start) {
         Ok((connection, file)) => {
             let status = print_checked(rt.alloc(), &file, output, errors);
-            (status, Some(connection))
+            (status, Ok(connection))
         }
-        Err(
-            Unopened {
-                failure,
-                connection,
-            },
-        ) => {
+        Err(unopened) => {
+            let failure = unopened.failure;
             if let Database::File(path) = database {
-                tell(rt, path, failure, connection.is_some(), errors);
+                tell(rt, path, failure, unopened.connection.is_some(), errors);
             }
-            (conclude(errors, Err(failure)), connection)
+            (conclude(errors, Err(failure)), Err(unopened))
         }
     }
 }
@@ -76,16 +80,10 @@ fn look_for<F: Start>(
     ensures fault { IfErr result (FailsToLook (image_at F.Start)) }
 {
     let Database::File(path) = database else {
-        return Err(Unopened {
-            failure: Failure::Store,
-            connection: None,
-        });
+        return Err(Unopened::unread(Failure::Store));
     };
     let Ok(bulk) = bulk_of(rt, path) else {
-        return Err(Unopened {
-            failure: Failure::Memory,
-            connection: None,
-        });
+        return Err(Unopened::unread(Failure::Memory));
     };
     match look_at(rt, path, start) {
         Ok((connection, holdings)) => Ok((connection, told_of(&holdings, bulk))),
@@ -148,8 +146,8 @@ fn name_with(alloc: Global, path: &str, end: &str) -> Result<String, AllocError>
 }
 
 /// Copies what a database holds to a new file, prints how much it is, and answers the exit status, and the
-/// connection to the first with the new files. The first is left as it is. Why nothing is copied, and the word
-/// of the failure, go to `errors`; a fault there is passed over.
+/// connection to the first with the new files. The first is left as it is. Why nothing is copied, and the
+/// word of the failure, go to `errors`; a fault there is passed over.
 pub fn copy_file<F: Start, N: Start, W: Write, E: Write>(
     rt: &HostRuntime,
     words: &Copying,
@@ -157,7 +155,7 @@ pub fn copy_file<F: Start, N: Start, W: Write, E: Write>(
     other: N,
     output: &mut W,
     errors: &mut E,
-) -> (u8, Option<Copies<F, N>>)
+) -> (u8, Result<Copies<F, N>, Unopened<Look<F>>>)
     ensures { IsCopied (image_at F.Start) (image_at N.Start) result.0 result.1 (W.contents output.old)
         (W.contents output.new) }
 {
@@ -171,9 +169,9 @@ pub fn copy_file<F: Start, N: Start, W: Write, E: Write>(
                 output,
                 errors,
             );
-            (status, Some(copies))
+            (status, Ok(copies))
         }
-        Err(failure) => (conclude(errors, Err(failure)), None),
+        Err(unopened) => (conclude(errors, Err(unopened.failure)), Err(unopened)),
     }
 }
 
@@ -185,63 +183,127 @@ fn copy_for<F: Start, N: Start, E: Write>(
     start: F,
     other: N,
     errors: &mut E,
-) -> Result<Copies<F, N>, Failure>
-    ensures { IfOk result (IsCopyMade (image_at F.Start) (image_at N.Start)) }
+) -> Result<Copies<F, N>, Unopened<Look<F>>>
+    ensures made { IfOk result (IsCopyMade (image_at F.Start) (image_at N.Start)) }
+    ensures fault { IfErr result (FailsToLook (image_at F.Start)) }
 {
     let Database::File(path) = &words.database else {
-        return Err(Failure::Store);
+        return Err(Unopened::unread(Failure::Store));
     };
-    let part = name_with(rt.alloc(), &words.to, ".part")?;
-    let log = name_with(rt.alloc(), &part, "-wal")?;
-    if is_taken(rt, &words.to, errors) || is_taken(rt, &part, errors) {
-        return Err(Failure::Store);
+    let Ok(names) = names_of(rt.alloc(), &words.to) else {
+        return Err(Unopened::unread(Failure::Memory));
+    };
+    if is_refused(rt, &names, errors) {
+        return Err(Unopened::unread(Failure::Store));
     }
-    let copies = copy_to(rt, path, start, &part, other, errors)?;
-    if put_in_place(rt, &part, &log, &words.to).is_err() {
-        tell_of(rt.alloc(), &words.to, "it can't be given its name", errors);
-        return Err(Failure::Store);
+    let copies = copy_to(rt, path, start, &names, other, errors)?;
+    if put_in_place(rt, &names).is_err() {
+        let cause = "it can't be given its name, or its folder can't be synced";
+        tell_of(rt.alloc(), &names.to, cause, errors);
+        return Err(Unopened::unread(Failure::Store));
     }
     Ok(copies)
 }
 
-// Copies what the file at a path holds to new files at another.
+// Copies what the file at a path holds to new files under the names that they have first.
 fn copy_to<F: Start, N: Start, E: Write>(
     rt: &HostRuntime,
     path: &str,
     start: F,
-    part: &str,
+    names: &Names,
     other: N,
     errors: &mut E,
-) -> Result<Copies<F, N>, Failure>
-    ensures { IfOk result (IsCopyMade (image_at F.Start) (image_at N.Start)) }
+) -> Result<Copies<F, N>, Unopened<Look<F>>>
+    ensures made { IfOk result (IsCopyMade (image_at F.Start) (image_at N.Start)) }
+    ensures fault { IfErr result (FailsToLook (image_at F.Start)) }
 {
-    match copy_from(rt, path, start, part, other) {
+    match copy_from(rt, path, start, &names.part, other) {
         Ok((connection, (store, holdings))) => match store.close() {
             Ok(files) => Ok((connection, (files, holdings))),
-            Err(_) => Err(Failure::Store),
+            Err(_) => {
+                give_up(rt, path, names, Failure::Store, true, errors);
+                Err(Unopened::unread(Failure::Store))
+            }
         },
         Err(refused) => {
             let failure = open_failure(&refused.fault);
-            tell(rt, path, failure, refused.connection.is_some(), errors);
-            Err(failure)
+            let was_read = refused.connection.is_some();
+            give_up(rt, path, names, failure, was_read, errors);
+            Err(Unopened {
+                failure,
+                connection: refused.connection,
+            })
         }
     }
 }
 
-// Whether there is something at a path, or it can't be known, which is told.
-fn is_taken<E: Write>(rt: &HostRuntime, path: &str, errors: &mut E) -> bool {
-    if let Ok(false) = fs::exists(rt, path) {
-        return false;
+fn names_of(alloc: Global, to: &str) -> Result<Names, AllocError> {
+    let part = name_with(alloc, to, ".part")?;
+    Ok(Names {
+        to: name_with(alloc, to, "")?,
+        to_log: name_with(alloc, to, "-wal")?,
+        part_log: name_with(alloc, &part, "-wal")?,
+        part,
+    })
+}
+
+// Whether the new file can't be made, or there is something at one of its names, which is told.
+fn is_refused<E: Write>(rt: &HostRuntime, names: &Names, errors: &mut E) -> bool {
+    if is_taken(rt, &names.to, errors) || is_taken(rt, &names.to_log, errors) {
+        return true;
     }
-    tell_of(rt.alloc(), path, "it is there already", errors);
-    true
+    if is_taken(rt, &names.part, errors) || is_taken(rt, &names.part_log, errors) {
+        return true;
+    }
+    is_told(rt, &names.part, room_cause(rt, &names.part), errors)
+}
+
+fn is_taken<E: Write>(rt: &HostRuntime, path: &str, errors: &mut E) -> bool {
+    is_told(rt, path, new_cause(rt, path), errors)
+}
+
+// Tells a cause, if there is one, and whether there is.
+fn is_told<E: Write>(
+    rt: &HostRuntime,
+    path: &str,
+    cause: Option<&'static str>,
+    errors: &mut E,
+) -> bool {
+    match cause {
+        Some(cause) => {
+            tell_of(rt.alloc(), path, cause, errors);
+            true
+        }
+        None => false,
+    }
+}
+
+// Tells why nothing is copied, and removes what was made.
+fn give_up<E: Write>(
+    rt: &HostRuntime,
+    path: &str,
+    names: &Names,
+    failure: Failure,
+    was_read: bool,
+    errors: &mut E,
+) {
+    if let Ok(false) = fs::exists(rt, names.part.as_str()) {
+        tell(rt, path, failure, was_read, errors);
+        return;
+    }
+    if let Failure::Store = failure {
+        let cause = "it can't be written: a full disk, or one that fails";
+        tell_of(rt.alloc(), &names.to, cause, errors);
+    }
+    let _ = fs::remove_file(rt, names.part.as_str());
+    let _ = fs::remove_file(rt, names.part_log.as_str());
 }
 
 // Gives a file that is whole its name, and syncs its folder. Its log, which is empty, goes.
-fn put_in_place(rt: &HostRuntime, part: &str, log: &str, to: &str) -> io::Result<()> {
-    fs::remove_file(rt, log)?;
-    fs::rename(rt, part, to)?;
-    let mut folder = fs::canonicalize(rt, to)?;
+fn put_in_place(rt: &HostRuntime, names: &Names) -> io::Result<()> {
+    fs::remove_file(rt, names.part_log.as_str())?;
+    fs::rename(rt, names.part.as_str(), names.to.as_str())?;
+    let mut folder = fs::canonicalize(rt, names.to.as_str())?;
     folder.pop();
     File::open(rt, folder.as_str())?.sync_all()
 }

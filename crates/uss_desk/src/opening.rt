@@ -1,6 +1,6 @@
 //! What a line is carried out at: a desk over the database that it names, or why that can't be opened.
 
-ghost use Rattle.std.specs.Prelude.{◌≡◌, IfErr, IfOk};
+ghost use Rattle.std.specs.Prelude.{◌≡◌, None, IfErr, IfOk};
 ghost use Rattle.sqlite_wal.specs.Files.{image_at};
 ghost use Rattle.uss_desk.specs.Opening as spec;
 ghost use Rattle.uss_desk.specs.Opening.{IsBlank, IsMemory, IsMovedAt, IsMovedIn, IsOpenedAt, IsOpenedFor};
@@ -27,6 +27,18 @@ pub struct Unopened<C: Drop> {
     pub failure: Failure,
     /// The connection; none if nothing in the database was read.
     pub connection: Option<C>,
+}
+
+impl<C: Drop> Unopened<C> {
+    /// Nothing in the database was read.
+    pub fn unread(failure: Failure) -> Unopened<C>
+        ensures { result ≡ record { failure = failure; connection = None } }
+    {
+        Unopened {
+            failure,
+            connection: None,
+        }
+    }
 }
 
 /// A connection with which files were read, where `F` stands for what they held.
@@ -139,10 +151,7 @@ fn open_old<F: Start>(
     ensures { IsMovedAt (image_at F.Start) database.now result }
 {
     match database {
-        Database::InMemory => Err(Unopened {
-            failure: Failure::Store,
-            connection: None,
-        }),
+        Database::InMemory => Err(Unopened::unread(Failure::Store)),
         Database::File(path) => open_old_file(rt, path, start),
     }
 }
