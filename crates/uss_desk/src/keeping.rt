@@ -42,8 +42,9 @@ struct Bulk {
     log: u64,
 }
 
-/// Prints what a database holds, and answers the exit status and the connection with which it was read. It is left as it is. Why it can't be read, and the word of the failure, go to `errors`; a
-/// fault there is passed over.
+/// Prints what a database holds, and answers the exit status and the connection with which it was read. It is
+/// left as it is. Why it can't be read, and the word of the failure, go to `errors`; a fault there is passed
+/// over.
 pub fn check_file<F: Start, W: Write, E: Write>(
     rt: &HostRuntime,
     database: &Database,
