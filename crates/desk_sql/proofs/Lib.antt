@@ -16,7 +16,6 @@ pub mod BatchLemmas
 pub mod UpdateLemmas
 pub mod SetLemmas
 pub mod EnrolLemmas
-pub mod CountLemmas
 pub mod SchemaLemmas
 pub mod MadeLemmas
 pub mod RowidLemmas

@@ -4,9 +4,8 @@ use Rattle.sqlite_tied.specs.Compute.{everything}
 use Rattle.sqlite.specs.Listing.{understood}
 use Rattle.desk_sql.specs.Statements.{name_row}
 use Rattle.desk_sql.specs.Refusals.{IsSureFor}
-use Rattle.desk_sql.proofs.Texts.{own_plans_text, count_plans_text}
+use Rattle.desk_sql.proofs.Texts.{own_plans_text}
 use Rattle.desk_sql.proofs.QueryTexts.{own_plans_is, own_plans_query}
-use Rattle.desk_sql.proofs.CountLemmas.{count_plans_is, count_plans_query, counts_never}
 use Rattle.desk_sql.proofs.SureLemmas.{sure_for}
 
 pub plans : IsSureFor own_plans_text name_row
@@ -17,14 +16,4 @@ plans =
     (λ given db h. elim h [
       | inl none ↦ absurd none
       | inr fold ↦ absurd fold.4.4
-    ])
-
-pub count : IsSureFor count_plans_text name_row
-unfolding understood everything
-count =
-    sure_for count_plans_text count_plans_query _ name_row count_plans_is
-    (λ given. refl) (omega arith) (λ given trees misfit. true≢false misfit)
-    (λ given db h. elim h [
-      | inl sum ↦ absurd (counts_never _ sum)
-      | inr fold ↦ absurd fold.4
     ])

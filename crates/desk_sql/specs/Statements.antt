@@ -1,5 +1,5 @@
 -- What a text of SQL selects, changes or makes.
-use Rattle.std.specs.Prelude.{◌≡◌, ⊤, false, ℕ, pos, List, [], ◌∷◌, length, map, Option, None, Result, Ok, Err}
+use Rattle.std.specs.Prelude.{◌≡◌, ⊤, false, ℕ, pos, List, [], ◌∷◌, map, Option, None, Result, Ok, Err}
 use Rattle.sqlite.specs.declared.types.Value.TheVariants.{Int, Text}
 use Rattle.sqlite.specs.Order.{Row}
 use Rattle.sqlite.specs.Tree.{Trees, rowid}
@@ -10,7 +10,6 @@ use Rattle.sqlite.specs.Calls.{IsWrite}
 use Rattle.sqlite.specs.State.{text_of}
 use Rattle.sqlite.specs.Given.{IsPlain}
 use Rattle.sqlite.specs.Listing.{understood, reads_listing}
-use Rattle.sqlite_sql.specs.Aggregate.{count}
 use Rattle.sqlite_schema.specs.declared.schema.Keys.TheVariants.{Enforced}
 use Rattle.sqlite_resolve.specs.declared.compiled.Compiled.{Compiled}
 use Rattle.sqlite_resolve.specs.declared.error.CompileError.{CompileError}
@@ -86,10 +85,6 @@ pub record SelectsAll (table : DeskTable) (text : List ℕ) (cells : List ℕ) (
 -- the rowids of the rows of a tree
 abbrev pub rowids : List Row → List Row
 rowids rows = map (λ r. rowid r ∷ []) rows
-
--- one row, of how many rows there are (SQL stops to count at 2 ^ 63 - 1)
-abbrev pub counted : List Row → List Row
-counted rows = (count (length rows) ∷ []) ∷ []
 
 -- ---- what a statement writes
 

@@ -22,7 +22,7 @@ fn operator_named_text() -> &'static str
 }
 
 /// The row `name`, `ceiling` of the operator with this name.
-pub fn operator_named<S: Alter>(
+pub(crate) fn operator_named<S: Alter>(
     connection: &mut Connection<S>,
     name: &str,
 ) -> Result<Vec<Row>, Error>
