@@ -31,7 +31,6 @@ use Rattle.sqlite_keyed.proofs.ListLemmas.{map-map}
 use Rattle.sqlite.proofs.Callers.{IsPlain, reads_as, command_of}
 use Rattle.desk_sql.specs.Rows.{IsDesk, Tables, tables_of, Lists, is_text, is_same, differs, is_at_most, is_at_least, is_below, is_above}
 use Rattle.desk_sql.specs.Effects.{ShowsAsBefore}
-use Rattle.desk_sql.specs.Finding.{Holds}
 use Rattle.desk_sql.specs.Rivals.{MayRead}
 use Rattle.desk_sql.specs.Statements.{Selects}
 use Rattle.desk_sql.proofs.QueryTexts.{IsQueryIn, query_of}

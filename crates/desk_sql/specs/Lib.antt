@@ -10,5 +10,6 @@ pub mod Refusals
 pub mod Taking
 pub mod Rivals
 pub mod Statements
+pub mod Queries
 pub mod Changing
 pub mod Putting
