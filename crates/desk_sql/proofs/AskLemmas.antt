@@ -156,8 +156,8 @@ all_selected table text cells wanted known old new rows has h =
 -- ---- tables that may not be made
 
 -- the query of what is read
-abbrev pub IsTextOf : Whole → List ℕ → Type 0
-IsTextOf whole text = SelectsAll (table_read whole) text (key_cells (table_read whole))
+abbrev pub IsWholeText : Whole → List ℕ → Type 0
+IsWholeText whole text = SelectsAll (table_read whole) text (key_cells (table_read whole))
     (λ db. rows_read whole (tables_of db))
 
 part_at : (whole : Whole) (made : Made) (db : Trees) → rows_read whole (tables_at made db)

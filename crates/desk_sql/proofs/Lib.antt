@@ -28,8 +28,6 @@ pub mod LeavingLemmas
 pub mod HandLemmas
 pub mod SureLemmas
 pub mod Sure
-pub mod SureListings
-pub mod SureSpans
 pub mod StopLemmas
 pub mod DeleteStops
 pub mod KeyLemmas

@@ -4,12 +4,12 @@ use Rattle.sqlite.specs.declared.types.Value.TheVariants.{Int, Text}
 use Rattle.sqlite.specs.Order.{Row}
 use Rattle.sqlite.specs.Tree.{Trees, rowid}
 use Rattle.sqlite.specs.declared.run.Mode.{Mode}
-use Rattle.sqlite.specs.Effect.{Database}
+use Rattle.sqlite.specs.Effect.{Database, Reads}
 use Rattle.sqlite.specs.Does.{Tally, Does}
 use Rattle.sqlite.specs.Calls.{IsWrite}
 use Rattle.sqlite.specs.State.{text_of}
 use Rattle.sqlite.specs.Given.{IsPlain}
-use Rattle.sqlite.specs.Listing.{understood, reads_listing}
+use Rattle.sqlite.specs.Listing.{understood}
 use Rattle.sqlite_schema.specs.declared.schema.Keys.TheVariants.{Enforced}
 use Rattle.sqlite_resolve.specs.declared.compiled.Compiled.{Compiled}
 use Rattle.sqlite_resolve.specs.declared.error.CompileError.{CompileError}
@@ -18,18 +18,13 @@ use Rattle.desk_sql.specs.declared.opening.finding.Made.{Made}
 use Rattle.desk_sql.specs.declared.opening.numbers.DeskTable.{DeskTable}
 use Rattle.desk_sql.specs.Schema.{desk_schema, schema_of, HasTable}
 use Rattle.desk_sql.specs.Rows.{IsDesk, IsMadeTo, Tables, tables_of, tables_at, operator_row, plan_row, Lists}
-use Rattle.desk_sql.specs.Refusals.{IsSure}
-use Rattle.desk_sql.specs.Rivals.{MayRead}
+use Rattle.desk_sql.specs.Refusals.{IsSure, IsSureGiven}
 
 -- ---- what a text is given, as its parameters in turn
 
 -- nothing
 abbrev pub no_params : ⊤ → Row
 no_params _ = []
-
--- an operator's name
-abbrev pub name_row : List ℕ → Row
-name_row name = Text name ∷ []
 
 -- which plan
 pub record Key : Type 0 where
@@ -62,19 +57,20 @@ closing_row c = Text c.operator ∷ Text c.id ∷ Int (pos c.priority) ∷ Int (
 
 -- ---- what a query shows
 
--- a text that changes nothing, and of a desk's tables shows just the rows that are wanted for what it is
--- given, in the order of these columns
-pub record Selects {Given : Type 0} (text : List ℕ) (params : Given → Row) (cells : List ℕ)
-    (wanted : Given → Tables → List Row) : Type 0
-  where
-    pub plain : IsPlain (understood desk_schema text)
-    pub unlisted : reads_listing desk_schema text ≡ false
-    pub rows : (given : Given) (db : Database) (shown : List Row) → IsDesk db
-        → MayRead (understood desk_schema text) db (params given) shown
-        → Lists cells (wanted given (tables_of db.trees)) shown
+-- a compiled text that may show these rows
+abbrev pub MayRead : Result Compiled CompileError → Database → Row → List Row → Type 0
+MayRead (Ok c) db params rows = Reads c.command db params rows
+MayRead (Err e) db params rows = ⊥
 
--- a text that only memory, the disk and a limit on steps refuse, and that shows just these rows wherever the
--- table is made, in the order of these columns
+-- a text that, given these parameters, only memory, the disk and a limit on steps refuse, and that of a desk's
+-- tables shows just the rows that are wanted, in the order of these columns
+pub record Selects (text : List ℕ) (params : Row) (cells : List ℕ) (wanted : Tables → List Row) : Type 0 where
+  pub sure : IsSureGiven text params
+  pub rows : (db : Database) (shown : List Row) → IsDesk db
+      → MayRead (understood desk_schema text) db params shown → Lists cells (wanted (tables_of db.trees)) shown
+
+-- a text that is given nothing, that only memory, the disk and a limit on steps refuse, and that shows just these
+-- rows wherever the table is made, in the order of these columns
 pub record SelectsAll (table : DeskTable) (text : List ℕ) (cells : List ℕ) (wanted : Trees → List Row)
     : Type 0
   where
