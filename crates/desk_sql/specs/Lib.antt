@@ -12,3 +12,4 @@ pub mod Statements
 pub mod Queries
 pub mod Changing
 pub mod Putting
+pub mod Changes
