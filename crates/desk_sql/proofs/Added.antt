@@ -22,9 +22,10 @@ use Rattle.sqlite_schema.specs.declared.schema.Index.{Index}
 use Rattle.sqlite_value.specs.Keys.{plain, first_key}
 use Rattle.sqlite_tied.specs.Compute.{everything}
 use Rattle.desk_sql.specs.Schema.{desk_schema, operator_table, plan_table, volume_table, span_table, to_operator, to_plan}
-use Rattle.desk_sql.specs.Rows.{IsDesk, columns, tables_of}
+use Rattle.desk_sql.specs.Rows.{IsDesk, columns, operator_row, tables_of}
 use Rattle.desk_sql.specs.Batches.{volume_of, volume_params, span_of}
-use Rattle.desk_sql.specs.Statements.{Ceiling, ceiling_row, row_of, enforced}
+use Rattle.desk_sql.specs.Statements.{enforced}
+use Rattle.desk_sql.specs.Changes.{row_of}
 use Rattle.desk_sql.specs.declared.changing.writing.PlanRecord.{PlanRecord}
 use Rattle.desk_sql.specs.declared.changing.writing.VolumeRecord.{VolumeRecord}
 use Rattle.desk_sql.specs.declared.changing.writing.SpanRecord.{SpanRecord}
@@ -107,12 +108,12 @@ alone show k i is same row rows key none =
 
 -- ---- the values fit their columns
 
-operator_values : (it : Ceiling) (limit : Option ℕ) (db : Database) (e : Error)
-    → RefusesSource limit db (ceiling_row it ++ []) (Values insert_operator_terms 3) e
+operator_values : (name : List ℕ) (ceiling : ℕ) (limit : Option ℕ) (db : Database) (e : Error)
+    → RefusesSource limit db (operator_row name ceiling ++ []) (Values insert_operator_terms 3) e
     → (e ≡ SqliteFailure code.OperationInterrupted) × IsSome limit
 unfolding everything
-operator_values it limit db e (inl misfit) = absurd (true≢false misfit.1)
-operator_values it limit db e (inr steps) = steps
+operator_values name ceiling limit db e (inl misfit) = absurd (true≢false misfit.1)
+operator_values name ceiling limit db e (inr steps) = steps
 
 plan_values : (it : PlanRecord) (limit : Option ℕ) (db : Database) (e : Error)
     → RefusesSource limit db (row_of it ++ []) (Values insert_plan_terms 6) e
@@ -149,15 +150,15 @@ span_refers = refl
 
 -- ---- each row
 
-module _ (c : Ceiling) (limit : Option ℕ) (old : Database) (desk : IsDesk old) (sound : IsDatabase old)
-    (fits : FitsOperator c.name (ceiling_row c) old) where
+module _ (name : List ℕ) (ceiling : ℕ) (limit : Option ℕ) (old : Database) (desk : IsDesk old)
+    (sound : IsDatabase old) (fits : FitsOperator name (operator_row name ceiling) old) where
   abbrev operator_trees : Trees
   operator_trees = old.trees
 
-  operator_lone : IsLone (at 0 operator_table) (inl refl) operator_trees (ceiling_row c)
+  operator_lone : IsLone (at 0 operator_table) (inl refl) operator_trees (operator_row name ceiling)
   operator_lone i (inl is) on =
-      alone (columns 2) (λ r. has_same_key 1 r (ceiling_row c)) i _ is _ (operator_trees 0)
-      (key_1 (next_rowid (old.trees 0)) (ceiling_row c)) fits.1.1
+      alone (columns 2) (λ r. has_same_key 1 r (operator_row name ceiling)) i _ is _ (operator_trees 0)
+      (key_1 (next_rowid (old.trees 0)) (operator_row name ceiling)) fits.1.1
   operator_lone i (inr (inl is)) on = off (at 0 operator_table) i _ is refl on
   operator_lone i (inr (inr (inl is))) on = off (at 0 operator_table) i _ is refl on
   operator_lone i (inr (inr (inr (inl is)))) on = off (at 0 operator_table) i _ is refl on
@@ -169,23 +170,23 @@ module _ (c : Ceiling) (limit : Option ℕ) (old : Database) (desk : IsDesk old)
   operator_lone i (inr (inr (inr (inr (inr (inr (inr (inr none)))))))) on = absurd none
 
   operator_never : (stop : Option Error)
-      → OnRows (task_at limit (ceiling_row c) operator_table.name operator_table.columns
+      → OnRows (task_at limit (operator_row name ceiling) operator_table.name operator_table.columns
       operator_table.primary operator_table.references 0) enforced None
       (Insert 0 (Values insert_operator_terms 3)) old.trees (Err stop)
       → IsAtLimit limit stop
-  operator_never = never_stops limit (ceiling_row c) operator_table.name operator_table.columns
+  operator_never = never_stops limit (operator_row name ceiling) operator_table.name operator_table.columns
       operator_table.primary operator_table.references 0 old.trees
-      insert_operator_terms 3 (ceiling_row c) (record {
+      insert_operator_terms 3 (operator_row name ceiling) (record {
         listed = inl refl;
         refers = refl;
         one = refl;
-        sure = operator_values c limit (record { schema = desk_schema; trees = old.trees });
-        casts = then refl (then (cast_int (pos c.ceiling)) refl);
+        sure = operator_values name ceiling limit (record { schema = desk_schema; trees = old.trees });
+        casts = then refl (then (cast_int (pos ceiling)) refl);
         good = record {
           typed = λ n. refl;
           present = λ n. refl;
           checked = λ n. refl;
-          stored = operator_stored c.name c.ceiling fits.0;
+          stored = operator_stored name ceiling fits.0;
         };
         room = fits.1.0;
         whole = desk.operators.whole;
@@ -332,30 +333,25 @@ module _ (s : SpanRecord) (limit : Option ℕ) (old : Database) (desk : IsDesk o
 
 -- ---- the texts
 
-pub operator : IsSureChange insert_operator_text ceiling_row
-    (λ c. FitsOperator c.name (ceiling_row c))
+pub insert_operator_sure : (name : List ℕ) (ceiling : ℕ) → IsSureChange insert_operator_text
+    (operator_row name ceiling) (FitsOperator name (operator_row name ceiling))
 unfolding understood everything
-operator = sure_change insert_operator_text ceiling_row _ _ insert_operator_is tt (λ it. refl)
-    (omega arith)
-    (λ it limit db stop desk sound fits h. operator_never it limit db desk sound fits stop h)
+insert_operator_sure name ceiling =
+    sure_change insert_operator_text (operator_row name ceiling) _ _ insert_operator_is tt refl (omega arith)
+    (λ limit db stop desk sound fits h. operator_never name ceiling limit db desk sound fits stop h)
 
-pub plan : IsSureChange insert_plan_text row_of
-    (λ p. FitsPlan p.operator.now p.id.now (row_of p))
+pub insert_plan_sure : (p : PlanRecord) → IsSureChange insert_plan_text (row_of p) (FitsPlan p.operator.now p.id.now (row_of p))
 unfolding understood everything
-plan = sure_change insert_plan_text row_of _ _ insert_plan_is tt (λ it. refl)
-    (omega arith)
-    (λ it limit db stop desk sound fits h. plan_never it limit db desk sound fits stop h)
+insert_plan_sure p = sure_change insert_plan_text (row_of p) _ _ insert_plan_is tt refl (omega arith)
+    (λ limit db stop desk sound fits h. plan_never p limit db desk sound fits stop h)
 
-pub volume : IsSureChange insert_volume_text volume_params
-    (λ v. FitsVolume v.operator.now v.id.now v.asked.now v.canon.now (volume_of v))
+pub insert_volume_sure : (v : VolumeRecord) → IsSureChange insert_volume_text (volume_params v)
+    (FitsVolume v.operator.now v.id.now v.asked.now v.canon.now (volume_of v))
 unfolding understood everything
-volume = sure_change insert_volume_text volume_params _ _ insert_volume_is tt (λ it. refl)
-    (omega arith)
-    (λ it limit db stop desk sound fits h. volume_never it limit db desk sound fits stop h)
+insert_volume_sure v = sure_change insert_volume_text (volume_params v) _ _ insert_volume_is tt refl (omega arith)
+    (λ limit db stop desk sound fits h. volume_never v limit db desk sound fits stop h)
 
-pub span : IsSureChange insert_span_text span_of
-    (λ s. FitsSpan s.operator.now s.id.now (span_of s))
+pub insert_span_sure : (s : SpanRecord) → IsSureChange insert_span_text (span_of s) (FitsSpan s.operator.now s.id.now (span_of s))
 unfolding understood everything
-span = sure_change insert_span_text span_of _ _ insert_span_is tt (λ it. refl)
-    (omega arith)
-    (λ it limit db stop desk sound fits h. span_never it limit db desk sound fits stop h)
+insert_span_sure s = sure_change insert_span_text (span_of s) _ _ insert_span_is tt refl (omega arith)
+    (λ limit db stop desk sound fits h. span_never s limit db desk sound fits stop h)

@@ -20,13 +20,13 @@ use Rattle.sqlite.specs.Store.{Ghosts}
 use Rattle.sqlite.specs.Held.{Held, state}
 use Rattle.sqlite.specs.Schema.{Schema}
 use Rattle.desk_sql.specs.declared.opening.finding.Made.{Made}
-use Rattle.desk_sql.specs.declared.opening.finding.Made.TheVariants.{Nothing, Operators, Plans, OldVolumes, OldSpans, OldIndex, Volumes, Spans, All}
 use Rattle.desk_sql.specs.declared.opening.numbers.DeskTable.{DeskTable}
-use Rattle.desk_sql.specs.declared.opening.numbers.DeskTable.TheVariants.{Operator, Plan, OldVolume, OldSpan, Volume, Span}
+use Rattle.desk_sql.specs.declared.reading.whole.Whole.{Whole}
+use Rattle.desk_sql.specs.Queries.{table_read, key_cells, rows_read}
 use Rattle.desk_sql.specs.Schema.{HasTable, has_table}
 use Rattle.desk_sql.specs.Finding.{Holds}
 use Rattle.sqlite.specs.Tree.{Trees}
-use Rattle.desk_sql.specs.Rows.{Lists, Tables, tables_of, tables_at}
+use Rattle.desk_sql.specs.Rows.{Lists, tables_of, tables_at}
 use Rattle.desk_sql.specs.Statements.{SelectsAll}
 use Rattle.desk_sql.proofs.ReadLemmas.{shown_read}
 use Rattle.desk_sql.specs.Refusals.{NeverRefuses, IsSureIn, IsSure, IsRefusal}
@@ -155,98 +155,23 @@ all_selected table text cells wanted known old new rows has h =
 
 -- ---- tables that may not be made
 
+-- the query of what is read
+abbrev pub IsWholeText : Whole → List ℕ → Type 0
+IsWholeText whole text = SelectsAll (table_read whole) text (key_cells (table_read whole))
+    (λ db. rows_read whole (tables_of db))
+
+part_at : (whole : Whole) (made : Made) (db : Trees) → rows_read whole (tables_at made db)
+    ≡ (if has_table made (table_read whole) then rows_read whole (tables_of db) else [])
+part_at whole made db = grind arith
+
 -- what a table that is made shows is its part of what is made so far
-pub shown_at : {V : Type 0} (part : Tables → List Row) (table : DeskTable) (made : Made)
-    (there : Bool) → has_table made table ≡ there
-    → ((db : Trees) → part (tables_at made db) ≡ (if has_table made table then part (tables_of db) else []))
-    → (items : V → List Row) (cells : List ℕ) (db : Trees) (r : Result V Error)
-    → IfOk r (λ v. Lists cells (if there then part (tables_of db) else []) (items v))
-    → IfOk r (λ v. Lists cells (part (tables_at made db)) (items v))
-shown_at part table made there is are items cells db (Ok v) lists =
-    subst (λ rows. Lists cells rows (items v))
-    (sym (are db ∙ ap (λ b. if b then part (tables_of db) else []) is)) lists
-shown_at part table made there is are items cells db (Err e) lists = tt
-
-pub operators_at : (made : Made) (db : Trees) → (tables_at made db).operators
-    ≡ (if has_table made Operator then (tables_of db).operators else [])
-operators_at Nothing db = refl
-operators_at Operators db = refl
-operators_at Plans db = refl
-operators_at OldVolumes db = refl
-operators_at OldSpans db = refl
-operators_at OldIndex db = refl
-operators_at Volumes db = refl
-operators_at Spans db = refl
-operators_at All db = refl
-
-pub plans_at : (made : Made) (db : Trees) → (tables_at made db).plans
-    ≡ (if has_table made Plan then (tables_of db).plans else [])
-plans_at Nothing db = refl
-plans_at Operators db = refl
-plans_at Plans db = refl
-plans_at OldVolumes db = refl
-plans_at OldSpans db = refl
-plans_at OldIndex db = refl
-plans_at Volumes db = refl
-plans_at Spans db = refl
-plans_at All db = refl
-
-pub old_volumes_at : (made : Made) (db : Trees) → (tables_at made db).old_volumes
-    ≡ (if has_table made OldVolume then (tables_of db).old_volumes else [])
-old_volumes_at Nothing db = refl
-old_volumes_at Operators db = refl
-old_volumes_at Plans db = refl
-old_volumes_at OldVolumes db = refl
-old_volumes_at OldSpans db = refl
-old_volumes_at OldIndex db = refl
-old_volumes_at Volumes db = refl
-old_volumes_at Spans db = refl
-old_volumes_at All db = refl
-
-pub old_spans_at : (made : Made) (db : Trees) → (tables_at made db).old_spans
-    ≡ (if has_table made OldSpan then (tables_of db).old_spans else [])
-old_spans_at Nothing db = refl
-old_spans_at Operators db = refl
-old_spans_at Plans db = refl
-old_spans_at OldVolumes db = refl
-old_spans_at OldSpans db = refl
-old_spans_at OldIndex db = refl
-old_spans_at Volumes db = refl
-old_spans_at Spans db = refl
-old_spans_at All db = refl
-
-pub volumes_at : (made : Made) (db : Trees) → (tables_at made db).volumes
-    ≡ (if has_table made Volume then (tables_of db).volumes else [])
-volumes_at Nothing db = refl
-volumes_at Operators db = refl
-volumes_at Plans db = refl
-volumes_at OldVolumes db = refl
-volumes_at OldSpans db = refl
-volumes_at OldIndex db = refl
-volumes_at Volumes db = refl
-volumes_at Spans db = refl
-volumes_at All db = refl
-
-pub covers_at : (made : Made) (db : Trees) → (tables_at made db).covers
-    ≡ (if has_table made Volume then (tables_of db).covers else [])
-covers_at Nothing db = refl
-covers_at Operators db = refl
-covers_at Plans db = refl
-covers_at OldVolumes db = refl
-covers_at OldSpans db = refl
-covers_at OldIndex db = refl
-covers_at Volumes db = refl
-covers_at Spans db = refl
-covers_at All db = refl
-
-pub spans_at : (made : Made) (db : Trees) → (tables_at made db).spans
-    ≡ (if has_table made Span then (tables_of db).spans else [])
-spans_at Nothing db = refl
-spans_at Operators db = refl
-spans_at Plans db = refl
-spans_at OldVolumes db = refl
-spans_at OldSpans db = refl
-spans_at OldIndex db = refl
-spans_at Volumes db = refl
-spans_at Spans db = refl
-spans_at All db = refl
+pub read_at : {V : Type 0} (whole : Whole) (made : Made) (there : Bool)
+    → has_table made (table_read whole) ≡ there
+    → (items : V → List Row) (db : Trees) (r : Result V Error)
+    → IfOk r (λ v. Lists (key_cells (table_read whole))
+    (if there then rows_read whole (tables_of db) else []) (items v))
+    → IfOk r (λ v. Lists (key_cells (table_read whole)) (rows_read whole (tables_at made db)) (items v))
+read_at whole made there is items db (Ok v) lists =
+    subst (λ rows. Lists (key_cells (table_read whole)) rows (items v))
+    (sym (part_at whole made db ∙ ap (λ b. if b then rows_read whole (tables_of db) else []) is)) lists
+read_at whole made there is items db (Err e) lists = tt

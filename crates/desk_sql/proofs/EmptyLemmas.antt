@@ -14,8 +14,8 @@ use Rattle.sqlite_schema.specs.declared.program.Program.{Program}
 use Rattle.sqlite_schema.specs.declared.schema.Keys.TheVariants.{Enforced}
 use Rattle.desk_sql.specs.Schema.{desk_schema, old_volume_table, old_span_table}
 use Rattle.desk_sql.specs.Rows.{IsDesk, AreNumbered, columns, cover_columns, tables_of, RemovesOldVolumes, RemovesOldSpans}
-use Rattle.desk_sql.specs.Statements.{Changes, no_params}
-use Rattle.desk_sql.specs.Putting.{AddsAtMost}
+use Rattle.desk_sql.specs.Statements.{Changes}
+use Rattle.desk_sql.specs.Putting.{TakesRoom, Takes}
 use Rattle.desk_sql.proofs.Texts.{empty_old_volumes_text, empty_old_spans_text}
 use Rattle.desk_sql.proofs.CommandTexts.{empty_query, empty_old_volumes_is, empty_old_spans_is}
 use Rattle.desk_sql.proofs.NumberLemmas.{unequal, removed}
@@ -144,17 +144,17 @@ module _ (limit : Option ℕ) (old new : Database) (desk : IsDesk old) where
 
 -- ---- the texts
 
-pub volumes_emptied : Changes empty_old_volumes_text no_params (λ _. RemovesOldVolumes)
-volumes_emptied = changes_by empty_old_volumes_text no_params _ _ empty_old_volumes_is tt
-    (λ _ limit old new desk h. empty_old_volumes limit old new desk h)
+pub empty_old_volumes_changes : Changes empty_old_volumes_text [] RemovesOldVolumes
+empty_old_volumes_changes = changes_by empty_old_volumes_text [] _ _ empty_old_volumes_is tt
+    (λ limit old new desk h. empty_old_volumes limit old new desk h)
 
-pub spans_emptied : Changes empty_old_spans_text no_params (λ _. RemovesOldSpans)
-spans_emptied = changes_by empty_old_spans_text no_params _ _ empty_old_spans_is tt
-    (λ _ limit old new desk h. empty_old_spans limit old new desk h)
+pub empty_old_spans_changes : Changes empty_old_spans_text [] RemovesOldSpans
+empty_old_spans_changes = changes_by empty_old_spans_text [] _ _ empty_old_spans_is tt
+    (λ limit old new desk h. empty_old_spans limit old new desk h)
 
-pub empty_old_volumes_room : AddsAtMost empty_old_volumes_text no_params 0 0 0
+pub empty_old_volumes_room : Takes empty_old_volumes_text [] (TakesRoom 0 0 0)
 empty_old_volumes_room = record {
-  takes = λ _ limit old new desk h.
+  room = λ limit old new desk h.
       let a = (volumes_left limit old new desk h).1.others in
       record {
         of_plans = λ left. same_room (old.trees 2) (new.trees 2) left (a.1.0 (unequal _ _ refl));
@@ -163,9 +163,9 @@ empty_old_volumes_room = record {
       };
 }
 
-pub empty_old_spans_room : AddsAtMost empty_old_spans_text no_params 0 0 0
+pub empty_old_spans_room : Takes empty_old_spans_text [] (TakesRoom 0 0 0)
 empty_old_spans_room = record {
-  takes = λ _ limit old new desk h.
+  room = λ limit old new desk h.
       let a = (spans_left limit old new desk h).1.others in
       record {
         of_plans = λ left. same_room (old.trees 2) (new.trees 2) left (a.1.0 (unequal _ _ refl));

@@ -18,7 +18,7 @@ use Rattle.sqlite_schema.specs.declared.schema.Constraint.TheVariants.{Unique}
 use Rattle.sqlite_tied.specs.Compute.{everything}
 use Rattle.desk_sql.specs.Schema.{desk_schema, old_volume_table, old_span_table}
 use Rattle.desk_sql.specs.Rows.{IsDesk}
-use Rattle.desk_sql.specs.Statements.{no_params, enforced}
+use Rattle.desk_sql.specs.Statements.{enforced}
 use Rattle.desk_sql.specs.Changing.{IsAtLimit, IsSureChange}
 use Rattle.desk_sql.proofs.Texts.{empty_old_volumes_text, empty_old_spans_text}
 use Rattle.desk_sql.proofs.CommandTexts.{empty_query, empty_old_volumes_is, empty_old_spans_is}
@@ -73,11 +73,10 @@ old_volumes_never limit db stop desk sound h =
     old_volume_table.references 4 db.trees w refl desk.old_volumes old_volume_works done)
     (obeyed_refers desk_schema db.trees obeys)) h
 
-pub old_volumes : IsSureChange empty_old_volumes_text no_params (λ _ db. ⊤)
+pub empty_old_volumes_sure : IsSureChange empty_old_volumes_text [] (λ db. ⊤)
 unfolding understood everything
-old_volumes = sure_change empty_old_volumes_text no_params _ _ empty_old_volumes_is tt (λ _. refl)
-    (omega arith)
-    (λ _ limit db stop desk sound fits h. old_volumes_never limit db stop desk sound h)
+empty_old_volumes_sure = sure_change empty_old_volumes_text [] _ _ empty_old_volumes_is tt refl (omega arith)
+    (λ limit db stop desk sound fits h. old_volumes_never limit db stop desk sound h)
 
 -- ---- version 1's spans
 
@@ -121,8 +120,7 @@ old_spans_never limit db stop desk sound h =
     old_span_table.references 6 db.trees w refl desk.old_spans old_span_works done)
     (obeyed_refers desk_schema db.trees obeys)) h
 
-pub old_spans : IsSureChange empty_old_spans_text no_params (λ _ db. ⊤)
+pub empty_old_spans_sure : IsSureChange empty_old_spans_text [] (λ db. ⊤)
 unfolding understood everything
-old_spans = sure_change empty_old_spans_text no_params _ _ empty_old_spans_is tt (λ _. refl)
-    (omega arith)
-    (λ _ limit db stop desk sound fits h. old_spans_never limit db stop desk sound h)
+empty_old_spans_sure = sure_change empty_old_spans_text [] _ _ empty_old_spans_is tt refl (omega arith)
+    (λ limit db stop desk sound fits h. old_spans_never limit db stop desk sound h)

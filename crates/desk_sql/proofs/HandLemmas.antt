@@ -21,6 +21,7 @@ use Rattle.desk_sql.specs.Schema.{desk_schema}
 use Rattle.desk_sql.specs.Effects.{IsReady}
 use Rattle.desk_sql.specs.Refusals.{IsSimple, IsSureCommand, IsSureMeaning, IsSureGiven, NeverRefusesGiven, IsRefusal}
 use Rattle.desk_sql.specs.Taking.{FailsToHand, FailsToHandAll, IsCutShort, Refusing}
+use Rattle.desk_sql.proofs.ReadLemmas.{plain_in}
 use Rattle.desk_sql.proofs.AskLemmas.{IsCause, by_store, was_shown}
 use Rattle.desk_sql.proofs.TakingLemmas.{shown_from, unchanged_itself}
 
@@ -84,11 +85,6 @@ ends_simple : (command : Command) (db : Database) (params : Row) → IsSimple co
 ends_simple (Select plan names) db params simple =
     subst (λ ls. Ends db.trees params [] ls) (sym simple) tt
 ends_simple _ db params h = absurd h
-
-plain_in : (text : List ℕ) (params : Row) (r : Result Compiled CompileError) → IsSureMeaning text params r
-    → IsPlain r
-plain_in text params (Ok c) sure = (sure.bare, sure.timeless)
-plain_in text params (Err e) sure = absurd sure
 
 module _ {S : Type 0} (g : Ghosts S) (sql : List ℕ) (params : Row) (sure : IsSureGiven sql params)
     (old : Held S) (ready : IsReady g old) where

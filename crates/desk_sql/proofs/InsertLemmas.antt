@@ -16,8 +16,12 @@ use Rattle.sqlite.specs.Command.TheVariants.{Insert}
 use Rattle.sqlite.specs.Effect.{Database}
 use Rattle.desk_sql.specs.Schema.{desk_schema, operator_table, plan_table, volume_table, span_table}
 use Rattle.desk_sql.specs.Rows.{IsDesk, AreNumbered, columns, cover_columns, tables_of, operator_row, plan_row, volume_row, cover_row, span_row, AddsOperator, AddsPlan, AddsVolume, AddsSpan}
+use Rattle.desk_sql.specs.declared.changing.writing.PlanRecord.{PlanRecord}
+use Rattle.desk_sql.specs.declared.changing.writing.VolumeRecord.{VolumeRecord}
+use Rattle.desk_sql.specs.declared.changing.writing.SpanRecord.{SpanRecord}
 use Rattle.desk_sql.specs.Batches.{volume_of, cover_of, volume_params, span_of}
-use Rattle.desk_sql.specs.Statements.{Changes, ceiling_row, row_of}
+use Rattle.desk_sql.specs.Statements.{Changes}
+use Rattle.desk_sql.specs.Changes.{row_of}
 use Rattle.desk_sql.proofs.NumberLemmas.{unequal, numbered_put, put_adds}
 use Rattle.desk_sql.proofs.Texts.{insert_operator_text, insert_plan_text, insert_volume_text, insert_span_text}
 use Rattle.desk_sql.proofs.CommandTexts.{insert_operator_is, insert_operator_terms, insert_plan_is, insert_plan_terms, insert_volume_is, insert_volume_terms, insert_span_is, insert_span_terms}
@@ -365,22 +369,24 @@ module _ (operator : List ℕ) (id : List ℕ) (place : ℕ) (first : ℤ) (last
       (subst (Adds 11 (with_rowid Chosen (db 11) (cast_row span_table (Null ∷ span_params))) db) now a)
       desk
 
-pub insert_operator_changes : Changes insert_operator_text ceiling_row (λ c. AddsOperator (ceiling_row c))
-insert_operator_changes = changes_by insert_operator_text ceiling_row _ _ insert_operator_is tt
-    (λ c limit old new desk h. insert_operator c.name c.ceiling limit old new desk h)
+pub insert_operator_changes : (name : List ℕ) (ceiling : ℕ)
+    → Changes insert_operator_text (operator_row name ceiling) (AddsOperator (operator_row name ceiling))
+insert_operator_changes name ceiling =
+    changes_by insert_operator_text (operator_row name ceiling) _ _ insert_operator_is tt
+    (λ limit old new desk h. insert_operator name ceiling limit old new desk h)
 
-pub insert_plan_changes : Changes insert_plan_text row_of (λ p. AddsPlan (row_of p))
-insert_plan_changes = changes_by insert_plan_text row_of _ _ insert_plan_is tt
-    (λ p limit old new desk h. insert_plan p.operator.now p.id.now p.priority p.usage p.aircraft limit old
+pub insert_plan_changes : (p : PlanRecord) → Changes insert_plan_text (row_of p) (AddsPlan (row_of p))
+insert_plan_changes p = changes_by insert_plan_text (row_of p) _ _ insert_plan_is tt
+    (λ limit old new desk h. insert_plan p.operator.now p.id.now p.priority p.usage p.aircraft limit old
     new desk h)
 
-pub insert_volume_changes :
-    Changes insert_volume_text volume_params (λ v. AddsVolume (volume_of v) (cover_of v))
-insert_volume_changes = changes_by insert_volume_text volume_params _ _ insert_volume_is tt
-    (λ v limit old new desk h. insert_volume v.operator.now v.id.now v.place v.lower v.upper v.start v.stop
+pub insert_volume_changes : (v : VolumeRecord)
+    → Changes insert_volume_text (volume_params v) (AddsVolume (volume_of v) (cover_of v))
+insert_volume_changes v = changes_by insert_volume_text (volume_params v) _ _ insert_volume_is tt
+    (λ limit old new desk h. insert_volume v.operator.now v.id.now v.place v.lower v.upper v.start v.stop
     v.asked.now v.canon.now limit old new desk h)
 
-pub insert_span_changes : Changes insert_span_text span_of (λ s. AddsSpan (span_of s))
-insert_span_changes = changes_by insert_span_text span_of _ _ insert_span_is tt
-    (λ s limit old new desk h. insert_span s.operator.now s.id.now s.place s.first s.last s.lower s.upper
+pub insert_span_changes : (s : SpanRecord) → Changes insert_span_text (span_of s) (AddsSpan (span_of s))
+insert_span_changes s = changes_by insert_span_text (span_of s) _ _ insert_span_is tt
+    (λ limit old new desk h. insert_span s.operator.now s.id.now s.place s.first s.last s.lower s.upper
     s.start s.stop s.priority limit old new desk h)

@@ -16,7 +16,6 @@ pub mod BatchLemmas
 pub mod UpdateLemmas
 pub mod SetLemmas
 pub mod EnrolLemmas
-pub mod CountLemmas
 pub mod SchemaLemmas
 pub mod MadeLemmas
 pub mod RowidLemmas
@@ -29,8 +28,6 @@ pub mod LeavingLemmas
 pub mod HandLemmas
 pub mod SureLemmas
 pub mod Sure
-pub mod SureListings
-pub mod SureSpans
 pub mod StopLemmas
 pub mod DeleteStops
 pub mod KeyLemmas

@@ -31,9 +31,8 @@ use Rattle.sqlite_keyed.proofs.ListLemmas.{map-map}
 use Rattle.sqlite.proofs.Callers.{IsPlain, reads_as, command_of}
 use Rattle.desk_sql.specs.Rows.{IsDesk, Tables, tables_of, Lists, is_text, is_same, differs, is_at_most, is_at_least, is_below, is_above}
 use Rattle.desk_sql.specs.Effects.{ShowsAsBefore}
-use Rattle.desk_sql.specs.Finding.{Holds}
-use Rattle.desk_sql.specs.Rivals.{MayRead}
-use Rattle.desk_sql.specs.Statements.{Selects}
+use Rattle.desk_sql.specs.Refusals.{IsSureMeaning}
+use Rattle.desk_sql.specs.Statements.{MayRead, Selects}
 use Rattle.desk_sql.proofs.QueryTexts.{IsQueryIn, query_of}
 
 -- ---- the connection was open, and shows what it showed
@@ -149,13 +148,6 @@ module _ {schema : Schema} (text : List ℕ) (from : Join) (terms : List Term) (
         (subst (IsPermutation (map (λ (o : Output). o.1) a.kept))
         (sym a.shown) (IsPermutation-map (λ (o : Output). o.1) a.kept a.ordered a.same))
 
-    pub may_show : (params : Row) (db : Database) (rows : List Row)
-        → MayRead (understood schema text) db params rows
-        → IsPermutation (map (eval_all project) (matches (overlay db.trees []) terms from (params ∷ [])))
-        rows
-    may_show params db rows h = answer_rows params db rows
-        (may_answer text query names known params db rows h)
-
 -- what is shown, a text may show
 pub shown_read : {schema : Schema} (text : List ℕ) (params : Row) (old new : State) (rows : List Row)
     → old.now.schema ≡ schema
@@ -170,13 +162,18 @@ shown_read {schema} text params old new rows same plain unlisted h =
       by_command (Ok c) is read = read
       by_command (Err e) is read = absurd is
 
+pub plain_in : (text : List ℕ) (params : Row) (r : Result Compiled CompileError)
+    → IsSureMeaning text params r → IsPlain r
+plain_in text params (Ok c) sure = (sure.bare, sure.timeless)
+plain_in text params (Err e) sure = absurd sure
+
 -- what is shown was selected
-pub selected : {Given : Type 0} (text : List ℕ) (params : Given → Row) (cells : List ℕ)
-    (wanted : Given → Tables → List Row) → Selects text params cells wanted → (given : Given)
-    → (old new : State) (rows : List Row) → IsDesk old.now → Shown text (params given) old new rows
-    → Lists cells (wanted given (tables_of old.now.trees)) rows
-selected text params cells wanted known given old new rows desk h = known.rows given old.now rows desk
-    (shown_read text (params given) old new rows desk.schema known.plain known.unlisted h)
+pub selected : (text : List ℕ) (params : Row) (cells : List ℕ) (wanted : Tables → List Row)
+    → Selects text params cells wanted → (old new : State) (rows : List Row) → IsDesk old.now
+    → Shown text params old new rows → Lists cells (wanted (tables_of old.now.trees)) rows
+selected text params cells wanted known old new rows desk h = known.rows old.now rows desk
+    (shown_read text params old new rows desk.schema (plain_in text params _ known.sure.means)
+    known.sure.unlisted h)
 
 kept_first : {E : Type 0} (f : E → Row) (e : E) (x : Row) → f e ≡ x → (a b : Bool) → a ≡ b
     → (es : List E) (xs : List Row) → map f es ≡ xs → map f (cond a (e ∷ []) [] ++ es)

@@ -19,7 +19,8 @@ use Rattle.sqlite_schema.specs.declared.program.Program.{Program}
 use Rattle.sqlite_schema.specs.declared.schema.Keys.TheVariants.{Enforced}
 use Rattle.desk_sql.specs.Schema.{desk_schema, plan_table, span_table}
 use Rattle.desk_sql.specs.Rows.{IsDesk, AreNumbered, is_of, is_not_of, columns, cover_columns, tables_of, RemovesPlan, RemovesSpans}
-use Rattle.desk_sql.specs.Statements.{Changes, key_row}
+use Rattle.desk_sql.specs.Statements.{Changes}
+use Rattle.desk_sql.specs.Changes.{key_row}
 use Rattle.desk_sql.proofs.Texts.{remove_spans_text, remove_plan_text}
 use Rattle.desk_sql.proofs.CommandTexts.{remove_spans_is, remove_spans_query, remove_plan_is, remove_plan_query}
 use Rattle.desk_sql.proofs.ReadLemmas.{equals_text}
@@ -307,10 +308,12 @@ module _ (operator id : List ℕ) (limit : Option ℕ) (old new : Database) wher
             (cut (columns 10) (db 11) (new.trees 11) e11),
       )
 
-pub remove_plan_changes : Changes remove_plan_text key_row (λ key. RemovesPlan key.operator key.id)
-remove_plan_changes = changes_by remove_plan_text key_row _ _ remove_plan_is tt
-    (λ key limit old new desk h. remove_plan key.operator key.id limit old new desk h)
+pub remove_plan_changes : (operator id : List ℕ)
+    → Changes remove_plan_text (key_row operator id) (RemovesPlan operator id)
+remove_plan_changes operator id = changes_by remove_plan_text (key_row operator id) _ _ remove_plan_is tt
+    (λ limit old new desk h. remove_plan operator id limit old new desk h)
 
-pub remove_spans_changes : Changes remove_spans_text key_row (λ key. RemovesSpans key.operator key.id)
-remove_spans_changes = changes_by remove_spans_text key_row _ _ remove_spans_is tt
-    (λ key limit old new desk h. remove_spans key.operator key.id limit old new desk h)
+pub remove_spans_changes : (operator id : List ℕ)
+    → Changes remove_spans_text (key_row operator id) (RemovesSpans operator id)
+remove_spans_changes operator id = changes_by remove_spans_text (key_row operator id) _ _ remove_spans_is tt
+    (λ limit old new desk h. remove_spans operator id limit old new desk h)

@@ -27,7 +27,8 @@ use Rattle.sqlite_tied.specs.Compute.{everything}
 use Rattle.sqlite.specs.Does.{OnRows}
 use Rattle.desk_sql.specs.Schema.{desk_schema, plan_table}
 use Rattle.desk_sql.specs.Rows.{IsDesk}
-use Rattle.desk_sql.specs.Statements.{key_row, enforced}
+use Rattle.desk_sql.specs.Statements.{enforced}
+use Rattle.desk_sql.specs.Changes.{key_row}
 use Rattle.desk_sql.specs.Changing.{IsAtLimit, IsSureChange}
 use Rattle.desk_sql.proofs.Texts.{remove_spans_text, remove_plan_text}
 use Rattle.desk_sql.proofs.CommandTexts.{remove_spans_is, remove_spans_query, remove_plan_is, remove_plan_query}
@@ -41,12 +42,12 @@ use Rattle.desk_sql.proofs.KeyLemmas.{AreAmong, IsChild, obeyed_refers, refers_l
 -- ---- the queries that find the rows
 
 spans_fit : (operator id : List ℕ) (trees : Trees)
-    → ¬ Misfits remove_spans_query desk_schema trees (key_row (record { operator = operator; id = id }))
+    → ¬ Misfits remove_spans_query desk_schema trees (key_row operator id)
 unfolding everything
 spans_fit operator id trees misfit = true≢false misfit
 
 plan_fits : (operator id : List ℕ) (trees : Trees)
-    → ¬ Misfits remove_plan_query desk_schema trees (key_row (record { operator = operator; id = id }))
+    → ¬ Misfits remove_plan_query desk_schema trees (key_row operator id)
 unfolding everything
 plan_fits operator id trees misfit = true≢false misfit
 
@@ -241,14 +242,16 @@ plan_never operator id limit db stop desk sound h =
 
 -- ---- the texts
 
-pub spans : IsSureChange remove_spans_text key_row (λ key db. ⊤)
+pub remove_spans_sure : (operator id : List ℕ)
+    → IsSureChange remove_spans_text (key_row operator id) (λ db. ⊤)
 unfolding understood everything
-spans =
-    sure_change remove_spans_text key_row _ _ remove_spans_is tt (λ key. refl) (omega arith)
-    (λ key limit db stop desk sound fits h. spans_never key.operator key.id limit db stop desk sound h)
+remove_spans_sure operator id =
+    sure_change remove_spans_text (key_row operator id) _ _ remove_spans_is tt refl (omega arith)
+    (λ limit db stop desk sound fits h. spans_never operator id limit db stop desk sound h)
 
-pub plan : IsSureChange remove_plan_text key_row (λ key db. ⊤)
+pub remove_plan_sure : (operator id : List ℕ)
+    → IsSureChange remove_plan_text (key_row operator id) (λ db. ⊤)
 unfolding understood everything
-plan =
-    sure_change remove_plan_text key_row _ _ remove_plan_is tt (λ key. refl) (omega arith)
-    (λ key limit db stop desk sound fits h. plan_never key.operator key.id limit db stop desk sound h)
+remove_plan_sure operator id =
+    sure_change remove_plan_text (key_row operator id) _ _ remove_plan_is tt refl (omega arith)
+    (λ limit db stop desk sound fits h. plan_never operator id limit db stop desk sound h)

@@ -1,6 +1,7 @@
 -- How many rows each text adds at most.
 use Rattle.std.proofs.Common.{◌≡◌, ◌+◌, ℕ, suc, ◌/◌, Bool, true, false, not, cond, List, [], ◌∷◌, ◌++◌, length, filter, Option, None, Ok, refl, sym, ap, subst, arith}
 use Rattle.std.specs.List.{list_any}
+use Rattle.std.specs.Prelude.{⊤}
 use Rattle.sqlite.specs.Order.{Row}
 use Rattle.sqlite.specs.declared.types.Value.TheVariants.{Null, Int}
 use Rattle.sqlite.specs.Term.{Term}
@@ -17,10 +18,14 @@ use Rattle.sqlite_schema.specs.declared.schema.Column.{Column}
 use Rattle.sqlite_schema.specs.declared.schema.Reference.{Reference}
 use Rattle.sqlite.specs.State.{State, Executes}
 use Rattle.desk_sql.specs.Schema.{desk_schema, plan_table, volume_table, span_table}
+use Rattle.desk_sql.specs.declared.changing.writing.PlanRecord.{PlanRecord}
+use Rattle.desk_sql.specs.declared.changing.writing.VolumeRecord.{VolumeRecord}
+use Rattle.desk_sql.specs.declared.changing.writing.SpanRecord.{SpanRecord}
 use Rattle.desk_sql.specs.Batches.{volume_params, span_of}
 use Rattle.desk_sql.specs.Rows.{IsDesk, Tables}
-use Rattle.desk_sql.specs.Statements.{Changes, enforced, key_row, row_of}
-use Rattle.desk_sql.specs.Putting.{AddsAtMost, HasRoomFor, TakesRoom}
+use Rattle.desk_sql.specs.Statements.{Changes, enforced}
+use Rattle.desk_sql.specs.Changes.{key_row, row_of}
+use Rattle.desk_sql.specs.Putting.{HasRoomFor, TakesRoom, Takes}
 use Rattle.desk_sql.proofs.Texts.{insert_plan_text, insert_volume_text, insert_span_text, remove_plan_text}
 use Rattle.desk_sql.proofs.CommandTexts.{insert_plan_is, insert_plan_terms, insert_volume_is, insert_volume_terms, insert_span_is, insert_span_terms, remove_plan_is}
 use Rattle.desk_sql.proofs.WriteLemmas.{Adds, adds, cast_null, did, insert_applies, ran, rows_written, table_at, task_at}
@@ -66,9 +71,9 @@ pub same_room : (old now : List Row) (left : ℕ) → now ≡ old → HasRoomFor
 same_room old now left same room =
     subst (HasRoomFor left) (sym same) (fewer left (0 + left) old (omega arith) room)
 
-pub plan_room : AddsAtMost insert_plan_text row_of 1 0 0
-plan_room = record {
-  takes = λ p limit old new desk h.
+pub insert_plan_room : (p : PlanRecord) → Takes insert_plan_text (row_of p) (TakesRoom 1 0 0)
+insert_plan_room p = record {
+  room = λ limit old new desk h.
       let db = old.trees in
       let d = did insert_plan_text (row_of p) limit old new desk (Insert 1 (Values insert_plan_terms 6))
       insert_plan_is h in
@@ -82,9 +87,9 @@ plan_room = record {
       };
 }
 
-pub volume_room : AddsAtMost insert_volume_text volume_params 0 1 0
-volume_room = record {
-  takes = λ v limit old new desk h.
+pub insert_volume_room : (v : VolumeRecord) → Takes insert_volume_text (volume_params v) (TakesRoom 0 1 0)
+insert_volume_room v = record {
+  room = λ limit old new desk h.
       let db = old.trees in
       let d =
       did insert_volume_text (volume_params v) limit old new desk (Insert 4 (Values insert_volume_terms 10))
@@ -99,9 +104,9 @@ volume_room = record {
       };
 }
 
-pub span_room : AddsAtMost insert_span_text span_of 0 0 1
-span_room = record {
-  takes = λ s limit old new desk h.
+pub insert_span_room : (s : SpanRecord) → Takes insert_span_text (span_of s) (TakesRoom 0 0 1)
+insert_span_room s = record {
+  room = λ limit old new desk h.
       let db = old.trees in
       let d = did insert_span_text (span_of s) limit old new desk (Insert 5 (Values insert_span_terms 11))
       insert_span_is h in
@@ -124,14 +129,13 @@ cut_room b q old now left is whole room =
     subst (HasRoomFor left) (sym is) (elim b as (λ b. HasRoomFor left (cond b (filter q old) old))
     [ true ↦ room_kept left q old whole there | false ↦ there ])
 
-pub remove_room : AddsAtMost remove_plan_text key_row 0 0 0
-remove_room = record {
-  takes = λ key limit old new desk h.
-      let operator = key.operator in
-      let id = key.id in
+pub remove_plan_room : (operator id : List ℕ)
+    → Takes remove_plan_text (key_row operator id) (TakesRoom 0 0 0)
+remove_plan_room operator id = record {
+  room = λ limit old new desk h.
       let db = old.trees in
       let d =
-      did remove_plan_text (key_row key) limit old new desk (Delete 1 (plan_program operator id limit))
+      did remove_plan_text (key_row operator id) limit old new desk (Delete 1 (plan_program operator id limit))
       remove_plan_is h in
       let it = rows_written (plan_task operator id limit)
       (Delete 1 (plan_program operator id limit)) db d.0 new d.1 in
@@ -148,12 +152,14 @@ remove_room = record {
       };
 }
 
--- what ran took the room of no more rows
-pub took : {Given : Type 0} (text : List ℕ) (params : Given → Row) (Change : Given → Tables → Tables → Type 0)
-    (plans volumes spans : ℕ) → Changes text params Change → AddsAtMost text params plans volumes spans
-    → (given : Given) → (old new : State) → IsDesk old.now → (count : ℕ)
-    → Executes text (params given) old new (Ok count)
-    → TakesRoom plans volumes spans old.now.trees new.now.trees
-took text params Change plans volumes spans known adds given old new desk count h =
-    adds.takes given old.step_limit old.now new.now desk
-    (ran text (params given) old new desk_schema desk.schema known.plain known.writes count h)
+-- of a change whose room nobody asks
+pub any_room : (text : List ℕ) (params : Row) → Takes text params (λ old new. ⊤)
+any_room text params = record { room = λ limit old new desk h. tt }
+
+-- what ran took that room
+pub took : (text : List ℕ) (params : Row) (Change : Tables → Tables → Type 0) (Room : Trees → Trees → Type 0)
+    → Changes text params Change → Takes text params Room → (old new : State) → IsDesk old.now → (count : ℕ)
+    → Executes text params old new (Ok count) → Room old.now.trees new.now.trees
+took text params Change Room known takes old new desk count h =
+    takes.room old.step_limit old.now new.now desk
+    (ran text params old new desk_schema desk.schema known.plain known.writes count h)

@@ -17,7 +17,8 @@ use Rattle.sqlite.specs.Effect.{Database}
 use Rattle.sqlite_schema.specs.declared.program.Program.{Program}
 use Rattle.desk_sql.specs.Schema.{operator_table, plan_table}
 use Rattle.desk_sql.specs.Rows.{IsDesk, AreNumbered, is_text, is_by, is_of, columns, tables_of, operator_row, plan_row, with_row, SetsOperators, SetsPlans}
-use Rattle.desk_sql.specs.Statements.{Changes, ceiling_row, closing_row}
+use Rattle.desk_sql.specs.Statements.{Changes}
+use Rattle.desk_sql.specs.Changes.{closing_row}
 use Rattle.desk_sql.proofs.Texts.{set_ceiling_text, close_plan_text}
 use Rattle.desk_sql.proofs.CommandTexts.{set_ceiling_is, set_ceiling_query, close_plan_is, close_plan_query}
 use Rattle.desk_sql.proofs.ReadLemmas.{equals_text}
@@ -155,12 +156,15 @@ module _ (operator id : List ℕ) (priority aircraft : ℕ) (limit : Option ℕ)
         ),
       )
 
-pub set_ceiling_changes : Changes set_ceiling_text ceiling_row
-    (λ c. SetsOperators (is_by c.name) (ceiling_row c))
-set_ceiling_changes = changes_by set_ceiling_text ceiling_row _ _ set_ceiling_is tt
-    (λ c limit old new desk h. set_ceiling c.name c.ceiling limit old new desk h)
+pub set_ceiling_changes : (name : List ℕ) (ceiling : ℕ) → Changes set_ceiling_text (operator_row name ceiling)
+    (SetsOperators (is_by name) (operator_row name ceiling))
+set_ceiling_changes name ceiling =
+    changes_by set_ceiling_text (operator_row name ceiling) _ _ set_ceiling_is tt
+    (λ limit old new desk h. set_ceiling name ceiling limit old new desk h)
 
-pub set_closed_changes : Changes close_plan_text closing_row
-    (λ c. SetsPlans (is_of c.operator c.id) (plan_row c.operator c.id c.priority 2 c.aircraft))
-set_closed_changes = changes_by close_plan_text closing_row _ _ close_plan_is tt
-    (λ c limit old new desk h. close_plan c.operator c.id c.priority c.aircraft limit old new desk h)
+pub set_closed_changes : (operator id : List ℕ) (priority aircraft : ℕ)
+    → Changes close_plan_text (closing_row operator id priority aircraft)
+    (SetsPlans (is_of operator id) (plan_row operator id priority 2 aircraft))
+set_closed_changes operator id priority aircraft =
+    changes_by close_plan_text (closing_row operator id priority aircraft) _ _ close_plan_is tt
+    (λ limit old new desk h. close_plan operator id priority aircraft limit old new desk h)

@@ -18,7 +18,8 @@ use Rattle.sqlite.specs.Held.{Held, state}
 use Rattle.desk_sql.specs.Rows.{IsDesk, is_by, is_of, is_wanted, differs, is_at_most, is_at_least, is_below, is_above, held_columns, is_same, joined, has_volume, with_volumes, by_cells, columns, cover_columns, tables_of, Lists}
 use Rattle.desk_sql.specs.declared.reading.rivals.Reach.{Reach}
 use Rattle.desk_sql.specs.Effects.{IsReady}
-use Rattle.desk_sql.specs.Rivals.{rival_params, MayRead, SelectsRivals}
+use Rattle.desk_sql.specs.declared.reading.query.Query.{Query}
+use Rattle.desk_sql.specs.Queries.{params_of, order_of, rows_of}
 use Rattle.sqlite.specs.Schema.{Schema}
 use Rattle.sqlite.specs.Table.{Table}
 use Rattle.sqlite_schema.specs.declared.schema.Index.{Index}
@@ -30,12 +31,13 @@ use Rattle.sqlite.specs.Effect.{Database}
 use Rattle.sqlite.specs.Listing.{understood}
 use Rattle.sqlite.specs.Tree.{Trees}
 use Rattle.desk_sql.specs.Rows.{Tables}
-use Rattle.desk_sql.specs.Refusals.{IsSure}
-use Rattle.desk_sql.specs.Statements.{Selects, SelectsAll, name_row, key_row}
+use Rattle.desk_sql.specs.Refusals.{IsSure, IsSureGiven}
+use Rattle.desk_sql.specs.Statements.{MayRead, Selects, SelectsAll}
+use Rattle.desk_sql.proofs.Sure.{operator_named_sure, plan_of_sure, volumes_of_sure, own_plans_sure, rival_spans_sure}
 use Rattle.desk_sql.proofs.SureTexts.{all_operators_sure, all_plans_sure, all_volumes_sure, all_covers_sure, all_spans_sure, all_old_volumes_sure, all_old_spans_sure}
 use Rattle.desk_sql.proofs.Texts.{operator_named_text, all_operators_text, plan_of_text, all_plans_text, volumes_of_text, all_volumes_text, all_covers_text, all_spans_text, all_old_volumes_text, all_old_spans_text, own_plans_text, rival_spans_text}
-use Rattle.desk_sql.proofs.QueryTexts.{IsQueryIn, IsQuery, IsWhole, query_of, operator_named_is, operator_named_query, all_operators_is, all_operators_query, plan_of_is, plan_of_query, all_plans_is, all_plans_query, volumes_of_is, volumes_of_query, all_volumes_is, all_volumes_query, all_covers_is, all_covers_query, all_spans_is, all_spans_query, all_old_volumes_is, all_old_volumes_query, all_old_spans_is, all_old_spans_query, own_plans_is, own_plans_query, rival_spans_is, rival_spans_query}
-use Rattle.desk_sql.proofs.ReadLemmas.{was_open, answer_rows, may_answer, may_show, scanned, equals_text, equals, either_true, le_number, ge_number, lt_number, gt_number}
+use Rattle.desk_sql.proofs.QueryTexts.{IsQueryIn, IsQuery, IsWhole, query_of, operator_named_is, operator_named_query, all_operators_is, all_operators_query, plan_of_is, plan_of_query, all_plans_is, all_plans_query, volumes_of_is, volumes_of_query, all_volumes_is, all_volumes_query, all_covers_is, all_covers_query, all_spans_is, all_spans_query, all_old_volumes_is, all_old_volumes_query, all_old_spans_is, all_old_spans_query, own_plans_is, own_plans_query, rival_spans_is, rival_spans_query, rival_params}
+use Rattle.desk_sql.proofs.ReadLemmas.{was_open, answer_rows, may_answer, scanned, equals_text, equals, either_true, le_number, ge_number, lt_number, gt_number}
 
 -- a value that a desk's rows have, whenever something is shown
 module _ {S V : Type 0} (g : Ghosts S) (old new : Held S) (items : V → List Row) (text : List ℕ)
@@ -120,21 +122,18 @@ module _ {schema : Schema} (text : List ℕ) (from : Join) (terms : List Term) (
 
 module _ (text : List ℕ) (from : Join) (terms : List Term) (project : List Term) (order : List (Term × Key))
     (names : List (List ℕ)) (known : IsQuery text (query_of from terms project order) names)
-    {Given : Type 0} (params : Given → Row) (cells : List ℕ) (wanted : Given → Tables → List Row) where
+    (params : Row) (sure : IsSureGiven text params) (cells : List ℕ) (wanted : Tables → List Row) where
   selects : ((e : Env) → eval_all (map (λ k. k.0) order) e ≡ map (column (eval_all project e)) cells)
       → ((x y : Row) → key_cmp 0 (map (λ k. k.1) order) (map (column x) cells) (map (column y) cells)
       ≡ by_cells cells x y)
-      → ((given : Given) (db : Database)
-      → map (eval_all project) (matches (overlay db.trees []) terms from (params given ∷ []))
-      ≡ wanted given (tables_of db.trees)) → Selects text params cells wanted
+      → ((db : Trees) → map (eval_all project) (matches (overlay db []) terms from (params ∷ []))
+      ≡ wanted (tables_of db)) → Selects text params cells wanted
   selects keys compares are = record {
-    plain = known.plain;
-    unlisted = known.unlisted;
-    rows = λ given db rows desk h.
-        listed text from terms project order names known (params given) cells db rows
-        (wanted given (tables_of db.trees))
-        (may_answer text (query_of from terms project order) names known (params given) db rows h) keys
-        compares (are given db);
+    sure = sure;
+    rows = λ db rows desk h.
+        listed text from terms project order names known params cells db rows (wanted (tables_of db.trees))
+        (may_answer text (query_of from terms project order) names known params db rows h) keys compares
+        (are db.trees);
   }
 
 module _ (text : List ℕ) (from : Join) (terms : List Term) (project : List Term) (order : List (Term × Key))
@@ -232,13 +231,14 @@ own_test operator p s =
     ∙ and_later (is_same (column s 1) (column p 1)) (is_same (column s 2) (column p 2))
     (is_by operator (columns 5 p))
 
-pub operator_named_selected :
-    Selects operator_named_text name_row [] (λ name t. filter (is_by name) t.operators)
-operator_named_selected =
-    selects operator_named_text _ _ _ _ _ operator_named_is name_row [] _ (λ e. refl) (λ x y. refl)
-    (λ name db. scanned (λ r. name_row name ∷ r ∷ []) operator_named_query.filter
+pub operator_named_selected : (name : List ℕ)
+    → Selects operator_named_text (Text name ∷ []) [] (λ t. filter (is_by name) t.operators)
+operator_named_selected name =
+    selects operator_named_text _ _ _ _ _ operator_named_is _ (operator_named_sure name) [] _
+    (λ e. refl) (λ x y. refl)
+    (λ db. scanned (λ r. (Text name ∷ []) ∷ r ∷ []) operator_named_query.filter
     operator_named_query.project (columns 2) (is_by name) (λ r. refl)
-    (λ r. both_hold _ ∙ equals_text (column r 1) name) (db.trees 0))
+    (λ r. both_hold _ ∙ equals_text (column r 1) name) (db 0))
 
 pub all_operators_selected : SelectsAll Operator all_operators_text (0 ∷ []) (λ db. (tables_of db).operators)
 all_operators_selected =
@@ -247,14 +247,14 @@ all_operators_selected =
     (λ db. scanned (λ r. [] ∷ r ∷ []) all_operators_query.filter all_operators_query.project (columns 2)
     (λ r. true) (λ r. refl) (λ r. refl) (db 0) ∙ every (map (columns 2) (db 0)))
 
-pub plan_of_selected :
-    Selects plan_of_text key_row [] (λ key t. filter (is_of key.operator key.id) t.plans)
-plan_of_selected =
-    selects plan_of_text _ _ _ _ _ plan_of_is key_row [] _ (λ e. refl) (λ x y. refl)
-    (λ key db. scanned (λ r. key_row key ∷ r ∷ []) plan_of_query.filter plan_of_query.project
-    (columns 5) (is_of key.operator key.id) (λ r. refl)
-    (λ r. ap₂ (λ a b. a && b) (equals_text (column r 1) key.operator)
-    (both_hold _ ∙ equals_text (column r 2) key.id)) (db.trees 2))
+pub plan_of_selected : (operator id : List ℕ)
+    → Selects plan_of_text (Text operator ∷ Text id ∷ []) [] (λ t. filter (is_of operator id) t.plans)
+plan_of_selected operator id =
+    selects plan_of_text _ _ _ _ _ plan_of_is _ (plan_of_sure operator id) [] _ (λ e. refl) (λ x y. refl)
+    (λ db. scanned (λ r. (Text operator ∷ Text id ∷ []) ∷ r ∷ []) plan_of_query.filter plan_of_query.project
+    (columns 5) (is_of operator id) (λ r. refl)
+    (λ r. ap₂ (λ a b. a && b) (equals_text (column r 1) operator)
+    (both_hold _ ∙ equals_text (column r 2) id)) (db 2))
 
 pub all_plans_selected : SelectsAll Plan all_plans_text (0 ∷ 1 ∷ []) (λ db. (tables_of db).plans)
 all_plans_selected =
@@ -263,14 +263,14 @@ all_plans_selected =
     (λ db. scanned (λ r. [] ∷ r ∷ []) all_plans_query.filter all_plans_query.project (columns 5)
     (λ r. true) (λ r. refl) (λ r. refl) (db 2) ∙ every (map (columns 5) (db 2)))
 
-pub volumes_of_selected :
-    Selects volumes_of_text key_row (2 ∷ []) (λ key t. filter (is_of key.operator key.id) t.volumes)
-volumes_of_selected =
-    selects volumes_of_text _ _ _ _ _ volumes_of_is key_row (2 ∷ []) _ (λ e. refl) (λ x y. refl)
-    (λ key db. scanned (λ r. key_row key ∷ r ∷ []) volumes_of_query.filter volumes_of_query.project
-    (columns 8) (is_of key.operator key.id) (λ r. refl)
-    (λ r. ap₂ (λ a b. a && b) (equals_text (column r 1) key.operator)
-    (both_hold _ ∙ equals_text (column r 2) key.id)) (db.trees 9))
+pub volumes_of_selected : (operator id : List ℕ)
+    → Selects volumes_of_text (Text operator ∷ Text id ∷ []) (2 ∷ []) (λ t. filter (is_of operator id) t.volumes)
+volumes_of_selected operator id =
+    selects volumes_of_text _ _ _ _ _ volumes_of_is _ (volumes_of_sure operator id) (2 ∷ []) _ (λ e. refl) (λ x y. refl)
+    (λ db. scanned (λ r. (Text operator ∷ Text id ∷ []) ∷ r ∷ []) volumes_of_query.filter volumes_of_query.project
+    (columns 8) (is_of operator id) (λ r. refl)
+    (λ r. ap₂ (λ a b. a && b) (equals_text (column r 1) operator)
+    (both_hold _ ∙ equals_text (column r 2) id)) (db 9))
 
 pub all_volumes_selected : SelectsAll Volume all_volumes_text (0 ∷ 1 ∷ 2 ∷ []) (λ db. (tables_of db).volumes)
 all_volumes_selected =
@@ -309,12 +309,13 @@ all_old_spans_selected =
     (λ db. scanned (λ r. [] ∷ r ∷ []) all_old_spans_query.filter all_old_spans_query.project (columns 10)
     (λ r. true) (λ r. refl) (λ r. refl) (db 6) ∙ every (map (columns 10) (db 6)))
 
-pub own_plans_selected :
-    Selects own_plans_text name_row (1 ∷ 5 ∷ []) (λ name. with_volumes (is_by name))
-own_plans_selected =
-    selects own_plans_text _ _ _ _ _ own_plans_is name_row (1 ∷ 5 ∷ []) _ (λ e. refl) (λ x y. refl)
-    (λ name db. joined_rows (name_row name) own_plans_query.filter own_plans_query.project (is_by name)
-    (λ p s. refl) (λ p s. own_test name p s) (db.trees 2) (db.trees 9))
+pub own_plans_selected : (operator : List ℕ)
+    → Selects own_plans_text (Text operator ∷ []) (1 ∷ 5 ∷ []) (with_volumes (is_by operator))
+own_plans_selected operator =
+    selects own_plans_text _ _ _ _ _ own_plans_is _ (own_plans_sure operator) (1 ∷ 5 ∷ []) _
+    (λ e. refl) (λ x y. refl)
+    (λ db. joined_rows (Text operator ∷ []) own_plans_query.filter own_plans_query.project (is_by operator)
+    (λ p s. refl) (λ p s. own_test operator p s) (db 2) (db 9))
 
 -- ---- the spans that may stand in the way of a plan
 
@@ -346,23 +347,20 @@ rival_test operator id reach low s =
     (is_at_least (column s 10) (pos reach.priority))
     (differs (column s 1) (Text operator) || differs (column s 2) (Text id)))
 
-rival_rows : (operator id : List ℕ) (reach : Reach) (low : ℤ) (db : Database) (rows : List Row)
-    → IsDesk db
-    → MayRead (understood desk_schema rival_spans_text) db (rival_params operator id reach low) rows
-    → IsPermutation (map held_columns (filter (is_wanted operator id reach low) (tables_of db.trees).spans))
-    rows
-rival_rows operator id reach low db rows desk h =
+pub rival_spans_selected : (operator id : List ℕ) (reach : Reach) (low : ℤ)
+    → Selects rival_spans_text (rival_params operator id reach low) (0 ∷ [])
+    (λ t. map held_columns (filter (is_wanted operator id reach low) t.spans))
+rival_spans_selected operator id reach low =
     let params = rival_params operator id reach low in
-    subst (λ xs. IsPermutation xs rows)
-    (one_plan (eval_all rival_spans_query.project) (λ s. params ∷ s ∷ [])
+    selects rival_spans_text _ _ _ _ _ rival_spans_is params (rival_spans_sure operator id reach low) (0 ∷ []) _
+    (λ e. refl) (λ x y. refl)
+    (λ db. one_plan (eval_all rival_spans_query.project) (λ s. params ∷ s ∷ [])
     (λ s. list_all (holds (params ∷ s ∷ [])) rival_spans_query.filter) (columns 10)
     (is_wanted operator id reach low) held_columns (λ s. refl) true
-    (λ s. rival_test operator id reach low s ∙ sym (both_hold _)) (db.trees 11))
-    (may_show rival_spans_text _ _ _ _ _ rival_spans_is params db rows h)
+    (λ s. rival_test operator id reach low s ∙ sym (both_hold _)) (db 11))
 
-pub rival_spans_selected : SelectsRivals rival_spans_text
-rival_spans_selected = record {
-  plain = rival_spans_is.plain;
-  unlisted = rival_spans_is.unlisted;
-  rows = rival_rows;
-}
+-- ---- the texts of the queries
+
+-- the text of a query
+abbrev pub IsTextOf : Query → List ℕ → Type 0
+IsTextOf query text = Selects text (params_of query) (order_of query) (rows_of query)

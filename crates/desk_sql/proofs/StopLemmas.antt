@@ -173,20 +173,18 @@ module _ (text : List ℕ) (params : Row) (old new : State) (e : Error) (live : 
   caused_inside whole (inr h) = absurd (stays 0 text params old whole h.0)
 
 -- why a statement of a transaction is refused
-pub refused_change : {Given S : Type 0} (g : Ghosts S) (old new : Held S) (text : List ℕ)
-    (params : Given → Row) (Fits : Given → Database → Type 0) → IsSureChange text params Fits
-    → (given : Given) → IsUnderWay g old → HasCleanDisk (state g old) → Fits given (state g old).now
-    → (e : Error) → ExecutesInside 0 text (params given) (state g old) (state g new) (Err e)
-    → IsRefusal g old new e
-refused_change g old new text params Fits sure given way clean fits e h =
+pub refused_change : {S : Type 0} (g : Ghosts S) (old new : Held S) (text : List ℕ) (params : Row)
+    (Fits : Database → Type 0) → IsSureChange text params Fits → IsUnderWay g old
+    → HasCleanDisk (state g old) → Fits (state g old).now
+    → (e : Error) → ExecutesInside 0 text params (state g old) (state g new) (Err e) → IsRefusal g old new e
+refused_change g old new text params Fits sure way clean fits e h =
     let under = way clean in
     let schema = under.2.schema in
-    caused_inside text (params given) (state g old) (state g new) e under.0
-    (λ stop stops. sure.never given old.step_limit (state g old).now stop under.2 under.3 fits
-    (subst (λ s. MayStop text (understood s text) (params given) old.step_limit (state g old).now stop)
+    caused_inside text params (state g old) (state g new) e under.0
+    (λ stop stops. sure.never old.step_limit (state g old).now stop under.2 under.3 fits
+    (subst (λ s. MayStop text (understood s text) params old.step_limit (state g old).now stop)
     schema stops))
-    (subst (λ s. IsWholeIn text (length (params given)) (understood s text)) (sym schema)
-    (sure.means given)) h
+    (subst (λ s. IsWholeIn text (length params) (understood s text)) (sym schema) sure.means) h
 
 -- a text that is not prepared is not run
 not_run : (text : List ℕ) (params : Row) (old new : State) (e : Error) → IsTrue new.is_open
@@ -198,14 +196,14 @@ not_run text params old new e live whole (inl h) =
 not_run text params old new e live whole (inr (cause, is, h, back, _)) =
     by_store old new e cause is h (back.was_open live)
 
-pub refused_unprepared : {Given S : Type 0} (g : Ghosts S) (old new : Held S) (text : List ℕ)
-    (params : Given → Row) (Fits : Given → Database → Type 0) → IsSureChange text params Fits
-    → (given : Given) → IsReady g old → HasCleanDisk (state g old) → IsTrue (state g new).is_open
-    → (e : Error) → IsNotRun (state g old) (state g new) text (params given) e → IsRefusal g old new e
-refused_unprepared g old new text params Fits sure given ready clean live e =
-    not_run text (params given) (state g old) (state g new) e live
-    (λ was. subst (λ s. IsWholeIn text (length (params given)) (understood s text))
-    (sym (ready clean was).schema) (sure.means given))
+pub refused_unprepared : {S : Type 0} (g : Ghosts S) (old new : Held S) (text : List ℕ) (params : Row)
+    (Fits : Database → Type 0) → IsSureChange text params Fits
+    → IsReady g old → HasCleanDisk (state g old) → IsTrue (state g new).is_open
+    → (e : Error) → IsNotRun (state g old) (state g new) text params e → IsRefusal g old new e
+refused_unprepared g old new text params Fits sure ready clean live e =
+    not_run text params (state g old) (state g new) e live
+    (λ was. subst (λ s. IsWholeIn text (length params) (understood s text)) (sym (ready clean was).schema)
+    sure.means)
 
 -- a text that is this command stops where the command does
 pub stop_did : (text : List ℕ) (params : Row) (limit : Option ℕ) (old : Database) (stop : Option Error)
@@ -225,19 +223,16 @@ stop_did text params limit old stop desk command known stops =
         subst (λ k. Does limit enforced params old (text_of text c) None k (Err stop)) is h
     by_command (Err e) is h = absurd h
 
-pub sure_change : {Given : Type 0} (text : List ℕ) (params : Given → Row)
-    (Fits : Given → Database → Type 0) (command : Command) → IsCommand text command → IsWrite command
-    → ((given : Given) → length (params given) ≡ names_in (understood desk_schema text))
+pub sure_change : (text : List ℕ) (params : Row) (Fits : Database → Type 0) (command : Command)
+    → IsCommand text command → IsWrite command → length params ≡ names_in (understood desk_schema text)
     → length text ≤ tail_of (understood desk_schema text)
-    → ((given : Given) (limit : Option ℕ) (db : Database) (stop : Option Error) → IsDesk db
-    → IsDatabase db → Fits given db
-    → Does limit enforced (params given) (record { schema = desk_schema; trees = db.trees })
+    → ((limit : Option ℕ) (db : Database) (stop : Option Error) → IsDesk db → IsDatabase db → Fits db
+    → Does limit enforced params (record { schema = desk_schema; trees = db.trees })
     (statement_of text (understood desk_schema text)) None command (Err stop)
     → IsAtLimit limit stop)
     → IsSureChange text params Fits
 sure_change text params Fits command known writes given whole never = record {
-  means = λ it. whole_in text _ (understood desk_schema text) command known.is known.plain writes (given it)
-      whole;
-  never = λ it limit db stop desk sound fits stops. never it limit db stop desk sound fits
-      (stop_did text (params it) limit db stop desk command known stops);
+  means = whole_in text _ (understood desk_schema text) command known.is known.plain writes given whole;
+  never = λ limit db stop desk sound fits stops. never limit db stop desk sound fits
+      (stop_did text params limit db stop desk command known stops);
 }

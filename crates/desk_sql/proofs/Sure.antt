@@ -1,39 +1,56 @@
--- The queries of one operator, one plan and its volumes are refused for no cause of their own.
-use Rattle.std.proofs.Common.{refl, true≢false, arith, inl, inr}
+-- The queries that are given something are refused for no cause of their own.
+use Rattle.std.proofs.Common.{ℕ, ℤ, List, [], ◌∷◌, refl, true≢false, arith, inl, inr}
+use Rattle.sqlite.specs.declared.types.Value.TheVariants.{Text}
 use Rattle.sqlite_tied.specs.Compute.{everything}
 use Rattle.sqlite.specs.Listing.{understood}
-use Rattle.desk_sql.specs.Statements.{name_row, key_row}
-use Rattle.desk_sql.specs.Refusals.{IsSureFor}
-use Rattle.desk_sql.proofs.Texts.{operator_named_text, plan_of_text, volumes_of_text}
-use Rattle.desk_sql.proofs.QueryTexts.{operator_named_is, operator_named_query, plan_of_is, plan_of_query, volumes_of_is, volumes_of_query}
-use Rattle.desk_sql.proofs.SureLemmas.{sure_for}
+use Rattle.desk_sql.specs.declared.reading.rivals.Reach.{Reach}
+use Rattle.desk_sql.specs.Refusals.{IsSureGiven}
+use Rattle.desk_sql.proofs.Texts.{operator_named_text, plan_of_text, volumes_of_text, own_plans_text, rival_spans_text}
+use Rattle.desk_sql.proofs.QueryTexts.{operator_named_is, operator_named_query, plan_of_is, plan_of_query, volumes_of_is, volumes_of_query, own_plans_is, own_plans_query, rival_spans_is, rival_spans_query, rival_params}
+use Rattle.desk_sql.proofs.SureLemmas.{sure_given}
 
-pub named : IsSureFor operator_named_text name_row
+pub operator_named_sure : (name : List ℕ) → IsSureGiven operator_named_text (Text name ∷ [])
 unfolding understood everything
-named =
-    sure_for operator_named_text operator_named_query _ name_row operator_named_is
-    (λ given. refl) (omega arith) (λ given trees misfit. true≢false misfit)
-    (λ given db h. elim h [
+operator_named_sure name =
+    sure_given operator_named_text operator_named_query _ _ operator_named_is refl (omega arith) (λ trees misfit. true≢false misfit)
+    (λ db h. elim h [
       | inl none ↦ absurd none
       | inr fold ↦ absurd fold.4
     ])
 
-pub plan : IsSureFor plan_of_text key_row
+pub plan_of_sure : (operator id : List ℕ) → IsSureGiven plan_of_text (Text operator ∷ Text id ∷ [])
 unfolding understood everything
-plan =
-    sure_for plan_of_text plan_of_query _ key_row plan_of_is
-    (λ given. refl) (omega arith) (λ given trees misfit. true≢false misfit)
-    (λ given db h. elim h [
+plan_of_sure operator id =
+    sure_given plan_of_text plan_of_query _ _ plan_of_is refl (omega arith) (λ trees misfit. true≢false misfit)
+    (λ db h. elim h [
       | inl none ↦ absurd none
       | inr fold ↦ absurd fold.4
     ])
 
-pub volumes : IsSureFor volumes_of_text key_row
+pub volumes_of_sure : (operator id : List ℕ) → IsSureGiven volumes_of_text (Text operator ∷ Text id ∷ [])
 unfolding understood everything
-volumes =
-    sure_for volumes_of_text volumes_of_query _ key_row volumes_of_is
-    (λ given. refl) (omega arith) (λ given trees misfit. true≢false misfit)
-    (λ given db h. elim h [
+volumes_of_sure operator id =
+    sure_given volumes_of_text volumes_of_query _ _ volumes_of_is refl (omega arith) (λ trees misfit. true≢false misfit)
+    (λ db h. elim h [
+      | inl none ↦ absurd none
+      | inr fold ↦ absurd fold.4
+    ])
+
+pub own_plans_sure : (operator : List ℕ) → IsSureGiven own_plans_text (Text operator ∷ [])
+unfolding understood everything
+own_plans_sure operator =
+    sure_given own_plans_text own_plans_query _ _ own_plans_is refl (omega arith) (λ trees misfit. true≢false misfit)
+    (λ db h. elim h [
+      | inl none ↦ absurd none
+      | inr fold ↦ absurd fold.4.4
+    ])
+
+pub rival_spans_sure : (operator id : List ℕ) (reach : Reach) (low : ℤ)
+    → IsSureGiven rival_spans_text (rival_params operator id reach low)
+unfolding understood everything
+rival_spans_sure operator id reach low =
+    sure_given rival_spans_text rival_spans_query _ _ rival_spans_is refl (omega arith) (λ trees misfit. true≢false misfit)
+    (λ db h. elim h [
       | inl none ↦ absurd none
       | inr fold ↦ absurd fold.4
     ])

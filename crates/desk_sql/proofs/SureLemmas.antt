@@ -14,7 +14,7 @@ use Rattle.sqlite_resolve.specs.declared.error.CompileError.{CompileError}
 use Rattle.sqlite.proofs.Callers.{command_of}
 use Rattle.sqlite.specs.Schema.{Schema}
 use Rattle.desk_sql.specs.Schema.{desk_schema}
-use Rattle.desk_sql.specs.Refusals.{NeverRefusesGiven, IsSimple, IsSureFor, IsSureMeaning}
+use Rattle.desk_sql.specs.Refusals.{NeverRefusesGiven, IsSimple, IsSureGiven, IsSureMeaning}
 use Rattle.desk_sql.proofs.QueryTexts.{IsQuery}
 use Rattle.desk_sql.proofs.StopLemmas.{names_in, tail_of}
 
@@ -48,17 +48,13 @@ meant text (Ok c) query names params is plain count whole sure = record {
 }
 meant text (Err e) query names params is plain count whole sure = absurd plain
 
-pub sure_for : {Given : Type 0} (text : List ℕ) (query : Query) (names : List (List ℕ)) (row : Given → Row)
-    → IsQuery text query names
-    → ((given : Given) → length (row given) ≡ names_in (understood desk_schema text))
+pub sure_given : (text : List ℕ) (query : Query) (names : List (List ℕ)) (params : Row)
+    → IsQuery text query names → length params ≡ names_in (understood desk_schema text)
     → length text ≤ tail_of (understood desk_schema text)
-    → ((given : Given) (trees : Trees) → ¬ Misfits query desk_schema trees (row given))
-    → ((given : Given) (db : Trees) → ¬ QueryOverflows query (overlay db []) (row given))
-    → IsSureFor text row
-sure_for text query names row known count whole fits sums = record {
-  sure = λ given. record {
-    means = meant text (understood desk_schema text) query names (row given) known.is known.plain
-        (count given) whole (never query names (row given) (fits given) (sums given));
-    unlisted = known.unlisted;
-  };
+    → ((trees : Trees) → ¬ Misfits query desk_schema trees params)
+    → ((db : Trees) → ¬ QueryOverflows query (overlay db []) params) → IsSureGiven text params
+sure_given text query names params known count whole fits sums = record {
+  means = meant text (understood desk_schema text) query names params known.is known.plain count whole
+      (never query names params fits sums);
+  unlisted = known.unlisted;
 }

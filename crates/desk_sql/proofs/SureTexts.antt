@@ -1,50 +1,69 @@
 -- The queries that read whole tables are refused for no cause of their own.
-use Rattle.std.proofs.Common.{ℕ, List, [], None, refl, subst, true≢false, arith, inl, inr, sym}
+use Rattle.std.proofs.Common.{◌≡◌, ◌≤◌, ℕ, List, [], ◌∷◌, length, Result, Ok, Err, refl, subst, true≢false, arith, inl, inr, sym}
 use Rattle.sqlite_value.specs.declared.keys.Key.{Key}
-use Rattle.sqlite.specs.Order.{Row}
 use Rattle.sqlite.specs.Tree.{Trees}
 use Rattle.sqlite.specs.Term.{Term}
-use Rattle.sqlite.specs.Query.{Query, inner, end}
+use Rattle.sqlite.specs.Query.{inner, end}
+use Rattle.sqlite.specs.Command.{Command}
 use Rattle.sqlite.specs.Command.TheVariants.{Select}
-use Rattle.sqlite.specs.Effect.{IsShown}
 use Rattle.sqlite_schema.specs.declared.schema.Schema.{Schema}
 use Rattle.sqlite_tied.specs.Compute.{everything}
+use Rattle.sqlite.specs.Given.{IsPlain}
 use Rattle.sqlite.specs.Listing.{understood}
+use Rattle.sqlite_resolve.specs.declared.compiled.Compiled.{Compiled}
+use Rattle.sqlite_resolve.specs.declared.error.CompileError.{CompileError}
 use Rattle.sqlite_schema.specs.declared.schema.Index.{Index}
 use Rattle.sqlite.specs.Table.{Table}
 use Rattle.desk_sql.specs.declared.opening.numbers.DeskTable.{DeskTable}
 use Rattle.desk_sql.specs.declared.opening.numbers.DeskTable.TheVariants.{Operator, Plan, OldVolume, OldSpan, Volume, Span}
 use Rattle.desk_sql.specs.Schema.{schema_to}
-use Rattle.desk_sql.specs.Refusals.{NeverRefuses, IsSure}
+use Rattle.desk_sql.specs.Refusals.{NeverRefuses, IsSureIn, IsSure}
 use Rattle.desk_sql.proofs.Texts.{all_operators_text, all_plans_text, all_volumes_text, all_covers_text, all_spans_text, all_old_volumes_text, all_old_spans_text, operator_rowids_text, plan_rowids_text, old_volume_rowids_text, old_span_rowids_text, volume_rowids_text, span_rowids_text}
 use Rattle.sqlite.proofs.Callers.{command_of}
+use Rattle.desk_sql.proofs.StopLemmas.{names_in, tail_of}
+use Rattle.desk_sql.proofs.SureLemmas.{Misfits}
 use Rattle.desk_sql.proofs.QueryTexts.{IsQueryIn, query_of, operator_rowids_is, plan_rowids_is, old_volume_rowids_is, old_span_rowids_is, volume_rowids_is, span_rowids_is, all_operators_is, all_plans_is, all_volumes_is, all_covers_is, all_spans_is, all_old_volumes_is, all_old_spans_is}
-
--- the query's types do not fit the tables
-abbrev Misfits : Query → Schema → Trees → Type 0
-Misfits query schema trees = IsShown (λ (r : Row). r) (record { schema = schema; trees = trees })
-    (record { lets = []; body = query }) [] None
 
 -- nothing in a scan of one table can overflow
 scan_never : (schema : Schema) (tree : ℕ) (project : List Term) (order : List (Term × Key))
     (names : List (List ℕ))
-    → ((trees : Trees) → ¬ Misfits (query_of (inner tree end) [] project order) schema trees)
+    → ((trees : Trees) → ¬ Misfits (query_of (inner tree end) [] project order) schema trees [])
     → NeverRefuses schema (Select (record { lets = []; body = query_of (inner tree end) [] project order })
     names)
 scan_never schema tree project order names fits limit db e same (inl h) =
     absurd (fits db.trees
-    (subst (λ s. Misfits (query_of (inner tree end) [] project order) s db.trees) same h.1))
+    (subst (λ s. Misfits (query_of (inner tree end) [] project order) s db.trees []) same h.1))
 scan_never schema tree project order names fits limit db e same (inr (inl (code, inl h))) = absurd h
 scan_never schema tree project order names fits limit db e same (inr (inl (code, inr h))) = absurd h.4
 scan_never schema tree project order names fits limit db e same (inr (inr h)) = h
 
-known_never : (schema : Schema) (text : List ℕ) (tree : ℕ) (project : List Term)
-    (order : List (Term × Key)) (names : List (List ℕ))
-    → IsQueryIn schema text (query_of (inner tree end) [] project order) names
-    → ((trees : Trees) → ¬ Misfits (query_of (inner tree end) [] project order) schema trees)
-    → NeverRefuses schema (command_of (understood schema text))
-known_never schema text tree project order names known fits =
-    subst (NeverRefuses schema) (sym known.is) (scan_never schema tree project order names fits)
+no_names : (names : List (List ℕ)) → 0 ≡ length names → names ≡ []
+no_names [] is = refl
+no_names (name ∷ names) is = grind (arith, is)
+
+scan_meant : (schema : Schema) (text : List ℕ) (r : Result Compiled CompileError) (command : Command)
+    → command_of r ≡ command → IsPlain r → 0 ≡ names_in r → length text ≤ tail_of r
+    → NeverRefuses schema command → IsSureIn schema text r
+scan_meant schema text (Ok c) command is plain count whole never = (
+  plain.0,
+  plain.1,
+  no_names c.names count,
+  whole,
+  subst (NeverRefuses schema) (sym is) never,
+)
+scan_meant schema text (Err e) command is plain count whole never = absurd plain
+
+-- a scan of one table whose types fit, in one whole statement with no parameters
+sure_scan : {schema : Schema} {text : List ℕ} {tree : ℕ} {project : List Term} {order : List (Term × Key)}
+    {names : List (List ℕ)} → IsQueryIn schema text (query_of (inner tree end) [] project order) names
+    → 0 ≡ names_in (understood schema text) → length text ≤ tail_of (understood schema text)
+    → ((trees : Trees) → ¬ Misfits (query_of (inner tree end) [] project order) schema trees [])
+    → IsSure schema text
+sure_scan {schema} {text} {tree} {project} {order} {names} known count whole fits = record {
+  means = scan_meant schema text (understood schema text) _ known.is known.plain count whole
+      (scan_never schema tree project order names fits);
+  unlisted = known.unlisted;
+}
 
 -- wherever the table is made, whatever others there are
 abbrev IsSureWith : DeskTable → List ℕ → Type 0
@@ -53,169 +72,65 @@ IsSureWith table text = (others : List Table) (indexes : List Index)
 
 pub operator_rowids_sure : IsSureWith Operator operator_rowids_text
 unfolding understood everything
-operator_rowids_sure others indexes = record {
-  means = (
-    refl,
-    refl,
-    refl,
-    omega arith,
-    known_never _ _ _ _ _ _ (operator_rowids_is others indexes) (λ trees misfit. true≢false misfit),
-  );
-  unlisted = refl;
-}
+operator_rowids_sure others indexes =
+    sure_scan (operator_rowids_is others indexes) refl (omega arith) (λ trees misfit. true≢false misfit)
 
 pub plan_rowids_sure : IsSureWith Plan plan_rowids_text
 unfolding understood everything
-plan_rowids_sure others indexes = record {
-  means = (
-    refl,
-    refl,
-    refl,
-    omega arith,
-    known_never _ _ _ _ _ _ (plan_rowids_is others indexes) (λ trees misfit. true≢false misfit),
-  );
-  unlisted = refl;
-}
+plan_rowids_sure others indexes =
+    sure_scan (plan_rowids_is others indexes) refl (omega arith) (λ trees misfit. true≢false misfit)
 
 pub volume_rowids_sure : IsSureWith Volume volume_rowids_text
 unfolding understood everything
-volume_rowids_sure others indexes = record {
-  means = (
-    refl,
-    refl,
-    refl,
-    omega arith,
-    known_never _ _ _ _ _ _ (volume_rowids_is others indexes) (λ trees misfit. true≢false misfit),
-  );
-  unlisted = refl;
-}
+volume_rowids_sure others indexes =
+    sure_scan (volume_rowids_is others indexes) refl (omega arith) (λ trees misfit. true≢false misfit)
 
 pub span_rowids_sure : IsSureWith Span span_rowids_text
 unfolding understood everything
-span_rowids_sure others indexes = record {
-  means = (
-    refl,
-    refl,
-    refl,
-    omega arith,
-    known_never _ _ _ _ _ _ (span_rowids_is others indexes) (λ trees misfit. true≢false misfit),
-  );
-  unlisted = refl;
-}
+span_rowids_sure others indexes =
+    sure_scan (span_rowids_is others indexes) refl (omega arith) (λ trees misfit. true≢false misfit)
 
 pub all_operators_sure : IsSureWith Operator all_operators_text
 unfolding understood everything
-all_operators_sure others indexes = record {
-  means = (
-    refl,
-    refl,
-    refl,
-    omega arith,
-    known_never _ _ _ _ _ _ (all_operators_is others indexes) (λ trees misfit. true≢false misfit),
-  );
-  unlisted = refl;
-}
+all_operators_sure others indexes =
+    sure_scan (all_operators_is others indexes) refl (omega arith) (λ trees misfit. true≢false misfit)
 
 pub all_plans_sure : IsSureWith Plan all_plans_text
 unfolding understood everything
-all_plans_sure others indexes = record {
-  means = (
-    refl,
-    refl,
-    refl,
-    omega arith,
-    known_never _ _ _ _ _ _ (all_plans_is others indexes) (λ trees misfit. true≢false misfit),
-  );
-  unlisted = refl;
-}
+all_plans_sure others indexes =
+    sure_scan (all_plans_is others indexes) refl (omega arith) (λ trees misfit. true≢false misfit)
 
 pub all_volumes_sure : IsSureWith Volume all_volumes_text
 unfolding understood everything
-all_volumes_sure others indexes = record {
-  means = (
-    refl,
-    refl,
-    refl,
-    omega arith,
-    known_never _ _ _ _ _ _ (all_volumes_is others indexes) (λ trees misfit. true≢false misfit),
-  );
-  unlisted = refl;
-}
+all_volumes_sure others indexes =
+    sure_scan (all_volumes_is others indexes) refl (omega arith) (λ trees misfit. true≢false misfit)
 
 pub all_spans_sure : IsSureWith Span all_spans_text
 unfolding understood everything
-all_spans_sure others indexes = record {
-  means = (
-    refl,
-    refl,
-    refl,
-    omega arith,
-    known_never _ _ _ _ _ _ (all_spans_is others indexes) (λ trees misfit. true≢false misfit),
-  );
-  unlisted = refl;
-}
+all_spans_sure others indexes =
+    sure_scan (all_spans_is others indexes) refl (omega arith) (λ trees misfit. true≢false misfit)
 
 pub all_covers_sure : IsSureWith Volume all_covers_text
 unfolding understood everything
-all_covers_sure others indexes = record {
-  means = (
-    refl,
-    refl,
-    refl,
-    omega arith,
-    known_never _ _ _ _ _ _ (all_covers_is others indexes) (λ trees misfit. true≢false misfit),
-  );
-  unlisted = refl;
-}
+all_covers_sure others indexes =
+    sure_scan (all_covers_is others indexes) refl (omega arith) (λ trees misfit. true≢false misfit)
 
 pub all_old_volumes_sure : IsSureWith OldVolume all_old_volumes_text
 unfolding understood everything
-all_old_volumes_sure others indexes = record {
-  means = (
-    refl,
-    refl,
-    refl,
-    omega arith,
-    known_never _ _ _ _ _ _ (all_old_volumes_is others indexes) (λ trees misfit. true≢false misfit),
-  );
-  unlisted = refl;
-}
+all_old_volumes_sure others indexes =
+    sure_scan (all_old_volumes_is others indexes) refl (omega arith) (λ trees misfit. true≢false misfit)
 
 pub all_old_spans_sure : IsSureWith OldSpan all_old_spans_text
 unfolding understood everything
-all_old_spans_sure others indexes = record {
-  means = (
-    refl,
-    refl,
-    refl,
-    omega arith,
-    known_never _ _ _ _ _ _ (all_old_spans_is others indexes) (λ trees misfit. true≢false misfit),
-  );
-  unlisted = refl;
-}
+all_old_spans_sure others indexes =
+    sure_scan (all_old_spans_is others indexes) refl (omega arith) (λ trees misfit. true≢false misfit)
 
 pub old_volume_rowids_sure : IsSureWith OldVolume old_volume_rowids_text
 unfolding understood everything
-old_volume_rowids_sure others indexes = record {
-  means = (
-    refl,
-    refl,
-    refl,
-    omega arith,
-    known_never _ _ _ _ _ _ (old_volume_rowids_is others indexes) (λ trees misfit. true≢false misfit),
-  );
-  unlisted = refl;
-}
+old_volume_rowids_sure others indexes =
+    sure_scan (old_volume_rowids_is others indexes) refl (omega arith) (λ trees misfit. true≢false misfit)
 
 pub old_span_rowids_sure : IsSureWith OldSpan old_span_rowids_text
 unfolding understood everything
-old_span_rowids_sure others indexes = record {
-  means = (
-    refl,
-    refl,
-    refl,
-    omega arith,
-    known_never _ _ _ _ _ _ (old_span_rowids_is others indexes) (λ trees misfit. true≢false misfit),
-  );
-  unlisted = refl;
-}
+old_span_rowids_sure others indexes =
+    sure_scan (old_span_rowids_is others indexes) refl (omega arith) (λ trees misfit. true≢false misfit)

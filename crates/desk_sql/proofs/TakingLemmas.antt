@@ -229,3 +229,10 @@ if_handed g old new text params P has ready clean gives (Ok u) handed =
     let (rows, shown, takes) = handed
     in (rows, gives rows (ready clean (was_open text params _ _ _ shown)) shown, takes)
 if_handed g old new text params P has ready clean gives (Err e) handed = tt
+
+-- the same of what the rows of an answer are
+pub handed_as : (P Q has : List Row → Type 0) → ((rows : List Row) → P rows → Q rows)
+    → (r : Result (Unit {0}) Error) → OnOk r ((rows : List Row) × P rows × has rows)
+    → OnOk r ((rows : List Row) × Q rows × has rows)
+handed_as P Q has so (Ok u) (rows, are, takes) = (rows, so rows are, takes)
+handed_as P Q has so (Err e) h = tt

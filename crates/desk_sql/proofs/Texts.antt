@@ -105,9 +105,6 @@ empty_old_volumes_text = codes "DELETE FROM volume"
 abbrev pub empty_old_spans_text : List ℕ
 empty_old_spans_text = codes "DELETE FROM span"
 
-abbrev pub count_plans_text : List ℕ
-count_plans_text = codes "SELECT COUNT(*) FROM plan WHERE operator = ?1"
-
 abbrev pub operator_rowids_text : List ℕ
 operator_rowids_text = codes "SELECT rowid FROM operator ORDER BY rowid"
 

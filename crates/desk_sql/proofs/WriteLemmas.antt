@@ -104,17 +104,15 @@ ran_sound text params old new schema has plain writing count h =
       by_command (Err e) w runs = absurd w
 
 -- what ran changed the tables so
-pub changed : {Given : Type 0} (text : List ℕ) (params : Given → Row)
-    (Change : Given → Tables → Tables → Type 0) → Changes text params Change → (given : Given)
-    → (old new : State) → IsDesk old.now → (count : ℕ) → Executes text (params given) old new (Ok count)
-    → IsDesk new.now × Change given (tables_of old.now.trees) (tables_of new.now.trees)
-    × IsDatabase new.now
-changed text params Change known given old new desk count h =
-    let done = known.tables given old.step_limit old.now new.now desk
-    (ran text (params given) old new desk_schema desk.schema known.plain known.writes count h) in (
+pub changed : (text : List ℕ) (params : Row) (Change : Tables → Tables → Type 0) → Changes text params Change
+    → (old new : State) → IsDesk old.now → (count : ℕ) → Executes text params old new (Ok count)
+    → IsDesk new.now × Change (tables_of old.now.trees) (tables_of new.now.trees) × IsDatabase new.now
+changed text params Change known old new desk count h =
+    let done = known.tables old.step_limit old.now new.now desk
+    (ran text params old new desk_schema desk.schema known.plain known.writes count h) in (
       done.0,
       done.1,
-      ran_sound text (params given) old new desk_schema desk.schema known.plain known.writes count h,
+      ran_sound text params old new desk_schema desk.schema known.plain known.writes count h,
     )
 
 pub is_writing : (r : Result Compiled CompileError) (command : Command) → command_of r ≡ command
@@ -151,11 +149,9 @@ module _ (text : List ℕ) (params : Row) (limit : Option ℕ) (old new : Databa
             (statement_of text (understood desk_schema text)) None command (Ok (it.0, new))) desk.schema it.1,
       )
 
-pub changes_by : {Given : Type 0} (text : List ℕ) (params : Given → Row)
-    (Change : Given → Tables → Tables → Type 0) (command : Command) → IsCommand text command
-    → IsWrite command → ((given : Given) (limit : Option ℕ) (old new : Database) → IsDesk old
-    → May text (params given) limit old new
-    → IsDesk new × Change given (tables_of old.trees) (tables_of new.trees))
+pub changes_by : (text : List ℕ) (params : Row) (Change : Tables → Tables → Type 0) (command : Command)
+    → IsCommand text command → IsWrite command → ((limit : Option ℕ) (old new : Database) → IsDesk old
+    → May text params limit old new → IsDesk new × Change (tables_of old.trees) (tables_of new.trees))
     → Changes text params Change
 changes_by text params Change command known writing gives = record {
   plain = known.plain;

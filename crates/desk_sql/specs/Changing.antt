@@ -93,13 +93,9 @@ abbrev pub IsWholeIn : List ℕ → ℕ → Result Compiled CompileError → Typ
 IsWholeIn text count (Ok c) = IsWholeWrite text count c
 IsWholeIn text count (Err e) = ⊥
 
--- a change of a sound desk's tables that, given what fits them, only memory, the disk and a limit on steps
--- refuse
-pub record IsSureChange {Given : Type 0} (text : List ℕ) (params : Given → Row)
-    (Fits : Given → Database → Type 0) : Type 0
-  where
-    pub means : (given : Given) → IsWholeIn text (length (params given)) (understood desk_schema text)
-    pub never : (given : Given) (limit : Option ℕ) (db : Database) (stop : Option Error) → IsDesk db
-        → IsDatabase db → Fits given db
-        → MayStop text (understood desk_schema text) (params given) limit db stop
-        → IsAtLimit limit stop
+-- a change of a sound desk's tables that, with these parameters and tables that fit, only memory, the disk and a
+-- limit on steps refuse
+pub record IsSureChange (text : List ℕ) (params : Row) (Fits : Database → Type 0) : Type 0 where
+  pub means : IsWholeIn text (length params) (understood desk_schema text)
+  pub never : (limit : Option ℕ) (db : Database) (stop : Option Error) → IsDesk db → IsDatabase db → Fits db
+      → MayStop text (understood desk_schema text) params limit db stop → IsAtLimit limit stop

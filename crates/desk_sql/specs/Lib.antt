@@ -8,7 +8,8 @@ pub mod Batches
 pub mod Finding
 pub mod Refusals
 pub mod Taking
-pub mod Rivals
 pub mod Statements
+pub mod Queries
 pub mod Changing
 pub mod Putting
+pub mod Changes

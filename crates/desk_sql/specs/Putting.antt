@@ -25,13 +25,10 @@ pub record TakesRoom (plans volumes spans : ℕ) (old new : Trees) : Type 0 wher
   pub of_volumes : (left : ℕ) → HasRoomFor (volumes + left) (old 9) → HasRoomFor left (new 9)
   pub of_spans : (left : ℕ) → HasRoomFor (spans + left) (old 11) → HasRoomFor left (new 11)
 
--- so does a text, whatever it is given
-pub record AddsAtMost {Given : Type 0} (text : List ℕ) (params : Given → Row)
-    (plans volumes spans : ℕ) : Type 0
-  where
-    pub takes : (given : Given) (limit : Option ℕ) (old new : Database) → IsDesk old
-        → MayWrite text (understood desk_schema text) (params given) limit old new
-        → TakesRoom plans volumes spans old.trees new.trees
+-- a text that with these parameters takes this room
+pub record Takes (text : List ℕ) (params : Row) (Room : Trees → Trees → Type 0) : Type 0 where
+  pub room : (limit : Option ℕ) (old new : Database) → IsDesk old
+      → MayWrite text (understood desk_schema text) params limit old new → Room old.trees new.trees
 
 -- ---- rows that are new
 

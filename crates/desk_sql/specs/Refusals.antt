@@ -70,10 +70,6 @@ pub record IsSureGiven (text : List ℕ) (params : Row) : Type 0 where
   pub means : IsSureMeaning text params (understood desk_schema text)
   pub unlisted : reads_listing desk_schema text ≡ false
 
--- the same, whatever it is given
-pub record IsSureFor {Given : Type 0} (text : List ℕ) (params : Given → Row) : Type 0 where
-  pub sure : (given : Given) → IsSureGiven text (params given)
-
 -- a desk's tables, so far as they are made, but in one of them a rowid is no whole number, or comes twice
 pub record IsMisnumbered (db : Database) : Type 0 where
   pub made : Made

@@ -1,81 +1,39 @@
 -- What a text of SQL selects, changes or makes.
-use Rattle.std.specs.Prelude.{◌≡◌, ⊤, false, ℕ, pos, List, [], ◌∷◌, length, map, Option, None, Result, Ok, Err}
-use Rattle.sqlite.specs.declared.types.Value.TheVariants.{Int, Text}
+use Rattle.std.specs.Prelude.{◌≡◌, false, ℕ, List, [], ◌∷◌, map, Option, None, Result, Ok, Err}
 use Rattle.sqlite.specs.Order.{Row}
 use Rattle.sqlite.specs.Tree.{Trees, rowid}
 use Rattle.sqlite.specs.declared.run.Mode.{Mode}
-use Rattle.sqlite.specs.Effect.{Database}
+use Rattle.sqlite.specs.Effect.{Database, Reads}
 use Rattle.sqlite.specs.Does.{Tally, Does}
 use Rattle.sqlite.specs.Calls.{IsWrite}
 use Rattle.sqlite.specs.State.{text_of}
 use Rattle.sqlite.specs.Given.{IsPlain}
-use Rattle.sqlite.specs.Listing.{understood, reads_listing}
-use Rattle.sqlite_sql.specs.Aggregate.{count}
+use Rattle.sqlite.specs.Listing.{understood}
 use Rattle.sqlite_schema.specs.declared.schema.Keys.TheVariants.{Enforced}
 use Rattle.sqlite_resolve.specs.declared.compiled.Compiled.{Compiled}
 use Rattle.sqlite_resolve.specs.declared.error.CompileError.{CompileError}
-use Rattle.desk_sql.specs.declared.changing.writing.PlanRecord.{PlanRecord}
 use Rattle.desk_sql.specs.declared.opening.finding.Made.{Made}
 use Rattle.desk_sql.specs.declared.opening.numbers.DeskTable.{DeskTable}
 use Rattle.desk_sql.specs.Schema.{desk_schema, schema_of, HasTable}
-use Rattle.desk_sql.specs.Rows.{IsDesk, IsMadeTo, Tables, tables_of, tables_at, operator_row, plan_row, Lists}
-use Rattle.desk_sql.specs.Refusals.{IsSure}
-use Rattle.desk_sql.specs.Rivals.{MayRead}
-
--- ---- what a text is given, as its parameters in turn
-
--- nothing
-abbrev pub no_params : ⊤ → Row
-no_params _ = []
-
--- an operator's name
-abbrev pub name_row : List ℕ → Row
-name_row name = Text name ∷ []
-
--- which plan
-pub record Key : Type 0 where
-  pub operator : List ℕ
-  pub id : List ℕ
-
-abbrev pub key_row : Key → Row
-key_row key = Text key.operator ∷ Text key.id ∷ []
-
--- an operator's name and its ceiling
-pub record Ceiling : Type 0 where
-  pub name : List ℕ
-  pub ceiling : ℕ
-
-abbrev pub ceiling_row : Ceiling → Row
-ceiling_row c = operator_row c.name c.ceiling
-
-abbrev pub row_of : PlanRecord → Row
-row_of p = plan_row p.operator.now p.id.now p.priority p.usage p.aircraft
-
--- which plan is closed, and its priority and state of the aircraft
-pub record Closing : Type 0 where
-  pub operator : List ℕ
-  pub id : List ℕ
-  pub priority : ℕ
-  pub aircraft : ℕ
-
-abbrev pub closing_row : Closing → Row
-closing_row c = Text c.operator ∷ Text c.id ∷ Int (pos c.priority) ∷ Int (pos c.aircraft) ∷ []
+use Rattle.desk_sql.specs.Rows.{IsDesk, IsMadeTo, Tables, tables_of, tables_at, Lists}
+use Rattle.desk_sql.specs.Refusals.{IsSure, IsSureGiven}
 
 -- ---- what a query shows
 
--- a text that changes nothing, and of a desk's tables shows just the rows that are wanted for what it is
--- given, in the order of these columns
-pub record Selects {Given : Type 0} (text : List ℕ) (params : Given → Row) (cells : List ℕ)
-    (wanted : Given → Tables → List Row) : Type 0
-  where
-    pub plain : IsPlain (understood desk_schema text)
-    pub unlisted : reads_listing desk_schema text ≡ false
-    pub rows : (given : Given) (db : Database) (shown : List Row) → IsDesk db
-        → MayRead (understood desk_schema text) db (params given) shown
-        → Lists cells (wanted given (tables_of db.trees)) shown
+-- a compiled text that may show these rows
+abbrev pub MayRead : Result Compiled CompileError → Database → Row → List Row → Type 0
+MayRead (Ok c) db params rows = Reads c.command db params rows
+MayRead (Err e) db params rows = ⊥
 
--- a text that only memory, the disk and a limit on steps refuse, and that shows just these rows wherever the
--- table is made, in the order of these columns
+-- a text that, given these parameters, only memory, the disk and a limit on steps refuse, and that of a desk's
+-- tables shows just the rows that are wanted, in the order of these columns
+pub record Selects (text : List ℕ) (params : Row) (cells : List ℕ) (wanted : Tables → List Row) : Type 0 where
+  pub sure : IsSureGiven text params
+  pub rows : (db : Database) (shown : List Row) → IsDesk db
+      → MayRead (understood desk_schema text) db params shown → Lists cells (wanted (tables_of db.trees)) shown
+
+-- a text that is given nothing, that only memory, the disk and a limit on steps refuse, and that shows just these
+-- rows wherever the table is made, in the order of these columns
 pub record SelectsAll (table : DeskTable) (text : List ℕ) (cells : List ℕ) (wanted : Trees → List Row)
     : Type 0
   where
@@ -86,10 +44,6 @@ pub record SelectsAll (table : DeskTable) (text : List ℕ) (cells : List ℕ) (
 -- the rowids of the rows of a tree
 abbrev pub rowids : List Row → List Row
 rowids rows = map (λ r. rowid r ∷ []) rows
-
--- one row, of how many rows there are (SQL stops to count at 2 ^ 63 - 1)
-abbrev pub counted : List Row → List Row
-counted rows = (count (length rows) ∷ []) ∷ []
 
 -- ---- what a statement writes
 
@@ -108,15 +62,13 @@ MayWrite text (Ok c) params limit old new =
     (tally : Tally) × Does limit enforced params old (text_of text c) None c.command (Ok (tally, new))
 MayWrite text (Err e) params limit old new = ⊥
 
--- a text that shows nothing, and changes a desk's tables so for what it is given
-pub record Changes {Given : Type 0} (text : List ℕ) (params : Given → Row)
-    (Change : Given → Tables → Tables → Type 0) : Type 0
-  where
-    pub plain : IsPlain (understood desk_schema text)
-    pub writes : IsWriting (understood desk_schema text)
-    pub tables : (given : Given) (limit : Option ℕ) (old new : Database) → IsDesk old
-        → MayWrite text (understood desk_schema text) (params given) limit old new
-        → IsDesk new × Change given (tables_of old.trees) (tables_of new.trees)
+-- a text that shows nothing, and with these parameters changes a desk's tables so
+pub record Changes (text : List ℕ) (params : Row) (Change : Tables → Tables → Type 0) : Type 0 where
+  pub plain : IsPlain (understood desk_schema text)
+  pub writes : IsWriting (understood desk_schema text)
+  pub tables : (limit : Option ℕ) (old new : Database) → IsDesk old
+      → MayWrite text (understood desk_schema text) params limit old new
+      → IsDesk new × Change (tables_of old.trees) (tables_of new.trees)
 
 -- a text that shows nothing, and makes what comes next; the rows that there were stay
 pub record Extends (text : List ℕ) (made next : Made) : Type 0 where

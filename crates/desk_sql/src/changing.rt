@@ -1,6 +1,8 @@
 //! Statements that change rows, and the transactions that they stand in.
 
 pub(crate) mod batch;
+pub(crate) mod change;
+pub(crate) mod execute;
 pub(crate) mod removing;
 pub(crate) mod run;
 pub(crate) mod setting;

@@ -2,9 +2,9 @@
 
 pub(crate) mod answer;
 pub(crate) mod asking;
-pub(crate) mod counting;
 pub(crate) mod old;
 pub(crate) mod queries;
+pub(crate) mod query;
 pub(crate) mod rivals;
 pub(crate) mod taking;
 pub(crate) mod whole;

@@ -11,7 +11,8 @@ ghost use Rattle.desk_sql.specs.Rows.{RemovesPlan};
 ghost use Rattle.desk_sql.specs.Putting.{AreNewSpans, AreNewVolumes, TakesRoom};
 ghost use Rattle.desk_sql.specs.Refusals.{IsRefusal};
 
-use crate::changing::removing::{remove_plan, remove_plan_text};
+use crate::changing::change::Change;
+use crate::changing::removing::remove_plan;
 use crate::changing::writing::{SpanRecord, VolumeRecord, insert_span, insert_volume};
 use sqlite::{Alter, Error, Transaction};
 
@@ -92,7 +93,7 @@ pub fn remove_plans<S: Alter>(
     ensures remembered { Remembers S.Store tx.old.conn.now tx.new.conn.now }
 {
     // Refused on a connection that is shut, also if there are no ids.
-    let _statement = tx.prepare(remove_plan_text())?;
+    let _statement = tx.prepare(Change::RemovePlan { operator, id: "" }.text())?;
     'ids: for id in ids {
         remove_one(tx, operator, id)?;
     }

@@ -5,21 +5,12 @@ ghost use Rattle.desk_sql.specs.Rows.{is_by, is_of, operator_row, plan_row, Sets
 ghost use Rattle.desk_sql.specs.Effects.{IsReady, Makes};
 ghost use Rattle.desk_sql.specs.Frames.{Remembers};
 ghost use Rattle.desk_sql.specs.Batches.{IsUnderWay};
-ghost use Rattle.desk_sql.specs.Changing.{AreLow, IsShort, IsSureChange};
+ghost use Rattle.desk_sql.specs.Changing.{AreLow, IsShort};
 ghost use Rattle.desk_sql.specs.Refusals.{IsRefusal};
-ghost use Rattle.desk_sql.specs.Statements.{Changes, ceiling_row, closing_row};
 
-use crate::changing::run::run;
+use crate::changing::change::Change;
+use crate::changing::execute::execute;
 use sqlite::{Alter, Error, Transaction, params};
-
-#[tactic(auto, using(crate::proofs::SetLemmas::set_ceiling_changes, crate::proofs::SetStops::ceiling))]
-fn set_ceiling_text() -> &'static str
-    ensures changed { Changes result.now ceiling_row (λ c. SetsOperators (is_by c.name) (ceiling_row c)) }
-    ensures sure { IsSureChange result.now ceiling_row
-        (λ c db. IsShort c.name × AreLow (db.trees 0)) }
-{
-    "UPDATE operator SET ceiling = ?2 WHERE name = ?1"
-}
 
 /// Sets the ceiling of the operator with this name, if there is one.
 pub fn set_ceiling<S: Alter>(
@@ -41,18 +32,11 @@ pub fn set_ceiling<S: Alter>(
         → IfErr result (IsRefusal S.Store tx.old.conn.now tx.new.conn.now) }
     ensures remembered { Remembers S.Store tx.old.conn.now tx.new.conn.now }
 {
-    run(tx, set_ceiling_text(), params![name, ceiling])?;
-    Ok(())
-}
-
-#[tactic(auto, using(crate::proofs::SetLemmas::set_closed_changes, crate::proofs::SetStops::closed))]
-fn set_closed_text() -> &'static str
-    ensures changed { Changes result.now closing_row (λ c. SetsPlans (is_of c.operator c.id)
-        (plan_row c.operator c.id c.priority 2 c.aircraft)) }
-    ensures sure { IsSureChange result.now closing_row
-        (λ c db. IsShort c.operator × IsShort c.id × AreLow (db.trees 2)) }
-{
-    "UPDATE plan SET priority = ?3, usage = 2, aircraft = ?4 WHERE operator = ?1 AND id = ?2"
+    execute(
+        tx,
+        Change::SetCeiling { name, ceiling },
+        params![name, ceiling],
+    )
 }
 
 /// Sets the row of a plan, if there is one, to the usage Closed with this priority and this state
@@ -78,10 +62,14 @@ pub fn set_closed<S: Alter>(
         → IfErr result (IsRefusal S.Store tx.old.conn.now tx.new.conn.now) }
     ensures remembered { Remembers S.Store tx.old.conn.now tx.new.conn.now }
 {
-    run(
+    execute(
         tx,
-        set_closed_text(),
+        Change::SetClosed {
+            operator,
+            id,
+            priority,
+            aircraft,
+        },
         params![operator, id, priority, aircraft],
-    )?;
-    Ok(())
+    )
 }

@@ -18,8 +18,9 @@ use crate::changing::writing::{
     PlanRecord, SpanRecord, VolumeRecord, insert_operator, insert_plan,
 };
 use crate::laws::settled_and_sound;
-use crate::reading::queries::operator_named;
-use sqlite::{Alter, Connection, Error};
+use crate::reading::answer::answer;
+use crate::reading::query::Query;
+use sqlite::{Alter, Connection, Error, params};
 
 /// Removes the plans of these ids, and their volumes and spans with them, as one transaction.
 pub fn clear_plans<S: Alter>(
@@ -105,7 +106,7 @@ pub fn is_enrolled<S: Alter>(connection: &mut Connection<S>, name: &str) -> Resu
         → IfErr result (IsRefusal S.Store connection.old connection.new) }
     ensures reads { OnlyReads S.Store connection.old connection.new }
 {
-    let rows = operator_named(connection, name)?;
+    let rows = answer(connection, Query::OperatorNamed { name }, params![name])?;
     Ok(!rows.is_empty())
 }
 

@@ -4,13 +4,13 @@ ghost use Rattle.sqlite.specs.Held.{state};
 ghost use Rattle.desk_sql.specs.Rows.{operator_row, plan_row, volume_row, cover_row, span_row, AddsOperator, AddsPlan, AddsVolume, AddsSpan};
 ghost use Rattle.desk_sql.specs.Effects.{IsReady, Makes};
 ghost use Rattle.desk_sql.specs.Frames.{Remembers};
-ghost use Rattle.desk_sql.specs.Batches.{volume_of, cover_of, volume_params, span_of, IsUnderWay};
-ghost use Rattle.desk_sql.specs.Changing.{FitsOperator, FitsPlan, FitsVolume, FitsSpan, IsSureChange};
-ghost use Rattle.desk_sql.specs.Putting.{AddsAtMost, TakesRoom};
+ghost use Rattle.desk_sql.specs.Batches.{IsUnderWay};
+ghost use Rattle.desk_sql.specs.Changing.{FitsOperator, FitsPlan, FitsVolume, FitsSpan};
+ghost use Rattle.desk_sql.specs.Putting.{TakesRoom};
 ghost use Rattle.desk_sql.specs.Refusals.{IsRefusal};
-ghost use Rattle.desk_sql.specs.Statements.{Changes, ceiling_row, row_of};
 
-use crate::changing::run::run;
+use crate::changing::change::Change;
+use crate::changing::execute::execute;
 use sqlite::{Alter, Error, Transaction, params};
 
 /// A row of `plan`.
@@ -54,15 +54,6 @@ pub struct SpanRecord<'a> {
     pub priority: u32,
 }
 
-#[tactic(auto, using(crate::proofs::InsertLemmas::insert_operator_changes, crate::proofs::Added::operator))]
-fn insert_operator_text() -> &'static str
-    ensures changed { Changes result.now ceiling_row (λ c. AddsOperator (ceiling_row c)) }
-    ensures sure { IsSureChange result.now ceiling_row
-        (λ c. FitsOperator c.name (ceiling_row c)) }
-{
-    "INSERT INTO operator (name, ceiling) VALUES (?1, ?2)"
-}
-
 /// Adds a row to `operator`.
 pub fn insert_operator<S: Alter>(
     tx: &mut Transaction<'_, S>,
@@ -82,18 +73,11 @@ pub fn insert_operator<S: Alter>(
         → IfErr result (IsRefusal S.Store tx.old.conn.now tx.new.conn.now) }
     ensures remembered { Remembers S.Store tx.old.conn.now tx.new.conn.now }
 {
-    run(tx, insert_operator_text(), params![name, ceiling])?;
-    Ok(())
-}
-
-#[tactic(auto, using(crate::proofs::InsertLemmas::insert_plan_changes, crate::proofs::Added::plan))]
-fn insert_plan_text() -> &'static str
-    ensures changed { Changes result.now row_of (λ p. AddsPlan (row_of p)) }
-    ensures sure { IsSureChange result.now row_of
-        (λ p. FitsPlan p.operator.now p.id.now (row_of p)) }
-    ensures room { AddsAtMost result.now row_of 1 0 0 }
-{
-    "INSERT INTO plan (operator, id, priority, usage, aircraft) VALUES (?1, ?2, ?3, ?4, ?5)"
+    execute(
+        tx,
+        Change::AddOperator { name, ceiling },
+        params![name, ceiling],
+    )
 }
 
 /// Adds a row to `plan`.
@@ -122,23 +106,18 @@ pub fn insert_plan<S: Alter>(
         (state S.Store tx.new.conn.now).now.trees) }
     ensures remembered { Remembers S.Store tx.old.conn.now tx.new.conn.now }
 {
-    run(
+    let plan = PlanRecord {
+        operator,
+        id,
+        priority,
+        usage,
+        aircraft,
+    };
+    execute(
         tx,
-        insert_plan_text(),
+        Change::AddPlan(plan),
         params![operator, id, priority, usage, aircraft],
-    )?;
-    Ok(())
-}
-
-#[tactic(auto, using(crate::proofs::InsertLemmas::insert_volume_changes, crate::proofs::Added::volume))]
-fn insert_volume_text() -> &'static str
-    ensures changed { Changes result.now volume_params (λ v. AddsVolume (volume_of v) (cover_of v)) }
-    ensures sure { IsSureChange result.now volume_params
-        (λ v. FitsVolume v.operator.now v.id.now v.asked.now v.canon.now (volume_of v)) }
-    ensures room { AddsAtMost result.now volume_params 0 1 0 }
-{
-    "INSERT INTO volume2 (operator, id, place, lower, upper, start, stop, asked, canon) \
-     VALUES (?1, ?2, ?3, ?4, ?5, ?6, ?7, ?8, ?9)"
+    )
 }
 
 /// Adds a row to `volume2`.
@@ -167,9 +146,9 @@ pub fn insert_volume<S: Alter>(
         (state S.Store tx.new.conn.now).now.trees) }
     ensures remembered { Remembers S.Store tx.old.conn.now tx.new.conn.now }
 {
-    run(
+    execute(
         tx,
-        insert_volume_text(),
+        Change::AddVolume(row),
         params![
             row.operator,
             row.id,
@@ -181,19 +160,7 @@ pub fn insert_volume<S: Alter>(
             row.asked,
             row.canon
         ],
-    )?;
-    Ok(())
-}
-
-#[tactic(auto, using(crate::proofs::InsertLemmas::insert_span_changes, crate::proofs::Added::span))]
-fn insert_span_text() -> &'static str
-    ensures changed { Changes result.now span_of (λ s. AddsSpan (span_of s)) }
-    ensures sure { IsSureChange result.now span_of
-        (λ s. FitsSpan s.operator.now s.id.now (span_of s)) }
-    ensures room { AddsAtMost result.now span_of 0 0 1 }
-{
-    "INSERT INTO span2 (operator, id, place, first, last, lower, upper, start, stop, priority) \
-     VALUES (?1, ?2, ?3, ?4, ?5, ?6, ?7, ?8, ?9, ?10)"
+    )
 }
 
 /// Adds a row to `span2`.
@@ -219,9 +186,9 @@ pub fn insert_span<S: Alter>(tx: &mut Transaction<'_, S>, row: SpanRecord<'_>) -
         (state S.Store tx.new.conn.now).now.trees) }
     ensures remembered { Remembers S.Store tx.old.conn.now tx.new.conn.now }
 {
-    run(
+    execute(
         tx,
-        insert_span_text(),
+        Change::AddSpan(row),
         params![
             row.operator,
             row.id,
@@ -234,6 +201,5 @@ pub fn insert_span<S: Alter>(tx: &mut Transaction<'_, S>, row: SpanRecord<'_>) -
             row.stop,
             row.priority
         ],
-    )?;
-    Ok(())
+    )
 }

@@ -4,25 +4,16 @@ ghost use Rattle.std.specs.Prelude.{◌≡◌, [], ◌∷◌, true, false, IfOk,
 ghost use Rattle.sqlite.specs.State.{HasCleanDisk};
 ghost use Rattle.sqlite.specs.Held.{state};
 ghost use Rattle.desk_sql.specs.Schema.{has_table};
-ghost use Rattle.desk_sql.specs.Rows.{IsMadeTo, tables_of, tables_at, Lists};
+ghost use Rattle.desk_sql.specs.Rows.{IsMadeTo, tables_at, Lists};
 ghost use Rattle.desk_sql.specs.Finding.{Holds};
 ghost use Rattle.desk_sql.specs.Refusals.{IsRefusal};
-ghost use Rattle.desk_sql.specs.Statements.{SelectsAll};
 ghost use Rattle.desk_sql.specs.Frames.{OnlyReads};
 
 use crate::opening::finding::Made;
 use crate::opening::numbers::DeskTable;
-use crate::reading::asking::ask;
+use crate::reading::whole::{Whole, all_rows};
 use sqlite::{Alter, Connection, Error, Row};
 use std::alloc::Global;
-
-#[tactic(auto, using(crate::proofs::StatementLemmas::all_old_volumes_selected))]
-fn all_old_volumes_text() -> &'static str
-    ensures { SelectsAll DeskTable.OldVolume result.now (0 ∷ 1 ∷ 2 ∷ []) (λ db. (tables_of db).old_volumes) }
-{
-    "SELECT operator, id, place, lower, upper, start, stop, asked FROM volume \
-     ORDER BY operator, id, place"
-}
 
 /// The rows of `volume`, with the columns of `volumes_of`, by operator, id and place; none if the
 /// table isn't made.
@@ -43,19 +34,7 @@ pub fn all_old_volumes<S: Alter>(
         → IfErr result (IsRefusal S.Store connection.old connection.new) }
     ensures reads { OnlyReads S.Store connection.old connection.new }
 {
-    if made.has(DeskTable::OldVolume) {
-        ask(connection, all_old_volumes_text())
-    } else {
-        Ok(Vec::new(alloc))
-    }
-}
-
-#[tactic(auto, using(crate::proofs::StatementLemmas::all_old_spans_selected))]
-fn all_old_spans_text() -> &'static str
-    ensures { SelectsAll DeskTable.OldSpan result.now (0 ∷ 1 ∷ 2 ∷ 3 ∷ []) (λ db. (tables_of db).old_spans) }
-{
-    "SELECT operator, id, place, first, last, lower, upper, start, stop, priority FROM span \
-     ORDER BY operator, id, place, first"
+    all_rows(alloc, connection, Whole::OldVolumes, made)
 }
 
 /// The rows `operator`, `id`, `place`, `first`, `last`, `lower`, `upper`, `start`, `stop`, `priority`
@@ -77,9 +56,5 @@ pub fn all_old_spans<S: Alter>(
         → IfErr result (IsRefusal S.Store connection.old connection.new) }
     ensures reads { OnlyReads S.Store connection.old connection.new }
 {
-    if made.has(DeskTable::OldSpan) {
-        ask(connection, all_old_spans_text())
-    } else {
-        Ok(Vec::new(alloc))
-    }
+    all_rows(alloc, connection, Whole::OldSpans, made)
 }

@@ -7,10 +7,9 @@ ghost use Rattle.sqlite.specs.Held.{state};
 ghost use Rattle.desk_sql.specs.Rows.{is_wanted, held_columns, tables_of};
 ghost use Rattle.desk_sql.specs.Effects.{IsReady};
 ghost use Rattle.desk_sql.specs.Frames.{OnlyReads};
-ghost use Rattle.desk_sql.specs.Refusals.{IsSureFor};
-ghost use Rattle.desk_sql.specs.Rivals.{SelectsRivals, rivals_row};
 ghost use Rattle.desk_sql.specs.Taking.{IsCutShort};
 
+use crate::reading::query::Query;
 use crate::reading::taking::{TakeRow, hand_over};
 use sqlite::{Alter, Connection, Error, params};
 
@@ -26,17 +25,6 @@ pub struct Reach {
     pub start: i64,
     pub stop: i64,
     pub priority: u32,
-}
-
-// The query of the spans that are reached, but for those of one plan.
-#[tactic(auto, using(crate::proofs::StatementLemmas::rival_spans_selected, crate::proofs::SureSpans::rivals))]
-fn rival_spans_text() -> &'static str
-    ensures shown { SelectsRivals result.now }
-    ensures sure { IsSureFor result.now rivals_row }
-{
-    "SELECT first, last, lower, upper, start, stop, priority FROM span2 \
-     WHERE first >= ?10 AND first <= ?1 AND last >= ?2 AND lower < ?3 AND upper > ?4 \
-     AND start < ?5 AND stop > ?6 AND priority >= ?7 AND (operator <> ?8 OR id <> ?9) ORDER BY first"
 }
 
 /// Hands over, one at a time and by `first`, the columns of `span2` from `first` on of each span that is
@@ -72,7 +60,12 @@ pub fn rival_spans<S: Alter, T: TakeRow>(
 {
     hand_over(
         connection,
-        rival_spans_text(),
+        Query::RivalSpans {
+            operator,
+            id,
+            reach,
+            low,
+        },
         params![
             reach.last,
             reach.first,

@@ -3,17 +3,16 @@
 ghost use Rattle.std.specs.Prelude.{◌≡◌, List, [], false, IfOk, IfErr, OnOk, OnErr, IsTrue};
 ghost use Rattle.sqlite.specs.Order.{Row as Values};
 ghost use Rattle.sqlite.specs.Values.{bound};
-ghost use Rattle.sqlite.specs.State.{HasCleanDisk, IsUnchanged, Shown};
+ghost use Rattle.sqlite.specs.State.{HasCleanDisk, IsUnchanged};
 ghost use Rattle.sqlite.specs.Held.{state};
-ghost use Rattle.sqlite.specs.Given.{IsPlain};
-ghost use Rattle.sqlite.specs.Listing.{understood};
-ghost use Rattle.desk_sql.specs.Schema.{desk_schema};
+ghost use Rattle.desk_sql.specs.Rows.{tables_of, Lists};
 ghost use Rattle.desk_sql.specs.Effects.{IsReady};
 ghost use Rattle.desk_sql.specs.Frames.{OnlyReads, Remembers};
-ghost use Rattle.desk_sql.specs.Refusals.{IsSureGiven};
+ghost use Rattle.desk_sql.specs.Queries.{params_of, order_of, rows_of};
 ghost use Rattle.desk_sql.specs.Taking.{FailsNext, FailsToHandAll, HandsOver, HandsAll, IsCutShort, IsLeft};
 
 use crate::laws::settled_and_sound;
+use crate::reading::query::Query;
 use sqlite::{Alter, Connection, Error, ErrorCode, Row, Rows};
 use sqlite_value::value::ValueRef;
 
@@ -99,38 +98,35 @@ fn hand_all<S: Alter, T: TakeRow>(rows: &mut Rows<'_, S>, taker: &mut T) -> Resu
     Err(Error::SqliteFailure(ErrorCode::TooBig))
 }
 
-/// Hands over each row of a query's answer. The rows of the tables stay, whatever is answered.
+/// Hands over each row of a query's answer, given the parameters of its text. The rows of the tables stay, whatever is answered.
 ///
 /// # Errors
 ///
 /// What a query or the taker may fail with.
 pub(crate) fn hand_over<S: Alter, T: TakeRow>(
     connection: &mut Connection<S>,
-    query: &str,
+    query: Query<'_>,
     params: &[ValueRef<'_>],
     taker: &mut T,
 ) -> Result<(), Error>
     requires ready { IsReady S.Store connection.old }
     requires settled { connection.old.in_transaction ≡ false }
-    requires plain { IsPlain (understood desk_schema query.now) }
-    requires sure { IsSureGiven query.now (bound params.now) }
+    requires given { bound params.now ≡ params_of query }
     requires fresh { T.has_taken taker.old [] }
-    ensures shown { HasCleanDisk (state S.Store connection.new)
-        → OnOk result ((rows : List Values) × Shown query.now (bound params.now)
-        (state S.Store connection.old) (state S.Store connection.new) rows
-        × T.has_taken taker.new rows) }
+    ensures value { HasCleanDisk (state S.Store connection.new)
+        → OnOk result ((rows : List Values) × Lists (order_of query.entry) (rows_of query.entry (tables_of
+        (state S.Store connection.old).now.trees)) rows × T.has_taken taker.new rows) }
     ensures open { HasCleanDisk (state S.Store connection.new)
         → OnOk result (IsTrue (state S.Store connection.old).is_open) }
     ensures cause { HasCleanDisk (state S.Store connection.new)
         → IsTrue (state S.Store connection.new).is_open
-        → IfErr result (IsCutShort S.Store connection.old connection.new
-        (Shown query.now (bound params.now) (state S.Store connection.old)
-        (state S.Store connection.new)) T.refuses) }
+        → IfErr result (IsCutShort S.Store connection.old connection.new (Lists (order_of query.entry)
+        (rows_of query.entry (tables_of (state S.Store connection.old).now.trees))) T.refuses) }
     ensures reads { OnlyReads S.Store connection.old connection.new }
 {
     settled_and_sound(connection);
     // Refused on a connection that is shut, whose schema is not known.
-    let statement = connection.prepare(query)?;
+    let statement = connection.prepare(query.text())?;
     let mut rows = connection.query_prepared(&statement, params)?;
     hand_all(&mut rows, taker)
 }

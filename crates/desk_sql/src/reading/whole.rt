@@ -9,6 +9,7 @@ ghost use Rattle.desk_sql.specs.Effects.{StaysOpen};
 ghost use Rattle.desk_sql.specs.Finding.{Holds};
 ghost use Rattle.desk_sql.specs.Refusals.{IsRefusal};
 ghost use Rattle.desk_sql.specs.Statements.{SelectsAll};
+ghost use Rattle.desk_sql.specs.Queries.{table_read, key_cells, rows_read};
 ghost use Rattle.desk_sql.specs.Frames.{OnlyReads};
 
 use crate::opening::finding::Made;
@@ -17,11 +18,96 @@ use crate::reading::asking::ask;
 use sqlite::{Alter, Connection, Error, Row};
 use std::alloc::Global;
 
-#[tactic(auto, using(crate::proofs::StatementLemmas::all_operators_selected))]
-fn all_operators_text() -> &'static str
-    ensures { SelectsAll DeskTable.Operator result.now (0 ∷ []) (λ db. (tables_of db).operators) }
+/// What is read as a whole: the rows of a table, or of `volume2` the covers alone.
+#[derive(Clone, Copy)]
+pub(crate) enum Whole {
+    /// `operator`
+    Operators,
+    /// `plan`
+    Plans,
+    /// `volume`
+    OldVolumes,
+    /// `span`
+    OldSpans,
+    /// `volume2`, without its covers
+    Volumes,
+    /// `volume2`: the covers
+    Covers,
+    /// `span2`
+    Spans,
+}
+
+impl Whole {
+    /// The table that is read.
+    fn table(self) -> DeskTable
+        ensures { result ≡ table_read self }
+    {
+        match self {
+            Whole::Operators => DeskTable::Operator,
+            Whole::Plans => DeskTable::Plan,
+            Whole::OldVolumes => DeskTable::OldVolume,
+            Whole::OldSpans => DeskTable::OldSpan,
+            Whole::Volumes | Whole::Covers => DeskTable::Volume,
+            Whole::Spans => DeskTable::Span,
+        }
+    }
+
+    /// The query of these rows, by the table's key.
+    fn text(self) -> &'static str
+        ensures { SelectsAll (table_read self) result.now (key_cells (table_read self))
+            (λ db. rows_read self (tables_of db)) }
+    {
+        match self {
+            Whole::Operators => "SELECT name, ceiling FROM operator ORDER BY name",
+            Whole::Plans =>
+                "SELECT operator, id, priority, usage, aircraft FROM plan ORDER BY operator, id",
+            Whole::OldVolumes => {
+                "SELECT operator, id, place, lower, upper, start, stop, asked FROM volume \
+                 ORDER BY operator, id, place"
+            }
+            Whole::OldSpans => {
+                "SELECT operator, id, place, first, last, lower, upper, start, stop, priority FROM span \
+                 ORDER BY operator, id, place, first"
+            }
+            Whole::Volumes => {
+                "SELECT operator, id, place, lower, upper, start, stop, asked FROM volume2 \
+                 ORDER BY operator, id, place"
+            }
+            Whole::Covers =>
+                "SELECT operator, id, place, canon FROM volume2 ORDER BY operator, id, place",
+            Whole::Spans => {
+                "SELECT operator, id, place, first, last, lower, upper, start, stop, priority FROM span2 \
+                 ORDER BY operator, id, place, first"
+            }
+        }
+    }
+}
+
+/// These rows, by the table's key; none if the table isn't made.
+pub(crate) fn all_rows<S: Alter>(
+    alloc: Global,
+    connection: &mut Connection<S>,
+    whole: Whole,
+    made: Made,
+) -> Result<Vec<Row>, Error>
+    requires part { Holds S.Store connection.old (IsMadeTo made) }
+    requires settled { connection.old.in_transaction ≡ false }
+    ensures value { HasCleanDisk (state S.Store connection.new)
+        → IfOk result (λ rows. Lists (key_cells (table_read whole)) (rows_read whole (tables_at made
+        (state S.Store connection.old).now.trees)) rows.items) }
+    ensures open { has_table made (table_read whole) ≡ true → HasCleanDisk (state S.Store connection.new)
+        → OnOk result (IsTrue (state S.Store connection.old).is_open) }
+    ensures live { OnOk result (StaysOpen S.Store connection.old connection.new) }
+    ensures cause { HasCleanDisk (state S.Store connection.new)
+        → IsTrue (state S.Store connection.new).is_open
+        → IfErr result (IsRefusal S.Store connection.old connection.new) }
+    ensures reads { OnlyReads S.Store connection.old connection.new }
 {
-    "SELECT name, ceiling FROM operator ORDER BY name"
+    if made.has(whole.table()) {
+        ask(connection, whole.text())
+    } else {
+        Ok(Vec::new(alloc))
+    }
 }
 
 /// The rows `name`, `ceiling` of all operators, by name; none if the table isn't made.
@@ -43,18 +129,7 @@ pub fn all_operators<S: Alter>(
         → IfErr result (IsRefusal S.Store connection.old connection.new) }
     ensures reads { OnlyReads S.Store connection.old connection.new }
 {
-    if made.has(DeskTable::Operator) {
-        ask(connection, all_operators_text())
-    } else {
-        Ok(Vec::new(alloc))
-    }
-}
-
-#[tactic(auto, using(crate::proofs::StatementLemmas::all_plans_selected))]
-fn all_plans_text() -> &'static str
-    ensures { SelectsAll DeskTable.Plan result.now (0 ∷ 1 ∷ []) (λ db. (tables_of db).plans) }
-{
-    "SELECT operator, id, priority, usage, aircraft FROM plan ORDER BY operator, id"
+    all_rows(alloc, connection, Whole::Operators, made)
 }
 
 /// The rows `operator`, `id`, `priority`, `usage`, `aircraft` of all plans, by operator and id;
@@ -77,19 +152,7 @@ pub fn all_plans<S: Alter>(
         → IfErr result (IsRefusal S.Store connection.old connection.new) }
     ensures reads { OnlyReads S.Store connection.old connection.new }
 {
-    if made.has(DeskTable::Plan) {
-        ask(connection, all_plans_text())
-    } else {
-        Ok(Vec::new(alloc))
-    }
-}
-
-#[tactic(auto, using(crate::proofs::StatementLemmas::all_volumes_selected))]
-fn all_volumes_text() -> &'static str
-    ensures { SelectsAll DeskTable.Volume result.now (0 ∷ 1 ∷ 2 ∷ []) (λ db. (tables_of db).volumes) }
-{
-    "SELECT operator, id, place, lower, upper, start, stop, asked FROM volume2 \
-     ORDER BY operator, id, place"
+    all_rows(alloc, connection, Whole::Plans, made)
 }
 
 /// The rows of all volumes, with the columns of `volumes_of`, by operator, id and place; none if the
@@ -112,18 +175,7 @@ pub fn all_volumes<S: Alter>(
         → IfErr result (IsRefusal S.Store connection.old connection.new) }
     ensures reads { OnlyReads S.Store connection.old connection.new }
 {
-    if made.has(DeskTable::Volume) {
-        ask(connection, all_volumes_text())
-    } else {
-        Ok(Vec::new(alloc))
-    }
-}
-
-#[tactic(auto, using(crate::proofs::StatementLemmas::all_covers_selected))]
-fn all_covers_text() -> &'static str
-    ensures { SelectsAll DeskTable.Volume result.now (0 ∷ 1 ∷ 2 ∷ []) (λ db. (tables_of db).covers) }
-{
-    "SELECT operator, id, place, canon FROM volume2 ORDER BY operator, id, place"
+    all_rows(alloc, connection, Whole::Volumes, made)
 }
 
 /// The rows `operator`, `id`, `place`, `canon` of all volumes, by operator, id and place; none if the table
@@ -146,19 +198,7 @@ pub fn all_covers<S: Alter>(
         → IfErr result (IsRefusal S.Store connection.old connection.new) }
     ensures reads { OnlyReads S.Store connection.old connection.new }
 {
-    if made.has(DeskTable::Volume) {
-        ask(connection, all_covers_text())
-    } else {
-        Ok(Vec::new(alloc))
-    }
-}
-
-#[tactic(auto, using(crate::proofs::StatementLemmas::all_spans_selected))]
-fn all_spans_text() -> &'static str
-    ensures { SelectsAll DeskTable.Span result.now (0 ∷ 1 ∷ 2 ∷ 3 ∷ []) (λ db. (tables_of db).spans) }
-{
-    "SELECT operator, id, place, first, last, lower, upper, start, stop, priority FROM span2 \
-     ORDER BY operator, id, place, first"
+    all_rows(alloc, connection, Whole::Covers, made)
 }
 
 /// The rows `operator`, `id`, `place`, `first`, `last`, `lower`, `upper`, `start`, `stop`, `priority`
@@ -181,9 +221,5 @@ pub fn all_spans<S: Alter>(
         → IfErr result (IsRefusal S.Store connection.old connection.new) }
     ensures reads { OnlyReads S.Store connection.old connection.new }
 {
-    if made.has(DeskTable::Span) {
-        ask(connection, all_spans_text())
-    } else {
-        Ok(Vec::new(alloc))
-    }
+    all_rows(alloc, connection, Whole::Spans, made)
 }

@@ -6,7 +6,7 @@ use Rattle.std.proofs.lemmas.List.{map_more}
 use Rattle.desk_sql.specs.Rows.{RemovesPlan}
 use Rattle.desk_sql.specs.Batches.{RemovesPlans}
 use Rattle.desk_sql.specs.Refusals.{IsRefusal}
-use Rattle.desk_sql.specs.Statements.{Key, key_row}
+use Rattle.desk_sql.specs.Changes.{key_row}
 use Rattle.desk_sql.proofs.StopLemmas.{refused_unprepared}
 use Rattle.desk_sql.proofs.BatchLemmas.{begins_prepared, goes_on, keeps_unprepared, refused_on, way_on}
 use Rattle.desk_sql.proofs.ClearLemmas.{none_removed, one_removed}
@@ -48,13 +48,12 @@ ids-preserved g c =
 
 pub returns-in_err-_statement-clause-cause : goal.returns-in_err-_statement-clause-cause
 returns-in_err-_statement-clause-cause g c clean live =
-    let key : Key = record { operator = c.args.operator.now; id = [] } in
     let it : IsRefusal g.S.Store c.args.tx.now.conn.now c.prepare.new.self.conn.now
     c.in_err-_statement.field-0.0 =
     refused_unprepared g.S.Store c.args.tx.now.conn.now c.prepare.new.self.conn.now
-    c.remove_plan_text.result.now _ _ c.remove_plan_text.ensures.sure key
+    c.text.result.now _ _ c.text.ensures.sure
     c.requires.ready (omega (arith, c.prepare.ensures.survives.clean, clean)) live _
-    (c.in_err-_statement.ensures.err clean (key_row key)) in
+    (c.in_err-_statement.ensures.err clean (key_row c.args.operator.now [])) in
     search (rules, it)
 
 pub returns-in_err-remove_one-clause-cause : goal.returns-in_err-remove_one-clause-cause

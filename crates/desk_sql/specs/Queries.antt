@@ -1,0 +1,71 @@
+-- What each query lists.
+use Rattle.std.specs.Prelude.{ℕ, pos, List, [], ◌∷◌, map, filter}
+use Rattle.sqlite.specs.declared.types.Value.TheVariants.{Int, Text}
+use Rattle.sqlite.specs.Order.{Row}
+use Rattle.desk_sql.specs.declared.opening.numbers.DeskTable.{DeskTable}
+use Rattle.desk_sql.specs.declared.opening.numbers.DeskTable.TheVariants as desk
+use Rattle.desk_sql.specs.declared.reading.whole.Whole.{Whole}
+use Rattle.desk_sql.specs.declared.reading.whole.Whole.TheVariants as whole
+use Rattle.desk_sql.specs.declared.reading.query.Query.{Query}
+use Rattle.desk_sql.specs.declared.reading.query.Query.TheVariants.{OperatorNamed, PlanOf, VolumesOf, OwnPlans, RivalSpans}
+use Rattle.desk_sql.specs.Rows.{Tables, is_by, is_of, with_volumes, is_wanted, held_columns}
+
+-- ---- whole tables
+
+-- the table that is read
+abbrev pub table_read : Whole → DeskTable
+table_read whole.Operators = desk.Operator
+table_read whole.Plans = desk.Plan
+table_read whole.OldVolumes = desk.OldVolume
+table_read whole.OldSpans = desk.OldSpan
+table_read whole.Volumes = desk.Volume
+table_read whole.Covers = desk.Volume
+table_read whole.Spans = desk.Span
+
+-- the columns by which its rows come: its key
+abbrev pub key_cells : DeskTable → List ℕ
+key_cells desk.Operator = 0 ∷ []
+key_cells desk.Plan = 0 ∷ 1 ∷ []
+key_cells desk.OldVolume = 0 ∷ 1 ∷ 2 ∷ []
+key_cells desk.OldSpan = 0 ∷ 1 ∷ 2 ∷ 3 ∷ []
+key_cells desk.Volume = 0 ∷ 1 ∷ 2 ∷ []
+key_cells desk.Span = 0 ∷ 1 ∷ 2 ∷ 3 ∷ []
+
+-- what is read of the tables
+abbrev pub rows_read : Whole → Tables → List Row
+rows_read whole.Operators t = t.operators
+rows_read whole.Plans t = t.plans
+rows_read whole.OldVolumes t = t.old_volumes
+rows_read whole.OldSpans t = t.old_spans
+rows_read whole.Volumes t = t.volumes
+rows_read whole.Covers t = t.covers
+rows_read whole.Spans t = t.spans
+
+-- ---- queries that are given something
+
+-- what a query is given, as the parameters of its text in turn
+abbrev pub params_of : Query → Row
+params_of (OperatorNamed name) = Text name.now ∷ []
+params_of (PlanOf operator id) = Text operator.now ∷ Text id.now ∷ []
+params_of (VolumesOf operator id) = Text operator.now ∷ Text id.now ∷ []
+params_of (OwnPlans operator) = Text operator.now ∷ []
+params_of (RivalSpans operator id reach low) =
+    Int reach.last ∷ Int reach.first ∷ Int reach.upper ∷ Int reach.lower ∷ Int reach.stop ∷ Int reach.start
+    ∷ Int (pos reach.priority) ∷ Text operator.now ∷ Text id.now ∷ Int low ∷ []
+
+-- the columns by which its rows come
+abbrev pub order_of : Query → List ℕ
+order_of (OperatorNamed name) = []
+order_of (PlanOf operator id) = []
+order_of (VolumesOf operator id) = 2 ∷ []
+order_of (OwnPlans operator) = 1 ∷ 5 ∷ []
+order_of (RivalSpans operator id reach low) = 0 ∷ []
+
+-- its rows
+abbrev pub rows_of : Query → Tables → List Row
+rows_of (OperatorNamed name) t = filter (is_by name.now) t.operators
+rows_of (PlanOf operator id) t = filter (is_of operator.now id.now) t.plans
+rows_of (VolumesOf operator id) t = filter (is_of operator.now id.now) t.volumes
+rows_of (OwnPlans operator) t = with_volumes (is_by operator.now) t
+rows_of (RivalSpans operator id reach low) t =
+    map held_columns (filter (is_wanted operator.now id.now reach low) t.spans)
