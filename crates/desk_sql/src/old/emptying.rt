@@ -30,7 +30,7 @@ pub fn empty_old_volumes<S: Alter>(tx: &mut Transaction<'_, S>) -> Result<(), Er
         (state S.Store tx.new.conn.now).now.trees) }
     ensures remembered { Remembers S.Store tx.old.conn.now tx.new.conn.now }
 {
-    execute(tx, Change::EmptyOldVolumes, &[])
+    execute(tx, Change::EmptyOldVolumes)
 }
 
 /// Removes all rows of `span`, which version 1 of the schema has.
@@ -49,5 +49,5 @@ pub fn empty_old_spans<S: Alter>(tx: &mut Transaction<'_, S>) -> Result<(), Erro
         (state S.Store tx.new.conn.now).now.trees) }
     ensures remembered { Remembers S.Store tx.old.conn.now tx.new.conn.now }
 {
-    execute(tx, Change::EmptyOldSpans, &[])
+    execute(tx, Change::EmptyOldSpans)
 }
