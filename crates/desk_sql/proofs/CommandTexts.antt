@@ -13,7 +13,7 @@ use Rattle.sqlite_tied.specs.Compute.{everything}
 use Rattle.sqlite.specs.Listing.{understood}
 use Rattle.sqlite.proofs.Callers.{IsPlain, command_of}
 use Rattle.desk_sql.specs.Schema.{desk_schema}
-use Rattle.desk_sql.proofs.Texts.{insert_operator_text, insert_plan_text, insert_volume_text, insert_span_text, set_ceiling_text, close_plan_text, remove_plan_text, remove_spans_text, empty_old_volumes_text, empty_old_spans_text}
+use Rattle.desk_sql.proofs.Texts.{insert_operator_text, insert_plan_text, insert_volume_text, insert_span_text, set_ceiling_text, close_plan_text, remove_plan_text, remove_spans_text}
 use Rattle.desk_sql.proofs.QueryTexts.{query_of}
 
 -- a text that is this command and no more
@@ -87,17 +87,3 @@ pub remove_spans_is : IsCommand remove_spans_text
     (Delete 5 (record { lets = []; body = remove_spans_query }))
 unfolding understood everything
 remove_spans_is = record { is = refl; plain = (refl, refl) }
-
--- all rows of the table in a tree
-abbrev pub empty_query : ℕ → Query
-empty_query tree = query_of (inner tree end) [] (col 1 0 ∷ []) []
-
-pub empty_old_volumes_is : IsCommand empty_old_volumes_text
-    (Delete 2 (record { lets = []; body = empty_query 4 }))
-unfolding understood everything
-empty_old_volumes_is = record { is = refl; plain = (refl, refl) }
-
-pub empty_old_spans_is : IsCommand empty_old_spans_text
-    (Delete 3 (record { lets = []; body = empty_query 6 }))
-unfolding understood everything
-empty_old_spans_is = record { is = refl; plain = (refl, refl) }

@@ -10,7 +10,7 @@ pub mod InsertLemmas
 pub mod DeleteLemmas
 pub mod CascadeLemmas
 pub mod RemoveLemmas
-pub mod EmptyLemmas
+pub mod old_tables
 pub mod CreateLemmas
 pub mod BatchLemmas
 pub mod UpdateLemmas
@@ -19,7 +19,6 @@ pub mod EnrolLemmas
 pub mod SchemaLemmas
 pub mod MadeLemmas
 pub mod RowidLemmas
-pub mod OldLemmas
 pub mod ClearLemmas
 pub mod SureTexts
 pub mod AskLemmas
@@ -32,7 +31,6 @@ pub mod StopLemmas
 pub mod DeleteStops
 pub mod KeyLemmas
 pub mod RemoveStops
-pub mod EmptyStops
 pub mod PassLemmas
 pub mod UpdateStops
 pub mod SizeLemmas

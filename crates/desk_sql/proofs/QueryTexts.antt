@@ -21,7 +21,7 @@ use Rattle.desk_sql.specs.Schema.{desk_schema, schema_to}
 use Rattle.desk_sql.specs.declared.reading.rivals.Reach.{Reach}
 use Rattle.desk_sql.specs.declared.opening.numbers.DeskTable.{DeskTable}
 use Rattle.desk_sql.specs.declared.opening.numbers.DeskTable.TheVariants.{Operator, Plan, OldVolume, OldSpan, Volume, Span}
-use Rattle.desk_sql.proofs.Texts.{operator_named_text, all_operators_text, plan_of_text, all_plans_text, volumes_of_text, all_volumes_text, all_covers_text, all_spans_text, all_old_volumes_text, all_old_spans_text, own_plans_text, rival_spans_text, operator_rowids_text, plan_rowids_text, old_volume_rowids_text, old_span_rowids_text, volume_rowids_text, span_rowids_text}
+use Rattle.desk_sql.proofs.Texts.{operator_named_text, all_operators_text, plan_of_text, all_plans_text, volumes_of_text, all_volumes_text, all_covers_text, all_spans_text, own_plans_text, rival_spans_text, operator_rowids_text, plan_rowids_text, old_volume_rowids_text, old_span_rowids_text, volume_rowids_text, span_rowids_text}
 
 abbrev pub query_of : Join → List Term → List Term → List (Term × Key) → Query
 query_of from filter project order = record {
@@ -132,30 +132,6 @@ pub all_spans_is : IsWhole Span all_spans_text all_spans_query
     ∷ codes "upper" ∷ codes "start" ∷ codes "stop" ∷ codes "priority" ∷ [])
 unfolding understood everything
 all_spans_is others indexes = record { is = refl; plain = (refl, refl); unlisted = refl }
-
-abbrev pub all_old_volumes_query : Query
-all_old_volumes_query = query_of (inner 4 end) ([])
-    (col 1 1 ∷ col 1 2 ∷ col 1 3 ∷ col 1 4 ∷ col 1 5 ∷ col 1 6
-    ∷ col 1 7 ∷ col 1 8 ∷ []) ((col 1 1, ascending Binary) ∷ (col 1 2, ascending Binary)
-    ∷ (col 1 3, ascending Binary) ∷ [])
-
-pub all_old_volumes_is : IsWhole OldVolume all_old_volumes_text all_old_volumes_query
-    (codes "operator" ∷ codes "id" ∷ codes "place" ∷ codes "lower" ∷ codes "upper" ∷ codes "start"
-    ∷ codes "stop" ∷ codes "asked" ∷ [])
-unfolding understood everything
-all_old_volumes_is others indexes = record { is = refl; plain = (refl, refl); unlisted = refl }
-
-abbrev pub all_old_spans_query : Query
-all_old_spans_query = query_of (inner 6 end) ([]) (col 1 1 ∷ col 1 2 ∷ col 1 3 ∷ col 1 4 ∷ col 1 5 ∷ col 1 6
-    ∷ col 1 7 ∷ col 1 8 ∷ col 1 9 ∷ col 1 10 ∷ [])
-    ((col 1 1, ascending Binary) ∷ (col 1 2, ascending Binary) ∷ (col 1 3, ascending Binary)
-    ∷ (col 1 4, ascending Binary) ∷ [])
-
-pub all_old_spans_is : IsWhole OldSpan all_old_spans_text all_old_spans_query
-    (codes "operator" ∷ codes "id" ∷ codes "place" ∷ codes "first" ∷ codes "last" ∷ codes "lower"
-    ∷ codes "upper" ∷ codes "start" ∷ codes "stop" ∷ codes "priority" ∷ [])
-unfolding understood everything
-all_old_spans_is others indexes = record { is = refl; plain = (refl, refl); unlisted = refl }
 
 abbrev pub own_plans_query : Query
 own_plans_query = query_of (inner 2 (inner 9 end))

@@ -34,9 +34,9 @@ use Rattle.desk_sql.specs.Rows.{Tables}
 use Rattle.desk_sql.specs.Refusals.{IsSure, IsSureGiven}
 use Rattle.desk_sql.specs.Statements.{MayRead, Selects, SelectsAll}
 use Rattle.desk_sql.proofs.Sure.{operator_named_sure, plan_of_sure, volumes_of_sure, own_plans_sure, rival_spans_sure}
-use Rattle.desk_sql.proofs.SureTexts.{all_operators_sure, all_plans_sure, all_volumes_sure, all_covers_sure, all_spans_sure, all_old_volumes_sure, all_old_spans_sure}
-use Rattle.desk_sql.proofs.Texts.{operator_named_text, all_operators_text, plan_of_text, all_plans_text, volumes_of_text, all_volumes_text, all_covers_text, all_spans_text, all_old_volumes_text, all_old_spans_text, own_plans_text, rival_spans_text}
-use Rattle.desk_sql.proofs.QueryTexts.{IsQueryIn, IsQuery, IsWhole, query_of, operator_named_is, operator_named_query, all_operators_is, all_operators_query, plan_of_is, plan_of_query, all_plans_is, all_plans_query, volumes_of_is, volumes_of_query, all_volumes_is, all_volumes_query, all_covers_is, all_covers_query, all_spans_is, all_spans_query, all_old_volumes_is, all_old_volumes_query, all_old_spans_is, all_old_spans_query, own_plans_is, own_plans_query, rival_spans_is, rival_spans_query, rival_params}
+use Rattle.desk_sql.proofs.SureTexts.{all_operators_sure, all_plans_sure, all_volumes_sure, all_covers_sure, all_spans_sure}
+use Rattle.desk_sql.proofs.Texts.{operator_named_text, all_operators_text, plan_of_text, all_plans_text, volumes_of_text, all_volumes_text, all_covers_text, all_spans_text, own_plans_text, rival_spans_text}
+use Rattle.desk_sql.proofs.QueryTexts.{IsQueryIn, IsQuery, IsWhole, query_of, operator_named_is, operator_named_query, all_operators_is, all_operators_query, plan_of_is, plan_of_query, all_plans_is, all_plans_query, volumes_of_is, volumes_of_query, all_volumes_is, all_volumes_query, all_covers_is, all_covers_query, all_spans_is, all_spans_query, own_plans_is, own_plans_query, rival_spans_is, rival_spans_query, rival_params}
 use Rattle.desk_sql.proofs.ReadLemmas.{was_open, answer_rows, may_answer, scanned, equals_text, equals, either_true, le_number, ge_number, lt_number, gt_number}
 
 -- a value that a desk's rows have, whenever something is shown
@@ -292,22 +292,6 @@ all_spans_selected =
     (λ e. refl) (λ x y. refl)
     (λ db. scanned (λ r. [] ∷ r ∷ []) all_spans_query.filter all_spans_query.project (columns 10)
     (λ r. true) (λ r. refl) (λ r. refl) (db 11) ∙ every (map (columns 10) (db 11)))
-
-pub all_old_volumes_selected :
-    SelectsAll OldVolume all_old_volumes_text (0 ∷ 1 ∷ 2 ∷ []) (λ db. (tables_of db).old_volumes)
-all_old_volumes_selected =
-    selects_all all_old_volumes_text _ _ _ _ _ _ all_old_volumes_is all_old_volumes_sure (0 ∷ 1 ∷ 2 ∷ []) _
-    (λ e. refl) (λ x y. refl)
-    (λ db. scanned (λ r. [] ∷ r ∷ []) all_old_volumes_query.filter all_old_volumes_query.project (columns 8)
-    (λ r. true) (λ r. refl) (λ r. refl) (db 4) ∙ every (map (columns 8) (db 4)))
-
-pub all_old_spans_selected :
-    SelectsAll OldSpan all_old_spans_text (0 ∷ 1 ∷ 2 ∷ 3 ∷ []) (λ db. (tables_of db).old_spans)
-all_old_spans_selected =
-    selects_all all_old_spans_text _ _ _ _ _ _ all_old_spans_is all_old_spans_sure (0 ∷ 1 ∷ 2 ∷ 3 ∷ []) _
-    (λ e. refl) (λ x y. refl)
-    (λ db. scanned (λ r. [] ∷ r ∷ []) all_old_spans_query.filter all_old_spans_query.project (columns 10)
-    (λ r. true) (λ r. refl) (λ r. refl) (db 6) ∙ every (map (columns 10) (db 6)))
 
 pub own_plans_selected : (operator : List ℕ)
     → Selects own_plans_text (Text operator ∷ []) (1 ∷ 5 ∷ []) (with_volumes (is_by operator))

@@ -18,11 +18,11 @@ use Rattle.desk_sql.specs.declared.opening.numbers.DeskTable.{DeskTable}
 use Rattle.desk_sql.specs.declared.opening.numbers.DeskTable.TheVariants.{Operator, Plan, OldVolume, OldSpan, Volume, Span}
 use Rattle.desk_sql.specs.Schema.{schema_to}
 use Rattle.desk_sql.specs.Refusals.{NeverRefuses, IsSureIn, IsSure}
-use Rattle.desk_sql.proofs.Texts.{all_operators_text, all_plans_text, all_volumes_text, all_covers_text, all_spans_text, all_old_volumes_text, all_old_spans_text, operator_rowids_text, plan_rowids_text, old_volume_rowids_text, old_span_rowids_text, volume_rowids_text, span_rowids_text}
+use Rattle.desk_sql.proofs.Texts.{all_operators_text, all_plans_text, all_volumes_text, all_covers_text, all_spans_text, operator_rowids_text, plan_rowids_text, old_volume_rowids_text, old_span_rowids_text, volume_rowids_text, span_rowids_text}
 use Rattle.sqlite.proofs.Callers.{command_of}
 use Rattle.desk_sql.proofs.StopLemmas.{names_in, tail_of}
 use Rattle.desk_sql.proofs.SureLemmas.{Misfits}
-use Rattle.desk_sql.proofs.QueryTexts.{IsQueryIn, query_of, operator_rowids_is, plan_rowids_is, old_volume_rowids_is, old_span_rowids_is, volume_rowids_is, span_rowids_is, all_operators_is, all_plans_is, all_volumes_is, all_covers_is, all_spans_is, all_old_volumes_is, all_old_spans_is}
+use Rattle.desk_sql.proofs.QueryTexts.{IsQueryIn, query_of, operator_rowids_is, plan_rowids_is, old_volume_rowids_is, old_span_rowids_is, volume_rowids_is, span_rowids_is, all_operators_is, all_plans_is, all_volumes_is, all_covers_is, all_spans_is}
 
 -- nothing in a scan of one table can overflow
 scan_never : (schema : Schema) (tree : ℕ) (project : List Term) (order : List (Term × Key))
@@ -54,7 +54,7 @@ scan_meant schema text (Ok c) command is plain count whole never = (
 scan_meant schema text (Err e) command is plain count whole never = absurd plain
 
 -- a scan of one table whose types fit, in one whole statement with no parameters
-sure_scan : {schema : Schema} {text : List ℕ} {tree : ℕ} {project : List Term} {order : List (Term × Key)}
+pub sure_scan : {schema : Schema} {text : List ℕ} {tree : ℕ} {project : List Term} {order : List (Term × Key)}
     {names : List (List ℕ)} → IsQueryIn schema text (query_of (inner tree end) [] project order) names
     → 0 ≡ names_in (understood schema text) → length text ≤ tail_of (understood schema text)
     → ((trees : Trees) → ¬ Misfits (query_of (inner tree end) [] project order) schema trees [])
@@ -66,7 +66,7 @@ sure_scan {schema} {text} {tree} {project} {order} {names} known count whole fit
 }
 
 -- wherever the table is made, whatever others there are
-abbrev IsSureWith : DeskTable → List ℕ → Type 0
+abbrev pub IsSureWith : DeskTable → List ℕ → Type 0
 IsSureWith table text = (others : List Table) (indexes : List Index)
     → IsSure (schema_to table others indexes) text
 
@@ -114,16 +114,6 @@ pub all_covers_sure : IsSureWith Volume all_covers_text
 unfolding understood everything
 all_covers_sure others indexes =
     sure_scan (all_covers_is others indexes) refl (omega arith) (λ trees misfit. true≢false misfit)
-
-pub all_old_volumes_sure : IsSureWith OldVolume all_old_volumes_text
-unfolding understood everything
-all_old_volumes_sure others indexes =
-    sure_scan (all_old_volumes_is others indexes) refl (omega arith) (λ trees misfit. true≢false misfit)
-
-pub all_old_spans_sure : IsSureWith OldSpan all_old_spans_text
-unfolding understood everything
-all_old_spans_sure others indexes =
-    sure_scan (all_old_spans_is others indexes) refl (omega arith) (λ trees misfit. true≢false misfit)
 
 pub old_volume_rowids_sure : IsSureWith OldVolume old_volume_rowids_text
 unfolding understood everything

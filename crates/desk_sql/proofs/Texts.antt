@@ -55,14 +55,6 @@ all_spans_text = codes
 abbrev pub all_covers_text : List ℕ
 all_covers_text = codes "SELECT operator, id, place, canon FROM volume2 ORDER BY operator, id, place"
 
-abbrev pub all_old_volumes_text : List ℕ
-all_old_volumes_text = codes
-    "SELECT operator, id, place, lower, upper, start, stop, asked FROM volume ORDER BY operator, id, place"
-
-abbrev pub all_old_spans_text : List ℕ
-all_old_spans_text = codes
-    "SELECT operator, id, place, first, last, lower, upper, start, stop, priority FROM span ORDER BY operator, id, place, first"
-
 abbrev pub own_plans_text : List ℕ
 own_plans_text = codes
     "SELECT plan.operator, plan.id, plan.priority, plan.usage, plan.aircraft, volume2.place, volume2.lower, volume2.upper, volume2.start, volume2.stop, volume2.asked FROM plan JOIN volume2 ON volume2.operator = plan.operator AND volume2.id = plan.id WHERE plan.operator = ?1 ORDER BY plan.id, volume2.place"
@@ -98,12 +90,6 @@ remove_plan_text = codes "DELETE FROM plan WHERE operator = ?1 AND id = ?2"
 
 abbrev pub remove_spans_text : List ℕ
 remove_spans_text = codes "DELETE FROM span2 WHERE operator = ?1 AND id = ?2"
-
-abbrev pub empty_old_volumes_text : List ℕ
-empty_old_volumes_text = codes "DELETE FROM volume"
-
-abbrev pub empty_old_spans_text : List ℕ
-empty_old_spans_text = codes "DELETE FROM span"
 
 abbrev pub operator_rowids_text : List ℕ
 operator_rowids_text = codes "SELECT rowid FROM operator ORDER BY rowid"

@@ -3,8 +3,6 @@
 pub(crate) mod batch;
 pub(crate) mod change;
 pub(crate) mod execute;
-pub(crate) mod removing;
 pub(crate) mod run;
-pub(crate) mod setting;
 pub(crate) mod transactions;
 pub(crate) mod writing;

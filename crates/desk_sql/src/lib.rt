@@ -3,18 +3,19 @@
 
 mod changing;
 pub mod laws;
+mod old;
 mod opening;
 mod reading;
 
 pub use changing::batch::{insert_spans, insert_volumes};
-pub use changing::removing::{empty_old_spans, empty_old_volumes};
 pub use changing::transactions::{clear_plans, close_plan, is_enrolled, put_operator, put_plan};
 pub use changing::writing::{PlanRecord, SpanRecord, VolumeRecord, insert_operator, insert_plan};
+pub use old::emptying::{empty_old_spans, empty_old_volumes};
+pub use old::reading::{all_old_spans, all_old_volumes};
+pub use old::rows::has_old_rows;
 pub use opening::finding::{Made, find_tables};
 pub use opening::making::complete_tables;
 pub use opening::numbers::DeskTable;
-pub use opening::old::has_old_rows;
-pub use reading::old::{all_old_spans, all_old_volumes};
 pub use reading::queries::{own_plans, plan_of, volumes_of};
 pub use reading::rivals::{Reach, rival_spans};
 pub use reading::taking::TakeRow;

@@ -2,7 +2,6 @@
 
 pub(crate) mod answer;
 pub(crate) mod asking;
-pub(crate) mod old;
 pub(crate) mod queries;
 pub(crate) mod query;
 pub(crate) mod rivals;

@@ -12,8 +12,8 @@ ghost use Rattle.desk_sql.specs.Putting.{AreNewSpans, AreNewVolumes, TakesRoom};
 ghost use Rattle.desk_sql.specs.Refusals.{IsRefusal};
 
 use crate::changing::change::Change;
-use crate::changing::removing::remove_plan;
-use crate::changing::writing::{SpanRecord, VolumeRecord, insert_span, insert_volume};
+use crate::changing::execute::execute;
+use crate::changing::writing::{SpanRecord, VolumeRecord};
 use sqlite::{Alter, Error, Transaction};
 
 /// Adds these rows to `volume2`.
@@ -39,7 +39,7 @@ pub fn insert_volumes<S: Alter>(
     ensures remembered { Remembers S.Store tx.old.conn.now tx.new.conn.now }
 {
     'rows: for row in rows {
-        insert_volume(tx, *row)?;
+        execute(tx, Change::AddVolume(*row))?;
     }
     Ok(())
 }
@@ -66,7 +66,7 @@ pub fn insert_spans<S: Alter>(
     ensures remembered { Remembers S.Store tx.old.conn.now tx.new.conn.now }
 {
     'rows: for row in rows {
-        insert_span(tx, *row)?;
+        execute(tx, Change::AddSpan(*row))?;
     }
     Ok(())
 }
@@ -118,5 +118,5 @@ fn remove_one<S: Alter>(
         → IfErr result (IsRefusal S.Store tx.old.conn.now tx.new.conn.now) }
     ensures remembered { Remembers S.Store tx.old.conn.now tx.new.conn.now }
 {
-    remove_plan(tx, operator, id)
+    execute(tx, Change::RemovePlan { operator, id })
 }

@@ -10,11 +10,11 @@ ghost use Rattle.desk_sql.specs.Refusals.{IsRefusal};
 
 use crate::changing::change::Change;
 use crate::changing::run::run;
-use sqlite::{Alter, Error, Transaction};
+use sqlite::{Alter, Error, Transaction, params};
 use sqlite_value::value::ValueRef;
 
-/// Makes a change, given the parameters of its text.
-pub(crate) fn execute<S: Alter>(
+/// Runs the text of a change with its parameters.
+fn run_change<S: Alter>(
     tx: &mut Transaction<'_, S>,
     change: Change<'_>,
     params: &[ValueRef<'_>],
@@ -37,4 +37,56 @@ pub(crate) fn execute<S: Alter>(
 {
     run(tx, change.text(), params)?;
     Ok(())
+}
+
+/// Makes a change.
+pub(crate) fn execute<S: Alter>(
+    tx: &mut Transaction<'_, S>,
+    change: Change<'_>,
+) -> Result<(), Error>
+    requires ready { IsReady S.Store tx.old.conn.now }
+    ensures same_reference { tx.new.conn.ghost_name ≡ tx.old.conn.ghost_name }
+    ensures done { HasCleanDisk (state S.Store tx.new.conn.now)
+        → OnOk result (Makes S.Store tx.old.conn.now tx.new.conn.now (changes change.entry)) }
+    ensures undone { HasCleanDisk (state S.Store tx.new.conn.now)
+        → OnErr result (KeepsCommit (state S.Store tx.old.conn.now)
+        (state S.Store tx.new.conn.now)) }
+    ensures cause { IsUnderWay S.Store tx.old.conn.now
+        → fits change.entry (state S.Store tx.old.conn.now).now → HasCleanDisk (state S.Store tx.new.conn.now)
+        → IfErr result (IsRefusal S.Store tx.old.conn.now tx.new.conn.now) }
+    ensures room { HasCleanDisk (state S.Store tx.new.conn.now)
+        → OnOk result (takes change.entry (state S.Store tx.old.conn.now).now.trees
+        (state S.Store tx.new.conn.now).now.trees) }
+    ensures remembered { Remembers S.Store tx.old.conn.now tx.new.conn.now }
+{
+    match change {
+        Change::AddOperator { name, ceiling } => run_change(tx, change, params![name, ceiling]),
+        Change::AddPlan(p) => {
+            let params = params![p.operator, p.id, p.priority, p.usage, p.aircraft];
+            run_change(tx, change, params)
+        }
+        Change::AddVolume(v) => {
+            let params = params![
+                v.operator, v.id, v.place, v.lower, v.upper, v.start, v.stop, v.asked, v.canon
+            ];
+            run_change(tx, change, params)
+        }
+        Change::AddSpan(s) => {
+            let params = params![
+                s.operator, s.id, s.place, s.first, s.last, s.lower, s.upper, s.start, s.stop,
+                s.priority
+            ];
+            run_change(tx, change, params)
+        }
+        Change::SetCeiling { name, ceiling } => run_change(tx, change, params![name, ceiling]),
+        Change::SetClosed {
+            operator,
+            id,
+            priority,
+            aircraft,
+        } => { run_change(tx, change, params![operator, id, priority, aircraft]) }
+        Change::RemovePlan { operator, id } => run_change(tx, change, params![operator, id]),
+        Change::RemoveSpans { operator, id } => run_change(tx, change, params![operator, id]),
+        Change::EmptyOldVolumes | Change::EmptyOldSpans => run_change(tx, change, &[]),
+    }
 }

@@ -12,8 +12,8 @@ ghost use Rattle.desk_sql.specs.Effects.{IsReady, IsKept, Commits, MayMake};
 ghost use Rattle.desk_sql.specs.Frames.{OnlyReads, IsOver};
 
 use crate::changing::batch::{insert_spans, insert_volumes, remove_plans};
-use crate::changing::removing::{remove_plan, remove_spans};
-use crate::changing::setting::{set_ceiling, set_closed};
+use crate::changing::change::Change;
+use crate::changing::execute::execute;
 use crate::changing::writing::{
     PlanRecord, SpanRecord, VolumeRecord, insert_operator, insert_plan,
 };
@@ -80,7 +80,8 @@ pub fn put_plan<S: Alter>(
 {
     settled_and_sound(connection);
     let mut tx = connection.transaction();
-    remove_plan(&mut tx, plan.operator, plan.id)?;
+    let (operator, id) = (plan.operator, plan.id);
+    execute(&mut tx, Change::RemovePlan { operator, id })?;
     insert_plan(
         &mut tx,
         plan.operator,
@@ -134,7 +135,7 @@ pub fn put_operator<S: Alter>(
     settled_and_sound(connection);
     let mut tx = connection.transaction();
     if is_there {
-        set_ceiling(&mut tx, name, ceiling)?;
+        execute(&mut tx, Change::SetCeiling { name, ceiling })?;
     } else {
         insert_operator(&mut tx, name, ceiling)?;
     }
@@ -167,7 +168,13 @@ pub fn close_plan<S: Alter>(
 {
     settled_and_sound(connection);
     let mut tx = connection.transaction();
-    set_closed(&mut tx, operator, id, priority, aircraft)?;
-    remove_spans(&mut tx, operator, id)?;
+    let closed = Change::SetClosed {
+        operator,
+        id,
+        priority,
+        aircraft,
+    };
+    execute(&mut tx, closed)?;
+    execute(&mut tx, Change::RemoveSpans { operator, id })?;
     tx.commit()
 }

@@ -1,17 +1,17 @@
 ghost use Rattle.std.specs.Prelude.{◌≡◌, IfErr, OnOk, OnErr};
 ghost use Rattle.sqlite.specs.State.{HasCleanDisk, KeepsCommit};
 ghost use Rattle.sqlite.specs.Held.{state};
-ghost use Rattle.desk_sql.specs.Rows.{operator_row, plan_row, volume_row, cover_row, span_row, AddsOperator, AddsPlan, AddsVolume, AddsSpan};
+ghost use Rattle.desk_sql.specs.Rows.{operator_row, plan_row, AddsOperator, AddsPlan};
 ghost use Rattle.desk_sql.specs.Effects.{IsReady, Makes};
 ghost use Rattle.desk_sql.specs.Frames.{Remembers};
 ghost use Rattle.desk_sql.specs.Batches.{IsUnderWay};
-ghost use Rattle.desk_sql.specs.Changing.{FitsOperator, FitsPlan, FitsVolume, FitsSpan};
+ghost use Rattle.desk_sql.specs.Changing.{FitsOperator, FitsPlan};
 ghost use Rattle.desk_sql.specs.Putting.{TakesRoom};
 ghost use Rattle.desk_sql.specs.Refusals.{IsRefusal};
 
 use crate::changing::change::Change;
 use crate::changing::execute::execute;
-use sqlite::{Alter, Error, Transaction, params};
+use sqlite::{Alter, Error, Transaction};
 
 /// A row of `plan`.
 #[derive(Clone, Copy, Debug)]
@@ -73,11 +73,7 @@ pub fn insert_operator<S: Alter>(
         → IfErr result (IsRefusal S.Store tx.old.conn.now tx.new.conn.now) }
     ensures remembered { Remembers S.Store tx.old.conn.now tx.new.conn.now }
 {
-    execute(
-        tx,
-        Change::AddOperator { name, ceiling },
-        params![name, ceiling],
-    )
+    execute(tx, Change::AddOperator { name, ceiling })
 }
 
 /// Adds a row to `plan`.
@@ -113,93 +109,5 @@ pub fn insert_plan<S: Alter>(
         usage,
         aircraft,
     };
-    execute(
-        tx,
-        Change::AddPlan(plan),
-        params![operator, id, priority, usage, aircraft],
-    )
-}
-
-/// Adds a row to `volume2`.
-pub fn insert_volume<S: Alter>(
-    tx: &mut Transaction<'_, S>,
-    row: VolumeRecord<'_>,
-) -> Result<(), Error>
-    requires ready { IsReady S.Store tx.old.conn.now }
-    ensures same_reference { tx.new.conn.ghost_name ≡ tx.old.conn.ghost_name }
-    ensures done { HasCleanDisk (state S.Store tx.new.conn.now)
-        → OnOk result (Makes S.Store tx.old.conn.now tx.new.conn.now (AddsVolume
-        (volume_row row.entry.operator.now row.entry.id.now row.entry.place row.entry.lower
-        row.entry.upper row.entry.start row.entry.stop row.entry.asked.now)
-        (cover_row row.entry.operator.now row.entry.id.now row.entry.place row.entry.canon.now))) }
-    ensures undone { HasCleanDisk (state S.Store tx.new.conn.now)
-        → OnErr result (KeepsCommit (state S.Store tx.old.conn.now)
-        (state S.Store tx.new.conn.now)) }
-    ensures cause { IsUnderWay S.Store tx.old.conn.now → FitsVolume row.entry.operator.now row.entry.id.now
-        row.entry.asked.now row.entry.canon.now
-        (volume_row row.entry.operator.now row.entry.id.now row.entry.place row.entry.lower
-        row.entry.upper row.entry.start row.entry.stop row.entry.asked.now)
-        (state S.Store tx.old.conn.now).now → HasCleanDisk (state S.Store tx.new.conn.now)
-        → IfErr result (IsRefusal S.Store tx.old.conn.now tx.new.conn.now) }
-    ensures room { HasCleanDisk (state S.Store tx.new.conn.now)
-        → OnOk result (TakesRoom 0 1 0 (state S.Store tx.old.conn.now).now.trees
-        (state S.Store tx.new.conn.now).now.trees) }
-    ensures remembered { Remembers S.Store tx.old.conn.now tx.new.conn.now }
-{
-    execute(
-        tx,
-        Change::AddVolume(row),
-        params![
-            row.operator,
-            row.id,
-            row.place,
-            row.lower,
-            row.upper,
-            row.start,
-            row.stop,
-            row.asked,
-            row.canon
-        ],
-    )
-}
-
-/// Adds a row to `span2`.
-pub fn insert_span<S: Alter>(tx: &mut Transaction<'_, S>, row: SpanRecord<'_>) -> Result<(), Error>
-    requires ready { IsReady S.Store tx.old.conn.now }
-    ensures same_reference { tx.new.conn.ghost_name ≡ tx.old.conn.ghost_name }
-    ensures done { HasCleanDisk (state S.Store tx.new.conn.now)
-        → OnOk result (Makes S.Store tx.old.conn.now tx.new.conn.now (AddsSpan
-        (span_row row.entry.operator.now row.entry.id.now row.entry.place row.entry.first
-        row.entry.last row.entry.lower row.entry.upper row.entry.start row.entry.stop
-        row.entry.priority))) }
-    ensures undone { HasCleanDisk (state S.Store tx.new.conn.now)
-        → OnErr result (KeepsCommit (state S.Store tx.old.conn.now)
-        (state S.Store tx.new.conn.now)) }
-    ensures cause { IsUnderWay S.Store tx.old.conn.now → FitsSpan row.entry.operator.now row.entry.id.now
-        (span_row row.entry.operator.now row.entry.id.now row.entry.place row.entry.first
-        row.entry.last row.entry.lower row.entry.upper row.entry.start row.entry.stop
-        row.entry.priority)
-        (state S.Store tx.old.conn.now).now → HasCleanDisk (state S.Store tx.new.conn.now)
-        → IfErr result (IsRefusal S.Store tx.old.conn.now tx.new.conn.now) }
-    ensures room { HasCleanDisk (state S.Store tx.new.conn.now)
-        → OnOk result (TakesRoom 0 0 1 (state S.Store tx.old.conn.now).now.trees
-        (state S.Store tx.new.conn.now).now.trees) }
-    ensures remembered { Remembers S.Store tx.old.conn.now tx.new.conn.now }
-{
-    execute(
-        tx,
-        Change::AddSpan(row),
-        params![
-            row.operator,
-            row.id,
-            row.place,
-            row.first,
-            row.last,
-            row.lower,
-            row.upper,
-            row.start,
-            row.stop,
-            row.priority
-        ],
-    )
+    execute(tx, Change::AddPlan(plan))
 }

@@ -17,47 +17,47 @@ rows-init g c = (
   λ clean. takes_none (state g.S.Store c.args.tx.now.conn.now).now.trees,
 )
 
-pub insert_span-requires : goal.insert_span-requires
-insert_span-requires g c = record { ready = λ clean live. (c.rows.invariant.1.made clean).desk }
+pub execute-requires : goal.execute-requires
+execute-requires g c = record { ready = λ clean live. (c.rows.invariant.1.made clean).desk }
 
 pub rows-preserved : goal.rows-preserved
 rows-preserved g c =
     let rows = c.args.rows.now in
     let at = c.rows.row-index in (
-      c.insert_span.ensures.same_reference ∙ c.rows.invariant.0,
-      goes_on g.S.Store c.args.tx.now.conn.now c.rows.tx.conn.now c.insert_span.new.tx.conn.now
+      c.execute.ensures.same_reference ∙ c.rows.invariant.0,
+      goes_on g.S.Store c.args.tx.now.conn.now c.rows.tx.conn.now c.execute.new.tx.conn.now
           (AddsSpans (map span_of (take at rows))) _ (AddsSpans (map span_of (take (at + 1) rows)))
           (more_spans (map span_of (take at rows)) _ (map span_of (take (at + 1) rows))
           (map_more span_of rows at _ c.rows-test.true))
-          c.rows.invariant.1 c.insert_span.ensures.remembered
-          c.in_ok-insert_span.ensures.done,
+          c.rows.invariant.1 c.execute.ensures.remembered
+          c.in_ok-execute.ensures.done,
       λ clean. takes_both 0 0 at 0 0 1 (state g.S.Store c.args.tx.now.conn.now).now.trees
           (state g.S.Store c.rows.tx.conn.now).now.trees
-          (state g.S.Store c.insert_span.new.tx.conn.now).now.trees
-          (c.rows.invariant.2 (omega (arith, c.insert_span.ensures.remembered.doubt, clean)))
-          (c.in_ok-insert_span.ensures.room clean),
+          (state g.S.Store c.execute.new.tx.conn.now).now.trees
+          (c.rows.invariant.2 (omega (arith, c.execute.ensures.remembered.doubt, clean)))
+          (c.in_ok-execute.ensures.room clean),
     )
 
-pub returns-in_err-insert_span-clause-cause : goal.returns-in_err-insert_span-clause-cause
-returns-in_err-insert_span-clause-cause g c new clean =
+pub returns-in_err-execute-clause-cause : goal.returns-in_err-execute-clause-cause
+returns-in_err-execute-clause-cause g c new clean =
     let old = c.args.tx.now.conn.now in
     let mid = c.rows.tx.conn.now in
     let rows = c.args.rows.now in
     let at = c.rows.row-index in
     let changes = AddsSpans (map span_of (take at rows)) in
     let early : HasCleanDisk (state g.S.Store mid) =
-    omega (arith, c.insert_span.ensures.remembered.doubt, clean) in
-    let it : IsRefusal g.S.Store old c.insert_span.new.tx.conn.now c.in_err-insert_span.field-0.0 =
-    refused_on g.S.Store old mid c.insert_span.new.tx.conn.now changes c.rows.invariant.1 _
-    (c.in_err-insert_span.ensures.cause (way_on g.S.Store old mid changes c.rows.invariant.1)
+    omega (arith, c.execute.ensures.remembered.doubt, clean) in
+    let it : IsRefusal g.S.Store old c.execute.new.tx.conn.now c.in_err-execute.field-0.0 =
+    refused_on g.S.Store old mid c.execute.new.tx.conn.now changes c.rows.invariant.1 _
+    (c.in_err-execute.ensures.cause (way_on g.S.Store old mid changes c.rows.invariant.1)
     (span_fits rows at _ (state g.S.Store old).now (state g.S.Store mid).now new c.rows-test.true
     (c.rows.invariant.1.made early).changed (c.rows.invariant.2 early)) clean) in
     search (rules, it)
 
-pub returns-in_err-insert_span-clause-remembered : goal.returns-in_err-insert_span-clause-remembered
-returns-in_err-insert_span-clause-remembered g c =
-    remembers_then g.S.Store c.args.tx.now.conn.now c.rows.tx.conn.now c.insert_span.new.tx.conn.now
-    c.rows.invariant.1.remembered c.insert_span.ensures.remembered
+pub returns-in_err-execute-clause-remembered : goal.returns-in_err-execute-clause-remembered
+returns-in_err-execute-clause-remembered g c =
+    remembers_then g.S.Store c.args.tx.now.conn.now c.rows.tx.conn.now c.execute.new.tx.conn.now
+    c.rows.invariant.1.remembered c.execute.ensures.remembered
 
 pub returns-clause-remembered : goal.returns-clause-remembered
 returns-clause-remembered g c = c.rows.invariant.1.remembered

@@ -6,8 +6,8 @@ use Rattle.desk_sql.proofs.SetLemmas.{set_ceiling_changes, set_closed_changes}
 use Rattle.desk_sql.proofs.SetStops.{set_ceiling_sure, set_closed_sure}
 use Rattle.desk_sql.proofs.RemoveLemmas.{remove_plan_changes, remove_spans_changes}
 use Rattle.desk_sql.proofs.RemoveStops.{remove_plan_sure, remove_spans_sure}
-use Rattle.desk_sql.proofs.EmptyLemmas.{empty_old_volumes_changes, empty_old_spans_changes, empty_old_volumes_room, empty_old_spans_room}
-use Rattle.desk_sql.proofs.EmptyStops.{empty_old_volumes_sure, empty_old_spans_sure}
+use Rattle.desk_sql.proofs.old_tables.EmptyLemmas.{empty_old_volumes_changes, empty_old_spans_changes, empty_old_volumes_room, empty_old_spans_room}
+use Rattle.desk_sql.proofs.old_tables.EmptyStops.{empty_old_volumes_sure, empty_old_spans_sure}
 use Rattle.desk_sql.proofs.RoomTexts.{any_room, insert_plan_room, insert_volume_room, insert_span_room, remove_plan_room}
 use Rattle.desk_sql.proofs.changing.change.Change.text.Goals as goal
 

@@ -1,6 +1,7 @@
 use Rattle.std.proofs.Common.{sym, subst}
 use Rattle.desk_sql.proofs.AskLemmas.{IsWholeText}
-use Rattle.desk_sql.proofs.StatementLemmas.{all_operators_selected, all_plans_selected, all_volumes_selected, all_covers_selected, all_spans_selected, all_old_volumes_selected, all_old_spans_selected}
+use Rattle.desk_sql.proofs.StatementLemmas.{all_operators_selected, all_plans_selected, all_volumes_selected, all_covers_selected, all_spans_selected}
+use Rattle.desk_sql.proofs.old_tables.ReadLemmas.{all_old_volumes_selected, all_old_spans_selected}
 use Rattle.desk_sql.proofs.reading.whole.Whole.text.Goals as goal
 
 pub returns-in-Operators : goal.returns-in-Operators

@@ -16,8 +16,7 @@ use Rattle.desk_sql.specs.Schema.{desk_schema, old_volume_table, old_span_table}
 use Rattle.desk_sql.specs.Rows.{IsDesk, AreNumbered, columns, cover_columns, tables_of, RemovesOldVolumes, RemovesOldSpans}
 use Rattle.desk_sql.specs.Statements.{Changes}
 use Rattle.desk_sql.specs.Putting.{TakesRoom, Takes}
-use Rattle.desk_sql.proofs.Texts.{empty_old_volumes_text, empty_old_spans_text}
-use Rattle.desk_sql.proofs.CommandTexts.{empty_query, empty_old_volumes_is, empty_old_spans_is}
+use Rattle.desk_sql.proofs.old_tables.Texts.{empty_old_volumes_text, empty_old_spans_text, empty_query, empty_old_volumes_is, empty_old_spans_is}
 use Rattle.desk_sql.proofs.NumberLemmas.{unequal, removed}
 use Rattle.desk_sql.proofs.WriteLemmas.{May, did, changes_by, rows_written, task_at}
 use Rattle.desk_sql.proofs.DeleteLemmas.{delete_edit, delete_finds}

@@ -10,7 +10,7 @@ use Rattle.desk_sql.specs.Refusals.{IsRefusal}
 use Rattle.desk_sql.proofs.StopLemmas.{refused_change}
 use Rattle.desk_sql.proofs.WriteLemmas.{makes, changed}
 use Rattle.desk_sql.proofs.RoomTexts.{took}
-use Rattle.desk_sql.proofs.changing.execute.execute.Goals as goal
+use Rattle.desk_sql.proofs.changing.execute.run_change.Goals as goal
 
 pub returns-clause-done : goal.returns-clause-done
 returns-clause-done g c clean =

@@ -1,7 +1,9 @@
+//! The tables of version 1 of the schema are emptied.
+
 ghost use Rattle.std.specs.Prelude.{◌≡◌, IfErr, OnOk, OnErr};
 ghost use Rattle.sqlite.specs.State.{HasCleanDisk, KeepsCommit};
 ghost use Rattle.sqlite.specs.Held.{state};
-ghost use Rattle.desk_sql.specs.Rows.{RemovesPlan, RemovesSpans, RemovesOldVolumes, RemovesOldSpans};
+ghost use Rattle.desk_sql.specs.Rows.{RemovesOldVolumes, RemovesOldSpans};
 ghost use Rattle.desk_sql.specs.Effects.{IsReady, Makes};
 ghost use Rattle.desk_sql.specs.Frames.{Remembers};
 ghost use Rattle.desk_sql.specs.Batches.{IsUnderWay};
@@ -10,60 +12,7 @@ ghost use Rattle.desk_sql.specs.Refusals.{IsRefusal};
 
 use crate::changing::change::Change;
 use crate::changing::execute::execute;
-use sqlite::{Alter, Error, Transaction, params};
-
-/// Removes a plan, and its volumes and spans with it. Without the plan it changes nothing.
-pub fn remove_plan<S: Alter>(
-    tx: &mut Transaction<'_, S>,
-    operator: &str,
-    id: &str,
-) -> Result<(), Error>
-    requires ready { IsReady S.Store tx.old.conn.now }
-    ensures same_reference { tx.new.conn.ghost_name ≡ tx.old.conn.ghost_name }
-    ensures done { HasCleanDisk (state S.Store tx.new.conn.now)
-        → OnOk result (Makes S.Store tx.old.conn.now tx.new.conn.now
-        (RemovesPlan operator.now id.now)) }
-    ensures undone { HasCleanDisk (state S.Store tx.new.conn.now)
-        → OnErr result (KeepsCommit (state S.Store tx.old.conn.now)
-        (state S.Store tx.new.conn.now)) }
-    ensures cause { IsUnderWay S.Store tx.old.conn.now → HasCleanDisk (state S.Store tx.new.conn.now)
-        → IfErr result (IsRefusal S.Store tx.old.conn.now tx.new.conn.now) }
-    ensures room { HasCleanDisk (state S.Store tx.new.conn.now)
-        → OnOk result (TakesRoom 0 0 0 (state S.Store tx.old.conn.now).now.trees
-        (state S.Store tx.new.conn.now).now.trees) }
-    ensures remembered { Remembers S.Store tx.old.conn.now tx.new.conn.now }
-{
-    execute(
-        tx,
-        Change::RemovePlan { operator, id },
-        params![operator, id],
-    )
-}
-
-/// Removes the spans of a plan.
-pub fn remove_spans<S: Alter>(
-    tx: &mut Transaction<'_, S>,
-    operator: &str,
-    id: &str,
-) -> Result<(), Error>
-    requires ready { IsReady S.Store tx.old.conn.now }
-    ensures same_reference { tx.new.conn.ghost_name ≡ tx.old.conn.ghost_name }
-    ensures done { HasCleanDisk (state S.Store tx.new.conn.now)
-        → OnOk result (Makes S.Store tx.old.conn.now tx.new.conn.now
-        (RemovesSpans operator.now id.now)) }
-    ensures undone { HasCleanDisk (state S.Store tx.new.conn.now)
-        → OnErr result (KeepsCommit (state S.Store tx.old.conn.now)
-        (state S.Store tx.new.conn.now)) }
-    ensures cause { IsUnderWay S.Store tx.old.conn.now → HasCleanDisk (state S.Store tx.new.conn.now)
-        → IfErr result (IsRefusal S.Store tx.old.conn.now tx.new.conn.now) }
-    ensures remembered { Remembers S.Store tx.old.conn.now tx.new.conn.now }
-{
-    execute(
-        tx,
-        Change::RemoveSpans { operator, id },
-        params![operator, id],
-    )
-}
+use sqlite::{Alter, Error, Transaction};
 
 /// Removes all rows of `volume`, which version 1 of the schema has.
 pub fn empty_old_volumes<S: Alter>(tx: &mut Transaction<'_, S>) -> Result<(), Error>
@@ -81,7 +30,7 @@ pub fn empty_old_volumes<S: Alter>(tx: &mut Transaction<'_, S>) -> Result<(), Er
         (state S.Store tx.new.conn.now).now.trees) }
     ensures remembered { Remembers S.Store tx.old.conn.now tx.new.conn.now }
 {
-    execute(tx, Change::EmptyOldVolumes, &[])
+    execute(tx, Change::EmptyOldVolumes)
 }
 
 /// Removes all rows of `span`, which version 1 of the schema has.
@@ -100,5 +49,5 @@ pub fn empty_old_spans<S: Alter>(tx: &mut Transaction<'_, S>) -> Result<(), Erro
         (state S.Store tx.new.conn.now).now.trees) }
     ensures remembered { Remembers S.Store tx.old.conn.now tx.new.conn.now }
 {
-    execute(tx, Change::EmptyOldSpans, &[])
+    execute(tx, Change::EmptyOldSpans)
 }

@@ -1,7 +1,7 @@
 use Rattle.std.proofs.Common.{sym, ◌∙◌}
 use Rattle.sqlite.specs.Held.{state}
 use Rattle.desk_sql.proofs.SchemaLemmas.{has_made}
-use Rattle.desk_sql.proofs.opening.old.has_row_in.Goals as goal
+use Rattle.desk_sql.proofs.old.rows.has_row_in.Goals as goal
 
 pub has_row-requires-clause-known : goal.has_row-requires-clause-known
 has_row-requires-clause-known g c clean live =

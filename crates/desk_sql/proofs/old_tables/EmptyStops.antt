@@ -20,11 +20,10 @@ use Rattle.desk_sql.specs.Schema.{desk_schema, old_volume_table, old_span_table}
 use Rattle.desk_sql.specs.Rows.{IsDesk}
 use Rattle.desk_sql.specs.Statements.{enforced}
 use Rattle.desk_sql.specs.Changing.{IsAtLimit, IsSureChange}
-use Rattle.desk_sql.proofs.Texts.{empty_old_volumes_text, empty_old_spans_text}
-use Rattle.desk_sql.proofs.CommandTexts.{empty_query, empty_old_volumes_is, empty_old_spans_is}
+use Rattle.desk_sql.proofs.old_tables.Texts.{empty_old_volumes_text, empty_old_spans_text, empty_query, empty_old_volumes_is, empty_old_spans_is}
 use Rattle.desk_sql.proofs.NumberLemmas.{unequal}
 use Rattle.desk_sql.proofs.CascadeLemmas.{old_volume_works, old_span_works, old_volumes_at, old_spans_at}
-use Rattle.desk_sql.proofs.EmptyLemmas.{Emptied, emptied, empty_task}
+use Rattle.desk_sql.proofs.old_tables.EmptyLemmas.{Emptied, emptied, empty_task}
 use Rattle.desk_sql.proofs.SureLemmas.{Misfits, never}
 use Rattle.desk_sql.proofs.StopLemmas.{sure_change}
 use Rattle.desk_sql.proofs.DeleteStops.{rows_stopped, deletes_stopped, quiet_out}

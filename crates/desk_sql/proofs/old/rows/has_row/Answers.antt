@@ -1,9 +1,9 @@
 use Rattle.std.proofs.Common.{◌≡◌, ◌==◌, arith, length, rules}
 use Rattle.sqlite.specs.Held.{state}
 use Rattle.desk_sql.proofs.AskLemmas.{all_selected}
-use Rattle.desk_sql.proofs.OldLemmas.{some_shown}
+use Rattle.desk_sql.proofs.old_tables.RowLemmas.{some_shown}
 use Rattle.desk_sql.proofs.ReadLemmas.{was_open}
-use Rattle.desk_sql.proofs.opening.old.has_row.Goals as goal
+use Rattle.desk_sql.proofs.old.rows.has_row.Goals as goal
 
 pub ask-requires-clause-sure : goal.ask-requires-clause-sure
 ask-requires-clause-sure g c clean live =
