@@ -14,12 +14,12 @@ use Rattle.desk_sql.specs.Effects.{IsOpenIfClean}
 use Rattle.desk_sql.specs.Frames.{OnlyReads}
 use Rattle.desk_sql.specs.Schema.{blank_schema}
 use Rattle.desk_sql.specs.declared.opening.finding.Made.{Made}
-use Rattle.desk_sql.specs.declared.opening.finding.Made.TheVariants.{Nothing}
 use Rattle.desk_sql.specs.Finding.{HasOthers}
 use Rattle.desk_sql.specs.Rows.{IsMadeTo, Tables, tables_at, has_old_rows}
 use Rattle.desk_rules.specs.Plan.{is_live}
 use Rattle.desk_store.specs.World.{Filed, Listed, World}
 use Rattle.desk_tables.specs.Tables.{operator_row, operator_rows, plan_rows, volume_rows, cover_rows, AreSpanRows}
+use Rattle.desk_tables.specs.Counting.{HaveSpanRows}
 use Rattle.desk_tables.specs.Opening.{IsContentOf, HasNoContent, AreNoContent, BlamesDatabase}
 use Rattle.desk_tables.specs.Moving.{IsOldContentOf, HasNoOldContent, AreNoOldContent}
 use Rattle.desk_tables.specs.Files.{FindsFirst, IsUnread}
@@ -59,6 +59,7 @@ pub record AreCounted (h : Holdings) (w : World) : Type 0 where
   pub operators : h.operators ≡ length w.operators
   pub plans : h.plans ≡ length w.plans
   pub live : h.live ≡ live_count w.plans
+  pub spans : HaveSpanRows w.plans h.spans
 
 module _ {S : Type 0} (g : Ghosts S) (old new : Held S) where
   -- what is shown is no content

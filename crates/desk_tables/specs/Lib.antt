@@ -13,6 +13,7 @@ pub mod Known
 pub mod Records
 pub mod Opening
 pub mod Moving
+pub mod Counting
 pub mod Copying
 pub mod Causes
 pub mod Files

@@ -1,5 +1,5 @@
 -- Keeping: what a keeper is told of a file, and what is copied of it.
-use Rattle.std.specs.Prelude.{◌≡◌, ◌⊎◌, ℕ, List, length, Option, Result, Ok, Err}
+use Rattle.std.specs.Prelude.{◌≡◌, ℕ, List, length, Option, Result, Ok, Err}
 use Rattle.sqlite_disk.specs.declared.Disk as disk
 use Rattle.sqlite_disk.specs.declared.Files.{Files}
 use Rattle.sqlite_wal.specs.Reads.{AreClean}
@@ -13,6 +13,7 @@ use Rattle.desk_line.specs.declared.failure.Failure.{Failure}
 use Rattle.desk_line.specs.Exits.{Ending, failure_status}
 use Rattle.desk_program.specs.Looking.{IsTextPrinted, checked_line, copied_line}
 use Rattle.desk_program.specs.declared.looking.CheckedFile.{CheckedFile}
+use Rattle.desk_tables.specs.Counting.{HaveSpanRows}
 use Rattle.desk_tables.specs.Copying.{AreCounted, AreNotRead, IsMadeIn, LooksIn, live_count}
 use Rattle.desk_tables.specs.Leaving.{IsSettledAt}
 use Rattle.desk_tables.specs.declared.opening.looking.Holdings.{Holdings}
@@ -20,11 +21,12 @@ use Rattle.desk_tables.specs.declared.opening.open.OpenFault.{OpenFault}
 use Rattle.uss_desk.specs.declared.opening.Unopened.{Unopened}
 use Rattle.uss_desk.specs.Opening.{open_failure}
 
--- the numbers of operators and plans are those of the content
+-- the numbers of operators, plans and rows of spans are those of the content
 pub record TellsHoldings (file : CheckedFile) (w : World) : Type 0 where
   pub operators : file.operators ≡ length w.operators
   pub plans : file.plans ≡ length w.plans
   pub live : file.live ≡ live_count w.plans
+  pub spans : HaveSpanRows w.plans file.spans
 
 -- a text is printed, with this exit status
 abbrev pub IsToldAs : List ℕ → ℕ → Option (List ℕ) → Option (List ℕ) → Type 0

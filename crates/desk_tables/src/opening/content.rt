@@ -54,16 +54,19 @@ impl Model for TableRows {
 pub(crate) struct Content {
     pub operators: Vec<ListedOperator>,
     pub plans: Vec<FiledPlan>,
-    // how many rows of spans it was read from
+    // how many rows of spans they have
     pub spans: usize,
 }
 
 impl Model for Content {
     ghost use Rattle.desk_store.specs.World.{World};
+    ghost use Rattle.desk_tables.specs.Counting.{HaveSpanRows};
 
     ghost Value = { World };
 
     ghost view = { λ c. record { operators = c.operators.items; plans = c.plans.items } };
+
+    ghost invariant = { λ c. HaveSpanRows c.plans.items c.spans };
 }
 
 impl From<AllocError> for RowFault {

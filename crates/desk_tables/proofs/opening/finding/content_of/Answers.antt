@@ -1,7 +1,6 @@
 use Rattle.std.proofs.Common.{◌∙◌, ap, sym, subst, true≢false}
 use Rattle.std.specs.List.{AllByRecursion}
 use Rattle.desk_sql.specs.Rows.{Tables}
-use Rattle.desk_tables.specs.Known.{Knows}
 use Rattle.desk_live.specs.Roll.{AreAccountsOf, accounts_of}
 use Rattle.desk_tables.specs.Lengths.{IsKnownRow}
 use Rattle.desk_tables.specs.Tables.{cover_rows}

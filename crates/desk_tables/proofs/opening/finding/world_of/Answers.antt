@@ -1,4 +1,4 @@
-use Rattle.std.proofs.Common.{rules, ◌≢◌, arith}
+use Rattle.std.proofs.Common.{rules, ◌≢◌}
 use Rattle.desk_sql.specs.declared.opening.finding.Made.TheVariants.{Nothing, All}
 use Rattle.desk_sql.specs.Finding.{Holds}
 use Rattle.desk_sql.specs.Rows.{IsMadeTo}
