@@ -51,14 +51,14 @@ pub fn check_file<F: Start, W: Write, E: Write>(
 {
     match look_for(rt, database, start) {
         Ok((connection, file)) => {
-            let status = print_checked(rt.alloc(), &file, output, errors);
-            (status, Some(connection))
+            let exit = print_checked(rt.alloc(), &file, output, errors);
+            (exit.status, Some(connection))
         }
         Err(failure) => {
             if let Database::File(path) = database {
                 tell(rt, path, failure, errors);
             }
-            (conclude(errors, Err(failure)), None)
+            (conclude(errors, Err(failure)).status, None)
         }
     }
 }
@@ -151,16 +151,16 @@ pub fn copy_file<F: Start, N: Start, W: Write, E: Write>(
     match copy_for(rt, words, start, other, errors) {
         Ok(copies) => {
             let holdings = copies.1.1;
-            let status = print_copied(
+            let exit = print_copied(
                 rt.alloc(),
                 holdings.operators,
                 holdings.plans,
                 output,
                 errors,
             );
-            (status, Some(copies))
+            (exit.status, Some(copies))
         }
-        Err(failure) => (conclude(errors, Err(failure)), None),
+        Err(failure) => (conclude(errors, Err(failure)).status, None),
     }
 }
 
