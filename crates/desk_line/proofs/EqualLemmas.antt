@@ -1,6 +1,6 @@
 -- What the digits of a priority write.
-use Rattle.std.proofs.Common.{◌≡◌, ◌<◌, ◌≤◌, ◌^◌, ℕ, Bool, true, Bor, List, [], ◌∷◌, length, map, Option, Some, None, Result, Ok, Err, refl, arith, ap, ◌∙◌, ◌&&◌, nat_lt, nat_le}
-use Rattle.std.specs.Char.{is_ascii_digit, digit_value}
+use Rattle.std.proofs.Common.{◌≡◌, ◌<◌, ◌≤◌, ◌^◌, ℕ, Bool, true, Bor, List, [], ◌∷◌, length, map, Some, None, Err, refl, arith, ap, ◌∙◌, ◌&&◌, nat_lt, nat_le}
+use Rattle.std.specs.Char.{is_ascii_digit}
 use Rattle.std.specs.Int.{IsInRange}
 use Rattle.std.specs.List.{list_all}
 use Rattle.std.specs.Str.Parse.{AllDigits, IsNumeral, ParsesUnsigned, digits_value, without_leading_plus}

@@ -1,45 +1,86 @@
 -- What `clap` found for an argument, as the value that was given.
-use Rattle.std.proofs.Common.{◌≡◌, ◌∙◌, ap, sym, Bor, ℕ, ℤ, Bool, true, false, List, [], ◌∷◌, Option, Some, None, Result, refl, IfSome, codes, option_map, unwrap_or, map, w64}
+use Rattle.std.proofs.Common.{◌≡◌, ◌∙◌, ap, sym, Bor, ℕ, ℤ, Bool, true, false, List, [], ◌∷◌, Option, Some, None, Result, refl, IfSome, codes, option_map, unwrap_or, map, w64, ◌<◌, ◌^◌, SFits, subst}
+use Rattle.std.specs.Option.{IsSomeAnd}
 use Rattle.std.specs.Str.{bytes_eq}
-use Rattle.std.specs.Str.Parse.{ParsesBool, ParsesSigned, ParsesUnsigned, digits_value, signed_digits_value, without_leading_plus}
+use Rattle.std.specs.Str.Parse.{ParsesBool, ParsesSigned, ParsesUnsigned}
 use Rattle.std.proofs.lemmas.Slice.Eq.{bytes_eq-Decides}
 use Rattle.clap.proofs.WalkLemmas.{one_text-rows}
 use Rattle.clap.specs.Matches.{ReadsOne, one_text}
-use Rattle.clap.specs.Walk.{Text, rows_of}
+use Rattle.clap.specs.Walk.{Row, Text, one_of, rows_of}
 use Rattle.clap.specs.declared.parser.matches.Found.{Found}
-use Rattle.desk_line.specs.Grammar.{enrolment_in, is_given, number_given, second_given}
+use Rattle.desk_line.specs.Grammar.{IsNumberGiven, IsSecondGiven, WritesNumber, WritesSecond, enrolment_in, is_given}
 use Rattle.desk_line.specs.declared.line.Enrolment.{Enrolment}
 
 some_none : {A B : Type 0} (x : A) → Some x ≡ None → B
 some_none x h = cc
 
-pub number_read : {E : Type 0} (M N : Text → Result ℕ E → Type 0) (k : ℕ)
-    (f : Found) (id : Text) (r : Option ℕ)
-    → (one_text f id ≡ None → r ≡ None)
-    → ((t : Text) → one_text f id ≡ Some t → ReadsOne (λ s x. ParsesUnsigned k 10 s x × M s x × N s x) t r)
-    → IfSome r (λ n. number_given id (rows_of f) ≡ Some n)
-number_read M N k f id None none value = tt
-number_read M N k f id (Some n) none value = go (one_text f id) refl
-  where
-    go : (o : Option Text) → one_text f id ≡ o → number_given id (rows_of f) ≡ Some n
-    go None e = some_none n (none e)
-    go (Some t) e =
-        ap (option_map (λ text. digits_value 10 (without_leading_plus text))) (sym (one_text-rows f id) ∙ e)
-        ∙ ap Some (sym (value t e).0.1)
+-- a number that `clap` reads, and one that it doesn't
+module _ {E : Type 0} (M N : Text → Result ℕ E → Type 0) (k : ℕ) (f : Found) (id : Text) where
+  abbrev Reads : Option ℕ → Type 0
+  Reads r = (t : Text) → one_text f id ≡ Some t
+      → ReadsOne (λ s x. ParsesUnsigned k 10 s x × M s x × N s x) t r
 
-pub second_read : {E : Type 0} (M N : Text → Result ℤ E → Type 0) (f : Found) (id : Text) (r : Option ℤ)
-    → (one_text f id ≡ None → r ≡ None)
-    → ((t : Text) → one_text f id ≡ Some t → ReadsOne (λ s x. ParsesSigned w64 10 s x × M s x × N s x) t r)
-    → IfSome r (λ z. second_given id (rows_of f) ≡ Some z)
-second_read M N f id None none value = tt
-second_read M N f id (Some z) none value = go (one_text f id) refl
+  pub number_read : (r : Option ℕ) → (one_text f id ≡ None → r ≡ None) → Reads r
+      → IfSome r (IsNumberGiven id (rows_of f))
+  number_read None none value = tt
+  number_read (Some n) none value = go (one_text f id) refl
+    where
+      go : (o : Option Text) → one_text f id ≡ o → IsNumberGiven id (rows_of f) n
+      go None e = some_none n (none e)
+      go (Some t) e = subst (λ o. IsSomeAnd o (WritesNumber n)) (sym e ∙ one_text-rows f id)
+          ((value t e).0.0.0, (value t e).0.1)
+
+  pub number_none : (r : Option ℕ) → Reads r → r ≡ None → (n : ℕ) → n < 2 ^ k
+      → IsNumberGiven id (rows_of f) n → ⊥
+  number_none (Some m) value none n fits given = some_none m none
+  number_none None value none n fits given =
+      go (one_text f id) refl (subst (λ o. IsSomeAnd o (WritesNumber n)) (sym (one_text-rows f id)) given)
+    where
+      go : (o : Option Text) → one_text f id ≡ o → IsSomeAnd o (WritesNumber n) → ⊥
+      go None e g = g
+      go (Some t) e g = (value t e).1.0 (g.0, subst (λ m. m < 2 ^ k) g.1 fits)
+
+module _ {E : Type 0} (M N : Text → Result ℤ E → Type 0) (f : Found) (id : Text) where
+  abbrev ReadsSecond : Option ℤ → Type 0
+  ReadsSecond r = (t : Text) → one_text f id ≡ Some t
+      → ReadsOne (λ s x. ParsesSigned w64 10 s x × M s x × N s x) t r
+
+  pub second_read : (r : Option ℤ) → (one_text f id ≡ None → r ≡ None) → ReadsSecond r
+      → IfSome r (IsSecondGiven id (rows_of f))
+  second_read None none value = tt
+  second_read (Some z) none value = go (one_text f id) refl
+    where
+      go : (o : Option Text) → one_text f id ≡ o → IsSecondGiven id (rows_of f) z
+      go None e = some_none z (none e)
+      go (Some t) e = subst (λ o. IsSomeAnd o (WritesSecond z)) (sym e ∙ one_text-rows f id)
+          ((value t e).0.0.0, (value t e).0.1)
+
+  pub second_none : (r : Option ℤ) → ReadsSecond r → r ≡ None → (z : ℤ) → SFits w64 z
+      → IsSecondGiven id (rows_of f) z → ⊥
+  second_none (Some m) value none z fits given = some_none m none
+  second_none None value none z fits given =
+      go (one_text f id) refl (subst (λ o. IsSomeAnd o (WritesSecond z)) (sym (one_text-rows f id)) given)
+    where
+      go : (o : Option Text) → one_text f id ≡ o → IsSomeAnd o (WritesSecond z) → ⊥
+      go None e g = g
+      go (Some t) e g = (value t e).1.0 (g.0, subst (SFits w64) g.1 fits)
+
+-- there is one number
+pub one_number : (id : Text) (rows : List Row) (n m : ℕ) → IsNumberGiven id rows n → IsNumberGiven id rows m
+    → n ≡ m
+one_number id rows n m = go (one_of id rows)
   where
-    go : (o : Option Text) → one_text f id ≡ o
-        → second_given id (rows_of f) ≡ Some z
-    go None e = some_none z (none e)
-    go (Some t) e =
-        ap (option_map (signed_digits_value 10)) (sym (one_text-rows f id) ∙ e)
-        ∙ ap Some (sym (value t e).0.1)
+    go : (o : Option Text) → IsSomeAnd o (WritesNumber n) → IsSomeAnd o (WritesNumber m) → n ≡ m
+    go None g h = absurd g
+    go (Some t) g h = g.1 ∙ sym h.1
+
+pub one_second : (id : Text) (rows : List Row) (y z : ℤ) → IsSecondGiven id rows y → IsSecondGiven id rows z
+    → y ≡ z
+one_second id rows y z = go (one_of id rows)
+  where
+    go : (o : Option Text) → IsSomeAnd o (WritesSecond y) → IsSomeAnd o (WritesSecond z) → y ≡ z
+    go None g h = absurd g
+    go (Some t) g h = g.1 ∙ sym h.1
 
 false_if_not : (b : Bool) → (b ≡ true → ⊥) → false ≡ b
 false_if_not true h = absurd (h refl)
@@ -77,3 +118,9 @@ pub enrolments_read : (enrolments : List Enrolment) (words : List (Bor Text)) (t
     → map Some enrolments ≡ map (λ w. enrolment_in w.now) words → map (λ v. v.now) words ≡ texts
     → map Some enrolments ≡ map enrolment_in texts
 enrolments_read enrolments words texts read are = read ∙ (mapped words ∙ ap (map enrolment_in) are)
+
+pub enrolments_back : (enrolments : List Enrolment) (words : List (Bor Text)) (texts : List Text)
+    → map Some enrolments ≡ map enrolment_in texts → map (λ v. v.now) words ≡ texts
+    → map Some enrolments ≡ map (λ w. enrolment_in w.now) words
+enrolments_back enrolments words texts read are =
+    read ∙ (ap (map enrolment_in) (sym are) ∙ sym (mapped words))

@@ -2,3 +2,4 @@ pub mod WrittenLemmas
 pub mod GivenLemmas
 pub mod CommandLemmas
 pub mod EqualLemmas
+pub mod LackLemmas

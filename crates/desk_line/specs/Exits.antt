@@ -1,9 +1,11 @@
 -- Exits: the status with which the program ends, and the word that it prints.
 use Rattle.std.specs.Prelude.{◌≡◌, ◌⊎◌, ℕ, ◌==◌, if◌then◌else◌, List, ◌++◌, codes, Option, Some, None, Result, Ok, Err}
+use Rattle.std.specs.Io.KnownBytes.{Appends}
 use Rattle.desk_run.specs.declared.fault.DeskFault.{DeskFault}
 use Rattle.desk_run.specs.declared.fault.DeskFault.TheVariants as desk
 use Rattle.desk_wire.specs.declared.play.PlayEnd.{PlayEnd}
 use Rattle.desk_wire.specs.declared.play.PlayEnd.TheVariants as play
+use Rattle.desk_wire.specs.declared.stream.WriteFault.{WriteFault}
 use Rattle.desk_wire.specs.declared.stream.ServeFault.{ServeFault}
 use Rattle.desk_wire.specs.declared.stream.ServeFault.TheVariants as serve
 use Rattle.desk_wire.specs.declared.stream.Served.{Served}
@@ -16,7 +18,8 @@ use Rattle.s2_cover.specs.declared.walk.CoverFault.{CoverFault}
 use Rattle.s2_cover.specs.declared.walk.CoverFault.TheVariants as cover
 use Rattle.desk_line.specs.declared.failure.Failure.{Failure}
 use Rattle.desk_line.specs.declared.failure.Failure.TheVariants as failure
-use Rattle.desk_line.specs.Written.{HasBegun}
+use Rattle.desk_line.specs.declared.failure.Exit.{Exit}
+use Rattle.desk_line.specs.Written.{HasBegun, HasWritten}
 
 -- 2 for the words, 3 for the input, 4 for the rest
 abbrev pub failure_status : Failure → ℕ
@@ -76,32 +79,46 @@ abbrev pub exit_status : {A : Type 0} → Result A Failure → ℕ
 exit_status (Ok done) = 0
 exit_status (Err failure) = failure_status failure
 
--- how a line ended: its exit status, and what the error writer held before and holds now
+-- how a line ended: its exit status, whether the line of its failure was broken off, and what the error writer
+-- held before and holds now
 pub record Ending : Type 0 where
   pub status : ℕ
+  pub cut : Option WriteFault
   pub before : Option (List ℕ)
   pub now : Option (List ℕ)
 
-abbrev pub ending : ℕ → Option (List ℕ) → Option (List ℕ) → Ending
-ending status before now = record { status = status; before = before; now = now }
+abbrev pub ending : Exit → Option (List ℕ) → Option (List ℕ) → Ending
+ending exit before now = record { status = exit.status; cut = exit.cut; before = before; now = now }
 
--- the line of a failure is written, or a beginning of it if the writer takes no more; and nothing if nothing
--- failed
-abbrev pub IsConcluded : {A : Type 0} → Result A Failure → Option (List ℕ) → Option (List ℕ) → Type 0
-IsConcluded (Ok done) out now = now ≡ out
-IsConcluded (Err f) out now = HasBegun (failure_line f) out now
+-- the line of a failure is written, or a beginning of it if a write broke off; and nothing if nothing failed
+abbrev pub IsConcluded :
+    {A : Type 0} → Result A Failure → Option WriteFault → Option (List ℕ) → Option (List ℕ) → Type 0
+IsConcluded (Ok done) cut out now = (cut ≡ None) × (now ≡ out)
+IsConcluded (Err f) cut out now = HasWritten cut (failure_line f) out now
 
 -- a line ended with what was done: the exit status and the line of the failure are of one failure
 abbrev pub EndsWith : {A : Type 0} → Result A Failure → Ending → Type 0
-EndsWith done end = (end.status ≡ exit_status done) × IsConcluded done end.before end.now
+EndsWith done end = (end.status ≡ exit_status done) × IsConcluded done end.cut end.before end.now
+
+-- nothing is told of how a line ended
+abbrev pub IsSilent : Ending → Type 0
+IsSilent end = (end.cut ≡ None) × (end.now ≡ end.before)
 
 -- a line ended well
 abbrev pub EndsWell : Ending → Type 0
-EndsWell end = (end.status ≡ 0) × (end.now ≡ end.before)
+EndsWell end = (end.status ≡ 0) × IsSilent end
 
 -- a line ended with this failure
 abbrev pub FailsWith : Failure → Ending → Type 0
-FailsWith f end = (end.status ≡ failure_status f) × HasBegun (failure_line f) end.before end.now
+FailsWith f end = (end.status ≡ failure_status f) × HasWritten end.cut (failure_line f) end.before end.now
+
+-- a line is printed, by whether it ended with a failure: whole, or not at all before a failure, or cut off by
+-- the failure of a write
+abbrev pub IsAnnounced :
+    {A : Type 0} → Result A Failure → List ℕ → Option (List ℕ) → Option (List ℕ) → Type 0
+IsAnnounced (Ok done) line out now = Appends out now line
+IsAnnounced (Err f) line out now =
+    Appends out now line ⊎ (now ≡ out) ⊎ ((f ≡ failure.Write) × HasBegun line out now)
 
 -- what a line ends with if an enrolment isn't made and was not refused: memory ran out, or the store failed
 abbrev pub IsBreakdown : Failure → Type 0

@@ -1,19 +1,24 @@
 -- Grammar: the words of each line as rules of `clap`, and what each field of a line is by the values that its
 -- arguments have.
-use Rattle.std.specs.Prelude.{◌≡◌, ◌==◌, ◌+◌, ℕ, ℤ, Bool, pos, true, false, List, [], ◌∷◌, map, length, take, drop}
+use Rattle.std.specs.Prelude.{◌≡◌, ◌≢◌, ◌==◌, ◌+◌, ⊤, Result, Ok, Err, ℕ, ℤ, Bool, pos, true, false, List, [], ◌∷◌, map, take, drop}
 use Rattle.std.specs.Prelude.{codes, string_bytes, if◌then◌else◌}
 use Rattle.std.specs.Prelude.{Option, Some, None, option_map, option_and_then, unwrap_or, fold}
 use Rattle.std.specs.List.{position}
-use Rattle.std.specs.Option.{option_map_or}
+use Rattle.std.specs.Option.{IsSomeAnd, option_map_or}
 use Rattle.std.specs.Str.{bytes_eq}
-use Rattle.std.specs.Str.Parse.{digits_value, signed_digits_value, without_leading_plus}
+use Rattle.std.specs.Str.Parse.{IsNumeral, digits_value, signed_digits_value, without_leading_plus}
+use Rattle.std.specs.Str.Parse.{without_leading_sign}
 use Rattle.clap.specs.Simple.{App, Shape, new_rule, new_shape, subcommand_of, with_subcommand}
+use Rattle.clap.specs.Takes.{takes}
+use Rattle.clap.specs.Values.{kind_of}
 use Rattle.clap.specs.Walk.{Row, Rule, Text, all_of, first_of, one_of}
+use Rattle.clap.specs.declared.error.kind.ErrorKind.TheVariants as kind
 use Rattle.clap.specs.declared.builder.action.ArgAction.TheVariants.{Append, SetTrue}
 use Rattle.clap.specs.declared.builder.value_parser.ValueParser.TheVariants.{Signed}
 use Rattle.desk_rules.specs.Name.{is_operator_name}
 use Rattle.volume4d.specs.Limits.{max_second}
 use Rattle.desk_line.specs.Equal.{ArePermittedBy, priority_in}
+use Rattle.desk_line.specs.Lines.{IsLine, IsPlay, IsServe, IsTask}
 use Rattle.desk_line.specs.Lines.{file_of, max_connections, max_port}
 use Rattle.desk_line.specs.Lines.{min_connections, min_port, named_file}
 use Rattle.desk_line.specs.declared.line.Copying.{Copying as CopyWords}
@@ -27,6 +32,8 @@ use Rattle.desk_line.specs.declared.line.Play.{Play as PlayWords}
 use Rattle.desk_line.specs.declared.line.Serve.{Serve as ServeWords}
 use Rattle.desk_line.specs.declared.line.Task.{Task}
 use Rattle.desk_line.specs.declared.line.Task.TheVariants as task
+use Rattle.desk_line.specs.declared.line.WordsFault.{WordsFault}
+use Rattle.desk_line.specs.declared.line.WordsFault.TheVariants as fault
 
 -- ---- the words
 
@@ -155,12 +162,20 @@ program = with_lines line_shapes
 
 -- ---- the values
 
--- the number that was given
-abbrev pub number_given : Text → List Row → Option ℕ
-number_given id rows = option_map (λ text. digits_value 10 (without_leading_plus text)) (one_of id rows)
+-- a text writes a number, in digits behind a sign that may be there
+abbrev pub WritesNumber : ℕ → Text → Type 0
+WritesNumber n text =
+    IsNumeral 10 (without_leading_plus text) × (n ≡ digits_value 10 (without_leading_plus text))
 
-abbrev pub second_given : Text → List Row → Option ℤ
-second_given id rows = option_map (signed_digits_value 10) (one_of id rows)
+abbrev pub WritesSecond : ℤ → Text → Type 0
+WritesSecond z text = IsNumeral 10 (without_leading_sign text) × (z ≡ signed_digits_value 10 text)
+
+-- the number that was given
+abbrev pub IsNumberGiven : Text → List Row → ℕ → Type 0
+IsNumberGiven id rows n = IsSomeAnd (one_of id rows) (WritesNumber n)
+
+abbrev pub IsSecondGiven : Text → List Row → ℤ → Type 0
+IsSecondGiven id rows z = IsSomeAnd (one_of id rows) (WritesSecond z)
 
 -- the flag was given
 abbrev pub is_given : Text → List Row → Bool
@@ -199,29 +214,32 @@ enrolment_given rows =
 
 pub record IsPlayGiven (rows : List Row) (play : PlayWords) : Type 0 where
   pub database : file_of play.database ≡ file_given rows
-  pub moment : second_given (codes "moment") rows ≡ Some play.moment
+  pub moment : IsSecondGiven (codes "moment") rows play.moment
   pub permitted : ArePermittedBy (first_of (codes "equal") rows) play.permitted
   pub enrolments : AreEnrolmentsGiven play.enrolments.items rows
 
 pub record IsServeGiven (rows : List Row) (serve : ServeWords) : Type 0 where
   pub database : file_of serve.database ≡ file_given rows
-  pub port : number_given (codes "port") rows ≡ Some serve.port
-  pub connections : number_given (codes "connections") rows ≡ Some serve.connections
+  pub port : IsNumberGiven (codes "port") rows serve.port
+  pub connections : IsNumberGiven (codes "connections") rows serve.connections
   pub permitted : ArePermittedBy (first_of (codes "equal") rows) serve.permitted
   pub enrolments : AreEnrolmentsGiven serve.enrolments.items rows
 
 pub record IsCoverGiven (rows : List Row) (cover : CoverWords) : Type 0 where
-  pub face : number_given (codes "FACE") rows ≡ Some cover.face
-  pub i_min : number_given (codes "I_MIN") rows ≡ Some cover.i_min
-  pub i_max : number_given (codes "I_MAX") rows ≡ Some cover.i_max
-  pub j_min : number_given (codes "J_MIN") rows ≡ Some cover.j_min
-  pub j_max : number_given (codes "J_MAX") rows ≡ Some cover.j_max
-  pub level : number_given (codes "LEVEL") rows ≡ Some cover.level
+  pub face : IsNumberGiven (codes "FACE") rows cover.face
+  pub i_min : IsNumberGiven (codes "I_MIN") rows cover.i_min
+  pub i_max : IsNumberGiven (codes "I_MAX") rows cover.i_max
+  pub j_min : IsNumberGiven (codes "J_MIN") rows cover.j_min
+  pub j_max : IsNumberGiven (codes "J_MAX") rows cover.j_max
+  pub level : IsNumberGiven (codes "LEVEL") rows cover.level
   pub picture : is_given (codes "picture") rows ≡ cover.is_picture
 
 pub record IsEnrolGiven (rows : List Row) (enrol : EnrolWords) : Type 0 where
   pub database : file_of enrol.database ≡ file_given rows
   pub enrolment : enrolment_given rows ≡ Some enrol.enrolment
+
+abbrev pub IsTextGiven : List Row → Text → Type 0
+IsTextGiven rows text = first_of (codes "token") rows ≡ Some text
 
 abbrev pub IsMigrateGiven : List Row → MigrateWords → Type 0
 IsMigrateGiven rows migrate = file_of migrate.database ≡ file_given rows
@@ -242,7 +260,7 @@ name_of (line.Migrate migrate) = codes "migrate"
 -- each field of a line has the value that was given
 abbrev pub HasGiven : List Row → Line → Type 0
 HasGiven rows (line.Play play) = IsPlayGiven rows play
-HasGiven rows (line.Token text) = first_of (codes "token") rows ≡ Some (string_bytes text)
+HasGiven rows (line.Token text) = IsTextGiven rows (string_bytes text)
 HasGiven rows (line.Serve serve) = IsServeGiven rows serve
 HasGiven rows (line.Cover cover) = IsCoverGiven rows cover
 HasGiven rows (line.Enrol enrol) = IsEnrolGiven rows enrol
@@ -259,8 +277,43 @@ HasTaskGiven rows (task.Run it) = HasGiven rows it
 HasTaskGiven rows (task.Check database) = file_of database ≡ file_given rows
 HasTaskGiven rows (task.Copy copy) = IsCopyGiven rows copy
 
+-- one with its numbers in range
+abbrev pub IsPlayOf : List Row → PlayWords → Type 0
+IsPlayOf rows play = IsPlay play × IsPlayGiven rows play
+
+abbrev pub IsServeOf : List Row → ServeWords → Type 0
+IsServeOf rows serve = IsServe serve × IsServeGiven rows serve
+
+-- the line or the task of a name
+abbrev pub IsLineOf : Text → List Row → Line → Type 0
+IsLineOf name rows it = IsLine it × (name_of it ≡ name) × HasGiven rows it
+
+abbrev pub IsTaskOf : Text → List Row → Task → Type 0
+IsTaskOf name rows it = IsTask it × (word_of it ≡ name) × HasTaskGiven rows it
+
 -- the task that these words are, the first of them the program's own name
 pub record IsGiven (words : List Text) (task : Task) : Type 0 where
   pub rows : List Row
   pub found : subcommand_of program words ≡ Some (word_of task, rows)
   pub values : HasTaskGiven rows task
+
+-- ---- why words are no task
+
+-- a `Value` that is refused: there is none that was given. It is the only fault but want of memory
+abbrev pub Lacks : {A B : Type 0} → (B → Type 0) → Result A WordsFault → Type 0
+Lacks Is (Ok value) = ⊤
+Lacks Is (Err fault.OutOfMemory) = ⊤
+Lacks Is (Err (fault.Words error)) = ⊥
+Lacks {A} {B} Is (Err fault.Value) = (value : B) → Is value → ⊥
+
+-- `clap` doesn't take the words, and memory did not run out
+abbrev pub IsUntaken : List Text → WordsFault → Type 0
+IsUntaken words fault.OutOfMemory = ⊤
+IsUntaken words (fault.Words error) = (takes program words ≢ true) × (kind_of error ≢ kind.OutOfMemory)
+IsUntaken words fault.Value = ⊥
+
+-- `clap` doesn't take them; or, if it does, they are no task whose numbers are in range
+abbrev pub IsRefused : List Text → WordsFault → Type 0
+IsRefused words fault.OutOfMemory = ⊤
+IsRefused words (fault.Words error) = IsUntaken words (fault.Words error)
+IsRefused words fault.Value = (it : Task) → IsTask it → IsGiven words it → ⊥

@@ -6,3 +6,4 @@ pub mod Lines
 pub mod Grammar
 pub mod Forms
 pub mod Printing
+pub mod Copies

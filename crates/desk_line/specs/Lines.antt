@@ -6,6 +6,7 @@ use Rattle.desk_rules.specs.Limits.{max_priority}
 use Rattle.desk_wire.specs.Moments.{IsMoment}
 use Rattle.desk_line.specs.declared.line.Database.{Database}
 use Rattle.desk_line.specs.declared.line.Database.TheVariants.{InMemory, File}
+use Rattle.desk_line.specs.declared.line.Cover.{Cover as CoverWords}
 use Rattle.desk_line.specs.declared.line.Enrol.{Enrol as EnrolWords}
 use Rattle.desk_line.specs.declared.line.Enrolment.{Enrolment}
 use Rattle.desk_line.specs.declared.line.Line.{Line}
@@ -56,12 +57,28 @@ pub record IsServe (serve : ServeWords) : Type 0 where
 abbrev pub IsEnrol : EnrolWords → Type 0
 IsEnrol enrol = enrol.enrolment.ceiling ≤ max_priority
 
+-- the numbers of `cover`: one of 8 bits, or of 32
+abbrev pub max_small : ℕ
+max_small = 255
+
+abbrev pub max_coordinate : ℕ
+max_coordinate = 4294967295
+
+-- the words of `cover`
+pub record IsCover (cover : CoverWords) : Type 0 where
+  pub face : cover.face ≤ max_small
+  pub i_min : cover.i_min ≤ max_coordinate
+  pub i_max : cover.i_max ≤ max_coordinate
+  pub j_min : cover.j_min ≤ max_coordinate
+  pub j_max : cover.j_max ≤ max_coordinate
+  pub level : cover.level ≤ max_small
+
 -- each number of a line is in its range
 abbrev pub IsLine : Line → Type 0
 IsLine (Play play) = IsPlay play
 IsLine (Token token) = ⊤
 IsLine (Serve serve) = IsServe serve
-IsLine (Cover cover) = ⊤
+IsLine (Cover cover) = IsCover cover
 IsLine (Enrol enrol) = IsEnrol enrol
 IsLine (Migrate migrate) = ⊤
 

@@ -1,10 +1,11 @@
 //! The priority that a word of the command line writes, and the equal priorities that one permits.
 
-ghost use Rattle.std.specs.Prelude.{◌≡◌, ◌≤◌, IfOk, IfSome, Some, map, option_map};
+ghost use Rattle.std.specs.Prelude.{◌≡◌, ◌≤◌, ℕ, List, IfOk, IfSome, Some, map, option_map};
 ghost use Rattle.std.specs.Char.{is_ascii_digit};
 ghost use Rattle.std.specs.List.{list_all, slice_split};
 ghost use Rattle.desk_rules.specs.Limits.{max_priority};
 ghost use Rattle.desk_line.specs.Equal as spec;
+ghost use Rattle.desk_line.specs.Grammar.{Lacks};
 ghost use Rattle.desk_line.specs.Equal.{ArePermittedBy, ArePermittedIn, is_comma, priority_in};
 
 use crate::line::WordsFault;
@@ -22,7 +23,8 @@ const PRIORITY_DIGITS: usize = 4;
 ///
 /// `OutOfMemory`; `Value`.
 pub fn permitted_by(alloc: Global, word: Option<&str>) -> Result<Permitted, WordsFault>
-    ensures { IfOk result (ArePermittedBy (option_map (λ word. word.now) word.entry)) }
+    ensures given { IfOk result (ArePermittedBy (option_map (λ word. word.now) word.entry)) }
+    ensures lacks { Lacks (ArePermittedBy (option_map (λ word. word.now) word.entry)) result }
 {
     match word {
         None => Ok(Permitted::none()),
@@ -32,13 +34,14 @@ pub fn permitted_by(alloc: Global, word: Option<&str>) -> Result<Permitted, Word
 
 // The priorities of a word.
 fn permitted_of(alloc: Global, word: &str) -> Result<Permitted, WordsFault>
-    ensures { IfOk result (ArePermittedIn word.now) }
+    ensures given { IfOk result (ArePermittedIn word.now) }
+    ensures lacks { Lacks (ArePermittedIn word.now) result }
 {
     let priorities = priorities_of(alloc, &parts_of(alloc, word)?)?;
-    match Permitted::try_new(&priorities) {
-        Ok(permitted) => Ok(permitted),
-        Err(_) => Err(WordsFault::Value),
-    }
+    let Ok(permitted) = Permitted::try_new(&priorities) else {
+        return Err(WordsFault::Value);
+    };
+    Ok(permitted)
 }
 
 // The parts of a word between its commas.
@@ -51,8 +54,10 @@ fn parts_of<'w>(alloc: Global, word: &'w str) -> Result<Vec<&'w str>, AllocError
 
 // The priorities of parts, in their order.
 fn priorities_of(alloc: Global, parts: &[&str]) -> Result<Vec<u32>, WordsFault>
-    ensures { IfOk result (λ priorities.
+    ensures given { IfOk result (λ priorities.
         map Some priorities.items ≡ map priority_in (map (λ part. part.now) parts.now)) }
+    ensures lacks { Lacks (λ (priorities : List ℕ).
+        map Some priorities ≡ map priority_in (map (λ part. part.now) parts.now)) result }
 {
     let mut priorities = Vec::new(alloc);
     for part in parts {

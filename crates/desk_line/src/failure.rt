@@ -1,13 +1,13 @@
 //! Why the program did not do all that it was asked: the exit status, and the word that it prints.
 
-ghost use Rattle.std.specs.Prelude.{◌≡◌, OnOk};
+ghost use Rattle.std.specs.Prelude.{◌≡◌, IfErr, None, OnOk};
 ghost use Rattle.std.specs.Io.KnownBytes.{Appends};
 ghost use Rattle.desk_line.specs.Exits as spec;
-ghost use Rattle.desk_line.specs.Written.{HasBegun};
+ghost use Rattle.desk_line.specs.Written.{HasBegun, HasWritten};
 ghost use Rattle.desk_line.specs.declared.failure.Failure.TheVariants as failure;
 
 use desk_run::DeskFault;
-use desk_wire::{ServeFault, write_whole};
+use desk_wire::{ServeFault, WriteFault, write_whole};
 use s2_cellid::TokenFault;
 use s2_cover::{CoverFault, RectFault};
 use std::alloc::{AllocError, AllocFailed};
@@ -140,6 +140,14 @@ impl From<ServeFault> for Failure {
     }
 }
 
+impl From<WriteFault> for Failure {
+    ghost from_gives = { λ _ f. f ≡ failure.Write };
+
+    fn from(_fault: WriteFault) -> Failure {
+        Failure::Write
+    }
+}
+
 impl From<TokenFault> for Failure {
     ghost from_gives = { λ fault f. f ≡ failure.Token fault };
 
@@ -183,34 +191,56 @@ impl<T: Drop> From<AllocFailed<T>> for Failure {
     }
 }
 
-/// The exit status of what was done; the word of a failure is printed as `uss_desk: WORD`, and a
-/// fault of the writer is passed over.
-pub fn conclude<E: Write>(errors: &mut E, done: Result<(), Failure>) -> u8
-    ensures status { result ≡ spec.exit_status done }
-    ensures told { spec.IsConcluded done (E.contents errors.old) (E.contents errors.new) }
-{
-    match done {
-        Ok(()) => 0,
-        Err(failure) => {
-            print_failure(errors, failure);
-            failure.status()
-        }
+/// How a line ended.
+#[derive(Clone, Copy, Debug, PartialEq, Eq)]
+pub struct Exit {
+    /// The exit status.
+    pub status: u8,
+    /// Where the line that tells a failure was broken off, if it was.
+    pub cut: Option<WriteFault>,
+}
+
+impl Exit {
+    /// An exit with this status, at which nothing is told.
+    pub fn silent(status: u8) -> Exit
+        ensures status { result.status ≡ status }
+        ensures cut { result.cut ≡ None }
+    {
+        Exit { status, cut: None }
     }
 }
 
-// Prints the line of a failure, as far as the writer takes it.
-fn print_failure<E: Write>(errors: &mut E, failure: Failure)
-    ensures { HasBegun (spec.failure_line failure) (E.contents errors.old) (E.contents errors.new) }
+/// The end of what was done; the word of a failure is printed as `uss_desk: WORD`, and a fault of the
+/// writer is passed over.
+pub fn conclude<E: Write>(errors: &mut E, done: Result<(), Failure>) -> Exit
+    ensures status { result.status ≡ spec.exit_status done }
+    ensures told { spec.IsConcluded done result.cut (E.contents errors.old) (E.contents errors.new) }
 {
-    let _ = write_failure(errors, failure);
+    match done {
+        Ok(()) => Exit::silent(0),
+        Err(failure) => Exit {
+            status: failure.status(),
+            cut: print_failure(errors, failure),
+        },
+    }
+}
+
+// Prints the line of a failure, and answers where it was broken off, if it was.
+fn print_failure<E: Write>(errors: &mut E, failure: Failure) -> Option<WriteFault>
+    ensures { HasWritten result (spec.failure_line failure) (E.contents errors.old) (E.contents errors.new) }
+{
+    match write_failure(errors, failure) {
+        Ok(()) => None,
+        Err(fault) => Some(fault),
+    }
 }
 
 // Writes the line of a failure, up to the first write that fails.
-fn write_failure<E: Write>(errors: &mut E, failure: Failure) -> Result<(), ServeFault>
+fn write_failure<E: Write>(errors: &mut E, failure: Failure) -> Result<(), WriteFault>
     ensures ok { OnOk result (Appends (E.contents errors.old) (E.contents errors.new)
         (spec.failure_line failure)) }
-    ensures begun { HasBegun (spec.failure_line failure)
-        (E.contents errors.old) (E.contents errors.new) }
+    ensures err { IfErr result (λ _. HasBegun (spec.failure_line failure)
+        (E.contents errors.old) (E.contents errors.new)) }
 {
     write_whole(errors, b"uss_desk: ")?;
     write_whole(errors, failure.word().as_bytes())?;

@@ -3,12 +3,13 @@
 #![tactic(auto)]
 
 mod command;
+mod copies;
 mod equal;
 mod failure;
 mod line;
 mod printed;
 
-pub use failure::{Failure, conclude};
+pub use failure::{Exit, Failure, conclude};
 pub use line::{
     Copying, Cover, Database, Enrol, Enrolment, Line, Migrate, Play, Serve, Task, WordsFault,
     read_words,

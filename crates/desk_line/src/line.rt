@@ -1,8 +1,10 @@
 //! The command line of the program.
 
-ghost use Rattle.std.specs.Prelude.{◌≡◌, ◌≤◌, IfOk, IfSome, Some, map, option_map};
+ghost use Rattle.std.specs.Prelude.{◌≡◌, ◌≤◌, ◌<◌, ◌^◌, ℕ, ℤ, List, IfErr, IfOk, IfSome, None, Some, map, option_map};
 ghost use Rattle.std.specs.Prelude.{codes, string_bytes};
 ghost use Rattle.std.specs.Int.{IsInRange};
+ghost use mir.Syntax.{w64};
+ghost use mir.Val.{SFits};
 ghost use Rattle.clap.specs.Matches.{found_of};
 ghost use Rattle.clap.specs.Simple.{subcommand_of, subcommand_rows_of};
 ghost use Rattle.clap.specs.Walk.{first_of, rows_of};
@@ -11,13 +13,16 @@ ghost use Rattle.desk_line.specs.Equal.{ArePermittedBy};
 ghost use Rattle.desk_wire.specs.Moments.{IsMoment};
 ghost use Rattle.desk_line.specs.Grammar as spec;
 ghost use Rattle.desk_line.specs.Grammar.{AreEnrolmentsGiven, HasGiven, HasTaskGiven, IsCopyGiven};
-ghost use Rattle.desk_line.specs.Grammar.{IsCoverGiven, IsEnrolGiven, IsGiven, IsMigrateGiven, IsPlayGiven};
-ghost use Rattle.desk_line.specs.Grammar.{IsServeGiven};
-ghost use Rattle.desk_line.specs.Grammar.{enrolment_given, enrolment_in, file_given, name_of, number_given};
-ghost use Rattle.desk_line.specs.Grammar.{program, second_given, word_of};
-ghost use Rattle.desk_line.specs.Lines.{AreEnrolments, IsEnrol, IsLine, IsPlay, IsServe, IsTask, file_of};
-ghost use Rattle.desk_line.specs.Lines.{max_connections, max_port, min_connections, min_port};
+ghost use Rattle.desk_line.specs.Grammar.{IsCoverGiven, IsEnrolGiven, IsGiven, IsLineOf, IsMigrateGiven};
+ghost use Rattle.desk_line.specs.Grammar.{IsNumberGiven, IsPlayGiven, IsPlayOf, IsRefused, IsSecondGiven};
+ghost use Rattle.desk_line.specs.Grammar.{IsServeGiven, IsServeOf, IsTaskOf, IsTextGiven, IsUntaken, Lacks};
+ghost use Rattle.desk_line.specs.Grammar.{enrolment_given, enrolment_in, file_given, name_of};
+ghost use Rattle.desk_line.specs.Grammar.{program, word_of};
+ghost use Rattle.desk_line.specs.Lines.{AreEnrolments, IsCover, IsEnrol, IsLine, IsPlay, IsServe, IsTask};
+ghost use Rattle.desk_line.specs.Lines.{file_of, max_connections, max_port, min_connections, min_port};
 ghost use Rattle.desk_line.specs.Lines.{named_file};
+ghost use Rattle.desk_line.specs.declared.line.Cover.{Cover as CoverWords};
+ghost use Rattle.desk_line.specs.declared.line.WordsFault.TheVariants as fault;
 
 use crate::command::make_command;
 use crate::equal::{permitted_by, priority_of};
@@ -165,18 +170,30 @@ pub enum WordsFault {
 }
 
 impl From<AllocError> for WordsFault {
+    ghost from_gives = { λ _ f. f ≡ fault.OutOfMemory };
+
     fn from(_error: AllocError) -> WordsFault {
         WordsFault::OutOfMemory
     }
 }
 
 impl<T: Drop> From<AllocFailed<T>> for WordsFault {
+    ghost from_gives = { λ _ f. f ≡ fault.OutOfMemory };
+
     fn from(_error: AllocFailed<T>) -> WordsFault {
         WordsFault::OutOfMemory
     }
 }
 
 impl From<clap::Error> for WordsFault {
+    ghost use Rattle.std.specs.Prelude.{◌≡◌, ◌≢◌, ◌⊎◌};
+    ghost use Rattle.clap.specs.Values.{kind_of};
+    ghost use Rattle.clap.specs.declared.error.kind.ErrorKind.TheVariants as kind;
+    ghost use Rattle.desk_line.specs.declared.line.WordsFault.TheVariants as fault;
+
+    ghost from_gives = { λ error f. (f ≡ fault.OutOfMemory)
+        ⊎ ((f ≡ fault.Words error) × (kind_of error ≢ kind.OutOfMemory)) };
+
     fn from(error: clap::Error) -> WordsFault {
         if error.kind() == ErrorKind::OutOfMemory {
             WordsFault::OutOfMemory
@@ -190,10 +207,21 @@ impl From<clap::Error> for WordsFault {
 ///
 /// # Errors
 ///
-/// `OutOfMemory`; `Words` if `clap` refuses them, or a number is out of range; `Value`.
-pub fn read_words(alloc: Global, words: &[String]) -> Result<Task, WordsFault>
+/// `OutOfMemory` if a growth was refused; else `Words` if `clap` doesn't take them, as if a number is out of
+/// range; else `Value` if they are no task.
+pub fn read_words(alloc: Global, words: Vec<String>) -> Result<Task, WordsFault>
+    ensures valid { IfOk result IsTask }
+    ensures given { IfOk result (IsGiven (map string_bytes words.items)) }
+    ensures refused { IfErr result (IsRefused (map string_bytes words.items)) }
+{
+    read_slice(alloc, &words)
+}
+
+// The task of words.
+fn read_slice(alloc: Global, words: &[String]) -> Result<Task, WordsFault>
     ensures valid { IfOk result IsTask }
     ensures given { IfOk result (IsGiven (map string_bytes words.now)) }
+    ensures refused { IfErr result (IsRefused (map string_bytes words.now)) }
 {
     let matches = matches_of(alloc, words)?;
     match matches.subcommand() {
@@ -204,8 +232,9 @@ pub fn read_words(alloc: Global, words: &[String]) -> Result<Task, WordsFault>
 
 // What `clap` finds in the words.
 fn matches_of(alloc: Global, words: &[String]) -> Result<ArgMatches<'_>, WordsFault>
-    ensures { IfOk result (λ matches.
+    ensures found { IfOk result (λ matches.
         subcommand_rows_of matches ≡ subcommand_of program (map string_bytes words.now)) }
+    ensures untaken { IfErr result (IsUntaken (map string_bytes words.now)) }
 {
     Ok(make_command(alloc)?.try_get_matches_from(words)?)
 }
@@ -215,6 +244,7 @@ fn read_task(alloc: Global, name: &str, given: &ArgMatches<'_>) -> Result<Task, 
     ensures valid { IfOk result IsTask }
     ensures name { IfOk result (λ task. word_of task ≡ name.now) }
     ensures given { IfOk result (HasTaskGiven (rows_of (found_of given.now))) }
+    ensures lacks { Lacks (IsTaskOf name.now (rows_of (found_of given.now))) result }
 {
     match name {
         "check" => Ok(Task::Check(read_database(alloc, given)?)),
@@ -228,6 +258,7 @@ fn read_line(alloc: Global, name: &str, given: &ArgMatches<'_>) -> Result<Line, 
     ensures valid { IfOk result IsLine }
     ensures name { IfOk result (λ line. name_of line ≡ name.now) }
     ensures given { IfOk result (HasGiven (rows_of (found_of given.now))) }
+    ensures lacks { Lacks (IsLineOf name.now (rows_of (found_of given.now))) result }
 {
     match name {
         "play" => Ok(Line::Play(read_play(alloc, given)?)),
@@ -247,6 +278,7 @@ fn read_line(alloc: Global, name: &str, given: &ArgMatches<'_>) -> Result<Line, 
 fn read_play(alloc: Global, given: &ArgMatches<'_>) -> Result<Play, WordsFault>
     ensures valid { IfOk result IsPlay }
     ensures given { IfOk result (IsPlayGiven (rows_of (found_of given.now))) }
+    ensures lacks { Lacks (IsPlayOf (rows_of (found_of given.now))) result }
 {
     let Some(moment) = read_moment(given) else {
         return Err(WordsFault::Value);
@@ -262,27 +294,33 @@ fn read_play(alloc: Global, given: &ArgMatches<'_>) -> Result<Play, WordsFault>
 // The moment of all requests.
 fn read_moment(given: &ArgMatches<'_>) -> Option<i64>
     ensures valid { IfSome result IsMoment }
-    ensures given { IfSome result (λ moment.
-        second_given (codes "moment") (rows_of (found_of given.now)) ≡ Some moment) }
+    ensures given { IfSome result (IsSecondGiven (codes "moment") (rows_of (found_of given.now))) }
+    ensures none { result ≡ None → (z : ℤ) → IsMoment z
+        → IsSecondGiven (codes "moment") (rows_of (found_of given.now)) z → ⊥ }
 {
-    match read_second(given, "moment") {
-        Some(moment @ 0..=MAX_SECOND) => Some(moment),
-        _ => None,
+    let moment = read_second(given, "moment")?;
+    if moment < 0 {
+        return None;
     }
+    if moment > MAX_SECOND {
+        return None;
+    }
+    Some(moment)
 }
 
 // A second, or another number of 64 bits and a sign.
 fn read_second(given: &ArgMatches<'_>, id: &str) -> Option<i64>
-    ensures { IfSome result (λ second.
-        second_given id.now (rows_of (found_of given.now)) ≡ Some second) }
+    ensures given { IfSome result (IsSecondGiven id.now (rows_of (found_of given.now))) }
+    ensures none { result ≡ None → (z : ℤ) → SFits w64 z
+        → IsSecondGiven id.now (rows_of (found_of given.now)) z → ⊥ }
 {
     given.get_one(id)
 }
 
 // The text of `token`.
 fn read_token(alloc: Global, given: &ArgMatches<'_>) -> Result<String, WordsFault>
-    ensures { IfOk result (λ token.
-        first_of (codes "token") (rows_of (found_of given.now)) ≡ Some (string_bytes token)) }
+    ensures given { IfOk result (λ token. IsTextGiven (rows_of (found_of given.now)) (string_bytes token)) }
+    ensures lacks { Lacks (IsTextGiven (rows_of (found_of given.now))) result }
 {
     match text_of(given, "token") {
         Some(token) => Ok(String::from_str(alloc, token)?),
@@ -294,6 +332,7 @@ fn read_token(alloc: Global, given: &ArgMatches<'_>) -> Result<String, WordsFaul
 fn read_serve(alloc: Global, given: &ArgMatches<'_>) -> Result<Serve, WordsFault>
     ensures valid { IfOk result IsServe }
     ensures given { IfOk result (IsServeGiven (rows_of (found_of given.now))) }
+    ensures lacks { Lacks (IsServeOf (rows_of (found_of given.now))) result }
 {
     let Some(port) = read_port(given) else {
         return Err(WordsFault::Value);
@@ -313,30 +352,40 @@ fn read_serve(alloc: Global, given: &ArgMatches<'_>) -> Result<Serve, WordsFault
 // The port that is listened at.
 fn read_port(given: &ArgMatches<'_>) -> Option<u16>
     ensures valid { IfSome result (IsInRange min_port max_port) }
-    ensures given { IfSome result (λ port.
-        number_given (codes "port") (rows_of (found_of given.now)) ≡ Some port) }
+    ensures given { IfSome result (IsNumberGiven (codes "port") (rows_of (found_of given.now))) }
+    ensures none { result ≡ None → (n : ℕ) → IsInRange min_port max_port n
+        → IsNumberGiven (codes "port") (rows_of (found_of given.now)) n → ⊥ }
 {
-    match read_short(given, "port") {
-        Some(port @ 1..) => Some(port),
-        _ => None,
+    let port = read_short(given, "port")?;
+    if port == 0 {
+        return None;
     }
+    Some(port)
 }
 
 // How many connections are served.
 fn read_connections(given: &ArgMatches<'_>) -> Option<u32>
     ensures valid { IfSome result (IsInRange min_connections max_connections) }
-    ensures given { IfSome result (λ connections.
-        number_given (codes "connections") (rows_of (found_of given.now)) ≡ Some connections) }
+    ensures given { IfSome result (IsNumberGiven (codes "connections") (rows_of (found_of given.now))) }
+    ensures none { result ≡ None → (n : ℕ) → IsInRange min_connections max_connections n
+        → IsNumberGiven (codes "connections") (rows_of (found_of given.now)) n → ⊥ }
 {
-    match read_number(given, "connections") {
-        Some(connections @ 1..=MAX_CONNECTIONS) => Some(connections),
-        _ => None,
+    let connections = read_number(given, "connections")?;
+    if connections == 0 {
+        return None;
     }
+    if connections > MAX_CONNECTIONS {
+        return None;
+    }
+    Some(connections)
 }
 
 // The words of `cover`.
 fn read_cover(given: &ArgMatches<'_>) -> Option<Cover>
-    ensures { IfSome result (IsCoverGiven (rows_of (found_of given.now))) }
+    ensures valid { IfSome result IsCover }
+    ensures given { IfSome result (IsCoverGiven (rows_of (found_of given.now))) }
+    ensures none { result ≡ None → (cover : CoverWords) → IsCover cover
+        → IsCoverGiven (rows_of (found_of given.now)) cover → ⊥ }
 {
     Some(Cover {
         face: read_small(given, "FACE")?,
@@ -351,24 +400,27 @@ fn read_cover(given: &ArgMatches<'_>) -> Option<Cover>
 
 // A number of 8 bits.
 fn read_small(given: &ArgMatches<'_>, id: &str) -> Option<u8>
-    ensures { IfSome result (λ number.
-        number_given id.now (rows_of (found_of given.now)) ≡ Some number) }
+    ensures given { IfSome result (IsNumberGiven id.now (rows_of (found_of given.now))) }
+    ensures none { result ≡ None → (n : ℕ) → n < 2 ^ 8
+        → IsNumberGiven id.now (rows_of (found_of given.now)) n → ⊥ }
 {
     given.get_one(id)
 }
 
 // A number of 16 bits.
 fn read_short(given: &ArgMatches<'_>, id: &str) -> Option<u16>
-    ensures { IfSome result (λ number.
-        number_given id.now (rows_of (found_of given.now)) ≡ Some number) }
+    ensures given { IfSome result (IsNumberGiven id.now (rows_of (found_of given.now))) }
+    ensures none { result ≡ None → (n : ℕ) → n < 2 ^ 16
+        → IsNumberGiven id.now (rows_of (found_of given.now)) n → ⊥ }
 {
     given.get_one(id)
 }
 
 // A number of 32 bits.
 fn read_number(given: &ArgMatches<'_>, id: &str) -> Option<u32>
-    ensures { IfSome result (λ number.
-        number_given id.now (rows_of (found_of given.now)) ≡ Some number) }
+    ensures given { IfSome result (IsNumberGiven id.now (rows_of (found_of given.now))) }
+    ensures none { result ≡ None → (n : ℕ) → n < 2 ^ 32
+        → IsNumberGiven id.now (rows_of (found_of given.now)) n → ⊥ }
 {
     given.get_one(id)
 }
@@ -384,6 +436,7 @@ fn is_given(given: &ArgMatches<'_>, id: &str) -> bool
 fn read_enrol(alloc: Global, given: &ArgMatches<'_>) -> Result<Enrol, WordsFault>
     ensures valid { IfOk result IsEnrol }
     ensures given { IfOk result (IsEnrolGiven (rows_of (found_of given.now))) }
+    ensures lacks { Lacks (IsEnrolGiven (rows_of (found_of given.now))) result }
 {
     let Some(enrolment) = read_operator(given) else {
         return Err(WordsFault::Value);
@@ -405,7 +458,8 @@ fn read_migrate(alloc: Global, given: &ArgMatches<'_>) -> Result<Migrate, AllocE
 
 // The words of `copy`.
 fn read_copy(alloc: Global, given: &ArgMatches<'_>) -> Result<Copying, WordsFault>
-    ensures { IfOk result (IsCopyGiven (rows_of (found_of given.now))) }
+    ensures given { IfOk result (IsCopyGiven (rows_of (found_of given.now))) }
+    ensures lacks { Lacks (IsCopyGiven (rows_of (found_of given.now))) result }
 {
     let Some(to) = text_of(given, "to") else {
         return Err(WordsFault::Value);
@@ -456,7 +510,10 @@ fn database_of(alloc: Global, word: Option<&str>) -> Result<Database, AllocError
 
 // The priorities at which plans may overlap.
 fn read_permitted(alloc: Global, given: &ArgMatches<'_>) -> Result<Permitted, WordsFault>
-    ensures { IfOk result (ArePermittedBy (first_of (codes "equal") (rows_of (found_of given.now)))) }
+    ensures given { IfOk result (ArePermittedBy
+        (first_of (codes "equal") (rows_of (found_of given.now)))) }
+    ensures lacks { Lacks (ArePermittedBy
+        (first_of (codes "equal") (rows_of (found_of given.now)))) result }
 {
     permitted_by(alloc, text_of(given, "equal"))
 }
@@ -466,6 +523,8 @@ fn read_enrolments(alloc: Global, given: &ArgMatches<'_>) -> Result<Vec<Enrolmen
     ensures small { IfOk result (λ enrolments. AreEnrolments enrolments.items) }
     ensures given { IfOk result (λ enrolments.
         AreEnrolmentsGiven enrolments.items (rows_of (found_of given.now))) }
+    ensures lacks { Lacks (λ enrolments.
+        AreEnrolmentsGiven enrolments (rows_of (found_of given.now))) result }
 {
     enrolments_of(alloc, given.get_strs("enrolments").unwrap_or(&[]))
 }
@@ -475,6 +534,8 @@ fn enrolments_of(alloc: Global, words: &[&str]) -> Result<Vec<Enrolment>, WordsF
     ensures small { IfOk result (λ enrolments. AreEnrolments enrolments.items) }
     ensures given { IfOk result (λ enrolments. map Some enrolments.items
         ≡ map (λ word. enrolment_in word.now) words.now) }
+    ensures lacks { Lacks (λ (enrolments : List Enrolment). map Some enrolments
+        ≡ map (λ word. enrolment_in word.now) words.now) result }
 {
     let mut enrolments = Vec::new(alloc);
     for word in words {

@@ -15,7 +15,7 @@ ghost use Rattle.desk_line.specs.Printing.{rect_parts, told_of_token};
 ghost use Rattle.desk_line.specs.Written.{HasBegun};
 ghost use Rattle.desk_line.specs.declared.failure.Failure.TheVariants.{Memory, Write};
 
-use crate::failure::{Failure, conclude};
+use crate::failure::{Exit, Failure, conclude};
 use crate::line::{Cover as CoverWords, Line};
 use cover_picture::picture_of;
 use desk_wire::write_whole;
@@ -26,14 +26,14 @@ use std::alloc::{AllocError, Global};
 use std::io::Write;
 use volume4d::MAX_COVER;
 
-/// Prints what a line of `token` or `cover` asks for, and answers the exit status. The word of a failure
-/// goes to `errors`; a fault there is passed over.
+/// Prints what a line of `token` or `cover` asks for, and answers how it ended. The word of a failure goes
+/// to `errors`; a fault there is passed over.
 pub fn print_line<W: Write, E: Write>(
     alloc: Global,
     line: &Line,
     output: &mut W,
     errors: &mut E,
-) -> u8
+) -> Exit
     requires { IsPrintable line.now }
     ensures { IsPrinted line.now (ending result (E.contents errors.old) (E.contents errors.new))
         (W.contents output.old) (W.contents output.new) }
@@ -51,7 +51,7 @@ fn print_text<W: Write>(alloc: Global, line: &Line, output: &mut W) -> Result<()
 }
 
 // Writes a text, up to the first write that fails.
-#[tactic(auto, using(crate::proofs::WrittenLemmas::begun_part, crate::proofs::WrittenLemmas::write_failed))]
+#[tactic(auto, using(crate::proofs::WrittenLemmas::begun_part))]
 fn write_text<W: Write>(output: &mut W, text: &str) -> Result<(), Failure>
     ensures ok { OnOk result (Appends (W.contents output.old) (W.contents output.new) text.now) }
     ensures err { IfErr result (λ f. (f ≡ Write)

@@ -1,29 +1,45 @@
 -- What is written of a line.
-use Rattle.std.proofs.Common.{◌≡◌, ℕ, List, Option, take, drop, refl, sym}
+use Rattle.std.proofs.Common.{◌≡◌, ◌≢◌, ◌<◌, ℕ, List, [], Option, Result, Ok, Err, ap, drop, inl, inr, length, length-drop, refl, subst, sym, take, arith}
 use Rattle.std.proofs.lemmas.List.{take-append-drop}
+use Rattle.std.specs.Io.KnownBytes.{Appends}
+use Rattle.std.specs.Result.{IsErrAnd}
 use Rattle.desk_wire.specs.Serving.{BreaksOff}
-use Rattle.desk_wire.specs.declared.stream.ServeFault.{ServeFault}
-use Rattle.desk_wire.specs.declared.stream.ServeFault.TheVariants.{Read, Write, CutShort, OutOfMemory}
-use Rattle.desk_line.specs.declared.failure.Failure.TheVariants as failure
-use Rattle.desk_line.specs.Exits.{serving_failure}
+use Rattle.desk_wire.specs.declared.stream.WriteFault.{WriteFault}
+use Rattle.desk_line.specs.declared.failure.Failure.{Failure}
+use Rattle.desk_line.specs.Exits.{IsAnnounced}
 use Rattle.desk_line.specs.Written.{HasBegun}
 
--- what a write that failed leaves, and what it is told as
-pub begun_part : (bytes : List ℕ) (out now : Option (List ℕ)) (f : ServeFault) → BreaksOff bytes out now f
-    → HasBegun bytes out now
-begun_part bytes out now (Write sent) h = record {
-  begun = take sent bytes;
-  rest = drop sent bytes;
-  parts = sym (take-append-drop sent bytes);
-  written = h.1;
-}
-begun_part bytes out now Read h = absurd h
-begun_part bytes out now CutShort h = absurd h
-begun_part bytes out now OutOfMemory h = absurd h
+some_left : (n : ℕ) (bytes : List ℕ) → n < length bytes → drop n bytes ≢ []
+some_left n bytes short none = omega (arith, short, ap length none, length-drop n bytes)
 
-pub write_failed : (bytes : List ℕ) (out now : Option (List ℕ)) (f : ServeFault) → BreaksOff bytes out now f
-    → serving_failure f ≡ failure.Write
-write_failed bytes out now (Write sent) h = refl
-write_failed bytes out now Read h = absurd h
-write_failed bytes out now CutShort h = absurd h
-write_failed bytes out now OutOfMemory h = absurd h
+-- what a write that broke off leaves
+pub begun_part : (bytes : List ℕ) (out now : Option (List ℕ)) (fault : WriteFault)
+    → BreaksOff bytes out now fault → HasBegun bytes out now
+begun_part bytes out now fault off = record {
+  begun = take fault.sent bytes;
+  rest = drop fault.sent bytes;
+  parts = sym (take-append-drop fault.sent bytes);
+  left = some_left fault.sent bytes off.short;
+  written = off.written;
+}
+
+-- a failure before anything is printed
+pub announced_none : {A : Type 0} (done : Result A Failure) {f : Failure} (line : List ℕ)
+    (out : Option (List ℕ)) → IsErrAnd done (λ e. e ≡ f) → IsAnnounced done line out out
+announced_none (Ok d) line out is = absurd is
+announced_none (Err e) line out is = inr (inl refl)
+
+-- a failure that is handed on
+pub announced_same : {A B : Type 0} (one : Result A Failure) (whole : Result B Failure) (f : Failure)
+    (line : List ℕ) (out now : Option (List ℕ)) → one ≡ Err f → IsErrAnd whole (λ e. e ≡ f)
+    → IsAnnounced one line out now → IsAnnounced whole line out now
+announced_same one (Ok d) f line out now was is h = absurd is
+announced_same one (Err e) f line out now was is h =
+    subst (λ v. IsAnnounced {A = A} (Err v) line out now) (sym is)
+    (subst (λ r. IsAnnounced r line out now) was h)
+
+-- the line is printed, whatever follows
+pub announced_whole : {A : Type 0} (done : Result A Failure) (line : List ℕ) (out now : Option (List ℕ))
+    → Appends out now line → IsAnnounced done line out now
+announced_whole (Ok d) line out now h = h
+announced_whole (Err f) line out now h = inl h

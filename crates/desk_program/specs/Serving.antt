@@ -9,7 +9,7 @@ use Rattle.desk_wire.specs.declared.stream.ServeFault.{ServeFault}
 use Rattle.desk_line.specs.declared.failure.Failure.{Failure}
 use Rattle.desk_line.specs.declared.line.Serve.{Serve as ServeWords}
 use Rattle.desk_line.specs.declared.failure.Failure.TheVariants as failure
-use Rattle.desk_line.specs.Exits.{Ending, EndsWith, IsBreakdown, failure_at}
+use Rattle.desk_line.specs.Exits.{Ending, EndsWith, IsAnnounced, IsBreakdown, failure_at}
 use Rattle.desk_program.specs.Enrolling.{AreListedSoFar, permitting, with_operators}
 
 -- what is printed when the port is listened at
@@ -138,9 +138,10 @@ abbrev pub IsAtPort :
 IsAtPort H done serve old new w after =
     HasBegun H done serve old new w after ⊎ IsNotBegun H done serve old new w after
 
--- a line of `serve` is carried out, and ends as that does
+-- a line of `serve` is carried out, prints that it listens, and ends as that does
 pub record IsLineServed (H : Type 0) (serve : ServeWords) (end : Ending)
-    (old new : Traffic) (w after : DeskWorld) : Type 0 where
+    (old new : Traffic) (out now : Option (List ℕ)) (w after : DeskWorld) : Type 0 where
   pub done : Result ⊤ Failure
   pub ends : EndsWith done end
+  pub printed : IsAnnounced done (listening_line serve.port) out now
   pub came : IsAtPort H done serve old new w after

@@ -5,7 +5,7 @@ ghost use Rattle.desk_line.specs.Exits.{ending};
 ghost use Rattle.desk_program.specs.Looking as spec;
 ghost use Rattle.desk_program.specs.Looking.{IsTextPrinted};
 
-use desk_line::{Failure, conclude};
+use desk_line::{Exit, Failure, conclude};
 use desk_wire::write_whole;
 use std::alloc::{AllocError, Global};
 use std::io::Write;
@@ -34,14 +34,14 @@ pub struct CheckedFile {
     pub log: u64,
 }
 
-/// Prints what a file holds, and answers the exit status. The word of a failure goes to `errors`; a fault
-/// there is passed over.
+/// Prints what a file holds, and answers how it ended. The word of a failure goes to `errors`; a fault there
+/// is passed over.
 pub fn print_checked<W: Write, E: Write>(
     alloc: Global,
     file: &CheckedFile,
     output: &mut W,
     errors: &mut E,
-) -> u8
+) -> Exit
     ensures { IsTextPrinted (spec.checked_line file.now)
         (ending result (E.contents errors.old) (E.contents errors.new)) (W.contents output.old)
         (W.contents output.new) }
@@ -52,15 +52,15 @@ pub fn print_checked<W: Write, E: Write>(
     }
 }
 
-/// Prints how many operators and plans were copied, and answers the exit status. The word of a failure goes
-/// to `errors`; a fault there is passed over.
+/// Prints how many operators and plans were copied, and answers how it ended. The word of a failure goes to
+/// `errors`; a fault there is passed over.
 pub fn print_copied<W: Write, E: Write>(
     alloc: Global,
     operators: usize,
     plans: usize,
     output: &mut W,
     errors: &mut E,
-) -> u8
+) -> Exit
     ensures { IsTextPrinted (spec.copied_line operators plans)
         (ending result (E.contents errors.old) (E.contents errors.new)) (W.contents output.old)
         (W.contents output.new) }
@@ -71,13 +71,13 @@ pub fn print_copied<W: Write, E: Write>(
     }
 }
 
-// Prints a text, and answers the exit status.
-fn print_text<W: Write, E: Write>(text: &str, output: &mut W, errors: &mut E) -> u8
+// Prints a text, and answers how it ended.
+fn print_text<W: Write, E: Write>(text: &str, output: &mut W, errors: &mut E) -> Exit
     ensures { IsTextPrinted text.now (ending result (E.contents errors.old) (E.contents errors.new))
         (W.contents output.old) (W.contents output.new) }
 {
     match write_whole(output, text.as_bytes()) {
-        Ok(()) => 0,
+        Ok(()) => Exit::silent(0),
         Err(_) => conclude(errors, Err(Failure::Write)),
     }
 }

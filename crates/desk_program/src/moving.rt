@@ -5,19 +5,19 @@ ghost use Rattle.desk_line.specs.Exits.{ending};
 ghost use Rattle.desk_program.specs.Moving as spec;
 ghost use Rattle.desk_program.specs.Moving.{IsCountPrinted};
 
-use desk_line::{Failure, conclude};
+use desk_line::{Exit, Failure, conclude};
 use desk_wire::write_whole;
 use std::alloc::{AllocError, Global};
 use std::io::Write;
 
-/// Prints how many plans were moved, and answers the exit status. The word of a failure goes to `errors`; a
+/// Prints how many plans were moved, and answers how it ended. The word of a failure goes to `errors`; a
 /// fault there is passed over.
 pub fn print_migrated<W: Write, E: Write>(
     alloc: Global,
     count: u32,
     output: &mut W,
     errors: &mut E,
-) -> u8
+) -> Exit
     ensures { IsCountPrinted count (ending result (E.contents errors.old) (E.contents errors.new))
         (W.contents output.old) (W.contents output.new) }
 {
@@ -25,7 +25,7 @@ pub fn print_migrated<W: Write, E: Write>(
         return conclude(errors, Err(Failure::Memory));
     };
     match write_whole(output, text.as_bytes()) {
-        Ok(()) => 0,
+        Ok(()) => Exit::silent(0),
         Err(_) => conclude(errors, Err(Failure::Write)),
     }
 }

@@ -15,7 +15,7 @@ ghost use Rattle.desk_program.specs.Enrolling.{AreListedSoFar, permitting, with_
 ghost use Rattle.desk_program.specs.Keeping.{AreKeptSoFar, FindsEnrolled, IsLinePlayKept, IsPlayKept};
 ghost use Rattle.desk_program.specs.Playing.{IsEnrolled, IsLinePlayed, IsNotPlayed, IsPlayed, done_unless};
 
-use desk_line::{Enrolment, Failure, Line, Play, conclude};
+use desk_line::{Enrolment, Exit, Failure, Line, Play, conclude};
 use desk_rules::permission::Permitted;
 use desk_run::{Desk, DeskFault};
 use desk_store::PlanStore;
@@ -23,7 +23,7 @@ use desk_wire::{PlayEnd, play_all, write_whole};
 use std::alloc::{AllocError, Global};
 use std::io::{Read, Write};
 
-/// Does what a line of `play` or of `enrol` says at a desk, and answers the exit status. The word of a
+/// Does what a line of `play` or of `enrol` says at a desk, and answers how it ended. The word of a
 /// failure goes to `errors`; a fault there is passed over.
 pub fn with_desk<S: PlanStore, R: Read, W: Write, E: Write>(
     alloc: Global,
@@ -32,7 +32,7 @@ pub fn with_desk<S: PlanStore, R: Read, W: Write, E: Write>(
     input: &mut R,
     output: &mut W,
     errors: &mut E,
-) -> u8
+) -> Exit
     requires line { IsLine line.now }
     requires desk { HasDesk line.now }
     ensures played { IsLinePlayed (IsHonest (S.doubt desk.new.store)) line.now
@@ -77,7 +77,7 @@ fn play_line<S: PlanStore, R: Read, W: Write, E: Write>(
     input: &mut R,
     output: &mut W,
     errors: &mut E,
-) -> u8
+) -> Exit
     requires { IsPlay play.now }
     ensures played { IsPlayed (IsHonest (S.doubt desk.new.store)) play.now
         (ending result (E.contents errors.old) (E.contents errors.new))
@@ -112,7 +112,7 @@ fn enrol_line<S: PlanStore, W: Write, E: Write>(
     desk: &mut Desk<S>,
     output: &mut W,
     errors: &mut E,
-) -> u8
+) -> Exit
     requires { enrolment.now.ceiling ≤ max_priority }
     ensures enrolled { IsEnrolled (IsHonest (S.doubt desk.new.store)) enrolment.now
         (ending result (E.contents errors.old) (E.contents errors.new))
@@ -133,7 +133,7 @@ fn enrol_line<S: PlanStore, W: Write, E: Write>(
         return conclude(errors, Err(Failure::from(fault)));
     }
     match write_whole(output, text.as_bytes()) {
-        Ok(()) => 0,
+        Ok(()) => Exit::silent(0),
         Err(_) => conclude(errors, Err(Failure::Write)),
     }
 }

@@ -13,13 +13,13 @@ ghost use Rattle.desk_program.specs.Running.{IsCarriedOut};
 use crate::port::Port;
 use crate::program::with_desk;
 use crate::server::serve;
-use desk_line::{Failure, Line, conclude};
+use desk_line::{Exit, Failure, Line, conclude};
 use desk_run::Desk;
 use desk_store::PlanStore;
 use std::alloc::Global;
 use std::io::{Read, Write};
 
-/// Does what a line says at the desk that was opened for it, and answers the exit status and the desk. If
+/// Does what a line says at the desk that was opened for it, and answers how it ended and the desk. If
 /// none was opened, the word of that failure goes to `errors`.
 pub fn run_opened<S: PlanStore + Drop, P: Port, R: Read, W: Write, E: Write>(
     alloc: Global,
@@ -29,7 +29,7 @@ pub fn run_opened<S: PlanStore + Drop, P: Port, R: Read, W: Write, E: Write>(
     input: &mut R,
     output: &mut W,
     errors: &mut E,
-) -> (u8, Option<Desk<S>>)
+) -> (Exit, Option<Desk<S>>)
     requires line { IsLine line.now }
     requires desk { HasDatabase line.now }
     ensures opened { IfOk opened (λ desk. IsSomeAnd result.1 (λ left.
@@ -56,14 +56,14 @@ pub fn run_opened<S: PlanStore + Drop, P: Port, R: Read, W: Write, E: Write>(
 {
     match opened {
         Ok(mut desk) => {
-            let status = run_at(alloc, line, &mut desk, port, input, output, errors);
-            (status, Some(desk))
+            let exit = run_at(alloc, line, &mut desk, port, input, output, errors);
+            (exit, Some(desk))
         }
         Err(failure) => (conclude(errors, Err(failure)), None),
     }
 }
 
-// Does what a line says at a desk, and answers the exit status.
+// Does what a line says at a desk, and answers how it ended.
 fn run_at<S: PlanStore, P: Port, R: Read, W: Write, E: Write>(
     alloc: Global,
     line: &Line,
@@ -72,7 +72,7 @@ fn run_at<S: PlanStore, P: Port, R: Read, W: Write, E: Write>(
     input: &mut R,
     output: &mut W,
     errors: &mut E,
-) -> u8
+) -> Exit
     requires line { IsLine line.now }
     requires desk { HasDatabase line.now }
     ensures done { IsCarriedOut (IsHonest (S.doubt desk.new.store)) line.now

@@ -5,7 +5,7 @@ ghost use Rattle.std.specs.Io.KnownBytes.{Appends};
 ghost use Rattle.desk_store.specs.Frames.{Remembers};
 ghost use Rattle.desk_store.specs.Faults.{IsHonest};
 ghost use Rattle.desk_store.specs.World.{World};
-ghost use Rattle.desk_line.specs.Exits.{ending, failure_at};
+ghost use Rattle.desk_line.specs.Exits.{IsAnnounced, ending, failure_at};
 ghost use Rattle.desk_line.specs.Lines.{IsServe};
 ghost use Rattle.desk_line.specs.Written.{HasBegun};
 ghost use Rattle.desk_run.specs.DeskWorld.{IsSettled, world_of};
@@ -15,18 +15,18 @@ ghost use Rattle.desk_program.specs.Serving.{AreTaken, IsAtPort, IsDenied, IsLin
 
 use crate::port::{Connection, Port};
 use crate::program::set_up;
-use desk_line::{Failure, Serve, conclude};
+use desk_line::{Exit, Failure, Serve, conclude};
 use desk_run::Desk;
 use desk_store::PlanStore;
-use desk_wire::{Routes, ServeFault, Served, serve_next, write_whole};
+use desk_wire::{ServeFault, Served, serve_one, write_whole};
 use std::alloc::{AllocError, Global};
 use std::io::Write;
 
 /// The status of an answer that says that the desk failed.
 const SERVER_ERROR: u16 = 500;
 
-/// Does what a line of `serve` says at a desk, and answers the exit status. The word of a failure goes
-/// to `errors`; a fault there is passed over.
+/// Does what a line of `serve` says at a desk, and answers how it ended. The word of a failure goes to
+/// `errors`; a fault there is passed over.
 pub fn serve<S: PlanStore, P: Port, W: Write, E: Write>(
     alloc: Global,
     port: &mut P,
@@ -34,22 +34,18 @@ pub fn serve<S: PlanStore, P: Port, W: Write, E: Write>(
     desk: &mut Desk<S>,
     output: &mut W,
     errors: &mut E,
-) -> u8
+) -> Exit
     requires { IsServe line.now }
     ensures served { IsLineServed (IsHonest (S.doubt desk.new.store)) line.now
         (ending result (E.contents errors.old) (E.contents errors.new))
-        (P.traffic port.old) (P.traffic port.new) (world_of S.content desk.old)
-        (world_of S.content desk.new) }
+        (P.traffic port.old) (P.traffic port.new) (W.contents output.old) (W.contents output.new)
+        (world_of S.content desk.old) (world_of S.content desk.new) }
     ensures kept { IsHonest (S.doubt desk.new.store) → IsSettled S.content S.may_leave desk.old →
         (found : Option World) → S.may_leave desk.new.store found →
         IsServeKept (IsHonest (S.doubt desk.new.store)) line.now
         (ending result (E.contents errors.old) (E.contents errors.new))
         (P.traffic port.old) (P.traffic port.new) (world_of S.content desk.old)
         (world_of S.content desk.new) found }
-    ensures printed { HasBegun (listening_line line.now.port) (W.contents output.old)
-        (W.contents output.new) }
-    ensures listening { result ≡ 0 → Appends (W.contents output.old) (W.contents output.new)
-        (listening_line line.now.port) }
     ensures remembered { Remembers S.doubt S.faults S.is_shielded desk.old.store desk.new.store }
 {
     conclude(errors, serve_line(alloc, port, line, desk, output))
@@ -71,16 +67,13 @@ fn serve_line<S: PlanStore, P: Port, W: Write>(
         (found : Option World) → S.may_leave desk.new.store found →
         IsPortKept (IsHonest (S.doubt desk.new.store)) result line.now (P.traffic port.old)
         (P.traffic port.new) (world_of S.content desk.old) (world_of S.content desk.new) found }
-    ensures printed { HasBegun (listening_line line.now.port) (W.contents output.old)
+    ensures printed { IsAnnounced result (listening_line line.now.port) (W.contents output.old)
         (W.contents output.new) }
-    ensures listening { OnOk result (Appends (W.contents output.old) (W.contents output.new)
-        (listening_line line.now.port)) }
     ensures remembered { Remembers S.doubt S.faults S.is_shielded desk.old.store desk.new.store }
 {
     set_up(desk, &line.permitted, &line.enrolments)?;
     listen(alloc, port, line.port, output)?;
-    let routes = Routes::try_new(alloc)?;
-    serve_connections(alloc, &routes, port, line.connections, desk)
+    serve_connections(alloc, port, line.connections, desk)
 }
 
 // Listens at the port, and prints the line that says so.
@@ -92,9 +85,8 @@ fn listen<P: Port, W: Write>(
 ) -> Result<(), Failure>
     ensures fault { IfErr result IsDenied }
     ensures same { P.traffic port.new ≡ P.traffic port.old }
-    ensures printed { HasBegun (listening_line number) (W.contents output.old) (W.contents output.new) }
-    ensures listening { OnOk result (Appends (W.contents output.old) (W.contents output.new)
-        (listening_line number)) }
+    ensures printed { IsAnnounced result (listening_line number) (W.contents output.old)
+        (W.contents output.new) }
 {
     port.listen(number)?;
     let text = listening_text(alloc, number)?;
@@ -102,7 +94,7 @@ fn listen<P: Port, W: Write>(
 }
 
 // Prints a text.
-#[tactic(auto, using(crate::proofs::BegunLemmas::begun_part, crate::proofs::BegunLemmas::write_failed))]
+#[tactic(auto, using(crate::proofs::BegunLemmas::begun_part))]
 fn print_text<W: Write>(output: &mut W, text: &str) -> Result<(), Failure>
     ensures ok { OnOk result (Appends (W.contents output.old) (W.contents output.new) text.now) }
     ensures err { IfErr result (λ f. (f ≡ Failure.Write)
@@ -122,7 +114,6 @@ fn listening_text(alloc: Global, port: u16) -> Result<String, AllocError>
 // Serves so many connections, one after the other.
 fn serve_connections<S: PlanStore, P: Port>(
     alloc: Global,
-    routes: &Routes,
     port: &mut P,
     count: u32,
     desk: &mut Desk<S>,
@@ -136,7 +127,7 @@ fn serve_connections<S: PlanStore, P: Port>(
     ensures remembered { Remembers S.doubt S.faults S.is_shielded desk.old.store desk.new.store }
 {
     for before in 0..count {
-        serve_connection(alloc, routes, port, desk)?;
+        serve_connection(alloc, port, desk)?;
     }
     Ok(())
 }
@@ -144,7 +135,6 @@ fn serve_connections<S: PlanStore, P: Port>(
 // Serves the next connection. Faults of the connection are passed over.
 fn serve_connection<S: PlanStore, P: Port>(
     alloc: Global,
-    routes: &Routes,
     port: &mut P,
     desk: &mut Desk<S>,
 ) -> Result<(), Failure>
@@ -157,9 +147,8 @@ fn serve_connection<S: PlanStore, P: Port>(
     ensures remembered { Remembers S.doubt S.faults S.is_shielded desk.old.store desk.new.store }
 {
     let mut client = port.take(alloc)?;
-    let served = serve_next(
+    let served = serve_one(
         alloc,
-        routes,
         desk,
         client.moment,
         &mut client.input,

@@ -8,7 +8,7 @@ ghost use Rattle.desk_reading.specs.Readings.{Gives};
 use crate::fields::Once;
 use crate::head::Head;
 use crate::resource::Action;
-use crate::routes::Routes;
+use crate::routes::find_target;
 use crate::wire_fault::WireFault;
 use desk_rules::operator::Operator;
 
@@ -27,10 +27,10 @@ pub struct Address<'t> {
 ///
 /// The first of `NoRoute`, `Method` and `BadOperator` that applies.
 #[tactic(auto, unfolding(crate::specs::Addresses::address_of))]
-pub fn read_address<'t>(routes: &Routes, head: &Head<'t>) -> Result<Address<'t>, WireFault>
+pub fn read_address<'t>(head: &Head<'t>) -> Result<Address<'t>, WireFault>
     ensures { Gives address_shown result (address_of head.now) }
 {
-    let Some(target) = routes.find_target(head.target()) else {
+    let Some(target) = find_target(head.target()) else {
         return Err(WireFault::NoRoute);
     };
     let Some(action) = target.route.action(head.method()) else {

@@ -21,5 +21,4 @@ pub use framing::{HEAD_ROOM, is_ended};
 pub use message::{Front, Message, read_front, read_message};
 pub use request::{read_asked, read_request};
 pub use resource::{Action, Route};
-pub use routes::Routes;
 pub use wire_fault::{ReadError, WireFault};

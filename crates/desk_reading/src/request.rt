@@ -11,7 +11,6 @@ use crate::clear_in::read_clear;
 use crate::message::{Message, read_message};
 use crate::put_in::read_put;
 use crate::resource::Action;
-use crate::routes::Routes;
 use crate::wire_fault::{ReadError, WireFault};
 use desk_rules::call::{Asked, Call};
 use desk_rules::plan_id::PlanId;
@@ -26,9 +25,8 @@ use std::alloc::Global;
 pub fn read_request(alloc: Global, text: &[u8]) -> Result<Asked, ReadError>
     ensures { GivesIfRoom (λ asked. asked) result (asked text.now) }
 {
-    let routes = Routes::try_new(alloc)?;
     let message = read_message(text)?;
-    read_asked(alloc, &routes, &message)
+    read_asked(alloc, &message)
 }
 
 /// What a message asks.
@@ -37,10 +35,10 @@ pub fn read_request(alloc: Global, text: &[u8]) -> Result<Asked, ReadError>
 ///
 /// `OutOfMemory`, or the first fault of its address, then of its id, then of its body.
 #[tactic(auto, unfolding(crate::specs::Requests::asked_by))]
-pub fn read_asked(alloc: Global, routes: &Routes, message: &Message<'_>) -> Result<Asked, ReadError>
+pub fn read_asked(alloc: Global, message: &Message<'_>) -> Result<Asked, ReadError>
     ensures { GivesIfRoom (λ asked. asked) result (asked_by (message_shown message.now)) }
 {
-    match read_address(routes, &message.head) {
+    match read_address(&message.head) {
         Ok(address) => read_call(alloc, &address, message.body),
         Err(fault) => Err(ReadError::Fault(fault)),
     }

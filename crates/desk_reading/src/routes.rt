@@ -1,12 +1,13 @@
 //! Routes: which resource the path of a request names.
 
-ghost use Rattle.std.specs.Prelude.{◌≡◌, IfOk, option_map};
-ghost use Rattle.desk_reading.specs.Routes.{path_of, route_in, route_of, route_rows, target_shown};
+ghost use Rattle.std.specs.Prelude.{◌≡◌, option_map};
+ghost use Rattle.desk_reading.specs.Routes as spec;
+ghost use Rattle.desk_reading.specs.Routes.{path_of, plan_id_in, rest_in, route_in, route_of, target_shown};
 
 use crate::resource::Route;
-use matchit::{InsertError, Router};
-use std::alloc::{AllocError, Global};
-use std::marker::Model;
+
+// What the path of a flight plan begins with; its id follows.
+const PLANS_FOLDER: &str = "/flight_plans/";
 
 /// The resource that a request names.
 #[derive(Clone, Copy)]
@@ -16,43 +17,13 @@ pub struct Target<'t> {
     pub id: &'t str,
 }
 
-/// A router with every route of the desk.
-#[derive(Drop)]
-pub struct Routes {
-    router: Router<Route>,
-}
-
-impl Model for Routes {
-    ghost use Rattle.std.specs.Prelude.{◌≡◌};
-    ghost use Rattle.matchit.specs.Rows.{RowsOf};
-    ghost use Rattle.matchit.specs.Router.{RouteOf};
-    ghost use Rattle.desk_reading.specs.Routes.{route_rows};
-    ghost use Rattle.desk_reading.specs.declared.resource.Route.{Route};
-
-    ghost Value = { RowsOf (RouteOf Route) };
-
-    ghost view = { λ r. r.router };
-
-    ghost invariant = { λ r. r.router ≡ route_rows };
-}
-
-impl Routes {
-    /// The routes of the desk.
-    pub fn try_new(alloc: Global) -> Result<Routes, AllocError> {
-        match make_router(alloc) {
-            Ok(router) => Ok(Routes { router }),
-            Err(_) => Err(AllocError),
-        }
-    }
-
-    /// The resource that a request target names. None if it names none.
-    pub fn find_target<'t>(&self, target: &'t [u8]) -> Option<Target<'t>>
-        ensures { option_map target_shown result ≡ route_in target.now }
-    {
-        match str::from_utf8(target) {
-            Ok(target) => find_route(&self.router, read_path(target)),
-            Err(_) => None,
-        }
+/// The resource that a request target names. None if it names none.
+pub fn find_target(target: &[u8]) -> Option<Target<'_>>
+    ensures { option_map target_shown result ≡ route_in target.now }
+{
+    match str::from_utf8(target) {
+        Ok(target) => find_route(read_path(target)),
+        Err(_) => None,
     }
 }
 
@@ -66,28 +37,62 @@ fn read_path(target: &str) -> &str
     }
 }
 
-// A router with every route.
-fn make_router(alloc: Global) -> Result<Router<Route>, InsertError>
-    ensures { IfOk result (λ router. router ≡ route_rows) }
-{
-    let mut router = Router::new(alloc);
-    router.insert("/clear_area_requests", Route::ClearAreaRequests)?;
-    router.insert("/flight_plans", Route::FlightPlans)?;
-    router.insert("/flight_plans/{flight_plan_id}", Route::FlightPlan)?;
-    router.insert("/status", Route::Status)?;
-    Ok(router)
-}
-
-// The resource of a path that the router knows. None for every other path.
-fn find_route<'p>(router: &Router<Route>, path: &'p str) -> Option<Target<'p>>
-    requires { router.now ≡ route_rows }
+// The resource of a path. None for every path that has none.
+#[tactic(auto, unfolding(crate::specs::Routes::route_of))]
+fn find_route(path: &str) -> Option<Target<'_>>
     ensures { option_map target_shown result ≡ route_of path.now }
 {
-    match router.at(path) {
-        Ok(found) => Some(Target {
-            route: *found.value,
-            id: found.params.get("flight_plan_id").unwrap_or(""),
-        }),
-        Err(_) => None,
+    if path == "/clear_area_requests" {
+        return Some(whole(Route::ClearAreaRequests));
     }
+    if path == "/flight_plans" {
+        return Some(whole(Route::FlightPlans));
+    }
+    if path == "/status" {
+        return Some(whole(Route::Status));
+    }
+    let id = plan_id(path)?;
+    Some(Target {
+        route: Route::FlightPlan,
+        id,
+    })
+}
+
+// A resource whose path names no plan.
+fn whole(route: Route) -> Target<'static>
+    ensures { target_shown result ≡ spec.whole route }
+{
+    Target { route, id: "" }
+}
+
+// The id of the flight plan that a path names: one segment that isn't empty.
+#[tactic(auto, unfolding(crate::specs::Routes::plan_id_in))]
+fn plan_id(path: &str) -> Option<&str>
+    ensures { option_map (λ id. id.now) result ≡ plan_id_in path.now }
+{
+    let id = behind_folder(path)?;
+    if is_segment(id) { Some(id) } else { None }
+}
+
+// What stands behind the folder of the flight plans.
+fn behind_folder(path: &str) -> Option<&str>
+    ensures { option_map (λ rest. rest.now) result ≡ rest_in path.now }
+{
+    path.strip_prefix(PLANS_FOLDER)
+}
+
+// Whether a text is one segment of a path that isn't empty.
+fn is_segment(text: &str) -> bool
+    ensures { result ≡ spec.is_segment text.now }
+{
+    if text.is_empty() {
+        return false;
+    }
+    !has_slash(text.as_bytes())
+}
+
+fn has_slash(bytes: &[u8]) -> bool
+    ensures { result ≡ spec.has_slash bytes.now }
+{
+    bytes.iter().any(|byte| *byte == b'/')
 }

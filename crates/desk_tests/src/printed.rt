@@ -16,8 +16,8 @@ fn printed(alloc: Global, line: &Line) -> (u8, Vec<u8>, Vec<u8>)
 {
     let mut output = Vec::new(alloc);
     let mut errors = Vec::new(alloc);
-    let status = print_line(alloc, line, &mut output, &mut errors);
-    (status, output, errors)
+    let exit = print_line(alloc, line, &mut output, &mut errors);
+    (exit.status, output, errors)
 }
 
 // Each row has a token, the exit status, and what is printed to the two writers.

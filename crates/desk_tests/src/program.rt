@@ -49,7 +49,7 @@ fn play(alloc: Global, bytes: &[u8]) -> Result<Done, Fail> {
     let mut input = bytes;
     let mut output = Vec::new(alloc);
     let mut errors = Vec::new(alloc);
-    let status = with_desk(
+    let exit = with_desk(
         alloc,
         &line,
         &mut desk,
@@ -58,7 +58,7 @@ fn play(alloc: Global, bytes: &[u8]) -> Result<Done, Fail> {
         &mut errors,
     );
     Ok(Done {
-        status,
+        status: exit.status,
         output,
         errors,
         desk,
@@ -135,7 +135,7 @@ fn check_enrolment(
     let mut bytes = [0; 20];
     let mut output = bytes.get_mut(..room).ok_or("too much room")?;
     let mut errors = Vec::new(alloc);
-    let status = with_desk(
+    let exit = with_desk(
         alloc,
         &line,
         &mut desk,
@@ -143,7 +143,7 @@ fn check_enrolment(
         &mut output,
         &mut errors,
     );
-    assert_eq!(rt; status, wanted);
+    assert_eq!(rt; exit.status, wanted);
     let left = output.len();
     assert_eq!(rt; room.checked_sub(left), Some(text.len()));
     assert!(rt; bytes.starts_with(text.as_bytes()));

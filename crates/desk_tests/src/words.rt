@@ -11,7 +11,7 @@ fn task_of(alloc: Global, words: &[&str]) -> Result<Result<Task, WordsFault>, Al
     for word in words {
         all.push(String::from_str(alloc, word)?)?;
     }
-    Ok(read_words(alloc, &all))
+    Ok(read_words(alloc, all))
 }
 
 // The line of words behind the program's name.

@@ -1,5 +1,5 @@
 -- Why a desk failed, from an answer that says so to all that was answered.
-use Rattle.std.proofs.Common.{◌≡◌, ◌≢◌, ◌≤◌, ◌∙◌, ℕ, List, [], ◌∷◌, ◌++◌, true, Bool, Option, Some, None, IfSome, is_some, map, refl, subst, sym, arith}
+use Rattle.std.proofs.Common.{◌≡◌, ◌≢◌, ◌≤◌, ℕ, List, [], ◌∷◌, ◌++◌, true, Bool, Option, Some, None, IfSome, is_some, map, refl, subst, arith}
 use Rattle.std.proofs.lemmas.List.{map-append}
 use Rattle.std.proofs.KnownBytes.{Appends-nil, Appends-trans}
 use Rattle.std.specs.Io.KnownBytes.{Appends}
@@ -8,7 +8,7 @@ use Rattle.desk_run.specs.DeskWorld.{DeskWorld}
 use Rattle.desk_wire.specs.declared.response.ServerError.{ServerError}
 use Rattle.desk_wire.specs.declared.response.ServerError.TheVariants.{OutOfMemory, Store}
 use Rattle.desk_wire.specs.declared.stream.Served.{Served}
-use Rattle.desk_wire.specs.declared.stream.Served.TheVariants.{Answered, End}
+use Rattle.desk_wire.specs.declared.stream.Served.TheVariants.{Answered}
 use Rattle.desk_wire.specs.Bytes.{IsServerError}
 use Rattle.desk_wire.specs.Causes.{AppendsLast, HasCause, HasFailed, IsGivenUp, IsLast}
 use Rattle.desk_wire.specs.Refusals.{server_error_text}

@@ -23,7 +23,8 @@ use Rattle.desk_wire.specs.Bytes.{IsServerError, status_so, world_after}
 use Rattle.desk_wire.specs.Given.{IsNextIn, answered, told_in_play}
 use Rattle.desk_wire.specs.Kept.{FindsBy, IsCertain, IsFoundAfter, IsFoundIn, IsFoundNow, IsKept, IsLeftBy, IsOldOrNext}
 use Rattle.desk_wire.specs.Playing.{ArePlayed, EndsBy, IsWhole, at_moment}
-use Rattle.desk_wire.specs.Serving.{BreaksOff, IsTaken}
+use Rattle.desk_wire.specs.declared.stream.WriteFault.{WriteFault}
+use Rattle.desk_wire.specs.Serving.{IsTaken}
 use Rattle.desk_wire.proofs.AllLemmas.{HaveAnswers, left_more, take_map}
 use Rattle.desk_wire.proofs.BytesLemmas.{left_read}
 use Rattle.desk_wire.proofs.StreamGivenLemmas.{given_broken, given_first, given_off, given_unframed, is_next}
@@ -59,17 +60,10 @@ pub uncertain_memory : (r : Result Served ServeFault) → IsErrAnd r (λ e. e �
 uncertain_memory (Ok s) is certain = absurd is
 uncertain_memory (Err e) is certain = subst (λ f. IsCertain (Err f)) is certain
 
-pub uncertain_write : (r : Result Served ServeFault) (f : ServeFault) (answer : List ℕ)
-    (out now : Option (List ℕ)) → IsErrAnd r (λ e. e ≡ f) → BreaksOff answer out now f → IsCertain r → ⊥
-uncertain_write (Ok s) f answer out now is off certain = absurd is
-uncertain_write (Err e) f answer out now is off certain =
-    by f off (subst (λ z. IsCertain (Err z)) is certain)
-  where
-    by : (f : ServeFault) → BreaksOff answer out now f → IsCertain (Err f) → ⊥
-    by Read s h = s
-    by OutOfMemory s h = s
-    by CutShort s h = s
-    by (Write sent) s h = h
+pub uncertain_write : (r : Result Served ServeFault) (fault : WriteFault) → IsErrAnd r (λ e. e ≡ Write fault)
+    → IsCertain r → ⊥
+uncertain_write (Ok s) fault is certain = absurd is
+uncertain_write (Err e) fault is certain = subst (λ z. IsCertain (Err z)) is certain
 
 -- what is found if the content stays, and if the answer was or was not that the desk failed
 module _ (r : Result Served ServeFault) (before now : Option World → Type 0) (IsNext : List ℕ → Type 0)
@@ -143,7 +137,7 @@ FindsLast Broken IsNext world moment after found = IsOldOrNext IsNext world mome
 FindsLast (Fault Read) IsNext world moment after found = found ≡ Some after.content
 FindsLast (Fault CutShort) IsNext world moment after found = found ≡ Some after.content
 FindsLast (Fault OutOfMemory) IsNext world moment after found = IsOldOrNext IsNext world moment found
-FindsLast (Fault (Write sent)) IsNext world moment after found = IsOldOrNext IsNext world moment found
+FindsLast (Fault (Write fault)) IsNext world moment after found = IsOldOrNext IsNext world moment found
 
 -- by what stopped the last request
 pub fault_last : (before : Option World → Type 0) (world after : DeskWorld) (IsNext : List ℕ → Type 0)
@@ -155,7 +149,7 @@ fault_last before world after IsNext moment found Read certain only left = certa
 fault_last before world after IsNext moment found CutShort certain only left = certain tt
 fault_last before world after IsNext moment found OutOfMemory certain only left =
     old_or_next before world IsNext moment found only left
-fault_last before world after IsNext moment found (Write sent) certain only left =
+fault_last before world after IsNext moment found (Write fault) certain only left =
     old_or_next before world IsNext moment found only left
 
 module _ (H : Type 0) (old out : Option (List ℕ)) (w : DeskWorld) (moment : ℤ) (p : H) where
@@ -202,11 +196,11 @@ module _ (H : Type 0) (old out : Option (List ℕ)) (w : DeskWorld) (moment : �
         given = given_broken H old out w moment p count input new output now world after f last.1;
         finds = next_in H count old input new out output w moment world found p f is;
       })
-  kept_by (Fault (Write sent_len)) count answered input new output now world after found f last is =
-      subst (λ n. Kept (Fault (Write sent_len)) n now after found) (sym last.0) (record {
+  kept_by (Fault (Write stopped)) count answered input new output now world after found f last is =
+      subst (λ n. Kept (Fault (Write stopped)) n now after found) (sym last.0) (record {
         requests = f.requests;
         answers = answers_to w (at_moment moment f.requests);
-        given = given_off H old out w moment p count sent_len input new output now world after f last.1;
+        given = given_off H old out w moment p count stopped input new output now world after f last.1;
         finds = next_in H count old input new out output w moment world found p f is;
       })
   kept_by (Fault OutOfMemory) count answered input new output now world after found f last is =
@@ -277,7 +271,7 @@ found_after ended n stream out now w moment after found k = by ended k.finds
     by (Fault Read) is = first is
     by (Fault CutShort) is = first is
     by (Fault OutOfMemory) is = either is
-    by (Fault (Write sent)) is = either is
+    by (Fault (Write fault)) is = either is
 
 -- ---- the requests of a list
 

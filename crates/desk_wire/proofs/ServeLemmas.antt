@@ -14,6 +14,7 @@ use Rattle.desk_wire.specs.declared.stream.Served.{Served}
 use Rattle.desk_wire.specs.declared.stream.Served.TheVariants.{Answered}
 use Rattle.desk_wire.specs.declared.stream.ServeFault.{ServeFault}
 use Rattle.desk_wire.specs.declared.stream.ServeFault.TheVariants.{Read, Write, CutShort, OutOfMemory}
+use Rattle.desk_wire.specs.declared.stream.WriteFault.{WriteFault}
 use Rattle.desk_wire.specs.Bytes.{IsAnsweredSo, IsServerError, status_so}
 use Rattle.desk_wire.specs.Serving.{BreaksOff, HasServed, IsReplied, IsServed, IsTaken, IsUntouched, Stops}
 use Rattle.desk_wire.specs.Streams.{IsCut, IsFront, front_read, is_framed, size_said, with_body}
@@ -92,29 +93,21 @@ stopped H cut (Err e) f old new out w moment is stops then_cut =
     by Read s = untouched
     by OutOfMemory s = untouched
     by CutShort s = (then_cut s, untouched)
-    by (Write sent) s = absurd s
+    by (Write fault) s = absurd s
 
 -- the exit of a `?` that hands on what stopped the writing
-pub broken : (H : Type 0) (r : Result Served ServeFault) (f : ServeFault)
+pub broken : (H : Type 0) (r : Result Served ServeFault) (fault : WriteFault)
     (old new out now : Option (List ℕ))
     (w after : DeskWorld) (moment : ℤ) (request answer : List ℕ) (why : Option ServerError)
-    → IsErrAnd r (λ e. e ≡ f) → BreaksOff answer out now f → IsTaken old new request
+    → IsErrAnd r (λ e. e ≡ Write fault) → BreaksOff answer out now fault → IsTaken old new request
     → IsReplied H w moment request answer why after → HasServed H r old new out now w moment after
-broken H (Ok s) f old new out now w after moment request answer why is off taken told = absurd is
-broken H (Err e) f old new out now w after moment request answer why is off taken told =
-    subst (λ z. HasServed H (Err z) old new out now w moment after) (sym is) (by f off)
-  where
-    by : (f : ServeFault) → BreaksOff answer out now f
-        → HasServed H (Err f) old new out now w moment after
-    by Read s = absurd s
-    by OutOfMemory s = absurd s
-    by CutShort s = absurd s
-    by (Write sent) s = record {
+broken H (Ok s) fault old new out now w after moment request answer why is off taken told = absurd is
+broken H (Err e) fault old new out now w after moment request answer why is off taken told =
+    subst (λ z. HasServed H (Err z) old new out now w moment after) (sym is) (record {
       request = request;
       taken = taken;
       answer = answer;
       why = why;
       replied = told;
-      short = s.0;
-      written = s.1;
-    }
+      off = off;
+    })

@@ -16,6 +16,7 @@ use Rattle.desk_run.specs.Sides.{OwnAlike}
 use Rattle.desk_wire.specs.declared.play.PlayEnd.{PlayEnd}
 use Rattle.desk_wire.specs.declared.play.PlayEnd.TheVariants.{End, Unframed, Broken, Limit, Fault}
 use Rattle.desk_wire.specs.declared.stream.ServeFault.TheVariants.{Read, Write, CutShort, OutOfMemory}
+use Rattle.desk_wire.specs.declared.stream.WriteFault.{WriteFault}
 use Rattle.desk_wire.specs.declared.response.ServerError.{ServerError}
 use Rattle.desk_wire.specs.AllAnswers.{answers_to, world_left}
 use Rattle.desk_wire.specs.Bytes.{IsAnsweredSo, IsDone, world_after}
@@ -173,21 +174,22 @@ module _ (H : Type 0) (old out : Option (List ℕ)) (w : DeskWorld) (moment : �
   left_off world after request answer None h = inl h.left
   left_off world after request answer (Some error) h = inr h.left
 
-  pub given_off : (count sent_len : ℕ) (input new output now : Option (List ℕ)) (world after : DeskWorld)
+  pub given_off : (count : ℕ) (fault : WriteFault) (input new output now : Option (List ℕ))
+      (world after : DeskWorld)
       → (f : ArePlayed H count old input out output w moment world)
-      → (b : IsBrokenOff H input new output now world moment after sent_len)
-      → AreGiven (Fault (Write sent_len)) count old out now w moment after f.requests
+      → (b : IsBrokenOff H input new output now world moment after fault)
+      → AreGiven (Fault (Write fault)) count old out now w moment after f.requests
       (answers_to w (at_moment moment f.requests))
-  given_off count sent_len input new output now world after f b =
+  given_off count fault input new output now world after f b =
       let answers = concat (answers_to w (at_moment moment f.requests)) in
       let all = recursion_from_All IsWhole f.requests f.whole in
       record {
         count = f.count_is;
         first = are_first old input f.requests count all f.count_is f.taken;
         told = refl;
-        more = take sent_len b.answer;
-        written = Appends-trans out output now answers (take sent_len b.answer) (f.written p) b.written;
-        follows = length-take-le sent_len b.answer (omega (arith, b.short));
+        more = take fault.sent b.answer;
+        written = Appends-trans out output now answers (take fault.sent b.answer) (f.written p) b.off.written;
+        follows = length-take-le fault.sent b.answer (omega (arith, b.off.short));
         left = (
           b.request,
           is_next old input new f.requests b.request count all f.count_is f.taken b.taken,
@@ -257,9 +259,9 @@ module _ (H : Type 0) (old out : Option (List ℕ)) (w : DeskWorld) (moment : �
       let less : answered - 1 ≡ count = omega (arith, last.0) in
       subst (λ n. Given Broken n now after) (sym less)
       (f.requests, _, given_broken count input new output now world after f last.1)
-  given_by (Fault (Write sent_len)) count answered input new output now world after f last =
-      subst (λ n. Given (Fault (Write sent_len)) n now after) (sym last.0)
-      (f.requests, _, given_off count sent_len input new output now world after f last.1)
+  given_by (Fault (Write fault)) count answered input new output now world after f last =
+      subst (λ n. Given (Fault (Write fault)) n now after) (sym last.0)
+      (f.requests, _, given_off count fault input new output now world after f last.1)
   given_by (Fault Read) count answered input new output now world after f last =
       subst (λ n. Given (Fault Read) n now after) (sym last.0) (
         f.requests,
@@ -374,7 +376,7 @@ module _ (o stream : List ℕ) (w : DeskWorld) (moment : ℤ) (count : ℕ)
       ∙ quiet_left count requests (omega arith) is
   quiet_by (Fault OutOfMemory) requests after is left = ap (λ v. side v o) left
       ∙ quiet_left count requests (omega arith) is
-  quiet_by (Fault (Write sent_len)) requests after is left =
+  quiet_by (Fault (Write fault)) requests after is left =
       elim left.2 [
         | inl e ↦ ap (λ v. side v o) e ∙ quiet_next requests left.0 left.1
         | inr e ↦ ap (λ v. side v o) e ∙ quiet_left count requests (omega arith) is

@@ -7,6 +7,7 @@ use Rattle.desk_reading.specs.Requests.{asked}
 use Rattle.desk_writing.specs.Replies.{reply_text}
 use Rattle.desk_wire.specs.declared.refusal.Refusal.TheVariants.{Fault, UnknownOperator, NoSuchPlan}
 use Rattle.desk_wire.specs.declared.response.ServerError.{ServerError}
+use Rattle.desk_wire.specs.Causes.{HasCause}
 use Rattle.desk_wire.specs.Refusals.{refusal_status, refusal_text, server_error_text}
 use Rattle.desk_run.specs.Verdicts.{Told, replied, unknown_operator, no_such_plan, told_to, step}
 use Rattle.desk_run.specs.DeskWorld.{DeskWorld}
@@ -60,8 +61,9 @@ abbrev pub status_so : Option ServerError → DeskWorld → ℤ → Reading Aske
 status_so None w moment reading = status_for w moment reading
 status_so (Some why) w moment reading = 500
 
--- the answer to a request, and what it leaves
-abbrev pub IsAnswered : DeskWorld → ℤ → List ℕ → List ℕ → DeskWorld → Type 0
-IsAnswered w moment request answer after =
-    IsDone w moment (asked request) answer after
-    ⊎ ((why : ServerError) × IsServerError why w answer after)
+-- the answer to a request, and what it leaves, if the store is honest; or the desk failed, whether it is or
+-- not, and if its store did, that has counted a fault
+abbrev pub IsAnswered : Type 0 → DeskWorld → ℤ → List ℕ → List ℕ → DeskWorld → ℕ → ℕ → Type 0
+IsAnswered H w moment request answer after old new =
+    (H → IsDone w moment (asked request) answer after)
+    ⊎ ((why : ServerError) × IsServerError why w answer after × HasCause why old new)

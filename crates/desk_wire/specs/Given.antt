@@ -38,7 +38,7 @@ FollowsBy play.End more = more ≡ []
 FollowsBy play.Unframed more = more ≡ []
 FollowsBy play.Limit more = more ≡ []
 FollowsBy play.Broken more = (why : ServerError) × (more ≡ server_error_text why)
-FollowsBy (play.Fault (Write sent)) more = length more ≡ sent
+FollowsBy (play.Fault (Write fault)) more = length more ≡ fault.sent
 FollowsBy (play.Fault Read) more = more ≡ []
 FollowsBy (play.Fault CutShort) more = more ≡ []
 FollowsBy (play.Fault OutOfMemory) more = more ≡ []
@@ -50,7 +50,7 @@ LeavesBy play.End IsNext w moment after = after ≡ w
 LeavesBy play.Unframed IsNext w moment after = after ≡ w
 LeavesBy play.Limit IsNext w moment after = after ≡ w
 LeavesBy play.Broken IsNext w moment after = after ≡ w
-LeavesBy (play.Fault (Write sent)) IsNext w moment after =
+LeavesBy (play.Fault (Write fault)) IsNext w moment after =
     (next : List ℕ) × IsNext next × ((after ≡ world_after w moment (asked next)) ⊎ (after ≡ w))
 LeavesBy (play.Fault Read) IsNext w moment after = after ≡ w
 LeavesBy (play.Fault CutShort) IsNext w moment after = after ≡ w

@@ -34,7 +34,7 @@ IsCertain (Ok served.End) = ⊤
 IsCertain (Err Read) = ⊤
 IsCertain (Err CutShort) = ⊤
 IsCertain (Err OutOfMemory) = ⊥
-IsCertain (Err (Write sent)) = ⊥
+IsCertain (Err (Write fault)) = ⊥
 
 -- what is found after one request: the content that is left; or, if that is what was there before, what might
 -- have been found before, or what the request would have left, if its change isn't certain
@@ -53,7 +53,7 @@ FindsBy Broken IsNext w moment found = IsOldOrNext IsNext w moment found
 FindsBy (Fault Read) IsNext w moment found = found ≡ Some w.content
 FindsBy (Fault CutShort) IsNext w moment found = found ≡ Some w.content
 FindsBy (Fault OutOfMemory) IsNext w moment found = IsOldOrNext IsNext w moment found
-FindsBy (Fault (Write sent)) IsNext w moment found = IsOldOrNext IsNext w moment found
+FindsBy (Fault (Write fault)) IsNext w moment found = IsOldOrNext IsNext w moment found
 
 -- the first requests of a stream have their answers, which were written; and what is found
 pub record IsKept (ended : PlayEnd) (n : ℕ) (old out now : Option (List ℕ)) (w : DeskWorld) (moment : ℤ)

@@ -8,6 +8,8 @@ use Rattle.desk_wire.specs.declared.stream.Served.{Served}
 use Rattle.desk_wire.specs.declared.stream.Served.TheVariants.{Answered, End}
 use Rattle.desk_wire.specs.declared.stream.ServeFault.{ServeFault}
 use Rattle.desk_wire.specs.declared.stream.ServeFault.TheVariants.{Read, Write, CutShort, OutOfMemory}
+use Rattle.desk_wire.specs.declared.stream.WriteEnd.TheVariants.{Whole}
+use Rattle.desk_wire.specs.declared.stream.WriteFault.{WriteFault}
 use Rattle.desk_wire.specs.Bytes.{IsAnsweredSo, IsServerError, status_so}
 use Rattle.desk_wire.specs.Streams.{IsCut, IsRequest, is_framed}
 
@@ -40,30 +42,28 @@ pub record IsServed (H : Type 0) (old new out now : Option (List ℕ)) (w : Desk
   pub gave_up : status ≡ 500 → why ≢ None
   pub written : Appends out now answer
 
--- the same, but only the first bytes of the answer are written
+-- the writing of bytes broke off: the first ones are written, as many as the fault says, and not all
+pub record BreaksOff (bytes : List ℕ) (out now : Option (List ℕ)) (fault : WriteFault) : Type 0 where
+  pub cause : fault.end ≢ Whole
+  pub short : fault.sent < length bytes
+  pub written : Appends out now (take fault.sent bytes)
+
+-- the same, but the writing of the answer broke off
 pub record IsBrokenOff (H : Type 0) (old new out now : Option (List ℕ)) (w : DeskWorld) (moment : ℤ)
-    (after : DeskWorld) (sent : ℕ) : Type 0 where
+    (after : DeskWorld) (fault : WriteFault) : Type 0 where
   pub request : List ℕ
   pub taken : IsTaken old new request
   pub answer : List ℕ
   pub why : Option ServerError
   pub replied : IsReplied H w moment request answer why after
-  pub short : sent < length answer
-  pub written : Appends out now (take sent answer)
+  pub off : BreaksOff answer out now fault
 
 -- what stops the reading of a request: its end is cut off, or a fault that says nothing of it
 abbrev pub Stops : Type 0 → ServeFault → Type 0
 Stops cut CutShort = cut
 Stops cut Read = ⊤
 Stops cut OutOfMemory = ⊤
-Stops cut (Write sent) = ⊥
-
--- what stops the writing of bytes
-abbrev pub BreaksOff : List ℕ → Option (List ℕ) → Option (List ℕ) → ServeFault → Type 0
-BreaksOff bytes out now (Write sent) = (sent < length bytes) × Appends out now (take sent bytes)
-BreaksOff bytes out now Read = ⊥
-BreaksOff bytes out now CutShort = ⊥
-BreaksOff bytes out now OutOfMemory = ⊥
+Stops cut (Write fault) = ⊥
 
 -- what comes of one request of a stream
 abbrev pub HasServed :
@@ -72,8 +72,8 @@ abbrev pub HasServed :
 HasServed H (Ok (Answered status framed)) old new out now w moment after =
     IsServed H old new out now w moment after status framed
 HasServed H (Ok End) old new out now w moment after = IsAtEnd old × IsUntouched out now w after
-HasServed H (Err (Write sent)) old new out now w moment after =
-    IsBrokenOff H old new out now w moment after sent
+HasServed H (Err (Write fault)) old new out now w moment after =
+    IsBrokenOff H old new out now w moment after fault
 HasServed H (Err CutShort) old new out now w moment after =
     IfSome old IsCut × IsUntouched out now w after
 HasServed H (Err Read) old new out now w moment after = IsUntouched out now w after
@@ -82,6 +82,6 @@ HasServed H (Err OutOfMemory) old new out now w moment after = IsUntouched out n
 -- the fault as a sentence
 abbrev pub fault_text : ServeFault → List ℕ
 fault_text Read = codes "a read failed"
-fault_text (Write sent) = codes "a write failed after " ++ (decimal sent ++ codes " bytes")
+fault_text (Write fault) = codes "a write failed after " ++ (decimal fault.sent ++ codes " bytes")
 fault_text CutShort = codes "the input ended inside a request"
 fault_text OutOfMemory = codes "out of memory"

@@ -17,7 +17,7 @@ ghost use Rattle.desk_wire.specs.Refusals.{refusal_status, refusal_text};
 
 use crate::refusal::Refusal;
 use crate::response::{Answer, ServerError};
-use desk_reading::{Message, ReadError, Routes, WireFault, read_asked, read_message};
+use desk_reading::{Message, ReadError, WireFault, read_asked, read_message};
 use desk_run::{Asked, Desk, DeskFault, Pending};
 use desk_store::PlanStore;
 use desk_writing::{error_answer, reply_answer};
@@ -39,9 +39,8 @@ struct Response {
 ///
 /// # Errors
 ///
-/// `AllocError` if the room for the routes or for an answer was refused: nothing changed. If a later
-/// growth was refused, or the store failed, the answer says so, and nothing changed; but the next start
-/// may find the change made.
+/// `AllocError` if the room for an answer was refused: nothing changed. If a later growth was refused, or
+/// the store failed, the answer says so, and nothing changed; but the next start may find the change made.
 pub fn answer<S: PlanStore>(
     alloc: Global,
     desk: &mut Desk<S>,
@@ -49,17 +48,16 @@ pub fn answer<S: PlanStore>(
     text: &[u8],
 ) -> Result<Vec<u8>, AllocError>
     requires { IsMoment moment }
-    ensures bytes { IsHonest (S.doubt desk.new.store) → IfOk result (λ bytes.
-        IsAnswered (world_of S.content desk.old) moment text.now bytes.items
-        (world_of S.content desk.new)) }
+    ensures bytes { IfOk result (λ bytes. IsAnswered (IsHonest (S.doubt desk.new.store))
+        (world_of S.content desk.old) moment text.now bytes.items (world_of S.content desk.new)
+        (S.faults desk.old.store) (S.faults desk.new.store)) }
     ensures err { OnErr result (world_of S.content desk.new ≡ world_of S.content desk.old) }
     ensures crash { IsHonest (S.doubt desk.new.store) → LeavesOldOr
         (world_after (world_of S.content desk.old) moment (asked text.now)).content
         (S.may_leave desk.old.store) (S.may_leave desk.new.store) }
     ensures remembered { Remembers S.doubt S.faults S.is_shielded desk.old.store desk.new.store }
 {
-    let routes = Routes::try_new(alloc)?;
-    let answer = answer_request(alloc, &routes, desk, moment, &read_message(text))?;
+    let answer = answer_request(alloc, desk, moment, &read_message(text))?;
     Ok(answer.bytes)
 }
 
@@ -70,7 +68,6 @@ pub fn answer<S: PlanStore>(
 /// `AllocError` if the room for an answer was refused: nothing changed.
 pub fn answer_request<S: PlanStore>(
     alloc: Global,
-    routes: &Routes,
     desk: &mut Desk<S>,
     moment: i64,
     request: &Result<Message<'_>, WireFault>,
@@ -101,7 +98,7 @@ pub fn answer_request<S: PlanStore>(
         HasRisen (S.faults desk.old.store) (S.faults desk.new.store)) }
 {
     let mut room = Vec::with_capacity(alloc, ANSWER_ROOM)?;
-    match respond(alloc, routes, desk, moment, request) {
+    match respond(alloc, desk, moment, request) {
         Ok(response) => Ok(Answer {
             status: response.status,
             bytes: response.bytes,
@@ -121,7 +118,6 @@ pub fn answer_request<S: PlanStore>(
 // Answers the request that was read, or its fault, unless the desk fails.
 fn respond<S: PlanStore>(
     alloc: Global,
-    routes: &Routes,
     desk: &mut Desk<S>,
     moment: i64,
     request: &Result<Message<'_>, WireFault>,
@@ -148,7 +144,7 @@ fn respond<S: PlanStore>(
         HasRisen (S.faults desk.old.store) (S.faults desk.new.store)) }
 {
     match request {
-        Ok(message) => answer_message(alloc, routes, desk, moment, message),
+        Ok(message) => answer_message(alloc, desk, moment, message),
         Err(fault) => refuse(alloc, Refusal::Fault(*fault)),
     }
 }
@@ -156,7 +152,6 @@ fn respond<S: PlanStore>(
 // Answers a message.
 fn answer_message<S: PlanStore>(
     alloc: Global,
-    routes: &Routes,
     desk: &mut Desk<S>,
     moment: i64,
     message: &Message<'_>,
@@ -180,7 +175,7 @@ fn answer_message<S: PlanStore>(
     ensures cause { IfErr result (λ e. e ≡ ServerError.Store →
         HasRisen (S.faults desk.old.store) (S.faults desk.new.store)) }
 {
-    match read_asked(alloc, routes, message) {
+    match read_asked(alloc, message) {
         Ok(asked) => answer_call(alloc, desk, moment, &asked),
         Err(ReadError::Fault(fault)) => refuse(alloc, Refusal::Fault(fault)),
         Err(ReadError::OutOfMemory) => Err(ServerError::OutOfMemory),

@@ -15,7 +15,7 @@ ghost use Rattle.desk_wire.specs.TwoRuns.{requests_of};
 
 use crate::answering::answer_request;
 use crate::response::Answer;
-use desk_reading::{Routes, read_message};
+use desk_reading::read_message;
 use desk_run::Desk;
 use desk_store::PlanStore;
 use std::alloc::{AllocError, Global};
@@ -75,7 +75,7 @@ pub enum AnswersEnd {
 ///
 /// # Errors
 ///
-/// `AllocError` if the room for the routes or for all answers was refused: nothing changed.
+/// `AllocError` if the room for all answers was refused: nothing changed.
 pub fn answer_all<S: PlanStore>(
     alloc: Global,
     desk: &mut Desk<S>,
@@ -99,10 +99,9 @@ pub fn answer_all<S: PlanStore>(
         HasFailed (IsLast (map (λ v. v.items) a.answers.items))
         (S.faults desk.old.store) (S.faults desk.new.store)) }
 {
-    let routes = Routes::try_new(alloc)?;
     let mut answers = Vec::with_capacity(alloc, requests.len())?;
     for (moment, text) in requests {
-        let answer = answer_request(alloc, &routes, desk, *moment, &read_message(text));
+        let answer = answer_request(alloc, desk, *moment, &read_message(text));
         let Ok(Answer { bytes, error, .. }) = answer else {
             return Ok(Answers {
                 answers,

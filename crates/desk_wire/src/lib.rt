@@ -11,6 +11,6 @@ mod stream;
 
 pub use answering::answer;
 pub use batch::{Answers, AnswersEnd, answer_all};
-pub use desk_reading::{ReadError, Routes, WireFault, read_request};
+pub use desk_reading::{ReadError, Route, WireFault, read_request};
 pub use play::{PlayEnd, Played, play_all};
-pub use stream::{ServeFault, Served, serve_next, serve_one, write_whole};
+pub use stream::{ServeFault, Served, WriteEnd, WriteFault, serve_one, write_whole};

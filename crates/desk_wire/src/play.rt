@@ -11,8 +11,7 @@ ghost use Rattle.desk_wire.specs.Kept.{IsKept};
 ghost use Rattle.desk_wire.specs.Moments.{IsMoment};
 ghost use Rattle.desk_wire.specs.Playing.{HasPlayed};
 
-use crate::stream::{ServeFault, Served, serve_next};
-use desk_reading::Routes;
+use crate::stream::{ServeFault, Served, serve_one};
 use desk_run::Desk;
 use desk_store::PlanStore;
 use http::StatusCode;
@@ -70,41 +69,8 @@ pub fn play_all<S: PlanStore, R: Read, W: Write>(
         HasFailed (AppendsLast (W.contents output.old) (W.contents output.new))
         (S.faults desk.old.store) (S.faults desk.new.store) }
 {
-    match Routes::try_new(alloc) {
-        Ok(routes) => play_with(alloc, &routes, desk, moment, input, output),
-        Err(AllocError) => Played {
-            answered: 0,
-            ended: PlayEnd::Fault(ServeFault::OutOfMemory),
-        },
-    }
-}
-
-// The same, with routes that are at hand.
-fn play_with<S: PlanStore, R: Read, W: Write>(
-    alloc: Global,
-    routes: &Routes,
-    desk: &mut Desk<S>,
-    moment: i64,
-    input: &mut R,
-    output: &mut W,
-) -> Played
-    requires { IsMoment moment }
-    ensures played { HasPlayed (IsHonest (S.doubt desk.new.store)) result.ended result.answered
-        (R.remaining input.old) (R.remaining input.new)
-        (W.contents output.old) (W.contents output.new)
-        (world_of S.content desk.old) moment (world_of S.content desk.new) }
-    ensures kept { IsHonest (S.doubt desk.new.store) → IsSettled S.content S.may_leave desk.old →
-        (found : Option World) → S.may_leave desk.new.store found →
-        IsKept result.ended (told_in_play result.ended result.answered) (R.remaining input.old)
-        (W.contents output.old) (W.contents output.new)
-        (world_of S.content desk.old) moment (world_of S.content desk.new) found }
-    ensures remembered { Remembers S.doubt S.faults S.is_shielded desk.old.store desk.new.store }
-    ensures cause { result.ended ≡ PlayEnd.Broken →
-        HasFailed (AppendsLast (W.contents output.old) (W.contents output.new))
-        (S.faults desk.old.store) (S.faults desk.new.store) }
-{
     for before in 0..MAX_ANSWERED {
-        let served = match serve_next(alloc, routes, desk, moment, input, output) {
+        let served = match serve_one(alloc, desk, moment, input, output) {
             Ok(served) => served,
             Err(fault) => return Played {
                 answered: before,

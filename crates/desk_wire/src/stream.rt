@@ -19,7 +19,7 @@ ghost use Rattle.desk_wire.specs.Streams.{IsCut, IsFront, byte_list, front_read,
 ghost use Rattle.desk_wire.specs.declared.stream.ServeFault.TheVariants as serve_fault;
 
 use crate::answering::answer_request;
-use desk_reading::{Front, HEAD_ROOM, Message, Routes, WireFault, is_ended, read_front};
+use desk_reading::{Front, HEAD_ROOM, Message, WireFault, is_ended, read_front};
 use desk_run::Desk;
 use desk_store::PlanStore;
 use std::alloc::{AllocError, Global};
@@ -36,6 +36,50 @@ const SPARE_WRITES: usize = 1_000;
 /// How many bytes of a body are read at a time, at most.
 const CHUNK: usize = 4_096;
 
+/// Why the writing of bytes ended.
+#[derive(Clone, Copy, Debug, PartialEq, Eq)]
+pub enum WriteEnd {
+    /// All bytes are written.
+    Whole,
+    /// A write failed, and was not just interrupted.
+    Failed,
+    /// A write took nothing.
+    Nothing,
+    /// There were as many writes as the bytes and 1,000, and bytes are left.
+    Limit,
+}
+
+/// The writing of bytes that broke off before the last of them. Only `write_whole` makes one, so what has one
+/// has asked a writer.
+#[derive(Clone, Copy, Debug, PartialEq, Eq)]
+pub struct WriteFault {
+    sent: usize,
+    end: WriteEnd,
+}
+
+impl WriteFault {
+    /// How many bytes were written: the first ones.
+    pub fn sent(self) -> usize
+        ensures { result ≡ self.sent }
+    {
+        self.sent
+    }
+
+    /// Why no more were: another end than `Whole`.
+    pub fn end(self) -> WriteEnd
+        ensures { result ≡ self.end }
+    {
+        self.end
+    }
+}
+
+// How many bytes were written, the first ones, and why no more were.
+#[derive(Clone, Copy)]
+struct Written {
+    sent: usize,
+    end: WriteEnd,
+}
+
 /// What came of one request of a stream.
 #[derive(Clone, Copy, Debug, PartialEq, Eq)]
 pub enum Served {
@@ -50,9 +94,8 @@ pub enum Served {
 pub enum ServeFault {
     /// A read failed, or the request takes more than 200,000 reads.
     Read,
-    /// A write failed, wrote nothing, or the answer takes more writes than its length and 1,000.
-    /// The bytes sent are the answer's first `sent`; the change of the request stands.
-    Write { sent: usize },
+    /// The writing of the answer broke off. The change of the request stands.
+    Write(WriteFault),
     /// The input ended inside a request. Nothing was written or changed.
     CutShort,
     /// Memory ran out. Nothing was written or changed.
@@ -68,7 +111,10 @@ impl fmt::Display for ServeFault {
     fn fmt<W: fmt::Write>(&self, f: &mut fmt::Formatter<W>) -> fmt::Result {
         match self {
             ServeFault::Read => f.write_str("a read failed"),
-            ServeFault::Write { sent } => write!(f, "a write failed after {sent} bytes"),
+            ServeFault::Write(fault) => {
+                let sent = fault.sent;
+                write!(f, "a write failed after {sent} bytes")
+            }
             ServeFault::CutShort => f.write_str("the input ended inside a request"),
             ServeFault::OutOfMemory => f.write_str("out of memory"),
         }
@@ -76,6 +122,14 @@ impl fmt::Display for ServeFault {
 }
 
 impl Error for ServeFault {}
+
+impl From<WriteFault> for ServeFault {
+    ghost from_gives = { λ fault e. e ≡ serve_fault.Write fault };
+
+    fn from(fault: WriteFault) -> ServeFault {
+        ServeFault::Write(fault)
+    }
+}
 
 impl From<AllocError> for ServeFault {
     ghost from_gives = { λ _ e. e ≡ serve_fault.OutOfMemory };
@@ -91,42 +145,9 @@ impl From<AllocError> for ServeFault {
 ///
 /// # Errors
 ///
-/// As `ServeFault` says; `OutOfMemory` too if the room for the routes was refused.
+/// As `ServeFault` says.
 pub fn serve_one<S: PlanStore, R: Read, W: Write>(
     alloc: Global,
-    desk: &mut Desk<S>,
-    moment: i64,
-    input: &mut R,
-    output: &mut W,
-) -> Result<Served, ServeFault>
-    requires { IsMoment moment }
-    ensures served { HasServed (IsHonest (S.doubt desk.new.store)) result
-        (R.remaining input.old) (R.remaining input.new)
-        (W.contents output.old) (W.contents output.new)
-        (world_of S.content desk.old) moment (world_of S.content desk.new) }
-    ensures crash { IsHonest (S.doubt desk.new.store) → (found : Option World) →
-        S.may_leave desk.new.store found → S.may_leave desk.old.store found
-        ⊎ IsLeftBy (IsTaken (R.remaining input.old) (R.remaining input.new))
-        (world_of S.content desk.old) moment found }
-    ensures kept { IsHonest (S.doubt desk.new.store) → IsCertain result →
-        IsSettled S.content S.may_leave desk.old → IsSettled S.content S.may_leave desk.new }
-    ensures found { IsHonest (S.doubt desk.new.store) → (found : Option World) →
-        S.may_leave desk.new.store found → IsFoundNow result (S.may_leave desk.old.store)
-        (IsTaken (R.remaining input.old) (R.remaining input.new))
-        (world_of S.content desk.old) moment (world_of S.content desk.new) found }
-    ensures remembered { Remembers S.doubt S.faults S.is_shielded desk.old.store desk.new.store }
-    ensures cause { IfOk result (λ served. IsGivenUp served →
-        HasFailed (Appends (W.contents output.old) (W.contents output.new))
-        (S.faults desk.old.store) (S.faults desk.new.store)) }
-{
-    let routes = Routes::try_new(alloc)?;
-    serve_next(alloc, &routes, desk, moment, input, output)
-}
-
-/// The same, with routes that are at hand.
-pub fn serve_next<S: PlanStore, R: Read, W: Write>(
-    alloc: Global,
-    routes: &Routes,
     desk: &mut Desk<S>,
     moment: i64,
     input: &mut R,
@@ -160,7 +181,7 @@ pub fn serve_next<S: PlanStore, R: Read, W: Write>(
     let front = front_of(&text);
     let body = receive_body(alloc, input, size_of(&front), &mut reads)?;
     let request = message_of(front, &body);
-    let answer = answer_request(alloc, routes, desk, moment, &request)?;
+    let answer = answer_request(alloc, desk, moment, &request)?;
     write_whole(output, &answer.bytes)?;
     Ok(answered(answer.status, &request))
 }
@@ -326,36 +347,61 @@ fn read_counted<R: Read>(input: &mut R, room: &mut [u8], left: &mut u32) -> io::
 ///
 /// # Errors
 ///
-/// `Write`, with the number of bytes that were written.
+/// How many bytes were written, and why no more were.
 #[tactic(auto, using(crate::proofs::StreamLemmas::written_all))]
-pub fn write_whole<W: Write>(output: &mut W, bytes: &[u8]) -> Result<(), ServeFault>
+pub fn write_whole<W: Write>(output: &mut W, bytes: &[u8]) -> Result<(), WriteFault>
     ensures ok { OnOk result (Appends (W.contents output.old) (W.contents output.new) bytes.now) }
     ensures err { IfErr result (BreaksOff bytes.now (W.contents output.old) (W.contents output.new)) }
 {
-    let sent = write_most(output, bytes);
-    if sent == bytes.len() {
+    let Written { sent, end } = write_most(output, bytes);
+    if end == WriteEnd::Whole {
         Ok(())
     } else {
-        Err(ServeFault::Write { sent })
+        Err(WriteFault { sent, end })
     }
 }
 
-// Writes the first bytes, as many as the output takes in so many writes, and says how many they are.
-fn write_most<W: Write>(output: &mut W, bytes: &[u8]) -> usize
-    ensures written { Appends (W.contents output.old) (W.contents output.new) (take result bytes.now) }
-    ensures within { result ≤ length bytes.now }
+// Writes the first bytes, as many as the output takes in so many writes.
+fn write_most<W: Write>(output: &mut W, bytes: &[u8]) -> Written
+    ensures written { Appends (W.contents output.old) (W.contents output.new)
+        (take result.sent bytes.now) }
+    ensures within { result.sent ≤ length bytes.now }
+    ensures whole { (result.end ≡ WriteEnd.Whole) ↔ (result.sent ≡ length bytes.now) }
 {
     let mut sent = 0;
     for _ in 0..bytes.len().saturating_add(SPARE_WRITES) {
         if sent == bytes.len() {
-            return sent;
+            return Written {
+                sent,
+                end: WriteEnd::Whole,
+            };
         }
         match output.write(&bytes[sent..]) {
-            Ok(0) => return sent,
+            Ok(0) => return Written {
+                sent,
+                end: WriteEnd::Nothing,
+            },
             Ok(count) => sent += count,
             Err(error) if is_interruption(&error) => {}
-            Err(_) => return sent,
+            Err(_) => return Written {
+                sent,
+                end: WriteEnd::Failed,
+            },
         }
     }
-    sent
+    Written {
+        sent,
+        end: end_at_limit(sent, bytes.len()),
+    }
+}
+
+// Why the writing ended after the last write that it may take.
+fn end_at_limit(sent: usize, length: usize) -> WriteEnd
+    ensures { (result ≡ WriteEnd.Whole) ↔ (sent ≡ length) }
+{
+    if sent == length {
+        WriteEnd::Whole
+    } else {
+        WriteEnd::Limit
+    }
 }

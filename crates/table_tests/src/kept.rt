@@ -49,7 +49,7 @@ fn play_line(alloc: Global, more: &[&str]) -> Result<Play, Fail>
     for word in more {
         words.push(String::from_str(alloc, word)?)?;
     }
-    match read_words(alloc, &words) {
+    match read_words(alloc, words) {
         Ok(Task::Run(Line::Play(play))) => Ok(play),
         _ => Err(Fail::from("no line")),
     }

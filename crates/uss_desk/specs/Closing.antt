@@ -8,11 +8,11 @@ use Rattle.sqlite.specs.Closing.{IsCopied}
 use Rattle.desk_run.specs.DeskWorld.{Parts}
 use Rattle.desk_tables.specs.Store.{Shown}
 use Rattle.desk_line.specs.declared.failure.Failure.TheVariants as failure
-use Rattle.desk_line.specs.Exits.{Ending, FailsWith}
+use Rattle.desk_line.specs.Exits.{Ending, FailsWith, IsSilent}
 
 -- a line ends with the status that it had, and nothing more is told
 abbrev pub EndsAsItWas : ℕ → Ending → Type 0
-EndsAsItWas status end = (end.status ≡ status) × (end.now ≡ end.before)
+EndsAsItWas status end = (end.status ≡ status) × IsSilent end
 
 -- a line whose desk can't be closed: that is its failure, if it had none
 abbrev pub IsUnclosed : ℕ → Ending → Type 0
@@ -26,5 +26,4 @@ module _ {D : Type 0} {g : disk.Ghosts D} where
   IsClosed None status end files = EndsAsItWas status end × (files ≡ None)
   IsClosed (Some desk) status end None = IsUnclosed status end
   IsClosed (Some desk) status end (Some files) =
-      (end.status ≡ status) × (end.now ≡ end.before)
-      × (AreClean g files.log files.db → IsCopied desk.store.held files)
+      EndsAsItWas status end × (AreClean g files.log files.db → IsCopied desk.store.held files)

@@ -4,7 +4,7 @@ ghost use Rattle.desk_line.specs.Exits.{ending};
 ghost use Rattle.uss_desk.specs.Closing.{IsClosed};
 
 use crate::opening::FileDesk;
-use desk_line::{Failure, conclude};
+use desk_line::{Exit, Failure, conclude};
 use sqlite::{FileFrom, Files, Start};
 use std::io::Write;
 
@@ -15,16 +15,16 @@ pub fn close_after<F: Start, E: Write>(
     status: u8,
     desk: Option<FileDesk<F>>,
     errors: &mut E,
-) -> (u8, Option<Files<FileFrom<F>>>)
+) -> (Exit, Option<Files<FileFrom<F>>>)
     ensures { IsClosed desk status
         (ending result.0 (E.contents errors.old) (E.contents errors.new)) result.1 }
 {
     let Some(desk) = desk else {
-        return (status, None);
+        return (Exit::silent(status), None);
     };
     match desk.into_store().close() {
-        Ok(files) => (status, Some(files)),
+        Ok(files) => (Exit::silent(status), Some(files)),
         Err(_) if status == 0 => (conclude(errors, Err(Failure::Store)), None),
-        Err(_) => (status, None),
+        Err(_) => (Exit::silent(status), None),
     }
 }

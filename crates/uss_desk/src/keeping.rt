@@ -57,15 +57,15 @@ pub fn check_file<F: Start, W: Write, E: Write>(
 {
     match look_for(rt, database, start) {
         Ok((connection, file)) => {
-            let status = print_checked(rt.alloc(), &file, output, errors);
-            (status, Ok(connection))
+            let exit = print_checked(rt.alloc(), &file, output, errors);
+            (exit.status, Ok(connection))
         }
         Err(unopened) => {
             let failure = unopened.failure;
             if let Database::File(path) = database {
                 tell(rt, path, failure, unopened.connection.is_some(), errors);
             }
-            (conclude(errors, Err(failure)), Err(unopened))
+            (conclude(errors, Err(failure)).status, Err(unopened))
         }
     }
 }
@@ -163,16 +163,19 @@ pub fn copy_file<F: Start, N: Start, W: Write, E: Write>(
     match copy_for(rt, words, start, other, errors) {
         Ok(copies) => {
             let holdings = copies.1.1;
-            let status = print_copied(
+            let exit = print_copied(
                 rt.alloc(),
                 holdings.operators,
                 holdings.plans,
                 output,
                 errors,
             );
-            (status, Ok(copies))
+            (exit.status, Ok(copies))
         }
-        Err(unopened) => (conclude(errors, Err(unopened.failure)), Err(unopened)),
+        Err(unopened) => (
+            conclude(errors, Err(unopened.failure)).status,
+            Err(unopened),
+        ),
     }
 }
 

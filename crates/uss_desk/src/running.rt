@@ -11,7 +11,7 @@ ghost use Rattle.uss_desk.specs.Opening.{IsOpenedFor};
 ghost use Rattle.uss_desk.specs.Running.{IsDone, IsDoneAt, IsKeptAt, IsMoveTold, IsUndone};
 
 use crate::opening::{FileDesk, Look, MemoryDesk, Opened, OpenedDesk, Unopened};
-use desk_line::{Failure, Line, conclude, print_line};
+use desk_line::{Exit, Failure, Line, conclude, print_line};
 use desk_program::{Port, print_migrated, run_opened};
 use desk_run::Desk;
 use desk_tables::SqliteStore;
@@ -20,8 +20,8 @@ use sqlite_disk::Disk;
 use std::alloc::Global;
 use std::io::{Read, Write};
 
-/// Does what a line says at what was opened for it, and answers the exit status and the desk in memory or
-/// over files at which it was done, if there was one. The word of a failure goes to `errors`; a fault there
+/// Does what a line says at what was opened for it, and answers how it ended and the desk in memory or over
+/// files at which it was done, if there was one. The word of a failure goes to `errors`; a fault there
 /// is passed over.
 pub fn run_line<F: Start, P: Port, R: Read, W: Write, E: Write>(
     alloc: Global,
@@ -31,7 +31,7 @@ pub fn run_line<F: Start, P: Port, R: Read, W: Write, E: Write>(
     input: &mut R,
     output: &mut W,
     errors: &mut E,
-) -> (u8, Option<MemoryDesk>, Option<FileDesk<F>>)
+) -> (Exit, Option<MemoryDesk>, Option<FileDesk<F>>)
     requires line { IsLine line.now }
     requires opened { IsOpenedFor (image_at F.Start) line.now opened }
     ensures { IsDone (account_of F.Start) opened line.now
@@ -42,17 +42,17 @@ pub fn run_line<F: Start, P: Port, R: Read, W: Write, E: Write>(
     match opened {
         Opened::Nothing => (print_line(alloc, line, output, errors), None, None),
         Opened::Memory(desk) => {
-            let (status, left) = run_over(alloc, line, desk, port, input, output, errors);
-            (status, left, None)
+            let (exit, left) = run_over(alloc, line, desk, port, input, output, errors);
+            (exit, left, None)
         }
         Opened::Files(desk) => {
             let desk = or_failure(desk);
-            let (status, left) = run_over(alloc, line, desk, port, input, output, errors);
-            (status, None, left)
+            let (exit, left) = run_over(alloc, line, desk, port, input, output, errors);
+            (exit, None, left)
         }
         Opened::Moved(moved) => {
-            let (status, left) = tell_moved(alloc, moved, output, errors);
-            (status, None, left)
+            let (exit, left) = tell_moved(alloc, moved, output, errors);
+            (exit, None, left)
         }
     }
 }
@@ -76,7 +76,7 @@ fn run_over<D: Disk + Drop, P: Port, R: Read, W: Write, E: Write>(
     input: &mut R,
     output: &mut W,
     errors: &mut E,
-) -> (u8, Option<Desk<SqliteStore<FileStore<D>>>>)
+) -> (Exit, Option<Desk<SqliteStore<FileStore<D>>>>)
     requires line { IsLine line.now }
     requires desk { HasDatabase line.now }
     ensures opened { IfOk opened (IsDoneAt over_files line.now (P.traffic port.old) (P.traffic port.new)
@@ -98,14 +98,14 @@ fn tell_moved<F: Start, W: Write, E: Write>(
     moved: Result<(FileDesk<F>, u32), Unopened<Look<F>>>,
     output: &mut W,
     errors: &mut E,
-) -> (u8, Option<FileDesk<F>>)
+) -> (Exit, Option<FileDesk<F>>)
     ensures { IsMoveTold moved (ending result.0 (E.contents errors.old) (E.contents errors.new)) result.1
         (W.contents output.old) (W.contents output.new) }
 {
     match moved {
         Ok((desk, count)) => {
-            let status = print_migrated(alloc, count, output, errors);
-            (status, Some(desk))
+            let exit = print_migrated(alloc, count, output, errors);
+            (exit, Some(desk))
         }
         Err(unopened) => (conclude(errors, Err(unopened.failure)), None),
     }

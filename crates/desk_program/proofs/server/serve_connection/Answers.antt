@@ -23,33 +23,33 @@ returns-in_err-client-clause-served g c = (returns-in_err-client-clause-kept g c
 
 pub returns-clause-kept : goal.returns-clause-kept
 returns-clause-kept g c =
-    let honest = IsHonest (g.S.PlanStore.doubt c.serve_next-served.new.desk.store) in
+    let honest = IsHonest (g.S.PlanStore.doubt c.serve_one-served.new.desk.store) in
     let client = c.in_ok-client.client in
     let bytes = g.P.Input.Read.remaining client.input in
-    let unread = g.P.Input.Read.remaining c.serve_next-served.new.input in
+    let unread = g.P.Input.Read.remaining c.serve_one-served.new.input in
     let out = g.P.Output.Write.contents client.output in
-    let now = g.P.Output.Write.contents c.serve_next-served.new.output in
+    let now = g.P.Output.Write.contents c.serve_one-served.new.output in
     let w = world_of g.S.PlanStore.content c.args.desk.now in
-    let after = world_of g.S.PlanStore.content c.serve_next-served.new.desk in
+    let after = world_of g.S.PlanStore.content c.serve_one-served.new.desk in
     let before = g.S.PlanStore.may_leave c.args.desk.now.store in
     let taken = c.in_ok-client.ensures.taken in
     one_kept honest c.done_after.result (record {
       arrival = arrived client.moment bytes;
       out = out;
-      served = c.serve_next-served.result;
+      served = c.serve_one-served.result;
       parting = parted unread now c.is_whole.result;
-    }) _ _ w after before (g.S.PlanStore.may_leave c.serve_next-served.new.desk.store)
+    }) _ _ w after before (g.S.PlanStore.may_leave c.serve_one-served.new.desk.store)
     (subst (λ v. Grows (g.P.Port.traffic c.args.port.now).taken v (arrived client.moment bytes ∷ []))
     (sym c.close.ensures.1) taken.0)
     (subst (λ v. Grows v (g.P.Port.traffic c.close.new.self).closed
     (parted unread now c.is_whole.result ∷ [])) taken.1 c.close.ensures.0)
     c.in_ok-client.ensures.unsent c.is_whole.ensures
-    (subst (λ m. HasServed honest c.serve_next-served.result bytes unread out now w m after)
-    (same_moment client.moment c.in_ok-client.ensures.moment) c.serve_next-served.ensures.served)
+    (subst (λ m. HasServed honest c.serve_one-served.result bytes unread out now w m after)
+    (same_moment client.moment c.in_ok-client.ensures.moment) c.serve_one-served.ensures.served)
     c.done_after.ensures
-    (λ p found may. subst (λ m. IsFoundNow c.serve_next-served.result before (IsTaken bytes unread) w m after
+    (λ p found may. subst (λ m. IsFoundNow c.serve_one-served.result before (IsTaken bytes unread) w m after
     found) (same_moment client.moment c.in_ok-client.ensures.moment)
-    (c.serve_next-served.ensures.found p found may))
+    (c.serve_one-served.ensures.found p found may))
 
 pub returns-clause-served : goal.returns-clause-served
 returns-clause-served g c = (returns-clause-kept g c).taken

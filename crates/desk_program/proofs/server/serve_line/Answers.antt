@@ -1,13 +1,24 @@
 use Rattle.std.proofs.Common.{◌∙◌, ap, inl, refl, subst}
 use Rattle.desk_store.specs.Faults.{IsHonest}
 use Rattle.desk_store.specs.laws.Fault.{was_honest}
-use Rattle.desk_line.specs.declared.failure.Failure.TheVariants as failure
 use Rattle.desk_run.specs.DeskWorld.{world_of}
 use Rattle.desk_program.specs.Enrolling.{permitting, with_operators}
 use Rattle.desk_program.specs.Serving.{AreTaken}
 use Rattle.desk_program.proofs.KeepingLemmas.{port_kept, unserved_kept}
 use Rattle.desk_program.proofs.ServedLemmas.{unserved}
+use Rattle.desk_program.proofs.BegunLemmas.{announced_none, announced_same, announced_whole}
 use Rattle.desk_program.proofs.server.serve_line.Goals as goal
+
+pub returns-in_err-set_up-clause-printed : goal.returns-in_err-set_up-clause-printed
+returns-in_err-set_up-clause-printed g c = announced_none _ _ _ c.from_residual.ensures.1
+
+pub returns-in_err-listen-clause-printed : goal.returns-in_err-listen-clause-printed
+returns-in_err-listen-clause-printed g c =
+    announced_same c.listen.result c.from_residual-in_err-listen.result _ _ _ _ c.in_err-listen.was
+    c.from_residual-in_err-listen.ensures.1 c.listen.ensures.printed
+
+pub returns-clause-printed : goal.returns-clause-printed
+returns-clause-printed g c = announced_whole _ _ _ _ c.in_ok-listen.ensures.printed
 
 pub returns-in_err-listen-clause-served : goal.returns-in_err-listen-clause-served
 returns-in_err-listen-clause-served g c =
@@ -16,15 +27,6 @@ returns-in_err-listen-clause-served g c =
     (world_of g.S.PlanStore.content c.set_up.new.desk) c.from_residual-in_err-listen.ensures.1
     c.in_err-listen.ensures.fault c.in_err-listen.ensures.same
     (λ h. c.in_ok-set_up.ensures.ok h
-    ∙ ap (with_operators (permitting (world_of g.S.PlanStore.content c.args.desk.now)
-    c.args.line.now.permitted)) c.deref.ensures.value)
-
-pub returns-in_err-routes-clause-served : goal.returns-in_err-routes-clause-served
-returns-in_err-routes-clause-served g c =
-    unserved (IsHonest (g.S.PlanStore.doubt c.set_up.new.desk.store)) c.from_residual-in_err-routes.result
-    failure.Memory c.args.line.now _ _ (world_of g.S.PlanStore.content c.args.desk.now)
-    (world_of g.S.PlanStore.content c.set_up.new.desk) c.from_residual-in_err-routes.ensures.1 (inl refl)
-    c.in_ok-listen.ensures.same (λ h. c.in_ok-set_up.ensures.ok h
     ∙ ap (with_operators (permitting (world_of g.S.PlanStore.content c.args.desk.now)
     c.args.line.now.permitted)) c.deref.ensures.value)
 
@@ -54,18 +56,6 @@ returns-in_err-listen-clause-kept g c = λ p settled.
     c.args.line.now.permitted)) c.deref.ensures.value) (c.in_ok-set_up.ensures.kept p settled)
     c.in_err-listen.field-0.0 _ _ c.from_residual-in_err-listen.ensures.1 c.in_err-listen.ensures.fault
     c.in_err-listen.ensures.same refl (λ found may. may)
-
-pub returns-in_err-routes-clause-kept : goal.returns-in_err-routes-clause-kept
-returns-in_err-routes-clause-kept g c = λ p settled.
-    unserved_kept (IsHonest (g.S.PlanStore.doubt c.set_up.new.desk.store))
-    c.from_residual-in_err-routes.result c.args.line.now (world_of g.S.PlanStore.content c.args.desk.now)
-    (world_of g.S.PlanStore.content c.set_up.new.desk) (world_of g.S.PlanStore.content c.set_up.new.desk)
-    (g.S.PlanStore.may_leave c.set_up.new.desk.store) (g.S.PlanStore.may_leave c.set_up.new.desk.store) p
-    (λ h. c.in_ok-set_up.ensures.ok h
-    ∙ ap (with_operators (permitting (world_of g.S.PlanStore.content c.args.desk.now)
-    c.args.line.now.permitted)) c.deref.ensures.value) (c.in_ok-set_up.ensures.kept p settled)
-    failure.Memory _ _ c.from_residual-in_err-routes.ensures.1 (inl refl) c.in_ok-listen.ensures.same refl
-    (λ found may. may)
 
 pub returns-clause-kept : goal.returns-clause-kept
 returns-clause-kept g c = λ p settled.

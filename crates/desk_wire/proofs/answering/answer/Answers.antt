@@ -1,18 +1,21 @@
 use Rattle.std.proofs.Common.{ap, w64}
 use Rattle.std.proofs.lemmas.Int.{to_z-of_z}
 use Rattle.desk_reading.specs.Messages.{message_read}
+use Rattle.desk_store.specs.Faults.{IsHonest}
 use Rattle.desk_run.specs.laws.Crash.{old_or_changed}
 use Rattle.desk_run.specs.DeskWorld.{world_of}
 use Rattle.desk_wire.proofs.BytesLemmas.{answered_so, left_read}
 use Rattle.desk_wire.proofs.answering.answer.Goals as goal
 
 pub returns-clause-bytes : goal.returns-clause-bytes
-returns-clause-bytes g c = λ honest.
-    answered_so (world_of g.S.PlanStore.content c.args.desk.now)
+returns-clause-bytes g c =
+    answered_so (IsHonest (g.S.PlanStore.doubt c.answer_request.new.desk.store))
+    (world_of g.S.PlanStore.content c.args.desk.now)
     (world_of g.S.PlanStore.content c.answer_request.new.desk) _
     c.args.moment c.args.text.now (message_read c.read_message.result) c.in_ok-answer.answer.bytes.items
-    c.in_ok-answer.answer.error
-    (to_z-of_z w64 c.args.moment c.ranges.moment) c.read_message.ensures (c.in_ok-answer.ensures.bytes honest)
+    c.in_ok-answer.answer.error _ _
+    (to_z-of_z w64 c.args.moment c.ranges.moment) c.read_message.ensures c.in_ok-answer.ensures.bytes
+    c.in_ok-answer.ensures.failed c.in_ok-answer.ensures.cause
 
 pub returns-in_err-answer-clause-crash : goal.returns-in_err-answer-clause-crash
 returns-in_err-answer-clause-crash g c = λ honest.

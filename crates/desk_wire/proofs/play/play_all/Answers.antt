@@ -1,28 +1,196 @@
-use Rattle.std.proofs.Common.{inl, refl}
+use Rattle.std.proofs.Common.{◌≡◌, ◌+◌, of_z, to_z, w64, refl, sym, subst, ◌∙◌, arith, rules}
 use Rattle.std.proofs.KnownBytes.{Keeps-refl}
+use Rattle.std.proofs.lemmas.Int.{to_z-of_z}
 use Rattle.desk_store.specs.Faults.{IsHonest}
+use Rattle.desk_store.specs.laws.Fault.{was_honest}
 use Rattle.desk_run.specs.DeskWorld.{world_of}
-use Rattle.desk_wire.specs.declared.play.PlayEnd.TheVariants.{Fault}
-use Rattle.desk_wire.specs.declared.stream.ServeFault.TheVariants.{OutOfMemory}
-use Rattle.desk_wire.proofs.KeptLemmas.{kept_so}
-use Rattle.desk_wire.proofs.PlayLemmas.{none_played}
+use Rattle.desk_wire.specs.declared.play.PlayEnd.TheVariants.{End, Unframed, Broken, Limit, Fault}
+use Rattle.desk_wire.specs.declared.stream.Served.TheVariants as outcome
+use Rattle.desk_wire.specs.Playing.{ArePlayed}
+use Rattle.desk_wire.proofs.KeptLemmas.{fault_last, kept_so, old_or_next}
+use Rattle.desk_wire.proofs.PlayLemmas.{none_played, one_played, broken_next, played_if, is_500, not_500}
+use Rattle.desk_wire.proofs.CauseLemmas.{failed_last, grows_more, grows_none}
 use Rattle.desk_wire.proofs.play.play_all.Goals as goal
 
-pub returns-in-Err-clause-played : goal.returns-in-Err-clause-played
-returns-in-Err-clause-played g c = record {
-  count = 0;
-  input = g.R.Read.remaining c.args.input.now;
-  output = g.W.Write.contents c.args.output.now;
-  world = world_of g.S.PlanStore.content c.args.desk.now;
-  first = none_played _ _ _ _ _;
-  last = (refl, record { written = Keeps-refl (g.W.Write.contents c.args.output.now); left = refl });
+pub loop-before-init : goal.loop-before-init
+loop-before-init g c = record {
+  played = none_played _ _ _ _ _;
+  settled = λ honest h. h;
+  grown = grows_none (g.W.Write.contents c.args.output.now);
+  doubt = omega arith;
+  counted = omega arith;
+  shield = λ s. s;
 }
 
+pub returns-then-is_server_error-clause-played : goal.returns-then-is_server_error-clause-played
+returns-then-is_server_error-clause-played g c =
+    let honest = IsHonest (g.S.PlanStore.doubt c.serve_one.new.desk.store) in
+    let w = world_of g.S.PlanStore.content c.loop-before.desk in
+    let after = world_of g.S.PlanStore.content c.serve_one.new.desk in
+    let same = to_z-of_z w64 c.args.moment c.ranges.moment in
+    let served = rw c.in-Answered.is at c.in-Ok.ensures.served in
+    record {
+      count = c.loop-before.before;
+      input = g.R.Read.remaining c.loop-before.input;
+      output = g.W.Write.contents c.loop-before.output;
+      world = w;
+      first =
+          subst (λ m. ArePlayed honest c.loop-before.before (g.R.Read.remaining c.args.input.now)
+          (g.R.Read.remaining c.loop-before.input) (g.W.Write.contents c.args.output.now)
+          (g.W.Write.contents c.loop-before.output) (world_of g.S.PlanStore.content c.args.desk.now) m w) same
+          (played_if (IsHonest (g.S.PlanStore.doubt c.loop-before.desk.store)) honest _ _ _ _ _ _ _ _
+          (was_honest c.serve_one.ensures.remembered.doubt) c.loop-before.invariant.played);
+      last = (
+        refl,
+        broken_next honest _ _ _ _ w _ after c.in-Answered.status c.in-Answered.framed served
+            (is_500 c.in-Answered.status (sym c.is_server_error.ensures ∙ c.if-is_server_error.true)),
+      );
+    }
+
+pub loop-before-preserved : goal.loop-before-preserved
+loop-before-preserved g c =
+    let honest = IsHonest (g.S.PlanStore.doubt c.serve_one.new.desk.store) in
+    let w = world_of g.S.PlanStore.content c.loop-before.desk in
+    let after = world_of g.S.PlanStore.content c.serve_one.new.desk in
+    let served = rw c.in-Answered.is at c.in-Ok.ensures.served in
+    let first = played_if (IsHonest (g.S.PlanStore.doubt c.loop-before.desk.store)) honest _ _ _ _ _ _ _ _
+    (was_honest c.serve_one.ensures.remembered.doubt) c.loop-before.invariant.played in
+    record {
+      played = one_played honest c.loop-before.before (g.R.Read.remaining c.args.input.now)
+          (g.R.Read.remaining c.loop-before.input) (g.R.Read.remaining c.serve_one.new.input)
+          (g.W.Write.contents c.args.output.now) (g.W.Write.contents c.loop-before.output)
+          (g.W.Write.contents c.serve_one.new.output) (world_of g.S.PlanStore.content c.args.desk.now) _ w
+          after
+          c.in-Answered.status c.in-Answered.framed first served
+          (not_500 c.in-Answered.status (sym c.is_server_error.ensures ∙ c.if-is_server_error.false))
+          c.if-not-framed.false;
+      settled = λ p h. (rw c.in-Answered.is at c.in-Ok.ensures.kept) p
+          (not_500 c.in-Answered.status (sym c.is_server_error.ensures ∙ c.if-is_server_error.false))
+          (c.loop-before.invariant.settled (was_honest c.serve_one.ensures.remembered.doubt p) h);
+      doubt = omega (arith, c.loop-before.invariant.doubt, c.serve_one.ensures.remembered.doubt);
+      grown = grows_more (g.W.Write.contents c.args.output.now) (g.W.Write.contents c.loop-before.output)
+          (g.W.Write.contents c.serve_one.new.output) served.answer c.loop-before.invariant.grown
+          served.written;
+      counted = omega (arith, c.loop-before.invariant.counted, c.serve_one.ensures.remembered.counted);
+      shield = λ s. c.serve_one.ensures.remembered.shield (c.loop-before.invariant.shield s);
+    }
+
+-- what is found is what was settled, or that with one request more
 pub returns-in-Err-clause-kept : goal.returns-in-Err-clause-kept
-returns-in-Err-clause-kept g c = λ honest settled found may.
-    let input = g.R.Read.remaining c.args.input.now in
-    let output = g.W.Write.contents c.args.output.now in
-    let w = world_of g.S.PlanStore.content c.args.desk.now in
-    kept_so (IsHonest (g.S.PlanStore.doubt c.args.desk.now.store)) (Fault OutOfMemory) 0 0 input input input
-    output output output w w w c.args.moment c.args.moment found honest refl (none_played _ _ _ _ _)
-    (refl, record { written = Keeps-refl output; left = refl }) (inl (settled found may))
+returns-in-Err-clause-kept g c = λ p settled found may.
+    let honest = IsHonest (g.S.PlanStore.doubt c.serve_one.new.desk.store) in
+    let w = world_of g.S.PlanStore.content c.loop-before.desk in
+    let after = world_of g.S.PlanStore.content c.serve_one.new.desk in
+    let here = c.loop-before.invariant.settled (was_honest c.serve_one.ensures.remembered.doubt p) settled in
+    kept_so honest (Fault c.in-Err.fault) c.loop-before.before c.loop-before.before
+    (g.R.Read.remaining c.args.input.now)
+    (g.R.Read.remaining c.loop-before.input) (g.R.Read.remaining c.serve_one.new.input)
+    (g.W.Write.contents c.args.output.now) (g.W.Write.contents c.loop-before.output)
+    (g.W.Write.contents c.serve_one.new.output) (world_of g.S.PlanStore.content c.args.desk.now) w after
+    (to_z w64 (of_z w64 c.args.moment)) c.args.moment found p
+    (to_z-of_z w64 c.args.moment c.ranges.moment)
+    (played_if (IsHonest (g.S.PlanStore.doubt c.loop-before.desk.store)) honest _ _ _ _ _ _ _ _
+    (was_honest c.serve_one.ensures.remembered.doubt) c.loop-before.invariant.played)
+    (refl, c.in-Err.ensures.served)
+    (fault_last (g.S.PlanStore.may_leave c.loop-before.desk.store) w after _ _ found c.in-Err.fault
+    (λ certain. c.in-Err.ensures.kept p certain here found may) (here found)
+    (c.in-Err.ensures.crash p found may))
+
+pub returns-in_default-clause-kept : goal.returns-in_default-clause-kept
+returns-in_default-clause-kept g c = λ p settled found may.
+    let honest = IsHonest (g.S.PlanStore.doubt c.serve_one.new.desk.store) in
+    let w = world_of g.S.PlanStore.content c.loop-before.desk in
+    let after = world_of g.S.PlanStore.content c.serve_one.new.desk in
+    let here = c.loop-before.invariant.settled (was_honest c.serve_one.ensures.remembered.doubt p) settled in
+    let is : c.in-Ok.served ≡ outcome.End = search rules in
+    let served = rw is at c.in-Ok.ensures.served in
+    kept_so honest End c.loop-before.before c.loop-before.before (g.R.Read.remaining c.args.input.now)
+    (g.R.Read.remaining c.loop-before.input) (g.R.Read.remaining c.serve_one.new.input)
+    (g.W.Write.contents c.args.output.now) (g.W.Write.contents c.loop-before.output)
+    (g.W.Write.contents c.serve_one.new.output) (world_of g.S.PlanStore.content c.args.desk.now) w after
+    (to_z w64 (of_z w64 c.args.moment)) c.args.moment found p
+    (to_z-of_z w64 c.args.moment c.ranges.moment)
+    (played_if (IsHonest (g.S.PlanStore.doubt c.loop-before.desk.store)) honest _ _ _ _ _ _ _ _
+    (was_honest c.serve_one.ensures.remembered.doubt) c.loop-before.invariant.played)
+    (refl, served.0, served.1)
+    ((rw is at c.in-Ok.ensures.kept) p tt here found may)
+
+pub returns-then-is_server_error-clause-kept : goal.returns-then-is_server_error-clause-kept
+returns-then-is_server_error-clause-kept g c = λ p settled found may.
+    let honest = IsHonest (g.S.PlanStore.doubt c.serve_one.new.desk.store) in
+    let w = world_of g.S.PlanStore.content c.loop-before.desk in
+    let after = world_of g.S.PlanStore.content c.serve_one.new.desk in
+    let here = c.loop-before.invariant.settled (was_honest c.serve_one.ensures.remembered.doubt p) settled in
+    let served = rw c.in-Answered.is at c.in-Ok.ensures.served in
+    kept_so honest Broken c.loop-before.before (c.loop-before.before + 1)
+    (g.R.Read.remaining c.args.input.now)
+    (g.R.Read.remaining c.loop-before.input) (g.R.Read.remaining c.serve_one.new.input)
+    (g.W.Write.contents c.args.output.now) (g.W.Write.contents c.loop-before.output)
+    (g.W.Write.contents c.serve_one.new.output) (world_of g.S.PlanStore.content c.args.desk.now) w after
+    (to_z w64 (of_z w64 c.args.moment)) c.args.moment found p
+    (to_z-of_z w64 c.args.moment c.ranges.moment)
+    (played_if (IsHonest (g.S.PlanStore.doubt c.loop-before.desk.store)) honest _ _ _ _ _ _ _ _
+    (was_honest c.serve_one.ensures.remembered.doubt) c.loop-before.invariant.played) (
+      refl,
+      broken_next honest _ _ _ _ w _ after c.in-Answered.status c.in-Answered.framed served
+          (is_500 c.in-Answered.status (sym c.is_server_error.ensures ∙ c.if-is_server_error.true)),
+    )
+    (old_or_next (g.S.PlanStore.may_leave c.loop-before.desk.store) w _ _ found (here found)
+    (c.in-Ok.ensures.crash p found may))
+
+pub returns-then-not-framed-clause-kept : goal.returns-then-not-framed-clause-kept
+returns-then-not-framed-clause-kept g c = λ p settled found may.
+    let honest = IsHonest (g.S.PlanStore.doubt c.serve_one.new.desk.store) in
+    let w = world_of g.S.PlanStore.content c.loop-before.desk in
+    let after = world_of g.S.PlanStore.content c.serve_one.new.desk in
+    let here = c.loop-before.invariant.settled (was_honest c.serve_one.ensures.remembered.doubt p) settled in
+    let served = rw c.in-Answered.is at c.in-Ok.ensures.served in
+    let other = not_500 c.in-Answered.status (sym c.is_server_error.ensures ∙ c.if-is_server_error.false) in
+    kept_so honest Unframed c.loop-before.before (c.loop-before.before + 1)
+    (g.R.Read.remaining c.args.input.now)
+    (g.R.Read.remaining c.loop-before.input) (g.R.Read.remaining c.serve_one.new.input)
+    (g.W.Write.contents c.args.output.now) (g.W.Write.contents c.loop-before.output)
+    (g.W.Write.contents c.serve_one.new.output) (world_of g.S.PlanStore.content c.args.desk.now) w after
+    (to_z w64 (of_z w64 c.args.moment)) c.args.moment found p
+    (to_z-of_z w64 c.args.moment c.ranges.moment)
+    (played_if (IsHonest (g.S.PlanStore.doubt c.loop-before.desk.store)) honest _ _ _ _ _ _ _ _
+    (was_honest c.serve_one.ensures.remembered.doubt) c.loop-before.invariant.played) (
+      refl,
+      record {
+        status = c.in-Answered.status;
+        served = rw c.if-not-framed.true at served;
+        answered = other;
+      },
+    )
+    ((rw c.in-Answered.is at c.in-Ok.ensures.kept) p other here found may)
+
+pub returns-clause-kept : goal.returns-clause-kept
+returns-clause-kept g c = λ p settled found may.
+    let honest = IsHonest (g.S.PlanStore.doubt c.loop-before.desk.store) in
+    let w = world_of g.S.PlanStore.content c.loop-before.desk in
+    let count : 1000000 ≡ c.loop-before.before =
+    omega (arith, c.loop-before-test.false, c.loop-before.auto.before-end) in
+    kept_so honest Limit c.loop-before.before 1000000 (g.R.Read.remaining c.args.input.now)
+    (g.R.Read.remaining c.loop-before.input) (g.R.Read.remaining c.loop-before.input)
+    (g.W.Write.contents c.args.output.now) (g.W.Write.contents c.loop-before.output)
+    (g.W.Write.contents c.loop-before.output) (world_of g.S.PlanStore.content c.args.desk.now) w w
+    (to_z w64 (of_z w64 c.args.moment)) c.args.moment found p
+    (to_z-of_z w64 c.args.moment c.ranges.moment) c.loop-before.invariant.played (
+      count,
+      sym count,
+      record {
+        written = Keeps-refl (g.W.Write.contents c.loop-before.output);
+        left = refl;
+      },
+    )
+    (c.loop-before.invariant.settled p settled found may)
+
+-- why the desk failed at the last request
+pub returns-then-is_server_error-clause-cause : goal.returns-then-is_server_error-clause-cause
+returns-then-is_server_error-clause-cause g c = λ broken.
+    let failed = rw c.in-Answered.is at c.in-Ok.ensures.cause in
+    failed_last (g.W.Write.contents c.args.output.now) (g.W.Write.contents c.loop-before.output)
+    (g.W.Write.contents c.serve_one.new.output) (g.S.PlanStore.faults c.args.desk.now.store)
+    (g.S.PlanStore.faults c.loop-before.desk.store) (g.S.PlanStore.faults c.serve_one.new.desk.store)
+    c.loop-before.invariant.grown c.loop-before.invariant.counted
+    (failed (is_500 c.in-Answered.status (sym c.is_server_error.ensures ∙ c.if-is_server_error.true)))

@@ -8,7 +8,7 @@ use Rattle.uss_desk.proofs.running.run_line.Goals as goal
 pub returns-in-Files : goal.returns-in-Files
 returns-in-Files g c =
     let image = image_at g.F.Start in
-    let ended = c.run_over-status-in-Files in
+    let ended = c.run_over-exit-in-Files in
     let opens = for_files _ image c.args.line.now c.in-Files.desk
     (subst (IsOpenedFor image c.args.line.now) c.in-Files.is c.requires.opened) in
     let same = c.or_failure.ensures in

@@ -3,7 +3,7 @@ use Rattle.desk_store.specs.Faults.{IsHonest}
 use Rattle.desk_run.specs.DeskWorld.{IsSettled, world_of}
 use Rattle.desk_wire.specs.Playing.{ArePlayed}
 use Rattle.desk_wire.proofs.CauseLemmas.{Grows}
-use Rattle.desk_wire.proofs.play.play_with.Given as goal
+use Rattle.desk_wire.proofs.play.play_all.Given as goal
 
 -- as many requests as rounds are answered
 abbrev pub invariant-loop-before : goal.invariant-loop-before

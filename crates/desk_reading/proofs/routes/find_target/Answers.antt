@@ -2,7 +2,7 @@ use Rattle.std.proofs.Common.{refl}
 use Rattle.std.proofs.lemmas.Str.{is_utf8-from_IsUtf8}
 use Rattle.desk_reading.specs.Routes.{route_in}
 use Rattle.desk_reading.proofs.RouteLemmas.{is_utf8-false}
-use Rattle.desk_reading.proofs.routes.Routes.find_target.Goals as goal
+use Rattle.desk_reading.proofs.routes.find_target.Goals as goal
 
 pub returns-in-Err : goal.returns-in-Err
 unfolding route_in

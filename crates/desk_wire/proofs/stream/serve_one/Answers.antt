@@ -12,7 +12,7 @@ use Rattle.desk_wire.proofs.KeptLemmas.{found_answered, found_failed, if_some_al
 use Rattle.std.specs.Io.KnownBytes.{Appends}
 use Rattle.desk_wire.proofs.CauseLemmas.{failed_served, failed_there}
 use Rattle.desk_wire.proofs.ServeLemmas.{broken, framed_as, received, replied, served_as, status_as, stopped}
-use Rattle.desk_wire.proofs.stream.serve_next.Goals as goal
+use Rattle.desk_wire.proofs.stream.serve_one.Goals as goal
 
 pub returns-in_err-body-clause-served : goal.returns-in_err-body-clause-served
 returns-in_err-body-clause-served g c =
@@ -170,8 +170,8 @@ returns-in_err-answer-clause-kept g c = λ honest certain.
 
 pub returns-in_err-write_whole-clause-kept : goal.returns-in_err-write_whole-clause-kept
 returns-in_err-write_whole-clause-kept g c = λ honest certain.
-    absurd (uncertain_write c.from_residual-in_err-write_whole.result c.in_err-write_whole.field-0.0 _ _ _
-    c.from_residual-in_err-write_whole.ensures.1 c.in_err-write_whole.ensures.err certain)
+    absurd (uncertain_write c.from_residual-in_err-write_whole.result c.in_err-write_whole.field-0.0
+    c.from_residual-in_err-write_whole.ensures.1 certain)
 
 pub returns-clause-kept : goal.returns-clause-kept
 returns-clause-kept g c = λ honest certain.
@@ -200,8 +200,8 @@ returns-in_err-write_whole-clause-found g c = λ honest.
     (world_of g.S.PlanStore.content c.answer_request.new.desk) c.in_ok-answer.answer.error _
     (c.in_ok-answer.ensures.settled honest) c.in_ok-answer.ensures.failed
     (if_some_all c.in_ok-answer.answer.error
-    (uncertain_write c.from_residual-in_err-write_whole.result c.in_err-write_whole.field-0.0 _ _ _
-    c.from_residual-in_err-write_whole.ensures.1 c.in_err-write_whole.ensures.err))
+    (uncertain_write c.from_residual-in_err-write_whole.result c.in_err-write_whole.field-0.0
+    c.from_residual-in_err-write_whole.ensures.1))
     (returns-in_err-write_whole-clause-crash g c honest)
 
 pub returns-clause-found : goal.returns-clause-found

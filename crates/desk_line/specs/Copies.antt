@@ -1,0 +1,51 @@
+-- Copies: what it means that two lines say the same.
+use Rattle.std.specs.Prelude.{◌≡◌, string_bytes}
+use Rattle.desk_line.specs.Lines.{file_of}
+use Rattle.desk_line.specs.declared.line.Copying.{Copying as CopyWords}
+use Rattle.desk_line.specs.declared.line.Database.{Database}
+use Rattle.desk_line.specs.declared.line.Enrol.{Enrol as EnrolWords}
+use Rattle.desk_line.specs.declared.line.Line.{Line}
+use Rattle.desk_line.specs.declared.line.Line.TheVariants as line
+use Rattle.desk_line.specs.declared.line.Play.{Play as PlayWords}
+use Rattle.desk_line.specs.declared.line.Serve.{Serve as ServeWords}
+use Rattle.desk_line.specs.declared.line.Task.{Task}
+use Rattle.desk_line.specs.declared.line.Task.TheVariants as task
+
+abbrev pub SameDatabase : Database → Database → Type 0
+SameDatabase a b = file_of b ≡ file_of a
+
+pub record SamePlay (a b : PlayWords) : Type 0 where
+  pub database : SameDatabase a.database b.database
+  pub moment : b.moment ≡ a.moment
+  pub permitted : b.permitted ≡ a.permitted
+  pub enrolments : b.enrolments.items ≡ a.enrolments.items
+
+pub record SameServe (a b : ServeWords) : Type 0 where
+  pub database : SameDatabase a.database b.database
+  pub port : b.port ≡ a.port
+  pub connections : b.connections ≡ a.connections
+  pub permitted : b.permitted ≡ a.permitted
+  pub enrolments : b.enrolments.items ≡ a.enrolments.items
+
+pub record SameEnrol (a b : EnrolWords) : Type 0 where
+  pub database : SameDatabase a.database b.database
+  pub enrolment : b.enrolment ≡ a.enrolment
+
+pub record SameCopying (a b : CopyWords) : Type 0 where
+  pub database : SameDatabase a.database b.database
+  pub to : string_bytes b.to ≡ string_bytes a.to
+
+abbrev pub SameLine : Line → Line → Type 0
+SameLine (line.Play a) (line.Play b) = SamePlay a b
+SameLine (line.Token a) (line.Token b) = string_bytes b ≡ string_bytes a
+SameLine (line.Serve a) (line.Serve b) = SameServe a b
+SameLine (line.Cover a) (line.Cover b) = b ≡ a
+SameLine (line.Enrol a) (line.Enrol b) = SameEnrol a b
+SameLine (line.Migrate a) (line.Migrate b) = SameDatabase a.database b.database
+SameLine _ _ = ⊥
+
+abbrev pub SameTask : Task → Task → Type 0
+SameTask (task.Run a) (task.Run b) = SameLine a b
+SameTask (task.Check a) (task.Check b) = SameDatabase a b
+SameTask (task.Copy a) (task.Copy b) = SameCopying a b
+SameTask _ _ = ⊥

@@ -1,0 +1,156 @@
+//! Copies of lines and of their parts.
+
+ghost use Rattle.std.specs.Prelude.{◌≡◌, IfOk, string_bytes};
+ghost use Rattle.desk_line.specs.Copies.{SameCopying, SameDatabase, SameEnrol, SameLine, SamePlay, SameServe};
+ghost use Rattle.desk_line.specs.Copies.{SameTask};
+
+use crate::line::{Copying, Database, Enrol, Enrolment, Line, Migrate, Play, Serve, Task};
+use std::alloc::AllocError;
+
+impl Database {
+    /// The same place.
+    ///
+    /// # Errors
+    ///
+    /// `AllocError` if memory runs out.
+    pub fn copy(&self) -> Result<Database, AllocError>
+        ensures { IfOk result (SameDatabase self.now) }
+    {
+        match self {
+            Database::InMemory => Ok(Database::InMemory),
+            Database::File(path) => Ok(Database::File(path.clone()?)),
+        }
+    }
+}
+
+impl Play {
+    /// The same words.
+    ///
+    /// # Errors
+    ///
+    /// `AllocError` if memory runs out.
+    pub fn copy(&self) -> Result<Play, AllocError>
+        ensures { IfOk result (SamePlay self.now) }
+    {
+        Ok(Play {
+            database: self.database.copy()?,
+            moment: self.moment,
+            permitted: self.permitted,
+            enrolments: copies(&self.enrolments)?,
+        })
+    }
+}
+
+impl Serve {
+    /// The same words.
+    ///
+    /// # Errors
+    ///
+    /// `AllocError` if memory runs out.
+    pub fn copy(&self) -> Result<Serve, AllocError>
+        ensures { IfOk result (SameServe self.now) }
+    {
+        Ok(Serve {
+            database: self.database.copy()?,
+            port: self.port,
+            connections: self.connections,
+            permitted: self.permitted,
+            enrolments: copies(&self.enrolments)?,
+        })
+    }
+}
+
+impl Enrol {
+    /// The same words.
+    ///
+    /// # Errors
+    ///
+    /// `AllocError` if memory runs out.
+    pub fn copy(&self) -> Result<Enrol, AllocError>
+        ensures { IfOk result (SameEnrol self.now) }
+    {
+        Ok(Enrol {
+            database: self.database.copy()?,
+            enrolment: self.enrolment,
+        })
+    }
+}
+
+impl Migrate {
+    /// The same words.
+    ///
+    /// # Errors
+    ///
+    /// `AllocError` if memory runs out.
+    pub fn copy(&self) -> Result<Migrate, AllocError>
+        ensures { IfOk result (λ copy. SameDatabase self.now.database copy.database) }
+    {
+        Ok(Migrate {
+            database: self.database.copy()?,
+        })
+    }
+}
+
+impl Copying {
+    /// The same words.
+    ///
+    /// # Errors
+    ///
+    /// `AllocError` if memory runs out.
+    pub fn copy(&self) -> Result<Copying, AllocError>
+        ensures { IfOk result (SameCopying self.now) }
+    {
+        Ok(Copying {
+            database: self.database.copy()?,
+            to: self.to.clone()?,
+        })
+    }
+}
+
+impl Line {
+    /// The same line.
+    ///
+    /// # Errors
+    ///
+    /// `AllocError` if memory runs out.
+    pub fn copy(&self) -> Result<Line, AllocError>
+        ensures { IfOk result (SameLine self.now) }
+    {
+        match self {
+            Line::Play(play) => Ok(Line::Play(play.copy()?)),
+            Line::Token(token) => Ok(Line::Token(token.clone()?)),
+            Line::Serve(serve) => Ok(Line::Serve(serve.copy()?)),
+            Line::Cover(cover) => Ok(Line::Cover(*cover)),
+            Line::Enrol(enrol) => Ok(Line::Enrol(enrol.copy()?)),
+            Line::Migrate(migrate) => Ok(Line::Migrate(migrate.copy()?)),
+        }
+    }
+}
+
+impl Task {
+    /// The same task.
+    ///
+    /// # Errors
+    ///
+    /// `AllocError` if memory runs out.
+    pub fn copy(&self) -> Result<Task, AllocError>
+        ensures { IfOk result (SameTask self.now) }
+    {
+        match self {
+            Task::Run(line) => Ok(Task::Run(line.copy()?)),
+            Task::Check(database) => Ok(Task::Check(database.copy()?)),
+            Task::Copy(words) => Ok(Task::Copy(words.copy()?)),
+        }
+    }
+}
+
+// A copy of the list.
+fn copies(enrolments: &Vec<Enrolment>) -> Result<Vec<Enrolment>, AllocError>
+    ensures { IfOk result (λ copies. copies.items ≡ enrolments.now.items) }
+{
+    let mut copies = Vec::new(*enrolments.allocator());
+    for enrolment in enrolments {
+        copies.push(*enrolment)?;
+    }
+    Ok(copies)
+}
