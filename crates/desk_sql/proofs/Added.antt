@@ -340,7 +340,8 @@ insert_operator_sure name ceiling =
     sure_change insert_operator_text (operator_row name ceiling) _ _ insert_operator_is tt refl (omega arith)
     (λ limit db stop desk sound fits h. operator_never name ceiling limit db desk sound fits stop h)
 
-pub insert_plan_sure : (p : PlanRecord) → IsSureChange insert_plan_text (row_of p) (FitsPlan p.operator.now p.id.now (row_of p))
+pub insert_plan_sure : (p : PlanRecord) → IsSureChange insert_plan_text (row_of p)
+    (FitsPlan p.operator.now p.id.now (row_of p))
 unfolding understood everything
 insert_plan_sure p = sure_change insert_plan_text (row_of p) _ _ insert_plan_is tt refl (omega arith)
     (λ limit db stop desk sound fits h. plan_never p limit db desk sound fits stop h)
@@ -348,10 +349,12 @@ insert_plan_sure p = sure_change insert_plan_text (row_of p) _ _ insert_plan_is 
 pub insert_volume_sure : (v : VolumeRecord) → IsSureChange insert_volume_text (volume_params v)
     (FitsVolume v.operator.now v.id.now v.asked.now v.canon.now (volume_of v))
 unfolding understood everything
-insert_volume_sure v = sure_change insert_volume_text (volume_params v) _ _ insert_volume_is tt refl (omega arith)
+insert_volume_sure v = sure_change insert_volume_text (volume_params v) _ _ insert_volume_is tt refl
+    (omega arith)
     (λ limit db stop desk sound fits h. volume_never v limit db desk sound fits stop h)
 
-pub insert_span_sure : (s : SpanRecord) → IsSureChange insert_span_text (span_of s) (FitsSpan s.operator.now s.id.now (span_of s))
+pub insert_span_sure : (s : SpanRecord) → IsSureChange insert_span_text (span_of s)
+    (FitsSpan s.operator.now s.id.now (span_of s))
 unfolding understood everything
 insert_span_sure s = sure_change insert_span_text (span_of s) _ _ insert_span_is tt refl (omega arith)
     (λ limit db stop desk sound fits h. span_never s limit db desk sound fits stop h)

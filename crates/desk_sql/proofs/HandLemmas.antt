@@ -11,7 +11,7 @@ use Rattle.sqlite_resolve.specs.declared.error.CompileError.{CompileError}
 use Rattle.sqlite.specs.declared.error.Error.{Error}
 use Rattle.sqlite.specs.Clock.{timed}
 use Rattle.sqlite.specs.Effect.{Database, RefusesToRead}
-use Rattle.sqlite.specs.Given.{HasGiven, IsPlain}
+use Rattle.sqlite.specs.Given.{HasGiven}
 use Rattle.sqlite.specs.Listing.{understood, reads_listing, IsSourceOf}
 use Rattle.sqlite.specs.State.{State, IsUnchanged, Survives, HasCleanDisk, Shown, IsNoStatement, IsNotRun, FailsToQuery, FailsToShow}
 use Rattle.sqlite.specs.Store.{Ghosts}

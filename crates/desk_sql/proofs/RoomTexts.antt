@@ -135,7 +135,8 @@ remove_plan_room operator id = record {
   room = λ limit old new desk h.
       let db = old.trees in
       let d =
-      did remove_plan_text (key_row operator id) limit old new desk (Delete 1 (plan_program operator id limit))
+      did remove_plan_text (key_row operator id) limit old new desk
+      (Delete 1 (plan_program operator id limit))
       remove_plan_is h in
       let it = rows_written (plan_task operator id limit)
       (Delete 1 (plan_program operator id limit)) db d.0 new d.1 in

@@ -129,7 +129,8 @@ module _ (name : List ℕ) (ceiling : ℕ) (limit : Option ℕ) (old : Database)
         low = low;
         obeys = subst (λ s. Obeys s old.trees) desk.schema sound.obeys;
         quiet = λ found.
-            let edit = update_edit limit (operator_row name ceiling) operator_table.name operator_table.columns
+            let edit = update_edit limit (operator_row name ceiling) operator_table.name
+            operator_table.columns
             operator_table.primary operator_table.references 0 old.trees found in
             operator_quiet (taken_by old.trees edit) edit.news;
         sure = λ e. never set_ceiling_query [] (operator_row name ceiling) (ceiling_fits name ceiling)
@@ -171,11 +172,13 @@ module _ (operator id : List ℕ) (priority aircraft : ℕ) (limit : Option ℕ)
       text_same (column r 2) id parts.1 ∙ sym (ap (λ x. column x 2) (closing_set r whole is))
 
   closing_never : (stop : Option Error)
-      → OnRows (task_at limit (closing_row operator id priority aircraft) plan_table.name plan_table.columns plan_table.primary
+      → OnRows (task_at limit (closing_row operator id priority aircraft) plan_table.name
+      plan_table.columns plan_table.primary
       plan_table.references 2) enforced None
       (Update 1 (record { lets = []; body = close_plan_query })) old.trees (Err stop)
       → IsAtLimit limit stop
-  closing_never = never_stops limit (closing_row operator id priority aircraft) plan_table.name plan_table.columns
+  closing_never = never_stops limit (closing_row operator id priority aircraft) plan_table.name
+      plan_table.columns
       plan_table.primary plan_table.references 2 old.trees close_plan_query.filter
       close_plan_query.project is_closed closing_source (plan_row operator id priority 2 aircraft)
       (record {
@@ -209,9 +212,11 @@ module _ (operator id : List ℕ) (priority aircraft : ℕ) (limit : Option ℕ)
         num = desk.plans;
         low = low;
         obeys = subst (λ s. Obeys s old.trees) desk.schema sound.obeys;
-        quiet = plan_quiet limit (closing_row operator id priority aircraft) plan_table.name plan_table.columns plan_table.primary
+        quiet = plan_quiet limit (closing_row operator id priority aircraft) plan_table.name
+            plan_table.columns plan_table.primary
             plan_table.references old.trees;
-        sure = λ e. never close_plan_query [] (closing_row operator id priority aircraft) (closing_fits operator id priority aircraft)
+        sure = λ e. never close_plan_query [] (closing_row operator id priority aircraft)
+            (closing_fits operator id priority aircraft)
             (λ trees h. elim h [ inl none ↦ absurd none | inr fold ↦ absurd fold.4 ]) limit
             (record { schema = desk_schema; trees = old.trees }) e refl;
       }) 1

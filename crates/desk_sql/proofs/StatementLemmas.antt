@@ -24,8 +24,8 @@ use Rattle.sqlite.specs.Schema.{Schema}
 use Rattle.sqlite.specs.Table.{Table}
 use Rattle.sqlite_schema.specs.declared.schema.Index.{Index}
 use Rattle.desk_sql.specs.declared.opening.numbers.DeskTable.{DeskTable}
-use Rattle.desk_sql.specs.declared.opening.numbers.DeskTable.TheVariants.{Operator, Plan, OldVolume, OldSpan, Volume, Span}
-use Rattle.desk_sql.specs.Schema.{desk_schema, schema_to, HasTable}
+use Rattle.desk_sql.specs.declared.opening.numbers.DeskTable.TheVariants.{Operator, Plan, Volume, Span}
+use Rattle.desk_sql.specs.Schema.{schema_to, HasTable}
 use Rattle.desk_sql.specs.Finding.{Holds}
 use Rattle.sqlite.specs.Effect.{Database}
 use Rattle.sqlite.specs.Listing.{understood}
@@ -264,11 +264,13 @@ all_plans_selected =
     (λ r. true) (λ r. refl) (λ r. refl) (db 2) ∙ every (map (columns 5) (db 2)))
 
 pub volumes_of_selected : (operator id : List ℕ)
-    → Selects volumes_of_text (Text operator ∷ Text id ∷ []) (2 ∷ []) (λ t. filter (is_of operator id) t.volumes)
+    → Selects volumes_of_text (Text operator ∷ Text id ∷ []) (2 ∷ [])
+    (λ t. filter (is_of operator id) t.volumes)
 volumes_of_selected operator id =
-    selects volumes_of_text _ _ _ _ _ volumes_of_is _ (volumes_of_sure operator id) (2 ∷ []) _ (λ e. refl) (λ x y. refl)
-    (λ db. scanned (λ r. (Text operator ∷ Text id ∷ []) ∷ r ∷ []) volumes_of_query.filter volumes_of_query.project
-    (columns 8) (is_of operator id) (λ r. refl)
+    selects volumes_of_text _ _ _ _ _ volumes_of_is _ (volumes_of_sure operator id) (2 ∷ []) _
+    (λ e. refl) (λ x y. refl)
+    (λ db. scanned (λ r. (Text operator ∷ Text id ∷ []) ∷ r ∷ []) volumes_of_query.filter
+    volumes_of_query.project (columns 8) (is_of operator id) (λ r. refl)
     (λ r. ap₂ (λ a b. a && b) (equals_text (column r 1) operator)
     (both_hold _ ∙ equals_text (column r 2) id)) (db 9))
 
@@ -336,7 +338,8 @@ pub rival_spans_selected : (operator id : List ℕ) (reach : Reach) (low : ℤ)
     (λ t. map held_columns (filter (is_wanted operator id reach low) t.spans))
 rival_spans_selected operator id reach low =
     let params = rival_params operator id reach low in
-    selects rival_spans_text _ _ _ _ _ rival_spans_is params (rival_spans_sure operator id reach low) (0 ∷ []) _
+    selects rival_spans_text _ _ _ _ _ rival_spans_is params (rival_spans_sure operator id reach low)
+    (0 ∷ []) _
     (λ e. refl) (λ x y. refl)
     (λ db. one_plan (eval_all rival_spans_query.project) (λ s. params ∷ s ∷ [])
     (λ s. list_all (holds (params ∷ s ∷ [])) rival_spans_query.filter) (columns 10)

@@ -12,7 +12,8 @@ use Rattle.desk_sql.proofs.SureLemmas.{sure_given}
 pub operator_named_sure : (name : List ℕ) → IsSureGiven operator_named_text (Text name ∷ [])
 unfolding understood everything
 operator_named_sure name =
-    sure_given operator_named_text operator_named_query _ _ operator_named_is refl (omega arith) (λ trees misfit. true≢false misfit)
+    sure_given operator_named_text operator_named_query _ _ operator_named_is refl (omega arith)
+    (λ trees misfit. true≢false misfit)
     (λ db h. elim h [
       | inl none ↦ absurd none
       | inr fold ↦ absurd fold.4
@@ -21,7 +22,8 @@ operator_named_sure name =
 pub plan_of_sure : (operator id : List ℕ) → IsSureGiven plan_of_text (Text operator ∷ Text id ∷ [])
 unfolding understood everything
 plan_of_sure operator id =
-    sure_given plan_of_text plan_of_query _ _ plan_of_is refl (omega arith) (λ trees misfit. true≢false misfit)
+    sure_given plan_of_text plan_of_query _ _ plan_of_is refl (omega arith)
+    (λ trees misfit. true≢false misfit)
     (λ db h. elim h [
       | inl none ↦ absurd none
       | inr fold ↦ absurd fold.4
@@ -30,7 +32,8 @@ plan_of_sure operator id =
 pub volumes_of_sure : (operator id : List ℕ) → IsSureGiven volumes_of_text (Text operator ∷ Text id ∷ [])
 unfolding understood everything
 volumes_of_sure operator id =
-    sure_given volumes_of_text volumes_of_query _ _ volumes_of_is refl (omega arith) (λ trees misfit. true≢false misfit)
+    sure_given volumes_of_text volumes_of_query _ _ volumes_of_is refl (omega arith)
+    (λ trees misfit. true≢false misfit)
     (λ db h. elim h [
       | inl none ↦ absurd none
       | inr fold ↦ absurd fold.4
@@ -39,7 +42,8 @@ volumes_of_sure operator id =
 pub own_plans_sure : (operator : List ℕ) → IsSureGiven own_plans_text (Text operator ∷ [])
 unfolding understood everything
 own_plans_sure operator =
-    sure_given own_plans_text own_plans_query _ _ own_plans_is refl (omega arith) (λ trees misfit. true≢false misfit)
+    sure_given own_plans_text own_plans_query _ _ own_plans_is refl (omega arith)
+    (λ trees misfit. true≢false misfit)
     (λ db h. elim h [
       | inl none ↦ absurd none
       | inr fold ↦ absurd fold.4.4
@@ -49,7 +53,8 @@ pub rival_spans_sure : (operator id : List ℕ) (reach : Reach) (low : ℤ)
     → IsSureGiven rival_spans_text (rival_params operator id reach low)
 unfolding understood everything
 rival_spans_sure operator id reach low =
-    sure_given rival_spans_text rival_spans_query _ _ rival_spans_is refl (omega arith) (λ trees misfit. true≢false misfit)
+    sure_given rival_spans_text rival_spans_query _ _ rival_spans_is refl (omega arith)
+    (λ trees misfit. true≢false misfit)
     (λ db h. elim h [
       | inl none ↦ absurd none
       | inr fold ↦ absurd fold.4

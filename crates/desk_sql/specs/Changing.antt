@@ -93,8 +93,8 @@ abbrev pub IsWholeIn : List ℕ → ℕ → Result Compiled CompileError → Typ
 IsWholeIn text count (Ok c) = IsWholeWrite text count c
 IsWholeIn text count (Err e) = ⊥
 
--- a change of a sound desk's tables that, with these parameters and tables that fit, only memory, the disk and a
--- limit on steps refuse
+-- a change of a sound desk's tables that, with these parameters and tables that fit, only memory, the disk
+-- and a limit on steps refuse
 pub record IsSureChange (text : List ℕ) (params : Row) (Fits : Database → Type 0) : Type 0 where
   pub means : IsWholeIn text (length params) (understood desk_schema text)
   pub never : (limit : Option ℕ) (db : Database) (stop : Option Error) → IsDesk db → IsDatabase db → Fits db

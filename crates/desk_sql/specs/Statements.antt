@@ -25,15 +25,16 @@ abbrev pub MayRead : Result Compiled CompileError → Database → Row → List 
 MayRead (Ok c) db params rows = Reads c.command db params rows
 MayRead (Err e) db params rows = ⊥
 
--- a text that, given these parameters, only memory, the disk and a limit on steps refuse, and that of a desk's
--- tables shows just the rows that are wanted, in the order of these columns
+-- a text that, given these parameters, only memory, the disk and a limit on steps refuse, and that of a
+-- desk's tables shows just the rows that are wanted, in the order of these columns
 pub record Selects (text : List ℕ) (params : Row) (cells : List ℕ) (wanted : Tables → List Row) : Type 0 where
   pub sure : IsSureGiven text params
   pub rows : (db : Database) (shown : List Row) → IsDesk db
-      → MayRead (understood desk_schema text) db params shown → Lists cells (wanted (tables_of db.trees)) shown
+      → MayRead (understood desk_schema text) db params shown → Lists cells (wanted
+      (tables_of db.trees)) shown
 
--- a text that is given nothing, that only memory, the disk and a limit on steps refuse, and that shows just these
--- rows wherever the table is made, in the order of these columns
+-- a text that is given nothing, that only memory, the disk and a limit on steps refuse, and that shows just
+-- these rows wherever the table is made, in the order of these columns
 pub record SelectsAll (table : DeskTable) (text : List ℕ) (cells : List ℕ) (wanted : Trees → List Row)
     : Type 0
   where

@@ -1,5 +1,5 @@
 -- What the queries of the tables of version 1 show, and that they are refused for no cause of their own.
-use Rattle.std.proofs.Common.{ℕ, List, [], ◌∷◌, map, refl, true, true≢false, arith, ◌∙◌}
+use Rattle.std.proofs.Common.{[], ◌∷◌, map, refl, true, true≢false, arith, ◌∙◌}
 use Rattle.sqlite_tied.specs.Compute.{everything}
 use Rattle.sqlite.specs.Listing.{understood}
 use Rattle.desk_sql.specs.declared.opening.numbers.DeskTable.TheVariants.{OldVolume, OldSpan}

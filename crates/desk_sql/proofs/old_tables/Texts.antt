@@ -1,5 +1,5 @@
 -- The texts of the statements on the tables of version 1, and what they mean, found by computing.
-use Rattle.std.proofs.Common.{◌≡◌, ℕ, List, [], ◌∷◌, codes, refl}
+use Rattle.std.proofs.Common.{ℕ, List, [], ◌∷◌, codes, refl}
 use Rattle.sqlite.specs.Collation.TheVariants.{Binary}
 use Rattle.sqlite.specs.Term.{col}
 use Rattle.sqlite.specs.Query.{Query, inner, end}

@@ -13,7 +13,8 @@ use crate::reading::query::Query;
 use sqlite::{Alter, Connection, Error, Row};
 use sqlite_value::value::ValueRef;
 
-/// All rows of a query's answer, given the parameters of its text. The rows of the tables stay, whatever is answered.
+/// All rows of a query's answer, given the parameters of its text. The rows of the tables stay, whatever is
+/// answered.
 pub(crate) fn answer<S: Alter>(
     connection: &mut Connection<S>,
     query: Query<'_>,

@@ -98,7 +98,8 @@ fn hand_all<S: Alter, T: TakeRow>(rows: &mut Rows<'_, S>, taker: &mut T) -> Resu
     Err(Error::SqliteFailure(ErrorCode::TooBig))
 }
 
-/// Hands over each row of a query's answer, given the parameters of its text. The rows of the tables stay, whatever is answered.
+/// Hands over each row of a query's answer, given the parameters of its text. The rows of the tables stay,
+/// whatever is answered.
 ///
 /// # Errors
 ///

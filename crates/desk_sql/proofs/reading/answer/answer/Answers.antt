@@ -89,7 +89,8 @@ returns-clause-reads g c =
 pub returns-in_err-statement-clause-cause : goal.returns-in_err-statement-clause-cause
 returns-in_err-statement-clause-cause g c clean live =
     let it : IsRefusal g.S.Store c.args.connection.now c.prepare.new.self _ =
-    refused_unprepared g.S.Store c.text.result.now (bound c.args.params.now) (rw c.requires.given c.text.ensures.sure)
+    refused_unprepared g.S.Store c.text.result.now (bound c.args.params.now)
+    (rw c.requires.given c.text.ensures.sure)
     c.args.connection.now c.requires.ready (omega (arith, c.prepare.ensures.survives.clean, clean))
     c.prepare.new.self _
     (c.in_err-statement.ensures.err clean (bound c.args.params.now)) live in
@@ -102,7 +103,8 @@ returns-clause-cause g c clean live =
     let start : HasCleanDisk (state g.S.Store c.args.connection.now) =
     omega (arith, c.prepare.ensures.survives.clean, early) in
     let it = c.in_ok-statement.ensures.ok early in
-    refused_given g.S.Store c.text.result.now (bound c.args.params.now) (rw c.requires.given c.text.ensures.sure)
+    refused_given g.S.Store c.text.result.now (bound c.args.params.now)
+    (rw c.requires.given c.text.ensures.sure)
     c.args.connection.now c.requires.ready c.prepare.new.self c.in_ok-statement.statement.text it.0 it.1
     c.prepare.ensures.survives start c.query_all.new.conn c.query_all.result
     (c.query_all.ensures.err clean) live

@@ -43,7 +43,8 @@ hand_over-requires-clause-given g c =
 pub returns-clause-value : goal.returns-clause-value
 returns-clause-value g c clean =
     let same = to_z-of_z w64 c.args.low c.ranges.low in
-    let wanted = map held_columns (filter (is_wanted c.args.operator.now c.args.id.now c.args.reach c.args.low)
+    let wanted = map held_columns
+    (filter (is_wanted c.args.operator.now c.args.id.now c.args.reach c.args.low)
     (tables_of (state g.S.Store c.args.connection.now).now.trees).spans) in
     handed_as (Lists (0 ∷ []) wanted) (IsPermutation wanted) (g.T.TakeRow.has_taken c.hand_over.new.taker)
     (λ rows lists. lists.same) c.hand_over.result (rw same at (c.hand_over.ensures.value clean))
@@ -51,7 +52,8 @@ returns-clause-value g c clean =
 pub returns-clause-cause : goal.returns-clause-cause
 returns-clause-cause g c clean live =
     let same = to_z-of_z w64 c.args.low c.ranges.low in
-    let wanted = map held_columns (filter (is_wanted c.args.operator.now c.args.id.now c.args.reach c.args.low)
+    let wanted = map held_columns
+    (filter (is_wanted c.args.operator.now c.args.id.now c.args.reach c.args.low)
     (tables_of (state g.S.Store c.args.connection.now).now.trees).spans) in
     cut_short_of g.S.Store c.args.connection.now c.hand_over.new.connection (Lists (0 ∷ []) wanted)
     (IsPermutation wanted) g.T.TakeRow.refuses (λ rows lists. lists.same) c.hand_over.result

@@ -35,12 +35,14 @@ returns-in_err-rows-clause-reads g c =
     let refused = rw c.in_err-rows.was at c.query_prepared.follows.holds-at-none in
     let kept : IsKept g.S.Store old new = λ clean live.
     (kept_refused g.S.Store c.text.result.now text (bound c.args.params.now) old c.prepare.new.self
-    c.requires.ready (plain_in _ _ _ c.text.ensures.sure.means) c.in_ok-statement.ensures.ok c.prepare.ensures.survives new
+    c.requires.ready (plain_in _ _ _ c.text.ensures.sure.means) c.in_ok-statement.ensures.ok
+    c.prepare.ensures.survives new
     refused.survives clean settled live _ (refused.err clean)) in
     reads_prepared g.S.Store old c.prepare.new.self new _ kept
     (refused.mode (c.prepare.ensures.mode c.requires.settled))
     (spared_handed g.S.Store c.text.result.now text (bound c.args.params.now) old c.prepare.new.self
-    c.requires.ready (plain_in _ _ _ c.text.ensures.sure.means) c.in_ok-statement.ensures.ok c.prepare.ensures.survives new
+    c.requires.ready (plain_in _ _ _ c.text.ensures.sure.means) c.in_ok-statement.ensures.ok
+    c.prepare.ensures.survives new
     refused.survives) c.prepare.ensures.survives refused.survives
 
 pub hand_all-requires : goal.hand_all-requires
@@ -69,7 +71,8 @@ returns-clause-value g c =
     (omega (arith, early, c.in_ok-rows.ensures.survives.clean, c.prepare.ensures.survives.clean))
     (selected _ _ _ _ known (state g.S.Store old) (state g.S.Store new)) c.hand_all.result
     (handed_after g.S.Store c.text.result.now c.in_ok-statement.statement.text (bound c.args.params.now)
-    old c.prepare.new.self c.requires.ready (plain_in _ _ _ c.text.ensures.sure.means) c.in_ok-statement.ensures.ok
+    old c.prepare.new.self c.requires.ready
+    (plain_in _ _ _ c.text.ensures.sure.means) c.in_ok-statement.ensures.ok
     c.prepare.ensures.survives first early c.in_ok-rows.ensures.survives
     (c.in_ok-rows.ensures.begun early) new
     (g.T.TakeRow.has_taken c.args.taker.now) has c.requires.fresh c.hand_all.result
@@ -87,7 +90,8 @@ returns-clause-open g c =
     omega (arith, clean, c.hand_all.ensures.remembered.doubt) in
     open_on c.hand_all.result (state g.S.Store old)
     (was_prepared g.S.Store c.text.result.now c.in_ok-statement.statement.text
-    (bound c.args.params.now) old c.prepare.new.self c.requires.ready (plain_in _ _ _ c.text.ensures.sure.means)
+    (bound c.args.params.now) old c.prepare.new.self c.requires.ready
+    (plain_in _ _ _ c.text.ensures.sure.means)
     c.in_ok-statement.ensures.ok c.prepare.ensures.survives first early c.in_ok-rows.ensures.survives
     (c.in_ok-rows.ensures.begun early))) in
     search rules
@@ -105,11 +109,13 @@ returns-clause-reads g c =
     (let early : HasCleanDisk (state g.S.Store first) =
     omega (arith, clean, c.hand_all.ensures.remembered.doubt) in
     kept_after g.S.Store c.text.result.now text (bound c.args.params.now) old mid c.requires.ready
-    (plain_in _ _ _ c.text.ensures.sure.means) c.in_ok-statement.ensures.ok c.prepare.ensures.survives first early begins.survives
+    (plain_in _ _ _ c.text.ensures.sure.means) c.in_ok-statement.ensures.ok c.prepare.ensures.survives
+    first early begins.survives
     (begins.begun early) new settled live (c.hand_all.ensures.left clean)) in
     let spared : Spares g.S.Store old first =
     spared_handed g.S.Store c.text.result.now text (bound c.args.params.now) old mid c.requires.ready
-    (plain_in _ _ _ c.text.ensures.sure.means) c.in_ok-statement.ensures.ok c.prepare.ensures.survives first begins.survives in
+    (plain_in _ _ _ c.text.ensures.sure.means) c.in_ok-statement.ensures.ok c.prepare.ensures.survives
+    first begins.survives in
     let it : OnlyReads g.S.Store old new =
     reads_handed g.S.Store old mid first new _ kept
     (c.hand_all.ensures.mode (begins.mode (c.prepare.ensures.mode c.requires.settled))) spared
@@ -120,7 +126,8 @@ returns-clause-reads g c =
 pub returns-in_err-statement-clause-cause : goal.returns-in_err-statement-clause-cause
 returns-in_err-statement-clause-cause g c clean live =
     let it : IsRefusal g.S.Store c.args.connection.now c.prepare.new.self _ =
-    refused_unprepared g.S.Store c.text.result.now (bound c.args.params.now) (rw c.requires.given c.text.ensures.sure)
+    refused_unprepared g.S.Store c.text.result.now (bound c.args.params.now)
+    (rw c.requires.given c.text.ensures.sure)
     c.args.connection.now c.requires.ready (omega (arith, c.prepare.ensures.survives.clean, clean))
     c.prepare.new.self _
     (c.in_err-statement.ensures.err clean (bound c.args.params.now)) live in
@@ -134,7 +141,8 @@ returns-in_err-rows-clause-cause g c clean live =
     omega (arith, refused.survives.clean, clean) in
     let prepared = c.in_ok-statement.ensures.ok early in
     let it : IsRefusal g.S.Store c.args.connection.now new _ =
-    refused_begun g.S.Store c.text.result.now (bound c.args.params.now) (rw c.requires.given c.text.ensures.sure)
+    refused_begun g.S.Store c.text.result.now (bound c.args.params.now)
+    (rw c.requires.given c.text.ensures.sure)
     c.args.connection.now c.requires.ready c.prepare.new.self c.in_ok-statement.statement.text
     prepared.0 prepared.1 c.prepare.ensures.survives
     (omega (arith, c.prepare.ensures.survives.clean, early)) new _ (refused.err clean) live in
@@ -165,7 +173,8 @@ returns-clause-cause g c =
     (ready_mid g.S.Store sql text (bound c.args.params.now) old mid c.requires.ready
     (plain_in _ _ _ c.text.ensures.sure.means) c.in_ok-statement.ensures.ok c.prepare.ensures.survives)
     (plain_text g.S.Store sql text (bound c.args.params.now) old mid c.requires.ready
-    (plain_in _ _ _ c.text.ensures.sure.means) c.in_ok-statement.ensures.ok c.prepare.ensures.survives early) early first
+    (plain_in _ _ _ c.text.ensures.sure.means) c.in_ok-statement.ensures.ok c.prepare.ensures.survives
+    early) early first
     (c.in_ok-rows.ensures.begun here) in
     cut_short_of g.S.Store old new _ (Lists (order_of c.args.query) wanted) g.T.TakeRow.refuses
     (λ rows shown. selected _ _ _ _ known (state g.S.Store old) (state g.S.Store new) rows

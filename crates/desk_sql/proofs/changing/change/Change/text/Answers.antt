@@ -16,16 +16,26 @@ returns-in-AddOperator c = subst (λ change. IsTextOf change _) (sym c.in-AddOpe
     (record { changed = insert_operator_changes _ _; sure = insert_operator_sure _ _; room = any_room _ _ })
 
 pub returns-in-AddPlan : goal.returns-in-AddPlan
-returns-in-AddPlan c = subst (λ change. IsTextOf change _) (sym c.in-AddPlan.is)
-    (record { changed = insert_plan_changes c.in-AddPlan.field-0; sure = insert_plan_sure c.in-AddPlan.field-0; room = insert_plan_room c.in-AddPlan.field-0 })
+returns-in-AddPlan c =
+    let row = c.in-AddPlan.field-0 in
+    subst (λ change. IsTextOf change _) (sym c.in-AddPlan.is)
+    (record { changed = insert_plan_changes row; sure = insert_plan_sure row; room = insert_plan_room row })
 
 pub returns-in-AddVolume : goal.returns-in-AddVolume
-returns-in-AddVolume c = subst (λ change. IsTextOf change _) (sym c.in-AddVolume.is)
-    (record { changed = insert_volume_changes c.in-AddVolume.field-0; sure = insert_volume_sure c.in-AddVolume.field-0; room = insert_volume_room c.in-AddVolume.field-0 })
+returns-in-AddVolume c =
+    let row = c.in-AddVolume.field-0 in
+    subst (λ change. IsTextOf change _) (sym c.in-AddVolume.is)
+    (record {
+      changed = insert_volume_changes row;
+      sure = insert_volume_sure row;
+      room = insert_volume_room row;
+    })
 
 pub returns-in-AddSpan : goal.returns-in-AddSpan
-returns-in-AddSpan c = subst (λ change. IsTextOf change _) (sym c.in-AddSpan.is)
-    (record { changed = insert_span_changes c.in-AddSpan.field-0; sure = insert_span_sure c.in-AddSpan.field-0; room = insert_span_room c.in-AddSpan.field-0 })
+returns-in-AddSpan c =
+    let row = c.in-AddSpan.field-0 in
+    subst (λ change. IsTextOf change _) (sym c.in-AddSpan.is)
+    (record { changed = insert_span_changes row; sure = insert_span_sure row; room = insert_span_room row })
 
 pub returns-in-SetCeiling : goal.returns-in-SetCeiling
 returns-in-SetCeiling c = subst (λ change. IsTextOf change _) (sym c.in-SetCeiling.is)
@@ -45,7 +55,11 @@ returns-in-RemoveSpans c = subst (λ change. IsTextOf change _) (sym c.in-Remove
 
 pub returns-in-EmptyOldVolumes : goal.returns-in-EmptyOldVolumes
 returns-in-EmptyOldVolumes c = subst (λ change. IsTextOf change _) (sym c.in-EmptyOldVolumes.is)
-    (record { changed = empty_old_volumes_changes; sure = empty_old_volumes_sure; room = empty_old_volumes_room })
+    (record {
+      changed = empty_old_volumes_changes;
+      sure = empty_old_volumes_sure;
+      room = empty_old_volumes_room;
+    })
 
 pub returns-in-EmptyOldSpans : goal.returns-in-EmptyOldSpans
 returns-in-EmptyOldSpans c = subst (λ change. IsTextOf change _) (sym c.in-EmptyOldSpans.is)

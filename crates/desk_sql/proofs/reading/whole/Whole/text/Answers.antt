@@ -11,7 +11,8 @@ pub returns-in-Plans : goal.returns-in-Plans
 returns-in-Plans c = subst (λ whole. IsWholeText whole _) (sym c.in-Plans.is) all_plans_selected
 
 pub returns-in-OldVolumes : goal.returns-in-OldVolumes
-returns-in-OldVolumes c = subst (λ whole. IsWholeText whole _) (sym c.in-OldVolumes.is) all_old_volumes_selected
+returns-in-OldVolumes c = subst (λ whole. IsWholeText whole _)
+    (sym c.in-OldVolumes.is) all_old_volumes_selected
 
 pub returns-in-OldSpans : goal.returns-in-OldSpans
 returns-in-OldSpans c = subst (λ whole. IsWholeText whole _) (sym c.in-OldSpans.is) all_old_spans_selected
