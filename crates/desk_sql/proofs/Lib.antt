@@ -46,3 +46,4 @@ pub mod RoomTexts
 pub mod NewRows
 pub mod PutStops
 pub mod PutSteps
+pub mod StepStops
