@@ -44,3 +44,4 @@ pub mod RoomTexts
 pub mod NewRows
 pub mod PutStops
 pub mod PutSteps
+pub mod StepStops

@@ -1,14 +1,22 @@
 -- How the tables and the indexes are made, one after the other.
-use Rattle.std.specs.Prelude.{◌≡◌, ◌⊎◌, IsTrue, ℕ}
+use Rattle.std.specs.Prelude.{◌≡◌, ◌⊎◌, IsTrue, ℕ, List, [], Option, ⊤}
+use Rattle.std.specs.List.{AllByRecursion}
+use Rattle.sqlite.specs.declared.types.Value.{Value}
+use Rattle.sqlite.specs.declared.types.Value.TheVariants.{Null, Int, Real, Text, Blob}
+use Rattle.sqlite.specs.declared.error.Error.{Error}
+use Rattle.sqlite.specs.Order.{Row}
 use Rattle.sqlite.specs.Tree.{Trees}
-use Rattle.sqlite.specs.Effect.{IsDatabase}
+use Rattle.sqlite.specs.Effect.{Database, IsDatabase}
+use Rattle.sqlite.specs.Listing.{understood}
 use Rattle.sqlite.specs.Store.{Ghosts}
 use Rattle.sqlite.specs.State.{HasCleanDisk}
 use Rattle.sqlite.specs.Held.{Held, state}
-use Rattle.desk_sql.specs.Schema.{desk_schema}
+use Rattle.desk_sql.specs.Schema.{desk_schema, schema_of}
 use Rattle.desk_sql.specs.declared.opening.finding.Made.{Made}
 use Rattle.desk_sql.specs.declared.opening.finding.Made.TheVariants.{Nothing, Operators, Plans, OldVolumes, OldSpans, OldIndex, Volumes, Spans, All}
-use Rattle.desk_sql.specs.Rows.{IsDesk, IsMadeTo, tables_of, tables_at}
+use Rattle.desk_sql.specs.Rows.{IsDesk, IsMadeTo, Tables, tables_of, tables_at}
+use Rattle.desk_sql.specs.Statements.{Extends}
+use Rattle.desk_sql.specs.Changing.{IsShort, IsWholeIn, MayStop}
 
 -- how many tables and indexes are still to be made
 abbrev pub left_to_make : Made → ℕ
@@ -21,6 +29,33 @@ left_to_make OldIndex = 3
 left_to_make Volumes = 2
 left_to_make Spans = 1
 left_to_make All = 0
+
+-- ---- what stops a step
+
+-- no fraction, and no text and no bytes that are long
+abbrev pub IsSmall : Value → Type 0
+IsSmall Null = ⊤
+IsSmall (Int n) = ⊤
+IsSmall (Real x) = ⊥
+IsSmall (Text text) = IsShort text
+IsSmall (Blob bytes) = IsShort bytes
+
+abbrev pub AreSmall : List Row → Type 0
+AreSmall rows = AllByRecursion (λ r. AllByRecursion IsSmall r) rows
+
+-- each row of a table of spans has an entry in the index over leaves that SQLite can store
+abbrev pub HasSmallSpans : Tables → Type 0
+HasSmallSpans t = AreSmall t.old_spans × AreSmall t.spans
+
+-- a text that makes what comes next of sound tables with such spans, and that only memory and the disk refuse
+pub record IsStep (text : List ℕ) (made next : Made) : Type 0 where
+  pub extends : Extends text made next
+  pub means : IsWholeIn text 0 (understood (schema_of made) text)
+  pub never : (limit : Option ℕ) (db : Database) (stop : Option Error) → IsMadeTo made db → IsDatabase db
+      → HasSmallSpans (tables_at made db.trees)
+      → ¬ MayStop text (understood (schema_of made) text) [] limit db stop
+
+-- ---- what it makes
 
 -- within a transaction, which goes on, what is made grew so, and the rows that there were stayed
 pub record Grows {S : Type 0} (g : Ghosts S) (made next : Made) (old new : Held S) : Type 0 where

@@ -41,7 +41,7 @@ named o (l ∷ ls) h e = by_test (is_eq (text_cmp o l.name)) refl e (named o ls 
       (sym (exact_bytes o l.name (is_equal (text_cmp o l.name) f))) h.0
   by_test false f g ih = ih g
 
-filed_within : (w : World) → IsContent w → AllByRecursion IsFiled w.plans
+pub filed_within : (w : World) → IsContent w → AllByRecursion IsFiled w.plans
 filed_within w h =
     both (λ p. IsPlan p.row) (λ p. IsTrue (is_operator_name p.operator)
     × (p.row.priority ≤ max_priority))

@@ -101,14 +101,14 @@ untaken : (db : Database) → IsDatabase db → IsUntaken db → ReadsAs db.tree
 untaken db sound un w has =
     let same : db.schema ≡ desk_schema = lists_once _ db.schema desk_schema sound.lists has.sound.lists in
     elim un [
-      | inl (inl (made, part)) ↦ part.missing (only_all made (sym part.part.schema ∙ same))
-      | inl (inr numbers) ↦ numbers.unsound (subst (λ made. IsMadeTo made db)
+      | inl (made, part) ↦ part.missing (only_all made (sym part.part.schema ∙ same))
+      | inr (inl numbers) ↦ numbers.unsound (subst (λ made. IsMadeTo made db)
           (sym (only_all numbers.made (sym numbers.schema ∙ same))) (made_desk db
           (subst (λ schema. IsDesk (record { schema = schema; trees = db.trees })) (sym same) has.desk)))
-      | inr (inl (inl others)) ↦ others All same
-      | inr (inl (inr none)) ↦ subst (λ made. AreNoContent (tables_at made db.trees))
+      | inr (inr (inl (inl others))) ↦ others All same
+      | inr (inr (inl (inr none))) ↦ subst (λ made. AreNoContent (tables_at made db.trees))
           (only_all none.made (sym none.desk.schema ∙ same)) none.none w has.content has.tables
-      | inr (inr rows) ↦ true≢false (sym (subst (λ made. has_old_rows (tables_at made db.trees) ≡ true)
+      | inr (inr (inr rows)) ↦ true≢false (sym (subst (λ made. has_old_rows (tables_at made db.trees) ≡ true)
           (only_all rows.made (sym rows.desk.schema ∙ same)) rows.old)
           ∙ old_rows_none (tables_of db.trees) has.tables.old)
     ]
@@ -165,14 +165,14 @@ module _ {D E : Type 0} {g : disk.Ghosts D} {k : disk.Ghosts E} (last : Held (Fi
           first = it.opens.opened it.clean;
         } in
         elim (it.opens.begins it.clean (it.opens.live it.clean)) [
-          | inl blank ↦ absurd (never_untaken it.opens.found after (inl (inl (
+          | inl blank ↦ absurd (never_untaken it.opens.found after (inl (
             Nothing,
             nothing_made
                 (file_state it.opens.found).now blank.blank,
-          ))))
+          )))
           | inr (inl was) ↦ found_again it.opens.found w after was.standing
           | inr (inr part) ↦ absurd (never_untaken it.opens.found after
-              (inl (inl (part.made, part.part))))
+              (inl (part.made, part.part)))
         ]
 
     module _ (e : OpenFault) (left : Held (FileStore E k)) where
@@ -185,10 +185,10 @@ module _ {D E : Type 0} {g : disk.Ghosts D} {k : disk.Ghosts E} (last : Held (Fi
 
       -- that there is no desk, or one of schema 1, is never told of them
       pub never_none : IsRefusedAfter last e left → e ≢ NotADesk
-      never_none it is = taken it (inr (inl (it.refused.none is it.legible.0 it.legible.1)))
+      never_none it is = taken it (inr (inr (inl (it.refused.none is it.legible.0 it.legible.1))))
 
       pub never_old : IsRefusedAfter last e left → e ≢ OldSchema
-      never_old it is = taken it (inr (inr (it.refused.old is it.legible.0 it.legible.1)))
+      never_old it is = taken it (inr (inr (inr (it.refused.old is it.legible.0 it.legible.1))))
 
       pub never_refused : IsRefusedAtRest last e left → ⊥
       never_refused it = by_fault e refl where
@@ -199,7 +199,7 @@ module _ {D E : Type 0} {g : disk.Ghosts D} {k : disk.Ghosts E} (last : Held (Fi
         by_fault Store is = elim (it.after.refused.cause it.after.legible.0 it.after.legible.1 is) [
           | inl (inl failed) ↦ it.quiet failed
           | inl (inr limited) ↦ (let none = subst IsSome it.after.refused.fresh.unlimited limited in cc)
-          | inr unmade ↦ taken it.after (inl unmade)
+          | inr numbers ↦ taken it.after (inr (inl numbers))
         ]
 
     -- of such files neither is told, by a connection that can be read or by none

@@ -39,3 +39,4 @@ pub mod PuttableLemmas
 pub mod MovingLemmas
 pub mod CopyLemmas
 pub mod LookLemmas
+pub mod SmallLemmas

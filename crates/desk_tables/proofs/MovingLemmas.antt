@@ -374,7 +374,7 @@ module _ {S : Type 0} (g : Ghosts S) (a c : Held S) where
   pub cause_unmoved : (e : OpenFault) → BlamesDatabase g a c e → BlamesMove g a c e
   cause_unmoved e cause = λ clean live told. elim (cause clean live told) [
     | inl failed ↦ inl failed
-    | inr unmade ↦ inr (inl unmade)
+    | inr numbers ↦ inr (inl numbers)
   ]
 
 -- and so is a refusal of such an opening, since before a reading

@@ -18,7 +18,7 @@ use Rattle.desk_sql.specs.Rows.{IsDesk, IsMadeTo, AreNumbered, Tables, tables_of
 use Rattle.desk_sql.specs.Effects.{IsKept, ShowsAsBefore}
 use Rattle.desk_sql.specs.Frames.{OnlyReads}
 use Rattle.desk_sql.specs.Finding.{Holds}
-use Rattle.desk_sql.specs.Refusals.{IsRefusal, IsUnread}
+use Rattle.desk_sql.specs.Refusals.{IsMisnumbered, IsRefusal, IsUnread}
 use Rattle.sqlite_value.specs.Order.{Row}
 use Rattle.desk_store.specs.World.{World}
 use Rattle.desk_tables.specs.declared.opening.open.OpenFault.{OpenFault}
@@ -26,7 +26,7 @@ use Rattle.desk_tables.specs.declared.opening.open.OpenFault.TheVariants.{NotADe
 use Rattle.desk_tables.specs.Content.{IsContent}
 use Rattle.desk_tables.specs.Store.{Stands}
 use Rattle.desk_tables.specs.Tables.{HasNoOldRows, AreTables}
-use Rattle.desk_tables.specs.Opening.{AreSortedByKey, AreAllRows, HasNewRows, IsContentOf, AreNoContent, IsPart, BeganBlank, WasCompleted, BeginsWith, ShowsNoDesk, IsNoDesk, IsUnmade, HasFailed, BlamesReading, BlamesDatabase, open_fault_of}
+use Rattle.desk_tables.specs.Opening.{AreSortedByKey, AreAllRows, HasNewRows, IsContentOf, AreNoContent, IsPart, BeganBlank, WasCompleted, BeginsWith, ShowsNoDesk, IsNoDesk, HasFailed, BlamesReading, BlamesDatabase, open_fault_of}
 use Rattle.desk_tables.proofs.KeyOrderLemmas.{are_rows, are_tables}
 
 -- what is made as a whole is a desk
@@ -201,7 +201,7 @@ module _ {S : Type 0} (g : Ghosts S) (a b c : Held S) (reads : OnlyReads g a b)
   cause_then (Err e) kept cause = λ clean live told. elim (cause clean live told) [
     | inl (inl failed) ↦ inl (inl (omega (arith, failed, reads.faults)))
     | inl (inr limited) ↦ inl (inr (subst IsSome reads.limit limited))
-    | inr unmade ↦ inr (subst IsUnmade (same_before clean (kept clean live).was_open).now unmade)
+    | inr numbers ↦ inr (subst IsMisnumbered (same_before clean (kept clean live).was_open).now numbers)
   ]
 
 -- what is said of an error, once it is told on
@@ -231,29 +231,13 @@ module _ {S : Type 0} (g : Ghosts S) where
       → BlamesDatabase g a b (open_fault_of error)
   blames_unread a b error why clean live told = elim (why clean live) [
     | inl refusal ↦ inl (failed_if a a b error (omega arith) refl refusal told)
-    | inr numbers ↦ inr (inr numbers.1)
+    | inr numbers ↦ inr numbers.1
   ]
 
-  -- part of the tables was to be completed
-  pub blames_part : (made : Made) (e : OpenFault) (a b c : Held S) → made ≢ All → IsKept g a b
-      → Holds g b (IsMadeTo made) → IsKept g b c
-      → doubt (state g b).is_clean ≤ doubt (state g c).is_clean → BlamesDatabase g a c e
-  blames_part made e a b c missing one part two rises clean live told =
-      let after = two clean live in
-      let was : HasCleanDisk (state g b) = omega (arith, rises, clean) in
-      let before = one was after.was_open in
-      inr (inl (
-        made,
-        subst (IsPart made) before.now
-            (record { missing = missing; part = part was after.was_open }),
-      ))
-
-  pub blames_completing : {V : Type 0} (made : Made) (r : Result V OpenFault) (a b c : Held S)
-      → made ≢ All → IsKept g a b → Holds g b (IsMadeTo made) → OnErr r (IsKept g b c)
-      → doubt (state g b).is_clean ≤ doubt (state g c).is_clean → IfErr r (BlamesDatabase g a c)
-  blames_completing made (Ok v) a b c missing one part two rises = tt
-  blames_completing made (Err e) a b c missing one part two rises =
-      blames_part made e a b c missing one part two rises
+  pub blames_more : {V : Type 0} (r : Result V OpenFault) (a b : Held S) → IfErr r (BlamesReading g a b)
+      → IfErr r (BlamesDatabase g a b)
+  blames_more (Ok v) a b why = tt
+  blames_more (Err e) a b why = λ clean live told. inl (why clean live told)
 
   pub blames_reading : (a b c : Held S) (error : Error) → (state g a).faults ≤ (state g b).faults
       → b.step_limit ≡ a.step_limit

@@ -10,16 +10,17 @@ use Rattle.sqlite.specs.Effect.{Database, IsDatabase}
 use Rattle.sqlite.specs.State.{HasCleanDisk}
 use Rattle.sqlite.specs.Held.{Held, state, AreDatabases}
 use Rattle.sqlite.specs.Files.{over_files, file_state}
+use Rattle.desk_sql.specs.declared.opening.finding.Made.{Made}
 use Rattle.desk_sql.specs.Schema.{desk_schema}
 use Rattle.desk_sql.specs.Rows.{IsDesk, tables_of}
-use Rattle.desk_sql.specs.Refusals.{HasDiskFailed}
+use Rattle.desk_sql.specs.Refusals.{HasDiskFailed, IsMisnumbered}
 use Rattle.desk_store.specs.World.{World}
 use Rattle.desk_store.specs.Crashes.{LeavesOnly}
 use Rattle.desk_tables.specs.Tables.{AreTables}
 use Rattle.desk_tables.specs.Content.{IsContent}
 use Rattle.desk_tables.specs.declared.opening.open.OpenFault.{OpenFault}
 use Rattle.desk_tables.specs.declared.opening.open.OpenFault.TheVariants.{OutOfMemory}
-use Rattle.desk_tables.specs.Opening.{IsUnmade, IsNoDesk, HasOldRows}
+use Rattle.desk_tables.specs.Opening.{IsPart, IsNoDesk, HasOldRows}
 use Rattle.desk_tables.specs.Files.{FindsFirst, OpensIn, IsRefusedIn}
 
 -- the trees are a desk's, list and obey its schema, and their rows are those of the content
@@ -67,7 +68,7 @@ module _ {D : Type 0} {g : disk.Ghosts D} where
 
 -- what a start does not take for a desk's tables as they are
 abbrev pub IsUntaken : Database → Type 0
-IsUntaken db = IsUnmade db ⊎ (IsNoDesk db ⊎ HasOldRows db)
+IsUntaken db = ((made : Made) × IsPart made db) ⊎ (IsMisnumbered db ⊎ (IsNoDesk db ⊎ HasOldRows db))
 
 -- a connection is open, on a clean disk: what it shows is what the files have
 abbrev pub IsLegible : {D : Type 0} {g : disk.Ghosts D} → Held (FileStore D g) → Type 0

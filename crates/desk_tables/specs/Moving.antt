@@ -11,13 +11,14 @@ use Rattle.sqlite.specs.State.{HasCleanDisk}
 use Rattle.sqlite.specs.Held.{Held, state}
 use Rattle.desk_sql.specs.declared.opening.finding.Made.{Made}
 use Rattle.desk_sql.specs.Rows.{IsDesk, IsMadeTo, Tables, Lists, tables_of, tables_at, has_old_rows}
+use Rattle.desk_sql.specs.Refusals.{IsMisnumbered}
 use Rattle.desk_sql.specs.Effects.{ShowsAsBefore}
 use Rattle.desk_sql.specs.Finding.{HasOthers}
 use Rattle.desk_store.specs.World.{Filed, World}
 use Rattle.desk_tables.specs.Tables.{operator_rows, plan_rows, area_rows, volume_rows, area_covers, cover_rows, ArePlanSpanRows, AreSpanRows}
 use Rattle.desk_tables.specs.Content.{IsContent}
 use Rattle.desk_tables.specs.Store.{IsStanding}
-use Rattle.desk_tables.specs.Opening.{BeginsWith, HasNoContent, HasFailed, IsUnmade, HasOldRows}
+use Rattle.desk_tables.specs.Opening.{BeginsWith, HasNoContent, HasFailed, HasOldRows}
 use Rattle.desk_tables.specs.declared.opening.open.OpenFault.{OpenFault}
 use Rattle.desk_tables.specs.declared.opening.open.OpenFault.TheVariants.{Store}
 
@@ -166,4 +167,4 @@ module _ {S : Type 0} (g : Ghosts S) (old new : Held S) where
   abbrev pub BlamesMove : OpenFault → Type 0
   BlamesMove e =
       HasCleanDisk (state g new) → IsTrue (state g new).is_open → e ≡ Store →
-      HasFailed g old new ⊎ (IsUnmade (state g old).now ⊎ HasOldRows (state g old).now)
+      HasFailed g old new ⊎ (IsMisnumbered (state g old).now ⊎ HasOldRows (state g old).now)

@@ -173,11 +173,6 @@ HasRowsOld made old db = has_old_rows (tables_at made db.trees) ≡ old
 abbrev pub HasNewRows : Made → Database → Type 0
 HasNewRows made = HasRowsOld made false
 
--- some of a desk's tables, or the index, were to be made, or the rowids of a desk's are not those of a sound
--- one
-abbrev pub IsUnmade : Database → Type 0
-IsUnmade db = ((made : Made) × IsPart made db) ⊎ IsMisnumbered db
-
 module _ {S : Type 0} (g : Ghosts S) (old new : Held S) where
   -- over a connection that is open and a clean disk, a store of this world begins
   abbrev pub BeginsWith : World → Type 0
@@ -206,4 +201,4 @@ module _ {S : Type 0} (g : Ghosts S) (old new : Held S) where
   abbrev pub BlamesDatabase : OpenFault → Type 0
   BlamesDatabase e =
       HasCleanDisk (state g new) → IsTrue (state g new).is_open → e ≡ Store →
-      HasFailed ⊎ IsUnmade (state g old).now
+      HasFailed ⊎ IsMisnumbered (state g old).now

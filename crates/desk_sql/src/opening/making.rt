@@ -1,40 +1,40 @@
 //! How the tables and the indexes are made.
 
-ghost use Rattle.std.specs.Prelude.{◌≡◌, ◌≢◌, false, suc, IfSome, IfNone, IsTrue, OnOk, OnErr};
+ghost use Rattle.std.specs.Prelude.{◌≡◌, ◌≢◌, false, suc, IfSome, IfNone, IfErr, IsTrue, OnOk, OnErr};
 ghost use Rattle.sqlite.specs.Effect.{IsDatabase};
 ghost use Rattle.sqlite.specs.State.{HasCleanDisk, KeepsCommit};
 ghost use Rattle.sqlite.specs.Held.{state};
-ghost use Rattle.desk_sql.specs.Making.{left_to_make, Finishes, Completes, MayComplete};
-ghost use Rattle.desk_sql.specs.Rows.{IsMadeTo};
+ghost use Rattle.desk_sql.specs.Making.{left_to_make, Finishes, Completes, MayComplete, HasSmallSpans, IsStep};
+ghost use Rattle.desk_sql.specs.Rows.{IsMadeTo, tables_at};
 ghost use Rattle.desk_sql.specs.Finding.{Holds};
 ghost use Rattle.desk_sql.specs.Effects.{IsKept};
 ghost use Rattle.desk_sql.specs.Frames.{Remembers, IsOver};
-ghost use Rattle.desk_sql.specs.Statements.{Extends};
+ghost use Rattle.desk_sql.specs.Refusals.{IsRefusal};
 
 use crate::changing::run::run;
 use crate::laws::settled_and_sound;
 use crate::opening::finding::Made;
 use sqlite::{Alter, Connection, Error, Transaction};
 
-#[tactic(auto, using(crate::proofs::CreateLemmas::operator_extends))]
+#[tactic(auto, using(crate::proofs::StepStops::operator_step))]
 fn operator_text() -> &'static str
-    ensures { Extends result.now Made.Nothing Made.Operators }
+    ensures { IsStep result.now Made.Nothing Made.Operators }
 {
     "CREATE TABLE operator (name TEXT NOT NULL, ceiling INTEGER NOT NULL, PRIMARY KEY (name)) STRICT"
 }
 
-#[tactic(auto, using(crate::proofs::CreateLemmas::plan_extends))]
+#[tactic(auto, using(crate::proofs::StepStops::plan_step))]
 fn plan_text() -> &'static str
-    ensures { Extends result.now Made.Operators Made.Plans }
+    ensures { IsStep result.now Made.Operators Made.Plans }
 {
     "CREATE TABLE plan (operator TEXT NOT NULL, id TEXT NOT NULL, priority INTEGER NOT NULL, \
      usage INTEGER NOT NULL, aircraft INTEGER NOT NULL, PRIMARY KEY (operator, id), \
      FOREIGN KEY (operator) REFERENCES operator (name)) STRICT"
 }
 
-#[tactic(auto, using(crate::proofs::CreateLemmas::old_volume_extends))]
+#[tactic(auto, using(crate::proofs::StepStops::old_volume_step))]
 fn old_volume_text() -> &'static str
-    ensures { Extends result.now Made.Plans Made.OldVolumes }
+    ensures { IsStep result.now Made.Plans Made.OldVolumes }
 {
     "CREATE TABLE volume (operator TEXT NOT NULL, id TEXT NOT NULL, place INTEGER NOT NULL, \
      lower INTEGER NOT NULL, upper INTEGER NOT NULL, start INTEGER NOT NULL, \
@@ -42,9 +42,9 @@ fn old_volume_text() -> &'static str
      FOREIGN KEY (operator, id) REFERENCES plan (operator, id) ON DELETE CASCADE) STRICT"
 }
 
-#[tactic(auto, using(crate::proofs::CreateLemmas::old_span_extends))]
+#[tactic(auto, using(crate::proofs::StepStops::old_span_step))]
 fn old_span_text() -> &'static str
-    ensures { Extends result.now Made.OldVolumes Made.OldSpans }
+    ensures { IsStep result.now Made.OldVolumes Made.OldSpans }
 {
     "CREATE TABLE span (operator TEXT NOT NULL, id TEXT NOT NULL, place INTEGER NOT NULL, \
      first INTEGER NOT NULL, last INTEGER NOT NULL, lower INTEGER NOT NULL, \
@@ -53,17 +53,17 @@ fn old_span_text() -> &'static str
      FOREIGN KEY (operator, id) REFERENCES plan (operator, id) ON DELETE CASCADE) STRICT"
 }
 
-#[tactic(auto, using(crate::proofs::CreateLemmas::old_first_extends))]
+#[tactic(auto, using(crate::proofs::StepStops::old_first_step))]
 fn old_first_text() -> &'static str
-    ensures { Extends result.now Made.OldSpans Made.OldIndex }
+    ensures { IsStep result.now Made.OldSpans Made.OldIndex }
 {
     "CREATE INDEX span_first ON span \
      (first, last, lower, upper, start, stop, priority, operator, id)"
 }
 
-#[tactic(auto, using(crate::proofs::CreateLemmas::volume_extends))]
+#[tactic(auto, using(crate::proofs::StepStops::volume_step))]
 fn volume_text() -> &'static str
-    ensures { Extends result.now Made.OldIndex Made.Volumes }
+    ensures { IsStep result.now Made.OldIndex Made.Volumes }
 {
     "CREATE TABLE volume2 (operator TEXT NOT NULL, id TEXT NOT NULL, place INTEGER NOT NULL, \
      lower INTEGER NOT NULL, upper INTEGER NOT NULL, start INTEGER NOT NULL, \
@@ -72,9 +72,9 @@ fn volume_text() -> &'static str
      FOREIGN KEY (operator, id) REFERENCES plan (operator, id) ON DELETE CASCADE) STRICT"
 }
 
-#[tactic(auto, using(crate::proofs::CreateLemmas::span_extends))]
+#[tactic(auto, using(crate::proofs::StepStops::span_step))]
 fn span_text() -> &'static str
-    ensures { Extends result.now Made.Volumes Made.Spans }
+    ensures { IsStep result.now Made.Volumes Made.Spans }
 {
     "CREATE TABLE span2 (operator TEXT NOT NULL, id TEXT NOT NULL, place INTEGER NOT NULL, \
      first INTEGER NOT NULL, last INTEGER NOT NULL, lower INTEGER NOT NULL, \
@@ -85,9 +85,9 @@ fn span_text() -> &'static str
 }
 
 // The columns after `last` are those that the query of rivals reads, so that it reads the index alone.
-#[tactic(auto, using(crate::proofs::CreateLemmas::first_extends))]
+#[tactic(auto, using(crate::proofs::StepStops::first_step))]
 fn first_text() -> &'static str
-    ensures { Extends result.now Made.Spans Made.All }
+    ensures { IsStep result.now Made.Spans Made.All }
 {
     "CREATE INDEX span2_first ON span2 \
      (first, last, lower, upper, start, stop, priority, operator, id)"
@@ -95,7 +95,7 @@ fn first_text() -> &'static str
 
 // The text that makes what comes next, and how far all is made then.
 fn next_step(made: Made) -> Option<(Made, &'static str)>
-    ensures step { IfSome result (λ step. Extends step.1.now made step.0) }
+    ensures step { IfSome result (λ step. IsStep step.1.now made step.0) }
     ensures less { IfSome result (λ step. left_to_make made ≡ suc (left_to_make step.0)) }
     ensures none { IfNone result (made ≡ Made.All) }
 {
@@ -124,6 +124,9 @@ fn make_rest<S: Alter>(tx: &mut Transaction<'_, S>, made: Made) -> Result<(), Er
     ensures undone { HasCleanDisk (state S.Store tx.new.conn.now)
         → OnErr result (KeepsCommit (state S.Store tx.old.conn.now)
         (state S.Store tx.new.conn.now)) }
+    ensures cause { HasSmallSpans (tables_at made (state S.Store tx.old.conn.now).now.trees)
+        → HasCleanDisk (state S.Store tx.new.conn.now) → IsTrue (state S.Store tx.old.conn.now).is_open
+        → IfErr result (IsRefusal S.Store tx.old.conn.now tx.new.conn.now) }
     ensures remembered { Remembers S.Store tx.old.conn.now tx.new.conn.now }
 {
     let mut at = made;
@@ -143,6 +146,9 @@ pub fn complete_tables<S: Alter>(connection: &mut Connection<S>, made: Made) -> 
     ensures done { HasCleanDisk (state S.Store connection.new)
         → OnOk result (Completes S.Store made connection.old connection.new) }
     ensures kept { OnErr result (IsKept S.Store connection.old connection.new) }
+    ensures cause { HasSmallSpans (tables_at made (state S.Store connection.old).now.trees)
+        → HasCleanDisk (state S.Store connection.new) → IsTrue (state S.Store connection.new).is_open
+        → IfErr result (IsRefusal S.Store connection.old connection.new) }
     ensures over { IsOver S.Store connection.old connection.new }
     ensures crash { MayComplete S.Store made connection.old connection.new }
 {

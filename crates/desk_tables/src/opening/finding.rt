@@ -143,6 +143,7 @@ pub(crate) fn made_in<S: Alter>(connection: &mut Connection<S>) -> Result<Kept, 
     ensures live { OnOk result (IsOpenIfClean S.Store connection.new) }
     ensures fault { IfErr result (λ e. (e ≢ OpenFault.NotADesk)
         × (e ≢ OpenFault.OldSchema)) }
+    ensures cause { IfErr result (BlamesReading S.Store connection.old connection.new) }
     ensures kept { OnErr result (IsKept S.Store connection.old connection.new) }
     ensures doubt { doubt (state S.Store connection.old).is_clean
         ≤ doubt (state S.Store connection.new).is_clean }
@@ -176,6 +177,7 @@ fn completed_in<S: Alter>(
     ensures open { HasCleanDisk (state S.Store connection.new) →
         OnOk result (IsTrue (state S.Store connection.old).is_open) }
     ensures live { OnOk result (IsOpenIfClean S.Store connection.new) }
+    ensures cause { IfErr result (BlamesReading S.Store connection.old connection.new) }
     ensures kept { OnErr result (IsKept S.Store connection.old connection.new) }
     ensures doubt { doubt (state S.Store connection.old).is_clean
         ≤ doubt (state S.Store connection.new).is_clean }

@@ -1,5 +1,9 @@
-use Rattle.std.proofs.Common.{arith, ◌∙◌, inr}
+use Rattle.std.proofs.Common.{arith, rules, ◌∙◌, inr}
+use Rattle.sqlite.specs.State.{HasCleanDisk}
+use Rattle.sqlite.specs.Held.{state}
+use Rattle.desk_sql.specs.Refusals.{IsRefusal}
 use Rattle.desk_sql.proofs.CreateLemmas.{grows, grown_more, finished}
+use Rattle.desk_sql.proofs.StepStops.{step_refused}
 use Rattle.desk_sql.proofs.opening.making.make_rest.Goals as goal
 
 pub steps-preserved : goal.steps-preserved
@@ -11,10 +15,23 @@ steps-preserved g c =
       grown_more g.S.Store c.args.made c.steps.at c.in-Some.next old mid new c.steps.invariant.1
           c.run.ensures.remembered
           (λ clean. grows g.S.Store c.steps.at c.in-Some.next mid new c.in-Some.text.now
-          c.in-Some.ensures.step (λ clean live. (c.steps.invariant.1.grown clean (inr live)).has)
+          c.in-Some.ensures.step.extends (λ clean live. (c.steps.invariant.1.grown clean (inr live)).has)
           (omega (arith, c.run.ensures.remembered.doubt, clean)) (c.in_ok-run.ensures.shown clean)
           c.in_ok-run.field-0 (c.in_ok-run.ensures.ran clean)),
+      λ clean _. (c.in_ok-run.ensures.shown clean).is_open,
     )
+
+pub returns-in_err-run-clause-cause : goal.returns-in_err-run-clause-cause
+returns-in_err-run-clause-cause g c small clean live =
+    let old = c.args.tx.now.conn.now in
+    let mid = c.steps.tx.conn.now in
+    let new = c.run.new.tx.conn.now in
+    let early : HasCleanDisk (state g.S.Store mid) = omega (arith, c.run.ensures.remembered.doubt, clean) in
+    let it : IsRefusal g.S.Store old new c.in_err-run.field-0.0 =
+    step_refused g.S.Store c.args.made c.steps.at c.in-Some.next old mid new c.in-Some.text.now
+    c.in-Some.ensures.step c.steps.invariant.1 early (c.steps.invariant.2 early live) small _
+    (c.in_err-run.ensures.stopped clean) in
+    search (rules, it)
 
 pub returns-clause-done : goal.returns-clause-done
 returns-clause-done g c =

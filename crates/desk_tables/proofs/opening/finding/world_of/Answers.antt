@@ -1,21 +1,17 @@
-use Rattle.std.proofs.Common.{rules, ◌≢◌}
-use Rattle.desk_sql.specs.declared.opening.finding.Made.TheVariants.{Nothing, All}
+use Rattle.std.proofs.Common.{inl, rules}
+use Rattle.desk_sql.specs.declared.opening.finding.Made.TheVariants.{All}
 use Rattle.desk_sql.specs.Finding.{Holds}
 use Rattle.desk_sql.specs.Rows.{IsMadeTo}
 use Rattle.desk_tables.specs.Opening.{BlamesDatabase, HasNewRows}
 use Rattle.desk_tables.proofs.FrameLemmas.{reads_itself}
-use Rattle.desk_tables.proofs.OpeningLemmas.{none_of, begins_found, begins_completed, kept_on_err, found_stands, blames_part, blames_completing, told_as}
+use Rattle.desk_tables.proofs.OpeningLemmas.{none_of, begins_found, begins_completed, kept_on_err, found_stands, blames_more, told_as}
 use Rattle.desk_tables.proofs.opening.finding.world_of.Goals as goal
 
 pub returns-in_err-made_in-in-Nothing-clause-cause : goal.returns-in_err-made_in-in-Nothing-clause-cause
 returns-in_err-made_in-in-Nothing-clause-cause g c =
-    let old = c.args.connection.now in
-    let part : Holds g.S.Store old (IsMadeTo Nothing) = search rules in
-    told_as (BlamesDatabase g.S.Store old c.made_in.new.connection) c.from_residual.result _
+    told_as (BlamesDatabase g.S.Store c.args.connection.now c.made_in.new.connection) c.from_residual.result _
     c.from_residual.ensures.1
-    (blames_part g.S.Store Nothing c.in_err-made_in-in-Nothing.field-0.0 old old c.made_in.new.connection
-    (λ e. cc) (reads_itself g.S.Store old c.requires.settled).kept part
-    c.in_err-made_in-in-Nothing.ensures.kept c.made_in.ensures.doubt)
+    (λ clean live told. inl (c.in_err-made_in-in-Nothing.ensures.cause clean live told))
 
 pub returns-in-All-clause-stands : goal.returns-in-All-clause-stands
 returns-in-All-clause-stands g c =
@@ -46,7 +42,6 @@ returns-in_default g c =
     let new = c.completed_in.new.connection in
     let made = c.args.made in
     let kept = (reads_itself g.S.Store old c.requires.settled).kept in
-    let missing : made ≢ All = search rules in
     let done = c.completed_in.ensures in record {
       begins = begins_completed g.S.Store made (λ found. found.0.world) c.completed_in.result old old new
           kept done.doubt done.open done.value;
@@ -55,8 +50,7 @@ returns-in_default g c =
       none = none_of g.S.Store made c.completed_in.result old old new kept c.requires.part c.requires.new
           done.kept done.doubt done.none;
       newer = done.newer;
-      cause = blames_completing g.S.Store made c.completed_in.result old old new missing kept c.requires.part
-          done.kept done.doubt;
+      cause = blames_more g.S.Store c.completed_in.result old new done.cause;
       opened = done.open;
       live = done.live;
       kept = done.kept;
