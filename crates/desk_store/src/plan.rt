@@ -1,11 +1,11 @@
 //! A plan as a store in memory keeps it.
 
-ghost use Rattle.std.specs.Prelude.{◌≡◌, ◌&&◌, ◌↔◌, false, nat_le, IsTrue, IfOk, OnOk};
+ghost use Rattle.std.specs.Prelude.{◌≡◌, ◌&&◌, false, nat_le, IsTrue, IfOk, OnOk};
 ghost use Rattle.volume4d.specs.Volume.{area_has};
 ghost use Rattle.volume4d.specs.Level.{level_where};
 ghost use Rattle.volume4d.specs.Slab.{slabs_have};
 ghost use Rattle.desk_rules.specs.Plan.{is_live};
-ghost use Rattle.desk_store.specs.Rivals.{AddLevel, ShareAPoint};
+ghost use Rattle.desk_store.specs.Rivals.{AddLevel, AddsLevel, ShareAPoint};
 ghost use Rattle.desk_store.specs.Parts.{parts_of, row_of, kept_states, closed_parts, HasNoPoint};
 
 use desk_rules::plan::{PlanRow, States};
@@ -13,8 +13,7 @@ use desk_rules::plan_id::PlanId;
 use desk_rules::words::{Aircraft, Usage};
 use std::alloc::AllocError;
 use std::marker::Model;
-use std::slice::from_ref;
-use volume4d::{Area, Held, Slab, bounds_of, meet};
+use volume4d::{Area, Held, Slab, bounds_of};
 
 /// A plan, but for its operator and its id, with the slabs of its area and bounds round them, which
 /// are made once.
@@ -127,6 +126,22 @@ impl Plan {
     {
         push_helds(helds, &self.slabs, self.priority, extent)
     }
+
+    /// Appends the slabs that it holds, at its priority.
+    ///
+    /// # Errors
+    ///
+    /// `AllocError` for want of memory.
+    pub fn push_held(&self, helds: &mut Vec<Held>) -> Result<(), AllocError>
+        ensures { OnOk result (AddsLevel helds.old.items helds.new.items
+            (λ x. level_where (is_live self.now.usage && area_has self.now.area x) self.now.priority)) }
+    {
+        if self.usage.is_live() {
+            push_each(helds, &self.slabs, self.priority)
+        } else {
+            Ok(())
+        }
+    }
 }
 
 // Appends the slabs that meet an extent, at a priority.
@@ -150,9 +165,50 @@ fn push_helds(
     Ok(())
 }
 
-// Whether two slabs share a point.
-fn overlap(mine: &Slab, theirs: &Slab) -> bool
-    ensures { IsTrue result ↔ ShareAPoint mine.now theirs.now }
+// Appends slabs, at a priority.
+fn push_each(helds: &mut Vec<Held>, slabs: &[Slab], priority: u32) -> Result<(), AllocError>
+    ensures { OnOk result (AddsLevel helds.old.items helds.new.items
+        (λ x. level_where (slabs_have slabs.now x) priority)) }
 {
-    meet(from_ref(mine), from_ref(theirs))
+    for slab in slabs {
+        helds.push(Held {
+            slab: *slab,
+            priority,
+        })?;
+    }
+    Ok(())
+}
+
+// Whether two slabs meet in seconds, in altitudes and in leaves, as those do that share a point.
+fn overlap(mine: &Slab, theirs: &Slab) -> bool
+    ensures { ShareAPoint mine.now theirs.now → IsTrue result }
+{
+    if !meet_in_time(mine, theirs) {
+        return false;
+    }
+    if !meet_in_height(mine, theirs) {
+        return false;
+    }
+    meet_on_ground(mine, theirs)
+}
+
+// Whether two slabs have a second in common.
+fn meet_in_time(mine: &Slab, theirs: &Slab) -> bool
+    ensures { ShareAPoint mine.now theirs.now → IsTrue result }
+{
+    mine.start < theirs.end && theirs.start < mine.end
+}
+
+// Whether two slabs have an altitude in common.
+fn meet_in_height(mine: &Slab, theirs: &Slab) -> bool
+    ensures { ShareAPoint mine.now theirs.now → IsTrue result }
+{
+    mine.lower < theirs.upper && theirs.lower < mine.upper
+}
+
+// Whether two slabs have a leaf in common.
+fn meet_on_ground(mine: &Slab, theirs: &Slab) -> bool
+    ensures { ShareAPoint mine.now theirs.now → IsTrue result }
+{
+    mine.first <= theirs.last && theirs.first <= mine.last
 }
