@@ -1,13 +1,14 @@
 //! A plan as a store in memory keeps it.
 
-ghost use Rattle.std.specs.Prelude.{◌≡◌, ◌&&◌, false, nat_le, IsTrue, IfOk, OnOk};
+ghost use Rattle.std.specs.Prelude.{◌≡◌, ◌&&◌, false, nat_le, IfOk, OnOk};
 ghost use Rattle.volume4d.specs.Volume.{area_has};
 ghost use Rattle.volume4d.specs.Level.{level_where};
 ghost use Rattle.volume4d.specs.Slab.{slabs_have};
 ghost use Rattle.desk_rules.specs.Plan.{is_live};
-ghost use Rattle.desk_store.specs.Rivals.{AddLevel, AddsLevel, ShareAPoint};
+ghost use Rattle.desk_store.specs.Rivals.{AddLevel, AddsLevel};
 ghost use Rattle.desk_store.specs.Parts.{parts_of, row_of, kept_states, closed_parts, HasNoPoint};
 
+use crate::meets::overlap;
 use desk_rules::plan::{PlanRow, States};
 use desk_rules::plan_id::PlanId;
 use desk_rules::words::{Aircraft, Usage};
@@ -177,38 +178,4 @@ fn push_each(helds: &mut Vec<Held>, slabs: &[Slab], priority: u32) -> Result<(),
         })?;
     }
     Ok(())
-}
-
-// Whether two slabs meet in seconds, in altitudes and in leaves, as those do that share a point.
-fn overlap(mine: &Slab, theirs: &Slab) -> bool
-    ensures { ShareAPoint mine.now theirs.now → IsTrue result }
-{
-    if !meet_in_time(mine, theirs) {
-        return false;
-    }
-    if !meet_in_height(mine, theirs) {
-        return false;
-    }
-    meet_on_ground(mine, theirs)
-}
-
-// Whether two slabs have a second in common.
-fn meet_in_time(mine: &Slab, theirs: &Slab) -> bool
-    ensures { ShareAPoint mine.now theirs.now → IsTrue result }
-{
-    mine.start < theirs.end && theirs.start < mine.end
-}
-
-// Whether two slabs have an altitude in common.
-fn meet_in_height(mine: &Slab, theirs: &Slab) -> bool
-    ensures { ShareAPoint mine.now theirs.now → IsTrue result }
-{
-    mine.lower < theirs.upper && theirs.lower < mine.upper
-}
-
-// Whether two slabs have a leaf in common.
-fn meet_on_ground(mine: &Slab, theirs: &Slab) -> bool
-    ensures { ShareAPoint mine.now theirs.now → IsTrue result }
-{
-    mine.first <= theirs.last && theirs.first <= mine.last
 }
