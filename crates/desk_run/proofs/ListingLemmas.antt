@@ -1,6 +1,6 @@
 -- What an operator's plans hold among each other, slab by slab and plan by plan.
-use Rattle.std.proofs.Common.{◌≡◌, ℕ, ◌+◌, ◌≤◌, ◌<◌, Bool, true, false, true≢false, ◌&&◌, ◌||◌, not, cond, List, [], ◌∷◌, ◌++◌, zero, suc, length, get_or, take, drop, All, Option, Some, None, refl, sym, ap, subst, ◌∙◌, arith}
-use Rattle.std.specs.Prelude.{nat_le, max, IsTrue}
+use Rattle.std.proofs.Common.{◌≡◌, ℕ, ◌+◌, ◌≤◌, ◌<◌, Bool, true, false, true≢false, ◌&&◌, ◌||◌, not, cond, List, [], ◌∷◌, ◌++◌, zero, suc, length, map, get_or, take, drop, All, Option, Some, None, refl, sym, ap, subst, ◌∙◌, arith}
+use Rattle.std.specs.Prelude.{nat_le, max, IsTrue, slice_get}
 use Rattle.std.specs.List.{filter, list_any}
 use Rattle.std.proofs.lemmas.Bool.{and_parts}
 use Rattle.std.proofs.lemmas.Bool.Decides.{nat_tests}
@@ -23,10 +23,12 @@ use Rattle.desk_rules.specs.declared.plan.PlanRow.{PlanRow}
 use Rattle.desk_rules.specs.Conflict.{at_least}
 use Rattle.desk_rules.specs.Plan.{is_live, row_holds, top_priority}
 use Rattle.desk_rules.specs.laws.Plan.{top_priority-cons, top_priority-nil}
-use Rattle.desk_store.specs.World.{has_id, held_at}
+use Rattle.desk_rules.specs.declared.reply.Shown.{Shown}
+use Rattle.desk_store.specs.World.{World, has_id, held, held_at, plans_of}
 use Rattle.desk_store.specs.Rivals.{ShareAPoint}
 use Rattle.desk_store.specs.laws.Rival.{at_least_greater}
-use Rattle.desk_run.specs.Listing.{AreSlabsHeld, AreLeft, AreAfter, own_level, own_top, some_hold}
+use Rattle.desk_run.specs.Listing.{AreSlabsHeld, AreLeft, AreAfter, HaveLevelAt, own_level, own_top, some_hold}
+use Rattle.desk_run.specs.Verdicts.{shown_in, shown_plan}
 
 -- ---- the slabs that a plan holds
 
@@ -94,11 +96,6 @@ covered_on rest cluster later extents new b x split round is h =
       go false false true false has k = refl
       go false false false s has k = absurd (true≢false (sym k))
 
-pub nothing_left : (slabs : List Slab) (x : Point) (e : Bool) → length slabs ≡ 0
-    → (e || slabs_have slabs x) ≡ true → e ≡ true
-nothing_left [] x e is h = sym (or_false e) ∙ h
-nothing_left (s ∷ ss) x e is h = cc
-
 -- ---- slabs that are left
 
 pub tail_ascends : (s : Slab) (ss : List Slab) → Ascend (λ t. t) (s ∷ ss) → Ascend (λ t. t) ss
@@ -134,11 +131,14 @@ from_there : (bound : ℕ) (ss : List Slab)
     → ((j : ℕ) (d : Slab) → j < length ss → bound ≤ (get_or ss j d).first) → (x : Point)
     → slabs_have ss x ≡ true → nat_le bound (position_of x.leaf) ≡ true
 from_there bound [] each x h = absurd (true≢false (sym h))
-from_there bound (s ∷ ss) each x h = go (slab_has s x) refl h where
-  go : (b : Bool) → slab_has s x ≡ b → (b || slabs_have ss x) ≡ true
-      → nat_le bound (position_of x.leaf) ≡ true
-  go true e k = first_above s.first bound (position_of x.leaf) (each 0 s (omega arith)) (reaches s x e).0
-  go false e k = from_there bound ss (λ j d below. each (suc j) d (omega arith)) x k
+from_there bound (s ∷ ss) each x h =
+    go (slab_has s x) refl h (from_there bound ss (λ j d below. each (suc j) d (omega arith)) x) where
+      go : (b : Bool) → slab_has s x ≡ b → (b || slabs_have ss x) ≡ true
+          → (slabs_have ss x ≡ true → nat_le bound (position_of x.leaf) ≡ true)
+          → nat_le bound (position_of x.leaf) ≡ true
+      go true e k ih = first_above s.first bound (position_of x.leaf) (each 0 s (omega arith))
+          (reaches s x e).0
+      go false e k ih = ih k
 
 beyond : (bound position at : ℕ) → position < bound → nat_le bound at ≡ true → nat_le at position ≡ false
 beyond bound position at h k = grind (arith, nat_tests)
@@ -152,18 +152,20 @@ after_all position slabs others s is up below x h =
     (λ j d within. subst (Ascend (λ t. t)) is up 0 j d (omega arith) within) x
     (sym (ap (λ ss. slabs_have ss x) is) ∙ h))
 
-pub after_none : (position : ℕ) (slabs : List Slab) → slabs ≡ [] → AreAfter position slabs
-after_none position slabs is x h = absurd (true≢false (sym h ∙ ap (λ ss. slabs_have ss x) is))
+abbrev first_of : Option Slab → ℕ
+first_of None = 0
+first_of (Some s) = s.first
 
--- a slab that none of those left begins by shares no point with them
-pub apart_left : (left : List Slab) (slab : Slab) (x : Point) → AreAfter slab.last left
-    → slabs_have left x ≡ true → slab_has slab x ≡ false
-apart_left left slab x h has = go (slab_has slab x) refl where
-  go : (b : Bool) → slab_has slab x ≡ b → b ≡ false
-  go true e = sym (reaches slab x e).1 ∙ h x has
-  go false e = refl
+later_still : (a b position : ℕ) → a ≡ b → nat_le a position ≡ false → position < b
+later_still a b position same late = grind (arith, nat_tests, same)
 
--- nor does one that doesn't overlap a slab, with that slab
+pub after_first : (position : ℕ) (slabs : List Slab) (s : Slab) → Some s ≡ slice_get slabs 0
+    → Ascend (λ t. t) slabs → nat_le s.first position ≡ false → AreAfter position slabs
+after_first position [] s is up late = cc
+after_first position (t ∷ ts) s is up late =
+    after_all position (t ∷ ts) ts t refl up (later_still s.first t.first position (ap first_of is) late)
+
+-- a slab that doesn't overlap another has no point of it
 pub apart_bounds : (slab bounds : Slab) (x : Point) (meets : Bool) → (ShareAPoint slab bounds → IsTrue meets)
     → meets ≡ false → slab_has bounds x ≡ true → slab_has slab x ≡ false
 apart_bounds slab bounds x meets shared apart has = go (slab_has slab x) refl where
@@ -256,6 +258,9 @@ held_passed n helds i h x level before below is none so_far =
     ∙ ap (greater (at_least n (top_held (take i helds) x))) none
     ∙ greater_none (at_least n (top_held (take i helds) x))))
 
+pub begin_level : (n : ℕ) (l : Option ℕ) (x : Point) → l ≡ greater l (at_least n (top_held [] x))
+begin_level n l x = sym (ap (λ t. greater l (at_least n t)) (top_held-nil x) ∙ greater_none l)
+
 pub none_without : (n p : ℕ) (b : Bool) → b ≡ false → at_least n (level_where b p) ≡ None
 none_without n p b h = ap (λ t. at_least n (level_where t p)) h
 
@@ -321,6 +326,19 @@ unheld n id r x level e = sym (ap (greater level) (go (not (has_id id r)) (row_h
       go true t h = none_without n r.priority t h
       go false t h = refl
 
+-- one whose bounds don't overlap those of another holds none of its points
+pub apart_plans : (row mine : PlanRow) (slabs others : List Slab) (b c : Slab) (x : Point) (meets : Bool)
+    → AreSlabsHeld row slabs b → AreSlabsHeld mine others c → (ShareAPoint b c → IsTrue meets)
+    → meets ≡ false → row_holds mine x ≡ true → row_holds row x ≡ false
+apart_plans row mine slabs others b c x meets held round shared apart has = go (row_holds row x) refl where
+  go : (t : Bool) → row_holds row x ≡ t → t ≡ false
+  go true e = absurd (true≢false (sym (shared (
+    x,
+    held.bounds x (held.points x ∙ e),
+    round.bounds x (round.points x ∙ has),
+  )) ∙ apart))
+  go false e = refl
+
 -- another adds its priority where it holds the point
 pub counted : (n : ℕ) (id : List ℕ) (r : PlanRow) (x : Point)
     → (not (has_id id r) && nat_le n r.priority) ≡ true
@@ -342,3 +360,15 @@ in_the_way_at n rows levels id x none others first last empty is one two =
     two ∙ ap (λ l. greater l (at_least n (own_top id rows x)))
     (one ∙ ap (λ l. greater l (at_least n others)) empty ∙ ap (at_least n) is)
     ∙ sym (at_least_greater n (levels x) (own_top id rows x))
+
+-- the operator's plans as they are shown, from those with their slabs
+pub listed_shown : (permitted : List ℕ) (w v : World) (o : List ℕ) (rows one two : List PlanRow)
+    (helds three : List Held) (all : List Shown) → rows ≡ plans_of o w → v ≡ w → one ≡ rows → two ≡ rows
+    → three ≡ helds → HaveLevelAt (some_hold one) helds (held v o)
+    → ((levels : Point → Option ℕ) → HaveLevelAt (some_hold two) three levels
+    → all ≡ map (shown_plan permitted two levels) two)
+    → all ≡ map (shown_in permitted w o) (plans_of o w)
+listed_shown permitted w v o rows one two helds three all rows_are same first second third near shown =
+    shown (held w o) (λ x has. ap (λ hs. top_held hs x) third
+    ∙ near x (ap (λ rs. some_hold rs x) (first ∙ sym second) ∙ has) ∙ ap (λ u. held u o x) same)
+    ∙ ap (λ rs. map (shown_plan permitted rs (held w o)) rs) (second ∙ rows_are)

@@ -1,5 +1,5 @@
 -- What an operator's plans hold among each other, and what others hold where they lie.
-use Rattle.std.specs.Prelude.{◌≡◌, ℕ, Bool, true, not, ◌&&◌, nat_le, List, Option, All}
+use Rattle.std.specs.Prelude.{◌≡◌, ℕ, Bool, true, false, not, ◌&&◌, nat_le, List, Option, All}
 use Rattle.std.specs.List.{filter, list_any}
 use Rattle.volume4d.specs.declared.slab.Slab.{Slab}
 use Rattle.volume4d.specs.declared.slab.Held.{Held}
@@ -14,11 +14,11 @@ use Rattle.desk_rules.specs.Plan.{row_holds, top_priority}
 use Rattle.desk_store.specs.World.{has_id}
 
 -- slabs that have the points that a plan holds, in ascending order, each with a point, and a slab round them
-pub record AreSlabsHeld (row : PlanRow) (slabs : List Slab) (bounds : Slab) : Type 0 where
+pub record AreSlabsHeld (row : PlanRow) (slabs : List Slab) (round : Slab) : Type 0 where
   pub points : (x : Point) → slabs_have slabs x ≡ row_holds row x
   pub filled : All IsFilled slabs
   pub order : Ascend (λ s. s) slabs
-  pub bounds : HasAll (slabs_have slabs) bounds
+  pub bounds : HasAll (slabs_have slabs) round
 
 -- one of the plans holds a point
 abbrev pub some_hold : List PlanRow → Point → Bool

@@ -25,12 +25,12 @@ use std::alloc::{AllocError, Global};
 use volume4d::{Held, Meeting, Slab};
 
 // Plans of an operator, with the slabs that they hold.
-pub fn own_plans(alloc: Global, rows: Vec<PlanRow>) -> Result<Vec<OwnPlan>, AllocError>
-    ensures { IfOk result (λ plans. plans.items ≡ rows.items) }
+pub fn own_plans(alloc: Global, rows: &[PlanRow]) -> Result<Vec<OwnPlan>, AllocError>
+    ensures { IfOk result (λ plans. plans.items ≡ rows.now) }
 {
     let mut plans = Vec::new(alloc);
     for row in rows {
-        plans.push(OwnPlan::try_new(alloc, row)?)?;
+        plans.push(OwnPlan::try_new(alloc, row.copy()?)?)?;
     }
     Ok(plans)
 }

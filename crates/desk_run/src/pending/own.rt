@@ -54,11 +54,7 @@ impl OwnPlan {
         }
         let slabs = row.area.slabs()?;
         let bounds = bounds_of(&slabs);
-        Ok(OwnPlan {
-            row,
-            slabs,
-            bounds,
-        })
+        Ok(OwnPlan { row, slabs, bounds })
     }
 
     // Its row.

@@ -11,6 +11,7 @@ ghost use Rattle.desk_run.specs.Verdicts.{conflict_shown_in, list_ruling, show_r
 use super::Pending;
 use super::conflict::conflict_of;
 use super::listing::{all_shown, others_near, own_plans};
+use super::own::OwnPlan;
 use crate::fault::DeskFault;
 use desk_rules::decide::status_of;
 use desk_rules::operator::Operator;
@@ -55,10 +56,24 @@ fn own_shown<S: PlanStore>(
     ensures reads { OnlyReads S.content S.doubt S.faults S.may_leave S.is_shielded store.old store.new }
     ensures cause { IfErr result (IsCounted S.faults store.old store.new) }
 {
-    let rows = store.own_plans(operator)?;
-    let plans = own_plans(alloc, rows)?;
+    let plans = own_listed(alloc, store, operator)?;
     let others = others_near(alloc, store, operator, &plans)?;
     Ok(all_shown(alloc, permitted, &plans, &others)?)
+}
+
+// The operator's plans, by id, with the slabs that they hold.
+fn own_listed<S: PlanStore>(
+    alloc: Global,
+    store: &mut S,
+    operator: &Operator,
+) -> Result<Vec<OwnPlan>, StoreFault>
+    ensures value { IsHonest (S.doubt store.new) → IfOk result (λ plans.
+        plans.items ≡ plans_of operator.now (S.content store.old)) }
+    ensures reads { OnlyReads S.content S.doubt S.faults S.may_leave S.is_shielded store.old store.new }
+    ensures cause { IfErr result (IsCounted S.faults store.old store.new) }
+{
+    let rows = store.own_plans(operator)?;
+    Ok(own_plans(alloc, &rows)?)
 }
 
 // Gets the showing of an enrolled operator's plan ready.
