@@ -31,6 +31,7 @@ pub mod SureLemmas
 pub mod Sure
 pub mod SureListings
 pub mod SureSpans
+pub mod OtherSpans
 pub mod StopLemmas
 pub mod DeleteStops
 pub mod KeyLemmas

@@ -9,6 +9,7 @@ pub mod Finding
 pub mod Refusals
 pub mod Taking
 pub mod Rivals
+pub mod Others
 pub mod Statements
 pub mod Changing
 pub mod Putting

@@ -16,6 +16,7 @@ pub use opening::numbers::DeskTable;
 pub use opening::old::has_old_rows;
 pub use reading::counting::own_count;
 pub use reading::old::{all_old_spans, all_old_volumes};
+pub use reading::others::other_spans;
 pub use reading::queries::{operator_named, own_plans, plan_of, volumes_of};
 pub use reading::rivals::{Reach, rival_spans};
 pub use reading::taking::TakeRow;

@@ -4,6 +4,7 @@ pub(crate) mod answer;
 pub(crate) mod asking;
 pub(crate) mod counting;
 pub(crate) mod old;
+pub(crate) mod others;
 pub(crate) mod queries;
 pub(crate) mod rivals;
 pub(crate) mod taking;
