@@ -2,3 +2,4 @@ pub mod VolumeLemmas
 pub mod FenceLemmas
 pub mod ChunkLemmas
 pub mod RollLemmas
+pub mod RegionLemmas

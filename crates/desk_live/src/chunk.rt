@@ -1,9 +1,10 @@
 //! Chunks of volumes, each within a fence of its own, so that most are passed over unread.
 
-ghost use Rattle.std.specs.Prelude.{◌≡◌, ◌∷◌, ◌++◌, IfOk, IsPermutation};
+ghost use Rattle.std.specs.Prelude.{◌≡◌, ◌∷◌, ◌++◌, IfOk, OnOk, IsPermutation};
 ghost use Rattle.std.specs.List.{AllByRecursion, filter, list_any};
 ghost use Rattle.desk_live.specs.Live as spec;
 ghost use Rattle.desk_live.specs.Live.{AreFenced, IsFenced, is_near, is_near_in, stays_at, volumes_in};
+ghost use Rattle.desk_live.specs.Regions.{AddTheirs};
 
 use crate::changing::leave;
 use crate::fence::Fence;
@@ -80,6 +81,48 @@ pub(crate) fn any_near_in(
     chunks
         .iter()
         .any(|chunk| chunk.is_near(operator, id, least, extent))
+}
+
+/// Appends the bounds of other operators' volumes that meet a slab.
+///
+/// # Errors
+///
+/// `AllocError` if memory runs out.
+pub(crate) fn push_theirs(
+    slabs: &mut Vec<Slab>,
+    lives: &[LiveVolume],
+    operator: &Operator,
+    whole: &Slab,
+) -> Result<(), AllocError>
+    ensures { OnOk result (AddTheirs operator.now whole.now lives.now slabs.old.items
+        slabs.new.items) }
+{
+    for live in lives {
+        if live.is_theirs(operator, whole) {
+            slabs.push(live.bounds)?;
+        }
+    }
+    Ok(())
+}
+
+/// Appends those of the volumes of chunks.
+///
+/// # Errors
+///
+/// `AllocError` if memory runs out.
+pub(crate) fn push_theirs_in(
+    slabs: &mut Vec<Slab>,
+    chunks: &[Chunk],
+    operator: &Operator,
+    whole: &Slab,
+) -> Result<(), AllocError>
+    ensures { OnOk result (AddTheirs operator.now whole.now (volumes_in chunks.now) slabs.old.items
+        slabs.new.items) }
+{
+    for chunk in chunks {
+        push_theirs(slabs, &chunk.volumes, operator, whole)?;
+    }
+    Ok(())
 }
 
 // Volumes in chunks, those that follow each other together.

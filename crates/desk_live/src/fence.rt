@@ -63,8 +63,8 @@ impl Fence {
     }
 }
 
-// The smallest slab that has all points of two.
-fn join(left: &Slab, right: &Slab) -> Slab
+/// The smallest slab that has all points of two.
+pub(crate) fn join(left: &Slab, right: &Slab) -> Slab
     ensures { IsJoin left.now right.now result }
 {
     let (lower, upper) = altitudes(left, right);

@@ -8,9 +8,11 @@ mod chunk;
 mod fence;
 mod live;
 mod order;
+mod regions;
 mod roll;
 mod volume;
 
 pub use live::{Gathering, LiveVolumes};
+pub use regions::push_clipped;
 pub use roll::Roll;
 pub use volume::LiveVolume;

@@ -9,9 +9,13 @@ ghost use Rattle.desk_store.specs.Rivals.{AreRivals};
 ghost use Rattle.desk_store.specs.StoreChange.{changed_by};
 ghost use Rattle.desk_live.specs.Live.{AreBrought, AreFenced, AreKept, AreVolumes, HasRoomFor};
 ghost use Rattle.desk_live.specs.Live.{gathered_in, is_near, stays_at, volumes_of};
+ghost use Rattle.desk_live.specs.Regions.{AddTheirs, HoldNothingBeside};
 
 use crate::changing::{brought_by, leave, push_all, push_plan};
-use crate::chunk::{Chunk, any_near, any_near_in, leave_each, rechunked};
+use crate::chunk::{
+    Chunk, any_near, any_near_in, leave_each, push_theirs, push_theirs_in, rechunked,
+};
+use crate::regions::{joined, overlapping, whole_of};
 use crate::volume::LiveVolume;
 use desk_rules::operator::Operator;
 use desk_rules::plan::PlanRow;
@@ -54,6 +58,44 @@ impl LiveVolumes {
             return true;
         }
         any_near(&self.young, operator, id, least, extent)
+    }
+
+    /// Regions that have each point of some extents at which plans of other operators may hold something: none
+    /// if no volume of theirs is near. They overlap no more along the curve.
+    ///
+    /// # Errors
+    ///
+    /// `AllocError` if memory runs out.
+    pub fn regions(
+        &self,
+        alloc: Global,
+        operator: &Operator,
+        extents: &[Slab],
+    ) -> Result<Vec<Slab>, AllocError>
+        ensures { IfOk result (λ regions. (w : World) → AreKept self.now w
+            → HoldNothingBeside w operator.now extents.now regions.items) }
+    {
+        let Some((first, others)) = extents.split_first() else {
+            return Ok(Vec::new(alloc));
+        };
+        let theirs = self.theirs_in(alloc, operator, &whole_of(first, others))?;
+        joined(alloc, overlapping(alloc, extents, &theirs)?)
+    }
+
+    // The bounds of other operators' volumes that meet a slab.
+    fn theirs_in(
+        &self,
+        alloc: Global,
+        operator: &Operator,
+        whole: &Slab,
+    ) -> Result<Vec<Slab>, AllocError>
+        ensures { IfOk result (λ theirs.
+            AddTheirs operator.now whole.now (volumes_of self.now) [] theirs.items) }
+    {
+        let mut theirs = Vec::new(alloc);
+        push_theirs_in(&mut theirs, &self.chunks, operator, whole)?;
+        push_theirs(&mut theirs, &self.young, operator, whole)?;
+        Ok(theirs)
     }
 
     /// The volumes that a change brings, for which there is room then.

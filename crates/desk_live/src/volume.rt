@@ -4,6 +4,7 @@ ghost use Rattle.std.specs.Prelude.{◌≡◌, ◌&&◌, int_lt, nat_le, IfOk};
 ghost use Rattle.desk_store.specs.Changes.{filed_by};
 ghost use Rattle.desk_live.specs.Live as spec;
 ghost use Rattle.desk_live.specs.Live.{IsLiveVolume};
+ghost use Rattle.desk_live.specs.Regions as regions;
 
 use desk_rules::operator::Operator;
 use desk_rules::plan::PlanRow;
@@ -72,6 +73,16 @@ impl LiveVolume {
             return false;
         }
         !self.is_of(operator, id)
+    }
+
+    /// Whether it is another operator's, and its bounds meet a slab.
+    pub(crate) fn is_theirs(&self, operator: &Operator, whole: &Slab) -> bool
+        ensures { result ≡ regions.is_theirs operator.now whole.now self.now }
+    {
+        if operator.cmp(&self.operator).is_eq() {
+            return false;
+        }
+        overlap(&self.bounds, whole)
     }
 }
 

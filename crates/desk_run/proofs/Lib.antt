@@ -5,3 +5,4 @@ pub mod CallLemmas
 pub mod RunLemmas
 pub mod ClearLemmas
 pub mod ClusterLemmas
+pub mod ListingLemmas

@@ -4,6 +4,7 @@ pub mod DeskWorld
 pub mod Verdicts
 pub mod Calls
 pub mod Clusters
+pub mod Listing
 pub mod Runs
 pub mod Sides
 pub mod TwoRuns

@@ -22,6 +22,9 @@ use std::alloc::{AllocError, Global};
 mod clear;
 mod conflict;
 mod delete;
+mod listing;
+mod near;
+mod own;
 mod put;
 mod show;
 

@@ -27,6 +27,7 @@ pub mod LeavingLemmas
 pub mod HandLemmas
 pub mod SureLemmas
 pub mod Sure
+pub mod OtherSpans
 pub mod StopLemmas
 pub mod DeleteStops
 pub mod KeyLemmas

@@ -235,12 +235,12 @@ equals (Blob n) (Real m) = truth_of _
 equals (Blob n) (Text m) = truth_of _
 equals (Blob n) (Blob m) = truth_of _
 
-ne_is : (o : Ordering) → is_ne o ≡ not (is_eq o)
+pub ne_is : (o : Ordering) → is_ne o ≡ not (is_eq o)
 ne_is Less = refl
 ne_is Equal = refl
 ne_is Greater = refl
 
-compared : (v : Value) (b : Bool) → is_true (if is_null v || false then Null else from_truth (Some b))
+pub compared : (v : Value) (b : Bool) → is_true (if is_null v || false then Null else from_truth (Some b))
     ≡ (not (is_null v) && b)
 compared Null b = refl
 compared (Int n) b = truth_of b

@@ -65,7 +65,7 @@ module _ {S V : Type 0} (g : Ghosts S) (old new : Held S) (items : V → List Ro
       → IfOk r (λ v. P (items v))
   if_read table = if_holds (HasTable table)
 
-both_hold : (a : Bool) → (a && true) ≡ a
+pub both_hold : (a : Bool) → (a && true) ≡ a
 both_hold true = refl
 both_hold false = refl
 
@@ -184,7 +184,7 @@ none_first f e true false same es more = cc
 module _ {E : Type 0} (f : E → Row) (env : Row → E) (test : Row → Bool) (show : Row → Row)
     (has : Row → Bool)
     (j : Row → Row) (at : (s : Row) → f (env s) ≡ j (show s)) where
-  one_plan : (w : Bool) → ((s : Row) → test s ≡ (has (show s) && w)) → (ss : List Row)
+  pub one_plan : (w : Bool) → ((s : Row) → test s ≡ (has (show s) && w)) → (ss : List Row)
       → map f (flat_map (λ s. cond (test s) (env s ∷ []) []) ss)
       ≡ cond w (map j (filter has (map show ss))) []
   one_plan true is [] = refl
@@ -305,7 +305,7 @@ own_plans_selected operator =
 
 -- ---- the spans that may stand in the way of a plan
 
-and_last : (a b c d e f g h : Bool) → (a && (b && (c && (d && (e && (f && (g && (h && true))))))))
+pub and_last : (a b c d e f g h : Bool) → (a && (b && (c && (d && (e && (f && (g && (h && true))))))))
     ≡ ((a && (b && (c && (d && (e && (f && g)))))) && h)
 and_last true true true true true true true h = both_hold h
 and_last true true true true true true false h = refl

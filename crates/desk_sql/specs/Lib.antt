@@ -8,6 +8,7 @@ pub mod Batches
 pub mod Finding
 pub mod Refusals
 pub mod Taking
+pub mod Others
 pub mod Statements
 pub mod Queries
 pub mod Changing

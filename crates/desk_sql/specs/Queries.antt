@@ -7,8 +7,9 @@ use Rattle.desk_sql.specs.declared.opening.numbers.DeskTable.TheVariants as desk
 use Rattle.desk_sql.specs.declared.reading.whole.Whole.{Whole}
 use Rattle.desk_sql.specs.declared.reading.whole.Whole.TheVariants as whole
 use Rattle.desk_sql.specs.declared.reading.query.Query.{Query}
-use Rattle.desk_sql.specs.declared.reading.query.Query.TheVariants.{OperatorNamed, PlanOf, VolumesOf, OwnPlans, RivalSpans}
+use Rattle.desk_sql.specs.declared.reading.query.Query.TheVariants.{OperatorNamed, PlanOf, VolumesOf, OwnPlans, RivalSpans, OtherSpans}
 use Rattle.desk_sql.specs.Rows.{Tables, is_by, is_of, with_volumes, is_wanted, held_columns}
+use Rattle.desk_sql.specs.Others.{is_others_from}
 
 -- ---- whole tables
 
@@ -52,6 +53,9 @@ params_of (OwnPlans operator) = Text operator.now ∷ []
 params_of (RivalSpans operator id reach low) =
     Int reach.last ∷ Int reach.first ∷ Int reach.upper ∷ Int reach.lower ∷ Int reach.stop ∷ Int reach.start
     ∷ Int (pos reach.priority) ∷ Text operator.now ∷ Text id.now ∷ Int low ∷ []
+params_of (OtherSpans operator reach low) =
+    Int reach.last ∷ Int reach.first ∷ Int reach.upper ∷ Int reach.lower ∷ Int reach.stop ∷ Int reach.start
+    ∷ Int (pos reach.priority) ∷ Text operator.now ∷ Int low ∷ []
 
 -- the columns by which its rows come
 abbrev pub order_of : Query → List ℕ
@@ -60,6 +64,7 @@ order_of (PlanOf operator id) = []
 order_of (VolumesOf operator id) = 2 ∷ []
 order_of (OwnPlans operator) = 1 ∷ 5 ∷ []
 order_of (RivalSpans operator id reach low) = 0 ∷ []
+order_of (OtherSpans operator reach low) = 0 ∷ []
 
 -- its rows
 abbrev pub rows_of : Query → Tables → List Row
@@ -69,3 +74,5 @@ rows_of (VolumesOf operator id) t = filter (is_of operator.now id.now) t.volumes
 rows_of (OwnPlans operator) t = with_volumes (is_by operator.now) t
 rows_of (RivalSpans operator id reach low) t =
     map held_columns (filter (is_wanted operator.now id.now reach low) t.spans)
+rows_of (OtherSpans operator reach low) t =
+    map held_columns (filter (is_others_from operator.now reach low) t.spans)

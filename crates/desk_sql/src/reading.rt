@@ -2,6 +2,7 @@
 
 pub(crate) mod answer;
 pub(crate) mod asking;
+pub(crate) mod others;
 pub(crate) mod queries;
 pub(crate) mod query;
 pub(crate) mod rivals;

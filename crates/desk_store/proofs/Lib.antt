@@ -2,7 +2,6 @@ pub mod EntryLemmas
 pub mod StoreLemmas
 pub mod ChangeLemmas
 pub mod CountLemmas
-pub mod OrderLemmas
 pub mod RivalLemmas
 pub mod KeptLemmas
 pub mod PlanLemmas

@@ -12,32 +12,9 @@ use Rattle.volume4d.specs.Level.{greater, level_where}
 use Rattle.volume4d.specs.laws.Level.{greater_none, greater_assoc, top_held-push, top_held-nil}
 use Rattle.desk_rules.specs.Plan.{is_live, row_holds}
 use Rattle.desk_rules.specs.Conflict.{at_least}
-use Rattle.desk_store.specs.World.{Filed}
-use Rattle.desk_store.specs.Rows.{is_own, rival_level, rivals_top}
-use Rattle.desk_store.specs.laws.Rival.{rivals_top-cons, rivals_top-nil}
-
-max_reaches : (n a b : ℕ) → (nat_le n a || nat_le n b) ≡ nat_le n (max a b)
-max_reaches n a b = grind (arith, nat_tests)
-
-max_left : (n a b : ℕ) → nat_le n a ≡ true → nat_le n b ≡ false → max a b ≡ a
-max_left n a b p q = grind (arith, nat_tests)
-
-max_right : (n a b : ℕ) → nat_le n a ≡ false → nat_le n b ≡ true → max a b ≡ b
-max_right n a b p q = grind (arith, nat_tests)
-
--- a level, where it is at least a priority, of the greater of two
-pub at_least_greater : (n : ℕ) (a b : Option ℕ) → at_least n (greater a b)
-    ≡ greater (at_least n a) (at_least n b)
-at_least_greater n None b = refl
-at_least_greater n (Some a) None = sym (greater_none (at_least n (Some a)))
-at_least_greater n (Some a) (Some b) = ap (λ c. cond c (Some (max a b)) None) (sym (max_reaches n a b))
-    ∙ by_tests (nat_le n a) (nat_le n b) refl refl where
-      by_tests : (s t : Bool) → nat_le n a ≡ s → nat_le n b ≡ t → cond (s || t) (Some (max a b)) None
-          ≡ greater (cond s (Some a) None) (cond t (Some b) None)
-      by_tests true true p q = refl
-      by_tests true false p q = ap Some (max_left n a b p q)
-      by_tests false true p q = ap Some (max_right n a b p q)
-      by_tests false false p q = refl
+use Rattle.desk_store.specs.World.{Filed, is_by}
+use Rattle.desk_store.specs.Rows.{is_own, rival_level, rivals_top, other_level, others_top}
+use Rattle.desk_store.specs.laws.Rival.{at_least_greater, rivals_top-cons, rivals_top-nil, others_top-cons, others_top-nil}
 
 max_itself : (n : ℕ) → max n n ≡ n
 max_itself n = omega arith
@@ -124,7 +101,38 @@ rival_adds n o id p x own e =
       by_tests true true f = ap (λ b. cond b (Some p.row.priority) None) f
       by_tests true false f = refl
 
--- ---- rows of plans, whosever they are
+-- ---- plans of other operators
+
+-- the step of a loop over the plans
+pub other_added : (o : List ℕ) (p : Filed) (ps : List Filed) (x : Point) (before after all : Option ℕ)
+    → after ≡ greater before (other_level o p x)
+    → greater before (others_top o (p ∷ ps) x) ≡ all → greater after (others_top o ps x) ≡ all
+other_added o p ps x before after all more e =
+    ap (λ l. greater l (others_top o ps x)) more
+    ∙ greater_assoc before (other_level o p x) (others_top o ps x)
+    ∙ ap (greater before) (sym (others_top-cons o p ps x)) ∙ e
+
+-- its end
+pub others_end : (o : List ℕ) (ps : List Filed) (x : Point) (level all : Option ℕ) → ps ≡ []
+    → greater level (others_top o ps x) ≡ all → level ≡ all
+others_end o ps x level all none e =
+    sym (ap (λ qs. greater level (others_top o qs x)) none
+    ∙ ap (greater level) (others_top-nil o x) ∙ greater_none level) ∙ e
+
+-- the operator's own plan adds nothing
+pub own_adds_nothing : (o : List ℕ) (p : Filed) (x : Point) (level : Option ℕ) → is_by o p ≡ true
+    → level ≡ greater level (other_level o p x)
+unfolding other_level
+own_adds_nothing o p x level e =
+    sym (ap (λ b. greater level (level_where (not b && row_holds p.row x) p.row.priority)) e
+    ∙ greater_none level)
+
+-- every other adds its priority where it holds the point
+pub other_adds : (o : List ℕ) (p : Filed) (x : Point) → is_by o p ≡ false
+    → level_where (is_live p.row.usage && area_has p.row.area x) p.row.priority ≡ other_level o p x
+unfolding other_level row_holds
+other_adds o p x e =
+    sym (ap (λ b. level_where (not b && (is_live p.row.usage && area_has p.row.area x)) p.row.priority) e)
 
 -- ---- slabs
 

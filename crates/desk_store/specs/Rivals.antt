@@ -3,7 +3,7 @@ use Rattle.std.specs.Prelude.{◌≡◌, ℕ, List, Option, true}
 use Rattle.volume4d.specs.Point.{Point}
 use Rattle.volume4d.specs.declared.slab.Slab.{Slab}
 use Rattle.volume4d.specs.declared.slab.Held.{Held}
-use Rattle.volume4d.specs.Slab.{slab_has, top_held}
+use Rattle.volume4d.specs.Slab.{slab_has, slabs_have, top_held}
 use Rattle.volume4d.specs.Level.{greater}
 use Rattle.desk_rules.specs.Conflict.{at_least}
 use Rattle.desk_store.specs.World.{World, plans_of, held, held_at}
@@ -25,3 +25,13 @@ ShareAPoint mine theirs = (x : Point) × (slab_has mine x ≡ true) × (slab_has
 abbrev pub AreRivals : World → List ℕ → List ℕ → ℕ → Slab → List Held → Type 0
 AreRivals w operator id least extent helds =
     HaveLevel extent helds (λ x. at_least least (held_at (plans_of operator w) (held w operator) id x))
+
+-- at each point of some extents the greatest priority among the slabs is the one that other operators hold
+-- there
+abbrev pub AreHeldByOthers : World → List ℕ → List Slab → List Held → Type 0
+AreHeldByOthers w operator extents helds =
+    (x : Point) → slabs_have extents x ≡ true → top_held helds x ≡ held w operator x
+
+-- at each point the greatest priority among the slabs is the greater of that before and the level
+abbrev pub AddsLevel : List Held → List Held → (Point → Option ℕ) → Type 0
+AddsLevel before helds level = (x : Point) → top_held helds x ≡ greater (top_held before x) (level x)

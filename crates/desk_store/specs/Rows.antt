@@ -17,3 +17,11 @@ rival_level operator id p x = level_where (not (is_own operator id p) && row_hol
 -- the greatest priority at a point of all plans but that one
 unfoldable pub rivals_top : List ℕ → List ℕ → List Filed → Point → Option ℕ
 rivals_top operator id ps x = top_priority (map (λ p. p.row) (filter (λ p. not (is_own operator id p)) ps)) x
+
+-- the priority that a plan of another operator holds at a point, or none
+unfoldable pub other_level : List ℕ → Filed → Point → Option ℕ
+other_level operator p x = level_where (not (is_by operator p) && row_holds p.row x) p.row.priority
+
+-- the greatest priority at a point of all plans of other operators
+unfoldable pub others_top : List ℕ → List Filed → Point → Option ℕ
+others_top operator ps x = top_priority (map (λ p. p.row) (filter (λ p. not (is_by operator p)) ps)) x

@@ -4,10 +4,12 @@
 mod change;
 mod fault;
 mod list;
+mod meets;
 mod plan;
 mod store;
 
 pub use change::Change;
 pub use fault::StoreFault;
 pub use list::ListStore;
+pub use meets::overlap;
 pub use store::PlanStore;

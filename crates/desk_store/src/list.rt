@@ -1,17 +1,17 @@
 //! A store in memory.
 
-ghost use Rattle.std.specs.Prelude.{◌≡◌, ◌≤◌, ◌&&◌, ⊤, length, [], IfOk, OnOk, OnErr};
+ghost use Rattle.std.specs.Prelude.{◌≡◌, ◌≤◌, ◌&&◌, ⊤, true, length, [], IfOk, OnOk, OnErr};
 ghost use Rattle.std.specs.List.Sorted.{IsNonDecreasingBy};
 ghost use Rattle.std.specs.Ordering.{is_eq};
 ghost use Rattle.volume4d.specs.Point.{Point};
-ghost use Rattle.volume4d.specs.Slab.{top_held};
+ghost use Rattle.volume4d.specs.Slab.{slabs_have, top_held};
 ghost use Rattle.desk_rules.specs.Conflict.{at_least};
 ghost use Rattle.desk_rules.specs.Limits.{max_plans};
 ghost use Rattle.desk_rules.specs.States.{states_of};
 ghost use Rattle.desk_store.specs.World.{text_cmp, rows_by, stored_of};
-ghost use Rattle.desk_store.specs.Rows.{rival_level, rivals_top};
+ghost use Rattle.desk_store.specs.Rows.{other_level, others_top, rival_level, rivals_top};
 ghost use Rattle.desk_store.specs.StoreChange.{changed_by, IsFitting};
-ghost use Rattle.desk_store.specs.Rivals.{HaveLevel, AddLevel};
+ghost use Rattle.desk_store.specs.Rivals.{HaveLevel, AddLevel, AddsLevel};
 ghost use Rattle.desk_store.specs.Listing.{filed_of, filed_all, is_one_of, without};
 ghost use Rattle.desk_store.specs.Listing.{ceiling_at, count_at, with_count};
 ghost use Rattle.desk_store.specs.declared.change.Change.TheVariants as change;
@@ -110,6 +110,14 @@ impl PlanStore for ListStore {
         extent: &Slab,
     ) -> Result<Vec<Held>, StoreFault> {
         Ok(rivals_of(self.alloc, &self.plans, operator, id, least, extent)?)
+    }
+
+    fn held_by_others(
+        &mut self,
+        operator: &Operator,
+        extents: &[Slab],
+    ) -> Result<Vec<Held>, StoreFault> {
+        Ok(others_in(self.alloc, &self.plans, operator, extents)?)
     }
 
     fn apply(&mut self, change: &Change) -> Result<(), StoreFault> {
@@ -316,6 +324,50 @@ fn push_rival(
         return Ok(());
     }
     plan.push_slabs(helds, extent)
+}
+
+// The slabs that the live plans of other operators hold; none if nothing is asked.
+fn others_in(
+    alloc: Global,
+    plans: &Plans,
+    operator: &Operator,
+    extents: &[Slab],
+) -> Result<Vec<Held>, AllocError>
+    ensures { IfOk result (λ helds. (x : Point) → slabs_have extents.now x ≡ true →
+        top_held helds.items x ≡ others_top operator.now (filed_all plans.now.entries) x) }
+{
+    if extents.is_empty() {
+        return Ok(Vec::new(alloc));
+    }
+    others_of(alloc, plans, operator)
+}
+
+// The slabs that the live plans of other operators hold.
+fn others_of(alloc: Global, plans: &Plans, operator: &Operator) -> Result<Vec<Held>, AllocError>
+    ensures { IfOk result (λ helds. (x : Point) →
+        top_held helds.items x ≡ others_top operator.now (filed_all plans.now.entries) x) }
+{
+    let mut helds = Vec::new(alloc);
+    for (key, plan) in plans {
+        push_other(&mut helds, operator, key, plan)?;
+    }
+    Ok(helds)
+}
+
+// Appends the slabs that a plan holds, unless it is the operator's.
+fn push_other(
+    helds: &mut Vec<Held>,
+    operator: &Operator,
+    key: &(Operator, PlanId),
+    plan: &Plan,
+) -> Result<(), AllocError>
+    ensures { OnOk result (AddsLevel helds.old.items helds.new.items
+        (other_level operator.now (filed_of (key.now, plan.now)))) }
+{
+    if is_by(operator, key) {
+        return Ok(());
+    }
+    plan.push_held(helds)
 }
 
 // Whether a plan is the operator's.

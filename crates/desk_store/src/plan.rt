@@ -1,20 +1,20 @@
 //! A plan as a store in memory keeps it.
 
-ghost use Rattle.std.specs.Prelude.{◌≡◌, ◌&&◌, ◌↔◌, false, nat_le, IsTrue, IfOk, OnOk};
+ghost use Rattle.std.specs.Prelude.{◌≡◌, ◌&&◌, false, nat_le, IfOk, OnOk};
 ghost use Rattle.volume4d.specs.Volume.{area_has};
 ghost use Rattle.volume4d.specs.Level.{level_where};
 ghost use Rattle.volume4d.specs.Slab.{slabs_have};
 ghost use Rattle.desk_rules.specs.Plan.{is_live};
-ghost use Rattle.desk_store.specs.Rivals.{AddLevel, ShareAPoint};
+ghost use Rattle.desk_store.specs.Rivals.{AddLevel, AddsLevel};
 ghost use Rattle.desk_store.specs.Parts.{parts_of, row_of, kept_states, closed_parts, HasNoPoint};
 
+use crate::meets::overlap;
 use desk_rules::plan::{PlanRow, States};
 use desk_rules::plan_id::PlanId;
 use desk_rules::words::{Aircraft, Usage};
 use std::alloc::AllocError;
 use std::marker::Model;
-use std::slice::from_ref;
-use volume4d::{Area, Held, Slab, bounds_of, meet};
+use volume4d::{Area, Held, Slab, bounds_of};
 
 /// A plan, but for its operator and its id, with the slabs of its area and bounds round them, which
 /// are made once.
@@ -127,6 +127,22 @@ impl Plan {
     {
         push_helds(helds, &self.slabs, self.priority, extent)
     }
+
+    /// Appends the slabs that it holds, at its priority.
+    ///
+    /// # Errors
+    ///
+    /// `AllocError` for want of memory.
+    pub fn push_held(&self, helds: &mut Vec<Held>) -> Result<(), AllocError>
+        ensures { OnOk result (AddsLevel helds.old.items helds.new.items
+            (λ x. level_where (is_live self.now.usage && area_has self.now.area x) self.now.priority)) }
+    {
+        if self.usage.is_live() {
+            push_each(helds, &self.slabs, self.priority)
+        } else {
+            Ok(())
+        }
+    }
 }
 
 // Appends the slabs that meet an extent, at a priority.
@@ -150,9 +166,16 @@ fn push_helds(
     Ok(())
 }
 
-// Whether two slabs share a point.
-fn overlap(mine: &Slab, theirs: &Slab) -> bool
-    ensures { IsTrue result ↔ ShareAPoint mine.now theirs.now }
+// Appends slabs, at a priority.
+fn push_each(helds: &mut Vec<Held>, slabs: &[Slab], priority: u32) -> Result<(), AllocError>
+    ensures { OnOk result (AddsLevel helds.old.items helds.new.items
+        (λ x. level_where (slabs_have slabs.now x) priority)) }
 {
-    meet(from_ref(mine), from_ref(theirs))
+    for slab in slabs {
+        helds.push(Held {
+            slab: *slab,
+            priority,
+        })?;
+    }
+    Ok(())
 }

@@ -3,7 +3,7 @@
 ghost use Rattle.std.specs.Prelude.{◌≡◌, ◌≤◌, ℕ, length, Option, IfOk, IfErr, IfSome, OnOk, OnErr};
 ghost use Rattle.desk_store.specs.Frames.{OnlyReads, Remembers};
 ghost use Rattle.desk_store.specs.World.{World, AreInOrder, ceiling_of, plans_of, stored_of};
-ghost use Rattle.desk_store.specs.Rivals.{AreRivals};
+ghost use Rattle.desk_store.specs.Rivals.{AreHeldByOthers, AreRivals};
 ghost use Rattle.desk_rules.specs.Limits.{max_plans, max_priority};
 ghost use Rattle.desk_rules.specs.States.{states_of};
 
@@ -99,6 +99,19 @@ pub trait PlanStore {
     ) -> Result<Vec<Held>, StoreFault>
         ensures value { IsHonest (doubt self.new) → IfOk result (λ helds.
             AreRivals (content self.old) operator.now id.now least extent.now helds.items) }
+        ensures reads { OnlyReads content doubt faults may_leave is_shielded self.old self.new }
+        ensures cause { IfErr result (IsCounted faults self.old self.new) };
+
+    /// Slabs held by the live plans of all other operators: at each point of the extents the greatest
+    /// priority among the slabs is the greatest that these operators hold there. Of points outside the
+    /// extents they say nothing.
+    fn held_by_others(
+        &mut self,
+        operator: &Operator,
+        extents: &[Slab],
+    ) -> Result<Vec<Held>, StoreFault>
+        ensures value { IsHonest (doubt self.new) → IfOk result (λ helds.
+            AreHeldByOthers (content self.old) operator.now extents.now helds.items) }
         ensures reads { OnlyReads content doubt faults may_leave is_shielded self.old self.new }
         ensures cause { IfErr result (IsCounted faults self.old self.new) };
 

@@ -29,7 +29,7 @@ use Rattle.desk_live.specs.laws.Live.{same_key}
 
 -- ---- slabs with a point in common
 
-both : (a b : Bool) → a ≡ true → b ≡ true → (a && b) ≡ true
+pub both : (a b : Bool) → a ≡ true → b ≡ true → (a && b) ≡ true
 both true b h k = k
 both false b h k = h
 
@@ -41,15 +41,16 @@ leaves_meet : (a d p : ℕ) → leb a p ≡ true → leb p d ≡ true → nat_le
 leaves_meet a d p h k = grind (arith, nat_tests)
 
 -- the tests that a slab makes of a point
-record IsIn (s : Slab) (x : Point) : Type 0 where
-  first : leb s.first (position_of x.leaf) ≡ true
-  last : leb (position_of x.leaf) s.last ≡ true
-  lower : int_le s.lower x.altitude ≡ true
-  upper : int_lt x.altitude s.upper ≡ true
-  start : int_le s.start x.second ≡ true
-  end : int_lt x.second s.end ≡ true
+pub record IsIn (s : Slab) (x : Point) : Type 0 where
+  pub is : is_leaf x.leaf ≡ true
+  pub first : leb s.first (position_of x.leaf) ≡ true
+  pub last : leb (position_of x.leaf) s.last ≡ true
+  pub lower : int_le s.lower x.altitude ≡ true
+  pub upper : int_lt x.altitude s.upper ≡ true
+  pub start : int_le s.start x.second ≡ true
+  pub end : int_lt x.second s.end ≡ true
 
-is_in : (s : Slab) (x : Point) → slab_has s x ≡ true → IsIn s x
+pub is_in : (s : Slab) (x : Point) → slab_has s x ≡ true → IsIn s x
 is_in s x h =
     let parts = and_parts _ (int_le s.start x.second && int_lt x.second s.end) h in
     let placed = and_parts (slab_has_leaf s x.leaf) _ parts.0 in
@@ -58,6 +59,7 @@ is_in s x h =
     let altitudes = and_parts (int_le s.lower x.altitude) _ placed.1 in
     let seconds = and_parts (int_le s.start x.second) _ parts.1 in
     record {
+      is = leaf.0;
       first = leaves.0;
       last = leaves.1;
       lower = altitudes.0;
@@ -72,7 +74,7 @@ meet_there a b z c d h k l m =
     both (int_lt a d) (int_lt c b) (times_meet a b c d z h k m) (times_meet c d a b z l m k)
 
 -- slabs that have a point in common overlap
-overlapping : (one other : Slab) (x : Point) → slab_has one x ≡ true → slab_has other x ≡ true
+pub overlapping : (one other : Slab) (x : Point) → slab_has one x ≡ true → slab_has other x ≡ true
     → overlap one other ≡ true
 overlapping one other x h k =
     let a = is_in one x h in

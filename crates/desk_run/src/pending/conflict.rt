@@ -76,7 +76,7 @@ fn first_among<S: PlanStore>(
 }
 
 // How wide a gap between slabs has to be that they are asked for apart.
-fn wide_gap(slabs: &[Slab]) -> u64 {
+pub fn wide_gap(slabs: &[Slab]) -> u64 {
     match slabs {
         [first, .., last] => (last.first.saturating_sub(first.first) / GAPS).min(WIDEST),
         _ => 0,
@@ -104,7 +104,7 @@ fn first_in<S: PlanStore>(
 }
 
 // The least priority that blocks a plan of a priority where others hold it.
-fn least_of(permitted: &Permitted, priority: u32) -> u32
+pub fn least_of(permitted: &Permitted, priority: u32) -> u32
     ensures { result ≡ least_blocking permitted.now priority }
 {
     if permitted.has(priority) {

@@ -10,6 +10,8 @@ ghost use Rattle.desk_run.specs.Verdicts.{conflict_shown_in, list_ruling, show_r
 
 use super::Pending;
 use super::conflict::conflict_of;
+use super::listing::{all_shown, others_near, own_plans};
+use super::own::OwnPlan;
 use crate::fault::DeskFault;
 use desk_rules::decide::status_of;
 use desk_rules::operator::Operator;
@@ -54,8 +56,24 @@ fn own_shown<S: PlanStore>(
     ensures reads { OnlyReads S.content S.doubt S.faults S.may_leave S.is_shielded store.old store.new }
     ensures cause { IfErr result (IsCounted S.faults store.old store.new) }
 {
+    let plans = own_listed(alloc, store, operator)?;
+    let others = others_near(alloc, store, operator, &plans)?;
+    Ok(all_shown(alloc, permitted, &plans, &others)?)
+}
+
+// The operator's plans, by id, with the slabs that they hold.
+fn own_listed<S: PlanStore>(
+    alloc: Global,
+    store: &mut S,
+    operator: &Operator,
+) -> Result<Vec<OwnPlan>, StoreFault>
+    ensures value { IsHonest (S.doubt store.new) → IfOk result (λ plans.
+        plans.items ≡ plans_of operator.now (S.content store.old)) }
+    ensures reads { OnlyReads S.content S.doubt S.faults S.may_leave S.is_shielded store.old store.new }
+    ensures cause { IfErr result (IsCounted S.faults store.old store.new) }
+{
     let rows = store.own_plans(operator)?;
-    shown_all(alloc, store, permitted, operator, &rows)
+    Ok(own_plans(alloc, &rows)?)
 }
 
 // Gets the showing of an enrolled operator's plan ready.
@@ -80,26 +98,6 @@ pub fn ready_show<S: PlanStore>(
         reply: Reply::Plan(plan),
         change: None,
     })
-}
-
-// Plans of the operator as they are shown.
-fn shown_all<S: PlanStore>(
-    alloc: Global,
-    store: &mut S,
-    permitted: &Permitted,
-    operator: &Operator,
-    rows: &[PlanRow],
-) -> Result<Vec<Shown>, StoreFault>
-    ensures value { IsHonest (S.doubt store.new) → IfOk result (λ plans.
-        plans.items ≡ map (shown_in permitted.now (S.content store.old) operator.now) rows.now) }
-    ensures reads { OnlyReads S.content S.doubt S.faults S.may_leave S.is_shielded store.old store.new }
-    ensures cause { IfErr result (IsCounted S.faults store.old store.new) }
-{
-    let mut plans = Vec::new(alloc);
-    for row in rows {
-        plans.push(shown(store, permitted, operator, row)?)?;
-    }
-    Ok(plans)
 }
 
 // A plan of the operator as it is shown.

@@ -33,6 +33,12 @@ pub(crate) enum Query<'a> {
         reach: Reach,
         low: i64,
     },
+    /// The spans that are reached and begin at `low` or later, but for those of one operator, by `first`.
+    OtherSpans {
+        operator: &'a str,
+        reach: Reach,
+        low: i64,
+    },
 }
 
 impl Query<'_> {
@@ -59,6 +65,12 @@ impl Query<'_> {
                 "SELECT first, last, lower, upper, start, stop, priority FROM span2 \
                  WHERE first >= ?10 AND first <= ?1 AND last >= ?2 AND lower < ?3 AND upper > ?4 \
                  AND start < ?5 AND stop > ?6 AND priority >= ?7 AND (operator <> ?8 OR id <> ?9) \
+                 ORDER BY first"
+            }
+            Query::OtherSpans { .. } => {
+                "SELECT first, last, lower, upper, start, stop, priority FROM span2 \
+                 WHERE first >= ?9 AND first <= ?1 AND last >= ?2 AND lower < ?3 AND upper > ?4 \
+                 AND start < ?5 AND stop > ?6 AND priority >= ?7 AND operator <> ?8 \
                  ORDER BY first"
             }
         }

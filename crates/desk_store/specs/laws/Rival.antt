@@ -1,14 +1,44 @@
 -- What all rivals of a plan hold, with its proofs.
-use Rattle.std.proofs.Common.{◌≡◌, ℕ, Bool, true, false, ◌&&◌, cond, not, List, [], ◌∷◌, map, Option, None, refl, sym, ap, ◌∙◌}
+use Rattle.std.proofs.Common.{◌≡◌, ℕ, Bool, true, false, ◌&&◌, ◌||◌, cond, not, List, [], ◌∷◌, map, Option, Some, None, refl, sym, ap, ◌∙◌, arith}
+use Rattle.std.specs.Prelude.{nat_le, max}
+use Rattle.std.proofs.lemmas.Bool.Decides.{nat_tests}
 use Rattle.std.specs.List.{filter}
 use Rattle.desk_rules.specs.declared.plan.PlanRow.{PlanRow}
 use Rattle.volume4d.specs.Point.{Point}
 use Rattle.volume4d.specs.Level.{greater, level_where}
-use Rattle.volume4d.specs.laws.Level.{greater_assoc, greater_comm}
+use Rattle.volume4d.specs.laws.Level.{greater_assoc, greater_comm, greater_none}
 use Rattle.desk_rules.specs.laws.Plan.{top_priority-cons, top_priority-nil}
+use Rattle.desk_rules.specs.Conflict.{at_least}
 use Rattle.desk_rules.specs.Plan.{row_holds, top_priority}
 use Rattle.desk_store.specs.World.{Filed, World, rows_by, is_by, has_id, others_of, held, held_at}
-use Rattle.desk_store.specs.Rows.{is_own, rival_level, rivals_top}
+use Rattle.desk_store.specs.Rows.{is_own, rival_level, rivals_top, other_level, others_top}
+
+-- ---- levels
+
+max_reaches : (n a b : ℕ) → (nat_le n a || nat_le n b) ≡ nat_le n (max a b)
+max_reaches n a b = grind (arith, nat_tests)
+
+max_left : (n a b : ℕ) → nat_le n a ≡ true → nat_le n b ≡ false → max a b ≡ a
+max_left n a b p q = grind (arith, nat_tests)
+
+max_right : (n a b : ℕ) → nat_le n a ≡ false → nat_le n b ≡ true → max a b ≡ b
+max_right n a b p q = grind (arith, nat_tests)
+
+-- a level, where it is at least a priority, of the greater of two
+pub at_least_greater : (n : ℕ) (a b : Option ℕ) → at_least n (greater a b)
+    ≡ greater (at_least n a) (at_least n b)
+at_least_greater n None b = refl
+at_least_greater n (Some a) None = sym (greater_none (at_least n (Some a)))
+at_least_greater n (Some a) (Some b) = ap (λ c. cond c (Some (max a b)) None) (sym (max_reaches n a b))
+    ∙ by_tests (nat_le n a) (nat_le n b) refl refl where
+      by_tests : (s t : Bool) → nat_le n a ≡ s → nat_le n b ≡ t → cond (s || t) (Some (max a b)) None
+          ≡ greater (cond s (Some a) None) (cond t (Some b) None)
+      by_tests true true p q = refl
+      by_tests true false p q = ap Some (max_left n a b p q)
+      by_tests false true p q = ap Some (max_right n a b p q)
+      by_tests false false p q = refl
+
+-- ---- what rivals hold
 
 -- one more plan
 pub rivals_top-cons :
@@ -83,3 +113,28 @@ pub held_by_rivals :
     → rivals_top o id w.plans x ≡ held_at (rows_by o w.plans) (held w o) id x
 unfolding held_at held others_of own_top other_top
 held_by_rivals o id w x = split o id x w.plans
+
+-- ---- what others hold
+
+pub others_top-cons :
+    (o : List ℕ) (p : Filed) (ps : List Filed) (x : Point)
+    → others_top o (p ∷ ps) x ≡ greater (other_level o p x) (others_top o ps x)
+unfolding others_top other_level
+others_top-cons o p ps x = by_test (not (is_by o p)) where
+  others : List PlanRow
+  others = map (λ q. q.row) (filter (λ q. not (is_by o q)) ps)
+
+  by_test : (b : Bool) → top_priority
+      (map (λ q. q.row) (cond b (p ∷ filter (λ q. not (is_by o q)) ps)
+      (filter (λ q. not (is_by o q)) ps))) x
+      ≡ greater (level_where (b && row_holds p.row x) p.row.priority) (top_priority others x)
+  by_test true = top_priority-cons p.row others x
+  by_test false = refl
+
+pub others_top-nil : (o : List ℕ) (x : Point) → others_top o [] x ≡ None
+unfolding others_top
+others_top-nil o x = top_priority-nil x
+
+pub held_by_others : (o : List ℕ) (w : World) (x : Point) → others_top o w.plans x ≡ held w o x
+unfolding held others_of others_top
+held_by_others o w x = refl

@@ -14,5 +14,5 @@ loop-slab-preserved c = λ x inside.
           before c.loop-slab-test.true c.slab-item.is so_far)
       | else-overlap w ↦ rw w.helds-is (slab_outside slabs c.loop-slab.slab-index c.slab-item.result
           c.args.priority x c.overlap.result _ before c.loop-slab-test.true c.slab-item.is w.if-overlap.false
-          (λ e. c.overlap.ensures.1 (x, e, inside)) so_far)
+          (λ e. c.overlap.ensures (x, e, inside)) so_far)
     ]

@@ -8,4 +8,4 @@ returns c = λ apart.
     let extent = c.args.extent.now in
     subst (λ p. HasNoPoint p.area extent) c.self.view_is
     (no_point c.self.inside.area c.self.inside.slabs.items c.self.inside.bounds extent c.overlap.result
-    c.self.invariant c.overlap.ensures.1 apart)
+    c.self.invariant c.overlap.ensures apart)

@@ -1,5 +1,6 @@
 use Rattle.std.proofs.Common.{sym, subst}
 use Rattle.desk_sql.proofs.StatementLemmas.{IsTextOf, operator_named_selected, plan_of_selected, volumes_of_selected, own_plans_selected, rival_spans_selected}
+use Rattle.desk_sql.proofs.OtherSpans.{other_spans_selected}
 use Rattle.desk_sql.proofs.reading.query.Query.text.Goals as goal
 
 pub returns-in-OperatorNamed : goal.returns-in-OperatorNamed
@@ -18,3 +19,7 @@ returns-in-OwnPlans c = subst (λ query. IsTextOf query _) (sym c.in-OwnPlans.is
 pub returns-in-RivalSpans : goal.returns-in-RivalSpans
 returns-in-RivalSpans c = subst (λ query. IsTextOf query _) (sym c.in-RivalSpans.is)
     (rival_spans_selected _ _ _ _)
+
+pub returns-in-OtherSpans : goal.returns-in-OtherSpans
+returns-in-OtherSpans c = subst (λ query. IsTextOf query _) (sym c.in-OtherSpans.is)
+    (other_spans_selected _ _ _)

@@ -1,4 +1,4 @@
--- The greatest priority that slabs have at a point is that of the same slabs in any order.
+-- The greatest priority that slabs have at a point is that of the same slabs in any order, with its proof.
 use Rattle.std.proofs.Common.{◌≡◌, ℕ, Bool, List, [], ◌∷◌, ◌∙◌, Option, None, Some, All, ap, refl, sym, arith}
 use Rattle.std.specs.Prelude.{max, IsPermutation}
 use Rattle.std.proofs.lemmas.List.Elements.{All-cons, All-head, All-nil, All-tail, All-weaker}

@@ -1,0 +1,51 @@
+-- Where live volumes of other operators lie near extents.
+use Rattle.std.specs.Prelude.{◌≡◌, ℕ, Bool, true, false, not, ◌&&◌, ◌||◌, List, None, min, max}
+use Rattle.std.specs.Int.{int_min, int_max}
+use Rattle.std.specs.List.{list_any}
+use Rattle.std.specs.Ordering.{is_eq}
+use Rattle.volume4d.specs.declared.slab.Slab.{Slab}
+use Rattle.volume4d.specs.Point.{Point}
+use Rattle.volume4d.specs.Slab.{slab_has, slabs_have}
+use Rattle.desk_store.specs.World.{World, held, text_cmp}
+use Rattle.desk_live.specs.declared.volume.LiveVolume.{LiveVolume}
+use Rattle.desk_live.specs.Live.{overlap}
+
+-- at no point of some extents others hold anything, but where a region lies
+abbrev pub HoldNothingBeside : World → List ℕ → List Slab → List Slab → Type 0
+HoldNothingBeside w operator extents regions =
+    (x : Point) → slabs_have extents x ≡ true → slabs_have regions x ≡ false → held w operator x ≡ None
+
+-- it is another operator's
+abbrev pub is_another : List ℕ → LiveVolume → Bool
+is_another operator live = not (is_eq (text_cmp operator live.operator))
+
+-- and its bounds meet a slab
+abbrev pub is_theirs : List ℕ → Slab → LiveVolume → Bool
+is_theirs operator whole live = is_another operator live && overlap live.bounds whole
+
+-- and its bounds have a point
+abbrev pub is_theirs_at : List ℕ → Point → LiveVolume → Bool
+is_theirs_at operator x live = is_another operator live && slab_has live.bounds x
+
+-- slabs have each point of a slab that slabs before had, or that is in bounds of another operator's volume
+abbrev pub AddTheirs : List ℕ → Slab → List LiveVolume → List Slab → List Slab → Type 0
+AddTheirs operator whole lives old new = (x : Point) → slab_has whole x ≡ true
+    → (slabs_have old x || list_any (is_theirs_at operator x) lives) ≡ true → slabs_have new x ≡ true
+
+-- slabs have each point that slabs of both lists have
+abbrev pub HaveShared : List Slab → List Slab → List Slab → Type 0
+HaveShared some others slabs =
+    (x : Point) → slabs_have some x ≡ true → slabs_have others x ≡ true → slabs_have slabs x ≡ true
+
+-- slabs have each point of others
+abbrev pub HaveEach : List Slab → List Slab → Type 0
+HaveEach some slabs = (x : Point) → slabs_have some x ≡ true → slabs_have slabs x ≡ true
+
+-- the greater of the lower bounds of two slabs, and the lesser of the upper ones
+pub record IsClip (one other slab : Slab) : Type 0 where
+  pub first : slab.first ≡ max one.first other.first
+  pub last : slab.last ≡ min one.last other.last
+  pub lower : slab.lower ≡ int_max one.lower other.lower
+  pub upper : slab.upper ≡ int_min one.upper other.upper
+  pub start : slab.start ≡ int_max one.start other.start
+  pub end : slab.end ≡ int_min one.end other.end

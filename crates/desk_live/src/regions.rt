@@ -1,0 +1,145 @@
+//! Regions: extents near which volumes of other operators lie, joined where they overlap.
+
+ghost use Rattle.std.specs.Prelude.{◌≡◌, ◌∷◌, None, cond, IfOk, OnOk};
+ghost use Rattle.std.specs.Int.{int_min, int_max};
+ghost use Rattle.std.specs.List.{list_any};
+ghost use Rattle.volume4d.specs.Bounds.{HasAll};
+ghost use Rattle.volume4d.specs.Slab.{slab_has, slabs_have, top_held};
+ghost use Rattle.desk_store.specs.Rivals.{AddsLevel};
+ghost use Rattle.desk_live.specs.Live as spec;
+ghost use Rattle.desk_live.specs.Regions.{HaveEach, HaveShared, IsClip};
+
+use crate::fence::join;
+use crate::volume::overlap;
+use std::alloc::{AllocError, Global};
+use volume4d::{Held, Slab};
+
+/// A slab round some extents.
+pub(crate) fn whole_of(first: &Slab, others: &[Slab]) -> Slab
+    ensures { HasAll (slabs_have (first.now ∷ others.now)) result }
+{
+    let mut whole = *first;
+    for extent in others {
+        whole = join(&whole, extent);
+    }
+    whole
+}
+
+/// Those of some extents that overlap one of some slabs.
+///
+/// # Errors
+///
+/// `AllocError` if memory runs out.
+pub(crate) fn overlapping(
+    alloc: Global,
+    extents: &[Slab],
+    slabs: &[Slab],
+) -> Result<Vec<Slab>, AllocError>
+    ensures { IfOk result (λ wanted. HaveShared extents.now slabs.now wanted.items) }
+{
+    let mut wanted = Vec::new(alloc);
+    for extent in extents {
+        if overlaps_one(extent, slabs) {
+            wanted.push(*extent)?;
+        }
+    }
+    Ok(wanted)
+}
+
+// Whether an extent overlaps one of some slabs.
+fn overlaps_one(extent: &Slab, slabs: &[Slab]) -> bool
+    ensures { result ≡ list_any (spec.overlap extent.now) slabs.now }
+{
+    slabs.iter().any(|slab| overlap(extent, slab))
+}
+
+/// Extents, those that overlap along the curve joined.
+///
+/// # Errors
+///
+/// `AllocError` if memory runs out.
+pub(crate) fn joined(alloc: Global, extents: Vec<Slab>) -> Result<Vec<Slab>, AllocError>
+    ensures { IfOk result (λ regions. HaveEach extents.items regions.items) }
+{
+    let ordered = in_order(extents);
+    match ordered.split_first() {
+        Some((first, others)) => joined_from(alloc, first, others),
+        None => Ok(Vec::new(alloc)),
+    }
+}
+
+// The same extents, ascending by their first leaves.
+fn in_order(mut extents: Vec<Slab>) -> Vec<Slab>
+    ensures { HaveEach extents.items result.items }
+{
+    extents.sort_unstable_by_key(|extent| extent.first);
+    extents
+}
+
+// An extent and others, each that begins within the last one joined with it.
+fn joined_from(alloc: Global, first: &Slab, others: &[Slab]) -> Result<Vec<Slab>, AllocError>
+    ensures { IfOk result (λ regions. HaveEach (first.now ∷ others.now) regions.items) }
+{
+    let mut regions = Vec::new(alloc);
+    let mut region = *first;
+    for extent in others {
+        if extent.first <= region.last {
+            region = join(&region, extent);
+        } else {
+            regions.push(region)?;
+            region = *extent;
+        }
+    }
+    regions.push(region)?;
+    Ok(regions)
+}
+
+/// Appends the parts of slabs that lie in a region, at the priorities of these.
+///
+/// # Errors
+///
+/// `AllocError` if memory runs out.
+pub fn push_clipped(helds: &mut Vec<Held>, more: &[Held], region: &Slab) -> Result<(), AllocError>
+    ensures { OnOk result (AddsLevel helds.old.items helds.new.items
+        (λ x. cond (slab_has region.now x) (top_held more.now x) None)) }
+{
+    for held in more {
+        helds.push(Held {
+            slab: clip(&held.slab, region),
+            priority: held.priority,
+        })?;
+    }
+    Ok(())
+}
+
+// The slab of the points that two slabs have.
+fn clip(one: &Slab, other: &Slab) -> Slab
+    ensures { IsClip one.now other.now result }
+{
+    let (lower, upper) = altitudes(one, other);
+    let (start, end) = seconds(one, other);
+    Slab {
+        first: one.first.max(other.first),
+        last: one.last.min(other.last),
+        lower,
+        upper,
+        start,
+        end,
+    }
+}
+
+// The lower and the upper bound of the altitudes that two slabs share.
+fn altitudes(one: &Slab, other: &Slab) -> (i32, i32)
+    ensures lower { result.0 ≡ int_max one.now.lower other.now.lower }
+    ensures upper { result.1 ≡ int_min one.now.upper other.now.upper }
+{
+    (one.lower.max(other.lower), one.upper.min(other.upper))
+}
+
+// The start and the end of the seconds that two slabs share.
+fn seconds(one: &Slab, other: &Slab) -> (i64, i64)
+    ensures start { result.0 ≡ int_max one.now.start other.now.start }
+    ensures end { result.1 ≡ int_min one.now.end other.now.end }
+{
+    (one.start.max(other.start), one.end.min(other.end))
+}

@@ -1,0 +1,57 @@
+-- What an operator's plans hold among each other, and what others hold where they lie.
+use Rattle.std.specs.Prelude.{◌≡◌, ℕ, Bool, true, false, not, ◌&&◌, nat_le, List, Option, All}
+use Rattle.std.specs.List.{filter, list_any}
+use Rattle.volume4d.specs.declared.slab.Slab.{Slab}
+use Rattle.volume4d.specs.declared.slab.Held.{Held}
+use Rattle.volume4d.specs.Point.{Point}
+use Rattle.volume4d.specs.Slab.{slab_has, slabs_have, top_held}
+use Rattle.volume4d.specs.Level.{greater, level_where}
+use Rattle.volume4d.specs.Bounds.{HasAll, IsFilled}
+use Rattle.volume4d.specs.Sweep.{Ascend}
+use Rattle.s2_hilbert.specs.Curve.{position_of}
+use Rattle.desk_rules.specs.declared.plan.PlanRow.{PlanRow}
+use Rattle.desk_rules.specs.Plan.{row_holds, top_priority}
+use Rattle.desk_store.specs.World.{has_id}
+
+-- slabs that have the points that a plan holds, in ascending order, each with a point, and a slab round them
+pub record AreSlabsHeld (row : PlanRow) (slabs : List Slab) (round : Slab) : Type 0 where
+  pub points : (x : Point) → slabs_have slabs x ≡ row_holds row x
+  pub filled : All IsFilled slabs
+  pub order : Ascend (λ s. s) slabs
+  pub bounds : HasAll (slabs_have slabs) round
+
+-- one of the plans holds a point
+abbrev pub some_hold : List PlanRow → Point → Bool
+some_hold rows x = list_any (λ r. row_holds r x) rows
+
+-- at each point that passes a test the greatest priority among the slabs is the level there
+abbrev pub HaveLevelAt : (Point → Bool) → List Held → (Point → Option ℕ) → Type 0
+HaveLevelAt passes helds level = (x : Point) → passes x ≡ true → top_held helds x ≡ level x
+
+-- and is the greater of that before and the level
+abbrev pub AddLevelAt : (Point → Bool) → List Held → List Held → (Point → Option ℕ) → Type 0
+AddLevelAt passes before helds level = HaveLevelAt passes helds (λ x. greater (top_held before x) (level x))
+
+-- some slabs have each point that others had
+abbrev pub Keep : List Slab → List Slab → Type 0
+Keep old new = (x : Point) → slabs_have old x ≡ true → slabs_have new x ≡ true
+
+-- they have each point that passes a test
+abbrev pub HaveAll : (Point → Bool) → List Slab → Type 0
+HaveAll passes slabs = (x : Point) → passes x ≡ true → slabs_have slabs x ≡ true
+
+-- slabs that are left have each point that others have at the position or after it
+abbrev pub AreLeft : ℕ → List Slab → List Slab → Type 0
+AreLeft position slabs left = (x : Point) → nat_le position (position_of x.leaf) ≡ true
+    → slabs_have slabs x ≡ true → slabs_have left x ≡ true
+
+-- the priority that a plan holds at a point, if it isn't that of the id, and the greatest of some plans
+unfoldable pub own_level : List ℕ → PlanRow → Point → Option ℕ
+own_level id r x = level_where (not (has_id id r) && row_holds r x) r.priority
+
+abbrev pub own_top : List ℕ → List PlanRow → Point → Option ℕ
+own_top id rows x = top_priority (filter (λ r. not (has_id id r)) rows) x
+
+-- none of the slabs has a point at the position or before it
+abbrev pub AreAfter : ℕ → List Slab → Type 0
+AreAfter position slabs = (x : Point) → slabs_have slabs x ≡ true → nat_le (position_of x.leaf) position ≡ false

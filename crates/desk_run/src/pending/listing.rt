@@ -1,0 +1,162 @@
+//! The conflicts of all of an operator's plans among each other and with what others hold, which is read
+//! once.
+
+ghost use Rattle.std.specs.Prelude.{◌≡◌, ◌≤◌, ℕ, Option, true, map, IfOk, IfErr, OnOk};
+ghost use Rattle.desk_store.specs.Frames.{OnlyReads};
+ghost use Rattle.desk_store.specs.Faults.{IsHonest, IsCounted};
+ghost use Rattle.desk_store.specs.World.{held, held_at};
+ghost use Rattle.volume4d.specs.Point.{Point};
+ghost use Rattle.volume4d.specs.Slab.{top_held};
+ghost use Rattle.volume4d.specs.Sweep.{Ascend};
+ghost use Rattle.desk_rules.specs.Conflict.{at_least};
+ghost use Rattle.desk_rules.specs.Plan.{row_holds};
+ghost use Rattle.desk_run.specs.Listing.{AddLevelAt, HaveAll, HaveLevelAt, own_top, some_hold};
+ghost use Rattle.desk_run.specs.Verdicts.{conflict_shown, shown_plan};
+
+use super::conflict::least_of;
+use super::own::OwnPlan;
+use desk_rules::decide::status_of;
+use desk_rules::operator::Operator;
+use desk_rules::permission::Permitted;
+use desk_rules::plan::PlanRow;
+use desk_rules::reply::Shown;
+use desk_store::{PlanStore, StoreFault};
+use std::alloc::{AllocError, Global};
+use volume4d::{Held, Meeting, Slab};
+
+// Plans of an operator, with the slabs that they hold.
+pub fn own_plans(alloc: Global, rows: &[PlanRow]) -> Result<Vec<OwnPlan>, AllocError>
+    ensures { IfOk result (λ plans. plans.items ≡ rows.now) }
+{
+    let mut plans = Vec::new(alloc);
+    for row in rows {
+        plans.push(OwnPlan::try_new(alloc, row.copy()?)?)?;
+    }
+    Ok(plans)
+}
+
+// The slabs that others hold where the operator's plans lie.
+pub fn others_near<S: PlanStore>(
+    alloc: Global,
+    store: &mut S,
+    operator: &Operator,
+    plans: &[OwnPlan],
+) -> Result<Vec<Held>, StoreFault>
+    ensures value { IsHonest (S.doubt store.new) → IfOk result (λ helds.
+        HaveLevelAt (some_hold plans.now) helds.items (held (S.content store.old) operator.now)) }
+    ensures reads { OnlyReads S.content S.doubt S.faults S.may_leave S.is_shielded store.old store.new }
+    ensures cause { IfErr result (IsCounted S.faults store.old store.new) }
+{
+    let extents = extents_of(alloc, plans)?;
+    store.held_by_others(operator, &extents)
+}
+
+// Extents that have each point that one of the plans holds.
+fn extents_of(alloc: Global, plans: &[OwnPlan]) -> Result<Vec<Slab>, AllocError>
+    ensures { IfOk result (λ extents. HaveAll (some_hold plans.now) extents.items) }
+{
+    let mut extents = Vec::new(alloc);
+    for plan in plans {
+        plan.push_extents(&mut extents)?;
+    }
+    Ok(extents)
+}
+
+// The plans as they are shown, where others hold these slabs.
+pub fn all_shown(
+    alloc: Global,
+    permitted: &Permitted,
+    plans: &[OwnPlan],
+    others: &[Held],
+) -> Result<Vec<Shown>, AllocError>
+    ensures { (levels : Point → Option ℕ) → HaveLevelAt (some_hold plans.now) others.now levels
+        → IfOk result (λ all. all.items ≡ map (shown_plan permitted.now plans.now levels) plans.now) }
+{
+    let mut all = Vec::new(alloc);
+    for plan in plans {
+        all.push(shown_among(alloc, permitted, plan, plans, others)?)?;
+    }
+    Ok(all)
+}
+
+// One of the plans as it is shown.
+fn shown_among(
+    alloc: Global,
+    permitted: &Permitted,
+    plan: &OwnPlan,
+    plans: &[OwnPlan],
+    others: &[Held],
+) -> Result<Shown, AllocError>
+    ensures { (levels : Point → Option ℕ) → HaveLevelAt (row_holds plan.now) others.now levels
+        → IfOk result (λ shown. shown ≡ shown_plan permitted.now plans.now levels plan.now) }
+{
+    let conflict = conflict_among(alloc, permitted, plan, plans, others)?;
+    let row = plan.row();
+    Ok(Shown {
+        row: row.copy()?,
+        status: status_of(Some(row)),
+        conflict,
+    })
+}
+
+// The conflict of one of the plans, if it is live, at its own priority; a closed plan has none.
+fn conflict_among(
+    alloc: Global,
+    permitted: &Permitted,
+    plan: &OwnPlan,
+    plans: &[OwnPlan],
+    others: &[Held],
+) -> Result<Option<Meeting>, AllocError>
+    ensures { (levels : Point → Option ℕ) → HaveLevelAt (row_holds plan.now) others.now levels
+        → IfOk result (λ conflict. conflict ≡ conflict_shown permitted.now plans.now levels plan.now) }
+{
+    let row = plan.row();
+    if !row.usage.is_live() {
+        return Ok(None);
+    }
+    let least = least_of(permitted, row.priority);
+    let theirs = in_the_way(alloc, plan, plans, others, least)?;
+    Ok(plan.conflict_with(&theirs))
+}
+
+// What the other plans and others hold where one of the plans lies, of a priority at least.
+fn in_the_way(
+    alloc: Global,
+    plan: &OwnPlan,
+    plans: &[OwnPlan],
+    others: &[Held],
+    least: u32,
+) -> Result<Vec<Held>, AllocError>
+    ensures { (levels : Point → Option ℕ) → HaveLevelAt (row_holds plan.now) others.now levels
+        → IfOk result (λ theirs. HaveLevelAt (row_holds plan.now) theirs.items
+        (λ x. at_least least (held_at plans.now levels plan.now.id x))) }
+{
+    let mut theirs = Vec::new(alloc);
+    plan.push_others(&mut theirs, others, least)?;
+    push_own(&mut theirs, plan, plans, least)?;
+    Ok(in_order(theirs))
+}
+
+// Appends what the other plans hold that may share a point with a plan, of a priority at least.
+fn push_own(
+    theirs: &mut Vec<Held>,
+    mine: &OwnPlan,
+    plans: &[OwnPlan],
+    least: u32,
+) -> Result<(), AllocError>
+    ensures { OnOk result (AddLevelAt (row_holds mine.now) theirs.old.items theirs.new.items
+        (λ x. at_least least (own_top mine.now.id plans.now x))) }
+{
+    for plan in plans {
+        plan.push_onto(theirs, mine, least)?;
+    }
+    Ok(())
+}
+
+// The same slabs, ascending by their first leaves, so that they are met in one pass.
+fn in_order(mut helds: Vec<Held>) -> Vec<Held>
+    ensures { (x : Point) → top_held result.items x ≡ top_held helds.items x }
+{
+    helds.sort_unstable_by_key(|held| held.slab.first);
+    helds
+}

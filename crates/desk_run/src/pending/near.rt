@@ -1,0 +1,138 @@
+//! Slabs that may share a point with those of a plan.
+
+ghost use Rattle.std.specs.Prelude.{◌≡◌, None, true, false, nat_le, OnOk};
+ghost use Rattle.volume4d.specs.Bounds.{HasAll};
+ghost use Rattle.volume4d.specs.Level.{level_where};
+ghost use Rattle.volume4d.specs.Point.{Point};
+ghost use Rattle.volume4d.specs.Slab.{slab_has, slabs_have, top_held};
+ghost use Rattle.volume4d.specs.Sweep.{Ascend};
+ghost use Rattle.desk_rules.specs.Conflict.{at_least};
+ghost use Rattle.desk_run.specs.Listing.{AddLevelAt, AreAfter, AreLeft};
+
+use desk_store::overlap;
+use std::alloc::AllocError;
+use volume4d::{Held, Slab};
+
+// Appends those of some slabs, at a priority, that may share a point with one of `mine`, which ascend within
+// bounds.
+pub fn push_slabs(
+    theirs: &mut Vec<Held>,
+    mine: &[Slab],
+    bounds: &Slab,
+    slabs: &[Slab],
+    priority: u32,
+) -> Result<(), AllocError>
+    requires order { Ascend (λ s. s) mine.now }
+    requires bounds { HasAll (slabs_have mine.now) bounds.now }
+    ensures { OnOk result (AddLevelAt (slabs_have mine.now) theirs.old.items theirs.new.items
+        (λ x. level_where (slabs_have slabs.now x) priority)) }
+{
+    let mut left = mine;
+    let mut position = 0;
+    for slab in slabs {
+        left = left_at(mine, left, position, slab.first);
+        position = slab.first;
+        if may_share(left, bounds, slab) {
+            theirs.push(Held {
+                slab: *slab,
+                priority,
+            })?;
+        }
+    }
+    Ok(())
+}
+
+// Appends those of some held slabs, of a priority at least, that may share a point with one of `mine`, which
+// ascend within bounds.
+pub fn push_helds(
+    theirs: &mut Vec<Held>,
+    mine: &[Slab],
+    bounds: &Slab,
+    helds: &[Held],
+    least: u32,
+) -> Result<(), AllocError>
+    requires order { Ascend (λ s. s) mine.now }
+    requires bounds { HasAll (slabs_have mine.now) bounds.now }
+    ensures { OnOk result (AddLevelAt (slabs_have mine.now) theirs.old.items theirs.new.items
+        (λ x. at_least least (top_held helds.now x))) }
+{
+    let mut left = mine;
+    let mut position = 0;
+    for held in helds {
+        left = left_at(mine, left, position, held.slab.first);
+        position = held.slab.first;
+        if is_wanted(held, least, left, bounds) {
+            theirs.push(*held)?;
+        }
+    }
+    Ok(())
+}
+
+// Whether a held slab has a priority at least, and may share a point with one of those that are left.
+fn is_wanted(held: &Held, least: u32, left: &[Slab], bounds: &Slab) -> bool
+    requires { Ascend (λ s. s) left.now }
+    ensures high { result ≡ true → nat_le least held.now.priority ≡ true }
+    ensures none { result ≡ false → (x : Point) → slab_has bounds.now x ≡ true
+        → slabs_have left.now x ≡ true
+        → at_least least (level_where (slab_has held.now.slab x) held.now.priority) ≡ None }
+{
+    if held.priority < least {
+        return false;
+    }
+    may_share(left, bounds, &held.slab)
+}
+
+// The slabs of `mine` but for some that are over at a position: of those that were left at another.
+fn left_at<'a>(mine: &'a [Slab], left: &'a [Slab], before: u64, position: u64) -> &'a [Slab]
+    requires order { Ascend (λ s. s) mine.now }
+    requires left_order { Ascend (λ s. s) left.now }
+    requires left { AreLeft before mine.now left.now }
+    ensures order { Ascend (λ s. s) result.now }
+    ensures left { AreLeft position mine.now result.now }
+{
+    if position < before {
+        mine
+    } else {
+        after(left, position)
+    }
+}
+
+// The slabs but for the first ones that are over at a position.
+fn after(slabs: &[Slab], position: u64) -> &[Slab]
+    requires { Ascend (λ s. s) slabs.now }
+    ensures order { Ascend (λ s. s) result.now }
+    ensures left { AreLeft position slabs.now result.now }
+{
+    let mut left = slabs;
+    while let Some((first, others)) = left.split_first() {
+        if position <= first.last {
+            return left;
+        }
+        left = others;
+    }
+    left
+}
+
+// Whether a slab may share a point with one of those that are left at its first leaf, which ascend, within
+// bounds.
+fn may_share(left: &[Slab], bounds: &Slab, slab: &Slab) -> bool
+    requires { Ascend (λ s. s) left.now }
+    ensures { result ≡ false → (x : Point) → slab_has bounds.now x ≡ true → slabs_have left.now x ≡ true
+        → slab_has slab.now x ≡ false }
+{
+    if !begins_by(left, slab.last) {
+        return false;
+    }
+    overlap(slab, bounds)
+}
+
+// Whether the first of slabs that ascend begins at a position or before it.
+fn begins_by(slabs: &[Slab], position: u64) -> bool
+    requires { Ascend (λ s. s) slabs.now }
+    ensures { result ≡ false → AreAfter position slabs.now }
+{
+    match slabs.first() {
+        Some(slab) => slab.first <= position,
+        None => false,
+    }
+}

@@ -1,0 +1,162 @@
+//! Plans of an operator, with the slabs that they hold.
+
+ghost use Rattle.std.specs.Prelude.{◌≡◌, ◌&&◌, ℕ, List, Option, true, not, nat_le, All, IfOk, OnOk};
+ghost use Rattle.volume4d.specs.Bounds.{IsFilled};
+ghost use Rattle.volume4d.specs.Point.{Point};
+ghost use Rattle.volume4d.specs.Slab.{slabs_have, top_held};
+ghost use Rattle.volume4d.specs.Sweep.{Ascend};
+ghost use Rattle.desk_rules.specs.Conflict.{at_least, conflict};
+ghost use Rattle.desk_rules.specs.Permission.{least_blocking};
+ghost use Rattle.desk_rules.specs.Plan.{is_live, row_holds};
+ghost use Rattle.desk_store.specs.World.{has_id};
+ghost use Rattle.desk_run.specs.Listing.{AddLevelAt, HaveAll, HaveLevelAt, Keep, own_level};
+
+use super::conflict::wide_gap;
+use super::near::{push_helds, push_slabs};
+use desk_rules::conflict::first_conflict;
+use desk_rules::plan::PlanRow;
+use desk_rules::plan_id::PlanId;
+use desk_store::overlap;
+use std::alloc::{AllocError, Global};
+use std::marker::Model;
+use volume4d::{Held, Meeting, Slab, bounds_of, split_cluster};
+
+// A plan of an operator, with the slabs that it holds and bounds round them, which are made once.
+#[derive(Drop)]
+pub struct OwnPlan {
+    row: PlanRow,
+    slabs: Vec<Slab>,
+    bounds: Slab,
+}
+
+impl Model for OwnPlan {
+    ghost use Rattle.desk_rules.specs.declared.plan.PlanRow.{PlanRow};
+    ghost use Rattle.desk_run.specs.Listing.{AreSlabsHeld};
+
+    ghost Value = { PlanRow };
+
+    ghost view = { λ p. p.row };
+
+    ghost invariant = { λ p. AreSlabsHeld p.row p.slabs.items p.bounds };
+}
+
+impl OwnPlan {
+    // The plan of a row.
+    pub fn try_new(alloc: Global, row: PlanRow) -> Result<OwnPlan, AllocError>
+        ensures { IfOk result (λ plan. plan ≡ row) }
+    {
+        if !row.usage.is_live() {
+            return Ok(OwnPlan {
+                row,
+                slabs: Vec::new(alloc),
+                bounds: nowhere(),
+            });
+        }
+        let slabs = row.area.slabs()?;
+        let bounds = bounds_of(&slabs);
+        Ok(OwnPlan { row, slabs, bounds })
+    }
+
+    // Its row.
+    pub fn row(&self) -> &PlanRow
+        ensures { result.now ≡ self.now }
+    {
+        &self.row
+    }
+
+    // Appends extents that have each point that it holds.
+    pub fn push_extents(&self, extents: &mut Vec<Slab>) -> Result<(), AllocError>
+        ensures kept { OnOk result (Keep extents.old.items extents.new.items) }
+        ensures all { OnOk result (HaveAll (row_holds self.now) extents.new.items) }
+    {
+        push_clusters(extents, &self.slabs)
+    }
+
+    // Appends those of others' slabs, of a priority at least, that may share a point with it.
+    pub fn push_others(
+        &self,
+        theirs: &mut Vec<Held>,
+        others: &[Held],
+        least: u32,
+    ) -> Result<(), AllocError>
+        ensures { OnOk result (AddLevelAt (row_holds self.now) theirs.old.items theirs.new.items
+            (λ x. at_least least (top_held others.now x))) }
+    {
+        push_helds(theirs, &self.slabs, &self.bounds, others, least)
+    }
+
+    // Appends those of its slabs that may share a point with another plan of the operator, unless it is that
+    // plan or of a lower priority.
+    pub fn push_onto(
+        &self,
+        theirs: &mut Vec<Held>,
+        mine: &OwnPlan,
+        least: u32,
+    ) -> Result<(), AllocError>
+        ensures { OnOk result (AddLevelAt (row_holds mine.now) theirs.old.items theirs.new.items
+            (λ x. at_least least (own_level mine.now.id self.now x))) }
+    {
+        if !counts(&self.row, &mine.row.id, least) {
+            return Ok(());
+        }
+        if !overlap(&self.bounds, &mine.bounds) {
+            return Ok(());
+        }
+        push_slabs(
+            theirs,
+            &mine.slabs,
+            &mine.bounds,
+            &self.slabs,
+            self.row.priority,
+        )
+    }
+
+    // Its conflict, if it is live, with slabs of other plans.
+    pub fn conflict_with(&self, theirs: &[Held]) -> Option<Meeting>
+        ensures { (permitted : List ℕ) (levels : Point → Option ℕ) → is_live self.now.usage ≡ true
+            → HaveLevelAt (row_holds self.now) theirs.now
+            (λ x. at_least (least_blocking permitted self.now.priority) (levels x))
+            → result ≡ conflict permitted self.now.area levels self.now.priority }
+    {
+        first_conflict(&self.slabs, theirs)
+    }
+}
+
+// Whether a plan has another id, and a priority at least.
+fn counts(row: &PlanRow, id: &PlanId, least: u32) -> bool
+    ensures { result ≡ (not (has_id id.now row.now) && nat_le least row.now.priority) }
+{
+    if id.cmp(&row.id).is_eq() {
+        return false;
+    }
+    least <= row.priority
+}
+
+// A slab without points.
+fn nowhere() -> Slab {
+    Slab {
+        first: 1,
+        last: 0,
+        lower: 0,
+        upper: 0,
+        start: 0,
+        end: 0,
+    }
+}
+
+// Appends bounds round each cluster of slabs that ascend.
+fn push_clusters(extents: &mut Vec<Slab>, slabs: &[Slab]) -> Result<(), AllocError>
+    requires filled { All IsFilled slabs.now }
+    requires order { Ascend (λ s. s) slabs.now }
+    ensures kept { OnOk result (Keep extents.old.items extents.new.items) }
+    ensures all { OnOk result (HaveAll (slabs_have slabs.now) extents.new.items) }
+{
+    let gap = wide_gap(slabs);
+    let mut rest = slabs;
+    while !rest.is_empty() {
+        let (cluster, later) = split_cluster(rest, gap);
+        extents.push(bounds_of(cluster))?;
+        rest = later;
+    }
+    Ok(())
+}
