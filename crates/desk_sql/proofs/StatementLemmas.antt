@@ -123,7 +123,7 @@ module _ {schema : Schema} (text : List ℕ) (from : Join) (terms : List Term) (
 module _ (text : List ℕ) (from : Join) (terms : List Term) (project : List Term) (order : List (Term × Key))
     (names : List (List ℕ)) (known : IsQuery text (query_of from terms project order) names)
     (params : Row) (sure : IsSureGiven text params) (cells : List ℕ) (wanted : Tables → List Row) where
-  selects : ((e : Env) → eval_all (map (λ k. k.0) order) e ≡ map (column (eval_all project e)) cells)
+  pub selects : ((e : Env) → eval_all (map (λ k. k.0) order) e ≡ map (column (eval_all project e)) cells)
       → ((x y : Row) → key_cmp 0 (map (λ k. k.1) order) (map (column x) cells) (map (column y) cells)
       ≡ by_cells cells x y)
       → ((db : Trees) → map (eval_all project) (matches (overlay db []) terms from (params ∷ []))
