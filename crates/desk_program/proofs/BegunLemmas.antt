@@ -1,5 +1,5 @@
 -- What is written of a line.
-use Rattle.std.proofs.Common.{◌≡◌, ◌≢◌, ◌<◌, ℕ, List, [], Option, Result, Ok, Err, ap, drop, inl, inr, length, length-drop, refl, subst, sym, take, arith}
+use Rattle.std.proofs.Common.{◌≡◌, ◌≢◌, ◌<◌, ℕ, List, [], Option, Result, Ok, Err, IfErr, OnOk, ap, drop, inl, inr, length, length-drop, refl, subst, sym, take, arith}
 use Rattle.std.proofs.lemmas.List.{take-append-drop}
 use Rattle.std.specs.Io.KnownBytes.{Appends}
 use Rattle.std.specs.Result.{IsErrAnd}
@@ -8,6 +8,8 @@ use Rattle.desk_wire.specs.declared.stream.WriteFault.{WriteFault}
 use Rattle.desk_line.specs.declared.failure.Failure.{Failure}
 use Rattle.desk_line.specs.Exits.{IsAnnounced}
 use Rattle.desk_line.specs.Written.{HasBegun}
+use Rattle.desk_line.specs.declared.failure.Failure.TheVariants as failure
+use Rattle.desk_program.specs.Enrolling.{IsCutOff}
 
 some_left : (n : ℕ) (bytes : List ℕ) → n < length bytes → drop n bytes ≢ []
 some_left n bytes short none = omega (arith, short, ap length none, length-drop n bytes)
@@ -23,19 +25,31 @@ begun_part bytes out now fault off = record {
   written = off.written;
 }
 
+-- the same, where the fault isn't handed on
+pub cut_off : (bytes : List ℕ) (out now : Option (List ℕ)) (fault : WriteFault)
+    → BreaksOff bytes out now fault → IsCutOff bytes out now
+cut_off bytes out now fault off = (fault, off)
+
+-- the printing of a line, by what came of it
+pub announced_by : {A : Type 0} (done : Result A Failure) (line : List ℕ) (out now : Option (List ℕ))
+    → OnOk done (Appends out now line) → IfErr done (λ f. (f ≡ failure.Write) × HasBegun line out now)
+    → IsAnnounced done line out now
+announced_by (Ok d) line out now ok err = ok
+announced_by (Err f) line out now ok err = inr (inr err)
+
 -- a failure before anything is printed
-pub announced_none : {A : Type 0} (done : Result A Failure) {f : Failure} (line : List ℕ)
-    (out : Option (List ℕ)) → IsErrAnd done (λ e. e ≡ f) → IsAnnounced done line out out
-announced_none (Ok d) line out is = absurd is
-announced_none (Err e) line out is = inr (inl refl)
+pub announced_none : {A : Type 0} (done : Result A Failure) (P : Failure → Type 0) (line : List ℕ)
+    (out : Option (List ℕ)) → IsErrAnd done P → IsAnnounced done line out out
+announced_none (Ok d) P line out is = absurd is
+announced_none (Err e) P line out is = inr (inl refl)
 
 -- a failure that is handed on
 pub announced_same : {A B : Type 0} (one : Result A Failure) (whole : Result B Failure) (f : Failure)
     (line : List ℕ) (out now : Option (List ℕ)) → one ≡ Err f → IsErrAnd whole (λ e. e ≡ f)
     → IsAnnounced one line out now → IsAnnounced whole line out now
 announced_same one (Ok d) f line out now was is h = absurd is
-announced_same one (Err e) f line out now was is h =
-    subst (λ v. IsAnnounced {A = A} (Err v) line out now) (sym is)
+announced_same {A} {B} one (Err e) f line out now was is h =
+    subst (λ v. IsAnnounced {A = B} (Err v) line out now) (sym is)
     (subst (λ r. IsAnnounced r line out now) was h)
 
 -- the line is printed, whatever follows

@@ -1,13 +1,16 @@
 -- How a line ends if an operator isn't enrolled.
-use Rattle.std.proofs.Common.{◌≡◌, ◌⊎◌, ◌∙◌, inl, inr, ap, refl, subst, ℕ, List, Option, Result, Ok, Err}
+use Rattle.std.proofs.Common.{◌≡◌, ◌⊎◌, ◌∙◌, inl, inr, ap, refl, subst, ℕ, List, Option, Some, Result, Ok, Err}
 use Rattle.std.specs.Prelude.{⊤}
-use Rattle.desk_run.specs.DeskWorld.{DeskWorld}
+use Rattle.desk_store.specs.World.{World}
+use Rattle.desk_run.specs.DeskWorld.{DeskWorld, enrolled}
 use Rattle.desk_run.specs.declared.fault.DeskFault.{DeskFault}
 use Rattle.desk_run.specs.Faults.{IsBreakdown as IsDeskBreakdown}
 use Rattle.desk_line.specs.declared.failure.Failure.{Failure}
+use Rattle.desk_line.specs.declared.line.Enrolment.{Enrolment}
 use Rattle.desk_line.specs.declared.line.Play.{Play as PlayWords}
 use Rattle.desk_line.specs.Exits.{Ending, EndsWith, FailsWith, IsBreakdown, IsBrokenDown, enrolment_failure}
 use Rattle.desk_program.specs.Enrolling.{AreListedSoFar, permitting}
+use Rattle.desk_program.specs.Keeping.{FindsEnrolled}
 use Rattle.desk_program.specs.Playing.{IsNotPlayed}
 
 -- what it is told as
@@ -21,9 +24,17 @@ ends_broken : (f : Failure) (end : Ending) → IsBreakdown f → EndsWith {A = �
 ends_broken f end (inl memory) ends = inl (subst (λ v. FailsWith v end) memory ends)
 ends_broken f end (inr store) ends = inr (subst (λ v. FailsWith v end) store ends)
 
-broken_down : (fault : DeskFault) (f : Failure) (end : Ending) → f ≡ enrolment_failure fault
+pub broken_down : (fault : DeskFault) (f : Failure) (end : Ending) → f ≡ enrolment_failure fault
     → IsDeskBreakdown fault → EndsWith {A = ⊤} (Err f) end → IsBrokenDown end
 broken_down fault f end is down ends = ends_broken f end (told_breakdown fault f is down) ends
+
+-- what is found then of an enrolment
+pub found_enrolled : (before : Type 0) (e : Enrolment) (end : Ending) (out : Option (List ℕ)) (w : DeskWorld)
+    (found : Option World) → IsBrokenDown end → (before → found ≡ Some w.content)
+    → before ⊎ (found ≡ Some (enrolled w e.operator e.ceiling).content)
+    → FindsEnrolled e end out out w found
+found_enrolled before e end out w found down only (inl was) = inr (down, refl, only was)
+found_enrolled before e end out w found down only (inr is) = inl is
 
 -- nothing is played then
 pub not_played : (H : Type 0) (play : PlayWords) (end : Ending) (old out : Option (List ℕ))

@@ -69,14 +69,13 @@ served_then H K by (Ok (Answered status framed)) old new out now w moment after 
   written = h.written;
 }
 served_then H K by (Ok End) old new out now w moment after h = h
-served_then H K by (Err (Write sent)) old new out now w moment after h = record {
+served_then H K by (Err (Write fault)) old new out now w moment after h = record {
   request = h.request;
   taken = h.taken;
   answer = h.answer;
   why = h.why;
   replied = replied_then H K by w moment h.request h.answer h.why after h.replied;
-  short = h.short;
-  written = h.written;
+  off = h.off;
 }
 served_then H K by (Err CutShort) old new out now w moment after h = h
 served_then H K by (Err Read) old new out now w moment after h = h

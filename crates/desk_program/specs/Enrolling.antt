@@ -1,7 +1,8 @@
 -- Enrolling: the world in which operators are listed, and the line that tells of one.
 use Rattle.std.specs.Prelude.{◌≡◌, ◌<◌, ℕ, List, [], ◌∷◌, ◌++◌, length, take, codes, decimal, Option}
-use Rattle.std.specs.Io.KnownBytes.{Appends}
 use Rattle.desk_run.specs.DeskWorld.{DeskWorld, enrolled}
+use Rattle.desk_wire.specs.Serving.{BreaksOff}
+use Rattle.desk_wire.specs.declared.stream.WriteFault.{WriteFault}
 use Rattle.desk_line.specs.declared.line.Enrolment.{Enrolment}
 
 -- these priorities are permitted, and no others
@@ -28,6 +29,6 @@ unfoldable pub enrolled_line : Enrolment → List ℕ
 enrolled_line e =
     codes "enrolled " ++ (e.operator ++ (codes " " ++ (decimal e.ceiling ++ codes "\n")))
 
--- the bytes are written up to one that can't be written
+-- the writing of the bytes broke off
 abbrev pub IsCutOff : List ℕ → Option (List ℕ) → Option (List ℕ) → Type 0
-IsCutOff bytes out now = (sent : ℕ) × ((sent < length bytes) × Appends out now (take sent bytes))
+IsCutOff bytes out now = (fault : WriteFault) × BreaksOff bytes out now fault

@@ -6,13 +6,16 @@ use Rattle.desk_line.specs.Exits.{Ending, EndsWell, FailsWith}
 use Rattle.desk_program.specs.Enrolling.{IsCutOff}
 use Rattle.desk_program.specs.declared.looking.CheckedFile.{CheckedFile}
 
-unfoldable pub counts_text : CheckedFile → List ℕ
-counts_text file =
+unfoldable pub tables_text : CheckedFile → List ℕ
+tables_text file =
     codes "schema " ++ (decimal (if file.is_old then 1 else 2)
     ++ (codes ", sums " ++ ((if file.has_sums then codes "yes" else codes "no")
-    ++ (codes ", " ++ (decimal file.operators ++ (codes " operators, " ++ (decimal file.plans
-    ++ (codes " plans, " ++ (decimal file.live ++ (codes " live, " ++ (decimal file.spans
-    ++ codes " spans")))))))))))
+    ++ (codes ", " ++ (decimal file.operators ++ codes " operators, ")))))
+
+unfoldable pub plans_text : CheckedFile → List ℕ
+plans_text file =
+    decimal file.plans ++ (codes " plans, " ++ (decimal file.live ++ (codes " live, " ++ (decimal file.spans
+    ++ codes " spans"))))
 
 -- sizes in megabytes, with one digit after the point, rounded down
 unfoldable pub sizes_text : CheckedFile → List ℕ
@@ -23,7 +26,7 @@ sizes_text file =
 
 -- the line of `check`
 abbrev pub checked_line : CheckedFile → List ℕ
-checked_line file = counts_text file ++ sizes_text file
+checked_line file = (tables_text file ++ plans_text file) ++ sizes_text file
 
 unfoldable pub copied_line : ℕ → ℕ → List ℕ
 copied_line operators plans =

@@ -1,6 +1,6 @@
 //! The lines that tell a keeper what a file holds, and what was copied of it.
 
-ghost use Rattle.std.specs.Prelude.{◌≡◌, IfOk, string_bytes};
+ghost use Rattle.std.specs.Prelude.{◌≡◌, IfOk, codes, if◌then◌else◌, string_bytes};
 ghost use Rattle.desk_line.specs.Exits.{ending};
 ghost use Rattle.desk_program.specs.Looking as spec;
 ghost use Rattle.desk_program.specs.Looking.{IsTextPrinted};
@@ -86,25 +86,45 @@ fn print_text<W: Write, E: Write>(text: &str, output: &mut W, errors: &mut E) ->
 fn checked_text(alloc: Global, file: &CheckedFile) -> Result<String, AllocError>
     ensures { IfOk result (λ text. string_bytes text ≡ spec.checked_line file.now) }
 {
-    let mut text = counts_text(alloc, file)?;
+    let mut text = tables_text(alloc, file)?;
+    text.push_str(&plans_text(alloc, file)?)?;
     text.push_str(&sizes_text(alloc, file)?)?;
     Ok(text)
 }
 
-// What the file holds.
-#[tactic(auto, unfolding(crate::specs::Looking::counts_text))]
-fn counts_text(alloc: Global, file: &CheckedFile) -> Result<String, AllocError>
-    ensures { IfOk result (λ text. string_bytes text ≡ spec.counts_text file.now) }
+// Which tables the file has.
+#[tactic(auto, unfolding(crate::specs::Looking::tables_text))]
+fn tables_text(alloc: Global, file: &CheckedFile) -> Result<String, AllocError>
+    ensures { IfOk result (λ text. string_bytes text ≡ spec.tables_text file.now) }
 {
-    let schema = if file.is_old { 1u8 } else { 2 };
-    let sums = if file.has_sums { "yes" } else { "no" };
+    let schema = schema_of(file.is_old);
+    let sums = yes_or_no(file.has_sums);
     let operators = file.operators;
+    format!(in alloc; "schema {schema}, sums {sums}, {operators} operators, ")
+}
+
+// What the file holds.
+#[tactic(auto, unfolding(crate::specs::Looking::plans_text))]
+fn plans_text(alloc: Global, file: &CheckedFile) -> Result<String, AllocError>
+    ensures { IfOk result (λ text. string_bytes text ≡ spec.plans_text file.now) }
+{
     let plans = file.plans;
     let live = file.live;
     let spans = file.spans;
-    format!(in alloc;
-        "schema {schema}, sums {sums}, {operators} operators, {plans} plans, {live} live, {spans} spans"
-    )
+    format!(in alloc; "{plans} plans, {live} live, {spans} spans")
+}
+
+// The number of the schema.
+fn schema_of(is_old: bool) -> u8
+    ensures { result ≡ (if is_old then 1 else 2) }
+{
+    if is_old { 1 } else { 2 }
+}
+
+fn yes_or_no(is_so: bool) -> &'static str
+    ensures { result.now ≡ (if is_so then codes "yes" else codes "no") }
+{
+    if is_so { "yes" } else { "no" }
 }
 
 // How large the file and its log are.

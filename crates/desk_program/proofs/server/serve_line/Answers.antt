@@ -10,7 +10,7 @@ use Rattle.desk_program.proofs.BegunLemmas.{announced_none, announced_same, anno
 use Rattle.desk_program.proofs.server.serve_line.Goals as goal
 
 pub returns-in_err-set_up-clause-printed : goal.returns-in_err-set_up-clause-printed
-returns-in_err-set_up-clause-printed g c = announced_none _ _ _ c.from_residual.ensures.1
+returns-in_err-set_up-clause-printed g c = announced_none _ _ _ _ c.from_residual.ensures.1
 
 pub returns-in_err-listen-clause-printed : goal.returns-in_err-listen-clause-printed
 returns-in_err-listen-clause-printed g c =

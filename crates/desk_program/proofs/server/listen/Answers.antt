@@ -1,0 +1,13 @@
+use Rattle.std.proofs.Common.{◌∙◌, subst}
+use Rattle.desk_line.specs.Exits.{IsAnnounced}
+use Rattle.desk_program.proofs.BegunLemmas.{announced_by}
+use Rattle.desk_program.proofs.server.listen.Goals as goal
+
+pub returns-clause-printed : goal.returns-clause-printed
+returns-clause-printed g c =
+    let out = g.W.Write.contents c.args.output.now in
+    let now = g.W.Write.contents c.print_text.new.output in
+    subst (λ line. IsAnnounced c.print_text.result line out now)
+    (c.deref.ensures ∙ c.in_ok-text.ensures)
+    (announced_by c.print_text.result c.deref.result.now out now c.print_text.ensures.ok
+    c.print_text.ensures.err)
