@@ -1,5 +1,5 @@
 -- Each CREATE of a desk's tables and indexes is refused only by memory and the disk.
-use Rattle.std.proofs.Common.{◌≡◌, ◌≢◌, ◌≤◌, ◌<◌, ◌^◌, ◌*◌, ◌+◌, ◌==◌, ◌⊎◌, inl, inr, ℕ, true, false, List, [], ◌∷◌, length, map, None, Some, Option, Ok, Err, Result, IsTrue, refl, sym, ap, subst, ◌∙◌, true≢false, arith}
+use Rattle.std.proofs.Common.{◌≡◌, ◌≤◌, ◌<◌, ◌^◌, ◌*◌, ◌+◌, ◌==◌, ◌⊎◌, inl, inr, ℕ, true, false, List, [], ◌∷◌, length, map, None, Some, Option, Ok, Err, Result, IsTrue, refl, sym, ap, subst, ◌∙◌, true≢false, arith}
 use Rattle.std.specs.Prelude.{codes, IsAscii, IsUtf8, nat_le, slice_get, zero, suc}
 use Rattle.std.specs.List.{AllByRecursion, list_all}
 use Rattle.std.proofs.lemmas.Bool.{and_parts, leb-true}
@@ -9,7 +9,7 @@ use Rattle.std.specs.Float.Ieee
 use Rattle.sqlite.specs.declared.types.Value.{Value}
 use Rattle.sqlite.specs.declared.types.Value.TheVariants.{Null, Int, Real, Text, Blob}
 use Rattle.sqlite.specs.declared.error.Error.{Error}
-use Rattle.sqlite.specs.Order.{Row, column}
+use Rattle.sqlite.specs.Order.{Row}
 use Rattle.sqlite_value.specs.Order.{number, bytes, value_cmp}
 use Rattle.sqlite.specs.Tree.{Trees, rowid}
 use Rattle.sqlite.specs.View.{is_int}
@@ -17,14 +17,14 @@ use Rattle.sqlite.specs.Schema.{Schema}
 use Rattle.sqlite.specs.Table.{Table}
 use Rattle.sqlite.specs.Command.{Command}
 use Rattle.sqlite.specs.Command.TheVariants.{CreateTable, CreateIndex}
-use Rattle.sqlite.specs.Effect.{Database, IsDatabase}
+use Rattle.sqlite.specs.Effect.{Database}
 use Rattle.sqlite.specs.Does.{Does, lacks_sequence, MakesTable as TableMade, MakesIndex as IndexMade, MakesSequence}
-use Rattle.sqlite.specs.Rows.{Part, Then}
+use Rattle.sqlite.specs.Rows.{Then}
 use Rattle.sqlite.specs.State.{ExecutesInside, HasCleanDisk, text_of}
 use Rattle.sqlite.specs.Store.{Ghosts}
 use Rattle.sqlite.specs.Held.{Held, state}
 use Rattle.sqlite.specs.Listing.{understood}
-use Rattle.sqlite.proofs.Callers.{IsPlain, command_of, statement_of}
+use Rattle.sqlite.proofs.Callers.{command_of, statement_of}
 use Rattle.sqlite_trees.specs.Sound.{begins, fits_kind, is_free_name, same_name}
 use Rattle.sqlite_trees.specs.View.{IsStorable}
 use Rattle.sqlite_rules.specs.Lists.{Has}
@@ -34,7 +34,7 @@ use Rattle.sqlite_schema.specs.declared.schema.Index.{Index}
 use Rattle.sqlite_schema.specs.declared.schema.Constraint.TheVariants.{Unique}
 use Rattle.sqlite_catalog.specs.Change.{automatics, created, indexed, is_reserved, is_used, next_tree}
 use Rattle.sqlite_catalog.specs.Listing.{is_fit, is_formed}
-use Rattle.sqlite_catalog.specs.Calls.{RefusesTable, RefusesIndex, IsLongTable, IsLongIndex}
+use Rattle.sqlite_catalog.specs.Calls.{RefusesTable, RefusesIndex}
 use Rattle.sqlite_catalog.specs.declared.error.Refusal.{Refusal}
 use Rattle.sqlite_catalog.specs.declared.error.Refusal.TheVariants.{Invalid, NameTaken, BadName, TooBig, BadKey, BadText, Violates}
 use Rattle.sqlite_resolve.specs.Compile.{table_defined_by, index_defined_by}
@@ -45,14 +45,13 @@ use Rattle.desk_sql.specs.declared.opening.finding.Made.{Made}
 use Rattle.desk_sql.specs.declared.opening.finding.Made.TheVariants.{Nothing, Operators, Plans, OldVolumes, OldSpans, OldIndex, Volumes, Spans, All}
 use Rattle.desk_sql.specs.declared.opening.numbers.DeskTable.TheVariants as desk
 use Rattle.desk_sql.specs.Schema.{schema_of, blank_schema, operator_schema, plan_schema, old_volume_schema, old_table_schema, old_schema, volume_schema, table_schema, operator_table, plan_table, old_volume_table, old_span_table, old_span_made, old_span_first, volume_table, span_table, span_made, span_first}
-use Rattle.desk_sql.specs.Rows.{columns, IsMadeTo, tables_at}
+use Rattle.desk_sql.specs.Rows.{columns, tables_at}
 use Rattle.desk_sql.specs.Statements.{Extends, enforced}
 use Rattle.desk_sql.specs.Changing.{IsWholeIn, MayStop}
 use Rattle.desk_sql.specs.Refusals.{IsRefusal}
 use Rattle.desk_sql.specs.Making.{IsSmall, AreSmall, HasSmallSpans, IsStep}
 use Rattle.desk_sql.proofs.Texts.{operator_text, plan_text, old_volume_text, old_span_text, old_first_text, volume_text, span_text, first_text}
 use Rattle.desk_sql.proofs.WriteLemmas.{same_value}
-use Rattle.desk_sql.proofs.DeleteStops.{same_stop}
 use Rattle.desk_sql.proofs.StopLemmas.{caused_inside, names_in, tail_of, whole_in}
 use Rattle.desk_sql.proofs.RowidLemmas.{refusal_on}
 use Rattle.desk_sql.proofs.SizeLemmas.{blob, storable, text, whole}
@@ -260,7 +259,8 @@ old_volume_free = record {
 }
 
 pub old_volume_step : IsStep old_volume_text Plans OldVolumes
-old_volume_step = step_by_table Plans OldVolumes old_volume_text old_volume_table old_volume_free old_volume_extends
+old_volume_step =
+    step_by_table Plans OldVolumes old_volume_text old_volume_table old_volume_free old_volume_extends
 
 old_span_free : IsFreeTable old_volume_schema old_span_text old_span_table
 unfolding understood everything fits_kind is_free_name begins same_name value_cmp Ieee.is_nan Ieee.lt
@@ -536,7 +536,8 @@ old_first_free = record {
 pub old_first_step : IsStep old_first_text OldSpans OldIndex
 old_first_step = record {
   extends = old_first_extends;
-  means = whole_in old_first_text 0 (understood old_table_schema old_first_text) (CreateIndex 3) old_first_makes.is old_first_makes.plain tt
+  means = whole_in old_first_text 0 (understood old_table_schema old_first_text) (CreateIndex 3)
+      old_first_makes.is old_first_makes.plain tt
       old_first_free.given old_first_free.all;
   never = λ limit db stop was sound small.
       index_never old_table_schema old_first_text 3 old_span_made old_span_first old_first_free db was.schema
@@ -566,7 +567,8 @@ first_free = record {
 pub first_step : IsStep first_text Spans All
 first_step = record {
   extends = first_extends;
-  means = whole_in first_text 0 (understood table_schema first_text) (CreateIndex 5) first_makes.is first_makes.plain tt
+  means = whole_in first_text 0 (understood table_schema first_text) (CreateIndex 5) first_makes.is
+      first_makes.plain tt
       first_free.given first_free.all;
   never = λ limit db stop was sound small.
       index_never table_schema first_text 5 span_made span_first first_free db was.schema

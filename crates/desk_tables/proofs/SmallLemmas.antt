@@ -66,9 +66,9 @@ pub small_spans : (t : Tables) (w : World) → IsContentOf t w → HasSmallSpans
 small_spans t w is = (
   subst AreSmall (sym is.tables.old.spans) tt,
   recursion_from_All (λ r. AllByRecursion IsSmall r) t.spans
-      (All-permutation (λ r. AllByRecursion IsSmall r) is.tables.spans.0 t.spans is.tables.spans.1.1
+      (All-permutation (λ r. AllByRecursion IsSmall r) is.tables.spans.0 t.spans is.tables.spans.2
       (All-from_recursion (λ r. AllByRecursion IsSmall r) is.tables.spans.0
-      (all_spans w.plans is.tables.spans.0 (filed_within w is.content) is.tables.spans.1.0))),
+      (all_spans w.plans is.tables.spans.0 (filed_within w is.content) is.tables.spans.1))),
 )
 
 -- and so have tables that aren't made
