@@ -1,18 +1,25 @@
 -- Looking: the lines that tell a keeper what a file holds and what was copied, and what is printed of them.
-use Rattle.std.specs.Prelude.{◌≡◌, ◌⊎◌, ℕ, ◌/◌, ◌%◌, Bool, true, false, List, ◌++◌, codes, decimal, if◌then◌else◌, Option}
+use Rattle.std.specs.Prelude.{◌≡◌, ◌⊎◌, ℕ, ◌/◌, ◌%◌, List, ◌++◌, codes, decimal, if◌then◌else◌, Option}
 use Rattle.std.specs.Io.KnownBytes.{Appends}
 use Rattle.desk_line.specs.declared.failure.Failure.TheVariants as failure
 use Rattle.desk_line.specs.Exits.{Ending, EndsWell, FailsWith}
 use Rattle.desk_program.specs.Enrolling.{IsCutOff}
 use Rattle.desk_program.specs.declared.looking.CheckedFile.{CheckedFile}
 
+abbrev pub schema_of : CheckedFile → ℕ
+schema_of file = if file.is_old then 1 else 2
+
+abbrev pub sums_word : CheckedFile → List ℕ
+sums_word file = if file.has_sums then codes "yes" else codes "no"
+
+unfoldable pub tables_text : CheckedFile → List ℕ
+tables_text file = codes "schema " ++ (decimal (schema_of file) ++ (codes ", sums " ++ sums_word file))
+
 unfoldable pub counts_text : CheckedFile → List ℕ
 counts_text file =
-    codes "schema " ++ (decimal (if file.is_old then 1 else 2)
-    ++ (codes ", sums " ++ ((if file.has_sums then codes "yes" else codes "no")
-    ++ (codes ", " ++ (decimal file.operators ++ (codes " operators, " ++ (decimal file.plans
+    codes ", " ++ (decimal file.operators ++ (codes " operators, " ++ (decimal file.plans
     ++ (codes " plans, " ++ (decimal file.live ++ (codes " live, " ++ (decimal file.spans
-    ++ codes " spans")))))))))))
+    ++ codes " spans")))))))
 
 -- sizes in megabytes, with one digit after the point, rounded down
 unfoldable pub sizes_text : CheckedFile → List ℕ
@@ -23,7 +30,7 @@ sizes_text file =
 
 -- the line of `check`
 abbrev pub checked_line : CheckedFile → List ℕ
-checked_line file = counts_text file ++ sizes_text file
+checked_line file = (tables_text file ++ counts_text file) ++ sizes_text file
 
 unfoldable pub copied_line : ℕ → ℕ → List ℕ
 copied_line operators plans =

@@ -86,25 +86,46 @@ fn print_text<W: Write, E: Write>(text: &str, output: &mut W, errors: &mut E) ->
 fn checked_text(alloc: Global, file: &CheckedFile) -> Result<String, AllocError>
     ensures { IfOk result (λ text. string_bytes text ≡ spec.checked_line file.now) }
 {
-    let mut text = counts_text(alloc, file)?;
+    let mut text = tables_text(alloc, file)?;
+    text.push_str(&counts_text(alloc, file)?)?;
     text.push_str(&sizes_text(alloc, file)?)?;
     Ok(text)
 }
 
-// What the file holds.
+// What its tables are.
+#[tactic(auto, unfolding(crate::specs::Looking::tables_text))]
+fn tables_text(alloc: Global, file: &CheckedFile) -> Result<String, AllocError>
+    ensures { IfOk result (λ text. string_bytes text ≡ spec.tables_text file.now) }
+{
+    let schema = schema_of(file);
+    let sums = sums_word(file);
+    format!(in alloc; "schema {schema}, sums {sums}")
+}
+
+// What it holds.
 #[tactic(auto, unfolding(crate::specs::Looking::counts_text))]
 fn counts_text(alloc: Global, file: &CheckedFile) -> Result<String, AllocError>
     ensures { IfOk result (λ text. string_bytes text ≡ spec.counts_text file.now) }
 {
-    let schema = if file.is_old { 1u8 } else { 2 };
-    let sums = if file.has_sums { "yes" } else { "no" };
     let operators = file.operators;
     let plans = file.plans;
     let live = file.live;
     let spans = file.spans;
-    format!(in alloc;
-        "schema {schema}, sums {sums}, {operators} operators, {plans} plans, {live} live, {spans} spans"
-    )
+    format!(in alloc; ", {operators} operators, {plans} plans, {live} live, {spans} spans")
+}
+
+// Which schema the rows are of.
+fn schema_of(file: &CheckedFile) -> u8
+    ensures { result ≡ spec.schema_of file.now }
+{
+    if file.is_old { 1 } else { 2 }
+}
+
+// Whether its pages have sums, as a word.
+fn sums_word(file: &CheckedFile) -> &'static str
+    ensures { result.now ≡ spec.sums_word file.now }
+{
+    if file.has_sums { "yes" } else { "no" }
 }
 
 // How large the file and its log are.
