@@ -269,12 +269,12 @@ HasGiven rows (line.Migrate migrate) = IsMigrateGiven rows migrate
 -- the first word of a task
 abbrev pub word_of : Task → Text
 word_of (task.Run it) = name_of it
-word_of (task.Check database) = codes "check"
+word_of (task.Check place) = codes "check"
 word_of (task.Copy copy) = codes "copy"
 
 abbrev pub HasTaskGiven : List Row → Task → Type 0
 HasTaskGiven rows (task.Run it) = HasGiven rows it
-HasTaskGiven rows (task.Check database) = file_of database ≡ file_given rows
+HasTaskGiven rows (task.Check place) = file_of place ≡ file_given rows
 HasTaskGiven rows (task.Copy copy) = IsCopyGiven rows copy
 
 -- one with its numbers in range
