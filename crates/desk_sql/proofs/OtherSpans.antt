@@ -84,16 +84,16 @@ others_rows operator reach low db rows desk h =
     (λ s. others_test operator reach low s ∙ sym (both_hold _)) (db.trees 11))
     (may_show other_spans_text _ _ _ _ _ other_spans_is params db rows h)
 
-pub other_spans_selected : SelectsOthers other_spans_text
-other_spans_selected = record {
+pub selected : SelectsOthers other_spans_text
+selected = record {
   plain = other_spans_is.plain;
   unlisted = other_spans_is.unlisted;
   rows = others_rows;
 }
 
-pub other_spans_sure : IsSureFor other_spans_text others_row
+pub sure : IsSureFor other_spans_text others_row
 unfolding understood everything
-other_spans_sure =
+sure =
     sure_for other_spans_text other_spans_query _ others_row other_spans_is
     (λ given. refl) (omega arith) (λ given trees misfit. true≢false misfit)
     (λ given db h. elim h [

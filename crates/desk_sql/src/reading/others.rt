@@ -16,7 +16,7 @@ use crate::reading::taking::{TakeRow, hand_over};
 use sqlite::{Alter, Connection, Error, params};
 
 // The query of the spans that are reached, but for those of one operator.
-#[tactic(auto, using(crate::proofs::OtherSpans::other_spans_selected, crate::proofs::OtherSpans::other_spans_sure))]
+#[tactic(auto, using(crate::proofs::OtherSpans::selected, crate::proofs::OtherSpans::sure))]
 fn other_spans_text() -> &'static str
     ensures shown { SelectsOthers result.now }
     ensures sure { IsSureFor result.now others_row }
