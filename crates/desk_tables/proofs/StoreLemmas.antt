@@ -1,9 +1,10 @@
 -- What stands after a query, and what its answer is of the world.
-use Rattle.std.proofs.Common.{◌≡◌, ◌≤◌, false, [], Result, Ok, Err, IfOk, IsOk, OnOk, refl, sym, subst, arith, IsTrue}
+use Rattle.std.proofs.Common.{◌≡◌, ◌≤◌, false, List, [], ◌∷◌, Result, Ok, Err, IfOk, IsOk, OnOk, refl, sym, subst, arith, IsTrue, IsPermutation}
 use Rattle.std.specs.List.Sorted.{IsStrictlySortedBy}
-use Rattle.std.proofs.lemmas.List.Sorted.{IsPermutation-refl}
+use Rattle.std.proofs.lemmas.List.Sorted.{IsPermutation-refl, length_permutation}
 use Rattle.sqlite_trees.specs.declared.store.Store.{Ghosts}
 use Rattle.sqlite_trees.specs.View.{doubt}
+use Rattle.sqlite_value.specs.Order.{Row}
 use Rattle.sqlite.specs.State.{HasCleanDisk}
 use Rattle.sqlite.specs.Held.{Held, state}
 use Rattle.desk_sql.specs.Rows.{IsDesk, tables_of}
