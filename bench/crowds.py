@@ -2,7 +2,7 @@
 
 City: flights start from 20 hubs of one cell of level 10, and go straight over up to 64 cells of level 17, for ten
 minutes of 25 days, in one of four bands of altitude, so that most share ground and time and altitude keep them apart.
-The other rows are plans of the greatest number of volumes, all of one operator, which never meet one another.
+The other rows are plans of the greatest number of volumes, most of one operator, which never meet one another.
 """
 
 import datetime
@@ -119,15 +119,20 @@ def same(count):
         yield put("op0", uuid.UUID(int=number + 1), [volume(area, lower, lower + 100) for area in areas])
 
 
-def comb(count):
+def comb(count, operators=1):
     """Plans of 32 volumes of 64 cells whose leaves lie side by side, in one window and at the same altitudes."""
     for number in range(count):
         places = [[cell_at(20, ((at * CELLS + cell) * 2 * count + 2 * number)) for cell in range(CELLS)]
                   for at in range(VOLUMES)]
         areas = [{"cells": [token_of(cell) for cell in cells]} for cells in places]
-        yield put("op0", uuid.UUID(int=number + 1), [volume(area, 0, 1000) for area in areas])
+        yield put(f"op{number % operators}", uuid.UUID(int=number + 1), [volume(area, 0, 1000) for area in areas])
 
 
-LISTED = {"strips": strips, "same": same, "comb": comb}
+def combs(count):
+    """The same, by two operators in turn."""
+    return comb(count, operators=2)
+
+
+LISTED = {"strips": strips, "same": same, "comb": comb, "combs": combs}
 SHOWN_LIST = request("GET", "/flight_plans", "op0")
 OVER_A_FACE = [put("op1", uuid.UUID(int=1), [volume({"cells": ["1"]}, -10_000, 200_000)], priority=5)]

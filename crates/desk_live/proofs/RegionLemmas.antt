@@ -128,11 +128,6 @@ abbrev pub AreGathered : Slab → List Slab → List Slab → Slab → Type 0
 AreGathered first so_far regions region =
     (x : Point) → slabs_have (first ∷ so_far) x ≡ true → (slabs_have regions x || slab_has region x) ≡ true
 
-pub gathered_first : (first : Slab) (others regions : List Slab) → regions ≡ []
-    → AreGathered first (take 0 others) regions first
-gathered_first first others regions none x h =
-    ap (λ ss. slabs_have ss x || slab_has first x) none ∙ sym (or_false (slab_has first x)) ∙ h
-
 pub gathered_joined : (first : Slab) (others regions : List Slab) (i : ℕ) (s old new : Slab)
     → i < length others → s ≡ get_or others i s → AreGathered first (take i others) regions old
     → IsJoin old s new → AreGathered first (take (i + 1) others) regions new
@@ -174,12 +169,6 @@ gathered_pushed first others regions new i s old below is before pushed x h =
       kept true b c f k = ap (λ t. t || c) (f refl)
       kept false true c f k = refl
       kept false false c f k = k
-
-pub gathered_end : (first : Slab) (others regions new : List Slab) (last : Slab)
-    → AreGathered first others regions last → new ≡ regions ++ last ∷ []
-    → HaveEach (first ∷ others) new
-gathered_end first others regions new last before pushed x h =
-    ap (λ ss. slabs_have ss x) pushed ∙ pushed_has regions last x ∙ before x h
 
 pub same_slabs : (some others : List Slab) → IsPermutation some others → HaveEach some others
 same_slabs some others same x h = sym (list_any-IsPermutation (λ s. slab_has s x) some others same) ∙ h
@@ -349,8 +338,9 @@ module _ (o : List ℕ) (x : Point) where
       (list_any-IsPermutation (is_theirs_at o x) h.listed lives h.same ∙ far)
 
 -- from the bounds of others' volumes to the regions
-pub nothing_beside : (o : List ℕ) (w : World) (lives : List LiveVolume) (extents theirs wanted regions : List Slab)
-    (whole : Slab) → AreLive w lives → HasAll (slabs_have extents) whole
+pub nothing_beside : (o : List ℕ) (w : World) (lives : List LiveVolume)
+    (extents theirs wanted regions : List Slab) (whole : Slab) → AreLive w lives
+    → HasAll (slabs_have extents) whole
     → AddTheirs o whole lives [] theirs → HaveShared extents theirs wanted → HaveEach wanted regions
     → HoldNothingBeside w o extents regions
 nothing_beside o w lives extents theirs wanted regions whole live round added shared each x here beside =
@@ -358,11 +348,6 @@ nothing_beside o w lives extents theirs wanted regions whole live round added sh
       go : (b : Bool) → list_any (is_theirs_at o x) lives ≡ b → held w o x ≡ None
       go false e = none_held o x w lives live e
       go true e = absurd (true≢false (sym (each x (shared x here (added x (round x here) e))) ∙ beside))
-
-pub nothing_asked : (o : List ℕ) (w : World) (extents regions : List Slab) → extents ≡ []
-    → HoldNothingBeside w o extents regions
-nothing_asked o w extents regions none x here beside =
-    absurd (true≢false (sym here ∙ ap (λ ss. slabs_have ss x) none))
 
 -- ---- slabs that are clipped
 

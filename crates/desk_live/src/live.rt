@@ -60,8 +60,8 @@ impl LiveVolumes {
         any_near(&self.young, operator, id, least, extent)
     }
 
-    /// Regions that have each point of some extents at which plans of other operators may hold something: none
-    /// if no volume of theirs is near. They overlap no more along the curve.
+    /// Regions that have each point of some extents at which plans of other operators may hold something:
+    /// none if no volume of theirs is near. They overlap no more along the curve.
     ///
     /// # Errors
     ///

@@ -54,4 +54,5 @@ own_top id rows x = top_priority (filter (λ r. not (has_id id r)) rows) x
 
 -- none of the slabs has a point at the position or before it
 abbrev pub AreAfter : ℕ → List Slab → Type 0
-AreAfter position slabs = (x : Point) → slabs_have slabs x ≡ true → nat_le (position_of x.leaf) position ≡ false
+AreAfter position slabs =
+    (x : Point) → slabs_have slabs x ≡ true → nat_le (position_of x.leaf) position ≡ false

@@ -2,7 +2,7 @@
 use Rattle.std.proofs.Common.{◌≡◌, ℕ, ℤ, pos, ◌+◌, max, Bool, true, false, leb, MatchBool, ◌&&◌, ◌||◌, not, cond, List, [], ◌∷◌, ◌++◌, map, Option, Some, None, refl, sym, ap, subst, ◌∙◌, arith, Less, Equal, Greater, IsPermutation}
 use Rattle.std.specs.Prelude.{int_le, int_lt, nat_le, unsigned_abs}
 use Rattle.std.specs.List.{AllByRecursion, filter, flat_map, list_any}
-use Rattle.std.specs.Ordering.{is_lt, is_le, is_gt, is_ge}
+use Rattle.std.specs.Ordering.{is_eq, is_lt, is_le, is_gt, is_ge}
 use Rattle.std.proofs.Math.Bool.{and_assoc, and-or_distrib_left, and-or_distrib_right, and-false}
 use Rattle.std.proofs.lemmas.Int.{ints}
 use Rattle.std.proofs.lemmas.List.{append-nil}
@@ -13,7 +13,7 @@ use Rattle.std.proofs.lemmas.Bool.Decides.{nat_tests}
 use Rattle.sqlite_value.specs.declared.value.Value.{Value}
 use Rattle.sqlite_value.specs.declared.value.Value.TheVariants.{Null, Int, Real, Text, Blob}
 use Rattle.sqlite_value.specs.Order.{Row, column}
-use Rattle.sqlite_value.proofs.OrderLemmas.{value_cmp-Int}
+use Rattle.sqlite_value.proofs.OrderLemmas.{value_cmp-Int, value_cmp-Text}
 use Rattle.sqlite_keyed.proofs.ListLemmas.{along_permutation}
 use Rattle.s2_hilbert.specs.Curve.{position_of}
 use Rattle.s2_hilbert.specs.laws.Curve.{leaf_undone}
@@ -32,18 +32,18 @@ use Rattle.desk_rules.specs.Conflict.{at_least}
 use Rattle.desk_rules.specs.Plan.{is_live, row_holds}
 use Rattle.desk_sql.specs.Rows as sql
 use Rattle.desk_sql.specs.Rows.{Tables, is_at_most, is_at_least, is_below, is_above, differs, held_columns}
-use Rattle.desk_store.specs.World.{Filed, World}
-use Rattle.desk_store.specs.Rows.{is_own, rival_level, rivals_top}
-use Rattle.desk_store.specs.Rivals.{AreRivals}
-use Rattle.desk_store.specs.laws.Rival.{rivals_top-cons, rivals_top-nil, held_by_rivals}
+use Rattle.desk_store.specs.World.{Filed, World, held, is_by}
+use Rattle.desk_store.specs.Rows.{is_own, other_level, others_top, rival_level, rivals_top}
+use Rattle.desk_store.specs.Rivals.{AreRivals, HaveLevel}
+use Rattle.desk_store.specs.laws.Rival.{others_top-cons, others_top-nil, held_by_others, rivals_top-cons, rivals_top-nil, held_by_rivals}
 use Rattle.desk_tables.specs.Tables.{id_text, span_row, AreSpanRowsFrom, ArePlanSpanRows, AreSpanRows, AreTables}
 use Rattle.desk_tables.specs.Content.{IsId, IsPlan, IsContent}
 use Rattle.desk_tables.specs.declared.lengths.Lengths.{Lengths}
 use Rattle.desk_tables.specs.Lengths.{AreWhole, Bounds, HasKnownSpan, IsKnown, IsWithin}
-use Rattle.desk_tables.specs.Rivals.{HaveTaken, HaveTakenAll, IsHeldIn, HasTakenHelds, is_asked, reach_of}
+use Rattle.desk_tables.specs.Rivals.{HaveTaken, HaveTakenAll, IsHeldIn, HasTakenHelds, is_asked, is_asked_if, is_asked_of_others, reach_of}
 use Rattle.desk_tables.proofs.LengthLemmas.{asked_rival, tables_known}
 use Rattle.desk_tables.proofs.RowLemmas.{after_key}
-use Rattle.desk_tables.proofs.FilterLemmas.{ArePlans, own_row}
+use Rattle.desk_tables.proofs.FilterLemmas.{ArePlans, own_row, turned}
 
 -- ---- the greatest of some elements
 
@@ -335,16 +335,20 @@ both_or l a b e =
 
 -- ---- spans of plans
 
-module _ (o id : List ℕ) (hi : IsId id) (least : ℕ) (e : Slab) (x : Point) (here : IsIn e x) where
+-- of plans that pass a test, as their rows do; what they hold at a point is the greatest of each
+module _ (another : Row → Bool) (stays : Filed → Bool)
+    (same : (p : Filed) (r : Row) → IsPlan p.row
+    → another (Text p.operator ∷ Text (id_text p.row.id) ∷ r) ≡ stays p)
+    (least : ℕ) (e : Slab) (x : Point) (here : IsIn e x) where
   abbrev want : Row → Bool
-  want r = sql.is_rival o (id_text id) (reach_of e least) r
+  want r = sql.is_reached (reach_of e least) r && another r
 
   abbrev position : ℕ
   position = position_of x.leaf
 
   -- whether a plan's priority counts, and the plan is another
   abbrev counted : Filed → Bool
-  counted p = nat_le least p.row.priority && not (is_own o id p)
+  counted p = nat_le least p.row.priority && stays p
 
   abbrev passes : Row → Bool
   passes r = want r && row_has (held_columns r) x
@@ -355,11 +359,6 @@ module _ (o id : List ℕ) (hi : IsId id) (least : ℕ) (e : Slab) (x : Point) (
 
   regrouped : (l g a t : Bool) → l ≡ true → (((l && g) && a) && t) ≡ (g && (a && t))
   regrouped l g a t h = ap (λ u. ((u && g) && a) && t) h ∙ and_assoc g a t
-
-  another : (p : Filed) (r : Row) → IsPlan p.row → (differs (Text p.operator) (Text o)
-      || differs (Text (id_text p.row.id)) (Text (id_text id))) ≡ not (is_own o id p)
-  another p r hp = either_differs (sql.is_text (Text p.operator) o)
-      (sql.is_text (Text (id_text p.row.id)) (id_text id)) ∙ ap not (own_row o id p r hi hp.id)
 
   span_passes : (p : Filed) (n : ℕ) (v : Block) (s : Span) → IsPlan p.row → passes (span_row p n v s)
       ≡ (counted p && (span_has s position && window_has v.window x))
@@ -376,7 +375,7 @@ module _ (o id : List ℕ) (hi : IsId id) (least : ℕ) (e : Slab) (x : Point) (
             let k = touches s v e x here h in
             λ i. ((k.first i && (k.last i && (k.lower i
             && (k.upper i && (k.start i && (k.end i && priority_reached least p.row.priority i))))))
-            && another p (after_key (span_row p n v s)) hp i)
+            && same p (after_key (span_row p n v s)) hp i)
             && (span_has s position && window_has v.window x)
         by_point false h =
             ap (λ t. want (span_row p n v s) && t) h ∙ and-false (want (span_row p n v s))
@@ -420,52 +419,67 @@ module _ (o id : List ℕ) (hi : IsId id) (least : ℕ) (e : Slab) (x : Point) (
       (and-or_distrib_left (counted p) (block_has v x) (area_has vs x)))
 
   on_plan : (p : Filed) (rows : List Row) → IsPlan p.row → ArePlanSpanRows p rows → top rows
-      ≡ at_least least (rival_level o id p x)
-  unfolding rival_level row_holds
+      ≡ at_least least (level_where (stays p && row_holds p.row x) p.row.priority)
+  unfolding row_holds
   on_plan p rows hp are = by_live (is_live p.row.usage) are where
     by_live : (l : Bool) → MatchBool l (AreSpanRowsFrom p 0 p.row.area rows) (rows ≡ []) → top rows
-        ≡ at_least least (level_where (not (is_own o id p) && (l && area_has p.row.area x))
-        p.row.priority)
+        ≡ at_least least (level_where (stays p && (l && area_has p.row.area x)) p.row.priority)
     by_live true k =
         on_area p 0 p.row.area rows hp k
         ∙ ap (λ b. level_where b p.row.priority) (and_assoc (nat_le least p.row.priority)
-        (not (is_own o id p)) (area_has p.row.area x))
-        ∙ at_least_where least p.row.priority (not (is_own o id p) && area_has p.row.area x)
+        (stays p) (area_has p.row.area x))
+        ∙ at_least_where least p.row.priority (stays p && area_has p.row.area x)
     by_live false k = ap top k
-        ∙ sym (ap (λ b. at_least least (level_where b p.row.priority))
-        (and-false (not (is_own o id p))))
+        ∙ sym (ap (λ b. at_least least (level_where b p.row.priority)) (and-false (stays p)))
 
-  on_plans : (ps : List Filed) (rows : List Row) → ArePlans ps → AreSpanRows ps rows → top rows
-      ≡ at_least least (rivals_top o id ps x)
-  on_plans [] rows h are = ap top are ∙ sym (ap (at_least least) (rivals_top-nil o id x))
-  on_plans (p ∷ ps) rows h (front, rest, are, mine, more) =
-      ap top are ∙ top_by-append passes (λ r. row_priority (held_columns r)) front rest
-      ∙ (λ i. greater (on_plan p front h.0 mine i) (on_plans ps rest h.1 more i))
-      ∙ sym (ap (at_least least) (rivals_top-cons o id p ps x)
-      ∙ at_least_greater least (rival_level o id p x) (rivals_top o id ps x))
+  module _ (level : Filed → Option ℕ) (tops : List Filed → Option ℕ)
+      (level_is : (p : Filed) → level p ≡ level_where (stays p && row_holds p.row x) p.row.priority)
+      (of_none : tops [] ≡ None) (of_more : (p : Filed) (ps : List Filed) → tops (p ∷ ps)
+      ≡ greater (level p) (tops ps)) where
+    on_plans : (ps : List Filed) (rows : List Row) → ArePlans ps → AreSpanRows ps rows → top rows
+        ≡ at_least least (tops ps)
+    on_plans [] rows h are = ap top are ∙ sym (ap (at_least least) of_none)
+    on_plans (p ∷ ps) rows h (front, rest, are, mine, more) =
+        ap top are ∙ top_by-append passes (λ r. row_priority (held_columns r)) front rest
+        ∙ (λ i. greater ((on_plan p front h.0 mine ∙ ap (at_least least) (sym (level_is p))) i)
+        (on_plans ps rest h.1 more i))
+        ∙ sym (ap (at_least least) (of_more p ps) ∙ at_least_greater least (level p) (tops ps))
 
-  -- the slabs of the rows that are asked for hold at the point what the plans hold there
-  at_point : (tables : Tables) (w : World) (lengths : Lengths) (questions : List Span) (helds : List Held)
-      → IsContent w → AreTables tables w → Bounds lengths w → AreWhole e (IsKnown lengths) questions
-      → AllByRecursion (IsWithin e) questions
-      → HaveTakenAll (is_asked o (id_text id) least e) questions tables.spans helds
-      → top_held helds x ≡ at_least least (rivals_top o id w.plans x)
-  at_point tables w lengths questions helds h t bounds whole within (rows, same, taken) =
-      let (all, are, moved) = t.spans in
-      taken_top rows helds x taken
-      ∙ sym (top_permuted (λ r. row_has r x) row_priority (flat_map (λ question.
-      map held_columns (filter (is_asked o (id_text id) least e question) tables.spans)) questions) rows same)
-      ∙ top_asked (is_asked o (id_text id) least e) held_columns (λ r. row_has r x) row_priority tables.spans
-      questions
-      ∙ top_same (HasKnownSpan lengths)
-      (λ r. list_any (λ question. is_asked o (id_text id) least e question r) questions)
-      want (λ r. row_has (held_columns r) x) (λ r. row_priority (held_columns r))
-      (asked_rival o (id_text id) least e lengths questions whole within) tables.spans
-      (tables_known lengths tables w t bounds.known)
-      ∙ sym (top_permuted passes (λ r. row_priority (held_columns r)) all tables.spans moved)
-      ∙ on_plans w.plans all h.rows are
+    -- the slabs of the rows that are asked for hold at the point what the plans hold there
+    at_point : (tables : Tables) (w : World) (lengths : Lengths) (questions : List Span) (helds : List Held)
+        → IsContent w → AreTables tables w → Bounds lengths w → AreWhole e (IsKnown lengths) questions
+        → AllByRecursion (IsWithin e) questions
+        → HaveTakenAll (is_asked_if another least e) questions tables.spans helds
+        → top_held helds x ≡ at_least least (tops w.plans)
+    at_point tables w lengths questions helds h t bounds whole within (rows, alike, taken) =
+        let (all, are, moved) = t.spans in
+        taken_top rows helds x taken
+        ∙ sym (top_permuted (λ r. row_has r x) row_priority (flat_map (λ question.
+        map held_columns (filter (is_asked_if another least e question) tables.spans)) questions) rows alike)
+        ∙ top_asked (is_asked_if another least e) held_columns (λ r. row_has r x) row_priority tables.spans
+        questions
+        ∙ top_same (HasKnownSpan lengths)
+        (λ r. list_any (λ question. is_asked_if another least e question r) questions)
+        want (λ r. row_has (held_columns r) x) (λ r. row_priority (held_columns r))
+        (asked_rival another least e lengths questions whole within) tables.spans
+        (tables_known lengths tables w t bounds.known)
+        ∙ sym (top_permuted passes (λ r. row_priority (held_columns r)) all tables.spans moved)
+        ∙ on_plans w.plans all h.rows are
 
 -- the slabs of the rows that are asked for are those of the plan's rivals
+abbrev not_of_plan : List ℕ → List ℕ → Row → Bool
+not_of_plan o id r = differs (column r 0) (Text o) || differs (column r 1) (Text (id_text id))
+
+another_plan : (o id : List ℕ) → IsId id → (p : Filed) (r : Row) → IsPlan p.row
+    → not_of_plan o id (Text p.operator ∷ Text (id_text p.row.id) ∷ r) ≡ not (is_own o id p)
+another_plan o id hi p r hp = either_differs (sql.is_text (Text p.operator) o)
+    (sql.is_text (Text (id_text p.row.id)) (id_text id)) ∙ ap not (own_row o id p r hi hp.id)
+
+level_of_rival : (o id : List ℕ) (x : Point) (p : Filed)
+    → rival_level o id p x ≡ level_where (not (is_own o id p) && row_holds p.row x) p.row.priority
+unfolding rival_level
+level_of_rival o id x p = refl
+
 pub are_rivals : (tables : Tables) (w : World) (o id : List ℕ) (least : ℕ) (extent : Slab) (lengths : Lengths)
     (questions : List Span) (helds : List Held) → IsId id → IsContent w → AreTables tables w
     → Bounds lengths w → AreWhole extent (IsKnown lengths) questions
@@ -473,9 +487,44 @@ pub are_rivals : (tables : Tables) (w : World) (o id : List ℕ) (least : ℕ) (
     → HaveTakenAll (is_asked o (id_text id) least extent) questions tables.spans helds
     → AreRivals w o id least extent helds
 are_rivals tables w o id least extent lengths questions helds hi h t bounds whole within taken = λ x inside.
-    at_point o id hi least extent x (is_in extent x inside) tables w lengths questions helds h t bounds whole
-    within taken
+    at_point (not_of_plan o id) (λ p. not (is_own o id p)) (another_plan o id hi) least extent x
+    (is_in extent x inside) (λ p. rival_level o id p x) (λ ps. rivals_top o id ps x)
+    (level_of_rival o id x) (rivals_top-nil o id x) (λ p ps. rivals_top-cons o id p ps x) tables w lengths
+    questions helds h t bounds whole within taken
     ∙ ap (at_least least) (held_by_rivals o id w x)
+
+-- and where the operator's own are left out, those that others hold
+abbrev not_by : List ℕ → Row → Bool
+not_by o r = differs (column r 0) (Text o)
+
+by_another : (o : List ℕ) (p : Filed) (r : Row) → IsPlan p.row
+    → not_by o (Text p.operator ∷ Text (id_text p.row.id) ∷ r) ≡ not (is_by o p)
+by_another o p r hp = ap not (ap is_eq (value_cmp-Text p.operator o) ∙ turned p.operator o)
+
+level_of_other : (o : List ℕ) (x : Point) (p : Filed)
+    → other_level o p x ≡ level_where (not (is_by o p) && row_holds p.row x) p.row.priority
+unfolding other_level
+level_of_other o x p = refl
+
+none_below : (n : ℕ) → nat_le 0 n ≡ true
+none_below n = grind (arith, nat_tests)
+
+any_level : (l : Option ℕ) → at_least 0 l ≡ l
+any_level None = refl
+any_level (Some n) = ap (λ b. cond b (Some n) None) (none_below n)
+
+pub are_others : (tables : Tables) (w : World) (o : List ℕ) (extent : Slab) (lengths : Lengths)
+    (questions : List Span) (helds : List Held) → IsContent w → AreTables tables w
+    → Bounds lengths w → AreWhole extent (IsKnown lengths) questions
+    → AllByRecursion (IsWithin extent) questions
+    → HaveTakenAll (is_asked_of_others o extent) questions tables.spans helds
+    → HaveLevel extent helds (held w o)
+are_others tables w o extent lengths questions helds h t bounds whole within taken = λ x inside.
+    at_point (not_by o) (λ p. not (is_by o p)) (by_another o) 0 extent x
+    (is_in extent x inside) (λ p. other_level o p x) (λ ps. others_top o ps x)
+    (level_of_other o x) (others_top-nil o x) (λ p ps. others_top-cons o p ps x) tables w lengths
+    questions helds h t bounds whole within taken
+    ∙ any_level (others_top o w.plans x) ∙ held_by_others o w x
 
 -- ---- one question after the other
 

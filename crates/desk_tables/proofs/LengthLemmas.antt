@@ -19,7 +19,7 @@ use Rattle.volume4d.specs.Volume.{Block}
 use Rattle.desk_rules.specs.declared.plan.PlanRow.{PlanRow}
 use Rattle.desk_rules.specs.Plan.{is_live}
 use Rattle.desk_sql.specs.Rows as sql
-use Rattle.desk_sql.specs.Rows.{Tables, differs, is_above, is_at_least, is_at_most, is_below, is_rival}
+use Rattle.desk_sql.specs.Rows.{Tables, is_above, is_at_least, is_at_most, is_below}
 use Rattle.desk_store.specs.World.{Filed, World, text_cmp, rows_by, is_by, has_id}
 use Rattle.desk_store.specs.Changes.{put_row, closed, close_row, is_named, clear_rows, filed_by, is_before, is_after, replaced, with_plans, with_operator}
 use Rattle.desk_store.specs.StoreChange.{changed_by}
@@ -27,7 +27,7 @@ use Rattle.desk_store.specs.declared.change.Change.{Change}
 use Rattle.desk_store.specs.declared.change.Change.TheVariants.{Enrol, Put, Close, Clear}
 use Rattle.desk_tables.specs.Tables.{span_row, AreSpanRowsFrom, ArePlanSpanRows, AreSpanRows, AreTables}
 use Rattle.desk_tables.specs.declared.lengths.Lengths.{Lengths}
-use Rattle.desk_tables.specs.Rivals.{reach_of, is_asked}
+use Rattle.desk_tables.specs.Rivals.{reach_of, is_asked_if}
 use Rattle.desk_tables.specs.Lengths.{AreWhole, IsKnown, IsWithin, Keeps, begins_in, IsKnownBlock, IsKnownPlan, AreKnownPlans, Bounds, BringsKnown, IsKnownRow, HasKnownSpan}
 
 -- ---- all of some elements
@@ -170,12 +170,12 @@ either_and true true false = refl
 either_and true false false = refl
 either_and false b d = refl
 
-module _ (operator id : List ℕ) (least : ℕ) (extent : Slab) where
+module _ (another : Row → Bool) (least : ℕ) (extent : Slab) where
   abbrev rival : Row → Bool
-  rival r = is_rival operator id (reach_of extent least) r
+  rival r = sql.is_reached (reach_of extent least) r && another r
 
   abbrev asked : Span → Row → Bool
-  asked question r = is_asked operator id least extent question r
+  asked question r = is_asked_if another least extent question r
 
   module _ (r : Row) (span : Span) (begins : column r 3 ≡ Int (pos span.first)) where
     -- the tests of a row, but for those of its first leaf
@@ -184,23 +184,20 @@ module _ (operator id : List ℕ) (least : ℕ) (extent : Slab) where
         && (is_above (column r 6) extent.lower && (is_below (column r 7) extent.end
         && (is_above (column r 8) extent.start && is_at_least (column r 9) (pos least)))))
 
-    abbrev another : Bool
-    another = differs (column r 0) (Text operator) || differs (column r 1) (Text id)
-
     asked_is : (question : Span) → IsWithin extent question
         → asked question r ≡ (begins_in span question && rival r)
     asked_is question within =
         (λ i. is_at_least (begins i) (pos question.first)
-        && ((is_at_most (begins i) (pos question.last) && others) && another))
+        && ((is_at_most (begins i) (pos question.last) && others) && another r))
         ∙ (λ i. at_least_nat span.first question.first i
-        && ((at_most_nat span.first question.last i && others) && another))
+        && ((at_most_nat span.first question.last i && others) && another r))
         ∙ regrouped (nat_le question.first span.first) (nat_le span.first question.last)
-        (nat_le span.first extent.last) others another
+        (nat_le span.first extent.last) others (another r)
         (no_later span.first question.last extent.last within.1)
         ∙ (λ i. begins_in span question
-        && ((sym (at_most_nat span.first extent.last) i && others) && another))
+        && ((sym (at_most_nat span.first extent.last) i && others) && another r))
         ∙ (λ i. begins_in span question
-        && ((is_at_most (sym begins i) (pos extent.last) && others) && another))
+        && ((is_at_most (sym begins i) (pos extent.last) && others) && another r))
 
     asked_any : (questions : List Span) → AllByRecursion (IsWithin extent) questions
         → list_any (λ question. asked question r) questions ≡ (list_any (begins_in span) questions && rival r)

@@ -31,6 +31,7 @@ pub mod CoverLemmas
 pub mod GiantLemmas
 pub mod LengthLemmas
 pub mod AskingLemmas
+pub mod OtherLemmas
 pub mod LeavingLemmas
 pub mod GatherLemmas
 pub mod CauseLemmas

@@ -1,5 +1,5 @@
 -- Slabs that are held, as rows of `span` show them.
-use Rattle.std.specs.Prelude.{◌≡◌, ◌<◌, ◌^◌, ◌*◌, ℕ, Bool, pos, List, map, filter, IsPermutation, FitsSigned}
+use Rattle.std.specs.Prelude.{◌≡◌, ◌<◌, ◌^◌, ◌*◌, ◌&&◌, ℕ, Bool, pos, List, map, filter, IsPermutation, FitsSigned}
 use Rattle.std.specs.Int.{w32}
 use Rattle.std.specs.List.{AllZip, flat_map}
 use Rattle.sqlite_value.specs.declared.value.Value.TheVariants.{Int}
@@ -7,7 +7,8 @@ use Rattle.sqlite_value.specs.Order.{Row, column}
 use Rattle.s2_cover.specs.declared.spans.Span.{Span}
 use Rattle.volume4d.specs.declared.slab.Slab.{Slab}
 use Rattle.volume4d.specs.declared.slab.Held.{Held}
-use Rattle.desk_sql.specs.Rows.{held_columns, is_wanted}
+use Rattle.desk_sql.specs.Rows.{held_columns, is_at_least, is_reached, is_wanted}
+use Rattle.desk_sql.specs.Others.{is_others_from}
 use Rattle.desk_sql.specs.declared.reading.rivals.Reach.{Reach}
 
 -- the columns of `span` from `first` to `stop` are a slab's
@@ -60,6 +61,17 @@ reach_from question extent least = record (reach_of extent least) { last = pos q
 abbrev pub is_asked : List ℕ → List ℕ → ℕ → Slab → Span → Row → Bool
 is_asked operator id least extent question =
     is_wanted operator id (reach_from question extent least) (pos question.first)
+
+-- a question of the spans of other operators is for a row of `span`
+abbrev pub is_asked_of_others : List ℕ → Slab → Span → Row → Bool
+is_asked_of_others operator extent question =
+    is_others_from operator (reach_from question extent 0) (pos question.first)
+
+-- so is one of the spans that pass a test
+abbrev pub is_asked_if : (Row → Bool) → ℕ → Slab → Span → Row → Bool
+is_asked_if passes least extent question row =
+    is_at_least (column row 3) (pos question.first)
+    && (is_reached (reach_from question extent least) row && passes row)
 
 -- one held slab for each row of these that is wanted, in some order
 abbrev pub HaveTaken : (Row → Bool) → List Row → List Held → Type 0

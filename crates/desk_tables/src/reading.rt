@@ -1,6 +1,7 @@
 //! Reading: rows as values, and what the store answers of them.
 
 pub(crate) mod listing;
+pub(crate) mod others;
 pub(crate) mod readers;
 pub(crate) mod rivals;
 pub(crate) mod values;

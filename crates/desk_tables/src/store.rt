@@ -11,7 +11,7 @@ use crate::changing::changes;
 use crate::kept::Kept;
 use crate::known::Known;
 use crate::laws::one_content;
-use crate::reading::readers;
+use crate::reading::{others, readers};
 use desk_rules::operator::Operator;
 use desk_rules::plan::{PlanRow, States};
 use desk_rules::plan_id::PlanId;
@@ -161,6 +161,22 @@ impl<S: Alter> PlanStore for SqliteStore<S> {
             id,
             least,
             extent,
+            &self.known,
+        );
+        counted(&mut self.faults, self.told, answer)
+    }
+
+    fn held_by_others(
+        &mut self,
+        operator: &Operator,
+        extents: &[Slab],
+    ) -> Result<Vec<Held>, StoreFault> {
+        let answer = others::held_by_others(
+            self.alloc,
+            &mut self.connection,
+            &self.kept,
+            operator,
+            extents,
             &self.known,
         );
         counted(&mut self.faults, self.told, answer)

@@ -89,6 +89,15 @@ impl PlanStore for Failing {
         self.list.rivals(operator, id, least, extent)
     }
 
+    fn held_by_others(
+        &mut self,
+        operator: &Operator,
+        extents: &[Slab],
+    ) -> Result<Vec<Held>, StoreFault> {
+        fail_at(&mut self.calls_left, &mut self.fault_count)?;
+        self.list.held_by_others(operator, extents)
+    }
+
     fn apply(&mut self, change: &Change) -> Result<(), StoreFault> {
         fail_at(&mut self.calls_left, &mut self.fault_count)?;
         self.list.apply(change)

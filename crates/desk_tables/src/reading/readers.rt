@@ -177,7 +177,7 @@ pub(crate) fn own_plans<S: Alter>(
 }
 
 // The slabs of spans that were handed over, if all were.
-fn held_by(handed: Result<(), Error>, rivals: Rivals) -> Result<Vec<Held>, StoreFault>
+pub(crate) fn held_by(handed: Result<(), Error>, rivals: Rivals) -> Result<Vec<Held>, StoreFault>
     ensures whole { OnOk result (IsOk handed) }
     ensures value { IfOk result (λ helds. helds.items ≡ rivals.helds.items) }
     ensures none { IfErr result (λ e. e ≡ StoreFault.Store →

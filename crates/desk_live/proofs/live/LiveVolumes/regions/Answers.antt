@@ -14,7 +14,8 @@ returns c =
     let wanted = c.in_ok-overlapping.field-0.items in
     let whole = c.whole_of.result in
     IfOk-weaker c.joined.result _ _ (λ regions each w kept.
-    nothing_beside c.args.operator.now w (volumes_of c.args.self.now) extents theirs wanted regions.items whole kept.live
+    nothing_beside c.args.operator.now w (volumes_of c.args.self.now) extents theirs wanted regions.items
+    whole kept.live
     (subst (λ ss. HasAll (slabs_have ss) whole) (sym c.in-Some.ensures.cases.0) c.whole_of.ensures)
     c.in_ok-theirs.ensures
     (subst (λ ss. HaveShared extents ss wanted) c.deref.ensures.value c.in_ok-overlapping.ensures) each)

@@ -1,0 +1,94 @@
+-- What others hold, region by region.
+use Rattle.std.proofs.Common.{◌≡◌, ◌<◌, ℕ, ◌+◌, Bool, true, false, ◌||◌, cond, max, List, [], ◌∷◌, length, take, get_or, Option, Some, None, Result, Ok, Err, IfOk, OnOk, refl, sym, ap, ◌∙◌, arith}
+use Rattle.std.proofs.lemmas.List.Folds.{list_any_more}
+use Rattle.sqlite_trees.specs.declared.store.Store.{Ghosts}
+use Rattle.sqlite.specs.State.{HasCleanDisk}
+use Rattle.sqlite.specs.Held.{Held, state}
+use Rattle.volume4d.specs.declared.slab.Slab.{Slab}
+use Rattle.volume4d.specs.declared.slab.Held.{Held as One}
+use Rattle.volume4d.specs.Point.{Point}
+use Rattle.volume4d.specs.Level.{greater}
+use Rattle.volume4d.specs.laws.Level.{greater_none, top_held-nil}
+use Rattle.volume4d.specs.Slab.{slab_has, slabs_have, top_held}
+use Rattle.desk_sql.specs.Frames.{OnlyReads}
+use Rattle.desk_store.specs.World.{World, held}
+use Rattle.desk_store.specs.Rivals.{AddsLevel, AreHeldByOthers, HaveLevel}
+use Rattle.desk_live.specs.Regions.{HoldNothingBeside}
+use Rattle.desk_tables.specs.Store.{Stands}
+use Rattle.desk_tables.proofs.FrameLemmas.{reads_itself, reads_then}
+
+-- what slabs hold at each point of some regions, and nothing elsewhere
+abbrev pub HoldTheirs : World → List ℕ → List Slab → List One → Type 0
+HoldTheirs w o regions helds =
+    (x : Point) → top_held helds x ≡ cond (slabs_have regions x) (held w o x) None
+
+same_max : (n : ℕ) → max n n ≡ n
+same_max n = omega arith
+
+once : (l : Option ℕ) → greater l l ≡ l
+once None = refl
+once (Some n) = ap Some (same_max n)
+
+-- with one region more
+theirs_more : (w : World) (o : List ℕ) (regions : List Slab) (i : ℕ) (region : Slab)
+    (helds more new : List One) → i < length regions → region ≡ get_or regions i region
+    → HoldTheirs w o (take i regions) helds → HaveLevel region more (held w o)
+    → AddsLevel helds new (λ x. cond (slab_has region x) (top_held more x) None)
+    → HoldTheirs w o (take (i + 1) regions) new
+theirs_more w o regions i region helds more new below is before level added x =
+    added x ∙ ap (λ l. greater l (cond (slab_has region x) (top_held more x) None)) (before x)
+    ∙ go (slabs_have (take i regions) x) (slab_has region x) (level x)
+    ∙ ap (λ b. cond b (held w o x) None) (sym (list_any_more (λ s. slab_has s x) regions i region below
+    ∙ ap (λ s. slabs_have (take i regions) x || slab_has s x) (sym is))) where
+      go : (a b : Bool) → (b ≡ true → top_held more x ≡ held w o x)
+          → greater (cond a (held w o x) None) (cond b (top_held more x) None)
+          ≡ cond (a || b) (held w o x) None
+      go true true h = ap (greater (held w o x)) (h refl) ∙ once (held w o x)
+      go true false h = greater_none (held w o x)
+      go false true h = h refl
+      go false false h = refl
+
+module _ {S : Type 0} (g : Ghosts S) where
+  -- some regions are read, and nothing was changed
+  pub record IsReading (old new : Held S) (w : World) (o : List ℕ) (regions : List Slab)
+      (helds : List One) : Type 0
+    where
+      pub stands : Stands g new w
+      pub reads : OnlyReads g old new
+      pub theirs : HasCleanDisk (state g new) → HoldTheirs w o regions helds
+
+  pub reading_begins : (h : Held S) (w : World) (o : List ℕ) (helds : List One) → Stands g h w
+      → helds ≡ [] → IsReading h h w o [] helds
+  reading_begins h w o helds stands none = record {
+    stands = stands;
+    reads = reads_itself g h stands.settled;
+    theirs = λ clean x. ap (λ hs. top_held hs x) none ∙ top_held-nil x;
+  }
+
+  pub reading_on : (old mid new : Held S) (w : World) (o : List ℕ) (regions : List Slab) (i : ℕ)
+      (region : Slab) (helds more given next : List One) → IsReading old mid w o (take i regions) helds
+      → OnlyReads g mid new → Stands g new w → i < length regions → region ≡ get_or regions i region
+      → (HasCleanDisk (state g new) → HaveLevel region more (held w o)) → given ≡ more
+      → AddsLevel helds next (λ x. cond (slab_has region x) (top_held given x) None)
+      → IsReading old new w o (take (i + 1) regions) next
+  reading_on old mid new w o regions i region helds more given next before reads stands below is level same
+      added = record {
+        stands = stands;
+        reads = reads_then g old mid new before.reads reads;
+        theirs = λ clean. theirs_more w o regions i region helds given next below is
+            (before.theirs (omega (arith, reads.doubt, clean)))
+            (λ x here. ap (λ hs. top_held hs x) same ∙ level clean x here) added;
+      }
+
+-- where the regions lie, and where others hold nothing
+pub others_held : {V E : Type 0} (items : V → List One) (w : World) (o : List ℕ)
+    (extents regions given : List Slab) → given ≡ regions → HoldNothingBeside w o extents regions
+    → (r : Result V E) → IfOk r (λ v. HoldTheirs w o given (items v))
+    → IfOk r (λ v. AreHeldByOthers w o extents (items v))
+others_held items w o extents regions given same beside (Ok v) h = λ x here.
+    h x ∙ ap (λ rs. cond (slabs_have rs x) (held w o x) None) same
+    ∙ go (slabs_have regions x) (held w o x) (beside x here) where
+      go : (b : Bool) (l : Option ℕ) → (b ≡ false → l ≡ None) → cond b l None ≡ l
+      go true l k = refl
+      go false l k = sym (k refl)
+others_held items w o extents regions given same beside (Err e) h = tt

@@ -1,0 +1,26 @@
+use Rattle.std.proofs.Common.{◌<◌, List, length, sym, subst, arith}
+use Rattle.sqlite.specs.Held.{state}
+use Rattle.s2_cover.specs.declared.spans.Span.{Span}
+use Rattle.desk_sql.specs.Rows.{tables_of}
+use Rattle.desk_tables.specs.Rivals.{HaveTakenAll, is_asked_of_others}
+use Rattle.desk_tables.proofs.AskingLemmas.{both_ok}
+use Rattle.desk_tables.proofs.HeldLemmas.{are_others}
+use Rattle.desk_tables.proofs.reading.others.others_in_tables.Goals as goal
+
+pub returns-clause-value : goal.returns-clause-value
+returns-clause-value g c = λ clean.
+    both_ok c.asked_all.result (c.asked_all.ensures.open clean) (c.asked_all.ensures.value clean)
+    (λ helds opened taken.
+    (let w = c.args.kept.now.world in
+    let o = c.args.operator.now in
+    let extent = c.args.extent.now in
+    let questions = c.in_ok-questions.questions.items in
+    let tables = tables_of (state g.S.Store c.args.connection.now).now.trees in
+    let live = opened (subst (λ (qs : List Span). 0 < length qs) (sym c.deref.ensures.value)
+    c.in_ok-questions.ensures.some) in
+    let standing = c.requires.stands.standing (omega (arith, c.asked_all.ensures.reads.doubt, clean)) live in
+    let mine = subst (λ qs. HaveTakenAll (is_asked_of_others o extent) qs tables.spans helds.items)
+    c.deref.ensures.value taken in
+    are_others tables w o extent c.args.lengths.now questions helds.items
+    standing.content standing.tables c.requires.bounded
+    c.in_ok-questions.ensures.whole c.in_ok-questions.ensures.within mine))
