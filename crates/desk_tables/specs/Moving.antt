@@ -18,7 +18,7 @@ use Rattle.desk_store.specs.World.{Filed, World}
 use Rattle.desk_tables.specs.Tables.{operator_rows, plan_rows, area_rows, volume_rows, area_covers, cover_rows, ArePlanSpanRows, AreSpanRows}
 use Rattle.desk_tables.specs.Content.{IsContent}
 use Rattle.desk_tables.specs.Store.{IsStanding}
-use Rattle.desk_tables.specs.Opening.{BeginsWith, HasNoContent, HasFailed, HasOldRows}
+use Rattle.desk_tables.specs.Opening.{BeginsWith, HasNoContent, HasFailed}
 use Rattle.desk_tables.specs.declared.opening.open.OpenFault.{OpenFault}
 use Rattle.desk_tables.specs.declared.opening.open.OpenFault.TheVariants.{Store}
 
@@ -131,6 +131,18 @@ pub record HasNoOldContent (db : Database) : Type 0 where
   pub old : has_old_rows (tables_at made db.trees) ≡ true
   pub none : AreNoOldContent (tables_at made db.trees)
 
+-- of a content of schema 1
+pub record AreOldContent (t : Tables) : Type 0 where
+  pub world : World
+  pub rows : IsOldContentOf t world
+
+-- a desk's tables, so far as they are made, with a row of schema 1, and rows of a content of schema 1
+pub record HasOldContent (db : Database) : Type 0 where
+  pub made : Made
+  pub desk : IsMadeTo made db
+  pub old : has_old_rows (tables_at made db.trees) ≡ true
+  pub rows : AreOldContent (tables_at made db.trees)
+
 -- how many plans were moved is told up to the greatest number of 32 bits
 abbrev pub told_count : List Filed → ℕ
 told_count ps = if nat_le (length ps) (2 ^ 32 - 1) then length ps else 2 ^ 32 - 1
@@ -163,8 +175,14 @@ module _ {S : Type 0} (g : Ghosts S) (old new : Held S) where
   KeepsRows =
       HasCleanDisk (state g new) → IsTrue (state g new).is_open → ShowsAsBefore g old new ⊎ HasSameRows
 
+  -- why a move of such tables tells that the database failed
+  abbrev pub BlamesMoving : Made → OpenFault → Type 0
+  BlamesMoving made e =
+      HasCleanDisk (state g new) → IsTrue (state g new).is_open → e ≡ Store →
+      HasFailed g old new ⊎ AreOldContent (tables_at made (state g old).now.trees)
+
   -- why a move tells that the database failed
   abbrev pub BlamesMove : OpenFault → Type 0
   BlamesMove e =
       HasCleanDisk (state g new) → IsTrue (state g new).is_open → e ≡ Store →
-      HasFailed g old new ⊎ (IsMisnumbered (state g old).now ⊎ HasOldRows (state g old).now)
+      HasFailed g old new ⊎ (IsMisnumbered (state g old).now ⊎ HasOldContent (state g old).now)

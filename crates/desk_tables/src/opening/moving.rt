@@ -17,7 +17,7 @@ ghost use Rattle.desk_tables.specs.Known.{Knows};
 ghost use Rattle.desk_tables.specs.Store.{Stands};
 ghost use Rattle.desk_tables.specs.Opening.{AreRows, BlamesReading, HasRowsOld};
 ghost use Rattle.desk_tables.specs.Moving.{AddsPlanRows, AddsPlansRows, MovesRows, AreNoOldContent};
-ghost use Rattle.desk_tables.specs.Moving.{BeginsMoved, BlamesMove, KeepsRows, IsOldArea, IsOldContent};
+ghost use Rattle.desk_tables.specs.Moving.{BeginsMoved, BlamesMove, BlamesMoving, KeepsRows, IsOldArea, IsOldContent};
 ghost use Rattle.desk_tables.specs.Moving.{HasNoNewRows, IsWhole};
 ghost use Rattle.desk_tables.specs.Moving.{AreSortedOld, IsOldContentOf, IsOldShape};
 ghost use Rattle.desk_tables.specs.Moving.{ShowsNoContent, WasMoved, told_count};
@@ -104,6 +104,7 @@ fn moved_in<S: Alter>(
         e ≡ OpenFault.NotADesk →
         AreNoOldContent (tables_at made (state S.Store connection.old).now.trees)) }
     ensures newer { IfErr result (λ e. e ≢ OpenFault.OldSchema) }
+    ensures cause { IfErr result (BlamesMoving S.Store connection.old connection.new made) }
     ensures opened { HasCleanDisk (state S.Store connection.new) →
         OnOk result (IsTrue (state S.Store connection.old).is_open) }
     ensures live { OnOk result (IsOpenIfClean S.Store connection.new) }

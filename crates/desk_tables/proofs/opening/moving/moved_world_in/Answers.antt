@@ -43,7 +43,7 @@ returns-then-old-clause-cause g c =
     let rows : Holds g.S.Store mid (HasRowsOld c.in_ok-made.made true) = search rules in
     cause_moved g.S.Store c.args.connection.now mid c.moved_in.new.connection c.in_ok-made.ensures.reads
     c.moved_in.ensures.doubt c.in_ok-made.made c.moved_in.result c.in_ok-made.ensures.part rows
-    c.moved_in.ensures.kept
+    c.moved_in.ensures.kept c.moved_in.ensures.cause
 
 pub returns-then-old-clause-kept : goal.returns-then-old-clause-kept
 returns-then-old-clause-kept g c =
