@@ -1,10 +1,7 @@
-use Rattle.std.proofs.Common.{rules, arith, ◌≤◌, IsTrue}
+use Rattle.std.proofs.Common.{arith, ◌≤◌}
 use Rattle.sqlite_trees.specs.View.{doubt}
 use Rattle.sqlite.specs.Held.{state}
-use Rattle.sqlite.specs.State.{HasCleanDisk}
-use Rattle.desk_sql.specs.Finding.{Holds}
-use Rattle.desk_sql.specs.Rows.{IsMadeTo}
-use Rattle.desk_tables.specs.Moving.{BlamesMoving, IsWhole, KeepsRows}
+use Rattle.desk_tables.specs.Moving.{BlamesMoving}
 use Rattle.desk_tables.proofs.OpeningLemmas.{kept_on_err, part_on, told_as}
 use Rattle.desk_tables.proofs.MovingLemmas.{blames_moving, keeps_since, keeps_whole}
 use Rattle.desk_tables.proofs.opening.moving.moved_in.Goals as goal
