@@ -65,23 +65,6 @@ module _ {E : Type 0} (M N : Text → Result ℤ E → Type 0) (f : Found) (id :
       go None e g = g
       go (Some t) e g = (value t e).1.0 (g.0, subst (SFits w64) g.1 fits)
 
--- there is one number
-pub one_number : (id : Text) (rows : List Row) (n m : ℕ) → IsNumberGiven id rows n → IsNumberGiven id rows m
-    → n ≡ m
-one_number id rows n m = go (one_of id rows)
-  where
-    go : (o : Option Text) → IsSomeAnd o (WritesNumber n) → IsSomeAnd o (WritesNumber m) → n ≡ m
-    go None g h = absurd g
-    go (Some t) g h = g.1 ∙ sym h.1
-
-pub one_second : (id : Text) (rows : List Row) (y z : ℤ) → IsSecondGiven id rows y → IsSecondGiven id rows z
-    → y ≡ z
-one_second id rows y z = go (one_of id rows)
-  where
-    go : (o : Option Text) → IsSomeAnd o (WritesSecond y) → IsSomeAnd o (WritesSecond z) → y ≡ z
-    go None g h = absurd g
-    go (Some t) g h = g.1 ∙ sym h.1
-
 false_if_not : (b : Bool) → (b ≡ true → ⊥) → false ≡ b
 false_if_not true h = absurd (h refl)
 false_if_not false h = refl

@@ -25,11 +25,6 @@ begun_part bytes out now fault off = record {
   written = off.written;
 }
 
--- the same, where the fault isn't handed on
-pub cut_off : (bytes : List ℕ) (out now : Option (List ℕ)) (fault : WriteFault)
-    → BreaksOff bytes out now fault → IsCutOff bytes out now
-cut_off bytes out now fault off = (fault, off)
-
 -- the printing of a line, by what came of it
 pub announced_by : {A : Type 0} (done : Result A Failure) (line : List ℕ) (out now : Option (List ℕ))
     → OnOk done (Appends out now line) → IfErr done (λ f. (f ≡ failure.Write) × HasBegun line out now)
