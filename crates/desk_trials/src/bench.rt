@@ -26,7 +26,7 @@ fn time_at(rt: &HostRuntime, keeping: &Keeping, requests: &Requests) -> anyhow::
     match keeping {
         Keeping::List => time_desk(rt, &mut Desk::new(ListStore::new(rt.alloc())), requests),
         Keeping::File(path) => {
-            let store = SqliteStore::open(rt, path)?;
+            let store = SqliteStore::open(rt, path).map_err(|refused| refused.fault)?;
             time_desk(rt, &mut Desk::new(store), requests)
         }
     }

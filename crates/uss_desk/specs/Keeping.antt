@@ -29,16 +29,18 @@ pub record TellsHoldings (file : CheckedFile) (w : World) : Type 0 where
   pub spans : HaveSpanRows w.plans file.spans
 
 -- a text is printed, with this exit status
-abbrev pub IsToldAs : List ℕ → ℕ → Option (List ℕ) → Option (List ℕ) → Type 0
-IsToldAs text status out now =
-    (end : Ending) × (end.status ≡ status) × IsTextPrinted text end out now
+pub record IsToldAs (text : List ℕ) (status : ℕ) (out now : Option (List ℕ)) : Type 0 where
+  pub end : Ending
+  pub exit : end.status ≡ status
+  pub printed : IsTextPrinted text end out now
 
 module _ {D : Type 0} {g : disk.Ghosts D} (image : Image) where
   -- why files that held this have no content that is told: what the connection showed, or nothing in them was
   -- read
-  abbrev pub FailsToLook : Unopened (Held (FileStore D g)) → Type 0
-  FailsToLook it =
-      (fault : OpenFault) × (it.failure ≡ open_failure fault) × AreNotRead image fault it.connection
+  pub record FailsToLook (it : Unopened (Held (FileStore D g))) : Type 0 where
+    pub fault : OpenFault
+    pub told : it.failure ≡ open_failure fault
+    pub fails : AreNotRead image fault it.connection
 
   -- a failure is told, and nothing is printed
   abbrev pub IsUntold :
@@ -54,7 +56,7 @@ module _ {D : Type 0} {g : disk.Ghosts D} (image : Image) where
       (file : CheckedFile) × (w : World) × TellsHoldings file w × LooksIn image left file.is_old w
       × IsToldAs (checked_line file) status out now
 
-module _ {D E : Type 0} {g : disk.Ghosts D} {k : disk.Ghosts E} (image other : Image) where
+module _ {D E : Type 0} {g : disk.Ghosts D} (k : disk.Ghosts E) (image other : Image) where
   -- a connection to files that held this leaves them, and new files, whose log is empty, have their content:
   -- a store of it was made there and closed
   pub record IsCopyMade (copies : Held (FileStore D g) × (Files E × Holdings)) : Type 0 where

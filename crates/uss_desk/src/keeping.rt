@@ -12,6 +12,7 @@ use desk_line::{Copying, Database, Failure, conclude};
 use desk_program::{CheckedFile, print_checked, print_copied};
 use desk_tables::{Holdings, copy_from, look_at};
 use sqlite::{FileFrom, Files, Start};
+use sqlite_disk::Disk;
 use std::alloc::{AllocError, Global};
 use std::fs::{self, File};
 use std::io::{self, Read, Write};
@@ -157,8 +158,8 @@ pub fn copy_file<F: Start, N: Start, W: Write, E: Write>(
     output: &mut W,
     errors: &mut E,
 ) -> (u8, Result<Copies<F, N>, Unopened<Look<F>>>)
-    ensures { IsCopied (image_at F.Start) (image_at N.Start) result.0 result.1 (W.contents output.old)
-        (W.contents output.new) }
+    ensures { IsCopied ⟦<FileFrom<N> as Disk>⟧ (image_at F.Start) (image_at N.Start) result.0 result.1
+        (W.contents output.old) (W.contents output.new) }
 {
     match copy_for(rt, words, start, other, errors) {
         Ok(copies) => {
@@ -188,7 +189,8 @@ fn copy_for<F: Start, N: Start, E: Write>(
     other: N,
     errors: &mut E,
 ) -> Result<Copies<F, N>, Unopened<Look<F>>>
-    ensures made { IfOk result (IsCopyMade (image_at F.Start) (image_at N.Start)) }
+    ensures made { IfOk result
+        (IsCopyMade ⟦<FileFrom<N> as Disk>⟧ (image_at F.Start) (image_at N.Start)) }
     ensures fault { IfErr result (FailsToLook (image_at F.Start)) }
 {
     let Database::File(path) = &words.database else {
@@ -218,7 +220,8 @@ fn copy_to<F: Start, N: Start, E: Write>(
     other: N,
     errors: &mut E,
 ) -> Result<Copies<F, N>, Unopened<Look<F>>>
-    ensures made { IfOk result (IsCopyMade (image_at F.Start) (image_at N.Start)) }
+    ensures made { IfOk result
+        (IsCopyMade ⟦<FileFrom<N> as Disk>⟧ (image_at F.Start) (image_at N.Start)) }
     ensures fault { IfErr result (FailsToLook (image_at F.Start)) }
 {
     match copy_from(rt, path, start, &names.part, other) {
