@@ -225,13 +225,16 @@ fn copy_to<F: Start, N: Start, E: Write>(
     ensures fault { IfErr result (FailsToLook (image_at F.Start)) }
 {
     match copy_from(rt, path, start, &names.part, other) {
-        Ok((connection, (store, holdings))) => match store.close() {
-            Ok(files) => Ok((connection, (files, holdings))),
-            Err(_) => {
-                give_up(rt, path, names, Failure::Store, true, errors);
-                Err(Unopened::unread(Failure::Store))
+        Ok(copied) => {
+            let (connection, (store, holdings)) = copied;
+            match store.close() {
+                Ok(files) => Ok((connection, (files, holdings))),
+                Err(_) => {
+                    give_up(rt, path, names, Failure::Store, true, errors);
+                    Err(Unopened::unread(Failure::Store))
+                }
             }
-        },
+        }
         Err(refused) => {
             let failure = open_failure(&refused.fault);
             let was_read = refused.connection.is_some();
