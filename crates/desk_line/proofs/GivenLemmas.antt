@@ -6,7 +6,7 @@ use Rattle.std.specs.Str.Parse.{ParsesBool, ParsesSigned, ParsesUnsigned}
 use Rattle.std.proofs.lemmas.Slice.Eq.{bytes_eq-Decides}
 use Rattle.clap.proofs.WalkLemmas.{one_text-rows}
 use Rattle.clap.specs.Matches.{ReadsOne, one_text}
-use Rattle.clap.specs.Walk.{Row, Text, one_of, rows_of}
+use Rattle.clap.specs.Walk.{Text, rows_of}
 use Rattle.clap.specs.declared.parser.matches.Found.{Found}
 use Rattle.desk_line.specs.Grammar.{IsNumberGiven, IsSecondGiven, WritesNumber, WritesSecond, enrolment_in, is_given}
 use Rattle.desk_line.specs.declared.line.Enrolment.{Enrolment}
@@ -64,23 +64,6 @@ module _ {E : Type 0} (M N : Text → Result ℤ E → Type 0) (f : Found) (id :
       go : (o : Option Text) → one_text f id ≡ o → IsSomeAnd o (WritesSecond z) → ⊥
       go None e g = g
       go (Some t) e g = (value t e).1.0 (g.0, subst (SFits w64) g.1 fits)
-
--- there is one number
-pub one_number : (id : Text) (rows : List Row) (n m : ℕ) → IsNumberGiven id rows n → IsNumberGiven id rows m
-    → n ≡ m
-one_number id rows n m = go (one_of id rows)
-  where
-    go : (o : Option Text) → IsSomeAnd o (WritesNumber n) → IsSomeAnd o (WritesNumber m) → n ≡ m
-    go None g h = absurd g
-    go (Some t) g h = g.1 ∙ sym h.1
-
-pub one_second : (id : Text) (rows : List Row) (y z : ℤ) → IsSecondGiven id rows y → IsSecondGiven id rows z
-    → y ≡ z
-one_second id rows y z = go (one_of id rows)
-  where
-    go : (o : Option Text) → IsSomeAnd o (WritesSecond y) → IsSomeAnd o (WritesSecond z) → y ≡ z
-    go None g h = absurd g
-    go (Some t) g h = g.1 ∙ sym h.1
 
 false_if_not : (b : Bool) → (b ≡ true → ⊥) → false ≡ b
 false_if_not true h = absurd (h refl)

@@ -16,12 +16,6 @@ use Rattle.desk_line.specs.Grammar.{IsUntaken, Lacks, program}
 use Rattle.desk_line.specs.declared.line.WordsFault.{WordsFault}
 use Rattle.desk_line.specs.declared.line.WordsFault.TheVariants as fault
 
--- want of memory lacks nothing
-pub lacks_memory : {A B : Type 0} (Q : B → Type 0) (whole : Result A WordsFault)
-    → IsErrAnd whole (λ e. e ≡ fault.OutOfMemory) → Lacks Q whole
-lacks_memory Q (Ok value) is = tt
-lacks_memory {A} {B} Q (Err f) is = subst (λ e. Lacks {A = A} Q (Err e)) (sym is) tt
-
 -- a fault that is handed on: what lacks a part lacks the whole
 pub lacks_part : {A B C D : Type 0} (P : B → Type 0) (Q : D → Type 0) (one : Result A WordsFault)
     (whole : Result C WordsFault) (f : WordsFault) → one ≡ Err f → IsErrAnd whole (λ e. e ≡ f)

@@ -79,8 +79,8 @@ abbrev pub exit_status : {A : Type 0} → Result A Failure → ℕ
 exit_status (Ok done) = 0
 exit_status (Err failure) = failure_status failure
 
--- how a line ended: its exit status, whether the line of its failure was broken off, and what the error writer
--- held before and holds now
+-- how a line ended: its exit status, whether the line of its failure was broken off, and what the error
+-- writer held before and holds now
 pub record Ending : Type 0 where
   pub status : ℕ
   pub cut : Option WriteFault

@@ -9,7 +9,6 @@ use Rattle.desk_line.specs.declared.failure.Failure.{Failure}
 use Rattle.desk_line.specs.Exits.{IsAnnounced}
 use Rattle.desk_line.specs.Written.{HasBegun}
 use Rattle.desk_line.specs.declared.failure.Failure.TheVariants as failure
-use Rattle.desk_program.specs.Enrolling.{IsCutOff}
 
 some_left : (n : ℕ) (bytes : List ℕ) → n < length bytes → drop n bytes ≢ []
 some_left n bytes short none = omega (arith, short, ap length none, length-drop n bytes)
@@ -24,11 +23,6 @@ begun_part bytes out now fault off = record {
   left = some_left fault.sent bytes off.short;
   written = off.written;
 }
-
--- the same, where the fault isn't handed on
-pub cut_off : (bytes : List ℕ) (out now : Option (List ℕ)) (fault : WriteFault)
-    → BreaksOff bytes out now fault → IsCutOff bytes out now
-cut_off bytes out now fault off = (fault, off)
 
 -- the printing of a line, by what came of it
 pub announced_by : {A : Type 0} (done : Result A Failure) (line : List ℕ) (out now : Option (List ℕ))

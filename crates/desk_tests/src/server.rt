@@ -102,7 +102,11 @@ fn check_served(
     let clock = Standing(second);
     let mut port = LocalPort::new(&net, &clock);
     let exit = serve(alloc, &mut port, &line, &mut desk, &mut output, &mut errors);
-    assert_eq!(rt; exit.status, if word.is_empty() { 0 } else { 4 }, "{second}");
+    assert_eq!(rt;
+        exit.status,
+        if word.is_empty() { 0 } else { 4 },
+        "{second}"
+    );
     assert_eq!(rt; output.as_slice(), b"listening 127.0.0.1:1\n".as_slice());
     assert_eq!(rt; errors.as_slice(), word.as_bytes());
     Ok(())
