@@ -6,7 +6,7 @@ use Rattle.std.specs.Str.Parse.{ParsesBool, ParsesSigned, ParsesUnsigned}
 use Rattle.std.proofs.lemmas.Slice.Eq.{bytes_eq-Decides}
 use Rattle.clap.proofs.WalkLemmas.{one_text-rows}
 use Rattle.clap.specs.Matches.{ReadsOne, one_text}
-use Rattle.clap.specs.Walk.{Row, Text, one_of, rows_of}
+use Rattle.clap.specs.Walk.{Text, rows_of}
 use Rattle.clap.specs.declared.parser.matches.Found.{Found}
 use Rattle.desk_line.specs.Grammar.{IsNumberGiven, IsSecondGiven, WritesNumber, WritesSecond, enrolment_in, is_given}
 use Rattle.desk_line.specs.declared.line.Enrolment.{Enrolment}

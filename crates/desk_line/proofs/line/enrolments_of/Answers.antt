@@ -9,8 +9,7 @@ use Rattle.desk_line.proofs.line.enrolments_of.Goals as goal
 pub returns-in_default-clause-lacks : goal.returns-in_default-clause-lacks
 returns-in_default-clause-lacks c = λ es read.
     all_read (λ word. enrolment_in word.now) c.args.words.now es c.loop-word.word-index _
-    c.loop-word-test.true
-    (sym c.enrolment_of.ensures.value ∙ c.in_default.is) read
+    c.loop-word-test.true (sym c.enrolment_of.ensures.value ∙ c.in_default.is) read
 
 pub loop-word-preserved : goal.loop-word-preserved
 loop-word-preserved c =
