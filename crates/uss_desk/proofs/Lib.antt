@@ -1,2 +1,1 @@
-mod KeepLemmas
 mod RunLemmas

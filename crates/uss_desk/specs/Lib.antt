@@ -1,6 +1,4 @@
--- Read first: Running, Opening, Guarding, Closing, Keeping.
 pub mod Opening
 pub mod Guarding
 pub mod Running
 pub mod Closing
-pub mod Keeping

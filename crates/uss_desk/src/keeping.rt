@@ -1,18 +1,11 @@
 //! What a keeper does to a file: a look at what it holds, and a copy of it.
 
-ghost use Rattle.std.specs.Prelude.{◌≡◌, ◌≢◌, IfErr, IfOk};
-ghost use Rattle.sqlite_wal.specs.Files.{image_at};
-ghost use Rattle.desk_store.specs.World.{World};
-ghost use Rattle.desk_tables.specs.Copying.{AreCounted, LooksIn};
-ghost use Rattle.uss_desk.specs.Keeping.{FailsToLook, IsChecked, IsCopied, IsCopyMade, TellsHoldings};
-
 use crate::causes::{new_cause, room_cause, tell, tell_of};
 use crate::opening::{Look, Unopened, open_failure};
 use desk_line::{Copying, Database, Failure, conclude};
 use desk_program::{CheckedFile, print_checked, print_copied};
 use desk_tables::{Holdings, copy_from, look_at};
 use sqlite::{FileFrom, Files, Start};
-use sqlite_disk::Disk;
 use std::alloc::{AllocError, Global};
 use std::fs::{self, File};
 use std::io::{self, Read, Write};
@@ -53,8 +46,6 @@ pub fn check_file<F: Start, W: Write, E: Write>(
     output: &mut W,
     errors: &mut E,
 ) -> (u8, Result<Look<F>, Unopened<Look<F>>>)
-    ensures { IsChecked (image_at F.Start) result.0 result.1 (W.contents output.old)
-        (W.contents output.new) }
 {
     match look_for(rt, database, start) {
         Ok((connection, file)) => {
@@ -77,9 +68,6 @@ fn look_for<F: Start>(
     database: &Database,
     start: F,
 ) -> Result<(Look<F>, CheckedFile), Unopened<Look<F>>>
-    ensures looks { IfOk result (λ found. (w : World) × TellsHoldings found.1 w
-        × LooksIn (image_at F.Start) found.0 found.1.is_old w) }
-    ensures fault { IfErr result (FailsToLook (image_at F.Start)) }
 {
     let Database::File(path) = database else {
         return Err(Unopened::unread(Failure::Store));
@@ -98,8 +86,6 @@ fn look_for<F: Start>(
 
 // What is told of a file.
 fn told_of(holdings: &Holdings, bulk: Bulk) -> CheckedFile
-    ensures counted { (w : World) → AreCounted holdings.now w → TellsHoldings result w }
-    ensures schema { result.is_old ≡ holdings.now.is_old }
 {
     CheckedFile {
         is_old: holdings.is_old,
@@ -158,8 +144,6 @@ pub fn copy_file<F: Start, N: Start, W: Write, E: Write>(
     output: &mut W,
     errors: &mut E,
 ) -> (u8, Result<Copies<F, N>, Unopened<Look<F>>>)
-    ensures { IsCopied ⟦<FileFrom<N> as Disk>⟧ (image_at F.Start) (image_at N.Start) result.0 result.1
-        (W.contents output.old) (W.contents output.new) }
 {
     match copy_for(rt, words, start, other, errors) {
         Ok(copies) => {
@@ -189,9 +173,6 @@ fn copy_for<F: Start, N: Start, E: Write>(
     other: N,
     errors: &mut E,
 ) -> Result<Copies<F, N>, Unopened<Look<F>>>
-    ensures made { IfOk result
-        (IsCopyMade ⟦<FileFrom<N> as Disk>⟧ (image_at F.Start) (image_at N.Start)) }
-    ensures fault { IfErr result (FailsToLook (image_at F.Start)) }
 {
     let Database::File(path) = &words.database else {
         return Err(Unopened::unread(Failure::Store));
@@ -220,9 +201,6 @@ fn copy_to<F: Start, N: Start, E: Write>(
     other: N,
     errors: &mut E,
 ) -> Result<Copies<F, N>, Unopened<Look<F>>>
-    ensures made { IfOk result
-        (IsCopyMade ⟦<FileFrom<N> as Disk>⟧ (image_at F.Start) (image_at N.Start)) }
-    ensures fault { IfErr result (FailsToLook (image_at F.Start)) }
 {
     match copy_from(rt, path, start, &names.part, other) {
         Ok(copied) => {
