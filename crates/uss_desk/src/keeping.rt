@@ -45,8 +45,7 @@ pub fn check_file<F: Start, W: Write, E: Write>(
     start: F,
     output: &mut W,
     errors: &mut E,
-) -> (u8, Result<Look<F>, Unopened<Look<F>>>)
-{
+) -> (u8, Result<Look<F>, Unopened<Look<F>>>) {
     match look_for(rt, database, start) {
         Ok((connection, file)) => {
             let exit = print_checked(rt.alloc(), &file, output, errors);
@@ -67,8 +66,7 @@ fn look_for<F: Start>(
     rt: &HostRuntime,
     database: &Database,
     start: F,
-) -> Result<(Look<F>, CheckedFile), Unopened<Look<F>>>
-{
+) -> Result<(Look<F>, CheckedFile), Unopened<Look<F>>> {
     let Database::File(path) = database else {
         return Err(Unopened::unread(Failure::Store));
     };
@@ -85,8 +83,7 @@ fn look_for<F: Start>(
 }
 
 // What is told of a file.
-fn told_of(holdings: &Holdings, bulk: Bulk) -> CheckedFile
-{
+fn told_of(holdings: &Holdings, bulk: Bulk) -> CheckedFile {
     CheckedFile {
         is_old: holdings.is_old,
         has_sums: bulk.has_sums,
@@ -143,8 +140,7 @@ pub fn copy_file<F: Start, N: Start, W: Write, E: Write>(
     other: N,
     output: &mut W,
     errors: &mut E,
-) -> (u8, Result<Copies<F, N>, Unopened<Look<F>>>)
-{
+) -> (u8, Result<Copies<F, N>, Unopened<Look<F>>>) {
     match copy_for(rt, words, start, other, errors) {
         Ok(copies) => {
             let holdings = copies.1.1;
@@ -172,8 +168,7 @@ fn copy_for<F: Start, N: Start, E: Write>(
     start: F,
     other: N,
     errors: &mut E,
-) -> Result<Copies<F, N>, Unopened<Look<F>>>
-{
+) -> Result<Copies<F, N>, Unopened<Look<F>>> {
     let Database::File(path) = &words.database else {
         return Err(Unopened::unread(Failure::Store));
     };
@@ -200,8 +195,7 @@ fn copy_to<F: Start, N: Start, E: Write>(
     names: &Names,
     other: N,
     errors: &mut E,
-) -> Result<Copies<F, N>, Unopened<Look<F>>>
-{
+) -> Result<Copies<F, N>, Unopened<Look<F>>> {
     match copy_from(rt, path, start, &names.part, other) {
         Ok(copied) => {
             let (connection, (store, holdings)) = copied;
