@@ -17,10 +17,6 @@ const TAKEN: &str = "it is there already";
 // What a database file begins with.
 const MAGIC: &[u8; 16] = b"SQLite format 3\0";
 
-// Why a database can't be read though its files could be opened.
-const UNREADABLE: &str =
-    "a damaged page, the log of another file, rows that break a key, or a disk that fails";
-
 /// Tells why the file of `migrate` can't be opened, if it can't.
 pub fn tell_cause<F: Start, E: Write>(
     rt: &HostRuntime,
@@ -30,29 +26,16 @@ pub fn tell_cause<F: Start, E: Write>(
 ) {
     if let Line::Migrate(words) = line
         && let Database::File(path) = &words.database
-        && let Opened::Moved(Err(unopened)) = opened
+        && let Opened::Moved(Err(failure)) = opened
     {
-        tell(
-            rt,
-            path,
-            unopened.failure,
-            unopened.connection.is_some(),
-            errors,
-        );
+        tell(rt, path, *failure, errors);
     }
 }
 
-/// Tells why the file at a path can't be opened: `uss_desk: PATH: CAUSE`, where `was_read` says whether a
-/// connection to it was had. A fault of the writer is passed over.
-pub fn tell<E: Write>(
-    rt: &HostRuntime,
-    path: &str,
-    failure: Failure,
-    was_read: bool,
-    errors: &mut E,
-) {
+/// Tells why the file at a path can't be opened: `uss_desk: PATH: CAUSE`. A fault of the writer is passed
+/// over.
+pub fn tell<E: Write>(rt: &HostRuntime, path: &str, failure: Failure, errors: &mut E) {
     let cause = match failure {
-        Failure::Store if was_read => UNREADABLE,
         Failure::Store => store_cause(rt, path),
         Failure::NotADesk => {
             "no table, other tables than a desk's or in another order, or rows of no content"
@@ -136,7 +119,9 @@ fn store_cause(rt: &HostRuntime, path: &str) -> &'static str {
         _ => {}
     }
     match begins(rt, path) {
-        Some(true) => UNREADABLE,
+        Some(true) => {
+            "a damaged page, the log of another file, rows that break a key, or a disk that fails"
+        }
         Some(false) => "no SQLite database",
         None => "it can't be read",
     }

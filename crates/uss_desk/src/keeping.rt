@@ -1,14 +1,17 @@
 //! What a keeper does to a file: a look at what it holds, and a copy of it.
 
 use crate::causes::{new_cause, room_cause, tell, tell_of};
-use crate::opening::{Look, Unopened, open_failure};
+use crate::opening::open_failure;
 use desk_line::{Copying, Database, Failure, conclude};
 use desk_program::{CheckedFile, print_checked, print_copied};
-use desk_tables::{Holdings, copy_from, look_at};
-use sqlite::{FileFrom, Files, Start};
+use desk_tables::{FilesFault, Holdings, copy_from, look_at};
+use sqlite::{Alter, Connection, FileFrom, FileStore, Files, Start};
 use std::alloc::{AllocError, Global};
 use std::fs::{self, File};
 use std::io::{self, Read, Write};
+
+/// A connection with which a file was read, where `F` stands for what the file held.
+pub type Look<F> = Connection<FileStore<FileFrom<F>>>;
 
 /// What was copied: the connection to it, the new files, and what they hold.
 pub type Copies<F, N> = (Look<F>, (Files<FileFrom<N>>, Holdings));
@@ -36,27 +39,26 @@ struct Bulk {
     log: u64,
 }
 
-/// Prints what a database holds, and answers the exit status and the connection with which it was read. It is
-/// left as it is. Why it can't be read, and the word of the failure, go to `errors`; a fault there is passed
-/// over.
+/// Prints what a database holds, and answers the exit status and the connection with which it was read, if it
+/// holds something. It is left as it is. Why it can't be read, and the word of the failure, go to `errors`; a
+/// fault there is passed over.
 pub fn check_file<F: Start, W: Write, E: Write>(
     rt: &HostRuntime,
     database: &Database,
     start: F,
     output: &mut W,
     errors: &mut E,
-) -> (u8, Result<Look<F>, Unopened<Look<F>>>) {
+) -> (u8, Option<Look<F>>) {
     match look_for(rt, database, start) {
         Ok((connection, file)) => {
             let exit = print_checked(rt.alloc(), &file, output, errors);
-            (exit.status, Ok(connection))
+            (exit.status, Some(connection))
         }
-        Err(unopened) => {
-            let failure = unopened.failure;
+        Err(failure) => {
             if let Database::File(path) = database {
-                tell(rt, path, failure, unopened.connection.is_some(), errors);
+                tell(rt, path, failure, errors);
             }
-            (conclude(errors, Err(failure)).status, Err(unopened))
+            (conclude(errors, Err(failure)).status, None)
         }
     }
 }
@@ -66,19 +68,14 @@ fn look_for<F: Start>(
     rt: &HostRuntime,
     database: &Database,
     start: F,
-) -> Result<(Look<F>, CheckedFile), Unopened<Look<F>>> {
+) -> Result<(Look<F>, CheckedFile), Failure> {
     let Database::File(path) = database else {
-        return Err(Unopened::unread(Failure::Store));
+        return Err(Failure::Store);
     };
-    let Ok(bulk) = bulk_of(rt, path) else {
-        return Err(Unopened::unread(Failure::Memory));
-    };
+    let bulk = bulk_of(rt, path)?;
     match look_at(rt, path, start) {
         Ok((connection, holdings)) => Ok((connection, told_of(&holdings, bulk))),
-        Err(refused) => Err(Unopened {
-            failure: open_failure(&refused.fault),
-            connection: refused.connection,
-        }),
+        Err(refused) => Err(open_failure(&refused.fault)),
     }
 }
 
@@ -140,7 +137,7 @@ pub fn copy_file<F: Start, N: Start, W: Write, E: Write>(
     other: N,
     output: &mut W,
     errors: &mut E,
-) -> (u8, Result<Copies<F, N>, Unopened<Look<F>>>) {
+) -> (u8, Option<Copies<F, N>>) {
     match copy_for(rt, words, start, other, errors) {
         Ok(copies) => {
             let holdings = copies.1.1;
@@ -151,12 +148,9 @@ pub fn copy_file<F: Start, N: Start, W: Write, E: Write>(
                 output,
                 errors,
             );
-            (exit.status, Ok(copies))
+            (exit.status, Some(copies))
         }
-        Err(unopened) => (
-            conclude(errors, Err(unopened.failure)).status,
-            Err(unopened),
-        ),
+        Err(failure) => (conclude(errors, Err(failure)).status, None),
     }
 }
 
@@ -168,21 +162,19 @@ fn copy_for<F: Start, N: Start, E: Write>(
     start: F,
     other: N,
     errors: &mut E,
-) -> Result<Copies<F, N>, Unopened<Look<F>>> {
+) -> Result<Copies<F, N>, Failure> {
     let Database::File(path) = &words.database else {
-        return Err(Unopened::unread(Failure::Store));
+        return Err(Failure::Store);
     };
-    let Ok(names) = names_of(rt.alloc(), &words.to) else {
-        return Err(Unopened::unread(Failure::Memory));
-    };
+    let names = names_of(rt.alloc(), &words.to)?;
     if is_refused(rt, &names, errors) {
-        return Err(Unopened::unread(Failure::Store));
+        return Err(Failure::Store);
     }
     let copies = copy_to(rt, path, start, &names, other, errors)?;
     if put_in_place(rt, &names).is_err() {
         let cause = "it can't be given its name, or its folder can't be synced";
         tell_of(rt.alloc(), &names.to, cause, errors);
-        return Err(Unopened::unread(Failure::Store));
+        return Err(Failure::Store);
     }
     Ok(copies)
 }
@@ -195,28 +187,29 @@ fn copy_to<F: Start, N: Start, E: Write>(
     names: &Names,
     other: N,
     errors: &mut E,
-) -> Result<Copies<F, N>, Unopened<Look<F>>> {
+) -> Result<Copies<F, N>, Failure> {
     match copy_from(rt, path, start, &names.part, other) {
         Ok(copied) => {
             let (connection, (store, holdings)) = copied;
             match store.close() {
                 Ok(files) => Ok((connection, (files, holdings))),
                 Err(_) => {
-                    give_up(rt, path, names, Failure::Store, true, errors);
-                    Err(Unopened::unread(Failure::Store))
+                    give_up(rt, path, names, Failure::Store, errors);
+                    Err(Failure::Store)
                 }
             }
         }
         Err(refused) => {
-            let failure = open_failure(&refused.fault);
-            let was_read = refused.connection.is_some();
-            give_up(rt, path, names, failure, was_read, errors);
-            Err(Unopened {
-                failure,
-                connection: refused.connection,
-            })
+            let failure = failure_of(refused);
+            give_up(rt, path, names, failure, errors);
+            Err(failure)
         }
     }
+}
+
+// The failure of files that were refused. Their connection is closed, so that they can be looked at again.
+fn failure_of<S: Alter + Drop>(refused: FilesFault<S>) -> Failure {
+    open_failure(&refused.fault)
 }
 
 fn names_of(alloc: Global, to: &str) -> Result<Names, AllocError> {
@@ -266,11 +259,10 @@ fn give_up<E: Write>(
     path: &str,
     names: &Names,
     failure: Failure,
-    was_read: bool,
     errors: &mut E,
 ) {
     if let Ok(false) = fs::exists(rt, names.part.as_str()) {
-        tell(rt, path, failure, was_read, errors);
+        tell(rt, path, failure, errors);
         return;
     }
     if let Failure::Store = failure {

@@ -1,6 +1,6 @@
 //! What a line is carried out at: a desk over the database that it names, or why that can't be opened.
 
-ghost use Rattle.std.specs.Prelude.{◌≡◌, None, IfErr, IfOk};
+ghost use Rattle.std.specs.Prelude.{◌≡◌, IfErr, IfOk};
 ghost use Rattle.sqlite_wal.specs.Files.{image_at};
 ghost use Rattle.uss_desk.specs.Opening as spec;
 ghost use Rattle.uss_desk.specs.Opening.{IsBlank, IsMemory, IsMovedAt, IsMovedIn, IsOpenedAt, IsOpenedFor};
@@ -11,7 +11,7 @@ use desk_line::{Database, Failure, Line};
 use desk_run::Desk;
 use desk_tables::{OpenFault, SqliteStore};
 use ram_disk::Ram;
-use sqlite::{Connection, FileFrom, FileStore, Start};
+use sqlite::{FileFrom, FileStore, Start};
 use std::alloc::Global;
 
 /// A desk in memory.
@@ -20,46 +20,21 @@ pub type MemoryDesk = Desk<SqliteStore<FileStore<Ram>>>;
 /// A desk over the database in files, where `F` stands for what they held.
 pub type FileDesk<F> = Desk<SqliteStore<FileStore<FileFrom<F>>>>;
 
-/// Why a database was not opened, with the connection `C` that read it, if there was one.
+/// What was opened for a line, a desk `M` in memory or one `D` over files; or why it could not be.
 #[derive(Drop)]
-pub struct Unopened<C: Drop> {
-    /// The failure with which the line ends.
-    pub failure: Failure,
-    /// The connection; none if nothing in the database was read.
-    pub connection: Option<C>,
-}
-
-impl<C: Drop> Unopened<C> {
-    /// Nothing in the database was read.
-    pub fn unread(failure: Failure) -> Unopened<C>
-        ensures { result ≡ record { failure = failure; connection = None } }
-    {
-        Unopened {
-            failure,
-            connection: None,
-        }
-    }
-}
-
-/// A connection with which files were read, where `F` stands for what they held.
-pub type Look<F> = Connection<FileStore<FileFrom<F>>>;
-
-/// What was opened for a line, a desk `M` in memory or one `D` over files; or why it could not be, which is
-/// `U` for files.
-#[derive(Drop)]
-pub enum Opened<M: Drop, D: Drop, U: Drop> {
+pub enum Opened<M: Drop, D: Drop> {
     /// Nothing: `token` and `cover` need no desk.
     Nothing,
     /// A desk in memory.
     Memory(Result<M, Failure>),
     /// A desk over files.
-    Files(Result<D, U>),
+    Files(Result<D, Failure>),
     /// A desk over files, and how many plans were moved to it from schema 1.
-    Moved(Result<(D, u32), U>),
+    Moved(Result<(D, u32), Failure>),
 }
 
 /// What is opened for a line, where `F` stands for what the files that it names held.
-pub type OpenedDesk<F> = Opened<MemoryDesk, FileDesk<F>, Unopened<Look<F>>>;
+pub type OpenedDesk<F> = Opened<MemoryDesk, FileDesk<F>>;
 
 /// Opens what a line needs; `start` stands for what the files that it names held.
 pub fn open_for<F: Start>(rt: &HostRuntime, line: &Line, start: F) -> OpenedDesk<F>
@@ -118,13 +93,13 @@ pub fn open_in_memory(alloc: Global) -> Result<MemoryDesk, Failure>
 ///
 /// # Errors
 ///
-/// The failure is that of `open_failure`.
+/// That of `open_failure`.
 pub fn open_file<F: Start>(
     rt: &HostRuntime,
     path: &str,
     is_told: bool,
     start: F,
-) -> Result<FileDesk<F>, Unopened<Look<F>>>
+) -> Result<FileDesk<F>, Failure>
     ensures { IsOpenedIn (image_at F.Start) result }
 {
     match SqliteStore::open_from(rt, path, start) {
@@ -134,10 +109,7 @@ pub fn open_file<F: Start>(
             }
             Ok(Desk::new(store))
         }
-        Err(refused) => Err(Unopened {
-            failure: open_failure(&refused.fault),
-            connection: refused.connection,
-        }),
+        Err(refused) => Err(open_failure(&refused.fault)),
     }
 }
 
@@ -147,11 +119,11 @@ fn open_old<F: Start>(
     rt: &HostRuntime,
     database: &Database,
     start: F,
-) -> Result<(FileDesk<F>, u32), Unopened<Look<F>>>
+) -> Result<(FileDesk<F>, u32), Failure>
     ensures { IsMovedAt (image_at F.Start) database.now result }
 {
     match database {
-        Database::InMemory => Err(Unopened::unread(Failure::Store)),
+        Database::InMemory => Err(Failure::Store),
         Database::File(path) => open_old_file(rt, path, start),
     }
 }
@@ -161,15 +133,12 @@ fn open_old_file<F: Start>(
     rt: &HostRuntime,
     path: &str,
     start: F,
-) -> Result<(FileDesk<F>, u32), Unopened<Look<F>>>
+) -> Result<(FileDesk<F>, u32), Failure>
     ensures { IsMovedIn (image_at F.Start) result }
 {
     match SqliteStore::migrate_from(rt, path, start) {
         Ok((store, count)) => Ok((Desk::new(store), count)),
-        Err(refused) => Err(Unopened {
-            failure: open_failure(&refused.fault),
-            connection: refused.connection,
-        }),
+        Err(refused) => Err(open_failure(&refused.fault)),
     }
 }
 

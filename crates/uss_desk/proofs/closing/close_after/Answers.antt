@@ -3,5 +3,5 @@ use Rattle.uss_desk.proofs.closing.close_after.Goals as goal
 
 pub returns-in-Ok : goal.returns-in-Ok
 returns-in-Ok g c = rw c.in-Some.is
-    (is_closed c.in-Some.desk c.into_store.result c.args.status _ c.in-Ok.files c.into_store.ensures
-    c.in-Ok.ensures.copied)
+    (is_closed c.in-Some.desk c.into_store.result c.silent-in-Ok.result c.args.status _ c.in-Ok.files
+    c.silent-in-Ok.ensures.status c.silent-in-Ok.ensures.cut c.into_store.ensures c.in-Ok.ensures.copied)

@@ -6,8 +6,8 @@ use Rattle.desk_tables.specs.Guarding.{IsGuarded}
 use Rattle.desk_tables.specs.Leaving.{IsSettledAt}
 use Rattle.uss_desk.proofs.opening.open_file.Goals as goal
 
-pub returns-in-Ok : goal.returns-in-Ok
-returns-in-Ok g c =
+pub returns-after-is_told : goal.returns-after-is_told
+returns-after-is_told g c =
     let opens = subst (λ d. OpensIn (image_at g.F.Start) d.store.held d.store.world) (sym c.new.ensures)
     c.in-Ok.ensures.begins in
     let left = subst (λ d. IsSettledAt over_files d.store.held d.store.world) (sym c.new.ensures)
@@ -17,3 +17,10 @@ returns-in-Ok g c =
       guarded = subst (λ d. IsGuarded d.store.held) (sym c.new.ensures) c.in-Ok.ensures.guarded;
       none = ap (λ d. d.permitted) c.new.ensures;
     }
+
+pub returns-in-Err : goal.returns-in-Err
+returns-in-Err g c = (
+  c.in-Err.refused.fault,
+  c.open_failure.ensures,
+  (c.in-Err.refused.connection, c.in-Err.ensures.fault),
+)
