@@ -11,6 +11,9 @@ from faults.scenario import ANSWERS, CONTENTS, ENROLLED, answer
 MEMORY = ("out_of_memory", "memory")
 STORE = ("store", "store")
 
+# What is told of a desk in which nobody is enrolled.
+UNENROLLED = "no operator is enrolled, so each request is answered 403"
+
 
 def told(output, answers):
     """How many of the right answers an output begins with, and the bytes after them."""
@@ -68,7 +71,7 @@ def wrong_stop(ran, answers):
 def wrong_content(path, allowed):
     """A file that is opened again has one of the contents that are allowed, as a List of each operator tells them."""
     ran = read_content(path)
-    if ran.status != 0 or ran.errors:
+    if ran.status != 0 or ran.errors not in ("", f"uss_desk: {path}: {UNENROLLED}\n"):
         return f"opened again: status {ran.status}, {ran.errors!r}"
     if ran.output not in allowed:
         return f"opened again it has {ran.output.decode(errors='replace')!r}"
