@@ -73,4 +73,4 @@ pub is_closed : {D : Type 0} {g : disk.Ghosts D} (desk : Parts (Shown (FileStore
     → store ≡ desk.store → (AreClean g files.log files.db → IsCopied store.held files)
     → IsClosed (Some desk) status (ending exit told told) (Some files)
 is_closed {D} {g} desk store exit status told files is uncut same copied =
-    ((is, uncut, refl), subst (λ s. AreClean g files.log files.db → IsCopied s.held files) same copied)
+    ((is, (uncut, refl)), subst (λ s. AreClean g files.log files.db → IsCopied s.held files) same copied)
