@@ -163,7 +163,7 @@ fn refuses_words(rt: HostRuntime) -> Result<(), Fail> {
     ] {
         assert!(rt; is_refused(alloc, words)?);
     }
-    assert!(rt; line_of(alloc, &["play", "--at", "253370764800"])?.is_ok());
+    assert!(rt; line_of(alloc, &["play", "--at", "253370764800"])?.is_some());
     Ok(())
 }
 
@@ -171,7 +171,7 @@ fn refuses_words(rt: HostRuntime) -> Result<(), Fail> {
 #[test]
 fn shows_help(rt: HostRuntime) -> Result<(), Fail> {
     let alloc = rt.alloc();
-    let Err(WordsFault::Words(help)) = line_of(alloc, &["play", "--help"])? else {
+    let Err(WordsFault::Words(help)) = task_of(alloc, &["play", "--help"])? else {
         return Err(Fail::from("no help"));
     };
     let text = format!(in alloc; "{help}")?;
