@@ -8,7 +8,7 @@ use Rattle.desk_store.specs.World.{World}
 use Rattle.desk_store.specs.Crashes.{LeavesOldOr}
 use Rattle.desk_run.specs.DeskWorld.{DeskWorld, enrolled}
 use Rattle.desk_wire.specs.Given.{told_in_play}
-use Rattle.desk_wire.specs.Kept.{IsCertain, IsFoundNow, IsKept, IsLeftBy}
+use Rattle.desk_wire.specs.Crashes.{IsCertain, IsFoundNow, IsKept, IsLeftBy}
 use Rattle.desk_wire.specs.Playing.{HasPlayed}
 use Rattle.desk_wire.specs.declared.play.PlayEnd.{PlayEnd}
 use Rattle.desk_wire.specs.Serving.{HasServed, IsTaken}

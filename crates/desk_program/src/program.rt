@@ -2,9 +2,9 @@
 
 ghost use Rattle.std.specs.Prelude.{◌≡◌, ◌≤◌, ◌⊎◌, Option, IfErr, IfOk, OnErr, OnOk, string_bytes};
 ghost use Rattle.desk_run.specs.DeskWorld.{IsSettled, world_of};
-ghost use Rattle.desk_run.specs.Faults.{IsBreakdown};
-ghost use Rattle.desk_store.specs.Frames.{Remembers};
-ghost use Rattle.desk_store.specs.Faults.{IsHonest};
+ghost use Rattle.desk_run.specs.CallFaults.{IsBreakdown};
+ghost use Rattle.desk_store.specs.StoreFrames.{Remembers};
+ghost use Rattle.desk_store.specs.StoreFaults.{IsHonest};
 ghost use Rattle.desk_store.specs.World.{World};
 ghost use Rattle.desk_line.specs.Exits as spec;
 ghost use Rattle.desk_line.specs.Exits.{ending};

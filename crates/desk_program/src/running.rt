@@ -2,7 +2,7 @@
 
 ghost use Rattle.std.specs.Prelude.{◌≡◌, ◌≤◌, Option, None, IfErr, IfOk};
 ghost use Rattle.std.specs.Option.{IsSomeAnd};
-ghost use Rattle.desk_store.specs.Faults.{IsHonest};
+ghost use Rattle.desk_store.specs.StoreFaults.{IsHonest};
 ghost use Rattle.desk_store.specs.World.{World};
 ghost use Rattle.desk_line.specs.Exits.{FailsWith, ending};
 ghost use Rattle.desk_line.specs.Lines.{HasDatabase, IsLine};
@@ -56,7 +56,7 @@ pub fn run_opened<S: PlanStore + Drop, P: Port, R: Read, W: Write, E: Write>(
 {
     match opened {
         Ok(mut desk) => {
-            let exit = run_at(alloc, line, &mut desk, port, input, output, errors);
+            let exit = carry_out(alloc, line, &mut desk, port, input, output, errors);
             (exit, Some(desk))
         }
         Err(failure) => (conclude(errors, Err(failure)), None),
@@ -64,7 +64,7 @@ pub fn run_opened<S: PlanStore + Drop, P: Port, R: Read, W: Write, E: Write>(
 }
 
 // Does what a line says at a desk, and answers how it ended.
-fn run_at<S: PlanStore, P: Port, R: Read, W: Write, E: Write>(
+fn carry_out<S: PlanStore, P: Port, R: Read, W: Write, E: Write>(
     alloc: Global,
     line: &Line,
     desk: &mut Desk<S>,

@@ -2,8 +2,8 @@
 
 ghost use Rattle.std.specs.Prelude.{◌≡◌, ◌≤◌, ◌⊎◌, Option, IfOk, IfErr, OnOk, string_bytes};
 ghost use Rattle.std.specs.Io.KnownBytes.{Appends};
-ghost use Rattle.desk_store.specs.Frames.{Remembers};
-ghost use Rattle.desk_store.specs.Faults.{IsHonest};
+ghost use Rattle.desk_store.specs.StoreFrames.{Remembers};
+ghost use Rattle.desk_store.specs.StoreFaults.{IsHonest};
 ghost use Rattle.desk_store.specs.World.{World};
 ghost use Rattle.desk_line.specs.Exits.{IsAnnounced, ending, failure_at};
 ghost use Rattle.desk_line.specs.Lines.{IsServe};

@@ -11,8 +11,8 @@ use Rattle.std.proofs.lemmas.List.{map_more, map-append}
 use Rattle.std.proofs.lemmas.List.Elements.{filter-append}
 use Rattle.httparse.specs.declared.spans.HeaderSpan.{HeaderSpan}
 use Rattle.httparse.specs.Spans.{header_bytes}
-use Rattle.desk_reading.specs.declared.fields.Once.{Once}
-use Rattle.desk_reading.specs.declared.fields.Once.TheVariants.{Absent, Value, More}
+use Rattle.desk_reading.specs.declared.fields.Occurrence.{Occurrence}
+use Rattle.desk_reading.specs.declared.fields.Occurrence.TheVariants.{Absent, Value, More}
 use Rattle.desk_reading.specs.Fields.{count_shown, Count, absent, once, more, once_of, values_of}
 
 -- ---- values
@@ -30,7 +30,7 @@ once_of-push (first ∷ []) value = refl
 once_of-push (first ∷ second ∷ rest) value = refl
 
 -- where there is one already
-one_more-present : (found : Once) (value : List ℕ) → found ≢ Absent → one_more (count_shown found) value
+one_more-present : (found : Occurrence) (value : List ℕ) → found ≢ Absent → one_more (count_shown found) value
     ≡ more
 one_more-present Absent value present = absurd (present refl)
 one_more-present (Value other) value present = refl
@@ -78,7 +78,7 @@ same_name-from a b r decides = same_from_decides r _ decides
     (bytes_eq-Decides (map to_ascii_lowercase a) (map to_ascii_lowercase b))
 
 -- a header with the name, where none was found before it and where one was
-pub first_found : (found next : Once) (name text : List ℕ) (headers : List HeaderSpan) (i : ℕ)
+pub first_found : (found next : Occurrence) (name text : List ℕ) (headers : List HeaderSpan) (i : ℕ)
     (d : HeaderSpan) → i < length headers
     → count_shown found ≡ once_of (values_at name text (take i headers)) → found ≡ Absent
     → str_eq_ignore_ascii_case (header_bytes text (get_or headers i d)).0 name ≡ true
@@ -90,7 +90,7 @@ first_found found next name text headers i d below sofar was same is =
     (sym (ap count_shown was) ∙ sofar)
     ∙ sym (once_of-found name text headers i d below same)
 
-pub further_found : (found : Once) (name text : List ℕ) (headers : List HeaderSpan) (i : ℕ)
+pub further_found : (found : Occurrence) (name text : List ℕ) (headers : List HeaderSpan) (i : ℕ)
     (d : HeaderSpan)
     → i < length headers
     → count_shown found ≡ once_of (values_at name text (take i headers)) → found ≢ Absent

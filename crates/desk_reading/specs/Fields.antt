@@ -5,8 +5,8 @@ use Rattle.std.specs.List.{list_all}
 use Rattle.std.specs.Str.{str_eq_ignore_ascii_case}
 use Rattle.std.specs.Str.Parse.{digits_value}
 use Rattle.desk_reading.specs.WireLimits.{digit_room}
-use Rattle.desk_reading.specs.declared.fields.Once.{Once}
-use Rattle.desk_reading.specs.declared.fields.Once.TheVariants.{Absent, Value, More}
+use Rattle.desk_reading.specs.declared.fields.Occurrence.{Occurrence}
+use Rattle.desk_reading.specs.declared.fields.Occurrence.TheVariants.{Absent, Value, More}
 
 -- the values of the fields of that name, in any case (RFC 9110, section 5.1)
 abbrev pub values_of : List ℕ → List (List ℕ × List ℕ) → List (List ℕ)
@@ -30,7 +30,7 @@ abbrev pub count_in : List ℕ → List (List ℕ × List ℕ) → Count
 count_in name fields = once_of (values_of name fields)
 
 -- what the code's answer says
-abbrev pub count_shown : Once → Count
+abbrev pub count_shown : Occurrence → Count
 count_shown Absent = absent
 count_shown (Value value) = once value.now
 count_shown More = more

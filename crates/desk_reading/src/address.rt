@@ -5,7 +5,7 @@ ghost use Rattle.desk_reading.specs.Addresses.{address_of, address_shown, operat
 ghost use Rattle.desk_reading.specs.Fields.{count_in};
 ghost use Rattle.desk_reading.specs.Readings.{Gives};
 
-use crate::fields::Once;
+use crate::fields::Occurrence;
 use crate::head::Head;
 use crate::resource::Action;
 use crate::routes::find_target;
@@ -51,7 +51,7 @@ fn find_operator(head: &Head<'_>) -> Option<Operator>
     ensures { result ≡ operator_of (count_in (codes "x-operator") head.now.fields) }
 {
     match head.once(b"x-operator") {
-        Once::Value(name) => Operator::try_new(name),
+        Occurrence::Value(name) => Operator::try_new(name),
         _ => None,
     }
 }

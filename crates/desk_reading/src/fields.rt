@@ -11,23 +11,23 @@ const DIGIT_ROOM: usize = 19;
 
 /// How often a field is there, with its value if it is there once.
 #[derive(Clone, Copy, Debug, PartialEq, Eq)]
-pub enum Once<'t> {
+pub enum Occurrence<'t> {
     Absent,
     Value(&'t [u8]),
     More,
 }
 
 /// How often a field of that name, in any case, is among `headers`, which lie in `text`.
-pub fn find_once<'t>(text: &'t [u8], headers: &[HeaderSpan], name: &[u8]) -> Once<'t>
+pub fn find_single<'t>(text: &'t [u8], headers: &[HeaderSpan], name: &[u8]) -> Occurrence<'t>
     requires { All (IsHeaderWithin (length text.now)) headers.now }
     ensures { count_shown result ≡ count_in name.now (map (header_bytes text.now) headers.now) }
 {
-    let mut found = Once::Absent;
+    let mut found = Occurrence::Absent;
     for header in headers {
         if header.name.of(text).eq_ignore_ascii_case(name) {
             found = match found {
-                Once::Absent => Once::Value(header.value.of(text)),
-                _ => Once::More,
+                Occurrence::Absent => Occurrence::Value(header.value.of(text)),
+                _ => Occurrence::More,
             };
         }
     }

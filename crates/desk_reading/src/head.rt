@@ -6,7 +6,7 @@ ghost use Rattle.desk_reading.specs.Fields.{count_in, count_shown};
 ghost use Rattle.desk_reading.specs.WireLimits.{field_room};
 ghost use Rattle.desk_reading.specs.Heads.{HeadParts, head_within, parts_at, parts_of};
 
-use crate::fields::{Once, find_once};
+use crate::fields::{Occurrence, find_single};
 use httparse::Status;
 use httparse::spans::{EMPTY_HEADER_SPAN, HeaderSpan, RequestSpans, parse_request};
 use std::marker::Model;
@@ -46,10 +46,10 @@ impl<'t> Head<'t> {
     }
 
     /// How often a field of that name, in any case, is there, with its value if it is there once.
-    pub fn once(&self, name: &[u8]) -> Once<'t>
+    pub fn once(&self, name: &[u8]) -> Occurrence<'t>
         ensures { count_shown result ≡ count_in name.now self.now.fields }
     {
-        find_once(self.text, &self.headers[..self.spans.headers], name)
+        find_single(self.text, &self.headers[..self.spans.headers], name)
     }
 }
 

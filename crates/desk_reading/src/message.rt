@@ -5,7 +5,7 @@ ghost use Rattle.desk_reading.specs.Readings.{Gives};
 ghost use Rattle.desk_reading.specs.Fields.{count_in, length_of};
 ghost use Rattle.desk_reading.specs.Messages.{body_len, front_in, front_shown, message_in, message_read, unended};
 
-use crate::fields::{Once, read_decimal};
+use crate::fields::{Occurrence, read_decimal};
 use crate::framing::{HEAD_ROOM, head_length};
 use crate::head::{Head, read_head};
 use crate::wire_fault::WireFault;
@@ -85,7 +85,7 @@ fn unended_fault(text: &[u8]) -> WireFault
 fn read_body_length(head: &Head<'_>) -> Result<u64, WireFault>
     ensures { result ≡ body_len head.now.fields }
 {
-    if !matches!(head.once(b"transfer-encoding"), Once::Absent) {
+    if !matches!(head.once(b"transfer-encoding"), Occurrence::Absent) {
         return Err(WireFault::TransferEncoding);
     }
     let Some(size) = read_content_length(head) else {
@@ -103,8 +103,8 @@ fn read_content_length(head: &Head<'_>) -> Option<u64>
     ensures { result ≡ length_of (count_in (codes "content-length") head.now.fields) }
 {
     match head.once(b"content-length") {
-        Once::Absent => Some(0),
-        Once::Value(digits) => read_decimal(digits),
-        Once::More => None,
+        Occurrence::Absent => Some(0),
+        Occurrence::Value(digits) => read_decimal(digits),
+        Occurrence::More => None,
     }
 }

@@ -1,5 +1,5 @@
 -- Read first: Verdicts, Sides, TwoRuns. What stands in laws/ is checked and needn't be read.
-pub mod Faults
+pub mod CallFaults
 pub mod DeskWorld
 pub mod Verdicts
 pub mod Calls

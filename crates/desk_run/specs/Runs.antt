@@ -9,7 +9,7 @@ use Rattle.desk_run.specs.declared.fault.DeskFault.TheVariants.{OutOfMemory, Sto
 use Rattle.desk_run.specs.declared.run.Ran.{Ran}
 use Rattle.desk_run.specs.declared.run.Outcome.{Outcome}
 use Rattle.desk_run.specs.declared.run.Outcome.TheVariants as outcome
-use Rattle.desk_run.specs.Faults.{IsBreakdown}
+use Rattle.desk_run.specs.CallFaults.{IsBreakdown}
 use Rattle.desk_run.specs.Verdicts.{Told, replied, unknown_operator, no_such_plan, told_to, step}
 
 -- what each caller is told

@@ -7,35 +7,36 @@ use Rattle.desk_run.specs.Runs.{told_in, world_left}
 use Rattle.desk_run.specs.Sides.{OwnAlike, beside, along}
 
 -- a call, with its moment
-abbrev pub Made : Type 0
-Made = ℤ × Asked
+abbrev pub TimedCall : Type 0
+TimedCall = ℤ × Asked
 
-abbrev pub caller : Made → Option (List ℕ)
+abbrev pub caller : TimedCall → Option (List ℕ)
 caller call = Some call.1.operator
 
 -- the world that it leaves
-abbrev pub left : DeskWorld → Made → DeskWorld
+abbrev pub left : DeskWorld → TimedCall → DeskWorld
 left w call = step w call.1.operator call.0 call.1.call
 
 -- the operator's calls, in their order
-abbrev pub calls_of : List ℕ → List Made → List Made
+abbrev pub calls_of : List ℕ → List TimedCall → List TimedCall
 calls_of o calls = beside caller o calls calls
 
 -- what the operator is told
-abbrev pub told_for : List ℕ → DeskWorld → List Made → List Told
+abbrev pub told_for : List ℕ → DeskWorld → List TimedCall → List Told
 told_for o w calls = beside caller o calls (told_in w calls)
 
 -- the worlds that its calls meet
-abbrev pub met_by : List ℕ → DeskWorld → List Made → List DeskWorld
+abbrev pub met_by : List ℕ → DeskWorld → List TimedCall → List DeskWorld
 met_by o w calls = beside caller o calls (along left (λ u call. u) w calls)
 
 -- what it owns after each of its calls, and the permitted priorities
-abbrev pub owned_by : List ℕ → DeskWorld → List Made → List Side
+abbrev pub owned_by : List ℕ → DeskWorld → List TimedCall → List Side
 owned_by o w calls = beside caller o calls (along left (λ u call. side (left u call) o) w calls)
 
 -- two runs are the same for an operator: it is told the same, and it owns the same after each of its
 -- calls and at the end
-pub record IsSameFor (o : List ℕ) (v : DeskWorld) (calls : List Made) (w : DeskWorld) (others : List Made) :
+pub record IsSameFor (o : List ℕ) (v : DeskWorld) (calls : List TimedCall) (w : DeskWorld)
+    (others : List TimedCall) :
     Type 0 where
   pub told : told_for o v calls ≡ told_for o w others
   pub owned : owned_by o v calls ≡ owned_by o w others

@@ -65,11 +65,11 @@ impl<S> Desk<S> {
 }
 
 impl<S: PlanStore> Desk<S> {
-    ghost use Rattle.desk_store.specs.Frames.{Remembers};
-    ghost use Rattle.desk_store.specs.Faults.{IsHonest};
+    ghost use Rattle.desk_store.specs.StoreFrames.{Remembers};
+    ghost use Rattle.desk_store.specs.StoreFaults.{IsHonest};
     ghost use Rattle.desk_store.specs.Crashes.{LeavesNoMore, LeavesOldOr};
     ghost use Rattle.desk_run.specs.DeskWorld.{IsSettled, IsSettledOrSame, enrolled, world_of};
-    ghost use Rattle.desk_run.specs.Faults.{IsBreakdown, IsStoreCounted};
+    ghost use Rattle.desk_run.specs.CallFaults.{IsBreakdown, IsStoreCounted};
     ghost use Rattle.desk_run.specs.Verdicts.{step_by};
     ghost use Rattle.desk_run.specs.Calls.{Tells, Prepares, CanCommit, reply_in, world_committed};
 

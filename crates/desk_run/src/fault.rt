@@ -22,7 +22,7 @@ pub enum DeskFault {
 
 impl fmt::Display for DeskFault {
     ghost use Rattle.std.specs.Prelude.{Some};
-    ghost use Rattle.desk_run.specs.Faults.{fault_text};
+    ghost use Rattle.desk_run.specs.CallFaults.{fault_text};
 
     ghost output = { λ fault. Some (fault_text fault) };
 
@@ -41,7 +41,7 @@ impl Error for DeskFault {}
 
 impl From<StoreFault> for DeskFault {
     ghost use Rattle.std.specs.Prelude.{◌≡◌};
-    ghost use Rattle.desk_run.specs.Faults.{fault_of};
+    ghost use Rattle.desk_run.specs.CallFaults.{fault_of};
 
     ghost from_gives = { λ fault e. e ≡ fault_of fault };
 

@@ -9,7 +9,7 @@ ghost use Rattle.desk_rules.specs.declared.plan.PlanRow.{PlanRow};
 ghost use Rattle.desk_rules.specs.declared.words.Usage.TheVariants as usage;
 ghost use Rattle.desk_run.specs.DeskWorld.{DeskWorld, side, held_in};
 ghost use Rattle.desk_run.specs.Sides.{HoldAlike, OwnAlike};
-ghost use Rattle.desk_run.specs.TwoRuns.{IsSameFor, Made, calls_of, met_by};
+ghost use Rattle.desk_run.specs.TwoRuns.{IsSameFor, TimedCall, calls_of, met_by};
 ghost use Rattle.desk_run.specs.Verdicts.{side_left, step};
 ghost use Rattle.desk_store.specs.World.{IsWorld, plans_of, stored_of, text_cmp};
 
@@ -40,7 +40,7 @@ pub fn closing_a_closed_plan_changes_nothing()
 /// same before each of these calls, then the operator is told the same and owns the same after each of
 /// them and at the end, whatever calls of others stand between.
 pub fn two_runs()
-    ensures { (operator : List ℕ) (v w : DeskWorld) (calls others : List Made) →
+    ensures { (operator : List ℕ) (v w : DeskWorld) (calls others : List TimedCall) →
         OwnAlike operator v w → calls_of operator calls ≡ calls_of operator others →
         AllZip (HoldAlike operator) (met_by operator v calls) (met_by operator w others) →
         IsSameFor operator v calls w others }

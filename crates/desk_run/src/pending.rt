@@ -1,10 +1,10 @@
 //! Replies that are ready, and the changes that go with them.
 
 ghost use Rattle.std.specs.Prelude.{◌≡◌, ◌≤◌, ◌⊎◌, Some, IfOk, IfErr, OnOk, OnErr};
-ghost use Rattle.desk_store.specs.Frames.{OnlyReads, Remembers};
-ghost use Rattle.desk_store.specs.Faults.{IsHonest};
+ghost use Rattle.desk_store.specs.StoreFrames.{OnlyReads, Remembers};
+ghost use Rattle.desk_store.specs.StoreFaults.{IsHonest};
 ghost use Rattle.desk_store.specs.Crashes.{LeavesNoMore, LeavesOldOr, LeavesOnly};
-ghost use Rattle.desk_run.specs.Faults.{IsBreakdown, IsStoreCounted};
+ghost use Rattle.desk_run.specs.CallFaults.{IsBreakdown, IsStoreCounted};
 ghost use Rattle.desk_run.specs.DeskWorld.{with_content};
 ghost use Rattle.desk_run.specs.Calls.{IsSamePending, Prepares, Fits, reply_in, world_with};
 

@@ -1,8 +1,8 @@
 //! Runs: lists of calls, answered one after the other.
 
 ghost use Rattle.std.specs.Prelude.{◌≡◌, ◌≤◌, map, Some, IfOk, OnErr};
-ghost use Rattle.desk_store.specs.Frames.{Remembers};
-ghost use Rattle.desk_store.specs.Faults.{IsHonest, HasRisen};
+ghost use Rattle.desk_store.specs.StoreFrames.{Remembers};
+ghost use Rattle.desk_store.specs.StoreFaults.{IsHonest, HasRisen};
 ghost use Rattle.desk_run.specs.DeskWorld.{world_of};
 ghost use Rattle.desk_run.specs.Runs as spec;
 ghost use Rattle.desk_run.specs.Runs.{IsRun, told_by};

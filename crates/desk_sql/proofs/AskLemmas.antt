@@ -19,7 +19,7 @@ use Rattle.sqlite.specs.State.{State, IsUnchanged, Survives, HasCleanDisk, Shown
 use Rattle.sqlite.specs.Store.{Ghosts}
 use Rattle.sqlite.specs.Held.{Held, state}
 use Rattle.sqlite.specs.Schema.{Schema}
-use Rattle.desk_sql.specs.declared.opening.finding.Made.{Made}
+use Rattle.desk_sql.specs.declared.opening.finding.TablesPresent.{TablesPresent}
 use Rattle.desk_sql.specs.declared.opening.numbers.DeskTable.{DeskTable}
 use Rattle.desk_sql.specs.declared.reading.whole.Whole.{Whole}
 use Rattle.desk_sql.specs.Queries.{table_read, key_cells, rows_read}
@@ -160,12 +160,12 @@ abbrev pub IsWholeText : Whole → List ℕ → Type 0
 IsWholeText whole text = SelectsAll (table_read whole) text (key_cells (table_read whole))
     (λ db. rows_read whole (tables_of db))
 
-part_at : (whole : Whole) (made : Made) (db : Trees) → rows_read whole (tables_at made db)
+part_at : (whole : Whole) (made : TablesPresent) (db : Trees) → rows_read whole (tables_at made db)
     ≡ (if has_table made (table_read whole) then rows_read whole (tables_of db) else [])
 part_at whole made db = grind arith
 
 -- what a table that is made shows is its part of what is made so far
-pub read_at : {V : Type 0} (whole : Whole) (made : Made) (there : Bool)
+pub read_at : {V : Type 0} (whole : Whole) (made : TablesPresent) (there : Bool)
     → has_table made (table_read whole) ≡ there
     → (items : V → List Row) (db : Trees) (r : Result V Error)
     → IfOk r (λ v. Lists (key_cells (table_read whole))

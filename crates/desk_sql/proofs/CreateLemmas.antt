@@ -15,8 +15,8 @@ use Rattle.sqlite.specs.Held.{Held, state}
 use Rattle.sqlite.specs.Listing.{understood}
 use Rattle.sqlite.proofs.Callers.{IsPlain, command_of, statement_of}
 use Rattle.sqlite_tied.specs.Compute.{everything}
-use Rattle.desk_sql.specs.declared.opening.finding.Made.{Made}
-use Rattle.desk_sql.specs.declared.opening.finding.Made.TheVariants.{Nothing, Operators, Plans, OldVolumes, OldSpans, OldIndex, Volumes, Spans, All}
+use Rattle.desk_sql.specs.declared.opening.finding.TablesPresent.{TablesPresent}
+use Rattle.desk_sql.specs.declared.opening.finding.TablesPresent.TheVariants.{Nothing, Operators, Plans, OldVolumes, OldSpans, OldIndex, Volumes, Spans, All}
 use Rattle.desk_sql.specs.declared.opening.numbers.DeskTable.TheVariants as desk
 use Rattle.desk_sql.specs.Schema.{blank_schema, operator_schema, plan_schema, old_volume_schema, old_table_schema, old_schema, volume_schema, table_schema, desk_schema, schema_of, has_table, tree_of, operator_table, plan_table, old_volume_table, old_span_table, old_span_made, old_span_first, volume_table, span_table, span_made, span_first}
 use Rattle.desk_sql.specs.Making.{Grows, Finishes, Completes, MayComplete}
@@ -71,11 +71,12 @@ none : AreNumbered []
 none = record { whole = tt; distinct = tt }
 
 -- what a table more makes of what is made so far
-abbrev Grown : Made → Made → Table → Type 0
+abbrev Grown : TablesPresent → TablesPresent → Table → Type 0
 Grown made next table = (old new : Database) → IsMadeTo made old → IsAdded (schema_of made) table old new
     → IsMadeTo next new × (tables_at next new.trees ≡ tables_at made old.trees)
 
-extends_by : (made next : Made) (text : List ℕ) (table : Table) → MakesTable (schema_of made) text table
+extends_by : (made next : TablesPresent) (text : List ℕ) (table : Table)
+    → MakesTable (schema_of made) text table
     → Grown made next table → Extends text made next
 extends_by made next text table known grown = record {
   plain = known.plain;
@@ -390,7 +391,7 @@ first_extends = record {
 
 -- ---- one step, and several
 
-pub grows : {S : Type 0} (g : Ghosts S) (made next : Made) (old new : Held S) (text : List ℕ)
+pub grows : {S : Type 0} (g : Ghosts S) (made next : TablesPresent) (old new : Held S) (text : List ℕ)
     → Extends text made next → Holds g old (IsMadeTo made) → HasCleanDisk (state g old)
     → Shows (state g old) (state g new) (state g new).now (state g old).committed true → (count : ℕ)
     → Executes text [] (state g old) (state g new) (Ok count) → Grows g made next old new
@@ -411,12 +412,12 @@ grows g made next old new text known holds clean shows count h =
     }
 
 -- a loop that makes one after the other, so far as it is made
-pub record HasGrown {S : Type 0} (g : Ghosts S) (made at : Made) (old now : Held S) : Type 0 where
+pub record HasGrown {S : Type 0} (g : Ghosts S) (made at : TablesPresent) (old now : Held S) : Type 0 where
   pub remembered : Remembers g old now
   pub grown : HasCleanDisk (state g now) → (at ≢ made) ⊎ IsTrue (state g now).is_open
       → Grows g made at old now
 
-pub grown_more : {S : Type 0} (g : Ghosts S) (made at next : Made) (old mid new : Held S)
+pub grown_more : {S : Type 0} (g : Ghosts S) (made at next : TablesPresent) (old mid new : Held S)
     → HasGrown g made at old mid → Remembers g mid new
     → (HasCleanDisk (state g new) → Grows g at next mid new) → HasGrown g made next old new
 grown_more g made at next old mid new so_far turn step = record {
@@ -447,7 +448,8 @@ is_desk db made = record {
   spans = made.rows desk.Span refl;
 }
 
-pub finished : {S : Type 0} (g : Ghosts S) (made at : Made) (old now : Held S) → made ≢ All → at ≡ All
+pub finished : {S : Type 0} (g : Ghosts S) (made at : TablesPresent) (old now : Held S) → made ≢ All
+    → at ≡ All
     → HasGrown g made at old now → HasCleanDisk (state g now) → Finishes g made old now
 finished g made at old now missing end so_far clean =
     let all = subst (λ m. Grows g made m old now) end
@@ -463,7 +465,7 @@ finished g made at old now missing end so_far clean =
     }
 
 -- all is committed
-pub completed : {S : Type 0} (g : Ghosts S) (made : Made) (old begun mid new : Held S)
+pub completed : {S : Type 0} (g : Ghosts S) (made : TablesPresent) (old begun mid new : Held S)
     → begun ≡ record old { in_transaction = true } → Finishes g made begun mid
     → Shows (state g mid) (state g new) (state g mid).now (state g mid).now false
     → Completes g made old new
@@ -478,7 +480,7 @@ completed g made old begun mid new begins made_all shown =
       same = ap (λ (db : Database). tables_of db.trees) shown.now_is ∙ done.same;
     }
 
-pub may_complete : {S : Type 0} (g : Ghosts S) (made : Made) (old begun mid new : Held S)
+pub may_complete : {S : Type 0} (g : Ghosts S) (made : TablesPresent) (old begun mid new : Held S)
     → begun ≡ record old { in_transaction = true }
     → (HasCleanDisk (state g mid) → Finishes g made begun mid) → Spares g begun mid
     → Survives (state g mid) (state g new) (λ db. db ≡ (state g mid).now.trees)

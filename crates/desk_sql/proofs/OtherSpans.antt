@@ -16,7 +16,7 @@ use Rattle.sqlite_sql.specs.declared.ops.CompareOp.TheVariants.{Ne, Lt, Le, Gt, 
 use Rattle.sqlite_tied.specs.Compute.{everything}
 use Rattle.sqlite.specs.Listing.{understood}
 use Rattle.desk_sql.specs.Rows.{differs, is_at_most, is_at_least, is_below, is_above, held_columns, columns}
-use Rattle.desk_sql.specs.declared.reading.rivals.Reach.{Reach}
+use Rattle.desk_sql.specs.declared.reading.rivals.SpanQuery.{SpanQuery}
 use Rattle.desk_sql.specs.Refusals.{IsSureGiven}
 use Rattle.desk_sql.specs.Statements.{Selects}
 use Rattle.desk_sql.specs.Others.{is_others_from}
@@ -52,12 +52,12 @@ unfolding binary
 differs_text v t = compared v _ ∙ ap (λ b. not (is_null v) && b) (ne_is (value_cmp v (Text t)))
 
 -- what the query is given
-abbrev others_params : List ℕ → Reach → ℤ → Row
+abbrev others_params : List ℕ → SpanQuery → ℤ → Row
 others_params operator reach low =
     Int reach.last ∷ Int reach.first ∷ Int reach.upper ∷ Int reach.lower ∷ Int reach.stop ∷ Int reach.start
     ∷ Int (pos reach.priority) ∷ Text operator ∷ Int low ∷ []
 
-others_test : (operator : List ℕ) (reach : Reach) (low : ℤ) (s : Row)
+others_test : (operator : List ℕ) (reach : SpanQuery) (low : ℤ) (s : Row)
     → list_all (holds (others_params operator reach low ∷ s ∷ [])) other_spans_query.filter
     ≡ is_others_from operator reach low (columns 10 s)
 others_test operator reach low s =
@@ -73,7 +73,7 @@ others_test operator reach low s =
     (is_below (column s 8) reach.stop) (is_above (column s 9) reach.start)
     (is_at_least (column s 10) (pos reach.priority)) (differs (column s 1) (Text operator)))
 
-pub other_spans_sure : (operator : List ℕ) (reach : Reach) (low : ℤ)
+pub other_spans_sure : (operator : List ℕ) (reach : SpanQuery) (low : ℤ)
     → IsSureGiven other_spans_text (others_params operator reach low)
 unfolding understood everything
 other_spans_sure operator reach low =
@@ -84,7 +84,7 @@ other_spans_sure operator reach low =
       | inr fold ↦ absurd fold.4
     ])
 
-pub other_spans_selected : (operator : List ℕ) (reach : Reach) (low : ℤ)
+pub other_spans_selected : (operator : List ℕ) (reach : SpanQuery) (low : ℤ)
     → Selects other_spans_text (others_params operator reach low) (0 ∷ [])
     (λ t. map held_columns (filter (is_others_from operator reach low) t.spans))
 other_spans_selected operator reach low =

@@ -18,7 +18,7 @@ use Rattle.sqlite.specs.Schema.{Schema}
 use Rattle.sqlite.specs.Table.{Table}
 use Rattle.sqlite_schema.specs.declared.schema.Index.{Index}
 use Rattle.desk_sql.specs.Schema.{desk_schema, schema_to}
-use Rattle.desk_sql.specs.declared.reading.rivals.Reach.{Reach}
+use Rattle.desk_sql.specs.declared.reading.rivals.SpanQuery.{SpanQuery}
 use Rattle.desk_sql.specs.declared.opening.numbers.DeskTable.{DeskTable}
 use Rattle.desk_sql.specs.declared.opening.numbers.DeskTable.TheVariants.{Operator, Plan, OldVolume, OldSpan, Volume, Span}
 use Rattle.desk_sql.proofs.Texts.{operator_named_text, all_operators_text, plan_of_text, all_plans_text, volumes_of_text, all_volumes_text, all_covers_text, all_spans_text, own_plans_text, rival_spans_text, operator_rowids_text, plan_rowids_text, old_volume_rowids_text, old_span_rowids_text, volume_rowids_text, span_rowids_text}
@@ -159,7 +159,7 @@ rival_spans_query = query_of (inner 11 end) (compared Ge 4 9 ∷ compared Le 4 0
     ((col 1 4, ascending Binary) ∷ [])
 
 -- what it is given
-abbrev pub rival_params : List ℕ → List ℕ → Reach → ℤ → Row
+abbrev pub rival_params : List ℕ → List ℕ → SpanQuery → ℤ → Row
 rival_params operator id reach low =
     Int reach.last ∷ Int reach.first ∷ Int reach.upper ∷ Int reach.lower ∷ Int reach.stop ∷ Int reach.start
     ∷ Int (pos reach.priority) ∷ Text operator ∷ Text id ∷ Int low ∷ []

@@ -21,7 +21,7 @@ use Rattle.sqlite_schema.specs.Rules.{agree, Keeps, Refers}
 use Rattle.sqlite_schema.specs.declared.schema.Among.TheVariants.{All}
 use Rattle.sqlite_schema.specs.declared.schema.Constraint.TheVariants.{Unique}
 use Rattle.sqlite_schema.specs.declared.schema.Keys.TheVariants.{Enforced}
-use Rattle.sqlite_schema.specs.declared.schema.Table.{Table as Made}
+use Rattle.sqlite_schema.specs.declared.schema.Table.{Table as TablesPresent}
 use Rattle.sqlite_value.specs.Keys.{plain}
 use Rattle.sqlite_tied.specs.Compute.{everything}
 use Rattle.sqlite.specs.Does.{OnRows}
@@ -69,7 +69,7 @@ spans_referred : IsReferredTo spans_at
 unfolding everything
 spans_referred = refl
 
-abbrev plan_at : Made
+abbrev plan_at : TablesPresent
 plan_at = record plan_table { tree = 2 }
 
 plan_referred : IsReferredTo plan_at
@@ -163,7 +163,7 @@ module _ (operator id : List ℕ) where
 
 module _ (moves : List (Row × Row)) (why : Option Refusal) where
   -- one action, and what is left to do
-  one_gone : (n : ℕ) (db : Trees) (table : Made) → IsReferredTo table → IsQuiet table.tree
+  one_gone : (n : ℕ) (db : Trees) (table : TablesPresent) → IsReferredTo table → IsQuiet table.tree
       → (below : List Work) (ids : List ℤ) → Keeps Unique desk_schema db
       → ActsOn desk_schema Enforced (Leads desk_schema Enforced n) db (delete_on table moves) below (Err why)
       ids
@@ -186,7 +186,7 @@ module _ (moves : List (Row × Row)) (why : Option Refusal) where
   none_end : AreMade []
   none_end n db keeps h = never_ends n db why h
 
-  one_ends : (table : Made) → IsReferredTo table → IsQuiet table.tree → (before : List Work)
+  one_ends : (table : TablesPresent) → IsReferredTo table → IsQuiet table.tree → (before : List Work)
       → AreMade before → AreMade (before ++ delete_on table moves ∷ [])
   one_ends table referred quiet before ends zero db keeps h =
       none_last before (delete_on table moves) h.0

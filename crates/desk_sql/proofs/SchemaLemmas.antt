@@ -4,14 +4,14 @@ use Rattle.sqlite.specs.Schema.{Schema}
 use Rattle.sqlite.specs.Table.{Table}
 use Rattle.sqlite.specs.Effect.{Database}
 use Rattle.sqlite_tied.specs.Compute.{everything}
-use Rattle.desk_sql.specs.declared.opening.finding.Made.{Made}
-use Rattle.desk_sql.specs.declared.opening.finding.Made.TheVariants.{Nothing, Operators, Plans, OldVolumes, OldSpans, OldIndex, Volumes, Spans, All}
+use Rattle.desk_sql.specs.declared.opening.finding.TablesPresent.{TablesPresent}
+use Rattle.desk_sql.specs.declared.opening.finding.TablesPresent.TheVariants.{Nothing, Operators, Plans, OldVolumes, OldSpans, OldIndex, Volumes, Spans, All}
 use Rattle.desk_sql.specs.declared.opening.numbers.DeskTable.{DeskTable}
 use Rattle.desk_sql.specs.declared.opening.numbers.DeskTable.TheVariants.{Operator, Plan, OldVolume, OldSpan, Volume, Span}
 use Rattle.desk_sql.specs.Schema.{schema_of, schema_to, has_table, HasTable, plan_made, old_volume_made, old_span_made, volume_made, span_made}
 use Rattle.desk_sql.specs.Finding.{indexes_of, operator_index, plan_index, old_volume_index, old_span_index, old_first_index, volume_index, span_index, first_index}
 
-indexes_are : (made : Made) → (schema_of made).indexes ≡ indexes_of made
+indexes_are : (made : TablesPresent) → (schema_of made).indexes ≡ indexes_of made
 unfolding everything operator_index plan_index old_volume_index old_span_index old_first_index
     volume_index span_index first_index
 indexes_are Nothing = refl
@@ -24,7 +24,7 @@ indexes_are Volumes = refl
 indexes_are Spans = refl
 indexes_are All = refl
 
-no_views : (made : Made) → (schema_of made).views ≡ []
+no_views : (made : TablesPresent) → (schema_of made).views ≡ []
 no_views Nothing = refl
 no_views Operators = refl
 no_views Plans = refl
@@ -35,13 +35,14 @@ no_views Volumes = refl
 no_views Spans = refl
 no_views All = refl
 
-pub has_indexes : (s : Schema) (made : Made) → s ≡ schema_of made → s.indexes ≡ indexes_of made
+pub has_indexes : (s : Schema) (made : TablesPresent) → s ≡ schema_of made → s.indexes ≡ indexes_of made
 has_indexes s made is = ap (λ t. t.indexes) is ∙ indexes_are made
 
-pub has_no_views : (s : Schema) (made : Made) → s ≡ schema_of made → s.views ≡ []
+pub has_no_views : (s : Schema) (made : TablesPresent) → s ≡ schema_of made → s.views ≡ []
 has_no_views s made is = ap (λ t. t.views) is ∙ no_views made
 
-pub is_schema : (s : Schema) (made : Made) → s.tables ≡ (schema_of made).tables → s.indexes ≡ indexes_of made
+pub is_schema : (s : Schema) (made : TablesPresent) → s.tables ≡ (schema_of made).tables
+    → s.indexes ≡ indexes_of made
     → s.views ≡ [] → s ≡ schema_of made
 is_schema s made tables indexes views = λ i. record {
   tables = tables i;
@@ -51,7 +52,7 @@ is_schema s made tables indexes views = λ i. record {
 
 -- ---- the tables that are made
 
-as_made : (table : DeskTable) (others : List Table) (made : Made) (db : Database)
+as_made : (table : DeskTable) (others : List Table) (made : TablesPresent) (db : Database)
     → schema_of made ≡ schema_to table others (schema_of made).indexes → db.schema ≡ schema_of made
     → HasTable table db
 as_made table others made db same is = record {
@@ -59,7 +60,7 @@ as_made table others made db same is = record {
   schema = is ∙ same ∙ ap (λ s. schema_to table others s.indexes) (sym is);
 }
 
-pub has_made : (made : Made) (table : DeskTable) (db : Database) → has_table made table ≡ true
+pub has_made : (made : TablesPresent) (table : DeskTable) (db : Database) → has_table made table ≡ true
     → db.schema ≡ schema_of made → HasTable table db
 unfolding everything
 has_made Nothing table db there is = absurd (true≢false (sym there))

@@ -41,8 +41,8 @@ use Rattle.sqlite_resolve.specs.Compile.{table_defined_by, index_defined_by}
 use Rattle.sqlite_resolve.specs.declared.compiled.Compiled.{Compiled}
 use Rattle.sqlite_resolve.specs.declared.error.CompileError.{CompileError}
 use Rattle.sqlite_tied.specs.Compute.{everything}
-use Rattle.desk_sql.specs.declared.opening.finding.Made.{Made}
-use Rattle.desk_sql.specs.declared.opening.finding.Made.TheVariants.{Nothing, Operators, Plans, OldVolumes, OldSpans, OldIndex, Volumes, Spans, All}
+use Rattle.desk_sql.specs.declared.opening.finding.TablesPresent.{TablesPresent}
+use Rattle.desk_sql.specs.declared.opening.finding.TablesPresent.TheVariants.{Nothing, Operators, Plans, OldVolumes, OldSpans, OldIndex, Volumes, Spans, All}
 use Rattle.desk_sql.specs.declared.opening.numbers.DeskTable.TheVariants as desk
 use Rattle.desk_sql.specs.Schema.{schema_of, blank_schema, operator_schema, plan_schema, old_volume_schema, old_table_schema, old_schema, volume_schema, table_schema, operator_table, plan_table, old_volume_table, old_span_table, old_span_made, old_span_first, volume_table, span_table, span_made, span_first}
 use Rattle.desk_sql.specs.Rows.{columns, tables_at}
@@ -167,7 +167,8 @@ module _ (schema : Schema) (sql : List ℕ) (table : Table) (known : IsFreeTable
         | inr done ↦ absurd (let end = done.2 in cc)
       ]
 
-step_by_table : (made next : Made) (sql : List ℕ) (table : Table) → IsFreeTable (schema_of made) sql table
+step_by_table : (made next : TablesPresent) (sql : List ℕ) (table : Table)
+    → IsFreeTable (schema_of made) sql table
     → Extends sql made next → IsStep sql made next
 step_by_table made next sql table known extends = record {
   extends = extends;
@@ -579,7 +580,8 @@ first_step = record {
 -- ---- a step in its turn
 
 -- a step that is refused after others is refused for a cause since the start
-pub step_refused : {S : Type 0} (g : Ghosts S) (made at next : Made) (old mid new : Held S) (sql : List ℕ)
+pub step_refused : {S : Type 0} (g : Ghosts S) (made at next : TablesPresent) (old mid new : Held S)
+    (sql : List ℕ)
     → IsStep sql at next → HasGrown g made at old mid → HasCleanDisk (state g mid)
     → IsTrue (state g mid).is_open → HasSmallSpans (tables_at made (state g old).now.trees) → (e : Error)
     → (IsTrue mid.in_transaction → ExecutesInside 0 sql [] (state g mid) (state g new) (Err e))

@@ -3,7 +3,7 @@ use Rattle.std.proofs.Common.{ℕ, ℤ, List, [], ◌∷◌, refl, true≢false,
 use Rattle.sqlite.specs.declared.types.Value.TheVariants.{Text}
 use Rattle.sqlite_tied.specs.Compute.{everything}
 use Rattle.sqlite.specs.Listing.{understood}
-use Rattle.desk_sql.specs.declared.reading.rivals.Reach.{Reach}
+use Rattle.desk_sql.specs.declared.reading.rivals.SpanQuery.{SpanQuery}
 use Rattle.desk_sql.specs.Refusals.{IsSureGiven}
 use Rattle.desk_sql.proofs.Texts.{operator_named_text, plan_of_text, volumes_of_text, own_plans_text, rival_spans_text}
 use Rattle.desk_sql.proofs.QueryTexts.{operator_named_is, operator_named_query, plan_of_is, plan_of_query, volumes_of_is, volumes_of_query, own_plans_is, own_plans_query, rival_spans_is, rival_spans_query, rival_params}
@@ -49,7 +49,7 @@ own_plans_sure operator =
       | inr fold ↦ absurd fold.4.4
     ])
 
-pub rival_spans_sure : (operator id : List ℕ) (reach : Reach) (low : ℤ)
+pub rival_spans_sure : (operator id : List ℕ) (reach : SpanQuery) (low : ℤ)
     → IsSureGiven rival_spans_text (rival_params operator id reach low)
 unfolding understood everything
 rival_spans_sure operator id reach low =

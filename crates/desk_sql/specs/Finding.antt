@@ -17,8 +17,8 @@ use Rattle.sqlite.specs.Store.{Ghosts}
 use Rattle.sqlite.specs.State.{HasCleanDisk}
 use Rattle.sqlite.specs.Held.{Held, state}
 use Rattle.sqlite.specs.Effect.{Database}
-use Rattle.desk_sql.specs.declared.opening.finding.Made.{Made}
-use Rattle.desk_sql.specs.declared.opening.finding.Made.TheVariants.{Nothing, Operators, Plans, OldVolumes, OldIndex, Volumes, Spans, All}
+use Rattle.desk_sql.specs.declared.opening.finding.TablesPresent.{TablesPresent}
+use Rattle.desk_sql.specs.declared.opening.finding.TablesPresent.TheVariants.{Nothing, Operators, Plans, OldVolumes, OldIndex, Volumes, Spans, All}
 use Rattle.desk_sql.specs.Schema.{schema_of, column_of, table_of, old_span_first, span_first}
 
 -- what is shown, if it means something, is so
@@ -27,7 +27,7 @@ Holds g h Is = HasCleanDisk (state g h) → IsTrue (state g h).is_open → Is (s
 
 -- other tables, indexes or views than those of a desk, or not in its order
 abbrev pub HasOthers : Database → Type 0
-HasOthers db = (made : Made) → db.schema ≢ schema_of made
+HasOthers db = (made : TablesPresent) → db.schema ≢ schema_of made
 
 -- ---- rowids
 
@@ -120,7 +120,7 @@ abbrev pub old_indexes_and : List Index → List Index
 old_indexes_and others = operator_index ∷ plan_index ∷ old_volume_index ∷ old_span_index ∷ others
 
 -- the index over the leaves of `span`, and those that come after it when the tables are made so far
-abbrev pub later_indexes : Made → List Index
+abbrev pub later_indexes : TablesPresent → List Index
 later_indexes OldIndex = old_first_index ∷ []
 later_indexes Volumes = old_first_index ∷ volume_index ∷ []
 later_indexes Spans = old_first_index ∷ volume_index ∷ span_index ∷ []
@@ -128,7 +128,7 @@ later_indexes All = old_first_index ∷ volume_index ∷ span_index ∷ first_in
 later_indexes _ = []
 
 -- the indexes, when the tables and the indexes are made so far
-abbrev pub indexes_of : Made → List Index
+abbrev pub indexes_of : TablesPresent → List Index
 indexes_of Nothing = []
 indexes_of Operators = operator_index ∷ []
 indexes_of Plans = operator_index ∷ plan_index ∷ []

@@ -12,14 +12,14 @@ use Rattle.sqlite.specs.Store.{Ghosts}
 use Rattle.sqlite.specs.State.{HasCleanDisk}
 use Rattle.sqlite.specs.Held.{Held, state}
 use Rattle.desk_sql.specs.Schema.{desk_schema, schema_of}
-use Rattle.desk_sql.specs.declared.opening.finding.Made.{Made}
-use Rattle.desk_sql.specs.declared.opening.finding.Made.TheVariants.{Nothing, Operators, Plans, OldVolumes, OldSpans, OldIndex, Volumes, Spans, All}
+use Rattle.desk_sql.specs.declared.opening.finding.TablesPresent.{TablesPresent}
+use Rattle.desk_sql.specs.declared.opening.finding.TablesPresent.TheVariants.{Nothing, Operators, Plans, OldVolumes, OldSpans, OldIndex, Volumes, Spans, All}
 use Rattle.desk_sql.specs.Rows.{IsDesk, IsMadeTo, Tables, tables_of, tables_at}
 use Rattle.desk_sql.specs.Statements.{Extends}
 use Rattle.desk_sql.specs.Changing.{IsShort, IsWholeIn, MayStop}
 
 -- how many tables and indexes are still to be made
-abbrev pub left_to_make : Made → ℕ
+abbrev pub left_to_make : TablesPresent → ℕ
 left_to_make Nothing = 8
 left_to_make Operators = 7
 left_to_make Plans = 6
@@ -48,7 +48,7 @@ abbrev pub HasSmallSpans : Tables → Type 0
 HasSmallSpans t = AreSmall t.old_spans × AreSmall t.spans
 
 -- a text that makes what comes next of sound tables with such spans, and that only memory and the disk refuse
-pub record IsStep (text : List ℕ) (made next : Made) : Type 0 where
+pub record IsStep (text : List ℕ) (made next : TablesPresent) : Type 0 where
   pub extends : Extends text made next
   pub means : IsWholeIn text 0 (understood (schema_of made) text)
   pub never : (limit : Option ℕ) (db : Database) (stop : Option Error) → IsMadeTo made db → IsDatabase db
@@ -58,7 +58,7 @@ pub record IsStep (text : List ℕ) (made next : Made) : Type 0 where
 -- ---- what it makes
 
 -- within a transaction, which goes on, what is made grew so, and the rows that there were stayed
-pub record Grows {S : Type 0} (g : Ghosts S) (made next : Made) (old new : Held S) : Type 0 where
+pub record Grows {S : Type 0} (g : Ghosts S) (made next : TablesPresent) (old new : Held S) : Type 0 where
   pub was_open : IsTrue (state g old).is_open
   pub is_open : IsTrue (state g new).is_open
   pub begun : IsTrue new.in_transaction
@@ -68,7 +68,7 @@ pub record Grows {S : Type 0} (g : Ghosts S) (made next : Made) (old new : Held 
   pub same : tables_at next (state g new).now.trees ≡ tables_at made (state g old).now.trees
 
 -- within a transaction, which goes on, all was made that was missing, and the rows that there were stayed
-pub record Finishes {S : Type 0} (g : Ghosts S) (made : Made) (old new : Held S) : Type 0 where
+pub record Finishes {S : Type 0} (g : Ghosts S) (made : TablesPresent) (old new : Held S) : Type 0 where
   pub was_open : IsTrue (state g old).is_open
   pub is_open : IsTrue (state g new).is_open
   pub begun : IsTrue new.in_transaction
@@ -78,7 +78,7 @@ pub record Finishes {S : Type 0} (g : Ghosts S) (made : Made) (old new : Held S)
   pub same : tables_of (state g new).now.trees ≡ tables_at made (state g old).now.trees
 
 -- all was made that was missing, and that was committed; the rows that there were stayed
-pub record Completes {S : Type 0} (g : Ghosts S) (made : Made) (old new : Held S) : Type 0 where
+pub record Completes {S : Type 0} (g : Ghosts S) (made : TablesPresent) (old new : Held S) : Type 0 where
   pub was_open : IsTrue (state g old).is_open
   pub is_open : IsTrue (state g new).is_open
   pub settled : (state g new).now ≡ (state g new).committed
@@ -86,13 +86,14 @@ pub record Completes {S : Type 0} (g : Ghosts S) (made : Made) (old new : Held S
   pub same : tables_of (state g new).now.trees ≡ tables_at made (state g old).now.trees
 
 -- a desk's trees, which list and obey its schema, with the rows that there were
-pub record IsCompleted {S : Type 0} (g : Ghosts S) (made : Made) (old : Held S) (db : Trees) : Type 0 where
+pub record IsCompleted {S : Type 0} (g : Ghosts S) (made : TablesPresent) (old : Held S)
+    (db : Trees) : Type 0 where
   pub was_open : IsTrue (state g old).is_open
   pub desk : IsDesk (record { schema = desk_schema; trees = db })
   pub sound : IsDatabase (record { schema = desk_schema; trees = db })
   pub same : tables_of db ≡ tables_at made (state g old).now.trees
 
 -- a crash leaves what it could leave before, or all made
-abbrev pub MayComplete : {S : Type 0} → Ghosts S → Made → Held S → Held S → Type 0
+abbrev pub MayComplete : {S : Type 0} → Ghosts S → TablesPresent → Held S → Held S → Type 0
 MayComplete g made old new = HasCleanDisk (state g new) → (db : Trees)
     → (state g new).may_leave db → (state g old).may_leave db ⊎ IsCompleted g made old db

@@ -16,7 +16,7 @@ use Rattle.sqlite_schema.specs.Program.{lets_of}
 use Rattle.sqlite.specs.Store.{Ghosts}
 use Rattle.sqlite.specs.Held.{Held, state}
 use Rattle.sqlite.specs.Schema.{Schema}
-use Rattle.desk_sql.specs.declared.opening.finding.Made.{Made}
+use Rattle.desk_sql.specs.declared.opening.finding.TablesPresent.{TablesPresent}
 use Rattle.desk_sql.specs.declared.opening.numbers.DeskTable.{DeskTable}
 use Rattle.desk_sql.specs.Schema.{desk_schema, schema_of, tree_of}
 use Rattle.desk_sql.specs.Rows.{AreNumbered, IsMadeTo}
@@ -72,7 +72,7 @@ pub record IsSureGiven (text : List ℕ) (params : Row) : Type 0 where
 
 -- a desk's tables, so far as they are made, but in one of them a rowid is no whole number, or comes twice
 pub record IsMisnumbered (db : Database) : Type 0 where
-  pub made : Made
+  pub made : TablesPresent
   pub schema : db.schema ≡ schema_of made
   pub unsound : ¬ IsMadeTo made db
 

@@ -11,11 +11,11 @@ use Rattle.sqlite.specs.Order.{Row, column, value_cmp}
 use Rattle.sqlite.specs.Tree.{Trees, rowid, IsAscending}
 use Rattle.sqlite.specs.View.{is_int}
 use Rattle.sqlite.specs.Effect.{Database}
-use Rattle.desk_sql.specs.declared.opening.finding.Made.{Made}
-use Rattle.desk_sql.specs.declared.opening.finding.Made.TheVariants.{Nothing, Operators, Plans, OldVolumes, OldSpans, OldIndex, Volumes, Spans, All}
+use Rattle.desk_sql.specs.declared.opening.finding.TablesPresent.{TablesPresent}
+use Rattle.desk_sql.specs.declared.opening.finding.TablesPresent.TheVariants.{Nothing, Operators, Plans, OldVolumes, OldSpans, OldIndex, Volumes, Spans, All}
 use Rattle.desk_sql.specs.declared.opening.numbers.DeskTable.{DeskTable}
 use Rattle.desk_sql.specs.Schema.{desk_schema, schema_of, tree_of, has_table}
-use Rattle.desk_sql.specs.declared.reading.rivals.Reach.{Reach}
+use Rattle.desk_sql.specs.declared.reading.rivals.SpanQuery.{SpanQuery}
 
 -- ---- what a row holds
 
@@ -103,7 +103,7 @@ abbrev pub old_tables_of : Trees → Tables
 old_tables_of db = record (tables_of db) { volumes = []; covers = []; spans = [] }
 
 -- the rows of what is made so far; a table that isn't made has none
-abbrev pub tables_at : Made → Trees → Tables
+abbrev pub tables_at : TablesPresent → Trees → Tables
 tables_at Nothing db = no_rows
 tables_at Operators db = record no_rows { operators = map (columns 2) (db 0) }
 tables_at Plans db =
@@ -238,7 +238,7 @@ abbrev pub is_above : Value → ℤ → Bool
 is_above v n = not (is_null v) && is_gt (value_cmp v (Int n))
 
 -- a span with a leaf, an altitude and a second of the reach, and a priority at least its least
-abbrev pub is_reached : Reach → Row → Bool
+abbrev pub is_reached : SpanQuery → Row → Bool
 is_reached reach span =
     is_at_most (column span 3) reach.last
     && (is_at_least (column span 4) reach.first
@@ -249,13 +249,13 @@ is_reached reach span =
     && is_at_least (column span 9) (pos reach.priority))))))
 
 -- such a span of another plan than this one
-abbrev pub is_rival : List ℕ → List ℕ → Reach → Row → Bool
+abbrev pub is_rival : List ℕ → List ℕ → SpanQuery → Row → Bool
 is_rival operator id reach span =
     is_reached reach span
     && (differs (column span 0) (Text operator) || differs (column span 1) (Text id))
 
 -- one that begins at a leaf position or later
-abbrev pub is_wanted : List ℕ → List ℕ → Reach → ℤ → Row → Bool
+abbrev pub is_wanted : List ℕ → List ℕ → SpanQuery → ℤ → Row → Bool
 is_wanted operator id reach low span = is_at_least (column span 3) low && is_rival operator id reach span
 
 -- a span's columns from `first` on
@@ -283,11 +283,11 @@ pub record IsDesk (db : Database) : Type 0 where
   pub spans : AreNumbered (db.trees 11)
 
 -- the rows of each table that is made so far
-abbrev pub AreNumberedTo : Made → Trees → Type 0
+abbrev pub AreNumberedTo : TablesPresent → Trees → Type 0
 AreNumberedTo made trees =
     (table : DeskTable) → has_table made table ≡ true → AreNumbered (trees (tree_of table))
 
 -- a database with what is made so far, and nothing else
-pub record IsMadeTo (made : Made) (db : Database) : Type 0 where
+pub record IsMadeTo (made : TablesPresent) (db : Database) : Type 0 where
   pub schema : db.schema ≡ schema_of made
   pub rows : AreNumberedTo made db.trees

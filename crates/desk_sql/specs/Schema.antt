@@ -15,8 +15,8 @@ use Rattle.sqlite_schema.specs.declared.schema.Reference.{Reference}
 use Rattle.sqlite_value.specs.Keys.{plain}
 use Rattle.sqlite_catalog.specs.Change.{created, indexed}
 use Rattle.sqlite.specs.Effect.{Database}
-use Rattle.desk_sql.specs.declared.opening.finding.Made.{Made}
-use Rattle.desk_sql.specs.declared.opening.finding.Made.TheVariants.{Nothing, Operators, Plans, OldVolumes, OldSpans, OldIndex, Volumes, Spans, All}
+use Rattle.desk_sql.specs.declared.opening.finding.TablesPresent.{TablesPresent}
+use Rattle.desk_sql.specs.declared.opening.finding.TablesPresent.TheVariants.{Nothing, Operators, Plans, OldVolumes, OldSpans, OldIndex, Volumes, Spans, All}
 use Rattle.desk_sql.specs.declared.opening.numbers.DeskTable.{DeskTable}
 use Rattle.desk_sql.specs.declared.opening.numbers.DeskTable.TheVariants as desk
 
@@ -172,7 +172,7 @@ abbrev pub desk_schema : Schema
 desk_schema = indexed table_schema span_made span_first
 
 -- what there is when the tables and the indexes are made so far
-abbrev pub schema_of : Made → Schema
+abbrev pub schema_of : TablesPresent → Schema
 schema_of Nothing = blank_schema
 schema_of Operators = operator_schema
 schema_of Plans = plan_schema
@@ -226,7 +226,7 @@ is_old desk.Span = false
 is_old _ = true
 
 -- whether there is the table when the tables are made so far
-abbrev pub has_table : Made → DeskTable → Bool
+abbrev pub has_table : TablesPresent → DeskTable → Bool
 has_table Nothing _ = false
 has_table Operators desk.Operator = true
 has_table Operators _ = false

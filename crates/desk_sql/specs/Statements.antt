@@ -12,7 +12,7 @@ use Rattle.sqlite.specs.Listing.{understood}
 use Rattle.sqlite_schema.specs.declared.schema.Keys.TheVariants.{Enforced}
 use Rattle.sqlite_resolve.specs.declared.compiled.Compiled.{Compiled}
 use Rattle.sqlite_resolve.specs.declared.error.CompileError.{CompileError}
-use Rattle.desk_sql.specs.declared.opening.finding.Made.{Made}
+use Rattle.desk_sql.specs.declared.opening.finding.TablesPresent.{TablesPresent}
 use Rattle.desk_sql.specs.declared.opening.numbers.DeskTable.{DeskTable}
 use Rattle.desk_sql.specs.Schema.{desk_schema, schema_of, HasTable}
 use Rattle.desk_sql.specs.Rows.{IsDesk, IsMadeTo, Tables, tables_of, tables_at, Lists}
@@ -72,7 +72,7 @@ pub record Changes (text : List ℕ) (params : Row) (Change : Tables → Tables 
       → IsDesk new × Change (tables_of old.trees) (tables_of new.trees)
 
 -- a text that shows nothing, and makes what comes next; the rows that there were stay
-pub record Extends (text : List ℕ) (made next : Made) : Type 0 where
+pub record Extends (text : List ℕ) (made next : TablesPresent) : Type 0 where
   pub plain : IsPlain (understood (schema_of made) text)
   pub writes : IsWriting (understood (schema_of made) text)
   pub tables : (limit : Option ℕ) (old new : Database) → IsMadeTo made old

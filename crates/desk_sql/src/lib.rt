@@ -13,11 +13,11 @@ pub use changing::writing::{PlanRecord, SpanRecord, VolumeRecord, insert_operato
 pub use old::emptying::{empty_old_spans, empty_old_volumes};
 pub use old::reading::{all_old_spans, all_old_volumes};
 pub use old::rows::has_old_rows;
-pub use opening::finding::{Made, find_tables};
+pub use opening::finding::{TablesPresent, find_tables};
 pub use opening::making::complete_tables;
 pub use opening::numbers::DeskTable;
 pub use reading::others::other_spans;
 pub use reading::queries::{own_plans, plan_of, volumes_of};
-pub use reading::rivals::{Reach, rival_spans};
-pub use reading::taking::TakeRow;
+pub use reading::rivals::{SpanQuery, rival_spans};
+pub use reading::taking::RowSink;
 pub use reading::whole::{all_covers, all_operators, all_plans, all_spans, all_volumes};

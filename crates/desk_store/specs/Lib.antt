@@ -5,9 +5,9 @@ pub mod StoreChange
 pub mod ChangeParts
 pub mod Rows
 pub mod Rivals
-pub mod Faults
+pub mod StoreFaults
 pub mod Crashes
-pub mod Frames
+pub mod StoreFrames
 pub mod Parts
 pub mod Listing
 pub mod laws

@@ -15,7 +15,7 @@ pub enum StoreFault {
 
 impl fmt::Display for StoreFault {
     ghost use Rattle.std.specs.Prelude.{Some};
-    ghost use Rattle.desk_store.specs.Faults.{fault_text};
+    ghost use Rattle.desk_store.specs.StoreFaults.{fault_text};
 
     ghost output = { λ fault. Some (fault_text fault) };
 

@@ -1,7 +1,7 @@
 //! Stores of plans, as a desk uses them.
 
 ghost use Rattle.std.specs.Prelude.{◌≡◌, ◌≤◌, ℕ, length, Option, IfOk, IfErr, IfSome, OnOk, OnErr};
-ghost use Rattle.desk_store.specs.Frames.{OnlyReads, Remembers};
+ghost use Rattle.desk_store.specs.StoreFrames.{OnlyReads, Remembers};
 ghost use Rattle.desk_store.specs.World.{World, AreInOrder, ceiling_of, plans_of, stored_of};
 ghost use Rattle.desk_store.specs.Rivals.{AreHeldByOthers, AreRivals};
 ghost use Rattle.desk_rules.specs.Limits.{max_plans, max_priority};
@@ -26,7 +26,7 @@ use volume4d::{Held, Slab};
 /// that it had.
 pub trait PlanStore {
     ghost use Rattle.desk_store.specs.StoreChange.{changed_by, IsFitting};
-    ghost use Rattle.desk_store.specs.Faults.{IsHonest, IsCounted};
+    ghost use Rattle.desk_store.specs.StoreFaults.{IsHonest, IsCounted};
     ghost use Rattle.desk_store.specs.Crashes.{LeavesOldOr, LeavesOnly};
 
     /// The operators and plans that the store holds.

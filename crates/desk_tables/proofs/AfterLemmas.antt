@@ -129,22 +129,23 @@ module _ {S : Type 0} (g : Ghosts S) (old new : Held S) (w : World) (stood : Sta
         fits (within_put operator row plan) (λ one two clean h t e. put_asked operator row one two
         (put_is_put (filed_by operator row) w one two spans h plan t span_rows e))
 
-    pub stands_closed : (operator id : List ℕ) (priority aircraft : ℕ) (heads rest : List Row)
+    pub stands_closed : (operator id : List ℕ) (priority aircraft : ℕ) (head_rows rest : List Row)
         (head : Row)
         → IsId id → column head 2 ≡ Int (pos priority) → column head 4 ≡ Int (pos aircraft)
-        → (HasCleanDisk (state g new) → heads ≡ plan_rows (own_of operator id w)) → heads ≡ head ∷ rest
+        → (HasCleanDisk (state g new) → head_rows ≡ plan_rows (own_of operator id w))
+        → head_rows ≡ head ∷ rest
         → (HasCleanDisk (state g new) → Commits g old new
         (ClosesPlan operator (id_text id) priority aircraft))
         → (HasCleanDisk (state g old) → IsFitting (Close operator id) w)
         → Stands g new (changed_by (Close operator id) w)
-    stands_closed operator id priority aircraft heads rest head valid at_priority at_aircraft are some
+    stands_closed operator id priority aircraft head_rows rest head valid at_priority at_aircraft are some
         done
         fits =
         stands_changed (Close operator id) (ClosesPlan operator (id_text id) priority aircraft) done
         fits
         (within_close operator id valid)
         (λ one two clean h t e. close_asked operator id one two
-        (close_is_close operator id head priority aircraft at_priority at_aircraft w one two heads rest
+        (close_is_close operator id head priority aircraft at_priority at_aircraft w one two head_rows rest
         h
         valid t (are clean) some e))
 
@@ -228,18 +229,18 @@ module _ {S : Type 0} (g : Ghosts S) (old new : Held S) (w : World) (stood : Sta
       fits (within_put operator row plan) (λ one two clean h t e. put_asked operator row one two
       (put_is_put (filed_by operator row) w one two spans h plan t span_rows e))
 
-  pub left_closed : (operator id : List ℕ) (priority aircraft : ℕ) (heads rest : List Row) (head : Row)
+  pub left_closed : (operator id : List ℕ) (priority aircraft : ℕ) (head_rows rest : List Row) (head : Row)
       → IsId id → column head 2 ≡ Int (pos priority) → column head 4 ≡ Int (pos aircraft)
-      → (HasCleanDisk (state g new) → heads ≡ plan_rows (own_of operator id w)) → heads ≡ head ∷ rest
+      → (HasCleanDisk (state g new) → head_rows ≡ plan_rows (own_of operator id w)) → head_rows ≡ head ∷ rest
       → MayMake g old new (ClosesPlan operator (id_text id) priority aircraft)
       → (HasCleanDisk (state g old) → IsFitting (Close operator id) w)
       → MayHave g old new (changed_by (Close operator id) w)
-  left_closed operator id priority aircraft heads rest head valid at_priority at_aircraft are some makes
+  left_closed operator id priority aircraft head_rows rest head valid at_priority at_aircraft are some makes
       fits =
       left_changed (Close operator id) (ClosesPlan operator (id_text id) priority aircraft) makes fits
       (within_close operator id valid)
       (λ one two clean h t e. close_asked operator id one two
-      (close_is_close operator id head priority aircraft at_priority at_aircraft w one two heads rest h
+      (close_is_close operator id head priority aircraft at_priority at_aircraft w one two head_rows rest h
       valid t (are clean) some e))
 
   pub left_cleared : (change : Change) (operator : List ℕ) (ids texts : List (List ℕ)) → IsWithin change

@@ -10,7 +10,7 @@ use Rattle.volume4d.specs.declared.slab.Held.{Held as One}
 use Rattle.desk_sql.specs.Frames.{OnlyReads}
 use Rattle.desk_sql.specs.Rows.{tables_of}
 use Rattle.desk_store.specs.World.{World}
-use Rattle.desk_tables.specs.Rivals.{HaveTaken, HaveTakenAll}
+use Rattle.desk_tables.specs.RivalRows.{HaveTaken, HaveTakenAll}
 use Rattle.desk_tables.specs.Store.{Stands}
 use Rattle.desk_tables.proofs.HeldLemmas.{all_taken}
 use Rattle.desk_tables.proofs.FrameLemmas.{reads_then}

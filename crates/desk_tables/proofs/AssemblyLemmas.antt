@@ -109,13 +109,13 @@ module _ (one_shape : (one other : Shape) → HasValidParts one → HasValidPart
       }
 
 -- the same of what references show
-pub no_plans : (inside t : Tables) (heads volumes : List Row) → inside ≡ t → heads ≡ inside.plans
+pub no_plans : (inside t : Tables) (head_rows volumes : List Row) → inside ≡ t → head_rows ≡ inside.plans
     → volumes
     ≡ inside.volumes
-    → ((ps : List Filed) → IsStrictlySortedBy filed_cmp ps → ArePlanRows ps heads volumes → ⊥)
+    → ((ps : List Filed) → IsStrictlySortedBy filed_cmp ps → ArePlanRows ps head_rows volumes → ⊥)
     → (w : World)
     → IsContent w → AreRows t w → ⊥
-no_plans inside t heads volumes view one two none w h are =
+no_plans inside t head_rows volumes view one two none w h are =
     none w.plans h.world.plans (subst (λ rs. ArePlanRows w.plans rs volumes)
     (sym (one ∙ ap (λ x. x.plans) view)) (subst (ArePlanRows w.plans t.plans)
     (sym (two ∙ ap (λ x. x.volumes) view)) (plan_rows_of t w h are)))
@@ -123,17 +123,17 @@ no_plans inside t heads volumes view one two none w h are =
 module _ (one_shape : (one other : Shape) → HasValidParts one → HasValidParts other
     → footprint_bytes one
     ≡ footprint_bytes other → one ≡ other) (inside t : Tables)
-    (operators heads volumes spans : List Row)
+    (operators head_rows volumes spans : List Row)
     (ls ks : List Listed) (ps qs : List Filed) (view : inside ≡ t) (one : operators ≡ inside.operators)
-    (two : heads ≡ inside.plans) (three : volumes ≡ inside.volumes) (four : spans ≡ inside.spans)
+    (two : head_rows ≡ inside.plans) (three : volumes ≡ inside.volumes) (four : spans ≡ inside.spans)
     (five : ks ≡ ls) (six : qs ≡ ps) (listed : AreOperatorRows ls operators)
-    (filed : ArePlanRows ps heads volumes) where
+    (filed : ArePlanRows ps head_rows volumes) where
   operators_of : AreOperatorRows ls t.operators
   operators_of = subst (AreOperatorRows ls) (one ∙ ap (λ x. x.operators) view) listed
 
   plans_of : ArePlanRows ps t.plans t.volumes
   plans_of = subst (λ rs. ArePlanRows ps rs t.volumes) (two ∙ ap (λ x. x.plans) view)
-      (subst (ArePlanRows ps heads) (three ∙ ap (λ x. x.volumes) view) filed)
+      (subst (ArePlanRows ps head_rows) (three ∙ ap (λ x. x.volumes) view) filed)
 
   pub content_if : AreAgreed ks qs spans → IsContent (world_of ls ps) × AreRows t (world_of ls ps)
   content_if are = assembled one_shape t ls ps operators_of plans_of

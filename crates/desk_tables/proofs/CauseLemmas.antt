@@ -31,9 +31,9 @@ use Rattle.desk_tables.specs.Opening.{HasFailed}
 use Rattle.desk_tables.specs.Reading.{IsHead, IsVolumeAt}
 use Rattle.desk_tables.specs.Tables.{area_rows, plan_row, plan_rows, volume_rows}
 use Rattle.desk_tables.specs.Causes.{HasTooManySpans}
-use Rattle.desk_tables.specs.Gathering.{BeginNoListing, HasGathered, HasNoArea}
+use Rattle.desk_tables.specs.Gathering.{BeginNoListing, HasCollected, HasNoArea}
 use Rattle.desk_tables.specs.Reading.{listing_rows}
-use Rattle.desk_tables.specs.Rivals.{IsNoHeld}
+use Rattle.desk_tables.specs.RivalRows.{IsNoHeld}
 use Rattle.desk_tables.specs.Tables.{AreTables}
 use Rattle.desk_tables.specs.declared.reading.values.Head.{Head}
 use Rattle.desk_rules.specs.Limits.{max_plans}
@@ -43,7 +43,7 @@ use Rattle.std.specs.Result.{IsErrAnd}
 use Rattle.std.proofs.lemmas.List.{length-map}
 use Rattle.std.proofs.lemmas.List.Sorted.{length_permutation}
 use Rattle.desk_tables.proofs.FilterLemmas.{ArePlans}
-use Rattle.desk_tables.proofs.GatherLemmas.{AreLow, listing_short, never_cut}
+use Rattle.desk_tables.proofs.CollectorLemmas.{AreLow, listing_short, never_cut}
 use Rattle.desk_tables.proofs.ListingLemmas.{area_read, head_read}
 use Rattle.desk_tables.proofs.SlabLemmas.{spans_read}
 
@@ -97,10 +97,10 @@ own_within o id (p ∷ ps) h k = by_test (is_own o id p) (own_within o id ps h.1
   by_test false ih = ih
 
 -- the rows of a stored plan are read
-pub plan_reads : (o id : List ℕ) (w : World) (heads rows rest : List Row) (head : Row)
-    → IsContent w → heads ≡ plan_rows (own_of o id w) → rows ≡ volume_rows (own_of o id w) → heads
+pub plan_reads : (o id : List ℕ) (w : World) (head_rows rows rest : List Row) (head : Row)
+    → IsContent w → head_rows ≡ plan_rows (own_of o id w) → rows ≡ volume_rows (own_of o id w) → head_rows
     ≡ head ∷ rest → ¬ IsNone head rows
-plan_reads o id w heads rows rest head h are volumes some none =
+plan_reads o id w head_rows rows rest head h are volumes some none =
     by_found (find (is_own o id) w.plans)
     (own_within o id w.plans h.rows (within_bits w.plans h.world.priorities)) (sym some ∙ are) volumes where
       by_found : (found : Option Filed) → AllByRecursion (λ p. IsPlan p.row) (one_or_none found)
@@ -114,10 +114,10 @@ plan_reads o id w heads rows rest head h are volumes some none =
           (sym (f ∙ append-nil (area_rows p))) (area_read p 0 p.row.area))
 
 -- the first row of a stored plan is its head
-pub head_reads : (o id : List ℕ) (w : World) (heads rest : List Row) (head : Row) → IsContent w
-    → heads ≡ plan_rows (own_of o id w) → heads ≡ head ∷ rest
+pub head_reads : (o id : List ℕ) (w : World) (head_rows rest : List Row) (head : Row) → IsContent w
+    → head_rows ≡ plan_rows (own_of o id w) → head_rows ≡ head ∷ rest
     → (p : PlanRow) × (p.priority < 2 ^ 32) × IsHead head p
-head_reads o id w heads rest head h are some =
+head_reads o id w head_rows rest head h are some =
     by_found (find (is_own o id) w.plans)
     (own_within o id w.plans h.rows (within_bits w.plans h.world.priorities)) (sym some ∙ are) where
       by_found : (found : Option Filed) → AllByRecursion (λ p. IsPlan p.row) (one_or_none found)
@@ -164,7 +164,7 @@ module _ {S : Type 0} (g : Ghosts S) (old new : Held S) (IsAnswer : List Row →
       (volumes : List Block)
       → IfErr r (λ e. e ≢ SqliteFailure code.OutOfMemory) × OnOk r (HasNoArea head volumes)
       → IfErr r (IsCutShort g old new IsAnswer (Or BeginNoListing))
-      → OnOk r ((rows : List Row) × IsAnswer rows × HasGathered plans head volumes rows)
+      → OnOk r ((rows : List Row) × IsAnswer rows × HasCollected plans head volumes rows)
       → HasFailed g old new
   listing_blamed (Ok u) plans head volumes why cut handed =
       let (rows, is, taken) = handed in

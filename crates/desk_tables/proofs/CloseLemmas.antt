@@ -75,10 +75,10 @@ module _ (o id : List ℕ) (head : Row) (priority aircraft : ℕ)
     all_closed [] hi h have = refl
     all_closed (p ∷ ps) hi h have = λ i. one_closed p hi h.0.id have.0 i ∷ all_closed ps hi h.1 have.1 i
 
-    have_head : (w : World) (heads rest : List Row) → IsContent w → heads ≡ plan_rows (own_of o id w)
-        → heads
+    have_head : (w : World) (head_rows rest : List Row) → IsContent w → head_rows ≡ plan_rows (own_of o id w)
+        → head_rows
         ≡ head ∷ rest → HaveHead w.plans
-    have_head w heads rest h are some = all_kept (λ p. plan_row p ≡ head) (is_own o id) w.plans
+    have_head w head_rows rest h are some = all_kept (λ p. plan_row p ≡ head) (is_own o id) w.plans
         (subst (AllByRecursion (λ p. plan_row p ≡ head)) (sym (one_own o id w.plans h.world.plans))
         (by_found (find (is_own o id) w.plans) (sym some ∙ are))) where
           by_found : (found : Option Filed) → head ∷ rest ≡ plan_rows (one_or_none found)
@@ -86,10 +86,10 @@ module _ (o id : List ℕ) (head : Row) (priority aircraft : ℕ)
           by_found None e = tt
           by_found (Some p) e = let is : plan_row p ≡ head = cc in (is, tt)
 
-    pub close_is_close : (w : World) (old new : Tables) (heads rest : List Row) → IsContent w → IsId id
-        → AreTables old w → heads ≡ plan_rows (own_of o id w) → heads ≡ head ∷ rest
+    pub close_is_close : (w : World) (old new : Tables) (head_rows rest : List Row) → IsContent w → IsId id
+        → AreTables old w → head_rows ≡ plan_rows (own_of o id w) → head_rows ≡ head ∷ rest
         → ClosesPlan o (id_text id) priority aircraft old new → ClosesRows o id old new
-    close_is_close w old new heads rest h hi t are some e = record {
+    close_is_close w old new head_rows rest h hi t are some e = record {
       no_old = λ none. record {
         volumes = e.old_volumes ∙ none.volumes;
         spans = e.old_spans ∙ none.spans;
@@ -103,7 +103,7 @@ module _ (o id : List ℕ) (head : Row) (priority aircraft : ℕ)
           (IsPermutation-trans (map (closed_if o id) (plan_rows w.plans))
           (with_row (is_of o (id_text id)) closed_row old.plans) new.plans
           (subst (λ xs. IsPermutation xs (with_row (is_of o (id_text id)) closed_row old.plans))
-          (all_closed w.plans hi h.rows (have_head w heads rest h are some))
+          (all_closed w.plans hi h.rows (have_head w head_rows rest h are some))
           (IsPermutation-map (λ r. cond (is_of o (id_text id) r) closed_row r) (plan_rows w.plans)
           old.plans
           t.plans))

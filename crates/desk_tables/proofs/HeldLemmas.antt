@@ -38,10 +38,10 @@ use Rattle.desk_store.specs.Rivals.{AreRivals, HaveLevel}
 use Rattle.desk_store.specs.laws.Rival.{others_top-cons, others_top-nil, held_by_others, rivals_top-cons, rivals_top-nil, held_by_rivals}
 use Rattle.desk_tables.specs.Tables.{id_text, span_row, AreSpanRowsFrom, ArePlanSpanRows, AreSpanRows, AreTables}
 use Rattle.desk_tables.specs.Content.{IsId, IsPlan, IsContent}
-use Rattle.desk_tables.specs.declared.lengths.Lengths.{Lengths}
-use Rattle.desk_tables.specs.Lengths.{AreWhole, Bounds, HasKnownSpan, IsKnown, IsWithin}
-use Rattle.desk_tables.specs.Rivals.{HaveTaken, HaveTakenAll, IsHeldIn, HasTakenHelds, is_asked, is_asked_if, is_asked_of_others, reach_of}
-use Rattle.desk_tables.proofs.LengthLemmas.{asked_rival, tables_known}
+use Rattle.desk_tables.specs.declared.span_bounds.SpanBounds.{SpanBounds}
+use Rattle.desk_tables.specs.SpanBounds.{AreWhole, Bounds, HasKnownSpan, IsKnown, IsWithin}
+use Rattle.desk_tables.specs.RivalRows.{HaveTaken, HaveTakenAll, IsHeldIn, HasTakenHelds, is_asked, is_asked_if, is_asked_of_others, reach_of}
+use Rattle.desk_tables.proofs.SpanBoundLemmas.{asked_rival, tables_known}
 use Rattle.desk_tables.proofs.RowLemmas.{after_key}
 use Rattle.desk_tables.proofs.FilterLemmas.{ArePlans, own_row, turned}
 
@@ -446,23 +446,24 @@ module _ (another : Row → Bool) (stays : Filed → Bool)
         ∙ sym (ap (at_least least) (of_more p ps) ∙ at_least_greater least (level p) (tops ps))
 
     -- the slabs of the rows that are asked for hold at the point what the plans hold there
-    at_point : (tables : Tables) (w : World) (lengths : Lengths) (questions : List Span) (helds : List Held)
-        → IsContent w → AreTables tables w → Bounds lengths w → AreWhole e (IsKnown lengths) questions
+    at_point : (tables : Tables) (w : World) (span_bounds : SpanBounds) (questions : List Span)
+        (helds : List Held)
+        → IsContent w → AreTables tables w → Bounds span_bounds w → AreWhole e (IsKnown span_bounds) questions
         → AllByRecursion (IsWithin e) questions
         → HaveTakenAll (is_asked_if another least e) questions tables.spans helds
         → top_held helds x ≡ at_least least (tops w.plans)
-    at_point tables w lengths questions helds h t bounds whole within (rows, alike, taken) =
+    at_point tables w span_bounds questions helds h t bounds whole within (rows, alike, taken) =
         let (all, are, moved) = t.spans in
         taken_top rows helds x taken
         ∙ sym (top_permuted (λ r. row_has r x) row_priority (flat_map (λ question.
         map held_columns (filter (is_asked_if another least e question) tables.spans)) questions) rows alike)
         ∙ top_asked (is_asked_if another least e) held_columns (λ r. row_has r x) row_priority tables.spans
         questions
-        ∙ top_same (HasKnownSpan lengths)
+        ∙ top_same (HasKnownSpan span_bounds)
         (λ r. list_any (λ question. is_asked_if another least e question r) questions)
         want (λ r. row_has (held_columns r) x) (λ r. row_priority (held_columns r))
-        (asked_rival another least e lengths questions whole within) tables.spans
-        (tables_known lengths tables w t bounds.known)
+        (asked_rival another least e span_bounds questions whole within) tables.spans
+        (tables_known span_bounds tables w t bounds.known)
         ∙ sym (top_permuted passes (λ r. row_priority (held_columns r)) all tables.spans moved)
         ∙ on_plans w.plans all h.rows are
 
@@ -480,16 +481,17 @@ level_of_rival : (o id : List ℕ) (x : Point) (p : Filed)
 unfolding rival_level
 level_of_rival o id x p = refl
 
-pub are_rivals : (tables : Tables) (w : World) (o id : List ℕ) (least : ℕ) (extent : Slab) (lengths : Lengths)
+pub are_rivals : (tables : Tables) (w : World) (o id : List ℕ) (least : ℕ) (extent : Slab)
+    (span_bounds : SpanBounds)
     (questions : List Span) (helds : List Held) → IsId id → IsContent w → AreTables tables w
-    → Bounds lengths w → AreWhole extent (IsKnown lengths) questions
+    → Bounds span_bounds w → AreWhole extent (IsKnown span_bounds) questions
     → AllByRecursion (IsWithin extent) questions
     → HaveTakenAll (is_asked o (id_text id) least extent) questions tables.spans helds
     → AreRivals w o id least extent helds
-are_rivals tables w o id least extent lengths questions helds hi h t bounds whole within taken = λ x inside.
-    at_point (not_of_plan o id) (λ p. not (is_own o id p)) (another_plan o id hi) least extent x
+are_rivals tables w o id least extent span_bounds questions helds hi h t bounds whole within taken =
+    λ x inside. at_point (not_of_plan o id) (λ p. not (is_own o id p)) (another_plan o id hi) least extent x
     (is_in extent x inside) (λ p. rival_level o id p x) (λ ps. rivals_top o id ps x)
-    (level_of_rival o id x) (rivals_top-nil o id x) (λ p ps. rivals_top-cons o id p ps x) tables w lengths
+    (level_of_rival o id x) (rivals_top-nil o id x) (λ p ps. rivals_top-cons o id p ps x) tables w span_bounds
     questions helds h t bounds whole within taken
     ∙ ap (at_least least) (held_by_rivals o id w x)
 
@@ -513,16 +515,16 @@ any_level : (l : Option ℕ) → at_least 0 l ≡ l
 any_level None = refl
 any_level (Some n) = ap (λ b. cond b (Some n) None) (none_below n)
 
-pub are_others : (tables : Tables) (w : World) (o : List ℕ) (extent : Slab) (lengths : Lengths)
+pub are_others : (tables : Tables) (w : World) (o : List ℕ) (extent : Slab) (span_bounds : SpanBounds)
     (questions : List Span) (helds : List Held) → IsContent w → AreTables tables w
-    → Bounds lengths w → AreWhole extent (IsKnown lengths) questions
+    → Bounds span_bounds w → AreWhole extent (IsKnown span_bounds) questions
     → AllByRecursion (IsWithin extent) questions
     → HaveTakenAll (is_asked_of_others o extent) questions tables.spans helds
     → HaveLevel extent helds (held w o)
-are_others tables w o extent lengths questions helds h t bounds whole within taken = λ x inside.
+are_others tables w o extent span_bounds questions helds h t bounds whole within taken = λ x inside.
     at_point (not_by o) (λ p. not (is_by o p)) (by_another o) 0 extent x
     (is_in extent x inside) (λ p. other_level o p x) (λ ps. others_top o ps x)
-    (level_of_other o x) (others_top-nil o x) (λ p ps. others_top-cons o p ps x) tables w lengths
+    (level_of_other o x) (others_top-nil o x) (λ p ps. others_top-cons o p ps x) tables w span_bounds
     questions helds h t bounds whole within taken
     ∙ any_level (others_top o w.plans x) ∙ held_by_others o w x
 

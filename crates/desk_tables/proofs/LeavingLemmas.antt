@@ -13,8 +13,8 @@ use Rattle.sqlite.specs.State.{HasCleanDisk}
 use Rattle.sqlite.specs.Held.{Held, state}
 use Rattle.sqlite.specs.Files.{over_files, file_state}
 use Rattle.sqlite.proofs.Theorems.{next_run}
-use Rattle.desk_sql.specs.declared.opening.finding.Made.{Made}
-use Rattle.desk_sql.specs.declared.opening.finding.Made.TheVariants.{Nothing, Operators, Plans, OldVolumes, OldSpans, OldIndex, Volumes, Spans, All}
+use Rattle.desk_sql.specs.declared.opening.finding.TablesPresent.{TablesPresent}
+use Rattle.desk_sql.specs.declared.opening.finding.TablesPresent.TheVariants.{Nothing, Operators, Plans, OldVolumes, OldSpans, OldIndex, Volumes, Spans, All}
 use Rattle.desk_sql.specs.Schema.{blank_schema, desk_schema, schema_of}
 use Rattle.desk_sql.specs.Rows.{IsDesk, IsMadeTo, Tables, tables_of, tables_at, has_old_rows}
 use Rattle.desk_store.specs.World.{World}
@@ -78,7 +78,7 @@ module _ (law : HaveOneContent) where
 -- ---- over files
 
 -- part of the tables and the index is not a desk's schema
-only_all : (made : Made) → schema_of made ≡ desk_schema → made ≡ All
+only_all : (made : TablesPresent) → schema_of made ≡ desk_schema → made ≡ All
 only_all Nothing e = let tables : 0 ≡ 6 = ap (λ s. length s.tables) e in absurd (omega (arith, tables))
 only_all Operators e = let tables : 1 ≡ 6 = ap (λ s. length s.tables) e in absurd (omega (arith, tables))
 only_all Plans e = let tables : 2 ≡ 6 = ap (λ s. length s.tables) e in absurd (omega (arith, tables))

@@ -28,12 +28,12 @@ pub mod OpeningLemmas
 pub mod UnreadLemmas
 pub mod ExactLemmas
 pub mod CoverLemmas
-pub mod GiantLemmas
-pub mod LengthLemmas
+pub mod LongSpanLemmas
+pub mod SpanBoundLemmas
 pub mod AskingLemmas
 pub mod OtherLemmas
 pub mod LeavingLemmas
-pub mod GatherLemmas
+pub mod CollectorLemmas
 pub mod CauseLemmas
 pub mod SlabLemmas
 pub mod PuttableLemmas

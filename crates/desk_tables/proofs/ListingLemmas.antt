@@ -176,25 +176,25 @@ own_is_plan o id (p ∷ ps) h = by_test (is_own o id p) (own_is_plan o id ps h.1
   by_test false ih = ih
 
 -- the plan that is read is the stored one
-pub none_stored : (o id : List ℕ) (w : World) (heads : List Row) → heads ≡ plan_rows (own_of o id w)
-    → heads
+pub none_stored : (o id : List ℕ) (w : World) (head_rows : List Row) → head_rows ≡ plan_rows (own_of o id w)
+    → head_rows
     ≡ [] → None ≡ stored_of id (plans_of o w)
 unfolding stored_of
-none_stored o id w heads are none = by_found (find (is_own o id) w.plans) (sym are ∙ none)
+none_stored o id w head_rows are none = by_found (find (is_own o id) w.plans) (sym are ∙ none)
     ∙ sym (found_own o id w.plans) where
       by_found : (found : Option Filed) → plan_rows (one_or_none found) ≡ [] → None
           ≡ option_map (λ p. p.row) found
       by_found None e = refl
       by_found (Some p) e = cc
 
-pub plan_stored : (o id : List ℕ) (w : World) (heads rows rest : List Row) (head : Row) (plan : PlanRow)
-    → IsContent w → heads ≡ plan_rows (own_of o id w) → rows ≡ volume_rows (own_of o id w) → heads
+pub plan_stored : (o id : List ℕ) (w : World) (head_rows rows rest : List Row) (head : Row) (plan : PlanRow)
+    → IsContent w → head_rows ≡ plan_rows (own_of o id w) → rows ≡ volume_rows (own_of o id w) → head_rows
     ≡ head
     ∷ rest
     → ((p : PlanRow) → IsId p.id → IsHead head p → AllByRecursion IsBlock p.area
     → AllZip (λ r v. IsVolumeAt r 3 v) rows p.area → plan ≡ p) → Some plan ≡ stored_of id (plans_of o w)
 unfolding stored_of
-plan_stored o id w heads rows rest head plan h are volumes some read =
+plan_stored o id w head_rows rows rest head plan h are volumes some read =
     by_found (find (is_own o id) w.plans) (own_is_plan o id w.plans h.rows) (sym some ∙ are) volumes
     ∙ sym (found_own o id w.plans) where
       by_found : (found : Option Filed) → ArePlans (one_or_none found) → head ∷ rest

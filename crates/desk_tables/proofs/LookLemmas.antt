@@ -9,7 +9,7 @@ use Rattle.sqlite.specs.Effect.{Database}
 use Rattle.sqlite.specs.State.{HasCleanDisk}
 use Rattle.sqlite.specs.Held.{Held, state}
 use Rattle.sqlite.specs.Files.{file_state, over_files}
-use Rattle.desk_sql.specs.declared.opening.finding.Made.{Made}
+use Rattle.desk_sql.specs.declared.opening.finding.TablesPresent.{TablesPresent}
 use Rattle.desk_sql.specs.Effects.{IsOpenIfClean}
 use Rattle.desk_sql.specs.Schema.{blank_schema}
 use Rattle.desk_sql.specs.Finding.{Holds}
@@ -22,7 +22,7 @@ use Rattle.desk_tables.specs.Store.{Shown}
 use Rattle.desk_tables.specs.Opening.{HasRowsOld, ShowsNoDesk}
 use Rattle.desk_tables.specs.Copying.{AreNoContentIn, HoldsNone, IsMadeIn, ShowsNone}
 
-none_held : (made : Made) (old : Bool) (db : Database) → IsMadeTo made db
+none_held : (made : TablesPresent) (old : Bool) (db : Database) → IsMadeTo made db
     → has_old_rows (tables_at made db.trees) ≡ old → AreNoContentIn old (tables_at made db.trees)
     → HoldsNone db
 none_held made true db desk rows none =
@@ -39,7 +39,8 @@ module _ {S : Type 0} (g : Ghosts S) where
   ]
 
 -- what has no content after a reading has none before it
-module _ {S : Type 0} (g : Ghosts S) (a b c : Held S) (made : Made) (old : Bool) (reads : OnlyReads g a b)
+module _ {S : Type 0} (g : Ghosts S) (a b c : Held S) (made : TablesPresent) (old : Bool)
+    (reads : OnlyReads g a b)
     (part : Holds g b (IsMadeTo made)) (rows : Holds g b (HasRowsOld made old)) (later : OnlyReads g b c)
   where
     pub none_later_shown : {V : Type 0} (r : Result V OpenFault)

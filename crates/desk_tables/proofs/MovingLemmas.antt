@@ -15,8 +15,8 @@ use Rattle.s2_cover.specs.CanonicalList.{canonical_list}
 use Rattle.s2_cover.specs.Rectangles.{RectParts}
 use Rattle.volume4d.specs.FootprintBytes.{HasValidParts, footprint_bytes}
 use Rattle.volume4d.specs.Shape.{Shape, rectangle, shape_positions}
-use Rattle.desk_sql.specs.declared.opening.finding.Made.{Made}
-use Rattle.desk_sql.specs.declared.opening.finding.Made.TheVariants.{All}
+use Rattle.desk_sql.specs.declared.opening.finding.TablesPresent.{TablesPresent}
+use Rattle.desk_sql.specs.declared.opening.finding.TablesPresent.TheVariants.{All}
 use Rattle.desk_sql.specs.Rows.{IsDesk, IsMadeTo, Tables, Lists, tables_of, tables_at, has_old_rows}
 use Rattle.desk_sql.specs.Effects.{IsKept, ShowsAsBefore, Makes}
 use Rattle.desk_sql.specs.Frames.{OnlyReads, Remembers}
@@ -249,7 +249,7 @@ module _ (t rows : Tables) {V : Type 0} where
 
 module _ {S : Type 0} (g : Ghosts S) where
   -- where nothing was missing, nothing is made
-  pub whole_already : (made : Made) (a : Held S) → Holds g a (IsMadeTo made) → made ≡ All
+  pub whole_already : (made : TablesPresent) (a : Held S) → Holds g a (IsMadeTo made) → made ≡ All
       → HasCleanDisk (state g a) → IsTrue (state g a).is_open → IsWhole g made a a
   whole_already made a part all = λ clean live. record {
     was_open = live;
@@ -294,7 +294,7 @@ module _ {S : Type 0} (g : Ghosts S) where
   ]
 
   -- tables that were completed, and then kept
-  pub keeps_whole : (made : Made) (b c d : Held S) → Holds g b (IsMadeTo made)
+  pub keeps_whole : (made : TablesPresent) (b c d : Held S) → Holds g b (IsMadeTo made)
       → doubt (state g b).is_clean ≤ doubt (state g c).is_clean
       → doubt (state g c).is_clean ≤ doubt (state g d).is_clean
       → (HasCleanDisk (state g c) → IsTrue (state g c).is_open → IsWhole g made b c)
@@ -313,7 +313,7 @@ module _ {S : Type 0} (g : Ghosts S) where
       })
 
   -- what fails once the rows were found to be a content's
-  pub blames_moving : (made : Made) (w : World) (a b c : Held S) (e : OpenFault)
+  pub blames_moving : (made : TablesPresent) (w : World) (a b c : Held S) (e : OpenFault)
       → (HasCleanDisk (state g b) → IsOldContentOf (tables_at made (state g a).now.trees) w)
       → doubt (state g b).is_clean ≤ doubt (state g c).is_clean → BlamesMoving g a c made e
   blames_moving made w a b c e content rises clean live told =
@@ -346,7 +346,7 @@ module _ {S : Type 0} (g : Ghosts S) (a b c : Held S) (reads : OnlyReads g a b)
   keeps_moved (Ok v) kept = tt
   keeps_moved (Err e) kept = keeps_since g a b c reads.kept rises kept
 
-  pub none_moved : {V : Type 0} (made : Made) (r : Result V OpenFault) → Holds g b (IsMadeTo made)
+  pub none_moved : {V : Type 0} (made : TablesPresent) (r : Result V OpenFault) → Holds g b (IsMadeTo made)
       → Holds g b (HasRowsOld made true) → OnErr r (KeepsRows g b c)
       → (HasCleanDisk (state g c) → IfErr r (λ e. e ≡ NotADesk
       → AreNoOldContent (tables_at made (state g b).now.trees)))
@@ -359,7 +359,7 @@ module _ {S : Type 0} (g : Ghosts S) (a b c : Held S) (reads : OnlyReads g a b)
       subst (λ (db : Database). HasOthers db ⊎ (HasNoContent db ⊎ HasNoOldContent db)) shows.now
       (inr (inr (record { made = made; desk = part mid was; old = old mid was; none = none clean is })))
 
-  pub cause_moved : {V : Type 0} (made : Made) (r : Result V OpenFault) → Holds g b (IsMadeTo made)
+  pub cause_moved : {V : Type 0} (made : TablesPresent) (r : Result V OpenFault) → Holds g b (IsMadeTo made)
       → Holds g b (HasRowsOld made true) → OnErr r (KeepsRows g b c) → IfErr r (BlamesMoving g b c made)
       → IfErr r (BlamesMove g a c)
   cause_moved made (Ok v) part old kept why = tt

@@ -10,8 +10,8 @@ use Rattle.sqlite_trees.specs.View.{doubt}
 use Rattle.sqlite.specs.State.{HasCleanDisk}
 use Rattle.sqlite.specs.Held.{Held, state}
 use Rattle.sqlite.specs.Effect.{Database}
-use Rattle.desk_sql.specs.declared.opening.finding.Made.{Made}
-use Rattle.desk_sql.specs.declared.opening.finding.Made.TheVariants.{Nothing, Operators, Plans, OldVolumes, OldSpans, OldIndex, Volumes, Spans, All}
+use Rattle.desk_sql.specs.declared.opening.finding.TablesPresent.{TablesPresent}
+use Rattle.desk_sql.specs.declared.opening.finding.TablesPresent.TheVariants.{Nothing, Operators, Plans, OldVolumes, OldSpans, OldIndex, Volumes, Spans, All}
 use Rattle.desk_sql.specs.declared.opening.numbers.DeskTable.TheVariants as desk
 use Rattle.desk_sql.specs.Schema.{tree_of, has_table}
 use Rattle.desk_sql.specs.Rows.{IsDesk, IsMadeTo, AreNumbered, Tables, tables_of, tables_at, has_rows, has_old_rows}
@@ -57,7 +57,7 @@ made_desk db is = record {
 
 module _ {S : Type 0} (g : Ghosts S) where
   -- what is made so far stays
-  pub part_on : (made : Made) (a b : Held S) → Holds g a (IsMadeTo made) → OnlyReads g a b
+  pub part_on : (made : TablesPresent) (a b : Held S) → Holds g a (IsMadeTo made) → OnlyReads g a b
       → Holds g b (IsMadeTo made)
   part_on made a b part reads = λ clean live.
       let before = reads.kept clean live in
@@ -107,7 +107,7 @@ module _ {S : Type 0} (g : Ghosts S) where
       }))
 
   -- rows of no content are no desk's, also before what was kept
-  none_shown : (made : Made) (a b c : Held S) → IsKept g a b → Holds g b (IsMadeTo made)
+  none_shown : (made : TablesPresent) (a b c : Held S) → IsKept g a b → Holds g b (IsMadeTo made)
       → Holds g b (HasNewRows made) → IsKept g b c
       → doubt (state g b).is_clean ≤ doubt (state g c).is_clean
       → (HasCleanDisk (state g c) → AreNoContent (tables_at made (state g b).now.trees)) → ShowsNoDesk g a c
@@ -123,7 +123,7 @@ module _ {S : Type 0} (g : Ghosts S) where
         none = none clean;
       }))
 
-  pub none_of : {V : Type 0} (made : Made) (r : Result V OpenFault) (a b c : Held S) → IsKept g a b
+  pub none_of : {V : Type 0} (made : TablesPresent) (r : Result V OpenFault) (a b c : Held S) → IsKept g a b
       → Holds g b (IsMadeTo made) → Holds g b (HasNewRows made) → OnErr r (IsKept g b c)
       → doubt (state g b).is_clean ≤ doubt (state g c).is_clean
       → (HasCleanDisk (state g c) → IfErr r (λ e. e ≡ NotADesk
@@ -134,7 +134,7 @@ module _ {S : Type 0} (g : Ghosts S) where
       λ n. none_shown made a b c one part new two rises (λ clean. none clean n)
 
   -- tables that are completed after what was kept were completed since before
-  pub begins_completed : {V : Type 0} (made : Made) (world : V → World) (r : Result V OpenFault)
+  pub begins_completed : {V : Type 0} (made : TablesPresent) (world : V → World) (r : Result V OpenFault)
       (a b c : Held S) → IsKept g a b → doubt (state g b).is_clean ≤ doubt (state g c).is_clean
       → (HasCleanDisk (state g c) → OnOk r (IsTrue (state g b).is_open))
       → (HasCleanDisk (state g c) → IfOk r (λ v. WasCompleted g b c (world v)))
@@ -287,7 +287,7 @@ module _ (t rows : Tables) {V : Type 0} where
   of_none (Err e) lists none = λ n. none_there t rows lists (none n)
 
 -- what is made has the operators, unless it is nothing
-pub some_operators : (made : Made) → made ≢ Nothing → has_table made desk.Operator ≡ true
+pub some_operators : (made : TablesPresent) → made ≢ Nothing → has_table made desk.Operator ≡ true
 some_operators Nothing some = absurd (some refl)
 some_operators Operators some = refl
 some_operators Plans some = refl

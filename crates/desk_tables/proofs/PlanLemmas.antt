@@ -83,11 +83,11 @@ pub plans_within : (ps : List Filed) → AllByRecursion IsFiled ps → ArePlans 
 plans_within ps h = all_weaker IsFiled (λ p. IsPlan p.row) (λ p k. k.row) ps h
 
 -- these plans were read, and these rows are left
-pub record AreFiled (heads volumes : List Row) (ps : List Filed) (left rest : List Row) : Type 0 where
+pub record AreFiled (head_rows volumes : List Row) (ps : List Filed) (left rest : List Row) : Type 0 where
   pub within : AllByRecursion IsFiled ps
-  pub heads_so_far : heads ≡ plan_rows ps ++ left
+  pub heads_so_far : head_rows ≡ plan_rows ps ++ left
   pub areas_so_far : volumes ≡ volume_rows ps ++ rest
-  pub remain : (qs : List Filed) → IsStrictlySortedBy filed_cmp qs → ArePlanRows qs heads volumes
+  pub remain : (qs : List Filed) → IsStrictlySortedBy filed_cmp qs → ArePlanRows qs head_rows volumes
       → (more : List Filed) × IsStrictlySortedBy filed_cmp more × ArePlanRows more left rest
 
 heads_append : (ps qs : List Filed) → plan_rows (ps ++ qs) ≡ plan_rows ps ++ plan_rows qs
@@ -110,7 +110,7 @@ module _ (left later rest mine more : List Row) (head : Row) (count : ℕ) (some
   first_taken q qs s h =
       let both : head ∷ later ≡ plan_row q ∷ plan_rows qs = sym some ∙ h.plans in
       let first : head ≡ plan_row q = cc in
-      let heads : later ≡ plan_rows qs = cc in
+      let head_rows : later ≡ plan_rows qs = cc in
       let plans = plans_within (q ∷ qs) h.within in
       let here : length (area_rows q) ≡ count =
       sym (counted q first ∙ ap (prefix_len (of q)) h.areas
@@ -121,7 +121,7 @@ module _ (left later rest mine more : List Row) (head : Row) (count : ℕ) (some
         mine_is ∙ ap (take count) h.areas ∙ take_at (area_rows q) (volume_rows qs) count here,
         record {
           within = h.within.1;
-          plans = heads;
+          plans = head_rows;
           areas = more_is ∙ ap (drop count) h.areas ∙ drop_at (area_rows q) (volume_rows qs) count here;
         },
       )
@@ -139,10 +139,10 @@ module _ (left later rest mine more : List Row) (head : Row) (count : ℕ) (some
   not_first none (q ∷ qs) s h = let taken = first_taken q qs s h
       in none q h.within.0 (record { plan = taken.0; area = taken.1 })
 
-  pub goes_on : (heads volumes : List Row) (ps : List Filed) (p : Filed)
-      → AreFiled heads volumes ps left rest
-      → IsFiled p → AreRowsOf p head mine → AreFiled heads volumes (ps ++ p ∷ []) later more
-  goes_on heads volumes ps p h within are = record {
+  pub goes_on : (head_rows volumes : List Row) (ps : List Filed) (p : Filed)
+      → AreFiled head_rows volumes ps left rest
+      → IsFiled p → AreRowsOf p head mine → AreFiled head_rows volumes (ps ++ p ∷ []) later more
+  goes_on head_rows volumes ps p h within are = record {
     within = all_append IsFiled ps (p ∷ []) h.within (within, tt);
     heads_so_far =
         h.heads_so_far ∙ (λ i. plan_rows ps ++ (some ∙ ap (λ r. r ∷ later) are.plan) i)
@@ -157,8 +157,8 @@ module _ (left later rest mine more : List Row) (head : Row) (count : ℕ) (some
     remain = λ qs s k. let (those, sorted, there) = h.remain qs s k in tail those sorted there;
   }
 
-  pub refused : (heads volumes : List Row) (ps : List Filed) → AreFiled heads volumes ps left rest
+  pub refused : (head_rows volumes : List Row) (ps : List Filed) → AreFiled head_rows volumes ps left rest
       → ((p : Filed) → IsFiled p → AreRowsOf p head mine → ⊥) → (qs : List Filed)
-      → IsStrictlySortedBy filed_cmp qs → ArePlanRows qs heads volumes → ⊥
-  refused heads volumes ps h none qs s k = let (those, sorted, there) = h.remain qs s k
+      → IsStrictlySortedBy filed_cmp qs → ArePlanRows qs head_rows volumes → ⊥
+  refused head_rows volumes ps h none qs s k = let (those, sorted, there) = h.remain qs s k
       in not_first none those sorted there

@@ -14,7 +14,7 @@ use Rattle.uuid.proofs.TextLemmas.{by_index_length}
 use Rattle.s2_cover.specs.declared.spans.Span.{Span}
 use Rattle.volume4d.specs.Volume.{Block}
 use Rattle.desk_rules.specs.Plan.{is_live}
-use Rattle.desk_sql.specs.declared.opening.finding.Made.{Made}
+use Rattle.desk_sql.specs.declared.opening.finding.TablesPresent.{TablesPresent}
 use Rattle.desk_sql.specs.Rows.{Tables, no_rows, tables_at}
 use Rattle.desk_sql.specs.Effects.{IsKept}
 use Rattle.desk_sql.specs.Frames.{OnlyReads}
@@ -76,7 +76,7 @@ pub blank_spans : HasSmallSpans no_rows
 blank_spans = (tt, tt)
 
 -- tables with the rows of a content are completed but for a refusal that is blamed as a reading is
-pub blames_completing : {S : Type 0} (g : Ghosts S) (made : Made) (w : World) (old mid new : Held S)
+pub blames_completing : {S : Type 0} (g : Ghosts S) (made : TablesPresent) (w : World) (old mid new : Held S)
     (error : Error) → OnlyReads g old mid
     → (HasCleanDisk (state g mid) → IsContentOf (tables_at made (state g old).now.trees) w)
     → doubt (state g mid).is_clean ≤ doubt (state g new).is_clean → IsKept g mid new

@@ -12,7 +12,7 @@ use Rattle.desk_sql.specs.Effects.{IsKept}
 use Rattle.desk_sql.specs.Frames.{OnlyReads}
 use Rattle.desk_sql.specs.Making.{Completes}
 use Rattle.desk_sql.specs.Rows.{no_rows}
-use Rattle.desk_sql.specs.declared.opening.finding.Made.TheVariants.{Nothing}
+use Rattle.desk_sql.specs.declared.opening.finding.TablesPresent.TheVariants.{Nothing}
 use Rattle.desk_store.specs.World.{World}
 use Rattle.desk_tables.specs.Tables.{AreTables}
 use Rattle.desk_tables.specs.Content.{IsContent}

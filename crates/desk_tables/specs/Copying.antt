@@ -13,7 +13,7 @@ use Rattle.sqlite.specs.Files.{over_files, file_state, IsBlankAs}
 use Rattle.desk_sql.specs.Effects.{IsOpenIfClean}
 use Rattle.desk_sql.specs.Frames.{OnlyReads}
 use Rattle.desk_sql.specs.Schema.{blank_schema}
-use Rattle.desk_sql.specs.declared.opening.finding.Made.{Made}
+use Rattle.desk_sql.specs.declared.opening.finding.TablesPresent.{TablesPresent}
 use Rattle.desk_sql.specs.Finding.{HasOthers}
 use Rattle.desk_sql.specs.Rows.{IsMadeTo, Tables, tables_at, has_old_rows}
 use Rattle.desk_rules.specs.Plan.{is_live}
@@ -41,7 +41,7 @@ AreNoContentIn false tables = AreNoContent tables
 -- a desk's tables, so far as they are made, with the rows of this content: in schema 1 if that has rows, else
 -- in schema 2
 pub record HoldsContent (old : Bool) (w : World) (db : Database) : Type 0 where
-  pub made : Made
+  pub made : TablesPresent
   pub desk : IsMadeTo made db
   pub schema : has_old_rows (tables_at made db.trees) ≡ old
   pub rows : IsContentIn old (tables_at made db.trees) w

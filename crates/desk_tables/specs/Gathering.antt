@@ -45,8 +45,8 @@ Leads plans None volumes left ps = (plans ≡ []) × (left ≡ listing_rows ps)
 Leads plans (Some head) volumes left ps = IsUnderWay plans head volumes left (map (λ p. p.row) ps)
 
 -- whatever plans these are the first rows of a listing of: what is gathered leads to them
-abbrev pub HasGathered : List PlanRow → Option Head → List Block → List Row → Type 0
-HasGathered plans head volumes rows =
+abbrev pub HasCollected : List PlanRow → Option Head → List Block → List Row → Type 0
+HasCollected plans head volumes rows =
     (ps : List Filed) (left : List Row) → AllByRecursion (λ p. IsPlan p.row) ps
     → rows ++ left ≡ listing_rows ps → Leads plans head volumes left ps
 

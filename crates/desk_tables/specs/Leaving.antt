@@ -10,7 +10,7 @@ use Rattle.sqlite.specs.Effect.{Database, IsDatabase}
 use Rattle.sqlite.specs.State.{HasCleanDisk}
 use Rattle.sqlite.specs.Held.{Held, state, AreDatabases}
 use Rattle.sqlite.specs.Files.{over_files, file_state}
-use Rattle.desk_sql.specs.declared.opening.finding.Made.{Made}
+use Rattle.desk_sql.specs.declared.opening.finding.TablesPresent.{TablesPresent}
 use Rattle.desk_sql.specs.Schema.{desk_schema}
 use Rattle.desk_sql.specs.Rows.{IsDesk, tables_of}
 use Rattle.desk_sql.specs.Refusals.{HasDiskFailed, IsMisnumbered}
@@ -68,7 +68,7 @@ module _ {D : Type 0} {g : disk.Ghosts D} where
 
 -- what a start does not take for a desk's tables as they are
 abbrev pub IsUntaken : Database → Type 0
-IsUntaken db = ((made : Made) × IsPart made db) ⊎ (IsMisnumbered db ⊎ (IsNoDesk db ⊎ HasOldRows db))
+IsUntaken db = ((made : TablesPresent) × IsPart made db) ⊎ (IsMisnumbered db ⊎ (IsNoDesk db ⊎ HasOldRows db))
 
 -- a connection is open, on a clean disk: what it shows is what the files have
 abbrev pub IsLegible : {D : Type 0} {g : disk.Ghosts D} → Held (FileStore D g) → Type 0

@@ -6,9 +6,9 @@ pub mod TableChanges
 pub mod Reading
 pub mod Gathering
 pub mod Lookups
-pub mod Rivals
+pub mod RivalRows
 pub mod Store
-pub mod Lengths
+pub mod SpanBounds
 pub mod Known
 pub mod Records
 pub mod Opening

@@ -9,7 +9,7 @@ use Rattle.volume4d.specs.Volume.{Block}
 use Rattle.sqlite.specs.Effect.{Database}
 use Rattle.sqlite.specs.State.{HasCleanDisk}
 use Rattle.sqlite.specs.Held.{Held, state}
-use Rattle.desk_sql.specs.declared.opening.finding.Made.{Made}
+use Rattle.desk_sql.specs.declared.opening.finding.TablesPresent.{TablesPresent}
 use Rattle.desk_sql.specs.Rows.{IsDesk, IsMadeTo, Tables, Lists, tables_of, tables_at, has_old_rows}
 use Rattle.desk_sql.specs.Refusals.{IsMisnumbered}
 use Rattle.desk_sql.specs.Effects.{ShowsAsBefore}
@@ -109,7 +109,7 @@ pub record MovesRows (ps : List Filed) (old new : Tables) : Type 0 where
       (rows : List Row) × AreSpanRows ps rows × IsPermutation (rows ++ old.spans) new.spans
 
 -- all of a desk's tables are made, with the rows that there were
-pub record IsWhole {S : Type 0} (g : Ghosts S) (made : Made) (old new : Held S) : Type 0 where
+pub record IsWhole {S : Type 0} (g : Ghosts S) (made : TablesPresent) (old new : Held S) : Type 0 where
   pub was_open : IsTrue (state g old).is_open
   pub desk : IsDesk (state g new).now
   pub same : tables_of (state g new).now.trees ≡ tables_at made (state g old).now.trees
@@ -118,7 +118,7 @@ pub record IsWhole {S : Type 0} (g : Ghosts S) (made : Made) (old new : Held S) 
 
 -- there were rows of schema 1, of this world; all are those of schema 2 now
 pub record WasMoved {S : Type 0} (g : Ghosts S) (old new : Held S) (w : World) : Type 0 where
-  pub made : Made
+  pub made : TablesPresent
   pub desk : IsMadeTo made (state g old).now
   pub old_rows : has_old_rows (tables_at made (state g old).now.trees) ≡ true
   pub rows : IsOldContentOf (tables_at made (state g old).now.trees) w
@@ -126,7 +126,7 @@ pub record WasMoved {S : Type 0} (g : Ghosts S) (old new : Held S) (w : World) :
 
 -- a desk's tables, so far as they are made, with a row of schema 1, and rows of no content of schema 1
 pub record HasNoOldContent (db : Database) : Type 0 where
-  pub made : Made
+  pub made : TablesPresent
   pub desk : IsMadeTo made db
   pub old : has_old_rows (tables_at made db.trees) ≡ true
   pub none : AreNoOldContent (tables_at made db.trees)
@@ -138,7 +138,7 @@ pub record AreOldContent (t : Tables) : Type 0 where
 
 -- a desk's tables, so far as they are made, with a row of schema 1, and rows of a content of schema 1
 pub record HasOldContent (db : Database) : Type 0 where
-  pub made : Made
+  pub made : TablesPresent
   pub desk : IsMadeTo made db
   pub old : has_old_rows (tables_at made db.trees) ≡ true
   pub rows : AreOldContent (tables_at made db.trees)
@@ -163,8 +163,8 @@ module _ {S : Type 0} (g : Ghosts S) (old new : Held S) where
 
   -- more of a desk's tables are made, and the rows are what they were
   pub record HasSameRows : Type 0 where
-    pub made : Made
-    pub next : Made
+    pub made : TablesPresent
+    pub next : TablesPresent
     pub was_open : IsTrue (state g old).is_open
     pub desk : IsMadeTo made (state g old).now
     pub after : IsMadeTo next (state g new).now
@@ -176,7 +176,7 @@ module _ {S : Type 0} (g : Ghosts S) (old new : Held S) where
       HasCleanDisk (state g new) → IsTrue (state g new).is_open → ShowsAsBefore g old new ⊎ HasSameRows
 
   -- why a move of such tables tells that the database failed
-  abbrev pub BlamesMoving : Made → OpenFault → Type 0
+  abbrev pub BlamesMoving : TablesPresent → OpenFault → Type 0
   BlamesMoving made e =
       HasCleanDisk (state g new) → IsTrue (state g new).is_open → e ≡ Store →
       HasFailed g old new ⊎ AreOldContent (tables_at made (state g old).now.trees)

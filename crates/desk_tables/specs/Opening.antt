@@ -18,8 +18,8 @@ use Rattle.sqlite.specs.Held.{Held, state}
 use Rattle.desk_rules.specs.Limits.{max_plans}
 use Rattle.desk_sql.specs.Schema.{blank_schema}
 use Rattle.desk_sql.specs.Finding.{HasOthers}
-use Rattle.desk_sql.specs.declared.opening.finding.Made.{Made}
-use Rattle.desk_sql.specs.declared.opening.finding.Made.TheVariants.{All}
+use Rattle.desk_sql.specs.declared.opening.finding.TablesPresent.{TablesPresent}
+use Rattle.desk_sql.specs.declared.opening.finding.TablesPresent.TheVariants.{All}
 use Rattle.desk_sql.specs.Rows.{IsDesk, IsMadeTo, Tables, Lists, tables_of, tables_at, has_old_rows}
 use Rattle.desk_sql.specs.Refusals.{HasDiskFailed, IsMisnumbered}
 use Rattle.desk_sql.specs.Effects.{ShowsAsBefore}
@@ -73,9 +73,9 @@ pub record AreOperatorRows (ls : List Listed) (rows : List Row) : Type 0 where
   pub are : rows ≡ map operator_row ls
 
 -- the rows of these plans, and those of their volumes
-pub record ArePlanRows (ps : List Filed) (heads volumes : List Row) : Type 0 where
+pub record ArePlanRows (ps : List Filed) (head_rows volumes : List Row) : Type 0 where
   pub within : AllByRecursion IsFiled ps
-  pub plans : heads ≡ plan_rows ps
+  pub plans : head_rows ≡ plan_rows ps
   pub areas : volumes ≡ volume_rows ps
 
 -- each plan's operator is among these, and none has too many plans
@@ -137,13 +137,13 @@ pub record WasFound {S : Type 0} (g : Ghosts S) (old new : Held S) (w : World) :
   pub kept : ShowsAsBefore g old new
 
 -- part of a desk's tables and index, and nothing else
-pub record IsPart (made : Made) (db : Database) : Type 0 where
+pub record IsPart (made : TablesPresent) (db : Database) : Type 0 where
   pub missing : made ≢ All
   pub part : IsMadeTo made db
 
 -- there was part of the tables and index, with the rows of the world; all are made, and have these rows
 pub record WasCompleted {S : Type 0} (g : Ghosts S) (old new : Held S) (w : World) : Type 0 where
-  pub made : Made
+  pub made : TablesPresent
   pub part : IsPart made (state g old).now
   pub rows : IsContentOf (tables_at made (state g old).now.trees) w
   pub whole : IsDesk (state g new).now
@@ -151,7 +151,7 @@ pub record WasCompleted {S : Type 0} (g : Ghosts S) (old new : Held S) (w : Worl
 
 -- a desk's tables, so far as they are made, with no row of schema 1, and rows of no content
 pub record HasNoContent (db : Database) : Type 0 where
-  pub made : Made
+  pub made : TablesPresent
   pub desk : IsMadeTo made db
   pub new : has_old_rows (tables_at made db.trees) ≡ false
   pub none : AreNoContent (tables_at made db.trees)
@@ -162,15 +162,15 @@ IsNoDesk db = HasOthers db ⊎ HasNoContent db
 
 -- a desk's tables, so far as they are made, with a row in those of schema 1
 pub record HasOldRows (db : Database) : Type 0 where
-  pub made : Made
+  pub made : TablesPresent
   pub desk : IsMadeTo made db
   pub old : has_old_rows (tables_at made db.trees) ≡ true
 
 -- whether there are rows of schema 1
-abbrev pub HasRowsOld : Made → Bool → Database → Type 0
+abbrev pub HasRowsOld : TablesPresent → Bool → Database → Type 0
 HasRowsOld made old db = has_old_rows (tables_at made db.trees) ≡ old
 
-abbrev pub HasNewRows : Made → Database → Type 0
+abbrev pub HasNewRows : TablesPresent → Database → Type 0
 HasNewRows made = HasRowsOld made false
 
 module _ {S : Type 0} (g : Ghosts S) (old new : Held S) where

@@ -11,33 +11,33 @@ use std::marker::Model;
 
 /// The world that a store keeps. It takes no bytes: contracts alone read it.
 #[derive(Drop)]
-pub struct Kept {
+pub struct GhostWorld {
     pub ghost world: { World },
 }
 
-impl Model for Kept {
+impl Model for GhostWorld {
     ghost also_owns = { λ _. ftrue };
 }
 
-impl Kept {
+impl GhostWorld {
     /// The world of no operators and no plans.
-    pub fn new() -> Kept
+    pub fn new() -> GhostWorld
         ensures { result.world ≡ record { operators = []; plans = [] } }
     {
-        Kept {}
+        GhostWorld {}
     }
 
     /// The world after a change.
-    pub fn after(_before: &Kept, _change: &Change) -> Kept
+    pub fn after(_before: &GhostWorld, _change: &Change) -> GhostWorld
         ensures { result.world ≡ changed_by _change.now _before.now.world }
     {
-        Kept {}
+        GhostWorld {}
     }
 
     /// The world of a content that was read.
-    pub(crate) fn of(_content: &Content) -> Kept
+    pub(crate) fn of(_content: &Content) -> GhostWorld
         ensures { result.world ≡ _content.now }
     {
-        Kept {}
+        GhostWorld {}
     }
 }

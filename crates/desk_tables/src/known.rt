@@ -7,10 +7,10 @@ ghost use Rattle.desk_store.specs.StoreChange.{changed_by};
 ghost use Rattle.desk_live.specs.Live.{AreBrought, AreKept, HasRoomFor};
 ghost use Rattle.desk_live.specs.Roll.{AreAccountsOf, IsReadyFor, accounts_of};
 ghost use Rattle.desk_tables.specs.Known.{Knows};
-ghost use Rattle.desk_tables.specs.Lengths.{BringsKnown, Keeps};
+ghost use Rattle.desk_tables.specs.SpanBounds.{BringsKnown, Keeps};
 
-use crate::lengths::Lengths;
 use crate::opening::exact::{FiledPlan, ListedOperator};
+use crate::span_bounds::SpanBounds;
 use desk_live::{Gathering, LiveVolume, LiveVolumes, Roll};
 use desk_store::Change;
 use std::alloc::{AllocError, Global};
@@ -18,7 +18,7 @@ use std::alloc::{AllocError, Global};
 /// How long the spans of live plans are, bounds round each of their volumes, and the roll of operators.
 #[derive(Drop)]
 pub(crate) struct Known {
-    pub lengths: Lengths,
+    pub span_bounds: SpanBounds,
     pub live: LiveVolumes,
     pub roll: Roll,
 }
@@ -29,7 +29,7 @@ impl Known {
         ensures { Knows result (record { operators = []; plans = [] }) }
     {
         Known {
-            lengths: Lengths::new(),
+            span_bounds: SpanBounds::new(),
             live: LiveVolumes::new(alloc),
             roll: Roll::new(alloc),
         }
@@ -55,15 +55,15 @@ impl Known {
     }
 
     /// Follows a change, for which there is room, with the lengths after it and the volumes that it brings.
-    pub(crate) fn follow(&mut self, change: &Change, lengths: Lengths, fresh: &[LiveVolume])
+    pub(crate) fn follow(&mut self, change: &Change, span_bounds: SpanBounds, fresh: &[LiveVolume])
         requires room { HasRoomFor self.old.live (length fresh.now) }
         requires brought { AreBrought change.now fresh.now }
         requires ready { IsReadyFor change.now self.old.roll }
-        requires kept { Keeps self.old.lengths lengths }
-        requires brings { BringsKnown lengths change.now }
+        requires kept { Keeps self.old.span_bounds span_bounds }
+        requires brings { BringsKnown span_bounds change.now }
         ensures { (w : World) → Knows self.old w → Knows self.new (changed_by change.now w) }
     {
-        self.lengths = lengths;
+        self.span_bounds = span_bounds;
         self.live.follow(change, fresh);
         self.roll.follow(change);
     }

@@ -7,9 +7,9 @@ mod closing;
 mod kept;
 mod known;
 pub mod laws;
-mod lengths;
 mod opening;
 mod reading;
+mod span_bounds;
 mod store;
 
 pub use opening::files::{Copied, FilesFault, copy_from, look_at};

@@ -1,14 +1,14 @@
 //! A store of plans over tables in SQLite.
 
 ghost use Rattle.std.specs.Prelude.{◌≡◌, ◌≤◌, Ok, Err, IsErr, IfErr, MatchResult};
-ghost use Rattle.desk_store.specs.Faults.{HasRisen};
+ghost use Rattle.desk_store.specs.StoreFaults.{HasRisen};
 ghost use Rattle.desk_sql.specs.Effects.{IsOpenIfClean};
 ghost use Rattle.desk_tables.specs.Store.{Stands};
 ghost use Rattle.desk_tables.specs.Known.{Knows};
 ghost use Rattle.desk_tables.specs.Leaving.{IsSettledAt};
 
 use crate::changing::changes;
-use crate::kept::Kept;
+use crate::kept::GhostWorld;
 use crate::known::Known;
 use crate::laws::one_content;
 use crate::reading::{others, readers};
@@ -30,7 +30,7 @@ use volume4d::{Held, Slab};
 #[derive(Drop)]
 pub struct SqliteStore<S: Alter> {
     connection: Connection<S>,
-    kept: Kept,
+    kept: GhostWorld,
     // the roll of operators; and of live plans bounds round each volume, and how long spans are, which is
     // forgotten at an opening alone
     known: Known,
@@ -71,7 +71,7 @@ impl<S: Alter> SqliteStore<S> {
     pub(crate) fn with(
         alloc: Global,
         connection: Connection<S>,
-        kept: Kept,
+        kept: GhostWorld,
         known: Known,
         told: StoreFault,
         is_enrolled: bool,
@@ -189,13 +189,13 @@ impl<S: Alter> PlanStore for SqliteStore<S> {
             self.alloc,
             &mut self.connection,
             &self.kept,
-            &self.known.lengths,
+            &self.known.span_bounds,
             change,
         ) {
-            Ok(lengths) => {
+            Ok(span_bounds) => {
                 settled_and_sound(&self.connection);
-                self.kept = Kept::after(&self.kept, change);
-                self.known.follow(change, lengths, &fresh);
+                self.kept = GhostWorld::after(&self.kept, change);
+                self.known.follow(change, span_bounds, &fresh);
                 Ok(())
             }
             Err(e) => counted(&mut self.faults, self.told, Err(e)),

@@ -10,7 +10,7 @@ use Rattle.desk_writing.specs.Replies.{reply_text}
 use Rattle.desk_reading.specs.Messages.{MessageParts, message_in}
 use Rattle.desk_reading.specs.Readings.{Reading, or_met}
 use Rattle.desk_reading.specs.Requests.{asked, asked_by}
-use Rattle.desk_store.specs.Faults.{HasRisen}
+use Rattle.desk_store.specs.StoreFaults.{HasRisen}
 use Rattle.desk_wire.specs.Bytes.{IsAnswered, IsAnsweredSo, IsDone, IsServerError, status, status_for, text, world_after}
 use Rattle.desk_wire.specs.declared.response.ServerError.{ServerError}
 use Rattle.desk_wire.specs.declared.response.ServerError.TheVariants.{OutOfMemory, Store}

@@ -1,7 +1,7 @@
 -- Causes: why a desk failed to answer a request. Memory was refused, or its store counted a fault.
 use Rattle.std.specs.Prelude.{◌≡◌, ℕ, ⊤, List, [], ◌∷◌, ◌++◌, Option}
 use Rattle.std.specs.Io.KnownBytes.{Appends}
-use Rattle.desk_store.specs.Faults.{HasRisen}
+use Rattle.desk_store.specs.StoreFaults.{HasRisen}
 use Rattle.desk_wire.specs.declared.response.ServerError.{ServerError}
 use Rattle.desk_wire.specs.declared.response.ServerError.TheVariants.{OutOfMemory, Store}
 use Rattle.desk_wire.specs.declared.stream.Served.{Served}

@@ -10,4 +10,4 @@ pub mod Playing
 pub mod Headline
 pub mod TwoRuns
 pub mod Given
-pub mod Kept
+pub mod Crashes

@@ -4,9 +4,9 @@ ghost use Rattle.std.specs.Prelude.{◌≡◌, ◌≢◌, ◌≤◌, IfErr, IfOk
 ghost use Rattle.desk_reading.specs.Messages.{message_read, message_shown};
 ghost use Rattle.desk_reading.specs.Readings.{or_met};
 ghost use Rattle.desk_reading.specs.Requests.{asked, asked_by};
-ghost use Rattle.desk_store.specs.Frames.{Remembers};
+ghost use Rattle.desk_store.specs.StoreFrames.{Remembers};
 ghost use Rattle.desk_store.specs.Crashes.{LeavesOldOr};
-ghost use Rattle.desk_store.specs.Faults.{IsHonest, HasRisen};
+ghost use Rattle.desk_store.specs.StoreFaults.{IsHonest, HasRisen};
 ghost use Rattle.desk_run.specs.DeskWorld.{IsSettled, IsSettledOrSame, world_of};
 ghost use Rattle.desk_run.specs.Calls.{CanCommit, reply_in, world_committed};
 ghost use Rattle.desk_wire.specs.Moments.{IsMoment};

@@ -1,15 +1,15 @@
 //! Batches: the answers to requests that are all at hand.
 
 ghost use Rattle.std.specs.Prelude.{◌≡◌, ◌≤◌, ℕ, List, [], All, Option, IfOk, OnErr, map};
-ghost use Rattle.desk_store.specs.Frames.{Remembers};
+ghost use Rattle.desk_store.specs.StoreFrames.{Remembers};
 ghost use Rattle.desk_store.specs.World.{World};
-ghost use Rattle.desk_store.specs.Faults.{IsHonest};
+ghost use Rattle.desk_store.specs.StoreFaults.{IsHonest};
 ghost use Rattle.desk_run.specs.DeskWorld.{IsSettled, world_of};
 ghost use Rattle.desk_run.specs.Sides.{OwnAlike};
 ghost use Rattle.desk_wire.specs.AllAnswers.{AreAnswers};
 ghost use Rattle.desk_wire.specs.Causes.{HasFailed, IsLast};
 ghost use Rattle.desk_wire.specs.Given.{answered};
-ghost use Rattle.desk_wire.specs.Kept.{IsFoundIn};
+ghost use Rattle.desk_wire.specs.Crashes.{IsFoundIn};
 ghost use Rattle.desk_wire.specs.Moments.{IsMoment};
 ghost use Rattle.desk_wire.specs.TwoRuns.{requests_of};
 

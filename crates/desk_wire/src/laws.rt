@@ -3,7 +3,7 @@
 ghost use Rattle.std.specs.Prelude.{◌≡◌, ◌<◌, ◌+◌, ◌++◌, ℕ, ℤ, List, [], Option, Some, length, take};
 ghost use Rattle.std.specs.List.{AllZip, slice_get};
 ghost use Rattle.desk_store.specs.World.{World};
-ghost use Rattle.desk_store.specs.Faults.{IsHonest};
+ghost use Rattle.desk_store.specs.StoreFaults.{IsHonest};
 ghost use Rattle.desk_run.specs.DeskWorld.{DeskWorld};
 ghost use Rattle.desk_run.specs.Sides.{HoldAlike, OwnAlike};
 ghost use Rattle.desk_wire.specs.declared.batch.AnswersEnd.{AnswersEnd};
@@ -11,7 +11,7 @@ ghost use Rattle.desk_wire.specs.declared.play.PlayEnd.{PlayEnd};
 ghost use Rattle.desk_wire.specs.AllAnswers.{AreAnswers, AreFirst, Sent};
 ghost use Rattle.desk_wire.specs.Given.{answered, AreGiven, told_in_play};
 ghost use Rattle.desk_wire.specs.Headline.{Headline, LookAlike, sender, world_at};
-ghost use Rattle.desk_wire.specs.Kept.{IsFoundAfter, IsKept};
+ghost use Rattle.desk_wire.specs.Crashes.{IsFoundAfter, IsKept};
 ghost use Rattle.desk_wire.specs.Playing.{HasPlayed, at_moment};
 ghost use Rattle.desk_wire.specs.Streams.{IsRequest, request_len, requests_in};
 ghost use Rattle.desk_wire.specs.TwoRuns.{IsSameFor, met_by, requests_of};

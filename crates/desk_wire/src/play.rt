@@ -1,13 +1,13 @@
 //! Runs over a stream: requests served one after the other.
 
 ghost use Rattle.std.specs.Prelude.{◌≡◌, ◌≤◌, ◌==◌, Option};
-ghost use Rattle.desk_store.specs.Frames.{Remembers};
+ghost use Rattle.desk_store.specs.StoreFrames.{Remembers};
 ghost use Rattle.desk_store.specs.World.{World};
-ghost use Rattle.desk_store.specs.Faults.{IsHonest};
+ghost use Rattle.desk_store.specs.StoreFaults.{IsHonest};
 ghost use Rattle.desk_run.specs.DeskWorld.{IsSettled, world_of};
 ghost use Rattle.desk_wire.specs.Causes.{AppendsLast, HasFailed};
 ghost use Rattle.desk_wire.specs.Given.{told_in_play};
-ghost use Rattle.desk_wire.specs.Kept.{IsKept};
+ghost use Rattle.desk_wire.specs.Crashes.{IsKept};
 ghost use Rattle.desk_wire.specs.Moments.{IsMoment};
 ghost use Rattle.desk_wire.specs.Playing.{HasPlayed};
 

@@ -11,8 +11,8 @@ use Rattle.s2_hilbert.specs.Curve.{position_of, grid_leaf_at, first_position, la
 use Rattle.s2_hilbert.specs.laws.Curve.{leaf_is, position_undone, leaf_undone, square_leaves}
 use Rattle.s2_cover.specs.Rectangles.{WideParts, is_along, wide_set}
 use Rattle.s2_cover.specs.Walking.{AllIn, SomeIn, Saw, SawSquare, both}
-use Rattle.s2_cover.specs.declared.sight.Sight.{Sight}
-use Rattle.s2_cover.specs.declared.sight.Sight.TheVariants.{Outside, Inside, Across}
+use Rattle.s2_cover.specs.declared.sight.Overlap.{Overlap}
+use Rattle.s2_cover.specs.declared.sight.Overlap.TheVariants.{Outside, Inside, Across}
 use Rattle.s2_cover.proofs.RangeTests.{of_range}
 use Rattle.s2_cover.proofs.SquareCells.{last_below}
 
@@ -176,7 +176,7 @@ and_none false = refl
 
 -- the sight of a square, from the tests of its two coordinates
 saw_both : (w : WideParts) (square : GridSquare) (i_first i_last j_first j_last : ℕ)
-    (i_sight j_sight : Sight)
+    (i_sight j_sight : Overlap)
     → IsSquare square → square.face ≡ w.face → HasSpans square i_first i_last j_first j_last
     → Saw i_first i_last (is_along (side_of w.level) w.a_min w.a_max) i_sight
     → Saw j_first j_last (is_along (side_of w.level) w.b_min w.b_max) j_sight
@@ -213,7 +213,7 @@ saw_both w square i_first i_last j_first j_last i_sight j_sight is face spans =
       j_order : j_first ≤ j_last
       j_order = some_span square.level square.b j_first j_last spans.j
 
-      by_sights : (i_sight j_sight : Sight) → Saw i_first i_last i_test i_sight
+      by_sights : (i_sight j_sight : Overlap) → Saw i_first i_last i_test i_sight
           → Saw j_first j_last j_test j_sight
           → Saw (first_position square) (last_position square) (wide_set w) (both i_sight j_sight)
       by_sights Outside j_sight i_saw j_saw = all false
@@ -243,7 +243,7 @@ saw_both w square i_first i_last j_first j_last i_sight j_sight is face spans =
             (ap (λ b. b && j_test j_saw.0.number) i_saw.1.is),
       )
 
-across_cases : (i_sight j_sight : Sight) → both i_sight j_sight ≡ Across
+across_cases : (i_sight j_sight : Overlap) → both i_sight j_sight ≡ Across
     → (i_sight ≡ Across) ⊎ (j_sight ≡ Across)
 across_cases Outside j_sight e = let clash : Outside ≡ Across = e in cc
 across_cases Inside j_sight e = inr e
@@ -264,7 +264,7 @@ never_level square level quotient first last spans apart same =
 
 -- a look tells how the square lies to the set
 pub square_seen : (w : WideParts) (square : GridSquare) (i_first i_last j_first j_last side : ℕ)
-    (i_sight j_sight : Sight)
+    (i_sight j_sight : Overlap)
     → side ≡ side_of w.level → IsSquare square → square.face ≡ w.face → square.level ≤ w.level
     → HasSpans square i_first i_last j_first j_last
     → Saw i_first i_last (is_along side w.a_min w.a_max) i_sight

@@ -6,4 +6,4 @@ pub mod Leaves
 pub mod Ranges
 pub mod Rectangles
 pub mod Walking
-pub mod Faults
+pub mod CoverFaults

@@ -7,8 +7,8 @@ use Rattle.s2_cellid.specs.Cell.{lowest_place, level_of, IsCellId, first_leaf, l
 use Rattle.s2_cover.specs.Canonical.{parent_of, IsCanonical}
 use Rattle.s2_cover.specs.Laying.{IsLaid}
 use Rattle.s2_cover.specs.Rectangles.{WideParts, max_level}
-use Rattle.s2_cover.specs.declared.sight.Sight.{Sight}
-use Rattle.s2_cover.specs.declared.sight.Sight.TheVariants.{Outside, Inside, Across}
+use Rattle.s2_cover.specs.declared.sight.Overlap.{Overlap}
+use Rattle.s2_cover.specs.declared.sight.Overlap.TheVariants.{Outside, Inside, Across}
 use Rattle.s2_cover.specs.declared.walk.CoverFault.{CoverFault}
 use Rattle.s2_cover.specs.declared.walk.CoverFault.TheVariants.{TooManyCells, OutOfMemory}
 
@@ -24,13 +24,13 @@ pub record SomeIn (first last : ℕ) (test : ℕ → Bool) (b : Bool) : Type 0 w
   pub is : test number ≡ b
 
 -- what a sight says of the numbers of a range
-abbrev pub Saw : ℕ → ℕ → (ℕ → Bool) → Sight → Type 0
+abbrev pub Saw : ℕ → ℕ → (ℕ → Bool) → Overlap → Type 0
 Saw first last test Outside = AllIn first last test false
 Saw first last test Inside = AllIn first last test true
 Saw first last test Across = SomeIn first last test true × SomeIn first last test false
 
 -- the sight of a square, from those of its two coordinates
-abbrev pub both : Sight → Sight → Sight
+abbrev pub both : Overlap → Overlap → Overlap
 both Outside j = Outside
 both Inside j = j
 both Across Outside = Outside
@@ -45,7 +45,7 @@ pub record IsWide (w : WideParts) : Type 0 where
   pub b_order : w.b_min ≤ w.b_max
 
 -- what a sight says of a square
-pub record SawSquare (set : ℕ → Bool) (level : ℕ) (square : GridSquare) (sight : Sight) : Type 0 where
+pub record SawSquare (set : ℕ → Bool) (level : ℕ) (square : GridSquare) (sight : Overlap) : Type 0 where
   pub saw : Saw (first_position square) (last_position square) set sight
   pub above : sight ≡ Across → square.level < level
 

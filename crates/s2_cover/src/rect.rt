@@ -42,7 +42,7 @@ pub enum RectFault {
 
 impl fmt::Display for RectFault {
     ghost use Rattle.std.specs.Prelude.{Some};
-    ghost use Rattle.s2_cover.specs.Faults.{rect_fault_text};
+    ghost use Rattle.s2_cover.specs.CoverFaults.{rect_fault_text};
 
     ghost output = { λ fault. Some (rect_fault_text fault) };
 

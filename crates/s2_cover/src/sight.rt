@@ -6,7 +6,7 @@ ghost use Rattle.s2_hilbert.specs.Grid as grid;
 ghost use Rattle.s2_cover.specs.Rectangles.{IsRect, widened, is_along, wide_set};
 ghost use Rattle.s2_cover.specs.Walking as spec;
 ghost use Rattle.s2_cover.specs.Walking.{Saw, SawSquare, IsWide};
-ghost use Rattle.s2_cover.specs.declared.sight.Sight.TheVariants.{Across};
+ghost use Rattle.s2_cover.specs.declared.sight.Overlap.TheVariants.{Across};
 
 use crate::rect::Rect;
 use s2_hilbert::{LEAF_LEVEL, Square};
@@ -14,7 +14,7 @@ use std::marker::Model;
 
 /// A rectangle in coordinates of the squares of its level: the whole squares that it touches.
 #[derive(Clone, Copy, Debug)]
-pub(crate) struct Wide {
+pub(crate) struct Widened {
     face: u8,
     level: u8,
     a_min: u32,
@@ -25,7 +25,7 @@ pub(crate) struct Wide {
 
 /// How a square lies to the leaves of a rectangle.
 #[derive(Clone, Copy, Debug, PartialEq, Eq)]
-pub(crate) enum Sight {
+pub(crate) enum Overlap {
     /// It has none of them.
     Outside,
     /// It has only such leaves.
@@ -34,7 +34,7 @@ pub(crate) enum Sight {
     Across,
 }
 
-impl Model for Wide {
+impl Model for Widened {
     ghost use Rattle.s2_cover.specs.Rectangles.{WideParts};
     ghost use Rattle.s2_cover.specs.Walking.{IsWide};
 
@@ -68,15 +68,15 @@ impl Model for Wide {
     } };
 }
 
-impl Wide {
+impl Widened {
     /// The squares that a rectangle touches.
-    pub(crate) fn of_rect(rect: &Rect) -> Wide
+    pub(crate) fn of_rect(rect: &Rect) -> Widened
         ensures value { result ≡ widened rect.now }
         ensures is { IsWide result }
         ensures rect { IsRect rect.now }
     {
         let side = side_of(rect.level());
-        Wide {
+        Widened {
             face: rect.face(),
             level: rect.level(),
             a_min: rect.i_min() / side,
@@ -95,7 +95,7 @@ impl Wide {
 }
 
 /// A look: the comparison of a square with the rectangle, which is counted.
-pub(crate) fn look(wide: &Wide, square: &Square, looked: &mut u64) -> Sight
+pub(crate) fn compare(wide: &Widened, square: &Square, looked: &mut u64) -> Overlap
     requires wide { IsWide wide.now }
     requires square { IsSquare square.now }
     requires face { square.now.face ≡ wide.now.face }
@@ -113,19 +113,19 @@ pub(crate) fn look(wide: &Wide, square: &Square, looked: &mut u64) -> Sight
 }
 
 // The sight of a square from those of its two coordinates.
-fn both(i_sight: Sight, j_sight: Sight) -> Sight
+fn both(i_sight: Overlap, j_sight: Overlap) -> Overlap
     ensures { result ≡ spec.both i_sight j_sight }
 {
     match (i_sight, j_sight) {
-        (Sight::Outside, _) => Sight::Outside,
-        (Sight::Inside, _) => j_sight,
-        (Sight::Across, Sight::Outside) => Sight::Outside,
-        (Sight::Across, _) => Sight::Across,
+        (Overlap::Outside, _) => Overlap::Outside,
+        (Overlap::Inside, _) => j_sight,
+        (Overlap::Across, Overlap::Outside) => Overlap::Outside,
+        (Overlap::Across, _) => Overlap::Across,
     }
 }
 
 // How a range of coordinates of leaves lies to squares from a least to a greatest.
-fn along(span: (u32, u32), least: u32, greatest: u32, side: u32) -> Sight
+fn along(span: (u32, u32), least: u32, greatest: u32, side: u32) -> Overlap
     requires span { span.0 ≤ span.1 }
     requires order { least ≤ greatest }
     requires side { 0 < side }
@@ -135,15 +135,15 @@ fn along(span: (u32, u32), least: u32, greatest: u32, side: u32) -> Sight
     let low = span.0 / side;
     let high = span.1 / side;
     if high < least {
-        return Sight::Outside;
+        return Overlap::Outside;
     }
     if greatest < low {
-        return Sight::Outside;
+        return Overlap::Outside;
     }
     if least <= low && high <= greatest {
-        return Sight::Inside;
+        return Overlap::Inside;
     }
-    Sight::Across
+    Overlap::Across
 }
 
 // How many leaves a square of a level has along a side.

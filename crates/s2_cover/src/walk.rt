@@ -15,7 +15,7 @@ ghost use Rattle.s2_cover.specs.declared.walk.CoverFault.TheVariants.{OutOfMemor
 
 use crate::covers::Cover;
 use crate::rect::Rect;
-use crate::sight::{Sight, Wide, look};
+use crate::sight::{Overlap, Widened, compare};
 use s2_cellid::CellId;
 use s2_hilbert::Square;
 use std::alloc::{AllocFailed, Global};
@@ -36,7 +36,7 @@ pub enum CoverFault {
 
 impl fmt::Display for CoverFault {
     ghost use Rattle.std.specs.Prelude.{Some};
-    ghost use Rattle.s2_cover.specs.Faults.{cover_fault_text};
+    ghost use Rattle.s2_cover.specs.CoverFaults.{cover_fault_text};
 
     ghost output = { λ fault. Some (cover_fault_text fault) };
 
@@ -81,7 +81,7 @@ pub fn cover(alloc: Global, rect: &Rect, limit: u32) -> Result<Cover, CoverFault
     ensures list { IfOk result (λ cover. cover.ids ≡ canonical_list (rect_leaves rect.now)) }
     ensures longer { IfErr result (IsLonger (rect_leaves rect.now) limit) }
 {
-    let wide = Wide::of_rect(rect);
+    let wide = Widened::of_rect(rect);
     let face = Square::of_face(wide.face());
     let mut cells = Vec::new(alloc);
     let mut looked = 0;
@@ -91,7 +91,7 @@ pub fn cover(alloc: Global, rect: &Rect, limit: u32) -> Result<Cover, CoverFault
 
 // Appends the canonical cells of the rectangle's leaves that lie in the square.
 fn walk(
-    wide: &Wide,
+    wide: &Widened,
     square: &Square,
     limit: u32,
     cells: &mut Vec<CellId>,
@@ -113,10 +113,10 @@ fn walk(
     ensures err { IfErr result (HasStopped (wide_set wide.now) limit (looked.old
         + looks_for (wide.now.level - square.now.level) (limit + 1 - length cells.old.items))) }
 {
-    match look(wide, square, looked) {
-        Sight::Outside => {}
-        Sight::Inside => keep(square, limit, cells, *looked)?,
-        Sight::Across => {
+    match compare(wide, square, looked) {
+        Overlap::Outside => {}
+        Overlap::Inside => keep(square, limit, cells, *looked)?,
+        Overlap::Across => {
             for k in 0..4u8 {
                 walk(wide, &square.child(k), limit, cells, looked)?;
             }

@@ -73,14 +73,14 @@ pub fours_go_on : (turn i j step row along digit pair place' row' : ℕ) → ste
     → HasFours turn i j step row along
     → HasFours turn i j (step + 1) row' (256 * along + place')
 fours_go_on turn i j step row along digit pair place' row' sum pair_is pair_below place_is row_is
-    fours =
-    let key = is_key row pair fours.row_is fours.walked.turn_below pair_below in
+    four_levels =
+    let key = is_key row pair four_levels.row_is four_levels.walked.turn_below pair_below in
     let high : pair / 16 ≡ i / 2 ^ (4 * digit) % 16 = omega arith in
     let low : pair % 16 ≡ j / 2 ^ (4 * digit) % 16 = omega arith in
     let place_is' = rw (key.turn_is, key.high, key.low, high, low) at place_is in
     let row_is' = rw (key.turn_is, key.high, key.low, high, low) at row_is in
     let next = walk_four turn i j (2 + 4 * step) (row / 256) along (4 * digit) (omega arith)
-    fours.walked in
+    four_levels.walked in
     let levels : 2 + 4 * (step + 1) ≡ 2 + 4 * step + 4 = omega arith in
     let turn_is : row' / 256 ≡ turn_at 4 (row / 256) (i / 2 ^ (4 * digit) % 16)
     (j / 2 ^ (4 * digit) % 16) =
@@ -93,10 +93,10 @@ fours_go_on turn i j step row along digit pair place' row' sum pair_is pair_belo
 -- one more step fits
 pub fours_fit : (turn i j step row along : ℕ) → step < 7 → HasFours turn i j step row along
     → 256 * along + 256 ≤ 2 ^ 60
-fours_fit turn i j step row along inside fours =
+fours_fit turn i j step row along inside four_levels =
     let within : 2 + 4 * step ≤ 26 = omega arith in
     let power : 4 ^ (2 + 4 * step) ≤ 4 ^ 26 = pow-le-pow_right (omega arith) within in
-    omega (arith, power, fours.walked.place_below)
+    omega (arith, power, four_levels.walked.place_below)
 
 -- the places four levels above
 sixteenth : (along n : ℕ) → along / 4 ^ n / 256 ≡ along / 4 ^ (n + 4)
@@ -164,13 +164,13 @@ pub found_go_on : (turn along step row i j low pair i4 j4 row' : ℕ) → step +
     → HasFoundFours turn along step row i j
     → HasFoundFours turn along (step + 1) row' (16 * i + i4) (16 * j + j4)
 found_go_on turn along step row i j low pair i4 j4 row' sum pair_is place_is i4_below j4_below row_is
-    fours =
+    four_levels =
     let pair_below : pair < 256 = omega arith in
-    let key = is_key row pair fours.row_is fours.found.turn_below pair_below in
+    let key = is_key row pair four_levels.row_is four_levels.found.turn_below pair_below in
     let place_is' = rw (key.turn_is, key.pair_is, pair_is) at place_is in
     let row_is' = rw key.turn_is at row_is in
     let next = found_four turn along (2 + 4 * step) (row / 256) i j i4 j4 (4 * low)
-    (omega arith) place_is' i4_below j4_below fours.found in
+    (omega arith) place_is' i4_below j4_below four_levels.found in
     let levels : 2 + 4 * (step + 1) ≡ 2 + 4 * step + 4 = omega arith in
     let turn_is : row' / 256 ≡ turn_at 4 (row / 256) i4 j4 = omega (arith, row_is') in
     record {
@@ -180,10 +180,10 @@ found_go_on turn along step row i j low pair i4 j4 row' sum pair_is place_is i4_
 
 pub found_fit : (turn along step row i j : ℕ) → step < 7 → HasFoundFours turn along step row i j
     → (i < 2 ^ 26) × (j < 2 ^ 26)
-found_fit turn along step row i j inside fours =
+found_fit turn along step row i j inside four_levels =
     let within : 2 + 4 * step ≤ 26 = omega arith in
     let power : 2 ^ (2 + 4 * step) ≤ 2 ^ 26 = pow-le-pow_right (omega arith) within in
-    (omega (arith, power, fours.found.i_below), omega (arith, power, fours.found.j_below))
+    (omega (arith, power, four_levels.found.i_below), omega (arith, power, four_levels.found.j_below))
 
 -- a byte of a place has the digits of four levels
 pub byte_is : (along low : ℕ) → bit_and (along / 2 ^ (8 * low)) 255 ≡ along / 4 ^ (4 * low) % 256

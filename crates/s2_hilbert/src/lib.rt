@@ -2,7 +2,7 @@
 //! positions, and the squares in the order of the curve.
 #![tactic(auto)]
 
-mod fours;
+mod four_levels;
 pub mod laws;
 mod leaves;
 mod levels;

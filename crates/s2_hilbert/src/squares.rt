@@ -8,7 +8,7 @@ ghost use Rattle.s2_hilbert.specs.Curve.{position_of};
 ghost use Rattle.s2_hilbert.specs.Curve as curve;
 ghost use Rattle.s2_hilbert.specs.Curve.{first_position, last_position};
 
-use crate::fours::place_on_face;
+use crate::four_levels::place_on_face;
 use crate::levels::{FACE_LEAVES, LEAF_LEVEL};
 use crate::quadrants::{quadrant_at, turned};
 use std::marker::Model;

@@ -11,7 +11,7 @@ use Rattle.sqlite_store.specs.declared.store.FileStore.{FileStore}
 use Rattle.sqlite_store.specs.FileStore.{files}
 use Rattle.sqlite.specs.Files.{file_state, over_files}
 use Rattle.sqlite.specs.State.{HasCleanDisk}
-use Rattle.desk_store.specs.Faults.{IsHonest}
+use Rattle.desk_store.specs.StoreFaults.{IsHonest}
 use Rattle.sqlite_trees.specs.View.{doubt}
 use Rattle.desk_run.specs.DeskWorld.{Parts}
 use Rattle.desk_tables.specs.Store.{Shown}

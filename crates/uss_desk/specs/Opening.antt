@@ -35,12 +35,12 @@ abbrev pub IsMemory : Failure → Type 0
 IsMemory f = f ≡ failure.Memory
 
 -- the world of a desk over tables
-abbrev pub world_in : {S : Type 0} → Parts (Shown S) → DeskWorld
-world_in desk = world_of (λ s. s.world) desk
+abbrev pub load_world : {S : Type 0} → Parts (Shown S) → DeskWorld
+load_world desk = world_of (λ s. s.world) desk
 
 -- no operators, no plans, no permitted priorities
 abbrev pub IsBlank : {S : Type 0} → Parts (Shown S) → Type 0
-IsBlank desk = world_in desk ≡ with_content [] (record { operators = []; plans = [] })
+IsBlank desk = load_world desk ≡ with_content [] (record { operators = []; plans = [] })
 
 module _ {D : Type 0} (g : disk.Ghosts D) (image : Image) where
   -- the store of a desk over files that held this begins with the world that is found in them, which a crash

@@ -9,7 +9,7 @@ use Rattle.sqlite.specs.Files.{file_state, over_files}
 use Rattle.sqlite.specs.State.{HasCleanDisk}
 use Rattle.sqlite.specs.Held.{state}
 use Rattle.desk_store.specs.World.{World}
-use Rattle.desk_store.specs.Faults.{IsHonest}
+use Rattle.desk_store.specs.StoreFaults.{IsHonest}
 use Rattle.desk_store.specs.Crashes.{LeavesOnly}
 use Rattle.desk_run.specs.DeskWorld.{Parts}
 use Rattle.desk_tables.specs.Store.{Shown}
@@ -24,7 +24,7 @@ use Rattle.desk_program.specs.Running.{IsCarriedOut}
 use Rattle.desk_program.specs.Serving.{Traffic}
 use Rattle.uss_desk.specs.declared.opening.Opened.TheVariants as opened
 use Rattle.uss_desk.specs.Guarding.{Account, IsTrueOrCollided}
-use Rattle.uss_desk.specs.Opening.{OpenedDesk, world_in}
+use Rattle.uss_desk.specs.Opening.{OpenedDesk, load_world}
 
 -- the store of a desk over tables is honest: its disk has returned what was written
 abbrev pub IsSound : {S : Type 0} → Ghosts S → Parts (Shown S) → Type 0
@@ -37,7 +37,7 @@ abbrev pub IsKeptSince :
 IsKeptSince g line end from to old new out now begun desk =
     IsSound g desk → LeavesOnly begun.store.world (MayLeave g begun.store.held)
     → (found : Option World) → MayLeave g desk.store.held found
-    → IsLineKept (IsSound g desk) line end from to old new out now (world_in begun) (world_in desk) found
+    → IsLineKept (IsSound g desk) line end from to old new out now (load_world begun) (load_world desk) found
 
 -- a line is carried out at the desk that was opened: its disk was then in no more doubt than it is now, and
 -- if each later read was tested then, each is
@@ -46,7 +46,7 @@ abbrev pub IsDoneAt :
     → Option (List ℕ) → Option (List ℕ) → Option (List ℕ) → Ending → Option (Parts (Shown S))
     → Parts (Shown S) → Type 0
 IsDoneAt g line from to old new out now end left desk = IsSomeAnd left (λ left.
-    IsCarriedOut (IsSound g left) line end from to old new out now (world_in desk) (world_in left)
+    IsCarriedOut (IsSound g left) line end from to old new out now (load_world desk) (load_world left)
     × (doubt (state g desk.store.held).is_clean ≤ doubt (state g left.store.held).is_clean)
     × ((state g desk.store.held).IsShielded → (state g left.store.held).IsShielded))
 

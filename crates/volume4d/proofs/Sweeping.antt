@@ -117,26 +117,26 @@ module _ {A : Type 0} (slab_of : A → Slab) where
       late x (later_begin list n item x below is up parts.1) parts.0))
 
   -- what the sweep keeps: the first point so far, and for what is still to come the slabs of `mine` in
-  -- the lanes or left
-  pub record IsSweeping (mine : List Slab) (theirs : List A) (n : ℕ) (lanes left : List Slab)
+  -- active or left
+  pub record IsSweeping (mine : List Slab) (theirs : List A) (n : ℕ) (active left : List Slab)
       (found : Option Point) : Type 0 where
     pub met : IsFirstPoint (λ x. slabs_have mine x && placed_have slab_of (take n theirs) x) found
     pub rest : (x : Point) (d : A) → n < length theirs
         → (slab_of (get_or theirs n d)).first ≤ position_of x.leaf
-        → slabs_have mine x ≡ (slabs_have lanes x || slabs_have left x)
+        → slabs_have mine x ≡ (slabs_have active x || slabs_have left x)
     pub up : Ascend (λ s. s) left
 
   -- one more of theirs
   pub sweep_goes_on : (mine : List Slab) (theirs : List A) (n count : ℕ) (item : A)
-      (lanes left more rest : List Slab) (found next new : Option Point)
+      (active left more rest : List Slab) (found next new : Option Point)
       → n < length theirs → item ≡ get_or theirs n item → Ascend slab_of theirs
-      → IsSweeping mine theirs n lanes left found
-      → Adds (slab_of item).first lanes (slabs_have (take count left)) more → rest ≡ drop count left
+      → IsSweeping mine theirs n active left found
+      → Adds (slab_of item).first active (slabs_have (take count left)) more → rest ≡ drop count left
       → IsFirstPoint (λ x. (slabs_have more x || slabs_have rest x) && slab_has (slab_of item) x) next
       → ((f g : Point → Bool) → IsFirstPoint f found → IsFirstPoint g next
       → IsFirstPoint (λ x. f x || g x) new)
       → IsSweeping mine theirs (n + 1) more rest new
-  sweep_goes_on mine theirs n count item lanes left more rest found next new below is up so_far adds cut
+  sweep_goes_on mine theirs n count item active left more rest found next new below is up so_far adds cut
       here earlier = record {
         met = first_point_same _ _ joined new (earlier _ _ so_far.met
             (first_point_same _ _ own next here));
@@ -147,8 +147,8 @@ module _ {A : Type 0} (slab_of : A → Slab) where
             → slabs_have mine x ≡ (slabs_have more x || slabs_have rest x)
         still x later =
             so_far.rest x item below (omega (arith, ap (λ a. (slab_of a).first) is, later))
-            ∙ ap (λ b. slabs_have lanes x || b) (split x)
-            ∙ or_assoc (slabs_have lanes x) (slabs_have (take count left) x) (slabs_have rest x)
+            ∙ ap (λ b. slabs_have active x || b) (split x)
+            ∙ or_assoc (slabs_have active x) (slabs_have (take count left) x) (slabs_have rest x)
             ∙ ap (λ b. b || slabs_have rest x) (sym (adds x later))
           where
             split : (x : Point) → slabs_have left x
@@ -215,18 +215,18 @@ any_set p (s ∷ rest) (suc place) new d below out =
     ∙ or_assoc (p s) (list_any p rest) (p new)
 
 -- a slab put into a lane that is over
-pub put_adds : (lanes : List Slab) (place position : ℕ) (slab : Slab) → place < length lanes
-    → ((d : Slab) → IsOver position (get_or lanes place d))
-    → Adds position lanes (slab_has slab) (set lanes place slab)
-put_adds lanes place position slab below over x later =
-    any_set (λ s. slab_has s x) lanes place slab slab below (over slab x later)
+pub put_adds : (active : List Slab) (place position : ℕ) (slab : Slab) → place < length active
+    → ((d : Slab) → IsOver position (get_or active place d))
+    → Adds position active (slab_has slab) (set active place slab)
+put_adds active place position slab below over x later =
+    any_set (λ s. slab_has s x) active place slab slab below (over slab x later)
 
 -- one more slab taken in
-pub one_more_taken : (position n : ℕ) (left : List Slab) (slab : Slab) (old lanes new : List Slab)
+pub one_more_taken : (position n : ℕ) (left : List Slab) (slab : Slab) (old active new : List Slab)
     → n < length left → slab ≡ get_or left n slab
-    → Adds position old (slabs_have (take n left)) lanes → Adds position lanes (slab_has slab) new
+    → Adds position old (slabs_have (take n left)) active → Adds position active (slab_has slab) new
     → Adds position old (slabs_have (take (n + 1) left)) new
-one_more_taken position n left slab old lanes new below is so_far adds x later =
+one_more_taken position n left slab old active new below is so_far adds x later =
     adds x later ∙ ap (λ b. b || slab_has slab x) (so_far x later)
     ∙ sym (or_assoc (slabs_have old x) (slabs_have (take n left) x) (slab_has slab x))
     ∙ ap (λ b. slabs_have old x || b) (sym (list_any_more (λ s. slab_has s x) left n slab below

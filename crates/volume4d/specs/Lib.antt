@@ -5,7 +5,7 @@ pub mod Point
 pub mod Shape
 pub mod Footprint
 pub mod FootprintBytes
-pub mod Kept
+pub mod Attributes
 pub mod Volume
 pub mod Level
 pub mod Slab
@@ -15,5 +15,5 @@ pub mod Meeting
 pub mod Shared
 pub mod Sweep
 pub mod Clusters
-pub mod Faults
+pub mod VolumeFaults
 pub mod laws

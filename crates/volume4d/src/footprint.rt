@@ -9,7 +9,7 @@ ghost use Rattle.volume4d.specs.Shape as shapes;
 ghost use Rattle.volume4d.specs.Shape.{Shape};
 ghost use Rattle.volume4d.specs.Footprint.{shape_of};
 ghost use Rattle.volume4d.specs.FootprintBytes.{footprint_bytes, HasValidParts, AreBytesOf};
-ghost use Rattle.volume4d.specs.Kept.{HasRanges, IsFaultOf};
+ghost use Rattle.volume4d.specs.Attributes.{HasRanges, IsFaultOf};
 
 use crate::fault::VolumeFault;
 use s2_cellid::CellId;

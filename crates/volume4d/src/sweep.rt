@@ -14,7 +14,7 @@ use crate::placed::Placed;
 use crate::slab::Slab;
 
 // Two slabs of one volume never stand over one position, so at most this many of an area do.
-const LANES: usize = MAX_VOLUMES;
+const MAX_ACTIVE: usize = MAX_VOLUMES;
 
 /// The first point that one of the slabs shares with one of the others. The pairs of slabs compared
 /// are added to the count.
@@ -31,7 +31,7 @@ pub(crate) fn first_shared<T: Placed>(
     }
 }
 
-// The first shared point, if both lists ascend and the lanes have room.
+// The first shared point, if both lists ascend and there is room for the active slabs.
 fn first_ascending<T: Placed>(
     mine: &[Slab],
     theirs: &[T],
@@ -64,7 +64,7 @@ fn ascend<T: Placed>(list: &[T]) -> bool
     true
 }
 
-// The first shared point of two lists that ascend, or `None` if the lanes have no room. The lanes
+// The first shared point of two lists that ascend, or `None` if there is no room for the active slabs. These
 // hold those of `mine` that begin up to the first leaf of the slab of `theirs` that is looked at.
 fn sweep<T: Placed>(mine: &[Slab], theirs: &[T], pairs: &mut u128) -> Option<Option<Corner>>
     requires mine { Ascend (λ s. s) mine.now }
@@ -72,7 +72,7 @@ fn sweep<T: Placed>(mine: &[Slab], theirs: &[T], pairs: &mut u128) -> Option<Opt
     ensures { IfSome result (IsFirstPoint
         (λ x. slabs_have mine.now x && placed_have T.slab_of theirs.now x)) }
 {
-    let mut lanes = [nothing(); LANES];
+    let mut active = [nothing(); MAX_ACTIVE];
     let mut left = mine;
     let mut first = None;
     for item in theirs {
@@ -80,11 +80,11 @@ fn sweep<T: Placed>(mine: &[Slab], theirs: &[T], pairs: &mut u128) -> Option<Opt
         if is_after(other.first, &first) {
             return Some(first);
         }
-        let Some(count) = take_in(&mut lanes, left, other.first) else {
+        let Some(count) = take_in(&mut active, left, other.first) else {
             return None;
         };
         left = left.split_at(count).1;
-        first = earlier(first, first_on(&lanes, left, other, pairs));
+        first = earlier(first, first_on(&active, left, other, pairs));
     }
     Some(first)
 }
@@ -103,19 +103,19 @@ fn nothing() -> Slab
     }
 }
 
-// Takes the slabs that begin up to a position into the lanes, and gives their number, or `None` if
-// the lanes have no room.
-fn take_in(lanes: &mut [Slab], left: &[Slab], position: u64) -> Option<usize>
+// Takes the slabs that begin up to a position among the active slabs, and gives their number, or `None` if
+// there is no room for them.
+fn take_in(active: &mut [Slab], left: &[Slab], position: u64) -> Option<usize>
     ensures within { IfSome result (λ count. count ≤ length left.now) }
     ensures adds { IfSome result (λ count.
-        Adds position lanes.old (slabs_have (take count left.now)) lanes.new) }
+        Adds position active.old (slabs_have (take count left.now)) active.new) }
 {
     let mut count = 0;
     for slab in left {
         if slab.first > position {
             return Some(count);
         }
-        if !put(lanes, slab, position) {
+        if !put(active, slab, position) {
             return None;
         }
         count += 1;
@@ -125,12 +125,12 @@ fn take_in(lanes: &mut [Slab], left: &[Slab], position: u64) -> Option<usize>
 
 // Puts a slab into a lane that is over at the position, if there is one.
 #[tactic(auto, using(crate::proofs::Sweeping::put_adds))]
-fn put(lanes: &mut [Slab], slab: &Slab, position: u64) -> bool
-    ensures { IsTrue result → Adds position lanes.old (slab_has slab.now) lanes.new }
+fn put(active: &mut [Slab], slab: &Slab, position: u64) -> bool
+    ensures { IsTrue result → Adds position active.old (slab_has slab.now) active.new }
 {
-    match free_lane(lanes, position) {
+    match free_lane(active, position) {
         Some(free) => {
-            lanes[free] = *slab;
+            active[free] = *slab;
             true
         }
         None => false,
@@ -138,11 +138,11 @@ fn put(lanes: &mut [Slab], slab: &Slab, position: u64) -> bool
 }
 
 // The place of a lane that is over at the position.
-fn free_lane(lanes: &[Slab], position: u64) -> Option<usize>
-    ensures { IfSome result (λ place. (place < length lanes.now)
-        × HoldsAt (IsOver position) lanes.now place) }
+fn free_lane(active: &[Slab], position: u64) -> Option<usize>
+    ensures { IfSome result (λ place. (place < length active.now)
+        × HoldsAt (IsOver position) active.now place) }
 {
-    for (place, lane) in lanes.iter().enumerate() {
+    for (place, lane) in active.iter().enumerate() {
         if is_over(lane, position) {
             return Some(place);
         }
@@ -151,23 +151,23 @@ fn free_lane(lanes: &[Slab], position: u64) -> Option<usize>
 }
 
 // The first point that a slab shares with one in a lane or one that is left.
-fn first_on(lanes: &[Slab], left: &[Slab], other: &Slab, pairs: &mut u128) -> Option<Corner>
+fn first_on(active: &[Slab], left: &[Slab], other: &Slab, pairs: &mut u128) -> Option<Corner>
     requires { Ascend (λ s. s) left.now }
-    ensures { IsFirstPoint (λ x. (slabs_have lanes.now x || slabs_have left.now x)
+    ensures { IsFirstPoint (λ x. (slabs_have active.now x || slabs_have left.now x)
         && slab_has other.now x) result }
 {
     earlier(
-        first_among(lanes, other, pairs),
+        first_among(active, other, pairs),
         first_begun(left, other, pairs),
     )
 }
 
 // The first point that a slab shares with one in a lane.
-fn first_among(lanes: &[Slab], other: &Slab, pairs: &mut u128) -> Option<Corner>
-    ensures { IsFirstPoint (λ x. slabs_have lanes.now x && slab_has other.now x) result }
+fn first_among(active: &[Slab], other: &Slab, pairs: &mut u128) -> Option<Corner>
+    ensures { IsFirstPoint (λ x. slabs_have active.now x && slab_has other.now x) result }
 {
     let mut first = None;
-    for slab in lanes {
+    for slab in active {
         first = earlier(first, in_lane(slab, other, pairs));
     }
     first

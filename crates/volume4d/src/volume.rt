@@ -11,7 +11,7 @@ ghost use Rattle.volume4d.specs.Volume.{block_has};
 ghost use Rattle.volume4d.specs.Slab.{slabs_have, span_of, slab_window};
 ghost use Rattle.volume4d.specs.Bounds.{AreFilled};
 ghost use Rattle.volume4d.specs.Slabs.{AreSlabsOn, AreVolumeSlabs};
-ghost use Rattle.volume4d.specs.Kept.{IsFaultOf};
+ghost use Rattle.volume4d.specs.Attributes.{IsFaultOf};
 
 use crate::fault::VolumeFault;
 use crate::footprint::Footprint;
@@ -34,7 +34,7 @@ pub struct Volume {
 impl Model for Volume {
     ghost use Rattle.std.specs.Prelude.{IsTrue};
     ghost use Rattle.volume4d.specs.Windows.{is_window};
-    ghost use Rattle.volume4d.specs.Kept.{HasRanges};
+    ghost use Rattle.volume4d.specs.Attributes.{HasRanges};
     ghost use Rattle.volume4d.specs.Volume.{Block};
 
     ghost Value = { Block };

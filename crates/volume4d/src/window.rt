@@ -31,7 +31,7 @@ pub enum WindowFault {
 
 impl fmt::Display for WindowFault {
     ghost use Rattle.std.specs.Prelude.{Some};
-    ghost use Rattle.volume4d.specs.Faults.{window_fault_text};
+    ghost use Rattle.volume4d.specs.VolumeFaults.{window_fault_text};
 
     ghost output = { λ fault. Some (window_fault_text fault) };
 

@@ -10,7 +10,7 @@ use Rattle.desk_run.specs.DeskWorld.{DeskWorld, Side, side, held_in}
 use Rattle.desk_run.specs.Verdicts.{Told, verdict, side_left, told_to, step}
 use Rattle.desk_run.specs.Runs.{told_in, world_left}
 use Rattle.desk_run.specs.Sides.{OwnAlike, HoldAlike, beside, along}
-use Rattle.desk_run.specs.TwoRuns.{Made, caller, left, calls_of, met_by, IsSameFor}
+use Rattle.desk_run.specs.TwoRuns.{TimedCall, caller, left, calls_of, met_by, IsSameFor}
 use Rattle.desk_run.specs.laws.Step.{own_stays, others_stay}
 use Rattle.desk_run.specs.laws.Side.{everywhere, Levels, IsSeenBy, IsKeptBy, after_all, same_found, same_last}
 
@@ -18,13 +18,13 @@ pub same_name : (o name : List ℕ) → is_eq (text_cmp o name) ≡ true → o �
 same_name o name e = exact_bytes o name (is_equal (text_cmp o name) e)
 
 -- what is told, and what is left to its operator, by its side and what others hold
-abbrev pub tell : Side → Levels → Made → Told
+abbrev pub tell : Side → Levels → TimedCall → Told
 tell mine levels call = (verdict mine.permitted mine.own levels call.0 call.1.call).told
 
-abbrev pub keep : Side → Levels → Made → Side
+abbrev pub keep : Side → Levels → TimedCall → Side
 keep mine levels call = side_left mine levels call.0 call.1.call
 
-abbrev pub told_at : DeskWorld → Made → Told
+abbrev pub told_at : DeskWorld → TimedCall → Told
 told_at w call = told_to w call.1.operator call.0 call.1.call
 
 pub seen : (o : List ℕ) → IsSeenBy caller o told_at tell
@@ -44,21 +44,21 @@ kept o = record {
       (same_name o call.1.operator e) (own_stays w o call.0 call.1.call)
 
 -- a call of an operator to which two worlds look alike is told the same
-pub told_alike : (v w : DeskWorld) (call : Made) → OwnAlike call.1.operator v w
+pub told_alike : (v w : DeskWorld) (call : TimedCall) → OwnAlike call.1.operator v w
     → HoldAlike call.1.operator v w → told_at v call ≡ told_at w call
 unfolding told_to
 told_alike v w call own_same held_same = λ i.
     tell (own_same i) (everywhere call.1.operator v w held_same i) call
 
-told_along : (w : DeskWorld) (calls : List Made) → told_in w calls ≡ along left told_at w calls
+told_along : (w : DeskWorld) (calls : List TimedCall) → told_in w calls ≡ along left told_at w calls
 told_along w [] = refl
 told_along w (call ∷ calls) = ap (λ ts. told_at w call ∷ ts) (told_along (left w call) calls)
 
-left_all : (w : DeskWorld) (calls : List Made) → world_left w calls ≡ after_all left w calls
+left_all : (w : DeskWorld) (calls : List TimedCall) → world_left w calls ≡ after_all left w calls
 left_all w [] = refl
 left_all w (call ∷ calls) = left_all (left w call) calls
 
-pub same_for : (o : List ℕ) (v w : DeskWorld) (calls others : List Made) → OwnAlike o v w
+pub same_for : (o : List ℕ) (v w : DeskWorld) (calls others : List TimedCall) → OwnAlike o v w
     → calls_of o calls ≡ calls_of o others → AllZip (HoldAlike o) (met_by o v calls) (met_by o w others)
     → IsSameFor o v calls w others
 same_for o v w calls others own_same asked held = record {

@@ -1,8 +1,8 @@
 //! Conflicts of an operator's plans with what is held.
 
 ghost use Rattle.std.specs.Prelude.{◌≡◌, ◌≤◌, IfOk, IfErr};
-ghost use Rattle.desk_store.specs.Frames.{OnlyReads};
-ghost use Rattle.desk_store.specs.Faults.{IsHonest, IsCounted};
+ghost use Rattle.desk_store.specs.StoreFrames.{OnlyReads};
+ghost use Rattle.desk_store.specs.StoreFaults.{IsHonest, IsCounted};
 ghost use Rattle.volume4d.specs.Bounds.{AreFilled};
 ghost use Rattle.volume4d.specs.Sweep.{Ascend};
 ghost use Rattle.desk_rules.specs.Permission.{least_blocking};

@@ -1,9 +1,9 @@
 //! Plans that are to be closed.
 
 ghost use Rattle.std.specs.Prelude.{◌≡◌, ◌≤◌, IsSome, IfErr};
-ghost use Rattle.desk_run.specs.Faults.{IsStoreCounted};
-ghost use Rattle.desk_store.specs.Frames.{OnlyReads};
-ghost use Rattle.desk_store.specs.Faults.{IsHonest};
+ghost use Rattle.desk_run.specs.CallFaults.{IsStoreCounted};
+ghost use Rattle.desk_store.specs.StoreFrames.{OnlyReads};
+ghost use Rattle.desk_store.specs.StoreFaults.{IsHonest};
 ghost use Rattle.desk_store.specs.World.{ceiling_of, plans_of, stored_of};
 ghost use Rattle.desk_run.specs.Calls.{Readies};
 ghost use Rattle.desk_run.specs.Verdicts.{delete_ruling};

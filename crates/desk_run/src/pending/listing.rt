@@ -2,8 +2,8 @@
 //! once.
 
 ghost use Rattle.std.specs.Prelude.{◌≡◌, ◌≤◌, ℕ, Option, true, map, IfOk, IfErr, OnOk};
-ghost use Rattle.desk_store.specs.Frames.{OnlyReads};
-ghost use Rattle.desk_store.specs.Faults.{IsHonest, IsCounted};
+ghost use Rattle.desk_store.specs.StoreFrames.{OnlyReads};
+ghost use Rattle.desk_store.specs.StoreFaults.{IsHonest, IsCounted};
 ghost use Rattle.desk_store.specs.World.{held, held_at};
 ghost use Rattle.volume4d.specs.Point.{Point};
 ghost use Rattle.volume4d.specs.Slab.{top_held};

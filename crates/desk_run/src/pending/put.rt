@@ -1,9 +1,9 @@
 //! Requests to plan, decided over a store.
 
 ghost use Rattle.std.specs.Prelude.{◌≡◌, ◌≤◌, length, Option, Some, None, true, false, cond, IfOk, IfErr};
-ghost use Rattle.desk_run.specs.Faults.{IsStoreCounted};
-ghost use Rattle.desk_store.specs.Frames.{OnlyReads};
-ghost use Rattle.desk_store.specs.Faults.{IsHonest, IsCounted};
+ghost use Rattle.desk_run.specs.CallFaults.{IsStoreCounted};
+ghost use Rattle.desk_store.specs.StoreFrames.{OnlyReads};
+ghost use Rattle.desk_store.specs.StoreFaults.{IsHonest, IsCounted};
 ghost use Rattle.desk_rules.specs.Limits.{max_priority};
 ghost use Rattle.desk_store.specs.World.{own, ceiling_of, plans_of, stored_of, held};
 ghost use Rattle.desk_run.specs.Calls.{Readies, change_after};

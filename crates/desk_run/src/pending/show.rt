@@ -1,9 +1,9 @@
 //! Plans that are shown to their operator.
 
 ghost use Rattle.std.specs.Prelude.{◌≡◌, ◌≤◌, map, IfOk, IfErr};
-ghost use Rattle.desk_run.specs.Faults.{IsStoreCounted};
-ghost use Rattle.desk_store.specs.Frames.{OnlyReads};
-ghost use Rattle.desk_store.specs.Faults.{IsHonest, IsCounted};
+ghost use Rattle.desk_run.specs.CallFaults.{IsStoreCounted};
+ghost use Rattle.desk_store.specs.StoreFrames.{OnlyReads};
+ghost use Rattle.desk_store.specs.StoreFaults.{IsHonest, IsCounted};
 ghost use Rattle.desk_store.specs.World.{held, plans_of, stored_of};
 ghost use Rattle.desk_run.specs.Calls.{Readies};
 ghost use Rattle.desk_run.specs.Verdicts.{conflict_shown_in, list_ruling, show_ruling, shown_in};

@@ -9,7 +9,7 @@ ghost use Rattle.desk_sql.specs.Finding.{Holds};
 ghost use Rattle.desk_sql.specs.Refusals.{IsRefusal};
 ghost use Rattle.desk_sql.specs.Frames.{OnlyReads};
 
-use crate::opening::finding::Made;
+use crate::opening::finding::TablesPresent;
 use crate::opening::numbers::DeskTable;
 use crate::reading::whole::{Whole, all_rows};
 use sqlite::{Alter, Connection, Error, Row};
@@ -20,7 +20,7 @@ use std::alloc::Global;
 pub fn all_old_volumes<S: Alter>(
     alloc: Global,
     connection: &mut Connection<S>,
-    made: Made,
+    made: TablesPresent,
 ) -> Result<Vec<Row>, Error>
     requires part { Holds S.Store connection.old (IsMadeTo made) }
     requires settled { connection.old.in_transaction ≡ false }
@@ -42,7 +42,7 @@ pub fn all_old_volumes<S: Alter>(
 pub fn all_old_spans<S: Alter>(
     alloc: Global,
     connection: &mut Connection<S>,
-    made: Made,
+    made: TablesPresent,
 ) -> Result<Vec<Row>, Error>
     requires part { Holds S.Store connection.old (IsMadeTo made) }
     requires settled { connection.old.in_transaction ≡ false }

@@ -9,7 +9,7 @@ ghost use Rattle.desk_sql.specs.Finding.{Holds};
 ghost use Rattle.desk_sql.specs.Refusals.{IsRefusal};
 ghost use Rattle.desk_sql.specs.Frames.{OnlyReads};
 
-use crate::opening::finding::Made;
+use crate::opening::finding::TablesPresent;
 use crate::opening::numbers::{DeskTable, rowids_text};
 use crate::reading::asking::ask;
 use sqlite::{Alter, Connection, Error};
@@ -35,7 +35,7 @@ fn has_row<S: Alter>(connection: &mut Connection<S>, table: DeskTable) -> Result
 /// Whether a table that may not be made has a row.
 fn has_row_in<S: Alter>(
     connection: &mut Connection<S>,
-    made: Made,
+    made: TablesPresent,
     table: DeskTable,
 ) -> Result<bool, Error>
     requires part { Holds S.Store connection.old (IsMadeTo made) }
@@ -58,7 +58,10 @@ fn has_row_in<S: Alter>(
 }
 
 /// Whether `volume` or `span` has a row: those are of version 1 of the schema.
-pub fn has_old_rows<S: Alter>(connection: &mut Connection<S>, made: Made) -> Result<bool, Error>
+pub fn has_old_rows<S: Alter>(
+    connection: &mut Connection<S>,
+    made: TablesPresent,
+) -> Result<bool, Error>
     requires part { Holds S.Store connection.old (IsMadeTo made) }
     requires settled { connection.old.in_transaction ≡ false }
     ensures value { HasCleanDisk (state S.Store connection.new)

@@ -9,13 +9,13 @@ ghost use Rattle.desk_sql.specs.Refusals.{IsUnread};
 ghost use Rattle.desk_sql.specs.Finding.{Holds, HasOthers};
 ghost use Rattle.desk_sql.specs.Rows.{IsMadeTo};
 
-use crate::opening::matching::made_in;
+use crate::opening::matching::tables_present;
 use crate::opening::numbers::{DeskTable, test_tables};
 use sqlite::{Alter, Connection, Error};
 
 /// How far a desk's tables and their indexes are made, which come in this order.
 #[derive(Clone, Copy, Debug, PartialEq, Eq)]
-pub enum Made {
+pub enum TablesPresent {
     /// There is no table, index or view.
     Nothing,
     /// There is `operator` alone.
@@ -36,22 +36,22 @@ pub enum Made {
     All,
 }
 
-impl Made {
+impl TablesPresent {
     /// Whether there is this table.
     pub fn has(self, table: DeskTable) -> bool
         ensures { result ≡ has_table self table }
     {
         match self {
-            Made::Nothing => false,
-            Made::Operators => matches!(table, DeskTable::Operator),
-            Made::Plans => matches!(table, DeskTable::Operator | DeskTable::Plan),
-            Made::OldVolumes => matches!(
+            TablesPresent::Nothing => false,
+            TablesPresent::Operators => matches!(table, DeskTable::Operator),
+            TablesPresent::Plans => matches!(table, DeskTable::Operator | DeskTable::Plan),
+            TablesPresent::OldVolumes => matches!(
                 table,
                 DeskTable::Operator | DeskTable::Plan | DeskTable::OldVolume
             ),
-            Made::OldSpans | Made::OldIndex => table.is_old(),
-            Made::Volumes => !matches!(table, DeskTable::Span),
-            Made::Spans | Made::All => true,
+            TablesPresent::OldSpans | TablesPresent::OldIndex => table.is_old(),
+            TablesPresent::Volumes => !matches!(table, DeskTable::Span),
+            TablesPresent::Spans | TablesPresent::All => true,
         }
     }
 }
@@ -64,7 +64,7 @@ impl Made {
 /// What a query may fail with. Also `DatabaseCorrupt` if the tables are a desk's, and a rowid in them is no
 /// whole number or comes twice, which no sound database shows: that is no want of memory, and never told as
 /// `None`.
-pub fn find_tables<S: Alter>(connection: &mut Connection<S>) -> Result<Option<Made>, Error>
+pub fn find_tables<S: Alter>(connection: &mut Connection<S>) -> Result<Option<TablesPresent>, Error>
     requires settled { connection.old.in_transaction ≡ false }
     ensures found { IfOk result (λ found. MatchOption found
         (Holds S.Store connection.new HasOthers)
@@ -74,7 +74,7 @@ pub fn find_tables<S: Alter>(connection: &mut Connection<S>) -> Result<Option<Ma
         → IfErr result (IsUnread S.Store connection.old connection.new) }
     ensures reads { OnlyReads S.Store connection.old connection.new }
 {
-    let Some(made) = made_in(connection.schema()) else {
+    let Some(made) = tables_present(connection.schema()) else {
         return Ok(None);
     };
     test_tables(connection, made)?;

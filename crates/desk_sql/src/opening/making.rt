@@ -13,19 +13,19 @@ ghost use Rattle.desk_sql.specs.Refusals.{IsRefusal};
 
 use crate::changing::run::run;
 use crate::laws::settled_and_sound;
-use crate::opening::finding::Made;
+use crate::opening::finding::TablesPresent;
 use sqlite::{Alter, Connection, Error, Transaction};
 
 #[tactic(auto, using(crate::proofs::StepStops::operator_step))]
 fn operator_text() -> &'static str
-    ensures { IsStep result.now Made.Nothing Made.Operators }
+    ensures { IsStep result.now TablesPresent.Nothing TablesPresent.Operators }
 {
     "CREATE TABLE operator (name TEXT NOT NULL, ceiling INTEGER NOT NULL, PRIMARY KEY (name)) STRICT"
 }
 
 #[tactic(auto, using(crate::proofs::StepStops::plan_step))]
 fn plan_text() -> &'static str
-    ensures { IsStep result.now Made.Operators Made.Plans }
+    ensures { IsStep result.now TablesPresent.Operators TablesPresent.Plans }
 {
     "CREATE TABLE plan (operator TEXT NOT NULL, id TEXT NOT NULL, priority INTEGER NOT NULL, \
      usage INTEGER NOT NULL, aircraft INTEGER NOT NULL, PRIMARY KEY (operator, id), \
@@ -34,7 +34,7 @@ fn plan_text() -> &'static str
 
 #[tactic(auto, using(crate::proofs::StepStops::old_volume_step))]
 fn old_volume_text() -> &'static str
-    ensures { IsStep result.now Made.Plans Made.OldVolumes }
+    ensures { IsStep result.now TablesPresent.Plans TablesPresent.OldVolumes }
 {
     "CREATE TABLE volume (operator TEXT NOT NULL, id TEXT NOT NULL, place INTEGER NOT NULL, \
      lower INTEGER NOT NULL, upper INTEGER NOT NULL, start INTEGER NOT NULL, \
@@ -44,7 +44,7 @@ fn old_volume_text() -> &'static str
 
 #[tactic(auto, using(crate::proofs::StepStops::old_span_step))]
 fn old_span_text() -> &'static str
-    ensures { IsStep result.now Made.OldVolumes Made.OldSpans }
+    ensures { IsStep result.now TablesPresent.OldVolumes TablesPresent.OldSpans }
 {
     "CREATE TABLE span (operator TEXT NOT NULL, id TEXT NOT NULL, place INTEGER NOT NULL, \
      first INTEGER NOT NULL, last INTEGER NOT NULL, lower INTEGER NOT NULL, \
@@ -55,7 +55,7 @@ fn old_span_text() -> &'static str
 
 #[tactic(auto, using(crate::proofs::StepStops::old_first_step))]
 fn old_first_text() -> &'static str
-    ensures { IsStep result.now Made.OldSpans Made.OldIndex }
+    ensures { IsStep result.now TablesPresent.OldSpans TablesPresent.OldIndex }
 {
     "CREATE INDEX span_first ON span \
      (first, last, lower, upper, start, stop, priority, operator, id)"
@@ -63,7 +63,7 @@ fn old_first_text() -> &'static str
 
 #[tactic(auto, using(crate::proofs::StepStops::volume_step))]
 fn volume_text() -> &'static str
-    ensures { IsStep result.now Made.OldIndex Made.Volumes }
+    ensures { IsStep result.now TablesPresent.OldIndex TablesPresent.Volumes }
 {
     "CREATE TABLE volume2 (operator TEXT NOT NULL, id TEXT NOT NULL, place INTEGER NOT NULL, \
      lower INTEGER NOT NULL, upper INTEGER NOT NULL, start INTEGER NOT NULL, \
@@ -74,7 +74,7 @@ fn volume_text() -> &'static str
 
 #[tactic(auto, using(crate::proofs::StepStops::span_step))]
 fn span_text() -> &'static str
-    ensures { IsStep result.now Made.Volumes Made.Spans }
+    ensures { IsStep result.now TablesPresent.Volumes TablesPresent.Spans }
 {
     "CREATE TABLE span2 (operator TEXT NOT NULL, id TEXT NOT NULL, place INTEGER NOT NULL, \
      first INTEGER NOT NULL, last INTEGER NOT NULL, lower INTEGER NOT NULL, \
@@ -87,34 +87,34 @@ fn span_text() -> &'static str
 // The columns after `last` are those that the query of rivals reads, so that it reads the index alone.
 #[tactic(auto, using(crate::proofs::StepStops::first_step))]
 fn first_text() -> &'static str
-    ensures { IsStep result.now Made.Spans Made.All }
+    ensures { IsStep result.now TablesPresent.Spans TablesPresent.All }
 {
     "CREATE INDEX span2_first ON span2 \
      (first, last, lower, upper, start, stop, priority, operator, id)"
 }
 
 // The text that makes what comes next, and how far all is made then.
-fn next_step(made: Made) -> Option<(Made, &'static str)>
+fn next_step(made: TablesPresent) -> Option<(TablesPresent, &'static str)>
     ensures step { IfSome result (λ step. IsStep step.1.now made step.0) }
     ensures less { IfSome result (λ step. left_to_make made ≡ suc (left_to_make step.0)) }
-    ensures none { IfNone result (made ≡ Made.All) }
+    ensures none { IfNone result (made ≡ TablesPresent.All) }
 {
     match made {
-        Made::Nothing => Some((Made::Operators, operator_text())),
-        Made::Operators => Some((Made::Plans, plan_text())),
-        Made::Plans => Some((Made::OldVolumes, old_volume_text())),
-        Made::OldVolumes => Some((Made::OldSpans, old_span_text())),
-        Made::OldSpans => Some((Made::OldIndex, old_first_text())),
-        Made::OldIndex => Some((Made::Volumes, volume_text())),
-        Made::Volumes => Some((Made::Spans, span_text())),
-        Made::Spans => Some((Made::All, first_text())),
-        Made::All => None,
+        TablesPresent::Nothing => Some((TablesPresent::Operators, operator_text())),
+        TablesPresent::Operators => Some((TablesPresent::Plans, plan_text())),
+        TablesPresent::Plans => Some((TablesPresent::OldVolumes, old_volume_text())),
+        TablesPresent::OldVolumes => Some((TablesPresent::OldSpans, old_span_text())),
+        TablesPresent::OldSpans => Some((TablesPresent::OldIndex, old_first_text())),
+        TablesPresent::OldIndex => Some((TablesPresent::Volumes, volume_text())),
+        TablesPresent::Volumes => Some((TablesPresent::Spans, span_text())),
+        TablesPresent::Spans => Some((TablesPresent::All, first_text())),
+        TablesPresent::All => None,
     }
 }
 
 // Makes all that is missing, one after the other.
-fn make_rest<S: Alter>(tx: &mut Transaction<'_, S>, made: Made) -> Result<(), Error>
-    requires missing { made ≢ Made.All }
+fn make_rest<S: Alter>(tx: &mut Transaction<'_, S>, made: TablesPresent) -> Result<(), Error>
+    requires missing { made ≢ TablesPresent.All }
     requires at { Holds S.Store tx.old.conn.now (IsMadeTo made) }
     requires begun { IsTrue tx.old.conn.now.in_transaction }
     requires sound { Holds S.Store tx.old.conn.now IsDatabase }
@@ -139,8 +139,11 @@ fn make_rest<S: Alter>(tx: &mut Transaction<'_, S>, made: Made) -> Result<(), Er
 
 /// Makes those of a desk's tables, and of their indexes, that aren't there, as one transaction. The rows of
 /// the others stay.
-pub fn complete_tables<S: Alter>(connection: &mut Connection<S>, made: Made) -> Result<(), Error>
-    requires missing { made ≢ Made.All }
+pub fn complete_tables<S: Alter>(
+    connection: &mut Connection<S>,
+    made: TablesPresent,
+) -> Result<(), Error>
+    requires missing { made ≢ TablesPresent.All }
     requires at { Holds S.Store connection.old (IsMadeTo made) }
     requires settled { connection.old.in_transaction ≡ false }
     ensures done { HasCleanDisk (state S.Store connection.new)

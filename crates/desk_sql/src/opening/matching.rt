@@ -12,7 +12,7 @@ ghost use Rattle.desk_sql.specs.Finding.{cell_columns, extent_columns, key_index
 ghost use Rattle.desk_sql.specs.Finding.{operator_index, plan_index, old_volume_index, old_span_index};
 ghost use Rattle.desk_sql.specs.Finding.{old_indexes_and, old_first_index, volume_index, span_index, first_index};
 
-use crate::opening::finding::Made;
+use crate::opening::finding::TablesPresent;
 use sqlite_items::Items;
 use sqlite_schema::schema::{Action, Column, Index, Kind, Reference, Schema, Stamps, Table};
 use sqlite_value::keys::{Collation, Order};
@@ -337,23 +337,24 @@ fn are_new_tables(tables: &[Table]) -> bool
 }
 
 /// Whether these are the tables that are made so far, in their order.
-fn are_tables(made: Made, tables: &[Table]) -> bool
+fn are_tables(made: TablesPresent, tables: &[Table]) -> bool
     ensures { IsTrue result ↔ (tables.now ≡ (schema_of made).tables) }
 {
     match (made, tables) {
-        (Made::Nothing, []) => true,
-        (Made::Operators, [operator]) => is_operator_table(operator),
-        (Made::Plans, [operator, plan]) => is_operator_table(operator) && is_plan_table(plan),
-        (Made::OldVolumes, [operator, plan, volume]) => {
+        (TablesPresent::Nothing, []) => true,
+        (TablesPresent::Operators, [operator]) => is_operator_table(operator),
+        (TablesPresent::Plans, [operator, plan]) => is_operator_table(operator)
+            && is_plan_table(plan),
+        (TablesPresent::OldVolumes, [operator, plan, volume]) => {
             is_operator_table(operator) && is_plan_table(plan) && is_old_volume_table(volume)
         }
-        (Made::OldSpans | Made::OldIndex, [operator, plan, volume, span]) => {
+        (TablesPresent::OldSpans | TablesPresent::OldIndex, [operator, plan, volume, span]) => {
             are_old_tables(operator, plan, volume, span)
         }
-        (Made::Volumes, [operator, plan, volume, span, volume2]) => {
+        (TablesPresent::Volumes, [operator, plan, volume, span, volume2]) => {
             are_old_tables(operator, plan, volume, span) && is_volume_table(volume2)
         }
-        (Made::Spans | Made::All, [operator, plan, volume, span, new @ ..]) => {
+        (TablesPresent::Spans | TablesPresent::All, [operator, plan, volume, span, new @ ..]) => {
             are_old_tables(operator, plan, volume, span) && are_new_tables(new)
         }
         _ => false,
@@ -467,39 +468,51 @@ fn are_old_indexes(operator: &Index, plan: &Index, volume: &Index, span: &Index)
 }
 
 /// Whether these are the index over the leaves of `span`, and those that come after it once so much is made.
-fn are_later_indexes(made: Made, indexes: &[Index]) -> bool
+fn are_later_indexes(made: TablesPresent, indexes: &[Index]) -> bool
     ensures { IsTrue result ↔ (indexes.now ≡ later_indexes made) }
 {
     match (made, indexes) {
-        (Made::OldIndex, [old]) => is_old_first_index(old),
-        (Made::Volumes, [old, volume]) => is_old_first_index(old) && is_volume_index(volume),
-        (Made::Spans, [old, volume, span]) => {
+        (TablesPresent::OldIndex, [old]) => is_old_first_index(old),
+        (TablesPresent::Volumes, [old, volume]) => is_old_first_index(old)
+            && is_volume_index(volume),
+        (TablesPresent::Spans, [old, volume, span]) => {
             is_old_first_index(old) && is_volume_index(volume) && is_span_index(span)
         }
-        (Made::All, [old, volume, span, first]) => {
+        (TablesPresent::All, [old, volume, span, first]) => {
             is_old_first_index(old)
                 && is_volume_index(volume)
                 && is_span_index(span)
                 && is_first_index(first)
         }
-        (Made::OldIndex | Made::Volumes | Made::Spans | Made::All, _) => false,
+        (
+            TablesPresent::OldIndex
+            | TablesPresent::Volumes
+            | TablesPresent::Spans
+            | TablesPresent::All,
+            _,
+        ) => false,
         (_, indexes) => indexes.is_empty(),
     }
 }
 
 /// Whether these are the indexes that are made so far, in their order.
-fn are_indexes(made: Made, indexes: &[Index]) -> bool
+fn are_indexes(made: TablesPresent, indexes: &[Index]) -> bool
     ensures { IsTrue result ↔ (indexes.now ≡ indexes_of made) }
 {
     match (made, indexes) {
-        (Made::Nothing, []) => true,
-        (Made::Operators, [operator]) => is_operator_index(operator),
-        (Made::Plans, [operator, plan]) => is_operator_index(operator) && is_plan_index(plan),
-        (Made::OldVolumes, [operator, plan, volume]) => {
+        (TablesPresent::Nothing, []) => true,
+        (TablesPresent::Operators, [operator]) => is_operator_index(operator),
+        (TablesPresent::Plans, [operator, plan]) => is_operator_index(operator)
+            && is_plan_index(plan),
+        (TablesPresent::OldVolumes, [operator, plan, volume]) => {
             is_operator_index(operator) && is_plan_index(plan) && is_old_volume_index(volume)
         }
         (
-            Made::OldSpans | Made::OldIndex | Made::Volumes | Made::Spans | Made::All,
+            TablesPresent::OldSpans
+            | TablesPresent::OldIndex
+            | TablesPresent::Volumes
+            | TablesPresent::Spans
+            | TablesPresent::All,
             [operator, plan, volume, span, later @ ..],
         ) => are_old_indexes(operator, plan, volume, span) && are_later_indexes(made, later),
         _ => false,
@@ -507,7 +520,7 @@ fn are_indexes(made: Made, indexes: &[Index]) -> bool
 }
 
 /// Whether there is what is made so far, and nothing else.
-fn is_made(schema: &Schema, made: Made) -> bool
+fn is_made(schema: &Schema, made: TablesPresent) -> bool
     ensures { IsTrue result ↔ (schema.now ≡ schema_of made) }
 {
     if !are_tables(made, schema.tables.as_slice()) {
@@ -520,20 +533,20 @@ fn is_made(schema: &Schema, made: Made) -> bool
 }
 
 /// How far a desk's tables and indexes are made, if there is nothing else.
-pub(crate) fn made_in(schema: &Schema) -> Option<Made>
-    ensures { MatchOption result ((made : Made) → schema.now ≢ schema_of made)
+pub(crate) fn tables_present(schema: &Schema) -> Option<TablesPresent>
+    ensures { MatchOption result ((made : TablesPresent) → schema.now ≢ schema_of made)
         (λ made. schema.now ≡ schema_of made) }
 {
     'steps: for made in [
-        Made::All,
-        Made::Spans,
-        Made::Volumes,
-        Made::OldIndex,
-        Made::OldSpans,
-        Made::OldVolumes,
-        Made::Plans,
-        Made::Operators,
-        Made::Nothing,
+        TablesPresent::All,
+        TablesPresent::Spans,
+        TablesPresent::Volumes,
+        TablesPresent::OldIndex,
+        TablesPresent::OldSpans,
+        TablesPresent::OldVolumes,
+        TablesPresent::Plans,
+        TablesPresent::Operators,
+        TablesPresent::Nothing,
     ] {
         if is_made(schema, made) {
             return Some(made);

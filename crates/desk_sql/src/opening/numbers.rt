@@ -11,7 +11,7 @@ ghost use Rattle.desk_sql.specs.Statements.{SelectsAll, rowids};
 ghost use Rattle.desk_sql.specs.Finding.{Holds, AreRising, next_above};
 ghost use Rattle.desk_sql.specs.Frames.{OnlyReads};
 
-use crate::opening::finding::Made;
+use crate::opening::finding::TablesPresent;
 use crate::reading::asking::ask;
 use sqlite::{Alter, Connection, Error, ErrorCode, Row};
 use sqlite_value::value::ValueRef;
@@ -115,7 +115,7 @@ fn test_rowids<S: Alter>(connection: &mut Connection<S>, table: DeskTable) -> Re
 /// Tests the rowids of a table that may not be made.
 fn test_made<S: Alter>(
     connection: &mut Connection<S>,
-    made: Made,
+    made: TablesPresent,
     table: DeskTable,
 ) -> Result<(), Error>
     requires known { Holds S.Store connection.old (λ db. db.schema ≡ schema_of made) }
@@ -139,7 +139,10 @@ fn test_made<S: Alter>(
 /// # Errors
 ///
 /// `DatabaseCorrupt` if those of a table are not whole numbers, each once; and what a query may fail with.
-pub(crate) fn test_tables<S: Alter>(connection: &mut Connection<S>, made: Made) -> Result<(), Error>
+pub(crate) fn test_tables<S: Alter>(
+    connection: &mut Connection<S>,
+    made: TablesPresent,
+) -> Result<(), Error>
     requires known { Holds S.Store connection.old (λ db. db.schema ≡ schema_of made) }
     requires settled { connection.old.in_transaction ≡ false }
     ensures legible { OnOk result (Holds S.Store connection.new (IsMadeTo made)) }

@@ -11,8 +11,8 @@ ghost use Rattle.desk_sql.specs.Others.{is_others_from};
 ghost use Rattle.desk_sql.specs.Taking.{IsCutShort};
 
 use crate::reading::query::Query;
-use crate::reading::rivals::Reach;
-use crate::reading::taking::{TakeRow, hand_over};
+use crate::reading::rivals::SpanQuery;
+use crate::reading::taking::{RowSink, for_each_row};
 use sqlite::{Alter, Connection, Error, params};
 
 /// Hands over, one at a time and by `first`, the columns of `span2` from `first` on of each span that is
@@ -22,10 +22,10 @@ use sqlite::{Alter, Connection, Error, params};
 /// # Errors
 ///
 /// What a query or the taker may fail with. Nothing is said of what the taker has taken then.
-pub fn other_spans<S: Alter, T: TakeRow>(
+pub fn other_spans<S: Alter, T: RowSink>(
     connection: &mut Connection<S>,
     operator: &str,
-    reach: Reach,
+    reach: SpanQuery,
     low: i64,
     taker: &mut T,
 ) -> Result<(), Error>
@@ -45,7 +45,7 @@ pub fn other_spans<S: Alter, T: TakeRow>(
         (tables_of (state S.Store connection.old).now.trees).spans))) T.refuses) }
     ensures reads { OnlyReads S.Store connection.old connection.new }
 {
-    hand_over(
+    for_each_row(
         connection,
         Query::OtherSpans {
             operator,

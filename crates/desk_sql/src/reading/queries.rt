@@ -10,7 +10,7 @@ ghost use Rattle.desk_sql.specs.Taking.{IsCutShort};
 
 use crate::reading::answer::answer;
 use crate::reading::query::Query;
-use crate::reading::taking::{TakeRow, hand_over};
+use crate::reading::taking::{RowSink, for_each_row};
 use sqlite::{Alter, Connection, Error, Row, params};
 
 /// The row `operator`, `id`, `priority`, `usage`, `aircraft` of the plan of this operator with this id.
@@ -70,7 +70,7 @@ pub fn volumes_of<S: Alter>(
 /// # Errors
 ///
 /// What a query or the taker may fail with. Nothing is said of what the taker has taken then.
-pub fn own_plans<S: Alter, T: TakeRow>(
+pub fn own_plans<S: Alter, T: RowSink>(
     connection: &mut Connection<S>,
     operator: &str,
     taker: &mut T,
@@ -90,7 +90,7 @@ pub fn own_plans<S: Alter, T: TakeRow>(
         T.refuses) }
     ensures reads { OnlyReads S.Store connection.old connection.new }
 {
-    hand_over(
+    for_each_row(
         connection,
         Query::OwnPlans { operator },
         params![operator],

@@ -3,7 +3,7 @@
 ghost use Rattle.desk_sql.specs.Queries.{params_of, order_of, rows_of};
 ghost use Rattle.desk_sql.specs.Statements.{Selects};
 
-use crate::reading::rivals::Reach;
+use crate::reading::rivals::SpanQuery;
 
 /// A query, with what it is given.
 #[derive(Clone, Copy)]
@@ -30,13 +30,13 @@ pub(crate) enum Query<'a> {
     RivalSpans {
         operator: &'a str,
         id: &'a str,
-        reach: Reach,
+        reach: SpanQuery,
         low: i64,
     },
     /// The spans that are reached and begin at `low` or later, but for those of one operator, by `first`.
     OtherSpans {
         operator: &'a str,
-        reach: Reach,
+        reach: SpanQuery,
         low: i64,
     },
 }

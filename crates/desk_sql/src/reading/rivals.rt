@@ -10,14 +10,14 @@ ghost use Rattle.desk_sql.specs.Frames.{OnlyReads};
 ghost use Rattle.desk_sql.specs.Taking.{IsCutShort};
 
 use crate::reading::query::Query;
-use crate::reading::taking::{TakeRow, hand_over};
+use crate::reading::taking::{RowSink, for_each_row};
 use sqlite::{Alter, Connection, Error, params};
 
 /// What spans are asked for: those that share a leaf position of `first..=last`, an altitude of
 /// `lower..upper` (decimetres above the WGS84 ellipsoid) and a moment of `start..stop` (seconds since
 /// 1970), of a priority at least.
 #[derive(Clone, Copy, Debug)]
-pub struct Reach {
+pub struct SpanQuery {
     pub first: i64,
     pub last: i64,
     pub lower: i64,
@@ -34,11 +34,11 @@ pub struct Reach {
 /// # Errors
 ///
 /// What a query or the taker may fail with. Nothing is said of what the taker has taken then.
-pub fn rival_spans<S: Alter, T: TakeRow>(
+pub fn rival_spans<S: Alter, T: RowSink>(
     connection: &mut Connection<S>,
     operator: &str,
     id: &str,
-    reach: Reach,
+    reach: SpanQuery,
     low: i64,
     taker: &mut T,
 ) -> Result<(), Error>
@@ -58,7 +58,7 @@ pub fn rival_spans<S: Alter, T: TakeRow>(
         (tables_of (state S.Store connection.old).now.trees).spans))) T.refuses) }
     ensures reads { OnlyReads S.Store connection.old connection.new }
 {
-    hand_over(
+    for_each_row(
         connection,
         Query::RivalSpans {
             operator,

@@ -17,7 +17,7 @@ use sqlite::{Alter, Connection, Error, ErrorCode, Row, Rows};
 use sqlite_value::value::ValueRef;
 
 /// What takes the rows of an answer, one at a time.
-pub trait TakeRow {
+pub trait RowSink {
     ghost use Rattle.std.specs.Prelude.{List, [], ◌∷◌, ◌++◌};
     ghost use Rattle.std.specs.Prelude.{IfErr};
     ghost use Rattle.sqlite.specs.Order.{Row};
@@ -42,7 +42,7 @@ pub trait TakeRow {
 }
 
 /// Hands over the next row, if there is one.
-fn hand_next<S: Alter, T: TakeRow>(rows: &mut Rows<'_, S>, taker: &mut T) -> Result<bool, Error>
+fn hand_next<S: Alter, T: RowSink>(rows: &mut Rows<'_, S>, taker: &mut T) -> Result<bool, Error>
     ensures same_reference { rows.new.conn.ghost_name ≡ rows.old.conn.ghost_name }
     ensures handed { HasCleanDisk (state S.Store rows.new.conn.now) → IfOk result
         (HandsOver S.Store rows.old.conn.now rows.new.conn.now (T.has_taken taker.old)
@@ -74,7 +74,7 @@ fn hand_next<S: Alter, T: TakeRow>(rows: &mut Rows<'_, S>, taker: &mut T) -> Res
 /// # Errors
 ///
 /// What a query or the taker may fail with.
-fn hand_all<S: Alter, T: TakeRow>(rows: &mut Rows<'_, S>, taker: &mut T) -> Result<(), Error>
+fn hand_all<S: Alter, T: RowSink>(rows: &mut Rows<'_, S>, taker: &mut T) -> Result<(), Error>
     requires { HasCleanDisk (state S.Store rows.old.conn.now)
         → IsTrue (state S.Store rows.old.conn.now).is_open }
     ensures same_reference { rows.new.conn.ghost_name ≡ rows.old.conn.ghost_name }
@@ -104,7 +104,7 @@ fn hand_all<S: Alter, T: TakeRow>(rows: &mut Rows<'_, S>, taker: &mut T) -> Resu
 /// # Errors
 ///
 /// What a query or the taker may fail with.
-pub(crate) fn hand_over<S: Alter, T: TakeRow>(
+pub(crate) fn for_each_row<S: Alter, T: RowSink>(
     connection: &mut Connection<S>,
     query: Query<'_>,
     params: &[ValueRef<'_>],

@@ -12,7 +12,7 @@ ghost use Rattle.desk_sql.specs.Statements.{SelectsAll};
 ghost use Rattle.desk_sql.specs.Queries.{table_read, key_cells, rows_read};
 ghost use Rattle.desk_sql.specs.Frames.{OnlyReads};
 
-use crate::opening::finding::Made;
+use crate::opening::finding::TablesPresent;
 use crate::opening::numbers::DeskTable;
 use crate::reading::asking::ask;
 use sqlite::{Alter, Connection, Error, Row};
@@ -88,7 +88,7 @@ pub(crate) fn all_rows<S: Alter>(
     alloc: Global,
     connection: &mut Connection<S>,
     whole: Whole,
-    made: Made,
+    made: TablesPresent,
 ) -> Result<Vec<Row>, Error>
     requires part { Holds S.Store connection.old (IsMadeTo made) }
     requires settled { connection.old.in_transaction ≡ false }
@@ -114,7 +114,7 @@ pub(crate) fn all_rows<S: Alter>(
 pub fn all_operators<S: Alter>(
     alloc: Global,
     connection: &mut Connection<S>,
-    made: Made,
+    made: TablesPresent,
 ) -> Result<Vec<Row>, Error>
     requires part { Holds S.Store connection.old (IsMadeTo made) }
     requires settled { connection.old.in_transaction ≡ false }
@@ -137,7 +137,7 @@ pub fn all_operators<S: Alter>(
 pub fn all_plans<S: Alter>(
     alloc: Global,
     connection: &mut Connection<S>,
-    made: Made,
+    made: TablesPresent,
 ) -> Result<Vec<Row>, Error>
     requires part { Holds S.Store connection.old (IsMadeTo made) }
     requires settled { connection.old.in_transaction ≡ false }
@@ -160,7 +160,7 @@ pub fn all_plans<S: Alter>(
 pub fn all_volumes<S: Alter>(
     alloc: Global,
     connection: &mut Connection<S>,
-    made: Made,
+    made: TablesPresent,
 ) -> Result<Vec<Row>, Error>
     requires part { Holds S.Store connection.old (IsMadeTo made) }
     requires settled { connection.old.in_transaction ≡ false }
@@ -183,7 +183,7 @@ pub fn all_volumes<S: Alter>(
 pub fn all_covers<S: Alter>(
     alloc: Global,
     connection: &mut Connection<S>,
-    made: Made,
+    made: TablesPresent,
 ) -> Result<Vec<Row>, Error>
     requires part { Holds S.Store connection.old (IsMadeTo made) }
     requires settled { connection.old.in_transaction ≡ false }
@@ -206,7 +206,7 @@ pub fn all_covers<S: Alter>(
 pub fn all_spans<S: Alter>(
     alloc: Global,
     connection: &mut Connection<S>,
-    made: Made,
+    made: TablesPresent,
 ) -> Result<Vec<Row>, Error>
     requires part { Holds S.Store connection.old (IsMadeTo made) }
     requires settled { connection.old.in_transaction ≡ false }

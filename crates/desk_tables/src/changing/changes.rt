@@ -15,17 +15,17 @@ ghost use Rattle.desk_rules.specs.declared.plan.PlanRow.{PlanRow as Plan};
 ghost use Rattle.desk_tables.specs.Reading.{IsHead};
 ghost use Rattle.desk_tables.specs.Causes.{BlamesChange, BlamesStore, HasRoomForPlan};
 ghost use Rattle.desk_tables.specs.Store.{Stands};
-ghost use Rattle.desk_tables.specs.Lengths.{IsKnownPlan, BringsKnown, Keeps};
+ghost use Rattle.desk_tables.specs.SpanBounds.{IsKnownPlan, BringsKnown, Keeps};
 ghost use Rattle.desk_tables.specs.Leaving.{MayHave};
 
 use crate::canon::canons_of;
 use crate::changing::records::{
     aircraft_number, asked_of, lengths_with, span_rows, texts_of, usage_number, volume_rows,
 };
-use crate::kept::Kept;
-use crate::lengths::Lengths;
-use crate::reading::readers::heads;
+use crate::kept::GhostWorld;
+use crate::reading::readers::head_rows;
 use crate::reading::values::{count_at, fault_of};
+use crate::span_bounds::SpanBounds;
 use desk_rules::operator::Operator;
 use desk_rules::plan::PlanRow;
 use desk_rules::plan_id::PlanId;
@@ -46,16 +46,16 @@ use volume4d::laws::covers_are_few;
 pub(crate) fn make<S: Alter>(
     alloc: Global,
     connection: &mut Connection<S>,
-    kept: &Kept,
-    lengths: &Lengths,
+    kept: &GhostWorld,
+    span_bounds: &SpanBounds,
     change: &Change,
-) -> Result<Lengths, StoreFault>
+) -> Result<SpanBounds, StoreFault>
     requires stands { Stands S.Store connection.old kept.now.world }
     requires fits { HasCleanDisk (state S.Store connection.old)
         → IsFitting change.now kept.now.world }
     ensures ok { OnOk result (Stands S.Store connection.new (changed_by change.now kept.now.world)) }
     ensures err { OnErr result (Stands S.Store connection.new kept.now.world) }
-    ensures known { IfOk result (λ after. Keeps lengths.now after × BringsKnown after change.now) }
+    ensures known { IfOk result (λ after. Keeps span_bounds.now after × BringsKnown after change.now) }
     ensures cause { IfErr result
         (BlamesChange S.Store connection.old connection.new change.now) }
     ensures doubt { doubt (state S.Store connection.old).is_clean
@@ -69,11 +69,16 @@ pub(crate) fn make<S: Alter>(
     ensures committed { HasCleanDisk (state S.Store connection.new) → OnOk result
         ((state S.Store connection.new).now ≡ (state S.Store connection.new).committed) }
 {
-    let before = *lengths;
+    let before = *span_bounds;
     match change {
         Change::Enrol { operator, ceiling } => enrol(connection, kept, operator, *ceiling)?,
         Change::Put { operator, row } => return put(
-            alloc, connection, kept, lengths, operator, row,
+            alloc,
+            connection,
+            kept,
+            span_bounds,
+            operator,
+            row,
         ),
         Change::Close { operator, id } => close(connection, kept, operator, id)?,
         Change::Clear { operator, ids } => clear(alloc, connection, kept, operator, ids)?,
@@ -88,7 +93,7 @@ pub(crate) fn make<S: Alter>(
 /// `OutOfMemory` if memory runs out. `Store` if SQLite refuses the change for another cause.
 pub(crate) fn enrol<S: Alter>(
     connection: &mut Connection<S>,
-    kept: &Kept,
+    kept: &GhostWorld,
     operator: &Operator,
     ceiling: u32,
 ) -> Result<(), StoreFault>
@@ -121,18 +126,18 @@ pub(crate) fn enrol<S: Alter>(
 fn put<S: Alter>(
     alloc: Global,
     connection: &mut Connection<S>,
-    kept: &Kept,
-    lengths: &Lengths,
+    kept: &GhostWorld,
+    span_bounds: &SpanBounds,
     operator: &Operator,
     row: &PlanRow,
-) -> Result<Lengths, StoreFault>
+) -> Result<SpanBounds, StoreFault>
     requires stands { Stands S.Store connection.old kept.now.world }
     requires fits { HasCleanDisk (state S.Store connection.old)
         → IsFitting (change.Put operator.now row.now) kept.now.world }
     ensures ok { OnOk result (Stands S.Store connection.new
         (changed_by (change.Put operator.now row.now) kept.now.world)) }
     ensures err { OnErr result (Stands S.Store connection.new kept.now.world) }
-    ensures known { IfOk result (λ after. Keeps lengths.now after × IsKnownPlan after row.now) }
+    ensures known { IfOk result (λ after. Keeps span_bounds.now after × IsKnownPlan after row.now) }
     ensures cause { HasRoomForPlan (filed_by operator.now row.now) (state S.Store connection.old).now
         → IfErr result (BlamesStore S.Store connection.old connection.new) }
     ensures doubt { doubt (state S.Store connection.old).is_clean
@@ -162,7 +167,7 @@ fn put<S: Alter>(
     one_list_of_ranges();
     covers_are_few();
     match put_plan(connection, head, &volumes, &spans) {
-        Ok(()) => Ok(lengths_with(lengths, &spans)),
+        Ok(()) => Ok(lengths_with(span_bounds, &spans)),
         Err(e) => Err(fault_of(e)),
     }
 }
@@ -170,7 +175,7 @@ fn put<S: Alter>(
 // Closes the operator's plan of the id: its spans go, and all else of it but the usage stays.
 fn close<S: Alter>(
     connection: &mut Connection<S>,
-    kept: &Kept,
+    kept: &GhostWorld,
     operator: &Operator,
     id: &PlanId,
 ) -> Result<(), StoreFault>
@@ -193,8 +198,8 @@ fn close<S: Alter>(
     ensures committed { HasCleanDisk (state S.Store connection.new) → OnOk result
         ((state S.Store connection.new).now ≡ (state S.Store connection.new).committed) }
 {
-    let heads = heads(connection, kept, operator, id)?;
-    let Some(head) = heads.first() else {
+    let head_rows = head_rows(connection, kept, operator, id)?;
+    let Some(head) = head_rows.first() else {
         return Err(StoreFault::Store);
     };
     let (priority, aircraft) = numbers_in(head)?;
@@ -222,7 +227,7 @@ fn numbers_in(head: &Row) -> Result<(u32, u32), StoreFault>
 fn clear<S: Alter>(
     alloc: Global,
     connection: &mut Connection<S>,
-    kept: &Kept,
+    kept: &GhostWorld,
     operator: &Operator,
     ids: &Vec<PlanId>,
 ) -> Result<(), StoreFault>

@@ -10,10 +10,10 @@ ghost use Rattle.desk_store.specs.Changes.{filed_by};
 ghost use Rattle.desk_tables.specs.Tables as spec;
 ghost use Rattle.desk_tables.specs.Tables.{id_text, area_rows, area_covers, ArePlanSpanRows, AreSpanRowsFrom};
 ghost use Rattle.desk_tables.specs.Content.{IsId, IsBlock};
-ghost use Rattle.desk_tables.specs.Lengths.{IsKnownRow, Keeps};
+ghost use Rattle.desk_tables.specs.SpanBounds.{IsKnownRow, Keeps};
 ghost use Rattle.desk_tables.specs.PlanRows.{volume_record, slab_record, AreAskedOf, AreCanonOf};
 
-use crate::lengths::Lengths;
+use crate::span_bounds::SpanBounds;
 use desk_rules::plan::PlanRow;
 use desk_rules::plan_id::PlanId;
 use desk_rules::words::{Aircraft, Usage};
@@ -241,22 +241,22 @@ fn slab_row<'a>(
     }
 }
 
-/// Lengths, with those of the spans of these rows.
-pub(crate) fn lengths_with(lengths: &Lengths, spans: &[SpanRecord<'_>]) -> Lengths
-    ensures kept { Keeps lengths.now result }
+/// Span bounds, with those of the spans of these rows.
+pub(crate) fn lengths_with(span_bounds: &SpanBounds, spans: &[SpanRecord<'_>]) -> SpanBounds
+    ensures kept { Keeps span_bounds.now result }
     ensures known { AllByRecursion (IsKnownRow result) (map span_of spans.now) }
 {
-    let mut after = *lengths;
+    let mut after = *span_bounds;
     for span in spans {
         after = length_with(&after, span);
     }
     after
 }
 
-// Lengths, with that of the span of a row.
-fn length_with(lengths: &Lengths, span: &SpanRecord<'_>) -> Lengths
-    ensures kept { Keeps lengths.now result }
+// Span bounds, with that of the span of a row.
+fn length_with(span_bounds: &SpanBounds, span: &SpanRecord<'_>) -> SpanBounds
+    ensures kept { Keeps span_bounds.now result }
     ensures known { IsKnownRow result (span_of span.now) }
 {
-    lengths.with(span.first, span.last)
+    span_bounds.with(span.first, span.last)
 }

@@ -152,13 +152,13 @@ fn operators_in(alloc: Global, rows: &[Row]) -> Result<Vec<ListedOperator>, RowF
 }
 
 // The plans whose rows these are, and those of their volumes.
-fn plans_in(alloc: Global, heads: &[Row], volumes: &[Row]) -> Result<Vec<FiledPlan>, RowFault>
-    ensures ok { IfOk result (λ plans. ArePlanRows plans.items heads.now volumes.now) }
+fn plans_in(alloc: Global, head_rows: &[Row], volumes: &[Row]) -> Result<Vec<FiledPlan>, RowFault>
+    ensures ok { IfOk result (λ plans. ArePlanRows plans.items head_rows.now volumes.now) }
     ensures none { IfErr result (λ e. e ≡ RowFault.NoDesk → (ps : List Filed) →
-        IsStrictlySortedBy filed_cmp ps → ¬ ArePlanRows ps heads.now volumes.now) }
+        IsStrictlySortedBy filed_cmp ps → ¬ ArePlanRows ps head_rows.now volumes.now) }
 {
     let mut plans = Vec::new(alloc);
-    let mut left = heads;
+    let mut left = head_rows;
     let mut rest = volumes;
     while let Some((head, later)) = left.split_first() {
         let (mine, more) = rest.split_at(own_volumes(head, rest));

@@ -16,16 +16,16 @@ ghost use Rattle.desk_tables.specs.Tables.{operator_row, plan_row};
 ghost use Rattle.desk_tables.specs.Copying.{AddsHeadRows, AddsOperatorRows, AddsWorldRows};
 
 use crate::changing::records::{aircraft_number, usage_number};
-use crate::kept::Kept;
+use crate::kept::GhostWorld;
 use crate::known::Known;
 use crate::opening::content::Content;
 use crate::opening::exact::{FiledPlan, ListedOperator};
-use crate::opening::finding::made_in;
+use crate::opening::finding::create_tables;
 use crate::opening::moving::write_plans;
 use crate::opening::open::OpenFault;
 use crate::store::SqliteStore;
 use desk_sql::laws::settled_and_sound;
-use desk_sql::{Made, find_tables, insert_operator, insert_plan};
+use desk_sql::{TablesPresent, find_tables, insert_operator, insert_plan};
 use desk_store::StoreFault;
 use sqlite::{Connection, Transaction};
 use sqlite_trees::store::Alter;
@@ -57,12 +57,12 @@ pub(crate) fn store_of<S: Alter + Drop>(
     ensures shield { IfOk result (λ store. (state S.Store connection).IsShielded
         → (state S.Store store.held).IsShielded) }
 {
-    let Some(Made::Nothing) = find_tables(&mut connection)? else {
+    let Some(TablesPresent::Nothing) = find_tables(&mut connection)? else {
         return Err(OpenFault::Store);
     };
-    made_in(&mut connection)?;
+    create_tables(&mut connection)?;
     fill(alloc, &mut connection, &content.operators, &content.plans)?;
-    let kept = Kept::of(content);
+    let kept = GhostWorld::of(content);
     Ok(SqliteStore::with(alloc, connection, kept, known, StoreFault::Store, true))
 }
 

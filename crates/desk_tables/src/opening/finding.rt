@@ -14,21 +14,21 @@ ghost use Rattle.desk_tables.specs.Store.{Stands};
 ghost use Rattle.desk_store.specs.World.{World};
 ghost use Rattle.desk_tables.specs.Content.{IsContent};
 ghost use Rattle.desk_tables.specs.Known.{Knows};
-ghost use Rattle.desk_tables.specs.Lengths.{IsKnownRow, Keeps};
+ghost use Rattle.desk_tables.specs.SpanBounds.{IsKnownRow, Keeps};
 ghost use Rattle.desk_tables.specs.Opening.{AreSortedByKey, AreAllRows, IsContentOf, AreNoContent};
 ghost use Rattle.desk_tables.specs.Opening.{BeginsWith, HasRowsOld, HasNewRows, WasCompleted};
 ghost use Rattle.desk_tables.specs.Opening.{ShowsNoDesk, ShowsOldRows};
 ghost use Rattle.desk_tables.specs.Opening.{BlamesReading, BlamesDatabase};
 
-use crate::kept::Kept;
+use crate::kept::GhostWorld;
 use crate::known::{Known, live_among, roll_of};
-use crate::lengths::Lengths;
 use crate::opening::content::{Content, TableRows, content_in};
 use crate::opening::covers::covers_agree;
 use crate::opening::open::OpenFault;
+use crate::span_bounds::SpanBounds;
 use desk_sql::{
-    DeskTable, Made, all_covers, all_operators, all_plans, all_spans, all_volumes, complete_tables,
-    find_tables, has_old_rows,
+    DeskTable, TablesPresent, all_covers, all_operators, all_plans, all_spans, all_volumes,
+    complete_tables, find_tables, has_old_rows,
 };
 use s2_cover::laws::one_list_of_ranges;
 use sqlite::{Connection, Row};
@@ -46,10 +46,10 @@ use volume4d::laws::one_shape;
 ///
 /// `OutOfMemory` if memory runs out. `Store` if SQLite refuses for another cause. `OldSchema` if there are
 /// rows of schema 1. `NotADesk` if there are other tables, or if the rows are those of no content.
-pub(crate) fn world_in<S: Alter>(
+pub(crate) fn load_world<S: Alter>(
     alloc: Global,
     connection: &mut Connection<S>,
-) -> Result<(Kept, Known, bool), OpenFault>
+) -> Result<(GhostWorld, Known, bool), OpenFault>
     requires settled { connection.old.in_transaction ≡ false }
     ensures begins { IfOk result (λ found.
         BeginsWith S.Store connection.old connection.new found.0.world) }
@@ -77,12 +77,12 @@ pub(crate) fn world_in<S: Alter>(
 /// How far a desk's tables are made, and whether there are rows of schema 1.
 pub(crate) fn tables_found<S: Alter>(
     connection: &mut Connection<S>,
-) -> Result<(Made, bool), OpenFault>
+) -> Result<(TablesPresent, bool), OpenFault>
     requires settled { connection.old.in_transaction ≡ false }
     ensures part { IfOk result (λ found. Holds S.Store connection.new (IsMadeTo found.0)) }
     ensures rows { IfOk result (λ found.
         Holds S.Store connection.new (HasRowsOld found.0 found.1)) }
-    ensures some { IfOk result (λ found. found.1 ≡ true → found.0 ≢ Made.Nothing) }
+    ensures some { IfOk result (λ found. found.1 ≡ true → found.0 ≢ TablesPresent.Nothing) }
     ensures none { IfErr result (λ e. e ≡ OpenFault.NotADesk →
         ShowsNoDesk S.Store connection.old connection.new) }
     ensures newer { IfErr result (λ e. e ≢ OpenFault.OldSchema) }
@@ -92,7 +92,7 @@ pub(crate) fn tables_found<S: Alter>(
     let Some(made) = find_tables(connection)? else {
         return Err(OpenFault::NotADesk);
     };
-    if made == Made::Nothing {
+    if made == TablesPresent::Nothing {
         return Ok((made, false));
     }
     let old = has_old_rows(connection, made)?;
@@ -103,8 +103,8 @@ pub(crate) fn tables_found<S: Alter>(
 pub(crate) fn world_of<S: Alter>(
     alloc: Global,
     connection: &mut Connection<S>,
-    made: Made,
-) -> Result<(Kept, Known, bool), OpenFault>
+    made: TablesPresent,
+) -> Result<(GhostWorld, Known, bool), OpenFault>
     requires part { Holds S.Store connection.old (IsMadeTo made) }
     requires new { Holds S.Store connection.old (HasNewRows made) }
     requires settled { connection.old.in_transaction ≡ false }
@@ -126,15 +126,17 @@ pub(crate) fn world_of<S: Alter>(
         → (state S.Store connection.new).IsShielded }
 {
     match made {
-        Made::All => found_in(alloc, connection, Made::All),
-        Made::Nothing => Ok((made_in(connection)?, Known::new(alloc), false)),
+        TablesPresent::All => load_tables(alloc, connection, TablesPresent::All),
+        TablesPresent::Nothing => Ok((create_tables(connection)?, Known::new(alloc), false)),
         made => completed_in(alloc, connection, made),
     }
 }
 
 /// The empty world, over a database that gets a desk's tables and had none.
-pub(crate) fn made_in<S: Alter>(connection: &mut Connection<S>) -> Result<Kept, OpenFault>
-    requires blank { Holds S.Store connection.old (IsMadeTo Made.Nothing) }
+pub(crate) fn create_tables<S: Alter>(
+    connection: &mut Connection<S>,
+) -> Result<GhostWorld, OpenFault>
+    requires blank { Holds S.Store connection.old (IsMadeTo TablesPresent.Nothing) }
     requires settled { connection.old.in_transaction ≡ false }
     ensures empty { IfOk result (λ kept. kept.world ≡ record { operators = []; plans = [] }) }
     ensures stands { IfOk result (λ kept. Stands S.Store connection.new kept.world) }
@@ -150,8 +152,8 @@ pub(crate) fn made_in<S: Alter>(connection: &mut Connection<S>) -> Result<Kept, 
     ensures shield { (state S.Store connection.old).IsShielded
         → (state S.Store connection.new).IsShielded }
 {
-    complete_tables(connection, Made::Nothing)?;
-    Ok(Kept::new())
+    complete_tables(connection, TablesPresent::Nothing)?;
+    Ok(GhostWorld::new())
 }
 
 // The world whose rows the tables have, which get what is missing of them.
@@ -159,12 +161,12 @@ pub(crate) fn made_in<S: Alter>(connection: &mut Connection<S>) -> Result<Kept, 
 fn completed_in<S: Alter>(
     alloc: Global,
     connection: &mut Connection<S>,
-    made: Made,
-) -> Result<(Kept, Known, bool), OpenFault>
+    made: TablesPresent,
+) -> Result<(GhostWorld, Known, bool), OpenFault>
     requires part { Holds S.Store connection.old (IsMadeTo made) }
     requires new { Holds S.Store connection.old (HasNewRows made) }
-    requires missing { made ≢ Made.All }
-    requires some { made ≢ Made.Nothing }
+    requires missing { made ≢ TablesPresent.All }
+    requires some { made ≢ TablesPresent.Nothing }
     requires settled { connection.old.in_transaction ≡ false }
     ensures value { HasCleanDisk (state S.Store connection.new) → IfOk result (λ found.
         WasCompleted S.Store connection.old connection.new found.0.world) }
@@ -184,17 +186,17 @@ fn completed_in<S: Alter>(
     ensures shield { (state S.Store connection.old).IsShielded
         → (state S.Store connection.new).IsShielded }
 {
-    let found = found_in(alloc, connection, made)?;
+    let found = load_tables(alloc, connection, made)?;
     complete_tables(connection, made)?;
     Ok(found)
 }
 
 // The world whose rows the tables have, so far as they are made.
-fn found_in<S: Alter>(
+fn load_tables<S: Alter>(
     alloc: Global,
     connection: &mut Connection<S>,
-    made: Made,
-) -> Result<(Kept, Known, bool), OpenFault>
+    made: TablesPresent,
+) -> Result<(GhostWorld, Known, bool), OpenFault>
     requires part { Holds S.Store connection.old (IsMadeTo made) }
     requires new { Holds S.Store connection.old (HasNewRows made) }
     requires some { has_table made DeskTable.Operator ≡ true }
@@ -214,14 +216,14 @@ fn found_in<S: Alter>(
 {
     let (content, known) = content_found(alloc, connection, made)?;
     let is_enrolled = !content.operators.is_empty();
-    Ok((Kept::of(&content), known, is_enrolled))
+    Ok((GhostWorld::of(&content), known, is_enrolled))
 }
 
 /// The content whose rows the tables have, so far as they are made, and what is known of its plans.
 pub(crate) fn content_found<S: Alter>(
     alloc: Global,
     connection: &mut Connection<S>,
-    made: Made,
+    made: TablesPresent,
 ) -> Result<(Content, Known), OpenFault>
     requires part { Holds S.Store connection.old (IsMadeTo made) }
     requires new { Holds S.Store connection.old (HasNewRows made) }
@@ -246,26 +248,26 @@ pub(crate) fn content_found<S: Alter>(
 }
 
 // How long the spans of these rows of `span` are.
-pub(crate) fn lengths_in(rows: &[Row]) -> Lengths
+pub(crate) fn lengths_in(rows: &[Row]) -> SpanBounds
     ensures { AllByRecursion (IsKnownRow result) rows.now }
 {
-    let mut lengths = Lengths::new();
+    let mut span_bounds = SpanBounds::new();
     let mut left = rows;
     while let Some((row, later)) = left.split_first() {
-        lengths = length_with(&lengths, row);
+        span_bounds = length_with(&span_bounds, row);
         left = later;
     }
-    lengths
+    span_bounds
 }
 
-// Lengths, with that of the span of a row.
-fn length_with(lengths: &Lengths, row: &Row) -> Lengths
-    ensures kept { Keeps lengths.now result }
+// Span bounds, with that of the span of a row.
+fn length_with(span_bounds: &SpanBounds, row: &Row) -> SpanBounds
+    ensures kept { Keeps span_bounds.now result }
     ensures known { IsKnownRow result row.now }
 {
     match (row.get_ref(3), row.get_ref(4)) {
-        (Ok(ValueRef::Int(first)), Ok(ValueRef::Int(last))) => lengths.with(first, last),
-        _ => *lengths,
+        (Ok(ValueRef::Int(first)), Ok(ValueRef::Int(last))) => span_bounds.with(first, last),
+        _ => *span_bounds,
     }
 }
 
@@ -286,7 +288,7 @@ fn content_of(alloc: Global, rows: &TableRows) -> Result<(Content, Known), OpenF
         return Err(OpenFault::NotADesk);
     }
     let known = Known {
-        lengths: lengths_in(&rows.spans),
+        span_bounds: lengths_in(&rows.spans),
         live: live_among(alloc, &content.plans)?,
         roll: roll_of(alloc, &content.operators, &content.plans)?,
     };
@@ -298,7 +300,7 @@ fn content_of(alloc: Global, rows: &TableRows) -> Result<(Content, Known), OpenF
 fn rows_in<S: Alter>(
     alloc: Global,
     connection: &mut Connection<S>,
-    made: Made,
+    made: TablesPresent,
 ) -> Result<TableRows, OpenFault>
     requires part { Holds S.Store connection.old (IsMadeTo made) }
     requires some { has_table made DeskTable.Operator ≡ true }

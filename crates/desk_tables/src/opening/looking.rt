@@ -18,10 +18,10 @@ use crate::known::Known;
 use crate::opening::content::Content;
 use crate::opening::exact::FiledPlan;
 use crate::opening::finding::{content_found, tables_found};
-use crate::opening::moving::old_found_in;
+use crate::opening::moving::load_old_tables;
 use crate::opening::open::OpenFault;
 use desk_rules::words::Usage;
-use desk_sql::Made;
+use desk_sql::TablesPresent;
 use sqlite::Connection;
 use sqlite_trees::store::Alter;
 use std::alloc::Global;
@@ -100,7 +100,7 @@ pub(crate) fn read_content<S: Alter>(
     ensures reads { OnlyReads S.Store connection.old connection.new }
 {
     let (made, old) = tables_found(connection)?;
-    if made == Made::Nothing {
+    if made == TablesPresent::Nothing {
         return Err(OpenFault::NotADesk);
     }
     let (content, known) = content_at(alloc, connection, made, old)?;
@@ -112,12 +112,12 @@ pub(crate) fn read_content<S: Alter>(
 fn content_at<S: Alter>(
     alloc: Global,
     connection: &mut Connection<S>,
-    made: Made,
+    made: TablesPresent,
     old: bool,
 ) -> Result<(Content, Known), OpenFault>
     requires part { Holds S.Store connection.old (IsMadeTo made) }
     requires rows { Holds S.Store connection.old (HasRowsOld made old) }
-    requires some { made ≢ Made.Nothing }
+    requires some { made ≢ TablesPresent.Nothing }
     requires settled { connection.old.in_transaction ≡ false }
     ensures value { HasCleanDisk (state S.Store connection.new) → IfOk result (λ found.
         IsContentIn old (tables_at made (state S.Store connection.old).now.trees) found.0) }
@@ -133,7 +133,7 @@ fn content_at<S: Alter>(
     ensures reads { OnlyReads S.Store connection.old connection.new }
 {
     if old {
-        old_found_in(alloc, connection, made)
+        load_old_tables(alloc, connection, made)
     } else {
         content_found(alloc, connection, made)
     }

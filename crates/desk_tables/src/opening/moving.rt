@@ -24,7 +24,7 @@ ghost use Rattle.desk_tables.specs.Moving.{ShowsNoContent, WasMoved, told_count}
 
 use crate::canon::canons_of;
 use crate::changing::records::{asked_of, span_rows, volume_rows};
-use crate::kept::Kept;
+use crate::kept::GhostWorld;
 use crate::known::{Known, live_among, roll_of};
 use crate::opening::content::{Content, TableRows, content_in};
 use crate::opening::exact::FiledPlan;
@@ -32,7 +32,7 @@ use crate::opening::finding::{lengths_in, tables_found, world_of};
 use crate::opening::open::OpenFault;
 use desk_sql::laws::settled_and_sound;
 use desk_sql::{
-    DeskTable, Made, all_covers, all_old_spans, all_old_volumes, all_operators, all_plans,
+    DeskTable, TablesPresent, all_covers, all_old_spans, all_old_volumes, all_operators, all_plans,
     all_spans, all_volumes, complete_tables, empty_old_spans, empty_old_volumes, insert_spans,
     insert_volumes,
 };
@@ -50,7 +50,7 @@ const OLD_MAX_VOLUMES: usize = 8;
 const OLD_MAX_COVER: usize = 256;
 
 /// The world that the database stands for, in either schema, what is known of its plans, and how many plans
-/// were moved from schema 1 to schema 2. In schema 2 it is as `world_in` has it, and none were moved.
+/// were moved from schema 1 to schema 2. In schema 2 it is as `load_world` has it, and none were moved.
 ///
 /// # Errors
 ///
@@ -59,7 +59,7 @@ const OLD_MAX_COVER: usize = 256;
 pub(crate) fn moved_world_in<S: Alter>(
     alloc: Global,
     connection: &mut Connection<S>,
-) -> Result<(Kept, Known, u32), OpenFault>
+) -> Result<(GhostWorld, Known, u32), OpenFault>
     requires settled { connection.old.in_transaction ≡ false }
     ensures begins { IfOk result (λ moved.
         BeginsMoved S.Store connection.old connection.new moved.0.world moved.2) }
@@ -78,7 +78,7 @@ pub(crate) fn moved_world_in<S: Alter>(
 {
     let (made, old) = tables_found(connection)?;
     if old {
-        return moved_in(alloc, connection, made);
+        return move_tables(alloc, connection, made);
     }
     let (kept, known, _) = world_of(alloc, connection, made)?;
     Ok((kept, known, 0))
@@ -86,14 +86,14 @@ pub(crate) fn moved_world_in<S: Alter>(
 
 // The world whose rows the tables of schema 1 have, which are moved.
 #[tactic(auto, using(crate::proofs::OpeningLemmas::some_operators))]
-fn moved_in<S: Alter>(
+fn move_tables<S: Alter>(
     alloc: Global,
     connection: &mut Connection<S>,
-    made: Made,
-) -> Result<(Kept, Known, u32), OpenFault>
+    made: TablesPresent,
+) -> Result<(GhostWorld, Known, u32), OpenFault>
     requires part { Holds S.Store connection.old (IsMadeTo made) }
     requires rows { Holds S.Store connection.old (HasRowsOld made true) }
-    requires some { made ≢ Made.Nothing }
+    requires some { made ≢ TablesPresent.Nothing }
     requires settled { connection.old.in_transaction ≡ false }
     ensures begins { HasCleanDisk (state S.Store connection.new) → IfOk result (λ moved.
         (moved.2 ≡ told_count moved.0.world.plans)
@@ -114,15 +114,18 @@ fn moved_in<S: Alter>(
     ensures shield { (state S.Store connection.old).IsShielded
         → (state S.Store connection.new).IsShielded }
 {
-    let (content, known) = old_found_in(alloc, connection, made)?;
+    let (content, known) = load_old_tables(alloc, connection, made)?;
     make_whole(connection, made)?;
     rewrite(alloc, connection, &content.plans)?;
     let count = u32::try_from(content.plans.len()).unwrap_or(u32::MAX);
-    Ok((Kept::of(&content), known, count))
+    Ok((GhostWorld::of(&content), known, count))
 }
 
 // Makes what is missing of a desk's tables. The rows that there are stay.
-fn make_whole<S: Alter>(connection: &mut Connection<S>, made: Made) -> Result<(), OpenFault>
+fn make_whole<S: Alter>(
+    connection: &mut Connection<S>,
+    made: TablesPresent,
+) -> Result<(), OpenFault>
     requires part { Holds S.Store connection.old (IsMadeTo made) }
     requires settled { connection.old.in_transaction ≡ false }
     ensures done { HasCleanDisk (state S.Store connection.new) → IsTrue (state S.Store connection.new).is_open
@@ -131,7 +134,7 @@ fn make_whole<S: Alter>(connection: &mut Connection<S>, made: Made) -> Result<()
     ensures fault { IfErr result (λ e. (e ≢ OpenFault.NotADesk) × (e ≢ OpenFault.OldSchema)) }
     ensures over { IsOver S.Store connection.old connection.new }
 {
-    if made == Made::All {
+    if made == TablesPresent::All {
         return Ok(());
     }
     complete_tables(connection, made)?;
@@ -212,10 +215,10 @@ fn write_plan<S: Alter>(
 }
 
 /// The content whose rows the tables of schema 1 have, and what is known of its plans.
-pub(crate) fn old_found_in<S: Alter>(
+pub(crate) fn load_old_tables<S: Alter>(
     alloc: Global,
     connection: &mut Connection<S>,
-    made: Made,
+    made: TablesPresent,
 ) -> Result<(Content, Known), OpenFault>
     requires part { Holds S.Store connection.old (IsMadeTo made) }
     requires some { has_table made DeskTable.Operator ≡ true }
@@ -244,7 +247,7 @@ pub(crate) fn old_found_in<S: Alter>(
 fn are_new_empty<S: Alter>(
     alloc: Global,
     connection: &mut Connection<S>,
-    made: Made,
+    made: TablesPresent,
 ) -> Result<bool, OpenFault>
     requires part { Holds S.Store connection.old (IsMadeTo made) }
     requires settled { connection.old.in_transaction ≡ false }
@@ -273,7 +276,7 @@ fn are_empty(one: &[Row], two: &[Row], three: &[Row]) -> bool
 fn old_rows_in<S: Alter>(
     alloc: Global,
     connection: &mut Connection<S>,
-    made: Made,
+    made: TablesPresent,
 ) -> Result<TableRows, OpenFault>
     requires part { Holds S.Store connection.old (IsMadeTo made) }
     requires some { has_table made DeskTable.Operator ≡ true }
@@ -317,7 +320,7 @@ fn old_content_in(alloc: Global, rows: &TableRows) -> Result<(Content, Known), O
         return Err(OpenFault::NotADesk);
     }
     let known = Known {
-        lengths: lengths_in(&rows.spans),
+        span_bounds: lengths_in(&rows.spans),
         live: live_among(alloc, &content.plans)?,
         roll: roll_of(alloc, &content.operators, &content.plans)?,
     };

@@ -10,10 +10,10 @@ ghost use Rattle.desk_tables.specs.Leaving.{IsSettledAt};
 
 use crate::known::Known;
 use crate::opening::exact::RowFault;
-use crate::opening::finding::{made_in, world_in};
+use crate::opening::finding::{create_tables, load_world};
 use crate::opening::moving::moved_world_in;
 use crate::store::SqliteStore;
-use desk_sql::{Made, find_tables};
+use desk_sql::{TablesPresent, find_tables};
 use desk_store::StoreFault;
 use ram_disk::Ram;
 use sqlite::{Connection, ErrorCode, FileStore, Files, Options};
@@ -170,7 +170,7 @@ impl<S: Alter> SqliteStore<S> {
         ensures shield { IfOk result (λ store. (state S.Store connection).IsShielded
             → (state S.Store store.held).IsShielded) }
     {
-        match world_in(alloc, &mut connection) {
+        match load_world(alloc, &mut connection) {
             Ok((kept, known, is_enrolled)) => Ok(SqliteStore::with(
                 alloc,
                 connection,
@@ -268,10 +268,10 @@ fn over_blank<S: Alter + Drop>(
     requires settled { connection.in_transaction ≡ false }
     ensures { IfOk result (λ store. store.world ≡ record { operators = []; plans = [] }) }
 {
-    let Some(Made::Nothing) = find_tables(&mut connection)? else {
+    let Some(TablesPresent::Nothing) = find_tables(&mut connection)? else {
         return Err(OpenFault::Store);
     };
-    let kept = made_in(&mut connection)?;
+    let kept = create_tables(&mut connection)?;
     let known = Known::new(alloc);
     Ok(SqliteStore::with(
         alloc,

@@ -8,11 +8,11 @@ ghost use Rattle.desk_store.specs.World.{Filed};
 ghost use Rattle.desk_tables.specs.Content.{IsId, IsPlan};
 ghost use Rattle.desk_tables.specs.Reading as spec;
 ghost use Rattle.desk_tables.specs.Reading.{IsHead, listing_rows};
-ghost use Rattle.desk_tables.specs.Gathering.{Leads, HasGathered, HasNoArea, IsNoHead, IsUngathered, closed_plans, plan_with};
+ghost use Rattle.desk_tables.specs.Gathering.{Leads, HasCollected, HasNoArea, IsNoHead, IsUngathered, closed_plans, plan_with};
 
 use crate::reading::values::{Head, head_in, volume_in};
 use desk_rules::plan::PlanRow;
-use desk_sql::TakeRow;
+use desk_sql::RowSink;
 use desk_store::StoreFault;
 use sqlite::{Error, ErrorCode, Row};
 use sqlite_value::value::ValueRef;
@@ -22,7 +22,7 @@ use volume4d::{Area, Volume};
 
 /// The plans of a listing, as far as its rows were taken. The rows themselves are not kept.
 #[derive(Drop)]
-pub(crate) struct Gather {
+pub(crate) struct PlanCollector {
     alloc: Global,
     plans: Vec<PlanRow>,
     // the plan of the last row, whose volumes so far follow
@@ -30,12 +30,12 @@ pub(crate) struct Gather {
     volumes: Vec<Volume>,
 }
 
-impl Gather {
+impl PlanCollector {
     /// Of no row yet.
-    pub(crate) fn new(alloc: Global) -> Gather
-        ensures { HasGathered result.plans.items result.head result.volumes.items [] }
+    pub(crate) fn new(alloc: Global) -> PlanCollector
+        ensures { HasCollected result.plans.items result.head result.volumes.items [] }
     {
-        Gather {
+        PlanCollector {
             alloc,
             plans: Vec::new(alloc),
             head: None,
@@ -102,7 +102,7 @@ impl Gather {
     pub(crate) fn finish(mut self) -> Result<Vec<PlanRow>, StoreFault>
         ensures value { IfOk result (λ plans. (ps : List Filed)
             → AllByRecursion (λ p. IsPlan p.row) ps
-            → HasGathered self.plans.items self.head self.volumes.items (listing_rows ps)
+            → HasCollected self.plans.items self.head self.volumes.items (listing_rows ps)
             → plans.items ≡ map (λ p. p.row) ps) }
         ensures none { IfErr result (λ e. e ≡ StoreFault.Store →
             HasNoArea self.head self.volumes.items) }
@@ -112,13 +112,13 @@ impl Gather {
     }
 }
 
-impl TakeRow for Gather {
+impl RowSink for PlanCollector {
     ghost use Rattle.std.specs.Prelude.{◌≡◌, ◌⊎◌};
     ghost use Rattle.sqlite.specs.declared.error.Error.TheVariants.{SqliteFailure};
     ghost use Rattle.sqlite.specs.declared.error.ErrorCode.TheVariants.{OutOfMemory};
-    ghost use Rattle.desk_tables.specs.Gathering.{HasGathered, BeginNoListing};
+    ghost use Rattle.desk_tables.specs.Gathering.{HasCollected, BeginNoListing};
 
-    ghost has_taken = { λ g rows. HasGathered g.plans.items g.head g.volumes.items rows };
+    ghost has_taken = { λ g rows. HasCollected g.plans.items g.head g.volumes.items rows };
 
     ghost refuses = { λ taken row e. (e ≡ SqliteFailure OutOfMemory) ⊎ BeginNoListing taken row };
 

@@ -11,16 +11,16 @@ ghost use Rattle.desk_store.specs.Rivals.{AreHeldByOthers, HaveLevel};
 ghost use Rattle.desk_tables.specs.Causes.{BlamesSpans};
 ghost use Rattle.desk_tables.specs.Store.{Stands};
 ghost use Rattle.desk_tables.specs.Known.{Knows};
-ghost use Rattle.desk_tables.specs.Lengths.{Bounds, IsWithin};
-ghost use Rattle.desk_tables.specs.Rivals.{HaveTaken, HaveTakenAll, is_asked_of_others};
+ghost use Rattle.desk_tables.specs.SpanBounds.{Bounds, IsWithin};
+ghost use Rattle.desk_tables.specs.RivalRows.{HaveTaken, HaveTakenAll, is_asked_of_others};
 ghost use Rattle.desk_sql.specs.Frames.{OnlyReads};
 ghost use Rattle.desk_sql.specs.Rows.{tables_of};
 
-use crate::kept::Kept;
+use crate::kept::GhostWorld;
 use crate::known::Known;
-use crate::lengths::Lengths;
 use crate::reading::readers::held_by;
 use crate::reading::rivals::{Rivals, reach_from};
+use crate::span_bounds::SpanBounds;
 use desk_live::push_clipped;
 use desk_rules::operator::Operator;
 use desk_sql::other_spans;
@@ -41,7 +41,7 @@ use volume4d::{Held, Slab};
 pub(crate) fn held_by_others<S: Alter>(
     alloc: Global,
     connection: &mut Connection<S>,
-    kept: &Kept,
+    kept: &GhostWorld,
     operator: &Operator,
     extents: &[Slab],
     known: &Known,
@@ -55,7 +55,14 @@ pub(crate) fn held_by_others<S: Alter>(
     ensures reads { OnlyReads S.Store connection.old connection.new }
 {
     let regions = known.live.regions(alloc, operator, extents)?;
-    held_in(alloc, connection, kept, operator, &regions, &known.lengths)
+    held_in(
+        alloc,
+        connection,
+        kept,
+        operator,
+        &regions,
+        &known.span_bounds,
+    )
 }
 
 // What others hold in regions, and nothing else.
@@ -63,13 +70,13 @@ pub(crate) fn held_by_others<S: Alter>(
 fn held_in<S: Alter>(
     alloc: Global,
     connection: &mut Connection<S>,
-    kept: &Kept,
+    kept: &GhostWorld,
     operator: &Operator,
     regions: &[Slab],
-    lengths: &Lengths,
+    span_bounds: &SpanBounds,
 ) -> Result<Vec<Held>, StoreFault>
     requires stands { Stands S.Store connection.old kept.now.world }
-    requires bounded { Bounds lengths.now kept.now.world }
+    requires bounded { Bounds span_bounds.now kept.now.world }
     ensures value { HasCleanDisk (state S.Store connection.new) → IfOk result (λ helds.
         (x : Point) → top_held helds.items x
         ≡ cond (slabs_have regions.now x) (held kept.now.world operator.now x) None) }
@@ -79,7 +86,7 @@ fn held_in<S: Alter>(
 {
     let mut helds = Vec::new(alloc);
     for region in regions {
-        let more = others_in_tables(alloc, connection, kept, operator, region, lengths)?;
+        let more = others_in_tables(alloc, connection, kept, operator, region, span_bounds)?;
         push_clipped(&mut helds, &more, region)?;
     }
     Ok(helds)
@@ -89,20 +96,20 @@ fn held_in<S: Alter>(
 fn others_in_tables<S: Alter>(
     alloc: Global,
     connection: &mut Connection<S>,
-    kept: &Kept,
+    kept: &GhostWorld,
     operator: &Operator,
     extent: &Slab,
-    lengths: &Lengths,
+    span_bounds: &SpanBounds,
 ) -> Result<Vec<Held>, StoreFault>
     requires stands { Stands S.Store connection.old kept.now.world }
-    requires bounded { Bounds lengths.now kept.now.world }
+    requires bounded { Bounds span_bounds.now kept.now.world }
     ensures value { HasCleanDisk (state S.Store connection.new) → IfOk result (λ helds.
         HaveLevel extent.now helds.items (held kept.now.world operator.now)) }
     ensures cause { IfErr result (BlamesSpans S.Store connection.old connection.new) }
     ensures stands { Stands S.Store connection.new kept.now.world }
     ensures reads { OnlyReads S.Store connection.old connection.new }
 {
-    let questions = lengths.questions(alloc, extent)?;
+    let questions = span_bounds.questions(alloc, extent)?;
     asked_all(alloc, connection, kept, operator, extent, &questions)
 }
 
@@ -111,7 +118,7 @@ fn others_in_tables<S: Alter>(
 fn asked_all<S: Alter>(
     alloc: Global,
     connection: &mut Connection<S>,
-    kept: &Kept,
+    kept: &GhostWorld,
     operator: &Operator,
     extent: &Slab,
     questions: &[Span],
@@ -139,7 +146,7 @@ fn asked_all<S: Alter>(
 fn asked<S: Alter>(
     alloc: Global,
     connection: &mut Connection<S>,
-    kept: &Kept,
+    kept: &GhostWorld,
     operator: &Operator,
     extent: &Slab,
     question: &Span,

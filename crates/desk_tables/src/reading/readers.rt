@@ -12,22 +12,22 @@ ghost use Rattle.desk_store.specs.Rivals.{AreRivals};
 ghost use Rattle.desk_tables.specs.Tables.{plan_rows, volume_rows};
 ghost use Rattle.desk_tables.specs.Content.{IsBlock, IsContent, IsId, IsPlan};
 ghost use Rattle.desk_tables.specs.Reading.{IsHead, IsVolumeAt, listing_rows};
-ghost use Rattle.desk_tables.specs.Gathering.{HasGathered, HasNoArea};
+ghost use Rattle.desk_tables.specs.Gathering.{HasCollected, HasNoArea};
 ghost use Rattle.desk_tables.specs.Lookups.{own_of};
 ghost use Rattle.desk_tables.specs.Causes.{BlamesSpans, BlamesStore};
 ghost use Rattle.desk_tables.specs.Store.{Stands};
 ghost use Rattle.desk_tables.specs.Known.{Knows};
-ghost use Rattle.desk_tables.specs.Lengths.{Bounds, IsWithin};
-ghost use Rattle.desk_tables.specs.Rivals.{HaveTaken, HaveTakenAll, is_asked};
+ghost use Rattle.desk_tables.specs.SpanBounds.{Bounds, IsWithin};
+ghost use Rattle.desk_tables.specs.RivalRows.{HaveTaken, HaveTakenAll, is_asked};
 ghost use Rattle.desk_sql.specs.Frames.{OnlyReads};
 ghost use Rattle.desk_sql.specs.Rows.{tables_of};
 
-use crate::kept::Kept;
+use crate::kept::GhostWorld;
 use crate::known::Known;
-use crate::lengths::Lengths;
-use crate::reading::listing::Gather;
+use crate::reading::listing::PlanCollector;
 use crate::reading::rivals::{Rivals, reach_from};
 use crate::reading::values::{area_in, fault_of, plan_in};
+use crate::span_bounds::SpanBounds;
 use desk_rules::operator::Operator;
 use desk_rules::plan::PlanRow;
 use desk_rules::plan_id::PlanId;
@@ -44,9 +44,9 @@ use volume4d::{Held, Slab};
 /// # Errors
 ///
 /// `OutOfMemory` if memory runs out. `Store` if SQLite refuses the query for another cause.
-pub(crate) fn heads<S: Alter>(
+pub(crate) fn head_rows<S: Alter>(
     connection: &mut Connection<S>,
-    kept: &Kept,
+    kept: &GhostWorld,
     operator: &Operator,
     id: &PlanId,
 ) -> Result<Vec<Row>, StoreFault>
@@ -69,7 +69,7 @@ pub(crate) fn heads<S: Alter>(
 // The rows of `volume` of the operator's plan of the id, by place.
 fn volumes<S: Alter>(
     connection: &mut Connection<S>,
-    kept: &Kept,
+    kept: &GhostWorld,
     operator: &Operator,
     id: &PlanId,
 ) -> Result<Vec<Row>, StoreFault>
@@ -99,7 +99,7 @@ fn volumes<S: Alter>(
 pub(crate) fn plan<S: Alter>(
     alloc: Global,
     connection: &mut Connection<S>,
-    kept: &Kept,
+    kept: &GhostWorld,
     operator: &Operator,
     id: &PlanId,
 ) -> Result<Option<PlanRow>, StoreFault>
@@ -110,8 +110,8 @@ pub(crate) fn plan<S: Alter>(
     ensures stands { Stands S.Store connection.new kept.now.world }
     ensures reads { OnlyReads S.Store connection.old connection.new }
 {
-    let heads = heads(connection, kept, operator, id)?;
-    let Some(head) = heads.first() else {
+    let head_rows = head_rows(connection, kept, operator, id)?;
+    let Some(head) = head_rows.first() else {
         return Ok(None);
     };
     let rows = volumes(connection, kept, operator, id)?;
@@ -132,18 +132,18 @@ fn plan_of_rows(alloc: Global, head: &Row, rows: &[Row]) -> Result<PlanRow, Stor
 }
 
 // The plans of a listing, if it was taken to its end.
-fn gathered(taken: Result<(), Error>, gather: Gather) -> Result<Vec<PlanRow>, StoreFault>
+fn collected(taken: Result<(), Error>, collector: PlanCollector) -> Result<Vec<PlanRow>, StoreFault>
     ensures whole { OnOk result (IsOk taken) }
     ensures value { IfOk result (λ plans. (ps : List Filed)
         → AllByRecursion (λ p. IsPlan p.row) ps
-        → HasGathered gather.plans.items gather.head gather.volumes.items (listing_rows ps)
+        → HasCollected collector.plans.items collector.head collector.volumes.items (listing_rows ps)
         → plans.items ≡ map (λ p. p.row) ps) }
     ensures none { IfErr result (λ e. e ≡ StoreFault.Store →
         IfErr taken (λ error. error ≢ Error.SqliteFailure ErrorCode.OutOfMemory)
-        × OnOk taken (HasNoArea gather.head gather.volumes.items)) }
+        × OnOk taken (HasNoArea collector.head collector.volumes.items)) }
 {
     match taken {
-        Ok(()) => gather.finish(),
+        Ok(()) => collector.finish(),
         Err(e) => Err(fault_of(e)),
     }
 }
@@ -157,7 +157,7 @@ fn gathered(taken: Result<(), Error>, gather: Gather) -> Result<Vec<PlanRow>, St
 pub(crate) fn own_plans<S: Alter>(
     alloc: Global,
     connection: &mut Connection<S>,
-    kept: &Kept,
+    kept: &GhostWorld,
     operator: &Operator,
 ) -> Result<Vec<PlanRow>, StoreFault>
     requires { Stands S.Store connection.old kept.now.world }
@@ -171,9 +171,9 @@ pub(crate) fn own_plans<S: Alter>(
     ensures stands { Stands S.Store connection.new kept.now.world }
     ensures reads { OnlyReads S.Store connection.old connection.new }
 {
-    let mut gather = Gather::new(alloc);
-    let taken = own_listing(connection, operator.as_str(), &mut gather);
-    gathered(taken, gather)
+    let mut collector = PlanCollector::new(alloc);
+    let taken = own_listing(connection, operator.as_str(), &mut collector);
+    collected(taken, collector)
 }
 
 // The slabs of spans that were handed over, if all were.
@@ -193,7 +193,7 @@ pub(crate) fn held_by(handed: Result<(), Error>, rivals: Rivals) -> Result<Vec<H
 fn asked<S: Alter>(
     alloc: Global,
     connection: &mut Connection<S>,
-    kept: &Kept,
+    kept: &GhostWorld,
     operator: &Operator,
     id: &str,
     least: u32,
@@ -223,7 +223,7 @@ fn asked<S: Alter>(
 fn asked_all<S: Alter>(
     alloc: Global,
     connection: &mut Connection<S>,
-    kept: &Kept,
+    kept: &GhostWorld,
     operator: &Operator,
     id: &str,
     least: u32,
@@ -262,7 +262,7 @@ fn asked_all<S: Alter>(
 pub(crate) fn rivals<S: Alter>(
     alloc: Global,
     connection: &mut Connection<S>,
-    kept: &Kept,
+    kept: &GhostWorld,
     operator: &Operator,
     id: &PlanId,
     least: u32,
@@ -288,7 +288,7 @@ pub(crate) fn rivals<S: Alter>(
         id,
         least,
         extent,
-        &known.lengths,
+        &known.span_bounds,
     )
 }
 
@@ -298,15 +298,15 @@ pub(crate) fn rivals<S: Alter>(
 fn rivals_in_tables<S: Alter>(
     alloc: Global,
     connection: &mut Connection<S>,
-    kept: &Kept,
+    kept: &GhostWorld,
     operator: &Operator,
     id: &PlanId,
     least: u32,
     extent: &Slab,
-    lengths: &Lengths,
+    span_bounds: &SpanBounds,
 ) -> Result<Vec<Held>, StoreFault>
     requires stands { Stands S.Store connection.old kept.now.world }
-    requires bounded { Bounds lengths.now kept.now.world }
+    requires bounded { Bounds span_bounds.now kept.now.world }
     ensures value { HasCleanDisk (state S.Store connection.new) → IfOk result (λ helds.
         AreRivals kept.now.world operator.now id.now least extent.now helds.items) }
     ensures cause { IfErr result (BlamesSpans S.Store connection.old connection.new) }
@@ -315,7 +315,7 @@ fn rivals_in_tables<S: Alter>(
 {
     let mut buffer = [0u8; 36];
     let text = id.encode(&mut buffer);
-    let questions = lengths.questions(alloc, extent)?;
+    let questions = span_bounds.questions(alloc, extent)?;
     asked_all(
         alloc, connection, kept, operator, text, least, extent, &questions,
     )

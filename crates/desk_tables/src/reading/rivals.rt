@@ -3,13 +3,13 @@
 ghost use Rattle.std.specs.Prelude.{◌≡◌, ◌≢◌, ◌<◌, ◌*◌, ◌^◌, ℕ, pos, [], IfErr, IfOk};
 ghost use Rattle.sqlite_value.specs.declared.value.Value.TheVariants.{Int};
 ghost use Rattle.sqlite_value.specs.Order.{column};
-ghost use Rattle.desk_tables.specs.Rivals as spec;
+ghost use Rattle.desk_tables.specs.RivalRows as spec;
 ghost use Rattle.volume4d.specs.declared.slab.Held.{Held as One};
-ghost use Rattle.desk_tables.specs.Rivals.{FitsColumns, IsHeldIn, IsNoHeld, IsSlabIn, HasTakenHelds};
+ghost use Rattle.desk_tables.specs.RivalRows.{FitsColumns, IsHeldIn, IsNoHeld, IsSlabIn, HasTakenHelds};
 
 use crate::reading::listing::error_of;
 use crate::reading::values::{count_at, narrow_at, wide_at};
-use desk_sql::{Reach, TakeRow};
+use desk_sql::{RowSink, SpanQuery};
 use desk_store::StoreFault;
 use s2_cover::Span;
 use sqlite::{Error, Row};
@@ -43,11 +43,11 @@ impl Rivals {
     }
 }
 
-impl TakeRow for Rivals {
+impl RowSink for Rivals {
     ghost use Rattle.std.specs.Prelude.{◌≡◌, ◌⊎◌};
     ghost use Rattle.sqlite.specs.declared.error.Error.TheVariants.{SqliteFailure};
     ghost use Rattle.sqlite.specs.declared.error.ErrorCode.TheVariants.{OutOfMemory};
-    ghost use Rattle.desk_tables.specs.Rivals.{HasTakenHelds, IsNoHeld};
+    ghost use Rattle.desk_tables.specs.RivalRows.{HasTakenHelds, IsNoHeld};
 
     ghost has_taken = { λ r rows. HasTakenHelds r.helds.items rows };
 
@@ -63,10 +63,10 @@ impl TakeRow for Rivals {
 }
 
 /// The spans that may hold a point of an extent, of a priority at least.
-pub(crate) fn reach_of(extent: &Slab, least: u32) -> Reach
+pub(crate) fn reach_of(extent: &Slab, least: u32) -> SpanQuery
     ensures { result ≡ spec.reach_of extent.now least }
 {
-    Reach {
+    SpanQuery {
         first: extent.first as i64,
         last: extent.last as i64,
         lower: i64::from(extent.lower),
@@ -78,7 +78,7 @@ pub(crate) fn reach_of(extent: &Slab, least: u32) -> Reach
 }
 
 /// Of these only those that begin at the leaves that a question is for.
-pub(crate) fn reach_from(question: &Span, extent: &Slab, least: u32) -> Reach
+pub(crate) fn reach_from(question: &Span, extent: &Slab, least: u32) -> SpanQuery
     requires { question.now.last < 6 * 2 ^ 60 }
     ensures { result ≡ spec.reach_from question.now extent.now least }
 {

@@ -1,6 +1,6 @@
 use Rattle.std.proofs.Common.{◌∙◌, ◌++◌, ◌∷◌, [], ap, sym, arith, take}
 use Rattle.std.proofs.lemmas.List.{take_more}
-use Rattle.desk_store.specs.Faults.{IsHonest}
+use Rattle.desk_store.specs.StoreFaults.{IsHonest}
 use Rattle.desk_store.specs.laws.Fault.{was_honest}
 use Rattle.desk_run.specs.DeskWorld.{enrolled, world_of}
 use Rattle.desk_program.specs.Enrolling.{with_operators}

@@ -1,6 +1,6 @@
 use Rattle.std.proofs.Common.{Option, OnErr, subst}
 use Rattle.desk_store.specs.World.{World}
-use Rattle.desk_store.specs.Faults.{IsHonest}
+use Rattle.desk_store.specs.StoreFaults.{IsHonest}
 use Rattle.desk_run.specs.DeskWorld.{IsSettled, world_of}
 use Rattle.desk_program.specs.Keeping.{AreKeptSoFar}
 use Rattle.desk_program.proofs.program.set_up.Goals as goal

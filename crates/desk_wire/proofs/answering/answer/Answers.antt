@@ -1,7 +1,7 @@
 use Rattle.std.proofs.Common.{ap, w64}
 use Rattle.std.proofs.lemmas.Int.{to_z-of_z}
 use Rattle.desk_reading.specs.Messages.{message_read}
-use Rattle.desk_store.specs.Faults.{IsHonest}
+use Rattle.desk_store.specs.StoreFaults.{IsHonest}
 use Rattle.desk_run.specs.laws.Crash.{old_or_changed}
 use Rattle.desk_run.specs.DeskWorld.{world_of}
 use Rattle.desk_wire.proofs.BytesLemmas.{answered_so, left_read}

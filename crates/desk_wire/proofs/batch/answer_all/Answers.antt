@@ -7,7 +7,7 @@ use Rattle.desk_wire.specs.AllAnswers.{AreBroken}
 use Rattle.desk_wire.proofs.MomentLemmas.{moment_at, is_moment_at, same_moment}
 use Rattle.desk_wire.specs.declared.batch.AnswersEnd.TheVariants.{All, Broken, NoMemory}
 use Rattle.desk_wire.proofs.GivenLemmas.{given_quiet}
-use Rattle.desk_wire.specs.Kept.{IsFoundIn}
+use Rattle.desk_wire.specs.Crashes.{IsFoundIn}
 use Rattle.desk_wire.specs.Causes.{IsLast}
 use Rattle.desk_wire.proofs.CauseLemmas.{failed_there, last_said, not_none, risen_since}
 use Rattle.desk_wire.proofs.AllLemmas.{HaveAnswers, one_answered, cut_answered, all_answered, done_so, failed_so}

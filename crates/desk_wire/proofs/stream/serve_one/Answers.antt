@@ -2,11 +2,11 @@ use Rattle.std.proofs.Common.{◌<◌, ◌++◌, IfSome, Ok, w64, refl, sym, ap,
 use Rattle.std.specs.Result.{is_ok}
 use Rattle.std.proofs.lemmas.Int.{to_z-of_z}
 use Rattle.desk_reading.specs.Messages.{message_read}
-use Rattle.desk_store.specs.Faults.{IsHonest}
+use Rattle.desk_store.specs.StoreFaults.{IsHonest}
 use Rattle.desk_run.specs.DeskWorld.{world_of}
 use Rattle.desk_wire.specs.Streams.{front_read, front_reading, size_said, with_body}
 use Rattle.desk_wire.proofs.FrontLemmas.{some_count, told_cut_body}
-use Rattle.desk_wire.specs.Kept.{IsCertain}
+use Rattle.desk_wire.specs.Crashes.{IsCertain}
 use Rattle.desk_wire.specs.Serving.{IsTaken}
 use Rattle.desk_wire.proofs.KeptLemmas.{found_answered, found_failed, if_some_all, left_served, no_failure, uncertain_memory, uncertain_write, unsure_500}
 use Rattle.std.specs.Io.KnownBytes.{Appends}

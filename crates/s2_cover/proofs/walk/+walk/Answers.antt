@@ -18,11 +18,11 @@ returns-in_err-keep-in-Inside-clause-err t c =
     c.in-Inside.ensures.saw.saw in
     let fault = c.in_err-keep-in-Inside.field-0.0 in
     let stopped =
-    stopped_full set c.args.limit (first_position square) (square_id square) c.look.new.looked _
+    stopped_full set c.args.limit (first_position square) (square_id square) c.compare.new.looked _
     c.args.cells.now.items
     fault c.requires.laid largest block.begins (omega
-    (arith, c.requires.counted, c.look.ensures.counted))
-    (omega (arith, c.look.ensures.counted)) c.in_err-keep-in-Inside.ensures.full in
+    (arith, c.requires.counted, c.compare.ensures.counted))
+    (omega (arith, c.compare.ensures.counted)) c.in_err-keep-in-Inside.ensures.full in
     if_err c.from_residual.result fault _ c.from_residual.ensures.1 stopped
 
 pub loop-k-init : goal.loop-k-init
@@ -32,7 +32,7 @@ loop-k-init t c =
     let levels = c.args.wide.now.level - square.level - 1 in
     let most = 60 - 2 * (square.level + 1) in
     subst (IsWalking (wide_set c.args.wide.now) levels c.args.limit most (first_position square)
-    (leaf_count (square.level + 1)) 0 cells cells c.args.looked.now) (sym c.look.ensures.counted)
+    (leaf_count (square.level + 1)) 0 cells cells c.args.looked.now) (sym c.compare.ensures.counted)
     (walking_begins (wide_set c.args.wide.now) levels c.args.limit most (first_position square)
     (leaf_count (square.level + 1)) c.args.looked.now cells c.requires.laid c.requires.few
     c.requires.counted)
@@ -150,7 +150,7 @@ returns-in-Outside-clause-ok t c =
     subst (HasWalked set levels c.args.limit (first_position square) (last_position square + 1) cells
     cells
     c.args.looked.now)
-    (sym c.look.ensures.counted)
+    (sym c.compare.ensures.counted)
     (walked_outside set levels c.args.limit (first_position square) (last_position square)
     c.args.looked.now
     cells
@@ -170,7 +170,7 @@ returns-in_ok-keep-in-Inside-clause-ok t c =
     let P : List ℕ → ℕ → Type 0 = λ after new.
     HasWalked set levels c.args.limit (first_position square) (last_position square + 1) cells after
     c.args.looked.now new in
-    subst (λ new. P c.keep.new.cells.items new) (sym c.look.ensures.counted)
+    subst (λ new. P c.keep.new.cells.items new) (sym c.compare.ensures.counted)
     (subst (λ after. P after (c.args.looked.now + 1)) (sym told.kept)
     (walked_inside set levels c.args.limit square.level (first_position square) (square_id square)
     c.args.looked.now

@@ -16,16 +16,16 @@ returns-then-is_after g c =
 
 pub loop-item-preserved : goal.loop-item-preserved
 loop-item-preserved g c =
-    let lanes = c.loop-item.lanes in
-    let more = c.take_in.new.lanes in
+    let active = c.loop-item.active in
+    let more = c.take_in.new.active in
     let left = c.loop-item.left.now in
     let rest = c.split_at.result.1.now in
     let count = c.in-Some.count in
     let next = c.first_on.result in
     sweep_goes_on g.T.Placed.slab_of c.args.mine.now c.args.theirs.now c.loop-item.item-index count
-    c.item-item.result lanes left more rest c.loop-item.first next c.earlier-first.result
+    c.item-item.result active left more rest c.loop-item.first next c.earlier-first.result
     c.loop-item-test.true c.item-item.is c.requires.theirs c.loop-item.invariant
-    (subst (λ s. Adds s.first lanes (slabs_have (take count left)) more) c.slab-other.ensures
+    (subst (λ s. Adds s.first active (slabs_have (take count left)) more) c.slab-other.ensures
     c.in-Some.ensures.adds)
     c.split_at.ensures.back
     (subst (λ s. IsFirstPoint (λ x. (slabs_have more x || slabs_have rest x) && slab_has s x) next)

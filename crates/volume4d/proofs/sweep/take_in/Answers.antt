@@ -6,6 +6,6 @@ pub loop-slab-preserved : goal.loop-slab-preserved
 loop-slab-preserved c = (
   ap (λ n. n + 1) c.loop-slab.invariant.0,
   one_more_taken c.args.position c.loop-slab.slab-index c.args.left.now c.slab-item.result
-      c.args.lanes.now c.loop-slab.lanes c.put.new.lanes c.loop-slab-test.true c.slab-item.is
+      c.args.active.now c.loop-slab.active c.put.new.active c.loop-slab-test.true c.slab-item.is
       c.loop-slab.invariant.1 (c.if-not-put.ensures refl),
 )

@@ -3,7 +3,7 @@ use Rattle.std.specs.List.{All}
 use Rattle.volume4d.specs.Bounds.{IsFilled}
 use Rattle.volume4d.specs.Sweep.{Ascend}
 use Rattle.volume4d.specs.Meeting.{Spot}
-use Rattle.desk_store.specs.Faults.{IsHonest}
+use Rattle.desk_store.specs.StoreFaults.{IsHonest}
 use Rattle.desk_store.specs.Crashes.{LeavesNoMore}
 use Rattle.desk_run.specs.Clusters.{IsFirstAmong}
 use Rattle.desk_run.proofs.pending.conflict.first_among.Given as goal

@@ -8,8 +8,8 @@ use Rattle.desk_sql.proofs.HandLemmas.{cut_short_of}
 use Rattle.desk_sql.proofs.TakingLemmas.{handed_as}
 use Rattle.desk_sql.proofs.reading.rivals.rival_spans.Goals as goal
 
-pub hand_over-requires-clause-given : goal.hand_over-requires-clause-given
-hand_over-requires-clause-given g c =
+pub for_each_row-requires-clause-given : goal.for_each_row-requires-clause-given
+for_each_row-requires-clause-given g c =
     let reach = c.args.reach in
     let last : owned c.params-to_sql.result ≡ Int reach.last =
     search (rules, ints, to_z-of_z, c.params-to_sql.ensures) in
@@ -46,8 +46,8 @@ returns-clause-value g c clean =
     let wanted = map held_columns
     (filter (is_wanted c.args.operator.now c.args.id.now c.args.reach c.args.low)
     (tables_of (state g.S.Store c.args.connection.now).now.trees).spans) in
-    handed_as (Lists (0 ∷ []) wanted) (IsPermutation wanted) (g.T.TakeRow.has_taken c.hand_over.new.taker)
-    (λ rows lists. lists.same) c.hand_over.result (rw same at (c.hand_over.ensures.value clean))
+    handed_as (Lists (0 ∷ []) wanted) (IsPermutation wanted) (g.T.RowSink.has_taken c.for_each_row.new.taker)
+    (λ rows lists. lists.same) c.for_each_row.result (rw same at (c.for_each_row.ensures.value clean))
 
 pub returns-clause-cause : goal.returns-clause-cause
 returns-clause-cause g c clean live =
@@ -55,6 +55,6 @@ returns-clause-cause g c clean live =
     let wanted = map held_columns
     (filter (is_wanted c.args.operator.now c.args.id.now c.args.reach c.args.low)
     (tables_of (state g.S.Store c.args.connection.now).now.trees).spans) in
-    cut_short_of g.S.Store c.args.connection.now c.hand_over.new.connection (Lists (0 ∷ []) wanted)
-    (IsPermutation wanted) g.T.TakeRow.refuses (λ rows lists. lists.same) c.hand_over.result
-    (rw same at (c.hand_over.ensures.cause clean live))
+    cut_short_of g.S.Store c.args.connection.now c.for_each_row.new.connection (Lists (0 ∷ []) wanted)
+    (IsPermutation wanted) g.T.RowSink.refuses (λ rows lists. lists.same) c.for_each_row.result
+    (rw same at (c.for_each_row.ensures.cause clean live))

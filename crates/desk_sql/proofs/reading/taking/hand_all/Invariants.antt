@@ -8,5 +8,5 @@ invariant-loop g l =
     (l.rows.conn.ghost_name ≡ l.fn.rows.conn.ghost_name)
     × (l.fn.rows.conn.now.in_transaction ≡ false → l.rows.conn.now.in_transaction ≡ false)
     × Remembers g.S.Store l.fn.rows.conn.now l.rows.conn.now
-    × IsUnderWay g.S.Store l.fn.rows.conn.now l.rows.conn.now (g.T.TakeRow.has_taken l.fn.taker)
-    (g.T.TakeRow.has_taken l.taker) l.counter
+    × IsUnderWay g.S.Store l.fn.rows.conn.now l.rows.conn.now (g.T.RowSink.has_taken l.fn.taker)
+    (g.T.RowSink.has_taken l.taker) l.counter

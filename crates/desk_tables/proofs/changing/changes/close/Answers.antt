@@ -14,107 +14,109 @@ use Rattle.desk_tables.proofs.changing.changes.close.Goals as goal
 
 pub returns-in-Ok-clause-ok : goal.returns-in-Ok-clause-ok
 returns-in-Ok-clause-ok g c =
-    let old = c.heads.new.connection in
+    let old = c.head_rows.new.connection in
     let new = c.close_plan.new.connection in
     let operator = c.args.operator.now in
     let priority = c.in_ok-priority.priority in
     let aircraft = c.in_ok-priority.aircraft in
     let first = some_first c.deref.result.now c.in-Some.head.now c.in-Some.ensures.value in
-    stands_closed g.S.Store old new c.args.kept.now.world c.heads.ensures.stands c.in-Ok.ensures.over.mode
+    stands_closed g.S.Store old new c.args.kept.now.world c.head_rows.ensures.stands c.in-Ok.ensures.over.mode
     c.in-Ok.ensures.over.doubt operator c.args.id.now priority aircraft
-    c.in_ok-heads.heads.items first.0 c.in-Some.head.now
+    c.in_ok-head_rows.head_rows.items first.0 c.in-Some.head.now
     (parsed_id c.encode-text.result.now c.args.id.now c.encode-text.ensures.parsed)
     c.in_ok-priority.ensures.priority c.in_ok-priority.ensures.aircraft
-    (λ clean. (c.in_ok-heads.ensures.value (omega (arith, c.in-Ok.ensures.over.doubt, clean))).1)
+    (λ clean. (c.in_ok-head_rows.ensures.value (omega (arith, c.in-Ok.ensures.over.doubt, clean))).1)
     (sym c.deref.ensures.value ∙ first.1)
     (λ clean. subst (λ text. Commits g.S.Store old new (ClosesPlan operator text priority aircraft))
     c.encode-text.ensures.text
     (subst (λ name. Commits g.S.Store old new (ClosesPlan name c.encode-text.result.now priority aircraft))
     c.as_str.ensures.value (c.in-Ok.ensures.done clean)))
-    (λ clean. c.requires.fits (omega (arith, c.heads.ensures.reads.doubt, clean)))
+    (λ clean. c.requires.fits (omega (arith, c.head_rows.ensures.reads.doubt, clean)))
 
 pub returns-in-Ok-clause-crash : goal.returns-in-Ok-clause-crash
 returns-in-Ok-clause-crash g c =
-    let old = c.heads.new.connection in
+    let old = c.head_rows.new.connection in
     let new = c.close_plan.new.connection in
     let operator = c.args.operator.now in
     let priority = c.in_ok-priority.priority in
     let aircraft = c.in_ok-priority.aircraft in
     let first = some_first c.deref.result.now c.in-Some.head.now c.in-Some.ensures.value in
     left_before g.S.Store c.args.connection.now old new _ c.close_plan.ensures.over.doubt
-    c.heads.ensures.reads.spared (left_closed g.S.Store old new c.args.kept.now.world
-    c.heads.ensures.stands c.close_plan.ensures.over.doubt operator
-    c.args.id.now priority aircraft c.in_ok-heads.heads.items first.0 c.in-Some.head.now
+    c.head_rows.ensures.reads.spared (left_closed g.S.Store old new c.args.kept.now.world
+    c.head_rows.ensures.stands c.close_plan.ensures.over.doubt operator
+    c.args.id.now priority aircraft c.in_ok-head_rows.head_rows.items first.0 c.in-Some.head.now
     (parsed_id c.encode-text.result.now c.args.id.now c.encode-text.ensures.parsed)
     c.in_ok-priority.ensures.priority c.in_ok-priority.ensures.aircraft
-    (λ clean. (c.in_ok-heads.ensures.value (omega (arith, c.close_plan.ensures.over.doubt, clean))).1)
+    (λ clean. (c.in_ok-head_rows.ensures.value (omega (arith, c.close_plan.ensures.over.doubt, clean))).1)
     (sym c.deref.ensures.value ∙ first.1)
     (subst (λ text. MayMake g.S.Store old new (ClosesPlan operator text priority aircraft))
     c.encode-text.ensures.text
     (subst (λ name. MayMake g.S.Store old new
     (ClosesPlan name c.encode-text.result.now priority aircraft))
     c.as_str.ensures.value c.close_plan.ensures.crash))
-    (λ clean. c.requires.fits (omega (arith, c.heads.ensures.reads.doubt, clean))))
+    (λ clean. c.requires.fits (omega (arith, c.head_rows.ensures.reads.doubt, clean))))
 
 pub returns-clause-crash : goal.returns-clause-crash
 returns-clause-crash g c =
-    let old = c.heads.new.connection in
+    let old = c.head_rows.new.connection in
     let new = c.close_plan.new.connection in
     let operator = c.args.operator.now in
     let priority = c.in_ok-priority.priority in
     let aircraft = c.in_ok-priority.aircraft in
     let first = some_first c.deref.result.now c.in-Some.head.now c.in-Some.ensures.value in
     left_before g.S.Store c.args.connection.now old new _ c.close_plan.ensures.over.doubt
-    c.heads.ensures.reads.spared (left_closed g.S.Store old new c.args.kept.now.world
-    c.heads.ensures.stands c.close_plan.ensures.over.doubt operator
-    c.args.id.now priority aircraft c.in_ok-heads.heads.items first.0 c.in-Some.head.now
+    c.head_rows.ensures.reads.spared (left_closed g.S.Store old new c.args.kept.now.world
+    c.head_rows.ensures.stands c.close_plan.ensures.over.doubt operator
+    c.args.id.now priority aircraft c.in_ok-head_rows.head_rows.items first.0 c.in-Some.head.now
     (parsed_id c.encode-text.result.now c.args.id.now c.encode-text.ensures.parsed)
     c.in_ok-priority.ensures.priority c.in_ok-priority.ensures.aircraft
-    (λ clean. (c.in_ok-heads.ensures.value (omega (arith, c.close_plan.ensures.over.doubt, clean))).1)
+    (λ clean. (c.in_ok-head_rows.ensures.value (omega (arith, c.close_plan.ensures.over.doubt, clean))).1)
     (sym c.deref.ensures.value ∙ first.1)
     (subst (λ text. MayMake g.S.Store old new (ClosesPlan operator text priority aircraft))
     c.encode-text.ensures.text
     (subst (λ name. MayMake g.S.Store old new
     (ClosesPlan name c.encode-text.result.now priority aircraft))
     c.as_str.ensures.value c.close_plan.ensures.crash))
-    (λ clean. c.requires.fits (omega (arith, c.heads.ensures.reads.doubt, clean))))
+    (λ clean. c.requires.fits (omega (arith, c.head_rows.ensures.reads.doubt, clean))))
 
 -- why it is refused
-pub returns-in_err-heads-clause-cause : goal.returns-in_err-heads-clause-cause
-returns-in_err-heads-clause-cause g c low =
-    on_err c.from_residual.result c.in_err-heads.field-0.0
-    (BlamesStore g.S.Store c.args.connection.now c.heads.new.connection) c.from_residual.ensures.1
-    c.in_err-heads.ensures.cause
+pub returns-in_err-head_rows-clause-cause : goal.returns-in_err-head_rows-clause-cause
+returns-in_err-head_rows-clause-cause g c low =
+    on_err c.from_residual.result c.in_err-head_rows.field-0.0
+    (BlamesStore g.S.Store c.args.connection.now c.head_rows.new.connection) c.from_residual.ensures.1
+    c.in_err-head_rows.ensures.cause
 
 pub returns-in_default-clause-cause : goal.returns-in_default-clause-cause
 returns-in_default-clause-cause g c low clean live is =
-    let heads = c.in_ok-heads.ensures.value clean in
+    let head_rows = c.in_ok-head_rows.ensures.value clean in
     absurd (closed_stored c.args.operator.now c.args.id.now c.args.kept.now.world
-    (c.requires.fits (omega (arith, c.heads.ensures.reads.doubt, clean)))
-    (none_stored c.args.operator.now c.args.id.now c.args.kept.now.world c.in_ok-heads.heads.items heads.1
+    (c.requires.fits (omega (arith, c.head_rows.ensures.reads.doubt, clean)))
+    (none_stored c.args.operator.now c.args.id.now c.args.kept.now.world
+    c.in_ok-head_rows.head_rows.items head_rows.1
     (sym c.deref.ensures.value ∙ none_first c.deref.result.now c.in_default.ensures.value)))
 
 pub returns-in_err-priority-clause-cause : goal.returns-in_err-priority-clause-cause
 returns-in_err-priority-clause-cause g c low =
     on_err c.from_residual-in_err-priority.result c.in_err-priority.field-0.0
-    (BlamesStore g.S.Store c.args.connection.now c.heads.new.connection)
+    (BlamesStore g.S.Store c.args.connection.now c.head_rows.new.connection)
     c.from_residual-in_err-priority.ensures.1 (λ clean live is.
-    (let heads = c.in_ok-heads.ensures.value clean in
+    (let head_rows = c.in_ok-head_rows.ensures.value clean in
     let first = some_first c.deref.result.now c.in-Some.head.now c.in-Some.ensures.value in
-    let it = head_reads c.args.operator.now c.args.id.now c.args.kept.now.world c.in_ok-heads.heads.items
-    first.0 c.in-Some.head.now heads.0 heads.1 (sym c.deref.ensures.value ∙ first.1) in
+    let it = head_reads c.args.operator.now c.args.id.now c.args.kept.now.world
+    c.in_ok-head_rows.head_rows.items
+    first.0 c.in-Some.head.now head_rows.0 head_rows.1 (sym c.deref.ensures.value ∙ first.1) in
     absurd (c.in_err-priority.ensures.none is it.0 it.1 it.2)))
 
 pub returns-clause-cause : goal.returns-clause-cause
 returns-clause-cause g c low clean live =
     let before = c.in-Err.ensures.kept clean live in
-    let mid = c.heads.new.connection in
+    let mid = c.head_rows.new.connection in
     let here : AreLow ((state g.S.Store mid).now.trees 2) =
     subst (λ (db : _). AreLow (db.trees 2))
-    (sym (c.heads.ensures.reads.kept (omega (arith, c.close_plan.ensures.over.doubt, clean))
+    (sym (c.head_rows.ensures.reads.kept (omega (arith, c.close_plan.ensures.over.doubt, clean))
     before.was_open).now) low in
     blamed_since g.S.Store c.args.connection.now mid c.close_plan.new.connection c.fault_of.result
-    c.heads.ensures.reads.faults c.heads.ensures.reads.limit
+    c.head_rows.ensures.reads.faults c.head_rows.ensures.reads.limit
     (blamed g.S.Store mid c.close_plan.new.connection c.in-Err.e c.fault_of.result c.fault_of.ensures
     (c.in-Err.ensures.cause
     (subst IsShort (sym c.as_str.ensures.value) (name_short _ c.as_str.ensures.valid))

@@ -1,6 +1,6 @@
 use Rattle.std.proofs.Common.{sym, subst}
 use Rattle.desk_store.specs.StoreChange.{IsFitting}
-use Rattle.desk_tables.specs.Lengths.{BringsKnown}
+use Rattle.desk_tables.specs.SpanBounds.{BringsKnown}
 use Rattle.desk_tables.proofs.AfterLemmas.{fits_low}
 use Rattle.desk_tables.proofs.StoreLemmas.{weaker}
 use Rattle.desk_tables.proofs.changing.changes.make.Goals as goal
@@ -21,14 +21,14 @@ returns-in-Put-clause-known g c =
 pub returns-in_ok-enrol-in-Enrol-clause-known : goal.returns-in_ok-enrol-in-Enrol-clause-known
 unfolding BringsKnown
 returns-in_ok-enrol-in-Enrol-clause-known g c =
-    (λ span was. was, subst (BringsKnown c.args.lengths.now) (sym c.in-Enrol.is) tt)
+    (λ span was. was, subst (BringsKnown c.args.span_bounds.now) (sym c.in-Enrol.is) tt)
 
 pub returns-in_ok-close-in-Close-clause-known : goal.returns-in_ok-close-in-Close-clause-known
 unfolding BringsKnown
 returns-in_ok-close-in-Close-clause-known g c =
-    (λ span was. was, subst (BringsKnown c.args.lengths.now) (sym c.in-Close.is) tt)
+    (λ span was. was, subst (BringsKnown c.args.span_bounds.now) (sym c.in-Close.is) tt)
 
 pub returns-in_ok-clear-in-Clear-clause-known : goal.returns-in_ok-clear-in-Clear-clause-known
 unfolding BringsKnown
 returns-in_ok-clear-in-Clear-clause-known g c =
-    (λ span was. was, subst (BringsKnown c.args.lengths.now) (sym c.in-Clear.is) tt)
+    (λ span was. was, subst (BringsKnown c.args.span_bounds.now) (sym c.in-Clear.is) tt)

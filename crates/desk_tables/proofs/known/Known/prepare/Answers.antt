@@ -2,7 +2,7 @@ use Rattle.desk_tables.proofs.known.Known.prepare.Goals as goal
 
 pub returns-clause-kept : goal.returns-clause-kept
 returns-clause-kept c = λ w was. record {
-  lengths = was.lengths;
+  span_bounds = was.span_bounds;
   live = c.prepare-2.ensures.kept w was.live;
   roll = c.prepare.ensures.kept w was.roll;
 }

@@ -9,7 +9,7 @@ use Rattle.desk_tables.proofs.opening.copying.store_of.Goals as goal
 
 pub with-requires-clause-stands : goal.with-requires-clause-stands
 with-requires-clause-stands g c =
-    let a = c.made_in.new.connection in
+    let a = c.create_tables.new.connection in
     let b = c.fill.new.connection in
     let one = c.deref.ensures.value ∙ ap (λ (w : World). w.operators) c.content.view_is in
     let two = c.deref-2.ensures.value ∙ ap (λ (w : World). w.plans) c.content.view_is in
@@ -17,7 +17,7 @@ with-requires-clause-stands g c =
     λ i. record { operators = one i; plans = two i } in
     subst (Stands g.S.Store b) (sym c.of-kept.ensures)
     (written_stands g.S.Store a b c.args.content.now
-    (subst (Stands g.S.Store a) c.in_ok-made_in.ensures.empty c.in_ok-made_in.ensures.stands)
+    (subst (Stands g.S.Store a) c.in_ok-create_tables.ensures.empty c.in_ok-create_tables.ensures.stands)
     c.in_ok-fill.ensures.over.mode c.in_ok-fill.ensures.over.doubt c.requires.content
     (λ clean. subst (λ w. Commits g.S.Store a b (AddsWorldRows w)) is (c.in_ok-fill.ensures.done clean)))
 

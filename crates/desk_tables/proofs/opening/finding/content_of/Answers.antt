@@ -2,11 +2,11 @@ use Rattle.std.proofs.Common.{◌∙◌, ap, sym, subst, true≢false}
 use Rattle.std.specs.List.{AllByRecursion}
 use Rattle.desk_sql.specs.Rows.{Tables}
 use Rattle.desk_live.specs.Roll.{AreAccountsOf, accounts_of}
-use Rattle.desk_tables.specs.Lengths.{IsKnownRow}
+use Rattle.desk_tables.specs.SpanBounds.{IsKnownRow}
 use Rattle.desk_tables.specs.Tables.{cover_rows}
 use Rattle.desk_store.specs.World.{World}
 use Rattle.desk_tables.proofs.CoverLemmas.{no_covers}
-use Rattle.desk_tables.proofs.LengthLemmas.{bounds_of}
+use Rattle.desk_tables.proofs.SpanBoundLemmas.{bounds_of}
 use Rattle.desk_tables.proofs.opening.finding.content_of.Goals as goal
 
 pub returns-clause-bounded : goal.returns-clause-bounded
@@ -17,7 +17,7 @@ returns-clause-bounded c =
     let again = c.deref-6.ensures.value ∙ ap (λ (w : World). w.plans) c.content.view_is in
     let content = c.in_ok-content.content in
     record {
-      lengths = bounds_of c.one_list_of_ranges.ensures c.lengths_in.result content c.args.rows.now.spans
+      span_bounds = bounds_of c.one_list_of_ranges.ensures c.lengths_in.result content c.args.rows.now.spans
           c.in_ok-content.ensures.ok.1.span_part
           (subst (AllByRecursion (IsKnownRow c.lengths_in.result)) spans c.lengths_in.ensures);
       live = c.in_ok-live_among.ensures content c.in_ok-content.ensures.ok.0.world.plans (sym plans);

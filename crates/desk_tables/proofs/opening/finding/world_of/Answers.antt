@@ -1,5 +1,5 @@
 use Rattle.std.proofs.Common.{inl, rules}
-use Rattle.desk_sql.specs.declared.opening.finding.Made.TheVariants.{All}
+use Rattle.desk_sql.specs.declared.opening.finding.TablesPresent.TheVariants.{All}
 use Rattle.desk_sql.specs.Finding.{Holds}
 use Rattle.desk_sql.specs.Rows.{IsMadeTo}
 use Rattle.desk_tables.specs.Opening.{BlamesDatabase, HasNewRows}
@@ -7,34 +7,36 @@ use Rattle.desk_tables.proofs.FrameLemmas.{reads_itself}
 use Rattle.desk_tables.proofs.OpeningLemmas.{none_of, begins_found, begins_completed, kept_on_err, found_stands, blames_more, told_as}
 use Rattle.desk_tables.proofs.opening.finding.world_of.Goals as goal
 
-pub returns-in_err-made_in-in-Nothing-clause-cause : goal.returns-in_err-made_in-in-Nothing-clause-cause
-returns-in_err-made_in-in-Nothing-clause-cause g c =
-    told_as (BlamesDatabase g.S.Store c.args.connection.now c.made_in.new.connection) c.from_residual.result _
+pub returns-in_err-create_tables-in-Nothing-clause-cause :
+    goal.returns-in_err-create_tables-in-Nothing-clause-cause
+returns-in_err-create_tables-in-Nothing-clause-cause g c =
+    told_as (BlamesDatabase g.S.Store c.args.connection.now c.create_tables.new.connection)
+    c.from_residual.result _
     c.from_residual.ensures.1
-    (λ clean live told. inl (c.in_err-made_in-in-Nothing.ensures.cause clean live told))
+    (λ clean live told. inl (c.in_err-create_tables-in-Nothing.ensures.cause clean live told))
 
 pub returns-in-All-clause-stands : goal.returns-in-All-clause-stands
 returns-in-All-clause-stands g c =
     let whole : Holds g.S.Store c.args.connection.now (IsMadeTo All) = search rules in
-    found_stands g.S.Store (λ found. found.0.world) c.found_in.result c.args.connection.now
-    c.found_in.new.connection whole c.found_in.ensures.reads c.found_in.ensures.value
+    found_stands g.S.Store (λ found. found.0.world) c.load_tables.result c.args.connection.now
+    c.load_tables.new.connection whole c.load_tables.ensures.reads c.load_tables.ensures.value
 
 pub returns-in-All-clause-begins : goal.returns-in-All-clause-begins
 returns-in-All-clause-begins g c =
     let old = c.args.connection.now in
-    begins_found g.S.Store (λ found. found.0.world) c.found_in.result old old c.found_in.new.connection
+    begins_found g.S.Store (λ found. found.0.world) c.load_tables.result old old c.load_tables.new.connection
     (reads_itself g.S.Store old c.requires.settled).kept
-    c.found_in.ensures.reads (returns-in-All-clause-stands g c)
+    c.load_tables.ensures.reads (returns-in-All-clause-stands g c)
 
 pub returns-in-All-clause-none : goal.returns-in-All-clause-none
 returns-in-All-clause-none g c =
     let old = c.args.connection.now in
     let whole : Holds g.S.Store old (IsMadeTo All) = search rules in
     let new : Holds g.S.Store old (HasNewRows All) = search rules in
-    none_of g.S.Store All c.found_in.result old old c.found_in.new.connection
+    none_of g.S.Store All c.load_tables.result old old c.load_tables.new.connection
     (reads_itself g.S.Store old c.requires.settled).kept whole new
-    (kept_on_err c.found_in.result c.found_in.ensures.reads.kept)
-    c.found_in.ensures.reads.doubt c.found_in.ensures.none
+    (kept_on_err c.load_tables.result c.load_tables.ensures.reads.kept)
+    c.load_tables.ensures.reads.doubt c.load_tables.ensures.none
 
 pub returns-in_default : goal.returns-in_default
 returns-in_default g c =

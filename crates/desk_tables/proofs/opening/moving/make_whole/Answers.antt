@@ -1,5 +1,5 @@
 use Rattle.std.proofs.Common.{rules, ◌≡◌}
-use Rattle.desk_sql.specs.declared.opening.finding.Made.TheVariants.{All}
+use Rattle.desk_sql.specs.declared.opening.finding.TablesPresent.TheVariants.{All}
 use Rattle.desk_tables.proofs.MovingLemmas.{whole_already}
 use Rattle.desk_tables.proofs.opening.moving.make_whole.Goals as goal
 

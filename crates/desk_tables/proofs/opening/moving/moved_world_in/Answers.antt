@@ -25,30 +25,30 @@ returns-in_err-made-clause-cause g c =
 
 pub returns-then-old-clause-begins : goal.returns-then-old-clause-begins
 returns-then-old-clause-begins g c =
-    begins_moved g.S.Store c.args.connection.now c.tables_found.new.connection c.moved_in.new.connection
-    c.in_ok-made.ensures.reads c.moved_in.ensures.doubt (λ moved. moved.0.world) (λ moved. moved.2)
-    c.moved_in.result c.moved_in.ensures.opened c.moved_in.ensures.begins
+    begins_moved g.S.Store c.args.connection.now c.tables_found.new.connection c.move_tables.new.connection
+    c.in_ok-made.ensures.reads c.move_tables.ensures.doubt (λ moved. moved.0.world) (λ moved. moved.2)
+    c.move_tables.result c.move_tables.ensures.opened c.move_tables.ensures.begins
 
 pub returns-then-old-clause-none : goal.returns-then-old-clause-none
 returns-then-old-clause-none g c =
     let mid = c.tables_found.new.connection in
     let rows : Holds g.S.Store mid (HasRowsOld c.in_ok-made.made true) = search rules in
-    none_moved g.S.Store c.args.connection.now mid c.moved_in.new.connection c.in_ok-made.ensures.reads
-    c.moved_in.ensures.doubt c.in_ok-made.made c.moved_in.result c.in_ok-made.ensures.part rows
-    c.moved_in.ensures.kept c.moved_in.ensures.none
+    none_moved g.S.Store c.args.connection.now mid c.move_tables.new.connection c.in_ok-made.ensures.reads
+    c.move_tables.ensures.doubt c.in_ok-made.made c.move_tables.result c.in_ok-made.ensures.part rows
+    c.move_tables.ensures.kept c.move_tables.ensures.none
 
 pub returns-then-old-clause-cause : goal.returns-then-old-clause-cause
 returns-then-old-clause-cause g c =
     let mid = c.tables_found.new.connection in
     let rows : Holds g.S.Store mid (HasRowsOld c.in_ok-made.made true) = search rules in
-    cause_moved g.S.Store c.args.connection.now mid c.moved_in.new.connection c.in_ok-made.ensures.reads
-    c.moved_in.ensures.doubt c.in_ok-made.made c.moved_in.result c.in_ok-made.ensures.part rows
-    c.moved_in.ensures.kept c.moved_in.ensures.cause
+    cause_moved g.S.Store c.args.connection.now mid c.move_tables.new.connection c.in_ok-made.ensures.reads
+    c.move_tables.ensures.doubt c.in_ok-made.made c.move_tables.result c.in_ok-made.ensures.part rows
+    c.move_tables.ensures.kept c.move_tables.ensures.cause
 
 pub returns-then-old-clause-kept : goal.returns-then-old-clause-kept
 returns-then-old-clause-kept g c =
-    keeps_moved g.S.Store c.args.connection.now c.tables_found.new.connection c.moved_in.new.connection
-    c.in_ok-made.ensures.reads c.moved_in.ensures.doubt c.moved_in.result c.moved_in.ensures.kept
+    keeps_moved g.S.Store c.args.connection.now c.tables_found.new.connection c.move_tables.new.connection
+    c.in_ok-made.ensures.reads c.move_tables.ensures.doubt c.move_tables.result c.move_tables.ensures.kept
 
 pub returns-in_err-kept-clause-none : goal.returns-in_err-kept-clause-none
 returns-in_err-kept-clause-none g c =

@@ -1,5 +1,5 @@
 use Rattle.std.proofs.Common.{take}
-use Rattle.desk_tables.specs.Rivals.{is_asked_of_others}
+use Rattle.desk_tables.specs.RivalRows.{is_asked_of_others}
 use Rattle.desk_tables.proofs.AskingLemmas.{IsAsking}
 use Rattle.desk_tables.proofs.reading.others.asked_all.Given as goal
 

@@ -2,7 +2,7 @@ use Rattle.std.proofs.Common.{◌<◌, List, length, sym, subst, arith}
 use Rattle.sqlite.specs.Held.{state}
 use Rattle.s2_cover.specs.declared.spans.Span.{Span}
 use Rattle.desk_sql.specs.Rows.{tables_of}
-use Rattle.desk_tables.specs.Rivals.{HaveTakenAll, is_asked_of_others}
+use Rattle.desk_tables.specs.RivalRows.{HaveTakenAll, is_asked_of_others}
 use Rattle.desk_tables.proofs.AskingLemmas.{both_ok}
 use Rattle.desk_tables.proofs.HeldLemmas.{are_others}
 use Rattle.desk_tables.proofs.reading.others.others_in_tables.Goals as goal
@@ -21,6 +21,6 @@ returns-clause-value g c = λ clean.
     let standing = c.requires.stands.standing (omega (arith, c.asked_all.ensures.reads.doubt, clean)) live in
     let mine = subst (λ qs. HaveTakenAll (is_asked_of_others o extent) qs tables.spans helds.items)
     c.deref.ensures.value taken in
-    are_others tables w o extent c.args.lengths.now questions helds.items
+    are_others tables w o extent c.args.span_bounds.now questions helds.items
     standing.content standing.tables c.requires.bounded
     c.in_ok-questions.ensures.whole c.in_ok-questions.ensures.within mine))

@@ -5,7 +5,7 @@ use Rattle.std.proofs.Common.{pos, subst, sym, arith, filter, map, IsPermutation
 use Rattle.sqlite.specs.Held.{state}
 use Rattle.desk_sql.specs.Rows.{tables_of, held_columns, is_wanted}
 use Rattle.desk_tables.specs.Causes.{BlamesSpans}
-use Rattle.desk_tables.specs.Rivals.{HasTakenHelds, reach_from}
+use Rattle.desk_tables.specs.RivalRows.{HasTakenHelds, reach_from}
 use Rattle.desk_tables.proofs.StoreLemmas.{still_stands, weaker, on_whole}
 use Rattle.desk_tables.proofs.CauseLemmas.{err_weaker, spans_blamed}
 use Rattle.desk_tables.proofs.reading.readers.asked.Goals as goal

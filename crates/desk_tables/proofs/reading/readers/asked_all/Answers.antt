@@ -1,5 +1,5 @@
 use Rattle.std.proofs.Common.{◌+◌, take, subst, sym}
-use Rattle.desk_tables.specs.Rivals.{is_asked}
+use Rattle.desk_tables.specs.RivalRows.{is_asked}
 use Rattle.desk_tables.proofs.AskingLemmas.{IsAsking, asking_on}
 use Rattle.desk_tables.proofs.reading.readers.asked_all.Goals as goal
 

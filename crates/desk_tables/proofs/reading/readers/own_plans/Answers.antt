@@ -6,7 +6,7 @@ use Rattle.desk_sql.specs.Rows.{tables_of, with_volumes, Lists}
 use Rattle.desk_rules.specs.Limits.{max_plans}
 use Rattle.desk_store.specs.World.{AreInOrder, is_by}
 use Rattle.desk_store.specs.laws.Order.{rows_sorted}
-use Rattle.desk_tables.specs.Gathering.{HasGathered}
+use Rattle.desk_tables.specs.Gathering.{HasCollected}
 use Rattle.desk_tables.proofs.StoreLemmas.{weaker, on_whole}
 use Rattle.desk_tables.proofs.JoinedLemmas.{own_listing, own_plans_are}
 use Rattle.std.proofs.lemmas.List.{length-map}
@@ -17,53 +17,53 @@ use Rattle.desk_tables.proofs.reading.readers.own_plans.Goals as goal
 
 pub returns-clause-value : goal.returns-clause-value
 returns-clause-value g c = λ clean.
-    on_whole _ c.own_plans-taken.result c.gathered.result c.gathered.ensures.whole
-    (c.own_plans-taken.ensures.open clean) (λ live. on_whole _ c.own_plans-taken.result c.gathered.result
-    c.gathered.ensures.whole (c.own_plans-taken.ensures.value clean) (λ handed.
+    on_whole _ c.own_plans-taken.result c.collected.result c.collected.ensures.whole
+    (c.own_plans-taken.ensures.open clean) (λ live. on_whole _ c.own_plans-taken.result c.collected.result
+    c.collected.ensures.whole (c.own_plans-taken.ensures.value clean) (λ handed.
     (let standing = c.requires.standing (omega (arith, c.own_plans-taken.ensures.reads.doubt, clean)) live in
     let tables = tables_of (state g.S.Store c.args.connection.now).now.trees in
     let (rows, by_name, taken) = handed in
-    let gather = c.own_plans-taken.new.taker in
+    let collector = c.own_plans-taken.new.taker in
     let lists = subst (λ name. Lists (1 ∷ 5 ∷ []) (with_volumes (sql.is_by name) tables) rows)
     c.as_str.ensures.value by_name in
     let listing = own_listing tables c.args.kept.now.world c.args.operator.now rows standing.content
     standing.tables lists in
-    weaker c.gathered.result
+    weaker c.collected.result
     (λ plans read. read (filter (is_by c.args.operator.now) c.args.kept.now.world.plans)
     (own_plans_are c.args.kept.now.world c.args.operator.now standing.content)
-    (subst (HasGathered gather.plans.items gather.head gather.volumes.items) listing taken))
-    c.gathered.ensures.value)))
+    (subst (HasCollected collector.plans.items collector.head collector.volumes.items) listing taken))
+    c.collected.ensures.value)))
 
 pub returns-clause-order : goal.returns-clause-order
 returns-clause-order g c = λ clean.
-    on_whole _ c.own_plans-taken.result c.gathered.result c.gathered.ensures.whole
+    on_whole _ c.own_plans-taken.result c.collected.result c.collected.ensures.whole
     (c.own_plans-taken.ensures.open clean) (λ live.
     (let standing = c.requires.standing (omega (arith, c.own_plans-taken.ensures.reads.doubt, clean)) live in
-    weaker c.gathered.result (λ plans are. subst AreInOrder (sym are)
+    weaker c.collected.result (λ plans are. subst AreInOrder (sym are)
     (rows_sorted c.args.operator.now c.args.kept.now.world.plans standing.content.world.plans))
     (returns-clause-value g c clean)))
 
 pub returns-clause-limit : goal.returns-clause-limit
 returns-clause-limit g c = λ clean.
-    on_whole _ c.own_plans-taken.result c.gathered.result c.gathered.ensures.whole
+    on_whole _ c.own_plans-taken.result c.collected.result c.collected.ensures.whole
     (c.own_plans-taken.ensures.open clean) (λ live.
     (let standing = c.requires.standing (omega (arith, c.own_plans-taken.ensures.reads.doubt, clean)) live in
-    weaker c.gathered.result (λ plans are. subst (λ rows. length rows ≤ max_plans) (sym are)
+    weaker c.collected.result (λ plans are. subst (λ rows. length rows ≤ max_plans) (sym are)
     (standing.content.world.rows c.args.operator.now)) (returns-clause-value g c clean)))
 
 -- the rows of an operator's plans are gathered
 pub returns-clause-cause : goal.returns-clause-cause
 returns-clause-cause g c =
-    err_weaker c.gathered.result
+    err_weaker c.collected.result
     (BlamesStore g.S.Store c.args.connection.now c.own_plans-taken.new.connection)
-    c.gathered.ensures.none (λ e why clean live is.
+    c.collected.ensures.none (λ e why clean live is.
     (let w = c.args.kept.now.world in
     let o = c.args.operator.now in
     let before = c.own_plans-taken.ensures.reads.kept clean live in
     let standing = c.requires.standing (omega (arith, c.own_plans-taken.ensures.reads.doubt, clean))
     before.was_open in
     let tables = tables_of (state g.S.Store c.args.connection.now).now.trees in
-    let gather = c.own_plans-taken.new.taker in
+    let collector = c.own_plans-taken.new.taker in
     let mine = filter (is_by o) w.plans in
     let few : length mine ≤ max_plans = omega (
       arith,
@@ -77,5 +77,5 @@ returns-clause-cause g c =
     (within_bits w.plans standing.content.world.priorities)) few
     (λ rows by_name. own_listing tables w o rows standing.content standing.tables
     (subst (λ name. Lists (1 ∷ 5 ∷ []) (with_volumes (sql.is_by name) tables) rows) c.as_str.ensures.value
-    by_name)) c.own_plans-taken.result gather.plans.items gather.head gather.volumes.items (why is)
+    by_name)) c.own_plans-taken.result collector.plans.items collector.head collector.volumes.items (why is)
     (c.own_plans-taken.ensures.cause clean live) (c.own_plans-taken.ensures.value clean)))

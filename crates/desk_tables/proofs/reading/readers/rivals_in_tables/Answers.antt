@@ -2,7 +2,7 @@ use Rattle.std.proofs.Common.{◌<◌, List, length, sym, subst, arith}
 use Rattle.sqlite.specs.Held.{state}
 use Rattle.s2_cover.specs.declared.spans.Span.{Span}
 use Rattle.desk_sql.specs.Rows.{tables_of}
-use Rattle.desk_tables.specs.Rivals.{HaveTakenAll, is_asked}
+use Rattle.desk_tables.specs.RivalRows.{HaveTakenAll, is_asked}
 use Rattle.desk_tables.proofs.ParseLemmas.{parsed_id}
 use Rattle.desk_tables.proofs.AskingLemmas.{both_ok}
 use Rattle.desk_tables.proofs.HeldLemmas.{are_rivals}
@@ -27,6 +27,6 @@ returns-clause-value g c = λ clean.
     c.deref.ensures.value taken in
     let named = subst (λ t. HaveTakenAll (is_asked o t least extent) questions tables.spans helds.items)
     c.encode-text.ensures.text mine in
-    are_rivals tables w o id least extent c.args.lengths.now questions helds.items
+    are_rivals tables w o id least extent c.args.span_bounds.now questions helds.items
     (parsed_id text id c.encode-text.ensures.parsed) standing.content standing.tables c.requires.bounded
     c.in_ok-questions.ensures.whole c.in_ok-questions.ensures.within named))

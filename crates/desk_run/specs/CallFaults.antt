@@ -1,0 +1,28 @@
+-- What stops a call.
+use Rattle.std.specs.Prelude.{◌≡◌, ◌⊎◌, ℕ, List, codes}
+use Rattle.desk_store.specs.StoreFaults.{HasRisen}
+use Rattle.desk_store.specs.declared.fault.StoreFault.{StoreFault}
+use Rattle.desk_store.specs.declared.fault.StoreFault.TheVariants as store
+use Rattle.desk_run.specs.declared.fault.DeskFault.{DeskFault}
+use Rattle.desk_run.specs.declared.fault.DeskFault.TheVariants.{OutOfMemory, Store, UnknownOperator, NoSuchPlan, Ceiling}
+
+-- a store's fault, as the desk hands it on
+abbrev pub fault_of : StoreFault → DeskFault
+fault_of store.OutOfMemory = OutOfMemory
+fault_of store.Store = Store
+
+-- want of memory, or a failing store: neither says anything of the call
+abbrev pub IsBreakdown : DeskFault → Type 0
+IsBreakdown fault = (fault ≡ OutOfMemory) ⊎ (fault ≡ Store)
+
+-- if the store failed, it counted a fault of its own
+abbrev pub IsStoreCounted : {S : Type 0} → (S → ℕ) → S → S → DeskFault → Type 0
+IsStoreCounted faults_of old new e = e ≡ Store → HasRisen (faults_of old) (faults_of new)
+
+-- the fault as a sentence
+abbrev pub fault_text : DeskFault → List ℕ
+fault_text OutOfMemory = codes "out of memory"
+fault_text Store = codes "the store failed"
+fault_text UnknownOperator = codes "the operator is not enrolled"
+fault_text NoSuchPlan = codes "the operator has no plan with this id"
+fault_text Ceiling = codes "the ceiling is above 1,000"

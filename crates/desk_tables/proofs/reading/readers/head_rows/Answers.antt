@@ -1,0 +1,28 @@
+use Rattle.std.proofs.Common.{[], subst, arith}
+use Rattle.std.specs.List.{filter}
+use Rattle.sqlite.specs.Held.{state}
+use Rattle.desk_sql.specs.Rows.{is_of, tables_of, Lists}
+use Rattle.desk_tables.proofs.ParseLemmas.{parsed_id}
+use Rattle.desk_tables.proofs.ListingLemmas.{heads_are}
+use Rattle.desk_tables.proofs.CauseLemmas.{blamed}
+use Rattle.desk_tables.proofs.reading.readers.head_rows.Goals as goal
+
+pub returns-in-Ok-clause-value : goal.returns-in-Ok-clause-value
+returns-in-Ok-clause-value g c = λ clean.
+    let standing = c.requires.standing (omega (arith, c.in-Ok.ensures.reads.doubt, clean))
+    (c.in-Ok.ensures.open clean) in
+    let tables = tables_of (state g.S.Store c.args.connection.now).now.trees in
+    let by_name = subst (λ name. Lists [] (filter (is_of name c.encode-text.result.now) tables.plans)
+    c.in-Ok.rows.items) c.as_str.ensures.value (c.in-Ok.ensures.value clean) in
+    let lists = subst (λ text. Lists [] (filter (is_of c.args.operator.now text) tables.plans)
+    c.in-Ok.rows.items) c.encode-text.ensures.text by_name in (
+      standing.content,
+      heads_are tables c.args.kept.now.world c.args.operator.now c.args.id.now
+          c.in-Ok.rows.items (parsed_id c.encode-text.result.now c.args.id.now c.encode-text.ensures.parsed)
+          standing.content standing.tables lists,
+    )
+
+pub returns-in-Err-clause-cause : goal.returns-in-Err-clause-cause
+returns-in-Err-clause-cause g c =
+    blamed g.S.Store c.args.connection.now c.plan_of.new.connection c.in-Err.e c.fault_of.result
+    c.fault_of.ensures c.in-Err.ensures.cause
