@@ -1,5 +1,5 @@
 -- Bytes: what a desk answers, by what it prepared.
-use Rattle.std.proofs.Common.{◌≡◌, ℤ, List, ℕ, Result, Ok, Err, IfOk, IfErr, IfSome, OnOk, Option, Some, None, inl, inr, subst, refl, sym, ap, ◌∙◌}
+use Rattle.std.proofs.Common.{◌≡◌, ℤ, List, ℕ, Result, Ok, Err, IfOk, IfSome, OnOk, Option, Some, None, inl, inr, subst, refl, sym, ap, ◌∙◌}
 use Rattle.desk_rules.specs.declared.call.Asked.{Asked}
 use Rattle.desk_run.specs.declared.pending.Pending.{Pending}
 use Rattle.desk_run.specs.DeskWorld.{DeskWorld}
@@ -84,17 +84,3 @@ answered_so H w after given moment text reading answer (Some OutOfMemory) old ne
     inr (OutOfMemory, failed, tt)
 answered_so H w after given moment text reading answer (Some Store) old new m r told failed cause =
     inr (Store, failed, cause refl)
-
--- want of memory is no fault of the store
-pub no_cause : {V : Type 0} (r : Result V ServerError) (P : Type 0) → IfErr r (λ e. e ≡ OutOfMemory)
-    → IfErr r (λ e. e ≡ Store → P)
-no_cause (Ok v) P h = tt
-no_cause (Err e) P h = λ is. absurd (memory_not_store e h is)
-  where
-    memory_not_store : (e : ServerError) → e ≡ OutOfMemory → e ≡ Store → ⊥
-    memory_not_store e a b = cc
-
--- what holds whatever the result is
-pub whatever : {V E : Type 0} (r : Result V E) {P : Type 0} → P → OnOk r P
-whatever (Ok v) h = h
-whatever (Err e) h = tt

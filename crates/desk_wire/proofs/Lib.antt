@@ -10,3 +10,4 @@ pub mod HeadlineLemmas
 pub mod GivenLemmas
 pub mod StreamGivenLemmas
 pub mod KeptLemmas
+pub mod LeavingLemmas

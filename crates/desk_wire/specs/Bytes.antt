@@ -1,11 +1,13 @@
 -- Bytes: the text that a desk answers to the bytes of one request, and what the request leaves.
-use Rattle.std.specs.Prelude.{◌≡◌, ◌⊎◌, ℕ, ℤ, List, Option, Some, None, Ok, Err}
+use Rattle.std.specs.Prelude.{◌≡◌, ◌≢◌, ◌⊎◌, ℕ, ℤ, List, Option, Some, None, IfSome, Ok, Err}
 use Rattle.desk_rules.specs.declared.call.Asked.{Asked}
 use Rattle.desk_reading.specs.FaultWords.{fault_status}
 use Rattle.desk_reading.specs.Readings.{Reading}
 use Rattle.desk_reading.specs.Requests.{asked}
 use Rattle.desk_writing.specs.Replies.{reply_text}
 use Rattle.desk_wire.specs.declared.refusal.Refusal.TheVariants.{Fault, UnknownOperator, NoSuchPlan}
+use Rattle.desk_wire.specs.declared.answering.Response.{Response}
+use Rattle.desk_wire.specs.declared.response.Answer.{Answer}
 use Rattle.desk_wire.specs.declared.response.ServerError.{ServerError}
 use Rattle.desk_wire.specs.Causes.{HasCause}
 use Rattle.desk_wire.specs.Refusals.{refusal_status, refusal_text, server_error_text}
@@ -67,3 +69,18 @@ abbrev pub IsAnswered : Type 0 → DeskWorld → ℤ → List ℕ → List ℕ �
 IsAnswered H w moment request answer after old new =
     (H → IsDone w moment (asked request) answer after)
     ⊎ ((why : ServerError) × IsServerError why w answer after × HasCause why old new)
+
+-- what was made of what is asked, where the desk didn't fail: the text and its status code, never 500
+pub record IsMade (H : Type 0) (w : DeskWorld) (moment : ℤ) (reading : Reading Asked) (after : DeskWorld)
+    (made : Response) : Type 0 where
+  pub bytes : H → IsDone w moment reading made.bytes.items after
+  pub status : H → made.status ≡ status_for w moment reading
+  pub other : made.status ≢ 500
+
+-- the answer with its status code; why the desk failed is told whether the store is honest or not
+pub record IsTold (H : Type 0) (w : DeskWorld) (moment : ℤ) (reading : Reading Asked) (after : DeskWorld)
+    (answer : Answer) : Type 0 where
+  pub bytes : H → IsAnsweredSo answer.error w moment reading answer.bytes.items after
+  pub status : H → answer.status ≡ status_so answer.error w moment reading
+  pub failed : IfSome answer.error (λ why. IsServerError why w answer.bytes.items after)
+  pub gave_up : answer.status ≡ 500 → answer.error ≢ None

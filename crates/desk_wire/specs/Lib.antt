@@ -4,6 +4,7 @@ pub mod Refusals
 pub mod Bytes
 pub mod AllAnswers
 pub mod Causes
+pub mod Leaving
 pub mod Streams
 pub mod Serving
 pub mod Playing

@@ -1,18 +1,19 @@
 //! Requests answered at a desk, from bytes to bytes.
 
-ghost use Rattle.std.specs.Prelude.{◌≡◌, ◌≢◌, ◌≤◌, IfErr, IfOk, IfSome, OnOk, OnErr, Ok, None, Some};
+ghost use Rattle.std.specs.Prelude.{◌≡◌, ◌≢◌, IfErr, IfOk, OnOk, OnErr, Ok};
 ghost use Rattle.desk_reading.specs.Messages.{message_read, message_shown};
 ghost use Rattle.desk_reading.specs.Readings.{or_met};
 ghost use Rattle.desk_reading.specs.Requests.{asked, asked_by};
 ghost use Rattle.desk_store.specs.StoreFrames.{Remembers};
 ghost use Rattle.desk_store.specs.Crashes.{LeavesOldOr};
-ghost use Rattle.desk_store.specs.StoreFaults.{IsHonest, HasRisen};
-ghost use Rattle.desk_run.specs.DeskWorld.{IsSettled, IsSettledOrSame, world_of};
+ghost use Rattle.desk_store.specs.StoreFaults.{IsHonest};
+ghost use Rattle.desk_run.specs.DeskWorld.{world_of};
 ghost use Rattle.desk_run.specs.Calls.{CanCommit, reply_in, world_committed};
 ghost use Rattle.desk_wire.specs.Moments.{IsMoment};
 ghost use Rattle.desk_rules.specs.Replies.{said_in};
 ghost use Rattle.desk_writing.specs.Replies.{reply_text};
-ghost use Rattle.desk_wire.specs.Bytes.{IsAnswered, IsAnsweredSo, IsDone, IsServerError, status_for, status_so, world_after};
+ghost use Rattle.desk_wire.specs.Bytes.{IsAnswered, IsMade, IsTold, world_after};
+ghost use Rattle.desk_wire.specs.Leaving.{Leaves, failure_of, failure_told};
 ghost use Rattle.desk_wire.specs.Refusals.{refusal_status, refusal_text};
 
 use crate::refusal::Refusal;
@@ -73,29 +74,11 @@ pub fn answer_request<S: PlanStore>(
     request: &Result<Message<'_>, WireFault>,
 ) -> Result<Answer, AllocError>
     requires { IsMoment moment }
-    ensures bytes { IsHonest (S.doubt desk.new.store) → IfOk result (λ answer.
-        IsAnsweredSo answer.error (world_of S.content desk.old) moment
-        (or_met (message_read request.now) asked_by) answer.bytes.items
-        (world_of S.content desk.new)) }
-    ensures status { IsHonest (S.doubt desk.new.store) → IfOk result (λ answer. answer.status
-        ≡ status_so answer.error (world_of S.content desk.old) moment
-        (or_met (message_read request.now) asked_by)) }
-    ensures failed { IfOk result (λ answer. IfSome answer.error (λ why.
-        IsServerError why (world_of S.content desk.old) answer.bytes.items
-        (world_of S.content desk.new))) }
-    ensures err { OnErr result (world_of S.content desk.new ≡ world_of S.content desk.old) }
-    ensures crash { IsHonest (S.doubt desk.new.store) → LeavesOldOr
-        (world_after (world_of S.content desk.old) moment
-        (or_met (message_read request.now) asked_by)).content
-        (S.may_leave desk.old.store) (S.may_leave desk.new.store) }
-    ensures kept { IsHonest (S.doubt desk.new.store) → IfOk result (λ answer. answer.error ≡ None →
-        IsSettled S.content S.may_leave desk.old → IsSettled S.content S.may_leave desk.new) }
-    ensures settled { IsHonest (S.doubt desk.new.store) → IfOk result (λ answer.
-        answer.error ≡ None → IsSettledOrSame S.content S.may_leave desk.old desk.new) }
-    ensures remembered { Remembers S.doubt S.faults S.is_shielded desk.old.store desk.new.store }
-    ensures gave_up { IfOk result (λ answer. answer.status ≡ 500 → answer.error ≢ None) }
-    ensures cause { IfOk result (λ answer. answer.error ≡ Some ServerError.Store →
-        HasRisen (S.faults desk.old.store) (S.faults desk.new.store)) }
+    ensures told { IfOk result (IsTold (IsHonest (S.doubt desk.new.store)) (world_of S.content desk.old)
+        moment (or_met (message_read request.now) asked_by) (world_of S.content desk.new)) }
+    ensures leaves { Leaves S.content S.doubt S.faults S.may_leave S.is_shielded desk.old desk.new
+        (world_after (world_of S.content desk.old) moment (or_met (message_read request.now) asked_by))
+        (failure_told result) }
 {
     let mut room = Vec::with_capacity(alloc, ANSWER_ROOM)?;
     match respond(alloc, desk, moment, request) {
@@ -123,25 +106,11 @@ fn respond<S: PlanStore>(
     request: &Result<Message<'_>, WireFault>,
 ) -> Result<Response, ServerError>
     requires { IsMoment moment }
-    ensures bytes { IsHonest (S.doubt desk.new.store) → IfOk result
-        (λ r. IsDone (world_of S.content desk.old) moment
-        (or_met (message_read request.now) asked_by) r.bytes.items (world_of S.content desk.new)) }
-    ensures status { IsHonest (S.doubt desk.new.store) → IfOk result (λ r. r.status
-        ≡ status_for (world_of S.content desk.old) moment
-        (or_met (message_read request.now) asked_by)) }
-    ensures err { OnErr result (world_of S.content desk.new ≡ world_of S.content desk.old) }
-    ensures crash { IsHonest (S.doubt desk.new.store) → LeavesOldOr
-        (world_after (world_of S.content desk.old) moment
-        (or_met (message_read request.now) asked_by)).content
-        (S.may_leave desk.old.store) (S.may_leave desk.new.store) }
-    ensures kept { IsHonest (S.doubt desk.new.store) → OnOk result
-        (IsSettled S.content S.may_leave desk.old → IsSettled S.content S.may_leave desk.new) }
-    ensures settled { IsHonest (S.doubt desk.new.store) → OnOk result
-        (IsSettledOrSame S.content S.may_leave desk.old desk.new) }
-    ensures remembered { Remembers S.doubt S.faults S.is_shielded desk.old.store desk.new.store }
-    ensures other { IfOk result (λ r. r.status ≢ 500) }
-    ensures cause { IfErr result (λ e. e ≡ ServerError.Store →
-        HasRisen (S.faults desk.old.store) (S.faults desk.new.store)) }
+    ensures made { IfOk result (IsMade (IsHonest (S.doubt desk.new.store)) (world_of S.content desk.old)
+        moment (or_met (message_read request.now) asked_by) (world_of S.content desk.new)) }
+    ensures leaves { Leaves S.content S.doubt S.faults S.may_leave S.is_shielded desk.old desk.new
+        (world_after (world_of S.content desk.old) moment (or_met (message_read request.now) asked_by))
+        (failure_of result) }
 {
     match request {
         Ok(message) => answer_message(alloc, desk, moment, message),
@@ -157,23 +126,11 @@ fn answer_message<S: PlanStore>(
     message: &Message<'_>,
 ) -> Result<Response, ServerError>
     requires { IsMoment moment }
-    ensures bytes { IsHonest (S.doubt desk.new.store) → IfOk result
-        (λ r. IsDone (world_of S.content desk.old) moment
-        (asked_by (message_shown message.now)) r.bytes.items (world_of S.content desk.new)) }
-    ensures status { IsHonest (S.doubt desk.new.store) → IfOk result (λ r. r.status
-        ≡ status_for (world_of S.content desk.old) moment (asked_by (message_shown message.now))) }
-    ensures err { OnErr result (world_of S.content desk.new ≡ world_of S.content desk.old) }
-    ensures crash { IsHonest (S.doubt desk.new.store) → LeavesOldOr
-        (world_after (world_of S.content desk.old) moment (asked_by (message_shown message.now))).content
-        (S.may_leave desk.old.store) (S.may_leave desk.new.store) }
-    ensures kept { IsHonest (S.doubt desk.new.store) → OnOk result
-        (IsSettled S.content S.may_leave desk.old → IsSettled S.content S.may_leave desk.new) }
-    ensures settled { IsHonest (S.doubt desk.new.store) → OnOk result
-        (IsSettledOrSame S.content S.may_leave desk.old desk.new) }
-    ensures remembered { Remembers S.doubt S.faults S.is_shielded desk.old.store desk.new.store }
-    ensures other { IfOk result (λ r. r.status ≢ 500) }
-    ensures cause { IfErr result (λ e. e ≡ ServerError.Store →
-        HasRisen (S.faults desk.old.store) (S.faults desk.new.store)) }
+    ensures made { IfOk result (IsMade (IsHonest (S.doubt desk.new.store)) (world_of S.content desk.old)
+        moment (asked_by (message_shown message.now)) (world_of S.content desk.new)) }
+    ensures leaves { Leaves S.content S.doubt S.faults S.may_leave S.is_shielded desk.old desk.new
+        (world_after (world_of S.content desk.old) moment (asked_by (message_shown message.now)))
+        (failure_of result) }
 {
     match read_asked(alloc, message) {
         Ok(asked) => answer_call(alloc, desk, moment, &asked),
@@ -190,23 +147,11 @@ fn answer_call<S: PlanStore>(
     asked: &Asked,
 ) -> Result<Response, ServerError>
     requires { IsMoment moment }
-    ensures bytes { IsHonest (S.doubt desk.new.store) → IfOk result (λ r.
-        IsDone (world_of S.content desk.old) moment (Ok asked.now) r.bytes.items
-        (world_of S.content desk.new)) }
-    ensures status { IsHonest (S.doubt desk.new.store) → IfOk result (λ r.
-        r.status ≡ status_for (world_of S.content desk.old) moment (Ok asked.now)) }
-    ensures err { OnErr result (world_of S.content desk.new ≡ world_of S.content desk.old) }
-    ensures crash { IsHonest (S.doubt desk.new.store) → LeavesOldOr
-        (world_after (world_of S.content desk.old) moment (Ok asked.now)).content
-        (S.may_leave desk.old.store) (S.may_leave desk.new.store) }
-    ensures kept { IsHonest (S.doubt desk.new.store) → OnOk result
-        (IsSettled S.content S.may_leave desk.old → IsSettled S.content S.may_leave desk.new) }
-    ensures settled { IsHonest (S.doubt desk.new.store) → OnOk result
-        (IsSettledOrSame S.content S.may_leave desk.old desk.new) }
-    ensures remembered { Remembers S.doubt S.faults S.is_shielded desk.old.store desk.new.store }
-    ensures other { IfOk result (λ r. r.status ≢ 500) }
-    ensures cause { IfErr result (λ e. e ≡ ServerError.Store →
-        HasRisen (S.faults desk.old.store) (S.faults desk.new.store)) }
+    ensures made { IfOk result (IsMade (IsHonest (S.doubt desk.new.store)) (world_of S.content desk.old)
+        moment (Ok asked.now) (world_of S.content desk.new)) }
+    ensures leaves { Leaves S.content S.doubt S.faults S.may_leave S.is_shielded desk.old desk.new
+        (world_after (world_of S.content desk.old) moment (Ok asked.now))
+        (failure_of result) }
 {
     match desk.prepare(alloc, moment, asked) {
         Ok(pending) => answer_pending(alloc, desk, pending),
@@ -229,18 +174,8 @@ fn answer_pending<S: PlanStore>(
     ensures status { IfOk result (λ r. r.status ≡ 200) }
     ensures ok { IsHonest (S.doubt desk.new.store) → OnOk result
         (world_of S.content desk.new ≡ world_committed (world_of S.content desk.old) pending) }
-    ensures err { OnErr result (world_of S.content desk.new ≡ world_of S.content desk.old) }
-    ensures crash { IsHonest (S.doubt desk.new.store) → LeavesOldOr
-        (world_committed (world_of S.content desk.old) pending).content
-        (S.may_leave desk.old.store) (S.may_leave desk.new.store) }
-    ensures kept { IsHonest (S.doubt desk.new.store) → OnOk result
-        (IsSettled S.content S.may_leave desk.old → IsSettled S.content S.may_leave desk.new) }
-    ensures settled { IsHonest (S.doubt desk.new.store) → OnOk result
-        (IsSettledOrSame S.content S.may_leave desk.old desk.new) }
-    ensures remembered { Remembers S.doubt S.faults S.is_shielded desk.old.store desk.new.store }
-    ensures other { IfOk result (λ r. r.status ≢ 500) }
-    ensures cause { IfErr result (λ e. e ≡ ServerError.Store →
-        HasRisen (S.faults desk.old.store) (S.faults desk.new.store)) }
+    ensures leaves { Leaves S.content S.doubt S.faults S.may_leave S.is_shielded desk.old desk.new
+        (world_committed (world_of S.content desk.old) pending) (failure_of result) }
 {
     let bytes = reply_answer(alloc, pending.reply())?;
     match desk.commit(pending) {

@@ -14,19 +14,19 @@ returns-clause-bytes g c =
     (world_of g.S.PlanStore.content c.answer_request.new.desk) _
     c.args.moment c.args.text.now (message_read c.read_message.result) c.in_ok-answer.answer.bytes.items
     c.in_ok-answer.answer.error _ _
-    (to_z-of_z w64 c.args.moment c.ranges.moment) c.read_message.ensures c.in_ok-answer.ensures.bytes
-    c.in_ok-answer.ensures.failed c.in_ok-answer.ensures.cause
+    (to_z-of_z w64 c.args.moment c.ranges.moment) c.read_message.ensures c.in_ok-answer.ensures.told.bytes
+    c.in_ok-answer.ensures.told.failed c.in_ok-answer.ensures.leaves.cause
 
 pub returns-in_err-answer-clause-crash : goal.returns-in_err-answer-clause-crash
 returns-in_err-answer-clause-crash g c = λ honest.
-    old_or_changed (λ found before. before) (c.answer_request.ensures.crash honest)
+    old_or_changed (λ found before. before) (c.answer_request.ensures.leaves.crash honest)
     (ap (λ v. v.content) (left_read (world_of g.S.PlanStore.content c.args.desk.now) _ c.args.moment
     c.args.text.now (message_read c.read_message.result) (to_z-of_z w64 c.args.moment c.ranges.moment)
     c.read_message.ensures))
 
 pub returns-clause-crash : goal.returns-clause-crash
 returns-clause-crash g c = λ honest.
-    old_or_changed (λ found before. before) (c.answer_request.ensures.crash honest)
+    old_or_changed (λ found before. before) (c.answer_request.ensures.leaves.crash honest)
     (ap (λ v. v.content) (left_read (world_of g.S.PlanStore.content c.args.desk.now) _ c.args.moment
     c.args.text.now (message_read c.read_message.result) (to_z-of_z w64 c.args.moment c.ranges.moment)
     c.read_message.ensures))

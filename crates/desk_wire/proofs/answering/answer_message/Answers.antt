@@ -1,9 +1,9 @@
-use Rattle.std.proofs.Common.{inr, refl}
-use Rattle.desk_wire.proofs.BytesLemmas.{no_cause, whatever}
+use Rattle.std.proofs.Common.{refl, arith}
+use Rattle.desk_wire.proofs.LeavingLemmas.{leaves_refused}
 use Rattle.desk_wire.proofs.answering.answer_message.Goals as goal
 
-pub returns-in-Err-Fault-clause-cause : goal.returns-in-Err-Fault-clause-cause
-returns-in-Err-Fault-clause-cause g c = no_cause c.refuse.result _ c.refuse.ensures.error
-
-pub returns-in-Err-Fault-clause-settled : goal.returns-in-Err-Fault-clause-settled
-returns-in-Err-Fault-clause-settled g c = λ honest. whatever c.refuse.result (inr (refl, λ found may. may))
+pub returns-in-Err-Fault-clause-leaves : goal.returns-in-Err-Fault-clause-leaves
+returns-in-Err-Fault-clause-leaves g c =
+    leaves_refused g.S.PlanStore.content g.S.PlanStore.doubt g.S.PlanStore.faults g.S.PlanStore.may_leave
+    g.S.PlanStore.is_shielded c.args.desk.now c.args.desk.now _ c.refuse.result refl (λ honest found may. may)
+    (record { doubt = omega arith; counted = omega arith; shield = λ s. s }) c.refuse.ensures.error

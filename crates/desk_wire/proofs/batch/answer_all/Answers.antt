@@ -34,29 +34,34 @@ loop-moment-preserved g c =
           let done = done_so now after _ r.0 c.deref.result.now r.1.items
           (message_read c.read_message.result)
           c.in-Ok.field-0.bytes.items c.in-Ok.field-0.error none same c.read_message.ensures
-          c.deref.ensures.value (c.in-Ok.ensures.bytes honest) in
+          c.deref.ensures.value (c.in-Ok.ensures.told.bytes honest) in
           subst (λ xs. HaveAnswers (λ q. (q.0, q.1.items)) (λ v. v.items) w requests (n + 1) xs after)
           (sym c.push_reserved.ensures.items)
           (one_answered (λ q. (q.0, q.1.items)) (λ v. v.items) w now after requests n
           c.loop-moment.answers.items r c.in-Ok.field-0.bytes
           (c.loop-moment.invariant.answered
-          (was_honest c.answer_request-answer.ensures.remembered.doubt honest))
+          (was_honest c.answer_request-answer.ensures.leaves.remembered.doubt honest))
           c.loop-moment-test.true c.loop-moment-item.is done);
-      settled = λ honest h. c.in-Ok.ensures.kept honest (is_none_by c.in-Ok.field-0.error none)
+      settled = λ honest h. c.in-Ok.ensures.leaves.kept honest (is_none_by c.in-Ok.field-0.error none)
           (c.loop-moment.invariant.settled
-          (was_honest c.answer_request-answer.ensures.remembered.doubt honest) h);
+          (was_honest c.answer_request-answer.ensures.leaves.remembered.doubt honest) h);
       count = ap length c.push_reserved.ensures.items
           ∙ length-append c.loop-moment.answers.items (c.in-Ok.field-0.bytes ∷ [])
           ∙ ap (λ k. k + 1) c.loop-moment.invariant.count;
       room = subst (λ k. length requests ≤ k) (sym c.push_reserved.ensures.capacity)
           c.loop-moment.invariant.room;
-      doubt = omega (arith, c.loop-moment.invariant.doubt, c.answer_request-answer.ensures.remembered.doubt);
+      doubt = omega (
+        arith,
+        c.loop-moment.invariant.doubt,
+        c.answer_request-answer.ensures.leaves.remembered.doubt,
+      );
       counted = omega (
         arith,
         c.loop-moment.invariant.counted,
-        c.answer_request-answer.ensures.remembered.counted,
+        c.answer_request-answer.ensures.leaves.remembered.counted,
       );
-      shield = λ s. c.answer_request-answer.ensures.remembered.shield (c.loop-moment.invariant.shield s);
+      shield = λ s. c.answer_request-answer.ensures.leaves.remembered.shield
+          (c.loop-moment.invariant.shield s);
     }
 
 pub returns-in_default-clause-answers : goal.returns-in_default-clause-answers
@@ -65,8 +70,9 @@ returns-in_default-clause-answers g c = λ honest.
     (world_of g.S.PlanStore.content c.loop-moment.desk)
     (world_of g.S.PlanStore.content c.answer_request-answer.new.desk)
     c.args.requests.now c.loop-moment.moment-index c.loop-moment.answers.items
-    (c.loop-moment.invariant.answered (was_honest c.answer_request-answer.ensures.remembered.doubt honest))
-    c.loop-moment-test.true c.in_default.ensures.err
+    (c.loop-moment.invariant.answered (was_honest c.answer_request-answer.ensures.leaves.remembered.doubt
+    honest))
+    c.loop-moment-test.true c.in_default.ensures.leaves.same
 
 pub returns-then-is_some-clause-answers : goal.returns-then-is_some-clause-answers
 returns-then-is_some-clause-answers g c = λ honest.
@@ -80,8 +86,9 @@ returns-then-is_some-clause-answers g c = λ honest.
     after
     _ _
     c.args.requests.now c.loop-moment.moment-index c.loop-moment.answers.items c.in-Ok.field-0.bytes
-    c.in-Ok.field-0.error some (c.in-Ok.ensures.bytes honest)
-    (c.loop-moment.invariant.answered (was_honest c.answer_request-answer.ensures.remembered.doubt honest))
+    c.in-Ok.field-0.error some (c.in-Ok.ensures.told.bytes honest)
+    (c.loop-moment.invariant.answered (was_honest c.answer_request-answer.ensures.leaves.remembered.doubt
+    honest))
     c.loop-moment-test.true)
 
 pub returns-clause-answers : goal.returns-clause-answers
@@ -111,7 +118,7 @@ returns-in_default-clause-kept g c = λ honest settled found may.
     let r = c.loop-moment-item.result in
     let w = world_of g.S.PlanStore.content c.args.desk.now in
     let now = world_of g.S.PlanStore.content c.loop-moment.desk in
-    let old = was_honest c.answer_request-answer.ensures.remembered.doubt honest in
+    let old = was_honest c.answer_request-answer.ensures.leaves.remembered.doubt honest in
     let same = same_moment r.0 (is_moment_at (λ q. q.0) requests n r c.loop-moment-test.true
     c.loop-moment-item.is c.requires) in
     let finds = found_next (λ q. (q.0, q.1.items)) (λ v. v.items) w now requests n
@@ -120,7 +127,7 @@ returns-in_default-clause-kept g c = λ honest settled found may.
     (message_read c.read_message.result) found (c.loop-moment.invariant.answered old)
     c.loop-moment-test.true c.loop-moment-item.is (ap (λ t. (r.0, t)) (sym c.deref.ensures.value)) same
     c.read_message.ensures (c.loop-moment.invariant.settled old settled found)
-    (c.answer_request-answer.ensures.crash honest found may) in
+    (c.answer_request-answer.ensures.leaves.crash honest found may) in
     let count : n ≡ length (map (λ v. v.items) c.loop-moment.answers.items) =
     sym (length-map c.loop-moment.answers.items (λ v. v.items) ∙ c.loop-moment.invariant.count) in
     subst (λ k. IsFoundIn w (map (λ q. (q.0, q.1.items)) requests) k found) count finds
@@ -132,7 +139,7 @@ returns-then-is_some-clause-kept g c = λ honest settled found may.
     let r = c.loop-moment-item.result in
     let w = world_of g.S.PlanStore.content c.args.desk.now in
     let now = world_of g.S.PlanStore.content c.loop-moment.desk in
-    let old = was_honest c.answer_request-answer.ensures.remembered.doubt honest in
+    let old = was_honest c.answer_request-answer.ensures.leaves.remembered.doubt honest in
     let same = same_moment r.0 (is_moment_at (λ q. q.0) requests n r c.loop-moment-test.true
     c.loop-moment-item.is c.requires) in
     let finds = found_next (λ q. (q.0, q.1.items)) (λ v. v.items) w now requests n
@@ -141,7 +148,7 @@ returns-then-is_some-clause-kept g c = λ honest settled found may.
     (message_read c.read_message.result) found (c.loop-moment.invariant.answered old)
     c.loop-moment-test.true c.loop-moment-item.is (ap (λ t. (r.0, t)) (sym c.deref.ensures.value)) same
     c.read_message.ensures (c.loop-moment.invariant.settled old settled found)
-    (c.answer_request-answer.ensures.crash honest found may) in
+    (c.answer_request-answer.ensures.leaves.crash honest found may) in
     let size = ap length c.push_reserved.ensures.items
     ∙ length-append c.loop-moment.answers.items (c.in-Ok.field-0.bytes ∷ []) in
     let count : n ≡ length (map (λ v. v.items) c.push_reserved.new.self.items) - 1 =
@@ -175,8 +182,8 @@ returns-then-is_some-clause-cause g c = λ broken.
     failed_there (IsLast (map (λ v. v.items) c.push_reserved.new.self.items)) c.in-Ok.field-0.error
     (world_of g.S.PlanStore.content c.loop-moment.desk)
     (world_of g.S.PlanStore.content c.answer_request-answer.new.desk) c.in-Ok.field-0.bytes.items
-    first new (not_none c.in-Ok.field-0.error some) c.in-Ok.ensures.failed
-    (λ store. risen_since first old new c.loop-moment.invariant.counted (c.in-Ok.ensures.cause store))
+    first new (not_none c.in-Ok.field-0.error some) c.in-Ok.ensures.told.failed
+    (λ store. risen_since first old new c.loop-moment.invariant.counted (c.in-Ok.ensures.leaves.cause store))
     (subst (λ xs. IsLast (map (λ v. v.items) xs) c.in-Ok.field-0.bytes.items)
     (sym c.push_reserved.ensures.items)
     (last_said (λ v. v.items) c.loop-moment.answers.items c.in-Ok.field-0.bytes))

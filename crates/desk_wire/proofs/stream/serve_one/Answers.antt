@@ -52,7 +52,7 @@ returns-in_err-write_whole-clause-served g c =
     let told = replied (IsHonest (g.S.PlanStore.doubt c.answer_request.new.desk.store)) w after _
     c.args.moment
     (text ++ body) answer (message_read c.message_of-request.result) why moment got.read
-    c.in_ok-answer.ensures.bytes c.in_ok-answer.ensures.failed in
+    c.in_ok-answer.ensures.told.bytes c.in_ok-answer.ensures.told.failed in
     let off = rw c.deref-3.ensures.value at c.in_err-write_whole.ensures.err in
     broken (IsHonest (g.S.PlanStore.doubt c.answer_request.new.desk.store))
     c.from_residual-in_err-write_whole.result c.in_err-write_whole.field-0.0 _ _ _ _ w after c.args.moment
@@ -81,7 +81,7 @@ returns-clause-served g c =
     let told = replied (IsHonest (g.S.PlanStore.doubt c.answer_request.new.desk.store)) w after _
     c.args.moment
     (text ++ body) answer (message_read c.message_of-request.result) why moment got.read
-    c.in_ok-answer.ensures.bytes c.in_ok-answer.ensures.failed in
+    c.in_ok-answer.ensures.told.bytes c.in_ok-answer.ensures.told.failed in
     served_as (IsHonest (g.S.PlanStore.doubt c.answer_request.new.desk.store)) c.answered.result
     c.in_ok-answer.answer.status (is_ok c.message_of-request.result) (g.R.Read.remaining c.args.input.now)
     _ _ _ w after c.args.moment
@@ -94,8 +94,8 @@ returns-clause-served g c =
       replied = told;
       status_is = status_as (IsHonest (g.S.PlanStore.doubt c.answer_request.new.desk.store)) w _ c.args.moment
           (text ++ body) (message_read c.message_of-request.result) why c.in_ok-answer.answer.status moment
-          got.read c.in_ok-answer.ensures.status;
-      gave_up = c.in_ok-answer.ensures.gave_up;
+          got.read c.in_ok-answer.ensures.told.status;
+      gave_up = c.in_ok-answer.ensures.told.gave_up;
       written = rw c.deref-3.ensures.value at c.in_ok-write_whole.ensures.ok;
     }
 
@@ -119,7 +119,7 @@ returns-in_err-answer-clause-crash g c = λ honest.
     (g.R.Read.remaining c.receive_body.new.input) _ c.args.moment
     (world_of g.S.PlanStore.content c.args.desk.now) (message_read c.message_of-request.result)
     (text ++ body) (to_z-of_z w64 c.args.moment c.ranges.moment) got.taken got.read
-    (c.answer_request.ensures.crash honest)
+    (c.answer_request.ensures.leaves.crash honest)
 
 pub returns-in_err-write_whole-clause-crash : goal.returns-in_err-write_whole-clause-crash
 returns-in_err-write_whole-clause-crash g c = λ honest.
@@ -140,7 +140,7 @@ returns-in_err-write_whole-clause-crash g c = λ honest.
     (g.R.Read.remaining c.receive_body.new.input) _ c.args.moment
     (world_of g.S.PlanStore.content c.args.desk.now) (message_read c.message_of-request.result)
     (text ++ body) (to_z-of_z w64 c.args.moment c.ranges.moment) got.taken got.read
-    (c.answer_request.ensures.crash honest)
+    (c.answer_request.ensures.leaves.crash honest)
 
 pub returns-clause-crash : goal.returns-clause-crash
 returns-clause-crash g c = λ honest.
@@ -161,7 +161,7 @@ returns-clause-crash g c = λ honest.
     (g.R.Read.remaining c.receive_body.new.input) _ c.args.moment
     (world_of g.S.PlanStore.content c.args.desk.now) (message_read c.message_of-request.result)
     (text ++ body) (to_z-of_z w64 c.args.moment c.ranges.moment) got.taken got.read
-    (c.answer_request.ensures.crash honest)
+    (c.answer_request.ensures.leaves.crash honest)
 
 -- the answer is whole and no 500, or what stopped it leaves its change uncertain
 pub returns-in_err-answer-clause-kept : goal.returns-in_err-answer-clause-kept
@@ -176,8 +176,8 @@ returns-in_err-write_whole-clause-kept g c = λ honest certain.
 pub returns-clause-kept : goal.returns-clause-kept
 returns-clause-kept g c = λ honest certain.
     let other = subst (λ s. IsCertain (Ok s)) c.answered.ensures certain in
-    c.in_ok-answer.ensures.kept honest
-    (no_failure _ _ _ _ _ (c.in_ok-answer.ensures.status honest) other)
+    c.in_ok-answer.ensures.leaves.kept honest
+    (no_failure _ _ _ _ _ (c.in_ok-answer.ensures.told.status honest) other)
 
 -- the content is settled, or it stays and no more may be found, or the answer is that the desk failed
 pub returns-in_err-answer-clause-found : goal.returns-in_err-answer-clause-found
@@ -186,7 +186,7 @@ returns-in_err-answer-clause-found g c = λ honest.
     (g.S.PlanStore.may_leave c.answer_request.new.desk.store)
     (IsTaken (g.R.Read.remaining c.args.input.now) (g.R.Read.remaining c.receive_body.new.input))
     c.args.moment (world_of g.S.PlanStore.content c.args.desk.now)
-    (world_of g.S.PlanStore.content c.answer_request.new.desk) c.in_err-answer.ensures.err
+    (world_of g.S.PlanStore.content c.answer_request.new.desk) c.in_err-answer.ensures.leaves.same
     (uncertain_memory _ c.from_residual-in_err-answer.ensures.1)
     (returns-in_err-answer-clause-crash g c honest)
 
@@ -198,7 +198,7 @@ returns-in_err-write_whole-clause-found g c = λ honest.
     (IsTaken (g.R.Read.remaining c.args.input.now) (g.R.Read.remaining c.receive_body.new.input))
     c.args.moment (world_of g.S.PlanStore.content c.args.desk.now)
     (world_of g.S.PlanStore.content c.answer_request.new.desk) c.in_ok-answer.answer.error _
-    (c.in_ok-answer.ensures.settled honest) c.in_ok-answer.ensures.failed
+    (c.in_ok-answer.ensures.leaves.settled honest) c.in_ok-answer.ensures.told.failed
     (if_some_all c.in_ok-answer.answer.error
     (uncertain_write c.from_residual-in_err-write_whole.result c.in_err-write_whole.field-0.0
     c.from_residual-in_err-write_whole.ensures.1))
@@ -211,9 +211,9 @@ returns-clause-found g c = λ honest.
     (IsTaken (g.R.Read.remaining c.args.input.now) (g.R.Read.remaining c.receive_body.new.input))
     c.args.moment (world_of g.S.PlanStore.content c.args.desk.now)
     (world_of g.S.PlanStore.content c.answer_request.new.desk) c.in_ok-answer.answer.error _
-    (c.in_ok-answer.ensures.settled honest) c.in_ok-answer.ensures.failed
+    (c.in_ok-answer.ensures.leaves.settled honest) c.in_ok-answer.ensures.told.failed
     (unsure_500 _ _ _ _ _ _ c.in_ok-answer.answer.error c.answered.ensures
-    (c.in_ok-answer.ensures.status honest))
+    (c.in_ok-answer.ensures.told.status honest))
     (returns-clause-crash g c honest)
 
 -- why the desk failed, if the answer says so
@@ -228,5 +228,6 @@ returns-clause-cause g c =
     (λ is. failed_there (Appends out now) c.in_ok-answer.answer.error
     (world_of g.S.PlanStore.content c.args.desk.now)
     (world_of g.S.PlanStore.content c.answer_request.new.desk) c.in_ok-answer.answer.bytes.items
-    old new (c.in_ok-answer.ensures.gave_up is) c.in_ok-answer.ensures.failed c.in_ok-answer.ensures.cause
+    old new (c.in_ok-answer.ensures.told.gave_up is) c.in_ok-answer.ensures.told.failed
+    c.in_ok-answer.ensures.leaves.cause
     (rw c.deref-3.ensures.value at c.in_ok-write_whole.ensures.ok))
