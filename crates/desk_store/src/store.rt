@@ -2,6 +2,7 @@
 
 ghost use Rattle.std.specs.Prelude.{◌≡◌, ◌≤◌, ℕ, length, Option, IfOk, IfErr, IfSome, OnOk, OnErr};
 ghost use Rattle.desk_store.specs.StoreFrames.{OnlyReads, Remembers};
+ghost use Rattle.desk_store.specs.Content.{IsContent};
 ghost use Rattle.desk_store.specs.World.{World, AreInOrder, ceiling_of, plans_of, stored_of};
 ghost use Rattle.desk_store.specs.Rivals.{AreHeldByOthers, AreRivals};
 ghost use Rattle.desk_rules.specs.Limits.{max_plans, max_priority};
@@ -53,6 +54,7 @@ pub trait PlanStore {
             IfOk result (λ ceiling. ceiling ≡ ceiling_of operator.now (content self.old)) }
         ensures bound { IsHonest (doubt self.new) →
             IfOk result (λ ceiling. IfSome ceiling (λ n. n ≤ max_priority)) }
+        ensures content { IsHonest (doubt self.new) → OnOk result (IsContent (content self.old)) }
         ensures reads { OnlyReads content doubt faults may_leave is_shielded self.old self.new }
         ensures cause { IfErr result (IsCounted faults self.old self.new) };
 

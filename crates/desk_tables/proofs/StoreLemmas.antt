@@ -15,7 +15,7 @@ use Rattle.desk_sql.specs.Rows.{no_rows}
 use Rattle.desk_sql.specs.declared.opening.finding.TablesPresent.TheVariants.{Nothing}
 use Rattle.desk_store.specs.World.{World}
 use Rattle.desk_tables.specs.Tables.{AreTables}
-use Rattle.desk_tables.specs.Content.{IsContent}
+use Rattle.desk_store.specs.Content.{IsContent}
 use Rattle.desk_tables.specs.Store.{IsStanding, Stands}
 
 module _ {S : Type 0} (g : Ghosts S) (old new : Held S) (w : World) (stood : Stands g old w) where

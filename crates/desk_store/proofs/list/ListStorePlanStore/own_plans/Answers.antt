@@ -10,8 +10,8 @@ returns-clause-value c = λ _. c.in_ok-rows_of.ensures ∙ ap (plans_of c.args.o
 
 pub returns-clause-order : goal.returns-clause-order
 returns-clause-order c = λ _. subst AreInOrder (sym c.in_ok-rows_of.ensures)
-    (rows_sorted c.args.operator.now (filed_all c.self.inside.plans.entries) c.self.invariant.0.plans)
+    (rows_sorted c.args.operator.now (filed_all c.self.inside.plans.entries) c.self.invariant.0.world.plans)
 
 pub returns-clause-limit : goal.returns-clause-limit
 returns-clause-limit c = λ _. subst (λ rows. length rows ≤ max_plans) (sym c.in_ok-rows_of.ensures)
-    (c.self.invariant.0.rows c.args.operator.now)
+    (c.self.invariant.0.world.rows c.args.operator.now)
