@@ -1,5 +1,5 @@
 -- What changes of a desk do to its tables.
-use Rattle.std.proofs.Common.{◌≡◌, ℕ, ◌+◌, Bool, true, false, ◌&&◌, not, cond, List, [], ◌∷◌, ◌++◌, map, refl, sym, ap, subst, ◌∙◌, Less, Equal, Greater, IsPermutation, IsTrue}
+use Rattle.std.proofs.Common.{◌≡◌, ℕ, ◌+◌, Bool, true, false, ◌&&◌, not, cond, List, [], ◌∷◌, ◌++◌, map, refl, sym, ap, subst, ◌∙◌, Less, Equal, Greater, IsPermutation}
 use Rattle.std.specs.List.{AllByRecursion, filter, flat_map}
 use Rattle.std.specs.List.Sorted.{IsStrictlySortedBy}
 use Rattle.std.specs.declared.cmp.Ordering.{Ordering}
@@ -15,14 +15,13 @@ use Rattle.sqlite_value.proofs.OrderLemmas.{value_cmp-Text}
 use Rattle.sqlite_keyed.proofs.ListLemmas.{IsPermutation-same, IsPermutation-flat_map, IsPermutation-filter, filter_all}
 use Rattle.volume4d.specs.Volume.{Block}
 use Rattle.desk_rules.specs.declared.plan.PlanRow.{PlanRow}
-use Rattle.desk_rules.specs.Name.{is_operator_name}
 use Rattle.desk_sql.specs.Rows as sql
 use Rattle.desk_sql.specs.Rows.{Tables, is_not_of}
-use Rattle.desk_store.specs.World.{Filed, Listed, World, IsWorld, text_cmp, listed_cmp, filed_cmp, rows_by, plans_of, is_by, has_id}
-use Rattle.desk_store.specs.Changes.{is_before, is_after, is_named, put_filed, filed_by, put_row, list_operator, with_plans, with_operator, replaced, closed, close_row, clear_rows}
+use Rattle.desk_store.specs.World.{Filed, Listed, World, text_cmp, listed_cmp, filed_cmp, plans_of, is_by}
+use Rattle.desk_store.specs.Changes.{put_filed, filed_by, put_row, list_operator, with_plans, with_operator, replaced, closed, close_row, clear_rows}
 use Rattle.desk_store.specs.Rows.{is_own}
-use Rattle.desk_store.specs.laws.Order.{inserted, all_weaker, all_filter, all_map, all_append}
-use Rattle.desk_store.specs.laws.World.{kept}
+use Rattle.desk_store.specs.laws.Order.{inserted, all_weaker}
+use Rattle.desk_store.specs.laws.Content.{enrol_content, put_content, close_content, clear_content}
 use Rattle.desk_store.specs.laws.Change.{stays, cleared_plans, close_filed, closed_plans}
 use Rattle.desk_store.specs.StoreChange.{changed_by, IsFitting}
 use Rattle.desk_store.specs.declared.change.Change.{Change}
@@ -426,7 +425,7 @@ change_tables (Clear operator ids) w old new h within t e =
 
 pub change_content : (change : Change) (w : World) → IsContent w → IsFitting change w → IsWithin change
     → IsContent (changed_by change w)
-unfolding IsWithin
+unfolding changed_by IsWithin
 change_content (Enrol operator ceiling) w h fits within = enrol_content operator ceiling w h fits within
 change_content (Put operator row) w h fits within = put_content operator row w h fits within
 change_content (Close operator id) w h fits within = close_content operator id w h fits
