@@ -1,16 +1,26 @@
 //! The limits that a row keeps by the types of its parts, said as clauses. Each call here is made for its
 //! clause alone.
 
+ghost use Rattle.std.specs.Prelude.{IsTrue};
 ghost use Rattle.std.specs.List.{AllByRecursion};
 ghost use Rattle.s2_cellid.specs.Cell.{IsCellId};
 ghost use Rattle.volume4d.specs.Footprint.{shape_of};
 ghost use Rattle.volume4d.specs.FootprintBytes.{HasValidParts};
+ghost use Rattle.desk_rules.specs.Name.{is_operator_name};
 ghost use Rattle.desk_store.specs.Content.{IsId, IsBlock, IsPlan};
 
+use desk_rules::operator::Operator;
 use desk_rules::plan::PlanRow;
 use desk_rules::plan_id::PlanId;
 use s2_cellid::CellId;
 use volume4d::{Footprint, Volume};
+
+/// An operator has a valid name.
+pub(crate) fn name_within(operator: &Operator)
+    ensures { IsTrue (is_operator_name operator.now) }
+{
+    let _name = operator.as_str();
+}
 
 /// A row has an id of 16 bytes, and an area within the limits.
 pub(crate) fn row_within(row: &PlanRow)

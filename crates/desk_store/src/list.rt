@@ -18,7 +18,7 @@ ghost use Rattle.desk_store.specs.declared.change.Change.TheVariants as change;
 
 use crate::change::Change;
 use crate::fault::StoreFault;
-use crate::limits::row_within;
+use crate::limits::{name_within, row_within};
 use crate::plan::Plan;
 use crate::store::PlanStore;
 use desk_rules::operator::Operator;
@@ -139,8 +139,7 @@ impl ListStore {
         ensures ok { OnOk result (self.new ≡ changed_by (change.Enrol operator ceiling) self.old) }
         ensures err { OnErr result (self.new ≡ self.old) }
     {
-        // For its clause alone: an operator has a valid name.
-        let _name = operator.as_str();
+        name_within(&operator);
         let plan_count = count_in(&self.operators, &operator);
         self.operators.insert(
             operator,
