@@ -99,6 +99,11 @@ made_stands g old new mode done = record {
   };
 }
 
+-- what holds by itself
+pub on_any : {V E A : Type 0} (result : Result V E) → A → OnOk result A
+on_any (Ok v) holds = holds
+on_any (Err e) holds = tt
+
 -- what holds where something was taken to its end, of what is answered then alone
 pub on_whole : {V E F A : Type 0} (P : V → Type 0) (taken : Result (Unit {0}) E) (result : Result V F)
     → OnOk result (IsOk taken) → OnOk taken A → (A → IfOk result P) → IfOk result P

@@ -38,7 +38,8 @@ all_put P row (r ∷ rs) new h = by_order (text_cmp row.id r.id) (all_put P row 
   by_order Equal ih = (new, h.1)
   by_order Greater ih = (h.0, ih)
 
-own_plans : (o : List ℕ) (ps : List Filed) → AllByRecursion (λ p. IsPlan p.row) ps → AllByRecursion IsPlan (rows_by o ps)
+own_plans : (o : List ℕ) (ps : List Filed) → AllByRecursion (λ p. IsPlan p.row) ps
+    → AllByRecursion IsPlan (rows_by o ps)
 own_plans o ps h = all_map IsPlan (λ p. p.row) (filter (is_by o) ps)
     (all_filter (λ p. IsPlan p.row) (is_by o) ps h)
 
@@ -81,8 +82,8 @@ unfolding changed_by
 enrol_content name ceiling w h fits valid =
     with_name name ceiling w h (kept (Enrol name ceiling) w h.world fits) valid
 
-pub put_content : (o : List ℕ) (row : PlanRow) (w : World) → IsContent w → IsFitting (Put o row) w → IsPlan row
-    → IsContent (changed_by (Put o row) w)
+pub put_content : (o : List ℕ) (row : PlanRow) (w : World) → IsContent w → IsFitting (Put o row) w
+    → IsPlan row → IsContent (changed_by (Put o row) w)
 unfolding changed_by
 put_content o row w h fits within =
     with_rows o (put_row row (plans_of o w)) w h (kept (Put o row) w h.world fits)
