@@ -44,7 +44,7 @@ count_is o es plans h = by_found (lookup (is_at (text_cmp o)) es) refl where
   by_found : (found : Option Enrolment) → lookup (is_at (text_cmp o)) es ≡ found
       → unwrap_or (option_map (λ e. e.plan_count) found) 0 ≡ length (rows_by o (filed_all plans))
   by_found None f = sym
-      (ap length (unlisted_none o (world_of es plans) h.0
+      (ap length (unlisted_none o (world_of es plans) h.0.world
       (sym (ceiling_found o es) ∙ ap (option_map (λ e. e.ceiling)) f)))
   by_found (Some e) f = found_count o es (filed_all plans) e h.1 f
 

@@ -15,22 +15,23 @@ use Rattle.desk_rules.specs.Limits.{max_plans}
 use Rattle.desk_store.specs.declared.change.Change.{Change}
 use Rattle.desk_store.specs.declared.change.Change.TheVariants.{Put, Close}
 use Rattle.desk_store.specs.declared.list.Enrolment.{Enrolment}
-use Rattle.desk_store.specs.World.{World, IsWorld, text_cmp, rows_by, plans_of, stored_of, has_id}
+use Rattle.desk_store.specs.World.{World, text_cmp, rows_by, plans_of, stored_of, has_id}
+use Rattle.desk_store.specs.Content.{IsPlan, IsContent}
 use Rattle.desk_store.specs.Changes.{put_row, closed, close_row, is_named, clear_rows, with_plans}
 use Rattle.desk_store.specs.StoreChange.{changed_by, IsFitting}
 use Rattle.desk_store.specs.Parts.{PlanParts, parts_of, row_of}
 use Rattle.desk_store.specs.Listing.{filed_all, world_of, AreCounted, IsStore, with_count, without}
 use Rattle.desk_store.specs.laws.Order.{is_equal, rows_sorted}
-use Rattle.desk_store.specs.laws.World.{own_replaced, others_kept, kept, fewer, length-put_stored}
+use Rattle.desk_store.specs.laws.World.{own_replaced, others_kept, fewer, length-put_stored}
+use Rattle.desk_store.specs.laws.Content.{put_content, close_content, clear_content}
 use Rattle.desk_store.proofs.EntryLemmas.{Key, key_cmp}
 use Rattle.desk_store.proofs.StoreLemmas.{plan_found, stored}
 use Rattle.desk_store.proofs.ChangeLemmas.{cleared}
 use Rattle.desk_store.proofs.CountLemmas.{count_is, counts_stay, count_replaced, listed_same}
 
-pub kept_by : (change : Change) (before old after : World) → before ≡ old → IsWorld before
-    → IsFitting change old → after ≡ changed_by change old → IsWorld after
-kept_by change before old after same h fits e = subst IsWorld (sym e)
-    (kept change old (subst IsWorld same h) fits)
+pub kept_by : (change : Change) (before old after : World) → before ≡ old → IsContent before
+    → (IsContent old → IsContent (changed_by change old)) → after ≡ changed_by change old → IsContent after
+kept_by change before old after same h keeps e = subst IsContent (sym e) (keeps (subst IsContent same h))
 
 -- the counts where an operator's number of plans stays
 same_counts : (old : World) (ops : List (List ℕ × Enrolment)) (plans more : List (Key × PlanParts))
@@ -66,15 +67,16 @@ new_counts old ops plans more o n rows is after count =
 pub put_again : (old : World) (ops : List (List ℕ × Enrolment)) (plans more : List (Key × PlanParts))
     (o : List ℕ) (row : PlanRow) (found : Option PlanParts) → world_of ops plans ≡ old
     → IsStore ops plans
-    → IsFitting (Put o row) old → IsStrictlySortedBy key_cmp (keys_of plans) → more
+    → IsFitting (Put o row) old → IsPlan row → IsStrictlySortedBy key_cmp (keys_of plans) → more
     ≡ insert_entry key_cmp plans (o, row.id) (parts_of row) → found
     ≡ lookup (is_at (key_cmp (o, row.id))) plans → is_some found ≡ true
     → (world_of ops more ≡ changed_by (Put o row) old) × IsStore ops more
 unfolding changed_by
-put_again old ops plans more o row found is h fits sorted e f there = (
+put_again old ops plans more o row found is h fits within sorted e f there = (
   after,
   (
-    kept_by (Put o row) (world_of ops plans) old (world_of ops more) is h.0 fits after,
+    kept_by (Put o row) (world_of ops plans) old (world_of ops more) is h.0
+        (λ content. put_content o row old content fits within) after,
     same_counts
         old ops plans more o (put_row row (plans_of o old)) is after count h.1,
   ),
@@ -92,7 +94,8 @@ put_again old ops plans more o row found is h fits sorted e f there = (
       ∙ some found there
 
   count : length (put_row row (plans_of o old)) ≡ length (plans_of o old)
-  count = length-put_stored row (plans_of o old) (rows_sorted o old.plans (subst IsWorld is h.0).plans)
+  count = length-put_stored row (plans_of o old) (rows_sorted o old.plans
+      (subst IsContent is h.0).world.plans)
       is_stored
 
 length-put_absent : (row : PlanRow) (rows : List PlanRow) → stored_of row.id rows ≡ None
@@ -113,18 +116,19 @@ length-put_absent row (r ∷ rs) none = by_order (text_cmp row.id r.id) refl non
 -- a row more
 pub put_first : (old : World) (ops : List (List ℕ × Enrolment)) (plans more : List (Key × PlanParts))
     (o : List ℕ) (row : PlanRow) (found : Option PlanParts) (count : ℕ) → world_of ops plans ≡ old
-    → IsStore ops plans → IsFitting (Put o row) old → IsStrictlySortedBy key_cmp (keys_of plans) → more
+    → IsStore ops plans → IsFitting (Put o row) old → IsPlan row
+    → IsStrictlySortedBy key_cmp (keys_of plans) → more
     ≡ insert_entry key_cmp plans (o, row.id) (parts_of row) → found
     ≡ lookup (is_at (key_cmp (o, row.id))) plans → is_some found ≡ false → count
     ≡ unwrap_or (option_map (λ e. e.plan_count) (lookup (is_at (text_cmp o)) ops)) 0
     → (world_of (with_count o (count + 1) ops) more ≡ changed_by (Put o row) old)
     × IsStore (with_count o (count + 1) ops) more
 unfolding changed_by
-put_first old ops plans more o row found count is h fits sorted e f none counted = (
+put_first old ops plans more o row found count is h fits within sorted e f none counted = (
   after,
   (
     kept_by (Put o row) (world_of ops plans) old (world_of (with_count o (count + 1) ops) more) is
-        h.0 fits after,
+        h.0 (λ content. put_content o row old content fits within) after,
     new_counts old ops plans more o (count + 1) (put_row row (plans_of o old)) is after
         one_more h.1,
   ),
@@ -152,21 +156,24 @@ pub count_within : (old : World) (ops : List (List ℕ × Enrolment)) (plans : L
     (o : List ℕ) (count : ℕ) → IsStore ops plans → count
     ≡ unwrap_or (option_map (λ e. e.plan_count) (lookup (is_at (text_cmp o)) ops)) 0 → count ≤ max_plans
 count_within old ops plans o count h counted = omega
-    (arith, counted ∙ count_is o ops plans h, h.0.rows o)
+    (arith, counted ∙ count_is o ops plans h, h.0.world.rows o)
 
 -- plans taken out
 pub clear_kept : (old : World) (ops : List (List ℕ × Enrolment)) (plans more : List (Key × PlanParts))
-    (o : List ℕ) (n : ℕ) (rows : List PlanRow) (change : Change) → changed_by change old
-    ≡ with_plans old o rows → world_of ops plans ≡ old → IsStore ops plans → IsFitting change old
-    → world_of (with_count o n ops) more ≡ with_plans old o rows → n
+    (o : List ℕ) (n : ℕ) (ids : List (List ℕ)) (change : Change) → changed_by change old
+    ≡ with_plans old o (clear_rows ids (plans_of o old)) → world_of ops plans ≡ old → IsStore ops plans
+    → IsFitting change old
+    → world_of (with_count o n ops) more ≡ with_plans old o (clear_rows ids (plans_of o old)) → n
     ≡ length (rows_by o (filed_all more))
     → IsStore (with_count o n ops) more
-clear_kept old ops plans more o n rows change by is h fits after count = (
-  kept_by change (world_of ops plans) old (world_of (with_count o n ops) more) is h.0 fits
-      (after ∙ sym by),
+clear_kept old ops plans more o n ids change by is h fits after count = (
+  kept_by change (world_of ops plans) old (world_of (with_count o n ops) more) is h.0
+      (λ content. clear_content o ids change old content fits by) (after ∙ sym by),
   new_counts old ops plans more o n rows is after (count ∙ ap (λ w. length (plans_of o w)) after
       ∙ ap length (own_replaced o rows old)) h.1,
-)
+) where
+  rows : List PlanRow
+  rows = clear_rows ids (plans_of o old)
 
 -- those left are within the limit
 pub clear_within : (ops : List (List ℕ × Enrolment)) (plans more : List (Key × PlanParts)) (o : List ℕ)
@@ -177,9 +184,9 @@ clear_within ops plans more o ids h left =
     let w = world_of ops plans in
     let rows = clear_rows ids (plans_of o w) in
     let are : rows_by o (filed_all more) ≡ rows =
-    ap (rows_by o) (cleared o ids plans more h.0.plans left)
+    ap (rows_by o) (cleared o ids plans more h.0.world.plans left)
     ∙ own_replaced o rows w in
-    omega (arith, ap length are, fewer (λ r. not (is_named ids r)) (plans_of o w), h.0.rows o)
+    omega (arith, ap length are, fewer (λ r. not (is_named ids r)) (plans_of o w), h.0.world.rows o)
 
 -- a plan closed
 pub close_kept : (old : World) (ops : List (List ℕ × Enrolment)) (plans more : List (Key × PlanParts))
@@ -187,7 +194,8 @@ pub close_kept : (old : World) (ops : List (List ℕ × Enrolment)) (plans more 
     → world_of ops more ≡ changed_by (Close o id) old → IsStore ops more
 unfolding changed_by
 close_kept old ops plans more o id is h fits after = (
-  kept_by (Close o id) (world_of ops plans) old (world_of ops more) is h.0 fits after,
+  kept_by (Close o id) (world_of ops plans) old (world_of ops more) is h.0
+      (λ content. close_content o id old content fits) after,
   same_counts old ops plans more o (close_row id (plans_of o old)) is after
       (length-map (plans_of o old) (λ r. cond (has_id id r) (closed r) r)) h.1,
 )

@@ -1,5 +1,6 @@
--- Read first: World, Changes, Rivals. What stands in laws/ is checked and needn't be read.
+-- Read first: World, Content, Changes, Rivals. What stands in laws/ is checked and needn't be read.
 pub mod World
+pub mod Content
 pub mod Changes
 pub mod StoreChange
 pub mod ChangeParts

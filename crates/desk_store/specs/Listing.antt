@@ -6,7 +6,8 @@ use Rattle.std.specs.Ordering.{is_eq}
 use Rattle.std.specs.BTreeMap.{is_at}
 use Rattle.std.specs.Map.{lookup}
 use Rattle.desk_store.specs.declared.list.Enrolment.{Enrolment}
-use Rattle.desk_store.specs.World.{World, Listed, Filed, IsWorld, text_cmp, rows_by}
+use Rattle.desk_store.specs.World.{World, Listed, Filed, text_cmp, rows_by}
+use Rattle.desk_store.specs.Content.{IsContent}
 use Rattle.desk_store.specs.Parts.{PlanParts, row_of}
 
 abbrev pub listed_of : List ℕ × Enrolment → Listed
@@ -35,7 +36,7 @@ AreCounted operators plans = AllByRecursion (λ e. e.1.plan_count ≡ length (ro
 
 -- what a store in memory always is
 abbrev pub IsStore : List (List ℕ × Enrolment) → List ((List ℕ × List ℕ) × PlanParts) → Type 0
-IsStore operators plans = IsWorld (world_of operators plans) × AreCounted operators (filed_all plans)
+IsStore operators plans = IsContent (world_of operators plans) × AreCounted operators (filed_all plans)
 
 -- the key of one of an operator's plans of some ids, and the plans but those
 abbrev pub is_one_of : List ℕ → List (List ℕ) → List ℕ × List ℕ → Bool

@@ -3,6 +3,7 @@
 
 mod change;
 mod fault;
+mod limits;
 mod list;
 mod meets;
 mod plan;

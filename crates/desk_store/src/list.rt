@@ -18,6 +18,7 @@ ghost use Rattle.desk_store.specs.declared.change.Change.TheVariants as change;
 
 use crate::change::Change;
 use crate::fault::StoreFault;
+use crate::limits::{name_within, row_within};
 use crate::plan::Plan;
 use crate::store::PlanStore;
 use desk_rules::operator::Operator;
@@ -138,6 +139,7 @@ impl ListStore {
         ensures ok { OnOk result (self.new ≡ changed_by (change.Enrol operator ceiling) self.old) }
         ensures err { OnErr result (self.new ≡ self.old) }
     {
+        name_within(&operator);
         let plan_count = count_in(&self.operators, &operator);
         self.operators.insert(
             operator,
@@ -155,6 +157,7 @@ impl ListStore {
         ensures ok { OnOk result (self.new ≡ changed_by (change.Put operator row) self.old) }
         ensures err { OnErr result (self.new ≡ self.old) }
     {
+        row_within(&row);
         let id = row.id;
         let plan = Plan::try_new(row)?;
         let before = self.plans.insert((operator, id), plan)?;

@@ -1,10 +1,10 @@
 //! Stores of plans, as a desk uses them.
 
-ghost use Rattle.std.specs.Prelude.{◌≡◌, ◌≤◌, ℕ, length, Option, IfOk, IfErr, IfSome, OnOk, OnErr};
+ghost use Rattle.std.specs.Prelude.{◌≡◌, ℕ, length, Option, IfOk, IfErr, OnOk, OnErr};
 ghost use Rattle.desk_store.specs.StoreFrames.{OnlyReads, Remembers};
-ghost use Rattle.desk_store.specs.World.{World, AreInOrder, ceiling_of, plans_of, stored_of};
+ghost use Rattle.desk_store.specs.Content.{IsContent};
+ghost use Rattle.desk_store.specs.World.{World, ceiling_of, plans_of, stored_of};
 ghost use Rattle.desk_store.specs.Rivals.{AreHeldByOthers, AreRivals};
-ghost use Rattle.desk_rules.specs.Limits.{max_plans, max_priority};
 ghost use Rattle.desk_rules.specs.States.{states_of};
 
 use crate::change::Change;
@@ -51,8 +51,7 @@ pub trait PlanStore {
     fn ceiling(&mut self, operator: &Operator) -> Result<Option<u32>, StoreFault>
         ensures value { IsHonest (doubt self.new) →
             IfOk result (λ ceiling. ceiling ≡ ceiling_of operator.now (content self.old)) }
-        ensures bound { IsHonest (doubt self.new) →
-            IfOk result (λ ceiling. IfSome ceiling (λ n. n ≤ max_priority)) }
+        ensures content { IsHonest (doubt self.new) → OnOk result (IsContent (content self.old)) }
         ensures reads { OnlyReads content doubt faults may_leave is_shielded self.old self.new }
         ensures cause { IfErr result (IsCounted faults self.old self.new) };
 
@@ -81,9 +80,7 @@ pub trait PlanStore {
     fn own_plans(&mut self, operator: &Operator) -> Result<Vec<PlanRow>, StoreFault>
         ensures value { IsHonest (doubt self.new) →
             IfOk result (λ rows. rows.items ≡ plans_of operator.now (content self.old)) }
-        ensures order { IsHonest (doubt self.new) → IfOk result (λ rows. AreInOrder rows.items) }
-        ensures limit { IsHonest (doubt self.new) →
-            IfOk result (λ rows. length rows.items ≤ max_plans) }
+        ensures content { IsHonest (doubt self.new) → OnOk result (IsContent (content self.old)) }
         ensures reads { OnlyReads content doubt faults may_leave is_shielded self.old self.new }
         ensures cause { IfErr result (IsCounted faults self.old self.new) };
 

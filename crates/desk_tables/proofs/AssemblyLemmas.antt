@@ -13,7 +13,7 @@ use Rattle.desk_sql.specs.Rows.{Tables}
 use Rattle.desk_store.specs.World.{Filed, Listed, World, text_cmp, listed_cmp, filed_cmp, IsListed}
 use Rattle.desk_store.specs.laws.Order.{is_equal, all_weaker}
 use Rattle.desk_tables.specs.Tables.{AreSpanRows}
-use Rattle.desk_tables.specs.Content.{IsPlan, IsContent}
+use Rattle.desk_store.specs.Content.{IsPlan, IsContent}
 use Rattle.desk_tables.specs.Records.{IsOperator, IsFiled}
 use Rattle.desk_tables.specs.Opening.{AreOperatorRows, ArePlanRows, AreShared, AreAgreed, AreRows}
 use Rattle.desk_tables.proofs.ContentLemmas.{one_operators, one_plans}

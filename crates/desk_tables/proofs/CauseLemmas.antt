@@ -25,7 +25,7 @@ use Rattle.desk_store.specs.World.{Filed, World, plans_of, stored_of}
 use Rattle.desk_store.specs.declared.fault.StoreFault.{StoreFault}
 use Rattle.desk_store.specs.declared.fault.StoreFault.TheVariants.{Store}
 use Rattle.desk_tables.specs.Causes.{BlamesStore}
-use Rattle.desk_tables.specs.Content.{IsContent, IsPlan}
+use Rattle.desk_store.specs.Content.{IsContent, IsPlan}
 use Rattle.desk_tables.specs.Lookups.{one_or_none, own_of}
 use Rattle.desk_tables.specs.Opening.{HasFailed}
 use Rattle.desk_tables.specs.Reading.{IsHead, IsVolumeAt}

@@ -1,5 +1,5 @@
 -- What changes of a desk do to its tables.
-use Rattle.std.proofs.Common.{◌≡◌, ℕ, ◌+◌, Bool, true, false, ◌&&◌, not, cond, List, [], ◌∷◌, ◌++◌, map, refl, sym, ap, subst, ◌∙◌, Less, Equal, Greater, IsPermutation, IsTrue}
+use Rattle.std.proofs.Common.{◌≡◌, ℕ, ◌+◌, Bool, true, false, ◌&&◌, not, cond, List, [], ◌∷◌, ◌++◌, map, refl, sym, ap, subst, ◌∙◌, Less, Equal, Greater, IsPermutation}
 use Rattle.std.specs.List.{AllByRecursion, filter, flat_map}
 use Rattle.std.specs.List.Sorted.{IsStrictlySortedBy}
 use Rattle.std.specs.declared.cmp.Ordering.{Ordering}
@@ -15,20 +15,19 @@ use Rattle.sqlite_value.proofs.OrderLemmas.{value_cmp-Text}
 use Rattle.sqlite_keyed.proofs.ListLemmas.{IsPermutation-same, IsPermutation-flat_map, IsPermutation-filter, filter_all}
 use Rattle.volume4d.specs.Volume.{Block}
 use Rattle.desk_rules.specs.declared.plan.PlanRow.{PlanRow}
-use Rattle.desk_rules.specs.Name.{is_operator_name}
 use Rattle.desk_sql.specs.Rows as sql
 use Rattle.desk_sql.specs.Rows.{Tables, is_not_of}
-use Rattle.desk_store.specs.World.{Filed, Listed, World, IsWorld, text_cmp, listed_cmp, filed_cmp, rows_by, plans_of, is_by, has_id}
-use Rattle.desk_store.specs.Changes.{is_before, is_after, is_named, put_filed, filed_by, put_row, list_operator, with_plans, with_operator, replaced, closed, close_row, clear_rows}
+use Rattle.desk_store.specs.World.{Filed, Listed, World, text_cmp, listed_cmp, filed_cmp, plans_of, is_by}
+use Rattle.desk_store.specs.Changes.{put_filed, filed_by, put_row, list_operator, with_plans, with_operator, replaced, closed, close_row, clear_rows}
 use Rattle.desk_store.specs.Rows.{is_own}
-use Rattle.desk_store.specs.laws.Order.{inserted, all_weaker, all_filter, all_map, all_append}
-use Rattle.desk_store.specs.laws.World.{kept}
+use Rattle.desk_store.specs.laws.Order.{inserted, all_weaker}
+use Rattle.desk_store.specs.laws.Content.{enrol_content, put_content, close_content, clear_content}
 use Rattle.desk_store.specs.laws.Change.{stays, cleared_plans, close_filed, closed_plans}
 use Rattle.desk_store.specs.StoreChange.{changed_by, IsFitting}
 use Rattle.desk_store.specs.declared.change.Change.{Change}
 use Rattle.desk_store.specs.declared.change.Change.TheVariants.{Enrol, Put, Close, Clear}
 use Rattle.desk_tables.specs.Tables.{id_text, operator_row, operator_rows, plan_row, plan_rows, volume_row, rows_from, area_rows, volume_rows, cover_row, area_covers, cover_rows, AreSpanRows, HasNoOldRows, AreTables}
-use Rattle.desk_tables.specs.Content.{IsId, IsPlan, IsContent}
+use Rattle.desk_store.specs.Content.{IsId, IsPlan, IsContent}
 use Rattle.desk_tables.specs.TableChanges.{with_usage, EnrolsRows, PutsRows, ClosesRows, ClearsRows, ChangesRows, IsWithin, closed_if, is_left}
 use Rattle.desk_tables.proofs.RowLemmas.{after_key}
 use Rattle.desk_tables.proofs.FilterLemmas.{ArePlans, turned, own_row, other_row, left_row, plans_filtered, volumes_filtered, covers_filtered, plan_spans_filtered, spans_filtered, spans_moved}
@@ -424,80 +423,11 @@ change_tables (Clear operator ids) w old new h within t e =
 
 -- ---- what stays a content
 
-all_listed : (P : Listed → Type 0) (name : List ℕ) (ceiling : ℕ) (ls : List Listed)
-    → P (record { name = name; ceiling = ceiling }) → AllByRecursion P ls
-    → AllByRecursion P (list_operator name ceiling ls)
-all_listed P name ceiling [] new h = (new, tt)
-all_listed P name ceiling (l ∷ ls) new h = by_order (text_cmp name l.name)
-    (all_listed P name ceiling ls new h.1) where
-      by_order : (n : Ordering) → AllByRecursion P (list_operator name ceiling ls)
-          → AllByRecursion P (match_ordering n (record { name = name; ceiling = ceiling } ∷ l ∷ ls)
-          (record { name = name; ceiling = ceiling } ∷ ls) (l ∷ list_operator name ceiling ls))
-      by_order Less ih = (new, h)
-      by_order Equal ih = (new, h.1)
-      by_order Greater ih = (h.0, ih)
-
-all_put : (P : PlanRow → Type 0) (row : PlanRow) (rows : List PlanRow) → P row → AllByRecursion P rows
-    → AllByRecursion P (put_row row rows)
-all_put P row [] new h = (new, tt)
-all_put P row (r ∷ rs) new h = by_order (text_cmp row.id r.id) (all_put P row rs new h.1) where
-  by_order : (n : Ordering) → AllByRecursion P (put_row row rs)
-      → AllByRecursion P (match_ordering n (row ∷ r ∷ rs) (row ∷ rs) (r ∷ put_row row rs))
-  by_order Less ih = (new, h)
-  by_order Equal ih = (new, h.1)
-  by_order Greater ih = (h.0, ih)
-
-own_plans : (o : List ℕ) (ps : List Filed) → ArePlans ps → AllByRecursion IsPlan (rows_by o ps)
-own_plans o ps h = all_map IsPlan (λ p. p.row) (filter (is_by o) ps)
-    (all_filter (λ p. IsPlan p.row) (is_by o) ps h)
-
-all_closed : (id : List ℕ) (rows : List PlanRow) → AllByRecursion IsPlan rows
-    → AllByRecursion IsPlan (close_row id rows)
-all_closed id [] h = tt
-all_closed id (r ∷ rs) h = (by_test (has_id id r), all_closed id rs h.1) where
-  by_test : (b : Bool) → IsPlan (cond b (closed r) r)
-  by_test true = record { id = h.0.id; volumes = h.0.volumes; each = h.0.each }
-  by_test false = h.0
-
-with_rows : (o : List ℕ) (rows : List PlanRow) (w : World) → IsContent w → IsWorld (with_plans w o rows)
-    → AllByRecursion IsPlan rows → IsContent (with_plans w o rows)
-unfolding with_plans
-with_rows o rows w h world all = record {
-  world = world;
-  names = h.names;
-  rows = all_append ArePlan (filter (is_before o) w.plans)
-      (map (filed_by o) rows ++ filter (is_after o) w.plans)
-      (all_filter ArePlan (is_before o) w.plans h.rows)
-      (all_append ArePlan (map (filed_by o) rows) (filter (is_after o) w.plans)
-      (all_map ArePlan (filed_by o) rows all) (all_filter ArePlan (is_after o) w.plans h.rows));
-} where
-  ArePlan : Filed → Type 0
-  ArePlan p = IsPlan p.row
-
-with_name : (name : List ℕ) (ceiling : ℕ) (w : World) → IsContent w
-    → IsWorld (with_operator w name ceiling)
-    → IsTrue (is_operator_name name) → IsContent (with_operator w name ceiling)
-unfolding with_operator
-with_name name ceiling w h world valid = record {
-  world = world;
-  names = all_listed (λ l. IsTrue (is_operator_name l.name)) name ceiling w.operators valid h.names;
-  rows = h.rows;
-}
-
 pub change_content : (change : Change) (w : World) → IsContent w → IsFitting change w → IsWithin change
     → IsContent (changed_by change w)
 unfolding changed_by IsWithin
-change_content (Enrol operator ceiling) w h fits within =
-    with_name operator ceiling w h (kept (Enrol operator ceiling) w h.world fits) within
-change_content (Put operator row) w h fits within =
-    with_rows operator (put_row row (plans_of operator w)) w h (kept (Put operator row) w h.world fits)
-    (all_put IsPlan row (plans_of operator w) within (own_plans operator w.plans h.rows))
-change_content (Close operator id) w h fits within =
-    with_rows operator (close_row id (plans_of operator w)) w h
-    (kept (Close operator id) w h.world fits)
-    (all_closed id (plans_of operator w) (own_plans operator w.plans h.rows))
+change_content (Enrol operator ceiling) w h fits within = enrol_content operator ceiling w h fits within
+change_content (Put operator row) w h fits within = put_content operator row w h fits within
+change_content (Close operator id) w h fits within = close_content operator id w h fits
 change_content (Clear operator ids) w h fits within =
-    with_rows operator (clear_rows ids.items (plans_of operator w)) w h
-    (kept (Clear operator ids) w h.world fits)
-    (all_filter IsPlan (λ r. not (is_named ids.items r)) (plans_of operator w)
-    (own_plans operator w.plans h.rows))
+    clear_content operator ids.items (Clear operator ids) w h fits refl

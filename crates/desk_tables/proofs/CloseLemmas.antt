@@ -13,7 +13,7 @@ use Rattle.desk_sql.specs.Rows.{Tables, is_of, with_row, ClosesPlan}
 use Rattle.desk_store.specs.World.{Filed, World, text_cmp}
 use Rattle.desk_store.specs.Rows.{is_own}
 use Rattle.desk_tables.specs.Tables.{id_text, aircraft_number, plan_row, plan_rows, AreTables}
-use Rattle.desk_tables.specs.Content.{IsId, IsContent}
+use Rattle.desk_store.specs.Content.{IsId, IsContent}
 use Rattle.desk_tables.specs.Lookups.{one_or_none, own_of}
 use Rattle.desk_tables.specs.TableChanges.{ClosesRows, closed_if}
 use Rattle.desk_tables.proofs.FilterLemmas.{ArePlans, own_row}

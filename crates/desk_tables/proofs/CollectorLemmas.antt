@@ -11,7 +11,7 @@ use Rattle.desk_store.specs.World.{Filed}
 use Rattle.desk_sql.specs.Rows.{joined}
 use Rattle.desk_tables.specs.declared.reading.values.Head.{Head}
 use Rattle.desk_tables.specs.Tables.{area_rows, plan_row, volume_row, volume_rows_from}
-use Rattle.desk_tables.specs.Content.{IsBlock}
+use Rattle.desk_store.specs.Content.{IsBlock}
 use Rattle.desk_tables.specs.Reading.{IsVolumeAt, IsHead, joined_from, joined_rows, listing_rows}
 use Rattle.desk_tables.specs.Gathering.{HasNoArea, IsNoHead, IsUngathered, IsUnderWay, Leads}
 use Rattle.desk_tables.proofs.FilterLemmas.{ArePlans}

@@ -17,7 +17,7 @@ use Rattle.desk_rules.specs.declared.words.Aircraft.{Aircraft}
 use Rattle.desk_rules.specs.declared.words.Aircraft.TheVariants as aircraft
 use Rattle.desk_store.specs.World.{Filed, Listed, World, text_cmp}
 use Rattle.desk_tables.specs.Tables.{id_text, usage_number, aircraft_number, operator_row, operator_rows, plan_row, plan_rows, volume_row, volume_rows_from, volume_rows, AreTables}
-use Rattle.desk_tables.specs.Content.{IsId, IsBlock, IsPlan, IsContent}
+use Rattle.desk_store.specs.Content.{IsId, IsBlock, IsPlan, IsContent}
 use Rattle.desk_tables.proofs.IdLemmas.{text_order}
 use Rattle.desk_tables.proofs.RowLemmas.{operators_ascend, plans_ascend, volumes_ascend, one_order}
 

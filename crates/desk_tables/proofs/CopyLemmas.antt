@@ -10,7 +10,7 @@ use Rattle.sqlite.specs.Held.{Held, state}
 use Rattle.desk_sql.specs.Effects.{Commits}
 use Rattle.desk_sql.specs.Rows.{Tables, tables_of, AddsOperator, AddsPlan}
 use Rattle.desk_store.specs.World.{Filed, Listed, World}
-use Rattle.desk_tables.specs.Content.{IsContent}
+use Rattle.desk_store.specs.Content.{IsContent}
 use Rattle.desk_tables.specs.Store.{Stands}
 use Rattle.desk_tables.specs.Tables.{operator_row, operator_rows, plan_row, plan_rows, volume_rows, cover_rows, AreTables}
 use Rattle.desk_tables.specs.Copying.{AddsHeadRows, AddsOperatorRows, AddsWorldRows}

@@ -8,7 +8,7 @@ use Rattle.volume4d.specs.Shape.{Shape}
 use Rattle.desk_sql.specs.Rows.{Tables}
 use Rattle.desk_store.specs.World.{Filed, World}
 use Rattle.desk_tables.specs.Tables.{rows_from, cover_row, cover_rows, area_covers}
-use Rattle.desk_tables.specs.Content.{IsContent}
+use Rattle.desk_store.specs.Content.{IsContent}
 use Rattle.desk_tables.specs.Opening.{AreRows, AreAllRows}
 use Rattle.desk_tables.proofs.ContentLemmas.{one_plans}
 

@@ -19,7 +19,7 @@ use Rattle.desk_rules.specs.declared.words.Usage.TheVariants as usage
 use Rattle.volume4d.specs.Volume.{Block}
 use Rattle.desk_store.specs.World.{Filed}
 use Rattle.desk_tables.specs.Tables.{id_text, plan_row, volume_row, volume_rows_from, area_rows, span_row, AreSpanRowsFrom, ArePlanSpanRows}
-use Rattle.desk_tables.specs.Content.{IsId, IsBlock}
+use Rattle.desk_store.specs.Content.{IsId, IsBlock}
 use Rattle.volume4d.specs.Volume.{is_area}
 use Rattle.desk_tables.specs.Reading.{IsVolumeAt, IsHead}
 use Rattle.desk_tables.specs.Records.{IsFiled, AreRowsOf, AreNumbersOf, IsKeyed, IsWindowAt, slab_row, row_fault_of}

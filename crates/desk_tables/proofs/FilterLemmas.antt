@@ -19,7 +19,7 @@ use Rattle.desk_store.specs.World.{Filed, text_cmp}
 use Rattle.desk_store.specs.Rows.{is_own}
 use Rattle.desk_store.specs.laws.Change.{stays}
 use Rattle.desk_tables.specs.Tables.{id_text, plan_row, plan_rows, volume_row, rows_from, volume_rows, cover_row, cover_rows, span_row, AreSpanRowsFrom, ArePlanSpanRows, AreSpanRows}
-use Rattle.desk_tables.specs.Content.{IsId, IsPlan}
+use Rattle.desk_store.specs.Content.{IsId, IsPlan}
 use Rattle.desk_tables.specs.TableChanges.{is_left}
 use Rattle.desk_tables.proofs.IdLemmas.{text_order}
 use Rattle.desk_tables.proofs.RowLemmas.{after_key, after_place, placed, placed_rows}

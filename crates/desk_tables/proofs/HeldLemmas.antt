@@ -37,7 +37,7 @@ use Rattle.desk_store.specs.Rows.{is_own, other_level, others_top, rival_level, 
 use Rattle.desk_store.specs.Rivals.{AreRivals, HaveLevel}
 use Rattle.desk_store.specs.laws.Rival.{others_top-cons, others_top-nil, held_by_others, rivals_top-cons, rivals_top-nil, held_by_rivals}
 use Rattle.desk_tables.specs.Tables.{id_text, span_row, AreSpanRowsFrom, ArePlanSpanRows, AreSpanRows, AreTables}
-use Rattle.desk_tables.specs.Content.{IsId, IsPlan, IsContent}
+use Rattle.desk_store.specs.Content.{IsId, IsPlan, IsContent}
 use Rattle.desk_tables.specs.declared.span_bounds.SpanBounds.{SpanBounds}
 use Rattle.desk_tables.specs.SpanBounds.{AreWhole, Bounds, HasKnownSpan, IsKnown, IsWithin}
 use Rattle.desk_tables.specs.RivalRows.{HaveTaken, HaveTakenAll, IsHeldIn, HasTakenHelds, is_asked, is_asked_if, is_asked_of_others, reach_of}

@@ -11,7 +11,7 @@ use Rattle.desk_sql.specs.Rows.{joined}
 use Rattle.desk_store.specs.World.{Filed}
 use Rattle.desk_tables.specs.declared.reading.values.Head.{Head}
 use Rattle.desk_tables.specs.Tables.{plan_row, volume_row}
-use Rattle.desk_tables.specs.Content.{IsId, IsBlock}
+use Rattle.desk_store.specs.Content.{IsId, IsBlock}
 use Rattle.desk_tables.specs.Reading.{IsVolumeAt, IsHead, is_later, joined_from, listing_rows}
 use Rattle.desk_tables.specs.Gathering.{plan_with, closed_plans, IsUnderWay, Leads}
 use Rattle.desk_tables.proofs.FilterLemmas.{ArePlans}

@@ -20,7 +20,7 @@ use Rattle.desk_store.specs.World.{Filed, World, text_cmp, filed_cmp, is_by}
 use Rattle.desk_store.specs.laws.Order.{all_filter, all_append, all_kept, by_ids, name_of}
 use Rattle.desk_store.specs.Rows.{is_own}
 use Rattle.desk_tables.specs.Tables.{id_text, plan_row, plan_rows, volume_row, area_rows, volume_rows, AreTables}
-use Rattle.desk_tables.specs.Content.{IsPlan, IsContent}
+use Rattle.desk_store.specs.Content.{IsPlan, IsContent}
 use Rattle.desk_tables.specs.Reading.{joined_from, joined_rows, listing_rows}
 use Rattle.desk_tables.specs.Lookups.{one_or_none}
 use Rattle.desk_tables.proofs.IdLemmas.{text_order}

@@ -20,7 +20,7 @@ use Rattle.desk_sql.specs.Rows.{Tables, Lists, by_cells}
 use Rattle.desk_store.specs.World.{Filed, Listed, World, text_cmp, listed_cmp, filed_cmp}
 use Rattle.desk_store.specs.laws.Order.{all_weaker, all_append}
 use Rattle.desk_tables.specs.Tables.{id_text, operator_row, operator_rows, plan_row, plan_rows, volume_row, rows_from, volume_rows_from, volume_rows, cover_row, cover_rows, span_row, AreSpanRowsFrom, ArePlanSpanRows, AreSpanRows, HasNoOldRows, AreTables}
-use Rattle.desk_tables.specs.Content.{IsPlan, IsContent}
+use Rattle.desk_store.specs.Content.{IsPlan, IsContent}
 use Rattle.desk_tables.specs.Opening.{AreRows, AreAllRows, AreSortedByKey}
 use Rattle.desk_tables.specs.Moving.{AreOldTables, AreSortedOld, HasNoNewRows}
 use Rattle.desk_tables.proofs.IdLemmas.{text_order, then_then}

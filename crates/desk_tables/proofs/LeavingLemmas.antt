@@ -23,7 +23,7 @@ use Rattle.desk_store.specs.contracts.list.ListStore as list
 use Rattle.desk_tables.specs.declared.opening.open.OpenFault.{OpenFault}
 use Rattle.desk_tables.specs.declared.opening.open.OpenFault.TheVariants.{OutOfMemory, Store, NotADesk, OldSchema}
 use Rattle.desk_tables.specs.Tables.{AreTables}
-use Rattle.desk_tables.specs.Content.{IsContent}
+use Rattle.desk_store.specs.Content.{IsContent}
 use Rattle.desk_tables.specs.Store.{IsStanding, Stands}
 use Rattle.desk_tables.specs.Files.{AreRefused, IsUnread}
 use Rattle.desk_tables.specs.Opening.{IsPart, AreNoContent}

@@ -25,7 +25,7 @@ use Rattle.desk_store.specs.World.{Filed, World, text_cmp, filed_cmp, is_by, has
 use Rattle.desk_store.specs.laws.Order.{is_equal, all_weaker}
 use Rattle.desk_store.specs.Rows.{is_own}
 use Rattle.desk_tables.specs.Tables.{id_text, plan_row, plan_rows, volume_row, volume_rows_from, area_rows, volume_rows, AreTables}
-use Rattle.desk_tables.specs.Content.{IsId, IsBlock, IsContent}
+use Rattle.desk_store.specs.Content.{IsId, IsBlock, IsContent}
 use Rattle.desk_tables.specs.Reading.{IsVolumeAt, IsHead}
 use Rattle.desk_tables.specs.Lookups.{one_or_none, own_of}
 use Rattle.desk_tables.proofs.FilterLemmas.{ArePlans, own_row, plans_filtered, volumes_filtered}

@@ -24,7 +24,7 @@ use Rattle.desk_sql.specs.Batches.{IsUnderWay}
 use Rattle.desk_sql.specs.Finding.{Holds, HasOthers}
 use Rattle.desk_store.specs.World.{Filed, World}
 use Rattle.desk_tables.specs.Tables.{HasNoOldRows, area_rows, area_covers, volume_rows, cover_rows, ArePlanSpanRows, AreSpanRows}
-use Rattle.desk_tables.specs.Content.{IsContent}
+use Rattle.desk_store.specs.Content.{IsContent}
 use Rattle.desk_tables.specs.declared.opening.open.OpenFault.{OpenFault}
 use Rattle.desk_tables.specs.declared.opening.open.OpenFault.TheVariants.{NotADesk}
 use Rattle.desk_tables.specs.Opening.{AreRows, BeginsWith, BlamesDatabase, HasNoContent, HasRowsOld, ShowsNoDesk}

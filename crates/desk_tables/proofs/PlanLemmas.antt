@@ -11,7 +11,7 @@ use Rattle.volume4d.specs.Volume.{Block}
 use Rattle.desk_store.specs.World.{Filed, text_cmp, filed_cmp}
 use Rattle.desk_store.specs.laws.Order.{all_weaker, all_append}
 use Rattle.desk_tables.specs.Tables.{id_text, plan_row, plan_rows, volume_row, rows_from, volume_rows_from, area_rows, volume_rows}
-use Rattle.desk_tables.specs.Content.{IsPlan}
+use Rattle.desk_store.specs.Content.{IsPlan}
 use Rattle.desk_tables.specs.Records.{IsFiled, AreRowsOf}
 use Rattle.desk_tables.specs.Opening.{ArePlanRows, is_of}
 use Rattle.desk_tables.proofs.RowLemmas.{after_key, after_place, placed}

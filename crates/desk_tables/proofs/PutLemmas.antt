@@ -10,7 +10,7 @@ use Rattle.desk_sql.specs.Batches.{PutsPlan}
 use Rattle.desk_store.specs.World.{Filed, World}
 use Rattle.desk_store.specs.Rows.{is_own}
 use Rattle.desk_tables.specs.Tables.{id_text, plan_row, plan_rows, area_rows, volume_rows, area_covers, cover_rows, ArePlanSpanRows, AreSpanRows, AreTables}
-use Rattle.desk_tables.specs.Content.{IsId, IsPlan, IsContent}
+use Rattle.desk_store.specs.Content.{IsId, IsPlan, IsContent}
 use Rattle.desk_tables.specs.TableChanges.{PutsRows}
 use Rattle.desk_tables.proofs.RowLemmas.{after_key}
 use Rattle.desk_tables.proofs.FilterLemmas.{ArePlans, own_row, other_row, volumes_filtered, covers_filtered, plan_spans_filtered}

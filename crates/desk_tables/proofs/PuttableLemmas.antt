@@ -34,7 +34,7 @@ use Rattle.desk_store.specs.declared.change.Change.TheVariants.{Put}
 use Rattle.desk_store.specs.World.{Filed, Listed, World, ceiling_of, text_cmp}
 use Rattle.desk_store.specs.laws.Order.{all_weaker, all_append}
 use Rattle.desk_tables.specs.Tables.{id_text, operator_row, area_rows, area_covers, rows_from, volume_rows_from, cover_row, span_row, AreSpanRowsFrom, ArePlanSpanRows, AreTables}
-use Rattle.desk_tables.specs.Content.{IsBlock, IsPlan}
+use Rattle.desk_store.specs.Content.{IsBlock, IsPlan}
 use Rattle.desk_tables.specs.Causes.{HasRoomForPlan}
 use Rattle.desk_tables.proofs.CauseLemmas.{name_short}
 use Rattle.desk_tables.proofs.FilterLemmas.{turned}

@@ -15,7 +15,7 @@ use Rattle.uuid.specs.Text.{parsed}
 use Rattle.uuid.proofs.RoundTrips.{parses_hyphenated}
 use Rattle.volume4d.specs.Volume.{is_area}
 use Rattle.desk_tables.specs.Tables.{id_text}
-use Rattle.desk_tables.specs.Content.{IsId, IsBlock}
+use Rattle.desk_store.specs.Content.{IsId, IsBlock}
 use Rattle.desk_tables.specs.Reading.{IsVolumeAt}
 
 pub window_is : (e w : WindowParts) → ◌≡◌ {A = Result WindowParts WindowFault} (Ok w)

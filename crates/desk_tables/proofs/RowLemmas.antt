@@ -15,7 +15,7 @@ use Rattle.sqlite_keyed.proofs.SortLemmas.{sorted_unique}
 use Rattle.volume4d.specs.Volume.{Block}
 use Rattle.desk_store.specs.World.{Filed, Listed, text_cmp, listed_cmp, filed_cmp}
 use Rattle.desk_tables.specs.Tables.{id_text, operator_row, plan_row, plan_rows, volume_row, rows_from, volume_rows_from, area_rows, volume_rows}
-use Rattle.desk_tables.specs.Content.{IsPlan}
+use Rattle.desk_store.specs.Content.{IsPlan}
 use Rattle.desk_tables.proofs.IdLemmas.{text_order, then_then}
 
 -- what a row has after its operator and its id

@@ -13,7 +13,7 @@ use Rattle.desk_sql.specs.Rows.{Tables, with_row, PutsOperator, ClosesPlan}
 use Rattle.desk_store.specs.World.{Listed, World, text_cmp, listed_cmp}
 use Rattle.desk_store.specs.laws.Order.{is_equal, all_weaker}
 use Rattle.desk_tables.specs.Tables.{operator_row, operator_rows, AreTables}
-use Rattle.desk_tables.specs.Content.{IsContent}
+use Rattle.desk_store.specs.Content.{IsContent}
 use Rattle.desk_tables.specs.TableChanges.{EnrolsRows}
 use Rattle.desk_tables.proofs.FilterLemmas.{turned}
 use Rattle.desk_tables.proofs.ChangeLemmas.{named_otherwise, front, operators_filtered}

@@ -13,7 +13,7 @@ use Rattle.desk_rules.specs.Plan.{is_live}
 use Rattle.desk_sql.specs.Rows.{Tables, held_columns}
 use Rattle.desk_store.specs.World.{Filed, World}
 use Rattle.desk_store.specs.laws.Order.{all_append, all_filter}
-use Rattle.desk_tables.specs.Content.{IsBlock, IsContent}
+use Rattle.desk_store.specs.Content.{IsBlock, IsContent}
 use Rattle.desk_tables.specs.RivalRows.{FitsColumns, IsHeldIn, IsNoHeld}
 use Rattle.desk_tables.specs.Tables.{span_row, AreSpanRowsFrom, ArePlanSpanRows, AreSpanRows, AreTables}
 use Rattle.desk_tables.proofs.FilterLemmas.{ArePlans}

@@ -24,7 +24,7 @@ use Rattle.desk_sql.specs.Making.{AreSmall, HasSmallSpans, IsSmall}
 use Rattle.desk_store.specs.World.{Filed, World}
 use Rattle.desk_store.specs.laws.Order.{all_append}
 use Rattle.desk_tables.specs.Tables.{id_text, span_row, AreSpanRowsFrom, ArePlanSpanRows, AreSpanRows, AreTables}
-use Rattle.desk_tables.specs.Content.{IsContent}
+use Rattle.desk_store.specs.Content.{IsContent}
 use Rattle.desk_tables.specs.Opening.{BlamesReading, IsContentOf, open_fault_of}
 use Rattle.desk_tables.specs.Records.{IsFiled}
 use Rattle.desk_tables.proofs.AssemblyLemmas.{filed_within}

@@ -11,7 +11,7 @@ use Rattle.desk_rules.specs.Plan.{is_live}
 use Rattle.desk_store.specs.World.{Filed, filed_cmp}
 use Rattle.desk_store.specs.laws.Order.{all_append}
 use Rattle.desk_tables.specs.Tables.{span_row, AreSpanRowsFrom, ArePlanSpanRows, AreSpanRows}
-use Rattle.desk_tables.specs.Content.{IsPlan}
+use Rattle.desk_store.specs.Content.{IsPlan}
 use Rattle.desk_tables.proofs.RowLemmas.{after_key}
 use Rattle.desk_tables.proofs.FilterLemmas.{ArePlans}
 use Rattle.desk_tables.proofs.PlanLemmas.{of, HasKey, all_mine, none_mine, first_rows, rejoined}

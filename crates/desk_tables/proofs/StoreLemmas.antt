@@ -15,7 +15,7 @@ use Rattle.desk_sql.specs.Rows.{no_rows}
 use Rattle.desk_sql.specs.declared.opening.finding.TablesPresent.TheVariants.{Nothing}
 use Rattle.desk_store.specs.World.{World}
 use Rattle.desk_tables.specs.Tables.{AreTables}
-use Rattle.desk_tables.specs.Content.{IsContent}
+use Rattle.desk_store.specs.Content.{IsContent}
 use Rattle.desk_tables.specs.Store.{IsStanding, Stands}
 
 module _ {S : Type 0} (g : Ghosts S) (old new : Held S) (w : World) (stood : Stands g old w) where
@@ -98,6 +98,11 @@ made_stands g old new mode done = record {
     tables = subst (λ t. AreTables t nothing) (sym (done clean).same) nothing_has_no_rows;
   };
 }
+
+-- what holds by itself
+pub on_any : {V E A : Type 0} (result : Result V E) → A → OnOk result A
+on_any (Ok v) holds = holds
+on_any (Err e) holds = tt
 
 -- what holds where something was taken to its end, of what is answered then alone
 pub on_whole : {V E F A : Type 0} (P : V → Type 0) (taken : Result (Unit {0}) E) (result : Result V F)

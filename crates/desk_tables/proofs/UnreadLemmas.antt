@@ -26,7 +26,7 @@ use Rattle.sqlite.specs.declared.error.ErrorCode.TheVariants as code
 use Rattle.desk_store.specs.declared.fault.StoreFault.{StoreFault}
 use Rattle.desk_store.specs.declared.fault.StoreFault.TheVariants as store
 use Rattle.desk_tables.specs.Tables.{id_text}
-use Rattle.desk_tables.specs.Content.{IsId, IsBlock}
+use Rattle.desk_store.specs.Content.{IsId, IsBlock}
 use Rattle.desk_tables.specs.Reading.{IsVolumeAt}
 use Rattle.desk_tables.proofs.ReadingLemmas.{window_is, one_int, one_blob, one_more}
 

@@ -6,7 +6,7 @@ use Rattle.volume4d.specs.Volume.{Block, is_area}
 use Rattle.desk_rules.specs.declared.plan.PlanRow.{PlanRow}
 use Rattle.desk_store.specs.World.{Filed}
 use Rattle.desk_tables.specs.declared.reading.values.Head.{Head}
-use Rattle.desk_tables.specs.Content.{IsBlock, IsId, IsPlan}
+use Rattle.desk_store.specs.Content.{IsBlock, IsId, IsPlan}
 use Rattle.desk_tables.specs.Reading.{IsHead, IsVolumeAt, is_later, joined_from, listing_rows}
 
 -- the plan that is this but for its area

@@ -1,7 +1,6 @@
--- Read first: Tables, Content, Opening.
+-- Read first: Tables, Opening, and Content of desk_store.
 pub mod Tables
 pub mod PlanRows
-pub mod Content
 pub mod TableChanges
 pub mod Reading
 pub mod Gathering

@@ -16,7 +16,7 @@ use Rattle.desk_sql.specs.Effects.{ShowsAsBefore}
 use Rattle.desk_sql.specs.Finding.{HasOthers}
 use Rattle.desk_store.specs.World.{Filed, World}
 use Rattle.desk_tables.specs.Tables.{operator_rows, plan_rows, area_rows, volume_rows, area_covers, cover_rows, ArePlanSpanRows, AreSpanRows}
-use Rattle.desk_tables.specs.Content.{IsContent}
+use Rattle.desk_store.specs.Content.{IsContent}
 use Rattle.desk_tables.specs.Store.{IsStanding}
 use Rattle.desk_tables.specs.Opening.{BeginsWith, HasNoContent, HasFailed}
 use Rattle.desk_tables.specs.declared.opening.open.OpenFault.{OpenFault}

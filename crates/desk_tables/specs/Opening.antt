@@ -26,7 +26,7 @@ use Rattle.desk_sql.specs.Effects.{ShowsAsBefore}
 use Rattle.desk_store.specs.World.{Filed, Listed, World, IsListed, text_cmp, listed_cmp, filed_cmp, rows_by}
 use Rattle.desk_tables.specs.Tables.{operator_row, operator_rows, plan_rows, volume_rows, cover_rows, AreSpanRows}
 use Rattle.desk_tables.specs.Tables.{AreTables}
-use Rattle.desk_tables.specs.Content.{IsContent}
+use Rattle.desk_store.specs.Content.{IsContent}
 use Rattle.desk_tables.specs.declared.opening.exact.RowFault.{RowFault}
 use Rattle.desk_tables.specs.declared.opening.exact.RowFault.TheVariants as row
 use Rattle.desk_tables.specs.declared.opening.open.OpenFault.{OpenFault}

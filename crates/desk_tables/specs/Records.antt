@@ -14,7 +14,7 @@ use Rattle.desk_store.specs.declared.fault.StoreFault.TheVariants as store
 use Rattle.desk_tables.specs.declared.opening.exact.RowFault.{RowFault}
 use Rattle.desk_tables.specs.declared.opening.exact.RowFault.TheVariants.{OutOfMemory, NoDesk}
 use Rattle.desk_tables.specs.Tables.{id_text, usage_number, aircraft_number, plan_row, area_rows}
-use Rattle.desk_tables.specs.Content.{IsPlan}
+use Rattle.desk_store.specs.Content.{IsPlan}
 
 -- an operator within the limits
 pub record IsOperator (l : Listed) : Type 0 where

@@ -8,7 +8,7 @@ use Rattle.desk_sql.specs.Rows.{IsDesk, tables_of}
 use Rattle.desk_store.specs.World.{World}
 use Rattle.desk_store.specs.contracts.list.ListStore as list
 use Rattle.desk_tables.specs.Tables.{AreTables}
-use Rattle.desk_tables.specs.Content.{IsContent}
+use Rattle.desk_store.specs.Content.{IsContent}
 
 -- the connection, the world that it keeps, and how many faults it has met
 pub record Shown (S : Type 0) : Type 0 where

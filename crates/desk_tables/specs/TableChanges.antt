@@ -12,7 +12,7 @@ use Rattle.desk_store.specs.Changes.{filed_by}
 use Rattle.desk_store.specs.declared.change.Change.{Change}
 use Rattle.desk_store.specs.declared.change.Change.TheVariants.{Enrol, Put, Close, Clear}
 use Rattle.desk_tables.specs.Tables.{id_text, usage_number, plan_row, area_rows, area_covers, ArePlanSpanRows, HasNoOldRows}
-use Rattle.desk_tables.specs.Content.{IsId, IsPlan}
+use Rattle.desk_store.specs.Content.{IsId, IsPlan}
 
 -- a row of none of an operator's plans of these ids
 abbrev pub is_left : List ℕ → List (List ℕ) → Row → Bool

@@ -15,7 +15,7 @@ ghost use Rattle.desk_store.specs.declared.change.Change.{Change};
 ghost use Rattle.desk_store.specs.Crashes.{LeavesOnly, LeavesOldOr};
 ghost use Rattle.desk_tables.specs.Tables.{id_text, aircraft_number, plan_row, area_rows, area_covers};
 ghost use Rattle.desk_tables.specs.Tables.{ArePlanSpanRows, AreTables};
-ghost use Rattle.desk_tables.specs.Content.{IsId, IsPlan, IsContent};
+ghost use Rattle.desk_store.specs.Content.{IsId, IsPlan, IsContent};
 ghost use Rattle.desk_tables.specs.Lookups.{own_of};
 ghost use Rattle.desk_tables.specs.TableChanges.{ChangesRows, EnrolsRows, PutsRows};
 ghost use Rattle.desk_tables.specs.TableChanges.{ClosesRows, ClearsRows, IsWithin};

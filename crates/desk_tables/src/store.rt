@@ -46,7 +46,7 @@ pub struct SqliteStore<S: Alter> {
 impl<S: Alter> Model for SqliteStore<S> {
     ghost use Rattle.desk_tables.specs.Store.{Shown, shown_code, Stands};
     ghost use Rattle.desk_tables.specs.Known.{Knows};
-    ghost use Rattle.desk_store.specs.World.{IsWorld};
+    ghost use Rattle.desk_store.specs.Content.{IsContent};
     ghost use Rattle.sqlite.specs.Held.{state};
     ghost use Rattle.sqlite.specs.State.{HasCleanDisk};
 
@@ -61,7 +61,7 @@ impl<S: Alter> Model for SqliteStore<S> {
     } };
 
     ghost invariant = { λ s. Stands S.Store s.connection s.kept.world × Knows s.known s.kept.world
-        × (HasCleanDisk (state S.Store s.connection) → IsWorld s.kept.world) };
+        × (HasCleanDisk (state S.Store s.connection) → IsContent s.kept.world) };
 }
 
 impl<S: Alter> SqliteStore<S> {

@@ -9,7 +9,7 @@ ghost use Rattle.desk_sql.specs.Batches.{volume_of, cover_of, span_of};
 ghost use Rattle.desk_store.specs.Changes.{filed_by};
 ghost use Rattle.desk_tables.specs.Tables as spec;
 ghost use Rattle.desk_tables.specs.Tables.{id_text, area_rows, area_covers, ArePlanSpanRows, AreSpanRowsFrom};
-ghost use Rattle.desk_tables.specs.Content.{IsId, IsBlock};
+ghost use Rattle.desk_store.specs.Content.{IsId, IsBlock};
 ghost use Rattle.desk_tables.specs.SpanBounds.{IsKnownRow, Keeps};
 ghost use Rattle.desk_tables.specs.PlanRows.{volume_record, slab_record, AreAskedOf, AreCanonOf};
 

@@ -8,7 +8,7 @@ ghost use Rattle.desk_rules.specs.Limits.{max_plans};
 ghost use Rattle.desk_store.specs.World as world;
 ghost use Rattle.desk_store.specs.World.{World, Listed, Filed, listed_cmp, filed_cmp};
 ghost use Rattle.desk_tables.specs.Tables.{id_text, plan_row, AreSpanRows};
-ghost use Rattle.desk_tables.specs.Content.{IsContent};
+ghost use Rattle.desk_store.specs.Content.{IsContent};
 ghost use Rattle.desk_tables.specs.Records.{IsFiled};
 ghost use Rattle.desk_tables.specs.Opening as spec;
 ghost use Rattle.desk_tables.specs.Opening.{AreOperatorRows, ArePlanRows, AreShared, AreAgreed, AreRows};

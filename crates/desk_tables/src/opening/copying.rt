@@ -9,7 +9,7 @@ ghost use Rattle.desk_sql.specs.Effects.{IsReady, IsOpenIfClean, Makes, Commits}
 ghost use Rattle.desk_sql.specs.Frames.{IsOver, Remembers};
 ghost use Rattle.desk_sql.specs.Rows.{AddsOperator, AddsPlan};
 ghost use Rattle.desk_sql.specs.Schema.{blank_schema};
-ghost use Rattle.desk_tables.specs.Content.{IsContent};
+ghost use Rattle.desk_store.specs.Content.{IsContent};
 ghost use Rattle.desk_tables.specs.Leaving.{IsSettledAt};
 ghost use Rattle.desk_tables.specs.Known.{Knows};
 ghost use Rattle.desk_tables.specs.Tables.{operator_row, plan_row};

@@ -10,7 +10,7 @@ ghost use Rattle.desk_tables.specs.Files.{no_files};
 ghost use Rattle.desk_tables.specs.Guarding.{IsGuarded};
 ghost use Rattle.desk_tables.specs.Leaving.{IsSettledAt};
 ghost use Rattle.desk_store.specs.World.{World};
-ghost use Rattle.desk_tables.specs.Content.{IsContent};
+ghost use Rattle.desk_store.specs.Content.{IsContent};
 ghost use Rattle.desk_tables.specs.Copying.{AreCounted, AreNotRead, IsMadeIn, LooksIn};
 ghost use Rattle.desk_tables.specs.Known.{Knows};
 

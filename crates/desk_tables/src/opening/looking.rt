@@ -8,7 +8,7 @@ ghost use Rattle.desk_sql.specs.Frames.{OnlyReads};
 ghost use Rattle.desk_sql.specs.Finding.{Holds};
 ghost use Rattle.desk_sql.specs.Rows.{IsMadeTo, tables_at};
 ghost use Rattle.desk_store.specs.World.{World};
-ghost use Rattle.desk_tables.specs.Content.{IsContent};
+ghost use Rattle.desk_store.specs.Content.{IsContent};
 ghost use Rattle.desk_tables.specs.Known.{Knows};
 ghost use Rattle.desk_tables.specs.Opening.{BlamesDatabase, BlamesReading, HasRowsOld};
 ghost use Rattle.desk_tables.specs.Copying as spec;

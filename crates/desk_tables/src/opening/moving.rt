@@ -12,7 +12,7 @@ ghost use Rattle.desk_sql.specs.Effects.{IsReady, IsKept, IsOpenIfClean, Makes, 
 ghost use Rattle.desk_sql.specs.Frames.{IsOver, OnlyReads, Remembers};
 ghost use Rattle.desk_sql.specs.Finding.{Holds};
 ghost use Rattle.desk_store.specs.World.{World};
-ghost use Rattle.desk_tables.specs.Content.{IsContent};
+ghost use Rattle.desk_store.specs.Content.{IsContent};
 ghost use Rattle.desk_tables.specs.Known.{Knows};
 ghost use Rattle.desk_tables.specs.Store.{Stands};
 ghost use Rattle.desk_tables.specs.Opening.{AreRows, BlamesReading, HasRowsOld};

@@ -1,16 +1,15 @@
 //! What a store answers, read from its tables.
 
-ghost use Rattle.std.specs.Prelude.{◌≡◌, ◌≢◌, ◌≤◌, ◌<◌, ◌^◌, List, IfErr, IfOk, IsOk, OnOk, IsTrue, length, map};
+ghost use Rattle.std.specs.Prelude.{◌≡◌, ◌≢◌, ◌<◌, ◌^◌, List, IfErr, IfOk, IsOk, OnOk, IsTrue, length, map};
 ghost use Rattle.std.specs.List.{AllByRecursion, AllZip};
 ghost use Rattle.std.specs.Result.{IsErrAnd};
 ghost use Rattle.sqlite.specs.State.{HasCleanDisk};
 ghost use Rattle.sqlite.specs.Held.{state};
-ghost use Rattle.desk_rules.specs.Limits.{max_plans};
 ghost use Rattle.desk_rules.specs.declared.plan.PlanRow.{PlanRow as Plan};
-ghost use Rattle.desk_store.specs.World.{AreInOrder, Filed, plans_of, stored_of};
+ghost use Rattle.desk_store.specs.World.{Filed, plans_of, stored_of};
 ghost use Rattle.desk_store.specs.Rivals.{AreRivals};
 ghost use Rattle.desk_tables.specs.Tables.{plan_rows, volume_rows};
-ghost use Rattle.desk_tables.specs.Content.{IsBlock, IsContent, IsId, IsPlan};
+ghost use Rattle.desk_store.specs.Content.{IsBlock, IsContent, IsId, IsPlan};
 ghost use Rattle.desk_tables.specs.Reading.{IsHead, IsVolumeAt, listing_rows};
 ghost use Rattle.desk_tables.specs.Gathering.{HasCollected, HasNoArea};
 ghost use Rattle.desk_tables.specs.Lookups.{own_of};
@@ -163,10 +162,6 @@ pub(crate) fn own_plans<S: Alter>(
     requires { Stands S.Store connection.old kept.now.world }
     ensures value { HasCleanDisk (state S.Store connection.new) →
         IfOk result (λ rows. rows.items ≡ plans_of operator.now kept.now.world) }
-    ensures order { HasCleanDisk (state S.Store connection.new) →
-        IfOk result (λ rows. AreInOrder rows.items) }
-    ensures limit { HasCleanDisk (state S.Store connection.new) →
-        IfOk result (λ rows. length rows.items ≤ max_plans) }
     ensures cause { IfErr result (BlamesStore S.Store connection.old connection.new) }
     ensures stands { Stands S.Store connection.new kept.now.world }
     ensures reads { OnlyReads S.Store connection.old connection.new }

@@ -1,9 +1,19 @@
-use Rattle.std.proofs.Common.{sym, ◌∙◌, w64}
+use Rattle.std.proofs.Common.{◌≤◌, sym, subst, ◌∙◌, w64}
+use Rattle.std.specs.Prelude.{IfSome}
 use Rattle.std.proofs.lemmas.Int.{to_z-of_z}
+use Rattle.desk_rules.specs.Limits.{max_priority}
 use Rattle.desk_store.specs.laws.Fault.{was_honest}
+use Rattle.desk_store.specs.laws.World.{ceiling_within}
 use Rattle.desk_run.proofs.CallLemmas.{unlisted_is, status_ready, prepares_from, list_readies, show_readies, put_readies, delete_readies, clear_readies}
 use Rattle.desk_run.specs.DeskWorld.{with_content}
 use Rattle.desk_run.proofs.pending.prepare_over.Goals as goal
+
+pub ready_put-requires-clause-low : goal.ready_put-requires-clause-low
+ready_put-requires-clause-low g c = λ honest.
+    subst (λ found. IfSome found (λ n. n ≤ max_priority))
+    (sym (c.in_ok-ceiling.ensures.value honest) ∙ c.in-Some.is)
+    (ceiling_within c.args.asked.now.operator (g.S.PlanStore.content c.args.store.now)
+    (c.in_ok-ceiling.ensures.content honest).world)
 
 pub returns-in_default-clause-value : goal.returns-in_default-clause-value
 returns-in_default-clause-value g c = λ honest.

@@ -1,7 +1,6 @@
-use Rattle.std.proofs.Common.{◌≤◌, ◌∙◌, ap, length, subst}
-use Rattle.desk_rules.specs.Limits.{max_plans}
-use Rattle.desk_store.specs.World.{AreInOrder}
+use Rattle.std.proofs.Common.{◌∙◌, subst}
 use Rattle.desk_store.specs.laws.Fault.{was_honest}
+use Rattle.desk_store.specs.laws.Order.{rows_sorted}
 use Rattle.desk_run.specs.Calls.{IsClearing, ids_in}
 use Rattle.desk_run.proofs.ClearLemmas.{slabs_alone, clearing_ready}
 use Rattle.desk_run.proofs.pending.clear.ready_clear.Goals as goal
@@ -16,6 +15,7 @@ returns-clause-value g c = λ honest.
     (c.deref-2.ensures.value ∙ listed)
     (c.in_ok-clearing.ensures extent (slabs_alone extent c.deref.result.now c.in_ok-slabs.field-0.items
     c.deref.ensures.value c.in_ok-slabs.ensures.points)))
-    (subst AreInOrder listed (c.in_ok-rows.ensures.order honest))
-    (subst (λ rows. length rows ≤ max_plans) listed (c.in_ok-rows.ensures.limit honest))
+    (rows_sorted c.args.operator.now (g.S.PlanStore.content c.args.store.now).plans
+    (c.in_ok-rows.ensures.content honest).world.plans)
+    ((c.in_ok-rows.ensures.content honest).world.rows c.args.operator.now)
     (c.requires (was_honest c.own_plans.ensures.reads.doubt honest))

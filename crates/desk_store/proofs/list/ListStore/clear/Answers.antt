@@ -1,5 +1,4 @@
 use Rattle.std.proofs.Common.{◌∙◌, ap, sym, refl}
-use Rattle.desk_store.specs.World.{plans_of}
 use Rattle.desk_store.specs.Changes.{clear_rows}
 use Rattle.desk_store.specs.declared.change.Change.TheVariants.{Clear}
 use Rattle.desk_store.specs.StoreChange.{changed_by}
@@ -29,7 +28,7 @@ returns c =
     ap (λ es. world_of es more) c.set_count.ensures
     ∙ changed (clear_rows ids) c.args.self.now ops (with_count o c.count_of-count.result ops) plans more o
     c.self.view_is (listed_same o c.count_of-count.result ops)
-    (cleared o ids plans more c.self.invariant.0.plans left)
+    (cleared o ids plans more c.self.invariant.0.world.plans left)
 
 pub invariant_of-self : goal.invariant_of-self
 unfolding changed_by
@@ -40,6 +39,6 @@ invariant_of-self c =
     let plans = c.self.inside.plans.entries in
     let more = c.remove_all.new.plans.entries in
     rw c.set_count.ensures (clear_kept c.args.self.now ops plans more o c.count_of-count.result
-    (clear_rows ids (plans_of o c.args.self.now)) (Clear o c.args.ids.now) refl c.self.view_is
+    ids (Clear o c.args.ids.now) refl c.self.view_is
     c.self.invariant c.requires
     (ap (λ es. world_of es more) (sym c.set_count.ensures) ∙ returns c) c.count_of-count.ensures)

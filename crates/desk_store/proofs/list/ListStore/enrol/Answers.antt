@@ -2,6 +2,7 @@ use Rattle.std.proofs.Common.{◌∙◌}
 use Rattle.desk_store.specs.StoreChange.{changed_by}
 use Rattle.desk_store.specs.declared.change.Change.TheVariants.{Enrol}
 use Rattle.desk_store.specs.Listing.{world_of, filed_all}
+use Rattle.desk_store.specs.laws.Content.{enrol_content}
 use Rattle.desk_store.proofs.StoreLemmas.{enrolled}
 use Rattle.desk_store.proofs.CountLemmas.{count_is, count_enrolled}
 use Rattle.desk_store.proofs.KeptLemmas.{kept_by}
@@ -21,7 +22,8 @@ invariant_of-self-2 c =
     let plans = c.self.inside.plans.entries in
     let o = c.args.operator in (
       kept_by (Enrol o c.args.ceiling) (world_of ops plans) c.args.self.now
-          (world_of c.insert.new.self.entries plans) c.self.view_is c.self.invariant.0 c.requires
+          (world_of c.insert.new.self.entries plans) c.self.view_is c.self.invariant.0
+          (λ content. enrol_content o c.args.ceiling c.args.self.now content c.requires c.name_within.ensures)
           (returns-clause-ok c),
       rw c.in_ok-insert.ensures.entries (count_enrolled o
           (record { ceiling = c.args.ceiling; plan_count = c.count_in-plan_count.result }) ops

@@ -6,12 +6,16 @@ pub invariant_of-result : goal.invariant_of-result
 unfolding IsStrictlySortedBy
 invariant_of-result c = rw (c.new-2.ensures.empty, c.new.ensures.empty) (
   record {
-    operators = tt;
-    plans = tt;
-    listed = tt;
-    rows = λ o. omega arith;
-    ceilings = tt;
-    priorities = tt;
+    world = record {
+      operators = tt;
+      plans = tt;
+      listed = tt;
+      rows = λ o. omega arith;
+      ceilings = tt;
+      priorities = tt;
+    };
+    names = tt;
+    rows = tt;
   },
   tt,
 )

@@ -5,7 +5,7 @@ use Rattle.desk_sql.specs.Batches.{RemovesPlans}
 use Rattle.desk_sql.specs.Effects.{Commits, MayMake}
 use Rattle.desk_store.specs.declared.change.Change.TheVariants.{Clear}
 use Rattle.desk_tables.specs.Tables.{id_text}
-use Rattle.desk_tables.specs.Content.{IsId}
+use Rattle.desk_store.specs.Content.{IsId}
 use Rattle.desk_tables.specs.TableChanges.{ChangesRows, IsWithin}
 use Rattle.desk_tables.proofs.AfterLemmas.{stands_cleared, left_cleared}
 use Rattle.desk_tables.proofs.CauseLemmas.{blamed}

@@ -1,7 +1,7 @@
 use Rattle.std.proofs.Common.{sym, subst, ◌∙◌, arith}
 use Rattle.desk_sql.specs.Rows.{ClosesPlan}
 use Rattle.desk_sql.specs.Effects.{Commits, MayMake}
-use Rattle.desk_tables.proofs.ParseLemmas.{parsed_id}
+use Rattle.desk_store.specs.laws.Parse.{parsed_id}
 use Rattle.sqlite.specs.Held.{state}
 use Rattle.desk_sql.specs.Changing.{AreLow, IsShort}
 use Rattle.desk_tables.specs.Causes.{BlamesStore}

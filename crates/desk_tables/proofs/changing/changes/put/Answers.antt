@@ -8,9 +8,10 @@ use Rattle.desk_sql.specs.Batches.{PutsPlan, volume_of, cover_of, span_of}
 use Rattle.desk_sql.specs.Effects.{Commits, MayMake}
 use Rattle.desk_store.specs.Changes.{filed_by}
 use Rattle.desk_tables.specs.Tables.{usage_number, aircraft_number, area_rows, area_covers, ArePlanSpanRows}
-use Rattle.desk_tables.specs.Content.{IsBlock}
+use Rattle.desk_store.specs.Content.{IsBlock}
 use Rattle.desk_tables.specs.SpanBounds.{IsKnownRow}
-use Rattle.desk_tables.proofs.ParseLemmas.{parsed_id, parsed_short}
+use Rattle.desk_store.specs.laws.Parse.{parsed_id}
+use Rattle.desk_tables.proofs.ParseLemmas.{parsed_short}
 use Rattle.desk_tables.proofs.SpanBoundLemmas.{plan_near}
 use Rattle.desk_tables.proofs.CauseLemmas.{blamed}
 use Rattle.desk_tables.proofs.PuttableLemmas.{puttable}

@@ -1,7 +1,7 @@
 use Rattle.std.proofs.Common.{map, take}
 use Rattle.std.specs.List.{AllByRecursion}
 use Rattle.desk_tables.specs.PlanRows.{AreAskedOf}
-use Rattle.desk_tables.specs.Content.{IsBlock}
+use Rattle.desk_store.specs.Content.{IsBlock}
 use Rattle.desk_tables.proofs.changing.records.asked_of.Given as goal
 
 -- the bytes of the volumes so far

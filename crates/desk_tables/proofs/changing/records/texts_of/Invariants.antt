@@ -2,7 +2,7 @@ use Rattle.std.proofs.Common.{◌≡◌, map, take}
 use Rattle.std.specs.List.{AllByRecursion}
 use Rattle.std.specs.String.{string_bytes}
 use Rattle.desk_tables.specs.Tables.{id_text}
-use Rattle.desk_tables.specs.Content.{IsId}
+use Rattle.desk_store.specs.Content.{IsId}
 use Rattle.desk_tables.proofs.changing.records.texts_of.Given as goal
 
 -- the texts of the ids so far

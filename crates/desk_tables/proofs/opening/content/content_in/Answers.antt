@@ -1,7 +1,7 @@
 use Rattle.std.proofs.Common.{◌≡◌, ◌∙◌, sym, rules, true≢false}
 use Rattle.desk_store.specs.World.{World}
 use Rattle.desk_tables.specs.declared.opening.exact.RowFault.TheVariants.{NoDesk}
-use Rattle.desk_tables.specs.Content.{IsContent}
+use Rattle.desk_store.specs.Content.{IsContent}
 use Rattle.desk_tables.specs.Opening.{AreRows}
 use Rattle.desk_tables.specs.contracts.opening.content.TableRows.{the_view}
 use Rattle.desk_tables.proofs.AssemblyLemmas.{no_plans, content_if, none_if}

@@ -1,11 +1,10 @@
-use Rattle.std.proofs.Common.{[], ◌∷◌, ◌≤◌, ◌<◌, ◌^◌, length, sym, subst, arith}
+use Rattle.std.proofs.Common.{[], ◌∷◌, ◌≤◌, ◌<◌, ◌^◌, length, subst, arith}
 use Rattle.std.specs.List.{filter}
 use Rattle.sqlite.specs.Held.{state}
 use Rattle.desk_sql.specs.Rows as sql
 use Rattle.desk_sql.specs.Rows.{tables_of, with_volumes, Lists}
 use Rattle.desk_rules.specs.Limits.{max_plans}
-use Rattle.desk_store.specs.World.{AreInOrder, is_by}
-use Rattle.desk_store.specs.laws.Order.{rows_sorted}
+use Rattle.desk_store.specs.World.{is_by}
 use Rattle.desk_tables.specs.Gathering.{HasCollected}
 use Rattle.desk_tables.proofs.StoreLemmas.{weaker, on_whole}
 use Rattle.desk_tables.proofs.JoinedLemmas.{own_listing, own_plans_are}
@@ -33,23 +32,6 @@ returns-clause-value g c = λ clean.
     (own_plans_are c.args.kept.now.world c.args.operator.now standing.content)
     (subst (HasCollected collector.plans.items collector.head collector.volumes.items) listing taken))
     c.collected.ensures.value)))
-
-pub returns-clause-order : goal.returns-clause-order
-returns-clause-order g c = λ clean.
-    on_whole _ c.own_plans-taken.result c.collected.result c.collected.ensures.whole
-    (c.own_plans-taken.ensures.open clean) (λ live.
-    (let standing = c.requires.standing (omega (arith, c.own_plans-taken.ensures.reads.doubt, clean)) live in
-    weaker c.collected.result (λ plans are. subst AreInOrder (sym are)
-    (rows_sorted c.args.operator.now c.args.kept.now.world.plans standing.content.world.plans))
-    (returns-clause-value g c clean)))
-
-pub returns-clause-limit : goal.returns-clause-limit
-returns-clause-limit g c = λ clean.
-    on_whole _ c.own_plans-taken.result c.collected.result c.collected.ensures.whole
-    (c.own_plans-taken.ensures.open clean) (λ live.
-    (let standing = c.requires.standing (omega (arith, c.own_plans-taken.ensures.reads.doubt, clean)) live in
-    weaker c.collected.result (λ plans are. subst (λ rows. length rows ≤ max_plans) (sym are)
-    (standing.content.world.rows c.args.operator.now)) (returns-clause-value g c clean)))
 
 -- the rows of an operator's plans are gathered
 pub returns-clause-cause : goal.returns-clause-cause

@@ -3,7 +3,7 @@ use Rattle.sqlite.specs.Held.{state}
 use Rattle.s2_cover.specs.declared.spans.Span.{Span}
 use Rattle.desk_sql.specs.Rows.{tables_of}
 use Rattle.desk_tables.specs.RivalRows.{HaveTakenAll, is_asked}
-use Rattle.desk_tables.proofs.ParseLemmas.{parsed_id}
+use Rattle.desk_store.specs.laws.Parse.{parsed_id}
 use Rattle.desk_tables.proofs.AskingLemmas.{both_ok}
 use Rattle.desk_tables.proofs.HeldLemmas.{are_rivals}
 use Rattle.desk_tables.proofs.reading.readers.rivals_in_tables.Goals as goal

@@ -2,7 +2,7 @@ use Rattle.std.proofs.Common.{[], ◌∷◌, subst, arith}
 use Rattle.std.specs.List.{filter}
 use Rattle.sqlite.specs.Held.{state}
 use Rattle.desk_sql.specs.Rows.{is_of, tables_of, Lists}
-use Rattle.desk_tables.proofs.ParseLemmas.{parsed_id}
+use Rattle.desk_store.specs.laws.Parse.{parsed_id}
 use Rattle.desk_tables.proofs.ListingLemmas.{volumes_are}
 use Rattle.desk_tables.proofs.CauseLemmas.{blamed}
 use Rattle.desk_tables.proofs.reading.readers.volumes.Goals as goal

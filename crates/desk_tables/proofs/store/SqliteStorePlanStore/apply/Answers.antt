@@ -22,7 +22,7 @@ invariant_of-self-in-Ok g c =
       subst (Knows c.follow.new.self) after
           (c.follow.ensures c.self.inside.kept.world
           (c.prepare.ensures.kept c.self.inside.kept.world c.self.invariant.1)),
-      λ clean. (stands.standing clean (c.in-Ok.ensures.open clean)).content.world,
+      λ clean. (stands.standing clean (c.in-Ok.ensures.open clean)).content,
     )
 
 pub returns-in-Ok-clause-crash : goal.returns-in-Ok-clause-crash

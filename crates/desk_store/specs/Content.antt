@@ -1,4 +1,4 @@
--- What a desk keeps in tables: a world whose names, ids and volumes are within their limits.
+-- What a store keeps: a world whose names, ids and volumes are within their limits.
 use Rattle.std.specs.Prelude.{◌≡◌, ℕ, ◌<◌, IsTrue, List, All, length}
 use Rattle.std.specs.List.{AllByRecursion}
 use Rattle.volume4d.specs.FootprintBytes.{HasValidParts}
@@ -25,7 +25,7 @@ pub record IsPlan (row : PlanRow) : Type 0 where
   pub volumes : IsTrue (is_area row.area)
   pub each : AllByRecursion IsBlock row.area
 
--- what the tables of a desk may stand for
+-- what a store may show, and what the tables of a desk may stand for
 pub record IsContent (w : World) : Type 0 where
   pub world : IsWorld w
   pub names : AllByRecursion (λ l. IsTrue (is_operator_name l.name)) w.operators

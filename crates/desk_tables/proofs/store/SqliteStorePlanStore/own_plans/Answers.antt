@@ -1,0 +1,12 @@
+use Rattle.std.proofs.Common.{arith, subst}
+use Rattle.sqlite.specs.Held.{state}
+use Rattle.sqlite.specs.State.{HasCleanDisk}
+use Rattle.desk_store.specs.Content.{IsContent}
+use Rattle.desk_tables.proofs.StoreLemmas.{on_any}
+use Rattle.desk_tables.proofs.store.SqliteStorePlanStore.own_plans.Goals as goal
+
+pub returns-clause-content : goal.returns-clause-content
+returns-clause-content g c = λ honest.
+    let clean : HasCleanDisk (state g.S.Store c.self.inside.connection) =
+    omega (arith, c.own_plans-answer.ensures.reads.doubt, honest) in
+    on_any c.counted.result (subst (λ s. IsContent s.world) c.self.view_is (c.self.invariant.2 clean))
