@@ -19,6 +19,7 @@ pub mod EnrolLemmas
 pub mod SchemaLemmas
 pub mod MadeLemmas
 pub mod RowidLemmas
+pub mod PackedLemmas
 pub mod ClearLemmas
 pub mod SureTexts
 pub mod AskLemmas
