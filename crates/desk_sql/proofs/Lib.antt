@@ -12,6 +12,7 @@ pub mod CascadeLemmas
 pub mod RemoveLemmas
 pub mod old_tables
 pub mod CreateLemmas
+pub mod DropLemmas
 pub mod BatchLemmas
 pub mod UpdateLemmas
 pub mod SetLemmas

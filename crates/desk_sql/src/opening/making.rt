@@ -114,12 +114,13 @@ fn next_step(made: TablesPresent) -> Option<(TablesPresent, &'static str)>
     }
 }
 
-// Makes all that is missing, one after the other.
-fn make_rest<S: Alter>(tx: &mut Transaction<'_, S>, made: TablesPresent) -> Result<(), Error>
+/// Makes all that is missing, one after the other.
+pub(crate) fn make_rest<S: Alter>(tx: &mut Transaction<'_, S>, made: TablesPresent) -> Result<(), Error>
     requires missing { made ≢ TablesPresent.All }
     requires ordered { made ≢ TablesPresent.Packed }
     requires at { Holds S.Store tx.old.conn.now (IsMadeTo made) }
-    requires begun { IsTrue tx.old.conn.now.in_transaction }
+    requires begun { HasCleanDisk (state S.Store tx.old.conn.now)
+        → IsTrue (state S.Store tx.old.conn.now).is_open → IsTrue tx.old.conn.now.in_transaction }
     requires sound { Holds S.Store tx.old.conn.now IsDatabase }
     ensures same_reference { tx.new.conn.ghost_name ≡ tx.old.conn.ghost_name }
     ensures done { HasCleanDisk (state S.Store tx.new.conn.now)
