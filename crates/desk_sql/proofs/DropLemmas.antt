@@ -26,7 +26,8 @@ use Rattle.desk_sql.specs.Rows.{IsMadeTo, AreNumbered, old_tables_of, tables_of}
 use Rattle.desk_sql.specs.Finding.{Holds, packed_old_first_index}
 use Rattle.desk_sql.specs.Statements.{MayWrite, enforced}
 use Rattle.desk_sql.specs.Making.{Finishes}
-use Rattle.desk_sql.specs.Unpacking.{Drops, Unpacks, Remakes, loose_schema, spanless_schema}
+use Rattle.desk_sql.specs.Effects.{Makes}
+use Rattle.desk_sql.specs.Unpacking.{Drops, Unpacks, RemakesTables, loose_schema, spanless_schema}
 use Rattle.desk_sql.proofs.WriteLemmas.{went, same_value, does_command, is_writing, ran, ran_sound}
 
 abbrev pub drop_old_first_text : List ℕ
@@ -252,7 +253,7 @@ unpacked g a b c d packed clean one two three =
 
 -- and made anew
 pub remade : {S : Type 0} (g : Ghosts S) (old mid new : Held S) → Unpacks g old mid
-    → Finishes g OldSpans mid new → Remakes g old new
+    → Finishes g OldSpans mid new → Makes g old new RemakesTables
 remade g old mid new less more = record {
   was_open = less.was_open;
   is_open = more.is_open;
@@ -260,5 +261,5 @@ remade g old mid new less more = record {
   committed = more.committed ∙ less.committed;
   desk = more.desk;
   sound = more.sound;
-  same = more.same ∙ less.same;
+  changed = more.same ∙ less.same;
 }

@@ -9,7 +9,7 @@ use Rattle.sqlite.specs.Held.{Held, state}
 use Rattle.sqlite_catalog.specs.Change.{without_table, without_index, KeepsRows}
 use Rattle.desk_sql.specs.declared.opening.finding.TablesPresent.TheVariants.{OldSpans}
 use Rattle.desk_sql.specs.Schema.{packed_schema}
-use Rattle.desk_sql.specs.Rows.{IsDesk, IsMadeTo, tables_of, old_tables_of}
+use Rattle.desk_sql.specs.Rows.{IsMadeTo, Tables, old_tables_of}
 use Rattle.desk_sql.specs.Statements.{IsWriting, MayWrite}
 use Rattle.sqlite.specs.Given.{IsPlain}
 
@@ -40,13 +40,6 @@ module _ {S : Type 0} (g : Ghosts S) (old new : Held S) where
     pub sound : IsDatabase (state g new).now
     pub same : old_tables_of (state g new).now.trees ≡ old_tables_of (state g old).now.trees
 
-  -- and it was made anew: all is in a desk's own order, `volume2` and `span2` have no rows, and the rows of
-  -- the others stayed
-  pub record Remakes : Type 0 where
-    pub was_open : IsTrue (state g old).is_open
-    pub is_open : IsTrue (state g new).is_open
-    pub begun : IsTrue new.in_transaction
-    pub committed : (state g new).committed ≡ (state g old).committed
-    pub desk : IsDesk (state g new).now
-    pub sound : IsDatabase (state g new).now
-    pub same : tables_of (state g new).now.trees ≡ old_tables_of (state g old).now.trees
+-- `volume2` and `span2` have no rows, and the rows of the others stayed
+abbrev pub RemakesTables : Tables → Tables → Type 0
+RemakesTables old new = new ≡ record old { volumes = []; covers = []; spans = [] }

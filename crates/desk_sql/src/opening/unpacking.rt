@@ -7,7 +7,8 @@ ghost use Rattle.desk_sql.specs.Schema.{packed_schema, old_table_schema};
 ghost use Rattle.desk_sql.specs.Rows.{IsMadeTo};
 ghost use Rattle.desk_sql.specs.Finding.{Holds};
 ghost use Rattle.desk_sql.specs.Frames.{Remembers};
-ghost use Rattle.desk_sql.specs.Unpacking.{loose_schema, spanless_schema, Drops, Unpacks, Remakes};
+ghost use Rattle.desk_sql.specs.Effects.{Makes};
+ghost use Rattle.desk_sql.specs.Unpacking.{loose_schema, spanless_schema, Drops, Unpacks, RemakesTables};
 
 use crate::changing::run::run;
 use crate::opening::finding::TablesPresent;
@@ -53,12 +54,13 @@ fn unpack<S: Alter>(tx: &mut Transaction<'_, S>) -> Result<(), Error>
 }
 
 /// Puts the tables of a packed file into a desk's own order, within a transaction. The rows of `volume2` and
-/// `span2` go, and those of the others stay.
+/// `span2` go, and those of the others stay, which stand in the same trees.
+#[tactic(auto, using(crate::proofs::DropLemmas::remade))]
 pub fn remake_tables<S: Alter>(tx: &mut Transaction<'_, S>) -> Result<(), Error>
     requires at { Holds S.Store tx.old.conn.now (IsMadeTo TablesPresent.Packed) }
     ensures same_reference { tx.new.conn.ghost_name ≡ tx.old.conn.ghost_name }
     ensures done { HasCleanDisk (state S.Store tx.new.conn.now)
-        → OnOk result (Remakes S.Store tx.old.conn.now tx.new.conn.now) }
+        → OnOk result (Makes S.Store tx.old.conn.now tx.new.conn.now RemakesTables) }
     ensures undone { HasCleanDisk (state S.Store tx.new.conn.now)
         → OnErr result (KeepsCommit (state S.Store tx.old.conn.now)
         (state S.Store tx.new.conn.now)) }
