@@ -178,7 +178,8 @@ two_trees P one two false = one
 two_trees P one two true = two
 
 part_at : (whole : Whole) (made : TablesPresent) (db : Trees) → rows_read whole (tables_at made db)
-    ≡ (if has_table made (table_in whole (is_packed made)) then rows_read whole (tables_in (is_packed made) db)
+    ≡ (if has_table made (table_in whole (is_packed made))
+    then rows_read whole (tables_in (is_packed made) db)
     else [])
 part_at whole made db = grind arith
 

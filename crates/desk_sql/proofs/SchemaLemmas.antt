@@ -146,7 +146,8 @@ has_made All Span db there is = as_made Span [] All db refl is
 has_made All PackedVolume db there is = absurd (true≢false (sym there))
 has_made All PackedSpan db there is = absurd (true≢false (sym there))
 has_made Packed Operator db there is =
-    as_made Operator (plan_made ∷ old_volume_made ∷ old_span_made ∷ packed_volume_made ∷ packed_span_made ∷ [])
+    as_made Operator
+    (plan_made ∷ old_volume_made ∷ old_span_made ∷ packed_volume_made ∷ packed_span_made ∷ [])
     Packed db refl is
 has_made Packed Plan db there is =
     as_made Plan (old_volume_made ∷ old_span_made ∷ packed_volume_made ∷ packed_span_made ∷ [])

@@ -149,7 +149,7 @@ pub record WasCompleted {S : Type 0} (g : Ghosts S) (old new : Held S) (w : Worl
   pub whole : IsDesk (state g new).now
   pub same : tables_of (state g new).now.trees ≡ tables_at made (state g old).now.trees
 
--- the tables came before all indexes, with the rows of the world; they are in a desk's own order now, and have
+-- the tables came before all indexes, with the rows of the world; they are in a desk's own order now, with
 -- these rows
 pub record WasOrdered {S : Type 0} (g : Ghosts S) (old new : Held S) (w : World) : Type 0 where
   pub part : IsMadeTo Packed (state g old).now

@@ -115,7 +115,10 @@ fn next_step(made: TablesPresent) -> Option<(TablesPresent, &'static str)>
 }
 
 /// Makes all that is missing, one after the other.
-pub(crate) fn make_rest<S: Alter>(tx: &mut Transaction<'_, S>, made: TablesPresent) -> Result<(), Error>
+pub(crate) fn make_rest<S: Alter>(
+    tx: &mut Transaction<'_, S>,
+    made: TablesPresent,
+) -> Result<(), Error>
     requires missing { made ≢ TablesPresent.All }
     requires ordered { made ≢ TablesPresent.Packed }
     requires at { Holds S.Store tx.old.conn.now (IsMadeTo made) }

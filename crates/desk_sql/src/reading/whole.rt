@@ -173,7 +173,8 @@ pub fn all_volumes<S: Alter>(
         (state S.Store connection.old).now.trees).volumes) rows.items) }
     ensures open { has_table made (if is_packed made then DeskTable.PackedVolume
         else DeskTable.Volume) ≡ true
-        → HasCleanDisk (state S.Store connection.new) → OnOk result (IsTrue (state S.Store connection.old).is_open) }
+        → HasCleanDisk (state S.Store connection.new)
+        → OnOk result (IsTrue (state S.Store connection.old).is_open) }
     ensures live { OnOk result (StaysOpen S.Store connection.old connection.new) }
     ensures cause { HasCleanDisk (state S.Store connection.new)
         → IsTrue (state S.Store connection.new).is_open
@@ -197,7 +198,8 @@ pub fn all_covers<S: Alter>(
         (state S.Store connection.old).now.trees).covers) rows.items) }
     ensures open { has_table made (if is_packed made then DeskTable.PackedVolume
         else DeskTable.Volume) ≡ true
-        → HasCleanDisk (state S.Store connection.new) → OnOk result (IsTrue (state S.Store connection.old).is_open) }
+        → HasCleanDisk (state S.Store connection.new)
+        → OnOk result (IsTrue (state S.Store connection.old).is_open) }
     ensures live { OnOk result (StaysOpen S.Store connection.old connection.new) }
     ensures cause { HasCleanDisk (state S.Store connection.new)
         → IsTrue (state S.Store connection.new).is_open
@@ -221,7 +223,8 @@ pub fn all_spans<S: Alter>(
         (state S.Store connection.old).now.trees).spans) rows.items) }
     ensures open { has_table made (if is_packed made then DeskTable.PackedSpan
         else DeskTable.Span) ≡ true
-        → HasCleanDisk (state S.Store connection.new) → OnOk result (IsTrue (state S.Store connection.old).is_open) }
+        → HasCleanDisk (state S.Store connection.new)
+        → OnOk result (IsTrue (state S.Store connection.old).is_open) }
     ensures live { OnOk result (StaysOpen S.Store connection.old connection.new) }
     ensures cause { HasCleanDisk (state S.Store connection.new)
         → IsTrue (state S.Store connection.new).is_open
