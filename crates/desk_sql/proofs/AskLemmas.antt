@@ -1,5 +1,5 @@
 -- Why a query of whole tables is refused.
-use Rattle.std.proofs.Common.{◌≡◌, arith, ◌⊎◌, inl, inr, ℕ, List, [], length, None, Some, Option, Ok, Err, Result, IfOk, Bool, if◌then◌else◌, refl, sym, ap, subst, ◌∙◌, IsTrue, false, true≢false, IfErr}
+use Rattle.std.proofs.Common.{◌≡◌, arith, ◌⊎◌, inl, inr, ℕ, List, [], length, None, Some, Option, Ok, Err, Result, IfOk, Bool, if◌then◌else◌, refl, sym, ap, subst, ◌∙◌, IsTrue, true, false, true≢false, IfErr}
 use Rattle.std.specs.Prelude.{IsSome}
 use Rattle.sqlite_disk.specs.Disk.{MoreFaults}
 use Rattle.sqlite.specs.Order.{Row}
@@ -22,11 +22,11 @@ use Rattle.sqlite.specs.Schema.{Schema}
 use Rattle.desk_sql.specs.declared.opening.finding.TablesPresent.{TablesPresent}
 use Rattle.desk_sql.specs.declared.opening.numbers.DeskTable.{DeskTable}
 use Rattle.desk_sql.specs.declared.reading.whole.Whole.{Whole}
-use Rattle.desk_sql.specs.Queries.{table_read, key_cells, rows_read}
-use Rattle.desk_sql.specs.Schema.{HasTable, has_table}
+use Rattle.desk_sql.specs.Queries.{table_read, table_in, key_cells, rows_read}
+use Rattle.desk_sql.specs.Schema.{HasTable, has_table, is_packed}
 use Rattle.desk_sql.specs.Finding.{Holds}
 use Rattle.sqlite.specs.Tree.{Trees}
-use Rattle.desk_sql.specs.Rows.{Lists, tables_of, tables_at}
+use Rattle.desk_sql.specs.Rows.{Lists, tables_of, tables_in, tables_at}
 use Rattle.desk_sql.specs.Statements.{SelectsAll}
 use Rattle.desk_sql.proofs.ReadLemmas.{shown_read}
 use Rattle.desk_sql.specs.Refusals.{NeverRefuses, IsSureIn, IsSure, IsRefusal}
@@ -157,21 +157,41 @@ all_selected table text cells wanted known old new rows has h =
 
 -- the query of what is read
 abbrev pub IsWholeText : Whole → List ℕ → Type 0
-IsWholeText whole text = SelectsAll (table_read whole) text (key_cells (table_read whole))
-    (λ db. rows_read whole (tables_of db))
+IsWholeText whole text = (packed : Bool) → SelectsAll (table_in whole packed) text
+    (key_cells (table_read whole)) (λ db. rows_read whole (tables_in packed db))
+
+-- a query of a table that stands in one tree
+pub one_tree : (whole : Whole) (table : DeskTable) (text : List ℕ) (cells : List ℕ)
+    → ((packed : Bool) → table_in whole packed ≡ table)
+    → ((packed : Bool) (db : Trees) → rows_read whole (tables_in packed db) ≡ rows_read whole (tables_of db))
+    → SelectsAll table text cells (λ db. rows_read whole (tables_of db)) → (packed : Bool)
+    → SelectsAll (table_in whole packed) text cells (λ db. rows_read whole (tables_in packed db))
+one_tree whole table text cells is same known packed = record {
+  sure = λ db has. known.sure db (subst (λ t. HasTable t db) (is packed) has);
+  rows = λ db shown has h. subst (λ rows. Lists cells rows shown) (sym (same packed db.trees))
+      (known.rows db shown (subst (λ t. HasTable t db) (is packed) has) h);
+}
+
+-- a query of a table that stands in another tree in a packed file
+pub two_trees : (P : Bool → Type 0) → P false → P true → (packed : Bool) → P packed
+two_trees P one two false = one
+two_trees P one two true = two
 
 part_at : (whole : Whole) (made : TablesPresent) (db : Trees) → rows_read whole (tables_at made db)
-    ≡ (if has_table made (table_read whole) then rows_read whole (tables_of db) else [])
+    ≡ (if has_table made (table_in whole (is_packed made))
+    then rows_read whole (tables_in (is_packed made) db)
+    else [])
 part_at whole made db = grind arith
 
 -- what a table that is made shows is its part of what is made so far
 pub read_at : {V : Type 0} (whole : Whole) (made : TablesPresent) (there : Bool)
-    → has_table made (table_read whole) ≡ there
+    → has_table made (table_in whole (is_packed made)) ≡ there
     → (items : V → List Row) (db : Trees) (r : Result V Error)
     → IfOk r (λ v. Lists (key_cells (table_read whole))
-    (if there then rows_read whole (tables_of db) else []) (items v))
+    (if there then rows_read whole (tables_in (is_packed made) db) else []) (items v))
     → IfOk r (λ v. Lists (key_cells (table_read whole)) (rows_read whole (tables_at made db)) (items v))
 read_at whole made there is items db (Ok v) lists =
     subst (λ rows. Lists (key_cells (table_read whole)) rows (items v))
-    (sym (part_at whole made db ∙ ap (λ b. if b then rows_read whole (tables_of db) else []) is)) lists
+    (sym (part_at whole made db
+    ∙ ap (λ b. if b then rows_read whole (tables_in (is_packed made) db) else []) is)) lists
 read_at whole made there is items db (Err e) lists = tt

@@ -97,6 +97,8 @@ operators_grown old new was added = (
           | desk.OldSpan ↦ λ there. absurd (true≢false (sym there))
           | desk.Volume ↦ λ there. absurd (true≢false (sym there))
           | desk.Span ↦ λ there. absurd (true≢false (sym there))
+          | desk.PackedVolume ↦ λ there. absurd (true≢false (sym there))
+          | desk.PackedSpan ↦ λ there. absurd (true≢false (sym there))
         ] there;
   },
   rw added.empty,
@@ -114,6 +116,8 @@ plans_grown old new was added = (
           | desk.OldSpan ↦ λ there. absurd (true≢false (sym there))
           | desk.Volume ↦ λ there. absurd (true≢false (sym there))
           | desk.Span ↦ λ there. absurd (true≢false (sym there))
+          | desk.PackedVolume ↦ λ there. absurd (true≢false (sym there))
+          | desk.PackedSpan ↦ λ there. absurd (true≢false (sym there))
         ] there;
   },
   rw (added.kept.0, added.empty),
@@ -131,6 +135,8 @@ old_volumes_grown old new was added = (
           | desk.OldSpan ↦ λ there. absurd (true≢false (sym there))
           | desk.Volume ↦ λ there. absurd (true≢false (sym there))
           | desk.Span ↦ λ there. absurd (true≢false (sym there))
+          | desk.PackedVolume ↦ λ there. absurd (true≢false (sym there))
+          | desk.PackedSpan ↦ λ there. absurd (true≢false (sym there))
         ] there;
   },
   rw (added.kept.0, added.kept.1.0, added.empty),
@@ -148,6 +154,8 @@ old_spans_grown old new was added = (
           | desk.OldSpan ↦ λ there. subst AreNumbered (sym added.empty) none
           | desk.Volume ↦ λ there. absurd (true≢false (sym there))
           | desk.Span ↦ λ there. absurd (true≢false (sym there))
+          | desk.PackedVolume ↦ λ there. absurd (true≢false (sym there))
+          | desk.PackedSpan ↦ λ there. absurd (true≢false (sym there))
         ] there;
   },
   rw (added.kept.0, added.kept.1.0, added.kept.1.1.0, added.empty),
@@ -165,6 +173,8 @@ volumes_grown old new was added = (
           | desk.OldSpan ↦ λ there. subst AreNumbered (sym added.kept.1.1.1.0) (was.rows desk.OldSpan refl)
           | desk.Volume ↦ λ there. subst AreNumbered (sym added.empty) none
           | desk.Span ↦ λ there. absurd (true≢false (sym there))
+          | desk.PackedVolume ↦ λ there. absurd (true≢false (sym there))
+          | desk.PackedSpan ↦ λ there. absurd (true≢false (sym there))
         ] there;
   },
   rw (added.kept.0, added.kept.1.0, added.kept.1.1.0, added.kept.1.1.1.0, added.empty),
@@ -182,6 +192,8 @@ spans_grown old new was added = (
           | desk.OldSpan ↦ λ there. subst AreNumbered (sym added.kept.1.1.1.0) (was.rows desk.OldSpan refl)
           | desk.Volume ↦ λ there. subst AreNumbered (sym added.kept.1.1.1.1.0) (was.rows desk.Volume refl)
           | desk.Span ↦ λ there. subst AreNumbered (sym added.empty) none
+          | desk.PackedVolume ↦ λ there. absurd (true≢false (sym there))
+          | desk.PackedSpan ↦ λ there. absurd (true≢false (sym there))
         ] there;
   },
   rw (
@@ -332,6 +344,8 @@ old_first_grown old new was schema kept = (
           | desk.OldSpan ↦ λ there. subst AreNumbered (sym kept.1.1.1.0) (was.rows desk.OldSpan refl)
           | desk.Volume ↦ λ there. absurd (true≢false (sym there))
           | desk.Span ↦ λ there. absurd (true≢false (sym there))
+          | desk.PackedVolume ↦ λ there. absurd (true≢false (sym there))
+          | desk.PackedSpan ↦ λ there. absurd (true≢false (sym there))
         ] there;
   },
   rw (kept.0, kept.1.0, kept.1.1.0, kept.1.1.1.0),
@@ -373,6 +387,8 @@ first_grown old new was schema kept = (
           | desk.OldSpan ↦ λ there. subst AreNumbered (sym kept.1.1.1.0) (was.rows desk.OldSpan refl)
           | desk.Volume ↦ λ there. subst AreNumbered (sym kept.1.1.1.1.0) (was.rows desk.Volume refl)
           | desk.Span ↦ λ there. subst AreNumbered (sym kept.1.1.1.1.1.0) (was.rows desk.Span refl)
+          | desk.PackedVolume ↦ λ there. absurd (true≢false (sym there))
+          | desk.PackedSpan ↦ λ there. absurd (true≢false (sym there))
         ] there;
   },
   rw (kept.0, kept.1.0, kept.1.1.0, kept.1.1.1.0, kept.1.1.1.1.0, kept.1.1.1.1.1.0),

@@ -12,6 +12,7 @@ pub mod CascadeLemmas
 pub mod RemoveLemmas
 pub mod old_tables
 pub mod CreateLemmas
+pub mod DropLemmas
 pub mod BatchLemmas
 pub mod UpdateLemmas
 pub mod SetLemmas
@@ -19,6 +20,7 @@ pub mod EnrolLemmas
 pub mod SchemaLemmas
 pub mod MadeLemmas
 pub mod RowidLemmas
+pub mod PackedLemmas
 pub mod ClearLemmas
 pub mod SureTexts
 pub mod AskLemmas

@@ -2,14 +2,20 @@
 use Rattle.std.proofs.Common.{◌≡◌, ◌<◌, ◌+◌, ℕ, List, [], ◌∷◌, get_or, inl, inr, refl, sym, subst, arith}
 use Rattle.std.proofs.lemmas.Bool.{cases_eq}
 use Rattle.desk_sql.specs.declared.opening.finding.TablesPresent.{TablesPresent}
-use Rattle.desk_sql.specs.declared.opening.finding.TablesPresent.TheVariants.{Nothing, Operators, Plans, OldVolumes, OldSpans, OldIndex, Volumes, Spans, All}
+use Rattle.desk_sql.specs.declared.opening.finding.TablesPresent.TheVariants.{Nothing, Operators, Plans, OldVolumes, OldSpans, OldIndex, Volumes, Spans, All, Packed}
 use Rattle.desk_sql.specs.Making.{left_to_make}
 
 abbrev all_made : List TablesPresent
-all_made = All ∷ Spans ∷ Volumes ∷ OldIndex ∷ OldSpans ∷ OldVolumes ∷ Plans ∷ Operators ∷ Nothing ∷ []
+all_made =
+    All ∷ Spans ∷ Volumes ∷ OldIndex ∷ OldSpans ∷ OldVolumes ∷ Plans ∷ Operators ∷ Nothing ∷ Packed ∷ []
 
--- each stands where so many come before it as are left to make
-in_place : (made d : TablesPresent) → get_or all_made (left_to_make made) d ≡ made
+-- its place among them
+abbrev pub place_of : TablesPresent → ℕ
+place_of Packed = 9
+place_of made = left_to_make made
+
+-- each stands where it is looked for
+in_place : (made d : TablesPresent) → get_or all_made (place_of made) d ≡ made
 in_place Nothing d = refl
 in_place Operators d = refl
 in_place Plans d = refl
@@ -19,23 +25,25 @@ in_place OldIndex d = refl
 in_place Volumes d = refl
 in_place Spans d = refl
 in_place All d = refl
+in_place Packed d = refl
 
-pub few_left : (made : TablesPresent) → left_to_make made < 9
-few_left Nothing = omega arith
-few_left Operators = omega arith
-few_left Plans = omega arith
-few_left OldVolumes = omega arith
-few_left OldSpans = omega arith
-few_left OldIndex = omega arith
-few_left Volumes = omega arith
-few_left Spans = omega arith
-few_left All = omega arith
+pub few_places : (made : TablesPresent) → place_of made < 10
+few_places Nothing = omega arith
+few_places Operators = omega arith
+few_places Plans = omega arith
+few_places OldVolumes = omega arith
+few_places OldSpans = omega arith
+few_places OldIndex = omega arith
+few_places Volumes = omega arith
+few_places Spans = omega arith
+few_places All = omega arith
+few_places Packed = omega arith
 
 -- what holds of those before a place, and of the one there
 pub one_more : (P : TablesPresent → Type 0) (at : ℕ) (d : TablesPresent) → ((made : TablesPresent)
-    → left_to_make made < at → P made)
-    → P (get_or all_made at d) → (made : TablesPresent) → left_to_make made < at + 1 → P made
-one_more P at d before here made low = elim (cases_eq (left_to_make made) at) [
+    → place_of made < at → P made)
+    → P (get_or all_made at d) → (made : TablesPresent) → place_of made < at + 1 → P made
+one_more P at d before here made low = elim (cases_eq (place_of made) at) [
   | inl same ↦ subst P (in_place made d) (subst (λ n. P (get_or all_made n d)) (sym same) here)
   | inr other ↦ before made (omega (arith, low, other))
 ]

@@ -100,11 +100,15 @@ pub volumes_of_is : IsQuery volumes_of_text volumes_of_query
 unfolding understood everything
 volumes_of_is = record { is = refl; plain = (refl, refl); unlisted = refl }
 
-abbrev pub all_volumes_query : Query
-all_volumes_query = query_of (inner 9 end) ([])
+-- the rows of `volume2`, which is this tree
+abbrev pub volumes_in : ℕ → Query
+volumes_in tree = query_of (inner tree end) ([])
     (col 1 1 ∷ col 1 2 ∷ col 1 3 ∷ col 1 4 ∷ col 1 5 ∷ col 1 6
     ∷ col 1 7 ∷ col 1 8 ∷ []) ((col 1 1, ascending Binary) ∷ (col 1 2, ascending Binary)
     ∷ (col 1 3, ascending Binary) ∷ [])
+
+abbrev pub all_volumes_query : Query
+all_volumes_query = volumes_in 9
 
 pub all_volumes_is : IsWhole Volume all_volumes_text all_volumes_query
     (codes "operator" ∷ codes "id" ∷ codes "place" ∷ codes "lower" ∷ codes "upper" ∷ codes "start"
@@ -112,20 +116,27 @@ pub all_volumes_is : IsWhole Volume all_volumes_text all_volumes_query
 unfolding understood everything
 all_volumes_is others indexes = record { is = refl; plain = (refl, refl); unlisted = refl }
 
-abbrev pub all_covers_query : Query
-all_covers_query = query_of (inner 9 end) ([]) (col 1 1 ∷ col 1 2 ∷ col 1 3 ∷ col 1 9 ∷ [])
+abbrev pub covers_in : ℕ → Query
+covers_in tree = query_of (inner tree end) ([]) (col 1 1 ∷ col 1 2 ∷ col 1 3 ∷ col 1 9 ∷ [])
     ((col 1 1, ascending Binary) ∷ (col 1 2, ascending Binary) ∷ (col 1 3, ascending Binary) ∷ [])
+
+abbrev pub all_covers_query : Query
+all_covers_query = covers_in 9
 
 pub all_covers_is : IsWhole Volume all_covers_text all_covers_query
     (codes "operator" ∷ codes "id" ∷ codes "place" ∷ codes "canon" ∷ [])
 unfolding understood everything
 all_covers_is others indexes = record { is = refl; plain = (refl, refl); unlisted = refl }
 
-abbrev pub all_spans_query : Query
-all_spans_query = query_of (inner 11 end) ([]) (col 1 1 ∷ col 1 2 ∷ col 1 3 ∷ col 1 4 ∷ col 1 5 ∷ col 1 6
+-- the rows of `span2`, which is this tree
+abbrev pub spans_in : ℕ → Query
+spans_in tree = query_of (inner tree end) ([]) (col 1 1 ∷ col 1 2 ∷ col 1 3 ∷ col 1 4 ∷ col 1 5 ∷ col 1 6
     ∷ col 1 7 ∷ col 1 8 ∷ col 1 9 ∷ col 1 10 ∷ [])
     ((col 1 1, ascending Binary) ∷ (col 1 2, ascending Binary) ∷ (col 1 3, ascending Binary)
     ∷ (col 1 4, ascending Binary) ∷ [])
+
+abbrev pub all_spans_query : Query
+all_spans_query = spans_in 11
 
 pub all_spans_is : IsWhole Span all_spans_text all_spans_query
     (codes "operator" ∷ codes "id" ∷ codes "place" ∷ codes "first" ∷ codes "last" ∷ codes "lower"

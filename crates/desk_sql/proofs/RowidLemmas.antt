@@ -190,7 +190,7 @@ numbered_by rows shown same up =
     }
 
 -- the query of the rowids of the table in a tree
-rowids_selected : (table : DeskTable) (text : List ℕ) (tree : ℕ)
+pub rowids_selected : (table : DeskTable) (text : List ℕ) (tree : ℕ)
     → IsWhole table text (rowids_query tree) (codes "rowid" ∷ [])
     → ((others : List Table) (indexes : List Index) → IsSure (schema_to table others indexes) text)
     → ((db : Trees) → overlay db [] tree ≡ db tree)

@@ -5,15 +5,16 @@ use Rattle.sqlite.specs.Table.{Table}
 use Rattle.sqlite.specs.Effect.{Database}
 use Rattle.sqlite_tied.specs.Compute.{everything}
 use Rattle.desk_sql.specs.declared.opening.finding.TablesPresent.{TablesPresent}
-use Rattle.desk_sql.specs.declared.opening.finding.TablesPresent.TheVariants.{Nothing, Operators, Plans, OldVolumes, OldSpans, OldIndex, Volumes, Spans, All}
+use Rattle.desk_sql.specs.declared.opening.finding.TablesPresent.TheVariants.{Nothing, Operators, Plans, OldVolumes, OldSpans, OldIndex, Volumes, Spans, All, Packed}
 use Rattle.desk_sql.specs.declared.opening.numbers.DeskTable.{DeskTable}
-use Rattle.desk_sql.specs.declared.opening.numbers.DeskTable.TheVariants.{Operator, Plan, OldVolume, OldSpan, Volume, Span}
-use Rattle.desk_sql.specs.Schema.{schema_of, schema_to, has_table, HasTable, plan_made, old_volume_made, old_span_made, volume_made, span_made}
-use Rattle.desk_sql.specs.Finding.{indexes_of, operator_index, plan_index, old_volume_index, old_span_index, old_first_index, volume_index, span_index, first_index}
+use Rattle.desk_sql.specs.declared.opening.numbers.DeskTable.TheVariants.{Operator, Plan, OldVolume, OldSpan, Volume, Span, PackedVolume, PackedSpan}
+use Rattle.desk_sql.specs.Schema.{schema_of, schema_to, has_table, HasTable, plan_made, old_volume_made, old_span_made, volume_made, span_made, packed_volume_made, packed_span_made}
+use Rattle.desk_sql.specs.Finding.{indexes_of, operator_index, plan_index, old_volume_index, old_span_index, old_first_index, volume_index, span_index, first_index, packed_volume_index, packed_span_index, packed_old_first_index, packed_first_index}
 
 indexes_are : (made : TablesPresent) → (schema_of made).indexes ≡ indexes_of made
 unfolding everything operator_index plan_index old_volume_index old_span_index old_first_index
-    volume_index span_index first_index
+    volume_index span_index first_index packed_volume_index packed_span_index packed_old_first_index
+    packed_first_index
 indexes_are Nothing = refl
 indexes_are Operators = refl
 indexes_are Plans = refl
@@ -23,6 +24,7 @@ indexes_are OldIndex = refl
 indexes_are Volumes = refl
 indexes_are Spans = refl
 indexes_are All = refl
+indexes_are Packed = refl
 
 no_views : (made : TablesPresent) → (schema_of made).views ≡ []
 no_views Nothing = refl
@@ -34,6 +36,7 @@ no_views OldIndex = refl
 no_views Volumes = refl
 no_views Spans = refl
 no_views All = refl
+no_views Packed = refl
 
 pub has_indexes : (s : Schema) (made : TablesPresent) → s ≡ schema_of made → s.indexes ≡ indexes_of made
 has_indexes s made is = ap (λ t. t.indexes) is ∙ indexes_are made
@@ -70,12 +73,16 @@ has_made Operators OldVolume db there is = absurd (true≢false (sym there))
 has_made Operators OldSpan db there is = absurd (true≢false (sym there))
 has_made Operators Volume db there is = absurd (true≢false (sym there))
 has_made Operators Span db there is = absurd (true≢false (sym there))
+has_made Operators PackedVolume db there is = absurd (true≢false (sym there))
+has_made Operators PackedSpan db there is = absurd (true≢false (sym there))
 has_made Plans Operator db there is = as_made Operator (plan_made ∷ []) Plans db refl is
 has_made Plans Plan db there is = as_made Plan [] Plans db refl is
 has_made Plans OldVolume db there is = absurd (true≢false (sym there))
 has_made Plans OldSpan db there is = absurd (true≢false (sym there))
 has_made Plans Volume db there is = absurd (true≢false (sym there))
 has_made Plans Span db there is = absurd (true≢false (sym there))
+has_made Plans PackedVolume db there is = absurd (true≢false (sym there))
+has_made Plans PackedSpan db there is = absurd (true≢false (sym there))
 has_made OldVolumes Operator db there is =
     as_made Operator (plan_made ∷ old_volume_made ∷ []) OldVolumes db refl is
 has_made OldVolumes Plan db there is = as_made Plan (old_volume_made ∷ []) OldVolumes db refl is
@@ -83,6 +90,8 @@ has_made OldVolumes OldVolume db there is = as_made OldVolume [] OldVolumes db r
 has_made OldVolumes OldSpan db there is = absurd (true≢false (sym there))
 has_made OldVolumes Volume db there is = absurd (true≢false (sym there))
 has_made OldVolumes Span db there is = absurd (true≢false (sym there))
+has_made OldVolumes PackedVolume db there is = absurd (true≢false (sym there))
+has_made OldVolumes PackedSpan db there is = absurd (true≢false (sym there))
 has_made OldSpans Operator db there is =
     as_made Operator (plan_made ∷ old_volume_made ∷ old_span_made ∷ []) OldSpans db refl is
 has_made OldSpans Plan db there is = as_made Plan (old_volume_made ∷ old_span_made ∷ []) OldSpans db refl is
@@ -90,6 +99,8 @@ has_made OldSpans OldVolume db there is = as_made OldVolume (old_span_made ∷ [
 has_made OldSpans OldSpan db there is = as_made OldSpan [] OldSpans db refl is
 has_made OldSpans Volume db there is = absurd (true≢false (sym there))
 has_made OldSpans Span db there is = absurd (true≢false (sym there))
+has_made OldSpans PackedVolume db there is = absurd (true≢false (sym there))
+has_made OldSpans PackedSpan db there is = absurd (true≢false (sym there))
 has_made OldIndex Operator db there is =
     as_made Operator (plan_made ∷ old_volume_made ∷ old_span_made ∷ []) OldIndex db refl is
 has_made OldIndex Plan db there is = as_made Plan (old_volume_made ∷ old_span_made ∷ []) OldIndex db refl is
@@ -97,6 +108,8 @@ has_made OldIndex OldVolume db there is = as_made OldVolume (old_span_made ∷ [
 has_made OldIndex OldSpan db there is = as_made OldSpan [] OldIndex db refl is
 has_made OldIndex Volume db there is = absurd (true≢false (sym there))
 has_made OldIndex Span db there is = absurd (true≢false (sym there))
+has_made OldIndex PackedVolume db there is = absurd (true≢false (sym there))
+has_made OldIndex PackedSpan db there is = absurd (true≢false (sym there))
 has_made Volumes Operator db there is =
     as_made Operator (plan_made ∷ old_volume_made ∷ old_span_made ∷ volume_made ∷ []) Volumes db refl is
 has_made Volumes Plan db there is =
@@ -106,6 +119,8 @@ has_made Volumes OldVolume db there is =
 has_made Volumes OldSpan db there is = as_made OldSpan (volume_made ∷ []) Volumes db refl is
 has_made Volumes Volume db there is = as_made Volume [] Volumes db refl is
 has_made Volumes Span db there is = absurd (true≢false (sym there))
+has_made Volumes PackedVolume db there is = absurd (true≢false (sym there))
+has_made Volumes PackedSpan db there is = absurd (true≢false (sym there))
 has_made Spans Operator db there is =
     as_made Operator (plan_made ∷ old_volume_made ∷ old_span_made ∷ volume_made ∷ span_made ∷ [])
     Spans db refl is
@@ -116,6 +131,8 @@ has_made Spans OldVolume db there is =
 has_made Spans OldSpan db there is = as_made OldSpan (volume_made ∷ span_made ∷ []) Spans db refl is
 has_made Spans Volume db there is = as_made Volume (span_made ∷ []) Spans db refl is
 has_made Spans Span db there is = as_made Span [] Spans db refl is
+has_made Spans PackedVolume db there is = absurd (true≢false (sym there))
+has_made Spans PackedSpan db there is = absurd (true≢false (sym there))
 has_made All Operator db there is =
     as_made Operator (plan_made ∷ old_volume_made ∷ old_span_made ∷ volume_made ∷ span_made ∷ [])
     All db refl is
@@ -126,3 +143,20 @@ has_made All OldVolume db there is =
 has_made All OldSpan db there is = as_made OldSpan (volume_made ∷ span_made ∷ []) All db refl is
 has_made All Volume db there is = as_made Volume (span_made ∷ []) All db refl is
 has_made All Span db there is = as_made Span [] All db refl is
+has_made All PackedVolume db there is = absurd (true≢false (sym there))
+has_made All PackedSpan db there is = absurd (true≢false (sym there))
+has_made Packed Operator db there is =
+    as_made Operator
+    (plan_made ∷ old_volume_made ∷ old_span_made ∷ packed_volume_made ∷ packed_span_made ∷ [])
+    Packed db refl is
+has_made Packed Plan db there is =
+    as_made Plan (old_volume_made ∷ old_span_made ∷ packed_volume_made ∷ packed_span_made ∷ [])
+    Packed db refl is
+has_made Packed OldVolume db there is =
+    as_made OldVolume (old_span_made ∷ packed_volume_made ∷ packed_span_made ∷ []) Packed db refl is
+has_made Packed OldSpan db there is =
+    as_made OldSpan (packed_volume_made ∷ packed_span_made ∷ []) Packed db refl is
+has_made Packed Volume db there is = absurd (true≢false (sym there))
+has_made Packed Span db there is = absurd (true≢false (sym there))
+has_made Packed PackedVolume db there is = as_made PackedVolume (packed_span_made ∷ []) Packed db refl is
+has_made Packed PackedSpan db there is = as_made PackedSpan [] Packed db refl is

@@ -18,14 +18,15 @@ use Rattle.sqlite.specs.State.{HasCleanDisk}
 use Rattle.sqlite.specs.Held.{Held, state}
 use Rattle.sqlite.specs.Effect.{Database}
 use Rattle.desk_sql.specs.declared.opening.finding.TablesPresent.{TablesPresent}
-use Rattle.desk_sql.specs.declared.opening.finding.TablesPresent.TheVariants.{Nothing, Operators, Plans, OldVolumes, OldIndex, Volumes, Spans, All}
+use Rattle.desk_sql.specs.declared.opening.finding.TablesPresent.TheVariants.{Nothing, Operators, Plans, OldVolumes, OldIndex, Volumes, Spans, All, Packed}
 use Rattle.desk_sql.specs.Schema.{schema_of, column_of, table_of, old_span_first, span_first}
 
 -- what is shown, if it means something, is so
 abbrev pub Holds : {S : Type 0} → Ghosts S → Held S → (Database → Type 0) → Type 0
 Holds g h Is = HasCleanDisk (state g h) → IsTrue (state g h).is_open → Is (state g h).now
 
--- other tables, indexes or views than those of a desk, or not in its order
+-- other tables, indexes or views than those of a desk, or in another order than its own and that of a packed
+-- file
 abbrev pub HasOthers : Database → Type 0
 HasOthers db = (made : TablesPresent) → db.schema ≢ schema_of made
 
@@ -115,16 +116,30 @@ span_index = key_index (codes "sqlite_autoindex_span2_1") 11 (1 ∷ 2 ∷ 3 ∷ 
 unfoldable pub first_index : Index
 first_index = record span_first { tree = 13 }
 
+unfoldable pub packed_volume_index : Index
+packed_volume_index = key_index (codes "sqlite_autoindex_volume2_1") 8 (1 ∷ 2 ∷ 3 ∷ [])
+
+unfoldable pub packed_span_index : Index
+packed_span_index = key_index (codes "sqlite_autoindex_span2_1") 10 (1 ∷ 2 ∷ 3 ∷ 4 ∷ [])
+
+unfoldable pub packed_old_first_index : Index
+packed_old_first_index = record old_span_first { tree = 12 }
+
+unfoldable pub packed_first_index : Index
+packed_first_index = record span_first { tree = 13; table = 10 }
+
 -- the indexes of version 1's keys, and then others
 abbrev pub old_indexes_and : List Index → List Index
 old_indexes_and others = operator_index ∷ plan_index ∷ old_volume_index ∷ old_span_index ∷ others
 
--- the index over the leaves of `span`, and those that come after it when the tables are made so far
+-- the indexes that come after those of version 1's keys when the tables are made so far
 abbrev pub later_indexes : TablesPresent → List Index
 later_indexes OldIndex = old_first_index ∷ []
 later_indexes Volumes = old_first_index ∷ volume_index ∷ []
 later_indexes Spans = old_first_index ∷ volume_index ∷ span_index ∷ []
 later_indexes All = old_first_index ∷ volume_index ∷ span_index ∷ first_index ∷ []
+later_indexes Packed =
+    packed_volume_index ∷ packed_span_index ∷ packed_old_first_index ∷ packed_first_index ∷ []
 later_indexes _ = []
 
 -- the indexes, when the tables and the indexes are made so far

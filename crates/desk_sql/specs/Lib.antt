@@ -4,6 +4,7 @@ pub mod Rows
 pub mod Effects
 pub mod Frames
 pub mod Making
+pub mod Unpacking
 pub mod Batches
 pub mod Finding
 pub mod Refusals

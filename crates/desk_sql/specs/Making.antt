@@ -13,7 +13,7 @@ use Rattle.sqlite.specs.State.{HasCleanDisk}
 use Rattle.sqlite.specs.Held.{Held, state}
 use Rattle.desk_sql.specs.Schema.{desk_schema, schema_of}
 use Rattle.desk_sql.specs.declared.opening.finding.TablesPresent.{TablesPresent}
-use Rattle.desk_sql.specs.declared.opening.finding.TablesPresent.TheVariants.{Nothing, Operators, Plans, OldVolumes, OldSpans, OldIndex, Volumes, Spans, All}
+use Rattle.desk_sql.specs.declared.opening.finding.TablesPresent.TheVariants.{Nothing, Operators, Plans, OldVolumes, OldSpans, OldIndex, Volumes, Spans, All, Packed}
 use Rattle.desk_sql.specs.Rows.{IsDesk, IsMadeTo, Tables, tables_of, tables_at}
 use Rattle.desk_sql.specs.Statements.{Extends}
 use Rattle.desk_sql.specs.Changing.{IsShort, IsWholeIn, MayStop}
@@ -29,6 +29,7 @@ left_to_make OldIndex = 3
 left_to_make Volumes = 2
 left_to_make Spans = 1
 left_to_make All = 0
+left_to_make Packed = 0
 
 -- ---- what stops a step
 

@@ -1,5 +1,5 @@
 -- What each query lists.
-use Rattle.std.specs.Prelude.{ℕ, pos, List, [], ◌∷◌, map, filter}
+use Rattle.std.specs.Prelude.{ℕ, pos, Bool, if◌then◌else◌, List, [], ◌∷◌, map, filter}
 use Rattle.sqlite.specs.declared.types.Value.TheVariants.{Int, Text}
 use Rattle.sqlite.specs.Order.{Row}
 use Rattle.desk_sql.specs.declared.opening.numbers.DeskTable.{DeskTable}
@@ -23,6 +23,16 @@ table_read whole.Volumes = desk.Volume
 table_read whole.Covers = desk.Volume
 table_read whole.Spans = desk.Span
 
+-- that table, which in a packed file may stand in another tree
+abbrev pub table_in : Whole → Bool → DeskTable
+table_in whole.Operators packed = desk.Operator
+table_in whole.Plans packed = desk.Plan
+table_in whole.OldVolumes packed = desk.OldVolume
+table_in whole.OldSpans packed = desk.OldSpan
+table_in whole.Volumes packed = if packed then desk.PackedVolume else desk.Volume
+table_in whole.Covers packed = if packed then desk.PackedVolume else desk.Volume
+table_in whole.Spans packed = if packed then desk.PackedSpan else desk.Span
+
 -- the columns by which its rows come: its key
 abbrev pub key_cells : DeskTable → List ℕ
 key_cells desk.Operator = 0 ∷ []
@@ -31,6 +41,8 @@ key_cells desk.OldVolume = 0 ∷ 1 ∷ 2 ∷ []
 key_cells desk.OldSpan = 0 ∷ 1 ∷ 2 ∷ 3 ∷ []
 key_cells desk.Volume = 0 ∷ 1 ∷ 2 ∷ []
 key_cells desk.Span = 0 ∷ 1 ∷ 2 ∷ 3 ∷ []
+key_cells desk.PackedVolume = 0 ∷ 1 ∷ 2 ∷ []
+key_cells desk.PackedSpan = 0 ∷ 1 ∷ 2 ∷ 3 ∷ []
 
 -- what is read of the tables
 abbrev pub rows_read : Whole → Tables → List Row

@@ -12,7 +12,7 @@ use Rattle.sqlite.specs.Tree.{Trees, rowid, IsAscending}
 use Rattle.sqlite.specs.View.{is_int}
 use Rattle.sqlite.specs.Effect.{Database}
 use Rattle.desk_sql.specs.declared.opening.finding.TablesPresent.{TablesPresent}
-use Rattle.desk_sql.specs.declared.opening.finding.TablesPresent.TheVariants.{Nothing, Operators, Plans, OldVolumes, OldSpans, OldIndex, Volumes, Spans, All}
+use Rattle.desk_sql.specs.declared.opening.finding.TablesPresent.TheVariants.{Nothing, Operators, Plans, OldVolumes, OldSpans, OldIndex, Volumes, Spans, All, Packed}
 use Rattle.desk_sql.specs.declared.opening.numbers.DeskTable.{DeskTable}
 use Rattle.desk_sql.specs.Schema.{desk_schema, schema_of, tree_of, has_table}
 use Rattle.desk_sql.specs.declared.reading.rivals.SpanQuery.{SpanQuery}
@@ -102,6 +102,19 @@ no_rows = record {
 abbrev pub old_tables_of : Trees → Tables
 old_tables_of db = record (tables_of db) { volumes = []; covers = []; spans = [] }
 
+-- the rows of a packed file
+abbrev pub packed_tables_of : Trees → Tables
+packed_tables_of db = record (tables_of db) {
+  volumes = map (columns 8) (db 8);
+  covers = map cover_columns (db 8);
+  spans = map (columns 10) (db 10);
+}
+
+-- the rows of the tables, packed or not
+abbrev pub tables_in : Bool → Trees → Tables
+tables_in true db = packed_tables_of db
+tables_in false db = tables_of db
+
 -- the rows of what is made so far; a table that isn't made has none
 abbrev pub tables_at : TablesPresent → Trees → Tables
 tables_at Nothing db = no_rows
@@ -114,6 +127,7 @@ tables_at OldIndex db = old_tables_of db
 tables_at Volumes db = record (tables_of db) { spans = [] }
 tables_at Spans db = tables_of db
 tables_at All db = tables_of db
+tables_at Packed db = packed_tables_of db
 
 abbrev pub has_rows : List Row → Bool
 has_rows [] = false

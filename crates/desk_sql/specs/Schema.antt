@@ -16,7 +16,7 @@ use Rattle.sqlite_value.specs.Keys.{plain}
 use Rattle.sqlite_catalog.specs.Change.{created, indexed}
 use Rattle.sqlite.specs.Effect.{Database}
 use Rattle.desk_sql.specs.declared.opening.finding.TablesPresent.{TablesPresent}
-use Rattle.desk_sql.specs.declared.opening.finding.TablesPresent.TheVariants.{Nothing, Operators, Plans, OldVolumes, OldSpans, OldIndex, Volumes, Spans, All}
+use Rattle.desk_sql.specs.declared.opening.finding.TablesPresent.TheVariants.{Nothing, Operators, Plans, OldVolumes, OldSpans, OldIndex, Volumes, Spans, All, Packed}
 use Rattle.desk_sql.specs.declared.opening.numbers.DeskTable.{DeskTable}
 use Rattle.desk_sql.specs.declared.opening.numbers.DeskTable.TheVariants as desk
 
@@ -171,6 +171,23 @@ span_made = record span_table { tree = 11 }
 abbrev pub desk_schema : Schema
 desk_schema = indexed table_schema span_made span_first
 
+-- ---- a packed file: its tables come first, and then the indexes, as SQLite lists them when it writes a
+-- database anew (VACUUM, VACUUM INTO, or a file that is restored from a dump). So `volume2` is tree 8 there,
+-- and `span2` tree 10
+abbrev pub packed_volume_schema : Schema
+packed_volume_schema = created old_table_schema volume_table
+
+abbrev pub packed_table_schema : Schema
+packed_table_schema = created packed_volume_schema span_table
+
+-- `span2` as it stands in a packed file
+abbrev pub packed_span_made : Table
+packed_span_made = record span_table { tree = 10 }
+
+abbrev pub packed_schema : Schema
+packed_schema =
+    indexed (indexed packed_table_schema old_span_made old_span_first) packed_span_made span_first
+
 -- what there is when the tables and the indexes are made so far
 abbrev pub schema_of : TablesPresent → Schema
 schema_of Nothing = blank_schema
@@ -182,6 +199,7 @@ schema_of OldIndex = old_schema
 schema_of Volumes = volume_schema
 schema_of Spans = table_schema
 schema_of All = desk_schema
+schema_of Packed = packed_schema
 
 -- ---- the tables as they stand among others
 
@@ -197,6 +215,10 @@ old_volume_made = record old_volume_table { tree = 4 }
 abbrev pub volume_made : Table
 volume_made = record volume_table { tree = 9 }
 
+-- `volume2` as it stands in a packed file
+abbrev pub packed_volume_made : Table
+packed_volume_made = record volume_table { tree = 8 }
+
 -- the tables of version 1, and then others
 abbrev pub old_tables_and : List Table → List Table
 old_tables_and others = operator_made ∷ plan_made ∷ old_volume_made ∷ old_span_made ∷ others
@@ -209,6 +231,8 @@ tables_to desk.OldVolume others = operator_made ∷ plan_made ∷ old_volume_mad
 tables_to desk.OldSpan others = old_tables_and others
 tables_to desk.Volume others = old_tables_and (volume_made ∷ others)
 tables_to desk.Span others = old_tables_and (volume_made ∷ span_made ∷ others)
+tables_to desk.PackedVolume others = old_tables_and (packed_volume_made ∷ others)
+tables_to desk.PackedSpan others = old_tables_and (packed_volume_made ∷ packed_span_made ∷ others)
 
 -- the tree that has the rows of a table
 abbrev pub tree_of : DeskTable → ℕ
@@ -218,14 +242,23 @@ tree_of desk.OldVolume = 4
 tree_of desk.OldSpan = 6
 tree_of desk.Volume = 9
 tree_of desk.Span = 11
+tree_of desk.PackedVolume = 8
+tree_of desk.PackedSpan = 10
 
 -- whether the table is one of version 1
 abbrev pub is_old : DeskTable → Bool
-is_old desk.Volume = false
-is_old desk.Span = false
-is_old _ = true
+is_old desk.Operator = true
+is_old desk.Plan = true
+is_old desk.OldVolume = true
+is_old desk.OldSpan = true
+is_old _ = false
 
--- whether there is the table when the tables are made so far
+-- whether the tables come before all indexes
+abbrev pub is_packed : TablesPresent → Bool
+is_packed Packed = true
+is_packed _ = false
+
+-- whether there is the table, in its tree, when the tables are made so far
 abbrev pub has_table : TablesPresent → DeskTable → Bool
 has_table Nothing _ = false
 has_table Operators desk.Operator = true
@@ -239,16 +272,23 @@ has_table OldVolumes desk.OldVolume = true
 has_table OldVolumes _ = false
 has_table OldSpans table = is_old table
 has_table OldIndex table = is_old table
-has_table Volumes desk.Span = false
-has_table Volumes _ = true
-has_table Spans _ = true
-has_table All _ = true
+has_table Volumes desk.Volume = true
+has_table Volumes table = is_old table
+has_table Spans desk.Volume = true
+has_table Spans desk.Span = true
+has_table Spans table = is_old table
+has_table All desk.Volume = true
+has_table All desk.Span = true
+has_table All table = is_old table
+has_table Packed desk.PackedVolume = true
+has_table Packed desk.PackedSpan = true
+has_table Packed table = is_old table
 
 -- these, with any indexes
 abbrev pub schema_to : DeskTable → List Table → List Index → Schema
 schema_to table others indexes = record { tables = tables_to table others; indexes = indexes; views = [] }
 
--- a database with the table, which is made in the desk's order
+-- a database with the table, in its tree
 pub record HasTable (table : DeskTable) (db : Database) : Type 0 where
   pub others : List Table
   pub schema : db.schema ≡ schema_to table others db.schema.indexes

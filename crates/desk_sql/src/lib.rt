@@ -16,6 +16,7 @@ pub use old::rows::has_old_rows;
 pub use opening::finding::{TablesPresent, find_tables};
 pub use opening::making::complete_tables;
 pub use opening::numbers::DeskTable;
+pub use opening::unpacking::remake_tables;
 pub use reading::others::other_spans;
 pub use reading::queries::{own_plans, plan_of, volumes_of};
 pub use reading::rivals::{SpanQuery, rival_spans};

@@ -4,3 +4,4 @@ pub(crate) mod finding;
 pub(crate) mod making;
 pub(crate) mod matching;
 pub(crate) mod numbers;
+pub(crate) mod unpacking;

@@ -1,5 +1,5 @@
 -- What a crash leaves is read as one content.
-use Rattle.std.proofs.Common.{◌≡◌, ◌⊎◌, inl, inr, ◌≢◌, Option, Some, None, IsSome, IfSome, IsTrue, length, refl, sym, ap, subst, ◌∙◌, arith, true, true≢false}
+use Rattle.std.proofs.Common.{◌≡◌, ◌⊎◌, inl, inr, ◌≢◌, Option, Some, None, IsSome, IfSome, IsTrue, length, slice_index_or, refl, sym, ap, subst, ◌∙◌, arith, true, true≢false}
 use Rattle.std.specs.Coded.{Coded-set}
 use Rattle.std.proofs.Math.Logic.{∥∥₁_elim, ∥∥₁_map}
 use Rattle.sqlite_trees.specs.declared.store.Store.{Ghosts}
@@ -14,8 +14,8 @@ use Rattle.sqlite.specs.Held.{Held, state}
 use Rattle.sqlite.specs.Files.{over_files, file_state}
 use Rattle.sqlite.proofs.Theorems.{next_run}
 use Rattle.desk_sql.specs.declared.opening.finding.TablesPresent.{TablesPresent}
-use Rattle.desk_sql.specs.declared.opening.finding.TablesPresent.TheVariants.{Nothing, Operators, Plans, OldVolumes, OldSpans, OldIndex, Volumes, Spans, All}
-use Rattle.desk_sql.specs.Schema.{blank_schema, desk_schema, schema_of}
+use Rattle.desk_sql.specs.declared.opening.finding.TablesPresent.TheVariants.{Nothing, Operators, Plans, OldVolumes, OldSpans, OldIndex, Volumes, Spans, All, Packed}
+use Rattle.desk_sql.specs.Schema.{blank_schema, desk_schema, schema_of, operator_made}
 use Rattle.desk_sql.specs.Rows.{IsDesk, IsMadeTo, Tables, tables_of, tables_at, has_old_rows}
 use Rattle.desk_store.specs.World.{World}
 use Rattle.desk_store.specs.Crashes.{LeavesOnly, LeavesOldOr}
@@ -77,7 +77,7 @@ module _ (law : HaveOneContent) where
 
 -- ---- over files
 
--- part of the tables and the index is not a desk's schema
+-- part of the tables and the index is not a desk's schema, nor is that of a packed file
 only_all : (made : TablesPresent) → schema_of made ≡ desk_schema → made ≡ All
 only_all Nothing e = let tables : 0 ≡ 6 = ap (λ s. length s.tables) e in absurd (omega (arith, tables))
 only_all Operators e = let tables : 1 ≡ 6 = ap (λ s. length s.tables) e in absurd (omega (arith, tables))
@@ -88,6 +88,12 @@ only_all OldIndex e = let tables : 4 ≡ 6 = ap (λ s. length s.tables) e in abs
 only_all Volumes e = let tables : 5 ≡ 6 = ap (λ s. length s.tables) e in absurd (omega (arith, tables))
 only_all Spans e = let indexes : 7 ≡ 8 = ap (λ s. length s.indexes) e in absurd (omega (arith, indexes))
 only_all All e = refl
+only_all Packed e = let trees : 8 ≡ 9 = ap (λ s. (slice_index_or s.tables 4 operator_made).tree) e in
+    absurd (omega (arith, trees))
+
+-- a packed file
+packed_part : (db : Database) → IsMadeTo Packed db → IsPart Packed db
+packed_part db made = record { missing = λ e. cc; part = made }
 
 -- a database with no table
 nothing_made : (db : Database) → db.schema ≡ blank_schema → IsPart Nothing db
@@ -171,8 +177,10 @@ module _ {D E : Type 0} {g : disk.Ghosts D} {k : disk.Ghosts E} (last : Held (Fi
                 (file_state it.opens.found).now blank.blank,
           )))
           | inr (inl was) ↦ found_again it.opens.found w after was.standing
-          | inr (inr part) ↦ absurd (never_untaken it.opens.found after
+          | inr (inr (inl part)) ↦ absurd (never_untaken it.opens.found after
               (inl (part.made, part.part)))
+          | inr (inr (inr was)) ↦ absurd (never_untaken it.opens.found after
+              (inl (Packed, packed_part _ was.part)))
         ]
 
     module _ (e : OpenFault) (left : Held (FileStore E k)) where
@@ -199,7 +207,8 @@ module _ {D E : Type 0} {g : disk.Ghosts D} {k : disk.Ghosts E} (last : Held (Fi
         by_fault Store is = elim (it.after.refused.cause it.after.legible.0 it.after.legible.1 is) [
           | inl (inl failed) ↦ it.quiet failed
           | inl (inr limited) ↦ (let none = subst IsSome it.after.refused.fresh.unlimited limited in cc)
-          | inr numbers ↦ taken it.after (inr (inl numbers))
+          | inr (inl numbers) ↦ taken it.after (inr (inl numbers))
+          | inr (inr packed) ↦ taken it.after (inl (Packed, packed_part _ packed.part))
         ]
 
     -- of such files neither is told, by a connection that can be read or by none

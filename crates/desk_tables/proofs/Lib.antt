@@ -38,6 +38,7 @@ pub mod CauseLemmas
 pub mod SlabLemmas
 pub mod PuttableLemmas
 pub mod MovingLemmas
+pub mod OrderingLemmas
 pub mod CopyLemmas
 pub mod LookLemmas
 pub mod SmallLemmas

@@ -27,7 +27,7 @@ use Rattle.desk_tables.specs.Tables.{HasNoOldRows, area_rows, area_covers, volum
 use Rattle.desk_store.specs.Content.{IsContent}
 use Rattle.desk_tables.specs.declared.opening.open.OpenFault.{OpenFault}
 use Rattle.desk_tables.specs.declared.opening.open.OpenFault.TheVariants.{NotADesk}
-use Rattle.desk_tables.specs.Opening.{AreRows, BeginsWith, BlamesDatabase, HasNoContent, HasRowsOld, ShowsNoDesk}
+use Rattle.desk_tables.specs.Opening.{AreRows, BeginsWith, BlamesOpening, HasNoContent, HasRowsOld, ShowsNoDesk}
 use Rattle.desk_tables.specs.Moving.{AddsPlanRows, AddsPlansRows, AreNoOldContent, AreSortedOld, BeginsMoved, BlamesMove, BlamesMoving, HasNoNewRows, HasNoOldContent, HasOldContent, IsOldArea, IsOldContent, IsOldContentOf, IsOldShape, IsWhole, KeepsRows, ShowsNoContent, WasMoved, old_max_cover, told_count}
 use Rattle.desk_tables.proofs.ContentLemmas.{one_plans}
 use Rattle.desk_tables.proofs.KeyOrderLemmas.{are_old_rows, are_old_tables}
@@ -370,8 +370,8 @@ module _ {S : Type 0} (g : Ghosts S) (a b c : Held S) (reads : OnlyReads g a b)
       elim (why clean live told) [
         | inl (inl failed) ↦ inl (inl (omega (arith, failed, reads.faults)))
         | inl (inr limited) ↦ inl (inr (subst IsSome reads.limit limited))
-        | inr rows ↦ inr (inr (subst HasOldContent shows.now
-            (record { made = made; desk = part mid was; old = old mid was; rows = rows })))
+        | inr rows ↦ inr (inr (inl (subst HasOldContent shows.now
+            (record { made = made; desk = part mid was; old = old mid was; rows = rows }))))
       ]
 
 -- an opening that moves nothing is a move of no plan
@@ -385,10 +385,11 @@ module _ {S : Type 0} (g : Ghosts S) (a c : Held S) where
     | inr rows ↦ inr (inl rows)
   ]
 
-  pub cause_unmoved : (e : OpenFault) → BlamesDatabase g a c e → BlamesMove g a c e
+  pub cause_unmoved : (e : OpenFault) → BlamesOpening g a c e → BlamesMove g a c e
   cause_unmoved e cause = λ clean live told. elim (cause clean live told) [
     | inl failed ↦ inl failed
-    | inr numbers ↦ inr (inl numbers)
+    | inr (inl numbers) ↦ inr (inl numbers)
+    | inr (inr packed) ↦ inr (inr (inr packed))
   ]
 
 -- and so is a refusal of such an opening, since before a reading
@@ -398,5 +399,5 @@ module _ {S : Type 0} (g : Ghosts S) (a b c : Held S) (reads : OnlyReads g a b)
   pub none_later : (e ≡ NotADesk → ShowsNoDesk g b c) → e ≡ NotADesk → ShowsNoContent g a c
   none_later none is = none_unmoved g a c (none_then g a b c reads rises {V = Unit {0}} (Err e) kept none is)
 
-  pub cause_later : BlamesDatabase g b c e → BlamesMove g a c e
+  pub cause_later : BlamesOpening g b c e → BlamesMove g a c e
   cause_later cause = cause_unmoved g a c e (cause_then g a b c reads rises {V = Unit {0}} (Err e) kept cause)

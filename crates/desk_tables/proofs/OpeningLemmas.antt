@@ -1,5 +1,5 @@
 -- What a store begins with, from what was found.
-use Rattle.std.proofs.Common.{◌≡◌, ◌≢◌, ◌≤◌, List, [], ◌∷◌, ◌||◌, Bool, true, false, ◌∙◌, sym, ap, refl, OnOk, OnErr, subst, arith, inl, inr, IsTrue, Result, Ok, Err, IfOk, IfErr}
+use Rattle.std.proofs.Common.{◌≡◌, ◌≢◌, ◌≤◌, List, [], ◌∷◌, ◌||◌, Bool, true, false, ◌∙◌, sym, ap, refl, OnOk, OnErr, subst, arith, inl, inr, IsTrue, Result, Ok, Err, IfOk, IfErr, true≢false}
 use Rattle.std.specs.Prelude.{IsSome}
 use Rattle.std.specs.Result.{IsErrAnd}
 use Rattle.sqlite.specs.declared.error.Error.{Error}
@@ -11,7 +11,7 @@ use Rattle.sqlite.specs.State.{HasCleanDisk}
 use Rattle.sqlite.specs.Held.{Held, state}
 use Rattle.sqlite.specs.Effect.{Database}
 use Rattle.desk_sql.specs.declared.opening.finding.TablesPresent.{TablesPresent}
-use Rattle.desk_sql.specs.declared.opening.finding.TablesPresent.TheVariants.{Nothing, Operators, Plans, OldVolumes, OldSpans, OldIndex, Volumes, Spans, All}
+use Rattle.desk_sql.specs.declared.opening.finding.TablesPresent.TheVariants.{Nothing, Operators, Plans, OldVolumes, OldSpans, OldIndex, Volumes, Spans, All, Packed}
 use Rattle.desk_sql.specs.declared.opening.numbers.DeskTable.TheVariants as desk
 use Rattle.desk_sql.specs.Schema.{tree_of, has_table}
 use Rattle.desk_sql.specs.Rows.{IsDesk, IsMadeTo, AreNumbered, Tables, tables_of, tables_at, has_rows, has_old_rows}
@@ -26,7 +26,7 @@ use Rattle.desk_tables.specs.declared.opening.open.OpenFault.TheVariants.{NotADe
 use Rattle.desk_store.specs.Content.{IsContent}
 use Rattle.desk_tables.specs.Store.{Stands}
 use Rattle.desk_tables.specs.Tables.{HasNoOldRows, AreTables}
-use Rattle.desk_tables.specs.Opening.{AreSortedByKey, AreAllRows, HasNewRows, IsContentOf, AreNoContent, IsPart, BeganBlank, WasCompleted, BeginsWith, ShowsNoDesk, IsNoDesk, HasFailed, BlamesReading, BlamesDatabase, open_fault_of}
+use Rattle.desk_tables.specs.Opening.{AreSortedByKey, AreAllRows, HasNewRows, IsContentOf, AreNoContent, IsPart, BeganBlank, WasCompleted, BeginsWith, ShowsNoDesk, IsNoDesk, HasFailed, BlamesReading, BlamesDatabase, BlamesOpening, HasPackedContent, WasOrdered, open_fault_of}
 use Rattle.desk_tables.proofs.KeyOrderLemmas.{are_rows, are_tables}
 
 -- what is made as a whole is a desk
@@ -45,14 +45,16 @@ desk_made db made = record {
 pub made_desk : (db : Database) → IsDesk db → IsMadeTo All db
 made_desk db is = record {
   schema = is.schema;
-  rows = λ table there. elim table as (λ t. AreNumbered (db.trees (tree_of t))) [
-    | desk.Operator ↦ is.operators
-    | desk.Plan ↦ is.plans
-    | desk.OldVolume ↦ is.old_volumes
-    | desk.OldSpan ↦ is.old_spans
-    | desk.Volume ↦ is.volumes
-    | desk.Span ↦ is.spans
-  ];
+  rows = λ table there. elim table as (λ t. has_table All t ≡ true → AreNumbered (db.trees (tree_of t))) [
+    | desk.Operator ↦ λ there. is.operators
+    | desk.Plan ↦ λ there. is.plans
+    | desk.OldVolume ↦ λ there. is.old_volumes
+    | desk.OldSpan ↦ λ there. is.old_spans
+    | desk.Volume ↦ λ there. is.volumes
+    | desk.Span ↦ λ there. is.spans
+    | desk.PackedVolume ↦ λ there. absurd (true≢false (sym there))
+    | desk.PackedSpan ↦ λ there. absurd (true≢false (sym there))
+  ] there;
 }
 
 module _ {S : Type 0} (g : Ghosts S) where
@@ -143,14 +145,21 @@ module _ {S : Type 0} (g : Ghosts S) where
   begins_completed made world (Ok v) a b c one rises opened was = λ clean live.
       let before = one (omega (arith, rises, clean)) (opened clean) in
       let it = was clean in
-      inr (inr (record {
+      inr (inr (inl (record {
         made = it.made;
         part = subst (IsPart it.made) before.now it.part;
         rows = subst (λ (db : Database). IsContentOf (tables_at it.made db.trees) (world v)) before.now
             it.rows;
         whole = it.whole;
         same = it.same ∙ ap (λ (db : Database). tables_at it.made db.trees) before.now;
-      }))
+      })))
+
+  -- and so are tables that are put in order
+  pub begins_ordered : {V : Type 0} (world : V → World) (r : Result V OpenFault) (a c : Held S)
+      → (HasCleanDisk (state g c) → IfOk r (λ v. WasOrdered g a c (world v)))
+      → IfOk r (λ v. BeginsWith g a c (world v))
+  begins_ordered world (Err e) a c was = tt
+  begins_ordered world (Ok v) a c was = λ clean live. inr (inr (inr (was clean)))
 
 -- what is said of an opening since a reading is said of it since before the reading
 module _ {S : Type 0} (g : Ghosts S) (a b c : Held S) (reads : OnlyReads g a b)
@@ -179,14 +188,20 @@ module _ {S : Type 0} (g : Ghosts S) (a b c : Held S) (reads : OnlyReads g a b)
             committed = was.kept.committed ∙ before.committed;
           };
         }))
-        | inr (inr part) ↦ inr (inr (record {
+        | inr (inr (inr was)) ↦ inr (inr (inr (record {
+          part = subst (IsMadeTo Packed) before.now was.part;
+          rows = subst (λ (db : Database). IsContentOf (tables_at Packed db.trees) (world v)) before.now
+              was.rows;
+          standing = was.standing;
+        })))
+        | inr (inr (inl part)) ↦ inr (inr (inl (record {
           made = part.made;
           part = subst (IsPart part.made) before.now part.part;
           rows = subst (λ (db : Database). IsContentOf (tables_at part.made db.trees) (world v)) before.now
               part.rows;
           whole = part.whole;
           same = part.same ∙ ap (λ (db : Database). tables_at part.made db.trees) before.now;
-        }))
+        })))
       ]
 
   pub none_then : {V : Type 0} (r : Result V OpenFault) → OnErr r (IsKept g b c)
@@ -196,12 +211,15 @@ module _ {S : Type 0} (g : Ghosts S) (a b c : Held S) (reads : OnlyReads g a b)
       subst IsNoDesk (same_before clean (kept clean live).was_open).now (none is clean live)
 
   pub cause_then : {V : Type 0} (r : Result V OpenFault) → OnErr r (IsKept g b c)
-      → IfErr r (BlamesDatabase g b c) → IfErr r (BlamesDatabase g a c)
+      → IfErr r (BlamesOpening g b c) → IfErr r (BlamesOpening g a c)
   cause_then (Ok v) kept cause = tt
   cause_then (Err e) kept cause = λ clean live told. elim (cause clean live told) [
     | inl (inl failed) ↦ inl (inl (omega (arith, failed, reads.faults)))
     | inl (inr limited) ↦ inl (inr (subst IsSome reads.limit limited))
-    | inr numbers ↦ inr (subst IsMisnumbered (same_before clean (kept clean live).was_open).now numbers)
+    | inr (inl numbers) ↦
+        inr (inl (subst IsMisnumbered (same_before clean (kept clean live).was_open).now numbers))
+    | inr (inr packed) ↦
+        inr (inr (subst HasPackedContent (same_before clean (kept clean live).was_open).now packed))
   ]
 
 -- what is said of an error, once it is told on
@@ -234,8 +252,15 @@ module _ {S : Type 0} (g : Ghosts S) where
     | inr numbers ↦ inr numbers.1
   ]
 
+  -- and an opening is blamed no more than a look
+  pub blames_opening : (a b : Held S) (e : OpenFault) → BlamesDatabase g a b e → BlamesOpening g a b e
+  blames_opening a b e why clean live told = elim (why clean live told) [
+    | inl failed ↦ inl failed
+    | inr numbers ↦ inr (inl numbers)
+  ]
+
   pub blames_more : {V : Type 0} (r : Result V OpenFault) (a b : Held S) → IfErr r (BlamesReading g a b)
-      → IfErr r (BlamesDatabase g a b)
+      → IfErr r (BlamesOpening g a b)
   blames_more (Ok v) a b why = tt
   blames_more (Err e) a b why = λ clean live told. inl (why clean live told)
 
@@ -297,3 +322,4 @@ some_operators OldIndex some = refl
 some_operators Volumes some = refl
 some_operators Spans some = refl
 some_operators All some = refl
+some_operators Packed some = refl

@@ -18,7 +18,7 @@ use Rattle.desk_store.specs.World.{Filed, World}
 use Rattle.desk_tables.specs.Tables.{operator_rows, plan_rows, area_rows, volume_rows, area_covers, cover_rows, ArePlanSpanRows, AreSpanRows}
 use Rattle.desk_store.specs.Content.{IsContent}
 use Rattle.desk_tables.specs.Store.{IsStanding}
-use Rattle.desk_tables.specs.Opening.{BeginsWith, HasNoContent, HasFailed}
+use Rattle.desk_tables.specs.Opening.{BeginsWith, HasNoContent, HasFailed, HasPackedContent}
 use Rattle.desk_tables.specs.declared.opening.open.OpenFault.{OpenFault}
 use Rattle.desk_tables.specs.declared.opening.open.OpenFault.TheVariants.{Store}
 
@@ -108,6 +108,16 @@ pub record MovesRows (ps : List Filed) (old new : Tables) : Type 0 where
   pub with_spans :
       (rows : List Row) × AreSpanRows ps rows × IsPermutation (rows ++ old.spans) new.spans
 
+-- the rows of plans come in the place of those of `volume2` and `span2`, and the rows of the others stay
+pub record OrdersRows (ps : List Filed) (old new : Tables) : Type 0 where
+  pub operators : new.operators ≡ old.operators
+  pub plans : new.plans ≡ old.plans
+  pub old_volumes : new.old_volumes ≡ old.old_volumes
+  pub old_spans : new.old_spans ≡ old.old_spans
+  pub with_volumes : IsPermutation (volume_rows ps ++ []) new.volumes
+  pub with_covers : IsPermutation (cover_rows ps ++ []) new.covers
+  pub with_spans : (rows : List Row) × AreSpanRows ps rows × IsPermutation (rows ++ []) new.spans
+
 -- all of a desk's tables are made, with the rows that there were
 pub record IsWhole {S : Type 0} (g : Ghosts S) (made : TablesPresent) (old new : Held S) : Type 0 where
   pub was_open : IsTrue (state g old).is_open
@@ -185,4 +195,6 @@ module _ {S : Type 0} (g : Ghosts S) (old new : Held S) where
   abbrev pub BlamesMove : OpenFault → Type 0
   BlamesMove e =
       HasCleanDisk (state g new) → IsTrue (state g new).is_open → e ≡ Store →
-      HasFailed g old new ⊎ (IsMisnumbered (state g old).now ⊎ HasOldContent (state g old).now)
+      HasFailed g old new
+      ⊎ (IsMisnumbered (state g old).now
+      ⊎ (HasOldContent (state g old).now ⊎ HasPackedContent (state g old).now))

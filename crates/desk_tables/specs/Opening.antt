@@ -19,7 +19,7 @@ use Rattle.desk_rules.specs.Limits.{max_plans}
 use Rattle.desk_sql.specs.Schema.{blank_schema}
 use Rattle.desk_sql.specs.Finding.{HasOthers}
 use Rattle.desk_sql.specs.declared.opening.finding.TablesPresent.{TablesPresent}
-use Rattle.desk_sql.specs.declared.opening.finding.TablesPresent.TheVariants.{All}
+use Rattle.desk_sql.specs.declared.opening.finding.TablesPresent.TheVariants.{All, Packed}
 use Rattle.desk_sql.specs.Rows.{IsDesk, IsMadeTo, Tables, Lists, tables_of, tables_at, has_old_rows}
 use Rattle.desk_sql.specs.Refusals.{HasDiskFailed, IsMisnumbered}
 use Rattle.desk_sql.specs.Effects.{ShowsAsBefore}
@@ -149,6 +149,19 @@ pub record WasCompleted {S : Type 0} (g : Ghosts S) (old new : Held S) (w : Worl
   pub whole : IsDesk (state g new).now
   pub same : tables_of (state g new).now.trees ≡ tables_at made (state g old).now.trees
 
+-- the tables came before all indexes, with the rows of the world; they are in a desk's own order now, with
+-- these rows
+pub record WasOrdered {S : Type 0} (g : Ghosts S) (old new : Held S) (w : World) : Type 0 where
+  pub part : IsMadeTo Packed (state g old).now
+  pub rows : IsContentOf (tables_at Packed (state g old).now.trees) w
+  pub standing : IsStanding g new w
+
+-- a packed file with the rows of a content
+pub record HasPackedContent (db : Database) : Type 0 where
+  pub part : IsMadeTo Packed db
+  pub world : World
+  pub rows : IsContentOf (tables_at Packed db.trees) world
+
 -- a desk's tables, so far as they are made, with no row of schema 1, and rows of no content
 pub record HasNoContent (db : Database) : Type 0 where
   pub made : TablesPresent
@@ -178,7 +191,8 @@ module _ {S : Type 0} (g : Ghosts S) (old new : Held S) where
   abbrev pub BeginsWith : World → Type 0
   BeginsWith w =
       HasCleanDisk (state g new) → IsTrue (state g new).is_open →
-      BeganBlank (state g old).now w ⊎ (WasFound g old new w ⊎ WasCompleted g old new w)
+      BeganBlank (state g old).now w
+      ⊎ (WasFound g old new w ⊎ (WasCompleted g old new w ⊎ WasOrdered g old new w))
 
   -- what is shown is no desk's
   abbrev pub ShowsNoDesk : Type 0
@@ -197,8 +211,14 @@ module _ {S : Type 0} (g : Ghosts S) (old new : Held S) where
   BlamesReading e =
       HasCleanDisk (state g new) → IsTrue (state g new).is_open → e ≡ Store → HasFailed
 
-  -- why an opening tells that the database failed
+  -- why a look at a database tells that it failed
   abbrev pub BlamesDatabase : OpenFault → Type 0
   BlamesDatabase e =
       HasCleanDisk (state g new) → IsTrue (state g new).is_open → e ≡ Store →
       HasFailed ⊎ IsMisnumbered (state g old).now
+
+  -- why an opening tells that the database failed
+  abbrev pub BlamesOpening : OpenFault → Type 0
+  BlamesOpening e =
+      HasCleanDisk (state g new) → IsTrue (state g new).is_open → e ≡ Store →
+      HasFailed ⊎ (IsMisnumbered (state g old).now ⊎ HasPackedContent (state g old).now)

@@ -9,4 +9,5 @@ pub(crate) mod finding;
 pub(crate) mod looking;
 pub(crate) mod moving;
 pub(crate) mod open;
+pub(crate) mod ordering;
 pub(crate) mod path;

@@ -37,9 +37,7 @@ pub fn tell_cause<F: Start, E: Write>(
 pub fn tell<E: Write>(rt: &HostRuntime, path: &str, failure: Failure, errors: &mut E) {
     let cause = match failure {
         Failure::Store => store_cause(rt, path),
-        Failure::NotADesk => {
-            "no table, other tables than a desk's or in another order, or rows of no content"
-        }
+        Failure::NotADesk => "no table, other tables than a desk's, or rows of no content",
         Failure::OldSchema => "rows of schema 1: migrate it",
         _ => return,
     };

@@ -3,7 +3,7 @@
 ghost use Rattle.std.specs.Prelude.{◌≡◌, false, IsTrue, IfOk, IfErr, MatchOption};
 ghost use Rattle.sqlite.specs.State.{HasCleanDisk};
 ghost use Rattle.sqlite.specs.Held.{state};
-ghost use Rattle.desk_sql.specs.Schema.{has_table};
+ghost use Rattle.desk_sql.specs.Schema.{has_table, is_packed};
 ghost use Rattle.desk_sql.specs.Frames.{OnlyReads};
 ghost use Rattle.desk_sql.specs.Refusals.{IsUnread};
 ghost use Rattle.desk_sql.specs.Finding.{Holds, HasOthers};
@@ -13,7 +13,7 @@ use crate::opening::matching::tables_present;
 use crate::opening::numbers::{DeskTable, test_tables};
 use sqlite::{Alter, Connection, Error};
 
-/// How far a desk's tables and their indexes are made, which come in this order.
+/// How far a desk's tables and their indexes are made, which come in this order, but for `Packed`.
 #[derive(Clone, Copy, Debug, PartialEq, Eq)]
 pub enum TablesPresent {
     /// There is no table, index or view.
@@ -34,10 +34,19 @@ pub enum TablesPresent {
     Spans,
     /// There are these and the index over the leaves of `span2`.
     All,
+    /// There are all, but the tables come before the indexes, as in a file that SQLite wrote anew.
+    Packed,
 }
 
 impl TablesPresent {
-    /// Whether there is this table.
+    /// Whether the tables come before all indexes.
+    pub fn is_packed(self) -> bool
+        ensures { result ≡ is_packed self }
+    {
+        matches!(self, TablesPresent::Packed)
+    }
+
+    /// Whether there is this table, in its tree.
     pub fn has(self, table: DeskTable) -> bool
         ensures { result ≡ has_table self table }
     {
@@ -50,14 +59,19 @@ impl TablesPresent {
                 DeskTable::Operator | DeskTable::Plan | DeskTable::OldVolume
             ),
             TablesPresent::OldSpans | TablesPresent::OldIndex => table.is_old(),
-            TablesPresent::Volumes => !matches!(table, DeskTable::Span),
-            TablesPresent::Spans | TablesPresent::All => true,
+            TablesPresent::Volumes => table.is_old() || matches!(table, DeskTable::Volume),
+            TablesPresent::Spans | TablesPresent::All => {
+                table.is_old() || matches!(table, DeskTable::Volume | DeskTable::Span)
+            }
+            TablesPresent::Packed => {
+                table.is_old() || matches!(table, DeskTable::PackedVolume | DeskTable::PackedSpan)
+            }
         }
     }
 }
 
 /// How far a desk's tables are made in the database, or `None` if it has other tables, indexes or views, or
-/// has them in another order. It changes nothing.
+/// has them in another order than a desk's own and that of a packed file. It changes nothing.
 ///
 /// # Errors
 ///

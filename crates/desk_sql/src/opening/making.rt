@@ -95,8 +95,10 @@ fn first_text() -> &'static str
 
 // The text that makes what comes next, and how far all is made then.
 fn next_step(made: TablesPresent) -> Option<(TablesPresent, &'static str)>
+    requires { made ≢ TablesPresent.Packed }
     ensures step { IfSome result (λ step. IsStep step.1.now made step.0) }
     ensures less { IfSome result (λ step. left_to_make made ≡ suc (left_to_make step.0)) }
+    ensures ordered { IfSome result (λ step. step.0 ≢ TablesPresent.Packed) }
     ensures none { IfNone result (made ≡ TablesPresent.All) }
 {
     match made {
@@ -108,15 +110,20 @@ fn next_step(made: TablesPresent) -> Option<(TablesPresent, &'static str)>
         TablesPresent::OldIndex => Some((TablesPresent::Volumes, volume_text())),
         TablesPresent::Volumes => Some((TablesPresent::Spans, span_text())),
         TablesPresent::Spans => Some((TablesPresent::All, first_text())),
-        TablesPresent::All => None,
+        TablesPresent::All | TablesPresent::Packed => None,
     }
 }
 
-// Makes all that is missing, one after the other.
-fn make_rest<S: Alter>(tx: &mut Transaction<'_, S>, made: TablesPresent) -> Result<(), Error>
+/// Makes all that is missing, one after the other.
+pub(crate) fn make_rest<S: Alter>(
+    tx: &mut Transaction<'_, S>,
+    made: TablesPresent,
+) -> Result<(), Error>
     requires missing { made ≢ TablesPresent.All }
+    requires ordered { made ≢ TablesPresent.Packed }
     requires at { Holds S.Store tx.old.conn.now (IsMadeTo made) }
-    requires begun { IsTrue tx.old.conn.now.in_transaction }
+    requires begun { HasCleanDisk (state S.Store tx.old.conn.now)
+        → IsTrue (state S.Store tx.old.conn.now).is_open → IsTrue tx.old.conn.now.in_transaction }
     requires sound { Holds S.Store tx.old.conn.now IsDatabase }
     ensures same_reference { tx.new.conn.ghost_name ≡ tx.old.conn.ghost_name }
     ensures done { HasCleanDisk (state S.Store tx.new.conn.now)
@@ -144,6 +151,7 @@ pub fn complete_tables<S: Alter>(
     made: TablesPresent,
 ) -> Result<(), Error>
     requires missing { made ≢ TablesPresent.All }
+    requires ordered { made ≢ TablesPresent.Packed }
     requires at { Holds S.Store connection.old (IsMadeTo made) }
     requires settled { connection.old.in_transaction ≡ false }
     ensures done { HasCleanDisk (state S.Store connection.new)

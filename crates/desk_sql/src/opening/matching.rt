@@ -6,11 +6,14 @@ ghost use Rattle.sqlite_value.specs.Keys.{plain};
 ghost use Rattle.sqlite_schema.specs.declared.schema.Action.TheVariants.{NoAction};
 ghost use Rattle.desk_sql.specs.Schema.{column_of, operator_table, plan_table, old_volume_table};
 ghost use Rattle.desk_sql.specs.Schema.{old_span_table, volume_table, span_table, old_tables_and, first_of};
-ghost use Rattle.desk_sql.specs.Schema.{volume_made, span_made, to_operator, to_plan, schema_of};
+ghost use Rattle.desk_sql.specs.Schema.{volume_made, span_made, packed_volume_made, packed_span_made};
+ghost use Rattle.desk_sql.specs.Schema.{to_operator, to_plan, schema_of};
 ghost use Rattle.desk_sql.specs.Finding.{no_stamps, without_extras, plain_table, place_columns};
 ghost use Rattle.desk_sql.specs.Finding.{cell_columns, extent_columns, key_index, indexes_of, later_indexes};
 ghost use Rattle.desk_sql.specs.Finding.{operator_index, plan_index, old_volume_index, old_span_index};
 ghost use Rattle.desk_sql.specs.Finding.{old_indexes_and, old_first_index, volume_index, span_index, first_index};
+ghost use Rattle.desk_sql.specs.Finding.{packed_volume_index, packed_span_index};
+ghost use Rattle.desk_sql.specs.Finding.{packed_old_first_index, packed_first_index};
 
 use crate::opening::finding::TablesPresent;
 use sqlite_items::Items;
@@ -300,18 +303,20 @@ fn is_old_span_table(table: &Table) -> bool
         && refers_to_plan(table.references.as_slice())
 }
 
-fn is_volume_table(table: &Table) -> bool
-    ensures { IsTrue result ↔ (table.now ≡ record volume_table { tree = 9 }) }
+/// Whether it is `volume2`, in this tree.
+fn is_volume_table(table: &Table, tree: u32) -> bool
+    ensures { IsTrue result ↔ (table.now ≡ record volume_table { tree = tree }) }
 {
-    is_plain_table(table, b"volume2", 9, [1, 2, 3].as_slice())
+    is_plain_table(table, b"volume2", tree, [1, 2, 3].as_slice())
         && are_volume_columns(table.columns.as_slice())
         && refers_to_plan(table.references.as_slice())
 }
 
-fn is_span_table(table: &Table) -> bool
-    ensures { IsTrue result ↔ (table.now ≡ record span_table { tree = 11 }) }
+/// Whether it is `span2`, in this tree.
+fn is_span_table(table: &Table, tree: u32) -> bool
+    ensures { IsTrue result ↔ (table.now ≡ record span_table { tree = tree }) }
 {
-    is_plain_table(table, b"span2", 11, [1, 2, 3, 4].as_slice())
+    is_plain_table(table, b"span2", tree, [1, 2, 3, 4].as_slice())
         && are_span_columns(table.columns.as_slice())
         && refers_to_plan(table.references.as_slice())
 }
@@ -331,7 +336,17 @@ fn are_new_tables(tables: &[Table]) -> bool
     ensures { IsTrue result ↔ (tables.now ≡ volume_made ∷ span_made ∷ []) }
 {
     match tables {
-        [volume, span] => is_volume_table(volume) && is_span_table(span),
+        [volume, span] => is_volume_table(volume, 9) && is_span_table(span, 11),
+        _ => false,
+    }
+}
+
+/// Whether these are `volume2` and `span2`, as they stand in a packed file.
+fn are_packed_tables(tables: &[Table]) -> bool
+    ensures { IsTrue result ↔ (tables.now ≡ packed_volume_made ∷ packed_span_made ∷ []) }
+{
+    match tables {
+        [volume, span] => is_volume_table(volume, 8) && is_span_table(span, 10),
         _ => false,
     }
 }
@@ -352,10 +367,13 @@ fn are_tables(made: TablesPresent, tables: &[Table]) -> bool
             are_old_tables(operator, plan, volume, span)
         }
         (TablesPresent::Volumes, [operator, plan, volume, span, volume2]) => {
-            are_old_tables(operator, plan, volume, span) && is_volume_table(volume2)
+            are_old_tables(operator, plan, volume, span) && is_volume_table(volume2, 9)
         }
         (TablesPresent::Spans | TablesPresent::All, [operator, plan, volume, span, new @ ..]) => {
             are_old_tables(operator, plan, volume, span) && are_new_tables(new)
+        }
+        (TablesPresent::Packed, [operator, plan, volume, span, new @ ..]) => {
+            are_old_tables(operator, plan, volume, span) && are_packed_tables(new)
         }
         _ => false,
     }
@@ -457,6 +475,44 @@ fn is_first_index(index: &Index) -> bool
     is_leaf_index(index, b"span2_first", 13, 11)
 }
 
+#[tactic(auto, unfolding(crate::specs::Finding::packed_volume_index))]
+fn is_packed_volume_index(index: &Index) -> bool
+    ensures { IsTrue result ↔ (index.now ≡ packed_volume_index) }
+{
+    is_key_index(
+        index,
+        b"sqlite_autoindex_volume2_1",
+        8,
+        [1, 2, 3].as_slice(),
+    )
+}
+
+#[tactic(auto, unfolding(crate::specs::Finding::packed_span_index))]
+fn is_packed_span_index(index: &Index) -> bool
+    ensures { IsTrue result ↔ (index.now ≡ packed_span_index) }
+{
+    is_key_index(
+        index,
+        b"sqlite_autoindex_span2_1",
+        10,
+        [1, 2, 3, 4].as_slice(),
+    )
+}
+
+#[tactic(auto, unfolding(crate::specs::Finding::packed_old_first_index))]
+fn is_packed_old_first_index(index: &Index) -> bool
+    ensures { IsTrue result ↔ (index.now ≡ packed_old_first_index) }
+{
+    is_leaf_index(index, b"span_first", 12, 6)
+}
+
+#[tactic(auto, unfolding(crate::specs::Finding::packed_first_index))]
+fn is_packed_first_index(index: &Index) -> bool
+    ensures { IsTrue result ↔ (index.now ≡ packed_first_index) }
+{
+    is_leaf_index(index, b"span2_first", 13, 10)
+}
+
 /// Whether these are the indexes of version 1's keys, in their order.
 fn are_old_indexes(operator: &Index, plan: &Index, volume: &Index, span: &Index) -> bool
     ensures { IsTrue result ↔ (operator.now ∷ plan.now ∷ volume.now ∷ span.now ∷ [] ≡ old_indexes_and []) }
@@ -467,7 +523,22 @@ fn are_old_indexes(operator: &Index, plan: &Index, volume: &Index, span: &Index)
         && is_old_span_index(span)
 }
 
-/// Whether these are the index over the leaves of `span`, and those that come after it once so much is made.
+/// Whether these are the indexes that come after those of version 1's keys in a packed file.
+fn are_packed_indexes(indexes: &[Index]) -> bool
+    ensures { IsTrue result ↔ (indexes.now ≡ later_indexes TablesPresent.Packed) }
+{
+    match indexes {
+        [volume, span, old, first] => {
+            is_packed_volume_index(volume)
+                && is_packed_span_index(span)
+                && is_packed_old_first_index(old)
+                && is_packed_first_index(first)
+        }
+        _ => false,
+    }
+}
+
+/// Whether these are the indexes that come after those of version 1's keys once so much is made.
 fn are_later_indexes(made: TablesPresent, indexes: &[Index]) -> bool
     ensures { IsTrue result ↔ (indexes.now ≡ later_indexes made) }
 {
@@ -484,6 +555,7 @@ fn are_later_indexes(made: TablesPresent, indexes: &[Index]) -> bool
                 && is_span_index(span)
                 && is_first_index(first)
         }
+        (TablesPresent::Packed, indexes) => are_packed_indexes(indexes),
         (
             TablesPresent::OldIndex
             | TablesPresent::Volumes
@@ -512,7 +584,8 @@ fn are_indexes(made: TablesPresent, indexes: &[Index]) -> bool
             | TablesPresent::OldIndex
             | TablesPresent::Volumes
             | TablesPresent::Spans
-            | TablesPresent::All,
+            | TablesPresent::All
+            | TablesPresent::Packed,
             [operator, plan, volume, span, later @ ..],
         ) => are_old_indexes(operator, plan, volume, span) && are_later_indexes(made, later),
         _ => false,
@@ -547,6 +620,7 @@ pub(crate) fn tables_present(schema: &Schema) -> Option<TablesPresent>
         TablesPresent::Plans,
         TablesPresent::Operators,
         TablesPresent::Nothing,
+        TablesPresent::Packed,
     ] {
         if is_made(schema, made) {
             return Some(made);

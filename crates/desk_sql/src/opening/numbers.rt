@@ -73,6 +73,10 @@ pub enum DeskTable {
     Volume,
     /// `span2`
     Span,
+    /// `volume2`, as it stands in a packed file
+    PackedVolume,
+    /// `span2`, as it stands in a packed file
+    PackedSpan,
 }
 
 impl DeskTable {
@@ -80,7 +84,10 @@ impl DeskTable {
     pub(crate) fn is_old(self) -> bool
         ensures { result ≡ is_old self }
     {
-        !matches!(self, DeskTable::Volume | DeskTable::Span)
+        matches!(
+            self,
+            DeskTable::Operator | DeskTable::Plan | DeskTable::OldVolume | DeskTable::OldSpan
+        )
     }
 }
 
@@ -94,6 +101,8 @@ pub(crate) fn rowids_text(table: DeskTable) -> &'static str
         DeskTable::OldSpan => "SELECT rowid FROM span ORDER BY rowid",
         DeskTable::Volume => "SELECT rowid FROM volume2 ORDER BY rowid",
         DeskTable::Span => "SELECT rowid FROM span2 ORDER BY rowid",
+        DeskTable::PackedVolume => "SELECT rowid FROM volume2 ORDER BY rowid",
+        DeskTable::PackedSpan => "SELECT rowid FROM span2 ORDER BY rowid",
     }
 }
 
@@ -156,5 +165,7 @@ pub(crate) fn test_tables<S: Alter>(
     test_made(connection, made, DeskTable::OldVolume)?;
     test_made(connection, made, DeskTable::OldSpan)?;
     test_made(connection, made, DeskTable::Volume)?;
-    test_made(connection, made, DeskTable::Span)
+    test_made(connection, made, DeskTable::Span)?;
+    test_made(connection, made, DeskTable::PackedVolume)?;
+    test_made(connection, made, DeskTable::PackedSpan)
 }

@@ -1,15 +1,16 @@
 //! The rows of whole tables, as an opening reads them.
 
-ghost use Rattle.std.specs.Prelude.{◌≡◌, [], ◌∷◌, true, false, IfOk, IfErr, OnOk, IsTrue};
+ghost use Rattle.std.specs.Prelude.{◌≡◌, Bool, [], ◌∷◌, true, false, IfOk, IfErr, OnOk, IsTrue};
+ghost use Rattle.std.specs.Prelude.{if◌then◌else◌};
 ghost use Rattle.sqlite.specs.State.{HasCleanDisk};
 ghost use Rattle.sqlite.specs.Held.{state};
-ghost use Rattle.desk_sql.specs.Schema.{has_table};
-ghost use Rattle.desk_sql.specs.Rows.{IsMadeTo, tables_of, tables_at, Lists};
+ghost use Rattle.desk_sql.specs.Schema.{has_table, is_packed};
+ghost use Rattle.desk_sql.specs.Rows.{IsMadeTo, tables_in, tables_at, Lists};
 ghost use Rattle.desk_sql.specs.Effects.{StaysOpen};
 ghost use Rattle.desk_sql.specs.Finding.{Holds};
 ghost use Rattle.desk_sql.specs.Refusals.{IsRefusal};
 ghost use Rattle.desk_sql.specs.Statements.{SelectsAll};
-ghost use Rattle.desk_sql.specs.Queries.{table_read, key_cells, rows_read};
+ghost use Rattle.desk_sql.specs.Queries.{table_read, table_in, key_cells, rows_read};
 ghost use Rattle.desk_sql.specs.Frames.{OnlyReads};
 
 use crate::opening::finding::TablesPresent;
@@ -39,23 +40,25 @@ pub(crate) enum Whole {
 
 impl Whole {
     /// The table that is read.
-    fn table(self) -> DeskTable
-        ensures { result ≡ table_read self }
+    fn table(self, packed: bool) -> DeskTable
+        ensures { result ≡ table_in self packed }
     {
         match self {
             Whole::Operators => DeskTable::Operator,
             Whole::Plans => DeskTable::Plan,
             Whole::OldVolumes => DeskTable::OldVolume,
             Whole::OldSpans => DeskTable::OldSpan,
+            Whole::Volumes | Whole::Covers if packed => DeskTable::PackedVolume,
             Whole::Volumes | Whole::Covers => DeskTable::Volume,
+            Whole::Spans if packed => DeskTable::PackedSpan,
             Whole::Spans => DeskTable::Span,
         }
     }
 
     /// The query of these rows, by the table's key.
     fn text(self) -> &'static str
-        ensures { SelectsAll (table_read self) result.now (key_cells (table_read self))
-            (λ db. rows_read self (tables_of db)) }
+        ensures { (packed : Bool) → SelectsAll (table_in self packed) result.now
+            (key_cells (table_read self)) (λ db. rows_read self (tables_in packed db)) }
     {
         match self {
             Whole::Operators => "SELECT name, ceiling FROM operator ORDER BY name",
@@ -95,7 +98,8 @@ pub(crate) fn all_rows<S: Alter>(
     ensures value { HasCleanDisk (state S.Store connection.new)
         → IfOk result (λ rows. Lists (key_cells (table_read whole)) (rows_read whole (tables_at made
         (state S.Store connection.old).now.trees)) rows.items) }
-    ensures open { has_table made (table_read whole) ≡ true → HasCleanDisk (state S.Store connection.new)
+    ensures open { has_table made (table_in whole (is_packed made)) ≡ true
+        → HasCleanDisk (state S.Store connection.new)
         → OnOk result (IsTrue (state S.Store connection.old).is_open) }
     ensures live { OnOk result (StaysOpen S.Store connection.old connection.new) }
     ensures cause { HasCleanDisk (state S.Store connection.new)
@@ -103,7 +107,7 @@ pub(crate) fn all_rows<S: Alter>(
         → IfErr result (IsRefusal S.Store connection.old connection.new) }
     ensures reads { OnlyReads S.Store connection.old connection.new }
 {
-    if made.has(whole.table()) {
+    if made.has(whole.table(made.is_packed())) {
         ask(connection, whole.text())
     } else {
         Ok(Vec::new(alloc))
@@ -167,7 +171,9 @@ pub fn all_volumes<S: Alter>(
     ensures value { HasCleanDisk (state S.Store connection.new)
         → IfOk result (λ rows. Lists (0 ∷ 1 ∷ 2 ∷ []) ((tables_at made
         (state S.Store connection.old).now.trees).volumes) rows.items) }
-    ensures open { has_table made DeskTable.Volume ≡ true → HasCleanDisk (state S.Store connection.new)
+    ensures open { has_table made (if is_packed made then DeskTable.PackedVolume
+        else DeskTable.Volume) ≡ true
+        → HasCleanDisk (state S.Store connection.new)
         → OnOk result (IsTrue (state S.Store connection.old).is_open) }
     ensures live { OnOk result (StaysOpen S.Store connection.old connection.new) }
     ensures cause { HasCleanDisk (state S.Store connection.new)
@@ -190,7 +196,9 @@ pub fn all_covers<S: Alter>(
     ensures value { HasCleanDisk (state S.Store connection.new)
         → IfOk result (λ rows. Lists (0 ∷ 1 ∷ 2 ∷ []) ((tables_at made
         (state S.Store connection.old).now.trees).covers) rows.items) }
-    ensures open { has_table made DeskTable.Volume ≡ true → HasCleanDisk (state S.Store connection.new)
+    ensures open { has_table made (if is_packed made then DeskTable.PackedVolume
+        else DeskTable.Volume) ≡ true
+        → HasCleanDisk (state S.Store connection.new)
         → OnOk result (IsTrue (state S.Store connection.old).is_open) }
     ensures live { OnOk result (StaysOpen S.Store connection.old connection.new) }
     ensures cause { HasCleanDisk (state S.Store connection.new)
@@ -213,7 +221,9 @@ pub fn all_spans<S: Alter>(
     ensures value { HasCleanDisk (state S.Store connection.new)
         → IfOk result (λ rows. Lists (0 ∷ 1 ∷ 2 ∷ 3 ∷ []) ((tables_at made
         (state S.Store connection.old).now.trees).spans) rows.items) }
-    ensures open { has_table made DeskTable.Span ≡ true → HasCleanDisk (state S.Store connection.new)
+    ensures open { has_table made (if is_packed made then DeskTable.PackedSpan
+        else DeskTable.Span) ≡ true
+        → HasCleanDisk (state S.Store connection.new)
         → OnOk result (IsTrue (state S.Store connection.old).is_open) }
     ensures live { OnOk result (StaysOpen S.Store connection.old connection.new) }
     ensures cause { HasCleanDisk (state S.Store connection.new)

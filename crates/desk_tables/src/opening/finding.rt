@@ -18,13 +18,14 @@ ghost use Rattle.desk_tables.specs.SpanBounds.{IsKnownRow, Keeps};
 ghost use Rattle.desk_tables.specs.Opening.{AreSortedByKey, AreAllRows, IsContentOf, AreNoContent};
 ghost use Rattle.desk_tables.specs.Opening.{BeginsWith, HasRowsOld, HasNewRows, WasCompleted};
 ghost use Rattle.desk_tables.specs.Opening.{ShowsNoDesk, ShowsOldRows};
-ghost use Rattle.desk_tables.specs.Opening.{BlamesReading, BlamesDatabase};
+ghost use Rattle.desk_tables.specs.Opening.{BlamesReading, BlamesDatabase, BlamesOpening};
 
 use crate::kept::GhostWorld;
 use crate::known::{Known, live_among, roll_of};
 use crate::opening::content::{Content, TableRows, content_in};
 use crate::opening::covers::covers_agree;
 use crate::opening::open::OpenFault;
+use crate::opening::ordering::ordered_in;
 use crate::span_bounds::SpanBounds;
 use desk_sql::{
     DeskTable, TablesPresent, all_covers, all_operators, all_plans, all_spans, all_volumes,
@@ -60,7 +61,7 @@ pub(crate) fn load_world<S: Alter>(
         ShowsNoDesk S.Store connection.old connection.new) }
     ensures old { IfErr result (λ e. e ≡ OpenFault.OldSchema →
         ShowsOldRows S.Store connection.old connection.new) }
-    ensures cause { IfErr result (BlamesDatabase S.Store connection.old connection.new) }
+    ensures cause { IfErr result (BlamesOpening S.Store connection.old connection.new) }
     ensures kept { OnErr result (IsKept S.Store connection.old connection.new) }
     ensures doubt { doubt (state S.Store connection.old).is_clean
         ≤ doubt (state S.Store connection.new).is_clean }
@@ -115,7 +116,7 @@ pub(crate) fn world_of<S: Alter>(
     ensures none { IfErr result (λ e. e ≡ OpenFault.NotADesk →
         ShowsNoDesk S.Store connection.old connection.new) }
     ensures newer { IfErr result (λ e. e ≢ OpenFault.OldSchema) }
-    ensures cause { IfErr result (BlamesDatabase S.Store connection.old connection.new) }
+    ensures cause { IfErr result (BlamesOpening S.Store connection.old connection.new) }
     ensures opened { HasCleanDisk (state S.Store connection.new) →
         OnOk result (IsTrue (state S.Store connection.old).is_open) }
     ensures live { OnOk result (IsOpenIfClean S.Store connection.new) }
@@ -128,6 +129,7 @@ pub(crate) fn world_of<S: Alter>(
     match made {
         TablesPresent::All => load_tables(alloc, connection, TablesPresent::All),
         TablesPresent::Nothing => Ok((create_tables(connection)?, Known::new(alloc), false)),
+        TablesPresent::Packed => ordered_in(alloc, connection),
         made => completed_in(alloc, connection, made),
     }
 }
@@ -166,6 +168,7 @@ fn completed_in<S: Alter>(
     requires part { Holds S.Store connection.old (IsMadeTo made) }
     requires new { Holds S.Store connection.old (HasNewRows made) }
     requires missing { made ≢ TablesPresent.All }
+    requires ordered { made ≢ TablesPresent.Packed }
     requires some { made ≢ TablesPresent.Nothing }
     requires settled { connection.old.in_transaction ≡ false }
     ensures value { HasCleanDisk (state S.Store connection.new) → IfOk result (λ found.

@@ -30,6 +30,7 @@ use crate::opening::content::{Content, TableRows, content_in};
 use crate::opening::exact::FiledPlan;
 use crate::opening::finding::{lengths_in, tables_found, world_of};
 use crate::opening::open::OpenFault;
+use crate::opening::ordering::unpack;
 use desk_sql::laws::settled_and_sound;
 use desk_sql::{
     DeskTable, TablesPresent, all_covers, all_old_spans, all_old_volumes, all_operators, all_plans,
@@ -121,12 +122,13 @@ fn move_tables<S: Alter>(
     Ok((GhostWorld::of(&content), known, count))
 }
 
-// Makes what is missing of a desk's tables. The rows that there are stay.
+// Makes what is missing of a desk's tables, in its own order. The rows that there are stay.
 fn make_whole<S: Alter>(
     connection: &mut Connection<S>,
     made: TablesPresent,
 ) -> Result<(), OpenFault>
     requires part { Holds S.Store connection.old (IsMadeTo made) }
+    requires empty { Holds S.Store connection.old (λ db. HasNoNewRows (tables_at made db.trees)) }
     requires settled { connection.old.in_transaction ≡ false }
     ensures done { HasCleanDisk (state S.Store connection.new) → IsTrue (state S.Store connection.new).is_open
         → OnOk result (IsWhole S.Store made connection.old connection.new) }
@@ -136,6 +138,9 @@ fn make_whole<S: Alter>(
 {
     if made == TablesPresent::All {
         return Ok(());
+    }
+    if made == TablesPresent::Packed {
+        return unpack(connection);
     }
     complete_tables(connection, made)?;
     Ok(())

@@ -5,7 +5,7 @@ ghost use Rattle.sqlite_trees.specs.View.{doubt};
 ghost use Rattle.sqlite.specs.Held.{state};
 ghost use Rattle.desk_sql.specs.Effects.{IsKept, IsOpenIfClean};
 ghost use Rattle.desk_tables.specs.Moving.{BeginsMoved, BlamesMove, KeepsRows, ShowsNoContent};
-ghost use Rattle.desk_tables.specs.Opening.{BeginsWith, ShowsNoDesk, ShowsOldRows, BlamesDatabase};
+ghost use Rattle.desk_tables.specs.Opening.{BeginsWith, ShowsNoDesk, ShowsOldRows, BlamesOpening};
 ghost use Rattle.desk_tables.specs.Leaving.{IsSettledAt};
 
 use crate::known::Known;
@@ -160,7 +160,7 @@ impl<S: Alter> SqliteStore<S> {
         ensures old { IfErr result (λ refused. refused.fault ≡ OpenFault.OldSchema →
             ShowsOldRows S.Store connection refused.connection) }
         ensures cause { IfErr result (λ refused.
-            BlamesDatabase S.Store connection refused.connection refused.fault) }
+            BlamesOpening S.Store connection refused.connection refused.fault) }
         ensures kept { IfErr result (λ refused. IsKept S.Store connection refused.connection) }
         ensures doubt { MatchResult result
             (λ store. doubt (state S.Store connection).is_clean

@@ -19,6 +19,7 @@ steps-preserved g c =
           (omega (arith, c.run.ensures.remembered.doubt, clean)) (c.in_ok-run.ensures.shown clean)
           c.in_ok-run.field-0 (c.in_ok-run.ensures.ran clean)),
       λ clean _. (c.in_ok-run.ensures.shown clean).is_open,
+      c.in-Some.ensures.ordered,
     )
 
 pub returns-in_err-run-clause-cause : goal.returns-in_err-run-clause-cause

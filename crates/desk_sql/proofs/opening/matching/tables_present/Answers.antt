@@ -1,7 +1,7 @@
 use Rattle.std.proofs.Common.{◌≢◌, arith}
 use Rattle.std.proofs.lemmas.Bool.{both_ways}
 use Rattle.desk_sql.specs.Schema.{schema_of}
-use Rattle.desk_sql.proofs.MadeLemmas.{few_left, one_more}
+use Rattle.desk_sql.proofs.MadeLemmas.{few_places, one_more}
 use Rattle.desk_sql.proofs.opening.matching.tables_present.Goals as goal
 
 pub steps-init : goal.steps-init
@@ -12,4 +12,4 @@ steps-preserved c = one_more (λ made. c.args.schema.now ≢ schema_of made) c.s
     c.steps.invariant (λ same. both_ways _ c.if-is_made.false (c.is_made.ensures.1 same))
 
 pub returns : goal.returns
-returns c = λ made. c.steps.invariant made (omega (arith, few_left made, c.steps-test.false))
+returns c = λ made. c.steps.invariant made (omega (arith, few_places made, c.steps-test.false))

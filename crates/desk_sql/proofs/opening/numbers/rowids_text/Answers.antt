@@ -2,6 +2,7 @@ use Rattle.std.proofs.Common.{[], ◌∷◌, sym, subst}
 use Rattle.desk_sql.specs.Schema.{tree_of}
 use Rattle.desk_sql.specs.Statements.{SelectsAll, rowids}
 use Rattle.desk_sql.proofs.RowidLemmas.{operator_rowids_selected, plan_rowids_selected, old_volume_rowids_selected, old_span_rowids_selected, volume_rowids_selected, span_rowids_selected}
+use Rattle.desk_sql.proofs.PackedLemmas as packed
 use Rattle.desk_sql.proofs.opening.numbers.rowids_text.Goals as goal
 
 pub returns-in-Operator : goal.returns-in-Operator
@@ -27,3 +28,11 @@ returns-in-Volume c = subst (λ table. SelectsAll table _ (0 ∷ []) (λ db. row
 pub returns-in-Span : goal.returns-in-Span
 returns-in-Span c = subst (λ table. SelectsAll table _ (0 ∷ []) (λ db. rowids (db (tree_of table))))
     (sym c.in-Span.is) span_rowids_selected
+
+pub returns-in-PackedVolume : goal.returns-in-PackedVolume
+returns-in-PackedVolume c = subst (λ table. SelectsAll table _ (0 ∷ []) (λ db. rowids (db (tree_of table))))
+    (sym c.in-PackedVolume.is) packed.volume_rowids_selected
+
+pub returns-in-PackedSpan : goal.returns-in-PackedSpan
+returns-in-PackedSpan c = subst (λ table. SelectsAll table _ (0 ∷ []) (λ db. rowids (db (tree_of table))))
+    (sym c.in-PackedSpan.is) packed.span_rowids_selected

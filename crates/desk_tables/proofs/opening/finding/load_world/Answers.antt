@@ -1,13 +1,20 @@
 use Rattle.std.proofs.Common.{◌≡◌}
 use Rattle.desk_tables.specs.declared.opening.open.OpenFault.TheVariants.{NotADesk}
-use Rattle.desk_tables.specs.Opening.{ShowsNoDesk}
-use Rattle.desk_tables.proofs.OpeningLemmas.{begins_then, none_then, cause_then, told_as}
+use Rattle.desk_tables.specs.Opening.{BlamesOpening, ShowsNoDesk}
+use Rattle.desk_tables.proofs.OpeningLemmas.{begins_then, blames_opening, none_then, cause_then, told_as}
 use Rattle.desk_tables.proofs.opening.finding.load_world.Goals as goal
 
 pub returns-in_err-made-clause-none : goal.returns-in_err-made-clause-none
 returns-in_err-made-clause-none g c =
     told_as (λ e. e ≡ NotADesk → ShowsNoDesk g.S.Store c.args.connection.now c.tables_found.new.connection)
     c.from_residual.result _ c.from_residual.ensures.1 c.in_err-made.ensures.none
+
+pub returns-in_err-made-clause-cause : goal.returns-in_err-made-clause-cause
+returns-in_err-made-clause-cause g c =
+    let old = c.args.connection.now in
+    let new = c.tables_found.new.connection in
+    told_as (BlamesOpening g.S.Store old new) c.from_residual.result _ c.from_residual.ensures.1
+    (blames_opening g.S.Store old new c.in_err-made.field-0.0 c.in_err-made.ensures.cause)
 
 pub returns-clause-begins : goal.returns-clause-begins
 returns-clause-begins g c =

@@ -1,16 +1,16 @@
 use Rattle.std.proofs.Common.{inl, rules}
-use Rattle.desk_sql.specs.declared.opening.finding.TablesPresent.TheVariants.{All}
+use Rattle.desk_sql.specs.declared.opening.finding.TablesPresent.TheVariants.{All, Packed}
 use Rattle.desk_sql.specs.Finding.{Holds}
 use Rattle.desk_sql.specs.Rows.{IsMadeTo}
-use Rattle.desk_tables.specs.Opening.{BlamesDatabase, HasNewRows}
+use Rattle.desk_tables.specs.Opening.{BlamesOpening, HasNewRows}
 use Rattle.desk_tables.proofs.FrameLemmas.{reads_itself}
-use Rattle.desk_tables.proofs.OpeningLemmas.{none_of, begins_found, begins_completed, kept_on_err, found_stands, blames_more, told_as}
+use Rattle.desk_tables.proofs.OpeningLemmas.{none_of, begins_found, begins_completed, begins_ordered, kept_on_err, found_stands, blames_more, told_as}
 use Rattle.desk_tables.proofs.opening.finding.world_of.Goals as goal
 
 pub returns-in_err-create_tables-in-Nothing-clause-cause :
     goal.returns-in_err-create_tables-in-Nothing-clause-cause
 returns-in_err-create_tables-in-Nothing-clause-cause g c =
-    told_as (BlamesDatabase g.S.Store c.args.connection.now c.create_tables.new.connection)
+    told_as (BlamesOpening g.S.Store c.args.connection.now c.create_tables.new.connection)
     c.from_residual.result _
     c.from_residual.ensures.1
     (λ clean live told. inl (c.in_err-create_tables-in-Nothing.ensures.cause clean live told))
@@ -37,6 +37,28 @@ returns-in-All-clause-none g c =
     (reads_itself g.S.Store old c.requires.settled).kept whole new
     (kept_on_err c.load_tables.result c.load_tables.ensures.reads.kept)
     c.load_tables.ensures.reads.doubt c.load_tables.ensures.none
+
+pub returns-in-Packed : goal.returns-in-Packed
+returns-in-Packed g c =
+    let old = c.args.connection.now in
+    let new = c.ordered_in.new.connection in
+    let kept = (reads_itself g.S.Store old c.requires.settled).kept in
+    let part : Holds g.S.Store old (IsMadeTo Packed) = search rules in
+    let rows : Holds g.S.Store old (HasNewRows Packed) = search rules in
+    let done = c.ordered_in.ensures in record {
+      begins = begins_ordered g.S.Store (λ found. found.0.world) c.ordered_in.result old new done.value;
+      stands = done.stands;
+      bounded = done.bounded;
+      none = none_of g.S.Store Packed c.ordered_in.result old old new kept part rows done.kept done.doubt
+          done.none;
+      newer = done.newer;
+      cause = done.cause;
+      opened = done.open;
+      live = done.live;
+      kept = done.kept;
+      doubt = done.doubt;
+      shield = done.shield;
+    }
 
 pub returns-in_default : goal.returns-in_default
 returns-in_default g c =

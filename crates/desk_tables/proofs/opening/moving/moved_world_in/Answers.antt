@@ -3,7 +3,7 @@ use Rattle.desk_sql.specs.Finding.{Holds}
 use Rattle.desk_tables.specs.declared.opening.open.OpenFault.TheVariants.{NotADesk}
 use Rattle.desk_tables.specs.Moving.{BlamesMove, ShowsNoContent}
 use Rattle.desk_tables.specs.Opening.{HasRowsOld}
-use Rattle.desk_tables.proofs.OpeningLemmas.{begins_then, told_as}
+use Rattle.desk_tables.proofs.OpeningLemmas.{begins_then, blames_opening, told_as}
 use Rattle.desk_tables.proofs.MovingLemmas.{begins_moved, begins_unmoved, cause_moved, cause_later, cause_unmoved, keeps_moved, none_later, none_moved, none_unmoved}
 use Rattle.desk_tables.proofs.opening.moving.moved_world_in.Goals as goal
 
@@ -21,7 +21,8 @@ returns-in_err-made-clause-cause g c =
     let new = c.tables_found.new.connection in
     told_as (BlamesMove g.S.Store old new) c.from_residual.result _
     c.from_residual.ensures.1
-    (cause_unmoved g.S.Store old new c.in_err-made.field-0.0 c.in_err-made.ensures.cause)
+    (cause_unmoved g.S.Store old new c.in_err-made.field-0.0
+    (blames_opening g.S.Store old new c.in_err-made.field-0.0 c.in_err-made.ensures.cause))
 
 pub returns-then-old-clause-begins : goal.returns-then-old-clause-begins
 returns-then-old-clause-begins g c =

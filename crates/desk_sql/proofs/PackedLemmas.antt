@@ -1,0 +1,94 @@
+-- What the queries of `volume2` and `span2` show in a packed file, and that they are refused for no cause of
+-- their own.
+use Rattle.std.proofs.Common.{[], ◌∷◌, map, codes, refl, true, true≢false, arith, ◌∙◌}
+use Rattle.sqlite_tied.specs.Compute.{everything}
+use Rattle.sqlite.specs.Listing.{understood}
+use Rattle.desk_sql.specs.declared.opening.numbers.DeskTable.TheVariants.{PackedVolume, PackedSpan}
+use Rattle.desk_sql.specs.Rows.{columns, cover_columns, packed_tables_of}
+use Rattle.desk_sql.specs.Statements.{SelectsAll, rowids}
+use Rattle.desk_sql.proofs.Texts.{all_volumes_text, all_covers_text, all_spans_text, volume_rowids_text, span_rowids_text}
+use Rattle.desk_sql.proofs.QueryTexts.{IsWhole, volumes_in, covers_in, spans_in, rowids_query}
+use Rattle.desk_sql.proofs.ReadLemmas.{scanned}
+use Rattle.desk_sql.proofs.SureTexts.{IsSureWith, sure_scan}
+use Rattle.desk_sql.proofs.StatementLemmas.{every, selects_all}
+use Rattle.desk_sql.proofs.RowidLemmas.{rowids_selected}
+
+volumes_are : IsWhole PackedVolume all_volumes_text (volumes_in 8)
+    (codes "operator" ∷ codes "id" ∷ codes "place" ∷ codes "lower" ∷ codes "upper" ∷ codes "start"
+    ∷ codes "stop" ∷ codes "asked" ∷ [])
+unfolding understood everything
+volumes_are others indexes = record { is = refl; plain = (refl, refl); unlisted = refl }
+
+volumes_sure : IsSureWith PackedVolume all_volumes_text
+unfolding understood everything
+volumes_sure others indexes =
+    sure_scan (volumes_are others indexes) refl (omega arith) (λ trees misfit. true≢false misfit)
+
+pub volumes_selected :
+    SelectsAll PackedVolume all_volumes_text (0 ∷ 1 ∷ 2 ∷ []) (λ db. (packed_tables_of db).volumes)
+volumes_selected =
+    selects_all all_volumes_text _ _ _ _ _ _ volumes_are volumes_sure (0 ∷ 1 ∷ 2 ∷ []) _
+    (λ e. refl) (λ x y. refl)
+    (λ db. scanned (λ r. [] ∷ r ∷ []) (volumes_in 8).filter (volumes_in 8).project (columns 8)
+    (λ r. true) (λ r. refl) (λ r. refl) (db 8) ∙ every (map (columns 8) (db 8)))
+
+covers_are : IsWhole PackedVolume all_covers_text (covers_in 8)
+    (codes "operator" ∷ codes "id" ∷ codes "place" ∷ codes "canon" ∷ [])
+unfolding understood everything
+covers_are others indexes = record { is = refl; plain = (refl, refl); unlisted = refl }
+
+covers_sure : IsSureWith PackedVolume all_covers_text
+unfolding understood everything
+covers_sure others indexes =
+    sure_scan (covers_are others indexes) refl (omega arith) (λ trees misfit. true≢false misfit)
+
+pub covers_selected :
+    SelectsAll PackedVolume all_covers_text (0 ∷ 1 ∷ 2 ∷ []) (λ db. (packed_tables_of db).covers)
+covers_selected =
+    selects_all all_covers_text _ _ _ _ _ _ covers_are covers_sure (0 ∷ 1 ∷ 2 ∷ []) _
+    (λ e. refl) (λ x y. refl)
+    (λ db. scanned (λ r. [] ∷ r ∷ []) (covers_in 8).filter (covers_in 8).project cover_columns
+    (λ r. true) (λ r. refl) (λ r. refl) (db 8) ∙ every (map cover_columns (db 8)))
+
+spans_are : IsWhole PackedSpan all_spans_text (spans_in 10)
+    (codes "operator" ∷ codes "id" ∷ codes "place" ∷ codes "first" ∷ codes "last" ∷ codes "lower"
+    ∷ codes "upper" ∷ codes "start" ∷ codes "stop" ∷ codes "priority" ∷ [])
+unfolding understood everything
+spans_are others indexes = record { is = refl; plain = (refl, refl); unlisted = refl }
+
+spans_sure : IsSureWith PackedSpan all_spans_text
+unfolding understood everything
+spans_sure others indexes =
+    sure_scan (spans_are others indexes) refl (omega arith) (λ trees misfit. true≢false misfit)
+
+pub spans_selected :
+    SelectsAll PackedSpan all_spans_text (0 ∷ 1 ∷ 2 ∷ 3 ∷ []) (λ db. (packed_tables_of db).spans)
+spans_selected =
+    selects_all all_spans_text _ _ _ _ _ _ spans_are spans_sure (0 ∷ 1 ∷ 2 ∷ 3 ∷ []) _
+    (λ e. refl) (λ x y. refl)
+    (λ db. scanned (λ r. [] ∷ r ∷ []) (spans_in 10).filter (spans_in 10).project (columns 10)
+    (λ r. true) (λ r. refl) (λ r. refl) (db 10) ∙ every (map (columns 10) (db 10)))
+
+volume_rowids_are : IsWhole PackedVolume volume_rowids_text (rowids_query 8) (codes "rowid" ∷ [])
+unfolding understood everything
+volume_rowids_are others indexes = record { is = refl; plain = (refl, refl); unlisted = refl }
+
+volume_rowids_sure : IsSureWith PackedVolume volume_rowids_text
+unfolding understood everything
+volume_rowids_sure others indexes =
+    sure_scan (volume_rowids_are others indexes) refl (omega arith) (λ trees misfit. true≢false misfit)
+
+pub volume_rowids_selected : SelectsAll PackedVolume volume_rowids_text (0 ∷ []) (λ db. rowids (db 8))
+volume_rowids_selected = rowids_selected _ _ 8 volume_rowids_are volume_rowids_sure (λ db. refl)
+
+span_rowids_are : IsWhole PackedSpan span_rowids_text (rowids_query 10) (codes "rowid" ∷ [])
+unfolding understood everything
+span_rowids_are others indexes = record { is = refl; plain = (refl, refl); unlisted = refl }
+
+span_rowids_sure : IsSureWith PackedSpan span_rowids_text
+unfolding understood everything
+span_rowids_sure others indexes =
+    sure_scan (span_rowids_are others indexes) refl (omega arith) (λ trees misfit. true≢false misfit)
+
+pub span_rowids_selected : SelectsAll PackedSpan span_rowids_text (0 ∷ []) (λ db. rowids (db 10))
+span_rowids_selected = rowids_selected _ _ 10 span_rowids_are span_rowids_sure (λ db. refl)

@@ -1,0 +1,45 @@
+-- How the tables of a packed file come into a desk's own order: what stands in another place is dropped, and
+-- made anew.
+use Rattle.std.specs.Prelude.{◌≡◌, IsTrue, ℕ, List, [], Option}
+use Rattle.sqlite.specs.Schema.{Schema}
+use Rattle.sqlite.specs.Effect.{Database, IsDatabase}
+use Rattle.sqlite.specs.Listing.{understood}
+use Rattle.sqlite.specs.Store.{Ghosts}
+use Rattle.sqlite.specs.Held.{Held, state}
+use Rattle.sqlite_catalog.specs.Change.{without_table, without_index, KeepsRows}
+use Rattle.desk_sql.specs.declared.opening.finding.TablesPresent.TheVariants.{OldSpans}
+use Rattle.desk_sql.specs.Schema.{packed_schema}
+use Rattle.desk_sql.specs.Rows.{IsMadeTo, Tables, old_tables_of}
+use Rattle.desk_sql.specs.Statements.{IsWriting, MayWrite}
+use Rattle.sqlite.specs.Given.{IsPlain}
+
+-- a packed file without the index over the leaves of `span`, which is tree 12 there
+abbrev pub loose_schema : Schema
+loose_schema = without_index packed_schema 12
+
+-- and without `span2`, which is tree 10
+abbrev pub spanless_schema : Schema
+spanless_schema = without_table loose_schema 10
+
+-- a text that shows nothing, and drops a table or an index: the rows of the tables that are left stay
+pub record Drops (text : List ℕ) (old next : Schema) : Type 0 where
+  pub plain : IsPlain (understood old text)
+  pub writes : IsWriting (understood old text)
+  pub rows : (limit : Option ℕ) (before after : Database) → before.schema ≡ old
+      → MayWrite text (understood old text) [] limit before after
+      → (after.schema ≡ next) × KeepsRows next.tables before.trees after.trees
+
+module _ {S : Type 0} (g : Ghosts S) (old new : Held S) where
+  -- within a transaction, which goes on, what stands in another place than in a desk's own order was dropped
+  pub record Unpacks : Type 0 where
+    pub was_open : IsTrue (state g old).is_open
+    pub is_open : IsTrue (state g new).is_open
+    pub begun : IsTrue new.in_transaction
+    pub committed : (state g new).committed ≡ (state g old).committed
+    pub has : IsMadeTo OldSpans (state g new).now
+    pub sound : IsDatabase (state g new).now
+    pub same : old_tables_of (state g new).now.trees ≡ old_tables_of (state g old).now.trees
+
+-- `volume2` and `span2` have no rows, and the rows of the others stayed
+abbrev pub RemakesTables : Tables → Tables → Type 0
+RemakesTables old new = new ≡ record old { volumes = []; covers = []; spans = [] }

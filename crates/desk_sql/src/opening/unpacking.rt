@@ -1,0 +1,71 @@
+//! How the tables of a packed file come into a desk's own order.
+
+ghost use Rattle.std.specs.Prelude.{◌≡◌, OnOk, OnErr};
+ghost use Rattle.sqlite.specs.State.{HasCleanDisk, KeepsCommit};
+ghost use Rattle.sqlite.specs.Held.{state};
+ghost use Rattle.desk_sql.specs.Schema.{packed_schema, old_table_schema};
+ghost use Rattle.desk_sql.specs.Rows.{IsMadeTo};
+ghost use Rattle.desk_sql.specs.Finding.{Holds};
+ghost use Rattle.desk_sql.specs.Frames.{Remembers};
+ghost use Rattle.desk_sql.specs.Effects.{Makes};
+ghost use Rattle.desk_sql.specs.Unpacking.{loose_schema, spanless_schema, Drops, Unpacks, RemakesTables};
+
+use crate::changing::run::run;
+use crate::opening::finding::TablesPresent;
+use crate::opening::making::make_rest;
+use sqlite::{Alter, Error, Transaction};
+
+#[tactic(auto, using(crate::proofs::DropLemmas::old_first_drops))]
+fn drop_old_first_text() -> &'static str
+    ensures { Drops result.now packed_schema loose_schema }
+{
+    "DROP INDEX span_first"
+}
+
+#[tactic(auto, using(crate::proofs::DropLemmas::spans_drop))]
+fn drop_spans_text() -> &'static str
+    ensures { Drops result.now loose_schema spanless_schema }
+{
+    "DROP TABLE span2"
+}
+
+#[tactic(auto, using(crate::proofs::DropLemmas::volumes_drop))]
+fn drop_volumes_text() -> &'static str
+    ensures { Drops result.now spanless_schema old_table_schema }
+{
+    "DROP TABLE volume2"
+}
+
+// Drops what stands in another place than in a desk's own order.
+fn unpack<S: Alter>(tx: &mut Transaction<'_, S>) -> Result<(), Error>
+    requires at { Holds S.Store tx.old.conn.now (IsMadeTo TablesPresent.Packed) }
+    ensures same_reference { tx.new.conn.ghost_name ≡ tx.old.conn.ghost_name }
+    ensures done { HasCleanDisk (state S.Store tx.new.conn.now)
+        → OnOk result (Unpacks S.Store tx.old.conn.now tx.new.conn.now) }
+    ensures undone { HasCleanDisk (state S.Store tx.new.conn.now)
+        → OnErr result (KeepsCommit (state S.Store tx.old.conn.now)
+        (state S.Store tx.new.conn.now)) }
+    ensures remembered { Remembers S.Store tx.old.conn.now tx.new.conn.now }
+{
+    run(tx, drop_old_first_text(), &[])?;
+    run(tx, drop_spans_text(), &[])?;
+    run(tx, drop_volumes_text(), &[])?;
+    Ok(())
+}
+
+/// Puts the tables of a packed file into a desk's own order, within a transaction. The rows of `volume2` and
+/// `span2` go, and those of the others stay, which stand in the same trees.
+#[tactic(auto, using(crate::proofs::DropLemmas::remade))]
+pub fn remake_tables<S: Alter>(tx: &mut Transaction<'_, S>) -> Result<(), Error>
+    requires at { Holds S.Store tx.old.conn.now (IsMadeTo TablesPresent.Packed) }
+    ensures same_reference { tx.new.conn.ghost_name ≡ tx.old.conn.ghost_name }
+    ensures done { HasCleanDisk (state S.Store tx.new.conn.now)
+        → OnOk result (Makes S.Store tx.old.conn.now tx.new.conn.now RemakesTables) }
+    ensures undone { HasCleanDisk (state S.Store tx.new.conn.now)
+        → OnErr result (KeepsCommit (state S.Store tx.old.conn.now)
+        (state S.Store tx.new.conn.now)) }
+    ensures remembered { Remembers S.Store tx.old.conn.now tx.new.conn.now }
+{
+    unpack(tx)?;
+    make_rest(tx, TablesPresent::OldSpans)
+}

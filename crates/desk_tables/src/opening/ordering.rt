@@ -1,0 +1,101 @@
+//! How a packed file, whose tables come before all indexes, is put into a desk's own order.
+
+ghost use Rattle.std.specs.Prelude.{◌≡◌, ◌≢◌, ◌≤◌, false, IfOk, IfErr, OnOk, OnErr, IsTrue};
+ghost use Rattle.sqlite_trees.specs.View.{doubt};
+ghost use Rattle.sqlite.specs.State.{HasCleanDisk};
+ghost use Rattle.sqlite.specs.Held.{state};
+ghost use Rattle.desk_sql.specs.Rows.{IsMadeTo, tables_at};
+ghost use Rattle.desk_sql.specs.Effects.{Commits, IsKept, IsOpenIfClean};
+ghost use Rattle.desk_sql.specs.Finding.{Holds};
+ghost use Rattle.desk_sql.specs.Frames.{IsOver};
+ghost use Rattle.desk_sql.specs.Unpacking.{RemakesTables};
+ghost use Rattle.desk_tables.specs.Known.{Knows};
+ghost use Rattle.desk_tables.specs.Moving.{OrdersRows};
+ghost use Rattle.desk_tables.specs.Opening.{AreNoContent, BlamesOpening, HasNewRows, WasOrdered};
+ghost use Rattle.desk_tables.specs.Store.{Stands};
+
+use crate::kept::GhostWorld;
+use crate::known::Known;
+use crate::opening::exact::FiledPlan;
+use crate::opening::finding::content_found;
+use crate::opening::moving::write_plans;
+use crate::opening::open::OpenFault;
+use desk_sql::laws::settled_and_sound;
+use desk_sql::{TablesPresent, remake_tables};
+use sqlite::Connection;
+use sqlite_trees::store::Alter;
+use std::alloc::Global;
+
+/// The world whose rows a packed file has, in which there are no rows of schema 1. Its tables come into a
+/// desk's own order.
+pub(crate) fn ordered_in<S: Alter>(
+    alloc: Global,
+    connection: &mut Connection<S>,
+) -> Result<(GhostWorld, Known, bool), OpenFault>
+    requires part { Holds S.Store connection.old (IsMadeTo TablesPresent.Packed) }
+    requires new { Holds S.Store connection.old (HasNewRows TablesPresent.Packed) }
+    requires settled { connection.old.in_transaction ≡ false }
+    ensures value { HasCleanDisk (state S.Store connection.new) → IfOk result (λ found.
+        WasOrdered S.Store connection.old connection.new found.0.world) }
+    ensures stands { IfOk result (λ found. Stands S.Store connection.new found.0.world) }
+    ensures bounded { IfOk result (λ found. Knows found.1 found.0.world) }
+    ensures none { HasCleanDisk (state S.Store connection.new) → IfErr result (λ e.
+        e ≡ OpenFault.NotADesk →
+        AreNoContent (tables_at TablesPresent.Packed (state S.Store connection.old).now.trees)) }
+    ensures newer { IfErr result (λ e. e ≢ OpenFault.OldSchema) }
+    ensures open { HasCleanDisk (state S.Store connection.new) →
+        OnOk result (IsTrue (state S.Store connection.old).is_open) }
+    ensures live { OnOk result (IsOpenIfClean S.Store connection.new) }
+    ensures cause { IfErr result (BlamesOpening S.Store connection.old connection.new) }
+    ensures kept { OnErr result (IsKept S.Store connection.old connection.new) }
+    ensures doubt { doubt (state S.Store connection.old).is_clean
+        ≤ doubt (state S.Store connection.new).is_clean }
+    ensures shield { (state S.Store connection.old).IsShielded
+        → (state S.Store connection.new).IsShielded }
+{
+    let (content, known) = content_found(alloc, connection, TablesPresent::Packed)?;
+    put_in_order(alloc, connection, &content.plans)?;
+    let is_enrolled = !content.operators.is_empty();
+    Ok((GhostWorld::of(&content), known, is_enrolled))
+}
+
+// The tables come into a desk's own order, with the rows of these plans in `volume2` and `span2`, as one
+// transaction.
+fn put_in_order<S: Alter>(
+    alloc: Global,
+    connection: &mut Connection<S>,
+    plans: &[FiledPlan],
+) -> Result<(), OpenFault>
+    requires part { Holds S.Store connection.old (IsMadeTo TablesPresent.Packed) }
+    requires settled { connection.old.in_transaction ≡ false }
+    ensures done { HasCleanDisk (state S.Store connection.new)
+        → OnOk result (Commits S.Store connection.old connection.new (OrdersRows plans.now)) }
+    ensures kept { OnErr result (IsKept S.Store connection.old connection.new) }
+    ensures fault { IfErr result (λ e. (e ≢ OpenFault.NotADesk) × (e ≢ OpenFault.OldSchema)) }
+    ensures over { IsOver S.Store connection.old connection.new }
+{
+    settled_and_sound(connection);
+    let mut tx = connection.transaction();
+    remake_tables(&mut tx)?;
+    write_plans(alloc, &mut tx, plans)?;
+    tx.commit()?;
+    Ok(())
+}
+
+/// The tables of a packed file come into a desk's own order, without the rows of `volume2` and `span2`, as
+/// one transaction.
+pub(crate) fn unpack<S: Alter>(connection: &mut Connection<S>) -> Result<(), OpenFault>
+    requires part { Holds S.Store connection.old (IsMadeTo TablesPresent.Packed) }
+    requires settled { connection.old.in_transaction ≡ false }
+    ensures done { HasCleanDisk (state S.Store connection.new)
+        → OnOk result (Commits S.Store connection.old connection.new RemakesTables) }
+    ensures kept { OnErr result (IsKept S.Store connection.old connection.new) }
+    ensures fault { IfErr result (λ e. (e ≢ OpenFault.NotADesk) × (e ≢ OpenFault.OldSchema)) }
+    ensures over { IsOver S.Store connection.old connection.new }
+{
+    settled_and_sound(connection);
+    let mut tx = connection.transaction();
+    remake_tables(&mut tx)?;
+    tx.commit()?;
+    Ok(())
+}
