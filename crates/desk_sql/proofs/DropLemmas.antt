@@ -1,7 +1,6 @@
 -- What each DROP leaves.
-use Rattle.std.proofs.Common.{◌≡◌, Some, None, Ok, Option, Bool, slice_get, ℕ, false, true, List, [], refl, sym, ap, subst, ◌∙◌, arith, IsTrue, true≢false}
+use Rattle.std.proofs.Common.{◌≡◌, Some, None, Ok, Option, slice_get, ℕ, false, true, List, [], refl, sym, ap, subst, ◌∙◌, IsTrue, true≢false}
 use Rattle.std.specs.Prelude.{codes}
-use Rattle.std.specs.List.{AllByRecursion}
 use Rattle.sqlite.specs.Schema.{Schema}
 use Rattle.sqlite.specs.Table.{Table}
 use Rattle.sqlite_schema.specs.declared.schema.Index.{Index}
@@ -22,7 +21,7 @@ use Rattle.sqlite.specs.Effect.{IsDatabase}
 use Rattle.desk_sql.specs.declared.opening.finding.TablesPresent.TheVariants.{OldSpans, Packed}
 use Rattle.desk_sql.specs.declared.opening.numbers.DeskTable.TheVariants as desk
 use Rattle.desk_sql.specs.Schema.{packed_schema, old_table_schema, packed_volume_made, packed_span_made, has_table, tree_of}
-use Rattle.desk_sql.specs.Rows.{IsMadeTo, AreNumbered, old_tables_of, tables_of}
+use Rattle.desk_sql.specs.Rows.{IsMadeTo, AreNumbered}
 use Rattle.desk_sql.specs.Finding.{Holds, packed_old_first_index}
 use Rattle.desk_sql.specs.Statements.{MayWrite, enforced}
 use Rattle.desk_sql.specs.Making.{Finishes}

@@ -1,4 +1,4 @@
-use Rattle.std.proofs.Common.{◌≡◌, arith, sym, ◌∙◌, ap, ap₂, true}
+use Rattle.std.proofs.Common.{◌≡◌, arith, sym, ◌∙◌, ap, true}
 use Rattle.sqlite.specs.Held.{state}
 use Rattle.desk_sql.specs.Schema.{has_table, is_packed}
 use Rattle.desk_sql.specs.Queries.{table_read, table_in, key_cells, rows_read}
