@@ -592,6 +592,12 @@ fn are_indexes(made: TablesPresent, indexes: &[Index]) -> bool
     }
 }
 
+fn has_no_views(schema: &Schema) -> bool
+    ensures { IsTrue result ↔ (schema.now.views ≡ []) }
+{
+    schema.views.is_empty()
+}
+
 /// Whether there is what is made so far, and nothing else.
 fn is_made(schema: &Schema, made: TablesPresent) -> bool
     ensures { IsTrue result ↔ (schema.now ≡ schema_of made) }
@@ -602,7 +608,7 @@ fn is_made(schema: &Schema, made: TablesPresent) -> bool
     if !are_indexes(made, schema.indexes.as_slice()) {
         return false;
     }
-    schema.views.is_empty()
+    has_no_views(schema)
 }
 
 /// How far a desk's tables and indexes are made, if there is nothing else.

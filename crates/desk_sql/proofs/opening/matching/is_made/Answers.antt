@@ -10,6 +10,6 @@ pub returns : goal.returns
 returns c =
     let tables = sym c.as_slice.ensures ∙ c.are_tables.ensures.0 c.if-not-are_tables.false in
     let indexes = sym c.as_slice-2.ensures ∙ c.are_indexes.ensures.0 c.if-not-are_indexes.false in (
-      λ none. is_schema c.args.schema.now c.args.made tables indexes (c.is_empty.ensures.0 none),
-      λ is. c.is_empty.ensures.1 (has_no_views c.args.schema.now c.args.made is),
+      λ none. is_schema c.args.schema.now c.args.made tables indexes (c.has_no_views.ensures.0 none),
+      λ is. c.has_no_views.ensures.1 (has_no_views c.args.schema.now c.args.made is),
     )
