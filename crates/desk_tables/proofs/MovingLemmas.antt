@@ -1,5 +1,5 @@
 -- The move of a content from schema 1 to schema 2.
-use Rattle.std.proofs.Common.{◌≡◌, ◌≢◌, ◌≤◌, ◌↔◌, ◌⊎◌, ℕ, ◌^◌, ◌-◌, length, Bool, true, false, List, [], ◌∷◌, ◌++◌, Result, Ok, Err, IfOk, IfErr, OnOk, OnErr, IsTrue, refl, sym, ap, subst, ◌∙◌, arith, inl, inr, append_assoc, IsPermutation}
+use Rattle.std.proofs.Common.{◌≡◌, ◌≤◌, ◌↔◌, ◌⊎◌, ℕ, length, Bool, true, List, [], ◌∷◌, ◌++◌, Result, Ok, Err, IfOk, IfErr, OnOk, OnErr, IsTrue, refl, sym, ap, subst, ◌∙◌, arith, inl, inr, append_assoc, IsPermutation}
 use Rattle.std.specs.Prelude.{IsSome}
 use Rattle.std.specs.List.{flat_map, AllByRecursion}
 use Rattle.std.proofs.lemmas.List.{append-nil}
@@ -8,7 +8,7 @@ use Rattle.std.proofs.lemmas.List.Sorted.{IsPermutation-refl, IsPermutation-tran
 use Rattle.sqlite_trees.specs.declared.store.Store.{Ghosts}
 use Rattle.sqlite_trees.specs.View.{doubt}
 use Rattle.sqlite_value.specs.Order.{Row}
-use Rattle.sqlite.specs.Effect.{Database, IsDatabase}
+use Rattle.sqlite.specs.Effect.{Database}
 use Rattle.sqlite.specs.State.{HasCleanDisk}
 use Rattle.sqlite.specs.Held.{Held, state}
 use Rattle.s2_cover.specs.CanonicalList.{canonical_list}
@@ -17,13 +17,13 @@ use Rattle.volume4d.specs.FootprintBytes.{HasValidParts, footprint_bytes}
 use Rattle.volume4d.specs.Shape.{Shape, rectangle, shape_positions}
 use Rattle.desk_sql.specs.declared.opening.finding.TablesPresent.{TablesPresent}
 use Rattle.desk_sql.specs.declared.opening.finding.TablesPresent.TheVariants.{All}
-use Rattle.desk_sql.specs.Rows.{IsDesk, IsMadeTo, Tables, Lists, tables_of, tables_at, has_old_rows}
+use Rattle.desk_sql.specs.Rows.{IsMadeTo, Tables, Lists, tables_of, tables_at, has_old_rows}
 use Rattle.desk_sql.specs.Effects.{IsKept, ShowsAsBefore, Makes}
 use Rattle.desk_sql.specs.Frames.{OnlyReads, Remembers}
 use Rattle.desk_sql.specs.Batches.{IsUnderWay}
 use Rattle.desk_sql.specs.Finding.{Holds, HasOthers}
 use Rattle.desk_store.specs.World.{Filed, World}
-use Rattle.desk_tables.specs.Tables.{HasNoOldRows, area_rows, area_covers, volume_rows, cover_rows, ArePlanSpanRows, AreSpanRows}
+use Rattle.desk_tables.specs.Tables.{area_rows, area_covers, volume_rows, cover_rows, ArePlanSpanRows, AreSpanRows}
 use Rattle.desk_store.specs.Content.{IsContent}
 use Rattle.desk_tables.specs.declared.opening.open.OpenFault.{OpenFault}
 use Rattle.desk_tables.specs.declared.opening.open.OpenFault.TheVariants.{NotADesk}

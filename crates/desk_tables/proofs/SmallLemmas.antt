@@ -1,5 +1,5 @@
 -- The spans of a content have entries that SQLite can store in the index over leaves.
-use Rattle.std.proofs.Common.{◌≡◌, ◌≤◌, ℕ, ◌+◌, Bool, true, false, IsTrue, MatchBool, List, [], ◌∷◌, ◌++◌, length, map, sym, subst, arith}
+use Rattle.std.proofs.Common.{◌≡◌, ◌≤◌, ℕ, ◌+◌, Bool, true, false, IsTrue, MatchBool, List, [], ◌∷◌, length, map, sym, subst, arith}
 use Rattle.std.proofs.lemmas.List.Elements.{All-from_recursion, recursion_from_All}
 use Rattle.std.proofs.lemmas.List.Sorted.{All-permutation}
 use Rattle.std.specs.List.{AllByRecursion}
@@ -23,8 +23,7 @@ use Rattle.desk_sql.specs.Changing.{IsShort}
 use Rattle.desk_sql.specs.Making.{AreSmall, HasSmallSpans, IsSmall}
 use Rattle.desk_store.specs.World.{Filed, World}
 use Rattle.desk_store.specs.laws.Order.{all_append}
-use Rattle.desk_tables.specs.Tables.{id_text, span_row, AreSpanRowsFrom, ArePlanSpanRows, AreSpanRows, AreTables}
-use Rattle.desk_store.specs.Content.{IsContent}
+use Rattle.desk_tables.specs.Tables.{id_text, span_row, AreSpanRowsFrom, ArePlanSpanRows, AreSpanRows}
 use Rattle.desk_tables.specs.Opening.{BlamesReading, IsContentOf, open_fault_of}
 use Rattle.desk_tables.specs.Records.{IsFiled}
 use Rattle.desk_tables.proofs.AssemblyLemmas.{filed_within}

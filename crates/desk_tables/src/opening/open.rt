@@ -138,7 +138,8 @@ impl SqliteStore<FileStore<Ram>> {
 impl<S: Alter> SqliteStore<S> {
     /// The store over a connection, which is open. In a database with no table a desk's tables are made,
     /// and the world is empty. A desk's tables stay as they are, and the world is the content whose rows
-    /// they have. That holds while the disk has returned what was written.
+    /// they have; those of a packed file are put into a desk's own order, in one transaction. That holds
+    /// while the disk has returned what was written.
     ///
     /// # Errors
     ///

@@ -1,4 +1,3 @@
-use Rattle.std.proofs.Common.{subst}
 use Rattle.desk_tables.proofs.OtherLemmas.{others_held}
 use Rattle.desk_tables.proofs.reading.others.held_by_others.Goals as goal
 

@@ -1,4 +1,3 @@
-use Rattle.volume4d.specs.Slab.{top_held}
 use Rattle.desk_tables.proofs.OtherLemmas.{reading_begins, reading_on}
 use Rattle.desk_tables.proofs.reading.others.held_in.Goals as goal
 
