@@ -1,5 +1,5 @@
 -- Opening: what a line is carried out at, and what a database that can't be opened means.
-use Rattle.std.specs.Prelude.{◌≡◌, ℕ, [], Option, Result, Ok, Err, IfErr, IfOk, ⊤}
+use Rattle.std.specs.Prelude.{◌≡◌, ℕ, [], Option, None, Result, Ok, Err, IfErr, IfOk, ⊤}
 use Rattle.sqlite_disk.specs.declared.Disk as disk
 use Rattle.sqlite_wal.specs.Recovery.{Image}
 use Rattle.sqlite_store.specs.declared.store.FileStore.{FileStore}
@@ -20,6 +20,7 @@ use Rattle.desk_tables.specs.Leaving.{MayLeave}
 use Rattle.desk_tables.specs.Store.{Shown}
 use Rattle.desk_tables.specs.declared.opening.open.OpenFault.{OpenFault}
 use Rattle.desk_tables.specs.declared.opening.open.OpenFault.TheVariants as opening
+use Rattle.uss_desk.specs.declared.opening.Unopened.{Unopened}
 use Rattle.uss_desk.specs.declared.opening.Opened.{Opened}
 use Rattle.uss_desk.specs.declared.opening.Opened.TheVariants as opened
 
@@ -29,6 +30,11 @@ open_failure opening.OutOfMemory = failure.Memory
 open_failure opening.Store = failure.Store
 open_failure opening.NotADesk = failure.NotADesk
 open_failure opening.OldSchema = failure.OldSchema
+
+-- the failure is that of this fault, and nothing in the database was read
+pub record IsUnreadFor {S : Type 0} (it : Unopened S) (fault : OpenFault) : Type 0 where
+  pub failure : it.failure ≡ open_failure fault
+  pub refused : it.refused.value ≡ record { fault = fault; connection = None }
 
 -- memory ran out: nothing else keeps a desk in memory from being opened
 abbrev pub IsMemory : Failure → Type 0

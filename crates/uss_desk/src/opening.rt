@@ -4,21 +4,66 @@ ghost use Rattle.std.specs.Prelude.{◌≡◌, IfErr, IfOk};
 ghost use Rattle.sqlite_wal.specs.Files.{image_at};
 ghost use Rattle.uss_desk.specs.Opening as spec;
 ghost use Rattle.uss_desk.specs.Opening.{IsBlank, IsMemory, IsMovedAt, IsMovedIn, IsOpenedAt, IsOpenedFor};
-ghost use Rattle.uss_desk.specs.Opening.{IsOpenedIn};
+ghost use Rattle.uss_desk.specs.Opening.{IsOpenedIn, IsUnreadFor};
 
 use crate::causes::tell_unenrolled;
 use desk_line::{Database, Failure, Line};
 use desk_run::Desk;
-use desk_tables::{OpenFault, SqliteStore};
+use desk_tables::{FilesFault, OpenFault, SqliteStore};
 use ram_disk::Ram;
 use sqlite::{FileFrom, FileStore, Start};
-use std::alloc::Global;
+use sqlite_trees::store::Alter;
+use std::alloc::{AllocError, Global};
+use std::snapshot::Snapshot;
 
 /// A desk in memory.
 pub type MemoryDesk = Desk<SqliteStore<FileStore<Ram>>>;
 
 /// A desk over the database in files, where `F` stands for what they held.
 pub type FileDesk<F> = Desk<SqliteStore<FileStore<FileFrom<F>>>>;
+
+/// Why a database was not opened. What refused it is closed, and clauses alone read what it was.
+#[derive(Drop)]
+pub struct Unopened<S: Alter> {
+    /// The failure with which the line ends.
+    pub failure: Failure,
+    /// The fault, and the connection that read the database, if there was one.
+    pub refused: Snapshot<FilesFault<S>>,
+}
+
+impl<S: Alter + Drop> Unopened<S> {
+    /// Files were refused. Their connection is closed, so that they can be looked at again.
+    pub fn of(refused: FilesFault<S>) -> Unopened<S>
+        ensures failure { result.failure ≡ spec.open_failure refused.fault }
+        ensures refused { result.refused.value ≡ refused }
+    {
+        Unopened {
+            failure: open_failure(&refused.fault),
+            refused: Snapshot::of(&refused),
+        }
+    }
+
+    /// Nothing in the database was read.
+    pub fn unread(fault: OpenFault) -> Unopened<S>
+        ensures { IsUnreadFor result fault }
+    {
+        Unopened::of(FilesFault {
+            fault,
+            connection: None,
+        })
+    }
+}
+
+impl<S: Alter + Drop> From<AllocError> for Unopened<S> {
+    ghost use Rattle.desk_tables.specs.declared.opening.open.OpenFault.TheVariants.{OutOfMemory};
+    ghost use Rattle.uss_desk.specs.Opening.{IsUnreadFor};
+
+    ghost from_gives = { λ _ it. IsUnreadFor it OutOfMemory };
+
+    fn from(_error: AllocError) -> Unopened<S> {
+        Unopened::unread(OpenFault::OutOfMemory)
+    }
+}
 
 /// What was opened for a line, a desk `M` in memory or one `D` over files; or why it could not be.
 #[derive(Drop)]
