@@ -23,7 +23,7 @@ use Rattle.desk_tables.specs.declared.opening.open.OpenFault.{OpenFault}
 use Rattle.desk_tables.specs.declared.opening.open.OpenFault.TheVariants as fault
 use Rattle.desk_tables.specs.declared.opening.files.FilesFault.{FilesFault}
 use Rattle.uss_desk.specs.declared.opening.Unopened.{Unopened}
-use Rattle.uss_desk.specs.Keeping.{FailsToLook, FailsTelling, IsCopyMade, IsReadAs, IsUntold, Tells, TellsHoldings}
+use Rattle.uss_desk.specs.Keeping.{FailsToLook, IsCopyMade, IsReadAs, IsUntold, Tells, TellsHoldings}
 use Rattle.uss_desk.specs.Opening.{IsUnreadFor, open_failure}
 use Rattle.desk_tables.specs.Copying.{AreNotRead}
 use Rattle.desk_tables.specs.Files.{IsUnread}

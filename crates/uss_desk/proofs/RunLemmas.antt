@@ -12,7 +12,6 @@ use Rattle.sqlite.specs.Closing.{IsCopied}
 use Rattle.sqlite.proofs.Shield.{shield_means}
 use Rattle.desk_run.specs.DeskWorld.{Parts}
 use Rattle.desk_tables.specs.Store.{Shown}
-use Rattle.desk_line.specs.declared.failure.Failure.{Failure}
 use Rattle.desk_line.specs.Exits.{Ending, ending}
 use Rattle.desk_line.specs.declared.failure.Exit.{Exit}
 use Rattle.desk_line.specs.declared.line.Line.{Line}
@@ -21,12 +20,12 @@ use Rattle.desk_program.specs.Serving.{Traffic}
 use Rattle.uss_desk.specs.declared.opening.Opened.TheVariants as opened
 use Rattle.uss_desk.specs.Closing.{IsClosed}
 use Rattle.uss_desk.specs.Guarding.{Account, IsTrueOrCollided}
-use Rattle.uss_desk.specs.Opening.{IsOpenedFor, IsOpenedIn}
+use Rattle.uss_desk.specs.Opening.{FileDesk, IsOpenedFor, IsOpenedIn, or_failure}
 use Rattle.uss_desk.specs.Running.{IsDoneAt, StaysGuarded}
 
 -- a desk over files is opened for a line that names them, and they held this
 pub for_files : {M : Type 0} (m : disk.Ghosts M) {D : Type 0} {g : disk.Ghosts D} (image : Image) (it : Line)
-    → (desk : Result (Parts (Shown (FileStore D g))) Failure)
+    → (desk : FileDesk g)
     → IsOpenedFor {m = m} {g = g} image it (opened.Files desk) → IsOpenedIn image desk
 for_files m image (line.Play play) desk opens = opens.1
 for_files m image (line.Token token) desk opens = absurd opens
@@ -57,14 +56,14 @@ pub stays_guarded : {D : Type 0} {g : disk.Ghosts D} (account : Account D)
     → ((d : D) → g.is_fair d ≡ (replay (account.start d) (account.calls d)).is_fair)
     → ((d : D) → g.is_clean d ≡ (replay (account.start d) (account.calls d)).is_honest)
     → (image : Image) (it : Line) (from to : Traffic) (old new out now : Option (List ℕ))
-    → (end : Ending) (opened : Result (Parts (Shown (FileStore D g))) Failure)
+    → (end : Ending) (opened : FileDesk g)
     → (left : Option (Parts (Shown (FileStore D g)))) → IsOpenedIn image opened
-    → IfOk opened (IsDoneAt over_files it from to old new out now end left)
+    → IfOk (or_failure opened) (IsDoneAt over_files it from to old new out now end left)
     → StaysGuarded account opened left
 stays_guarded account fair clean image it from to old new out now end (Ok desk) (Some left) opens done =
     λ honest. true_or_collided account fair clean left (done.2 (opens.guarded honest))
 stays_guarded account fair clean image it from to old new out now end (Ok desk) None opens done = done
-stays_guarded account fair clean image it from to old new out now end (Err f) left opens done = tt
+stays_guarded account fair clean image it from to old new out now end (Err u) left opens done = tt
 
 -- a desk whose store was closed, by what the store is
 pub is_closed : {D : Type 0} {g : disk.Ghosts D} (desk : Parts (Shown (FileStore D g)))

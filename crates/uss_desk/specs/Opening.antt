@@ -1,10 +1,9 @@
 -- Opening: what a line is carried out at, and what a database that can't be opened means.
-use Rattle.std.specs.Prelude.{◌≡◌, ℕ, [], Option, None, Result, Ok, Err, IfErr, IfOk, ⊤}
+use Rattle.std.specs.Prelude.{◌≡◌, ℕ, [], None, Result, Ok, Err, IfErr, IfOk, ⊤}
 use Rattle.sqlite_disk.specs.declared.Disk as disk
 use Rattle.sqlite_wal.specs.Recovery.{Image}
 use Rattle.sqlite_store.specs.declared.store.FileStore.{FileStore}
 use Rattle.sqlite.specs.Files.{file_state, over_files}
-use Rattle.sqlite.specs.Held.{Held}
 use Rattle.sqlite.specs.State.{HasCleanDisk}
 use Rattle.desk_store.specs.Crashes.{LeavesOnly}
 use Rattle.desk_run.specs.DeskWorld.{DeskWorld, Parts, with_content, world_of}
@@ -59,31 +58,44 @@ module _ {D : Type 0} (g : disk.Ghosts D) (image : Image) where
     pub guarded : IsGuarded desk.store.held
     pub none : desk.permitted ≡ []
 
-  -- the failure is that of files that can't be opened, or of a database that is no desk's, has rows of
-  -- schema 1, or can't be read
-  abbrev pub FailsAt : Failure → Type 0
-  FailsAt f = (fault : OpenFault) × (f ≡ open_failure fault)
-      × ((left : Option (Held (FileStore D g))) × AreRefused image fault left)
+  -- the failure is that of files that the connection refused: their database is no desk's, has rows of
+  -- schema 1, or can't be read; or of files in which nothing was read
+  pub record FailsAt (it : Unopened (FileStore D g)) : Type 0 where
+    pub failure : it.failure ≡ open_failure it.refused.value.fault
+    pub refused : AreRefused image it.refused.value.fault it.refused.value.connection
 
   -- the same of files whose plans of schema 1 are to be moved
-  abbrev pub FailsMovingAt : Failure → Type 0
-  FailsMovingAt f = (fault : OpenFault) × (f ≡ open_failure fault)
-      × ((left : Option (Held (FileStore D g))) × AreNotMoved image fault left)
+  pub record FailsMovingAt (it : Unopened (FileStore D g)) : Type 0 where
+    pub failure : it.failure ≡ open_failure it.refused.value.fault
+    pub refused : AreNotMoved image it.refused.value.fault it.refused.value.connection
+
+-- the failure alone
+abbrev pub or_failure : {A S : Type 0} → Result A (Unopened S) → Result A Failure
+or_failure (Ok a) = Ok a
+or_failure (Err it) = Err it.failure
+
+-- a desk over files, or why there is none
+abbrev pub FileDesk : {D : Type 0} → disk.Ghosts D → Type 0
+FileDesk {D} g = Result (Parts (Shown (FileStore D g))) (Unopened (FileStore D g))
+
+-- a desk over files to which so many plans were moved, or why there is none
+abbrev pub MovedDesk : {D : Type 0} → disk.Ghosts D → Type 0
+MovedDesk {D} g = Result (Parts (Shown (FileStore D g)) × ℕ) (Unopened (FileStore D g))
 
 module _ {D : Type 0} {g : disk.Ghosts D} (image : Image) where
   -- a desk over files that held this, or why there is none
-  abbrev pub IsOpenedIn : Result (Parts (Shown (FileStore D g))) Failure → Type 0
+  abbrev pub IsOpenedIn : FileDesk g → Type 0
   IsOpenedIn (Ok desk) = BeginsIn g image desk
-  IsOpenedIn (Err f) = FailsAt g image f
+  IsOpenedIn (Err it) = FailsAt g image it
 
   -- a desk over files that held this, to which so many plans were moved, or why there is none
-  abbrev pub IsMovedIn : Result (Parts (Shown (FileStore D g)) × ℕ) Failure → Type 0
+  abbrev pub IsMovedIn : MovedDesk g → Type 0
   IsMovedIn (Ok moved) = OpensMoved image moved.0.store.held moved.0.store.world moved.1
-  IsMovedIn (Err f) = FailsMovingAt g image f
+  IsMovedIn (Err it) = FailsMovingAt g image it
 
   -- by where the database is: one in memory fails as the store does
-  abbrev pub IsMovedAt : Database → Result (Parts (Shown (FileStore D g)) × ℕ) Failure → Type 0
-  IsMovedAt InMemory moved = moved ≡ Err failure.Store
+  abbrev pub IsMovedAt : Database → MovedDesk g → Type 0
+  IsMovedAt InMemory moved = or_failure moved ≡ Err failure.Store
   IsMovedAt (File path) moved = IsMovedIn moved
 
 -- where a database is
@@ -97,7 +109,8 @@ IsInFiles (File path) = ⊤
 
 -- what is opened for a line: a desk in memory or one over files
 abbrev pub OpenedDesk : {M : Type 0} → disk.Ghosts M → {D : Type 0} → disk.Ghosts D → Type 0
-OpenedDesk {M} m {D} g = Opened (Parts (Shown (FileStore M m))) (Parts (Shown (FileStore D g)))
+OpenedDesk {M} m {D} g =
+    Opened (Parts (Shown (FileStore M m))) (Parts (Shown (FileStore D g))) (Unopened (FileStore D g))
 
 module _ {M : Type 0} {m : disk.Ghosts M} {D : Type 0} {g : disk.Ghosts D} (image : Image) where
   -- what is opened over a database: a blank desk in memory, or a desk over files that held this; or why not

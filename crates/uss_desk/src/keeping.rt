@@ -15,7 +15,7 @@ ghost use Rattle.uss_desk.specs.Naming.{AreNames, Follows, Free, LeavesNames, fr
 
 use crate::causes::{new_cause, room_cause, tell, tell_of};
 use crate::naming::{Folder, Names, name_with, names_of, put_in_place};
-use crate::opening::Unopened;
+use crate::opening::{Unopened, Unread};
 use desk_line::{Copying, Database, Exit, Failure, conclude};
 use desk_program::{CheckedFile, print_checked, print_copied};
 use desk_tables::{Copied, Holdings, OpenFault, copy_from, look_at};
@@ -27,9 +27,6 @@ use std::io::{self, Read, Write};
 
 /// A connection with which a file was read, where `F` stands for what the file held.
 pub type Look<F> = Connection<FileStore<FileFrom<F>>>;
-
-/// Why a file was not read, where `F` stands for what it held.
-pub type Unread<F> = Unopened<FileStore<FileFrom<F>>>;
 
 /// What was copied from files of a disk `D` to files of `N`: the connection to the first, the new files, and
 /// what they hold.

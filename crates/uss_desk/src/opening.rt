@@ -65,21 +65,25 @@ impl<S: Alter + Drop> From<AllocError> for Unopened<S> {
     }
 }
 
-/// What was opened for a line, a desk `M` in memory or one `D` over files; or why it could not be.
+/// Why files were not opened, where `F` stands for what they held.
+pub type Unread<F> = Unopened<FileStore<FileFrom<F>>>;
+
+/// What was opened for a line, a desk `M` in memory or one `D` over files; or why it could not be, which is
+/// `U` for files.
 #[derive(Drop)]
-pub enum Opened<M: Drop, D: Drop> {
+pub enum Opened<M: Drop, D: Drop, U: Drop> {
     /// Nothing: `token` and `cover` need no desk.
     Nothing,
     /// A desk in memory.
     Memory(Result<M, Failure>),
     /// A desk over files.
-    Files(Result<D, Failure>),
+    Files(Result<D, U>),
     /// A desk over files, and how many plans were moved to it from schema 1.
-    Moved(Result<(D, u32), Failure>),
+    Moved(Result<(D, u32), U>),
 }
 
 /// What is opened for a line, where `F` stands for what the files that it names held.
-pub type OpenedDesk<F> = Opened<MemoryDesk, FileDesk<F>>;
+pub type OpenedDesk<F> = Opened<MemoryDesk, FileDesk<F>, Unread<F>>;
 
 /// Opens what a line needs; `start` stands for what the files that it names held.
 pub fn open_for<F: Start>(rt: &HostRuntime, line: &Line, start: F) -> OpenedDesk<F>
@@ -138,13 +142,13 @@ pub fn open_in_memory(alloc: Global) -> Result<MemoryDesk, Failure>
 ///
 /// # Errors
 ///
-/// That of `open_failure`.
+/// The failure is that of `open_failure`.
 pub fn open_file<F: Start>(
     rt: &HostRuntime,
     path: &str,
     is_told: bool,
     start: F,
-) -> Result<FileDesk<F>, Failure>
+) -> Result<FileDesk<F>, Unread<F>>
     ensures { IsOpenedIn (image_at F.Start) result }
 {
     match SqliteStore::open_from(rt, path, start) {
@@ -154,7 +158,7 @@ pub fn open_file<F: Start>(
             }
             Ok(Desk::new(store))
         }
-        Err(refused) => Err(open_failure(&refused.fault)),
+        Err(refused) => Err(Unopened::of(refused)),
     }
 }
 
@@ -164,11 +168,11 @@ fn open_old<F: Start>(
     rt: &HostRuntime,
     database: &Database,
     start: F,
-) -> Result<(FileDesk<F>, u32), Failure>
+) -> Result<(FileDesk<F>, u32), Unread<F>>
     ensures { IsMovedAt (image_at F.Start) database.now result }
 {
     match database {
-        Database::InMemory => Err(Failure::Store),
+        Database::InMemory => Err(Unopened::unread(OpenFault::Store)),
         Database::File(path) => open_old_file(rt, path, start),
     }
 }
@@ -178,12 +182,12 @@ fn open_old_file<F: Start>(
     rt: &HostRuntime,
     path: &str,
     start: F,
-) -> Result<(FileDesk<F>, u32), Failure>
+) -> Result<(FileDesk<F>, u32), Unread<F>>
     ensures { IsMovedIn (image_at F.Start) result }
 {
     match SqliteStore::migrate_from(rt, path, start) {
         Ok((store, count)) => Ok((Desk::new(store), count)),
-        Err(refused) => Err(open_failure(&refused.fault)),
+        Err(refused) => Err(Unopened::of(refused)),
     }
 }
 

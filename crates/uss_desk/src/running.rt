@@ -1,21 +1,23 @@
 //! A line carried out at what was opened for it, whatever the streams and the port are.
 
-ghost use Rattle.std.specs.Prelude.{IfErr, IfOk};
+ghost use Rattle.std.specs.Prelude.{◌≡◌, IfErr, IfOk};
 ghost use Rattle.sqlite_wal.specs.Files.{image_at};
 ghost use Rattle.sqlite.specs.Files.{over_files};
 ghost use Rattle.desk_line.specs.Exits.{ending};
 ghost use Rattle.desk_line.specs.Lines.{HasDatabase, IsLine};
 ghost use Rattle.uss_desk.specs.Guarding.{account_of};
+ghost use Rattle.uss_desk.specs.Opening as spec;
 ghost use Rattle.uss_desk.specs.Opening.{IsOpenedFor};
 ghost use Rattle.uss_desk.specs.Running.{IsDone, IsDoneAt, IsKeptAt, IsMoveTold, IsUndone};
 
-use crate::opening::{FileDesk, MemoryDesk, Opened, OpenedDesk};
+use crate::opening::{FileDesk, MemoryDesk, Opened, OpenedDesk, Unopened, Unread};
 use desk_line::{Exit, Failure, Line, conclude, print_line};
 use desk_program::{Port, print_migrated, run_opened};
 use desk_run::Desk;
 use desk_tables::SqliteStore;
 use sqlite::{FileStore, Start};
 use sqlite_disk::Disk;
+use sqlite_trees::store::Alter;
 use std::alloc::Global;
 use std::io::{Read, Write};
 
@@ -45,6 +47,7 @@ pub fn run_line<F: Start, P: Port, R: Read, W: Write, E: Write>(
             (exit, left, None)
         }
         Opened::Files(desk) => {
+            let desk = or_failure(desk);
             let (exit, left) = run_over(alloc, line, desk, port, input, output, errors);
             (exit, None, left)
         }
@@ -52,6 +55,16 @@ pub fn run_line<F: Start, P: Port, R: Read, W: Write, E: Write>(
             let (exit, left) = tell_moved(alloc, moved, output, errors);
             (exit, None, left)
         }
+    }
+}
+
+// What was opened, or the failure alone.
+fn or_failure<D: Drop, S: Alter + Drop>(opened: Result<D, Unopened<S>>) -> Result<D, Failure>
+    ensures { result ≡ spec.or_failure opened }
+{
+    match opened {
+        Ok(desk) => Ok(desk),
+        Err(unopened) => Err(unopened.failure),
     }
 }
 
@@ -83,7 +96,7 @@ fn run_over<D: Disk + Drop, P: Port, R: Read, W: Write, E: Write>(
 // Prints how many plans were moved, or the word of the failure.
 fn tell_moved<F: Start, W: Write, E: Write>(
     alloc: Global,
-    moved: Result<(FileDesk<F>, u32), Failure>,
+    moved: Result<(FileDesk<F>, u32), Unread<F>>,
     output: &mut W,
     errors: &mut E,
 ) -> (Exit, Option<FileDesk<F>>)
@@ -95,6 +108,6 @@ fn tell_moved<F: Start, W: Write, E: Write>(
             let exit = print_migrated(alloc, count, output, errors);
             (exit, Some(desk))
         }
-        Err(failure) => (conclude(errors, Err(failure)), None),
+        Err(unread) => (conclude(errors, Err(unread.failure)), None),
     }
 }

@@ -17,10 +17,3 @@ returns-after-is_told g c =
       guarded = subst (λ d. IsGuarded d.store.held) (sym c.new.ensures) c.in-Ok.ensures.guarded;
       none = ap (λ d. d.permitted) c.new.ensures;
     }
-
-pub returns-in-Err : goal.returns-in-Err
-returns-in-Err g c = (
-  c.in-Err.refused.fault,
-  c.open_failure.ensures,
-  (c.in-Err.refused.connection, c.in-Err.ensures.fault),
-)

@@ -6,10 +6,3 @@ use Rattle.uss_desk.proofs.opening.open_old_file.Goals as goal
 pub returns-in-Ok : goal.returns-in-Ok
 returns-in-Ok g c = subst (λ d. OpensMoved (image_at g.F.Start) d.store.held d.store.world c.in-Ok.count)
     (sym c.new.ensures) c.in-Ok.ensures.begins
-
-pub returns-in-Err : goal.returns-in-Err
-returns-in-Err g c = (
-  c.in-Err.refused.fault,
-  c.open_failure.ensures,
-  (c.in-Err.refused.connection, c.in-Err.ensures.fault),
-)
