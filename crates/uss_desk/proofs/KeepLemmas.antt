@@ -67,15 +67,16 @@ module _ {D : Type 0} {g : disk.Ghosts D} (image : Image) (it : Unopened (FileSt
 
   -- what refused the files refuses them in the program
   pub refused_fails : (refused : FilesFault (FileStore D g)) → it.failure ≡ open_failure refused.fault
-      → it.refused.value ≡ refused → AreNotRead image refused.fault refused.connection → FailsToLook image it
+      → it.refused.value ≡ refused → AreNotRead image refused.fault refused.connection
+      → FailsToLook image it
   refused_fails refused failure same says = record {
     failure = failure ∙ ap (λ r. open_failure r.fault) (sym same);
     fails = subst (λ r. AreNotRead {g = g} image r.fault r.connection) (sym same) says;
   }
 
   -- a failure is told after its cause, and nothing is printed
-  pub untold : (end : Ending) (between out : Option (List ℕ)) → FailsToLook image it → Tells end.before between
-      → FailsWith it.failure (record end { before = between }) → IsUntold image end it out out
+  pub untold : (end : Ending) (between out : Option (List ℕ)) → FailsToLook image it
+      → Tells end.before between → FailsWith it.failure (record end { before = between }) → IsUntold image end it out out
   untold end between out look cause fails = record {
     look = look;
     told = record { between = between; cause = cause; fails = fails };

@@ -6,8 +6,8 @@ use Rattle.uss_desk.specs.declared.naming.Names.{Names}
 use Rattle.uss_desk.specs.Naming.{AreNames, Follows, Free, GivesNoName, LeavesNames, Step, free_steps}
 
 -- steps after steps
-pub follows_both : (old mid new : Option (List Step)) (xs ys : List Step) → Follows old mid xs → Follows mid new ys
-    → Follows old new (xs ++ ys)
+pub follows_both : (old mid new : Option (List Step)) (xs ys : List Step) → Follows old mid xs
+    → Follows mid new ys → Follows old new (xs ++ ys)
 follows_both None mid new xs ys first next = tt
 follows_both (Some a) None new xs ys first next = absurd first
 follows_both (Some a) (Some b) None xs ys first next = absurd next
@@ -15,7 +15,8 @@ follows_both (Some a) (Some b) (Some c) xs ys first next =
     next ∙ ap (λ v. v ++ ys) first ∙ append_assoc a xs ys
 
 -- no name is given by steps, nor by those after them
-pub leaves_both : {old mid new : Option (List Step)} → LeavesNames old mid → LeavesNames mid new → LeavesNames old new
+pub leaves_both : {old mid new : Option (List Step)} → LeavesNames old mid → LeavesNames mid new
+    → LeavesNames old new
 leaves_both {old} {mid} {new} first next = record {
   steps = first.steps ++ next.steps;
   made = follows_both old mid new first.steps next.steps first.made next.made;
@@ -25,8 +26,8 @@ leaves_both {old} {mid} {new} first next = record {
 -- nothing was at the names of a new file
 pub free_chain : (a b c d e : Option (List Step)) (to : List ℕ) (names : Names) → AreNames to names
     → Follows a b (Free (string_bytes names.to) ∷ []) → Follows b c (Free (string_bytes names.to_log) ∷ [])
-    → Follows c d (Free (string_bytes names.part) ∷ []) → Follows d e (Free (string_bytes names.part_log) ∷ [])
-    → Follows a e (free_steps to)
+    → Follows c d (Free (string_bytes names.part) ∷ [])
+    → Follows d e (Free (string_bytes names.part_log) ∷ []) → Follows a e (free_steps to)
 free_chain a b c d e to names are one two three four =
     follows_both a b e _ _ (subst (λ p. Follows a b (Free p ∷ [])) are.to_is one)
     (follows_both b c e _ _ (subst (λ p. Follows b c (Free p ∷ [])) are.to_log_is two)

@@ -53,7 +53,8 @@ module _ {D : Type 0} {g : disk.Ghosts D} (image : Image) where
     pub fails : AreNotRead image it.refused.value.fault it.refused.value.connection
 
   -- a failure is told, and nothing is printed
-  pub record IsUntold (end : Ending) (it : Unopened (FileStore D g)) (out now : Option (List ℕ)) : Type 0 where
+  pub record IsUntold (end : Ending) (it : Unopened (FileStore D g)) (out now : Option (List ℕ))
+      : Type 0 where
     pub look : FailsToLook it
     pub told : FailsTelling it.failure end
     pub unprinted : now ≡ out

@@ -2,8 +2,8 @@
 use Rattle.std.specs.Prelude.{◌≡◌, ◌⊎◌, ⊤, ℕ, Bool, true, false, List, [], ◌∷◌, ◌++◌, All, codes, Option, None, Some, string_bytes}
 use Rattle.uss_desk.specs.declared.naming.Names.{Names}
 
--- a step: a path is looked at, and there is nothing; a file is removed; one gets another name; the folder of a
--- path is synced; or what was asked is not so, or can't be done
+-- a step: a path is looked at, and there is nothing; a file is removed; one gets another name; the folder of
+-- a path is synced; or what was asked is not so, or can't be done
 pub data Step : Type 0 where
   Free : List ℕ → Step
   Removed : List ℕ → Step

@@ -47,8 +47,8 @@ struct Bulk {
 }
 
 /// Prints what a database holds, and answers how that ended and the connection with which it was read, or why
-/// it was not. It is left as it is. Why it can't be read, and the word of the failure, go to `errors`; a fault
-/// there is passed over.
+/// it was not. It is left as it is. Why it can't be read, and the word of the failure, go to `errors`; a
+/// fault there is passed over.
 pub fn check_file<F: Start, W: Write, E: Write>(
     rt: &HostRuntime,
     database: &Database,

@@ -31,6 +31,7 @@ pub trait Folder {
 }
 
 /// The folders of the operating system, of whose steps nothing is told.
+#[derive(Drop)]
 pub struct LocalFolder<'s> {
     rt: &'s HostRuntime,
 }

@@ -6,7 +6,8 @@ pub returns-then-is_taken-2-clause-told : goal.returns-then-is_taken-2-clause-to
 returns-then-is_taken-2-clause-told g c = tells_both c.is_taken.ensures.told c.is_taken-2.ensures.told
 
 pub returns-then-is_taken-2-clause-unnamed : goal.returns-then-is_taken-2-clause-unnamed
-returns-then-is_taken-2-clause-unnamed g c = leaves_both c.is_taken.ensures.unnamed c.is_taken-2.ensures.unnamed
+returns-then-is_taken-2-clause-unnamed g c =
+    leaves_both c.is_taken.ensures.unnamed c.is_taken-2.ensures.unnamed
 
 pub returns-then-is_taken-3-clause-told : goal.returns-then-is_taken-3-clause-told
 returns-then-is_taken-3-clause-told g c =

@@ -5,6 +5,7 @@ use Rattle.uss_desk.proofs.naming.put_in_place.Goals as goal
 
 pub returns-then-not-rename-clause-unnamed : goal.returns-then-not-rename-clause-unnamed
 returns-then-not-rename-clause-unnamed g c = λ to are same.
-    let first : LeavesNames (g.N.Folder.steps c.args.folder.now) (g.N.Folder.steps c.remove.new.self) = search rules in
-    let next : LeavesNames (g.N.Folder.steps c.remove.new.self) (g.N.Folder.steps c.rename.new.self) = search rules in
+    let steps = g.N.Folder.steps in
+    let first : LeavesNames (steps c.args.folder.now) (steps c.remove.new.self) = search rules in
+    let next : LeavesNames (steps c.remove.new.self) (steps c.rename.new.self) = search rules in
     inl (leaves_both first next)
