@@ -11,7 +11,7 @@ use Rattle.sqlite_value.specs.declared.value.Value.{Value}
 use Rattle.sqlite_value.specs.declared.value.Value.TheVariants.{Int, Text, Blob}
 use Rattle.sqlite_value.specs.Order.{Row, column}
 use Rattle.volume4d.specs.FootprintBytes.{footprint_bytes, HasValidParts, AreBytesOf}
-use Rattle.volume4d.specs.GhostWorld.{IsFaultOf}
+use Rattle.volume4d.specs.Attributes.{IsFaultOf}
 use Rattle.volume4d.specs.declared.fault.VolumeFault.{VolumeFault}
 use Rattle.volume4d.specs.declared.fault.VolumeFault.TheVariants.{Cells, TooManyCells, OutOfMemory}
 use Rattle.volume4d.specs.Limits.{within_altitudes, within_times, within_length}

@@ -76,7 +76,8 @@ module _ {D : Type 0} {g : disk.Ghosts D} (image : Image) (it : Unopened (FileSt
 
   -- a failure is told after its cause, and nothing is printed
   pub untold : (end : Ending) (between out : Option (List ℕ)) → FailsToLook image it
-      → Tells end.before between → FailsWith it.failure (record end { before = between }) → IsUntold image end it out out
+      → Tells end.before between → FailsWith it.failure (record end { before = between })
+      → IsUntold image end it out out
   untold end between out look cause fails = record {
     look = look;
     told = record { between = between; cause = cause; fails = fails };

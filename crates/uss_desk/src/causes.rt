@@ -39,6 +39,7 @@ pub fn tell_cause<F: Start, E: Write>(
 
 /// Tells why the file at a path can't be opened: `uss_desk: PATH: CAUSE`. A fault of the writer is passed
 /// over.
+#[tactic(auto, using(crate::proofs::KeepLemmas::tells_nothing))]
 pub fn tell<E: Write>(rt: &HostRuntime, path: &str, failure: Failure, errors: &mut E)
     ensures { Tells (E.contents errors.old) (E.contents errors.new) }
 {
@@ -62,6 +63,7 @@ pub fn tell_unenrolled(rt: &HostRuntime, path: Option<&str>) {
 }
 
 /// Prints `uss_desk: PATH: TEXT`. A fault of the writer is passed over, and so is want of memory.
+#[tactic(auto, using(crate::proofs::KeepLemmas::tells_nothing))]
 pub fn tell_of<E: Write>(alloc: Global, path: &str, text: &str, errors: &mut E)
     ensures { Tells (E.contents errors.old) (E.contents errors.new) }
 {

@@ -81,13 +81,23 @@ fn tell_unread<E: Write>(
 ) -> Exit
     ensures { FailsTelling failure (ending result (E.contents errors.old) (E.contents errors.new)) }
 {
-    if let Database::File(path) = database {
-        tell(rt, path, failure, errors);
-    }
+    tell_database(rt, database, failure, errors);
     conclude(errors, Err(failure))
 }
 
+// Tells why a database can't be read, if it is in a file.
+#[tactic(auto, using(crate::proofs::KeepLemmas::tells_nothing))]
+fn tell_database<E: Write>(rt: &HostRuntime, database: &Database, failure: Failure, errors: &mut E)
+    ensures { Tells (E.contents errors.old) (E.contents errors.new) }
+{
+    match database {
+        Database::File(path) => tell(rt, path, failure, errors),
+        Database::InMemory => {}
+    }
+}
+
 // What a database holds, with the connection with which it was read.
+#[tactic(auto, using(crate::proofs::KeepLemmas::read_as, crate::proofs::KeepLemmas::refused_fails))]
 fn look_for<F: Start>(
     rt: &HostRuntime,
     database: &Database,
@@ -251,6 +261,7 @@ fn copy_to<F: Start, N: Start, E: Write>(
 }
 
 // Copies what the file at a path holds to new files at another, and closes these.
+#[tactic(auto, using(crate::proofs::KeepLemmas::refused_fails))]
 fn copy_closed<F: Start, N: Start>(
     rt: &HostRuntime,
     path: &str,
@@ -269,6 +280,7 @@ fn copy_closed<F: Start, N: Start>(
 }
 
 // Closes the store of a copy, on whatever disks it and what was copied are.
+#[tactic(auto, using(crate::proofs::KeepLemmas::copy_made, crate::proofs::KeepLemmas::store_fails))]
 fn close_copy<D: Disk + Drop, N: Disk + Drop>(
     copied: Copied<D, N>,
 ) -> Result<Copies<D, N>, Unopened<FileStore<D>>>
@@ -326,6 +338,7 @@ fn is_taken<P: Folder, E: Write>(alloc: Global, folder: &mut P, path: &str, erro
 }
 
 // Tells a cause, if there is one, and whether there is.
+#[tactic(auto, using(crate::proofs::KeepLemmas::tells_nothing))]
 fn is_told<E: Write>(alloc: Global, path: &str, cause: Option<&'static str>, errors: &mut E) -> bool
     ensures quiet { result ≡ false → E.contents errors.new ≡ E.contents errors.old }
     ensures told { Tells (E.contents errors.old) (E.contents errors.new) }
@@ -341,6 +354,7 @@ fn is_told<E: Write>(alloc: Global, path: &str, cause: Option<&'static str>, err
 }
 
 // Tells why nothing is copied, and removes what was made.
+#[tactic(auto, using(crate::proofs::KeepLemmas::tells_nothing))]
 fn give_up<E: Write>(rt: &HostRuntime, path: &str, names: &Names, failure: Failure, errors: &mut E)
     ensures { Tells (E.contents errors.old) (E.contents errors.new) }
 {
