@@ -1,9 +1,9 @@
 -- What steps come to, one after the other.
-use Rattle.std.proofs.Common.{◌≡◌, ℕ, List, [], ◌∷◌, ◌++◌, Option, None, Some, append_assoc, ap, subst, ◌∙◌}
-use Rattle.std.proofs.lemmas.List.Elements.{All-append}
+use Rattle.std.proofs.Common.{◌≡◌, ℕ, List, [], ◌∷◌, ◌++◌, Option, None, Some, append-nil, append_assoc, ap, inl, inr, subst, sym, ◌∙◌}
+use Rattle.std.proofs.lemmas.List.Elements.{All-append, All-nil}
 use Rattle.std.specs.Prelude.{string_bytes}
 use Rattle.uss_desk.specs.declared.naming.Names.{Names}
-use Rattle.uss_desk.specs.Naming.{AreNames, Follows, Free, GivesNoName, LeavesNames, Step, free_steps}
+use Rattle.uss_desk.specs.Naming.{AreNames, Failed, Follows, Free, GivesNoName, IsUnnamed, LeavesNames, Step, free_steps, named_steps}
 
 -- steps after steps
 pub follows_both : (old mid new : Option (List Step)) (xs ys : List Step) → Follows old mid xs
@@ -22,6 +22,25 @@ leaves_both {old} {mid} {new} first next = record {
   made = follows_both old mid new first.steps next.steps first.made next.made;
   unnamed = All-append GivesNoName first.steps next.steps first.unnamed next.unnamed;
 }
+
+-- no step is made
+pub leaves_none : (now : Option (List Step)) → LeavesNames now now
+leaves_none now = record {
+  steps = [];
+  made = follows_none now;
+  unnamed = All-nil GivesNoName;
+} where
+  follows_none : (now : Option (List Step)) → Follows now now []
+  follows_none None = tt
+  follows_none (Some xs) = sym (append-nil xs)
+
+-- what a naming that failed comes to, after steps that give no name
+pub unnamed_after : {old mid new : Option (List Step)} (to : List ℕ) (first : List Step) → LeavesNames old mid
+    → Follows old mid first → IsUnnamed [] to mid new → IsUnnamed first to old new
+unnamed_after {old} {mid} {new} to first leaves follows failed = elim failed [
+  | inl none ↦ inl (leaves_both leaves none)
+  | inr half ↦ inr (follows_both old mid new first (named_steps to Failed) follows half)
+]
 
 -- nothing was at the names of a new file
 pub free_chain : (a b c d e : Option (List Step)) (to : List ℕ) (names : Names) → AreNames to names

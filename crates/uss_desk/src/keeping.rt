@@ -205,6 +205,7 @@ fn print_holdings<W: Write, E: Write>(
 
 // Copies what a database holds to a new file. It is written under another name, which it loses once all is on
 // the disk: a copy that is cut off leaves nothing of the new name.
+#[tactic(auto, using(crate::proofs::NameLemmas::leaves_none, crate::proofs::KeepLemmas::tells_nothing))]
 fn copy_for<F: Start, N: Start, P: Folder, E: Write>(
     rt: &HostRuntime,
     folder: &mut P,
