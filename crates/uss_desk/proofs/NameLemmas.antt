@@ -1,9 +1,9 @@
 -- What steps come to, one after the other.
 use Rattle.std.proofs.Common.{◌≡◌, ℕ, List, [], ◌∷◌, ◌++◌, Option, None, Some, append-nil, append_assoc, ap, inl, inr, subst, sym, ◌∙◌}
-use Rattle.std.proofs.lemmas.List.Elements.{All-append, All-nil}
+use Rattle.std.proofs.lemmas.List.Elements.{All-append, All-cons, All-nil}
 use Rattle.std.specs.Prelude.{string_bytes}
 use Rattle.uss_desk.specs.declared.naming.Names.{Names}
-use Rattle.uss_desk.specs.Naming.{AreNames, Failed, Follows, Free, GivesNoName, IsUnnamed, LeavesNames, Step, free_steps, named_steps}
+use Rattle.uss_desk.specs.Naming.{AreNames, Failed, Follows, Free, GivesNoName, IsUnnamed, LeavesNames, Removed, Step, free_steps, named_steps}
 
 -- steps after steps
 pub follows_both : (old mid new : Option (List Step)) (xs ys : List Step) → Follows old mid xs
@@ -33,6 +33,16 @@ leaves_none now = record {
   follows_none : (now : Option (List Step)) → Follows now now []
   follows_none None = tt
   follows_none (Some xs) = sym (append-nil xs)
+
+-- a step that gives no name, and one that fails
+pub fails_after : (old mid new : Option (List Step)) (path : List ℕ) → Follows old mid (Removed path ∷ [])
+    → Follows mid new (Failed ∷ []) → LeavesNames old new
+fails_after old mid new path removed failed = record {
+  steps = Removed path ∷ Failed ∷ [];
+  made = follows_both old mid new (Removed path ∷ []) (Failed ∷ []) removed failed;
+  unnamed = All-cons GivesNoName (Removed path) (Failed ∷ []) tt
+      (All-cons GivesNoName Failed [] tt (All-nil GivesNoName));
+}
 
 -- what a naming that failed comes to, after steps that give no name
 pub unnamed_after : {old mid new : Option (List Step)} (to : List ℕ) (first : List Step) → LeavesNames old mid

@@ -111,6 +111,7 @@ pub fn name_with(alloc: Global, path: &str, end: &str) -> Result<String, AllocEr
 
 /// Gives a file that is whole its name, and syncs its folder. Its log, which is empty, goes. Whether all of
 /// that was done.
+#[tactic(auto, using(crate::proofs::NameLemmas::fails_after))]
 pub fn put_in_place<N: Folder>(folder: &mut N, names: &Names) -> bool
     ensures named { (to : List ℕ) → AreNames to names.now → result ≡ true
         → Follows (N.steps folder.old) (N.steps folder.new) (named_steps to (Synced to)) }
