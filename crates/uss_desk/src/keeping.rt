@@ -166,6 +166,7 @@ fn read_header(rt: &HostRuntime, path: &str, header: &mut [u8]) -> io::Result<()
 /// Copies what a database holds to a new file, prints how much it is, and answers how that ended and the
 /// connection to the first with the new files, or why nothing is copied. The first is left as it is. Why, and
 /// the word of the failure, go to `errors`; a fault there is passed over.
+#[tactic(auto, using(crate::proofs::KeepLemmas::untold))]
 pub fn copy_file<F: Start, N: Start, P: Folder, W: Write, E: Write>(
     rt: &HostRuntime,
     folder: &mut P,
