@@ -24,7 +24,7 @@ use Rattle.desk_program.specs.Running.{IsCarriedOut}
 use Rattle.desk_program.specs.Serving.{Traffic}
 use Rattle.uss_desk.specs.declared.opening.Opened.TheVariants as opened
 use Rattle.uss_desk.specs.Guarding.{Account, IsTrueOrCollided}
-use Rattle.uss_desk.specs.Opening.{FileDesk, MovedDesk, OpenedDesk, load_world, or_failure}
+use Rattle.uss_desk.specs.Opening.{OpenedDesk, load_world}
 
 -- the store of a desk over tables is honest: its disk has returned what was written
 abbrev pub IsSound : {S : Type 0} → Ghosts S → Parts (Shown S) → Type 0
@@ -77,18 +77,19 @@ pub record IsRun {S : Type 0} (g : Ghosts S) (opened : Result (Parts (Shown S)) 
 -- if the disk returned what was written until the desk was open, it has done so to the end, whatever it
 -- returned since and whoever wrote into the files; or a digest has collided
 abbrev pub StaysGuarded :
-    {D : Type 0} {g : disk.Ghosts D} → Account D → FileDesk g → Option (Parts (Shown (FileStore D g)))
-    → Type 0
+    {D : Type 0} {g : disk.Ghosts D} → Account D → Result (Parts (Shown (FileStore D g))) Failure
+    → Option (Parts (Shown (FileStore D g))) → Type 0
 StaysGuarded account opened left = IfOk opened (λ desk. IsSomeAnd left (λ left.
     HasCleanDisk (file_state desk.store.held) → IsTrueOrCollided account left))
 
 -- the line that tells how many plans were moved is printed, or cut off, and the plans are moved all the same;
 -- or the move failed, and nothing is printed
 abbrev pub IsMoveTold :
-    {D : Type 0} {g : disk.Ghosts D} → MovedDesk g → Ending → Option (Parts (Shown (FileStore D g)))
-    → Option (List ℕ) → Option (List ℕ) → Type 0
+    {S : Type 0} → Result (Parts (Shown S) × ℕ) Failure → Ending → Option (Parts (Shown S)) → Option (List ℕ)
+    → Option (List ℕ) → Type 0
 IsMoveTold (Ok moved) end left out now = (left ≡ Some moved.0) × IsCountPrinted moved.1 end out now
-IsMoveTold (Err it) end left out now = (left ≡ None) × FailsWith it.failure end × (now ≡ out)
+IsMoveTold (Err failure) end left out now =
+    (left ≡ None) × FailsWith failure end × (now ≡ out)
 
 module _ {M : Type 0} {m : disk.Ghosts M} {D : Type 0} {g : disk.Ghosts D} (account : Account D) where
   -- what a line says is done: by printing alone, at a desk in memory, at one over files, which stays guarded,
@@ -102,7 +103,7 @@ module _ {M : Type 0} {m : disk.Ghosts M} {D : Type 0} {g : disk.Ghosts D} (acco
   IsDone (opened.Memory desk) line end memory files from to old new out now =
       (files ≡ None) × IsRun over_files desk line end memory from to old new out now
   IsDone (opened.Files desk) line end memory files from to old new out now =
-      (memory ≡ None) × IsRun over_files (or_failure desk) line end files from to old new out now
+      (memory ≡ None) × IsRun over_files desk line end files from to old new out now
       × StaysGuarded account desk files
   IsDone (opened.Moved moved) line end memory files from to old new out now =
       (memory ≡ None) × (to ≡ from) × (new ≡ old) × IsMoveTold moved end files out now

@@ -31,9 +31,9 @@ pub fn tell_cause<F: Start, E: Write>(
 ) {
     if let Line::Migrate(words) = line
         && let Database::File(path) = &words.database
-        && let Opened::Moved(Err(unread)) = opened
+        && let Opened::Moved(Err(failure)) = opened
     {
-        tell(rt, path, unread.failure, errors);
+        tell(rt, path, *failure, errors);
     }
 }
 

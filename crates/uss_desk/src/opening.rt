@@ -4,7 +4,7 @@ ghost use Rattle.std.specs.Prelude.{◌≡◌, IfErr, IfOk};
 ghost use Rattle.sqlite_wal.specs.Files.{image_at};
 ghost use Rattle.uss_desk.specs.Opening as spec;
 ghost use Rattle.uss_desk.specs.Opening.{IsBlank, IsMemory, IsMovedAt, IsMovedIn, IsOpenedAt, IsOpenedFor};
-ghost use Rattle.uss_desk.specs.Opening.{IsOpenedIn, IsUnreadFor};
+ghost use Rattle.uss_desk.specs.Opening.{IsFoundIn, IsMoveFoundIn, IsOpenedIn, IsUnreadFor};
 
 use crate::causes::tell_unenrolled;
 use desk_line::{Database, Failure, Line};
@@ -68,22 +68,21 @@ impl<S: Alter + Drop> From<AllocError> for Unopened<S> {
 /// Why files were not opened, where `F` stands for what they held.
 pub type Unread<F> = Unopened<FileStore<FileFrom<F>>>;
 
-/// What was opened for a line, a desk `M` in memory or one `D` over files; or why it could not be, which is
-/// `U` for files.
+/// What was opened for a line, a desk `M` in memory or one `D` over files; or why it could not be.
 #[derive(Drop)]
-pub enum Opened<M: Drop, D: Drop, U: Drop> {
+pub enum Opened<M: Drop, D: Drop> {
     /// Nothing: `token` and `cover` need no desk.
     Nothing,
     /// A desk in memory.
     Memory(Result<M, Failure>),
     /// A desk over files.
-    Files(Result<D, U>),
+    Files(Result<D, Failure>),
     /// A desk over files, and how many plans were moved to it from schema 1.
-    Moved(Result<(D, u32), U>),
+    Moved(Result<(D, u32), Failure>),
 }
 
 /// What is opened for a line, where `F` stands for what the files that it names held.
-pub type OpenedDesk<F> = Opened<MemoryDesk, FileDesk<F>, Unread<F>>;
+pub type OpenedDesk<F> = Opened<MemoryDesk, FileDesk<F>>;
 
 /// Opens what a line needs; `start` stands for what the files that it names held.
 pub fn open_for<F: Start>(rt: &HostRuntime, line: &Line, start: F) -> OpenedDesk<F>
@@ -118,7 +117,22 @@ fn open_database<F: Start>(
             }
             Opened::Memory(open_in_memory(rt.alloc()))
         }
-        Database::File(path) => Opened::Files(open_file(rt, path, is_told, start)),
+        Database::File(path) => Opened::Files(open_or_fail(rt, path, is_told, start)),
+    }
+}
+
+// What `open_file` gives, or its failure alone.
+fn open_or_fail<F: Start>(
+    rt: &HostRuntime,
+    path: &str,
+    is_told: bool,
+    start: F,
+) -> Result<FileDesk<F>, Failure>
+    ensures { IsFoundIn (image_at F.Start) result }
+{
+    match open_file(rt, path, is_told, start) {
+        Ok(desk) => Ok(desk),
+        Err(unread) => Err(unread.failure),
     }
 }
 
@@ -168,12 +182,26 @@ fn open_old<F: Start>(
     rt: &HostRuntime,
     database: &Database,
     start: F,
-) -> Result<(FileDesk<F>, u32), Unread<F>>
+) -> Result<(FileDesk<F>, u32), Failure>
     ensures { IsMovedAt (image_at F.Start) database.now result }
 {
     match database {
-        Database::InMemory => Err(Unopened::unread(OpenFault::Store)),
-        Database::File(path) => open_old_file(rt, path, start),
+        Database::InMemory => Err(Failure::Store),
+        Database::File(path) => move_or_fail(rt, path, start),
+    }
+}
+
+// What `open_old_file` gives, or its failure alone.
+fn move_or_fail<F: Start>(
+    rt: &HostRuntime,
+    path: &str,
+    start: F,
+) -> Result<(FileDesk<F>, u32), Failure>
+    ensures { IsMoveFoundIn (image_at F.Start) result }
+{
+    match open_old_file(rt, path, start) {
+        Ok(moved) => Ok(moved),
+        Err(unread) => Err(unread.failure),
     }
 }
 

@@ -1,23 +1,21 @@
 //! A line carried out at what was opened for it, whatever the streams and the port are.
 
-ghost use Rattle.std.specs.Prelude.{◌≡◌, IfErr, IfOk};
+ghost use Rattle.std.specs.Prelude.{IfErr, IfOk};
 ghost use Rattle.sqlite_wal.specs.Files.{image_at};
 ghost use Rattle.sqlite.specs.Files.{over_files};
 ghost use Rattle.desk_line.specs.Exits.{ending};
 ghost use Rattle.desk_line.specs.Lines.{HasDatabase, IsLine};
 ghost use Rattle.uss_desk.specs.Guarding.{account_of};
-ghost use Rattle.uss_desk.specs.Opening as spec;
 ghost use Rattle.uss_desk.specs.Opening.{IsOpenedFor};
 ghost use Rattle.uss_desk.specs.Running.{IsDone, IsDoneAt, IsKeptAt, IsMoveTold, IsUndone};
 
-use crate::opening::{FileDesk, MemoryDesk, Opened, OpenedDesk, Unopened, Unread};
+use crate::opening::{FileDesk, MemoryDesk, Opened, OpenedDesk};
 use desk_line::{Exit, Failure, Line, conclude, print_line};
 use desk_program::{Port, print_migrated, run_opened};
 use desk_run::Desk;
 use desk_tables::SqliteStore;
 use sqlite::{FileStore, Start};
 use sqlite_disk::Disk;
-use sqlite_trees::store::Alter;
 use std::alloc::Global;
 use std::io::{Read, Write};
 
@@ -47,7 +45,6 @@ pub fn run_line<F: Start, P: Port, R: Read, W: Write, E: Write>(
             (exit, left, None)
         }
         Opened::Files(desk) => {
-            let desk = or_failure(desk);
             let (exit, left) = run_over(alloc, line, desk, port, input, output, errors);
             (exit, None, left)
         }
@@ -55,16 +52,6 @@ pub fn run_line<F: Start, P: Port, R: Read, W: Write, E: Write>(
             let (exit, left) = tell_moved(alloc, moved, output, errors);
             (exit, None, left)
         }
-    }
-}
-
-// What was opened, or the failure alone.
-fn or_failure<D: Drop, S: Alter + Drop>(opened: Result<D, Unopened<S>>) -> Result<D, Failure>
-    ensures { result ≡ spec.or_failure opened }
-{
-    match opened {
-        Ok(desk) => Ok(desk),
-        Err(unopened) => Err(unopened.failure),
     }
 }
 
@@ -96,7 +83,7 @@ fn run_over<D: Disk + Drop, P: Port, R: Read, W: Write, E: Write>(
 // Prints how many plans were moved, or the word of the failure.
 fn tell_moved<F: Start, W: Write, E: Write>(
     alloc: Global,
-    moved: Result<(FileDesk<F>, u32), Unread<F>>,
+    moved: Result<(FileDesk<F>, u32), Failure>,
     output: &mut W,
     errors: &mut E,
 ) -> (Exit, Option<FileDesk<F>>)
@@ -108,6 +95,6 @@ fn tell_moved<F: Start, W: Write, E: Write>(
             let exit = print_migrated(alloc, count, output, errors);
             (exit, Some(desk))
         }
-        Err(unread) => (conclude(errors, Err(unread.failure)), None),
+        Err(failure) => (conclude(errors, Err(failure)), None),
     }
 }

@@ -1,4 +1,4 @@
-use Rattle.std.proofs.Common.{refl, subst, IfErr, IfOk}
+use Rattle.std.proofs.Common.{refl, subst}
 use Rattle.sqlite_wal.specs.Files.{image_at}
 use Rattle.uss_desk.specs.Guarding.{account_of}
 use Rattle.uss_desk.specs.Opening.{IsOpenedFor}
@@ -11,15 +11,9 @@ returns-in-Files g c =
     let ended = c.run_over-left-in-Files in
     let opens = for_files _ image c.args.line.now c.in-Files.desk
     (subst (IsOpenedFor image c.args.line.now) c.in-Files.is c.requires.opened) in
-    let same = c.or_failure.ensures in
-    let done = subst (λ o. IfOk o _) same ended.ensures.opened in
     rw c.in-Files.is (
       refl,
-      record {
-        done = done;
-        kept = subst (λ o. IfOk o _) same ended.ensures.kept;
-        undone = subst (λ o. IfErr o _) same ended.ensures.unopened;
-      },
+      record { done = ended.ensures.opened; kept = ended.ensures.kept; undone = ended.ensures.unopened },
       stays_guarded (account_of g.F.Start) (λ _. refl) (λ _. refl) image c.args.line.now _ _ _ _ _ _
-          _ c.in-Files.desk ended.result.1 opens done,
+          _ c.in-Files.desk ended.result.1 opens ended.ensures.opened,
     )
