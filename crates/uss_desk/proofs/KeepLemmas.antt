@@ -59,12 +59,6 @@ module _ {D : Type 0} {g : disk.Ghosts D} (image : Image) (it : Unopened (FileSt
       let newer : fault.Store ≡ fault.OldSchema → ⊥ = λ e. cc in
       unread_fails fault.Store is (no, newer)
 
-  pub memory_fails : IsUnreadFor it fault.OutOfMemory → FailsToLook image it
-  memory_fails is =
-      let no : fault.OutOfMemory ≡ fault.NotADesk → ⊥ = λ e. cc in
-      let newer : fault.OutOfMemory ≡ fault.OldSchema → ⊥ = λ e. cc in
-      unread_fails fault.OutOfMemory is (no, newer)
-
   -- what refused the files refuses them in the program
   pub refused_fails : (refused : FilesFault (FileStore D g)) → it.failure ≡ open_failure refused.fault
       → it.refused.value ≡ refused → AreNotRead image refused.fault refused.connection

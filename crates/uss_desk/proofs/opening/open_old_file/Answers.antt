@@ -10,5 +10,5 @@ returns-in-Ok g c = subst (λ d. OpensMoved (image_at g.F.Start) d.store.held d.
 
 pub returns-in-Err : goal.returns-in-Err
 returns-in-Err g c =
-    fails_moving_at (image_at g.F.Start) c.of.result c.in-Err.refused c.of.ensures.failure c.of.ensures.refused
-    c.in-Err.ensures.fault
+    fails_moving_at (image_at g.F.Start) c.of.result c.in-Err.refused c.of.ensures.failure
+    c.of.ensures.refused c.in-Err.ensures.fault
