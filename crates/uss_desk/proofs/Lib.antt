@@ -1,1 +1,3 @@
+mod KeepLemmas
+mod NameLemmas
 mod RunLemmas

@@ -1,5 +1,5 @@
 -- What was opened for a line says of that line, and what comes of a desk over files whose reads are tested.
-use Rattle.std.proofs.Common.{◌≡◌, ℕ, List, Option, None, Some, Result, Ok, Err, IfOk, Bool, true, IsTrue, inl, inr, refl, sym, subst}
+use Rattle.std.proofs.Common.{◌≡◌, ℕ, List, Option, None, Some, Result, Ok, Err, IfOk, Bool, true, IsTrue, inl, inr, refl, sym, ap, ◌∙◌, subst}
 use Rattle.sqlite_trees.specs.View.{doubt}
 use Rattle.sqlite_disk.specs.declared.Disk as disk
 use Rattle.sqlite_disk.specs.declared.Files.{Files}
@@ -21,13 +21,16 @@ use Rattle.desk_program.specs.Serving.{Traffic}
 use Rattle.uss_desk.specs.declared.opening.Opened.TheVariants as opened
 use Rattle.uss_desk.specs.Closing.{IsClosed}
 use Rattle.uss_desk.specs.Guarding.{Account, IsTrueOrCollided}
-use Rattle.uss_desk.specs.Opening.{IsOpenedFor, IsOpenedIn}
+use Rattle.desk_tables.specs.Files.{AreNotMoved, AreRefused}
+use Rattle.desk_tables.specs.declared.opening.files.FilesFault.{FilesFault}
+use Rattle.uss_desk.specs.declared.opening.Unopened.{Unopened}
+use Rattle.uss_desk.specs.Opening.{FailsAt, FailsMovingAt, IsFoundIn, IsOpenedFor, open_failure}
 use Rattle.uss_desk.specs.Running.{IsDoneAt, StaysGuarded}
 
 -- a desk over files is opened for a line that names them, and they held this
 pub for_files : {M : Type 0} (m : disk.Ghosts M) {D : Type 0} {g : disk.Ghosts D} (image : Image) (it : Line)
     → (desk : Result (Parts (Shown (FileStore D g))) Failure)
-    → IsOpenedFor {m = m} {g = g} image it (opened.Files desk) → IsOpenedIn image desk
+    → IsOpenedFor {m = m} {g = g} image it (opened.Files desk) → IsFoundIn image desk
 for_files m image (line.Play play) desk opens = opens.1
 for_files m image (line.Token token) desk opens = absurd opens
 for_files m image (line.Serve serve) desk opens = opens.1
@@ -58,7 +61,7 @@ pub stays_guarded : {D : Type 0} {g : disk.Ghosts D} (account : Account D)
     → ((d : D) → g.is_clean d ≡ (replay (account.start d) (account.calls d)).is_honest)
     → (image : Image) (it : Line) (from to : Traffic) (old new out now : Option (List ℕ))
     → (end : Ending) (opened : Result (Parts (Shown (FileStore D g))) Failure)
-    → (left : Option (Parts (Shown (FileStore D g)))) → IsOpenedIn image opened
+    → (left : Option (Parts (Shown (FileStore D g)))) → IsFoundIn image opened
     → IfOk opened (IsDoneAt over_files it from to old new out now end left)
     → StaysGuarded account opened left
 stays_guarded account fair clean image it from to old new out now end (Ok desk) (Some left) opens done =
@@ -74,3 +77,19 @@ pub is_closed : {D : Type 0} {g : disk.Ghosts D} (desk : Parts (Shown (FileStore
     → IsClosed (Some desk) status (ending exit told told) (Some files)
 is_closed {D} {g} desk store exit status told files is uncut same copied =
     ((is, (uncut, refl)), subst (λ s. AreClean g files.log files.db → IsCopied s.held files) same copied)
+
+module _ {D : Type 0} {g : disk.Ghosts D} (image : Image) (it : Unopened (FileStore D g))
+    (refused : FilesFault (FileStore D g)) (failure : it.failure ≡ open_failure refused.fault)
+    (same : it.refused.value ≡ refused) where
+  -- what refused files refuses them in the program
+  pub fails_at : AreRefused image refused.fault refused.connection → FailsAt g image it
+  fails_at says = record {
+    failure = failure ∙ ap (λ r. open_failure r.fault) (sym same);
+    refused = subst (λ r. AreRefused {g = g} image r.fault r.connection) (sym same) says;
+  }
+
+  pub fails_moving_at : AreNotMoved image refused.fault refused.connection → FailsMovingAt g image it
+  fails_moving_at says = record {
+    failure = failure ∙ ap (λ r. open_failure r.fault) (sym same);
+    refused = subst (λ r. AreNotMoved {g = g} image r.fault r.connection) (sym same) says;
+  }

@@ -1,4 +1,7 @@
+-- Read first: Running, Opening, Guarding, Closing, Keeping.
 pub mod Opening
 pub mod Guarding
 pub mod Running
 pub mod Closing
+pub mod Naming
+pub mod Keeping

@@ -1,10 +1,9 @@
 -- Opening: what a line is carried out at, and what a database that can't be opened means.
-use Rattle.std.specs.Prelude.{◌≡◌, ℕ, [], Option, Result, Ok, Err, IfErr, IfOk, ⊤}
+use Rattle.std.specs.Prelude.{◌≡◌, ℕ, [], None, Result, Ok, Err, IfErr, IfOk, ⊤}
 use Rattle.sqlite_disk.specs.declared.Disk as disk
 use Rattle.sqlite_wal.specs.Recovery.{Image}
 use Rattle.sqlite_store.specs.declared.store.FileStore.{FileStore}
 use Rattle.sqlite.specs.Files.{file_state, over_files}
-use Rattle.sqlite.specs.Held.{Held}
 use Rattle.sqlite.specs.State.{HasCleanDisk}
 use Rattle.desk_store.specs.Crashes.{LeavesOnly}
 use Rattle.desk_run.specs.DeskWorld.{DeskWorld, Parts, with_content, world_of}
@@ -20,6 +19,7 @@ use Rattle.desk_tables.specs.Leaving.{MayLeave}
 use Rattle.desk_tables.specs.Store.{Shown}
 use Rattle.desk_tables.specs.declared.opening.open.OpenFault.{OpenFault}
 use Rattle.desk_tables.specs.declared.opening.open.OpenFault.TheVariants as opening
+use Rattle.uss_desk.specs.declared.opening.Unopened.{Unopened}
 use Rattle.uss_desk.specs.declared.opening.Opened.{Opened}
 use Rattle.uss_desk.specs.declared.opening.Opened.TheVariants as opened
 
@@ -29,6 +29,11 @@ open_failure opening.OutOfMemory = failure.Memory
 open_failure opening.Store = failure.Store
 open_failure opening.NotADesk = failure.NotADesk
 open_failure opening.OldSchema = failure.OldSchema
+
+-- the failure is that of this fault, and nothing in the database was read
+pub record IsUnreadFor {S : Type 0} (it : Unopened S) (fault : OpenFault) : Type 0 where
+  pub failure : it.failure ≡ open_failure fault
+  pub refused : it.refused.value ≡ record { fault = fault; connection = None }
 
 -- memory ran out: nothing else keeps a desk in memory from being opened
 abbrev pub IsMemory : Failure → Type 0
@@ -53,32 +58,49 @@ module _ {D : Type 0} (g : disk.Ghosts D) (image : Image) where
     pub guarded : IsGuarded desk.store.held
     pub none : desk.permitted ≡ []
 
-  -- the failure is that of files that can't be opened, or of a database that is no desk's, has rows of
-  -- schema 1, or can't be read
-  abbrev pub FailsAt : Failure → Type 0
-  FailsAt f = (fault : OpenFault) × (f ≡ open_failure fault)
-      × ((left : Option (Held (FileStore D g))) × AreRefused image fault left)
+  -- the failure is that of files that the connection refused: their database is no desk's, has rows of
+  -- schema 1, or can't be read; or of files in which nothing was read
+  pub record FailsAt (it : Unopened (FileStore D g)) : Type 0 where
+    pub failure : it.failure ≡ open_failure it.refused.value.fault
+    pub refused : AreRefused image it.refused.value.fault it.refused.value.connection
 
   -- the same of files whose plans of schema 1 are to be moved
-  abbrev pub FailsMovingAt : Failure → Type 0
-  FailsMovingAt f = (fault : OpenFault) × (f ≡ open_failure fault)
-      × ((left : Option (Held (FileStore D g))) × AreNotMoved image fault left)
+  pub record FailsMovingAt (it : Unopened (FileStore D g)) : Type 0 where
+    pub failure : it.failure ≡ open_failure it.refused.value.fault
+    pub refused : AreNotMoved image it.refused.value.fault it.refused.value.connection
+
+-- a desk over files, or why there is none
+abbrev pub FileDesk : {D : Type 0} → disk.Ghosts D → Type 0
+FileDesk {D} g = Result (Parts (Shown (FileStore D g))) (Unopened (FileStore D g))
+
+-- a desk over files to which so many plans were moved, or why there is none
+abbrev pub MovedDesk : {D : Type 0} → disk.Ghosts D → Type 0
+MovedDesk {D} g = Result (Parts (Shown (FileStore D g)) × ℕ) (Unopened (FileStore D g))
 
 module _ {D : Type 0} {g : disk.Ghosts D} (image : Image) where
   -- a desk over files that held this, or why there is none
-  abbrev pub IsOpenedIn : Result (Parts (Shown (FileStore D g))) Failure → Type 0
+  abbrev pub IsOpenedIn : FileDesk g → Type 0
   IsOpenedIn (Ok desk) = BeginsIn g image desk
-  IsOpenedIn (Err f) = FailsAt g image f
+  IsOpenedIn (Err it) = FailsAt g image it
 
   -- a desk over files that held this, to which so many plans were moved, or why there is none
-  abbrev pub IsMovedIn : Result (Parts (Shown (FileStore D g)) × ℕ) Failure → Type 0
+  abbrev pub IsMovedIn : MovedDesk g → Type 0
   IsMovedIn (Ok moved) = OpensMoved image moved.0.store.held moved.0.store.world moved.1
-  IsMovedIn (Err f) = FailsMovingAt g image f
+  IsMovedIn (Err it) = FailsMovingAt g image it
+
+  -- the same with the failure alone, which there is a connection to explain
+  abbrev pub IsFoundIn : Result (Parts (Shown (FileStore D g))) Failure → Type 0
+  IsFoundIn (Ok desk) = BeginsIn g image desk
+  IsFoundIn (Err f) = (it : Unopened (FileStore D g)) × (f ≡ it.failure) × FailsAt g image it
+
+  abbrev pub IsMoveFoundIn : Result (Parts (Shown (FileStore D g)) × ℕ) Failure → Type 0
+  IsMoveFoundIn (Ok moved) = OpensMoved image moved.0.store.held moved.0.store.world moved.1
+  IsMoveFoundIn (Err f) = (it : Unopened (FileStore D g)) × (f ≡ it.failure) × FailsMovingAt g image it
 
   -- by where the database is: one in memory fails as the store does
   abbrev pub IsMovedAt : Database → Result (Parts (Shown (FileStore D g)) × ℕ) Failure → Type 0
   IsMovedAt InMemory moved = moved ≡ Err failure.Store
-  IsMovedAt (File path) moved = IsMovedIn moved
+  IsMovedAt (File path) moved = IsMoveFoundIn moved
 
 -- where a database is
 abbrev pub IsInMemory : Database → Type 0
@@ -98,7 +120,7 @@ module _ {M : Type 0} {m : disk.Ghosts M} {D : Type 0} {g : disk.Ghosts D} (imag
   abbrev pub IsOpenedAt : Database → OpenedDesk m g → Type 0
   IsOpenedAt database opened.Nothing = ⊥
   IsOpenedAt database (opened.Memory desk) = IsInMemory database × IfOk desk IsBlank × IfErr desk IsMemory
-  IsOpenedAt database (opened.Files desk) = IsInFiles database × IsOpenedIn image desk
+  IsOpenedAt database (opened.Files desk) = IsInFiles database × IsFoundIn image desk
   IsOpenedAt database (opened.Moved moved) = ⊥
 
   -- what is opened over a database whose plans of schema 1 are to be moved

@@ -1,6 +1,11 @@
-//! Why a file can't be opened, as far as that can be told afterwards: a line for the keeper, of which no
-//! clause speaks.
+//! Why a file can't be opened, as far as that can be told afterwards: a line for the keeper. Clauses say that
+//! something is told, and not what.
 
+ghost use Rattle.std.specs.Prelude.{◌≡◌, [], ◌∷◌, None};
+ghost use Rattle.uss_desk.specs.Keeping.{Tells};
+ghost use Rattle.uss_desk.specs.Naming.{Follows, Free, LeavesNames};
+
+use crate::naming::Folder;
 use crate::opening::{Opened, OpenedDesk};
 use desk_line::{Database, Failure, Line};
 use desk_wire::write_whole;
@@ -34,7 +39,10 @@ pub fn tell_cause<F: Start, E: Write>(
 
 /// Tells why the file at a path can't be opened: `uss_desk: PATH: CAUSE`. A fault of the writer is passed
 /// over.
-pub fn tell<E: Write>(rt: &HostRuntime, path: &str, failure: Failure, errors: &mut E) {
+#[tactic(auto, using(crate::proofs::KeepLemmas::tells_nothing))]
+pub fn tell<E: Write>(rt: &HostRuntime, path: &str, failure: Failure, errors: &mut E)
+    ensures { Tells (E.contents errors.old) (E.contents errors.new) }
+{
     let cause = match failure {
         Failure::Store => store_cause(rt, path),
         Failure::NotADesk => "no table, other tables than a desk's, or rows of no content",
@@ -53,10 +61,20 @@ pub fn tell_unenrolled(rt: &HostRuntime, path: Option<&str>) {
 }
 
 /// Prints `uss_desk: PATH: TEXT`. A fault of the writer is passed over, and so is want of memory.
-pub fn tell_of<E: Write>(alloc: Global, path: &str, text: &str, errors: &mut E) {
+#[tactic(auto, using(crate::proofs::KeepLemmas::tells_nothing))]
+pub fn tell_of<E: Write>(alloc: Global, path: &str, text: &str, errors: &mut E)
+    ensures { Tells (E.contents errors.old) (E.contents errors.new) }
+{
     if let Ok(text) = line_of(alloc, path, text) {
-        let _ = write_whole(errors, text.as_bytes());
+        tell_line(&text, errors);
     }
+}
+
+// Tells a line. A fault of the writer is passed over.
+fn tell_line<E: Write>(line: &str, errors: &mut E)
+    ensures { Tells (E.contents errors.old) (E.contents errors.new) }
+{
+    let _ = write_whole(errors, line.as_bytes());
 }
 
 fn line_of(alloc: Global, path: &str, text: &str) -> Result<String, AllocError> {
@@ -64,14 +82,17 @@ fn line_of(alloc: Global, path: &str, text: &str) -> Result<String, AllocError> 
 }
 
 /// Why there can be no new file at a path, if that is so: it is no path, or something is there.
-pub fn new_cause(rt: &HostRuntime, path: &str) -> Option<&'static str> {
+pub fn new_cause<P: Folder>(folder: &mut P, path: &str) -> Option<&'static str>
+    ensures free { result ≡ None → Follows (P.steps folder.old) (P.steps folder.new) (Free path.now ∷ []) }
+    ensures unnamed { LeavesNames (P.steps folder.old) (P.steps folder.new) }
+{
     if path == ":memory:" || path.starts_with("file:") {
         return Some(NO_PATH);
     }
-    match fs::exists(rt, path) {
-        Ok(false) => None,
-        _ => Some(TAKEN),
+    if !folder.is_free(path) {
+        return Some(TAKEN);
     }
+    None
 }
 
 /// Why a file can't be made at a path, if that is so; it is tried, and gone again.

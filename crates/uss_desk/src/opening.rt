@@ -4,21 +4,69 @@ ghost use Rattle.std.specs.Prelude.{◌≡◌, IfErr, IfOk};
 ghost use Rattle.sqlite_wal.specs.Files.{image_at};
 ghost use Rattle.uss_desk.specs.Opening as spec;
 ghost use Rattle.uss_desk.specs.Opening.{IsBlank, IsMemory, IsMovedAt, IsMovedIn, IsOpenedAt, IsOpenedFor};
-ghost use Rattle.uss_desk.specs.Opening.{IsOpenedIn};
+ghost use Rattle.uss_desk.specs.Opening.{IsFoundIn, IsMoveFoundIn, IsOpenedIn, IsUnreadFor};
 
 use crate::causes::tell_unenrolled;
 use desk_line::{Database, Failure, Line};
 use desk_run::Desk;
-use desk_tables::{OpenFault, SqliteStore};
+use desk_tables::{FilesFault, OpenFault, SqliteStore};
 use ram_disk::Ram;
 use sqlite::{FileFrom, FileStore, Start};
-use std::alloc::Global;
+use sqlite_trees::store::Alter;
+use std::alloc::{AllocError, Global};
+use std::snapshot::Snapshot;
 
 /// A desk in memory.
 pub type MemoryDesk = Desk<SqliteStore<FileStore<Ram>>>;
 
 /// A desk over the database in files, where `F` stands for what they held.
 pub type FileDesk<F> = Desk<SqliteStore<FileStore<FileFrom<F>>>>;
+
+/// Why a database was not opened. What refused it is closed, and clauses alone read what it was.
+#[derive(Drop)]
+pub struct Unopened<S: Alter> {
+    /// The failure with which the line ends.
+    pub failure: Failure,
+    /// The fault, and the connection that read the database, if there was one.
+    pub refused: Snapshot<FilesFault<S>>,
+}
+
+impl<S: Alter + Drop> Unopened<S> {
+    /// Files were refused. Their connection is closed, so that they can be looked at again.
+    pub fn of(refused: FilesFault<S>) -> Unopened<S>
+        ensures failure { result.failure ≡ spec.open_failure refused.fault }
+        ensures refused { result.refused.value ≡ refused }
+    {
+        Unopened {
+            failure: open_failure(&refused.fault),
+            refused: Snapshot::of(&refused),
+        }
+    }
+
+    /// Nothing in the database was read.
+    pub fn unread(fault: OpenFault) -> Unopened<S>
+        ensures { IsUnreadFor result fault }
+    {
+        Unopened::of(FilesFault {
+            fault,
+            connection: None,
+        })
+    }
+}
+
+impl<S: Alter + Drop> From<AllocError> for Unopened<S> {
+    ghost use Rattle.desk_tables.specs.declared.opening.open.OpenFault.TheVariants.{OutOfMemory};
+    ghost use Rattle.uss_desk.specs.Opening.{IsUnreadFor};
+
+    ghost from_gives = { λ _ it. IsUnreadFor it OutOfMemory };
+
+    fn from(_error: AllocError) -> Unopened<S> {
+        Unopened::unread(OpenFault::OutOfMemory)
+    }
+}
+
+/// Why files were not opened, where `F` stands for what they held.
+pub type Unread<F> = Unopened<FileStore<FileFrom<F>>>;
 
 /// What was opened for a line, a desk `M` in memory or one `D` over files; or why it could not be.
 #[derive(Drop)]
@@ -69,7 +117,22 @@ fn open_database<F: Start>(
             }
             Opened::Memory(open_in_memory(rt.alloc()))
         }
-        Database::File(path) => Opened::Files(open_file(rt, path, is_told, start)),
+        Database::File(path) => Opened::Files(open_or_fail(rt, path, is_told, start)),
+    }
+}
+
+// What `open_file` gives, or its failure alone.
+fn open_or_fail<F: Start>(
+    rt: &HostRuntime,
+    path: &str,
+    is_told: bool,
+    start: F,
+) -> Result<FileDesk<F>, Failure>
+    ensures { IsFoundIn (image_at F.Start) result }
+{
+    match open_file(rt, path, is_told, start) {
+        Ok(desk) => Ok(desk),
+        Err(unread) => Err(unread.failure),
     }
 }
 
@@ -93,13 +156,13 @@ pub fn open_in_memory(alloc: Global) -> Result<MemoryDesk, Failure>
 ///
 /// # Errors
 ///
-/// That of `open_failure`.
+/// The failure is that of `open_failure`.
 pub fn open_file<F: Start>(
     rt: &HostRuntime,
     path: &str,
     is_told: bool,
     start: F,
-) -> Result<FileDesk<F>, Failure>
+) -> Result<FileDesk<F>, Unread<F>>
     ensures { IsOpenedIn (image_at F.Start) result }
 {
     match SqliteStore::open_from(rt, path, start) {
@@ -109,7 +172,7 @@ pub fn open_file<F: Start>(
             }
             Ok(Desk::new(store))
         }
-        Err(refused) => Err(open_failure(&refused.fault)),
+        Err(refused) => Err(Unopened::of(refused)),
     }
 }
 
@@ -124,7 +187,21 @@ fn open_old<F: Start>(
 {
     match database {
         Database::InMemory => Err(Failure::Store),
-        Database::File(path) => open_old_file(rt, path, start),
+        Database::File(path) => move_or_fail(rt, path, start),
+    }
+}
+
+// What `open_old_file` gives, or its failure alone.
+fn move_or_fail<F: Start>(
+    rt: &HostRuntime,
+    path: &str,
+    start: F,
+) -> Result<(FileDesk<F>, u32), Failure>
+    ensures { IsMoveFoundIn (image_at F.Start) result }
+{
+    match open_old_file(rt, path, start) {
+        Ok(moved) => Ok(moved),
+        Err(unread) => Err(unread.failure),
     }
 }
 
@@ -133,12 +210,12 @@ fn open_old_file<F: Start>(
     rt: &HostRuntime,
     path: &str,
     start: F,
-) -> Result<(FileDesk<F>, u32), Failure>
+) -> Result<(FileDesk<F>, u32), Unread<F>>
     ensures { IsMovedIn (image_at F.Start) result }
 {
     match SqliteStore::migrate_from(rt, path, start) {
         Ok((store, count)) => Ok((Desk::new(store), count)),
-        Err(refused) => Err(open_failure(&refused.fault)),
+        Err(refused) => Err(Unopened::of(refused)),
     }
 }
 

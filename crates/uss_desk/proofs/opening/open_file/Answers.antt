@@ -4,6 +4,7 @@ use Rattle.sqlite.specs.Files.{over_files}
 use Rattle.desk_tables.specs.Files.{OpensIn}
 use Rattle.desk_tables.specs.Guarding.{IsGuarded}
 use Rattle.desk_tables.specs.Leaving.{IsSettledAt}
+use Rattle.uss_desk.proofs.RunLemmas.{fails_at}
 use Rattle.uss_desk.proofs.opening.open_file.Goals as goal
 
 pub returns-after-is_told : goal.returns-after-is_told
@@ -19,8 +20,6 @@ returns-after-is_told g c =
     }
 
 pub returns-in-Err : goal.returns-in-Err
-returns-in-Err g c = (
-  c.in-Err.refused.fault,
-  c.open_failure.ensures,
-  (c.in-Err.refused.connection, c.in-Err.ensures.fault),
-)
+returns-in-Err g c =
+    fails_at (image_at g.F.Start) c.of.result c.in-Err.refused c.of.ensures.failure c.of.ensures.refused
+    c.in-Err.ensures.fault

@@ -1,0 +1,67 @@
+-- Naming: what is asked of the folders of a new file, so that it gets its name.
+use Rattle.std.specs.Prelude.{◌≡◌, ◌⊎◌, ⊤, ℕ, Bool, true, false, List, [], ◌∷◌, ◌++◌, All, codes, Option, None, Some, string_bytes}
+use Rattle.uss_desk.specs.declared.naming.Names.{Names}
+
+-- a step: a path is looked at, and there is nothing; a file is removed; one gets another name; the folder of
+-- a path is synced; or what was asked is not so, or can't be done
+pub data Step : Type 0 where
+  Free : List ℕ → Step
+  Removed : List ℕ → Step
+  Renamed : List ℕ → List ℕ → Step
+  Synced : List ℕ → Step
+  Failed : Step
+
+-- known steps are followed by these
+abbrev pub Follows : Option (List Step) → Option (List Step) → List Step → Type 0
+Follows None new more = ⊤
+Follows (Some old) None more = ⊥
+Follows (Some old) (Some new) more = new ≡ old ++ more
+
+-- a step is made, or fails
+abbrev pub Takes : Option (List Step) → Option (List Step) → Bool → Step → Type 0
+Takes old new true step = Follows old new (step ∷ [])
+Takes old new false step = Follows old new (Failed ∷ [])
+
+-- the name of the log of a file, and that which a new file has first
+abbrev pub log_of : List ℕ → List ℕ
+log_of path = path ++ codes "-wal"
+
+abbrev pub part_of : List ℕ → List ℕ
+part_of path = path ++ codes ".part"
+
+-- the names of a new file and of its log, and those that they have first
+pub record AreNames (to : List ℕ) (names : Names) : Type 0 where
+  pub to_is : string_bytes names.to ≡ to
+  pub to_log_is : string_bytes names.to_log ≡ log_of to
+  pub part_is : string_bytes names.part ≡ part_of to
+  pub part_log_is : string_bytes names.part_log ≡ log_of (part_of to)
+
+-- there was nothing at any of its names
+abbrev pub free_steps : List ℕ → List Step
+free_steps to = Free to ∷ Free (log_of to) ∷ Free (part_of to) ∷ Free (log_of (part_of to)) ∷ []
+
+-- its log goes, and it gets its name; then one step more
+abbrev pub named_steps : List ℕ → Step → List Step
+named_steps to last = Removed (log_of (part_of to)) ∷ Renamed (part_of to) to ∷ last ∷ []
+
+-- a step by which no file gets a name
+abbrev pub GivesNoName : Step → Type 0
+GivesNoName (Free path) = ⊤
+GivesNoName (Removed path) = ⊤
+GivesNoName (Renamed from to) = ⊥
+GivesNoName (Synced path) = ⊤
+GivesNoName Failed = ⊤
+
+-- steps are made by which no file gets a name
+pub record LeavesNames (old new : Option (List Step)) : Type 0 where
+  pub steps : List Step
+  pub made : Follows old new steps
+  pub unnamed : All GivesNoName steps
+
+-- no file gets a name; or, after these steps, the file gets its own, and its folder can't be synced
+abbrev pub IsUnnamed : List Step → List ℕ → Option (List Step) → Option (List Step) → Type 0
+IsUnnamed first to old new = LeavesNames old new ⊎ Follows old new (first ++ named_steps to Failed)
+
+-- there was nothing at any of the names, and the file gets its own, and its folder is synced
+abbrev pub IsNamed : List ℕ → Option (List Step) → Option (List Step) → Type 0
+IsNamed to old new = Follows old new (free_steps to ++ named_steps to (Synced to))

@@ -1,0 +1,128 @@
+//! How a new file gets its name, once it is whole.
+
+ghost use Rattle.std.specs.Prelude.{◌≡◌, ℕ, ◌++◌, [], List, Option, None, false, true, IfOk, string_bytes};
+ghost use Rattle.uss_desk.specs.Naming.{AreNames, Follows, Free, IsUnnamed, Removed, Renamed, Step, Synced};
+ghost use Rattle.uss_desk.specs.Naming.{Takes, named_steps};
+
+use std::alloc::{AllocError, Global};
+use std::fs::{self, File};
+use std::io;
+
+/// The folders in which a new file gets its name.
+pub trait Folder {
+    /// What was asked of them, in its order, if it is known.
+    ghost steps: { Self → Option (List Step) } = { λ _. None };
+
+    /// Whether there is nothing at a path.
+    fn is_free(&mut self, path: &str) -> bool
+        ensures { Takes (steps self.old) (steps self.new) result (Free path.now) };
+
+    /// Removes a file, and answers whether that was done.
+    fn remove(&mut self, path: &str) -> bool
+        ensures { Takes (steps self.old) (steps self.new) result (Removed path.now) };
+
+    /// Gives a file another name, and answers whether that was done.
+    fn rename(&mut self, from: &str, to: &str) -> bool
+        ensures { Takes (steps self.old) (steps self.new) result (Renamed from.now to.now) };
+
+    /// Syncs the folder of a path, and answers whether that was done.
+    fn sync(&mut self, path: &str) -> bool
+        ensures { Takes (steps self.old) (steps self.new) result (Synced path.now) };
+}
+
+/// The folders of the operating system, of whose steps nothing is told.
+#[derive(Drop)]
+pub struct LocalFolder<'s> {
+    rt: &'s HostRuntime,
+}
+
+impl<'s> LocalFolder<'s> {
+    /// The folders of this run.
+    pub fn new(rt: &'s HostRuntime) -> LocalFolder<'s> {
+        LocalFolder { rt }
+    }
+}
+
+impl<'s> Folder for LocalFolder<'s> {
+    fn is_free(&mut self, path: &str) -> bool {
+        matches!(fs::exists(self.rt, path), Ok(false))
+    }
+
+    fn remove(&mut self, path: &str) -> bool {
+        fs::remove_file(self.rt, path).is_ok()
+    }
+
+    fn rename(&mut self, from: &str, to: &str) -> bool {
+        fs::rename(self.rt, from, to).is_ok()
+    }
+
+    fn sync(&mut self, path: &str) -> bool {
+        sync_folder(self.rt, path).is_ok()
+    }
+}
+
+// Syncs the folder of a path.
+fn sync_folder(rt: &HostRuntime, path: &str) -> io::Result<()> {
+    let mut folder = fs::canonicalize(rt, path)?;
+    folder.pop();
+    File::open(rt, folder.as_str())?.sync_all()
+}
+
+/// The names of a new file and of its log: those that they get at last, and those that they have before.
+#[derive(Drop)]
+pub struct Names {
+    /// That of the file.
+    pub to: String,
+    /// That of its log.
+    pub to_log: String,
+    /// That which the file has before.
+    pub part: String,
+    /// That which its log has before.
+    pub part_log: String,
+}
+
+/// The names of a new file.
+///
+/// # Errors
+///
+/// `AllocError` if memory runs out.
+pub fn names_of(alloc: Global, to: &str) -> Result<Names, AllocError>
+    ensures { IfOk result (AreNames to.now) }
+{
+    let part = name_with(alloc, to, ".part")?;
+    Ok(Names {
+        to: name_with(alloc, to, "")?,
+        to_log: name_with(alloc, to, "-wal")?,
+        part_log: name_with(alloc, &part, "-wal")?,
+        part,
+    })
+}
+
+/// A name and its end.
+///
+/// # Errors
+///
+/// `AllocError` if memory runs out.
+pub fn name_with(alloc: Global, path: &str, end: &str) -> Result<String, AllocError>
+    ensures { IfOk result (λ name. string_bytes name ≡ path.now ++ end.now) }
+{
+    format!(in alloc; "{path}{end}")
+}
+
+/// Gives a file that is whole its name, and syncs its folder. Its log, which is empty, goes. Whether all of
+/// that was done.
+#[tactic(auto, using(crate::proofs::NameLemmas::fails_after))]
+pub fn put_in_place<N: Folder>(folder: &mut N, names: &Names) -> bool
+    ensures named { (to : List ℕ) → AreNames to names.now → result ≡ true
+        → Follows (N.steps folder.old) (N.steps folder.new) (named_steps to (Synced to)) }
+    ensures unnamed { (to : List ℕ) → AreNames to names.now → result ≡ false
+        → IsUnnamed [] to (N.steps folder.old) (N.steps folder.new) }
+{
+    if !folder.remove(&names.part_log) {
+        return false;
+    }
+    if !folder.rename(&names.part, &names.to) {
+        return false;
+    }
+    folder.sync(&names.to)
+}
