@@ -3,19 +3,19 @@ use Rattle.std.specs.Prelude.{◌≡◌, ◌⊎◌, ℕ, ◌==◌, if◌then◌e
 use Rattle.std.specs.Io.KnownBytes.{Appends}
 use Rattle.desk_run.specs.declared.fault.DeskFault.{DeskFault}
 use Rattle.desk_run.specs.declared.fault.DeskFault.TheVariants as desk
-use Rattle.desk_wire.specs.declared.play.PlayEnd.{PlayEnd}
-use Rattle.desk_wire.specs.declared.play.PlayEnd.TheVariants as play
-use Rattle.desk_wire.specs.declared.stream.WriteFault.{WriteFault}
-use Rattle.desk_wire.specs.declared.stream.ServeFault.{ServeFault}
-use Rattle.desk_wire.specs.declared.stream.ServeFault.TheVariants as serve
-use Rattle.desk_wire.specs.declared.stream.Served.{Served}
-use Rattle.desk_wire.specs.declared.stream.Served.TheVariants.{Answered, End}
 use Rattle.s2_cellid.specs.declared.tokens.TokenFault.{TokenFault}
 use Rattle.s2_cellid.specs.declared.tokens.TokenFault.TheVariants as token
 use Rattle.s2_cover.specs.declared.rect.RectFault.{RectFault}
 use Rattle.s2_cover.specs.declared.rect.RectFault.TheVariants as rect
 use Rattle.s2_cover.specs.declared.walk.CoverFault.{CoverFault}
 use Rattle.s2_cover.specs.declared.walk.CoverFault.TheVariants as cover
+use Rattle.desk_ends.specs.declared.playing.PlayEnd.{PlayEnd}
+use Rattle.desk_ends.specs.declared.playing.PlayEnd.TheVariants as play
+use Rattle.desk_ends.specs.declared.writing.WriteFault.{WriteFault}
+use Rattle.desk_ends.specs.declared.serving.ServeFault.{ServeFault}
+use Rattle.desk_ends.specs.declared.serving.ServeFault.TheVariants as serve
+use Rattle.desk_ends.specs.declared.serving.Served.{Served}
+use Rattle.desk_ends.specs.declared.serving.Served.TheVariants.{Answered, End}
 use Rattle.desk_line.specs.declared.failure.Failure.{Failure}
 use Rattle.desk_line.specs.declared.failure.Failure.TheVariants as failure
 use Rattle.desk_line.specs.declared.failure.Exit.{Exit}

@@ -3,7 +3,7 @@ use Rattle.std.specs.Prelude.{ℕ, List, All, ⊤, ◌≤◌, Option, Some, None
 use Rattle.std.specs.Prelude.{string_bytes}
 use Rattle.std.specs.Int.{IsInRange}
 use Rattle.desk_rules.specs.Limits.{max_priority}
-use Rattle.desk_wire.specs.Moments.{IsMoment}
+use Rattle.desk_ends.specs.Moments.{IsMoment}
 use Rattle.desk_line.specs.declared.line.Database.{Database}
 use Rattle.desk_line.specs.declared.line.Database.TheVariants.{InMemory, File}
 use Rattle.desk_line.specs.declared.line.Cover.{Cover as CoverWords}

@@ -1,7 +1,7 @@
 -- Written: what a writer has taken of some bytes.
 use Rattle.std.specs.Prelude.{◌≡◌, ◌≢◌, ℕ, List, [], ◌++◌, Option, None, Some}
 use Rattle.std.specs.Io.KnownBytes.{Appends}
-use Rattle.desk_wire.specs.declared.stream.WriteFault.{WriteFault}
+use Rattle.desk_ends.specs.declared.writing.WriteFault.{WriteFault}
 
 -- a beginning of the bytes is written, not all of them, and nothing else
 pub record HasBegun (bytes : List ℕ) (out now : Option (List ℕ)) : Type 0 where

@@ -6,8 +6,8 @@ ghost use Rattle.desk_line.specs.Exits as spec;
 ghost use Rattle.desk_line.specs.Written.{HasBegun, HasWritten};
 ghost use Rattle.desk_line.specs.declared.failure.Failure.TheVariants as failure;
 
+use desk_ends::{ServeFault, WriteFault, write_whole};
 use desk_run::DeskFault;
-use desk_wire::{ServeFault, WriteFault, write_whole};
 use s2_cellid::TokenFault;
 use s2_cover::{CoverFault, RectFault};
 use std::alloc::{AllocError, AllocFailed};

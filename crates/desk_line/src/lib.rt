@@ -7,6 +7,7 @@ mod copies;
 mod equal;
 mod failure;
 mod line;
+mod picture;
 mod printed;
 
 pub use failure::{Exit, Failure, conclude};

@@ -17,8 +17,8 @@ ghost use Rattle.desk_line.specs.declared.failure.Failure.TheVariants.{Memory, W
 
 use crate::failure::{Exit, Failure, conclude};
 use crate::line::{Cover as CoverWords, Line};
-use cover_picture::picture_of;
-use desk_wire::write_whole;
+use crate::picture::picture_of;
+use desk_ends::write_whole;
 use s2_cellid::CellId;
 use s2_cover::{Cover, Rect, cover};
 use s2_hilbert::leaf_at;

@@ -3,8 +3,8 @@ use Rattle.std.proofs.Common.{◌≡◌, ◌≢◌, ◌<◌, ℕ, List, [], Opti
 use Rattle.std.proofs.lemmas.List.{take-append-drop}
 use Rattle.std.specs.Io.KnownBytes.{Appends}
 use Rattle.std.specs.Result.{IsErrAnd}
-use Rattle.desk_wire.specs.Serving.{BreaksOff}
-use Rattle.desk_wire.specs.declared.stream.WriteFault.{WriteFault}
+use Rattle.desk_ends.specs.Writing.{BreaksOff}
+use Rattle.desk_ends.specs.declared.writing.WriteFault.{WriteFault}
 use Rattle.desk_line.specs.declared.failure.Failure.{Failure}
 use Rattle.desk_line.specs.Exits.{IsAnnounced}
 use Rattle.desk_line.specs.Written.{HasBegun}

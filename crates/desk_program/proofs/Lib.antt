@@ -1,6 +1,5 @@
 mod ServedLemmas
 mod EnrolLemmas
-mod MomentLemmas
 mod KeepingLemmas
 mod BegunLemmas
 mod EndLemmas

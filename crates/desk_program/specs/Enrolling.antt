@@ -1,8 +1,8 @@
 -- Enrolling: the world in which operators are listed, and the line that tells of one.
 use Rattle.std.specs.Prelude.{◌≡◌, ◌<◌, ℕ, List, [], ◌∷◌, ◌++◌, length, take, codes, decimal, Option}
 use Rattle.desk_run.specs.DeskWorld.{DeskWorld, enrolled}
-use Rattle.desk_wire.specs.Serving.{BreaksOff}
-use Rattle.desk_wire.specs.declared.stream.WriteFault.{WriteFault}
+use Rattle.desk_ends.specs.Writing.{BreaksOff}
+use Rattle.desk_ends.specs.declared.writing.WriteFault.{WriteFault}
 use Rattle.desk_line.specs.declared.line.Enrolment.{Enrolment}
 
 -- these priorities are permitted, and no others

@@ -3,7 +3,7 @@
 ghost use Rattle.std.specs.Prelude.{◌≡◌, ◌≢◌, None, Some, Err, Ok, IfErr, IfOk};
 ghost use Rattle.std.specs.IoError.{error_kind};
 ghost use Rattle.std.specs.Time.{system_time_nanos};
-ghost use Rattle.desk_wire.specs.Moments.{IsMoment};
+ghost use Rattle.desk_ends.specs.Moments.{IsMoment};
 ghost use Rattle.desk_program.specs.Serving.{IsDenied};
 ghost use Rattle.desk_program.specs.Waiting.{moment_at};
 

@@ -5,8 +5,8 @@ ghost use Rattle.desk_line.specs.Exits.{ending};
 ghost use Rattle.desk_program.specs.Moving as spec;
 ghost use Rattle.desk_program.specs.Moving.{IsCountPrinted};
 
+use desk_ends::write_whole;
 use desk_line::{Exit, Failure, conclude};
-use desk_wire::write_whole;
 use std::alloc::{AllocError, Global};
 use std::io::Write;
 

@@ -1,7 +1,7 @@
 //! Where a desk gets its connections from.
 
 ghost use Rattle.std.specs.Prelude.{◌≡◌, IfOk, IfErr, OnErr};
-ghost use Rattle.desk_wire.specs.Moments.{IsMoment};
+ghost use Rattle.desk_ends.specs.Moments.{IsMoment};
 ghost use Rattle.desk_program.specs.Serving.{Closes, IsDenied, IsUnsent, Takes, Traffic};
 ghost use Rattle.desk_program.specs.Serving.{arrived, parted, untold};
 

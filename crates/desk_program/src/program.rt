@@ -15,11 +15,12 @@ ghost use Rattle.desk_program.specs.Enrolling.{AreListedSoFar, permitting, with_
 ghost use Rattle.desk_program.specs.Keeping.{AreKeptSoFar, FindsEnrolled, IsLinePlayKept, IsPlayKept};
 ghost use Rattle.desk_program.specs.Playing.{IsEnrolled, IsLinePlayed, IsNotPlayed, IsPlayed, done_unless};
 
+use desk_ends::{PlayEnd, write_whole};
 use desk_line::{Enrolment, Exit, Failure, Line, Play, conclude};
 use desk_rules::permission::Permitted;
 use desk_run::{Desk, DeskFault};
 use desk_store::PlanStore;
-use desk_wire::{PlayEnd, play_all, write_whole};
+use desk_wire::play_all;
 use std::alloc::{AllocError, Global};
 use std::io::{Read, Write};
 

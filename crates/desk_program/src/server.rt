@@ -15,10 +15,11 @@ ghost use Rattle.desk_program.specs.Serving.{AreTaken, IsAtPort, IsDenied, IsLin
 
 use crate::port::{Connection, Port};
 use crate::program::set_up;
+use desk_ends::{ServeFault, Served, write_whole};
 use desk_line::{Exit, Failure, Serve, conclude};
 use desk_run::Desk;
 use desk_store::PlanStore;
-use desk_wire::{ServeFault, Served, serve_one, write_whole};
+use desk_wire::serve_one;
 use std::alloc::{AllocError, Global};
 use std::io::Write;
 

@@ -11,19 +11,19 @@ use Rattle.desk_reading.specs.Readings.{Reading, or_met}
 use Rattle.desk_reading.specs.Requests.{asked, asked_by}
 use Rattle.desk_rules.specs.declared.call.Asked.{Asked}
 use Rattle.desk_run.specs.DeskWorld.{DeskWorld}
-use Rattle.desk_wire.specs.declared.play.PlayEnd.{PlayEnd}
-use Rattle.desk_wire.specs.declared.play.PlayEnd.TheVariants.{End, Unframed, Broken, Limit, Fault}
+use Rattle.desk_ends.specs.declared.playing.PlayEnd.{PlayEnd}
+use Rattle.desk_ends.specs.declared.playing.PlayEnd.TheVariants.{End, Unframed, Broken, Limit, Fault}
+use Rattle.desk_ends.specs.declared.serving.Served.{Served}
+use Rattle.desk_ends.specs.declared.serving.Served.TheVariants.{Answered}
+use Rattle.desk_ends.specs.declared.serving.ServeFault.{ServeFault}
+use Rattle.desk_ends.specs.declared.serving.ServeFault.TheVariants.{Read, Write, CutShort, OutOfMemory}
+use Rattle.desk_ends.specs.declared.writing.WriteFault.{WriteFault}
 use Rattle.desk_wire.specs.declared.response.ServerError.{ServerError}
-use Rattle.desk_wire.specs.declared.stream.Served.{Served}
-use Rattle.desk_wire.specs.declared.stream.Served.TheVariants.{Answered}
-use Rattle.desk_wire.specs.declared.stream.ServeFault.{ServeFault}
-use Rattle.desk_wire.specs.declared.stream.ServeFault.TheVariants.{Read, Write, CutShort, OutOfMemory}
 use Rattle.desk_wire.specs.AllAnswers.{Sent, answers_to, world_left}
 use Rattle.desk_wire.specs.Bytes.{IsServerError, status_so, world_after}
 use Rattle.desk_wire.specs.Given.{IsNextIn, answered, told_in_play}
 use Rattle.desk_wire.specs.Crashes.{FindsBy, IsCertain, IsFoundAfter, IsFoundIn, IsFoundNow, IsKept, IsLeftBy, IsOldOrNext}
 use Rattle.desk_wire.specs.Playing.{ArePlayed, EndsBy, IsWhole, at_moment}
-use Rattle.desk_wire.specs.declared.stream.WriteFault.{WriteFault}
 use Rattle.desk_wire.specs.Serving.{IsTaken}
 use Rattle.desk_wire.proofs.AllLemmas.{HaveAnswers, left_more, take_map}
 use Rattle.desk_wire.proofs.BytesLemmas.{left_read}

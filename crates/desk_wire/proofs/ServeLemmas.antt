@@ -9,14 +9,15 @@ use Rattle.desk_reading.specs.Requests.{asked, asked_by}
 use Rattle.desk_reading.specs.declared.message.Message.{Message}
 use Rattle.desk_reading.specs.declared.wire_fault.WireFault.{WireFault}
 use Rattle.desk_run.specs.DeskWorld.{DeskWorld}
+use Rattle.desk_ends.specs.declared.serving.Served.{Served}
+use Rattle.desk_ends.specs.declared.serving.Served.TheVariants.{Answered}
+use Rattle.desk_ends.specs.declared.serving.ServeFault.{ServeFault}
+use Rattle.desk_ends.specs.declared.serving.ServeFault.TheVariants.{Read, Write, CutShort, OutOfMemory}
+use Rattle.desk_ends.specs.declared.writing.WriteFault.{WriteFault}
+use Rattle.desk_ends.specs.Writing.{BreaksOff}
 use Rattle.desk_wire.specs.declared.response.ServerError.{ServerError}
-use Rattle.desk_wire.specs.declared.stream.Served.{Served}
-use Rattle.desk_wire.specs.declared.stream.Served.TheVariants.{Answered}
-use Rattle.desk_wire.specs.declared.stream.ServeFault.{ServeFault}
-use Rattle.desk_wire.specs.declared.stream.ServeFault.TheVariants.{Read, Write, CutShort, OutOfMemory}
-use Rattle.desk_wire.specs.declared.stream.WriteFault.{WriteFault}
 use Rattle.desk_wire.specs.Bytes.{IsAnsweredSo, IsServerError, status_so}
-use Rattle.desk_wire.specs.Serving.{BreaksOff, HasServed, IsReplied, IsServed, IsTaken, IsUntouched, Stops}
+use Rattle.desk_wire.specs.Serving.{HasServed, IsReplied, IsServed, IsTaken, IsUntouched, Stops}
 use Rattle.desk_wire.specs.Streams.{IsCut, IsFront, front_read, is_framed, size_said, with_body}
 use Rattle.desk_wire.proofs.BytesLemmas.{asked_read}
 use Rattle.desk_wire.proofs.FrontLemmas.{is_request, message_is}

@@ -13,10 +13,10 @@ use Rattle.std.specs.Io.KnownBytes.{Appends, Consumes}
 use Rattle.desk_run.specs.DeskWorld.{DeskWorld, side}
 use Rattle.desk_reading.specs.Requests.{asked}
 use Rattle.desk_run.specs.Sides.{OwnAlike}
-use Rattle.desk_wire.specs.declared.play.PlayEnd.{PlayEnd}
-use Rattle.desk_wire.specs.declared.play.PlayEnd.TheVariants.{End, Unframed, Broken, Limit, Fault}
-use Rattle.desk_wire.specs.declared.stream.ServeFault.TheVariants.{Read, Write, CutShort, OutOfMemory}
-use Rattle.desk_wire.specs.declared.stream.WriteFault.{WriteFault}
+use Rattle.desk_ends.specs.declared.playing.PlayEnd.{PlayEnd}
+use Rattle.desk_ends.specs.declared.playing.PlayEnd.TheVariants.{End, Unframed, Broken, Limit, Fault}
+use Rattle.desk_ends.specs.declared.serving.ServeFault.TheVariants.{Read, Write, CutShort, OutOfMemory}
+use Rattle.desk_ends.specs.declared.writing.WriteFault.{WriteFault}
 use Rattle.desk_wire.specs.declared.response.ServerError.{ServerError}
 use Rattle.desk_wire.specs.AllAnswers.{answers_to, world_left}
 use Rattle.desk_wire.specs.Bytes.{IsAnsweredSo, IsDone, world_after}

@@ -2,10 +2,10 @@
 use Rattle.std.specs.Prelude.{◌≡◌, ℕ, ⊤, List, [], ◌∷◌, ◌++◌, Option}
 use Rattle.std.specs.Io.KnownBytes.{Appends}
 use Rattle.desk_store.specs.StoreFaults.{HasRisen}
+use Rattle.desk_ends.specs.declared.serving.Served.{Served}
+use Rattle.desk_ends.specs.declared.serving.Served.TheVariants.{Answered, End}
 use Rattle.desk_wire.specs.declared.response.ServerError.{ServerError}
 use Rattle.desk_wire.specs.declared.response.ServerError.TheVariants.{OutOfMemory, Store}
-use Rattle.desk_wire.specs.declared.stream.Served.{Served}
-use Rattle.desk_wire.specs.declared.stream.Served.TheVariants.{Answered, End}
 use Rattle.desk_wire.specs.Refusals.{server_error_text}
 
 -- a store that is said to have failed has counted a fault

@@ -4,12 +4,12 @@ use Rattle.std.specs.Prelude.{◌≡◌, ◌≢◌, ◌⊎◌, ◌+◌, ℕ, ℤ
 use Rattle.desk_store.specs.World.{World}
 use Rattle.desk_reading.specs.Requests.{asked}
 use Rattle.desk_run.specs.DeskWorld.{DeskWorld}
-use Rattle.desk_wire.specs.declared.play.PlayEnd.{PlayEnd}
-use Rattle.desk_wire.specs.declared.play.PlayEnd.TheVariants.{End, Unframed, Broken, Limit, Fault}
-use Rattle.desk_wire.specs.declared.stream.Served.{Served}
-use Rattle.desk_wire.specs.declared.stream.Served.TheVariants as served
-use Rattle.desk_wire.specs.declared.stream.ServeFault.{ServeFault}
-use Rattle.desk_wire.specs.declared.stream.ServeFault.TheVariants.{Read, Write, CutShort, OutOfMemory}
+use Rattle.desk_ends.specs.declared.playing.PlayEnd.{PlayEnd}
+use Rattle.desk_ends.specs.declared.playing.PlayEnd.TheVariants.{End, Unframed, Broken, Limit, Fault}
+use Rattle.desk_ends.specs.declared.serving.Served.{Served}
+use Rattle.desk_ends.specs.declared.serving.Served.TheVariants as served
+use Rattle.desk_ends.specs.declared.serving.ServeFault.{ServeFault}
+use Rattle.desk_ends.specs.declared.serving.ServeFault.TheVariants.{Read, Write, CutShort, OutOfMemory}
 use Rattle.desk_wire.specs.AllAnswers.{Sent, world_left}
 use Rattle.desk_wire.specs.Bytes.{world_after}
 use Rattle.desk_wire.specs.Given.{AreGiven, IsNextIn}

@@ -5,11 +5,11 @@ use Rattle.std.specs.List.{concat}
 use Rattle.std.specs.Io.KnownBytes.{Appends}
 use Rattle.desk_run.specs.DeskWorld.{DeskWorld}
 use Rattle.desk_reading.specs.Requests.{asked}
+use Rattle.desk_ends.specs.declared.playing.PlayEnd.{PlayEnd}
+use Rattle.desk_ends.specs.declared.playing.PlayEnd.TheVariants as play
+use Rattle.desk_ends.specs.declared.serving.ServeFault.TheVariants.{Read, Write, CutShort, OutOfMemory}
 use Rattle.desk_wire.specs.declared.batch.AnswersEnd.{AnswersEnd}
 use Rattle.desk_wire.specs.declared.batch.AnswersEnd.TheVariants.{All, Broken, NoMemory}
-use Rattle.desk_wire.specs.declared.play.PlayEnd.{PlayEnd}
-use Rattle.desk_wire.specs.declared.play.PlayEnd.TheVariants as play
-use Rattle.desk_wire.specs.declared.stream.ServeFault.TheVariants.{Read, Write, CutShort, OutOfMemory}
 use Rattle.desk_wire.specs.declared.response.ServerError.{ServerError}
 use Rattle.desk_wire.specs.AllAnswers.{answers_to, world_left}
 use Rattle.desk_wire.specs.Bytes.{world_after}

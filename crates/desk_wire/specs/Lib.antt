@@ -1,5 +1,4 @@
 -- Read first: Headline, Bytes, Streams.
-pub mod Moments
 pub mod Refusals
 pub mod Bytes
 pub mod AllAnswers

@@ -1,15 +1,15 @@
 -- Serving: what comes of one request of a stream.
-use Rattle.std.specs.Prelude.{◌≡◌, ◌≢◌, ◌<◌, ◌++◌, ℕ, ℤ, ⊤, List, length, take, codes, decimal, Bool, Option, None, IfSome, Result, Ok, Err}
+use Rattle.std.specs.Prelude.{◌≡◌, ◌≢◌, ℕ, ℤ, ⊤, List, Bool, Option, None, IfSome, Result, Ok, Err}
 use Rattle.std.specs.Io.KnownBytes.{Appends, Consumes, IsAtEnd, Keeps}
 use Rattle.desk_reading.specs.Requests.{asked}
 use Rattle.desk_run.specs.DeskWorld.{DeskWorld}
+use Rattle.desk_ends.specs.declared.serving.Served.{Served}
+use Rattle.desk_ends.specs.declared.serving.Served.TheVariants.{Answered, End}
+use Rattle.desk_ends.specs.declared.serving.ServeFault.{ServeFault}
+use Rattle.desk_ends.specs.declared.serving.ServeFault.TheVariants.{Read, Write, CutShort, OutOfMemory}
+use Rattle.desk_ends.specs.declared.writing.WriteFault.{WriteFault}
+use Rattle.desk_ends.specs.Writing.{BreaksOff}
 use Rattle.desk_wire.specs.declared.response.ServerError.{ServerError}
-use Rattle.desk_wire.specs.declared.stream.Served.{Served}
-use Rattle.desk_wire.specs.declared.stream.Served.TheVariants.{Answered, End}
-use Rattle.desk_wire.specs.declared.stream.ServeFault.{ServeFault}
-use Rattle.desk_wire.specs.declared.stream.ServeFault.TheVariants.{Read, Write, CutShort, OutOfMemory}
-use Rattle.desk_wire.specs.declared.stream.WriteEnd.TheVariants.{Whole}
-use Rattle.desk_wire.specs.declared.stream.WriteFault.{WriteFault}
 use Rattle.desk_wire.specs.Bytes.{IsAnsweredSo, IsServerError, status_so}
 use Rattle.desk_wire.specs.Streams.{IsCut, IsRequest, is_framed}
 
@@ -42,12 +42,6 @@ pub record IsServed (H : Type 0) (old new out now : Option (List ℕ)) (w : Desk
   pub gave_up : status ≡ 500 → why ≢ None
   pub written : Appends out now answer
 
--- the writing of bytes broke off: the first ones are written, as many as the fault says, and not all
-pub record BreaksOff (bytes : List ℕ) (out now : Option (List ℕ)) (fault : WriteFault) : Type 0 where
-  pub cause : fault.end ≢ Whole
-  pub short : fault.sent < length bytes
-  pub written : Appends out now (take fault.sent bytes)
-
 -- the same, but the writing of the answer broke off
 pub record IsBrokenOff (H : Type 0) (old new out now : Option (List ℕ)) (w : DeskWorld) (moment : ℤ)
     (after : DeskWorld) (fault : WriteFault) : Type 0 where
@@ -78,10 +72,3 @@ HasServed H (Err CutShort) old new out now w moment after =
     IfSome old IsCut × IsUntouched out now w after
 HasServed H (Err Read) old new out now w moment after = IsUntouched out now w after
 HasServed H (Err OutOfMemory) old new out now w moment after = IsUntouched out now w after
-
--- the fault as a sentence
-abbrev pub fault_text : ServeFault → List ℕ
-fault_text Read = codes "a read failed"
-fault_text (Write fault) = codes "a write failed after " ++ (decimal fault.sent ++ codes " bytes")
-fault_text CutShort = codes "the input ended inside a request"
-fault_text OutOfMemory = codes "out of memory"

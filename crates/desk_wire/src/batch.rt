@@ -6,11 +6,11 @@ ghost use Rattle.desk_store.specs.World.{World};
 ghost use Rattle.desk_store.specs.StoreFaults.{IsHonest};
 ghost use Rattle.desk_run.specs.DeskWorld.{IsSettled, world_of};
 ghost use Rattle.desk_run.specs.Sides.{OwnAlike};
+ghost use Rattle.desk_ends.specs.Moments.{IsMoment};
 ghost use Rattle.desk_wire.specs.AllAnswers.{AreAnswers};
 ghost use Rattle.desk_wire.specs.Causes.{HasFailed, IsLast};
 ghost use Rattle.desk_wire.specs.Given.{answered};
 ghost use Rattle.desk_wire.specs.Crashes.{IsFoundIn};
-ghost use Rattle.desk_wire.specs.Moments.{IsMoment};
 ghost use Rattle.desk_wire.specs.TwoRuns.{requests_of};
 
 use crate::answering::answer_request;

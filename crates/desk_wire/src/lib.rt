@@ -11,6 +11,7 @@ mod stream;
 
 pub use answering::answer;
 pub use batch::{Answers, AnswersEnd, answer_all};
+pub use desk_ends::{PlayEnd, ServeFault, Served, WriteEnd, WriteFault, write_whole};
 pub use desk_reading::{ReadError, Route, WireFault, read_request};
-pub use play::{PlayEnd, Played, play_all};
-pub use stream::{ServeFault, Served, WriteEnd, WriteFault, serve_one, write_whole};
+pub use play::{Played, play_all};
+pub use stream::serve_one;

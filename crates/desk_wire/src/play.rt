@@ -5,13 +5,14 @@ ghost use Rattle.desk_store.specs.StoreFrames.{Remembers};
 ghost use Rattle.desk_store.specs.World.{World};
 ghost use Rattle.desk_store.specs.StoreFaults.{IsHonest};
 ghost use Rattle.desk_run.specs.DeskWorld.{IsSettled, world_of};
+ghost use Rattle.desk_ends.specs.Moments.{IsMoment};
 ghost use Rattle.desk_wire.specs.Causes.{AppendsLast, HasFailed};
 ghost use Rattle.desk_wire.specs.Given.{told_in_play};
 ghost use Rattle.desk_wire.specs.Crashes.{IsKept};
-ghost use Rattle.desk_wire.specs.Moments.{IsMoment};
 ghost use Rattle.desk_wire.specs.Playing.{HasPlayed};
 
-use crate::stream::{ServeFault, Served, serve_one};
+use crate::stream::serve_one;
+use desk_ends::{PlayEnd, Served};
 use desk_run::Desk;
 use desk_store::PlanStore;
 use http::StatusCode;
@@ -28,22 +29,6 @@ pub struct Played {
     pub answered: u32,
     /// Why the run ended.
     pub ended: PlayEnd,
-}
-
-/// Why a run over a stream ended. After an answer they are sought in the order `Broken`,
-/// `Unframed`, `Limit`.
-#[derive(Clone, Copy, Debug, PartialEq, Eq)]
-pub enum PlayEnd {
-    /// The input ended before any byte of a request.
-    End,
-    /// The place of the next request is unknown.
-    Unframed,
-    /// The last answer has status 500. The next start may find the change of its request made.
-    Broken,
-    /// 1,000,000 requests were answered.
-    Limit,
-    /// The last request has no whole answer.
-    Fault(ServeFault),
 }
 
 /// Serves one request after the other at a moment (a Unix second from 0 to 253,370,764,800).

@@ -1,8 +1,7 @@
 //! Connections: requests read from a stream, and their answers written to one.
 
-ghost use Rattle.std.specs.Prelude.{◌≡◌, ◌≤◌, ◌<◌, ◌+◌, ◌↔◌, [], length, take, ◌⊎◌, Option, IfErr, IfOk};
-ghost use Rattle.std.specs.Prelude.{IfSome, IsTrue, OnOk, None};
-ghost use Rattle.std.specs.IoError.{error_kind};
+ghost use Rattle.std.specs.Prelude.{◌≡◌, ◌<◌, ◌+◌, [], length, take, ◌⊎◌, Option, IfErr, IfOk};
+ghost use Rattle.std.specs.Prelude.{IfSome, None};
 ghost use Rattle.std.specs.Io.{ReadsAtMost};
 ghost use Rattle.std.specs.Result.{is_ok};
 ghost use Rattle.std.specs.Io.KnownBytes.{Appends, Consumes, IsAtEnd, ReadConsumes};
@@ -11,133 +10,26 @@ ghost use Rattle.desk_store.specs.StoreFrames.{Remembers};
 ghost use Rattle.desk_store.specs.World.{World};
 ghost use Rattle.desk_store.specs.StoreFaults.{IsHonest};
 ghost use Rattle.desk_run.specs.DeskWorld.{IsSettled, world_of};
+ghost use Rattle.desk_ends.specs.Moments.{IsMoment};
+ghost use Rattle.desk_ends.specs.declared.serving.ServeFault.TheVariants as serve_fault;
 ghost use Rattle.desk_wire.specs.Causes.{HasFailed, IsGivenUp};
 ghost use Rattle.desk_wire.specs.Crashes.{IsCertain, IsFoundNow, IsLeftBy};
-ghost use Rattle.desk_wire.specs.Moments.{IsMoment};
-ghost use Rattle.desk_wire.specs.Serving.{BreaksOff, HasServed, IsTaken, Stops};
+ghost use Rattle.desk_wire.specs.Serving.{HasServed, IsTaken, Stops};
 ghost use Rattle.desk_wire.specs.Streams.{IsCut, IsFront, byte_list, front_read, front_reading, size_said, with_body};
-ghost use Rattle.desk_wire.specs.declared.stream.ServeFault.TheVariants as serve_fault;
 
 use crate::answering::answer_request;
+use desk_ends::{ServeFault, Served, is_interruption, write_whole};
 use desk_reading::{Front, HEAD_ROOM, Message, WireFault, is_ended, read_front};
 use desk_run::Desk;
 use desk_store::PlanStore;
-use std::alloc::{AllocError, Global};
-use std::error::Error;
-use std::fmt;
-use std::io::{self, ErrorKind, Read, Write};
+use std::alloc::Global;
+use std::io::{self, Read, Write};
 
 /// The most reads that one request may take.
 const MAX_READS: u32 = 200_000;
 
-/// How many writes an answer may take beside one for each of its bytes.
-const SPARE_WRITES: usize = 1_000;
-
 /// How many bytes of a body are read at a time, at most.
 const CHUNK: usize = 4_096;
-
-/// Why the writing of bytes ended.
-#[derive(Clone, Copy, Debug, PartialEq, Eq)]
-pub enum WriteEnd {
-    /// All bytes are written.
-    Whole,
-    /// A write failed, and was not just interrupted.
-    Failed,
-    /// A write took nothing.
-    Nothing,
-    /// There were as many writes as the bytes and 1,000, and bytes are left.
-    Limit,
-}
-
-/// The writing of bytes that broke off before the last of them. Only `write_whole` makes one, so what has one
-/// has asked a writer.
-#[derive(Clone, Copy, Debug, PartialEq, Eq)]
-pub struct WriteFault {
-    sent: usize,
-    end: WriteEnd,
-}
-
-impl WriteFault {
-    /// How many bytes were written: the first ones.
-    pub fn sent(self) -> usize
-        ensures { result ≡ self.sent }
-    {
-        self.sent
-    }
-
-    /// Why no more were: another end than `Whole`.
-    pub fn end(self) -> WriteEnd
-        ensures { result ≡ self.end }
-    {
-        self.end
-    }
-}
-
-// How many bytes were written, the first ones, and why no more were.
-#[derive(Clone, Copy)]
-struct Written {
-    sent: usize,
-    end: WriteEnd,
-}
-
-/// What came of one request of a stream.
-#[derive(Clone, Copy, Debug, PartialEq, Eq)]
-pub enum Served {
-    /// It was answered with this status. It is `framed` if the place of the next request is known.
-    Answered { status: u16, framed: bool },
-    /// The input ended before any byte.
-    End,
-}
-
-/// Why a request of a stream has no whole answer.
-#[derive(Clone, Copy, Debug, PartialEq, Eq)]
-pub enum ServeFault {
-    /// A read failed, or the request takes more than 200,000 reads.
-    Read,
-    /// The writing of the answer broke off. The change of the request stands.
-    Write(WriteFault),
-    /// The input ended inside a request. Nothing was written or changed.
-    CutShort,
-    /// Memory ran out. Nothing was written or changed.
-    OutOfMemory,
-}
-
-impl fmt::Display for ServeFault {
-    ghost use Rattle.std.specs.Prelude.{Some};
-    ghost use Rattle.desk_wire.specs.Serving.{fault_text};
-
-    ghost output = { λ fault. Some (fault_text fault) };
-
-    fn fmt<W: fmt::Write>(&self, f: &mut fmt::Formatter<W>) -> fmt::Result {
-        match self {
-            ServeFault::Read => f.write_str("a read failed"),
-            ServeFault::Write(fault) => {
-                let sent = fault.sent;
-                write!(f, "a write failed after {sent} bytes")
-            }
-            ServeFault::CutShort => f.write_str("the input ended inside a request"),
-            ServeFault::OutOfMemory => f.write_str("out of memory"),
-        }
-    }
-}
-
-impl Error for ServeFault {}
-
-impl From<WriteFault> for ServeFault {
-    ghost from_gives = { λ fault e. e ≡ serve_fault.Write fault };
-
-    fn from(fault: WriteFault) -> ServeFault {
-        ServeFault::Write(fault)
-    }
-}
-
-impl From<AllocError> for ServeFault {
-    ghost from_gives = { λ _ e. e ≡ serve_fault.OutOfMemory };
-
-    fn from(_error: AllocError) -> ServeFault {
-        ServeFault::OutOfMemory
-    }
-}
 
 /// Reads one request, the head byte by byte, and leaves the rest unread; answers it at a moment (a
 /// Unix second from 0 to 253,370,764,800), and writes the answer. Interrupted reads and writes are
@@ -325,13 +217,6 @@ fn receive_some<R: Read>(
     Err(ServeFault::Read)
 }
 
-// Whether what failed so is tried again.
-fn is_interruption(error: &io::Error) -> bool
-    ensures { IsTrue result ↔ (error_kind error.now ≡ ErrorKind.Interrupted) }
-{
-    error.kind() == ErrorKind::Interrupted
-}
-
 // Reads once, and takes one from the reads that are left, whatever comes of it.
 fn read_counted<R: Read>(input: &mut R, room: &mut [u8], left: &mut u32) -> io::Result<usize>
     requires { 0 < left.old }
@@ -341,67 +226,4 @@ fn read_counted<R: Read>(input: &mut R, room: &mut [u8], left: &mut u32) -> io::
 {
     *left -= 1;
     input.read(room)
-}
-
-/// Writes all bytes, in at most as many writes as they are and 1,000.
-///
-/// # Errors
-///
-/// How many bytes were written, and why no more were.
-#[tactic(auto, using(crate::proofs::StreamLemmas::written_all))]
-pub fn write_whole<W: Write>(output: &mut W, bytes: &[u8]) -> Result<(), WriteFault>
-    ensures ok { OnOk result (Appends (W.contents output.old) (W.contents output.new) bytes.now) }
-    ensures err { IfErr result (BreaksOff bytes.now (W.contents output.old) (W.contents output.new)) }
-{
-    let Written { sent, end } = write_most(output, bytes);
-    if end == WriteEnd::Whole {
-        Ok(())
-    } else {
-        Err(WriteFault { sent, end })
-    }
-}
-
-// Writes the first bytes, as many as the output takes in so many writes.
-fn write_most<W: Write>(output: &mut W, bytes: &[u8]) -> Written
-    ensures written { Appends (W.contents output.old) (W.contents output.new)
-        (take result.sent bytes.now) }
-    ensures within { result.sent ≤ length bytes.now }
-    ensures whole { (result.end ≡ WriteEnd.Whole) ↔ (result.sent ≡ length bytes.now) }
-{
-    let mut sent = 0;
-    for _ in 0..bytes.len().saturating_add(SPARE_WRITES) {
-        if sent == bytes.len() {
-            return Written {
-                sent,
-                end: WriteEnd::Whole,
-            };
-        }
-        match output.write(&bytes[sent..]) {
-            Ok(0) => return Written {
-                sent,
-                end: WriteEnd::Nothing,
-            },
-            Ok(count) => sent += count,
-            Err(error) if is_interruption(&error) => {}
-            Err(_) => return Written {
-                sent,
-                end: WriteEnd::Failed,
-            },
-        }
-    }
-    Written {
-        sent,
-        end: end_at_limit(sent, bytes.len()),
-    }
-}
-
-// Why the writing ended after the last write that it may take.
-fn end_at_limit(sent: usize, length: usize) -> WriteEnd
-    ensures { (result ≡ WriteEnd.Whole) ↔ (sent ≡ length) }
-{
-    if sent == length {
-        WriteEnd::Whole
-    } else {
-        WriteEnd::Limit
-    }
 }

@@ -7,8 +7,8 @@ ghost use Rattle.uss_desk.specs.Naming.{Follows, Free, LeavesNames};
 
 use crate::naming::Folder;
 use crate::opening::{Opened, OpenedDesk};
+use desk_ends::write_whole;
 use desk_line::{Database, Failure, Line};
-use desk_wire::write_whole;
 use sqlite::{Start, Unknown};
 use sqlite_std_file::OpenError;
 use std::alloc::{AllocError, Global};

@@ -1,6 +1,6 @@
 //! Where cases are played: a desk, its moment, and what their steps do.
 
-ghost use Rattle.desk_wire.specs.Moments.{IsMoment};
+ghost use Rattle.desk_ends.specs.Moments.{IsMoment};
 
 use crate::cases::ask::Ask;
 use crate::cases::shown::{ShownPlan, ShownRun};

@@ -2,13 +2,13 @@ use Rattle.std.proofs.Common.{ap, ◌∙◌, inl, inr, subst, to_z, of_z, w64}
 use Rattle.desk_store.specs.StoreFaults.{IsHonest}
 use Rattle.desk_store.specs.laws.Fault.{was_honest}
 use Rattle.desk_run.specs.DeskWorld.{world_of}
+use Rattle.desk_ends.specs.laws.Moment.{same_moment}
 use Rattle.desk_wire.specs.Playing.{HasPlayed}
 use Rattle.desk_line.specs.Exits.{EndsWith, ending}
 use Rattle.desk_program.specs.Enrolling.{AreListedSoFar, permitting, with_operators}
 use Rattle.desk_program.specs.Keeping.{AreKeptSoFar}
 use Rattle.desk_program.proofs.EndLemmas.{not_played}
 use Rattle.desk_program.proofs.KeepingLemmas.{run_kept}
-use Rattle.desk_program.proofs.MomentLemmas.{same_moment}
 use Rattle.desk_program.proofs.program.play_line.Goals as goal
 
 pub returns-in-Err-clause-played : goal.returns-in-Err-clause-played

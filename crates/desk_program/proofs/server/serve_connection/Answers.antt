@@ -1,10 +1,10 @@
 use Rattle.std.proofs.Common.{◌∷◌, [], refl, sym, subst}
 use Rattle.desk_store.specs.StoreFaults.{IsHonest}
 use Rattle.desk_run.specs.DeskWorld.{world_of}
+use Rattle.desk_ends.specs.laws.Moment.{same_moment}
 use Rattle.desk_wire.specs.Crashes.{IsFoundNow}
 use Rattle.desk_wire.specs.Serving.{HasServed, IsTaken}
 use Rattle.desk_program.specs.Serving.{Grows, arrived, parted}
-use Rattle.desk_program.proofs.MomentLemmas.{same_moment}
 use Rattle.desk_program.proofs.KeepingLemmas.{none_kept, one_kept}
 use Rattle.desk_program.proofs.ServedLemmas.{stops}
 use Rattle.desk_program.proofs.server.serve_connection.Goals as goal

@@ -3,8 +3,8 @@ use Rattle.std.proofs.lemmas.List.{length-append, length-map}
 use Rattle.desk_reading.specs.Messages.{message_read}
 use Rattle.desk_store.specs.laws.Fault.{was_honest}
 use Rattle.desk_run.specs.DeskWorld.{world_of}
+use Rattle.desk_ends.specs.laws.Moment.{moment_at, is_moment_at, same_moment}
 use Rattle.desk_wire.specs.AllAnswers.{AreBroken}
-use Rattle.desk_wire.proofs.MomentLemmas.{moment_at, is_moment_at, same_moment}
 use Rattle.desk_wire.specs.declared.batch.AnswersEnd.TheVariants.{All, Broken, NoMemory}
 use Rattle.desk_wire.proofs.GivenLemmas.{given_quiet}
 use Rattle.desk_wire.specs.Crashes.{IsFoundIn}

@@ -2,7 +2,7 @@
 use Rattle.std.proofs.Common.{SFits, ◌≡◌, ℤ, List, All, arith, sym, subst, w64, to_z, of_z, get_or, length, ◌<◌, ℕ}
 use Rattle.std.proofs.lemmas.Int.{to_z-of_z, ints}
 use Rattle.std.proofs.lemmas.List.Elements.{All-get_or}
-use Rattle.desk_wire.specs.Moments.{IsMoment}
+use Rattle.desk_ends.specs.Moments.{IsMoment}
 
 fits : (z : ℤ) → IsMoment z → SFits w64 z
 fits z h = record { sfits = grind (arith, ints, h.0, h.1) }

@@ -1,6 +1,5 @@
 //! Pictures of covers (SVG): the squares of the face round a rectangle, the cells of its cover, and the
 //! order in which the curve goes through them.
-#![tactic(auto)]
 
 ghost use Rattle.std.specs.Prelude.{◌<◌, ◌≤◌};
 

@@ -1,6 +1,6 @@
 use Rattle.std.proofs.Common.{◌≤◌, length, take}
 use Rattle.std.specs.Io.KnownBytes.{Appends}
-use Rattle.desk_wire.proofs.stream.write_most.Given as goal
+use Rattle.desk_ends.proofs.writing.write_most.Given as goal
 
 -- the first `sent` bytes are written
 abbrev pub invariant-loop : goal.invariant-loop

@@ -1,9 +1,9 @@
 use Rattle.std.proofs.Common.{◌≤◌, ◌-◌, length, take, drop, sym, subst, arith}
 use Rattle.std.specs.Io.KnownBytes.{Appends}
 use Rattle.std.proofs.KnownBytes.{Appends-kept}
-use Rattle.desk_wire.proofs.StreamLemmas.{length_rest, rest_is, written_bound, written_more, written_none}
-use Rattle.desk_wire.proofs.stream.write_most.Goals as goal
-use Rattle.desk_wire.proofs.stream.write_most.Goals.{in-Ok, in-Err}
+use Rattle.desk_ends.proofs.WritingLemmas.{length_rest, rest_is, written_bound, written_more, written_none}
+use Rattle.desk_ends.proofs.writing.write_most.Goals as goal
+use Rattle.desk_ends.proofs.writing.write_most.Goals.{in-Ok, in-Err}
 
 pub returns-in-Ok-eq0-clause-written : goal.returns-in-Ok-eq0-clause-written
 returns-in-Ok-eq0-clause-written g c =

@@ -1,0 +1,2 @@
+-- Laws of the definitions, with their proofs: checked, and not to be read.
+pub mod Moment

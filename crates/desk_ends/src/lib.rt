@@ -1,0 +1,12 @@
+//! How the writing of bytes ends, a request of a stream, and a run over one; and which seconds are moments.
+#![tactic(auto)]
+
+mod interruption;
+mod playing;
+mod serving;
+mod writing;
+
+pub use interruption::is_interruption;
+pub use playing::PlayEnd;
+pub use serving::{ServeFault, Served};
+pub use writing::{WriteEnd, WriteFault, write_whole};
