@@ -14,5 +14,6 @@ mod store;
 
 pub use opening::files::{Copied, FilesFault, copy_from, look_at};
 pub use opening::looking::{Holdings, look_into};
+pub use opening::naming::{PartFault, first_fault, part_at};
 pub use opening::open::{AdoptFault, OpenFault};
 pub use store::SqliteStore;

@@ -8,6 +8,7 @@ pub(crate) mod files;
 pub(crate) mod finding;
 pub(crate) mod looking;
 pub(crate) mod moving;
+pub(crate) mod naming;
 pub(crate) mod open;
 pub(crate) mod ordering;
 pub(crate) mod path;

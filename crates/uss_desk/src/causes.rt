@@ -9,6 +9,7 @@ use crate::naming::Folder;
 use crate::opening::{Opened, OpenedDesk};
 use desk_ends::write_whole;
 use desk_line::{Database, Failure, Line};
+use desk_tables::{PartFault, part_at};
 use sqlite::{Start, Unknown};
 use sqlite_std_file::OpenError;
 use std::alloc::{AllocError, Global};
@@ -45,7 +46,7 @@ pub fn tell<E: Write>(rt: &HostRuntime, path: &str, failure: Failure, errors: &m
 {
     let cause = match failure {
         Failure::Store => store_cause(rt, path),
-        Failure::NotADesk => "no table, other tables than a desk's, or rows of no content",
+        Failure::NotADesk => desk_cause(rt, path),
         Failure::OldSchema => "rows of schema 1: migrate it",
         _ => return,
     };
@@ -55,9 +56,9 @@ pub fn tell<E: Write>(rt: &HostRuntime, path: &str, failure: Failure, errors: &m
 /// Tells that a desk has no operator: that in the file at the path, or one in memory. A fault of the stream
 /// is passed over.
 pub fn tell_unenrolled(rt: &HostRuntime, path: Option<&str>) {
-    let path = path.unwrap_or(":memory:");
+    let place = path.unwrap_or("in memory");
     let text = "no operator is enrolled, so each request is answered 403";
-    tell_of(rt.alloc(), path, text, &mut rt.stderr());
+    tell_of(rt.alloc(), place, text, &mut rt.stderr());
 }
 
 /// Prints `uss_desk: PATH: TEXT`. A fault of the writer is passed over, and so is want of memory.
@@ -109,6 +110,32 @@ pub fn room_cause(rt: &HostRuntime, path: &str) -> Option<&'static str> {
             ErrorKind::PermissionDenied => "no right to make it",
             _ => "it can't be made",
         }),
+    }
+}
+
+// Why a file holds no desk, if that is found once more.
+fn desk_cause(rt: &HostRuntime, path: &str) -> &'static str {
+    match part_at(rt, path) {
+        Some(part) => part_cause(part),
+        None => "no table, other tables than a desk's, or rows of no content",
+    }
+}
+
+// Which part of a file is that of no desk.
+fn part_cause(part: PartFault) -> &'static str {
+    match part {
+        PartFault::NoTable => "no table",
+        PartFault::OtherTables => "other tables than a desk's",
+        PartFault::BothSchemas => "rows of schema 1 beside rows of schema 2",
+        PartFault::Operator => "rows of no content in operator",
+        PartFault::Plan => "rows of no content in plan",
+        PartFault::Plans => "more plans of an operator in plan than it may have",
+        PartFault::Volume => "rows of no content in volume2",
+        PartFault::Cover => "covers of no content in volume2",
+        PartFault::Span => "rows of no content in span2",
+        PartFault::OldVolume => "rows of no content in volume",
+        PartFault::OldSpan => "rows of no content in span",
+        PartFault::OldPlan => "plans beyond the limits of schema 1 in volume",
     }
 }
 

@@ -136,8 +136,12 @@ fn are_content(
     spans_agree(plans, spans)
 }
 
-// The operators whose rows these are.
-fn operators_in(alloc: Global, rows: &[Row]) -> Result<Vec<ListedOperator>, RowFault>
+/// The operators whose rows these are.
+///
+/// # Errors
+///
+/// Those of `content_in`.
+pub(crate) fn operators_in(alloc: Global, rows: &[Row]) -> Result<Vec<ListedOperator>, RowFault>
     ensures ok { IfOk result (λ operators. AreOperatorRows operators.items rows.now) }
     ensures none { IfErr result (λ e. e ≡ RowFault.NoDesk →
         (ls : List Listed) → ¬ AreOperatorRows ls rows.now) }
@@ -151,8 +155,12 @@ fn operators_in(alloc: Global, rows: &[Row]) -> Result<Vec<ListedOperator>, RowF
     Ok(operators)
 }
 
-// The plans whose rows these are, and those of their volumes.
-fn plans_in(alloc: Global, head_rows: &[Row], volumes: &[Row]) -> Result<Vec<FiledPlan>, RowFault>
+/// The plans whose rows these are, and those of their volumes.
+///
+/// # Errors
+///
+/// Those of `content_in`.
+pub(crate) fn plans_in(alloc: Global, head_rows: &[Row], volumes: &[Row]) -> Result<Vec<FiledPlan>, RowFault>
     ensures ok { IfOk result (λ plans. ArePlanRows plans.items head_rows.now volumes.now) }
     ensures none { IfErr result (λ e. e ≡ RowFault.NoDesk → (ps : List Filed) →
         IsStrictlySortedBy filed_cmp ps → ¬ ArePlanRows ps head_rows.now volumes.now) }
@@ -247,8 +255,8 @@ fn own_spans(plan: &FiledPlan, rows: &[Row]) -> usize
     count_of(rows, plan.operator.as_bytes(), id.as_bytes())
 }
 
-// Whether the names of operators ascend.
-fn names_ascend(operators: &[ListedOperator]) -> bool
+/// Whether the names of operators ascend.
+pub(crate) fn names_ascend(operators: &[ListedOperator]) -> bool
     ensures { IsTrue result ↔ IsStrictlySortedBy listed_cmp operators.now }
 {
     let mut left = operators;
@@ -271,8 +279,8 @@ fn name_is_below(one: &ListedOperator, others: &[ListedOperator]) -> bool
     }
 }
 
-// Whether plans ascend by operator and id.
-fn keys_ascend(plans: &[FiledPlan]) -> bool
+/// Whether plans ascend by operator and id.
+pub(crate) fn keys_ascend(plans: &[FiledPlan]) -> bool
     ensures { IsTrue result ↔ IsStrictlySortedBy filed_cmp plans.now }
 {
     let mut left = plans;
@@ -298,8 +306,8 @@ fn key_is_below(one: &FiledPlan, others: &[FiledPlan]) -> bool
     }
 }
 
-// Whether each plan's operator is among these, and none has more than `MAX_PLANS` plans.
-fn are_shared(operators: &[ListedOperator], plans: &[FiledPlan]) -> bool
+/// Whether each plan's operator is among these, and none has more than `MAX_PLANS` plans.
+pub(crate) fn are_shared(operators: &[ListedOperator], plans: &[FiledPlan]) -> bool
     requires names { IsStrictlySortedBy listed_cmp operators.now }
     requires keys { IsStrictlySortedBy filed_cmp plans.now }
     ensures { IsTrue result ↔ AreShared operators.now plans.now }

@@ -31,7 +31,7 @@ use volume4d::Slab;
 // How many columns a row of each table has.
 const OPERATOR_WIDTH: usize = 2;
 
-const PLAN_WIDTH: usize = 5;
+pub(crate) const PLAN_WIDTH: usize = 5;
 
 const VOLUME_WIDTH: usize = 8;
 
@@ -165,8 +165,8 @@ pub(crate) fn are_spans(plan: &FiledPlan, rows: &[Row]) -> Result<bool, AllocErr
     Ok(rest.is_empty())
 }
 
-// The operator whose name stands in the first column, if it is one's.
-fn operator_in(row: &Row) -> Option<Operator>
+/// The operator whose name stands in the first column, if it is one's.
+pub(crate) fn operator_in(row: &Row) -> Option<Operator>
     ensures { MatchOption result
         ((name : List ℕ) → IsTrue (is_operator_name name) → column row.now 0 ≢ Text name)
         (λ name. IsTrue (is_operator_name name) × (column row.now 0 ≡ Text name)) }

@@ -298,9 +298,9 @@ fn content_of(alloc: Global, rows: &TableRows) -> Result<(Content, Known), OpenF
     Ok((content, known))
 }
 
-// The rows of the tables of schema 2, each by the columns of its key; of those that aren't made none.
+/// The rows of the tables of schema 2, each by the columns of its key; of those that aren't made none.
 #[tactic(auto, using(crate::proofs::FrameLemmas::reads_then, crate::proofs::OpeningLemmas::part_on))]
-fn rows_in<S: Alter>(
+pub(crate) fn rows_in<S: Alter>(
     alloc: Global,
     connection: &mut Connection<S>,
     made: TablesPresent,

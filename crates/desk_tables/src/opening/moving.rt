@@ -248,8 +248,8 @@ pub(crate) fn load_old_tables<S: Alter>(
     old_content_in(alloc, &rows)
 }
 
-// Whether the tables that schema 2 has alone have no row.
-fn are_new_empty<S: Alter>(
+/// Whether the tables that schema 2 has alone have no row.
+pub(crate) fn are_new_empty<S: Alter>(
     alloc: Global,
     connection: &mut Connection<S>,
     made: TablesPresent,
@@ -276,9 +276,9 @@ fn are_empty(one: &[Row], two: &[Row], three: &[Row]) -> bool
     one.is_empty() && two.is_empty() && three.is_empty()
 }
 
-// The rows of schema 1's tables, each by the columns of its key; of those that aren't made none. The covers
-// are none.
-fn old_rows_in<S: Alter>(
+/// The rows of schema 1's tables, each by the columns of its key; of those that aren't made none. The covers
+/// are none.
+pub(crate) fn old_rows_in<S: Alter>(
     alloc: Global,
     connection: &mut Connection<S>,
     made: TablesPresent,
@@ -332,8 +332,8 @@ fn old_content_in(alloc: Global, rows: &TableRows) -> Result<(Content, Known), O
     Ok((content, known))
 }
 
-// Whether plans are within the limits of schema 1.
-fn are_old(plans: &[FiledPlan]) -> Result<bool, AllocError>
+/// Whether plans are within the limits of schema 1.
+pub(crate) fn are_old(plans: &[FiledPlan]) -> Result<bool, AllocError>
     ensures { IfOk result (λ are. IsTrue are ↔ AllByRecursion (λ p. IsOldArea p.row.area) plans.now) }
 {
     let mut left = plans;

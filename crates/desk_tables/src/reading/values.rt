@@ -165,8 +165,12 @@ fn text_at(row: &Row, at: usize) -> Result<String, StoreFault>
     }
 }
 
-// The id in the second column.
-fn id_in(row: &Row) -> Result<PlanId, StoreFault>
+/// The id in the second column.
+///
+/// # Errors
+///
+/// `OutOfMemory` if memory runs out. `Store` if it is no id.
+pub(crate) fn id_in(row: &Row) -> Result<PlanId, StoreFault>
     ensures value { IfOk result (λ found. (id : List ℕ) → IsId id
         → column row.now 1 ≡ Text (id_text id) → found ≡ id) }
     ensures is { IfOk result (λ found. IsId found) }

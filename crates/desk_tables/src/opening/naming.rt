@@ -1,0 +1,229 @@
+//! Which part of a database is that of no desk: what a keeper is told of files that were refused. It is
+//! found afterwards, by the tests that refuse a database, in their order. Nothing is changed, and no clause
+//! says which part is named.
+
+ghost use Rattle.std.specs.Prelude.{◌≡◌, ◌≢◌, false};
+ghost use Rattle.sqlite.specs.Held.{IsNew};
+ghost use Rattle.desk_sql.specs.Frames.{OnlyReads};
+ghost use Rattle.desk_sql.specs.Finding.{Holds};
+ghost use Rattle.desk_sql.specs.Rows.{IsMadeTo};
+
+use crate::opening::content::{
+    TableRows, are_shared, content_in, keys_ascend, names_ascend, operators_in, plans_in,
+};
+use crate::opening::covers::covers_agree;
+use crate::opening::exact::{PLAN_WIDTH, RowFault, is_keyed, operator_in};
+use crate::opening::finding::{rows_in, tables_found};
+use crate::opening::moving::{are_new_empty, are_old, old_rows_in};
+use crate::opening::open::OpenFault;
+use crate::opening::path::connect_there;
+use crate::reading::values::{count_at, head_in, id_in};
+use desk_rules::decide::MAX_PRIORITY;
+use desk_sql::TablesPresent;
+use sqlite::{Connection, FileStore, Row, Unknown};
+use sqlite_disk::Disk;
+use sqlite_trees::store::Alter;
+use std::alloc::Global;
+
+/// A part of a database that is that of no desk.
+#[derive(Clone, Copy, Debug, PartialEq, Eq)]
+pub enum PartFault {
+    /// There is no table.
+    NoTable,
+    /// There are other tables than a desk's.
+    OtherTables,
+    /// There are rows of schema 1 and rows of schema 2.
+    BothSchemas,
+    /// A row of `operator`.
+    Operator,
+    /// A row of `plan`.
+    Plan,
+    /// The plans of an operator, which are more than it may have; or plans of no operator.
+    Plans,
+    /// The rows of `volume2`.
+    Volume,
+    /// The covers in `volume2`.
+    Cover,
+    /// The rows of `span2`.
+    Span,
+    /// The rows of `volume`, of schema 1.
+    OldVolume,
+    /// The rows of `span`, of schema 1.
+    OldSpan,
+    /// A plan of schema 1, which is beyond the limits of that.
+    OldPlan,
+}
+
+/// The first part of the files at a path that is that of no desk. None if there is none, or if the files
+/// can't be read.
+pub fn part_at(rt: &HostRuntime, path: &str) -> Option<PartFault> {
+    match connect_there(rt, path, Unknown) {
+        Ok(connection) => part_in(rt.alloc(), connection),
+        Err(_) => None,
+    }
+}
+
+// The first part of the files of a connection, on whatever disk they are.
+fn part_in<D: Disk + Drop>(
+    alloc: Global,
+    mut connection: Connection<FileStore<D>>,
+) -> Option<PartFault>
+    requires { IsNew connection }
+{
+    first_fault(alloc, &mut connection)
+}
+
+/// The first part of a database that is that of no desk. None if there is none, or if the database can't be
+/// read.
+pub fn first_fault<S: Alter>(alloc: Global, connection: &mut Connection<S>) -> Option<PartFault>
+    requires settled { connection.old.in_transaction ≡ false }
+    ensures { OnlyReads S.Store connection.old connection.new }
+{
+    let (made, old) = match tables_found(connection) {
+        Ok(found) => found,
+        Err(OpenFault::NotADesk) => return Some(PartFault::OtherTables),
+        Err(_) => return None,
+    };
+    if made == TablesPresent::Nothing {
+        return Some(PartFault::NoTable);
+    }
+    if old {
+        old_fault(alloc, connection, made)
+    } else {
+        new_fault(alloc, connection, made)
+    }
+}
+
+// The first part of tables without rows of schema 1.
+#[tactic(auto, using(crate::proofs::OpeningLemmas::some_operators))]
+fn new_fault<S: Alter>(
+    alloc: Global,
+    connection: &mut Connection<S>,
+    made: TablesPresent,
+) -> Option<PartFault>
+    requires part { Holds S.Store connection.old (IsMadeTo made) }
+    requires some { made ≢ TablesPresent.Nothing }
+    requires settled { connection.old.in_transaction ≡ false }
+    ensures { OnlyReads S.Store connection.old connection.new }
+{
+    match rows_in(alloc, connection, made) {
+        Ok(rows) => fault_of_rows(alloc, &rows),
+        Err(_) => None,
+    }
+}
+
+// The first part of tables with rows of schema 1.
+#[tactic(auto, using(crate::proofs::OpeningLemmas::some_operators))]
+fn old_fault<S: Alter>(
+    alloc: Global,
+    connection: &mut Connection<S>,
+    made: TablesPresent,
+) -> Option<PartFault>
+    requires part { Holds S.Store connection.old (IsMadeTo made) }
+    requires some { made ≢ TablesPresent.Nothing }
+    requires settled { connection.old.in_transaction ≡ false }
+    ensures { OnlyReads S.Store connection.old connection.new }
+{
+    match are_new_empty(alloc, connection, made) {
+        Ok(true) => {}
+        Ok(false) => return Some(PartFault::BothSchemas),
+        Err(_) => return None,
+    }
+    match old_rows_in(alloc, connection, made) {
+        Ok(rows) => fault_of_old_rows(alloc, &rows),
+        Err(_) => None,
+    }
+}
+
+// The first part of the rows of schema 2.
+fn fault_of_rows(alloc: Global, rows: &TableRows) -> Option<PartFault> {
+    match content_in(alloc, rows) {
+        Ok(content) => match covers_agree(alloc, &content.plans, &rows.covers) {
+            Ok(false) => Some(PartFault::Cover),
+            _ => None,
+        },
+        Err(RowFault::NoDesk) => part_of(alloc, rows, PartFault::Volume, PartFault::Span),
+        Err(RowFault::OutOfMemory) => None,
+    }
+}
+
+// The first part of the rows of schema 1.
+fn fault_of_old_rows(alloc: Global, rows: &TableRows) -> Option<PartFault> {
+    match content_in(alloc, rows) {
+        Ok(content) => match are_old(&content.plans) {
+            Ok(false) => Some(PartFault::OldPlan),
+            _ => None,
+        },
+        Err(RowFault::NoDesk) => part_of(alloc, rows, PartFault::OldVolume, PartFault::OldSpan),
+        Err(RowFault::OutOfMemory) => None,
+    }
+}
+
+// The first part of rows that are those of no content but for covers: the spans, if it is no other.
+fn part_of(
+    alloc: Global,
+    rows: &TableRows,
+    volume: PartFault,
+    span: PartFault,
+) -> Option<PartFault> {
+    let operators = match operators_in(alloc, &rows.operators) {
+        Ok(operators) => operators,
+        Err(fault) => return if_no_desk(fault, PartFault::Operator),
+    };
+    let plans = match plans_in(alloc, &rows.plans, &rows.volumes) {
+        Ok(plans) => plans,
+        Err(fault) => return if_no_desk(fault, plan_or(volume, &rows.plans)),
+    };
+    if !names_ascend(&operators) {
+        return Some(PartFault::Operator);
+    }
+    if !keys_ascend(&plans) {
+        return Some(PartFault::Plan);
+    }
+    if !are_shared(&operators, &plans) {
+        return Some(PartFault::Plans);
+    }
+    Some(span)
+}
+
+// The part whose rows were not read, if they are no desk's.
+fn if_no_desk(fault: RowFault, part: PartFault) -> Option<PartFault> {
+    match fault {
+        RowFault::NoDesk => Some(part),
+        RowFault::OutOfMemory => None,
+    }
+}
+
+// The plans, if one of these rows of `plan` is none; else the volumes.
+fn plan_or(volume: PartFault, heads: &[Row]) -> PartFault {
+    match test_heads(heads) {
+        Err(RowFault::NoDesk) => PartFault::Plan,
+        _ => volume,
+    }
+}
+
+// Whether each of these rows is one of `plan`, whatever its volumes are.
+fn test_heads(heads: &[Row]) -> Result<(), RowFault> {
+    for head in heads {
+        test_head(head)?;
+    }
+    Ok(())
+}
+
+// Whether a row is one of `plan`, whatever its volumes are.
+fn test_head(head: &Row) -> Result<(), RowFault> {
+    let Some(operator) = operator_in(head) else {
+        return Err(RowFault::NoDesk);
+    };
+    head_in(head)?;
+    if count_at(head, 2)? > MAX_PRIORITY {
+        return Err(RowFault::NoDesk);
+    }
+    let id = id_in(head)?;
+    let mut buffer = [0u8; 36];
+    if is_keyed(head, operator.as_str(), id.encode(&mut buffer), PLAN_WIDTH) {
+        Ok(())
+    } else {
+        Err(RowFault::NoDesk)
+    }
+}
