@@ -160,7 +160,11 @@ pub(crate) fn operators_in(alloc: Global, rows: &[Row]) -> Result<Vec<ListedOper
 /// # Errors
 ///
 /// Those of `content_in`.
-pub(crate) fn plans_in(alloc: Global, head_rows: &[Row], volumes: &[Row]) -> Result<Vec<FiledPlan>, RowFault>
+pub(crate) fn plans_in(
+    alloc: Global,
+    head_rows: &[Row],
+    volumes: &[Row],
+) -> Result<Vec<FiledPlan>, RowFault>
     ensures ok { IfOk result (λ plans. ArePlanRows plans.items head_rows.now volumes.now) }
     ensures none { IfErr result (λ e. e ≡ RowFault.NoDesk → (ps : List Filed) →
         IsStrictlySortedBy filed_cmp ps → ¬ ArePlanRows ps head_rows.now volumes.now) }
