@@ -5,4 +5,5 @@ pub mod CallLemmas
 pub mod RunLemmas
 pub mod ClearLemmas
 pub mod ClusterLemmas
+pub mod PieceLemmas
 pub mod ListingLemmas

@@ -5,6 +5,7 @@ pub mod Verdicts
 pub mod Calls
 pub mod Clusters
 pub mod Listing
+pub mod Pieces
 pub mod Runs
 pub mod Sides
 pub mod TwoRuns

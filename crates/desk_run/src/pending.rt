@@ -25,6 +25,7 @@ mod delete;
 mod listing;
 mod near;
 mod own;
+mod pieces;
 mod put;
 mod show;
 

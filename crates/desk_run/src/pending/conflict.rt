@@ -9,13 +9,13 @@ ghost use Rattle.desk_rules.specs.Permission.{least_blocking};
 ghost use Rattle.desk_run.specs.Verdicts.{conflict_in};
 ghost use Rattle.desk_run.specs.Clusters.{IsFirstAmong};
 
-use desk_rules::conflict::first_conflict;
+use super::pieces::first_in;
 use desk_rules::laws::conflict_among_slabs;
 use desk_rules::operator::Operator;
 use desk_rules::permission::Permitted;
 use desk_rules::plan_id::PlanId;
 use desk_store::{PlanStore, StoreFault};
-use volume4d::{Area, Meeting, Slab, bounds_of, split_cluster};
+use volume4d::{Area, Meeting, Slab, split_cluster};
 
 // A gap between two slabs is wide if it is more than this part of the way from the first to the last. So a
 // plan that lies close together has at most this many clusters and one.
@@ -81,26 +81,6 @@ pub fn wide_gap(slabs: &[Slab]) -> u64 {
         [first, .., last] => (last.first.saturating_sub(first.first) / GAPS).min(WIDEST),
         _ => 0,
     }
-}
-
-// The first blocked point among slabs that lie close to each other.
-fn first_in<S: PlanStore>(
-    store: &mut S,
-    permitted: &Permitted,
-    operator: &Operator,
-    id: &PlanId,
-    cluster: &[Slab],
-    priority: u32,
-) -> Result<Option<Meeting>, StoreFault>
-    requires { AreFilled cluster.now }
-    ensures value { IsHonest (S.doubt store.new) → IfOk result
-        (IsFirstAmong permitted.now (S.content store.old) operator.now id.now cluster.now priority) }
-    ensures reads { OnlyReads S.content S.doubt S.faults S.may_leave S.is_shielded store.old store.new }
-    ensures cause { IfErr result (IsCounted S.faults store.old store.new) }
-{
-    let extent = bounds_of(cluster);
-    let theirs = store.rivals(operator, id, least_of(permitted, priority), &extent)?;
-    Ok(first_conflict(cluster, &theirs))
 }
 
 // The least priority that blocks a plan of a priority where others hold it.

@@ -1,0 +1,43 @@
+-- Pieces of the leaves that slabs lie at, one after the other.
+use Rattle.std.specs.Prelude.{◌≡◌, ◌≤◌, ℕ, true, cond, max, min, List, Option, None}
+use Rattle.volume4d.specs.declared.slab.Slab.{Slab}
+use Rattle.volume4d.specs.declared.slab.Held.{Held}
+use Rattle.volume4d.specs.Point.{Point}
+use Rattle.volume4d.specs.Slab.{slab_has, slab_has_leaf, slabs_have, slab_window, top_held}
+use Rattle.volume4d.specs.Meeting.{Spot, IsFirst}
+use Rattle.desk_rules.specs.Bridge.{is_blocked_among}
+use Rattle.desk_store.specs.World.{World, plans_of, held, held_at}
+
+-- a slab that has the leaves of another from a position on, all or the first of them, at the same altitudes
+-- and seconds
+pub record IsPiece (whole : Slab) (position : ℕ) (piece : Slab) : Type 0 where
+  pub begins : piece.first ≡ position
+  pub some : position ≤ whole.last → position ≤ piece.last
+  pub within : piece.last ≤ whole.last
+  pub window : slab_window piece ≡ slab_window whole
+
+-- a slab with those of its leaves that a piece has
+pub record IsCut (slab piece cut : Slab) : Type 0 where
+  pub first : cut.first ≡ max slab.first piece.first
+  pub last : cut.last ≡ min slab.last piece.last
+  pub window : slab_window cut ≡ slab_window slab
+
+-- what is held at a point, if it is at a leaf of the piece
+abbrev pub at_piece : Slab → (Point → Option ℕ) → Point → Option ℕ
+at_piece piece levels x = cond (slab_has_leaf piece x.leaf) (levels x) None
+
+-- held slabs hold at a piece's leaves what others did, and nothing beside them
+abbrev pub AreCut : Slab → List Held → List Held → Type 0
+AreCut piece helds cut = (x : Point) → top_held cut x ≡ at_piece piece (top_held helds) x
+
+-- the piece has each point that slabs have at its leaves
+abbrev pub HasPart : List Slab → Slab → Type 0
+HasPart slabs piece =
+    (x : Point) → slabs_have slabs x ≡ true → slab_has_leaf piece x.leaf ≡ true → slab_has piece x ≡ true
+
+-- the first point among the slabs that is blocked by what is held at the leaves of a piece, of an operator's
+-- plan of an id with a priority, and the greatest priority that others hold there
+abbrev pub IsFirstAt : List ℕ → World → List ℕ → List ℕ → List Slab → Slab → ℕ → Option Spot → Type 0
+IsFirstAt permitted w operator id slabs piece priority spot =
+    let levels = at_piece piece (held_at (plans_of operator w) (held w operator) id) in
+    IsFirst (is_blocked_among permitted slabs levels priority) levels spot

@@ -1,0 +1,125 @@
+//! Pieces of a cluster: a long one is asked for piece by piece, in the order of its leaves.
+
+ghost use Rattle.std.specs.Prelude.{◌≡◌, ◌≤◌, ◌+◌, ◌<◌, ◌*◌, ◌^◌, IfOk, IfErr};
+ghost use Rattle.desk_store.specs.StoreFrames.{OnlyReads};
+ghost use Rattle.desk_store.specs.StoreFaults.{IsHonest, IsCounted};
+ghost use Rattle.volume4d.specs.Bounds.{AreFilled};
+ghost use Rattle.desk_run.specs.Clusters.{IsFirstAmong};
+ghost use Rattle.desk_run.specs.Pieces.{AreCut, HasPart, IsCut, IsFirstAt, IsPiece};
+
+use super::conflict::least_of;
+use desk_rules::conflict::first_conflict;
+use desk_rules::operator::Operator;
+use desk_rules::permission::Permitted;
+use desk_rules::plan_id::PlanId;
+use desk_store::{PlanStore, StoreFault};
+use volume4d::{Held, Meeting, Slab, bounds_of};
+
+// How many leaves after its first one the first piece ends: those of a cell of level 10. A cluster that is
+// no longer is one question.
+const LENGTH: u64 = 1 << 40;
+
+// How many times as long the next piece is. A face has eleven pieces at most.
+const GROWTH: u64 = 4;
+
+// The first blocked point among slabs that lie close to each other. They are asked for in pieces that grow,
+// so that nothing is read after the piece with the first blocked point, and the slabs of a plan that isn't
+// blocked are a few questions.
+pub fn first_in<S: PlanStore>(
+    store: &mut S,
+    permitted: &Permitted,
+    operator: &Operator,
+    id: &PlanId,
+    cluster: &[Slab],
+    priority: u32,
+) -> Result<Option<Meeting>, StoreFault>
+    requires { AreFilled cluster.now }
+    ensures value { IsHonest (S.doubt store.new) → IfOk result
+        (IsFirstAmong permitted.now (S.content store.old) operator.now id.now cluster.now priority) }
+    ensures reads { OnlyReads S.content S.doubt S.faults S.may_leave S.is_shielded store.old store.new }
+    ensures cause { IfErr result (IsCounted S.faults store.old store.new) }
+{
+    let whole = bounds_of(cluster);
+    let mut length = LENGTH;
+    let mut piece = piece_from(&whole, whole.first, length);
+    while piece.last < whole.last {
+        let meeting = first_at(store, permitted, operator, id, cluster, priority, &piece)?;
+        if meeting.is_some() {
+            return Ok(meeting);
+        }
+        length = length.saturating_mul(GROWTH);
+        piece = next_piece(&whole, &piece, length);
+    }
+    first_at(store, permitted, operator, id, cluster, priority, &piece)
+}
+
+// The piece after another, which doesn't reach the end.
+fn next_piece(whole: &Slab, piece: &Slab, length: u64) -> Slab
+    requires { piece.now.last < whole.now.last }
+    ensures { IsPiece whole.now (piece.now.last + 1) result }
+{
+    piece_from(whole, piece.last + 1, length)
+}
+
+// The leaves of a slab from a position on, as far as so many leaves after it.
+fn piece_from(whole: &Slab, position: u64, length: u64) -> Slab
+    requires { position < 6 * 2 ^ 60 }
+    ensures { IsPiece whole.now position result }
+{
+    Slab {
+        first: position,
+        last: position.saturating_add(length).min(whole.last),
+        lower: whole.lower,
+        upper: whole.upper,
+        start: whole.start,
+        end: whole.end,
+    }
+}
+
+// The first point among slabs that is blocked by what is held at the leaves of a piece. The slabs that a
+// store answers may reach beyond them, where it says nothing of what others hold: so they are cut.
+fn first_at<S: PlanStore>(
+    store: &mut S,
+    permitted: &Permitted,
+    operator: &Operator,
+    id: &PlanId,
+    cluster: &[Slab],
+    priority: u32,
+    piece: &Slab,
+) -> Result<Option<Meeting>, StoreFault>
+    requires { HasPart cluster.now piece.now }
+    ensures value { IsHonest (S.doubt store.new) → IfOk result (IsFirstAt permitted.now
+        (S.content store.old) operator.now id.now cluster.now piece.now priority) }
+    ensures reads { OnlyReads S.content S.doubt S.faults S.may_leave S.is_shielded store.old store.new }
+    ensures cause { IfErr result (IsCounted S.faults store.old store.new) }
+{
+    let mut theirs = store.rivals(operator, id, least_of(permitted, priority), piece)?;
+    cut_all(&mut theirs, piece);
+    Ok(first_conflict(cluster, &theirs))
+}
+
+// Cuts held slabs to a piece.
+fn cut_all(helds: &mut [Held], piece: &Slab)
+    ensures { AreCut piece.now helds.old helds.new }
+{
+    for held in helds.iter_mut() {
+        *held = Held {
+            slab: cut(&held.slab, piece),
+            priority: held.priority,
+        };
+    }
+}
+
+// A slab with those of its leaves that a piece has, which may be none.
+fn cut(slab: &Slab, piece: &Slab) -> Slab
+    ensures { IsCut slab.now piece.now result }
+{
+    Slab {
+        first: slab.first.max(piece.first),
+        last: slab.last.min(piece.last),
+        lower: slab.lower,
+        upper: slab.upper,
+        start: slab.start,
+        end: slab.end,
+    }
+}
