@@ -76,12 +76,12 @@ def line(one, other):
     return list(dict.fromkeys(way))[:CELLS]
 
 
-def flight(chance, hubs):
-    """A volume of a flight in the city."""
+def flight(chance, hubs, days=25):
+    """A volume of a flight in the city, on one of so many days."""
     hub = chance.choice(hubs)
     to = [min(max(at + chance.randrange(-REACH, REACH + 1), 0), CITY_SIDE - 1) for at in hub]
     squares = [position(CITY_LEVEL, CORNER[0] + i, CORNER[1] + j) for i, j in line(hub, to)]
-    start = datetime.datetime(2026, 6, 1, 12, 10) + datetime.timedelta(minutes=chance.randrange(25 * 24 * 60))
+    start = datetime.datetime(2026, 6, 1, 12, 10) + datetime.timedelta(minutes=chance.randrange(days * 24 * 60))
     written = [at.strftime("%Y-%m-%dT%H:%M:%SZ") for at in (start, start + datetime.timedelta(minutes=10))]
     band = chance.randrange(4) * 300
     cells = [token_of(cell_at(CITY_LEVEL, square)) for square in squares]

@@ -16,6 +16,7 @@ mod part;
 mod refusals;
 mod script;
 mod stops;
+mod stores;
 mod texts;
 
 use anyhow::Context;
@@ -27,7 +28,7 @@ use std::env;
 fn main(rt: HostRuntime) -> anyhow::Result<()> {
     let mut words = env::args(&rt)?;
     match words.nth(1) {
-        Some(name) => play::<Fuse<Memory>>(&rt, &Part::read(&name, &mut words)?),
+        Some(name) => play::<Fuse<Memory>>(&rt, &Part::read(rt.alloc(), &name, &mut words)?),
         None => play_all::<Fuse<Memory>>(&rt),
     }
 }
@@ -71,6 +72,7 @@ fn play_with<D: Fused>(rt: &HostRuntime, part: &Part, lines: &[String]) -> anyho
         Part::Stops => stops::play::<D, _>(rt.alloc(), script_of(lines, "stops")?, &mut output),
         Part::Refusals => refusals::play(rt, &mut output),
         Part::Bench { keeping, sizes } => bench::play(rt, keeping, *sizes),
+        Part::Stores { path, names } => stores::play::<D, _>(rt, path, names, &mut output),
     }
 }
 

@@ -19,11 +19,14 @@ pub enum Part {
     Refusals,
     /// `bench STORE PLANS CELLS VOLUMES`: requests that are timed.
     Bench { keeping: Keeping, sizes: Sizes },
+    /// `stores PATH NAME ..`: the stream of the standard input over a list, tables in memory and a file, with
+    /// these operators.
+    Stores { path: String, names: Vec<String> },
 }
 
 impl Part {
     /// The part of a name and the words after it.
-    pub fn read(name: &str, words: &mut env::Args) -> anyhow::Result<Part> {
+    pub fn read(alloc: Global, name: &str, words: &mut env::Args) -> anyhow::Result<Part> {
         match name {
             "cases" => Ok(Part::Cases),
             "histories" => Ok(Part::Histories {
@@ -35,6 +38,10 @@ impl Part {
             "bench" => Ok(Part::Bench {
                 keeping: Keeping::read(words)?,
                 sizes: Sizes::read(words)?,
+            }),
+            "stores" => Ok(Part::Stores {
+                path: words.next().context("PATH")?,
+                names: names_in(alloc, words)?,
             }),
             _ => bail!("no part has this name"),
         }
@@ -67,9 +74,20 @@ impl Part {
     pub fn has_script(&self) -> bool {
         match self {
             Part::Cases | Part::Stops => true,
-            Part::Histories { .. } | Part::Refusals | Part::Bench { .. } => false,
+            Part::Histories { .. } | Part::Refusals | Part::Bench { .. } | Part::Stores { .. } => {
+                false
+            },
         }
     }
+}
+
+// The words that are left.
+fn names_in(alloc: Global, words: &mut env::Args) -> Result<Vec<String>, AllocError> {
+    let mut names = Vec::new(alloc);
+    for name in words {
+        names.push(name)?;
+    }
+    Ok(names)
 }
 
 // The number that a word is.

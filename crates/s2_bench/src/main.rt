@@ -1,10 +1,10 @@
-// Times the calls of the curve, of cell ids, of normal forms and of covers over pseudo-random cells and
-// rectangles. The two arguments are how many of them, and how often each call goes over all of them, in turn
-// with the others. The least time of a call, in picoseconds, goes to standard error; the sum of all results,
-// which is the same on each run, to standard output. bench/curve compares both with those of the S2 library.
-//
-// With the words `covers` and a number it prints so many rectangles, each with the tokens of its cover, which
-// bench/s2 compares with the S2 library one by one.
+//! Times the calls of the curve, of cell ids, of normal forms and of covers over pseudo-random cells and
+//! rectangles. The two arguments are how many of them, and how often each call goes over all of them, in turn
+//! with the others. The least time of a call, in picoseconds, goes to standard error; the sum of all results,
+//! which is the same on each run, to standard output. bench/curve compares both with those of the S2 library.
+//!
+//! With the words `covers` and a number it prints so many rectangles, each with the tokens of its cover, which
+//! bench/s2 compares with the S2 library one by one.
 #![tactic(auto)]
 
 mod cells;
@@ -20,7 +20,7 @@ use std::alloc::Global;
 use std::env;
 use std::time::{Duration, Instant};
 
-// The `n`th word after the program's name, a number.
+//! The `n`th word after the program's name, a number.
 fn number(rt: &HostRuntime, n: usize) -> anyhow::Result<u32> {
     let word = env::args(rt)?.nth(n).context("an argument is missing")?;
     Ok(word.as_str().parse()?)
@@ -30,7 +30,7 @@ fn picoseconds(time: Duration, calls: usize) -> u128 {
     time.as_nanos() * 1000 / (calls.max(1) as u128)
 }
 
-// Makes all calls of a measure; the least of the times that they and those before took.
+//! Makes all calls of a measure; the least of the times that they and those before took.
 fn time_once(
     rt: &HostRuntime,
     inputs: &Inputs,

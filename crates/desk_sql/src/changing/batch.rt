@@ -1,3 +1,5 @@
+//! Rows of volumes and of spans added, and plans removed, one after the other.
+
 ghost use Rattle.std.specs.Prelude.{◌≡◌, IfErr, OnOk, OnErr, IsTrue, length, map};
 ghost use Rattle.std.specs.String.{string_bytes};
 ghost use Rattle.sqlite.specs.Effect.{IsDatabase};

@@ -1,3 +1,5 @@
+//! A statement that writes, run within a transaction.
+
 ghost use Rattle.std.specs.Prelude.{◌≡◌, true, IfOk, IfErr, OnErr, IsTrue, Ok, Err};
 ghost use Rattle.sqlite.specs.Values.{bound};
 ghost use Rattle.sqlite.specs.State.{HasCleanDisk, Executes, ExecutesInside, Shows, KeepsCommit};

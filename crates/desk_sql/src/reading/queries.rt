@@ -1,3 +1,5 @@
+//! The queries of a running desk.
+
 ghost use Rattle.std.specs.Prelude.{◌≡◌, List, [], ◌∷◌, false, IfOk, IfErr, OnOk, IsTrue, filter};
 ghost use Rattle.sqlite.specs.Order.{Row as Values};
 ghost use Rattle.sqlite.specs.State.{HasCleanDisk};

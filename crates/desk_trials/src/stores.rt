@@ -1,0 +1,51 @@
+//! A stream of requests at three desks: over a list, over tables in memory and over tables in a file. Prints
+//! the bytes that all three answer.
+
+use crate::desks::{CEILING, MOMENT, enrol};
+use crate::empty_store::EmptyStore;
+use crate::opening::Fused;
+use anyhow::ensure;
+use desk_run::Desk;
+use desk_store::{ListStore, PlanStore};
+use desk_tables::SqliteStore;
+use desk_wire::play_all;
+use sqlite::FileStore;
+use std::alloc::Global;
+use std::io::{Read, Write};
+
+/// Plays the stream of the standard input at the three desks, at which these operators are enrolled. The file
+/// is best new. It fails if the bytes of one desk are others than those over the list.
+pub fn play<D: Fused, W: Write>(
+    rt: &HostRuntime,
+    path: &str,
+    names: &[String],
+    output: &mut W,
+) -> anyhow::Result<()> {
+    let alloc = rt.alloc();
+    let mut stream = Vec::new(alloc);
+    rt.stdin().read_to_end(&mut stream)?;
+    let listed = answers_of(alloc, ListStore::new(alloc), names, &stream)?;
+    let tables = SqliteStore::<FileStore<D>>::empty(alloc)?;
+    ensure!(answers_of(alloc, tables, names, &stream)? == listed, "other bytes over tables in memory");
+    let tables = SqliteStore::open(rt, path).map_err(|refused| refused.fault)?;
+    ensure!(answers_of(alloc, tables, names, &stream)? == listed, "other bytes over tables in a file");
+    output.write_all(&listed)?;
+    Ok(())
+}
+
+// What a desk over a store answers to a stream.
+fn answers_of<S: PlanStore + Drop>(
+    alloc: Global,
+    store: S,
+    names: &[String],
+    stream: &[u8],
+) -> anyhow::Result<Vec<u8>> {
+    let mut desk = Desk::new(store);
+    for name in names {
+        enrol(&mut desk, name.as_str(), CEILING)?;
+    }
+    let mut input = stream;
+    let mut answers = Vec::new(alloc);
+    play_all(alloc, &mut desk, MOMENT, &mut input, &mut answers);
+    Ok(answers)
+}
