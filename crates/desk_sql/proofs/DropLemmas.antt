@@ -5,7 +5,9 @@ use Rattle.sqlite.specs.Schema.{Schema}
 use Rattle.sqlite.specs.Table.{Table}
 use Rattle.sqlite_schema.specs.declared.schema.Index.{Index}
 use Rattle.sqlite_schema.specs.declared.schema.Keys.TheVariants.{Enforced}
-use Rattle.sqlite_catalog.specs.Change.{without_table, without_index, KeepsRows}
+use Rattle.sqlite_catalog.specs.Change.{without_table, without_index, is_reserved, KeepsRows}
+use Rattle.sqlite_schema.specs.Rules.{Refers}
+use Rattle.sqlite_schema.specs.declared.schema.Among.TheVariants.{All}
 use Rattle.sqlite.specs.Command.TheVariants.{DropTable, DropIndex}
 use Rattle.sqlite.specs.Effect.{Database}
 use Rattle.sqlite.specs.Does.{Tally, Does, Drops as Dropped, Empties, Uncounts, is_acted_on}
@@ -27,7 +29,7 @@ use Rattle.desk_sql.specs.Statements.{MayWrite, enforced}
 use Rattle.desk_sql.specs.Making.{Finishes}
 use Rattle.desk_sql.specs.Effects.{Makes}
 use Rattle.desk_sql.specs.Unpacking.{Drops, Unpacks, RemakesTables, loose_schema, spanless_schema}
-use Rattle.desk_sql.proofs.WriteLemmas.{went, same_value, does_command, is_writing, ran, ran_sound}
+use Rattle.desk_sql.proofs.WriteLemmas.{went, same_value, does_command, ran, ran_sound}
 
 abbrev pub drop_old_first_text : List ℕ
 drop_old_first_text = codes "DROP INDEX span_first"
@@ -46,9 +48,10 @@ pub record DropsIndex (schema : Schema) (text : List ℕ) (at : ℕ) (index : In
   pub plain : IsPlain (understood schema text)
   pub whole : statement_of text (understood schema text) ≡ text
   pub there : slice_get schema.indexes at ≡ Some index
+  pub unreserved : is_reserved index.name ≡ false
 
-index_dropped : (schema : Schema) (text : List ℕ) (at : ℕ) (index : Index) → DropsIndex schema text at index
-    → (limit : Option ℕ) (old new : Database) → old.schema ≡ schema
+pub index_dropped : (schema : Schema) (text : List ℕ) (at : ℕ) (index : Index)
+    → DropsIndex schema text at index → (limit : Option ℕ) (old new : Database) → old.schema ≡ schema
     → MayWrite text (understood schema text) [] limit old new
     → (new.schema ≡ without_index schema index.tree)
     × KeepsRows (without_index schema index.tree).tables old.trees new.trees
@@ -79,18 +82,19 @@ pub record DropsTable (schema : Schema) (text : List ℕ) (at : ℕ) (table : Ta
   pub there : slice_get schema.tables at ≡ Some table
   pub calm : is_acted_on schema Enforced table ≡ false
   pub uncounted : table.is_counted ≡ false
+  pub refers : (db : Trees) → Refers All schema db → Refers All (without_table schema table.tree) db
 
 -- nothing is deleted first
-kept_rows : (task : Task) (db out : Trees) → is_acted_on task.schema task.keys task.table ≡ false
+pub kept_rows : (task : Task) (db out : Trees) → is_acted_on task.schema task.keys task.table ≡ false
     → Empties task db (Ok out) → out ≡ db
 kept_rows task db out calm h = same_value (rw calm at h)
 
-kept_counts : (task : Task) (db out : Trees) → task.table.is_counted ≡ false → Uncounts task db (Ok out)
+pub kept_counts : (task : Task) (db out : Trees) → task.table.is_counted ≡ false → Uncounts task db (Ok out)
     → out ≡ db
 kept_counts task db out uncounted h = same_value (rw uncounted at h)
 
-table_dropped : (schema : Schema) (text : List ℕ) (at : ℕ) (table : Table) → DropsTable schema text at table
-    → (limit : Option ℕ) (old new : Database) → old.schema ≡ schema
+pub table_dropped : (schema : Schema) (text : List ℕ) (at : ℕ) (table : Table)
+    → DropsTable schema text at table → (limit : Option ℕ) (old new : Database) → old.schema ≡ schema
     → MayWrite text (understood schema text) [] limit old new
     → (new.schema ≡ without_table schema table.tree)
     × KeepsRows (without_table schema table.tree).tables old.trees new.trees
@@ -132,11 +136,17 @@ table_dropped schema text at table known limit old new has h =
 
 -- ---- the three texts
 
-drops_old_first : DropsIndex packed_schema drop_old_first_text 6 packed_old_first_index
+pub drops_old_first : DropsIndex packed_schema drop_old_first_text 6 packed_old_first_index
 unfolding understood everything packed_old_first_index
-drops_old_first = record { is = refl; plain = (refl, refl); whole = refl; there = refl }
+drops_old_first = record {
+  is = refl;
+  plain = (refl, refl);
+  whole = refl;
+  there = refl;
+  unreserved = refl;
+}
 
-drops_spans : DropsTable loose_schema drop_spans_text 5 packed_span_made
+pub drops_spans : DropsTable loose_schema drop_spans_text 5 packed_span_made
 unfolding understood everything
 drops_spans = record {
   is = refl;
@@ -145,9 +155,10 @@ drops_spans = record {
   there = refl;
   calm = refl;
   uncounted = refl;
+  refers = λ db h. (h.0, (h.1.0, (h.1.1.0, (h.1.1.1.0, (h.1.1.1.1.0, tt)))));
 }
 
-drops_volumes : DropsTable spanless_schema drop_volumes_text 4 packed_volume_made
+pub drops_volumes : DropsTable spanless_schema drop_volumes_text 4 packed_volume_made
 unfolding understood everything
 drops_volumes = record {
   is = refl;
@@ -156,31 +167,7 @@ drops_volumes = record {
   there = refl;
   calm = refl;
   uncounted = refl;
-}
-
-pub old_first_drops : Drops drop_old_first_text packed_schema loose_schema
-unfolding packed_old_first_index
-old_first_drops = record {
-  plain = drops_old_first.plain;
-  writes = is_writing (understood packed_schema drop_old_first_text) (DropIndex 6) drops_old_first.is tt
-      drops_old_first.plain;
-  rows = index_dropped packed_schema drop_old_first_text 6 packed_old_first_index drops_old_first;
-}
-
-pub spans_drop : Drops drop_spans_text loose_schema spanless_schema
-spans_drop = record {
-  plain = drops_spans.plain;
-  writes = is_writing (understood loose_schema drop_spans_text) (DropTable 5) drops_spans.is tt
-      drops_spans.plain;
-  rows = table_dropped loose_schema drop_spans_text 5 packed_span_made drops_spans;
-}
-
-pub volumes_drop : Drops drop_volumes_text spanless_schema old_table_schema
-volumes_drop = record {
-  plain = drops_volumes.plain;
-  writes = is_writing (understood spanless_schema drop_volumes_text) (DropTable 4) drops_volumes.is tt
-      drops_volumes.plain;
-  rows = table_dropped spanless_schema drop_volumes_text 4 packed_volume_made drops_volumes;
+  refers = λ db h. (h.0, (h.1.0, (h.1.1.0, (h.1.1.1.0, tt))));
 }
 
 -- ---- one after the other

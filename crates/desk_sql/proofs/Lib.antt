@@ -48,3 +48,4 @@ pub mod NewRows
 pub mod PutStops
 pub mod PutSteps
 pub mod StepStops
+pub mod DropStops

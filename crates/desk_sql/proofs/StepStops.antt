@@ -72,7 +72,7 @@ read_ascii : (bs : List ℕ) → list_all (λ b. nat_le b 127) bs ≡ true → I
 read_ascii bs h = IsUtf8-from_ascii bs (are_ascii bs h)
 
 -- a text that is this command stops where the command does
-stop_at : (sql : List ℕ) (r : Result Compiled CompileError) (limit : Option ℕ) (old : Database)
+pub stop_at : (sql : List ℕ) (r : Result Compiled CompileError) (limit : Option ℕ) (old : Database)
     (stop : Option Error) (command : Command) → command_of r ≡ command → MayStop sql r [] limit old stop
     → Does limit enforced [] old (statement_of sql r) None command (Err stop)
 stop_at sql (Ok c) limit old stop command is h =

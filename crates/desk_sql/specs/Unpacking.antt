@@ -1,6 +1,7 @@
 -- How the tables of a packed file come into a desk's own order: what stands in another place is dropped, and
 -- made anew.
 use Rattle.std.specs.Prelude.{◌≡◌, IsTrue, ℕ, List, [], Option}
+use Rattle.sqlite.specs.declared.error.Error.{Error}
 use Rattle.sqlite.specs.Schema.{Schema}
 use Rattle.sqlite.specs.Effect.{Database, IsDatabase}
 use Rattle.sqlite.specs.Listing.{understood}
@@ -11,6 +12,7 @@ use Rattle.desk_sql.specs.declared.opening.finding.TablesPresent.TheVariants.{Ol
 use Rattle.desk_sql.specs.Schema.{packed_schema}
 use Rattle.desk_sql.specs.Rows.{IsMadeTo, Tables, old_tables_of}
 use Rattle.desk_sql.specs.Statements.{IsWriting, MayWrite}
+use Rattle.desk_sql.specs.Changing.{IsWholeIn, MayStop}
 use Rattle.sqlite.specs.Given.{IsPlain}
 
 -- a packed file without the index over the leaves of `span`, which is tree 12 there
@@ -21,13 +23,17 @@ loose_schema = without_index packed_schema 12
 abbrev pub spanless_schema : Schema
 spanless_schema = without_table loose_schema 10
 
--- a text that shows nothing, and drops a table or an index: the rows of the tables that are left stay
+-- a text that shows nothing, and drops a table or an index: the rows of the tables that are left stay. Of a
+-- sound database only memory and the disk refuse it
 pub record Drops (text : List ℕ) (old next : Schema) : Type 0 where
   pub plain : IsPlain (understood old text)
   pub writes : IsWriting (understood old text)
   pub rows : (limit : Option ℕ) (before after : Database) → before.schema ≡ old
       → MayWrite text (understood old text) [] limit before after
       → (after.schema ≡ next) × KeepsRows next.tables before.trees after.trees
+  pub means : IsWholeIn text 0 (understood old text)
+  pub never : (limit : Option ℕ) (db : Database) (stop : Option Error) → db.schema ≡ old → IsDatabase db
+      → ¬ MayStop text (understood old text) [] limit db stop
 
 module _ {S : Type 0} (g : Ghosts S) (old new : Held S) where
   -- within a transaction, which goes on, what stands in another place than in a desk's own order was dropped

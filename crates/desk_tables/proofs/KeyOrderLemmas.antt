@@ -151,7 +151,7 @@ pub area_up : (p : Filed) (n : ℕ) (vs : List Block) → IsPlan p.row
     → IsAscending (Below (2 ∷ [])) (volume_rows_from p n vs)
 area_up = places_up (after_place volume_row)
 
-volumes_up : (ps : List Filed) → ArePlans ps → IsStrictlySortedBy filed_cmp ps
+pub volumes_up : (ps : List Filed) → ArePlans ps → IsStrictlySortedBy filed_cmp ps
     → IsAscending (Below (2 ∷ [])) (volume_rows ps)
 volumes_up = placed_up (after_place volume_row)
 
@@ -258,7 +258,7 @@ plan_up p rows hp are = by_live (is_live p.row.usage) are where
   by_live true k = from_up p 0 p.row.area rows hp k
   by_live false k = subst (IsAscending (Below (2 ∷ 3 ∷ []))) (sym k) tt
 
-spans_up : (ps : List Filed) (rows : List Row) → ArePlans ps → IsStrictlySortedBy filed_cmp ps
+pub spans_up : (ps : List Filed) (rows : List Row) → ArePlans ps → IsStrictlySortedBy filed_cmp ps
     → AreSpanRows ps rows → IsAscending (Below (2 ∷ 3 ∷ [])) rows
 unfolding IsStrictlySortedBy
 spans_up [] rows h s e = subst (IsAscending (Below (2 ∷ 3 ∷ []))) (sym e) tt

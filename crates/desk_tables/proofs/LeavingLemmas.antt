@@ -207,8 +207,7 @@ module _ {D E : Type 0} {g : disk.Ghosts D} {k : disk.Ghosts E} (last : Held (Fi
         by_fault Store is = elim (it.after.refused.cause it.after.legible.0 it.after.legible.1 is) [
           | inl (inl failed) ↦ it.quiet failed
           | inl (inr limited) ↦ (let none = subst IsSome it.after.refused.fresh.unlimited limited in cc)
-          | inr (inl numbers) ↦ taken it.after (inr (inl numbers))
-          | inr (inr packed) ↦ taken it.after (inl (Packed, packed_part _ packed.part))
+          | inr numbers ↦ taken it.after (inr (inl numbers))
         ]
 
     -- of such files neither is told, by a connection that can be read or by none

@@ -42,3 +42,4 @@ pub mod OrderingLemmas
 pub mod CopyLemmas
 pub mod LookLemmas
 pub mod SmallLemmas
+pub mod WritingLemmas

@@ -1,6 +1,5 @@
 -- The move of a content from schema 1 to schema 2.
 use Rattle.std.proofs.Common.{◌≡◌, ◌≤◌, ◌↔◌, ◌⊎◌, ℕ, length, Bool, true, List, [], ◌∷◌, ◌++◌, Result, Ok, Err, IfOk, IfErr, OnOk, OnErr, IsTrue, refl, sym, ap, subst, ◌∙◌, arith, inl, inr, append_assoc, IsPermutation}
-use Rattle.std.specs.Prelude.{IsSome}
 use Rattle.std.specs.List.{flat_map, AllByRecursion}
 use Rattle.std.proofs.lemmas.List.{append-nil}
 use Rattle.std.proofs.lemmas.Grind.{flat_map-append}
@@ -27,11 +26,11 @@ use Rattle.desk_tables.specs.Tables.{area_rows, area_covers, volume_rows, cover_
 use Rattle.desk_store.specs.Content.{IsContent}
 use Rattle.desk_tables.specs.declared.opening.open.OpenFault.{OpenFault}
 use Rattle.desk_tables.specs.declared.opening.open.OpenFault.TheVariants.{NotADesk}
-use Rattle.desk_tables.specs.Opening.{AreRows, BeginsWith, BlamesOpening, HasNoContent, HasRowsOld, ShowsNoDesk}
-use Rattle.desk_tables.specs.Moving.{AddsPlanRows, AddsPlansRows, AreNoOldContent, AreSortedOld, BeginsMoved, BlamesMove, BlamesMoving, HasNoNewRows, HasNoOldContent, HasOldContent, IsOldArea, IsOldContent, IsOldContentOf, IsOldShape, IsWhole, KeepsRows, ShowsNoContent, WasMoved, old_max_cover, told_count}
+use Rattle.desk_tables.specs.Opening.{AreRows, BeginsWith, HasNoContent, HasRowsOld, ShowsNoDesk}
+use Rattle.desk_tables.specs.Moving.{AddsPlanRows, AddsPlansRows, AreNoOldContent, AreSortedOld, BeginsMoved, HasNoNewRows, HasNoOldContent, IsOldArea, IsOldContent, IsOldContentOf, IsOldShape, IsWhole, KeepsRows, ShowsNoContent, WasMoved, old_max_cover, told_count}
 use Rattle.desk_tables.proofs.ContentLemmas.{one_plans}
 use Rattle.desk_tables.proofs.KeyOrderLemmas.{are_old_rows, are_old_tables}
-use Rattle.desk_tables.proofs.OpeningLemmas.{desk_made, made_desk, none_then, cause_then}
+use Rattle.desk_tables.proofs.OpeningLemmas.{desk_made, made_desk, none_then}
 
 -- ---- a loop that adds the rows of a plan at each turn
 
@@ -312,13 +311,6 @@ module _ {S : Type 0} (g : Ghosts S) where
         same = ap (λ (db : Database). tables_of db.trees) shows.now ∙ whole.same;
       })
 
-  -- what fails once the rows were found to be a content's
-  pub blames_moving : (made : TablesPresent) (w : World) (a b c : Held S) (e : OpenFault)
-      → (HasCleanDisk (state g b) → IsOldContentOf (tables_at made (state g a).now.trees) w)
-      → doubt (state g b).is_clean ≤ doubt (state g c).is_clean → BlamesMoving g a c made e
-  blames_moving made w a b c e content rises clean live told =
-      inr (record { world = w; rows = content (omega (arith, rises, clean)) })
-
   was_live : (b c : Held S) → KeepsRows g b c → HasCleanDisk (state g c) → IsTrue (state g c).is_open
       → IsTrue (state g b).is_open
   was_live b c kept clean live = elim (kept clean live) [
@@ -359,21 +351,6 @@ module _ {S : Type 0} (g : Ghosts S) (a b c : Held S) (reads : OnlyReads g a b)
       subst (λ (db : Database). HasOthers db ⊎ (HasNoContent db ⊎ HasNoOldContent db)) shows.now
       (inr (inr (record { made = made; desk = part mid was; old = old mid was; none = none clean is })))
 
-  pub cause_moved : {V : Type 0} (made : TablesPresent) (r : Result V OpenFault) → Holds g b (IsMadeTo made)
-      → Holds g b (HasRowsOld made true) → OnErr r (KeepsRows g b c) → IfErr r (BlamesMoving g b c made)
-      → IfErr r (BlamesMove g a c)
-  cause_moved made (Ok v) part old kept why = tt
-  cause_moved made (Err e) part old kept why = λ clean live told.
-      let was = was_live g b c kept clean live in
-      let mid : HasCleanDisk (state g b) = omega (arith, rises, clean) in
-      let shows = before_move clean was in
-      elim (why clean live told) [
-        | inl (inl failed) ↦ inl (inl (omega (arith, failed, reads.faults)))
-        | inl (inr limited) ↦ inl (inr (subst IsSome reads.limit limited))
-        | inr rows ↦ inr (inr (inl (subst HasOldContent shows.now
-            (record { made = made; desk = part mid was; old = old mid was; rows = rows }))))
-      ]
-
 -- an opening that moves nothing is a move of no plan
 module _ {S : Type 0} (g : Ghosts S) (a c : Held S) where
   pub begins_unmoved : (w : World) → BeginsWith g a c w → BeginsMoved g a c w 0
@@ -385,19 +362,9 @@ module _ {S : Type 0} (g : Ghosts S) (a c : Held S) where
     | inr rows ↦ inr (inl rows)
   ]
 
-  pub cause_unmoved : (e : OpenFault) → BlamesOpening g a c e → BlamesMove g a c e
-  cause_unmoved e cause = λ clean live told. elim (cause clean live told) [
-    | inl failed ↦ inl failed
-    | inr (inl numbers) ↦ inr (inl numbers)
-    | inr (inr packed) ↦ inr (inr (inr packed))
-  ]
-
 -- and so is a refusal of such an opening, since before a reading
 module _ {S : Type 0} (g : Ghosts S) (a b c : Held S) (reads : OnlyReads g a b)
     (rises : doubt (state g b).is_clean ≤ doubt (state g c).is_clean) (e : OpenFault)
     (kept : IsKept g b c) where
   pub none_later : (e ≡ NotADesk → ShowsNoDesk g b c) → e ≡ NotADesk → ShowsNoContent g a c
   none_later none is = none_unmoved g a c (none_then g a b c reads rises {V = Unit {0}} (Err e) kept none is)
-
-  pub cause_later : BlamesOpening g b c e → BlamesMove g a c e
-  cause_later cause = cause_unmoved g a c e (cause_then g a b c reads rises {V = Unit {0}} (Err e) kept cause)

@@ -18,7 +18,7 @@ use Rattle.desk_sql.specs.Rows.{IsDesk, IsMadeTo, AreNumbered, Tables, tables_of
 use Rattle.desk_sql.specs.Effects.{IsKept, ShowsAsBefore}
 use Rattle.desk_sql.specs.Frames.{OnlyReads}
 use Rattle.desk_sql.specs.Finding.{Holds}
-use Rattle.desk_sql.specs.Refusals.{IsMisnumbered, IsRefusal, IsUnread}
+use Rattle.desk_sql.specs.Refusals.{IsRefusal, IsUnread}
 use Rattle.sqlite_value.specs.Order.{Row}
 use Rattle.desk_store.specs.World.{World}
 use Rattle.desk_tables.specs.declared.opening.open.OpenFault.{OpenFault}
@@ -26,7 +26,7 @@ use Rattle.desk_tables.specs.declared.opening.open.OpenFault.TheVariants.{NotADe
 use Rattle.desk_store.specs.Content.{IsContent}
 use Rattle.desk_tables.specs.Store.{Stands}
 use Rattle.desk_tables.specs.Tables.{HasNoOldRows, AreTables}
-use Rattle.desk_tables.specs.Opening.{AreSortedByKey, AreAllRows, HasNewRows, IsContentOf, AreNoContent, IsPart, BeganBlank, WasCompleted, BeginsWith, ShowsNoDesk, IsNoDesk, HasFailed, BlamesReading, BlamesDatabase, BlamesOpening, HasPackedContent, WasOrdered, open_fault_of}
+use Rattle.desk_tables.specs.Opening.{AreSortedByKey, AreAllRows, HasNewRows, IsContentOf, AreNoContent, IsPart, BeganBlank, WasCompleted, BeginsWith, ShowsNoDesk, IsNoDesk, HasFailed, BlamesReading, BlamesDatabase, WasOrdered, open_fault_of}
 use Rattle.desk_tables.proofs.KeyOrderLemmas.{are_rows, are_tables}
 
 -- what is made as a whole is a desk
@@ -210,17 +210,19 @@ module _ {S : Type 0} (g : Ghosts S) (a b c : Held S) (reads : OnlyReads g a b)
   none_then (Err e) kept none = λ is clean live.
       subst IsNoDesk (same_before clean (kept clean live).was_open).now (none is clean live)
 
-  pub cause_then : {V : Type 0} (r : Result V OpenFault) → OnErr r (IsKept g b c)
-      → IfErr r (BlamesOpening g b c) → IfErr r (BlamesOpening g a c)
-  cause_then (Ok v) kept cause = tt
-  cause_then (Err e) kept cause = λ clean live told. elim (cause clean live told) [
-    | inl (inl failed) ↦ inl (inl (omega (arith, failed, reads.faults)))
-    | inl (inr limited) ↦ inl (inr (subst IsSome reads.limit limited))
-    | inr (inl numbers) ↦
-        inr (inl (subst IsMisnumbered (same_before clean (kept clean live).was_open).now numbers))
-    | inr (inr packed) ↦
-        inr (inr (subst HasPackedContent (same_before clean (kept clean live).was_open).now packed))
+-- what is blamed since a reading is blamed since before the reading
+module _ {S : Type 0} (g : Ghosts S) (a b c : Held S) (faults : (state g a).faults ≤ (state g b).faults)
+    (limit : b.step_limit ≡ a.step_limit) where
+  pub blames_since : (e : OpenFault) → BlamesReading g b c e → BlamesReading g a c e
+  blames_since e cause clean live told = elim (cause clean live told) [
+    | inl failed ↦ inl (omega (arith, failed, faults))
+    | inr limited ↦ inr (subst IsSome limit limited)
   ]
+
+  pub cause_then : {V : Type 0} (r : Result V OpenFault) → IfErr r (BlamesReading g b c)
+      → IfErr r (BlamesDatabase g a c)
+  cause_then (Ok v) cause = tt
+  cause_then (Err e) cause = λ clean live told. inl (blames_since e cause clean live told)
 
 -- what is said of an error, once it is told on
 pub told_as : {V : Type 0} (P : OpenFault → Type 0) (r : Result V OpenFault) (e : OpenFault)
@@ -251,18 +253,6 @@ module _ {S : Type 0} (g : Ghosts S) where
     | inl refusal ↦ inl (failed_if a a b error (omega arith) refl refusal told)
     | inr numbers ↦ inr numbers.1
   ]
-
-  -- and an opening is blamed no more than a look
-  pub blames_opening : (a b : Held S) (e : OpenFault) → BlamesDatabase g a b e → BlamesOpening g a b e
-  blames_opening a b e why clean live told = elim (why clean live told) [
-    | inl failed ↦ inl failed
-    | inr numbers ↦ inr (inl numbers)
-  ]
-
-  pub blames_more : {V : Type 0} (r : Result V OpenFault) (a b : Held S) → IfErr r (BlamesReading g a b)
-      → IfErr r (BlamesOpening g a b)
-  blames_more (Ok v) a b why = tt
-  blames_more (Err e) a b why = λ clean live told. inl (why clean live told)
 
   pub blames_reading : (a b c : Held S) (error : Error) → (state g a).faults ≤ (state g b).faults
       → b.step_limit ≡ a.step_limit

@@ -61,12 +61,12 @@ apart_by a b (at ∷ places) less =
       by_order Equal false less later = later less
       by_order Greater null less later = cc
 
-volumes_apart : (rows : List Row) → IsAscending (λ a b. by_cells (0 ∷ 1 ∷ 2 ∷ []) a b ≡ Less) rows
+pub volumes_apart : (rows : List Row) → IsAscending (λ a b. by_cells (0 ∷ 1 ∷ 2 ∷ []) a b ≡ Less) rows
     → HaveOwnKeys 3 rows
 volumes_apart rows up = ascending_weaker (λ a b. by_cells (0 ∷ 1 ∷ 2 ∷ []) a b ≡ Less)
     (λ a b. has_same_key 3 a b ≡ false) (λ a b. apart_by a b (0 ∷ 1 ∷ 2 ∷ [])) rows up
 
-spans_apart : (rows : List Row) → IsAscending (λ a b. by_cells (0 ∷ 1 ∷ 2 ∷ 3 ∷ []) a b ≡ Less) rows
+pub spans_apart : (rows : List Row) → IsAscending (λ a b. by_cells (0 ∷ 1 ∷ 2 ∷ 3 ∷ []) a b ≡ Less) rows
     → HaveOwnKeys 4 rows
 spans_apart rows up = ascending_weaker (λ a b. by_cells (0 ∷ 1 ∷ 2 ∷ 3 ∷ []) a b ≡ Less)
     (λ a b. has_same_key 4 a b ≡ false) (λ a b. apart_by a b (0 ∷ 1 ∷ 2 ∷ 3 ∷ [])) rows up
@@ -92,7 +92,8 @@ shape_short (cells ids) h =
 shape_short (rectangle r) h = omega arith
 
 module _ (p : Filed) (name : IsShort p.operator) (text : IsShort (id_text p.row.id)) where
-  volumes_short : (n : ℕ) (vs : List Block) → AllByRecursion IsBlock vs → AreShort (volume_rows_from p n vs)
+  pub volumes_short : (n : ℕ) (vs : List Block) → AllByRecursion IsBlock vs
+      → AreShort (volume_rows_from p n vs)
   volumes_short n [] h = tt
   volumes_short n (v ∷ vs) h = (
     (name, (text, (tt, (tt, (tt, (tt, (tt, (shape_short v.footprint h.0.limits, tt)))))))),
@@ -110,14 +111,14 @@ module _ (p : Filed) (name : IsShort p.operator) (text : IsShort (id_text p.row.
       subst AreShort (sym are) (all_append _ (map (span_row p n v) spans) rest (volume_spans_short n v spans)
       (area_spans_short (n + 1) vs rest then))
 
-  spans_short : (rows : List Row) → ArePlanSpanRows p rows → AreShort rows
+  pub spans_short : (rows : List Row) → ArePlanSpanRows p rows → AreShort rows
   spans_short rows are = by_live (is_live p.row.usage) are where
     by_live : (b : Bool) → MatchBool b (AreSpanRowsFrom p 0 p.row.area rows) (rows ≡ []) → AreShort rows
     by_live true k = area_spans_short 0 p.row.area rows k
     by_live false k = subst AreShort (sym k) tt
 
   -- where a cover has at most so many cells
-  covers_short : ((shape : Shape) → IsTrue (is_footprint shape) → HasValidParts shape
+  pub covers_short : ((shape : Shape) → IsTrue (is_footprint shape) → HasValidParts shape
       → length (canonical_list (shape_positions shape)) ≤ max_cover)
       → (n : ℕ) (vs : List Block) → AllByRecursion IsBlock vs → AreShort (rows_from cover_row p n vs)
   covers_short few n [] h = tt

@@ -25,12 +25,13 @@ use Rattle.desk_store.specs.World.{Filed, World}
 use Rattle.desk_store.specs.laws.Order.{all_append}
 use Rattle.desk_tables.specs.Tables.{id_text, span_row, AreSpanRowsFrom, ArePlanSpanRows, AreSpanRows}
 use Rattle.desk_tables.specs.Opening.{BlamesReading, IsContentOf, open_fault_of}
+use Rattle.desk_tables.specs.Moving.{IsOldContentOf}
 use Rattle.desk_tables.specs.Records.{IsFiled}
 use Rattle.desk_tables.proofs.AssemblyLemmas.{filed_within}
 use Rattle.desk_tables.proofs.CauseLemmas.{name_short}
 use Rattle.desk_tables.proofs.OpeningLemmas.{blames_reading}
 
-id_short : (id : List ℕ) → IsShort (id_text id)
+pub id_short : (id : List ℕ) → IsShort (id_text id)
 id_short id = let long : length (id_text id) ≡ 36 = by_index_length 36 _ in omega (arith, long)
 
 module _ (p : Filed) (name : IsShort p.operator) where
@@ -68,6 +69,16 @@ small_spans t w is = (
       (All-permutation (λ r. AllByRecursion IsSmall r) is.tables.spans.0 t.spans is.tables.spans.2
       (All-from_recursion (λ r. AllByRecursion IsSmall r) is.tables.spans.0
       (all_spans w.plans is.tables.spans.0 (filed_within w is.content) is.tables.spans.1))),
+)
+
+-- and so have those of a content of schema 1
+pub small_old_spans : (t : Tables) (w : World) → IsOldContentOf t w → HasSmallSpans t
+small_old_spans t w is = (
+  recursion_from_All (λ r. AllByRecursion IsSmall r) t.old_spans
+      (All-permutation (λ r. AllByRecursion IsSmall r) is.tables.spans.0 t.old_spans is.tables.spans.2
+      (All-from_recursion (λ r. AllByRecursion IsSmall r) is.tables.spans.0
+      (all_spans w.plans is.tables.spans.0 (filed_within w is.content.content) is.tables.spans.1))),
+  subst AreSmall (sym is.tables.new.spans) tt,
 )
 
 -- and so have tables that aren't made

@@ -13,8 +13,8 @@ use Rattle.desk_store.specs.World.{World}
 use Rattle.desk_tables.specs.declared.opening.open.OpenFault.{OpenFault}
 use Rattle.desk_tables.specs.declared.opening.open.OpenFault.TheVariants.{NotADesk, OldSchema}
 use Rattle.desk_tables.specs.Guarding.{IsGuarded}
-use Rattle.desk_tables.specs.Opening.{BeginsWith, ShowsNoDesk, ShowsOldRows, BlamesOpening}
-use Rattle.desk_tables.specs.Moving.{BeginsMoved, BlamesMove, KeepsRows, ShowsNoContent}
+use Rattle.desk_tables.specs.Opening.{BeginsWith, ShowsNoDesk, ShowsOldRows, BlamesDatabase}
+use Rattle.desk_tables.specs.Moving.{BeginsMoved, KeepsRows, ShowsNoContent}
 
 -- the files that there are where nothing was
 abbrev pub no_files : Image
@@ -59,7 +59,7 @@ module _ {D : Type 0} {g : disk.Ghosts D} (image : Image) (e : OpenFault) where
     pub fresh : IsNew found
     pub none : e ≡ NotADesk → ShowsNoDesk (over_files {D = D} {g = g}) found left
     pub old : e ≡ OldSchema → ShowsOldRows (over_files {D = D} {g = g}) found left
-    pub cause : BlamesOpening (over_files {D = D} {g = g}) found left e
+    pub cause : BlamesDatabase (over_files {D = D} {g = g}) found left e
     pub kept : IsKept (over_files {D = D} {g = g}) found left
 
   -- files of which no store comes are refused by the connection that is left; or there was none, and nothing
@@ -89,7 +89,7 @@ module _ {D : Type 0} {g : disk.Ghosts D} (image : Image) (e : OpenFault) where
     pub fresh : IsNew found
     pub none : e ≡ NotADesk → ShowsNoContent (over_files {D = D} {g = g}) found left
     pub newer : e ≢ OldSchema
-    pub cause : BlamesMove (over_files {D = D} {g = g}) found left e
+    pub cause : BlamesDatabase (over_files {D = D} {g = g}) found left e
     pub kept : KeepsRows (over_files {D = D} {g = g}) found left
 
   -- files that may hold rows of schema 1 are refused so; or nothing in them was read

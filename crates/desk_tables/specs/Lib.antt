@@ -12,6 +12,7 @@ pub mod Known
 pub mod Records
 pub mod Opening
 pub mod Moving
+pub mod Writing
 pub mod Counting
 pub mod Copying
 pub mod Causes

@@ -11,16 +11,13 @@ use Rattle.sqlite.specs.State.{HasCleanDisk}
 use Rattle.sqlite.specs.Held.{Held, state}
 use Rattle.desk_sql.specs.declared.opening.finding.TablesPresent.{TablesPresent}
 use Rattle.desk_sql.specs.Rows.{IsDesk, IsMadeTo, Tables, Lists, tables_of, tables_at, has_old_rows}
-use Rattle.desk_sql.specs.Refusals.{IsMisnumbered}
 use Rattle.desk_sql.specs.Effects.{ShowsAsBefore}
 use Rattle.desk_sql.specs.Finding.{HasOthers}
 use Rattle.desk_store.specs.World.{Filed, World}
 use Rattle.desk_tables.specs.Tables.{operator_rows, plan_rows, area_rows, volume_rows, area_covers, cover_rows, ArePlanSpanRows, AreSpanRows}
 use Rattle.desk_store.specs.Content.{IsContent}
 use Rattle.desk_tables.specs.Store.{IsStanding}
-use Rattle.desk_tables.specs.Opening.{BeginsWith, HasNoContent, HasFailed, HasPackedContent}
-use Rattle.desk_tables.specs.declared.opening.open.OpenFault.{OpenFault}
-use Rattle.desk_tables.specs.declared.opening.open.OpenFault.TheVariants.{Store}
+use Rattle.desk_tables.specs.Opening.{BeginsWith, HasNoContent}
 
 -- ---- schema 1
 
@@ -97,7 +94,11 @@ pub record AddsPlansRows (ps : List Filed) (old new : Tables) : Type 0 where
   pub with_spans :
       (rows : List Row) × AreSpanRows ps rows × IsPermutation (rows ++ old.spans) new.spans
 
--- and those of schema 1 go
+-- the rows of schema 1 go
+abbrev pub RemovesOldRows : Tables → Tables → Type 0
+RemovesOldRows old new = new ≡ record old { old_volumes = []; old_spans = [] }
+
+-- both
 pub record MovesRows (ps : List Filed) (old new : Tables) : Type 0 where
   pub operators : new.operators ≡ old.operators
   pub plans : new.plans ≡ old.plans
@@ -141,18 +142,6 @@ pub record HasNoOldContent (db : Database) : Type 0 where
   pub old : has_old_rows (tables_at made db.trees) ≡ true
   pub none : AreNoOldContent (tables_at made db.trees)
 
--- of a content of schema 1
-pub record AreOldContent (t : Tables) : Type 0 where
-  pub world : World
-  pub rows : IsOldContentOf t world
-
--- a desk's tables, so far as they are made, with a row of schema 1, and rows of a content of schema 1
-pub record HasOldContent (db : Database) : Type 0 where
-  pub made : TablesPresent
-  pub desk : IsMadeTo made db
-  pub old : has_old_rows (tables_at made db.trees) ≡ true
-  pub rows : AreOldContent (tables_at made db.trees)
-
 -- how many plans were moved is told up to the greatest number of 32 bits
 abbrev pub told_count : List Filed → ℕ
 told_count ps = if nat_le (length ps) (2 ^ 32 - 1) then length ps else 2 ^ 32 - 1
@@ -184,17 +173,3 @@ module _ {S : Type 0} (g : Ghosts S) (old new : Held S) where
   abbrev pub KeepsRows : Type 0
   KeepsRows =
       HasCleanDisk (state g new) → IsTrue (state g new).is_open → ShowsAsBefore g old new ⊎ HasSameRows
-
-  -- why a move of such tables tells that the database failed
-  abbrev pub BlamesMoving : TablesPresent → OpenFault → Type 0
-  BlamesMoving made e =
-      HasCleanDisk (state g new) → IsTrue (state g new).is_open → e ≡ Store →
-      HasFailed g old new ⊎ AreOldContent (tables_at made (state g old).now.trees)
-
-  -- why a move tells that the database failed
-  abbrev pub BlamesMove : OpenFault → Type 0
-  BlamesMove e =
-      HasCleanDisk (state g new) → IsTrue (state g new).is_open → e ≡ Store →
-      HasFailed g old new
-      ⊎ (IsMisnumbered (state g old).now
-      ⊎ (HasOldContent (state g old).now ⊎ HasPackedContent (state g old).now))

@@ -156,12 +156,6 @@ pub record WasOrdered {S : Type 0} (g : Ghosts S) (old new : Held S) (w : World)
   pub rows : IsContentOf (tables_at Packed (state g old).now.trees) w
   pub standing : IsStanding g new w
 
--- a packed file with the rows of a content
-pub record HasPackedContent (db : Database) : Type 0 where
-  pub part : IsMadeTo Packed db
-  pub world : World
-  pub rows : IsContentOf (tables_at Packed db.trees) world
-
 -- a desk's tables, so far as they are made, with no row of schema 1, and rows of no content
 pub record HasNoContent (db : Database) : Type 0 where
   pub made : TablesPresent
@@ -206,19 +200,13 @@ module _ {S : Type 0} (g : Ghosts S) (old new : Held S) where
   abbrev pub HasFailed : Type 0
   HasFailed = HasDiskFailed g old new ⊎ IsSome old.step_limit
 
-  -- why rows are not read
+  -- why rows are not read, or not written
   abbrev pub BlamesReading : OpenFault → Type 0
   BlamesReading e =
       HasCleanDisk (state g new) → IsTrue (state g new).is_open → e ≡ Store → HasFailed
 
-  -- why a look at a database tells that it failed
+  -- why an opening, a move or a look tells that the database failed
   abbrev pub BlamesDatabase : OpenFault → Type 0
   BlamesDatabase e =
       HasCleanDisk (state g new) → IsTrue (state g new).is_open → e ≡ Store →
       HasFailed ⊎ IsMisnumbered (state g old).now
-
-  -- why an opening tells that the database failed
-  abbrev pub BlamesOpening : OpenFault → Type 0
-  BlamesOpening e =
-      HasCleanDisk (state g new) → IsTrue (state g new).is_open → e ≡ Store →
-      HasFailed ⊎ (IsMisnumbered (state g old).now ⊎ HasPackedContent (state g old).now)

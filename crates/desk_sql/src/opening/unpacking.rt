@@ -1,13 +1,16 @@
 //! How the tables of a packed file come into a desk's own order.
 
-ghost use Rattle.std.specs.Prelude.{◌≡◌, OnOk, OnErr};
+ghost use Rattle.std.specs.Prelude.{◌≡◌, IfErr, IsTrue, OnOk, OnErr};
+ghost use Rattle.sqlite.specs.Effect.{IsDatabase};
 ghost use Rattle.sqlite.specs.State.{HasCleanDisk, KeepsCommit};
 ghost use Rattle.sqlite.specs.Held.{state};
 ghost use Rattle.desk_sql.specs.Schema.{packed_schema, old_table_schema};
-ghost use Rattle.desk_sql.specs.Rows.{IsMadeTo};
+ghost use Rattle.desk_sql.specs.Rows.{IsMadeTo, tables_at};
 ghost use Rattle.desk_sql.specs.Finding.{Holds};
 ghost use Rattle.desk_sql.specs.Frames.{Remembers};
 ghost use Rattle.desk_sql.specs.Effects.{Makes};
+ghost use Rattle.desk_sql.specs.Making.{HasSmallSpans};
+ghost use Rattle.desk_sql.specs.Refusals.{IsRefusal};
 ghost use Rattle.desk_sql.specs.Unpacking.{loose_schema, spanless_schema, Drops, Unpacks, RemakesTables};
 
 use crate::changing::run::run;
@@ -15,21 +18,21 @@ use crate::opening::finding::TablesPresent;
 use crate::opening::making::make_rest;
 use sqlite::{Alter, Error, Transaction};
 
-#[tactic(auto, using(crate::proofs::DropLemmas::old_first_drops))]
+#[tactic(auto, using(crate::proofs::DropStops::old_first_drops))]
 fn drop_old_first_text() -> &'static str
     ensures { Drops result.now packed_schema loose_schema }
 {
     "DROP INDEX span_first"
 }
 
-#[tactic(auto, using(crate::proofs::DropLemmas::spans_drop))]
+#[tactic(auto, using(crate::proofs::DropStops::spans_drop))]
 fn drop_spans_text() -> &'static str
     ensures { Drops result.now loose_schema spanless_schema }
 {
     "DROP TABLE span2"
 }
 
-#[tactic(auto, using(crate::proofs::DropLemmas::volumes_drop))]
+#[tactic(auto, using(crate::proofs::DropStops::volumes_drop))]
 fn drop_volumes_text() -> &'static str
     ensures { Drops result.now spanless_schema old_table_schema }
 {
@@ -45,6 +48,9 @@ fn unpack<S: Alter>(tx: &mut Transaction<'_, S>) -> Result<(), Error>
     ensures undone { HasCleanDisk (state S.Store tx.new.conn.now)
         → OnErr result (KeepsCommit (state S.Store tx.old.conn.now)
         (state S.Store tx.new.conn.now)) }
+    ensures cause { Holds S.Store tx.old.conn.now IsDatabase → IsTrue tx.old.conn.now.in_transaction
+        → HasCleanDisk (state S.Store tx.new.conn.now) → IsTrue (state S.Store tx.old.conn.now).is_open
+        → IfErr result (IsRefusal S.Store tx.old.conn.now tx.new.conn.now) }
     ensures remembered { Remembers S.Store tx.old.conn.now tx.new.conn.now }
 {
     run(tx, drop_old_first_text(), &[])?;
@@ -64,6 +70,10 @@ pub fn remake_tables<S: Alter>(tx: &mut Transaction<'_, S>) -> Result<(), Error>
     ensures undone { HasCleanDisk (state S.Store tx.new.conn.now)
         → OnErr result (KeepsCommit (state S.Store tx.old.conn.now)
         (state S.Store tx.new.conn.now)) }
+    ensures cause { Holds S.Store tx.old.conn.now IsDatabase → IsTrue tx.old.conn.now.in_transaction
+        → HasSmallSpans (tables_at TablesPresent.Packed (state S.Store tx.old.conn.now).now.trees)
+        → HasCleanDisk (state S.Store tx.new.conn.now) → IsTrue (state S.Store tx.old.conn.now).is_open
+        → IfErr result (IsRefusal S.Store tx.old.conn.now tx.new.conn.now) }
     ensures remembered { Remembers S.Store tx.old.conn.now tx.new.conn.now }
 {
     unpack(tx)?;

@@ -13,6 +13,7 @@ ghost use Rattle.desk_tables.specs.Records.{IsFiled};
 ghost use Rattle.desk_tables.specs.Opening as spec;
 ghost use Rattle.desk_tables.specs.Opening.{AreOperatorRows, ArePlanRows, AreShared, AreAgreed, AreRows};
 ghost use Rattle.desk_tables.specs.Opening.{is_below_first};
+ghost use Rattle.desk_tables.specs.Writing.{HaveFewRows};
 
 use crate::opening::exact::{FiledPlan, ListedOperator, RowFault, are_spans, filed_in, listed_in};
 use desk_rules::decide::MAX_PLANS;
@@ -98,6 +99,7 @@ impl<T: Drop> From<AllocFailed<T>> for RowFault {
 /// `OutOfMemory` if memory runs out. `NoDesk` if they are the rows of no content.
 pub(crate) fn content_in(alloc: Global, rows: &TableRows) -> Result<Content, RowFault>
     ensures ok { IfOk result (λ content. IsContent content × AreRows rows.now content) }
+    ensures few { IfOk result (λ content. HaveFewRows content.plans) }
     ensures none { IfErr result (λ e. e ≡ RowFault.NoDesk →
         (w : World) → IsContent w → ¬ AreRows rows.now w) }
 {

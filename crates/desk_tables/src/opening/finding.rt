@@ -14,11 +14,12 @@ ghost use Rattle.desk_tables.specs.Store.{Stands};
 ghost use Rattle.desk_store.specs.World.{World};
 ghost use Rattle.desk_store.specs.Content.{IsContent};
 ghost use Rattle.desk_tables.specs.Known.{Knows};
+ghost use Rattle.desk_tables.specs.Writing.{HaveFewRows};
 ghost use Rattle.desk_tables.specs.SpanBounds.{IsKnownRow, Keeps};
 ghost use Rattle.desk_tables.specs.Opening.{AreSortedByKey, AreAllRows, IsContentOf, AreNoContent};
 ghost use Rattle.desk_tables.specs.Opening.{BeginsWith, HasRowsOld, HasNewRows, WasCompleted};
 ghost use Rattle.desk_tables.specs.Opening.{ShowsNoDesk, ShowsOldRows};
-ghost use Rattle.desk_tables.specs.Opening.{BlamesReading, BlamesDatabase, BlamesOpening};
+ghost use Rattle.desk_tables.specs.Opening.{BlamesReading, BlamesDatabase};
 
 use crate::kept::GhostWorld;
 use crate::known::{Known, live_among, roll_of};
@@ -61,7 +62,7 @@ pub(crate) fn load_world<S: Alter>(
         ShowsNoDesk S.Store connection.old connection.new) }
     ensures old { IfErr result (λ e. e ≡ OpenFault.OldSchema →
         ShowsOldRows S.Store connection.old connection.new) }
-    ensures cause { IfErr result (BlamesOpening S.Store connection.old connection.new) }
+    ensures cause { IfErr result (BlamesDatabase S.Store connection.old connection.new) }
     ensures kept { OnErr result (IsKept S.Store connection.old connection.new) }
     ensures doubt { doubt (state S.Store connection.old).is_clean
         ≤ doubt (state S.Store connection.new).is_clean }
@@ -116,7 +117,7 @@ pub(crate) fn world_of<S: Alter>(
     ensures none { IfErr result (λ e. e ≡ OpenFault.NotADesk →
         ShowsNoDesk S.Store connection.old connection.new) }
     ensures newer { IfErr result (λ e. e ≢ OpenFault.OldSchema) }
-    ensures cause { IfErr result (BlamesOpening S.Store connection.old connection.new) }
+    ensures cause { IfErr result (BlamesReading S.Store connection.old connection.new) }
     ensures opened { HasCleanDisk (state S.Store connection.new) →
         OnOk result (IsTrue (state S.Store connection.old).is_open) }
     ensures live { OnOk result (IsOpenIfClean S.Store connection.new) }
@@ -235,6 +236,7 @@ pub(crate) fn content_found<S: Alter>(
     ensures value { HasCleanDisk (state S.Store connection.new) → IfOk result (λ found.
         IsContentOf (tables_at made (state S.Store connection.old).now.trees) found.0) }
     ensures content { IfOk result (λ found. IsContent found.0) }
+    ensures few { IfOk result (λ found. HaveFewRows found.0.plans) }
     ensures bounded { IfOk result (λ found. Knows found.1 found.0) }
     ensures none { HasCleanDisk (state S.Store connection.new) → IfErr result (λ e.
         e ≡ OpenFault.NotADesk →
@@ -278,6 +280,7 @@ fn length_with(span_bounds: &SpanBounds, row: &Row) -> SpanBounds
 fn content_of(alloc: Global, rows: &TableRows) -> Result<(Content, Known), OpenFault>
     ensures value { IfOk result (λ found.
         IsContent found.0 × AreAllRows rows.now found.0) }
+    ensures few { IfOk result (λ found. HaveFewRows found.0.plans) }
     ensures bounded { IfOk result (λ found. Knows found.1 found.0) }
     ensures none { IfErr result (λ e. e ≡ OpenFault.NotADesk →
         (w : World) → IsContent w → ¬ AreAllRows rows.now w) }

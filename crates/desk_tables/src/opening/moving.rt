@@ -1,26 +1,28 @@
 //! How a content of schema 1 is moved to schema 2.
 
-ghost use Rattle.std.specs.Prelude.{◌≡◌, ◌≢◌, ◌≤◌, ◌↔◌, ◌-◌, ◌^◌, [], true, false, IfOk, IfErr, OnOk, OnErr, IsTrue, length};
+ghost use Rattle.std.specs.Prelude.{◌≡◌, ◌≢◌, ◌≤◌, ◌↔◌, ◌-◌, ◌^◌, List, [], ◌∷◌, true, false, IfOk, IfErr, OnOk, OnErr, IsTrue, length};
 ghost use Rattle.std.specs.List.{AllByRecursion};
 ghost use Rattle.sqlite_trees.specs.View.{doubt};
 ghost use Rattle.sqlite.specs.State.{HasCleanDisk, KeepsCommit};
 ghost use Rattle.sqlite.specs.Held.{state};
 ghost use Rattle.desk_sql.specs.Schema.{has_table};
-ghost use Rattle.desk_sql.specs.Rows.{IsMadeTo, tables_at};
+ghost use Rattle.desk_sql.specs.Rows.{IsMadeTo, tables_at, tables_of};
 ghost use Rattle.desk_sql.specs.Batches.{IsUnderWay};
 ghost use Rattle.desk_sql.specs.Effects.{IsReady, IsKept, IsOpenIfClean, Makes, Commits};
 ghost use Rattle.desk_sql.specs.Frames.{IsOver, OnlyReads, Remembers};
 ghost use Rattle.desk_sql.specs.Finding.{Holds};
-ghost use Rattle.desk_store.specs.World.{World};
+ghost use Rattle.desk_sql.specs.Refusals.{IsRefusal};
+ghost use Rattle.desk_store.specs.World.{Filed, World};
 ghost use Rattle.desk_store.specs.Content.{IsContent};
 ghost use Rattle.desk_tables.specs.Known.{Knows};
 ghost use Rattle.desk_tables.specs.Store.{Stands};
-ghost use Rattle.desk_tables.specs.Opening.{AreRows, BlamesReading, HasRowsOld};
-ghost use Rattle.desk_tables.specs.Moving.{AddsPlanRows, AddsPlansRows, MovesRows, AreNoOldContent};
-ghost use Rattle.desk_tables.specs.Moving.{BeginsMoved, BlamesMove, BlamesMoving, KeepsRows, IsOldArea, IsOldContent};
+ghost use Rattle.desk_tables.specs.Opening.{AreRows, BlamesDatabase, BlamesReading, HasRowsOld};
+ghost use Rattle.desk_tables.specs.Moving.{AddsPlanRows, AddsPlansRows, MovesRows, RemovesOldRows, AreNoOldContent};
+ghost use Rattle.desk_tables.specs.Moving.{BeginsMoved, KeepsRows, IsOldArea, IsOldContent};
 ghost use Rattle.desk_tables.specs.Moving.{HasNoNewRows, IsWhole};
 ghost use Rattle.desk_tables.specs.Moving.{AreSortedOld, IsOldContentOf, IsOldShape};
 ghost use Rattle.desk_tables.specs.Moving.{ShowsNoContent, WasMoved, told_count};
+ghost use Rattle.desk_tables.specs.Writing.{AreAwaited, AreWritable, HasSpansToIndex, HaveFewRows};
 
 use crate::canon::canons_of;
 use crate::changing::records::{asked_of, span_rows, volume_rows};
@@ -38,10 +40,10 @@ use desk_sql::{
     insert_volumes,
 };
 use s2_cover::laws::{canonical_list_is, one_canonical_list, one_list_of_ranges};
-use sqlite::{Connection, Row, Transaction};
+use sqlite::{Connection, Error, Row, Transaction};
 use sqlite_trees::store::Alter;
 use std::alloc::{AllocError, Global};
-use volume4d::laws::one_shape;
+use volume4d::laws::{covers_are_few, one_shape};
 use volume4d::{Footprint, Volume};
 
 // The most volumes of a plan in schema 1.
@@ -70,7 +72,7 @@ pub(crate) fn moved_world_in<S: Alter>(
     ensures none { IfErr result (λ e. e ≡ OpenFault.NotADesk →
         ShowsNoContent S.Store connection.old connection.new) }
     ensures newer { IfErr result (λ e. e ≢ OpenFault.OldSchema) }
-    ensures cause { IfErr result (BlamesMove S.Store connection.old connection.new) }
+    ensures cause { IfErr result (BlamesDatabase S.Store connection.old connection.new) }
     ensures kept { OnErr result (KeepsRows S.Store connection.old connection.new) }
     ensures doubt { doubt (state S.Store connection.old).is_clean
         ≤ doubt (state S.Store connection.new).is_clean }
@@ -105,7 +107,7 @@ fn move_tables<S: Alter>(
         e ≡ OpenFault.NotADesk →
         AreNoOldContent (tables_at made (state S.Store connection.old).now.trees)) }
     ensures newer { IfErr result (λ e. e ≢ OpenFault.OldSchema) }
-    ensures cause { IfErr result (BlamesMoving S.Store connection.old connection.new made) }
+    ensures cause { IfErr result (BlamesReading S.Store connection.old connection.new) }
     ensures opened { HasCleanDisk (state S.Store connection.new) →
         OnOk result (IsTrue (state S.Store connection.old).is_open) }
     ensures live { OnOk result (IsOpenIfClean S.Store connection.new) }
@@ -133,7 +135,10 @@ fn make_whole<S: Alter>(
     ensures done { HasCleanDisk (state S.Store connection.new) → IsTrue (state S.Store connection.new).is_open
         → OnOk result (IsWhole S.Store made connection.old connection.new) }
     ensures kept { OnErr result (IsKept S.Store connection.old connection.new) }
+    ensures cause { Holds S.Store connection.old (HasSpansToIndex made)
+        → IfErr result (BlamesReading S.Store connection.old connection.new) }
     ensures fault { IfErr result (λ e. (e ≢ OpenFault.NotADesk) × (e ≢ OpenFault.OldSchema)) }
+    ensures limit { connection.new.step_limit ≡ connection.old.step_limit }
     ensures over { IsOver S.Store connection.old connection.new }
 {
     if made == TablesPresent::All {
@@ -157,16 +162,35 @@ fn rewrite<S: Alter>(
     ensures done { HasCleanDisk (state S.Store connection.new)
         → OnOk result (Commits S.Store connection.old connection.new (MovesRows plans.now)) }
     ensures kept { OnErr result (IsKept S.Store connection.old connection.new) }
+    ensures cause { Holds S.Store connection.old (λ db. AreAwaited plans.now (tables_of db.trees))
+        → IfErr result (BlamesReading S.Store connection.old connection.new) }
     ensures fault { IfErr result (λ e. (e ≢ OpenFault.NotADesk) × (e ≢ OpenFault.OldSchema)) }
     ensures over { IsOver S.Store connection.old connection.new }
 {
+    covers_are_few();
     settled_and_sound(connection);
     let mut tx = connection.transaction();
-    empty_old_volumes(&mut tx)?;
-    empty_old_spans(&mut tx)?;
+    empty_old_tables(&mut tx)?;
     write_plans(alloc, &mut tx, plans)?;
     tx.commit()?;
     Ok(())
+}
+
+// The rows of schema 1 go.
+fn empty_old_tables<S: Alter>(tx: &mut Transaction<'_, S>) -> Result<(), Error>
+    requires ready { IsReady S.Store tx.old.conn.now }
+    ensures same_reference { tx.new.conn.ghost_name ≡ tx.old.conn.ghost_name }
+    ensures done { HasCleanDisk (state S.Store tx.new.conn.now)
+        → OnOk result (Makes S.Store tx.old.conn.now tx.new.conn.now RemovesOldRows) }
+    ensures undone { HasCleanDisk (state S.Store tx.new.conn.now)
+        → OnErr result (KeepsCommit (state S.Store tx.old.conn.now)
+        (state S.Store tx.new.conn.now)) }
+    ensures cause { IsUnderWay S.Store tx.old.conn.now → HasCleanDisk (state S.Store tx.new.conn.now)
+        → IfErr result (IsRefusal S.Store tx.old.conn.now tx.new.conn.now) }
+    ensures remembered { Remembers S.Store tx.old.conn.now tx.new.conn.now }
+{
+    empty_old_volumes(tx)?;
+    empty_old_spans(tx)
 }
 
 /// Adds the rows of plans in schema 2.
@@ -183,6 +207,8 @@ pub(crate) fn write_plans<S: Alter>(
         → OnErr result (KeepsCommit (state S.Store tx.old.conn.now)
         (state S.Store tx.new.conn.now)) }
     ensures fault { IfErr result (λ e. (e ≢ OpenFault.NotADesk) × (e ≢ OpenFault.OldSchema)) }
+    ensures cause { AreWritable plans.now (state S.Store tx.old.conn.now).now
+        → IfErr result (BlamesReading S.Store tx.old.conn.now tx.new.conn.now) }
     ensures remembered { Remembers S.Store tx.old.conn.now tx.new.conn.now }
 {
     'plans: for plan in plans {
@@ -205,8 +231,14 @@ fn write_plan<S: Alter>(
         → OnErr result (KeepsCommit (state S.Store tx.old.conn.now)
         (state S.Store tx.new.conn.now)) }
     ensures fault { IfErr result (λ e. (e ≢ OpenFault.NotADesk) × (e ≢ OpenFault.OldSchema)) }
+    ensures cause { (later : List Filed) → AreWritable (plan.now ∷ later) (state S.Store tx.old.conn.now).now
+        → IfErr result (BlamesReading S.Store tx.old.conn.now tx.new.conn.now) }
+    ensures left { (later : List Filed) → AreWritable (plan.now ∷ later) (state S.Store tx.old.conn.now).now
+        → HasCleanDisk (state S.Store tx.new.conn.now)
+        → OnOk result (AreWritable later (state S.Store tx.new.conn.now).now) }
     ensures remembered { Remembers S.Store tx.old.conn.now tx.new.conn.now }
 {
+    one_list_of_ranges();
     let mut buffer = [0u8; 36];
     let id = plan.row.id.encode(&mut buffer);
     let operator = plan.operator.as_str();
@@ -231,6 +263,7 @@ pub(crate) fn load_old_tables<S: Alter>(
     ensures value { HasCleanDisk (state S.Store connection.new) → IfOk result (λ found.
         IsOldContentOf (tables_at made (state S.Store connection.old).now.trees) found.0) }
     ensures content { IfOk result (λ found. IsContent found.0) }
+    ensures few { IfOk result (λ found. HaveFewRows found.0.plans) }
     ensures bounded { IfOk result (λ found. Knows found.1 found.0) }
     ensures none { HasCleanDisk (state S.Store connection.new) → IfErr result (λ e.
         e ≡ OpenFault.NotADesk →
@@ -312,6 +345,7 @@ pub(crate) fn old_rows_in<S: Alter>(
 // The content of these rows, which has to be within the limits of schema 1, and what is known of its plans.
 fn old_content_in(alloc: Global, rows: &TableRows) -> Result<(Content, Known), OpenFault>
     ensures value { IfOk result (λ found. IsOldContent found.0 × AreRows rows.now found.0) }
+    ensures few { IfOk result (λ found. HaveFewRows found.0.plans) }
     ensures bounded { IfOk result (λ found. Knows found.1 found.0) }
     ensures none { IfErr result (λ e. e ≡ OpenFault.NotADesk →
         (w : World) → IsOldContent w → ¬ AreRows rows.now w) }

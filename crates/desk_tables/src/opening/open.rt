@@ -4,8 +4,8 @@ ghost use Rattle.std.specs.Prelude.{◌≡◌, ◌≢◌, ◌≤◌, [], false, 
 ghost use Rattle.sqlite_trees.specs.View.{doubt};
 ghost use Rattle.sqlite.specs.Held.{state};
 ghost use Rattle.desk_sql.specs.Effects.{IsKept, IsOpenIfClean};
-ghost use Rattle.desk_tables.specs.Moving.{BeginsMoved, BlamesMove, KeepsRows, ShowsNoContent};
-ghost use Rattle.desk_tables.specs.Opening.{BeginsWith, ShowsNoDesk, ShowsOldRows, BlamesOpening};
+ghost use Rattle.desk_tables.specs.Moving.{BeginsMoved, KeepsRows, ShowsNoContent};
+ghost use Rattle.desk_tables.specs.Opening.{BeginsWith, ShowsNoDesk, ShowsOldRows, BlamesDatabase};
 ghost use Rattle.desk_tables.specs.Leaving.{IsSettledAt};
 
 use crate::known::Known;
@@ -161,7 +161,7 @@ impl<S: Alter> SqliteStore<S> {
         ensures old { IfErr result (λ refused. refused.fault ≡ OpenFault.OldSchema →
             ShowsOldRows S.Store connection refused.connection) }
         ensures cause { IfErr result (λ refused.
-            BlamesOpening S.Store connection refused.connection refused.fault) }
+            BlamesDatabase S.Store connection refused.connection refused.fault) }
         ensures kept { IfErr result (λ refused. IsKept S.Store connection refused.connection) }
         ensures doubt { MatchResult result
             (λ store. doubt (state S.Store connection).is_clean
@@ -208,7 +208,7 @@ impl<S: Alter> SqliteStore<S> {
             ShowsNoContent S.Store connection refused.connection) }
         ensures newer { IfErr result (λ refused. refused.fault ≢ OpenFault.OldSchema) }
         ensures cause { IfErr result (λ refused.
-            BlamesMove S.Store connection refused.connection refused.fault) }
+            BlamesDatabase S.Store connection refused.connection refused.fault) }
         ensures kept { IfErr result (λ refused. KeepsRows S.Store connection refused.connection) }
         ensures doubt { MatchResult result
             (λ moved. doubt (state S.Store connection).is_clean

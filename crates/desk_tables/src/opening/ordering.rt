@@ -11,8 +11,9 @@ ghost use Rattle.desk_sql.specs.Frames.{IsOver};
 ghost use Rattle.desk_sql.specs.Unpacking.{RemakesTables};
 ghost use Rattle.desk_tables.specs.Known.{Knows};
 ghost use Rattle.desk_tables.specs.Moving.{OrdersRows};
-ghost use Rattle.desk_tables.specs.Opening.{AreNoContent, BlamesOpening, HasNewRows, WasOrdered};
+ghost use Rattle.desk_tables.specs.Opening.{AreNoContent, BlamesReading, HasNewRows, WasOrdered};
 ghost use Rattle.desk_tables.specs.Store.{Stands};
+ghost use Rattle.desk_tables.specs.Writing.{HasSpansToIndex, IsToOrder};
 
 use crate::kept::GhostWorld;
 use crate::known::Known;
@@ -25,6 +26,7 @@ use desk_sql::{TablesPresent, remake_tables};
 use sqlite::Connection;
 use sqlite_trees::store::Alter;
 use std::alloc::Global;
+use volume4d::laws::covers_are_few;
 
 /// The world whose rows a packed file has, in which there are no rows of schema 1. Its tables come into a
 /// desk's own order.
@@ -46,7 +48,7 @@ pub(crate) fn ordered_in<S: Alter>(
     ensures open { HasCleanDisk (state S.Store connection.new) →
         OnOk result (IsTrue (state S.Store connection.old).is_open) }
     ensures live { OnOk result (IsOpenIfClean S.Store connection.new) }
-    ensures cause { IfErr result (BlamesOpening S.Store connection.old connection.new) }
+    ensures cause { IfErr result (BlamesReading S.Store connection.old connection.new) }
     ensures kept { OnErr result (IsKept S.Store connection.old connection.new) }
     ensures doubt { doubt (state S.Store connection.old).is_clean
         ≤ doubt (state S.Store connection.new).is_clean }
@@ -71,9 +73,12 @@ fn put_in_order<S: Alter>(
     ensures done { HasCleanDisk (state S.Store connection.new)
         → OnOk result (Commits S.Store connection.old connection.new (OrdersRows plans.now)) }
     ensures kept { OnErr result (IsKept S.Store connection.old connection.new) }
+    ensures cause { Holds S.Store connection.old (IsToOrder plans.now)
+        → IfErr result (BlamesReading S.Store connection.old connection.new) }
     ensures fault { IfErr result (λ e. (e ≢ OpenFault.NotADesk) × (e ≢ OpenFault.OldSchema)) }
     ensures over { IsOver S.Store connection.old connection.new }
 {
+    covers_are_few();
     settled_and_sound(connection);
     let mut tx = connection.transaction();
     remake_tables(&mut tx)?;
@@ -90,7 +95,10 @@ pub(crate) fn unpack<S: Alter>(connection: &mut Connection<S>) -> Result<(), Ope
     ensures done { HasCleanDisk (state S.Store connection.new)
         → OnOk result (Commits S.Store connection.old connection.new RemakesTables) }
     ensures kept { OnErr result (IsKept S.Store connection.old connection.new) }
+    ensures cause { Holds S.Store connection.old (HasSpansToIndex TablesPresent.Packed)
+        → IfErr result (BlamesReading S.Store connection.old connection.new) }
     ensures fault { IfErr result (λ e. (e ≢ OpenFault.NotADesk) × (e ≢ OpenFault.OldSchema)) }
+    ensures limit { connection.new.step_limit ≡ connection.old.step_limit }
     ensures over { IsOver S.Store connection.old connection.new }
 {
     settled_and_sound(connection);

@@ -1,10 +1,12 @@
-use Rattle.std.proofs.Common.{◌≡◌, ◌∙◌, sym, rules, true≢false}
+use Rattle.std.proofs.Common.{◌≡◌, ◌<◌, ◌^◌, ◌∙◌, length, arith, subst, sym, rules, true≢false}
+use Rattle.desk_sql.specs.Rows.{Tables}
 use Rattle.desk_store.specs.World.{World}
 use Rattle.desk_tables.specs.declared.opening.exact.RowFault.TheVariants.{NoDesk}
 use Rattle.desk_store.specs.Content.{IsContent}
 use Rattle.desk_tables.specs.Opening.{AreRows}
 use Rattle.desk_tables.specs.contracts.opening.content.TableRows.{the_view}
 use Rattle.desk_tables.proofs.AssemblyLemmas.{no_plans, content_if, none_if}
+use Rattle.desk_tables.proofs.WritingLemmas.{few_rows}
 use Rattle.desk_tables.proofs.opening.content.content_in.Goals as goal
 
 pub returns-in_err-plans-clause-none : goal.returns-in_err-plans-clause-none
@@ -34,3 +36,13 @@ returns-else-branch-clause-none c = λ _.
     c.deref-6.ensures.value c.deref-4.ensures.value c.deref-5.ensures.value c.in_ok-operators.ensures.ok
     c.in_ok-plans.ensures.ok
     (λ are. true≢false (sym (c.in_ok-are_content.ensures.1 are) ∙ c.if-branch.false))
+
+pub returns-then-branch-clause-few : goal.returns-then-branch-clause-few
+returns-then-branch-clause-few c =
+    let volumes = c.rows.inside.volumes in
+    let spans = c.rows.inside.spans in
+    let few : length volumes.items < 2 ^ 63 = omega (arith, volumes.ok.0, volumes.ok.1, volumes.small) in
+    let thin : length spans.items < 2 ^ 63 = omega (arith, spans.ok.0, spans.ok.1, spans.small) in
+    few_rows c.args.rows.now _ (returns-then-branch-clause-ok c).1
+    (subst (λ (t : Tables). length t.volumes < 2 ^ 63) c.rows.view_is few)
+    (subst (λ (t : Tables). length t.spans < 2 ^ 63) c.rows.view_is thin)

@@ -1,19 +1,11 @@
-use Rattle.std.proofs.Common.{inl, rules}
+use Rattle.std.proofs.Common.{rules}
 use Rattle.desk_sql.specs.declared.opening.finding.TablesPresent.TheVariants.{All, Packed}
 use Rattle.desk_sql.specs.Finding.{Holds}
 use Rattle.desk_sql.specs.Rows.{IsMadeTo}
-use Rattle.desk_tables.specs.Opening.{BlamesOpening, HasNewRows}
+use Rattle.desk_tables.specs.Opening.{HasNewRows}
 use Rattle.desk_tables.proofs.FrameLemmas.{reads_itself}
-use Rattle.desk_tables.proofs.OpeningLemmas.{none_of, begins_found, begins_completed, begins_ordered, kept_on_err, found_stands, blames_more, told_as}
+use Rattle.desk_tables.proofs.OpeningLemmas.{none_of, begins_found, begins_completed, begins_ordered, kept_on_err, found_stands}
 use Rattle.desk_tables.proofs.opening.finding.world_of.Goals as goal
-
-pub returns-in_err-create_tables-in-Nothing-clause-cause :
-    goal.returns-in_err-create_tables-in-Nothing-clause-cause
-returns-in_err-create_tables-in-Nothing-clause-cause g c =
-    told_as (BlamesOpening g.S.Store c.args.connection.now c.create_tables.new.connection)
-    c.from_residual.result _
-    c.from_residual.ensures.1
-    (λ clean live told. inl (c.in_err-create_tables-in-Nothing.ensures.cause clean live told))
 
 pub returns-in-All-clause-stands : goal.returns-in-All-clause-stands
 returns-in-All-clause-stands g c =
@@ -74,7 +66,7 @@ returns-in_default g c =
       none = none_of g.S.Store made c.completed_in.result old old new kept c.requires.part c.requires.new
           done.kept done.doubt done.none;
       newer = done.newer;
-      cause = blames_more g.S.Store c.completed_in.result old new done.cause;
+      cause = done.cause;
       opened = done.open;
       live = done.live;
       kept = done.kept;

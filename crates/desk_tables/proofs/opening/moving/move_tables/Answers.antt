@@ -1,9 +1,11 @@
-use Rattle.std.proofs.Common.{arith, ◌≤◌}
+use Rattle.std.proofs.Common.{arith, ap, ◌≤◌, ◌∙◌}
 use Rattle.sqlite_trees.specs.View.{doubt}
 use Rattle.sqlite.specs.Held.{state}
-use Rattle.desk_tables.specs.Moving.{BlamesMoving}
-use Rattle.desk_tables.proofs.OpeningLemmas.{kept_on_err, part_on, told_as}
-use Rattle.desk_tables.proofs.MovingLemmas.{blames_moving, keeps_since, keeps_whole}
+use Rattle.desk_store.specs.World.{World}
+use Rattle.desk_tables.specs.Opening.{BlamesReading}
+use Rattle.desk_tables.proofs.OpeningLemmas.{blames_since, kept_on_err, part_on, told_as}
+use Rattle.desk_tables.proofs.MovingLemmas.{keeps_since, keeps_whole}
+use Rattle.desk_tables.proofs.OrderingLemmas.{old_to_index, whole_awaited}
 use Rattle.desk_tables.proofs.opening.moving.move_tables.Goals as goal
 
 pub returns-in_err-rewrite-clause-kept : goal.returns-in_err-rewrite-clause-kept
@@ -26,22 +28,28 @@ returns-in_err-rewrite-clause-kept g c =
 pub returns-in_err-make_whole-clause-cause : goal.returns-in_err-make_whole-clause-cause
 returns-in_err-make_whole-clause-cause g c =
     let a = c.args.connection.now in
+    let b = c.load_old_tables.new.connection in
     let new = c.make_whole.new.connection in
-    told_as (BlamesMoving g.S.Store a new c.args.made) c.from_residual-in_err-make_whole.result _
+    let found = c.in_ok-content.ensures in
+    told_as (BlamesReading g.S.Store a new) c.from_residual-in_err-make_whole.result _
     c.from_residual-in_err-make_whole.ensures.1
-    (blames_moving g.S.Store c.args.made c.in_ok-content.content a c.load_old_tables.new.connection new
-    c.in_err-make_whole.field-0.0 c.in_ok-content.ensures.value c.make_whole.ensures.over.doubt)
+    (blames_since g.S.Store a b new found.reads.faults found.reads.limit c.in_err-make_whole.field-0.0
+    (c.in_err-make_whole.ensures.cause
+    (old_to_index g.S.Store c.args.made c.in_ok-content.content a b found.reads found.value)))
 
 pub returns-in_err-rewrite-clause-cause : goal.returns-in_err-rewrite-clause-cause
 returns-in_err-rewrite-clause-cause g c =
     let a = c.args.connection.now in
     let b = c.load_old_tables.new.connection in
+    let d = c.make_whole.new.connection in
     let new = c.rewrite.new.connection in
-    let first = c.make_whole.ensures.over.doubt in
-    let second = c.rewrite.ensures.over.doubt in
-    let rises : doubt (state g.S.Store b).is_clean ≤ doubt (state g.S.Store new).is_clean =
-    omega (arith, first, second) in
-    told_as (BlamesMoving g.S.Store a new c.args.made) c.from_residual-in_err-rewrite.result _
+    let found = c.in_ok-content.ensures in
+    let whole = c.make_whole.ensures in
+    let plans = c.deref.ensures.value ∙ ap (λ (w : World). w.plans) c.content.view_is in
+    told_as (BlamesReading g.S.Store a new) c.from_residual-in_err-rewrite.result _
     c.from_residual-in_err-rewrite.ensures.1
-    (blames_moving g.S.Store c.args.made c.in_ok-content.content a b new c.in_err-rewrite.field-0.0
-    c.in_ok-content.ensures.value rises)
+    (blames_since g.S.Store a d new (omega (arith, found.reads.faults, whole.over.faults))
+    (whole.limit ∙ found.reads.limit) c.in_err-rewrite.field-0.0
+    (c.in_err-rewrite.ensures.cause
+    (whole_awaited g.S.Store c.args.made c.in_ok-content.content a b found.reads found.value
+    c.deref.result.now d plans whole.over.doubt c.in_ok-make_whole.ensures.done found.few)))

@@ -1,7 +1,12 @@
-use Rattle.std.proofs.Common.{take, [], ◌∷◌, ◌++◌, refl, ap, sym, ◌+◌, ◌∙◌}
-use Rattle.std.proofs.lemmas.List.{take_more}
+use Rattle.std.proofs.Common.{◌≡◌, drop, take, [], ◌∷◌, ◌++◌, refl, ap, arith, subst, sym, ◌+◌, ◌∙◌}
+use Rattle.std.proofs.lemmas.List.{drop_more, take_more}
+use Rattle.sqlite.specs.State.{HasCleanDisk}
+use Rattle.sqlite.specs.Held.{state}
 use Rattle.desk_tables.specs.Moving.{AddsPlanRows, AddsPlansRows}
+use Rattle.desk_tables.specs.Opening.{BlamesReading}
+use Rattle.desk_tables.specs.Writing.{AreWritable}
 use Rattle.desk_tables.proofs.MovingLemmas.{begins, goes_on, no_plans, more_plans, way_on}
+use Rattle.desk_tables.proofs.OpeningLemmas.{blames_since, told_as}
 use Rattle.desk_tables.proofs.opening.moving.write_plans.Goals as goal
 
 pub plans-init : goal.plans-init
@@ -9,6 +14,7 @@ plans-init g c = (
   refl,
   begins g.S.Store c.args.tx.now.conn.now (AddsPlansRows (take 0 c.args.plans.now)) no_plans
       c.requires.under_way,
+  λ all clean. all,
 )
 
 pub write_plan-requires : goal.write_plan-requires
@@ -21,12 +27,42 @@ pub plans-preserved : goal.plans-preserved
 plans-preserved g c =
     let plans = c.args.plans.now in
     let at = c.plans.plan-index in
-    let plan = c.plan-item.result in (
+    let plan = c.plan-item.result in
+    let mid = c.plans.tx.conn.now in
+    let new = c.write_plan.new.tx.conn.now in
+    let parted : drop at plans ≡ plan ∷ drop (at + 1) plans =
+    drop_more plans at plan c.plans-test.true ∙ ap (λ p. p ∷ drop (at + 1) plans) (sym c.plan-item.is) in (
       c.write_plan.ensures.same_reference ∙ c.plans.invariant.0,
-      goes_on g.S.Store c.args.tx.now.conn.now c.plans.tx.conn.now c.write_plan.new.tx.conn.now
+      goes_on g.S.Store c.args.tx.now.conn.now mid new
           (AddsPlansRows (take at plans)) (AddsPlanRows plan) (AddsPlansRows (take (at + 1) plans))
           (more_plans (take at plans) plan (take (at + 1) plans)
           (take_more plans at plan c.plans-test.true
           ∙ ap (λ p. take at plans ++ p ∷ []) (sym c.plan-item.is)))
           c.plans.invariant.1 c.write_plan.ensures.remembered c.in_ok-write_plan.ensures.done,
+      λ all clean.
+          let early : HasCleanDisk (state g.S.Store mid) =
+          omega (arith, c.write_plan.ensures.remembered.doubt, clean) in
+          c.in_ok-write_plan.ensures.left (drop (at + 1) plans)
+          (subst (λ ps. AreWritable ps (state g.S.Store mid).now) parted (c.plans.invariant.2 all early))
+          clean,
     )
+
+pub returns-in_err-write_plan-clause-cause : goal.returns-in_err-write_plan-clause-cause
+returns-in_err-write_plan-clause-cause g c all =
+    let plans = c.args.plans.now in
+    let at = c.plans.plan-index in
+    let plan = c.plan-item.result in
+    let old = c.args.tx.now.conn.now in
+    let mid = c.plans.tx.conn.now in
+    let new = c.write_plan.new.tx.conn.now in
+    let so_far = c.plans.invariant.1.remembered in
+    let parted : drop at plans ≡ plan ∷ drop (at + 1) plans =
+    drop_more plans at plan c.plans-test.true ∙ ap (λ p. p ∷ drop (at + 1) plans) (sym c.plan-item.is) in
+    told_as (BlamesReading g.S.Store old new) c.from_residual.result _ c.from_residual.ensures.1
+    (λ clean live told.
+    let early : HasCleanDisk (state g.S.Store mid) =
+    omega (arith, c.write_plan.ensures.remembered.doubt, clean) in
+    blames_since g.S.Store old mid new so_far.faults so_far.limit c.in_err-write_plan.field-0.0
+    (c.in_err-write_plan.ensures.cause (drop (at + 1) plans)
+    (subst (λ ps. AreWritable ps (state g.S.Store mid).now) parted (c.plans.invariant.2 all early)))
+    clean live told)

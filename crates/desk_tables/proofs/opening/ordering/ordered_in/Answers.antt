@@ -1,14 +1,20 @@
-use Rattle.desk_tables.specs.Opening.{BlamesOpening}
-use Rattle.desk_tables.proofs.OpeningLemmas.{told_as}
-use Rattle.desk_tables.proofs.OrderingLemmas.{blames_ordering}
+use Rattle.std.proofs.Common.{ap, ◌∙◌}
+use Rattle.desk_store.specs.World.{World}
+use Rattle.desk_tables.specs.Opening.{BlamesReading}
+use Rattle.desk_tables.proofs.OpeningLemmas.{blames_since, told_as}
+use Rattle.desk_tables.proofs.OrderingLemmas.{still_to_order}
 use Rattle.desk_tables.proofs.opening.ordering.ordered_in.Goals as goal
 
 pub returns-in_err-put_in_order-clause-cause : goal.returns-in_err-put_in_order-clause-cause
 returns-in_err-put_in_order-clause-cause g c =
     let old = c.args.connection.now in
+    let mid = c.content_found.new.connection in
     let new = c.put_in_order.new.connection in
-    told_as (BlamesOpening g.S.Store old new) c.from_residual-in_err-put_in_order.result _
+    let found = c.in_ok-content.ensures in
+    let plans = c.deref.ensures.value ∙ ap (λ (w : World). w.plans) c.content.view_is in
+    told_as (BlamesReading g.S.Store old new) c.from_residual-in_err-put_in_order.result _
     c.from_residual-in_err-put_in_order.ensures.1
-    (blames_ordering g.S.Store c.in_ok-content.content old c.content_found.new.connection new
-    c.in_ok-content.ensures.reads c.requires.part c.in_ok-content.ensures.value
-    c.put_in_order.ensures.over.doubt c.in_err-put_in_order.field-0.0 c.in_err-put_in_order.ensures.kept)
+    (blames_since g.S.Store old mid new found.reads.faults found.reads.limit c.in_err-put_in_order.field-0.0
+    (c.in_err-put_in_order.ensures.cause
+    (still_to_order g.S.Store c.in_ok-content.content c.deref.result.now old mid plans found.reads found.value
+    found.few)))

@@ -1,0 +1,88 @@
+use Rattle.std.proofs.Common.{◌≡◌, ◌∙◌, ap, arith, map, refl, subst, sym}
+use Rattle.std.proofs.lemmas.List.{length-map}
+use Rattle.sqlite.specs.State.{HasCleanDisk}
+use Rattle.sqlite.specs.Held.{state}
+use Rattle.desk_sql.specs.Batches.{cover_of, span_of, volume_of}
+use Rattle.desk_sql.specs.Putting.{TakesRoom}
+use Rattle.desk_store.specs.Changes.{filed_by}
+use Rattle.desk_tables.specs.Opening.{BlamesReading}
+use Rattle.desk_tables.specs.Tables.{area_covers, area_rows, ArePlanSpanRows}
+use Rattle.desk_tables.proofs.OpeningLemmas.{blames_reading, told_as}
+use Rattle.desk_tables.proofs.WritingLemmas.{rest_writable, spans_fit, volumes_fit}
+use Rattle.desk_tables.proofs.opening.moving.write_plan.Goals as goal
+
+pub returns-in_err-insert_volumes-clause-cause : goal.returns-in_err-insert_volumes-clause-cause
+returns-in_err-insert_volumes-clause-cause g c later all =
+    let p = c.args.plan.now in
+    let row = c.plan.inside.row in
+    let old = c.args.tx.now.conn.now in
+    let records = c.deref-3.result.now in
+    let rows_are : map volume_of records ≡ area_rows p = ap (map volume_of) c.deref-3.ensures.value
+    ∙ c.in_ok-volumes.ensures.volumes
+    ∙ ap (λ name. area_rows (filed_by name row)) c.as_str-operator.ensures.value
+    ∙ ap area_rows c.plan.view_is in
+    let covers_are : map cover_of records ≡ area_covers p = ap (map cover_of) c.deref-3.ensures.value
+    ∙ c.in_ok-volumes.ensures.covers
+    ∙ ap (λ name. area_covers (filed_by name row)) c.as_str-operator.ensures.value
+    ∙ ap area_covers c.plan.view_is in
+    let blames = blames_reading g.S.Store old old c.insert_volumes.new.tx.conn.now
+    c.in_err-insert_volumes.field-0.0 (omega arith) refl
+    (λ clean live. c.in_err-insert_volumes.ensures.cause
+    (volumes_fit p later (state g.S.Store old).now all (map volume_of records) (map cover_of records) rows_are
+    covers_are) clean) in
+    told_as (BlamesReading g.S.Store old c.insert_volumes.new.tx.conn.now)
+    c.from_residual-in_err-insert_volumes.result _ c.from_residual-in_err-insert_volumes.ensures.1 blames
+
+pub returns-in_err-insert_spans-clause-cause : goal.returns-in_err-insert_spans-clause-cause
+returns-in_err-insert_spans-clause-cause g c later all =
+    let p = c.args.plan.now in
+    let row = c.plan.inside.row in
+    let old = c.args.tx.now.conn.now in
+    let mid = c.insert_volumes.new.tx.conn.now in
+    let new = c.insert_spans.new.tx.conn.now in
+    let records = c.deref-3.result.now in
+    let spans = c.deref-4.result.now in
+    let first = c.insert_volumes.ensures.remembered in
+    let own : ArePlanSpanRows p (map span_of spans) =
+    subst (ArePlanSpanRows p) (sym (ap (map span_of) c.deref-4.ensures.value))
+    (subst (λ q. ArePlanSpanRows q (map span_of c.in_ok-spans.spans.items)) c.plan.view_is
+    (subst (λ name. ArePlanSpanRows (filed_by name row) (map span_of c.in_ok-spans.spans.items))
+    c.as_str-operator.ensures.value c.in_ok-spans.ensures)) in
+    let blames = blames_reading g.S.Store old mid new c.in_err-insert_spans.field-0.0 first.faults first.limit
+    (λ clean live.
+    let early : HasCleanDisk (state g.S.Store mid) =
+    omega (arith, c.insert_spans.ensures.remembered.doubt, clean) in
+    c.in_err-insert_spans.ensures.cause
+    (spans_fit p later (state g.S.Store old).now all c.one_list_of_ranges.ensures (state g.S.Store mid).now
+    (map volume_of records) (map cover_of records) _ (map span_of spans) own
+    (c.in_ok-insert_volumes.ensures.done early).changed (c.in_ok-insert_volumes.ensures.room early)) clean) in
+    told_as (BlamesReading g.S.Store old new) c.from_residual-in_err-insert_spans.result _
+    c.from_residual-in_err-insert_spans.ensures.1 blames
+
+pub returns-clause-left : goal.returns-clause-left
+returns-clause-left g c later all clean =
+    let p = c.args.plan.now in
+    let row = c.plan.inside.row in
+    let old = c.args.tx.now.conn.now in
+    let mid = c.insert_volumes.new.tx.conn.now in
+    let new = c.insert_spans.new.tx.conn.now in
+    let records = c.deref-3.result.now in
+    let spans = c.deref-4.result.now in
+    let rows_are : map volume_of records ≡ area_rows p = ap (map volume_of) c.deref-3.ensures.value
+    ∙ c.in_ok-volumes.ensures.volumes
+    ∙ ap (λ name. area_rows (filed_by name row)) c.as_str-operator.ensures.value
+    ∙ ap area_rows c.plan.view_is in
+    let own : ArePlanSpanRows p (map span_of spans) =
+    subst (ArePlanSpanRows p) (sym (ap (map span_of) c.deref-4.ensures.value))
+    (subst (λ q. ArePlanSpanRows q (map span_of c.in_ok-spans.spans.items)) c.plan.view_is
+    (subst (λ name. ArePlanSpanRows (filed_by name row) (map span_of c.in_ok-spans.spans.items))
+    c.as_str-operator.ensures.value c.in_ok-spans.ensures)) in
+    let early : HasCleanDisk (state g.S.Store mid) =
+    omega (arith, c.insert_spans.ensures.remembered.doubt, clean) in
+    rest_writable p later (state g.S.Store old).now all c.one_list_of_ranges.ensures (state g.S.Store mid).now
+    (map volume_of records) (map cover_of records) _ (map span_of spans) own
+    (c.in_ok-insert_volumes.ensures.done early).changed (c.in_ok-insert_volumes.ensures.room early)
+    (state g.S.Store new).now rows_are (sym (length-map records volume_of))
+    (c.in_ok-insert_spans.ensures.done clean).changed
+    (subst (λ n. TakesRoom 0 0 n (state g.S.Store mid).now.trees (state g.S.Store new).now.trees)
+    (sym (length-map spans span_of)) (c.in_ok-insert_spans.ensures.room clean))
