@@ -26,9 +26,15 @@ pub fn play<D: Fused, W: Write>(
     rt.stdin().read_to_end(&mut stream)?;
     let listed = answers_of(alloc, ListStore::new(alloc), names, &stream)?;
     let tables = SqliteStore::<FileStore<D>>::empty(alloc)?;
-    ensure!(answers_of(alloc, tables, names, &stream)? == listed, "other bytes over tables in memory");
+    ensure!(
+        answers_of(alloc, tables, names, &stream)? == listed,
+        "other bytes over tables in memory"
+    );
     let tables = SqliteStore::open(rt, path).map_err(|refused| refused.fault)?;
-    ensure!(answers_of(alloc, tables, names, &stream)? == listed, "other bytes over tables in a file");
+    ensure!(
+        answers_of(alloc, tables, names, &stream)? == listed,
+        "other bytes over tables in a file"
+    );
     output.write_all(&listed)?;
     Ok(())
 }

@@ -1,10 +1,10 @@
 //! Times the calls of the curve, of cell ids, of normal forms and of covers over pseudo-random cells and
 //! rectangles. The two arguments are how many of them, and how often each call goes over all of them, in turn
 //! with the others. The least time of a call, in picoseconds, goes to standard error; the sum of all results,
-//! which is the same on each run, to standard output. bench/curve compares both with those of the S2 library.
+//! which is the same on each run, to standard output. bench/curve compares both with the S2 library's.
 //!
-//! With the words `covers` and a number it prints so many rectangles, each with the tokens of its cover, which
-//! bench/s2 compares with the S2 library one by one.
+//! With the words `covers` and a number it prints so many rectangles, each with the tokens of its cover,
+//! which bench/s2 compares with the S2 library one by one.
 #![tactic(auto)]
 
 mod cells;

@@ -1,6 +1,7 @@
 -- What was opened for a line says of that line, and what comes of a desk over files whose reads are tested.
 use Rattle.std.proofs.Common.{◌≡◌, ℕ, List, Option, None, Some, Result, Ok, Err, IfOk, Bool, true, IsTrue, inl, inr, refl, sym, ap, ◌∙◌, subst}
 use Rattle.sqlite_trees.specs.View.{doubt}
+use Rattle.sqlite_trees.specs.declared.store.Store.{Ghosts}
 use Rattle.sqlite_disk.specs.declared.Disk as disk
 use Rattle.sqlite_disk.specs.declared.Files.{Files}
 use Rattle.sqlite_disk.specs.Events.{Event, replay}
@@ -24,19 +25,26 @@ use Rattle.uss_desk.specs.Guarding.{Account, IsTrueOrCollided}
 use Rattle.desk_tables.specs.Files.{AreNotMoved, AreRefused}
 use Rattle.desk_tables.specs.declared.opening.files.FilesFault.{FilesFault}
 use Rattle.uss_desk.specs.declared.opening.Unopened.{Unopened}
-use Rattle.uss_desk.specs.Opening.{FailsAt, FailsMovingAt, IsFoundIn, IsOpenedFor, open_failure}
-use Rattle.uss_desk.specs.Running.{IsDoneAt, StaysGuarded}
+use Rattle.uss_desk.specs.Opening.{FailsAt, FailsMovingAt, FileDesk, IsOpenedFor, IsOpenedIn, open_failure, or_failure}
+use Rattle.uss_desk.specs.Running.{IsDoneAt, IsRun, StaysGuarded}
 
 -- a desk over files is opened for a line that names them, and they held this
 pub for_files : {M : Type 0} (m : disk.Ghosts M) {D : Type 0} {g : disk.Ghosts D} (image : Image) (it : Line)
-    → (desk : Result (Parts (Shown (FileStore D g))) Failure)
-    → IsOpenedFor {m = m} {g = g} image it (opened.Files desk) → IsFoundIn image desk
+    → (desk : FileDesk g) → IsOpenedFor {m = m} {g = g} image it (opened.Files desk) → IsOpenedIn image desk
 for_files m image (line.Play play) desk opens = opens.1
 for_files m image (line.Token token) desk opens = absurd opens
 for_files m image (line.Serve serve) desk opens = opens.1
 for_files m image (line.Cover cover) desk opens = absurd opens
 for_files m image (line.Enrol enrol) desk opens = opens.1
 for_files m image (line.Migrate migrate) desk opens = absurd opens
+
+-- a run at what was opened, by another name
+pub run_at : {S : Type 0} (g : Ghosts S) (one other : Result (Parts (Shown S)) Failure) → one ≡ other
+    → {it : Line} {end : Ending} {left : Option (Parts (Shown S))} {from to : Traffic}
+    → {old new out now : Option (List ℕ)} → IsRun g one it end left from to old new out now
+    → IsRun g other it end left from to old new out now
+run_at g one other same {it} {end} {left} {from} {to} {old} {new} {out} {now} run =
+    subst (λ o. IsRun g o it end left from to old new out now) same run
 
 -- a flag that is up leaves no doubt
 no_doubt : (clean : Bool) → IsTrue clean → doubt clean ≡ 0
@@ -60,14 +68,14 @@ pub stays_guarded : {D : Type 0} {g : disk.Ghosts D} (account : Account D)
     → ((d : D) → g.is_fair d ≡ (replay (account.start d) (account.calls d)).is_fair)
     → ((d : D) → g.is_clean d ≡ (replay (account.start d) (account.calls d)).is_honest)
     → (image : Image) (it : Line) (from to : Traffic) (old new out now : Option (List ℕ))
-    → (end : Ending) (opened : Result (Parts (Shown (FileStore D g))) Failure)
-    → (left : Option (Parts (Shown (FileStore D g)))) → IsFoundIn image opened
-    → IfOk opened (IsDoneAt over_files it from to old new out now end left)
-    → StaysGuarded account opened left
+    → (end : Ending) (opened : FileDesk g) (left : Option (Parts (Shown (FileStore D g))))
+    → IsOpenedIn image opened
+    → IfOk (or_failure opened) (IsDoneAt over_files it from to old new out now end left)
+    → StaysGuarded account (or_failure opened) left
 stays_guarded account fair clean image it from to old new out now end (Ok desk) (Some left) opens done =
     λ honest. true_or_collided account fair clean left (done.2 (opens.guarded honest))
 stays_guarded account fair clean image it from to old new out now end (Ok desk) None opens done = done
-stays_guarded account fair clean image it from to old new out now end (Err f) left opens done = tt
+stays_guarded account fair clean image it from to old new out now end (Err unread) left opens done = tt
 
 -- a desk whose store was closed, by what the store is
 pub is_closed : {D : Type 0} {g : disk.Ghosts D} (desk : Parts (Shown (FileStore D g)))

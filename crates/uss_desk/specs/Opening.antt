@@ -1,5 +1,5 @@
 -- Opening: what a line is carried out at, and what a database that can't be opened means.
-use Rattle.std.specs.Prelude.{◌≡◌, ℕ, [], None, Result, Ok, Err, IfErr, IfOk, ⊤}
+use Rattle.std.specs.Prelude.{◌≡◌, ℕ, [], None, Result, Ok, Err, IfErr, IfOk, MatchResult, ⊤}
 use Rattle.sqlite_disk.specs.declared.Disk as disk
 use Rattle.sqlite_wal.specs.Recovery.{Image}
 use Rattle.sqlite_store.specs.declared.store.FileStore.{FileStore}
@@ -88,19 +88,15 @@ module _ {D : Type 0} {g : disk.Ghosts D} (image : Image) where
   IsMovedIn (Ok moved) = OpensMoved image moved.0.store.held moved.0.store.world moved.1
   IsMovedIn (Err it) = FailsMovingAt g image it
 
-  -- the same with the failure alone, which there is a connection to explain
-  abbrev pub IsFoundIn : Result (Parts (Shown (FileStore D g))) Failure → Type 0
-  IsFoundIn (Ok desk) = BeginsIn g image desk
-  IsFoundIn (Err f) = (it : Unopened (FileStore D g)) × (f ≡ it.failure) × FailsAt g image it
+  -- by where the database is: nothing is read of one in memory, which fails as the store does
+  abbrev pub IsMovedAt : Database → MovedDesk g → Type 0
+  IsMovedAt InMemory moved = MatchResult moved (λ _. ⊥) (λ it. IsUnreadFor it opening.Store)
+  IsMovedAt (File path) moved = IsMovedIn moved
 
-  abbrev pub IsMoveFoundIn : Result (Parts (Shown (FileStore D g)) × ℕ) Failure → Type 0
-  IsMoveFoundIn (Ok moved) = OpensMoved image moved.0.store.held moved.0.store.world moved.1
-  IsMoveFoundIn (Err f) = (it : Unopened (FileStore D g)) × (f ≡ it.failure) × FailsMovingAt g image it
-
-  -- by where the database is: one in memory fails as the store does
-  abbrev pub IsMovedAt : Database → Result (Parts (Shown (FileStore D g)) × ℕ) Failure → Type 0
-  IsMovedAt InMemory moved = moved ≡ Err failure.Store
-  IsMovedAt (File path) moved = IsMoveFoundIn moved
+-- what was opened, or the failure alone
+abbrev pub or_failure : {S T : Type 0} → Result T (Unopened S) → Result T Failure
+or_failure (Ok it) = Ok it
+or_failure (Err unread) = Err unread.failure
 
 -- where a database is
 abbrev pub IsInMemory : Database → Type 0
@@ -113,14 +109,14 @@ IsInFiles (File path) = ⊤
 
 -- what is opened for a line: a desk in memory or one over files
 abbrev pub OpenedDesk : {M : Type 0} → disk.Ghosts M → {D : Type 0} → disk.Ghosts D → Type 0
-OpenedDesk {M} m {D} g = Opened (Parts (Shown (FileStore M m))) (Parts (Shown (FileStore D g)))
+OpenedDesk {M} m {D} g = Opened (Result (Parts (Shown (FileStore M m))) Failure) (FileDesk g) (MovedDesk g)
 
 module _ {M : Type 0} {m : disk.Ghosts M} {D : Type 0} {g : disk.Ghosts D} (image : Image) where
   -- what is opened over a database: a blank desk in memory, or a desk over files that held this; or why not
   abbrev pub IsOpenedAt : Database → OpenedDesk m g → Type 0
   IsOpenedAt database opened.Nothing = ⊥
   IsOpenedAt database (opened.Memory desk) = IsInMemory database × IfOk desk IsBlank × IfErr desk IsMemory
-  IsOpenedAt database (opened.Files desk) = IsInFiles database × IsFoundIn image desk
+  IsOpenedAt database (opened.Files desk) = IsInFiles database × IsOpenedIn image desk
   IsOpenedAt database (opened.Moved moved) = ⊥
 
   -- what is opened over a database whose plans of schema 1 are to be moved

@@ -24,7 +24,7 @@ use Rattle.desk_program.specs.Running.{IsCarriedOut}
 use Rattle.desk_program.specs.Serving.{Traffic}
 use Rattle.uss_desk.specs.declared.opening.Opened.TheVariants as opened
 use Rattle.uss_desk.specs.Guarding.{Account, IsTrueOrCollided}
-use Rattle.uss_desk.specs.Opening.{OpenedDesk, load_world}
+use Rattle.uss_desk.specs.Opening.{OpenedDesk, load_world, or_failure}
 
 -- the store of a desk over tables is honest: its disk has returned what was written
 abbrev pub IsSound : {S : Type 0} → Ghosts S → Parts (Shown S) → Type 0
@@ -103,7 +103,7 @@ module _ {M : Type 0} {m : disk.Ghosts M} {D : Type 0} {g : disk.Ghosts D} (acco
   IsDone (opened.Memory desk) line end memory files from to old new out now =
       (files ≡ None) × IsRun over_files desk line end memory from to old new out now
   IsDone (opened.Files desk) line end memory files from to old new out now =
-      (memory ≡ None) × IsRun over_files desk line end files from to old new out now
-      × StaysGuarded account desk files
+      (memory ≡ None) × IsRun over_files (or_failure desk) line end files from to old new out now
+      × StaysGuarded account (or_failure desk) files
   IsDone (opened.Moved moved) line end memory files from to old new out now =
-      (memory ≡ None) × (to ≡ from) × (new ≡ old) × IsMoveTold moved end files out now
+      (memory ≡ None) × (to ≡ from) × (new ≡ old) × IsMoveTold (or_failure moved) end files out now

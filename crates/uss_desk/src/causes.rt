@@ -32,9 +32,9 @@ pub fn tell_cause<F: Start, E: Write>(
 ) {
     if let Line::Migrate(words) = line
         && let Database::File(path) = &words.database
-        && let Opened::Moved(Err(failure)) = opened
+        && let Opened::Moved(Err(unread)) = opened
     {
-        tell(rt, path, *failure, errors);
+        tell(rt, path, unread.failure, errors);
     }
 }
 

@@ -72,6 +72,19 @@ pub fn check_file<F: Start, W: Write, E: Write>(
     }
 }
 
+/// The exit status of a look. What was looked at, on whatever disk it is, is closed.
+pub fn status_checked<D: Disk + Drop>(
+    checked: (
+        Exit,
+        Result<Connection<FileStore<D>>, Unopened<FileStore<D>>>,
+    ),
+) -> u8
+    ensures { result ≡ checked.0.status }
+{
+    let (exit, _) = checked;
+    exit.status
+}
+
 // Tells why a database can't be read, and the word of the failure.
 fn tell_unread<E: Write>(
     rt: &HostRuntime,
@@ -188,6 +201,16 @@ pub fn copy_file<F: Start, N: Start, P: Folder, W: Write, E: Write>(
         }
         Err(unread) => (conclude(errors, Err(unread.failure)), Err(unread)),
     }
+}
+
+/// The exit status of a copy. What was copied, on whatever disk it is, is closed.
+pub fn status_copied<D: Disk + Drop, N: Disk + Drop>(
+    copied: (Exit, Result<Copies<D, N>, Unopened<FileStore<D>>>),
+) -> u8
+    ensures { result ≡ copied.0.status }
+{
+    let (exit, _) = copied;
+    exit.status
 }
 
 // Prints how much was copied.

@@ -4,7 +4,7 @@ ghost use Rattle.std.specs.Prelude.{◌≡◌, IfErr, IfOk};
 ghost use Rattle.sqlite_wal.specs.Files.{image_at};
 ghost use Rattle.uss_desk.specs.Opening as spec;
 ghost use Rattle.uss_desk.specs.Opening.{IsBlank, IsMemory, IsMovedAt, IsMovedIn, IsOpenedAt, IsOpenedFor};
-ghost use Rattle.uss_desk.specs.Opening.{IsFoundIn, IsMoveFoundIn, IsOpenedIn, IsUnreadFor};
+ghost use Rattle.uss_desk.specs.Opening.{IsOpenedIn, IsUnreadFor};
 
 use crate::causes::tell_unenrolled;
 use desk_line::{Database, Failure, Line};
@@ -12,6 +12,7 @@ use desk_run::Desk;
 use desk_tables::{FilesFault, OpenFault, SqliteStore};
 use ram_disk::Ram;
 use sqlite::{FileFrom, FileStore, Start};
+use sqlite_disk::Disk;
 use sqlite_trees::store::Alter;
 use std::alloc::{AllocError, Global};
 use std::snapshot::Snapshot;
@@ -31,9 +32,9 @@ pub struct Unopened<S: Alter> {
     pub refused: Snapshot<FilesFault<S>>,
 }
 
-impl<S: Alter + Drop> Unopened<S> {
+impl<D: Disk + Drop> Unopened<FileStore<D>> {
     /// Files were refused. Their connection is closed, so that they can be looked at again.
-    pub fn of(refused: FilesFault<S>) -> Unopened<S>
+    pub fn of(refused: FilesFault<FileStore<D>>) -> Unopened<FileStore<D>>
         ensures failure { result.failure ≡ spec.open_failure refused.fault }
         ensures refused { result.refused.value ≡ refused }
     {
@@ -44,7 +45,7 @@ impl<S: Alter + Drop> Unopened<S> {
     }
 
     /// Nothing in the database was read.
-    pub fn unread(fault: OpenFault) -> Unopened<S>
+    pub fn unread(fault: OpenFault) -> Unopened<FileStore<D>>
         ensures { IsUnreadFor result fault }
     {
         Unopened::of(FilesFault {
@@ -54,13 +55,13 @@ impl<S: Alter + Drop> Unopened<S> {
     }
 }
 
-impl<S: Alter + Drop> From<AllocError> for Unopened<S> {
+impl<D: Disk + Drop> From<AllocError> for Unopened<FileStore<D>> {
     ghost use Rattle.desk_tables.specs.declared.opening.open.OpenFault.TheVariants.{OutOfMemory};
     ghost use Rattle.uss_desk.specs.Opening.{IsUnreadFor};
 
     ghost from_gives = { λ _ it. IsUnreadFor it OutOfMemory };
 
-    fn from(_error: AllocError) -> Unopened<S> {
+    fn from(_error: AllocError) -> Unopened<FileStore<D>> {
         Unopened::unread(OpenFault::OutOfMemory)
     }
 }
@@ -68,21 +69,28 @@ impl<S: Alter + Drop> From<AllocError> for Unopened<S> {
 /// Why files were not opened, where `F` stands for what they held.
 pub type Unread<F> = Unopened<FileStore<FileFrom<F>>>;
 
-/// What was opened for a line, a desk `M` in memory or one `D` over files; or why it could not be.
+/// What was opened for a line: a desk in memory (`M`), one over files (`D`), or one over files to which plans
+/// were moved (`V`).
 #[derive(Drop)]
-pub enum Opened<M: Drop, D: Drop> {
+pub enum Opened<M: Drop, D: Drop, V: Drop> {
     /// Nothing: `token` and `cover` need no desk.
     Nothing,
     /// A desk in memory.
-    Memory(Result<M, Failure>),
+    Memory(M),
     /// A desk over files.
-    Files(Result<D, Failure>),
-    /// A desk over files, and how many plans were moved to it from schema 1.
-    Moved(Result<(D, u32), Failure>),
+    Files(D),
+    /// A desk over files, to which plans were moved from schema 1.
+    Moved(V),
 }
 
 /// What is opened for a line, where `F` stands for what the files that it names held.
-pub type OpenedDesk<F> = Opened<MemoryDesk, FileDesk<F>>;
+pub type OpenedDesk<F> = Opened<Result<MemoryDesk, Failure>, FoundDesk<F>, MovedDesk<F>>;
+
+/// A desk over files, or why there is none.
+pub type FoundDesk<F> = Result<FileDesk<F>, Unread<F>>;
+
+/// A desk over files and how many plans were moved to it from schema 1, or why there is none.
+pub type MovedDesk<F> = Result<(FileDesk<F>, u32), Unread<F>>;
 
 /// Opens what a line needs; `start` stands for what the files that it names held.
 pub fn open_for<F: Start>(rt: &HostRuntime, line: &Line, start: F) -> OpenedDesk<F>
@@ -117,21 +125,18 @@ fn open_database<F: Start>(
             }
             Opened::Memory(open_in_memory(rt.alloc()))
         }
-        Database::File(path) => Opened::Files(open_or_fail(rt, path, is_told, start)),
+        Database::File(path) => Opened::Files(open_file(rt, path, is_told, start)),
     }
 }
 
-// What `open_file` gives, or its failure alone.
-fn open_or_fail<F: Start>(
-    rt: &HostRuntime,
-    path: &str,
-    is_told: bool,
-    start: F,
-) -> Result<FileDesk<F>, Failure>
-    ensures { IsFoundIn (image_at F.Start) result }
+/// What was opened over files, on whatever disk they are, or the failure alone.
+pub fn or_failure<D: Disk + Drop, T>(
+    opened: Result<T, Unopened<FileStore<D>>>,
+) -> Result<T, Failure>
+    ensures { result ≡ spec.or_failure opened }
 {
-    match open_file(rt, path, is_told, start) {
-        Ok(desk) => Ok(desk),
+    match opened {
+        Ok(it) => Ok(it),
         Err(unread) => Err(unread.failure),
     }
 }
@@ -157,12 +162,7 @@ pub fn open_in_memory(alloc: Global) -> Result<MemoryDesk, Failure>
 /// # Errors
 ///
 /// The failure is that of `open_failure`.
-pub fn open_file<F: Start>(
-    rt: &HostRuntime,
-    path: &str,
-    is_told: bool,
-    start: F,
-) -> Result<FileDesk<F>, Unread<F>>
+pub fn open_file<F: Start>(rt: &HostRuntime, path: &str, is_told: bool, start: F) -> FoundDesk<F>
     ensures { IsOpenedIn (image_at F.Start) result }
 {
     match SqliteStore::open_from(rt, path, start) {
@@ -178,39 +178,17 @@ pub fn open_file<F: Start>(
 
 // The desk over a database that may be of schema 1, and how many plans were moved. A database in memory can't
 // have plans of schema 1, and fails as `Store`.
-fn open_old<F: Start>(
-    rt: &HostRuntime,
-    database: &Database,
-    start: F,
-) -> Result<(FileDesk<F>, u32), Failure>
+fn open_old<F: Start>(rt: &HostRuntime, database: &Database, start: F) -> MovedDesk<F>
     ensures { IsMovedAt (image_at F.Start) database.now result }
 {
     match database {
-        Database::InMemory => Err(Failure::Store),
-        Database::File(path) => move_or_fail(rt, path, start),
-    }
-}
-
-// What `open_old_file` gives, or its failure alone.
-fn move_or_fail<F: Start>(
-    rt: &HostRuntime,
-    path: &str,
-    start: F,
-) -> Result<(FileDesk<F>, u32), Failure>
-    ensures { IsMoveFoundIn (image_at F.Start) result }
-{
-    match open_old_file(rt, path, start) {
-        Ok(moved) => Ok(moved),
-        Err(unread) => Err(unread.failure),
+        Database::InMemory => Err(Unopened::unread(OpenFault::Store)),
+        Database::File(path) => open_old_file(rt, path, start),
     }
 }
 
 // The desk over the files at a path, to which the plans of schema 1 in them were moved.
-fn open_old_file<F: Start>(
-    rt: &HostRuntime,
-    path: &str,
-    start: F,
-) -> Result<(FileDesk<F>, u32), Unread<F>>
+fn open_old_file<F: Start>(rt: &HostRuntime, path: &str, start: F) -> MovedDesk<F>
     ensures { IsMovedIn (image_at F.Start) result }
 {
     match SqliteStore::migrate_from(rt, path, start) {

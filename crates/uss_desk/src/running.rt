@@ -9,7 +9,7 @@ ghost use Rattle.uss_desk.specs.Guarding.{account_of};
 ghost use Rattle.uss_desk.specs.Opening.{IsOpenedFor};
 ghost use Rattle.uss_desk.specs.Running.{IsDone, IsDoneAt, IsKeptAt, IsMoveTold, IsUndone};
 
-use crate::opening::{FileDesk, MemoryDesk, Opened, OpenedDesk};
+use crate::opening::{FileDesk, MemoryDesk, Opened, OpenedDesk, or_failure};
 use desk_line::{Exit, Failure, Line, conclude, print_line};
 use desk_program::{Port, print_migrated, run_opened};
 use desk_run::Desk;
@@ -45,11 +45,12 @@ pub fn run_line<F: Start, P: Port, R: Read, W: Write, E: Write>(
             (exit, left, None)
         }
         Opened::Files(desk) => {
+            let desk = or_failure(desk);
             let (exit, left) = run_over(alloc, line, desk, port, input, output, errors);
             (exit, None, left)
         }
         Opened::Moved(moved) => {
-            let (exit, left) = tell_moved(alloc, moved, output, errors);
+            let (exit, left) = tell_moved(alloc, or_failure(moved), output, errors);
             (exit, None, left)
         }
     }

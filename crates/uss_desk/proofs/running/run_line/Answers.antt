@@ -1,8 +1,10 @@
 use Rattle.std.proofs.Common.{refl, subst}
+use Rattle.std.specs.Prelude.{IfErr, IfOk}
 use Rattle.sqlite_wal.specs.Files.{image_at}
+use Rattle.sqlite.specs.Files.{over_files}
 use Rattle.uss_desk.specs.Guarding.{account_of}
 use Rattle.uss_desk.specs.Opening.{IsOpenedFor}
-use Rattle.uss_desk.proofs.RunLemmas.{for_files, stays_guarded}
+use Rattle.uss_desk.proofs.RunLemmas.{for_files, run_at, stays_guarded}
 use Rattle.uss_desk.proofs.running.run_line.Goals as goal
 
 pub returns-in-Files : goal.returns-in-Files
@@ -11,9 +13,14 @@ returns-in-Files g c =
     let ended = c.run_over-left-in-Files in
     let opens = for_files _ image c.args.line.now c.in-Files.desk
     (subst (IsOpenedFor image c.args.line.now) c.in-Files.is c.requires.opened) in
+    let run = run_at over_files _ _ c.or_failure-desk.ensures (record {
+      done = ended.ensures.opened;
+      kept = ended.ensures.kept;
+      undone = ended.ensures.unopened;
+    }) in
     rw c.in-Files.is (
       refl,
-      record { done = ended.ensures.opened; kept = ended.ensures.kept; undone = ended.ensures.unopened },
+      run,
       stays_guarded (account_of g.F.Start) (λ _. refl) (λ _. refl) image c.args.line.now _ _ _ _ _ _
-          _ c.in-Files.desk ended.result.1 opens ended.ensures.opened,
+          _ c.in-Files.desk ended.result.1 opens run.done,
     )
