@@ -1,8 +1,10 @@
 -- A loop that adds a row at each turn.
-use Rattle.std.proofs.Common.{◌≡◌, inl, inr, IsTrue, ℕ, List, [], ◌∷◌, ◌++◌, refl, sym, ap, subst, ◌∙◌, arith, append_assoc}
+use Rattle.std.proofs.Common.{◌≡◌, inl, inr, IsTrue, ℕ, List, [], ◌∷◌, ◌++◌, refl, sym, ap, subst, ◌∙◌, arith, append_assoc, Result, Ok, Err}
+use Rattle.std.specs.Result.{IsErrAnd}
 use Rattle.std.specs.List.Sorted.{IsPermutation}
 use Rattle.std.proofs.lemmas.List.Sorted.{IsPermutation-refl, IsPermutation-cons, IsPermutation-trans, IsPermutation-middle}
 use Rattle.sqlite.specs.Order.{Row}
+use Rattle.sqlite.specs.Tree.{Trees}
 use Rattle.sqlite.specs.Store.{Ghosts}
 use Rattle.sqlite.specs.State.{State, HasCleanDisk, IsUnchanged, IsNotRun, KeepsCommit, Survives}
 use Rattle.sqlite.specs.Effect.{Database, IsDatabase}
@@ -16,6 +18,7 @@ use Rattle.desk_sql.specs.Refusals.{IsRefusal}
 use Rattle.desk_sql.proofs.RowidLemmas.{refusal_on}
 use Rattle.desk_sql.proofs.LeavingLemmas.{remembers_itself, remembers_survived, remembers_then}
 use Rattle.desk_sql.specs.Batches.{AddsVolumes, AddsSpans, IsUnderWay}
+use Rattle.desk_sql.specs.Calls.{IsChanged}
 
 pub record HasAdded {S : Type 0} (g : Ghosts S) (old now : Held S)
     (Changes : Tables → Tables → Type 0) : Type
@@ -138,3 +141,40 @@ more_spans rows row all is a b c first last = (
   last.1
       ∙ ap (λ (t : Tables). record t { spans = c.spans }) first.1,
 )
+
+-- ---- what a loop comes to
+
+module _ {S V : Type 0} (g : Ghosts S) (old : Held S) {Fits : Database → Type 0}
+    {Takes : Trees → Trees → Type 0}
+  where
+    -- all rows were added
+    pub all_changed : {v : V} {Changes : Tables → Tables → Type 0} (new : Held S) → HasAdded g old new Changes
+        → (HasCleanDisk (state g new) → Takes (state g old).now.trees (state g new).now.trees)
+        → IsChanged g old new (Ok v) Changes Fits Takes
+    all_changed new added room = record {
+      done = added.made;
+      undone = λ clean. tt;
+      cause = λ way fits clean. tt;
+      room = room;
+      remembered = added.remembered;
+    }
+
+    -- a row is refused, after those before it; a `?` hands that on
+    pub refused_changed : {Before Changes : Tables → Tables → Type 0} (mid new : Held S) (r : Result V Error)
+        (e : Error) → IsErrAnd r (λ fault. fault ≡ e) → HasAdded g old mid Before → Remembers g mid new
+        → (HasCleanDisk (state g new) → KeepsCommit (state g mid) (state g new))
+        → (Fits (state g old).now → HasCleanDisk (state g new) → IsRefusal g old new e)
+        → IsChanged g old new r Changes Fits Takes
+    refused_changed mid new (Ok v) e is added last undone refused = absurd is
+    refused_changed mid new (Err f) e is added last undone refused = record {
+      done = λ clean. tt;
+      undone = λ clean.
+          let before = added.made (omega (arith, last.doubt, clean)) in
+          record {
+            was_open = λ live. before.was_open;
+            committed = λ live. (undone clean).committed live ∙ before.committed;
+          };
+      cause = λ way fits clean. subst (IsRefusal g old new) (sym is) (refused fits clean);
+      room = λ clean. tt;
+      remembered = remembers_then g old mid new added.remembered last;
+    }

@@ -1,4 +1,4 @@
--- Read first: Schema, Rows, Effects, Frames.
+-- Read first: Schema, Rows, Effects, Frames, Calls.
 pub mod Schema
 pub mod Rows
 pub mod Effects
@@ -9,6 +9,7 @@ pub mod Batches
 pub mod Finding
 pub mod Refusals
 pub mod Taking
+pub mod Calls
 pub mod Others
 pub mod Statements
 pub mod Queries

@@ -1,5 +1,4 @@
-//! What version 1 of the schema needs: its own tables are read, and emptied when they are moved.
+//! What version 1 of the schema needs: its rows are looked for, and its tables emptied when they are moved.
 
 pub(crate) mod emptying;
-pub(crate) mod reading;
 pub(crate) mod rows;

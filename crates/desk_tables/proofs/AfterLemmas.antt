@@ -1,16 +1,21 @@
--- What stands after a change was committed.
-use Rattle.std.proofs.Common.{◌≡◌, inl, inr, ℕ, pos, ◌≤◌, false, List, ◌∷◌, map, arith, IsTrue, subst}
+-- What a change makes of what stood, from what its transaction came to.
+use Rattle.std.proofs.Common.{◌≡◌, inl, inr, ℕ, pos, ◌≤◌, false, List, ◌∷◌, map, arith, IsTrue, Result, Ok, Err, subst}
+use Rattle.std.specs.Prelude.{⊤}
 use Rattle.sqlite_trees.specs.declared.store.Store.{Ghosts}
 use Rattle.sqlite_trees.specs.View.{doubt}
 use Rattle.sqlite.specs.State.{HasCleanDisk}
 use Rattle.sqlite.specs.Tree.{Trees}
+use Rattle.sqlite.specs.Effect.{Database}
+use Rattle.sqlite.specs.declared.error.Error.{Error}
 use Rattle.sqlite.specs.Held.{Held, state}
 use Rattle.sqlite_value.specs.declared.value.Value.TheVariants.{Int}
 use Rattle.sqlite_value.specs.Order.{Row, column}
 use Rattle.desk_sql.specs.Rows as sql
 use Rattle.desk_sql.specs.Rows.{Tables, PutsOperator, ClosesPlan, tables_of}
 use Rattle.desk_sql.specs.Batches.{PutsPlan, RemovesPlans}
-use Rattle.desk_sql.specs.Effects.{Commits, MayMake, IsMadeOf, Spares}
+use Rattle.desk_sql.specs.Effects.{Commits, MayMake, IsMadeOf}
+use Rattle.desk_sql.specs.Frames.{OnlyReads}
+use Rattle.desk_sql.specs.Calls.{IsCommitted}
 use Rattle.desk_rules.specs.Limits.{max_priority}
 use Rattle.desk_rules.specs.Name.{is_operator_name}
 use Rattle.desk_store.specs.World.{World}
@@ -18,6 +23,7 @@ use Rattle.desk_store.specs.StoreChange.{changed_by, IsFitting}
 use Rattle.desk_rules.specs.declared.plan.PlanRow.{PlanRow}
 use Rattle.desk_store.specs.Changes.{filed_by}
 use Rattle.desk_store.specs.declared.change.Change.{Change}
+use Rattle.desk_store.specs.declared.fault.StoreFault.{StoreFault}
 use Rattle.desk_store.specs.declared.change.Change.TheVariants.{Enrol, Put, Close}
 use Rattle.desk_store.specs.Content.{IsId, IsPlan, IsContent}
 use Rattle.desk_tables.specs.Tables.{id_text, usage_number, aircraft_number, plan_row, plan_rows, area_rows, area_covers, ArePlanSpanRows, AreTables}
@@ -25,11 +31,13 @@ use Rattle.desk_tables.specs.Lookups.{own_of}
 use Rattle.desk_tables.specs.TableChanges.{ChangesRows, PutsRows, ClosesRows, ClearsRows, IsWithin}
 use Rattle.desk_tables.specs.Store.{Stands}
 use Rattle.desk_tables.specs.Leaving.{HasWorld, MayHave}
+use Rattle.desk_tables.specs.Changing.{IsMade}
 use Rattle.desk_tables.proofs.ChangeLemmas.{change_tables, change_content}
 use Rattle.desk_tables.proofs.SetLemmas.{operator_is_put}
 use Rattle.desk_tables.proofs.PutLemmas.{put_is_put}
 use Rattle.desk_tables.proofs.ClearLemmas.{removal_is_clear}
 use Rattle.desk_tables.proofs.CloseLemmas.{close_is_close}
+use Rattle.desk_tables.proofs.StoreLemmas.{kept_stands}
 
 named : (name : List ℕ) (ceiling : ℕ) → IsTrue (is_operator_name name) → IsWithin (Enrol name ceiling)
 unfolding IsWithin
@@ -69,117 +77,49 @@ close_asked : (operator id : List ℕ) (old new : Tables) → ClosesRows operato
 unfolding ChangesRows
 close_asked operator id old new e = e
 
--- what stands after a transaction that changed the rows as a change asks
-module _ {S : Type 0} (g : Ghosts S) (old new : Held S) (w : World) (stood : Stands g old w)
-    (mode : new.in_transaction ≡ false) (rises : doubt (state g old).is_clean ≤ doubt
-    (state g new).is_clean)
-  where
-    stands_changed : (change : Change) (Rows : Tables → Tables → Type 0)
-        → (HasCleanDisk (state g new) → Commits g old new Rows)
-        → (HasCleanDisk (state g old) → IsFitting change w) → IsWithin change
-        → ((one two : Tables) → HasCleanDisk (state g new) → IsContent w → AreTables one w
-        → Rows one two
-        → ChangesRows change one two) → Stands g new (changed_by change w)
-    stands_changed change Rows done fits within asks = record {
-      settled = mode;
-      standing = λ clean live.
-          let made = done clean in
-          let before = stood.standing (omega (arith, rises, clean)) made.was_open in
-          let one = tables_of (state g old).now.trees in
-          let two = tables_of (state g new).now.trees in
-          record {
-            content = change_content change w before.content (fits (omega (arith, rises, clean)))
-                within;
-            desk = made.desk;
-            tables = change_tables change w one two before.content within before.tables
-                (asks one two clean before.content before.tables made.changed);
-          };
-    }
+-- both went well, or neither
+abbrev pub AreAlike : {V E U F : Type 0} → Result V E → Result U F → Type 0
+AreAlike (Ok v) (Ok u) = ⊤
+AreAlike (Err e) (Err f) = ⊤
+AreAlike _ _ = ⊥
 
-    pub stands_enrolled : (name : List ℕ) (ceiling : ℕ)
-        → (HasCleanDisk (state g new) → Commits g old new (PutsOperator name ceiling))
-        → IsTrue (is_operator_name name) → (HasCleanDisk (state g old) → ceiling ≤ max_priority)
-        → Stands g new (changed_by (Enrol name ceiling) w)
-    stands_enrolled name ceiling done valid low =
-        stands_changed (Enrol name ceiling) (PutsOperator name ceiling) done
-        (λ clean. low_fits name ceiling w (low clean)) (named name ceiling valid)
-        (λ one two clean h t e. enrolled name ceiling w one two h t e)
+-- of rows that are the same
+pub committed_as : {S V A : Type 0} {g : Ghosts S} {old new : Held S} {r : Result V Error}
+    {Fits : Database → Type 0} (Rows : A → Tables → Tables → Type 0) {a b : A} → a ≡ b
+    → IsCommitted g old new r (Rows a) Fits → IsCommitted g old new r (Rows b) Fits
+committed_as {g = g} {old} {new} {r} {Fits} Rows is it =
+    subst (λ x. IsCommitted g old new r (Rows x) Fits) is it
 
-    pub stands_put : (operator : List ℕ) (row : PlanRow) (text : List ℕ) (volumes covers spans : List Row)
-        → text
-        ≡ id_text row.id → volumes ≡ area_rows (filed_by operator row)
-        → covers ≡ area_covers (filed_by operator row)
-        → ArePlanSpanRows (filed_by operator row) spans → IsPlan row
-        → (HasCleanDisk (state g new) → Commits g old new
-        (PutsPlan operator text (sql.plan_row operator text row.priority (usage_number row.usage)
-        (aircraft_number row.aircraft)) volumes covers spans))
-        → (HasCleanDisk (state g old) → IsFitting (Put operator row) w)
-        → Stands g new (changed_by (Put operator row) w)
-    stands_put operator row text volumes covers spans is are covers_are span_rows plan done fits =
-        stands_changed (Put operator row) (PutsPlan operator (id_text row.id)
-        (plan_row (filed_by operator row))
-        (area_rows (filed_by operator row)) (area_covers (filed_by operator row)) spans)
-        (λ clean. subst (λ rows. Commits g old new (PutsPlan operator (id_text row.id)
-        (plan_row (filed_by operator row)) (area_rows (filed_by operator row)) rows spans)) covers_are
-        (subst (λ rows. Commits g old new (PutsPlan operator (id_text row.id)
-        (plan_row (filed_by operator row)) rows covers spans)) are
-        (subst (λ t. Commits g old new (PutsPlan operator t
-        (sql.plan_row operator t row.priority (usage_number row.usage) (aircraft_number row.aircraft))
-        volumes covers spans)) is (done clean))))
-        fits (within_put operator row plan) (λ one two clean h t e. put_asked operator row one two
-        (put_is_put (filed_by operator row) w one two spans h plan t span_rows e))
-
-    pub stands_closed : (operator id : List ℕ) (priority aircraft : ℕ) (head_rows rest : List Row)
-        (head : Row)
-        → IsId id → column head 2 ≡ Int (pos priority) → column head 4 ≡ Int (pos aircraft)
-        → (HasCleanDisk (state g new) → head_rows ≡ plan_rows (own_of operator id w))
-        → head_rows ≡ head ∷ rest
-        → (HasCleanDisk (state g new) → Commits g old new
-        (ClosesPlan operator (id_text id) priority aircraft))
-        → (HasCleanDisk (state g old) → IsFitting (Close operator id) w)
-        → Stands g new (changed_by (Close operator id) w)
-    stands_closed operator id priority aircraft head_rows rest head valid at_priority at_aircraft are some
-        done
-        fits =
-        stands_changed (Close operator id) (ClosesPlan operator (id_text id) priority aircraft) done
-        fits
-        (within_close operator id valid)
-        (λ one two clean h t e. close_asked operator id one two
-        (close_is_close operator id head priority aircraft at_priority at_aircraft w one two head_rows rest
-        h
-        valid t (are clean) some e))
-
-    -- of a change that asks for the ids to be taken out
-    pub stands_cleared : (change : Change) (operator : List ℕ) (ids texts : List (List ℕ))
-        → IsWithin change
-        → ((one two : Tables) → ClearsRows operator ids one two → ChangesRows change one two) → texts
-        ≡ map id_text ids
-        → (HasCleanDisk (state g new) → Commits g old new (RemovesPlans operator texts))
-        → (HasCleanDisk (state g old) → IsFitting change w) → Stands g new (changed_by change w)
-    stands_cleared change operator ids texts within asks are done fits =
-        stands_changed change (RemovesPlans operator (map id_text ids))
-        (λ clean. subst (λ ts. Commits g old new (RemovesPlans operator ts)) are (done clean)) fits
-        within
-        (λ one two clean h t e. asks one two (removal_is_clear operator ids w one two t e))
-
--- ---- what a crash leaves of such a transaction
-
--- a reader before it leaves no more than before
-pub left_before : {S : Type 0} (g : Ghosts S) (old mid new : Held S) (w : World)
-    → doubt (state g mid).is_clean ≤ doubt (state g new).is_clean → Spares g old mid → MayHave g mid new w
-    → MayHave g old new w
-left_before g old mid new w rises spared last clean db left = elim (last clean db left) [
-  | inl before ↦ inl (spared (omega (arith, rises, clean)) db before)
-  | inr has ↦ inr has
-]
-
-module _ {S : Type 0} (g : Ghosts S) (old new : Held S) (w : World) (stood : Stands g old w)
-    (rises : doubt (state g old).is_clean ≤ doubt (state g new).is_clean) where
-  left_changed : (change : Change) (Rows : Tables → Tables → Type 0) → MayMake g old new Rows
+module _ {S : Type 0} (g : Ghosts S) (old new : Held S) (w : World) (stood : Stands g old w) where
+  stands_changed : new.in_transaction ≡ false → doubt (state g old).is_clean ≤ doubt (state g new).is_clean
+      → (change : Change) (Rows : Tables → Tables → Type 0)
+      → (HasCleanDisk (state g new) → Commits g old new Rows)
       → (HasCleanDisk (state g old) → IsFitting change w) → IsWithin change
-      → ((one two : Tables) → HasCleanDisk (state g new) → IsContent w → AreTables one w
-      → Rows one two → ChangesRows change one two) → MayHave g old new (changed_by change w)
-  left_changed change Rows makes fits within asks clean db left = elim (makes clean db left) [
+      → ((one two : Tables) → HasCleanDisk (state g new) → IsContent w → AreTables one w → Rows one two
+      → ChangesRows change one two)
+      → Stands g new (changed_by change w)
+  stands_changed mode rises change Rows done fits within asks = record {
+    settled = mode;
+    standing = λ clean live.
+        let made = done clean in
+        let before = stood.standing (omega (arith, rises, clean)) made.was_open in
+        let one = tables_of (state g old).now.trees in
+        let two = tables_of (state g new).now.trees in
+        record {
+          content = change_content change w before.content (fits (omega (arith, rises, clean))) within;
+          desk = made.desk;
+          tables = change_tables change w one two before.content within before.tables
+              (asks one two clean before.content before.tables made.changed);
+        };
+  }
+
+  left_changed : doubt (state g old).is_clean ≤ doubt (state g new).is_clean
+      → (change : Change) (Rows : Tables → Tables → Type 0) → MayMake g old new Rows
+      → (HasCleanDisk (state g old) → IsFitting change w) → IsWithin change
+      → ((one two : Tables) → HasCleanDisk (state g new) → IsContent w → AreTables one w → Rows one two
+      → ChangesRows change one two)
+      → MayHave g old new (changed_by change w)
+  left_changed rises change Rows makes fits within asks clean db left = elim (makes clean db left) [
     | inl before ↦ inl before
     | inr made ↦ inr (has_changed clean db made)
   ] where
@@ -198,56 +138,109 @@ module _ {S : Type 0} (g : Ghosts S) (old new : Held S) (w : World) (stood : Sta
               (asks one two clean before.content before.tables made.changed);
         }
 
-  pub left_enrolled : (name : List ℕ) (ceiling : ℕ) → MayMake g old new (PutsOperator name ceiling)
-      → IsTrue (is_operator_name name) → (HasCleanDisk (state g old) → ceiling ≤ max_priority)
-      → MayHave g old new (changed_by (Enrol name ceiling) w)
-  left_enrolled name ceiling makes valid low =
-      left_changed (Enrol name ceiling) (PutsOperator name ceiling) makes
-      (λ clean. low_fits name ceiling w (low clean)) (named name ceiling valid)
-      (λ one two clean h t e. enrolled name ceiling w one two h t e)
+  module _ {V : Type 0} {Fits : Database → Type 0} (r : Result (Unit {0}) Error) (made : Result V StoreFault)
+      (alike : AreAlike r made)
+    where
+      -- a transaction that changed the rows as a change asks made the change
+      made_changed : (change : Change) (Rows : Tables → Tables → Type 0) → IsCommitted g old new r Rows Fits
+          → (HasCleanDisk (state g old) → IsFitting change w) → IsWithin change
+          → ((one two : Tables) → HasCleanDisk (state g new) → IsContent w → AreTables one w → Rows one two
+          → ChangesRows change one two)
+          → IsMade g old new made w change
+      made_changed change Rows it fits within asks = by_cases r made alike it where
+        by_cases : (r : Result (Unit {0}) Error) (made : Result V StoreFault) → AreAlike r made
+            → IsCommitted g old new r Rows Fits → IsMade g old new made w change
+        by_cases (Ok u) (Ok v) alike it = record {
+          ok = stands_changed it.over.mode it.over.doubt change Rows it.done fits within asks;
+          err = tt;
+          crash = left_changed it.over.doubt change Rows it.crash fits within asks;
+          is_open = λ clean. (it.done clean).is_open;
+          committed = λ clean. (it.done clean).settled;
+          doubt = it.over.doubt;
+          shield = it.over.shield;
+        }
+        by_cases (Err e) (Err f) alike it = record {
+          ok = tt;
+          err = kept_stands g old new w stood it.over.mode it.over.doubt it.kept;
+          crash = left_changed it.over.doubt change Rows it.crash fits within asks;
+          is_open = λ clean. tt;
+          committed = λ clean. tt;
+          doubt = it.over.doubt;
+          shield = it.over.shield;
+        }
+        by_cases (Ok u) (Err f) alike it = absurd alike
+        by_cases (Err e) (Ok v) alike it = absurd alike
 
-  pub left_put : (operator : List ℕ) (row : PlanRow) (text : List ℕ) (volumes covers spans : List Row)
-      → text ≡ id_text row.id → volumes ≡ area_rows (filed_by operator row)
-      → covers ≡ area_covers (filed_by operator row)
-      → ArePlanSpanRows (filed_by operator row) spans → IsPlan row
-      → MayMake g old new (PutsPlan operator text
-      (sql.plan_row operator text row.priority (usage_number row.usage)
-      (aircraft_number row.aircraft)) volumes covers spans)
-      → (HasCleanDisk (state g old) → IsFitting (Put operator row) w)
-      → MayHave g old new (changed_by (Put operator row) w)
-  left_put operator row text volumes covers spans is are covers_are span_rows plan makes fits =
-      left_changed (Put operator row) (PutsPlan operator (id_text row.id)
-      (plan_row (filed_by operator row)) (area_rows (filed_by operator row))
-      (area_covers (filed_by operator row)) spans)
-      (subst (λ rows. MayMake g old new (PutsPlan operator (id_text row.id)
-      (plan_row (filed_by operator row)) (area_rows (filed_by operator row)) rows spans)) covers_are
-      (subst (λ rows. MayMake g old new (PutsPlan operator (id_text row.id)
-      (plan_row (filed_by operator row)) rows covers spans)) are
-      (subst (λ t. MayMake g old new (PutsPlan operator t
-      (sql.plan_row operator t row.priority (usage_number row.usage) (aircraft_number row.aircraft))
-      volumes covers spans)) is makes)))
-      fits (within_put operator row plan) (λ one two clean h t e. put_asked operator row one two
-      (put_is_put (filed_by operator row) w one two spans h plan t span_rows e))
+      pub made_enrolled : (name : List ℕ) (ceiling : ℕ)
+          → IsCommitted g old new r (PutsOperator name ceiling) Fits
+          → IsTrue (is_operator_name name) → (HasCleanDisk (state g old) → ceiling ≤ max_priority)
+          → IsMade g old new made w (Enrol name ceiling)
+      made_enrolled name ceiling it valid low =
+          made_changed (Enrol name ceiling) (PutsOperator name ceiling) it
+          (λ clean. low_fits name ceiling w (low clean)) (named name ceiling valid)
+          (λ one two clean h t e. enrolled name ceiling w one two h t e)
 
-  pub left_closed : (operator id : List ℕ) (priority aircraft : ℕ) (head_rows rest : List Row) (head : Row)
-      → IsId id → column head 2 ≡ Int (pos priority) → column head 4 ≡ Int (pos aircraft)
-      → (HasCleanDisk (state g new) → head_rows ≡ plan_rows (own_of operator id w)) → head_rows ≡ head ∷ rest
-      → MayMake g old new (ClosesPlan operator (id_text id) priority aircraft)
-      → (HasCleanDisk (state g old) → IsFitting (Close operator id) w)
-      → MayHave g old new (changed_by (Close operator id) w)
-  left_closed operator id priority aircraft head_rows rest head valid at_priority at_aircraft are some makes
-      fits =
-      left_changed (Close operator id) (ClosesPlan operator (id_text id) priority aircraft) makes fits
-      (within_close operator id valid)
-      (λ one two clean h t e. close_asked operator id one two
-      (close_is_close operator id head priority aircraft at_priority at_aircraft w one two head_rows rest h
-      valid t (are clean) some e))
+      pub made_put : (operator : List ℕ) (row : PlanRow) (text : List ℕ) (volumes covers spans : List Row)
+          → text ≡ id_text row.id → volumes ≡ area_rows (filed_by operator row)
+          → covers ≡ area_covers (filed_by operator row)
+          → ArePlanSpanRows (filed_by operator row) spans → IsPlan row
+          → IsCommitted g old new r (PutsPlan operator text
+          (sql.plan_row operator text row.priority (usage_number row.usage) (aircraft_number row.aircraft))
+          volumes covers spans) Fits
+          → (HasCleanDisk (state g old) → IsFitting (Put operator row) w)
+          → IsMade g old new made w (Put operator row)
+      made_put operator row text volumes covers spans is are covers_are span_rows plan it fits =
+          made_changed (Put operator row) (PutsPlan operator (id_text row.id)
+          (plan_row (filed_by operator row)) (area_rows (filed_by operator row))
+          (area_covers (filed_by operator row)) spans)
+          (committed_as (λ rows. PutsPlan operator (id_text row.id)
+          (plan_row (filed_by operator row)) (area_rows (filed_by operator row)) rows spans) covers_are
+          (committed_as (λ rows. PutsPlan operator (id_text row.id)
+          (plan_row (filed_by operator row)) rows covers spans) are
+          (committed_as (λ t. PutsPlan operator t
+          (sql.plan_row operator t row.priority (usage_number row.usage) (aircraft_number row.aircraft))
+          volumes covers spans) is it)))
+          fits (within_put operator row plan) (λ one two clean h t e. put_asked operator row one two
+          (put_is_put (filed_by operator row) w one two spans h plan t span_rows e))
 
-  pub left_cleared : (change : Change) (operator : List ℕ) (ids texts : List (List ℕ)) → IsWithin change
-      → ((one two : Tables) → ClearsRows operator ids one two → ChangesRows change one two)
-      → texts ≡ map id_text ids → MayMake g old new (RemovesPlans operator texts)
-      → (HasCleanDisk (state g old) → IsFitting change w) → MayHave g old new (changed_by change w)
-  left_cleared change operator ids texts within asks are makes fits =
-      left_changed change (RemovesPlans operator (map id_text ids))
-      (subst (λ ts. MayMake g old new (RemovesPlans operator ts)) are makes) fits within
-      (λ one two clean h t e. asks one two (removal_is_clear operator ids w one two t e))
+      pub made_cleared : (change : Change) (operator : List ℕ) (ids texts : List (List ℕ)) → IsWithin change
+          → ((one two : Tables) → ClearsRows operator ids one two → ChangesRows change one two)
+          → texts ≡ map id_text ids → IsCommitted g old new r (RemovesPlans operator texts) Fits
+          → (HasCleanDisk (state g old) → IsFitting change w) → IsMade g old new made w change
+      made_cleared change operator ids texts within asks are it fits =
+          made_changed change (RemovesPlans operator (map id_text ids))
+          (committed_as (λ ts. RemovesPlans operator ts) are it) fits within
+          (λ one two clean h t e. asks one two (removal_is_clear operator ids w one two t e))
+
+      pub made_closed : (operator id : List ℕ) (priority aircraft : ℕ) (head_rows rest : List Row)
+          (head : Row)
+          → IsId id → column head 2 ≡ Int (pos priority) → column head 4 ≡ Int (pos aircraft)
+          → (HasCleanDisk (state g new) → head_rows ≡ plan_rows (own_of operator id w))
+          → head_rows ≡ head ∷ rest
+          → IsCommitted g old new r (ClosesPlan operator (id_text id) priority aircraft) Fits
+          → (HasCleanDisk (state g old) → IsFitting (Close operator id) w)
+          → IsMade g old new made w (Close operator id)
+      made_closed operator id priority aircraft head_rows rest head valid at_priority at_aircraft are some it
+          fits =
+          made_changed (Close operator id) (ClosesPlan operator (id_text id) priority aircraft) it fits
+          (within_close operator id valid)
+          (λ one two clean h t e. close_asked operator id one two
+          (close_is_close operator id head priority aircraft at_priority at_aircraft w one two head_rows rest
+          h valid t (are clean) some e))
+
+module _ {S V : Type 0} (g : Ghosts S) where
+  -- a reader before it leaves no more than before
+  pub made_after : (old mid new : Held S) (r : Result V StoreFault) (w : World) (change : Change)
+      → OnlyReads g old mid → IsMade g mid new r w change → IsMade g old new r w change
+  made_after old mid new r w change reads made = record {
+    ok = made.ok;
+    err = made.err;
+    crash = λ clean db left. elim (made.crash clean db left) [
+      | inl before ↦ inl (reads.spared (omega (arith, made.doubt, clean)) db before)
+      | inr has ↦ inr has
+    ];
+    is_open = made.is_open;
+    committed = made.committed;
+    doubt = omega (arith, reads.doubt, made.doubt);
+    shield = λ s. made.shield (reads.shield s);
+  }

@@ -18,4 +18,5 @@ pub mod Copying
 pub mod Causes
 pub mod Files
 pub mod Leaving
+pub mod Changing
 pub mod Guarding

@@ -129,7 +129,7 @@ fn part_cause(part: PartFault) -> &'static str {
         PartFault::BothSchemas => "rows of schema 1 beside rows of schema 2",
         PartFault::Operator => "rows of no content in operator",
         PartFault::Plan => "rows of no content in plan",
-        PartFault::Plans => "more plans of an operator in plan than it may have",
+        PartFault::Plans => "plans of no operator, or too many of one, in plan",
         PartFault::Volume => "rows of no content in volume2",
         PartFault::Cover => "covers of no content in volume2",
         PartFault::Span => "rows of no content in span2",

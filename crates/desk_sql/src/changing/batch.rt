@@ -1,17 +1,17 @@
 //! Rows of volumes and of spans added, and plans removed, one after the other.
 
-ghost use Rattle.std.specs.Prelude.{◌≡◌, IfErr, OnOk, OnErr, IsTrue, length, map};
+ghost use Rattle.std.specs.Prelude.{◌≡◌, ⊤, OnOk, IsTrue, length, map};
 ghost use Rattle.std.specs.String.{string_bytes};
 ghost use Rattle.sqlite.specs.Effect.{IsDatabase};
-ghost use Rattle.sqlite.specs.State.{HasCleanDisk, KeepsCommit};
+ghost use Rattle.sqlite.specs.State.{HasCleanDisk};
 ghost use Rattle.sqlite.specs.Held.{state};
 ghost use Rattle.desk_sql.specs.Batches.{volume_of, cover_of, span_of, AddsVolumes, AddsSpans, RemovesPlans, IsUnderWay};
 ghost use Rattle.desk_sql.specs.Effects.{IsReady, Makes};
 ghost use Rattle.desk_sql.specs.Frames.{Remembers};
+ghost use Rattle.desk_sql.specs.Calls.{IsChanged, IsRefused, IsUndone};
 ghost use Rattle.desk_sql.specs.Finding.{Holds};
 ghost use Rattle.desk_sql.specs.Rows.{RemovesPlan};
 ghost use Rattle.desk_sql.specs.Putting.{AreNewSpans, AreNewVolumes, TakesRoom};
-ghost use Rattle.desk_sql.specs.Refusals.{IsRefusal};
 
 use crate::changing::change::Change;
 use crate::changing::execute::execute;
@@ -25,20 +25,10 @@ pub fn insert_volumes<S: Alter>(
 ) -> Result<(), Error>
     requires under_way { IsUnderWay S.Store tx.old.conn.now }
     ensures same_reference { tx.new.conn.ghost_name ≡ tx.old.conn.ghost_name }
-    ensures done { HasCleanDisk (state S.Store tx.new.conn.now)
-        → OnOk result (Makes S.Store tx.old.conn.now tx.new.conn.now (AddsVolumes
-        (map volume_of rows.now) (map cover_of rows.now))) }
-    ensures undone { HasCleanDisk (state S.Store tx.new.conn.now)
-        → OnErr result (KeepsCommit (state S.Store tx.old.conn.now)
-        (state S.Store tx.new.conn.now)) }
-    ensures cause { AreNewVolumes (map volume_of rows.now) (map cover_of rows.now)
-        (state S.Store tx.old.conn.now).now
-        → HasCleanDisk (state S.Store tx.new.conn.now)
-        → IfErr result (IsRefusal S.Store tx.old.conn.now tx.new.conn.now) }
-    ensures room { HasCleanDisk (state S.Store tx.new.conn.now)
-        → OnOk result (TakesRoom 0 (length rows.now) 0 (state S.Store tx.old.conn.now).now.trees
-        (state S.Store tx.new.conn.now).now.trees) }
-    ensures remembered { Remembers S.Store tx.old.conn.now tx.new.conn.now }
+    ensures changed { IsChanged S.Store tx.old.conn.now tx.new.conn.now result
+        (AddsVolumes (map volume_of rows.now) (map cover_of rows.now))
+        (AreNewVolumes (map volume_of rows.now) (map cover_of rows.now))
+        (TakesRoom 0 (length rows.now) 0) }
 {
     'rows: for row in rows {
         execute(tx, Change::AddVolume(*row))?;
@@ -53,19 +43,9 @@ pub fn insert_spans<S: Alter>(
 ) -> Result<(), Error>
     requires under_way { IsUnderWay S.Store tx.old.conn.now }
     ensures same_reference { tx.new.conn.ghost_name ≡ tx.old.conn.ghost_name }
-    ensures done { HasCleanDisk (state S.Store tx.new.conn.now)
-        → OnOk result (Makes S.Store tx.old.conn.now tx.new.conn.now (AddsSpans
-        (map span_of rows.now))) }
-    ensures undone { HasCleanDisk (state S.Store tx.new.conn.now)
-        → OnErr result (KeepsCommit (state S.Store tx.old.conn.now)
-        (state S.Store tx.new.conn.now)) }
-    ensures cause { AreNewSpans (map span_of rows.now) (state S.Store tx.old.conn.now).now
-        → HasCleanDisk (state S.Store tx.new.conn.now)
-        → IfErr result (IsRefusal S.Store tx.old.conn.now tx.new.conn.now) }
-    ensures room { HasCleanDisk (state S.Store tx.new.conn.now)
-        → OnOk result (TakesRoom 0 0 (length rows.now) (state S.Store tx.old.conn.now).now.trees
-        (state S.Store tx.new.conn.now).now.trees) }
-    ensures remembered { Remembers S.Store tx.old.conn.now tx.new.conn.now }
+    ensures changed { IsChanged S.Store tx.old.conn.now tx.new.conn.now result
+        (AddsSpans (map span_of rows.now)) (AreNewSpans (map span_of rows.now))
+        (TakesRoom 0 0 (length rows.now)) }
 {
     'rows: for row in rows {
         execute(tx, Change::AddSpan(*row))?;
@@ -86,12 +66,8 @@ pub fn remove_plans<S: Alter>(
     ensures done { HasCleanDisk (state S.Store tx.new.conn.now)
         → OnOk result (Makes S.Store tx.old.conn.now tx.new.conn.now
         (RemovesPlans operator.now (map string_bytes ids.now))) }
-    ensures undone { HasCleanDisk (state S.Store tx.new.conn.now)
-        → OnErr result (KeepsCommit (state S.Store tx.old.conn.now)
-        (state S.Store tx.new.conn.now)) }
-    ensures cause { HasCleanDisk (state S.Store tx.new.conn.now)
-        → IsTrue (state S.Store tx.new.conn.now).is_open
-        → IfErr result (IsRefusal S.Store tx.old.conn.now tx.new.conn.now) }
+    ensures undone { IsUndone S.Store tx.old.conn.now tx.new.conn.now result }
+    ensures cause { IsRefused S.Store tx.old.conn.now tx.new.conn.now result }
     ensures remembered { Remembers S.Store tx.old.conn.now tx.new.conn.now }
 {
     // Refused on a connection that is shut, also if there are no ids.
@@ -110,15 +86,8 @@ fn remove_one<S: Alter>(
 ) -> Result<(), Error>
     requires ready { IsReady S.Store tx.old.conn.now }
     ensures same_reference { tx.new.conn.ghost_name ≡ tx.old.conn.ghost_name }
-    ensures done { HasCleanDisk (state S.Store tx.new.conn.now)
-        → OnOk result (Makes S.Store tx.old.conn.now tx.new.conn.now
-        (RemovesPlan operator.now (string_bytes id.now))) }
-    ensures undone { HasCleanDisk (state S.Store tx.new.conn.now)
-        → OnErr result (KeepsCommit (state S.Store tx.old.conn.now)
-        (state S.Store tx.new.conn.now)) }
-    ensures cause { IsUnderWay S.Store tx.old.conn.now → HasCleanDisk (state S.Store tx.new.conn.now)
-        → IfErr result (IsRefusal S.Store tx.old.conn.now tx.new.conn.now) }
-    ensures remembered { Remembers S.Store tx.old.conn.now tx.new.conn.now }
+    ensures changed { IsChanged S.Store tx.old.conn.now tx.new.conn.now result
+        (RemovesPlan operator.now (string_bytes id.now)) (λ _. ⊤) (TakesRoom 0 0 0) }
 {
     execute(tx, Change::RemovePlan { operator, id })
 }

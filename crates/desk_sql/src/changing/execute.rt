@@ -1,14 +1,10 @@
 //! A change of the tables, made within a transaction.
 
-ghost use Rattle.std.specs.Prelude.{◌≡◌, IfErr, OnOk, OnErr};
+ghost use Rattle.std.specs.Prelude.{◌≡◌};
 ghost use Rattle.sqlite.specs.Values.{bound};
-ghost use Rattle.sqlite.specs.State.{HasCleanDisk, KeepsCommit};
-ghost use Rattle.sqlite.specs.Held.{state};
-ghost use Rattle.desk_sql.specs.Effects.{IsReady, Makes};
-ghost use Rattle.desk_sql.specs.Frames.{Remembers};
-ghost use Rattle.desk_sql.specs.Batches.{IsUnderWay};
+ghost use Rattle.desk_sql.specs.Effects.{IsReady};
+ghost use Rattle.desk_sql.specs.Calls.{IsChanged};
 ghost use Rattle.desk_sql.specs.Changes.{given_to, changes, fits, takes};
-ghost use Rattle.desk_sql.specs.Refusals.{IsRefusal};
 
 use crate::changing::change::Change;
 use crate::changing::run::run;
@@ -24,18 +20,8 @@ fn run_change<S: Alter>(
     requires ready { IsReady S.Store tx.old.conn.now }
     requires given { bound params.now ≡ given_to change }
     ensures same_reference { tx.new.conn.ghost_name ≡ tx.old.conn.ghost_name }
-    ensures done { HasCleanDisk (state S.Store tx.new.conn.now)
-        → OnOk result (Makes S.Store tx.old.conn.now tx.new.conn.now (changes change.entry)) }
-    ensures undone { HasCleanDisk (state S.Store tx.new.conn.now)
-        → OnErr result (KeepsCommit (state S.Store tx.old.conn.now)
-        (state S.Store tx.new.conn.now)) }
-    ensures cause { IsUnderWay S.Store tx.old.conn.now
-        → fits change.entry (state S.Store tx.old.conn.now).now → HasCleanDisk (state S.Store tx.new.conn.now)
-        → IfErr result (IsRefusal S.Store tx.old.conn.now tx.new.conn.now) }
-    ensures room { HasCleanDisk (state S.Store tx.new.conn.now)
-        → OnOk result (takes change.entry (state S.Store tx.old.conn.now).now.trees
-        (state S.Store tx.new.conn.now).now.trees) }
-    ensures remembered { Remembers S.Store tx.old.conn.now tx.new.conn.now }
+    ensures changed { IsChanged S.Store tx.old.conn.now tx.new.conn.now result
+        (changes change.entry) (fits change.entry) (takes change.entry) }
 {
     run(tx, change.text(), params)?;
     Ok(())
@@ -48,18 +34,8 @@ pub(crate) fn execute<S: Alter>(
 ) -> Result<(), Error>
     requires ready { IsReady S.Store tx.old.conn.now }
     ensures same_reference { tx.new.conn.ghost_name ≡ tx.old.conn.ghost_name }
-    ensures done { HasCleanDisk (state S.Store tx.new.conn.now)
-        → OnOk result (Makes S.Store tx.old.conn.now tx.new.conn.now (changes change.entry)) }
-    ensures undone { HasCleanDisk (state S.Store tx.new.conn.now)
-        → OnErr result (KeepsCommit (state S.Store tx.old.conn.now)
-        (state S.Store tx.new.conn.now)) }
-    ensures cause { IsUnderWay S.Store tx.old.conn.now
-        → fits change.entry (state S.Store tx.old.conn.now).now → HasCleanDisk (state S.Store tx.new.conn.now)
-        → IfErr result (IsRefusal S.Store tx.old.conn.now tx.new.conn.now) }
-    ensures room { HasCleanDisk (state S.Store tx.new.conn.now)
-        → OnOk result (takes change.entry (state S.Store tx.old.conn.now).now.trees
-        (state S.Store tx.new.conn.now).now.trees) }
-    ensures remembered { Remembers S.Store tx.old.conn.now tx.new.conn.now }
+    ensures changed { IsChanged S.Store tx.old.conn.now tx.new.conn.now result
+        (changes change.entry) (fits change.entry) (takes change.entry) }
 {
     match change {
         Change::AddOperator { name, ceiling } => run_change(tx, change, params![name, ceiling]),

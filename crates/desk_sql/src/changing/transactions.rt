@@ -1,17 +1,15 @@
 //! Whole changes of the tables, each one transaction.
 
-ghost use Rattle.std.specs.Prelude.{◌≡◌, false, OnOk, OnErr, IfOk, IfErr, IsTrue, map};
-ghost use Rattle.sqlite.specs.State.{HasCleanDisk};
-ghost use Rattle.sqlite.specs.Held.{state};
-ghost use Rattle.desk_sql.specs.Rows.{PutsOperator, ClosesPlan, is_by, plan_row, tables_of};
+ghost use Rattle.std.specs.Prelude.{◌≡◌, ⊤, false, map};
+ghost use Rattle.desk_sql.specs.Rows.{PutsOperator, ClosesPlan, is_by, tables_of};
 ghost use Rattle.std.specs.List.{list_any};
 ghost use Rattle.std.specs.String.{string_bytes};
 ghost use Rattle.desk_sql.specs.Batches.{PutsPlan, RemovesPlans, volume_of, cover_of, span_of};
 ghost use Rattle.desk_sql.specs.Changing.{AreLow, HasRoom, IsShort};
 ghost use Rattle.desk_sql.specs.Putting.{IsPuttable};
-ghost use Rattle.desk_sql.specs.Refusals.{IsRefusal};
-ghost use Rattle.desk_sql.specs.Effects.{IsReady, IsKept, Commits, MayMake};
-ghost use Rattle.desk_sql.specs.Frames.{OnlyReads, IsOver};
+ghost use Rattle.desk_sql.specs.Changes.{row_of};
+ghost use Rattle.desk_sql.specs.Effects.{IsReady};
+ghost use Rattle.desk_sql.specs.Calls.{Answers, IsCommitted};
 
 use crate::changing::batch::{insert_spans, insert_volumes, remove_plans};
 use crate::changing::change::Change;
@@ -32,16 +30,8 @@ pub fn clear_plans<S: Alter>(
 ) -> Result<(), Error>
     requires ready { IsReady S.Store connection.old }
     requires settled { connection.old.in_transaction ≡ false }
-    ensures done { HasCleanDisk (state S.Store connection.new)
-        → OnOk result (Commits S.Store connection.old connection.new
-        (RemovesPlans operator.now (map string_bytes ids.now))) }
-    ensures kept { OnErr result (IsKept S.Store connection.old connection.new) }
-    ensures cause { HasCleanDisk (state S.Store connection.new)
-        → IsTrue (state S.Store connection.new).is_open
-        → IfErr result (IsRefusal S.Store connection.old connection.new) }
-    ensures over { IsOver S.Store connection.old connection.new }
-    ensures crash { MayMake S.Store connection.old connection.new
-        (RemovesPlans operator.now (map string_bytes ids.now)) }
+    ensures committed { IsCommitted S.Store connection.old connection.new result
+        (RemovesPlans operator.now (map string_bytes ids.now)) (λ _. ⊤) }
 {
     settled_and_sound(connection);
     let mut tx = connection.transaction();
@@ -58,27 +48,11 @@ pub fn put_plan<S: Alter>(
 ) -> Result<(), Error>
     requires ready { IsReady S.Store connection.old }
     requires settled { connection.old.in_transaction ≡ false }
-    ensures done { HasCleanDisk (state S.Store connection.new)
-        → OnOk result (Commits S.Store connection.old connection.new
-        (PutsPlan plan.entry.operator.now plan.entry.id.now
-        (plan_row plan.entry.operator.now plan.entry.id.now plan.entry.priority plan.entry.usage
-        plan.entry.aircraft) (map volume_of volumes.now) (map cover_of volumes.now)
-        (map span_of spans.now))) }
-    ensures kept { OnErr result (IsKept S.Store connection.old connection.new) }
-    ensures cause { IsPuttable plan.entry.operator.now plan.entry.id.now
-        (plan_row plan.entry.operator.now plan.entry.id.now plan.entry.priority plan.entry.usage
-        plan.entry.aircraft) (map volume_of volumes.now) (map cover_of volumes.now)
-        (map span_of spans.now)
-        (state S.Store connection.old).now
-        → HasCleanDisk (state S.Store connection.new)
-        → IsTrue (state S.Store connection.new).is_open
-        → IfErr result (IsRefusal S.Store connection.old connection.new) }
-    ensures over { IsOver S.Store connection.old connection.new }
-    ensures crash { MayMake S.Store connection.old connection.new
-        (PutsPlan plan.entry.operator.now plan.entry.id.now
-        (plan_row plan.entry.operator.now plan.entry.id.now plan.entry.priority plan.entry.usage
-        plan.entry.aircraft) (map volume_of volumes.now) (map cover_of volumes.now)
-        (map span_of spans.now)) }
+    ensures committed { IsCommitted S.Store connection.old connection.new result
+        (PutsPlan plan.entry.operator.now plan.entry.id.now (row_of plan.entry)
+        (map volume_of volumes.now) (map cover_of volumes.now) (map span_of spans.now))
+        (IsPuttable plan.entry.operator.now plan.entry.id.now (row_of plan.entry)
+        (map volume_of volumes.now) (map cover_of volumes.now) (map span_of spans.now)) }
 {
     settled_and_sound(connection);
     let mut tx = connection.transaction();
@@ -101,13 +75,8 @@ pub fn put_plan<S: Alter>(
 pub fn is_enrolled<S: Alter>(connection: &mut Connection<S>, name: &str) -> Result<bool, Error>
     requires ready { IsReady S.Store connection.old }
     requires settled { connection.old.in_transaction ≡ false }
-    ensures value { HasCleanDisk (state S.Store connection.new)
-        → IfOk result (λ found. found ≡ list_any (is_by name.now) (tables_of
-        (state S.Store connection.old).now.trees).operators) }
-    ensures cause { HasCleanDisk (state S.Store connection.new)
-        → IsTrue (state S.Store connection.new).is_open
-        → IfErr result (IsRefusal S.Store connection.old connection.new) }
-    ensures reads { OnlyReads S.Store connection.old connection.new }
+    ensures answers { Answers S.Store connection.old connection.new result
+        (λ db found. found ≡ list_any (is_by name.now) (tables_of db).operators) }
 {
     let rows = answer(connection, Query::OperatorNamed { name }, params![name])?;
     Ok(!rows.is_empty())
@@ -121,17 +90,8 @@ pub fn put_operator<S: Alter>(
 ) -> Result<(), Error>
     requires ready { IsReady S.Store connection.old }
     requires settled { connection.old.in_transaction ≡ false }
-    ensures done { HasCleanDisk (state S.Store connection.new)
-        → OnOk result (Commits S.Store connection.old connection.new
-        (PutsOperator name.now ceiling)) }
-    ensures kept { OnErr result (IsKept S.Store connection.old connection.new) }
-    ensures cause { IsShort name.now → HasRoom 1 ((state S.Store connection.old).now.trees 0)
-        → HasCleanDisk (state S.Store connection.new)
-        → IsTrue (state S.Store connection.new).is_open
-        → IfErr result (IsRefusal S.Store connection.old connection.new) }
-    ensures over { IsOver S.Store connection.old connection.new }
-    ensures crash { MayMake S.Store connection.old connection.new
-        (PutsOperator name.now ceiling) }
+    ensures committed { IsCommitted S.Store connection.old connection.new result
+        (PutsOperator name.now ceiling) (λ db. IsShort name.now × HasRoom 1 (db.trees 0)) }
 {
     let is_there = is_enrolled(connection, name)?;
     settled_and_sound(connection);
@@ -155,18 +115,9 @@ pub fn close_plan<S: Alter>(
 ) -> Result<(), Error>
     requires ready { IsReady S.Store connection.old }
     requires settled { connection.old.in_transaction ≡ false }
-    ensures done { HasCleanDisk (state S.Store connection.new)
-        → OnOk result (Commits S.Store connection.old connection.new
-        (ClosesPlan operator.now id.now priority aircraft)) }
-    ensures kept { OnErr result (IsKept S.Store connection.old connection.new) }
-    ensures cause { IsShort operator.now → IsShort id.now
-        → AreLow ((state S.Store connection.old).now.trees 2)
-        → HasCleanDisk (state S.Store connection.new)
-        → IsTrue (state S.Store connection.new).is_open
-        → IfErr result (IsRefusal S.Store connection.old connection.new) }
-    ensures over { IsOver S.Store connection.old connection.new }
-    ensures crash { MayMake S.Store connection.old connection.new
-        (ClosesPlan operator.now id.now priority aircraft) }
+    ensures committed { IsCommitted S.Store connection.old connection.new result
+        (ClosesPlan operator.now id.now priority aircraft)
+        (λ db. IsShort operator.now × IsShort id.now × AreLow (db.trees 2)) }
 {
     settled_and_sound(connection);
     let mut tx = connection.transaction();

@@ -1,15 +1,11 @@
 //! Rows as they are written, and the statements that add one operator or plan.
 
-ghost use Rattle.std.specs.Prelude.{◌≡◌, IfErr, OnOk, OnErr};
-ghost use Rattle.sqlite.specs.State.{HasCleanDisk, KeepsCommit};
-ghost use Rattle.sqlite.specs.Held.{state};
+ghost use Rattle.std.specs.Prelude.{◌≡◌, ⊤};
 ghost use Rattle.desk_sql.specs.Rows.{operator_row, plan_row, AddsOperator, AddsPlan};
-ghost use Rattle.desk_sql.specs.Effects.{IsReady, Makes};
-ghost use Rattle.desk_sql.specs.Frames.{Remembers};
-ghost use Rattle.desk_sql.specs.Batches.{IsUnderWay};
+ghost use Rattle.desk_sql.specs.Effects.{IsReady};
+ghost use Rattle.desk_sql.specs.Calls.{IsChanged};
 ghost use Rattle.desk_sql.specs.Changing.{FitsOperator, FitsPlan};
 ghost use Rattle.desk_sql.specs.Putting.{TakesRoom};
-ghost use Rattle.desk_sql.specs.Refusals.{IsRefusal};
 
 use crate::changing::change::Change;
 use crate::changing::execute::execute;
@@ -64,16 +60,9 @@ pub fn insert_operator<S: Alter>(
 ) -> Result<(), Error>
     requires ready { IsReady S.Store tx.old.conn.now }
     ensures same_reference { tx.new.conn.ghost_name ≡ tx.old.conn.ghost_name }
-    ensures done { HasCleanDisk (state S.Store tx.new.conn.now)
-        → OnOk result (Makes S.Store tx.old.conn.now tx.new.conn.now (AddsOperator
-        (operator_row name.now ceiling))) }
-    ensures undone { HasCleanDisk (state S.Store tx.new.conn.now)
-        → OnErr result (KeepsCommit (state S.Store tx.old.conn.now)
-        (state S.Store tx.new.conn.now)) }
-    ensures cause { IsUnderWay S.Store tx.old.conn.now → FitsOperator name.now (operator_row name.now ceiling)
-        (state S.Store tx.old.conn.now).now → HasCleanDisk (state S.Store tx.new.conn.now)
-        → IfErr result (IsRefusal S.Store tx.old.conn.now tx.new.conn.now) }
-    ensures remembered { Remembers S.Store tx.old.conn.now tx.new.conn.now }
+    ensures changed { IsChanged S.Store tx.old.conn.now tx.new.conn.now result
+        (AddsOperator (operator_row name.now ceiling))
+        (FitsOperator name.now (operator_row name.now ceiling)) (λ _ _. ⊤) }
 {
     execute(tx, Change::AddOperator { name, ceiling })
 }
@@ -89,20 +78,10 @@ pub fn insert_plan<S: Alter>(
 ) -> Result<(), Error>
     requires ready { IsReady S.Store tx.old.conn.now }
     ensures same_reference { tx.new.conn.ghost_name ≡ tx.old.conn.ghost_name }
-    ensures done { HasCleanDisk (state S.Store tx.new.conn.now)
-        → OnOk result (Makes S.Store tx.old.conn.now tx.new.conn.now (AddsPlan
-        (plan_row operator.now id.now priority usage aircraft))) }
-    ensures undone { HasCleanDisk (state S.Store tx.new.conn.now)
-        → OnErr result (KeepsCommit (state S.Store tx.old.conn.now)
-        (state S.Store tx.new.conn.now)) }
-    ensures cause { IsUnderWay S.Store tx.old.conn.now → FitsPlan operator.now id.now
-        (plan_row operator.now id.now priority usage aircraft)
-        (state S.Store tx.old.conn.now).now → HasCleanDisk (state S.Store tx.new.conn.now)
-        → IfErr result (IsRefusal S.Store tx.old.conn.now tx.new.conn.now) }
-    ensures room { HasCleanDisk (state S.Store tx.new.conn.now)
-        → OnOk result (TakesRoom 1 0 0 (state S.Store tx.old.conn.now).now.trees
-        (state S.Store tx.new.conn.now).now.trees) }
-    ensures remembered { Remembers S.Store tx.old.conn.now tx.new.conn.now }
+    ensures changed { IsChanged S.Store tx.old.conn.now tx.new.conn.now result
+        (AddsPlan (plan_row operator.now id.now priority usage aircraft))
+        (FitsPlan operator.now id.now (plan_row operator.now id.now priority usage aircraft))
+        (TakesRoom 1 0 0) }
 {
     let plan = PlanRecord {
         operator,

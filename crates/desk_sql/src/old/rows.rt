@@ -1,13 +1,10 @@
 //! Whether there are rows of version 1 of the schema.
 
-ghost use Rattle.std.specs.Prelude.{◌≡◌, ◌&&◌, true, false, IsTrue, IfOk, IfErr, OnOk};
-ghost use Rattle.sqlite.specs.State.{HasCleanDisk};
-ghost use Rattle.sqlite.specs.Held.{state};
+ghost use Rattle.std.specs.Prelude.{◌≡◌, ◌&&◌, true, false};
 ghost use Rattle.desk_sql.specs.Schema.{HasTable, has_table, tree_of};
 ghost use Rattle.desk_sql.specs.Rows.{IsMadeTo, has_old_rows, has_rows, tables_at};
 ghost use Rattle.desk_sql.specs.Finding.{Holds};
-ghost use Rattle.desk_sql.specs.Refusals.{IsRefusal};
-ghost use Rattle.desk_sql.specs.Frames.{OnlyReads};
+ghost use Rattle.desk_sql.specs.Calls.{WasOpen, Answers};
 
 use crate::opening::finding::TablesPresent;
 use crate::opening::numbers::{DeskTable, rowids_text};
@@ -18,15 +15,9 @@ use sqlite::{Alter, Connection, Error};
 fn has_row<S: Alter>(connection: &mut Connection<S>, table: DeskTable) -> Result<bool, Error>
     requires known { Holds S.Store connection.old (HasTable table) }
     requires settled { connection.old.in_transaction ≡ false }
-    ensures value { HasCleanDisk (state S.Store connection.new)
-        → IfOk result (λ found. found
-        ≡ has_rows ((state S.Store connection.old).now.trees (tree_of table))) }
-    ensures open { HasCleanDisk (state S.Store connection.new)
-        → OnOk result (IsTrue (state S.Store connection.old).is_open) }
-    ensures cause { HasCleanDisk (state S.Store connection.new)
-        → IsTrue (state S.Store connection.new).is_open
-        → IfErr result (IsRefusal S.Store connection.old connection.new) }
-    ensures reads { OnlyReads S.Store connection.old connection.new }
+    ensures answers { Answers S.Store connection.old connection.new result
+        (λ db found. found ≡ has_rows (db (tree_of table))) }
+    ensures open { WasOpen S.Store connection.old connection.new result }
 {
     let rows = ask(connection, rowids_text(table))?;
     Ok(!rows.is_empty())
@@ -40,15 +31,9 @@ fn has_row_in<S: Alter>(
 ) -> Result<bool, Error>
     requires part { Holds S.Store connection.old (IsMadeTo made) }
     requires settled { connection.old.in_transaction ≡ false }
-    ensures value { HasCleanDisk (state S.Store connection.new)
-        → IfOk result (λ found. found ≡ (has_table made table
-        && has_rows ((state S.Store connection.old).now.trees (tree_of table)))) }
-    ensures open { has_table made table ≡ true → HasCleanDisk (state S.Store connection.new)
-        → OnOk result (IsTrue (state S.Store connection.old).is_open) }
-    ensures cause { HasCleanDisk (state S.Store connection.new)
-        → IsTrue (state S.Store connection.new).is_open
-        → IfErr result (IsRefusal S.Store connection.old connection.new) }
-    ensures reads { OnlyReads S.Store connection.old connection.new }
+    ensures answers { Answers S.Store connection.old connection.new result
+        (λ db found. found ≡ (has_table made table && has_rows (db (tree_of table)))) }
+    ensures open { has_table made table ≡ true → WasOpen S.Store connection.old connection.new result }
 {
     if made.has(table) {
         has_row(connection, table)
@@ -64,13 +49,8 @@ pub fn has_old_rows<S: Alter>(
 ) -> Result<bool, Error>
     requires part { Holds S.Store connection.old (IsMadeTo made) }
     requires settled { connection.old.in_transaction ≡ false }
-    ensures value { HasCleanDisk (state S.Store connection.new)
-        → IfOk result (λ found. found ≡ has_old_rows (tables_at made
-        (state S.Store connection.old).now.trees)) }
-    ensures cause { HasCleanDisk (state S.Store connection.new)
-        → IsTrue (state S.Store connection.new).is_open
-        → IfErr result (IsRefusal S.Store connection.old connection.new) }
-    ensures reads { OnlyReads S.Store connection.old connection.new }
+    ensures answers { Answers S.Store connection.old connection.new result
+        (λ db found. found ≡ has_old_rows (tables_at made db)) }
 {
     if has_row_in(connection, made, DeskTable::OldVolume)? {
         return Ok(true);

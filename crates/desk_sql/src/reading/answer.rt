@@ -1,14 +1,11 @@
 //! All rows of a query's answer.
 
-ghost use Rattle.std.specs.Prelude.{◌≡◌, false, IfOk, IfErr, OnOk, IsTrue};
+ghost use Rattle.std.specs.Prelude.{◌≡◌, false};
 ghost use Rattle.sqlite.specs.Values.{bound};
-ghost use Rattle.sqlite.specs.State.{HasCleanDisk};
-ghost use Rattle.sqlite.specs.Held.{state};
 ghost use Rattle.desk_sql.specs.Rows.{tables_of, Lists};
 ghost use Rattle.desk_sql.specs.Effects.{IsReady};
-ghost use Rattle.desk_sql.specs.Frames.{OnlyReads};
+ghost use Rattle.desk_sql.specs.Calls.{WasOpen, Answers};
 ghost use Rattle.desk_sql.specs.Queries.{params_of, order_of, rows_of};
-ghost use Rattle.desk_sql.specs.Refusals.{IsRefusal};
 
 use crate::laws::settled_and_sound;
 use crate::reading::query::Query;
@@ -25,15 +22,9 @@ pub(crate) fn answer<S: Alter>(
     requires ready { IsReady S.Store connection.old }
     requires settled { connection.old.in_transaction ≡ false }
     requires given { bound params.now ≡ params_of query }
-    ensures value { HasCleanDisk (state S.Store connection.new)
-        → IfOk result (λ rows. Lists (order_of query.entry) (rows_of query.entry (tables_of
-        (state S.Store connection.old).now.trees)) rows.items) }
-    ensures open { HasCleanDisk (state S.Store connection.new)
-        → OnOk result (IsTrue (state S.Store connection.old).is_open) }
-    ensures cause { HasCleanDisk (state S.Store connection.new)
-        → IsTrue (state S.Store connection.new).is_open
-        → IfErr result (IsRefusal S.Store connection.old connection.new) }
-    ensures reads { OnlyReads S.Store connection.old connection.new }
+    ensures answers { Answers S.Store connection.old connection.new result
+        (λ db rows. Lists (order_of query.entry) (rows_of query.entry (tables_of db)) rows.items) }
+    ensures open { WasOpen S.Store connection.old connection.new result }
 {
     settled_and_sound(connection);
     // Refused on a connection that is shut, whose schema is not known.

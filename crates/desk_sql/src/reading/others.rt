@@ -1,14 +1,10 @@
 //! The spans that other operators hold.
 
-ghost use Rattle.std.specs.Prelude.{◌≡◌, List, [], false, IfErr, OnOk, IsTrue, filter, map, IsPermutation};
-ghost use Rattle.sqlite.specs.Order.{Row as Values};
-ghost use Rattle.sqlite.specs.State.{HasCleanDisk};
-ghost use Rattle.sqlite.specs.Held.{state};
+ghost use Rattle.std.specs.Prelude.{◌≡◌, [], false, filter, map, IsPermutation};
 ghost use Rattle.desk_sql.specs.Rows.{held_columns, tables_of};
 ghost use Rattle.desk_sql.specs.Effects.{IsReady};
-ghost use Rattle.desk_sql.specs.Frames.{OnlyReads};
+ghost use Rattle.desk_sql.specs.Calls.{WasOpen, HandsOut};
 ghost use Rattle.desk_sql.specs.Others.{is_others_from};
-ghost use Rattle.desk_sql.specs.Taking.{IsCutShort};
 
 use crate::reading::query::Query;
 use crate::reading::rivals::SpanQuery;
@@ -32,18 +28,10 @@ pub fn other_spans<S: Alter, T: RowSink>(
     requires ready { IsReady S.Store connection.old }
     requires settled { connection.old.in_transaction ≡ false }
     requires fresh { T.has_taken taker.old [] }
-    ensures value { HasCleanDisk (state S.Store connection.new)
-        → OnOk result ((rows : List Values) × IsPermutation
-        (map held_columns (filter (is_others_from operator.now reach low)
-        (tables_of (state S.Store connection.old).now.trees).spans)) rows × T.has_taken taker.new rows) }
-    ensures open { HasCleanDisk (state S.Store connection.new)
-        → OnOk result (IsTrue (state S.Store connection.old).is_open) }
-    ensures cause { HasCleanDisk (state S.Store connection.new)
-        → IsTrue (state S.Store connection.new).is_open
-        → IfErr result (IsCutShort S.Store connection.old connection.new (IsPermutation
-        (map held_columns (filter (is_others_from operator.now reach low)
-        (tables_of (state S.Store connection.old).now.trees).spans))) T.refuses) }
-    ensures reads { OnlyReads S.Store connection.old connection.new }
+    ensures answers { HandsOut S.Store connection.old connection.new result
+        (λ db. IsPermutation (map held_columns (filter (is_others_from operator.now reach low)
+        (tables_of db).spans))) (T.has_taken taker.new) T.refuses }
+    ensures open { WasOpen S.Store connection.old connection.new result }
 {
     for_each_row(
         connection,

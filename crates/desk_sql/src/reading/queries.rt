@@ -1,14 +1,9 @@
 //! The queries of a running desk.
 
-ghost use Rattle.std.specs.Prelude.{◌≡◌, List, [], ◌∷◌, false, IfOk, IfErr, OnOk, IsTrue, filter};
-ghost use Rattle.sqlite.specs.Order.{Row as Values};
-ghost use Rattle.sqlite.specs.State.{HasCleanDisk};
-ghost use Rattle.sqlite.specs.Held.{state};
+ghost use Rattle.std.specs.Prelude.{◌≡◌, [], ◌∷◌, false, filter};
 ghost use Rattle.desk_sql.specs.Rows.{is_by, is_of, tables_of, with_volumes, Lists};
 ghost use Rattle.desk_sql.specs.Effects.{IsReady};
-ghost use Rattle.desk_sql.specs.Frames.{OnlyReads};
-ghost use Rattle.desk_sql.specs.Refusals.{IsRefusal};
-ghost use Rattle.desk_sql.specs.Taking.{IsCutShort};
+ghost use Rattle.desk_sql.specs.Calls.{WasOpen, Answers, HandsOut};
 
 use crate::reading::answer::answer;
 use crate::reading::query::Query;
@@ -23,15 +18,9 @@ pub fn plan_of<S: Alter>(
 ) -> Result<Vec<Row>, Error>
     requires ready { IsReady S.Store connection.old }
     requires settled { connection.old.in_transaction ≡ false }
-    ensures value { HasCleanDisk (state S.Store connection.new)
-        → IfOk result (λ rows. Lists [] (filter (is_of operator.now id.now) (tables_of
-        (state S.Store connection.old).now.trees).plans) rows.items) }
-    ensures open { HasCleanDisk (state S.Store connection.new)
-        → OnOk result (IsTrue (state S.Store connection.old).is_open) }
-    ensures cause { HasCleanDisk (state S.Store connection.new)
-        → IsTrue (state S.Store connection.new).is_open
-        → IfErr result (IsRefusal S.Store connection.old connection.new) }
-    ensures reads { OnlyReads S.Store connection.old connection.new }
+    ensures answers { Answers S.Store connection.old connection.new result
+        (λ db rows. Lists [] (filter (is_of operator.now id.now) (tables_of db).plans) rows.items) }
+    ensures open { WasOpen S.Store connection.old connection.new result }
 {
     answer(
         connection,
@@ -49,15 +38,10 @@ pub fn volumes_of<S: Alter>(
 ) -> Result<Vec<Row>, Error>
     requires ready { IsReady S.Store connection.old }
     requires settled { connection.old.in_transaction ≡ false }
-    ensures value { HasCleanDisk (state S.Store connection.new)
-        → IfOk result (λ rows. Lists (2 ∷ []) (filter (is_of operator.now id.now) (tables_of
-        (state S.Store connection.old).now.trees).volumes) rows.items) }
-    ensures open { HasCleanDisk (state S.Store connection.new)
-        → OnOk result (IsTrue (state S.Store connection.old).is_open) }
-    ensures cause { HasCleanDisk (state S.Store connection.new)
-        → IsTrue (state S.Store connection.new).is_open
-        → IfErr result (IsRefusal S.Store connection.old connection.new) }
-    ensures reads { OnlyReads S.Store connection.old connection.new }
+    ensures answers { Answers S.Store connection.old connection.new result
+        (λ db rows. Lists (2 ∷ []) (filter (is_of operator.now id.now) (tables_of db).volumes)
+        rows.items) }
+    ensures open { WasOpen S.Store connection.old connection.new result }
 {
     answer(
         connection,
@@ -80,17 +64,10 @@ pub fn own_plans<S: Alter, T: RowSink>(
     requires ready { IsReady S.Store connection.old }
     requires settled { connection.old.in_transaction ≡ false }
     requires fresh { T.has_taken taker.old [] }
-    ensures value { HasCleanDisk (state S.Store connection.new)
-        → OnOk result ((rows : List Values) × Lists (1 ∷ 5 ∷ []) (with_volumes (is_by operator.now)
-        (tables_of (state S.Store connection.old).now.trees)) rows × T.has_taken taker.new rows) }
-    ensures open { HasCleanDisk (state S.Store connection.new)
-        → OnOk result (IsTrue (state S.Store connection.old).is_open) }
-    ensures cause { HasCleanDisk (state S.Store connection.new)
-        → IsTrue (state S.Store connection.new).is_open
-        → IfErr result (IsCutShort S.Store connection.old connection.new (Lists (1 ∷ 5 ∷ [])
-        (with_volumes (is_by operator.now) (tables_of (state S.Store connection.old).now.trees)))
-        T.refuses) }
-    ensures reads { OnlyReads S.Store connection.old connection.new }
+    ensures answers { HandsOut S.Store connection.old connection.new result
+        (λ db. Lists (1 ∷ 5 ∷ []) (with_volumes (is_by operator.now) (tables_of db)))
+        (T.has_taken taker.new) T.refuses }
+    ensures open { WasOpen S.Store connection.old connection.new result }
 {
     for_each_row(
         connection,

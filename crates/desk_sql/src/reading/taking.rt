@@ -7,9 +7,10 @@ ghost use Rattle.sqlite.specs.State.{HasCleanDisk, IsUnchanged};
 ghost use Rattle.sqlite.specs.Held.{state};
 ghost use Rattle.desk_sql.specs.Rows.{tables_of, Lists};
 ghost use Rattle.desk_sql.specs.Effects.{IsReady};
-ghost use Rattle.desk_sql.specs.Frames.{OnlyReads, Remembers};
+ghost use Rattle.desk_sql.specs.Frames.{Remembers};
+ghost use Rattle.desk_sql.specs.Calls.{WasOpen, HandsOut};
 ghost use Rattle.desk_sql.specs.Queries.{params_of, order_of, rows_of};
-ghost use Rattle.desk_sql.specs.Taking.{FailsNext, FailsToHandAll, HandsOver, HandsAll, IsCutShort, IsLeft};
+ghost use Rattle.desk_sql.specs.Taking.{FailsNext, FailsToHandAll, HandsOver, HandsAll, IsLeft};
 
 use crate::laws::settled_and_sound;
 use crate::reading::query::Query;
@@ -114,16 +115,10 @@ pub(crate) fn for_each_row<S: Alter, T: RowSink>(
     requires settled { connection.old.in_transaction ≡ false }
     requires given { bound params.now ≡ params_of query }
     requires fresh { T.has_taken taker.old [] }
-    ensures value { HasCleanDisk (state S.Store connection.new)
-        → OnOk result ((rows : List Values) × Lists (order_of query.entry) (rows_of query.entry (tables_of
-        (state S.Store connection.old).now.trees)) rows × T.has_taken taker.new rows) }
-    ensures open { HasCleanDisk (state S.Store connection.new)
-        → OnOk result (IsTrue (state S.Store connection.old).is_open) }
-    ensures cause { HasCleanDisk (state S.Store connection.new)
-        → IsTrue (state S.Store connection.new).is_open
-        → IfErr result (IsCutShort S.Store connection.old connection.new (Lists (order_of query.entry)
-        (rows_of query.entry (tables_of (state S.Store connection.old).now.trees))) T.refuses) }
-    ensures reads { OnlyReads S.Store connection.old connection.new }
+    ensures answers { HandsOut S.Store connection.old connection.new result
+        (λ db. Lists (order_of query.entry) (rows_of query.entry (tables_of db)))
+        (T.has_taken taker.new) T.refuses }
+    ensures open { WasOpen S.Store connection.old connection.new result }
 {
     settled_and_sound(connection);
     // Refused on a connection that is shut, whose schema is not known.

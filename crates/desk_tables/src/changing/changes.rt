@@ -1,14 +1,13 @@
 //! Changes of a store's tables.
 
-ghost use Rattle.std.specs.Prelude.{◌≡◌, ◌≤◌, ◌<◌, ◌^◌, pos, IfOk, IfErr, OnOk, OnErr, IsTrue};
+ghost use Rattle.std.specs.Prelude.{◌≡◌, ◌≤◌, ◌<◌, ◌^◌, pos, IfOk, IfErr};
 ghost use Rattle.sqlite_value.specs.declared.value.Value.TheVariants.{Int};
 ghost use Rattle.sqlite_value.specs.Order.{column};
-ghost use Rattle.sqlite_trees.specs.View.{doubt};
 ghost use Rattle.sqlite.specs.State.{HasCleanDisk};
 ghost use Rattle.sqlite.specs.Held.{state};
 ghost use Rattle.desk_rules.specs.Limits.{max_priority};
 ghost use Rattle.desk_store.specs.Changes.{filed_by};
-ghost use Rattle.desk_store.specs.StoreChange.{changed_by, IsFitting};
+ghost use Rattle.desk_store.specs.StoreChange.{IsFitting};
 ghost use Rattle.desk_store.specs.declared.change.Change.TheVariants as change;
 ghost use Rattle.desk_sql.specs.Changing.{AreLow, HasRoom};
 ghost use Rattle.desk_rules.specs.declared.plan.PlanRow.{PlanRow as Plan};
@@ -16,7 +15,7 @@ ghost use Rattle.desk_tables.specs.Reading.{IsHead};
 ghost use Rattle.desk_tables.specs.Causes.{BlamesChange, BlamesStore, HasRoomForPlan};
 ghost use Rattle.desk_tables.specs.Store.{Stands};
 ghost use Rattle.desk_tables.specs.SpanBounds.{IsKnownPlan, BringsKnown, Keeps};
-ghost use Rattle.desk_tables.specs.Leaving.{MayHave};
+ghost use Rattle.desk_tables.specs.Changing.{IsMade};
 
 use crate::canon::canons_of;
 use crate::changing::records::{
@@ -53,21 +52,9 @@ pub(crate) fn make<S: Alter>(
     requires stands { Stands S.Store connection.old kept.now.world }
     requires fits { HasCleanDisk (state S.Store connection.old)
         → IsFitting change.now kept.now.world }
-    ensures ok { OnOk result (Stands S.Store connection.new (changed_by change.now kept.now.world)) }
-    ensures err { OnErr result (Stands S.Store connection.new kept.now.world) }
+    ensures made { IsMade S.Store connection.old connection.new result kept.now.world change.now }
     ensures known { IfOk result (λ after. Keeps span_bounds.now after × BringsKnown after change.now) }
-    ensures cause { IfErr result
-        (BlamesChange S.Store connection.old connection.new change.now) }
-    ensures doubt { doubt (state S.Store connection.old).is_clean
-        ≤ doubt (state S.Store connection.new).is_clean }
-    ensures shield { (state S.Store connection.old).IsShielded
-        → (state S.Store connection.new).IsShielded }
-    ensures crash { MayHave S.Store connection.old connection.new
-        (changed_by change.now kept.now.world) }
-    ensures open { HasCleanDisk (state S.Store connection.new)
-        → OnOk result (IsTrue (state S.Store connection.new).is_open) }
-    ensures committed { HasCleanDisk (state S.Store connection.new) → OnOk result
-        ((state S.Store connection.new).now ≡ (state S.Store connection.new).committed) }
+    ensures cause { IfErr result (BlamesChange S.Store connection.old connection.new change.now) }
 {
     let before = *span_bounds;
     match change {
@@ -99,21 +86,10 @@ pub(crate) fn enrol<S: Alter>(
 ) -> Result<(), StoreFault>
     requires stands { Stands S.Store connection.old kept.now.world }
     requires low { HasCleanDisk (state S.Store connection.old) → ceiling ≤ max_priority }
-    ensures ok { OnOk result (Stands S.Store connection.new
-        (changed_by (change.Enrol operator.now ceiling) kept.now.world)) }
-    ensures err { OnErr result (Stands S.Store connection.new kept.now.world) }
+    ensures made { IsMade S.Store connection.old connection.new result kept.now.world
+        (change.Enrol operator.now ceiling) }
     ensures cause { HasRoom 1 ((state S.Store connection.old).now.trees 0)
         → IfErr result (BlamesStore S.Store connection.old connection.new) }
-    ensures doubt { doubt (state S.Store connection.old).is_clean
-        ≤ doubt (state S.Store connection.new).is_clean }
-    ensures shield { (state S.Store connection.old).IsShielded
-        → (state S.Store connection.new).IsShielded }
-    ensures crash { MayHave S.Store connection.old connection.new
-        (changed_by (change.Enrol operator.now ceiling) kept.now.world) }
-    ensures open { HasCleanDisk (state S.Store connection.new)
-        → OnOk result (IsTrue (state S.Store connection.new).is_open) }
-    ensures committed { HasCleanDisk (state S.Store connection.new) → OnOk result
-        ((state S.Store connection.new).now ≡ (state S.Store connection.new).committed) }
 {
     match put_operator(connection, operator.as_str(), ceiling) {
         Ok(()) => Ok(()),
@@ -134,22 +110,11 @@ fn put<S: Alter>(
     requires stands { Stands S.Store connection.old kept.now.world }
     requires fits { HasCleanDisk (state S.Store connection.old)
         → IsFitting (change.Put operator.now row.now) kept.now.world }
-    ensures ok { OnOk result (Stands S.Store connection.new
-        (changed_by (change.Put operator.now row.now) kept.now.world)) }
-    ensures err { OnErr result (Stands S.Store connection.new kept.now.world) }
+    ensures made { IsMade S.Store connection.old connection.new result kept.now.world
+        (change.Put operator.now row.now) }
     ensures known { IfOk result (λ after. Keeps span_bounds.now after × IsKnownPlan after row.now) }
     ensures cause { HasRoomForPlan (filed_by operator.now row.now) (state S.Store connection.old).now
         → IfErr result (BlamesStore S.Store connection.old connection.new) }
-    ensures doubt { doubt (state S.Store connection.old).is_clean
-        ≤ doubt (state S.Store connection.new).is_clean }
-    ensures shield { (state S.Store connection.old).IsShielded
-        → (state S.Store connection.new).IsShielded }
-    ensures crash { MayHave S.Store connection.old connection.new
-        (changed_by (change.Put operator.now row.now) kept.now.world) }
-    ensures open { HasCleanDisk (state S.Store connection.new)
-        → OnOk result (IsTrue (state S.Store connection.new).is_open) }
-    ensures committed { HasCleanDisk (state S.Store connection.new) → OnOk result
-        ((state S.Store connection.new).now ≡ (state S.Store connection.new).committed) }
 {
     let mut buffer = [0u8; 36];
     let id = row.id.encode(&mut buffer);
@@ -182,21 +147,10 @@ fn close<S: Alter>(
     requires stands { Stands S.Store connection.old kept.now.world }
     requires fits { HasCleanDisk (state S.Store connection.old)
         → IsFitting (change.Close operator.now id.now) kept.now.world }
-    ensures ok { OnOk result (Stands S.Store connection.new
-        (changed_by (change.Close operator.now id.now) kept.now.world)) }
-    ensures err { OnErr result (Stands S.Store connection.new kept.now.world) }
+    ensures made { IsMade S.Store connection.old connection.new result kept.now.world
+        (change.Close operator.now id.now) }
     ensures cause { AreLow ((state S.Store connection.old).now.trees 2)
         → IfErr result (BlamesStore S.Store connection.old connection.new) }
-    ensures doubt { doubt (state S.Store connection.old).is_clean
-        ≤ doubt (state S.Store connection.new).is_clean }
-    ensures shield { (state S.Store connection.old).IsShielded
-        → (state S.Store connection.new).IsShielded }
-    ensures crash { MayHave S.Store connection.old connection.new
-        (changed_by (change.Close operator.now id.now) kept.now.world) }
-    ensures open { HasCleanDisk (state S.Store connection.new)
-        → OnOk result (IsTrue (state S.Store connection.new).is_open) }
-    ensures committed { HasCleanDisk (state S.Store connection.new) → OnOk result
-        ((state S.Store connection.new).now ≡ (state S.Store connection.new).committed) }
 {
     let head_rows = head_rows(connection, kept, operator, id)?;
     let Some(head) = head_rows.first() else {
@@ -234,20 +188,9 @@ fn clear<S: Alter>(
     requires stands { Stands S.Store connection.old kept.now.world }
     requires fits { HasCleanDisk (state S.Store connection.old)
         → IsFitting (change.Clear operator.now ids.now) kept.now.world }
-    ensures ok { OnOk result (Stands S.Store connection.new
-        (changed_by (change.Clear operator.now ids.now) kept.now.world)) }
-    ensures err { OnErr result (Stands S.Store connection.new kept.now.world) }
+    ensures made { IsMade S.Store connection.old connection.new result kept.now.world
+        (change.Clear operator.now ids.now) }
     ensures cause { IfErr result (BlamesStore S.Store connection.old connection.new) }
-    ensures doubt { doubt (state S.Store connection.old).is_clean
-        ≤ doubt (state S.Store connection.new).is_clean }
-    ensures shield { (state S.Store connection.old).IsShielded
-        → (state S.Store connection.new).IsShielded }
-    ensures crash { MayHave S.Store connection.old connection.new
-        (changed_by (change.Clear operator.now ids.now) kept.now.world) }
-    ensures open { HasCleanDisk (state S.Store connection.new)
-        → OnOk result (IsTrue (state S.Store connection.new).is_open) }
-    ensures committed { HasCleanDisk (state S.Store connection.new) → OnOk result
-        ((state S.Store connection.new).now ≡ (state S.Store connection.new).committed) }
 {
     let texts = texts_of(alloc, ids)?;
     match clear_plans(connection, operator.as_str(), &texts) {

@@ -29,8 +29,7 @@ use crate::opening::open::OpenFault;
 use crate::opening::ordering::ordered_in;
 use crate::span_bounds::SpanBounds;
 use desk_sql::{
-    DeskTable, TablesPresent, all_covers, all_operators, all_plans, all_spans, all_volumes,
-    complete_tables, find_tables, has_old_rows,
+    DeskTable, TablesPresent, Whole, all_rows, complete_tables, find_tables, has_old_rows,
 };
 use s2_cover::laws::one_list_of_ranges;
 use sqlite::{Connection, Row};
@@ -321,11 +320,11 @@ pub(crate) fn rows_in<S: Alter>(
     ensures cause { IfErr result (BlamesReading S.Store connection.old connection.new) }
     ensures reads { OnlyReads S.Store connection.old connection.new }
 {
-    let operators = all_operators(alloc, connection, made)?;
-    let plans = all_plans(alloc, connection, made)?;
-    let volumes = all_volumes(alloc, connection, made)?;
-    let covers = all_covers(alloc, connection, made)?;
-    let spans = all_spans(alloc, connection, made)?;
+    let operators = all_rows(alloc, connection, Whole::Operators, made)?;
+    let plans = all_rows(alloc, connection, Whole::Plans, made)?;
+    let volumes = all_rows(alloc, connection, Whole::Volumes, made)?;
+    let covers = all_rows(alloc, connection, Whole::Covers, made)?;
+    let spans = all_rows(alloc, connection, Whole::Spans, made)?;
     Ok(TableRows {
         operators,
         plans,

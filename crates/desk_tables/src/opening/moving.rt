@@ -35,9 +35,8 @@ use crate::opening::open::OpenFault;
 use crate::opening::ordering::unpack;
 use desk_sql::laws::settled_and_sound;
 use desk_sql::{
-    DeskTable, TablesPresent, all_covers, all_old_spans, all_old_volumes, all_operators, all_plans,
-    all_spans, all_volumes, complete_tables, empty_old_spans, empty_old_volumes, insert_spans,
-    insert_volumes,
+    DeskTable, TablesPresent, Whole, all_rows, complete_tables, empty_old_spans, empty_old_volumes,
+    insert_spans, insert_volumes,
 };
 use s2_cover::laws::{canonical_list_is, one_canonical_list, one_list_of_ranges};
 use sqlite::{Connection, Error, Row, Transaction};
@@ -296,9 +295,9 @@ pub(crate) fn are_new_empty<S: Alter>(
     ensures cause { IfErr result (BlamesReading S.Store connection.old connection.new) }
     ensures reads { OnlyReads S.Store connection.old connection.new }
 {
-    let volumes = all_volumes(alloc, connection, made)?;
-    let covers = all_covers(alloc, connection, made)?;
-    let spans = all_spans(alloc, connection, made)?;
+    let volumes = all_rows(alloc, connection, Whole::Volumes, made)?;
+    let covers = all_rows(alloc, connection, Whole::Covers, made)?;
+    let spans = all_rows(alloc, connection, Whole::Spans, made)?;
     Ok(are_empty(&volumes, &covers, &spans))
 }
 
@@ -328,10 +327,10 @@ pub(crate) fn old_rows_in<S: Alter>(
     ensures cause { IfErr result (BlamesReading S.Store connection.old connection.new) }
     ensures reads { OnlyReads S.Store connection.old connection.new }
 {
-    let operators = all_operators(alloc, connection, made)?;
-    let plans = all_plans(alloc, connection, made)?;
-    let volumes = all_old_volumes(alloc, connection, made)?;
-    let spans = all_old_spans(alloc, connection, made)?;
+    let operators = all_rows(alloc, connection, Whole::Operators, made)?;
+    let plans = all_rows(alloc, connection, Whole::Plans, made)?;
+    let volumes = all_rows(alloc, connection, Whole::OldVolumes, made)?;
+    let spans = all_rows(alloc, connection, Whole::OldSpans, made)?;
     let covers = Vec::new(alloc);
     Ok(TableRows {
         operators,

@@ -13,6 +13,7 @@ ghost use Rattle.desk_tables.specs.Store.{Stands};
 ghost use Rattle.desk_tables.specs.Known.{Knows};
 ghost use Rattle.desk_tables.specs.SpanBounds.{Bounds, IsWithin};
 ghost use Rattle.desk_tables.specs.RivalRows.{HaveTaken, HaveTakenAll, is_asked_of_others};
+ghost use Rattle.desk_sql.specs.Calls.{WasOpen};
 ghost use Rattle.desk_sql.specs.Frames.{OnlyReads};
 ghost use Rattle.desk_sql.specs.Rows.{tables_of};
 
@@ -156,8 +157,7 @@ fn asked<S: Alter>(
     ensures value { HasCleanDisk (state S.Store connection.new) → IfOk result (λ helds.
         HaveTaken (is_asked_of_others operator.now extent.now question.now)
         (tables_of (state S.Store connection.old).now.trees).spans helds.items) }
-    ensures open { HasCleanDisk (state S.Store connection.new) →
-        OnOk result (IsTrue (state S.Store connection.old).is_open) }
+    ensures open { WasOpen S.Store connection.old connection.new result }
     ensures cause { IfErr result (BlamesSpans S.Store connection.old connection.new) }
     ensures stands { Stands S.Store connection.new kept.now.world }
     ensures reads { OnlyReads S.Store connection.old connection.new }

@@ -42,8 +42,8 @@ ids-preserved g c =
           (map string_bytes (take (at + 1) ids))
           (map_more string_bytes ids at _ c.ids-test.true
           ∙ ap (λ id. map string_bytes (take at ids) ++ id ∷ []) (sym (ap string_bytes c.id-item.is))))
-          c.ids.invariant.1 c.remove_one.ensures.remembered
-          c.in_ok-remove_one.ensures.done,
+          c.ids.invariant.1 c.remove_one.ensures.changed.remembered
+          c.in_ok-remove_one.ensures.changed.done,
     )
 
 pub returns-in_err-_statement-clause-cause : goal.returns-in_err-_statement-clause-cause
@@ -63,15 +63,15 @@ returns-in_err-remove_one-clause-cause g c clean live =
     refused_on g.S.Store c.args.tx.now.conn.now c.ids.tx.conn.now c.remove_one.new.tx.conn.now
     (RemovesPlans c.args.operator.now (map string_bytes (take c.ids.id-index c.args.ids.now)))
     c.ids.invariant.1 c.in_err-remove_one.field-0.0
-    (c.in_err-remove_one.ensures.cause (way_on g.S.Store c.args.tx.now.conn.now c.ids.tx.conn.now
+    (c.in_err-remove_one.ensures.changed.cause (way_on g.S.Store c.args.tx.now.conn.now c.ids.tx.conn.now
     (RemovesPlans c.args.operator.now (map string_bytes (take c.ids.id-index c.args.ids.now)))
-    c.ids.invariant.1) clean) in
+    c.ids.invariant.1) tt clean) in
     search (rules, it)
 
 pub returns-in_err-remove_one-clause-remembered : goal.returns-in_err-remove_one-clause-remembered
 returns-in_err-remove_one-clause-remembered g c =
     remembers_then g.S.Store c.args.tx.now.conn.now c.ids.tx.conn.now c.remove_one.new.tx.conn.now
-    c.ids.invariant.1.remembered c.remove_one.ensures.remembered
+    c.ids.invariant.1.remembered c.remove_one.ensures.changed.remembered
 
 pub returns-clause-remembered : goal.returns-clause-remembered
 returns-clause-remembered g c = c.ids.invariant.1.remembered

@@ -2,8 +2,10 @@ use Rattle.std.proofs.Common.{arith, rules}
 use Rattle.sqlite.specs.Values.{bound}
 use Rattle.sqlite.specs.State.{HasCleanDisk}
 use Rattle.sqlite.specs.Held.{state}
+use Rattle.desk_sql.specs.Batches.{IsUnderWay}
 use Rattle.desk_sql.specs.Changes.{changes, fits, takes}
 use Rattle.desk_sql.specs.Changing.{IsSureChange}
+use Rattle.desk_sql.specs.Effects.{Makes}
 use Rattle.desk_sql.specs.Putting.{Takes}
 use Rattle.desk_sql.specs.Statements.{Changes}
 use Rattle.desk_sql.specs.Refusals.{IsRefusal}
@@ -12,39 +14,39 @@ use Rattle.desk_sql.proofs.WriteLemmas.{makes, changed}
 use Rattle.desk_sql.proofs.RoomTexts.{took}
 use Rattle.desk_sql.proofs.changing.execute.run_change.Goals as goal
 
-pub returns-clause-done : goal.returns-clause-done
-returns-clause-done g c clean =
+pub returns-in_err-run-clause-changed : goal.returns-in_err-run-clause-changed
+returns-in_err-run-clause-changed g c =
     let old = c.args.tx.now.conn.now in
     let new = c.run.new.tx.conn.now in
-    let known : Changes c.text.result.now (bound c.args.params.now) (changes c.args.change) =
-    rw c.requires.given c.text.ensures.changed in
-    makes g.S.Store old new c.requires.ready (omega (arith, c.run.ensures.remembered.doubt, clean))
-    (changes c.args.change) (c.in_ok-run.ensures.shown clean)
-    (λ desk. changed _ _ _ known (state g.S.Store old) (state g.S.Store new) desk c.in_ok-run.field-0
-    (c.in_ok-run.ensures.ran clean))
-
-pub returns-in_err-run-clause-cause : goal.returns-in_err-run-clause-cause
-returns-in_err-run-clause-cause g c way right clean =
-    let old = c.args.tx.now.conn.now in
-    let new = c.run.new.tx.conn.now in
-    let early : HasCleanDisk (state g.S.Store old) = omega (arith, c.run.ensures.remembered.doubt, clean) in
     let known : IsSureChange c.text.result.now (bound c.args.params.now) (fits c.args.change) =
     rw c.requires.given c.text.ensures.sure in
-    let it : IsRefusal g.S.Store old new c.in_err-run.field-0.0 =
+    let refused : IsUnderWay g.S.Store old → fits c.args.change (state g.S.Store old).now
+    → HasCleanDisk (state g.S.Store new) → IsRefusal g.S.Store old new c.in_err-run.field-0.0 =
+    λ way right clean.
+    (let early : HasCleanDisk (state g.S.Store old) = omega (arith, c.run.ensures.remembered.doubt, clean) in
     refused_change g.S.Store old new _ _ _ known way early right _
-    (c.in_err-run.ensures.stopped clean (way early).1) in
-    search (rules, it)
+    (c.in_err-run.ensures.stopped clean (way early).1)) in
+    search (rules, refused)
 
-pub returns-clause-room : goal.returns-clause-room
-returns-clause-room g c clean =
+pub returns-clause-changed : goal.returns-clause-changed
+returns-clause-changed g c =
     let old = c.args.tx.now.conn.now in
     let new = c.run.new.tx.conn.now in
     let change = c.args.change in
+    let early : HasCleanDisk (state g.S.Store new) → HasCleanDisk (state g.S.Store old) = λ clean.
+    omega (arith, c.run.ensures.remembered.doubt, clean) in
     let known : Changes c.text.result.now (bound c.args.params.now) (changes change) =
     rw c.requires.given c.text.ensures.changed in
     let room : Takes c.text.result.now (bound c.args.params.now) (takes change) =
-    rw c.requires.given c.text.ensures.room in
-    took _ _ _ _ known room (state g.S.Store old) (state g.S.Store new)
-    (c.requires.ready (omega (arith, c.run.ensures.remembered.doubt, clean))
-    (c.in_ok-run.ensures.shown clean).was_open)
-    c.in_ok-run.field-0 (c.in_ok-run.ensures.ran clean)
+    rw c.requires.given c.text.ensures.room in record {
+      done = λ clean. makes g.S.Store old new c.requires.ready (early clean) (changes change)
+          (c.in_ok-run.ensures.shown clean)
+          (λ desk. changed _ _ _ known (state g.S.Store old) (state g.S.Store new) desk c.in_ok-run.field-0
+          (c.in_ok-run.ensures.ran clean));
+      undone = λ clean. tt;
+      cause = λ way right clean. tt;
+      room = λ clean. took _ _ _ _ known room (state g.S.Store old) (state g.S.Store new)
+          (c.requires.ready (early clean) (c.in_ok-run.ensures.shown clean).was_open)
+          c.in_ok-run.field-0 (c.in_ok-run.ensures.ran clean);
+      remembered = c.run.ensures.remembered;
+    }

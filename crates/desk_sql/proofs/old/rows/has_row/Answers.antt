@@ -9,15 +9,19 @@ pub ask-requires-clause-sure : goal.ask-requires-clause-sure
 ask-requires-clause-sure g c clean live =
     c.rowids_text.ensures.sure (state g.S.Store c.args.connection.now).now (c.requires.known clean live)
 
-pub returns-clause-value : goal.returns-clause-value
-returns-clause-value g c clean =
-    let a = c.in_ok-rows.ensures in
+pub returns-clause-answers : goal.returns-clause-answers
+returns-clause-answers g c =
     let rows = c.in_ok-rows.rows.items in
     let old = state g.S.Store c.args.connection.now in
     let new = state g.S.Store c.ask.new.connection in
-    let shown = a.shown clean in
     let empty : c.is_empty.result ≡ (length rows == 0) =
-    search (rules, c.is_empty.ensures, c.in_ok-rows.rows.ok) in
-    some_shown _ rows c.is_empty.result empty
-    (all_selected c.args.table _ _ _ c.rowids_text.ensures old new rows
-    (c.requires.known (omega (arith, a.reads.doubt, clean)) (was_open _ _ old new rows shown)) shown)
+    search (rules, c.is_empty.ensures, c.in_ok-rows.rows.ok) in record {
+      value = λ clean.
+          let a = c.in_ok-rows.ensures.answers in
+          let shown = a.value clean in
+          some_shown _ rows c.is_empty.result empty
+          (all_selected c.args.table _ _ _ c.rowids_text.ensures old new rows
+          (c.requires.known (omega (arith, a.reads.doubt, clean)) (was_open _ _ old new rows shown)) shown);
+      cause = λ clean live. tt;
+      reads = c.ask.ensures.answers.reads;
+    }

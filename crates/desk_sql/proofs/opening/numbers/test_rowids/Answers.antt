@@ -11,19 +11,20 @@ ask-requires-clause-sure g c clean live =
 
 pub returns-clause-numbered : goal.returns-clause-numbered
 returns-clause-numbered g c =
-    let a = c.in_ok-rows.ensures in
+    let a = c.in_ok-rows.ensures.answers in
     on_ok_weaker c.test_rising.result
     (λ up. numbered_if g.S.Store c.args.connection.now c.ask.new.connection _ c.args.table
     c.rowids_text.ensures c.requires.known (λ clean. omega (arith, a.reads.doubt, clean)) a.reads.kept
-    c.in_ok-rows.rows.items a.shown (subst AreRising c.deref.ensures.value up))
+    c.in_ok-rows.rows.items a.value (subst AreRising c.deref.ensures.value up))
     c.test_rising.ensures.rising
 
 pub returns-clause-cause : goal.returns-clause-cause
 returns-clause-cause g c clean live =
-    let a = c.in_ok-rows.ensures in
+    let a = c.in_ok-rows.ensures.answers in
     unnumbered_if g.S.Store c.args.connection.now c.ask.new.connection _ c.args.table
-    c.rowids_text.ensures c.requires.known (omega (arith, a.reads.doubt, clean)) (a.open clean)
+    c.rowids_text.ensures c.requires.known (omega (arith, a.reads.doubt, clean))
+    (c.in_ok-rows.ensures.open clean)
     c.in_ok-rows.rows.items
-    (a.shown clean) c.test_rising.result (on_err_weaker c.test_rising.result
+    (a.value clean) c.test_rising.result (on_err_weaker c.test_rising.result
     (λ broken up. broken (subst AreRising (sym c.deref.ensures.value) up)) c.test_rising.ensures.broken)
     c.test_rising.ensures.code

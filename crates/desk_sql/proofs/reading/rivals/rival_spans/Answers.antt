@@ -40,21 +40,17 @@ for_each_row-requires-clause-given g c =
       same,
     ) refl
 
-pub returns-clause-value : goal.returns-clause-value
-returns-clause-value g c clean =
+pub returns-clause-answers : goal.returns-clause-answers
+returns-clause-answers g c =
     let same = to_z-of_z w64 c.args.low c.ranges.low in
     let wanted = map held_columns
     (filter (is_wanted c.args.operator.now c.args.id.now c.args.reach c.args.low)
-    (tables_of (state g.S.Store c.args.connection.now).now.trees).spans) in
-    handed_as (Lists (0 ∷ []) wanted) (IsPermutation wanted) (g.T.RowSink.has_taken c.for_each_row.new.taker)
-    (λ rows lists. lists.same) c.for_each_row.result (rw same at (c.for_each_row.ensures.value clean))
-
-pub returns-clause-cause : goal.returns-clause-cause
-returns-clause-cause g c clean live =
-    let same = to_z-of_z w64 c.args.low c.ranges.low in
-    let wanted = map held_columns
-    (filter (is_wanted c.args.operator.now c.args.id.now c.args.reach c.args.low)
-    (tables_of (state g.S.Store c.args.connection.now).now.trees).spans) in
-    cut_short_of g.S.Store c.args.connection.now c.for_each_row.new.connection (Lists (0 ∷ []) wanted)
-    (IsPermutation wanted) g.T.RowSink.refuses (λ rows lists. lists.same) c.for_each_row.result
-    (rw same at (c.for_each_row.ensures.cause clean live))
+    (tables_of (state g.S.Store c.args.connection.now).now.trees).spans) in record {
+      value = λ clean. handed_as (Lists (0 ∷ []) wanted) (IsPermutation wanted)
+          (g.T.RowSink.has_taken c.for_each_row.new.taker) (λ rows lists. lists.same) c.for_each_row.result
+          (rw same at (c.for_each_row.ensures.answers.value clean));
+      cause = λ clean live. cut_short_of g.S.Store c.args.connection.now c.for_each_row.new.connection
+          (Lists (0 ∷ []) wanted) (IsPermutation wanted) g.T.RowSink.refuses (λ rows lists. lists.same)
+          c.for_each_row.result (rw same at (c.for_each_row.ensures.answers.cause clean live));
+      reads = c.for_each_row.ensures.answers.reads;
+    }

@@ -18,20 +18,23 @@ ask-requires-clause-sure g c clean live =
     (c.text.ensures packed).sure db
     (has_made c.args.made (table_in c.args.whole packed) db there (c.requires.part clean live).schema)
 
-pub returns-then-has-clause-value : goal.returns-then-has-clause-value
-returns-then-has-clause-value g c clean =
+pub returns-then-has-clause-answers : goal.returns-then-has-clause-answers
+returns-then-has-clause-answers g c =
     let packed = is_packed c.args.made in
     let table = table_in c.args.whole packed in
     let there : has_table c.args.made table ≡ true =
     ap (has_table c.args.made) (sym (c.table.ensures ∙ ap (table_in c.args.whole) c.is_packed.ensures))
     ∙ sym c.has.ensures ∙ c.if-has.true in
-    let old = state g.S.Store c.args.connection.now in
-    read_at c.args.whole c.args.made true there (λ v. v.items) old.now.trees c.ask.result
-    (if_read g.S.Store c.args.connection.now c.ask.new.connection (λ v. v.items) _ _
-    (Lists (key_cells (table_read c.args.whole)) (rows_read c.args.whole (tables_in packed old.now.trees)))
-    table
-    (λ clean live. has_made c.args.made table old.now there (c.requires.part clean live).schema)
-    (omega (arith, c.ask.ensures.reads.doubt, clean))
-    (λ rows has shown. all_selected _ _ _ _ (c.text.ensures packed)
-    old (state g.S.Store c.ask.new.connection) rows has shown) c.ask.result
-    (c.ask.ensures.shown clean))
+    let old = state g.S.Store c.args.connection.now in record {
+      value = λ clean. read_at c.args.whole c.args.made true there (λ v. v.items) old.now.trees c.ask.result
+          (if_read g.S.Store c.args.connection.now c.ask.new.connection (λ v. v.items) _ _
+          (Lists (key_cells (table_read c.args.whole))
+          (rows_read c.args.whole (tables_in packed old.now.trees))) table
+          (λ clean live. has_made c.args.made table old.now there (c.requires.part clean live).schema)
+          (omega (arith, c.ask.ensures.answers.reads.doubt, clean))
+          (λ rows has shown. all_selected _ _ _ _ (c.text.ensures packed)
+          old (state g.S.Store c.ask.new.connection) rows has shown) c.ask.result
+          (c.ask.ensures.answers.value clean));
+      cause = c.ask.ensures.answers.cause;
+      reads = c.ask.ensures.answers.reads;
+    }

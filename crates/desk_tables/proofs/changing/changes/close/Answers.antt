@@ -1,6 +1,5 @@
 use Rattle.std.proofs.Common.{sym, subst, ◌∙◌, arith}
 use Rattle.desk_sql.specs.Rows.{ClosesPlan}
-use Rattle.desk_sql.specs.Effects.{Commits, MayMake}
 use Rattle.desk_store.specs.laws.Parse.{parsed_id}
 use Rattle.sqlite.specs.Held.{state}
 use Rattle.desk_sql.specs.Changing.{AreLow, IsShort}
@@ -9,74 +8,49 @@ use Rattle.desk_tables.proofs.ListingLemmas.{none_first, none_stored, some_first
 use Rattle.desk_tables.proofs.ParseLemmas.{parsed_short}
 use Rattle.desk_tables.proofs.UnreadLemmas.{on_err}
 use Rattle.desk_tables.proofs.CauseLemmas.{blamed, blamed_since, closed_stored, head_reads, name_short}
-use Rattle.desk_tables.proofs.AfterLemmas.{stands_closed, left_closed, left_before}
+use Rattle.desk_tables.proofs.AfterLemmas.{committed_as, made_after, made_closed}
 use Rattle.desk_tables.proofs.changing.changes.close.Goals as goal
 
-pub returns-in-Ok-clause-ok : goal.returns-in-Ok-clause-ok
-returns-in-Ok-clause-ok g c =
+pub returns-in-Ok-clause-made : goal.returns-in-Ok-clause-made
+returns-in-Ok-clause-made g c =
     let old = c.head_rows.new.connection in
     let new = c.close_plan.new.connection in
     let operator = c.args.operator.now in
     let priority = c.in_ok-priority.priority in
     let aircraft = c.in_ok-priority.aircraft in
     let first = some_first c.deref.result.now c.in-Some.head.now c.in-Some.ensures.value in
-    stands_closed g.S.Store old new c.args.kept.now.world c.head_rows.ensures.stands c.in-Ok.ensures.over.mode
-    c.in-Ok.ensures.over.doubt operator c.args.id.now priority aircraft
-    c.in_ok-head_rows.head_rows.items first.0 c.in-Some.head.now
-    (parsed_id c.encode-text.result.now c.args.id.now c.encode-text.ensures.parsed)
-    c.in_ok-priority.ensures.priority c.in_ok-priority.ensures.aircraft
-    (λ clean. (c.in_ok-head_rows.ensures.value (omega (arith, c.in-Ok.ensures.over.doubt, clean))).1)
-    (sym c.deref.ensures.value ∙ first.1)
-    (λ clean. subst (λ text. Commits g.S.Store old new (ClosesPlan operator text priority aircraft))
-    c.encode-text.ensures.text
-    (subst (λ name. Commits g.S.Store old new (ClosesPlan name c.encode-text.result.now priority aircraft))
-    c.as_str.ensures.value (c.in-Ok.ensures.done clean)))
-    (λ clean. c.requires.fits (omega (arith, c.head_rows.ensures.reads.doubt, clean)))
-
-pub returns-in-Ok-clause-crash : goal.returns-in-Ok-clause-crash
-returns-in-Ok-clause-crash g c =
-    let old = c.head_rows.new.connection in
-    let new = c.close_plan.new.connection in
-    let operator = c.args.operator.now in
-    let priority = c.in_ok-priority.priority in
-    let aircraft = c.in_ok-priority.aircraft in
-    let first = some_first c.deref.result.now c.in-Some.head.now c.in-Some.ensures.value in
-    left_before g.S.Store c.args.connection.now old new _ c.close_plan.ensures.over.doubt
-    c.head_rows.ensures.reads.spared (left_closed g.S.Store old new c.args.kept.now.world
-    c.head_rows.ensures.stands c.close_plan.ensures.over.doubt operator
+    made_after g.S.Store c.args.connection.now old new _ _ _ c.head_rows.ensures.reads
+    (made_closed g.S.Store old new c.args.kept.now.world c.head_rows.ensures.stands _ _ tt operator
     c.args.id.now priority aircraft c.in_ok-head_rows.head_rows.items first.0 c.in-Some.head.now
     (parsed_id c.encode-text.result.now c.args.id.now c.encode-text.ensures.parsed)
     c.in_ok-priority.ensures.priority c.in_ok-priority.ensures.aircraft
-    (λ clean. (c.in_ok-head_rows.ensures.value (omega (arith, c.close_plan.ensures.over.doubt, clean))).1)
+    (λ clean. (c.in_ok-head_rows.ensures.value
+    (omega (arith, c.close_plan.ensures.committed.over.doubt, clean))).1)
     (sym c.deref.ensures.value ∙ first.1)
-    (subst (λ text. MayMake g.S.Store old new (ClosesPlan operator text priority aircraft))
-    c.encode-text.ensures.text
-    (subst (λ name. MayMake g.S.Store old new
-    (ClosesPlan name c.encode-text.result.now priority aircraft))
-    c.as_str.ensures.value c.close_plan.ensures.crash))
+    (committed_as (λ text. ClosesPlan operator text priority aircraft) c.encode-text.ensures.text
+    (committed_as (λ name. ClosesPlan name c.encode-text.result.now priority aircraft)
+    c.as_str.ensures.value c.in-Ok.ensures.committed))
     (λ clean. c.requires.fits (omega (arith, c.head_rows.ensures.reads.doubt, clean))))
 
-pub returns-clause-crash : goal.returns-clause-crash
-returns-clause-crash g c =
+pub returns-clause-made : goal.returns-clause-made
+returns-clause-made g c =
     let old = c.head_rows.new.connection in
     let new = c.close_plan.new.connection in
     let operator = c.args.operator.now in
     let priority = c.in_ok-priority.priority in
     let aircraft = c.in_ok-priority.aircraft in
     let first = some_first c.deref.result.now c.in-Some.head.now c.in-Some.ensures.value in
-    left_before g.S.Store c.args.connection.now old new _ c.close_plan.ensures.over.doubt
-    c.head_rows.ensures.reads.spared (left_closed g.S.Store old new c.args.kept.now.world
-    c.head_rows.ensures.stands c.close_plan.ensures.over.doubt operator
+    made_after g.S.Store c.args.connection.now old new _ _ _ c.head_rows.ensures.reads
+    (made_closed g.S.Store old new c.args.kept.now.world c.head_rows.ensures.stands _ _ tt operator
     c.args.id.now priority aircraft c.in_ok-head_rows.head_rows.items first.0 c.in-Some.head.now
     (parsed_id c.encode-text.result.now c.args.id.now c.encode-text.ensures.parsed)
     c.in_ok-priority.ensures.priority c.in_ok-priority.ensures.aircraft
-    (λ clean. (c.in_ok-head_rows.ensures.value (omega (arith, c.close_plan.ensures.over.doubt, clean))).1)
+    (λ clean. (c.in_ok-head_rows.ensures.value
+    (omega (arith, c.close_plan.ensures.committed.over.doubt, clean))).1)
     (sym c.deref.ensures.value ∙ first.1)
-    (subst (λ text. MayMake g.S.Store old new (ClosesPlan operator text priority aircraft))
-    c.encode-text.ensures.text
-    (subst (λ name. MayMake g.S.Store old new
-    (ClosesPlan name c.encode-text.result.now priority aircraft))
-    c.as_str.ensures.value c.close_plan.ensures.crash))
+    (committed_as (λ text. ClosesPlan operator text priority aircraft) c.encode-text.ensures.text
+    (committed_as (λ name. ClosesPlan name c.encode-text.result.now priority aircraft)
+    c.as_str.ensures.value c.in-Err.ensures.committed))
     (λ clean. c.requires.fits (omega (arith, c.head_rows.ensures.reads.doubt, clean))))
 
 -- why it is refused
@@ -109,16 +83,18 @@ returns-in_err-priority-clause-cause g c low =
 
 pub returns-clause-cause : goal.returns-clause-cause
 returns-clause-cause g c low clean live =
-    let before = c.in-Err.ensures.kept clean live in
+    let before = c.in-Err.ensures.committed.kept clean live in
     let mid = c.head_rows.new.connection in
     let here : AreLow ((state g.S.Store mid).now.trees 2) =
     subst (λ (db : _). AreLow (db.trees 2))
-    (sym (c.head_rows.ensures.reads.kept (omega (arith, c.close_plan.ensures.over.doubt, clean))
+    (sym (c.head_rows.ensures.reads.kept (omega (arith, c.close_plan.ensures.committed.over.doubt, clean))
     before.was_open).now) low in
     blamed_since g.S.Store c.args.connection.now mid c.close_plan.new.connection c.fault_of.result
     c.head_rows.ensures.reads.faults c.head_rows.ensures.reads.limit
     (blamed g.S.Store mid c.close_plan.new.connection c.in-Err.e c.fault_of.result c.fault_of.ensures
-    (c.in-Err.ensures.cause
-    (subst IsShort (sym c.as_str.ensures.value) (name_short _ c.as_str.ensures.valid))
-    (let short = parsed_short c.encode-text.result.now c.args.id.now c.encode-text.ensures.parsed in
-    omega (arith, short)) here)) clean live
+    (c.in-Err.ensures.committed.cause (
+      subst IsShort (sym c.as_str.ensures.value) (name_short _ c.as_str.ensures.valid),
+      (let short = parsed_short c.encode-text.result.now c.args.id.now c.encode-text.ensures.parsed in
+          omega (arith, short)),
+      here,
+    ))) clean live

@@ -5,7 +5,6 @@ use Rattle.sqlite.specs.Held.{state}
 use Rattle.desk_sql.specs.Rows as sql
 use Rattle.desk_sql.specs.Putting.{IsPuttable}
 use Rattle.desk_sql.specs.Batches.{PutsPlan, volume_of, cover_of, span_of}
-use Rattle.desk_sql.specs.Effects.{Commits, MayMake}
 use Rattle.desk_store.specs.Changes.{filed_by}
 use Rattle.desk_tables.specs.Tables.{usage_number, aircraft_number, area_rows, area_covers, ArePlanSpanRows}
 use Rattle.desk_store.specs.Content.{IsBlock}
@@ -15,22 +14,19 @@ use Rattle.desk_tables.proofs.ParseLemmas.{parsed_short}
 use Rattle.desk_tables.proofs.SpanBoundLemmas.{plan_near}
 use Rattle.desk_tables.proofs.CauseLemmas.{blamed}
 use Rattle.desk_tables.proofs.PuttableLemmas.{puttable}
-use Rattle.desk_tables.proofs.AfterLemmas.{stands_put, left_put}
-use Rattle.desk_tables.proofs.StoreLemmas.{kept_stands}
+use Rattle.desk_tables.proofs.AfterLemmas.{committed_as, made_put}
 use Rattle.desk_tables.proofs.changing.changes.put.Goals as goal
 
-pub returns-in-Ok-clause-ok : goal.returns-in-Ok-clause-ok
-returns-in-Ok-clause-ok g c =
-    let old = c.args.connection.now in
-    let new = c.put_plan.new.connection in
+pub returns-in-Ok-clause-made : goal.returns-in-Ok-clause-made
+returns-in-Ok-clause-made g c =
     let operator = c.args.operator.now in
     let row = c.args.row.now in
     let text = c.encode-id.result.now in
     let volumes = map volume_of c.deref-3.result.now in
     let covers = map cover_of c.deref-3.result.now in
     let spans = map span_of c.deref-4.result.now in
-    stands_put g.S.Store old new c.args.kept.now.world c.requires.stands c.in-Ok.ensures.over.mode
-    c.in-Ok.ensures.over.doubt operator row text volumes covers spans c.encode-id.ensures.text
+    made_put g.S.Store c.args.connection.now c.put_plan.new.connection c.args.kept.now.world
+    c.requires.stands _ _ tt operator row text volumes covers spans c.encode-id.ensures.text
     (ap (map volume_of) c.deref-3.ensures.value ∙ c.in_ok-volumes.ensures.volumes
     ∙ ap (λ name. area_rows (filed_by name row)) c.as_str.ensures.value)
     (ap (map cover_of) c.deref-3.ensures.value ∙ c.in_ok-volumes.ensures.covers
@@ -43,17 +39,13 @@ returns-in-Ok-clause-ok g c =
       volumes = c.volumes.ensures.limits;
       each = subst (AllByRecursion IsBlock) c.volumes.ensures.value c.in_ok-asked.ensures.valid;
     })
-    (λ clean. subst (λ name. Commits g.S.Store old new
-    (PutsPlan name text (sql.plan_row name text row.priority (usage_number row.usage)
-    (aircraft_number row.aircraft)) volumes covers spans)) c.as_str-3.ensures.value
-    (subst (λ usage. Commits g.S.Store old new (PutsPlan c.as_str-3.result.now text
-    (sql.plan_row c.as_str-3.result.now text row.priority usage (aircraft_number row.aircraft)) volumes
-    covers spans)) c.usage_number.ensures
-    (subst (λ aircraft. Commits g.S.Store old new (PutsPlan c.as_str-3.result.now text
-    (sql.plan_row c.as_str-3.result.now text row.priority c.usage_number.result aircraft)
-    volumes covers spans))
-    c.aircraft_number.ensures
-    (c.in-Ok.ensures.done clean))))
+    (committed_as (λ name. PutsPlan name text (sql.plan_row name text row.priority (usage_number row.usage)
+    (aircraft_number row.aircraft)) volumes covers spans) c.as_str-3.ensures.value
+    (committed_as (λ usage. PutsPlan c.as_str-3.result.now text (sql.plan_row c.as_str-3.result.now text
+    row.priority usage (aircraft_number row.aircraft)) volumes covers spans) c.usage_number.ensures
+    (committed_as (λ aircraft. PutsPlan c.as_str-3.result.now text (sql.plan_row c.as_str-3.result.now text
+    row.priority c.usage_number.result aircraft) volumes covers spans) c.aircraft_number.ensures
+    c.in-Ok.ensures.committed)))
     c.requires.fits
 
 pub returns-in-Ok-clause-known : goal.returns-in-Ok-clause-known
@@ -69,18 +61,16 @@ returns-in-Ok-clause-known g c =
           c.deref-in-Ok.ensures.value c.lengths_with.ensures.known),
     )
 
-pub returns-in-Ok-clause-crash : goal.returns-in-Ok-clause-crash
-returns-in-Ok-clause-crash g c =
-    let old = c.args.connection.now in
-    let new = c.put_plan.new.connection in
+pub returns-clause-made : goal.returns-clause-made
+returns-clause-made g c =
     let operator = c.args.operator.now in
     let row = c.args.row.now in
     let text = c.encode-id.result.now in
     let volumes = map volume_of c.deref-3.result.now in
     let covers = map cover_of c.deref-3.result.now in
     let spans = map span_of c.deref-4.result.now in
-    left_put g.S.Store old new c.args.kept.now.world c.requires.stands c.put_plan.ensures.over.doubt operator
-    row text volumes covers spans c.encode-id.ensures.text
+    made_put g.S.Store c.args.connection.now c.put_plan.new.connection c.args.kept.now.world
+    c.requires.stands _ _ tt operator row text volumes covers spans c.encode-id.ensures.text
     (ap (map volume_of) c.deref-3.ensures.value ∙ c.in_ok-volumes.ensures.volumes
     ∙ ap (λ name. area_rows (filed_by name row)) c.as_str.ensures.value)
     (ap (map cover_of) c.deref-3.ensures.value ∙ c.in_ok-volumes.ensures.covers
@@ -93,52 +83,13 @@ returns-in-Ok-clause-crash g c =
       volumes = c.volumes.ensures.limits;
       each = subst (AllByRecursion IsBlock) c.volumes.ensures.value c.in_ok-asked.ensures.valid;
     })
-    (subst (λ name. MayMake g.S.Store old new
-    (PutsPlan name text (sql.plan_row name text row.priority (usage_number row.usage)
-    (aircraft_number row.aircraft)) volumes covers spans)) c.as_str-3.ensures.value
-    (subst (λ usage. MayMake g.S.Store old new (PutsPlan c.as_str-3.result.now text
-    (sql.plan_row c.as_str-3.result.now text row.priority usage (aircraft_number row.aircraft)) volumes
-    covers spans)) c.usage_number.ensures
-    (subst (λ aircraft. MayMake g.S.Store old new (PutsPlan c.as_str-3.result.now text
-    (sql.plan_row c.as_str-3.result.now text row.priority c.usage_number.result aircraft)
-    volumes covers spans))
-    c.aircraft_number.ensures c.put_plan.ensures.crash)))
-    c.requires.fits
-
-pub returns-clause-crash : goal.returns-clause-crash
-returns-clause-crash g c =
-    let old = c.args.connection.now in
-    let new = c.put_plan.new.connection in
-    let operator = c.args.operator.now in
-    let row = c.args.row.now in
-    let text = c.encode-id.result.now in
-    let volumes = map volume_of c.deref-3.result.now in
-    let covers = map cover_of c.deref-3.result.now in
-    let spans = map span_of c.deref-4.result.now in
-    left_put g.S.Store old new c.args.kept.now.world c.requires.stands c.put_plan.ensures.over.doubt operator
-    row text volumes covers spans c.encode-id.ensures.text
-    (ap (map volume_of) c.deref-3.ensures.value ∙ c.in_ok-volumes.ensures.volumes
-    ∙ ap (λ name. area_rows (filed_by name row)) c.as_str.ensures.value)
-    (ap (map cover_of) c.deref-3.ensures.value ∙ c.in_ok-volumes.ensures.covers
-    ∙ ap (λ name. area_covers (filed_by name row)) c.as_str.ensures.value)
-    (subst (ArePlanSpanRows (filed_by operator row)) (sym (ap (map span_of) c.deref-4.ensures.value))
-    (subst (λ name. ArePlanSpanRows (filed_by name row) (map span_of c.in_ok-spans.spans.items))
-    c.as_str-2.ensures.value c.in_ok-spans.ensures))
-    (record {
-      id = parsed_id text row.id c.encode-id.ensures.parsed;
-      volumes = c.volumes.ensures.limits;
-      each = subst (AllByRecursion IsBlock) c.volumes.ensures.value c.in_ok-asked.ensures.valid;
-    })
-    (subst (λ name. MayMake g.S.Store old new
-    (PutsPlan name text (sql.plan_row name text row.priority (usage_number row.usage)
-    (aircraft_number row.aircraft)) volumes covers spans)) c.as_str-3.ensures.value
-    (subst (λ usage. MayMake g.S.Store old new (PutsPlan c.as_str-3.result.now text
-    (sql.plan_row c.as_str-3.result.now text row.priority usage (aircraft_number row.aircraft)) volumes
-    covers spans)) c.usage_number.ensures
-    (subst (λ aircraft. MayMake g.S.Store old new (PutsPlan c.as_str-3.result.now text
-    (sql.plan_row c.as_str-3.result.now text row.priority c.usage_number.result aircraft)
-    volumes covers spans))
-    c.aircraft_number.ensures c.put_plan.ensures.crash)))
+    (committed_as (λ name. PutsPlan name text (sql.plan_row name text row.priority (usage_number row.usage)
+    (aircraft_number row.aircraft)) volumes covers spans) c.as_str-3.ensures.value
+    (committed_as (λ usage. PutsPlan c.as_str-3.result.now text (sql.plan_row c.as_str-3.result.now text
+    row.priority usage (aircraft_number row.aircraft)) volumes covers spans) c.usage_number.ensures
+    (committed_as (λ aircraft. PutsPlan c.as_str-3.result.now text (sql.plan_row c.as_str-3.result.now text
+    row.priority c.usage_number.result aircraft) volumes covers spans) c.aircraft_number.ensures
+    c.in-Err.ensures.committed)))
     c.requires.fits
 
 pub returns-clause-cause : goal.returns-clause-cause
@@ -151,8 +102,12 @@ returns-clause-cause g c room clean live =
     let volumes = map volume_of c.deref-3.result.now in
     let covers = map cover_of c.deref-3.result.now in
     let spans = map span_of c.deref-4.result.now in
-    let early : HasCleanDisk (state g.S.Store old) = omega (arith, c.put_plan.ensures.over.doubt, clean) in
-    let stood = c.requires.stands.standing early (c.in-Err.ensures.kept clean live).was_open in
+    let early : HasCleanDisk (state g.S.Store old) = omega (
+      arith,
+      c.put_plan.ensures.committed.over.doubt,
+      clean,
+    ) in
+    let stood = c.requires.stands.standing early (c.in-Err.ensures.committed.kept clean live).was_open in
     let it = puttable c.covers_are_few.ensures operator row text volumes covers spans
     c.args.kept.now.world (state g.S.Store old).now row.priority c.usage_number.result
     c.aircraft_number.result c.encode-id.ensures.text
@@ -172,11 +127,6 @@ returns-clause-cause g c room clean live =
     (let short = parsed_short text row.id c.encode-id.ensures.parsed in omega (arith, short))
     (c.requires.fits early) stood.tables room in
     blamed g.S.Store old new c.in-Err.e c.fault_of.result c.fault_of.ensures
-    (c.in-Err.ensures.cause (subst (λ name. IsPuttable name text
+    (c.in-Err.ensures.committed.cause (subst (λ name. IsPuttable name text
     (sql.plan_row name text row.priority c.usage_number.result c.aircraft_number.result) volumes covers spans
     (state g.S.Store old).now) (sym c.as_str-3.ensures.value) it)) clean live
-
-pub returns-clause-err : goal.returns-clause-err
-returns-clause-err g c =
-    kept_stands g.S.Store c.args.connection.now c.put_plan.new.connection c.args.kept.now.world
-    c.requires.stands c.put_plan.ensures.over.mode c.put_plan.ensures.over.doubt c.in-Err.ensures.kept

@@ -6,37 +6,38 @@ use Rattle.desk_tables.proofs.opening.finding.rows_in.Goals as goal
 
 pub returns-in_err-spans-clause-cause : goal.returns-in_err-spans-clause-cause
 returns-in_err-spans-clause-cause g c =
-    let one = c.all_operators.ensures in
-    let two = c.all_plans.ensures in
-    let three = c.all_volumes.ensures in
-    let four = c.all_covers.ensures in
-    let blames = blames_reading g.S.Store c.args.connection.now c.all_covers.new.connection
-    c.all_spans.new.connection c.in_err-spans.field-0.0
+    let one = c.all_rows.ensures.answers in
+    let two = c.all_rows-2.ensures.answers in
+    let three = c.all_rows-3.ensures.answers in
+    let four = c.all_rows-4.ensures.answers in
+    let blames = blames_reading g.S.Store c.args.connection.now c.all_rows-4.new.connection
+    c.all_rows-5.new.connection c.in_err-spans.field-0.0
     (omega (arith, one.reads.faults, two.reads.faults, three.reads.faults, four.reads.faults))
-    (four.reads.limit ∙ three.reads.limit ∙ two.reads.limit ∙ one.reads.limit) c.in_err-spans.ensures.cause in
+    (four.reads.limit ∙ three.reads.limit ∙ two.reads.limit ∙ one.reads.limit)
+    c.in_err-spans.ensures.answers.cause in
     search (rules, blames)
 
 pub returns-in_err-covers-clause-cause : goal.returns-in_err-covers-clause-cause
 returns-in_err-covers-clause-cause g c =
-    let one = c.all_operators.ensures in
-    let two = c.all_plans.ensures in
-    let three = c.all_volumes.ensures in
-    let blames = blames_reading g.S.Store c.args.connection.now c.all_volumes.new.connection
-    c.all_covers.new.connection c.in_err-covers.field-0.0
+    let one = c.all_rows.ensures.answers in
+    let two = c.all_rows-2.ensures.answers in
+    let three = c.all_rows-3.ensures.answers in
+    let blames = blames_reading g.S.Store c.args.connection.now c.all_rows-3.new.connection
+    c.all_rows-4.new.connection c.in_err-covers.field-0.0
     (omega (arith, one.reads.faults, two.reads.faults, three.reads.faults))
-    (three.reads.limit ∙ two.reads.limit ∙ one.reads.limit) c.in_err-covers.ensures.cause in
+    (three.reads.limit ∙ two.reads.limit ∙ one.reads.limit) c.in_err-covers.ensures.answers.cause in
     search (rules, blames)
 
 pub returns-clause-live : goal.returns-clause-live
 returns-clause-live g c = λ clean.
-    let four : HasCleanDisk (state g.S.Store c.all_covers.new.connection) =
-    omega (arith, c.all_spans.ensures.reads.doubt, clean) in
-    let three : HasCleanDisk (state g.S.Store c.all_volumes.new.connection) =
-    omega (arith, c.all_covers.ensures.reads.doubt, four) in
-    let two : HasCleanDisk (state g.S.Store c.all_plans.new.connection) =
-    omega (arith, c.all_volumes.ensures.reads.doubt, three) in
-    let one : HasCleanDisk (state g.S.Store c.all_operators.new.connection) =
-    omega (arith, c.all_plans.ensures.reads.doubt, two) in
+    let four : HasCleanDisk (state g.S.Store c.all_rows-4.new.connection) =
+    omega (arith, c.all_rows-5.ensures.answers.reads.doubt, clean) in
+    let three : HasCleanDisk (state g.S.Store c.all_rows-3.new.connection) =
+    omega (arith, c.all_rows-4.ensures.answers.reads.doubt, four) in
+    let two : HasCleanDisk (state g.S.Store c.all_rows-2.new.connection) =
+    omega (arith, c.all_rows-3.ensures.answers.reads.doubt, three) in
+    let one : HasCleanDisk (state g.S.Store c.all_rows.new.connection) =
+    omega (arith, c.all_rows-2.ensures.answers.reads.doubt, two) in
     c.in_ok-spans.ensures.live clean (c.in_ok-covers.ensures.live four
     (c.in_ok-volumes.ensures.live three (c.in_ok-plans.ensures.live two
     (c.in_ok-operators.ensures.live one (c.in_ok-operators.ensures.open c.requires.some one)))))

@@ -13,7 +13,7 @@ use Rattle.desk_tables.proofs.reading.readers.asked.Goals as goal
 pub returns-clause-value : goal.returns-clause-value
 returns-clause-value g c = λ clean.
     on_whole _ c.rival_spans-handed.result c.held_by.result c.held_by.ensures.whole
-    (c.rival_spans-handed.ensures.value clean) (λ handed.
+    (c.rival_spans-handed.ensures.answers.value clean) (λ handed.
     (let (rows, by_texts, taken) = handed in
     let id = c.args.id.now in
     let question = c.args.question.now in
@@ -35,14 +35,14 @@ returns-clause-cause g c =
     err_weaker c.held_by.result
     (BlamesSpans g.S.Store c.args.connection.now c.rival_spans-handed.new.connection)
     c.held_by.ensures.none (λ e why clean live is.
-    (let before = c.rival_spans-handed.ensures.reads.kept clean live in
-    let standing = c.requires.stands.standing (omega (arith, c.rival_spans-handed.ensures.reads.doubt, clean))
-    before.was_open in
+    (let before = c.rival_spans-handed.ensures.answers.reads.kept clean live in
+    let standing = c.requires.stands.standing
+    (omega (arith, c.rival_spans-handed.ensures.answers.reads.doubt, clean)) before.was_open in
     spans_blamed g.S.Store c.args.connection.now c.rival_spans-handed.new.connection _ c.args.kept.now.world
     standing.content standing.tables c.rival_spans-handed.result (why is)
-    (c.rival_spans-handed.ensures.cause clean live)))
+    (c.rival_spans-handed.ensures.answers.cause clean live)))
 
 pub returns-clause-stands : goal.returns-clause-stands
 returns-clause-stands g c =
     still_stands g.S.Store c.args.connection.now c.rival_spans-handed.new.connection c.args.kept.now.world
-    c.requires.stands c.rival_spans-handed.ensures.reads
+    c.requires.stands c.rival_spans-handed.ensures.answers.reads

@@ -9,11 +9,11 @@ use Rattle.desk_tables.proofs.reading.readers.head_rows.Goals as goal
 
 pub returns-in-Ok-clause-value : goal.returns-in-Ok-clause-value
 returns-in-Ok-clause-value g c = λ clean.
-    let standing = c.requires.standing (omega (arith, c.in-Ok.ensures.reads.doubt, clean))
+    let standing = c.requires.standing (omega (arith, c.in-Ok.ensures.answers.reads.doubt, clean))
     (c.in-Ok.ensures.open clean) in
     let tables = tables_of (state g.S.Store c.args.connection.now).now.trees in
     let by_name = subst (λ name. Lists [] (filter (is_of name c.encode-text.result.now) tables.plans)
-    c.in-Ok.rows.items) c.as_str.ensures.value (c.in-Ok.ensures.value clean) in
+    c.in-Ok.rows.items) c.as_str.ensures.value (c.in-Ok.ensures.answers.value clean) in
     let lists = subst (λ text. Lists [] (filter (is_of c.args.operator.now text) tables.plans)
     c.in-Ok.rows.items) c.encode-text.ensures.text by_name in (
       standing.content,
@@ -25,4 +25,4 @@ returns-in-Ok-clause-value g c = λ clean.
 pub returns-in-Err-clause-cause : goal.returns-in-Err-clause-cause
 returns-in-Err-clause-cause g c =
     blamed g.S.Store c.args.connection.now c.plan_of.new.connection c.in-Err.e c.fault_of.result
-    c.fault_of.ensures c.in-Err.ensures.cause
+    c.fault_of.ensures c.in-Err.ensures.answers.cause

@@ -18,8 +18,9 @@ pub returns-clause-value : goal.returns-clause-value
 returns-clause-value g c = λ clean.
     on_whole _ c.own_plans-taken.result c.collected.result c.collected.ensures.whole
     (c.own_plans-taken.ensures.open clean) (λ live. on_whole _ c.own_plans-taken.result c.collected.result
-    c.collected.ensures.whole (c.own_plans-taken.ensures.value clean) (λ handed.
-    (let standing = c.requires.standing (omega (arith, c.own_plans-taken.ensures.reads.doubt, clean)) live in
+    c.collected.ensures.whole (c.own_plans-taken.ensures.answers.value clean) (λ handed.
+    (let standing = c.requires.standing
+    (omega (arith, c.own_plans-taken.ensures.answers.reads.doubt, clean)) live in
     let tables = tables_of (state g.S.Store c.args.connection.now).now.trees in
     let (rows, by_name, taken) = handed in
     let collector = c.own_plans-taken.new.taker in
@@ -41,8 +42,8 @@ returns-clause-cause g c =
     c.collected.ensures.none (λ e why clean live is.
     (let w = c.args.kept.now.world in
     let o = c.args.operator.now in
-    let before = c.own_plans-taken.ensures.reads.kept clean live in
-    let standing = c.requires.standing (omega (arith, c.own_plans-taken.ensures.reads.doubt, clean))
+    let before = c.own_plans-taken.ensures.answers.reads.kept clean live in
+    let standing = c.requires.standing (omega (arith, c.own_plans-taken.ensures.answers.reads.doubt, clean))
     before.was_open in
     let tables = tables_of (state g.S.Store c.args.connection.now).now.trees in
     let collector = c.own_plans-taken.new.taker in
@@ -60,4 +61,4 @@ returns-clause-cause g c =
     (λ rows by_name. own_listing tables w o rows standing.content standing.tables
     (subst (λ name. Lists (1 ∷ 5 ∷ []) (with_volumes (sql.is_by name) tables) rows) c.as_str.ensures.value
     by_name)) c.own_plans-taken.result collector.plans.items collector.head collector.volumes.items (why is)
-    (c.own_plans-taken.ensures.cause clean live) (c.own_plans-taken.ensures.value clean)))
+    (c.own_plans-taken.ensures.answers.cause clean live) (c.own_plans-taken.ensures.answers.value clean)))
