@@ -20,7 +20,7 @@ use std::alloc::Global;
 use std::env;
 use std::time::{Duration, Instant};
 
-//! The `n`th word after the program's name, a number.
+// The `n`th word after the program's name, a number.
 fn number(rt: &HostRuntime, n: usize) -> anyhow::Result<u32> {
     let word = env::args(rt)?.nth(n).context("an argument is missing")?;
     Ok(word.as_str().parse()?)
@@ -30,7 +30,7 @@ fn picoseconds(time: Duration, calls: usize) -> u128 {
     time.as_nanos() * 1000 / (calls.max(1) as u128)
 }
 
-//! Makes all calls of a measure; the least of the times that they and those before took.
+// Makes all calls of a measure; the least of the times that they and those before took.
 fn time_once(
     rt: &HostRuntime,
     inputs: &Inputs,
