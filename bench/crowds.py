@@ -56,10 +56,10 @@ def volume(shape, lower, upper, start="2026-06-01T12:00:00Z", end="2026-06-01T13
     }
 
 
-def put(operator, plan, volumes, priority=10):
+def put(operator, plan, volumes, priority=10, style="IfAllowed"):
     """A PUT of a plan."""
     asked = {
-        "execution_style": "IfAllowed",
+        "execution_style": style,
         "flight_plan": {
             "astm_f3548_21": {"priority": priority},
             "basic_information": {"area": volumes, "uas_state": "Nominal", "usage_state": "Planned"},
@@ -88,12 +88,14 @@ def flight(chance, hubs, days=25):
     return volume({"cells": cells}, band, band + 300, *written)
 
 
-def city(count):
-    """So many first PUTs of a city, 200 an operator."""
+def city(count, asked=0):
+    """So many first PUTs of a city, 200 an operator, and then so many that only ask."""
     chance = random.Random(7)
     hubs = [(chance.randrange(CITY_SIDE), chance.randrange(CITY_SIDE)) for _ in range(HUBS)]
-    for number in range(count):
-        yield put(f"op{number // 200}", uuid.UUID(int=chance.getrandbits(128)), [flight(chance, hubs)])
+    for number in range(count + asked):
+        style = "IfAllowed" if number < count else "Hypothetical"
+        identity = uuid.UUID(int=chance.getrandbits(128))
+        yield put(f"op{number // 200}", identity, [flight(chance, hubs)], style=style)
 
 
 def strips(count):
@@ -131,6 +133,12 @@ def comb(count, operators=1):
 def combs(count):
     """The same, by two operators in turn."""
     return comb(count, operators=2)
+
+
+def wide():
+    """A plan of 24 volumes, each a cell of level 1, so that it has more long spans than are asked for by themselves."""
+    cells = [token_of(face << 61 | quarter << 59 | 1 << 58) for face in range(6) for quarter in range(4)]
+    return put("op0", uuid.UUID(int=1), [volume({"cells": [cell]}, 50_000, 51_000) for cell in cells])
 
 
 LISTED = {"strips": strips, "same": same, "comb": comb, "combs": combs}
