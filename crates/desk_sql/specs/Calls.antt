@@ -54,6 +54,14 @@ module _ {S : Type 0} (g : Ghosts S) (old new : Held S) {V : Type 0} (result : R
           → OnOk result (Takes (state g old).now.trees (state g new).now.trees)
       pub remembered : Remembers g old new
 
+  -- a step within a transaction, which goes on: what it has done, and why it is refused where it fits
+  pub record IsRunWithin (Done Fits : Type 0) : Type 0 where
+    pub done : HasCleanDisk (state g new) → OnOk result Done
+    pub undone : HasCleanDisk (state g new) → OnErr result (KeepsCommit (state g old) (state g new))
+    pub cause : Fits → HasCleanDisk (state g new) → IsTrue (state g old).is_open
+        → IfErr result (IsRefusal g old new)
+    pub remembered : Remembers g old new
+
   -- a change as a transaction of its own, made as a whole or not at all, and why it is refused if it fits
   pub record IsCommitted (Changes : Tables → Tables → Type 0) (Fits : Database → Type 0) : Type 0 where
     pub done : HasCleanDisk (state g new) → OnOk result (Commits g old new Changes)

@@ -1,5 +1,6 @@
 -- Rows that are handed over one at a time.
 use Rattle.std.specs.Prelude.{◌≡◌, ◌≤◌, ◌⊎◌, ℕ, ◌-◌, ◌^◌, Bool, true, false, List, [], ◌∷◌, ◌++◌, length}
+use Rattle.std.specs.Prelude.{Result, IfOk, IfErr}
 use Rattle.sqlite.specs.Order.{Row}
 use Rattle.sqlite.specs.Store.{Ghosts}
 use Rattle.sqlite.specs.Held.{Held, state}
@@ -9,12 +10,23 @@ use Rattle.sqlite.specs.declared.error.ErrorCode.TheVariants as code
 use Rattle.sqlite.specs.Given.{HasGiven, FailsToAdvance, IsPlain}
 use Rattle.sqlite.specs.Listing.{understood}
 use Rattle.sqlite.specs.State.{HasCleanDisk, FailsToQuery, Shown, IsUnchanged, IsRolledBack}
+use Rattle.desk_sql.specs.Frames.{Remembers}
 use Rattle.desk_sql.specs.Refusals.{IsRefusal}
 
 module _ {S : Type 0} (g : Ghosts S) (old new : Held S) where
   -- nothing was changed, or the transaction that was under way is undone
   abbrev pub IsLeft : Type 0
   IsLeft = IsUnchanged (state g old) (state g new) ⊎ IsRolledBack (state g old) (state g new)
+
+  -- rows that are handed over: what that gives, and why not all of them are; what was committed stays
+  pub record IsHanded {V : Type 0} (result : Result V Error) (Gives : V → Type 0)
+      (Refuses : Error → Type 0) : Type 0
+    where
+      pub handed : HasCleanDisk (state g new) → IfOk result Gives
+      pub left : HasCleanDisk (state g new) → IsLeft
+      pub cause : HasCleanDisk (state g new) → IfErr result Refuses
+      pub mode : old.in_transaction ≡ false → new.in_transaction ≡ false
+      pub remembered : Remembers g old new
 
   -- one more row of the answer is handed over, or those so far are the whole answer
   abbrev pub HandsOver : (List Row → Type 0) → (List Row → Type 0) → Bool → Type 0

@@ -1,9 +1,10 @@
 //! A statement that writes, run within a transaction.
 
-ghost use Rattle.std.specs.Prelude.{◌≡◌, true, IfOk, IfErr, OnErr, IsTrue, Ok, Err};
+ghost use Rattle.std.specs.Prelude.{◌≡◌, true, IfOk, IfErr, IsTrue, Ok, Err};
 ghost use Rattle.sqlite.specs.Values.{bound};
-ghost use Rattle.sqlite.specs.State.{HasCleanDisk, Executes, ExecutesInside, Shows, KeepsCommit};
+ghost use Rattle.sqlite.specs.State.{HasCleanDisk, Executes, ExecutesInside, Shows};
 ghost use Rattle.sqlite.specs.Held.{state};
+ghost use Rattle.desk_sql.specs.Calls.{IsUndone};
 ghost use Rattle.desk_sql.specs.Frames.{Remembers};
 
 use sqlite::{Alter, Error, Transaction};
@@ -22,9 +23,7 @@ pub(crate) fn run<S: Alter>(
     ensures shown { HasCleanDisk (state S.Store tx.new.conn.now)
         → IfOk result (λ _. Shows (state S.Store tx.old.conn.now) (state S.Store tx.new.conn.now)
         (state S.Store tx.new.conn.now).now (state S.Store tx.old.conn.now).committed true) }
-    ensures undone { HasCleanDisk (state S.Store tx.new.conn.now)
-        → OnErr result (KeepsCommit (state S.Store tx.old.conn.now)
-        (state S.Store tx.new.conn.now)) }
+    ensures undone { IsUndone S.Store tx.old.conn.now tx.new.conn.now result }
     ensures stopped { HasCleanDisk (state S.Store tx.new.conn.now)
         → IsTrue tx.old.conn.now.in_transaction
         → IfErr result (λ e. ExecutesInside 0 statement.now (bound params.now)

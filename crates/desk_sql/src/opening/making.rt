@@ -2,13 +2,14 @@
 
 ghost use Rattle.std.specs.Prelude.{◌≡◌, ◌≢◌, false, suc, IfSome, IfNone, IfErr, IsTrue, OnOk, OnErr};
 ghost use Rattle.sqlite.specs.Effect.{IsDatabase};
-ghost use Rattle.sqlite.specs.State.{HasCleanDisk, KeepsCommit};
+ghost use Rattle.sqlite.specs.State.{HasCleanDisk};
 ghost use Rattle.sqlite.specs.Held.{state};
 ghost use Rattle.desk_sql.specs.Making.{left_to_make, Finishes, Completes, MayComplete, HasSmallSpans, IsStep};
 ghost use Rattle.desk_sql.specs.Rows.{IsMadeTo, tables_at};
 ghost use Rattle.desk_sql.specs.Finding.{Holds};
 ghost use Rattle.desk_sql.specs.Effects.{IsKept};
-ghost use Rattle.desk_sql.specs.Frames.{Remembers, IsOver};
+ghost use Rattle.desk_sql.specs.Calls.{IsRunWithin};
+ghost use Rattle.desk_sql.specs.Frames.{IsOver};
 ghost use Rattle.desk_sql.specs.Refusals.{IsRefusal};
 
 use crate::changing::run::run;
@@ -126,15 +127,9 @@ pub(crate) fn make_rest<S: Alter>(
         → IsTrue (state S.Store tx.old.conn.now).is_open → IsTrue tx.old.conn.now.in_transaction }
     requires sound { Holds S.Store tx.old.conn.now IsDatabase }
     ensures same_reference { tx.new.conn.ghost_name ≡ tx.old.conn.ghost_name }
-    ensures done { HasCleanDisk (state S.Store tx.new.conn.now)
-        → OnOk result (Finishes S.Store made tx.old.conn.now tx.new.conn.now) }
-    ensures undone { HasCleanDisk (state S.Store tx.new.conn.now)
-        → OnErr result (KeepsCommit (state S.Store tx.old.conn.now)
-        (state S.Store tx.new.conn.now)) }
-    ensures cause { HasSmallSpans (tables_at made (state S.Store tx.old.conn.now).now.trees)
-        → HasCleanDisk (state S.Store tx.new.conn.now) → IsTrue (state S.Store tx.old.conn.now).is_open
-        → IfErr result (IsRefusal S.Store tx.old.conn.now tx.new.conn.now) }
-    ensures remembered { Remembers S.Store tx.old.conn.now tx.new.conn.now }
+    ensures ran { IsRunWithin S.Store tx.old.conn.now tx.new.conn.now result
+        (Finishes S.Store made tx.old.conn.now tx.new.conn.now)
+        (HasSmallSpans (tables_at made (state S.Store tx.old.conn.now).now.trees)) }
 {
     let mut at = made;
     'steps: while let Some((next, text)) = next_step(at) {

@@ -1,16 +1,14 @@
 //! How the tables of a packed file come into a desk's own order.
 
-ghost use Rattle.std.specs.Prelude.{◌≡◌, IfErr, IsTrue, OnOk, OnErr};
+ghost use Rattle.std.specs.Prelude.{◌≡◌, IsTrue};
 ghost use Rattle.sqlite.specs.Effect.{IsDatabase};
-ghost use Rattle.sqlite.specs.State.{HasCleanDisk, KeepsCommit};
 ghost use Rattle.sqlite.specs.Held.{state};
 ghost use Rattle.desk_sql.specs.Schema.{packed_schema, old_table_schema};
 ghost use Rattle.desk_sql.specs.Rows.{IsMadeTo, tables_at};
 ghost use Rattle.desk_sql.specs.Finding.{Holds};
-ghost use Rattle.desk_sql.specs.Frames.{Remembers};
+ghost use Rattle.desk_sql.specs.Calls.{IsRunWithin};
 ghost use Rattle.desk_sql.specs.Effects.{Makes};
 ghost use Rattle.desk_sql.specs.Making.{HasSmallSpans};
-ghost use Rattle.desk_sql.specs.Refusals.{IsRefusal};
 ghost use Rattle.desk_sql.specs.Unpacking.{loose_schema, spanless_schema, Drops, Unpacks, RemakesTables};
 
 use crate::changing::run::run;
@@ -43,15 +41,9 @@ fn drop_volumes_text() -> &'static str
 fn unpack<S: Alter>(tx: &mut Transaction<'_, S>) -> Result<(), Error>
     requires at { Holds S.Store tx.old.conn.now (IsMadeTo TablesPresent.Packed) }
     ensures same_reference { tx.new.conn.ghost_name ≡ tx.old.conn.ghost_name }
-    ensures done { HasCleanDisk (state S.Store tx.new.conn.now)
-        → OnOk result (Unpacks S.Store tx.old.conn.now tx.new.conn.now) }
-    ensures undone { HasCleanDisk (state S.Store tx.new.conn.now)
-        → OnErr result (KeepsCommit (state S.Store tx.old.conn.now)
-        (state S.Store tx.new.conn.now)) }
-    ensures cause { Holds S.Store tx.old.conn.now IsDatabase → IsTrue tx.old.conn.now.in_transaction
-        → HasCleanDisk (state S.Store tx.new.conn.now) → IsTrue (state S.Store tx.old.conn.now).is_open
-        → IfErr result (IsRefusal S.Store tx.old.conn.now tx.new.conn.now) }
-    ensures remembered { Remembers S.Store tx.old.conn.now tx.new.conn.now }
+    ensures ran { IsRunWithin S.Store tx.old.conn.now tx.new.conn.now result
+        (Unpacks S.Store tx.old.conn.now tx.new.conn.now)
+        (Holds S.Store tx.old.conn.now IsDatabase × IsTrue tx.old.conn.now.in_transaction) }
 {
     run(tx, drop_old_first_text(), &[])?;
     run(tx, drop_spans_text(), &[])?;
@@ -65,16 +57,10 @@ fn unpack<S: Alter>(tx: &mut Transaction<'_, S>) -> Result<(), Error>
 pub fn remake_tables<S: Alter>(tx: &mut Transaction<'_, S>) -> Result<(), Error>
     requires at { Holds S.Store tx.old.conn.now (IsMadeTo TablesPresent.Packed) }
     ensures same_reference { tx.new.conn.ghost_name ≡ tx.old.conn.ghost_name }
-    ensures done { HasCleanDisk (state S.Store tx.new.conn.now)
-        → OnOk result (Makes S.Store tx.old.conn.now tx.new.conn.now RemakesTables) }
-    ensures undone { HasCleanDisk (state S.Store tx.new.conn.now)
-        → OnErr result (KeepsCommit (state S.Store tx.old.conn.now)
-        (state S.Store tx.new.conn.now)) }
-    ensures cause { Holds S.Store tx.old.conn.now IsDatabase → IsTrue tx.old.conn.now.in_transaction
-        → HasSmallSpans (tables_at TablesPresent.Packed (state S.Store tx.old.conn.now).now.trees)
-        → HasCleanDisk (state S.Store tx.new.conn.now) → IsTrue (state S.Store tx.old.conn.now).is_open
-        → IfErr result (IsRefusal S.Store tx.old.conn.now tx.new.conn.now) }
-    ensures remembered { Remembers S.Store tx.old.conn.now tx.new.conn.now }
+    ensures ran { IsRunWithin S.Store tx.old.conn.now tx.new.conn.now result
+        (Makes S.Store tx.old.conn.now tx.new.conn.now RemakesTables)
+        (Holds S.Store tx.old.conn.now IsDatabase × IsTrue tx.old.conn.now.in_transaction
+        × HasSmallSpans (tables_at TablesPresent.Packed (state S.Store tx.old.conn.now).now.trees)) }
 {
     unpack(tx)?;
     make_rest(tx, TablesPresent::OldSpans)

@@ -1,16 +1,15 @@
 //! Rows of an answer, handed over one at a time.
 
-ghost use Rattle.std.specs.Prelude.{◌≡◌, List, [], false, IfOk, IfErr, OnOk, OnErr, IsTrue};
+ghost use Rattle.std.specs.Prelude.{◌≡◌, List, [], false, OnOk, IsTrue};
 ghost use Rattle.sqlite.specs.Order.{Row as Values};
 ghost use Rattle.sqlite.specs.Values.{bound};
 ghost use Rattle.sqlite.specs.State.{HasCleanDisk, IsUnchanged};
 ghost use Rattle.sqlite.specs.Held.{state};
 ghost use Rattle.desk_sql.specs.Rows.{tables_of, Lists};
 ghost use Rattle.desk_sql.specs.Effects.{IsReady};
-ghost use Rattle.desk_sql.specs.Frames.{Remembers};
 ghost use Rattle.desk_sql.specs.Calls.{WasOpen, HandsOut};
 ghost use Rattle.desk_sql.specs.Queries.{params_of, order_of, rows_of};
-ghost use Rattle.desk_sql.specs.Taking.{FailsNext, FailsToHandAll, HandsOver, HandsAll, IsLeft};
+ghost use Rattle.desk_sql.specs.Taking.{FailsNext, FailsToHandAll, HandsOver, HandsAll, IsHanded};
 
 use crate::laws::settled_and_sound;
 use crate::reading::query::Query;
@@ -45,20 +44,14 @@ pub trait RowSink {
 /// Hands over the next row, if there is one.
 fn hand_next<S: Alter, T: RowSink>(rows: &mut Rows<'_, S>, taker: &mut T) -> Result<bool, Error>
     ensures same_reference { rows.new.conn.ghost_name ≡ rows.old.conn.ghost_name }
-    ensures handed { HasCleanDisk (state S.Store rows.new.conn.now) → IfOk result
+    ensures handed { IsHanded S.Store rows.old.conn.now rows.new.conn.now result
         (HandsOver S.Store rows.old.conn.now rows.new.conn.now (T.has_taken taker.old)
-        (T.has_taken taker.new)) }
+        (T.has_taken taker.new))
+        (FailsNext S.Store rows.old.conn.now rows.new.conn.now
+        (λ row e. (taken : List Values) → T.has_taken taker.old taken → T.refuses taken row e)) }
     ensures same { HasCleanDisk (state S.Store rows.new.conn.now)
         → OnOk result (IsUnchanged (state S.Store rows.old.conn.now)
         (state S.Store rows.new.conn.now)) }
-    ensures left { HasCleanDisk (state S.Store rows.new.conn.now)
-        → OnErr result (IsLeft S.Store rows.old.conn.now rows.new.conn.now) }
-    ensures cause { HasCleanDisk (state S.Store rows.new.conn.now) → IfErr result
-        (FailsNext S.Store rows.old.conn.now rows.new.conn.now
-        (λ row e. (taken : List Values) → T.has_taken taker.old taken → T.refuses taken row e)) }
-    ensures mode { rows.old.conn.now.in_transaction ≡ false
-        → rows.new.conn.now.in_transaction ≡ false }
-    ensures remembered { Remembers S.Store rows.old.conn.now rows.new.conn.now }
 {
     rows.advance()?;
     match rows.get() {
@@ -79,17 +72,11 @@ fn hand_all<S: Alter, T: RowSink>(rows: &mut Rows<'_, S>, taker: &mut T) -> Resu
     requires { HasCleanDisk (state S.Store rows.old.conn.now)
         → IsTrue (state S.Store rows.old.conn.now).is_open }
     ensures same_reference { rows.new.conn.ghost_name ≡ rows.old.conn.ghost_name }
-    ensures handed { HasCleanDisk (state S.Store rows.new.conn.now) → OnOk result
-        (HandsAll S.Store rows.old.conn.now rows.new.conn.now (T.has_taken taker.old)
-        (T.has_taken taker.new)) }
-    ensures left { HasCleanDisk (state S.Store rows.new.conn.now)
-        → IsLeft S.Store rows.old.conn.now rows.new.conn.now }
-    ensures cause { HasCleanDisk (state S.Store rows.new.conn.now) → IfErr result
-        (FailsToHandAll S.Store rows.old.conn.now rows.new.conn.now
-        (T.has_taken taker.old) T.refuses) }
-    ensures mode { rows.old.conn.now.in_transaction ≡ false
-        → rows.new.conn.now.in_transaction ≡ false }
-    ensures remembered { Remembers S.Store rows.old.conn.now rows.new.conn.now }
+    ensures handed { IsHanded S.Store rows.old.conn.now rows.new.conn.now result
+        (λ _. HandsAll S.Store rows.old.conn.now rows.new.conn.now (T.has_taken taker.old)
+        (T.has_taken taker.new))
+        (FailsToHandAll S.Store rows.old.conn.now rows.new.conn.now (T.has_taken taker.old)
+        T.refuses) }
 {
     for _ in 0..u64::MAX {
         if !hand_next(rows, taker)? {

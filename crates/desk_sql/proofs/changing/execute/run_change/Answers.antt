@@ -5,7 +5,6 @@ use Rattle.sqlite.specs.Held.{state}
 use Rattle.desk_sql.specs.Batches.{IsUnderWay}
 use Rattle.desk_sql.specs.Changes.{changes, fits, takes}
 use Rattle.desk_sql.specs.Changing.{IsSureChange}
-use Rattle.desk_sql.specs.Effects.{Makes}
 use Rattle.desk_sql.specs.Putting.{Takes}
 use Rattle.desk_sql.specs.Statements.{Changes}
 use Rattle.desk_sql.specs.Refusals.{IsRefusal}

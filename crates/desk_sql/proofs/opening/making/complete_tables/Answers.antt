@@ -14,7 +14,7 @@ returns-clause-done g c =
     (λ clean. on_ok_weaker c.commit.result
     (λ shown. completed g.S.Store c.args.made c.args.connection.now c.transaction-tx.result.conn.now
     c.make_rest.new.tx.conn.now c.commit.new.self.0 c.transaction-tx.ensures.begun
-    (c.in_ok-make_rest.ensures.done (omega (arith, c.commit.ensures.survives.clean, clean))) shown.1)
+    (c.in_ok-make_rest.ensures.ran.done (omega (arith, c.commit.ensures.survives.clean, clean))) shown.1)
     (c.commit.ensures.ok clean))
 
 pub returns-clause-crash : goal.returns-clause-crash
@@ -23,4 +23,4 @@ returns-clause-crash g c =
     subst (λ held. MayComplete g.S.Store c.args.made c.args.connection.now held) same
     (may_complete g.S.Store c.args.made c.args.connection.now c.transaction-tx.result.conn.now
     c.make_rest.new.tx.conn.now c.commit.new.self.0 c.transaction-tx.ensures.begun
-    c.in_ok-make_rest.ensures.done c.make_rest.ensures.remembered.spared c.commit.ensures.survives)
+    c.in_ok-make_rest.ensures.ran.done c.make_rest.ensures.ran.remembered.spared c.commit.ensures.survives)

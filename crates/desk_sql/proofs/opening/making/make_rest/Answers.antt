@@ -1,7 +1,9 @@
-use Rattle.std.proofs.Common.{arith, rules, ◌∙◌, inr}
+use Rattle.std.proofs.Common.{arith, rules, ◌∙◌, inr, IsTrue}
 use Rattle.sqlite.specs.State.{HasCleanDisk}
 use Rattle.sqlite.specs.Held.{state}
+use Rattle.desk_sql.specs.Making.{HasSmallSpans}
 use Rattle.desk_sql.specs.Refusals.{IsRefusal}
+use Rattle.desk_sql.specs.Rows.{tables_at}
 use Rattle.desk_sql.proofs.CreateLemmas.{grows, grown_more, finished}
 use Rattle.desk_sql.proofs.StepStops.{step_refused}
 use Rattle.desk_sql.proofs.opening.making.make_rest.Goals as goal
@@ -22,19 +24,22 @@ steps-preserved g c =
       c.in-Some.ensures.ordered,
     )
 
-pub returns-in_err-run-clause-cause : goal.returns-in_err-run-clause-cause
-returns-in_err-run-clause-cause g c small clean live =
+pub returns-in_err-run-clause-ran : goal.returns-in_err-run-clause-ran
+returns-in_err-run-clause-ran g c =
     let old = c.args.tx.now.conn.now in
     let mid = c.steps.tx.conn.now in
     let new = c.run.new.tx.conn.now in
+    let refused : HasSmallSpans (tables_at c.args.made (state g.S.Store old).now.trees)
+    → HasCleanDisk (state g.S.Store new) → IsTrue (state g.S.Store old).is_open
+    → IsRefusal g.S.Store old new c.in_err-run.field-0.0 = λ small clean live.
     let early : HasCleanDisk (state g.S.Store mid) = omega (arith, c.run.ensures.remembered.doubt, clean) in
-    let it : IsRefusal g.S.Store old new c.in_err-run.field-0.0 =
     step_refused g.S.Store c.args.made c.steps.at c.in-Some.next old mid new c.in-Some.text.now
     c.in-Some.ensures.step c.steps.invariant.1 early (c.steps.invariant.2 early live) small _
     (c.in_err-run.ensures.stopped clean) in
-    search (rules, it)
+    search (rules, refused)
 
-pub returns-clause-done : goal.returns-clause-done
-returns-clause-done g c =
-    finished g.S.Store c.args.made c.steps.at c.args.tx.now.conn.now c.steps.tx.conn.now
-    c.requires.missing c.in_default.ensures.none c.steps.invariant.1
+pub returns-clause-ran : goal.returns-clause-ran
+returns-clause-ran g c =
+    let done = finished g.S.Store c.args.made c.steps.at c.args.tx.now.conn.now c.steps.tx.conn.now
+    c.requires.missing c.in_default.ensures.none c.steps.invariant.1 in
+    search (rules, done)

@@ -91,7 +91,7 @@ returns-clause-answers g c =
     let known : Selects sql params (order_of c.args.query) (rows_of c.args.query) =
     rw c.requires.given c.text.ensures in
     let early : HasCleanDisk (state g.S.Store new) → HasCleanDisk (state g.S.Store first) = λ clean.
-    omega (arith, clean, c.hand_all.ensures.remembered.doubt) in
+    omega (arith, clean, c.hand_all.ensures.handed.remembered.doubt) in
     let start : HasCleanDisk (state g.S.Store new) → HasCleanDisk (state g.S.Store old) = λ clean.
     omega (arith, early clean, survives.clean, c.prepare.ensures.survives.clean) in
     let value : HasCleanDisk (state g.S.Store new) → OnOk c.hand_all.result
@@ -101,7 +101,7 @@ returns-clause-answers g c =
     (handed_after g.S.Store sql text params old mid c.requires.ready plain c.in_ok-statement.ensures.ok
     c.prepare.ensures.survives first (early clean) survives (begins.begun (early clean)) new
     (g.T.RowSink.has_taken c.args.taker.now) has c.requires.fresh c.hand_all.result
-    (c.hand_all.ensures.handed clean))) in
+    (c.hand_all.ensures.handed.handed clean))) in
     let cause : HasCleanDisk (state g.S.Store new) → IsTrue (state g.S.Store new).is_open
     → IfErr c.hand_all.result (IsCutShort g.S.Store old new (Lists (order_of c.args.query) wanted)
     g.T.RowSink.refuses) = λ clean live.
@@ -121,18 +121,18 @@ returns-clause-answers g c =
     mid text prepared.0 prepared.1 c.prepare.ensures.survives (start clean) first new given.0 given.1
     survives.counts survives.limit g.T.RowSink.refuses live
     (g.T.RowSink.has_taken c.args.taker.now) c.requires.fresh c.hand_all.result
-    (c.hand_all.ensures.cause clean))) in
+    (c.hand_all.ensures.handed.cause clean))) in
     let kept : IsKept g.S.Store old new = λ clean live.
     (kept_after g.S.Store sql text params old mid c.requires.ready plain c.in_ok-statement.ensures.ok
     c.prepare.ensures.survives first (early clean) survives
-    (begins.begun (early clean)) new settled live (c.hand_all.ensures.left clean)) in
+    (begins.begun (early clean)) new settled live (c.hand_all.ensures.handed.left clean)) in
     let spared : Spares g.S.Store old first =
     spared_handed g.S.Store sql text params old mid c.requires.ready plain c.in_ok-statement.ensures.ok
     c.prepare.ensures.survives first survives in
     let reads : OnlyReads g.S.Store old new =
     reads_handed g.S.Store old mid first new _ kept
-    (c.hand_all.ensures.mode (begins.mode (c.prepare.ensures.mode c.requires.settled))) spared
-    c.prepare.ensures.survives survives c.hand_all.ensures.remembered in
+    (c.hand_all.ensures.handed.mode (begins.mode (c.prepare.ensures.mode c.requires.settled))) spared
+    c.prepare.ensures.survives survives c.hand_all.ensures.handed.remembered in
     search (rules, value, cause, reads)
 
 pub returns-clause-open : goal.returns-clause-open
@@ -143,7 +143,7 @@ returns-clause-open g c =
     let it : HasCleanDisk (state g.S.Store new) → OnOk c.hand_all.result
     (IsTrue (state g.S.Store old).is_open) = λ clean.
     (let early : HasCleanDisk (state g.S.Store first) =
-    omega (arith, clean, c.hand_all.ensures.remembered.doubt) in
+    omega (arith, clean, c.hand_all.ensures.handed.remembered.doubt) in
     open_on c.hand_all.result (state g.S.Store old)
     (was_prepared g.S.Store c.text.result.now c.in_ok-statement.statement.text
     (bound c.args.params.now) old c.prepare.new.self c.requires.ready

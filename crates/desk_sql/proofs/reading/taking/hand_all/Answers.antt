@@ -1,4 +1,9 @@
-use Rattle.std.proofs.Common.{arith, refl, inl, ◌∙◌}
+use Rattle.std.proofs.Common.{arith, refl, rules, inl, ◌∙◌, IfErr}
+use Rattle.sqlite.specs.declared.error.Error.TheVariants.{SqliteFailure}
+use Rattle.sqlite.specs.declared.error.ErrorCode.TheVariants.{TooBig}
+use Rattle.sqlite.specs.Held.{state}
+use Rattle.sqlite.specs.State.{HasCleanDisk}
+use Rattle.desk_sql.specs.Taking.{FailsToHandAll, HandsAll, IsLeft}
 use Rattle.desk_sql.proofs.TakingLemmas.{begins, goes_on, ends, is_left, fails_now, on_err, too_many}
 use Rattle.desk_sql.proofs.LeavingLemmas.{remembers_itself, remembers_then}
 use Rattle.desk_sql.proofs.reading.taking.hand_all.Goals as goal
@@ -12,51 +17,63 @@ loop-init g c = (
       (g.T.RowSink.has_taken c.args.taker.now) c.requires,
 )
 
-pub returns-in_err-hand_next-clause-left : goal.returns-in_err-hand_next-clause-left
-returns-in_err-hand_next-clause-left g c =
-    is_left g.S.Store c.args.rows.now.conn.now c.loop.rows.conn.now c.hand_next.new.rows.conn.now _ _
-    (g.T.RowSink.has_taken c.hand_next.new.taker) c.loop.counter c.loop.invariant.3
-    (λ clean. omega (arith, clean, c.hand_next.ensures.remembered.doubt)) c.in_err-hand_next.ensures.left
+pub returns-in_err-hand_next-clause-handed : goal.returns-in_err-hand_next-clause-handed
+returns-in_err-hand_next-clause-handed g c =
+    let old = c.args.rows.now.conn.now in
+    let mid = c.loop.rows.conn.now in
+    let new = c.hand_next.new.rows.conn.now in
+    let step = c.in_err-hand_next.ensures.handed in
+    let early : HasCleanDisk (state g.S.Store new) → HasCleanDisk (state g.S.Store mid) = λ clean.
+    omega (arith, clean, step.remembered.doubt) in
+    let left : HasCleanDisk (state g.S.Store new) → IsLeft g.S.Store old new =
+    is_left g.S.Store old mid new _ _ (g.T.RowSink.has_taken c.hand_next.new.taker) c.loop.counter
+    c.loop.invariant.3 early step.left in
+    let cause : HasCleanDisk (state g.S.Store new) → IfErr c.from_residual.result
+    (FailsToHandAll g.S.Store old new (g.T.RowSink.has_taken c.args.taker.now) g.T.RowSink.refuses) = λ clean.
+    on_err c.from_residual.result c.in_err-hand_next.field-0.0 _ c.from_residual.ensures.1
+    (fails_now g.S.Store old mid new _ _ (g.T.RowSink.has_taken c.hand_next.new.taker) c.loop.counter
+    c.loop.invariant.3 early g.T.RowSink.refuses c.loop.invariant.2.faults c.loop.invariant.2.limit _
+    (step.cause clean) clean) in
+    search (rules, left, cause)
 
 pub returns-then-not-branch-clause-handed : goal.returns-then-not-branch-clause-handed
 returns-then-not-branch-clause-handed g c =
-    ends g.S.Store c.args.rows.now.conn.now c.loop.rows.conn.now c.hand_next.new.rows.conn.now _ _
-    (g.T.RowSink.has_taken c.hand_next.new.taker) c.loop.counter c.loop.invariant.3
-    (λ clean. omega (arith, clean, c.hand_next.ensures.remembered.doubt)) c.in_ok-hand_next.field-0
-    c.if-not-branch.true c.in_ok-hand_next.ensures.handed
-
-pub returns-then-not-branch-clause-left : goal.returns-then-not-branch-clause-left
-returns-then-not-branch-clause-left g c =
-    is_left g.S.Store c.args.rows.now.conn.now c.loop.rows.conn.now c.hand_next.new.rows.conn.now _ _
-    (g.T.RowSink.has_taken c.hand_next.new.taker) c.loop.counter c.loop.invariant.3
-    (λ clean. omega (arith, clean, c.hand_next.ensures.remembered.doubt))
-    (λ clean. inl (c.in_ok-hand_next.ensures.same clean))
+    let old = c.args.rows.now.conn.now in
+    let mid = c.loop.rows.conn.now in
+    let new = c.hand_next.new.rows.conn.now in
+    let step = c.in_ok-hand_next.ensures.handed in
+    let has = g.T.RowSink.has_taken c.hand_next.new.taker in
+    let early : HasCleanDisk (state g.S.Store new) → HasCleanDisk (state g.S.Store mid) = λ clean.
+    omega (arith, clean, step.remembered.doubt) in
+    let left : HasCleanDisk (state g.S.Store new) → IsLeft g.S.Store old new =
+    is_left g.S.Store old mid new _ _ has c.loop.counter c.loop.invariant.3 early step.left in
+    let handed : HasCleanDisk (state g.S.Store new)
+    → HandsAll g.S.Store old new (g.T.RowSink.has_taken c.args.taker.now) has =
+    ends g.S.Store old mid new _ _ has c.loop.counter c.loop.invariant.3 early c.in_ok-hand_next.field-0
+    c.if-not-branch.true step.handed in
+    search (rules, left, handed)
 
 pub loop-preserved : goal.loop-preserved
 loop-preserved g c = (
   c.hand_next.ensures.same_reference ∙ c.loop.invariant.0,
-  λ settled. c.hand_next.ensures.mode (c.loop.invariant.1 settled),
+  λ settled. c.hand_next.ensures.handed.mode (c.loop.invariant.1 settled),
   remembers_then g.S.Store c.args.rows.now.conn.now c.loop.rows.conn.now c.hand_next.new.rows.conn.now
-      c.loop.invariant.2 c.hand_next.ensures.remembered,
+      c.loop.invariant.2 c.hand_next.ensures.handed.remembered,
   goes_on g.S.Store c.args.rows.now.conn.now c.loop.rows.conn.now c.hand_next.new.rows.conn.now _ _
       (g.T.RowSink.has_taken c.hand_next.new.taker) c.loop.counter c.loop.invariant.3
-      (λ clean. omega (arith, clean, c.hand_next.ensures.remembered.doubt)) c.in_ok-hand_next.ensures.same
-      c.in_ok-hand_next.field-0 c.if-not-branch.false c.in_ok-hand_next.ensures.handed,
+      (λ clean. omega (arith, clean, c.hand_next.ensures.handed.remembered.doubt))
+      c.in_ok-hand_next.ensures.same c.in_ok-hand_next.field-0 c.if-not-branch.false
+      c.in_ok-hand_next.ensures.handed.handed,
 )
 
-pub returns-clause-left : goal.returns-clause-left
-returns-clause-left g c clean = inl (c.loop.invariant.3.same clean)
-
--- why not all are handed over
-pub returns-in_err-hand_next-clause-cause : goal.returns-in_err-hand_next-clause-cause
-returns-in_err-hand_next-clause-cause g c clean =
-    on_err c.from_residual.result c.in_err-hand_next.field-0.0 _ c.from_residual.ensures.1
-    (fails_now g.S.Store c.args.rows.now.conn.now c.loop.rows.conn.now c.hand_next.new.rows.conn.now _ _
-    (g.T.RowSink.has_taken c.hand_next.new.taker) c.loop.counter c.loop.invariant.3
-    (λ clean. omega (arith, clean, c.hand_next.ensures.remembered.doubt)) g.T.RowSink.refuses
-    c.loop.invariant.2.faults c.loop.invariant.2.limit _ (c.in_err-hand_next.ensures.cause clean) clean)
-
-pub returns-clause-cause : goal.returns-clause-cause
-returns-clause-cause g c clean =
-    too_many g.S.Store c.args.rows.now.conn.now c.loop.rows.conn.now _ _ c.loop.counter
-    g.T.RowSink.refuses c.loop.invariant.3 (omega (arith, c.loop-test.false)) clean
+pub returns-clause-handed : goal.returns-clause-handed
+returns-clause-handed g c =
+    let old = c.args.rows.now.conn.now in
+    let new = c.loop.rows.conn.now in
+    let left : HasCleanDisk (state g.S.Store new) → IsLeft g.S.Store old new = λ clean.
+    inl (c.loop.invariant.3.same clean) in
+    let cause : HasCleanDisk (state g.S.Store new) → FailsToHandAll g.S.Store old new
+    (g.T.RowSink.has_taken c.args.taker.now) g.T.RowSink.refuses (SqliteFailure TooBig) = λ clean.
+    too_many g.S.Store old new _ _ c.loop.counter g.T.RowSink.refuses c.loop.invariant.3
+    (omega (arith, c.loop-test.false)) clean in
+    search (rules, left, cause)
