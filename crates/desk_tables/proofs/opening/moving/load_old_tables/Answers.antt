@@ -14,7 +14,7 @@ returns-clause-read g c =
     let b = c.old_rows_in.new.connection in
     let t = tables_at c.args.made (state g.S.Store a).now.trees in
     let reads : OnlyReads g.S.Store a b = reads_then g.S.Store a c.are_new_empty.new.connection b
-    c.in_ok-branch.ensures.reads c.in_ok-rows.ensures.reads in
+    c.are_new_empty.ensures.reads c.in_ok-rows.ensures.reads in
     let none : HasCleanDisk (state g.S.Store b) → HasNoNewRows t = search rules in
     let sorted : HasCleanDisk (state g.S.Store b) → AreSortedOld t c.in_ok-rows.rows = search rules in
     let opened : HasCleanDisk (state g.S.Store b) → IsTrue (state g.S.Store a).is_open = search rules in
