@@ -44,8 +44,8 @@ module _ {S : Type 0} (g : Ghosts S) (a b c : Held S) (made : TablesPresent) (ol
     (part : Holds g b (IsMadeTo made)) (rows : Holds g b (HasRowsOld made old)) (later : OnlyReads g b c)
   where
     pub none_later_shown : {V : Type 0} (r : Result V OpenFault)
-        → (HasCleanDisk (state g c) → IfErr r (λ e. e ≡ NotADesk
-        → AreNoContentIn old (tables_at made (state g b).now.trees)))
+        → IfErr r (λ e. e ≡ NotADesk → HasCleanDisk (state g c)
+        → AreNoContentIn old (tables_at made (state g b).now.trees))
         → IfErr r (λ e. e ≡ NotADesk → ShowsNone g a c)
     none_later_shown (Ok v) none = tt
     none_later_shown (Err e) none = λ is clean live.
@@ -53,7 +53,7 @@ module _ {S : Type 0} (g : Ghosts S) (a b c : Held S) (made : TablesPresent) (ol
         let was = (later.kept clean live).was_open in
         let shows = reads.kept mid was in
         subst HoldsNone shows.now
-        (none_held made old (state g b).now (part mid was) (rows mid was) (none clean is))
+        (none_held made old (state g b).now (part mid was) (rows mid was) (none is clean))
 
 -- ---- over files
 

@@ -1,5 +1,5 @@
 -- The move of a content from schema 1 to schema 2.
-use Rattle.std.proofs.Common.{◌≡◌, ◌≤◌, ◌↔◌, ◌⊎◌, ℕ, length, Bool, true, List, [], ◌∷◌, ◌++◌, Result, Ok, Err, IfOk, IfErr, OnOk, OnErr, IsTrue, refl, sym, ap, subst, ◌∙◌, arith, inl, inr, append_assoc, IsPermutation}
+use Rattle.std.proofs.Common.{◌≡◌, ◌≢◌, ◌≤◌, ◌↔◌, ◌⊎◌, ℕ, length, Bool, true, List, [], ◌∷◌, ◌++◌, Result, Ok, Err, IfOk, IfErr, OnOk, OnErr, IsTrue, refl, sym, ap, subst, ◌∙◌, arith, inl, inr, append_assoc, IsPermutation}
 use Rattle.std.specs.List.{flat_map, AllByRecursion}
 use Rattle.std.proofs.lemmas.List.{append-nil}
 use Rattle.std.proofs.lemmas.Grind.{flat_map-append}
@@ -25,12 +25,13 @@ use Rattle.desk_store.specs.World.{Filed, World}
 use Rattle.desk_tables.specs.Tables.{area_rows, area_covers, volume_rows, cover_rows, ArePlanSpanRows, AreSpanRows}
 use Rattle.desk_store.specs.Content.{IsContent}
 use Rattle.desk_tables.specs.declared.opening.open.OpenFault.{OpenFault}
-use Rattle.desk_tables.specs.declared.opening.open.OpenFault.TheVariants.{NotADesk}
+use Rattle.desk_tables.specs.declared.opening.open.OpenFault.TheVariants.{NotADesk, OldSchema, Store}
 use Rattle.desk_tables.specs.Opening.{AreRows, BeginsWith, HasNoContent, HasRowsOld, ShowsNoDesk}
-use Rattle.desk_tables.specs.Moving.{AddsPlanRows, AddsPlansRows, AreNoOldContent, AreSortedOld, BeginsMoved, HasNoNewRows, HasNoOldContent, IsOldArea, IsOldContent, IsOldContentOf, IsOldShape, IsWhole, KeepsRows, ShowsNoContent, WasMoved, old_max_cover, told_count}
+use Rattle.desk_tables.specs.OpeningSteps.{IsOpened, IsRead, IsSetUp}
+use Rattle.desk_tables.specs.Moving.{AddsPlanRows, AddsPlansRows, AreNoOldContent, AreSortedOld, BeginsAllMoved, BeginsMoved, HadNoOld, HasNoNewRows, HasNoOldContent, IsOldArea, IsOldContent, IsOldContentOf, IsOldShape, IsWhole, KeepsRows, ShowsNoContent, WasMoved, old_max_cover, told_count}
 use Rattle.desk_tables.proofs.ContentLemmas.{one_plans}
 use Rattle.desk_tables.proofs.KeyOrderLemmas.{are_old_rows, are_old_tables}
-use Rattle.desk_tables.proofs.OpeningLemmas.{desk_made, made_desk, none_then}
+use Rattle.desk_tables.proofs.OpeningLemmas.{cause_then, desk_made, made_desk}
 
 -- ---- a loop that adds the rows of a plan at each turn
 
@@ -228,21 +229,37 @@ no_old_areas one_shape t v hv rows off w hw are =
     (sym rows.plan_part ∙ are.plan_part) (sym rows.volume_part ∙ are.volume_part) in
     off (subst (AllByRecursion (λ (p : Filed). IsOldArea p.row.area)) (sym plans) hw.areas)
 
-module _ (t rows : Tables) {V : Type 0} where
-  pub have_old_content : (world : V → World) (r : Result V OpenFault) → HasNoNewRows t
-      → AreSortedOld t rows → IfOk r (λ v. IsOldContent (world v) × AreRows rows (world v))
-      → IfOk r (λ v. IsOldContentOf t (world v))
-  have_old_content world (Ok v) none lists read = record {
+-- tables are read as the content of schema 1 that their rows are read as, if there is one
+pub old_content_read : {S V : Type 0} (g : Ghosts S) (made : TablesPresent) (a b : Held S) (rows : Tables)
+    (world : V → World) (r : Result V OpenFault)
+    → (HasCleanDisk (state g b) → HasNoNewRows (tables_at made (state g a).now.trees))
+    → (HasCleanDisk (state g b) → AreSortedOld (tables_at made (state g a).now.trees) rows)
+    → (HasCleanDisk (state g b) → IsTrue (state g a).is_open) → OnlyReads g a b
+    → IfOk r (λ v. IsOldContent (world v) × AreRows rows (world v))
+    → IfErr r (λ e. e ≡ NotADesk → (w : World) → IsOldContent w → ¬ AreRows rows w)
+    → IfErr r (λ e. (e ≢ Store) × (e ≢ OldSchema))
+    → IsRead g a b r made (λ t v. IsOldContentOf t (world v)) AreNoOldContent
+old_content_read g made a b rows world (Ok v) none_new sorted opened reads read none other = record {
+  value = λ clean. record {
     content = read.0;
-    tables = are_old_tables t rows (world v) none lists read.1;
-  }
-  have_old_content world (Err e) none lists read = tt
-
-  pub of_no_old : (r : Result V OpenFault) → AreSortedOld t rows
-      → IfErr r (λ e. e ≡ NotADesk → (w : World) → IsOldContent w → ¬ AreRows rows w)
-      → IfErr r (λ e. e ≡ NotADesk → AreNoOldContent t)
-  of_no_old (Ok v) lists none = tt
-  of_no_old (Err e) lists none = λ n w old are. none n w old (are_old_rows t rows w old.content are lists)
+    tables = are_old_tables (tables_at made (state g a).now.trees) rows (world v) (none_new clean)
+        (sorted clean) read.1;
+  };
+  was_open = opened;
+  none = tt;
+  newer = tt;
+  cause = tt;
+  reads = reads;
+}
+old_content_read g made a b rows world (Err e) none_new sorted opened reads read none other = record {
+  value = λ clean. tt;
+  was_open = λ clean. tt;
+  none = λ is clean w old are. none is w old
+      (are_old_rows (tables_at made (state g a).now.trees) rows w old.content are (sorted clean));
+  newer = other.1;
+  cause = λ clean live told. absurd (other.0 told);
+  reads = reads;
+}
 
 -- ---- what is left of a connection
 
@@ -318,38 +335,46 @@ module _ {S : Type 0} (g : Ghosts S) where
     | inr rows ↦ rows.was_open
   ]
 
--- what is said of a move since a reading is said of it since before the reading
-module _ {S : Type 0} (g : Ghosts S) (a b c : Held S) (reads : OnlyReads g a b)
-    (rises : doubt (state g b).is_clean ≤ doubt (state g c).is_clean) where
-  before_move : HasCleanDisk (state g c) → IsTrue (state g b).is_open → ShowsAsBefore g a b
-  before_move clean live = reads.kept (omega (arith, rises, clean)) live
-
-  pub begins_moved : {V : Type 0} (world : V → World) (count : V → ℕ) (r : Result V OpenFault)
-      → (HasCleanDisk (state g c) → OnOk r (IsTrue (state g b).is_open))
-      → (HasCleanDisk (state g c) → IfOk r (λ v. (count v ≡ told_count (world v).plans)
-      × WasMoved g b c (world v)))
-      → IfOk r (λ v. BeginsMoved g a c (world v) (count v))
-  begins_moved world count (Err e) opened was = tt
-  begins_moved world count (Ok v) opened was = λ clean live.
-      inr ((was clean).0, moved_since g (world v) a b c (before_move clean (opened clean)) (was clean).1)
-
-  pub keeps_moved : {V : Type 0} (r : Result V OpenFault) → OnErr r (KeepsRows g b c)
-      → OnErr r (KeepsRows g a c)
-  keeps_moved (Ok v) kept = tt
-  keeps_moved (Err e) kept = keeps_since g a b c reads.kept rises kept
-
-  pub none_moved : {V : Type 0} (made : TablesPresent) (r : Result V OpenFault) → Holds g b (IsMadeTo made)
-      → Holds g b (HasRowsOld made true) → OnErr r (KeepsRows g b c)
-      → (HasCleanDisk (state g c) → IfErr r (λ e. e ≡ NotADesk
-      → AreNoOldContent (tables_at made (state g b).now.trees)))
-      → IfErr r (λ e. e ≡ NotADesk → ShowsNoContent g a c)
-  none_moved made (Ok v) part old kept none = tt
-  none_moved made (Err e) part old kept none = λ is clean live.
-      let was = was_live g b c kept clean live in
-      let mid : HasCleanDisk (state g b) = omega (arith, rises, clean) in
-      let shows = before_move clean was in
-      subst (λ (db : Database). HasOthers db ⊎ (HasNoContent db ⊎ HasNoOldContent db)) shows.now
-      (inr (inr (record { made = made; desk = part mid was; old = old mid was; none = none clean is })))
+-- what is moved after a reading is a whole opening
+pub moved_after : {S V : Type 0} (g : Ghosts S) (a b c : Held S) (made : TablesPresent) (world : V → World)
+    (count : V → ℕ) (r : Result V OpenFault) → OnlyReads g a b → Holds g b (IsMadeTo made)
+    → Holds g b (HasRowsOld made true)
+    → IsSetUp g b c r world (λ v. BeginsAllMoved g b c (world v) (count v)) (HadNoOld g b c made)
+    (KeepsRows g b c)
+    → IsOpened g a c r world (λ v. BeginsMoved g a c (world v) (count v)) (ShowsNoContent g a c) ⊥
+    (KeepsRows g a c)
+moved_after g a b c made world count (Ok v) reads part old done = record {
+  begins = λ clean live.
+      let was = done.begins clean in
+      inr (
+        was.0,
+        moved_since g (world v) a b c
+            (reads.kept (omega (arith, done.doubt, clean)) (done.was_open clean)) was.1,
+      );
+  stands = done.stands;
+  live = done.live;
+  none = tt;
+  older = tt;
+  cause = tt;
+  kept = tt;
+  doubt = omega (arith, reads.doubt, done.doubt);
+  shield = λ s. done.shield (reads.shield s);
+}
+moved_after g a b c made world count (Err e) reads part old done = record {
+  begins = tt;
+  stands = tt;
+  live = tt;
+  none = λ is clean live.
+      let was = was_live g b c done.kept clean live in
+      let mid : HasCleanDisk (state g b) = omega (arith, done.doubt, clean) in
+      subst (λ (db : Database). HasOthers db ⊎ (HasNoContent db ⊎ HasNoOldContent db)) (reads.kept mid was).now
+      (inr (inr (record { made = made; desk = part mid was; old = old mid was; none = done.none is clean })));
+  older = done.newer;
+  cause = cause_then g a b c reads.faults reads.limit e done.cause;
+  kept = keeps_since g a b c reads.kept done.doubt done.kept;
+  doubt = omega (arith, reads.doubt, done.doubt);
+  shield = λ s. done.shield (reads.shield s);
+}
 
 -- an opening that moves nothing is a move of no plan
 module _ {S : Type 0} (g : Ghosts S) (a c : Held S) where
@@ -361,10 +386,3 @@ module _ {S : Type 0} (g : Ghosts S) (a c : Held S) where
     | inl others ↦ inl others
     | inr rows ↦ inr (inl rows)
   ]
-
--- and so is a refusal of such an opening, since before a reading
-module _ {S : Type 0} (g : Ghosts S) (a b c : Held S) (reads : OnlyReads g a b)
-    (rises : doubt (state g b).is_clean ≤ doubt (state g c).is_clean) (e : OpenFault)
-    (kept : IsKept g b c) where
-  pub none_later : (e ≡ NotADesk → ShowsNoDesk g b c) → e ≡ NotADesk → ShowsNoContent g a c
-  none_later none is = none_unmoved g a c (none_then g a b c reads rises {V = Unit {0}} (Err e) kept none is)

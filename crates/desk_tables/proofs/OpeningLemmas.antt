@@ -15,18 +15,20 @@ use Rattle.desk_sql.specs.declared.opening.finding.TablesPresent.TheVariants.{No
 use Rattle.desk_sql.specs.declared.opening.numbers.DeskTable.TheVariants as desk
 use Rattle.desk_sql.specs.Schema.{tree_of, has_table}
 use Rattle.desk_sql.specs.Rows.{IsDesk, IsMadeTo, AreNumbered, Tables, tables_of, tables_at, has_rows, has_old_rows}
-use Rattle.desk_sql.specs.Effects.{IsKept, ShowsAsBefore}
+use Rattle.desk_sql.specs.Effects.{IsKept, IsOpenIfClean, ShowsAsBefore}
 use Rattle.desk_sql.specs.Frames.{OnlyReads}
 use Rattle.desk_sql.specs.Finding.{Holds}
 use Rattle.desk_sql.specs.Refusals.{IsRefusal, IsUnread}
 use Rattle.sqlite_value.specs.Order.{Row}
 use Rattle.desk_store.specs.World.{World}
 use Rattle.desk_tables.specs.declared.opening.open.OpenFault.{OpenFault}
-use Rattle.desk_tables.specs.declared.opening.open.OpenFault.TheVariants.{NotADesk, Store}
+use Rattle.desk_tables.specs.declared.opening.open.OpenFault.TheVariants.{NotADesk, OldSchema, Store}
 use Rattle.desk_store.specs.Content.{IsContent}
 use Rattle.desk_tables.specs.Store.{Stands}
 use Rattle.desk_tables.specs.Tables.{HasNoOldRows, AreTables}
-use Rattle.desk_tables.specs.Opening.{AreSortedByKey, AreAllRows, HasNewRows, IsContentOf, AreNoContent, IsPart, BeganBlank, WasCompleted, BeginsWith, ShowsNoDesk, IsNoDesk, HasFailed, BlamesReading, BlamesDatabase, WasOrdered, open_fault_of}
+use Rattle.desk_tables.specs.Opening.{AreSortedByKey, AreAllRows, HadNone, HasNewRows, IsContentOf, AreNoContent, IsPart, BeganBlank, BeginsWith, ShowsNoDesk, ShowsOldRows, IsNoDesk, HasFailed, BlamesReading, BlamesDatabase, open_fault_of}
+use Rattle.desk_tables.specs.OpeningSteps.{IsOpened, IsRead, IsSetUp}
+use Rattle.desk_tables.proofs.FrameLemmas.{kept_on}
 use Rattle.desk_tables.proofs.KeyOrderLemmas.{are_rows, are_tables}
 
 -- what is made as a whole is a desk
@@ -66,12 +68,9 @@ module _ {S : Type 0} (g : Ghosts S) where
       subst (IsMadeTo made) (sym before.now) (part (omega (arith, reads.doubt, clean)) before.was_open)
 
   -- what is read of a desk's tables as a content stands
-  pub found_stands : {V : Type 0} (world : V → World) (r : Result V OpenFault) (a b : Held S)
-      → Holds g a (IsMadeTo All) → OnlyReads g a b
-      → (HasCleanDisk (state g b) → IfOk r (λ v. IsContentOf (tables_of (state g a).now.trees) (world v)))
-      → IfOk r (λ v. Stands g b (world v))
-  found_stands world (Err e) a b whole reads found = tt
-  found_stands world (Ok v) a b whole reads found = record {
+  found_stands : (w : World) (a b : Held S) → Holds g a (IsMadeTo All) → OnlyReads g a b
+      → (HasCleanDisk (state g b) → IsContentOf (tables_of (state g a).now.trees) w) → Stands g b w
+  found_stands w a b whole reads found = record {
     settled = reads.mode;
     standing = λ clean live.
         let shows = reads.kept clean live in
@@ -80,86 +79,94 @@ module _ {S : Type 0} (g : Ghosts S) where
           content = it.content;
           desk = subst IsDesk (sym shows.now) (desk_made (state g a).now
               (whole (omega (arith, reads.doubt, clean)) shows.was_open));
-          tables = subst (λ (db : Database). AreTables (tables_of db.trees) (world v)) (sym shows.now)
-              it.tables;
+          tables = subst (λ (db : Database). AreTables (tables_of db.trees) w) (sym shows.now) it.tables;
         };
   }
 
-  -- what is found as it was left begins so
-  pub begins_found : {V : Type 0} (world : V → World) (r : Result V OpenFault) (a b c : Held S)
-      → IsKept g a b → OnlyReads g b c → IfOk r (λ v. Stands g c (world v))
-      → IfOk r (λ v. BeginsWith g a c (world v))
-  begins_found world (Err e) a b c one two stands = tt
-  begins_found world (Ok v) a b c one two stands = λ clean live.
-      let last = two.kept clean live in
-      let first = one (omega (arith, two.doubt, clean)) last.was_open in
-      let it = stands.standing clean live in
-      let now = last.now ∙ first.now in
-      inr (inl (record {
-        standing = record {
-          content = it.content;
-          desk = subst IsDesk now it.desk;
-          tables = subst (λ (db : Database). AreTables (tables_of db.trees) (world v)) now it.tables;
-        };
-        kept = record {
-          was_open = first.was_open;
-          now = now;
-          committed = last.committed ∙ first.committed;
-        };
-      }))
-
-  -- rows of no content are no desk's, also before what was kept
-  none_shown : (made : TablesPresent) (a b c : Held S) → IsKept g a b → Holds g b (IsMadeTo made)
-      → Holds g b (HasNewRows made) → IsKept g b c
-      → doubt (state g b).is_clean ≤ doubt (state g c).is_clean
-      → (HasCleanDisk (state g c) → AreNoContent (tables_at made (state g b).now.trees)) → ShowsNoDesk g a c
-  none_shown made a b c one part new two rises none = λ clean live.
-      let after = two clean live in
-      let was : HasCleanDisk (state g b) = omega (arith, rises, clean) in
-      let before = one was after.was_open in
-      subst IsNoDesk before.now
-      (inr (record {
+  -- rows of no content are no desk's
+  none_shown : (made : TablesPresent) (a c : Held S) → Holds g a (IsMadeTo made) → Holds g a (HasNewRows made)
+      → IsKept g a c → doubt (state g a).is_clean ≤ doubt (state g c).is_clean → HadNone g a c made
+      → ShowsNoDesk g a c
+  none_shown made a c part new kept rises none = λ clean live.
+      let shows = kept clean live in
+      let was : HasCleanDisk (state g a) = omega (arith, rises, clean) in
+      inr (record {
         made = made;
-        desk = part was after.was_open;
-        new = new was after.was_open;
+        desk = part was shows.was_open;
+        new = new was shows.was_open;
         none = none clean;
-      }))
+      })
 
-  pub none_of : {V : Type 0} (made : TablesPresent) (r : Result V OpenFault) (a b c : Held S) → IsKept g a b
-      → Holds g b (IsMadeTo made) → Holds g b (HasNewRows made) → OnErr r (IsKept g b c)
-      → doubt (state g b).is_clean ≤ doubt (state g c).is_clean
-      → (HasCleanDisk (state g c) → IfErr r (λ e. e ≡ NotADesk
-      → AreNoContent (tables_at made (state g b).now.trees)))
-      → IfErr r (λ e. e ≡ NotADesk → ShowsNoDesk g a c)
-  none_of made (Ok v) a b c one part new two rises none = tt
-  none_of made (Err e) a b c one part new two rises none =
-      λ n. none_shown made a b c one part new two rises (λ clean. none clean n)
+  -- a store begins over a desk's tables as they are read
+  pub set_up_as_read : {V : Type 0} (world : V → World) (r : Result V OpenFault) (a b : Held S)
+      → Holds g a (IsMadeTo All) → Holds g a (HasNewRows All)
+      → IsRead g a b r All (λ t v. IsContentOf t (world v)) AreNoContent → OnOk r (IsOpenIfClean g b)
+      → IsSetUp g a b r world (λ v. BeginsWith g a b (world v)) (ShowsNoDesk g a b) (IsKept g a b)
+  set_up_as_read world (Ok v) a b whole new read live = record {
+    begins = λ clean live.
+        let shows = read.reads.kept clean live in
+        let it = read.value clean in
+        inr (inl (record {
+          standing = record {
+            content = it.content;
+            desk = desk_made (state g a).now (whole (omega (arith, read.reads.doubt, clean)) shows.was_open);
+            tables = it.tables;
+          };
+          kept = shows;
+        }));
+    stands = found_stands (world v) a b whole read.reads read.value;
+    was_open = read.was_open;
+    live = live;
+    none = tt;
+    newer = tt;
+    cause = tt;
+    kept = tt;
+    doubt = read.reads.doubt;
+    shield = read.reads.shield;
+  }
+  set_up_as_read world (Err e) a b whole new read live = record {
+    begins = tt;
+    stands = tt;
+    was_open = read.was_open;
+    live = tt;
+    none = λ is. none_shown All a b whole new read.reads.kept read.reads.doubt (read.none is);
+    newer = read.newer;
+    cause = read.cause;
+    kept = read.reads.kept;
+    doubt = read.reads.doubt;
+    shield = read.reads.shield;
+  }
 
-  -- tables that are completed after what was kept were completed since before
-  pub begins_completed : {V : Type 0} (made : TablesPresent) (world : V → World) (r : Result V OpenFault)
-      (a b c : Held S) → IsKept g a b → doubt (state g b).is_clean ≤ doubt (state g c).is_clean
-      → (HasCleanDisk (state g c) → OnOk r (IsTrue (state g b).is_open))
-      → (HasCleanDisk (state g c) → IfOk r (λ v. WasCompleted g b c (world v)))
-      → IfOk r (λ v. BeginsWith g a c (world v))
-  begins_completed made world (Err e) a b c one rises opened was = tt
-  begins_completed made world (Ok v) a b c one rises opened was = λ clean live.
-      let before = one (omega (arith, rises, clean)) (opened clean) in
-      let it = was clean in
-      inr (inr (inl (record {
-        made = it.made;
-        part = subst (IsPart it.made) before.now it.part;
-        rows = subst (λ (db : Database). IsContentOf (tables_at it.made db.trees) (world v)) before.now
-            it.rows;
-        whole = it.whole;
-        same = it.same ∙ ap (λ (db : Database). tables_at it.made db.trees) before.now;
-      })))
-
-  -- and so are tables that are put in order
-  pub begins_ordered : {V : Type 0} (world : V → World) (r : Result V OpenFault) (a c : Held S)
-      → (HasCleanDisk (state g c) → IfOk r (λ v. WasOrdered g a c (world v)))
-      → IfOk r (λ v. BeginsWith g a c (world v))
-  begins_ordered world (Err e) a c was = tt
-  begins_ordered world (Ok v) a c was = λ clean live. inr (inr (inr (was clean)))
+  -- and so it does over tables that are completed, or put in order
+  pub set_up_anew : {V : Type 0} (made : TablesPresent) (world : V → World) (r : Result V OpenFault)
+      (Begins : World → Type 0) (a c : Held S) → ((w : World) → Begins w → BeginsWith g a c w)
+      → Holds g a (IsMadeTo made) → Holds g a (HasNewRows made)
+      → IsSetUp g a c r world (λ v. Begins (world v)) (HadNone g a c made) (IsKept g a c)
+      → IsSetUp g a c r world (λ v. BeginsWith g a c (world v)) (ShowsNoDesk g a c) (IsKept g a c)
+  set_up_anew made world (Ok v) Begins a c begins part new done = record {
+    begins = begins (world v) done.begins;
+    stands = done.stands;
+    was_open = done.was_open;
+    live = done.live;
+    none = tt;
+    newer = tt;
+    cause = tt;
+    kept = tt;
+    doubt = done.doubt;
+    shield = done.shield;
+  }
+  set_up_anew made world (Err e) Begins a c begins part new done = record {
+    begins = tt;
+    stands = tt;
+    was_open = done.was_open;
+    live = tt;
+    none = λ is. none_shown made a c part new done.kept done.doubt (done.none is);
+    newer = done.newer;
+    cause = done.cause;
+    kept = done.kept;
+    doubt = done.doubt;
+    shield = done.shield;
+  }
 
 -- what is said of an opening since a reading is said of it since before the reading
 module _ {S : Type 0} (g : Ghosts S) (a b c : Held S) (reads : OnlyReads g a b)
@@ -167,19 +174,17 @@ module _ {S : Type 0} (g : Ghosts S) (a b c : Held S) (reads : OnlyReads g a b)
   same_before : HasCleanDisk (state g c) → IsTrue (state g b).is_open → ShowsAsBefore g a b
   same_before clean live = reads.kept (omega (arith, rises, clean)) live
 
-  pub begins_then : {V : Type 0} (world : V → World) (r : Result V OpenFault)
-      → (HasCleanDisk (state g c) → OnOk r (IsTrue (state g b).is_open))
-      → IfOk r (λ v. BeginsWith g b c (world v)) → IfOk r (λ v. BeginsWith g a c (world v))
-  begins_then world (Err e) opened begins = tt
-  begins_then world (Ok v) opened begins = λ clean live.
+  begins_then : (w : World) → (HasCleanDisk (state g c) → IsTrue (state g b).is_open) → BeginsWith g b c w
+      → BeginsWith g a c w
+  begins_then w opened begins = λ clean live.
       let before = same_before clean (opened clean) in
       elim (begins clean live) [
-        | inl blank ↦ inl (subst (λ db. BeganBlank db (world v)) before.now blank)
+        | inl blank ↦ inl (subst (λ db. BeganBlank db w) before.now blank)
         | inr (inl was) ↦ inr (inl (record {
           standing = record {
             content = was.standing.content;
             desk = subst IsDesk before.now was.standing.desk;
-            tables = subst (λ (db : Database). AreTables (tables_of db.trees) (world v)) before.now
+            tables = subst (λ (db : Database). AreTables (tables_of db.trees) w) before.now
                 was.standing.tables;
           };
           kept = record {
@@ -190,25 +195,21 @@ module _ {S : Type 0} (g : Ghosts S) (a b c : Held S) (reads : OnlyReads g a b)
         }))
         | inr (inr (inr was)) ↦ inr (inr (inr (record {
           part = subst (IsMadeTo Packed) before.now was.part;
-          rows = subst (λ (db : Database). IsContentOf (tables_at Packed db.trees) (world v)) before.now
-              was.rows;
+          rows = subst (λ (db : Database). IsContentOf (tables_at Packed db.trees) w) before.now was.rows;
           standing = was.standing;
         })))
         | inr (inr (inl part)) ↦ inr (inr (inl (record {
           made = part.made;
           part = subst (IsPart part.made) before.now part.part;
-          rows = subst (λ (db : Database). IsContentOf (tables_at part.made db.trees) (world v)) before.now
-              part.rows;
+          rows = subst (λ (db : Database). IsContentOf (tables_at part.made db.trees) w) before.now part.rows;
           whole = part.whole;
           same = part.same ∙ ap (λ (db : Database). tables_at part.made db.trees) before.now;
         })))
       ]
 
-  pub none_then : {V : Type 0} (r : Result V OpenFault) → OnErr r (IsKept g b c)
-      → IfErr r (λ e. e ≡ NotADesk → ShowsNoDesk g b c) → IfErr r (λ e. e ≡ NotADesk → ShowsNoDesk g a c)
-  none_then (Ok v) kept none = tt
-  none_then (Err e) kept none = λ is clean live.
-      subst IsNoDesk (same_before clean (kept clean live).was_open).now (none is clean live)
+  none_then : IsKept g b c → ShowsNoDesk g b c → ShowsNoDesk g a c
+  none_then kept none = λ clean live.
+      subst IsNoDesk (same_before clean (kept clean live).was_open).now (none clean live)
 
 -- what is blamed since a reading is blamed since before the reading
 module _ {S : Type 0} (g : Ghosts S) (a b c : Held S) (faults : (state g a).faults ≤ (state g b).faults)
@@ -219,10 +220,78 @@ module _ {S : Type 0} (g : Ghosts S) (a b c : Held S) (faults : (state g a).faul
     | inr limited ↦ inr (subst IsSome limit limited)
   ]
 
-  pub cause_then : {V : Type 0} (r : Result V OpenFault) → IfErr r (BlamesReading g b c)
-      → IfErr r (BlamesDatabase g a c)
-  cause_then (Ok v) cause = tt
-  cause_then (Err e) cause = λ clean live told. inl (blames_since e cause clean live told)
+  pub cause_then : (e : OpenFault) → BlamesReading g b c e → BlamesDatabase g a c e
+  cause_then e cause clean live told = inl (blames_since e cause clean live told)
+
+-- what is set up after a reading is a whole opening
+pub opened_since : {S V : Type 0} (g : Ghosts S) (a b c : Held S) (world : V → World) (r : Result V OpenFault)
+    → OnlyReads g a b
+    → IsSetUp g b c r world (λ v. BeginsWith g b c (world v)) (ShowsNoDesk g b c) (IsKept g b c)
+    → IsOpened g a c r world (λ v. BeginsWith g a c (world v)) (ShowsNoDesk g a c) (ShowsOldRows g a c)
+    (IsKept g a c)
+opened_since g a b c world (Ok v) reads done = record {
+  begins = begins_then g a b c reads done.doubt (world v) done.was_open done.begins;
+  stands = done.stands;
+  live = done.live;
+  none = tt;
+  older = tt;
+  cause = tt;
+  kept = tt;
+  doubt = omega (arith, reads.doubt, done.doubt);
+  shield = λ s. done.shield (reads.shield s);
+}
+opened_since g a b c world (Err e) reads done = record {
+  begins = tt;
+  stands = tt;
+  live = tt;
+  none = λ is. none_then g a b c reads done.doubt done.kept (done.none is);
+  older = λ is. absurd (done.newer is);
+  cause = cause_then g a b c reads.faults reads.limit e done.cause;
+  kept = kept_on g a b c reads.kept done.kept done.doubt;
+  doubt = omega (arith, reads.doubt, done.doubt);
+  shield = λ s. done.shield (reads.shield s);
+}
+
+-- a reading's refusal that is told on
+pub unread_as : {S V W : Type 0} (g : Ghosts S) (a b : Held S) (made : TablesPresent) {world : V → World}
+    {Begins : V → Type 0} {Gives : Tables → W → Type 0} {Refuses : Tables → Type 0} {Keeps : Type 0}
+    (r : Result V OpenFault) (e : OpenFault) → IsErrAnd r (λ fault. fault ≡ e)
+    → IsRead g a b {V = W} (Err e) made Gives Refuses → (IsKept g a b → Keeps)
+    → IsSetUp g a b r world Begins
+    (HasCleanDisk (state g b) → Refuses (tables_at made (state g a).now.trees)) Keeps
+unread_as g a b made (Ok v) e is read keeps = absurd is
+unread_as g a b made (Err f) e is read keeps = record {
+  begins = tt;
+  stands = tt;
+  was_open = λ clean. tt;
+  live = tt;
+  none = λ told. read.none (sym is ∙ told);
+  newer = λ told. read.newer (sym is ∙ told);
+  cause = subst (BlamesReading g a b) (sym is) read.cause;
+  kept = keeps read.reads.kept;
+  doubt = read.reads.doubt;
+  shield = read.reads.shield;
+}
+
+-- an opening's refusal that is told on
+pub refused_as : {S V : Type 0} (g : Ghosts S) (a c : Held S) {world : V → World} {Begins : V → Type 0}
+    {Refuses Older Keeps : Type 0} (r : Result V OpenFault) (e : OpenFault) → IsErrAnd r (λ fault. fault ≡ e)
+    → (e ≡ NotADesk → Refuses) → e ≢ OldSchema → BlamesDatabase g a c e → Keeps
+    → doubt (state g a).is_clean ≤ doubt (state g c).is_clean
+    → ((state g a).IsShielded → (state g c).IsShielded)
+    → IsOpened g a c r world Begins Refuses Older Keeps
+refused_as g a c (Ok v) e is none newer cause kept rises shield = absurd is
+refused_as g a c (Err f) e is none newer cause kept rises shield = record {
+  begins = tt;
+  stands = tt;
+  live = tt;
+  none = λ told. none (sym is ∙ told);
+  older = λ told. absurd (newer (sym is ∙ told));
+  cause = subst (BlamesDatabase g a c) (sym is) cause;
+  kept = kept;
+  doubt = rises;
+  shield = shield;
+}
 
 -- what is said of an error, once it is told on
 pub told_as : {V : Type 0} (P : OpenFault → Type 0) (r : Result V OpenFault) (e : OpenFault)
@@ -285,21 +354,37 @@ no_old_rows t none =
 pub old_rows_none : (t : Tables) → HasNoOldRows t → has_old_rows t ≡ false
 old_rows_none t old = λ i. has_rows (old.volumes i) || has_rows (old.spans i)
 
-module _ (t rows : Tables) {V : Type 0} where
-  pub have_content : (world : V → World) (r : Result V OpenFault) → has_old_rows t ≡ false
-      → AreSortedByKey t rows → IfOk r (λ v. IsContent (world v) × AreAllRows rows (world v))
-      → IfOk r (λ v. IsContentOf t (world v))
-  have_content world (Ok v) new lists read = record {
-    content = read.0;
-    tables = are_tables t rows (world v) (no_old_rows t new) lists read.1;
-  }
-  have_content world (Err e) new lists read = tt
-
-  pub of_none : (r : Result V OpenFault) → AreSortedByKey t rows
-      → IfErr r (λ e. e ≡ NotADesk → (w : World) → IsContent w → ¬ AreAllRows rows w)
-      → IfErr r (λ e. e ≡ NotADesk → AreNoContent t)
-  of_none (Ok v) lists none = tt
-  of_none (Err e) lists none = λ n. none_there t rows lists (none n)
+-- tables are read as the content that their rows are read as, if there is one
+pub content_read : {S V : Type 0} (g : Ghosts S) (made : TablesPresent) (a b : Held S) (rows : Tables)
+    (world : V → World) (r : Result V OpenFault) → Holds g a (HasNewRows made)
+    → (HasCleanDisk (state g b) → AreSortedByKey (tables_at made (state g a).now.trees) rows)
+    → (HasCleanDisk (state g b) → IsTrue (state g a).is_open) → OnlyReads g a b
+    → IfOk r (λ v. IsContent (world v) × AreAllRows rows (world v))
+    → IfErr r (λ e. e ≡ NotADesk → (w : World) → IsContent w → ¬ AreAllRows rows w)
+    → IfErr r (λ e. (e ≢ Store) × (e ≢ OldSchema))
+    → IsRead g a b r made (λ t v. IsContentOf t (world v)) AreNoContent
+content_read g made a b rows world (Ok v) new sorted opened reads read none other = record {
+  value = λ clean.
+      let t = tables_at made (state g a).now.trees in
+      record {
+        content = read.0;
+        tables = are_tables t rows (world v) (no_old_rows t (new (omega (arith, reads.doubt, clean))
+            (opened clean))) (sorted clean) read.1;
+      };
+  was_open = opened;
+  none = tt;
+  newer = tt;
+  cause = tt;
+  reads = reads;
+}
+content_read g made a b rows world (Err e) new sorted opened reads read none other = record {
+  value = λ clean. tt;
+  was_open = λ clean. tt;
+  none = λ is clean. none_there (tables_at made (state g a).now.trees) rows (sorted clean) (none is);
+  newer = other.1;
+  cause = λ clean live told. absurd (other.0 told);
+  reads = reads;
+}
 
 -- what is made has the operators, unless it is nothing
 pub some_operators : (made : TablesPresent) → made ≢ Nothing → has_table made desk.Operator ≡ true

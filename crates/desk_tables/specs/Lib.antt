@@ -11,6 +11,7 @@ pub mod SpanBounds
 pub mod Known
 pub mod Records
 pub mod Opening
+pub mod OpeningSteps
 pub mod Moving
 pub mod Writing
 pub mod Counting

@@ -1,25 +1,25 @@
 //! The world that a database stands for when a store is opened over it.
 
-ghost use Rattle.std.specs.Prelude.{◌≡◌, ◌≢◌, ◌≤◌, [], true, false, IfOk, IfErr, OnOk, OnErr, IsTrue};
+ghost use Rattle.std.specs.Prelude.{◌≡◌, ◌≢◌, [], true, false, IfOk, IfErr, OnOk};
 ghost use Rattle.std.specs.List.{AllByRecursion};
-ghost use Rattle.sqlite_trees.specs.View.{doubt};
 ghost use Rattle.sqlite.specs.State.{HasCleanDisk};
 ghost use Rattle.sqlite.specs.Held.{state};
+ghost use Rattle.desk_sql.specs.Calls.{WasOpen};
 ghost use Rattle.desk_sql.specs.Schema.{has_table};
 ghost use Rattle.desk_sql.specs.Rows.{IsMadeTo, tables_at};
 ghost use Rattle.desk_sql.specs.Effects.{IsKept, IsOpenIfClean};
 ghost use Rattle.desk_sql.specs.Frames.{OnlyReads};
 ghost use Rattle.desk_sql.specs.Finding.{Holds};
-ghost use Rattle.desk_tables.specs.Store.{Stands};
 ghost use Rattle.desk_store.specs.World.{World};
 ghost use Rattle.desk_store.specs.Content.{IsContent};
 ghost use Rattle.desk_tables.specs.Known.{Knows};
 ghost use Rattle.desk_tables.specs.Writing.{HaveFewRows};
 ghost use Rattle.desk_tables.specs.SpanBounds.{IsKnownRow, Keeps};
 ghost use Rattle.desk_tables.specs.Opening.{AreSortedByKey, AreAllRows, IsContentOf, AreNoContent};
-ghost use Rattle.desk_tables.specs.Opening.{BeginsWith, HasRowsOld, HasNewRows, WasCompleted};
+ghost use Rattle.desk_tables.specs.Opening.{BeginsCompleted, BeginsWith, HadNone, HasRowsOld, HasNewRows};
 ghost use Rattle.desk_tables.specs.Opening.{ShowsNoDesk, ShowsOldRows};
 ghost use Rattle.desk_tables.specs.Opening.{BlamesReading, BlamesDatabase};
+ghost use Rattle.desk_tables.specs.OpeningSteps.{IsOpened, IsRead, IsSetUp};
 
 use crate::kept::GhostWorld;
 use crate::known::{Known, live_among, roll_of};
@@ -52,21 +52,12 @@ pub(crate) fn load_world<S: Alter>(
     connection: &mut Connection<S>,
 ) -> Result<(GhostWorld, Known, bool), OpenFault>
     requires settled { connection.old.in_transaction ≡ false }
-    ensures begins { IfOk result (λ found.
-        BeginsWith S.Store connection.old connection.new found.0.world) }
-    ensures stands { IfOk result (λ found. Stands S.Store connection.new found.0.world) }
+    ensures opened { IsOpened S.Store connection.old connection.new result (λ found. found.0.world)
+        (λ found. BeginsWith S.Store connection.old connection.new found.0.world)
+        (ShowsNoDesk S.Store connection.old connection.new)
+        (ShowsOldRows S.Store connection.old connection.new)
+        (IsKept S.Store connection.old connection.new) }
     ensures bounded { IfOk result (λ found. Knows found.1 found.0.world) }
-    ensures live { OnOk result (IsOpenIfClean S.Store connection.new) }
-    ensures none { IfErr result (λ e. e ≡ OpenFault.NotADesk →
-        ShowsNoDesk S.Store connection.old connection.new) }
-    ensures old { IfErr result (λ e. e ≡ OpenFault.OldSchema →
-        ShowsOldRows S.Store connection.old connection.new) }
-    ensures cause { IfErr result (BlamesDatabase S.Store connection.old connection.new) }
-    ensures kept { OnErr result (IsKept S.Store connection.old connection.new) }
-    ensures doubt { doubt (state S.Store connection.old).is_clean
-        ≤ doubt (state S.Store connection.new).is_clean }
-    ensures shield { (state S.Store connection.old).IsShielded
-        → (state S.Store connection.new).IsShielded }
 {
     let (made, old) = tables_found(connection)?;
     if old {
@@ -109,22 +100,10 @@ pub(crate) fn world_of<S: Alter>(
     requires part { Holds S.Store connection.old (IsMadeTo made) }
     requires new { Holds S.Store connection.old (HasNewRows made) }
     requires settled { connection.old.in_transaction ≡ false }
-    ensures begins { IfOk result (λ found.
-        BeginsWith S.Store connection.old connection.new found.0.world) }
-    ensures stands { IfOk result (λ found. Stands S.Store connection.new found.0.world) }
+    ensures set_up { IsSetUp S.Store connection.old connection.new result (λ found. found.0.world)
+        (λ found. BeginsWith S.Store connection.old connection.new found.0.world)
+        (ShowsNoDesk S.Store connection.old connection.new) (IsKept S.Store connection.old connection.new) }
     ensures bounded { IfOk result (λ found. Knows found.1 found.0.world) }
-    ensures none { IfErr result (λ e. e ≡ OpenFault.NotADesk →
-        ShowsNoDesk S.Store connection.old connection.new) }
-    ensures newer { IfErr result (λ e. e ≢ OpenFault.OldSchema) }
-    ensures cause { IfErr result (BlamesReading S.Store connection.old connection.new) }
-    ensures opened { HasCleanDisk (state S.Store connection.new) →
-        OnOk result (IsTrue (state S.Store connection.old).is_open) }
-    ensures live { OnOk result (IsOpenIfClean S.Store connection.new) }
-    ensures kept { OnErr result (IsKept S.Store connection.old connection.new) }
-    ensures doubt { doubt (state S.Store connection.old).is_clean
-        ≤ doubt (state S.Store connection.new).is_clean }
-    ensures shield { (state S.Store connection.old).IsShielded
-        → (state S.Store connection.new).IsShielded }
 {
     match made {
         TablesPresent::All => load_tables(alloc, connection, TablesPresent::All),
@@ -140,19 +119,9 @@ pub(crate) fn create_tables<S: Alter>(
 ) -> Result<GhostWorld, OpenFault>
     requires blank { Holds S.Store connection.old (IsMadeTo TablesPresent.Nothing) }
     requires settled { connection.old.in_transaction ≡ false }
-    ensures empty { IfOk result (λ kept. kept.world ≡ record { operators = []; plans = [] }) }
-    ensures stands { IfOk result (λ kept. Stands S.Store connection.new kept.world) }
-    ensures open { HasCleanDisk (state S.Store connection.new) →
-        OnOk result (IsTrue (state S.Store connection.old).is_open) }
-    ensures live { OnOk result (IsOpenIfClean S.Store connection.new) }
-    ensures fault { IfErr result (λ e. (e ≢ OpenFault.NotADesk)
-        × (e ≢ OpenFault.OldSchema)) }
-    ensures cause { IfErr result (BlamesReading S.Store connection.old connection.new) }
-    ensures kept { OnErr result (IsKept S.Store connection.old connection.new) }
-    ensures doubt { doubt (state S.Store connection.old).is_clean
-        ≤ doubt (state S.Store connection.new).is_clean }
-    ensures shield { (state S.Store connection.old).IsShielded
-        → (state S.Store connection.new).IsShielded }
+    ensures set_up { IsSetUp S.Store connection.old connection.new result (λ kept. kept.world)
+        (λ kept. kept.world ≡ record { operators = []; plans = [] }) ⊥
+        (IsKept S.Store connection.old connection.new) }
 {
     complete_tables(connection, TablesPresent::Nothing)?;
     Ok(GhostWorld::new())
@@ -171,23 +140,10 @@ fn completed_in<S: Alter>(
     requires ordered { made ≢ TablesPresent.Packed }
     requires some { made ≢ TablesPresent.Nothing }
     requires settled { connection.old.in_transaction ≡ false }
-    ensures value { HasCleanDisk (state S.Store connection.new) → IfOk result (λ found.
-        WasCompleted S.Store connection.old connection.new found.0.world) }
-    ensures stands { IfOk result (λ found. Stands S.Store connection.new found.0.world) }
+    ensures set_up { IsSetUp S.Store connection.old connection.new result (λ found. found.0.world)
+        (λ found. BeginsCompleted S.Store connection.old connection.new found.0.world)
+        (HadNone S.Store connection.old connection.new made) (IsKept S.Store connection.old connection.new) }
     ensures bounded { IfOk result (λ found. Knows found.1 found.0.world) }
-    ensures none { HasCleanDisk (state S.Store connection.new) → IfErr result (λ e.
-        e ≡ OpenFault.NotADesk →
-        AreNoContent (tables_at made (state S.Store connection.old).now.trees)) }
-    ensures newer { IfErr result (λ e. e ≢ OpenFault.OldSchema) }
-    ensures open { HasCleanDisk (state S.Store connection.new) →
-        OnOk result (IsTrue (state S.Store connection.old).is_open) }
-    ensures live { OnOk result (IsOpenIfClean S.Store connection.new) }
-    ensures cause { IfErr result (BlamesReading S.Store connection.old connection.new) }
-    ensures kept { OnErr result (IsKept S.Store connection.old connection.new) }
-    ensures doubt { doubt (state S.Store connection.old).is_clean
-        ≤ doubt (state S.Store connection.new).is_clean }
-    ensures shield { (state S.Store connection.old).IsShielded
-        → (state S.Store connection.new).IsShielded }
 {
     let found = load_tables(alloc, connection, made)?;
     complete_tables(connection, made)?;
@@ -204,18 +160,10 @@ fn load_tables<S: Alter>(
     requires new { Holds S.Store connection.old (HasNewRows made) }
     requires some { has_table made DeskTable.Operator ≡ true }
     requires settled { connection.old.in_transaction ≡ false }
-    ensures value { HasCleanDisk (state S.Store connection.new) → IfOk result (λ found.
-        IsContentOf (tables_at made (state S.Store connection.old).now.trees) found.0.world) }
+    ensures read { IsRead S.Store connection.old connection.new result made
+        (λ tables found. IsContentOf tables found.0.world) AreNoContent }
     ensures bounded { IfOk result (λ found. Knows found.1 found.0.world) }
-    ensures none { HasCleanDisk (state S.Store connection.new) → IfErr result (λ e.
-        e ≡ OpenFault.NotADesk →
-        AreNoContent (tables_at made (state S.Store connection.old).now.trees)) }
-    ensures newer { IfErr result (λ e. e ≢ OpenFault.OldSchema) }
-    ensures open { HasCleanDisk (state S.Store connection.new) →
-        OnOk result (IsTrue (state S.Store connection.old).is_open) }
     ensures live { OnOk result (IsOpenIfClean S.Store connection.new) }
-    ensures cause { IfErr result (BlamesReading S.Store connection.old connection.new) }
-    ensures reads { OnlyReads S.Store connection.old connection.new }
 {
     let (content, known) = content_found(alloc, connection, made)?;
     let is_enrolled = !content.operators.is_empty();
@@ -232,20 +180,12 @@ pub(crate) fn content_found<S: Alter>(
     requires new { Holds S.Store connection.old (HasNewRows made) }
     requires some { has_table made DeskTable.Operator ≡ true }
     requires settled { connection.old.in_transaction ≡ false }
-    ensures value { HasCleanDisk (state S.Store connection.new) → IfOk result (λ found.
-        IsContentOf (tables_at made (state S.Store connection.old).now.trees) found.0) }
+    ensures read { IsRead S.Store connection.old connection.new result made
+        (λ tables found. IsContentOf tables found.0) AreNoContent }
     ensures content { IfOk result (λ found. IsContent found.0) }
     ensures few { IfOk result (λ found. HaveFewRows found.0.plans) }
     ensures bounded { IfOk result (λ found. Knows found.1 found.0) }
-    ensures none { HasCleanDisk (state S.Store connection.new) → IfErr result (λ e.
-        e ≡ OpenFault.NotADesk →
-        AreNoContent (tables_at made (state S.Store connection.old).now.trees)) }
-    ensures newer { IfErr result (λ e. e ≢ OpenFault.OldSchema) }
-    ensures open { HasCleanDisk (state S.Store connection.new) →
-        OnOk result (IsTrue (state S.Store connection.old).is_open) }
     ensures live { OnOk result (IsOpenIfClean S.Store connection.new) }
-    ensures cause { IfErr result (BlamesReading S.Store connection.old connection.new) }
-    ensures reads { OnlyReads S.Store connection.old connection.new }
 {
     let rows = rows_in(alloc, connection, made)?;
     content_of(alloc, &rows)
@@ -312,11 +252,9 @@ pub(crate) fn rows_in<S: Alter>(
     requires settled { connection.old.in_transaction ≡ false }
     ensures value { HasCleanDisk (state S.Store connection.new) →
         IfOk result (AreSortedByKey (tables_at made (state S.Store connection.old).now.trees)) }
-    ensures open { HasCleanDisk (state S.Store connection.new) →
-        OnOk result (IsTrue (state S.Store connection.old).is_open) }
+    ensures open { WasOpen S.Store connection.old connection.new result }
     ensures live { OnOk result (IsOpenIfClean S.Store connection.new) }
-    ensures fault { IfErr result (λ e. (e ≢ OpenFault.NotADesk)
-        × (e ≢ OpenFault.OldSchema)) }
+    ensures fault { IfErr result (λ e. (e ≢ OpenFault.NotADesk) × (e ≢ OpenFault.OldSchema)) }
     ensures cause { IfErr result (BlamesReading S.Store connection.old connection.new) }
     ensures reads { OnlyReads S.Store connection.old connection.new }
 {

@@ -1,16 +1,15 @@
 //! What a database holds, in either schema, read without a change.
 
-ghost use Rattle.std.specs.Prelude.{◌≡◌, ◌≢◌, false, IfOk, IfErr, OnOk, IsTrue};
-ghost use Rattle.sqlite.specs.State.{HasCleanDisk};
-ghost use Rattle.sqlite.specs.Held.{state};
+ghost use Rattle.std.specs.Prelude.{◌≡◌, ◌≢◌, false, IfOk, IfErr};
 ghost use Rattle.desk_rules.specs.Plan.{is_live};
 ghost use Rattle.desk_sql.specs.Frames.{OnlyReads};
 ghost use Rattle.desk_sql.specs.Finding.{Holds};
-ghost use Rattle.desk_sql.specs.Rows.{IsMadeTo, tables_at};
+ghost use Rattle.desk_sql.specs.Rows.{IsMadeTo};
 ghost use Rattle.desk_store.specs.World.{World};
 ghost use Rattle.desk_store.specs.Content.{IsContent};
 ghost use Rattle.desk_tables.specs.Known.{Knows};
-ghost use Rattle.desk_tables.specs.Opening.{BlamesDatabase, BlamesReading, HasRowsOld};
+ghost use Rattle.desk_tables.specs.Opening.{BlamesDatabase, HasRowsOld};
+ghost use Rattle.desk_tables.specs.OpeningSteps.{IsRead};
 ghost use Rattle.desk_tables.specs.Copying as spec;
 ghost use Rattle.desk_tables.specs.Copying.{AreCounted, AreNoContentIn, IsContentIn, ShowsContent, ShowsNone};
 
@@ -119,18 +118,10 @@ fn content_at<S: Alter>(
     requires rows { Holds S.Store connection.old (HasRowsOld made old) }
     requires some { made ≢ TablesPresent.Nothing }
     requires settled { connection.old.in_transaction ≡ false }
-    ensures value { HasCleanDisk (state S.Store connection.new) → IfOk result (λ found.
-        IsContentIn old (tables_at made (state S.Store connection.old).now.trees) found.0) }
+    ensures read { IsRead S.Store connection.old connection.new result made
+        (λ tables found. IsContentIn old tables found.0) (AreNoContentIn old) }
     ensures content { IfOk result (λ found. IsContent found.0) }
     ensures bounded { IfOk result (λ found. Knows found.1 found.0) }
-    ensures none { HasCleanDisk (state S.Store connection.new) → IfErr result (λ e.
-        e ≡ OpenFault.NotADesk →
-        AreNoContentIn old (tables_at made (state S.Store connection.old).now.trees)) }
-    ensures newer { IfErr result (λ e. e ≢ OpenFault.OldSchema) }
-    ensures open { HasCleanDisk (state S.Store connection.new) →
-        OnOk result (IsTrue (state S.Store connection.old).is_open) }
-    ensures cause { IfErr result (BlamesReading S.Store connection.old connection.new) }
-    ensures reads { OnlyReads S.Store connection.old connection.new }
 {
     if old {
         load_old_tables(alloc, connection, made)

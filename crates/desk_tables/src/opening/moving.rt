@@ -1,27 +1,27 @@
 //! How a content of schema 1 is moved to schema 2.
 
-ghost use Rattle.std.specs.Prelude.{◌≡◌, ◌≢◌, ◌≤◌, ◌↔◌, ◌-◌, ◌^◌, List, [], ◌∷◌, true, false, IfOk, IfErr, OnOk, OnErr, IsTrue, length};
+ghost use Rattle.std.specs.Prelude.{◌≡◌, ◌≢◌, ◌↔◌, ◌-◌, ◌^◌, List, [], ◌∷◌, true, false, IfOk, IfErr, OnOk, OnErr, IsTrue, length};
 ghost use Rattle.std.specs.List.{AllByRecursion};
-ghost use Rattle.sqlite_trees.specs.View.{doubt};
 ghost use Rattle.sqlite.specs.State.{HasCleanDisk, KeepsCommit};
 ghost use Rattle.sqlite.specs.Held.{state};
 ghost use Rattle.desk_sql.specs.Schema.{has_table};
 ghost use Rattle.desk_sql.specs.Rows.{IsMadeTo, tables_at, tables_of};
 ghost use Rattle.desk_sql.specs.Batches.{IsUnderWay};
-ghost use Rattle.desk_sql.specs.Effects.{IsReady, IsKept, IsOpenIfClean, Makes, Commits};
+ghost use Rattle.desk_sql.specs.Calls.{WasOpen};
+ghost use Rattle.desk_sql.specs.Effects.{IsReady, IsKept, Makes, Commits};
 ghost use Rattle.desk_sql.specs.Frames.{IsOver, OnlyReads, Remembers};
 ghost use Rattle.desk_sql.specs.Finding.{Holds};
 ghost use Rattle.desk_sql.specs.Refusals.{IsRefusal};
 ghost use Rattle.desk_store.specs.World.{Filed, World};
 ghost use Rattle.desk_store.specs.Content.{IsContent};
 ghost use Rattle.desk_tables.specs.Known.{Knows};
-ghost use Rattle.desk_tables.specs.Store.{Stands};
-ghost use Rattle.desk_tables.specs.Opening.{AreRows, BlamesDatabase, BlamesReading, HasRowsOld};
+ghost use Rattle.desk_tables.specs.Opening.{AreRows, BlamesReading, HasRowsOld};
+ghost use Rattle.desk_tables.specs.OpeningSteps.{IsOpened, IsRead, IsSetUp};
 ghost use Rattle.desk_tables.specs.Moving.{AddsPlanRows, AddsPlansRows, MovesRows, RemovesOldRows, AreNoOldContent};
-ghost use Rattle.desk_tables.specs.Moving.{BeginsMoved, KeepsRows, IsOldArea, IsOldContent};
+ghost use Rattle.desk_tables.specs.Moving.{BeginsAllMoved, BeginsMoved, HadNoOld, KeepsRows, IsOldArea, IsOldContent};
 ghost use Rattle.desk_tables.specs.Moving.{HasNoNewRows, IsWhole};
 ghost use Rattle.desk_tables.specs.Moving.{AreSortedOld, IsOldContentOf, IsOldShape};
-ghost use Rattle.desk_tables.specs.Moving.{ShowsNoContent, WasMoved, told_count};
+ghost use Rattle.desk_tables.specs.Moving.{ShowsNoContent};
 ghost use Rattle.desk_tables.specs.Writing.{AreAwaited, AreWritable, HasSpansToIndex, HaveFewRows};
 
 use crate::canon::canons_of;
@@ -63,20 +63,11 @@ pub(crate) fn moved_world_in<S: Alter>(
     connection: &mut Connection<S>,
 ) -> Result<(GhostWorld, Known, u32), OpenFault>
     requires settled { connection.old.in_transaction ≡ false }
-    ensures begins { IfOk result (λ moved.
-        BeginsMoved S.Store connection.old connection.new moved.0.world moved.2) }
-    ensures stands { IfOk result (λ moved. Stands S.Store connection.new moved.0.world) }
+    ensures opened { IsOpened S.Store connection.old connection.new result (λ moved. moved.0.world)
+        (λ moved. BeginsMoved S.Store connection.old connection.new moved.0.world moved.2)
+        (ShowsNoContent S.Store connection.old connection.new) ⊥
+        (KeepsRows S.Store connection.old connection.new) }
     ensures bounded { IfOk result (λ moved. Knows moved.1 moved.0.world) }
-    ensures live { OnOk result (IsOpenIfClean S.Store connection.new) }
-    ensures none { IfErr result (λ e. e ≡ OpenFault.NotADesk →
-        ShowsNoContent S.Store connection.old connection.new) }
-    ensures newer { IfErr result (λ e. e ≢ OpenFault.OldSchema) }
-    ensures cause { IfErr result (BlamesDatabase S.Store connection.old connection.new) }
-    ensures kept { OnErr result (KeepsRows S.Store connection.old connection.new) }
-    ensures doubt { doubt (state S.Store connection.old).is_clean
-        ≤ doubt (state S.Store connection.new).is_clean }
-    ensures shield { (state S.Store connection.old).IsShielded
-        → (state S.Store connection.new).IsShielded }
 {
     let (made, old) = tables_found(connection)?;
     if old {
@@ -97,24 +88,11 @@ fn move_tables<S: Alter>(
     requires rows { Holds S.Store connection.old (HasRowsOld made true) }
     requires some { made ≢ TablesPresent.Nothing }
     requires settled { connection.old.in_transaction ≡ false }
-    ensures begins { HasCleanDisk (state S.Store connection.new) → IfOk result (λ moved.
-        (moved.2 ≡ told_count moved.0.world.plans)
-        × WasMoved S.Store connection.old connection.new moved.0.world) }
-    ensures stands { IfOk result (λ moved. Stands S.Store connection.new moved.0.world) }
+    ensures set_up { IsSetUp S.Store connection.old connection.new result (λ moved. moved.0.world)
+        (λ moved. BeginsAllMoved S.Store connection.old connection.new moved.0.world moved.2)
+        (HadNoOld S.Store connection.old connection.new made)
+        (KeepsRows S.Store connection.old connection.new) }
     ensures bounded { IfOk result (λ moved. Knows moved.1 moved.0.world) }
-    ensures none { HasCleanDisk (state S.Store connection.new) → IfErr result (λ e.
-        e ≡ OpenFault.NotADesk →
-        AreNoOldContent (tables_at made (state S.Store connection.old).now.trees)) }
-    ensures newer { IfErr result (λ e. e ≢ OpenFault.OldSchema) }
-    ensures cause { IfErr result (BlamesReading S.Store connection.old connection.new) }
-    ensures opened { HasCleanDisk (state S.Store connection.new) →
-        OnOk result (IsTrue (state S.Store connection.old).is_open) }
-    ensures live { OnOk result (IsOpenIfClean S.Store connection.new) }
-    ensures kept { OnErr result (KeepsRows S.Store connection.old connection.new) }
-    ensures doubt { doubt (state S.Store connection.old).is_clean
-        ≤ doubt (state S.Store connection.new).is_clean }
-    ensures shield { (state S.Store connection.old).IsShielded
-        → (state S.Store connection.new).IsShielded }
 {
     let (content, known) = load_old_tables(alloc, connection, made)?;
     make_whole(connection, made)?;
@@ -259,19 +237,11 @@ pub(crate) fn load_old_tables<S: Alter>(
     requires part { Holds S.Store connection.old (IsMadeTo made) }
     requires some { has_table made DeskTable.Operator ≡ true }
     requires settled { connection.old.in_transaction ≡ false }
-    ensures value { HasCleanDisk (state S.Store connection.new) → IfOk result (λ found.
-        IsOldContentOf (tables_at made (state S.Store connection.old).now.trees) found.0) }
+    ensures read { IsRead S.Store connection.old connection.new result made
+        (λ tables found. IsOldContentOf tables found.0) AreNoOldContent }
     ensures content { IfOk result (λ found. IsContent found.0) }
     ensures few { IfOk result (λ found. HaveFewRows found.0.plans) }
     ensures bounded { IfOk result (λ found. Knows found.1 found.0) }
-    ensures none { HasCleanDisk (state S.Store connection.new) → IfErr result (λ e.
-        e ≡ OpenFault.NotADesk →
-        AreNoOldContent (tables_at made (state S.Store connection.old).now.trees)) }
-    ensures newer { IfErr result (λ e. e ≢ OpenFault.OldSchema) }
-    ensures open { HasCleanDisk (state S.Store connection.new) →
-        OnOk result (IsTrue (state S.Store connection.old).is_open) }
-    ensures cause { IfErr result (BlamesReading S.Store connection.old connection.new) }
-    ensures reads { OnlyReads S.Store connection.old connection.new }
 {
     if !are_new_empty(alloc, connection, made)? {
         return Err(OpenFault::NotADesk);
@@ -320,10 +290,8 @@ pub(crate) fn old_rows_in<S: Alter>(
     requires settled { connection.old.in_transaction ≡ false }
     ensures value { HasCleanDisk (state S.Store connection.new) → IfOk result
         (AreSortedOld (tables_at made (state S.Store connection.old).now.trees)) }
-    ensures open { HasCleanDisk (state S.Store connection.new) →
-        OnOk result (IsTrue (state S.Store connection.old).is_open) }
-    ensures fault { IfErr result (λ e. (e ≢ OpenFault.NotADesk)
-        × (e ≢ OpenFault.OldSchema)) }
+    ensures open { WasOpen S.Store connection.old connection.new result }
+    ensures fault { IfErr result (λ e. (e ≢ OpenFault.NotADesk) × (e ≢ OpenFault.OldSchema)) }
     ensures cause { IfErr result (BlamesReading S.Store connection.old connection.new) }
     ensures reads { OnlyReads S.Store connection.old connection.new }
 {

@@ -1,18 +1,17 @@
 //! How a packed file, whose tables come before all indexes, is put into a desk's own order.
 
-ghost use Rattle.std.specs.Prelude.{◌≡◌, ◌≢◌, ◌≤◌, false, IfOk, IfErr, OnOk, OnErr, IsTrue};
-ghost use Rattle.sqlite_trees.specs.View.{doubt};
+ghost use Rattle.std.specs.Prelude.{◌≡◌, ◌≢◌, false, IfOk, IfErr, OnOk, OnErr};
 ghost use Rattle.sqlite.specs.State.{HasCleanDisk};
 ghost use Rattle.sqlite.specs.Held.{state};
-ghost use Rattle.desk_sql.specs.Rows.{IsMadeTo, tables_at};
-ghost use Rattle.desk_sql.specs.Effects.{Commits, IsKept, IsOpenIfClean};
+ghost use Rattle.desk_sql.specs.Rows.{IsMadeTo};
+ghost use Rattle.desk_sql.specs.Effects.{Commits, IsKept};
 ghost use Rattle.desk_sql.specs.Finding.{Holds};
 ghost use Rattle.desk_sql.specs.Frames.{IsOver};
 ghost use Rattle.desk_sql.specs.Unpacking.{RemakesTables};
 ghost use Rattle.desk_tables.specs.Known.{Knows};
 ghost use Rattle.desk_tables.specs.Moving.{OrdersRows};
-ghost use Rattle.desk_tables.specs.Opening.{AreNoContent, BlamesReading, HasNewRows, WasOrdered};
-ghost use Rattle.desk_tables.specs.Store.{Stands};
+ghost use Rattle.desk_tables.specs.Opening.{BeginsOrdered, BlamesReading, HadNone, HasNewRows};
+ghost use Rattle.desk_tables.specs.OpeningSteps.{IsSetUp};
 ghost use Rattle.desk_tables.specs.Writing.{HasSpansToIndex, IsToOrder};
 
 use crate::kept::GhostWorld;
@@ -37,23 +36,11 @@ pub(crate) fn ordered_in<S: Alter>(
     requires part { Holds S.Store connection.old (IsMadeTo TablesPresent.Packed) }
     requires new { Holds S.Store connection.old (HasNewRows TablesPresent.Packed) }
     requires settled { connection.old.in_transaction ≡ false }
-    ensures value { HasCleanDisk (state S.Store connection.new) → IfOk result (λ found.
-        WasOrdered S.Store connection.old connection.new found.0.world) }
-    ensures stands { IfOk result (λ found. Stands S.Store connection.new found.0.world) }
+    ensures set_up { IsSetUp S.Store connection.old connection.new result (λ found. found.0.world)
+        (λ found. BeginsOrdered S.Store connection.old connection.new found.0.world)
+        (HadNone S.Store connection.old connection.new TablesPresent.Packed)
+        (IsKept S.Store connection.old connection.new) }
     ensures bounded { IfOk result (λ found. Knows found.1 found.0.world) }
-    ensures none { HasCleanDisk (state S.Store connection.new) → IfErr result (λ e.
-        e ≡ OpenFault.NotADesk →
-        AreNoContent (tables_at TablesPresent.Packed (state S.Store connection.old).now.trees)) }
-    ensures newer { IfErr result (λ e. e ≢ OpenFault.OldSchema) }
-    ensures open { HasCleanDisk (state S.Store connection.new) →
-        OnOk result (IsTrue (state S.Store connection.old).is_open) }
-    ensures live { OnOk result (IsOpenIfClean S.Store connection.new) }
-    ensures cause { IfErr result (BlamesReading S.Store connection.old connection.new) }
-    ensures kept { OnErr result (IsKept S.Store connection.old connection.new) }
-    ensures doubt { doubt (state S.Store connection.old).is_clean
-        ≤ doubt (state S.Store connection.new).is_clean }
-    ensures shield { (state S.Store connection.old).IsShielded
-        → (state S.Store connection.new).IsShielded }
 {
     let (content, known) = content_found(alloc, connection, TablesPresent::Packed)?;
     put_in_order(alloc, connection, &content.plans)?;

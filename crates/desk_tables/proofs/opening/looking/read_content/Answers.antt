@@ -21,5 +21,5 @@ returns-in_err-content-clause-none g c =
     told_as (λ e. e ≡ NotADesk → ShowsNone g.S.Store a d) c.from_residual-in_err-content.result _
     c.from_residual-in_err-content.ensures.1
     (none_later_shown g.S.Store a b d c.in_ok-made.made c.in_ok-made.old c.in_ok-made.ensures.reads
-    c.in_ok-made.ensures.part c.in_ok-made.ensures.rows c.in_err-content.ensures.reads {V = Unit {0}}
-    (Err c.in_err-content.field-0.0) c.in_err-content.ensures.none)
+    c.in_ok-made.ensures.part c.in_ok-made.ensures.rows c.in_err-content.ensures.read.reads {V = Unit {0}}
+    (Err c.in_err-content.field-0.0) c.in_err-content.ensures.read.none)

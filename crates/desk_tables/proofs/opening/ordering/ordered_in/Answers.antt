@@ -1,20 +1,23 @@
-use Rattle.std.proofs.Common.{ap, ◌∙◌}
+use Rattle.std.proofs.Common.{IfErr, ap, ◌∙◌, rules}
 use Rattle.desk_store.specs.World.{World}
 use Rattle.desk_tables.specs.Opening.{BlamesReading}
 use Rattle.desk_tables.proofs.OpeningLemmas.{blames_since, told_as}
 use Rattle.desk_tables.proofs.OrderingLemmas.{still_to_order}
 use Rattle.desk_tables.proofs.opening.ordering.ordered_in.Goals as goal
 
-pub returns-in_err-put_in_order-clause-cause : goal.returns-in_err-put_in_order-clause-cause
-returns-in_err-put_in_order-clause-cause g c =
+pub returns-in_err-put_in_order-clause-set_up : goal.returns-in_err-put_in_order-clause-set_up
+returns-in_err-put_in_order-clause-set_up g c =
     let old = c.args.connection.now in
     let mid = c.content_found.new.connection in
     let new = c.put_in_order.new.connection in
     let found = c.in_ok-content.ensures in
     let plans = c.deref.ensures.value ∙ ap (λ (w : World). w.plans) c.content.view_is in
+    let blames : IfErr c.from_residual-in_err-put_in_order.result (BlamesReading g.S.Store old new) =
     told_as (BlamesReading g.S.Store old new) c.from_residual-in_err-put_in_order.result _
     c.from_residual-in_err-put_in_order.ensures.1
-    (blames_since g.S.Store old mid new found.reads.faults found.reads.limit c.in_err-put_in_order.field-0.0
+    (blames_since g.S.Store old mid new found.read.reads.faults found.read.reads.limit
+    c.in_err-put_in_order.field-0.0
     (c.in_err-put_in_order.ensures.cause
-    (still_to_order g.S.Store c.in_ok-content.content c.deref.result.now old mid plans found.reads found.value
-    found.few)))
+    (still_to_order g.S.Store c.in_ok-content.content c.deref.result.now old mid plans found.read.reads
+    found.read.value found.few))) in
+    search (rules, blames)

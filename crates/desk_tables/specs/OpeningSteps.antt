@@ -1,0 +1,56 @@
+-- What a step of an opening comes to, by its result.
+use Rattle.std.specs.Prelude.{◌≡◌, ◌≢◌, ◌≤◌, Result, IfOk, IfErr, OnOk, OnErr}
+use Rattle.sqlite_trees.specs.declared.store.Store.{Ghosts}
+use Rattle.sqlite_trees.specs.View.{doubt as doubt_of}
+use Rattle.sqlite.specs.State.{HasCleanDisk}
+use Rattle.sqlite.specs.Held.{Held, state}
+use Rattle.desk_sql.specs.declared.opening.finding.TablesPresent.{TablesPresent}
+use Rattle.desk_sql.specs.Calls.{WasOpen}
+use Rattle.desk_sql.specs.Effects.{IsOpenIfClean}
+use Rattle.desk_sql.specs.Frames.{OnlyReads}
+use Rattle.desk_sql.specs.Rows.{Tables, tables_at}
+use Rattle.desk_store.specs.World.{World}
+use Rattle.desk_tables.specs.declared.opening.open.OpenFault.{OpenFault}
+use Rattle.desk_tables.specs.declared.opening.open.OpenFault.TheVariants.{NotADesk, OldSchema}
+use Rattle.desk_tables.specs.Opening.{BlamesReading, BlamesDatabase}
+use Rattle.desk_tables.specs.Store.{Stands}
+
+module _ {S : Type 0} (g : Ghosts S) (old new : Held S) {V : Type 0} (result : Result V OpenFault) where
+  -- tables that are made so far are read: what an open connection gives of them, which of them it tells to be
+  -- no desk's, and why it fails; nothing is changed
+  pub record IsRead (made : TablesPresent) (Gives : Tables → V → Type 0) (Refuses : Tables → Type 0) : Type 0
+    where
+      pub value : HasCleanDisk (state g new) → IfOk result (Gives (tables_at made (state g old).now.trees))
+      pub was_open : WasOpen g old new result
+      pub none : IfErr result (λ e. e ≡ NotADesk → HasCleanDisk (state g new)
+          → Refuses (tables_at made (state g old).now.trees))
+      pub newer : IfErr result (λ e. e ≢ OldSchema)
+      pub cause : IfErr result (BlamesReading g old new)
+      pub reads : OnlyReads g old new
+
+  module _ (world : V → World) (Begins : V → Type 0) where
+    -- tables without a row of schema 1, or with those alone, come to have the rows of a world: how it begins,
+    -- what is told of them if they are no desk's, why it fails, and what is kept then
+    pub record IsSetUp (Refuses Keeps : Type 0) : Type 0 where
+      pub begins : IfOk result Begins
+      pub stands : IfOk result (λ v. Stands g new (world v))
+      pub was_open : WasOpen g old new result
+      pub live : OnOk result (IsOpenIfClean g new)
+      pub none : IfErr result (λ e. e ≡ NotADesk → Refuses)
+      pub newer : IfErr result (λ e. e ≢ OldSchema)
+      pub cause : IfErr result (BlamesReading g old new)
+      pub kept : OnErr result Keeps
+      pub doubt : doubt_of (state g old).is_clean ≤ doubt_of (state g new).is_clean
+      pub shield : (state g old).IsShielded → (state g new).IsShielded
+
+    -- a whole opening, of which it may also be told that there are rows of schema 1
+    pub record IsOpened (Refuses Older Keeps : Type 0) : Type 0 where
+      pub begins : IfOk result Begins
+      pub stands : IfOk result (λ v. Stands g new (world v))
+      pub live : OnOk result (IsOpenIfClean g new)
+      pub none : IfErr result (λ e. e ≡ NotADesk → Refuses)
+      pub older : IfErr result (λ e. e ≡ OldSchema → Older)
+      pub cause : IfErr result (BlamesDatabase g old new)
+      pub kept : OnErr result Keeps
+      pub doubt : doubt_of (state g old).is_clean ≤ doubt_of (state g new).is_clean
+      pub shield : (state g old).IsShielded → (state g new).IsShielded
