@@ -3,3 +3,4 @@ pub mod FenceLemmas
 pub mod ChunkLemmas
 pub mod RollLemmas
 pub mod RegionLemmas
+pub mod NearLemmas

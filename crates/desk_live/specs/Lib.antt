@@ -2,4 +2,5 @@
 pub mod Live
 pub mod Roll
 pub mod Regions
+pub mod Near
 pub mod laws

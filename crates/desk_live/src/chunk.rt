@@ -5,9 +5,12 @@ ghost use Rattle.std.specs.List.{AllByRecursion, filter, list_any};
 ghost use Rattle.desk_live.specs.Live as spec;
 ghost use Rattle.desk_live.specs.Live.{AreFenced, IsFenced, is_near, is_near_in, stays_at, volumes_in};
 ghost use Rattle.desk_live.specs.Regions.{AddTheirs};
+ghost use Rattle.desk_live.specs.Near.{AddsPlans};
+ghost use Rattle.volume4d.specs.Slab.{slab_has};
 
 use crate::changing::leave;
 use crate::fence::Fence;
+use crate::near::{NearPlans, Wanted, add_each};
 use crate::order::put_in_order;
 use crate::volume::LiveVolume;
 use desk_rules::operator::Operator;
@@ -51,6 +54,42 @@ impl Chunk {
         }
         any_near(&self.volumes, operator, id, least, extent)
     }
+
+    // Adds the plans of the volumes that are near, if the fence says that one may be.
+    fn add_near(
+        &self,
+        near: &mut NearPlans,
+        wanted: &Wanted,
+        extent: &Slab,
+    ) -> Result<(), AllocError>
+        ensures { OnOk result (AllByRecursion (IsFenced self.now.fence) self.now.volumes.items
+            → AddsPlans wanted.now (slab_has extent.now) self.now.volumes.items near.old near.new) }
+    {
+        if !self.fence.may_meet(wanted.least, extent) {
+            return Ok(());
+        }
+        add_each(near, &self.volumes, wanted, extent)
+    }
+}
+
+/// Adds the plans of the volumes of chunks that are near.
+///
+/// # Errors
+///
+/// `AllocError` if memory runs out.
+pub(crate) fn add_near_in(
+    near: &mut NearPlans,
+    chunks: &[Chunk],
+    wanted: &Wanted,
+    extent: &Slab,
+) -> Result<(), AllocError>
+    ensures { OnOk result (AreFenced chunks.now
+        → AddsPlans wanted.now (slab_has extent.now) (volumes_in chunks.now) near.old near.new) }
+{
+    for chunk in chunks {
+        chunk.add_near(near, wanted, extent)?;
+    }
+    Ok(())
 }
 
 /// Whether one of some volumes is near.

@@ -7,12 +7,14 @@ mod changing;
 mod chunk;
 mod fence;
 mod live;
+mod near;
 mod order;
 mod regions;
 mod roll;
 mod volume;
 
 pub use live::{Gathering, LiveVolumes};
+pub use near::PlanKey;
 pub use regions::push_clipped;
 pub use roll::Roll;
 pub use volume::LiveVolume;

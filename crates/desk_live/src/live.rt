@@ -1,6 +1,6 @@
 //! The volumes of all live plans.
 
-ghost use Rattle.std.specs.Prelude.{◌≡◌, ◌++◌, ◌∷◌, [], List, false, length, IfOk, OnOk};
+ghost use Rattle.std.specs.Prelude.{◌≡◌, ◌++◌, ◌∷◌, [], List, false, length, IfOk, IfSome, OnOk};
 ghost use Rattle.std.specs.List.{filter, list_any};
 ghost use Rattle.std.specs.List.Sorted.{IsStrictlySortedBy};
 ghost use Rattle.desk_store.specs.World.{Filed, World, filed_cmp};
@@ -10,11 +10,14 @@ ghost use Rattle.desk_store.specs.StoreChange.{changed_by};
 ghost use Rattle.desk_live.specs.Live.{AreBrought, AreFenced, AreKept, AreVolumes, HasRoomFor};
 ghost use Rattle.desk_live.specs.Live.{gathered_in, is_near, stays_at, volumes_of};
 ghost use Rattle.desk_live.specs.Regions.{AddTheirs, HoldNothingBeside};
+ghost use Rattle.desk_live.specs.Near.{AddsPlans, AreNearPlans, AreOthersPlans, AreRivalPlans};
+ghost use Rattle.volume4d.specs.Slab.{slab_has, slabs_have};
 
 use crate::changing::{brought_by, leave, push_all, push_plan};
 use crate::chunk::{
-    Chunk, any_near, any_near_in, leave_each, push_theirs, push_theirs_in, rechunked,
+    Chunk, add_near_in, any_near, any_near_in, leave_each, push_theirs, push_theirs_in, rechunked,
 };
+use crate::near::{NearPlans, PlanKey, Wanted, add_each};
 use crate::regions::{joined, overlapping, whole_of};
 use crate::volume::LiveVolume;
 use desk_rules::operator::Operator;
@@ -26,6 +29,11 @@ use volume4d::Slab;
 
 // So many volumes may be in no chunk, and two more for each chunk.
 const YOUNG: usize = 64;
+
+// Plans are few if a reading of their rows costs at most so many rows, and for each extent so many more.
+const FEW: usize = 128;
+
+const MORE: usize = 32;
 
 /// The volumes of all live plans, most of them in chunks.
 #[derive(Drop)]
@@ -96,6 +104,86 @@ impl LiveVolumes {
         push_theirs_in(&mut theirs, &self.chunks, operator, whole)?;
         push_theirs(&mut theirs, &self.young, operator, whole)?;
         Ok(theirs)
+    }
+
+    /// The plans of which one may hold a point of an extent, of those of a priority at least, but for the
+    /// operator's of the id; or none if they aren't few.
+    ///
+    /// # Errors
+    ///
+    /// `AllocError` if memory runs out.
+    pub fn rival_plans(
+        &self,
+        alloc: Global,
+        operator: &Operator,
+        id: &PlanId,
+        least: u32,
+        extent: &Slab,
+    ) -> Result<Option<Vec<PlanKey>>, AllocError>
+        ensures { IfOk result (λ found. IfSome found (λ keys. (w : World) → AreKept self.now w
+            → AreRivalPlans w operator.now id.now least extent.now keys.items)) }
+    {
+        let wanted = Wanted {
+            operator: *operator,
+            id: Some(*id),
+            least,
+        };
+        self.near_plans(alloc, &wanted, &[*extent])
+    }
+
+    /// The plans of other operators of which one may hold a point of some extents; or none if they aren't
+    /// few.
+    ///
+    /// # Errors
+    ///
+    /// `AllocError` if memory runs out.
+    pub fn others_plans(
+        &self,
+        alloc: Global,
+        operator: &Operator,
+        extents: &[Slab],
+    ) -> Result<Option<Vec<PlanKey>>, AllocError>
+        ensures { IfOk result (λ found. IfSome found (λ keys. (w : World) → AreKept self.now w
+            → AreOthersPlans w operator.now extents.now keys.items)) }
+    {
+        let wanted = Wanted {
+            operator: *operator,
+            id: None,
+            least: 0,
+        };
+        self.near_plans(alloc, &wanted, extents)
+    }
+
+    // The plans whose volumes are wanted and near, if they are few.
+    fn near_plans(
+        &self,
+        alloc: Global,
+        wanted: &Wanted,
+        extents: &[Slab],
+    ) -> Result<Option<Vec<PlanKey>>, AllocError>
+        ensures { IfOk result (λ found. IfSome found (λ keys. AreFenced self.now.chunks.items
+            → AreNearPlans wanted.now (slabs_have extents.now) (volumes_of self.now) keys.items)) }
+    {
+        let room = extents.len().saturating_mul(MORE).saturating_add(FEW);
+        let mut near = NearPlans::new(alloc, room);
+        for extent in extents {
+            self.add_near(&mut near, wanted, extent)?;
+        }
+        Ok(near.if_whole())
+    }
+
+    // Adds the plans of the volumes that are near.
+    fn add_near(
+        &self,
+        near: &mut NearPlans,
+        wanted: &Wanted,
+        extent: &Slab,
+    ) -> Result<(), AllocError>
+        ensures { OnOk result (AreFenced self.now.chunks.items
+            → AddsPlans wanted.now (slab_has extent.now) (volumes_of self.now) near.old near.new) }
+    {
+        add_near_in(near, &self.chunks, wanted, extent)?;
+        add_each(near, &self.young, wanted, extent)
     }
 
     /// The volumes that a change brings, for which there is room then.

@@ -4,8 +4,10 @@ ghost use Rattle.std.specs.Prelude.{◌≡◌, ◌&&◌, int_lt, nat_le, IfOk};
 ghost use Rattle.desk_store.specs.Changes.{filed_by};
 ghost use Rattle.desk_live.specs.Live as spec;
 ghost use Rattle.desk_live.specs.Live.{IsLiveVolume};
+ghost use Rattle.desk_live.specs.Near as near;
 ghost use Rattle.desk_live.specs.Regions as regions;
 
+use crate::near::{PlanKey, Wanted};
 use desk_rules::operator::Operator;
 use desk_rules::plan::PlanRow;
 use desk_rules::plan_id::PlanId;
@@ -20,6 +22,8 @@ pub struct LiveVolume {
     pub(crate) priority: u32,
     // the smallest slab that has all its points
     pub(crate) bounds: Slab,
+    // about how many rows of spans the plan has, of which no clause speaks
+    pub(crate) rows: usize,
 }
 
 impl LiveVolume {
@@ -42,6 +46,7 @@ impl LiveVolume {
             id: row.id,
             priority: row.priority,
             bounds: bounds_of(&slabs),
+            rows: slabs.len().saturating_mul(row.area.volumes().len()),
         })
     }
 
@@ -73,6 +78,39 @@ impl LiveVolume {
             return false;
         }
         !self.is_of(operator, id)
+    }
+
+    /// The key of its plan.
+    pub(crate) fn key(&self) -> PlanKey
+        ensures { result ≡ near.key_of self.now }
+    {
+        PlanKey {
+            operator: self.operator,
+            id: self.id,
+        }
+    }
+
+    // Whether it is of the operator's plan of the id, or if there is no id, of one of its plans.
+    fn is_own(&self, wanted: &Wanted) -> bool
+        ensures { result ≡ near.is_own wanted.now self.now }
+    {
+        match wanted.id {
+            Some(id) => self.is_of(&wanted.operator, &id),
+            None => wanted.operator.cmp(&self.operator).is_eq(),
+        }
+    }
+
+    /// Whether it is wanted, and its bounds have a point of an extent.
+    pub(crate) fn is_near_to(&self, wanted: &Wanted, extent: &Slab) -> bool
+        ensures { result ≡ near.is_near_to wanted.now extent.now self.now }
+    {
+        if !overlap(&self.bounds, extent) {
+            return false;
+        }
+        if self.priority < wanted.least {
+            return false;
+        }
+        !self.is_own(wanted)
     }
 
     /// Whether it is another operator's, and its bounds meet a slab.

@@ -30,6 +30,7 @@ pub mod HandLemmas
 pub mod SureLemmas
 pub mod Sure
 pub mod OtherSpans
+pub mod PlanSpans
 pub mod StopLemmas
 pub mod DeleteStops
 pub mod KeyLemmas

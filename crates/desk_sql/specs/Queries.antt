@@ -7,9 +7,9 @@ use Rattle.desk_sql.specs.declared.opening.numbers.DeskTable.TheVariants as desk
 use Rattle.desk_sql.specs.declared.reading.whole.Whole.{Whole}
 use Rattle.desk_sql.specs.declared.reading.whole.Whole.TheVariants as whole
 use Rattle.desk_sql.specs.declared.reading.query.Query.{Query}
-use Rattle.desk_sql.specs.declared.reading.query.Query.TheVariants.{OperatorNamed, PlanOf, VolumesOf, OwnPlans, RivalSpans, OtherSpans}
+use Rattle.desk_sql.specs.declared.reading.query.Query.TheVariants.{OperatorNamed, PlanOf, VolumesOf, OwnPlans, RivalSpans, OtherSpans, SpansOf}
 use Rattle.desk_sql.specs.Rows.{Tables, is_by, is_of, with_volumes, is_wanted, held_columns}
-use Rattle.desk_sql.specs.Others.{is_others_from}
+use Rattle.desk_sql.specs.Others.{is_others_from, is_plans}
 
 -- ---- whole tables
 
@@ -68,6 +68,9 @@ params_of (RivalSpans operator id reach low) =
 params_of (OtherSpans operator reach low) =
     Int reach.last ∷ Int reach.first ∷ Int reach.upper ∷ Int reach.lower ∷ Int reach.stop ∷ Int reach.start
     ∷ Int (pos reach.priority) ∷ Text operator.now ∷ Int low ∷ []
+params_of (SpansOf operator id reach) =
+    Int reach.last ∷ Int reach.first ∷ Int reach.upper ∷ Int reach.lower ∷ Int reach.stop ∷ Int reach.start
+    ∷ Int (pos reach.priority) ∷ Text operator.now ∷ Text id.now ∷ []
 
 -- the columns by which its rows come
 abbrev pub order_of : Query → List ℕ
@@ -77,6 +80,7 @@ order_of (VolumesOf operator id) = 2 ∷ []
 order_of (OwnPlans operator) = 1 ∷ 5 ∷ []
 order_of (RivalSpans operator id reach low) = 0 ∷ []
 order_of (OtherSpans operator reach low) = 0 ∷ []
+order_of (SpansOf operator id reach) = []
 
 -- its rows
 abbrev pub rows_of : Query → Tables → List Row
@@ -88,3 +92,5 @@ rows_of (RivalSpans operator id reach low) t =
     map held_columns (filter (is_wanted operator.now id.now reach low) t.spans)
 rows_of (OtherSpans operator reach low) t =
     map held_columns (filter (is_others_from operator.now reach low) t.spans)
+rows_of (SpansOf operator id reach) t =
+    map held_columns (filter (is_plans operator.now id.now reach) t.spans)

@@ -17,6 +17,7 @@ pub use opening::making::complete_tables;
 pub use opening::numbers::DeskTable;
 pub use opening::unpacking::remake_tables;
 pub use reading::others::other_spans;
+pub use reading::plans::plan_spans;
 pub use reading::queries::{own_plans, plan_of, volumes_of};
 pub use reading::rivals::{SpanQuery, rival_spans};
 pub use reading::taking::RowSink;

@@ -3,6 +3,7 @@
 pub(crate) mod answer;
 pub(crate) mod asking;
 pub(crate) mod others;
+pub(crate) mod plans;
 pub(crate) mod queries;
 pub(crate) mod query;
 pub(crate) mod rivals;

@@ -26,7 +26,7 @@ use Rattle.desk_live.specs.declared.volume.LiveVolume.{LiveVolume}
 use Rattle.desk_live.specs.Live.{IsLiveVolume, AreVolumesOf, AreVolumes, AreLive, is_of, is_of_any, stays_at, AreBrought}
 use Rattle.desk_live.specs.laws.Lists.{along_permutation, IsPermutation-filter, filter_all, all_any}
 
-and_turned : (a b : Bool) → (a && b) ≡ (b && a)
+pub and_turned : (a b : Bool) → (a && b) ≡ (b && a)
 and_turned true true = refl
 and_turned true false = refl
 and_turned false true = refl

@@ -199,11 +199,11 @@ upper_still a b d h k = grind (arith, ints, h)
 first_still : (a b d : ℕ) → a ≤ b → nat_le b d ≡ true → nat_le a d ≡ true
 first_still a b d h k = grind (arith, nat_tests)
 
-last_still : (a b d : ℕ) → a ≤ b → nat_le d a ≡ true → nat_le d b ≡ true
+pub last_still : (a b d : ℕ) → a ≤ b → nat_le d a ≡ true → nat_le d b ≡ true
 last_still a b d h k = grind (arith, nat_tests)
 
 -- what overlaps a slab overlaps one round it
-overlaps_round : (inner outer other : Slab) → IsWithin inner outer → overlap inner other ≡ true
+pub overlaps_round : (inner outer other : Slab) → IsWithin inner outer → overlap inner other ≡ true
     → overlap outer other ≡ true
 overlaps_round inner outer other w h =
     let parts = and_parts (int_lt inner.start other.end && int_lt other.start inner.end) _ h in

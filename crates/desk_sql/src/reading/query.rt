@@ -39,6 +39,12 @@ pub(crate) enum Query<'a> {
         reach: SpanQuery,
         low: i64,
     },
+    /// The spans of one plan that are reached.
+    SpansOf {
+        operator: &'a str,
+        id: &'a str,
+        reach: SpanQuery,
+    },
 }
 
 impl Query<'_> {
@@ -72,6 +78,11 @@ impl Query<'_> {
                  WHERE first >= ?9 AND first <= ?1 AND last >= ?2 AND lower < ?3 AND upper > ?4 \
                  AND start < ?5 AND stop > ?6 AND priority >= ?7 AND operator <> ?8 \
                  ORDER BY first"
+            }
+            Query::SpansOf { .. } => {
+                "SELECT first, last, lower, upper, start, stop, priority FROM span2 \
+                 WHERE first <= ?1 AND last >= ?2 AND lower < ?3 AND upper > ?4 AND start < ?5 \
+                 AND stop > ?6 AND priority >= ?7 AND operator = ?8 AND id = ?9"
             }
         }
     }

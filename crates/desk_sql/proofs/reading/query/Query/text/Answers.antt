@@ -1,6 +1,7 @@
 use Rattle.std.proofs.Common.{sym, subst}
 use Rattle.desk_sql.proofs.StatementLemmas.{IsTextOf, operator_named_selected, plan_of_selected, volumes_of_selected, own_plans_selected, rival_spans_selected}
 use Rattle.desk_sql.proofs.OtherSpans.{other_spans_selected}
+use Rattle.desk_sql.proofs.PlanSpans.{plan_spans_selected}
 use Rattle.desk_sql.proofs.reading.query.Query.text.Goals as goal
 
 pub returns-in-OperatorNamed : goal.returns-in-OperatorNamed
@@ -23,3 +24,6 @@ returns-in-RivalSpans c = subst (λ query. IsTextOf query _) (sym c.in-RivalSpan
 pub returns-in-OtherSpans : goal.returns-in-OtherSpans
 returns-in-OtherSpans c = subst (λ query. IsTextOf query _) (sym c.in-OtherSpans.is)
     (other_spans_selected _ _ _)
+
+pub returns-in-SpansOf : goal.returns-in-SpansOf
+returns-in-SpansOf c = subst (λ query. IsTextOf query _) (sym c.in-SpansOf.is) (plan_spans_selected _ _ _)

@@ -1,0 +1,448 @@
+-- Plans whose volumes are near: how they are gathered, and what they hold.
+use Rattle.std.proofs.Common.{◌≡◌, ℕ, zero, suc, ◌+◌, ◌<◌, Bool, true, false, true≢false, MatchBool, ◌&&◌, ◌||◌, not, cond, List, [], ◌∷◌, ◌++◌, length, get_or, take, Option, Some, None, Result, Ok, Err, IfOk, refl, sym, ap, subst, ◌∙◌, arith, IsPermutation}
+use Rattle.std.specs.Prelude.{nat_le, IfSome}
+use Rattle.std.specs.List.{AllByRecursion, AllZip, list_any}
+use Rattle.std.specs.Ordering.{is_eq}
+use Rattle.std.specs.Cmp.Lexicographic.{nat_list_cmp_total}
+use Rattle.std.proofs.lemmas.Cmp.{tied_itself}
+use Rattle.std.proofs.lemmas.Bool.{and_parts}
+use Rattle.std.proofs.lemmas.Bool.Decides.{nat_tests}
+use Rattle.std.proofs.lemmas.List.{append_assoc, append-nil, take_more}
+use Rattle.std.proofs.lemmas.List.Folds.{list_any-append, list_any_more}
+use Rattle.std.proofs.lemmas.List.Sorted.{list_any-IsPermutation}
+use Rattle.std.proofs.lemmas.Map.Lookups.{exact_bytes}
+use Rattle.volume4d.specs.declared.slab.Slab.{Slab}
+use Rattle.volume4d.specs.Level.{greater, level_where}
+use Rattle.volume4d.specs.Point.{Point}
+use Rattle.volume4d.specs.Slab.{slab_has, slabs_have}
+use Rattle.volume4d.specs.Volume.{Block, block_has, area_has}
+use Rattle.desk_rules.specs.Conflict.{at_least}
+use Rattle.desk_rules.specs.Plan.{is_live, row_holds}
+use Rattle.desk_store.specs.World.{Filed, World, held, has_id, is_by, text_cmp}
+use Rattle.desk_store.specs.Rows as rows
+use Rattle.desk_store.specs.Rows.{other_level, others_top, rival_level, rivals_top}
+use Rattle.desk_store.specs.laws.Order.{all_append, is_equal}
+use Rattle.desk_store.specs.laws.Rival.{at_least_greater, others_top-cons, others_top-nil, held_by_others, rivals_top-cons, rivals_top-nil, held_by_rivals}
+use Rattle.desk_live.specs.declared.chunk.Chunk.{Chunk}
+use Rattle.desk_live.specs.declared.fence.Fence.{Fence}
+use Rattle.desk_live.specs.declared.near.NearPlans.{NearPlans}
+use Rattle.desk_live.specs.declared.near.PlanKey.{PlanKey}
+use Rattle.desk_live.specs.declared.near.Wanted.{Wanted}
+use Rattle.desk_live.specs.declared.volume.LiveVolume.{LiveVolume}
+use Rattle.desk_live.specs.Live.{AreFenced, AreLive, AreVolumes, AreVolumesOf, IsFenced, IsLiveVolume, is_of, may_meet, overlap, volumes_in}
+use Rattle.desk_live.specs.Near.{AddsPlans, AreNearPlans, AreOthersPlans, AreRivalPlans, IsAnothers, TakesPlan, is_among, is_id, is_listed, is_missed_at, is_near_to, is_own, is_wanted, key_of, listed_level, listed_top}
+use Rattle.desk_live.proofs.ChunkLemmas.{gathered_more}
+use Rattle.desk_live.specs.laws.Live.{and_turned, same_key}
+use Rattle.desk_live.specs.laws.Near.{both, last_still, overlapping, overlaps_round}
+
+or_false : (b : Bool) → (b || false) ≡ b
+or_false true = refl
+or_false false = refl
+
+and_true : (b : Bool) → (b && true) ≡ b
+and_true true = refl
+and_true false = refl
+
+either : (a b : Bool) → (a || b) ≡ false → (a ≡ false) × (b ≡ false)
+either false false h = (refl, refl)
+either false true h = absurd (true≢false h)
+either true b h = absurd (true≢false h)
+
+itself : (text : List ℕ) → is_eq (text_cmp text text) ≡ true
+itself text = ap is_eq (tied_itself nat_list_cmp_total text)
+
+-- ---- a volume's plan is taken
+
+pub takes_one : (live : LiveVolume) (old new : NearPlans) (k : PlanKey) → k ≡ key_of live
+    → new.keys.items ≡ old.keys.items ++ k ∷ [] → new.is_whole ≡ old.is_whole → TakesPlan live old new
+takes_one live old new k is pushed same = record {
+  more = k ∷ [];
+  is = pushed;
+  still = λ e. sym same ∙ e;
+  listed = λ e.
+      ap (λ ks. is_among ks live) pushed
+      ∙ list_any-append (λ j. is_of j.operator j.id live) old.keys.items (k ∷ [])
+      ∙ ap (λ b. is_among old.keys.items live || b) (ap (λ j. is_of j.operator j.id live || false) is
+      ∙ ap (λ b. b || false) (both (is_eq (text_cmp live.id live.id))
+      (is_eq (text_cmp live.operator live.operator)) (itself live.id) (itself live.operator)))
+      ∙ last (is_among old.keys.items live);
+  mine = (is, tt);
+} where
+  last : (a : Bool) → (a || true) ≡ true
+  last true = refl
+  last false = refl
+
+-- ---- plans are added, one volume after the other
+
+module _ (s : Wanted) where
+  pub adds_none : (inside : Point → Bool) (a : NearPlans) → AddsPlans s inside [] a a
+  adds_none inside a = record {
+    more = [];
+    is = sym (append-nil a.keys.items);
+    still = λ e. e;
+    whole = λ e x h. refl;
+    another = tt;
+  }
+
+  -- nothing is added, and nothing was missed if all are listed
+  pub adds_nothing : (inside : Point → Bool) (lives : List LiveVolume) (a : NearPlans)
+      → (a.is_whole ≡ true → (x : Point) → inside x ≡ true
+      → list_any (is_missed_at s a.keys.items x) lives ≡ false) → AddsPlans s inside lives a a
+  adds_nothing inside lives a none = record {
+    more = [];
+    is = sym (append-nil a.keys.items);
+    still = λ e. e;
+    whole = none;
+    another = tt;
+  }
+
+  -- not all were listed
+  pub adds_lost : (inside : Point → Bool) (live : LiveVolume) (a : NearPlans) → a.is_whole ≡ false
+      → AddsPlans s inside (live ∷ []) a a
+  adds_lost inside live a lost =
+      adds_nothing inside (live ∷ []) a (λ e x h. absurd (true≢false (sym e ∙ lost)))
+
+  -- the volume isn't near
+  pub adds_far : (extent : Slab) (live : LiveVolume) (a : NearPlans) → is_near_to s extent live ≡ false
+      → AddsPlans s (slab_has extent) (live ∷ []) a a
+  adds_far extent live a far = adds_nothing (slab_has extent) (live ∷ []) a (λ e x here.
+      or_false (is_missed_at s a.keys.items x live)
+      ∙ go (slab_has live.bounds x) (is_wanted s live) (not (is_among a.keys.items live))
+      (λ has. ap (λ b. b && is_wanted s live) (sym (overlapping live.bounds extent x has here)) ∙ far)) where
+        go : (b c d : Bool) → (b ≡ true → c ≡ false) → ((b && c) && d) ≡ false
+        go true c d f = ap (λ t. t && d) (f refl)
+        go false c d f = refl
+
+  -- its plan is listed
+  pub adds_listed : (inside : Point → Bool) (live : LiveVolume) (a : NearPlans)
+      → is_among a.keys.items live ≡ true → AddsPlans s inside (live ∷ []) a a
+  adds_listed inside live a there = adds_nothing inside (live ∷ []) a (λ e x here.
+      or_false (is_missed_at s a.keys.items x live)
+      ∙ ap (λ b. (slab_has live.bounds x && is_wanted s live) && not b) there
+      ∙ none (slab_has live.bounds x && is_wanted s live)) where
+        none : (b : Bool) → (b && false) ≡ false
+        none true = refl
+        none false = refl
+
+  -- its plan is taken
+  pub adds_taken : (inside : Point → Bool) (extent : Slab) (live : LiveVolume) (a b : NearPlans)
+      → is_near_to s extent live ≡ true → TakesPlan live a b → AddsPlans s inside (live ∷ []) a b
+  adds_taken inside extent live a b near t = record {
+    more = t.more;
+    is = t.is;
+    still = t.still;
+    whole = λ e x here.
+        or_false (is_missed_at s b.keys.items x live)
+        ∙ ap (λ c. (slab_has live.bounds x && is_wanted s live) && not c) (t.listed e)
+        ∙ none (slab_has live.bounds x && is_wanted s live);
+    another = each t.more t.mine;
+  } where
+    none : (c : Bool) → (c && false) ≡ false
+    none true = refl
+    none false = refl
+
+    turned : (c : Bool) → not c ≡ true → c ≡ false
+    turned true h = sym h
+    turned false h = refl
+
+    wanted : is_own s live ≡ false
+    wanted = turned (is_own s live) (and_parts (nat_le s.least live.priority) _
+        (and_parts (overlap live.bounds extent) _ near).1).1
+
+    each : (ks : List PlanKey) → AllByRecursion (λ k. k ≡ key_of live) ks → AllByRecursion (IsAnothers s) ks
+    each [] h = tt
+    each (k ∷ ks) h = (subst (IsAnothers s) (sym h.0) wanted, each ks h.1)
+
+  -- with more plans listed no more volumes are missed
+  fewer_missed : (ks more : List PlanKey) (x : Point) (lives : List LiveVolume)
+      → list_any (is_missed_at s ks x) lives ≡ false → list_any (is_missed_at s (ks ++ more) x) lives ≡ false
+  fewer_missed ks more x [] h = refl
+  fewer_missed ks more x (l ∷ lives) h =
+      let parts = either (is_missed_at s ks x l) (list_any (is_missed_at s ks x) lives) h in
+      λ i. (ap (λ b. (slab_has l.bounds x && is_wanted s l) && not b)
+      (list_any-append (λ k. is_of k.operator k.id l) ks more)
+      ∙ go (slab_has l.bounds x && is_wanted s l) (is_among ks l) (is_among more l) parts.0) i
+      || fewer_missed ks more x lives parts.1 i where
+        go : (c a b : Bool) → (c && not a) ≡ false → (c && not (a || b)) ≡ false
+        go false a b k = refl
+        go true true b k = refl
+        go true false b k = absurd (true≢false k)
+
+  later_missed : (b c : NearPlans) (more : List PlanKey) (x : Point) (lives : List LiveVolume)
+      → c.keys.items ≡ b.keys.items ++ more → list_any (is_missed_at s b.keys.items x) lives ≡ false
+      → list_any (is_missed_at s c.keys.items x) lives ≡ false
+  later_missed b c more x lives is h = ap (λ ks. list_any (is_missed_at s ks x) lives) is
+      ∙ fewer_missed b.keys.items more x lives h
+
+  keys_both : (a b c : NearPlans) (one two : List PlanKey) → b.keys.items ≡ a.keys.items ++ one
+      → c.keys.items ≡ b.keys.items ++ two → c.keys.items ≡ a.keys.items ++ (one ++ two)
+  keys_both a b c one two h k = k ∙ ap (λ ks. ks ++ two) h ∙ append_assoc a.keys.items one two
+
+  -- those of some volumes, and then those of more
+  pub adds_both : (inside : Point → Bool) (some more : List LiveVolume) (a b c : NearPlans)
+      → AddsPlans s inside some a b → AddsPlans s inside more b c → AddsPlans s inside (some ++ more) a c
+  adds_both inside some more a b c one two = record {
+    more = one.more ++ two.more;
+    is = keys_both a b c one.more two.more one.is two.is;
+    still = λ e. one.still (two.still e);
+    whole = λ e x here.
+        list_any-append (is_missed_at s c.keys.items x) some more
+        ∙ (λ i. later_missed b c two.more x some two.is (one.whole (two.still e) x here) i
+        || two.whole e x here i);
+    another = all_append (IsAnothers s) one.more two.more one.another two.another;
+  }
+
+  -- those near some extents, and then those near one more
+  pub adds_extent : (extents : List Slab) (i : ℕ) (extent : Slab) (lives : List LiveVolume)
+      (a b c : NearPlans) → i < length extents → extent ≡ get_or extents i extent
+      → AddsPlans s (slabs_have (take i extents)) lives a b → AddsPlans s (slab_has extent) lives b c
+      → AddsPlans s (slabs_have (take (i + 1) extents)) lives a c
+  adds_extent extents i extent lives a b c below is one two = record {
+    more = one.more ++ two.more;
+    is = keys_both a b c one.more two.more one.is two.is;
+    still = λ e. one.still (two.still e);
+    whole = λ e x here. go x e (slabs_have (take i extents) x) refl
+        (sym (list_any_more (λ t. slab_has t x) extents i extent below
+        ∙ ap (λ t. slabs_have (take i extents) x || slab_has t x) (sym is)) ∙ here);
+    another = all_append (IsAnothers s) one.more two.more one.another two.another;
+  } where
+    go : (x : Point) → c.is_whole ≡ true → (h : Bool) → slabs_have (take i extents) x ≡ h
+        → (h || slab_has extent x) ≡ true → list_any (is_missed_at s c.keys.items x) lives ≡ false
+    go x e true k there = later_missed b c two.more x lives two.is (one.whole (two.still e) x k)
+    go x e false k there = two.whole e x there
+
+  -- one volume more
+  pub adds_volume : (inside : Point → Bool) (lives : List LiveVolume) (i : ℕ) (live : LiveVolume)
+      (a b c : NearPlans) → i < length lives → live ≡ get_or lives i live
+      → AddsPlans s inside (take i lives) a b → AddsPlans s inside (live ∷ []) b c
+      → AddsPlans s inside (take (i + 1) lives) a c
+  adds_volume inside lives i live a b c below is one two =
+      subst (λ ls. AddsPlans s inside ls a c)
+      (sym (take_more lives i live below ∙ ap (λ l. take i lives ++ l ∷ []) (sym is)))
+      (adds_both inside (take i lives) (live ∷ []) a b c one two)
+
+  -- ---- chunks
+
+  -- a volume that is wanted and has a point of an extent is within a fence that may meet it
+  apart : (extent : Slab) (fence : Fence) (live : LiveVolume) (ks : List PlanKey) (x : Point)
+      → IsFenced fence live → may_meet s.least extent fence ≡ false → slab_has extent x ≡ true
+      → is_missed_at s ks x live ≡ false
+  apart extent fence live ks x h far here =
+      go (slab_has live.bounds x) (nat_le s.least live.priority) (not (is_own s live)) (not (is_among ks live))
+      refl refl where
+        go : (b c d e : Bool) → slab_has live.bounds x ≡ b → nat_le s.least live.priority ≡ c
+            → ((b && (c && d)) && e) ≡ false
+        go false c d e has high = refl
+        go true false d e has high = refl
+        go true true d e has high = absurd (true≢false (sym (both (overlap fence.bounds extent) _
+            (overlaps_round live.bounds fence.bounds extent h.within (overlapping live.bounds extent x has here))
+            (last_still live.priority fence.top s.least h.top high)) ∙ far))
+
+  pub adds_fenced : (extent : Slab) (fence : Fence) (lives : List LiveVolume) (a : NearPlans)
+      → may_meet s.least extent fence ≡ false → AllByRecursion (IsFenced fence) lives
+      → AddsPlans s (slab_has extent) lives a a
+  adds_fenced extent fence lives a far h =
+      adds_nothing (slab_has extent) lives a (λ e x here. all_apart x here lives h) where
+        all_apart : (x : Point) → slab_has extent x ≡ true → (ls : List LiveVolume)
+            → AllByRecursion (IsFenced fence) ls → list_any (is_missed_at s a.keys.items x) ls ≡ false
+        all_apart x here [] k = refl
+        all_apart x here (l ∷ ls) k =
+            λ i. apart extent fence l a.keys.items x k.0 far here i || all_apart x here ls k.1 i
+
+-- ---- what plans that are listed hold
+
+-- two levels that agree where they count
+agree : (n q : ℕ) (b c : Bool) → ((nat_le n q && c) && not b) ≡ false → (b ≡ true → c ≡ true)
+    → at_least n (level_where b q) ≡ at_least n (level_where c q)
+agree n q true true h f = refl
+agree n q true false h f = absurd (true≢false (sym (f refl)))
+agree n q false false h f = refl
+agree n q false true h f = sym (ap (λ t. cond t (Some q) None)
+    (sym (and_true (nat_le n q)) ∙ sym (and_true (nat_le n q && true)) ∙ h))
+
+none_both : (n q : ℕ) (b c : Bool) → at_least n (level_where (b && false) q)
+    ≡ at_least n (level_where (c && false) q)
+none_both n q true true = refl
+none_both n q true false = refl
+none_both n q false true = refl
+none_both n q false false = refl
+
+module _ (s : Wanted) where
+  abbrev is_mine : Filed → Bool
+  is_mine p = is_id s.id p.row.id && is_by s.operator p
+
+  -- a plan that is listed is no own one
+  not_own : (ks : List PlanKey) → AllByRecursion (IsAnothers s) ks → (p : Filed) → is_listed ks p ≡ true
+      → not (is_mine p) ≡ true
+  not_own [] h p there = absurd (true≢false (sym there))
+  not_own (k ∷ ks) h p there =
+      go (rows.is_own k.operator k.id p) refl there (λ r. not_own ks h.1 p r) where
+        go : (b : Bool) → rows.is_own k.operator k.id p ≡ b → (b || is_listed ks p) ≡ true
+            → (is_listed ks p ≡ true → not (is_mine p) ≡ true) → not (is_mine p) ≡ true
+        go true e r ih =
+            let parts = and_parts (is_by k.operator p) (has_id k.id p.row) e in
+            let operator = exact_bytes k.operator p.operator (is_equal (text_cmp k.operator p.operator) parts.0) in
+            let id = exact_bytes k.id p.row.id (is_equal (text_cmp k.id p.row.id) parts.1) in
+            ap not ((λ i. is_id s.id (sym id i) && is_eq (text_cmp s.operator (sym operator i))) ∙ h.0)
+        go false e r ih = ih r
+
+  module _ (ks : List PlanKey) (another : AllByRecursion (IsAnothers s) ks) (x : Point) where
+    among_is : (js : List PlanKey) (p : Filed) (v : Block) (l : LiveVolume) → IsLiveVolume p v l
+        → is_among js l ≡ is_listed js p
+    among_is [] p v l h = refl
+    among_is (k ∷ js) p v l h = λ i. same_key k.operator k.id p v l h i || among_is js p v l h i
+
+    -- a volume that has the point and isn't missed is of a plan that is listed, if it counts
+    found : (p : Filed) (v : Block) (l : LiveVolume) → IsLiveVolume p v l → block_has v x ≡ true
+        → is_missed_at s ks x l ≡ false
+        → ((nat_le s.least p.row.priority && not (is_mine p)) && not (is_listed ks p)) ≡ false
+    found p v l h has none =
+        (λ i. (sym (h.bounds.has x has) i && (nat_le s.least (sym h.priority i)
+        && not (is_id s.id (sym h.id i) && is_eq (text_cmp s.operator (sym h.operator i)))))
+        && not (sym (among_is ks p v l h) i))
+        ∙ none
+
+    area_agrees : (p : Filed) (vs : List Block) (lives : List LiveVolume) → AllZip (IsLiveVolume p) vs lives
+        → list_any (is_missed_at s ks x) lives ≡ false
+        → at_least s.least (level_where (is_listed ks p && area_has vs x) p.row.priority)
+        ≡ at_least s.least (level_where (not (is_mine p) && area_has vs x) p.row.priority)
+    area_agrees p [] [] h none = none_both s.least p.row.priority (is_listed ks p) (not (is_mine p))
+    area_agrees p [] (l ∷ lives) h none = absurd h
+    area_agrees p (v ∷ vs) [] h none = absurd h
+    area_agrees p (v ∷ vs) (l ∷ lives) h none =
+        let parts = either (is_missed_at s ks x l) (list_any (is_missed_at s ks x) lives) none in
+        go (block_has v x) refl parts.0 (area_agrees p vs lives h.1 parts.1) where
+          go : (b : Bool) → block_has v x ≡ b → is_missed_at s ks x l ≡ false
+              → at_least s.least (level_where (is_listed ks p && area_has vs x) p.row.priority)
+              ≡ at_least s.least (level_where (not (is_mine p) && area_has vs x) p.row.priority)
+              → at_least s.least (level_where (is_listed ks p && (b || area_has vs x)) p.row.priority)
+              ≡ at_least s.least (level_where (not (is_mine p) && (b || area_has vs x)) p.row.priority)
+          go true has apart ih =
+              ap (λ t. at_least s.least (level_where t p.row.priority)) (and_true (is_listed ks p))
+              ∙ agree s.least p.row.priority (is_listed ks p) (not (is_mine p)) (found p v l h.0 has apart)
+              (not_own ks another p)
+              ∙ ap (λ t. at_least s.least (level_where t p.row.priority)) (sym (and_true (not (is_mine p))))
+          go false has apart ih = ih
+
+    plan_agrees : (p : Filed) (lives : List LiveVolume) → AreVolumesOf p lives
+        → list_any (is_missed_at s ks x) lives ≡ false
+        → at_least s.least (listed_level ks p x)
+        ≡ at_least s.least (level_where (not (is_mine p) && row_holds p.row x) p.row.priority)
+    unfolding row_holds
+    plan_agrees p lives are none = go (is_live p.row.usage) are where
+      go : (b : Bool) → MatchBool b (AllZip (IsLiveVolume p) p.row.area lives) (lives ≡ [])
+          → at_least s.least (level_where (is_listed ks p && (b && area_has p.row.area x)) p.row.priority)
+          ≡ at_least s.least (level_where (not (is_mine p) && (b && area_has p.row.area x)) p.row.priority)
+      go true h = area_agrees p p.row.area lives h none
+      go false h = none_both s.least p.row.priority (is_listed ks p) (not (is_mine p))
+
+    module _ (level : Filed → Option ℕ) (tops : List Filed → Option ℕ)
+        (level_is : (p : Filed) → level p
+        ≡ level_where (not (is_mine p) && row_holds p.row x) p.row.priority)
+        (of_none : tops [] ≡ None) (of_more : (p : Filed) (ps : List Filed) → tops (p ∷ ps)
+        ≡ greater (level p) (tops ps)) where
+      plans_agree : (ps : List Filed) (lives : List LiveVolume) → AreVolumes ps lives
+          → list_any (is_missed_at s ks x) lives ≡ false
+          → at_least s.least (listed_top ks ps x) ≡ at_least s.least (tops ps)
+      plans_agree [] lives are none = ap (at_least s.least) (sym of_none)
+      plans_agree (p ∷ ps) lives (front, rest, are, mine, more) none =
+          let parts = either (list_any (is_missed_at s ks x) front) (list_any (is_missed_at s ks x) rest)
+          (sym (list_any-append (is_missed_at s ks x) front rest)
+          ∙ ap (list_any (is_missed_at s ks x)) (sym are) ∙ none) in
+          at_least_greater s.least (listed_level ks p x) (listed_top ks ps x)
+          ∙ (λ i. greater ((plan_agrees p front mine parts.0 ∙ ap (at_least s.least) (sym (level_is p))) i)
+          (plans_agree ps rest more parts.1 i))
+          ∙ sym (ap (at_least s.least) (of_more p ps) ∙ at_least_greater s.least (level p) (tops ps))
+
+      live_agree : (w : World) (lives : List LiveVolume) → AreLive w lives
+          → list_any (is_missed_at s ks x) lives ≡ false
+          → at_least s.least (listed_top ks w.plans x) ≡ at_least s.least (tops w.plans)
+      live_agree w lives h none = plans_agree w.plans h.listed h.volumes
+          (list_any-IsPermutation (is_missed_at s ks x) h.listed lives h.same ∙ none)
+
+level_of_rival : (o id : List ℕ) (x : Point) (p : Filed) → rival_level o id p x
+    ≡ level_where (not (has_id id p.row && is_by o p) && row_holds p.row x) p.row.priority
+unfolding rival_level
+level_of_rival o id x p = ap (λ b. level_where (not b && row_holds p.row x) p.row.priority)
+    (and_turned (is_by o p) (has_id id p.row))
+
+level_of_other : (o : List ℕ) (x : Point) (p : Filed) → other_level o p x
+    ≡ level_where (not (is_by o p) && row_holds p.row x) p.row.priority
+unfolding other_level
+level_of_other o x p = refl
+
+none_below : (n : ℕ) → nat_le 0 n ≡ true
+none_below n = grind (arith, nat_tests)
+
+any_level : (l : Option ℕ) → at_least 0 l ≡ l
+any_level None = refl
+any_level (Some n) = ap (λ b. cond b (Some n) None) (none_below n)
+
+-- the plans near an extent hold what rivals hold
+pub are_rival_plans : (o id : List ℕ) (least : ℕ) (extent : Slab) (ks : List PlanKey) (w : World)
+    (lives : List LiveVolume) → AreLive w lives
+    → AreNearPlans (record { operator = o; id = Some id; least = least }) (slabs_have (extent ∷ [])) lives ks
+    → AreRivalPlans w o id least extent ks
+are_rival_plans o id least extent ks w lives live near = λ x here.
+    live_agree (record { operator = o; id = Some id; least = least }) ks near.another x
+    (λ p. rival_level o id p x) (λ ps. rivals_top o id ps x) (level_of_rival o id x) (rivals_top-nil o id x)
+    (λ p ps. rivals_top-cons o id p ps x) w lives live
+    (near.whole x (or_false (slab_has extent x) ∙ here))
+    ∙ ap (at_least least) (held_by_rivals o id w x)
+
+-- and those of others near extents what others hold
+pub are_others_plans : (o : List ℕ) (extents : List Slab) (ks : List PlanKey) (w : World)
+    (lives : List LiveVolume) → AreLive w lives
+    → AreNearPlans (record { operator = o; id = None; least = 0 }) (slabs_have extents) lives ks
+    → AreOthersPlans w o extents ks
+are_others_plans o extents ks w lives live near = λ x here.
+    sym (any_level (listed_top ks w.plans x))
+    ∙ live_agree (record { operator = o; id = None; least = 0 }) ks near.another x
+    (λ p. other_level o p x) (λ ps. others_top o ps x) (level_of_other o x) (others_top-nil o x)
+    (λ p ps. others_top-cons o p ps x) w lives live (near.whole x here)
+    ∙ any_level (others_top o w.plans x) ∙ held_by_others o w x
+
+-- ---- chunk after chunk
+
+module _ (s : Wanted) where
+  at_place : (cs : List Chunk) (n : ℕ) (d : Chunk) → AreFenced cs → n < length cs
+      → AllByRecursion (IsFenced (get_or cs n d).fence) (get_or cs n d).volumes.items
+  at_place [] n d h k = absurd (omega (arith, k))
+  at_place (x ∷ cs) zero d h k = h.0
+  at_place (x ∷ cs) (suc n) d h k = at_place cs n d h.1 (omega (arith, k))
+
+  pub adds_chunk : (extent : Slab) (cs : List Chunk) (i : ℕ) (chunk : Chunk) (a b c : NearPlans)
+      → i < length cs → chunk ≡ get_or cs i chunk
+      → (AreFenced cs → AddsPlans s (slab_has extent) (volumes_in (take i cs)) a b)
+      → (AllByRecursion (IsFenced chunk.fence) chunk.volumes.items
+      → AddsPlans s (slab_has extent) chunk.volumes.items b c)
+      → AreFenced cs → AddsPlans s (slab_has extent) (volumes_in (take (i + 1) cs)) a c
+  adds_chunk extent cs i chunk a b c below is one two fenced =
+      subst (λ ls. AddsPlans s (slab_has extent) ls a c)
+      (gathered_more cs i chunk (volumes_in (take i cs)) (volumes_in (take i cs) ++ chunk.volumes.items)
+      below is refl refl)
+      (adds_both s (slab_has extent) (volumes_in (take i cs)) chunk.volumes.items a b c (one fenced)
+      (two (subst (λ k. AllByRecursion (IsFenced k.fence) k.volumes.items) (sym is)
+      (at_place cs i chunk fenced below))))
+
+-- ---- all that were near
+
+-- what was added to none, if all are listed
+pub near_plans : (s : Wanted) (inside : Point → Bool) (lives : List LiveVolume) (start near : NearPlans)
+    (ks : List PlanKey) → start.keys.items ≡ [] → AddsPlans s inside lives start near
+    → ks ≡ near.keys.items → near.is_whole ≡ true → AreNearPlans s inside lives ks
+near_plans s inside lives start near ks none added same whole = record {
+  whole = λ x here. ap (λ js. list_any (is_missed_at s js x) lives) same ∙ added.whole whole x here;
+  another = subst (AllByRecursion (IsAnothers s)) (sym (same ∙ added.is ∙ ap (λ js. js ++ added.more) none))
+      added.another;
+}
+
+pub some_weaker : {V : Type 0} {P Q : V → Type 0} (r : Option V) → ((v : V) → P v → Q v) → IfSome r P
+    → IfSome r Q
+some_weaker (Some v) f h = f v h
+some_weaker None f h = tt
+
+pub found_weaker : {V E : Type 0} {P Q : V → Type 0} (r : Result (Option V) E)
+    → ((v : V) → P v → Q v) → IfOk r (λ found. IfSome found P) → IfOk r (λ found. IfSome found Q)
+found_weaker (Ok found) f h = some_weaker found f h
+found_weaker (Err e) f h = tt

@@ -1,0 +1,13 @@
+use Rattle.volume4d.specs.Slab.{slab_has}
+use Rattle.desk_live.proofs.NearLemmas.{adds_chunk, adds_none}
+use Rattle.desk_live.proofs.chunk.add_near_in.Goals as goal
+
+pub loop-chunk-init : goal.loop-chunk-init
+loop-chunk-init c = λ fenced.
+    adds_none c.args.wanted.now (slab_has c.args.extent.now) c.args.near.now
+
+pub loop-chunk-preserved : goal.loop-chunk-preserved
+loop-chunk-preserved c =
+    adds_chunk c.args.wanted.now c.args.extent.now c.args.chunks.now c.loop-chunk.chunk-index
+    c.chunk-item.result c.args.near.now c.loop-chunk.near c.add_near.new.near c.loop-chunk-test.true
+    c.chunk-item.is c.loop-chunk.invariant c.in_ok-add_near.ensures

@@ -1,0 +1,20 @@
+use Rattle.std.proofs.Common.{subst}
+use Rattle.std.proofs.lemmas.Result.{on_ok_weaker}
+use Rattle.volume4d.specs.Slab.{slab_has}
+use Rattle.desk_live.specs.Live.{AreFenced, volumes_in}
+use Rattle.desk_live.specs.Near.{AddsPlans}
+use Rattle.desk_live.proofs.NearLemmas.{adds_both}
+use Rattle.desk_live.proofs.live.LiveVolumes.add_near.Goals as goal
+
+pub returns : goal.returns
+returns c =
+    let s = c.args.wanted.now in
+    let inside = slab_has c.args.extent.now in
+    let kept = c.args.self.now in
+    let mid = c.add_near_in.new.near in
+    on_ok_weaker c.add_each.result (λ added fenced.
+    adds_both s inside (volumes_in kept.chunks.items) kept.young.items c.args.near.now mid c.add_each.new.near
+    (subst (λ cs. AreFenced cs → AddsPlans s inside (volumes_in cs) c.args.near.now mid) c.deref.ensures.value
+    c.in_ok-add_near_in.ensures fenced)
+    (subst (λ ls. AddsPlans s inside ls mid c.add_each.new.near) c.deref-2.ensures.value added))
+    c.add_each.ensures

@@ -1,0 +1,105 @@
+-- The plans that live volumes near extents belong to.
+use Rattle.std.specs.Prelude.{◌≡◌, ℕ, Bool, true, false, not, ◌&&◌, nat_le, List, [], ◌∷◌, ◌++◌, Option, Some, None}
+use Rattle.std.specs.List.{AllByRecursion, list_any}
+use Rattle.std.specs.Ordering.{is_eq}
+use Rattle.volume4d.specs.declared.slab.Slab.{Slab}
+use Rattle.volume4d.specs.Level.{greater, level_where}
+use Rattle.volume4d.specs.Point.{Point}
+use Rattle.volume4d.specs.Slab.{slab_has, slabs_have}
+use Rattle.desk_rules.specs.Conflict.{at_least}
+use Rattle.desk_rules.specs.Plan.{row_holds}
+use Rattle.desk_store.specs.World.{Filed, World, held, held_at, plans_of, text_cmp}
+use Rattle.desk_store.specs.Rows as rows
+use Rattle.desk_live.specs.declared.volume.LiveVolume.{LiveVolume}
+use Rattle.desk_live.specs.declared.near.NearPlans.{NearPlans}
+use Rattle.desk_live.specs.declared.near.PlanKey.{PlanKey}
+use Rattle.desk_live.specs.declared.near.Wanted.{Wanted}
+use Rattle.desk_live.specs.Live.{is_of, overlap}
+
+-- ---- what plans that are listed hold
+
+-- a plan is one of those
+abbrev pub is_listed : List PlanKey → Filed → Bool
+is_listed keys p = list_any (λ k. rows.is_own k.operator k.id p) keys
+
+-- the priority that a plan holds at a point, if it is listed, and the greatest of some plans
+abbrev pub listed_level : List PlanKey → Filed → Point → Option ℕ
+listed_level keys p x = level_where (is_listed keys p && row_holds p.row x) p.row.priority
+
+abbrev pub listed_top : List PlanKey → List Filed → Point → Option ℕ
+listed_top keys [] x = None
+listed_top keys (p ∷ ps) x = greater (listed_level keys p x) (listed_top keys ps x)
+
+-- at each point of an extent they hold what plans other than the operator's own of the id hold, where that
+-- is at least the least
+abbrev pub AreRivalPlans : World → List ℕ → List ℕ → ℕ → Slab → List PlanKey → Type 0
+AreRivalPlans w operator id least extent keys = (x : Point) → slab_has extent x ≡ true
+    → at_least least (listed_top keys w.plans x)
+    ≡ at_least least (held_at (plans_of operator w) (held w operator) id x)
+
+-- at each point of some extents they hold what other operators hold
+abbrev pub AreOthersPlans : World → List ℕ → List Slab → List PlanKey → Type 0
+AreOthersPlans w operator extents keys =
+    (x : Point) → slabs_have extents x ≡ true → listed_top keys w.plans x ≡ held w operator x
+
+-- ---- how they are found
+
+abbrev pub key_of : LiveVolume → PlanKey
+key_of live = record { operator = live.operator; id = live.id }
+
+-- it is that of the id, or of any
+abbrev pub is_id : Option (List ℕ) → List ℕ → Bool
+is_id None id = true
+is_id (Some own) id = is_eq (text_cmp own id)
+
+-- it is of the operator's plan of the id, or of any of its plans
+abbrev pub is_own : Wanted → LiveVolume → Bool
+is_own wanted live = is_id wanted.id live.id && is_eq (text_cmp wanted.operator live.operator)
+
+-- it is another's, of a priority at least
+abbrev pub is_wanted : Wanted → LiveVolume → Bool
+is_wanted wanted live = nat_le wanted.least live.priority && not (is_own wanted live)
+
+-- and its bounds meet an extent
+abbrev pub is_near_to : Wanted → Slab → LiveVolume → Bool
+is_near_to wanted extent live = overlap live.bounds extent && is_wanted wanted live
+
+-- its plan is listed
+abbrev pub is_among : List PlanKey → LiveVolume → Bool
+is_among keys live = list_any (λ k. is_of k.operator k.id live) keys
+
+-- it is wanted, its bounds have a point, and its plan isn't listed
+abbrev pub is_missed_at : Wanted → List PlanKey → Point → LiveVolume → Bool
+is_missed_at wanted keys x live =
+    (slab_has live.bounds x && is_wanted wanted live) && not (is_among keys live)
+
+-- a plan is none of the operator's own
+abbrev pub IsAnothers : Wanted → PlanKey → Type 0
+IsAnothers wanted k = (is_id wanted.id k.id && is_eq (text_cmp wanted.operator k.operator)) ≡ false
+
+-- plans are added; if all are listed, no volume is missed at the points of an extent
+pub record AddsPlans (wanted : Wanted) (inside : Point → Bool) (lives : List LiveVolume)
+    (old new : NearPlans) : Type 0
+  where
+    pub more : List PlanKey
+    pub is : new.keys.items ≡ old.keys.items ++ more
+    pub still : new.is_whole ≡ true → old.is_whole ≡ true
+    pub whole : new.is_whole ≡ true → (x : Point) → inside x ≡ true
+        → list_any (is_missed_at wanted new.keys.items x) lives ≡ false
+    pub another : AllByRecursion (IsAnothers wanted) more
+
+-- a volume's plan is added, or not all are listed
+pub record TakesPlan (live : LiveVolume) (old new : NearPlans) : Type 0 where
+  pub more : List PlanKey
+  pub is : new.keys.items ≡ old.keys.items ++ more
+  pub still : new.is_whole ≡ true → old.is_whole ≡ true
+  pub listed : new.is_whole ≡ true → is_among new.keys.items live ≡ true
+  pub mine : AllByRecursion (λ k. k ≡ key_of live) more
+
+-- all volumes that are wanted and have a point inside are of plans that are listed, none of which is an own
+-- one
+pub record AreNearPlans (wanted : Wanted) (inside : Point → Bool) (lives : List LiveVolume)
+    (keys : List PlanKey) : Type 0
+  where
+    pub whole : (x : Point) → inside x ≡ true → list_any (is_missed_at wanted keys x) lives ≡ false
+    pub another : AllByRecursion (IsAnothers wanted) keys
