@@ -11,6 +11,6 @@ returns-in_err-write_plans-clause-cause g c held =
     let mid = c.remake_tables.new.tx.conn.now in
     let fits : HasCleanDisk (state g.S.Store mid) → AreWritable plans (state g.S.Store mid).now =
     writable_anew g.S.Store plans c.args.connection.now c.transaction-tx.result.conn.now mid
-    c.covers_are_few.ensures c.transaction-tx.ensures.begun held c.in_ok-remake_tables.ensures.done
-    c.remake_tables.ensures.remembered in
+    c.covers_are_few.ensures c.transaction-tx.ensures.begun held c.in_ok-remake_tables.ensures.ran.done
+    c.remake_tables.ensures.ran.remembered in
     search (rules, fits)
