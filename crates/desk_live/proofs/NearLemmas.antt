@@ -96,12 +96,6 @@ module _ (s : Wanted) where
     another = tt;
   }
 
-  -- not all were listed
-  pub adds_lost : (inside : Point → Bool) (live : LiveVolume) (a : NearPlans) → a.is_whole ≡ false
-      → AddsPlans s inside (live ∷ []) a a
-  adds_lost inside live a lost =
-      adds_nothing inside (live ∷ []) a (λ e x h. absurd (true≢false (sym e ∙ lost)))
-
   -- the volume isn't near
   pub adds_far : (extent : Slab) (live : LiveVolume) (a : NearPlans) → is_near_to s extent live ≡ false
       → AddsPlans s (slab_has extent) (live ∷ []) a a
@@ -228,14 +222,15 @@ module _ (s : Wanted) where
       → IsFenced fence live → may_meet s.least extent fence ≡ false → slab_has extent x ≡ true
       → is_missed_at s ks x live ≡ false
   apart extent fence live ks x h far here =
-      go (slab_has live.bounds x) (nat_le s.least live.priority) (not (is_own s live)) (not (is_among ks live))
-      refl refl where
+      go (slab_has live.bounds x) (nat_le s.least live.priority) (not (is_own s live))
+      (not (is_among ks live)) refl refl where
         go : (b c d e : Bool) → slab_has live.bounds x ≡ b → nat_le s.least live.priority ≡ c
             → ((b && (c && d)) && e) ≡ false
         go false c d e has high = refl
         go true false d e has high = refl
         go true true d e has high = absurd (true≢false (sym (both (overlap fence.bounds extent) _
-            (overlaps_round live.bounds fence.bounds extent h.within (overlapping live.bounds extent x has here))
+            (overlaps_round live.bounds fence.bounds extent h.within
+            (overlapping live.bounds extent x has here))
             (last_still live.priority fence.top s.least h.top high)) ∙ far))
 
   pub adds_fenced : (extent : Slab) (fence : Fence) (lives : List LiveVolume) (a : NearPlans)
@@ -281,7 +276,8 @@ module _ (s : Wanted) where
             → (is_listed ks p ≡ true → not (is_mine p) ≡ true) → not (is_mine p) ≡ true
         go true e r ih =
             let parts = and_parts (is_by k.operator p) (has_id k.id p.row) e in
-            let operator = exact_bytes k.operator p.operator (is_equal (text_cmp k.operator p.operator) parts.0) in
+            let operator = exact_bytes k.operator p.operator
+            (is_equal (text_cmp k.operator p.operator) parts.0) in
             let id = exact_bytes k.id p.row.id (is_equal (text_cmp k.id p.row.id) parts.1) in
             ap not ((λ i. is_id s.id (sym id i) && is_eq (text_cmp s.operator (sym operator i))) ∙ h.0)
         go false e r ih = ih r

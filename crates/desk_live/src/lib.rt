@@ -15,6 +15,6 @@ mod volume;
 
 pub use live::{Gathering, LiveVolumes};
 pub use near::PlanKey;
-pub use regions::push_clipped;
+pub use regions::{push_clipped, whole_of};
 pub use roll::Roll;
 pub use volume::LiveVolume;

@@ -15,7 +15,7 @@ use std::alloc::{AllocError, Global};
 use volume4d::{Held, Slab};
 
 /// A slab round some extents.
-pub(crate) fn whole_of(first: &Slab, others: &[Slab]) -> Slab
+pub fn whole_of(first: &Slab, others: &[Slab]) -> Slab
     ensures { HasAll (slabs_have (first.now ∷ others.now)) result }
 {
     let mut whole = *first;

@@ -5,7 +5,6 @@ use Rattle.sqlite_trees.specs.declared.store.Store.{Ghosts}
 use Rattle.sqlite_value.specs.Order.{Row}
 use Rattle.sqlite.specs.State.{HasCleanDisk}
 use Rattle.sqlite.specs.Held.{Held, state}
-use Rattle.s2_cover.specs.declared.spans.Span.{Span}
 use Rattle.volume4d.specs.declared.slab.Held.{Held as One}
 use Rattle.desk_sql.specs.Frames.{OnlyReads}
 use Rattle.desk_sql.specs.Rows.{tables_of}
@@ -17,8 +16,8 @@ use Rattle.desk_tables.proofs.FrameLemmas.{reads_then}
 
 module _ {S : Type 0} (g : Ghosts S) where
   -- some questions are answered, and nothing was changed
-  pub record IsAsking (old new : Held S) (w : World) (asked : Span → Row → Bool) (questions : List Span)
-      (helds : List One) : Type 0
+  pub record IsAsking {Q : Type 0} (old new : Held S) (w : World) (asked : Q → Row → Bool)
+      (questions : List Q) (helds : List One) : Type 0
     where
       pub stands : Stands g new w
       pub reads : OnlyReads g old new
@@ -26,8 +25,8 @@ module _ {S : Type 0} (g : Ghosts S) where
       pub taken : HasCleanDisk (state g new)
           → HaveTakenAll asked questions (tables_of (state g old).now.trees).spans helds
 
-  module _ (w : World) (asked : Span → Row → Bool) where
-    module _ (old mid new : Held S) (all : List Span) (i : ℕ) (d : Span) (helds more : List One)
+  module _ {Q : Type 0} (w : World) (asked : Q → Row → Bool) where
+    module _ (old mid new : Held S) (all : List Q) (i : ℕ) (d : Q) (helds more : List One)
         (before : IsAsking old mid w asked (take i all) helds)
         (reads : OnlyReads g mid new) where
       was_clean : HasCleanDisk (state g new) → HasCleanDisk (state g mid)

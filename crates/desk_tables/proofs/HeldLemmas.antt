@@ -120,7 +120,7 @@ top_either s t p f (x ∷ xs) =
     ∙ sym (top_by-cons (λ a. (s a || t a) && p a) f x xs)
 
 -- of what questions find, each its own
-top_asked : {Q A B : Type 0} (want : Q → A → Bool) (cut : A → B) (p : B → Bool) (f : B → ℕ) (xs : List A)
+pub top_asked : {Q A B : Type 0} (want : Q → A → Bool) (cut : A → B) (p : B → Bool) (f : B → ℕ) (xs : List A)
     (questions : List Q) → top_by p f (flat_map (λ q. map cut (filter (want q) xs)) questions)
     ≡ top_by (λ a. list_any (λ q. want q a) questions && p (cut a)) (λ a. f (cut a)) xs
 top_asked want cut p f xs [] = top_none (λ a. p (cut a)) (λ a. f (cut a)) xs
@@ -182,14 +182,14 @@ int_of (Blob b) = pos 0
 abbrev nat_of : Value → ℕ
 nat_of v = unsigned_abs (int_of v)
 
-abbrev row_has : Row → Point → Bool
+abbrev pub row_has : Row → Point → Bool
 row_has r x =
     (is_leaf x.leaf && (nat_le (nat_of (column r 0)) (position_of x.leaf)
     && nat_le (position_of x.leaf) (nat_of (column r 1))))
     && (int_le (int_of (column r 2)) x.altitude && int_lt x.altitude (int_of (column r 3)))
     && (int_le (int_of (column r 4)) x.second && int_lt x.second (int_of (column r 5)))
 
-abbrev row_priority : Row → ℕ
+abbrev pub row_priority : Row → ℕ
 row_priority r = nat_of (column r 6)
 
 row_holds_slab : (r : Row) (h : Held) (x : Point) → IsHeldIn r h → row_has r x ≡ slab_has h.slab x
@@ -200,7 +200,7 @@ row_holds_slab r h x is = λ i.
     && (int_le (int_of (is.slab.start i)) x.second && int_lt x.second (int_of (is.slab.end i)))
 
 -- the slabs that were taken hold what the rows hold
-taken_top : (rows : List Row) (helds : List Held) (x : Point) → HasTakenHelds helds rows
+pub taken_top : (rows : List Row) (helds : List Held) (x : Point) → HasTakenHelds helds rows
     → top_held helds x
     ≡ top_by (λ r. row_has r x) row_priority rows
 unfolding top_held
@@ -280,7 +280,7 @@ pub record IsIn (s : Slab) (x : Point) : Type 0 where
   pub start : int_le s.start x.second ≡ true
   pub end : int_lt x.second s.end ≡ true
 
-is_in : (s : Slab) (x : Point) → slab_has s x ≡ true → IsIn s x
+pub is_in : (s : Slab) (x : Point) → slab_has s x ≡ true → IsIn s x
 is_in s x h =
     let parts = and_parts _ (int_le s.start x.second && int_lt x.second s.end) h in
     let ground = and_parts (slab_has_leaf s x.leaf) _ parts.0 in
@@ -436,7 +436,7 @@ module _ (another : Row → Bool) (stays : Filed → Bool)
       (level_is : (p : Filed) → level p ≡ level_where (stays p && row_holds p.row x) p.row.priority)
       (of_none : tops [] ≡ None) (of_more : (p : Filed) (ps : List Filed) → tops (p ∷ ps)
       ≡ greater (level p) (tops ps)) where
-    on_plans : (ps : List Filed) (rows : List Row) → ArePlans ps → AreSpanRows ps rows → top rows
+    pub on_plans : (ps : List Filed) (rows : List Row) → ArePlans ps → AreSpanRows ps rows → top rows
         ≡ at_least least (tops ps)
     on_plans [] rows h are = ap top are ∙ sym (ap (at_least least) of_none)
     on_plans (p ∷ ps) rows h (front, rest, are, mine, more) =
@@ -511,7 +511,7 @@ level_of_other o x p = refl
 none_below : (n : ℕ) → nat_le 0 n ≡ true
 none_below n = grind (arith, nat_tests)
 
-any_level : (l : Option ℕ) → at_least 0 l ≡ l
+pub any_level : (l : Option ℕ) → at_least 0 l ≡ l
 any_level None = refl
 any_level (Some n) = ap (λ b. cond b (Some n) None) (none_below n)
 
@@ -537,11 +537,11 @@ taken_both [] more (r ∷ rows) others h k = absurd h
 taken_both (g ∷ helds) more [] others h k = absurd h
 taken_both (g ∷ helds) more (r ∷ rows) others h k = (h.0, taken_both helds more rows others h.1 k)
 
-module _ (asked : Span → Row → Bool) (spans : List Row) where
-  abbrev found : Span → List Row
+module _ {Q : Type 0} (asked : Q → Row → Bool) (spans : List Row) where
+  abbrev found : Q → List Row
   found question = map held_columns (filter (asked question) spans)
 
-  pub all_taken : (questions : List Span) (question : Span) (helds more : List Held)
+  pub all_taken : (questions : List Q) (question : Q) (helds more : List Held)
       → HaveTakenAll asked questions spans helds → HaveTaken (asked question) spans more
       → HaveTakenAll asked (questions ++ question ∷ []) spans (helds ++ more)
   all_taken questions question helds more (rows, same, taken) (others, also, last) = (

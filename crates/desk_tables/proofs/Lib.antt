@@ -31,6 +31,7 @@ pub mod CoverLemmas
 pub mod LongSpanLemmas
 pub mod SpanBoundLemmas
 pub mod AskingLemmas
+pub mod KeyLemmas
 pub mod OtherLemmas
 pub mod LeavingLemmas
 pub mod CollectorLemmas

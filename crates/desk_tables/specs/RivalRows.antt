@@ -8,8 +8,10 @@ use Rattle.s2_cover.specs.declared.spans.Span.{Span}
 use Rattle.volume4d.specs.declared.slab.Slab.{Slab}
 use Rattle.volume4d.specs.declared.slab.Held.{Held}
 use Rattle.desk_sql.specs.Rows.{held_columns, is_at_least, is_reached, is_wanted}
-use Rattle.desk_sql.specs.Others.{is_others_from}
+use Rattle.desk_sql.specs.Others.{is_others_from, is_plans}
 use Rattle.desk_sql.specs.declared.reading.rivals.SpanQuery.{SpanQuery}
+use Rattle.desk_live.specs.declared.near.PlanKey.{PlanKey}
+use Rattle.desk_tables.specs.Tables.{id_text}
 
 -- the columns of `span` from `first` to `stop` are a slab's
 pub record IsSlabIn (row : Row) (slab : Slab) : Type 0 where
@@ -67,6 +69,10 @@ abbrev pub is_asked_of_others : List ℕ → Slab → Span → Row → Bool
 is_asked_of_others operator extent question =
     is_others_from operator (reach_from question extent 0) (pos question.first)
 
+-- a question of the spans of a plan is for a row of `span`
+abbrev pub is_asked_of_plan : ℕ → Slab → PlanKey → Row → Bool
+is_asked_of_plan least extent key = is_plans key.operator (id_text key.id) (reach_of extent least)
+
 -- so is one of the spans that pass a test
 abbrev pub is_asked_if : (Row → Bool) → ℕ → Slab → Span → Row → Bool
 is_asked_if passes least extent question row =
@@ -79,7 +85,7 @@ HaveTaken wanted spans helds =
     (rows : List Row) × IsPermutation (map held_columns (filter wanted spans)) rows × HasTakenHelds helds rows
 
 -- and for each that another question is for
-abbrev pub HaveTakenAll : (Span → Row → Bool) → List Span → List Row → List Held → Type 0
+abbrev pub HaveTakenAll : {Q : Type 0} → (Q → Row → Bool) → List Q → List Row → List Held → Type 0
 HaveTakenAll asked questions spans helds =
     (rows : List Row)
     × IsPermutation (flat_map (λ question. map held_columns (filter (asked question) spans)) questions) rows

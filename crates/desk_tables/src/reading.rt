@@ -2,6 +2,7 @@
 
 pub(crate) mod listing;
 pub(crate) mod others;
+pub(crate) mod plans;
 pub(crate) mod readers;
 pub(crate) mod rivals;
 pub(crate) mod values;

@@ -19,6 +19,7 @@ ghost use Rattle.desk_sql.specs.Rows.{tables_of};
 
 use crate::kept::GhostWorld;
 use crate::known::Known;
+use crate::reading::plans::held_near;
 use crate::reading::readers::held_by;
 use crate::reading::rivals::{Rivals, reach_from};
 use crate::span_bounds::SpanBounds;
@@ -33,7 +34,8 @@ use std::alloc::Global;
 use volume4d::{Held, Slab};
 
 /// The slabs that live plans of other operators hold, where they meet extents. No row is read but near
-/// volumes of theirs whose bounds meet an extent, and none twice for extents that overlap along the curve.
+/// volumes of theirs whose bounds meet an extent, and none twice for extents that overlap along the curve; if
+/// these are of few plans, only the rows of these.
 ///
 /// # Errors
 ///
@@ -55,6 +57,9 @@ pub(crate) fn held_by_others<S: Alter>(
     ensures stands { Stands S.Store connection.new kept.now.world }
     ensures reads { OnlyReads S.Store connection.old connection.new }
 {
+    if let Some(keys) = known.live.others_plans(alloc, operator, extents)? {
+        return held_near(alloc, connection, kept, &keys, extents);
+    }
     let regions = known.live.regions(alloc, operator, extents)?;
     held_in(
         alloc,

@@ -25,6 +25,7 @@ ghost use Rattle.desk_sql.specs.Rows.{tables_of};
 use crate::kept::GhostWorld;
 use crate::known::Known;
 use crate::reading::listing::PlanCollector;
+use crate::reading::plans::held_by_plans;
 use crate::reading::rivals::{Rivals, reach_from};
 use crate::reading::values::{area_in, fault_of, plan_in};
 use crate::span_bounds::SpanBounds;
@@ -247,7 +248,8 @@ fn asked_all<S: Alter>(
 }
 
 /// The slabs that live plans but the operator's own of the id hold, of those of a priority at least,
-/// where they meet an extent. No row is read if the bounds of none of their volumes meet it.
+/// where they meet an extent. No row is read if the bounds of none of their volumes meet it, and if those of
+/// few plans do, only the rows of these.
 ///
 /// # Errors
 ///
@@ -274,6 +276,9 @@ pub(crate) fn rivals<S: Alter>(
 {
     if !known.live.may_hold(operator, id, least, extent) {
         return Ok(Vec::new(alloc));
+    }
+    if let Some(keys) = known.live.rival_plans(alloc, operator, id, least, extent)? {
+        return held_by_plans(alloc, connection, kept, &keys, least, extent);
     }
     rivals_in_tables(
         alloc,

@@ -17,4 +17,5 @@ returns-then-has c =
 pub returns : goal.returns
 returns c =
     on_ok_weaker c.take.result (adds_taken c.args.wanted.now (slab_has c.args.extent.now) c.args.extent.now
-    c.args.live.now c.args.self.now c.take.new.self (sym c.is_near_to.ensures ∙ c.if-not-is_near_to.false)) c.take.ensures
+    c.args.live.now c.args.self.now c.take.new.self (sym c.is_near_to.ensures ∙ c.if-not-is_near_to.false))
+    c.take.ensures

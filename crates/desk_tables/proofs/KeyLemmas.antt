@@ -1,0 +1,138 @@
+-- What a few plans hold, whose spans are looked up by their keys.
+use Rattle.std.proofs.Common.{◌≡◌, ◌<◌, ◌+◌, ℕ, Bool, false, true, ◌&&◌, ◌||◌, List, [], ◌∷◌, ◌++◌, length, take, get_or, map, filter, Option, None, Some, Result, Ok, Err, IfOk, IsTrue, refl, sym, ap, subst, ◌∙◌, arith, IsPermutation}
+use Rattle.std.specs.List.{AllByRecursion, flat_map, list_any}
+use Rattle.std.proofs.Math.Bool.{and-or_distrib_left, and-false}
+use Rattle.std.proofs.lemmas.List.{take_more}
+use Rattle.std.proofs.lemmas.List.Sorted.{IsPermutation-refl}
+use Rattle.sqlite_trees.specs.declared.store.Store.{Ghosts}
+use Rattle.sqlite_value.specs.declared.value.Value.TheVariants.{Text}
+use Rattle.sqlite_value.specs.Order.{Row}
+use Rattle.sqlite.specs.State.{HasCleanDisk}
+use Rattle.sqlite.specs.Held.{Held, state}
+use Rattle.volume4d.specs.declared.slab.Slab.{Slab}
+use Rattle.volume4d.specs.declared.slab.Held.{Held as One}
+use Rattle.volume4d.specs.Level.{greater, top_by}
+use Rattle.volume4d.specs.laws.Level.{top_held-nil}
+use Rattle.volume4d.specs.Point.{Point}
+use Rattle.volume4d.specs.Slab.{slab_has, top_held}
+use Rattle.desk_rules.specs.Conflict.{at_least}
+use Rattle.desk_sql.specs.Frames.{OnlyReads}
+use Rattle.desk_sql.specs.Rows as sql
+use Rattle.desk_sql.specs.Rows.{Tables, held_columns, tables_of}
+use Rattle.desk_store.specs.World.{Filed, World}
+use Rattle.desk_store.specs.Content.{IsContent, IsId, IsPlan}
+use Rattle.desk_store.specs.Rivals.{HaveLevel}
+use Rattle.desk_store.specs.laws.Order.{all_append}
+use Rattle.desk_live.specs.declared.near.PlanKey.{PlanKey}
+use Rattle.desk_live.specs.Near.{is_listed, listed_level, listed_top}
+use Rattle.desk_tables.specs.RivalRows.{HasTakenHelds, HaveTaken, HaveTakenAll, is_asked_of_plan, reach_of}
+use Rattle.desk_tables.specs.Store.{Stands}
+use Rattle.desk_tables.specs.Tables.{AreTables, id_text}
+use Rattle.desk_tables.proofs.AskingLemmas.{IsAsking, asking_on}
+use Rattle.desk_tables.proofs.FilterLemmas.{own_row}
+use Rattle.desk_tables.proofs.FrameLemmas.{reads_itself}
+use Rattle.desk_tables.proofs.HeldLemmas.{is_in, on_plans, row_has, row_priority, taken_top, top_asked, top_permuted}
+use Rattle.desk_tables.proofs.StoreLemmas.{no_row}
+
+abbrev pub AreIds : List PlanKey → Type 0
+AreIds keys = AllByRecursion (λ k. IsId k.id) keys
+
+-- a row is of one of the plans
+abbrev of_one : List PlanKey → Row → Bool
+of_one keys r = list_any (λ k. sql.is_of k.operator (id_text k.id) r) keys
+
+is_one : (keys : List PlanKey) → AreIds keys → (p : Filed) (r : Row) → IsPlan p.row
+    → of_one keys (Text p.operator ∷ Text (id_text p.row.id) ∷ r) ≡ is_listed keys p
+is_one [] hi p r hp = refl
+is_one (k ∷ keys) hi p r hp = λ i. own_row k.operator k.id p r hi.0 hp.id i || is_one keys hi.1 p r hp i
+
+none_any : (l : Bool) → false ≡ (l && false)
+none_any l = sym (and-false l)
+
+each_reached : (l : Bool) (has : PlanKey → Bool) (keys : List PlanKey)
+    → list_any (λ k. l && has k) keys ≡ (l && list_any has keys)
+each_reached l has [] = none_any l
+each_reached l has (k ∷ keys) = ap (λ b. (l && has k) || b) (each_reached l has keys)
+    ∙ sym (and-or_distrib_left l (has k) (list_any has keys))
+
+module _ (keys : List PlanKey) (least : ℕ) (e : Slab) where
+  -- the slabs of their rows hold at a point what the plans hold there
+  at_point : (tables : Tables) (w : World) (helds : List One) → AreIds keys → IsContent w
+      → AreTables tables w → HaveTakenAll (is_asked_of_plan least e) keys tables.spans helds → (x : Point)
+      → slab_has e x ≡ true → top_held helds x ≡ at_least least (listed_top keys w.plans x)
+  at_point tables w helds hi h t (rows, alike, taken) x inside =
+      let (all, are, moved) = t.spans in
+      taken_top rows helds x taken
+      ∙ sym (top_permuted (λ r. row_has r x) row_priority (flat_map (λ k.
+      map held_columns (filter (is_asked_of_plan least e k) tables.spans)) keys) rows alike)
+      ∙ top_asked (is_asked_of_plan least e) held_columns (λ r. row_has r x) row_priority tables.spans keys
+      ∙ (λ i. top_by (λ r. each_reached (sql.is_reached (reach_of e least) r)
+      (λ k. sql.is_of k.operator (id_text k.id) r) keys i && row_has (held_columns r) x)
+      (λ r. row_priority (held_columns r)) tables.spans)
+      ∙ sym (top_permuted (λ r. (sql.is_reached (reach_of e least) r && of_one keys r)
+      && row_has (held_columns r) x) (λ r. row_priority (held_columns r)) all tables.spans moved)
+      ∙ on_plans (of_one keys) (is_listed keys) (is_one keys hi) least e x (is_in e x inside)
+      (λ p. listed_level keys p x) (λ ps. listed_top keys ps x) (λ p. refl) refl (λ p ps. refl)
+      w.plans all h.rows are
+
+-- no plan holds nothing
+none_listed : (ps : List Filed) (x : Point) → listed_top [] ps x ≡ None
+none_listed [] x = refl
+none_listed (p ∷ ps) x = none_listed ps x
+
+none_taken : (helds : List One) → HasTakenHelds helds [] → helds ≡ []
+none_taken [] h = refl
+none_taken (one ∷ helds) h = absurd h
+
+module _ {S : Type 0} (g : Ghosts S) (least : ℕ) (e : Slab) where
+  -- some plans are read, and nothing was changed
+  pub record IsReadingPlans (old new : Held S) (w : World) (keys : List PlanKey) (helds : List One) : Type 0
+    where
+      pub asking : IsAsking g old new w (is_asked_of_plan least e) keys helds
+      pub ids : AreIds keys
+
+  pub plans_begin : (w : World) (h : Held S) (helds : List One) → Stands g h w → helds ≡ []
+      → IsReadingPlans h h w [] helds
+  plans_begin w h helds stands none = record {
+    asking = record {
+      stands = stands;
+      reads = reads_itself g h stands.settled;
+      opened = λ clean some. absurd (omega (arith, some));
+      taken = λ clean. (
+        [],
+        IsPermutation-refl [],
+        subst (λ hs. HasTakenHelds hs []) (sym none) tt,
+      );
+    };
+    ids = tt;
+  }
+
+  pub plans_on : (w : World) (old mid new : Held S) (all : List PlanKey) (i : ℕ) (key : PlanKey)
+      (helds more next : List One) → IsReadingPlans old mid w (take i all) helds → OnlyReads g mid new
+      → i < length all → key ≡ get_or all i key → Stands g new w → IsId key.id
+      → (HasCleanDisk (state g new) → IsTrue (state g mid).is_open)
+      → (HasCleanDisk (state g new)
+      → HaveTaken (is_asked_of_plan least e key) (tables_of (state g mid).now.trees).spans more)
+      → next ≡ helds ++ more → IsReadingPlans old new w (take (i + 1) all) next
+  plans_on w old mid new all i key helds more next before reads within is stands id live taken then = record {
+    asking = subst (IsAsking g old new w (is_asked_of_plan least e) (take (i + 1) all)) (sym then)
+        (asking_on g w (is_asked_of_plan least e) old mid new all i key helds more before.asking reads within
+        stands live (λ clean. subst (λ k. HaveTaken (is_asked_of_plan least e k)
+        (tables_of (state g mid).now.trees).spans more) is (taken clean)));
+    ids = subst AreIds (sym (take_more all i key within)) (all_append (λ k. IsId k.id) (take i all)
+        (get_or all i key ∷ []) before.ids (subst (λ k. IsId k.id) is id, tt));
+  }
+
+  pub plans_level : (w : World) (old new : Held S) (keys : List PlanKey) (helds : List One)
+      → Stands g old w → IsReadingPlans old new w keys helds → HasCleanDisk (state g new)
+      → HaveLevel e helds (λ x. at_least least (listed_top keys w.plans x))
+  plans_level w old new [] helds stands h clean = λ x inside.
+      let (rows, alike, taken) = h.asking.taken clean in
+      ap (λ hs. top_held hs x)
+      (none_taken helds (subst (HasTakenHelds helds) (no_row rows alike) taken)) ∙ top_held-nil x
+      ∙ sym (ap (at_least least) (none_listed w.plans x))
+  plans_level w old new (k ∷ keys) helds stands h clean = λ x inside.
+      let standing = stands.standing (omega (arith, h.asking.reads.doubt, clean))
+      (h.asking.opened clean (omega arith)) in
+      at_point (k ∷ keys) least e (tables_of (state g old).now.trees) w helds h.ids standing.content
+      standing.tables (h.asking.taken clean) x inside
