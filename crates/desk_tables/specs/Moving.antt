@@ -1,5 +1,5 @@
 -- How a content of schema 1 is moved to schema 2.
-use Rattle.std.specs.Prelude.{◌≡◌, ◌≤◌, ◌⊎◌, ⊤, ℕ, ◌-◌, ◌^◌, true, List, [], ◌∷◌, ◌++◌, length, nat_le, if◌then◌else◌, IsTrue, IsPermutation}
+use Rattle.std.specs.Prelude.{◌≡◌, ◌≤◌, ◌⊎◌, ⊤, ℕ, ◌-◌, ◌^◌, true, List, [], ◌∷◌, ◌++◌, length, nat_le, if◌then◌else◌, IsTrue, IsPermutation, Result, OnOk}
 use Rattle.std.specs.List.{AllByRecursion}
 use Rattle.sqlite_trees.specs.declared.store.Store.{Ghosts}
 use Rattle.sqlite_value.specs.Order.{Row}
@@ -124,6 +124,11 @@ pub record IsWhole {S : Type 0} (g : Ghosts S) (made : TablesPresent) (old new :
   pub was_open : IsTrue (state g old).is_open
   pub desk : IsDesk (state g new).now
   pub same : tables_of (state g new).now.trees ≡ tables_at made (state g old).now.trees
+
+-- so it is after a step that did not fail, over an open connection
+abbrev pub MakesWhole : {S V E : Type 0} → Ghosts S → TablesPresent → Held S → Held S → Result V E → Type 0
+MakesWhole g made old new result =
+    HasCleanDisk (state g new) → IsTrue (state g new).is_open → OnOk result (IsWhole g made old new)
 
 -- ---- what a store begins with
 

@@ -2,17 +2,18 @@
 use Rattle.std.specs.Prelude.{◌≡◌, ◌≢◌, ◌≤◌, Result, IfOk, IfErr, OnOk, OnErr}
 use Rattle.sqlite_trees.specs.declared.store.Store.{Ghosts}
 use Rattle.sqlite_trees.specs.View.{doubt as doubt_of}
-use Rattle.sqlite.specs.State.{HasCleanDisk}
+use Rattle.sqlite.specs.State.{HasCleanDisk, KeepsCommit}
 use Rattle.sqlite.specs.Held.{Held, state}
 use Rattle.desk_sql.specs.declared.opening.finding.TablesPresent.{TablesPresent}
 use Rattle.desk_sql.specs.Calls.{WasOpen}
-use Rattle.desk_sql.specs.Effects.{IsOpenIfClean}
-use Rattle.desk_sql.specs.Frames.{OnlyReads}
+use Rattle.desk_sql.specs.Effects.{IsOpenIfClean, Makes}
+use Rattle.desk_sql.specs.Frames.{OnlyReads, Remembers}
 use Rattle.desk_sql.specs.Rows.{Tables, tables_at}
 use Rattle.desk_store.specs.World.{World}
 use Rattle.desk_tables.specs.declared.opening.open.OpenFault.{OpenFault}
 use Rattle.desk_tables.specs.declared.opening.open.OpenFault.TheVariants.{NotADesk, OldSchema}
 use Rattle.desk_tables.specs.Opening.{BlamesReading, BlamesDatabase}
+use Rattle.desk_tables.specs.Leaving.{IsSettledAt}
 use Rattle.desk_tables.specs.Store.{Stands}
 
 module _ {S : Type 0} (g : Ghosts S) (old new : Held S) {V : Type 0} (result : Result V OpenFault) where
@@ -27,6 +28,13 @@ module _ {S : Type 0} (g : Ghosts S) (old new : Held S) {V : Type 0} (result : R
       pub newer : IfErr result (λ e. e ≢ OldSchema)
       pub cause : IfErr result (BlamesReading g old new)
       pub reads : OnlyReads g old new
+
+  -- rows are added within a transaction, which goes on; what fails commits nothing
+  pub record IsAdded (Changes : Tables → Tables → Type 0) : Type 0 where
+    pub done : HasCleanDisk (state g new) → OnOk result (Makes g old new Changes)
+    pub undone : HasCleanDisk (state g new) → OnErr result (KeepsCommit (state g old) (state g new))
+    pub fault : IfErr result (λ e. (e ≢ NotADesk) × (e ≢ OldSchema))
+    pub remembered : Remembers g old new
 
   module _ (world : V → World) (Begins : V → Type 0) where
     -- tables without a row of schema 1, or with those alone, come to have the rows of a world: how it begins,
@@ -54,3 +62,21 @@ module _ {S : Type 0} (g : Ghosts S) (old new : Held S) {V : Type 0} (result : R
       pub kept : OnErr result Keeps
       pub doubt : doubt_of (state g old).is_clean ≤ doubt_of (state g new).is_clean
       pub shield : (state g old).IsShielded → (state g new).IsShielded
+
+-- ---- of a connection that is given away
+
+module _ {S : Type 0} (g : Ghosts S) (old new : Held S) where
+  -- a store is over the connection, which is open and the same: a crash leaves its content
+  pub record IsAdopted (world : World) : Type 0 where
+    pub live : IsOpenIfClean g new
+    pub left : IsSettledAt g new world
+    pub doubt : doubt_of (state g old).is_clean ≤ doubt_of (state g new).is_clean
+    pub shield : (state g old).IsShielded → (state g new).IsShielded
+
+  -- the connection is given back, for this fault: what is told of it, and what is kept
+  pub record IsNotAdopted (e : OpenFault) (Refuses Older Keeps : Type 0) : Type 0 where
+    pub none : e ≡ NotADesk → Refuses
+    pub older : e ≡ OldSchema → Older
+    pub cause : BlamesDatabase g old new e
+    pub kept : Keeps
+    pub doubt : doubt_of (state g old).is_clean ≤ doubt_of (state g new).is_clean

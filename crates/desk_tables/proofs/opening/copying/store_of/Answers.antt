@@ -1,4 +1,4 @@
-use Rattle.std.proofs.Common.{◌≡◌, ◌∙◌, ap, sym, subst}
+use Rattle.std.proofs.Common.{◌≡◌, ◌∙◌, ap, rules, sym, subst}
 use Rattle.desk_sql.specs.Effects.{Commits}
 use Rattle.desk_store.specs.World.{World}
 use Rattle.desk_tables.specs.Copying.{AddsWorldRows}
@@ -17,10 +17,12 @@ with-requires-clause-stands g c =
     λ i. record { operators = one i; plans = two i } in
     subst (Stands g.S.Store b) (sym c.of-kept.ensures)
     (written_stands g.S.Store a b c.args.content.now
-    (subst (Stands g.S.Store a) c.in_ok-create_tables.ensures.empty c.in_ok-create_tables.ensures.stands)
+    (subst (Stands g.S.Store a) c.in_ok-create_tables.ensures.set_up.begins c.in_ok-create_tables.ensures.set_up.stands)
     c.in_ok-fill.ensures.over.mode c.in_ok-fill.ensures.over.doubt c.requires.content
     (λ clean. subst (λ w. Commits g.S.Store a b (AddsWorldRows w)) is (c.in_ok-fill.ensures.done clean)))
 
-pub returns-clause-left : goal.returns-clause-left
-returns-clause-left g c =
-    subst (λ s. IsSettledAt g.S.Store s.held s.world) (sym c.with.ensures.value) c.with.ensures.left
+pub returns-clause-adopted : goal.returns-clause-adopted
+returns-clause-adopted g c =
+    let left : IsSettledAt g.S.Store c.with.result.held c.with.result.world =
+    subst (λ s. IsSettledAt g.S.Store s.held s.world) (sym c.with.ensures.value) c.with.ensures.left in
+    search (rules, left)

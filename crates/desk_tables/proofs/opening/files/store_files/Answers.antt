@@ -4,4 +4,4 @@ use Rattle.desk_tables.proofs.opening.files.store_files.Goals as goal
 pub returns-clause-made : goal.returns-clause-made
 returns-clause-made g c = λ image finds.
     let made = c.store_of.ensures in
-    made_files image c.args.connection c.store_of.result finds made.blank made.live made.doubt made.shield
+    made_files image c.args.connection c.store_of.result finds made.blank made.adopted
