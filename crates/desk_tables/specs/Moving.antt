@@ -1,5 +1,5 @@
 -- How a content of schema 1 is moved to schema 2.
-use Rattle.std.specs.Prelude.{◌≡◌, ◌≤◌, ◌⊎◌, ⊤, ℕ, ◌-◌, ◌^◌, true, List, [], ◌∷◌, ◌++◌, length, nat_le, if◌then◌else◌, IsTrue, IsPermutation, Result, OnOk}
+use Rattle.std.specs.Prelude.{◌≡◌, ◌≤◌, ◌⊎◌, ⊤, ℕ, ◌-◌, ◌^◌, true, List, [], ◌∷◌, ◌++◌, length, nat_le, if◌then◌else◌, IsTrue, IsPermutation}
 use Rattle.std.specs.List.{AllByRecursion}
 use Rattle.sqlite_trees.specs.declared.store.Store.{Ghosts}
 use Rattle.sqlite_value.specs.Order.{Row}
@@ -125,11 +125,6 @@ pub record IsWhole {S : Type 0} (g : Ghosts S) (made : TablesPresent) (old new :
   pub desk : IsDesk (state g new).now
   pub same : tables_of (state g new).now.trees ≡ tables_at made (state g old).now.trees
 
--- so it is after a step that did not fail, over an open connection
-abbrev pub MakesWhole : {S V E : Type 0} → Ghosts S → TablesPresent → Held S → Held S → Result V E → Type 0
-MakesWhole g made old new result =
-    HasCleanDisk (state g new) → IsTrue (state g new).is_open → OnOk result (IsWhole g made old new)
-
 -- ---- what a store begins with
 
 -- there were rows of schema 1, of this world; all are those of schema 2 now
@@ -158,15 +153,6 @@ module _ {S : Type 0} (g : Ghosts S) (old new : Held S) where
   BeginsMoved w count =
       HasCleanDisk (state g new) → IsTrue (state g new).is_open →
       ((count ≡ 0) × BeginsWith g old new w) ⊎ ((count ≡ told_count w.plans) × WasMoved g old new w)
-
-  -- over a clean disk, it begins with all plans moved, which are so many
-  abbrev pub BeginsAllMoved : World → ℕ → Type 0
-  BeginsAllMoved w count =
-      HasCleanDisk (state g new) → (count ≡ told_count w.plans) × WasMoved g old new w
-
-  -- over a clean disk, the tables so far as they were made had the rows of no content of schema 1
-  abbrev pub HadNoOld : TablesPresent → Type 0
-  HadNoOld made = HasCleanDisk (state g new) → AreNoOldContent (tables_at made (state g old).now.trees)
 
   -- what is shown is no desk's, in either schema
   abbrev pub ShowsNoContent : Type 0

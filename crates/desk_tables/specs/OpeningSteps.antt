@@ -1,5 +1,5 @@
 -- What a step of an opening comes to, by its result.
-use Rattle.std.specs.Prelude.{◌≡◌, ◌≢◌, ◌≤◌, Result, IfOk, IfErr, OnOk, OnErr}
+use Rattle.std.specs.Prelude.{◌≡◌, ◌≢◌, ◌≤◌, ℕ, IsTrue, Result, IfOk, IfErr, OnOk, OnErr}
 use Rattle.sqlite_trees.specs.declared.store.Store.{Ghosts}
 use Rattle.sqlite_trees.specs.View.{doubt as doubt_of}
 use Rattle.sqlite.specs.State.{HasCleanDisk, KeepsCommit}
@@ -12,11 +12,39 @@ use Rattle.desk_sql.specs.Rows.{Tables, tables_at}
 use Rattle.desk_store.specs.World.{World}
 use Rattle.desk_tables.specs.declared.opening.open.OpenFault.{OpenFault}
 use Rattle.desk_tables.specs.declared.opening.open.OpenFault.TheVariants.{NotADesk, OldSchema}
-use Rattle.desk_tables.specs.Opening.{BlamesReading, BlamesDatabase}
+use Rattle.desk_tables.specs.Opening.{AreNoContent, BlamesReading, BlamesDatabase, WasCompleted, WasOrdered}
+use Rattle.desk_tables.specs.Moving.{AreNoOldContent, IsWhole, WasMoved, told_count}
 use Rattle.desk_tables.specs.Leaving.{IsSettledAt}
 use Rattle.desk_tables.specs.Store.{Stands}
 
+module _ {S : Type 0} (g : Ghosts S) (old new : Held S) where
+  -- over a clean disk a store begins with tables that were completed
+  abbrev pub BeginsCompleted : World → Type 0
+  BeginsCompleted w = HasCleanDisk (state g new) → WasCompleted g old new w
+
+  -- with tables that were put in order
+  abbrev pub BeginsOrdered : World → Type 0
+  BeginsOrdered w = HasCleanDisk (state g new) → WasOrdered g old new w
+
+  -- and with plans of schema 1 that were moved, which are so many
+  abbrev pub BeginsAllMoved : World → ℕ → Type 0
+  BeginsAllMoved w count =
+      HasCleanDisk (state g new) → (count ≡ told_count w.plans) × WasMoved g old new w
+
+  -- over a clean disk the tables, so far as they were made, had the rows of no content
+  abbrev pub HadNone : TablesPresent → Type 0
+  HadNone made = HasCleanDisk (state g new) → AreNoContent (tables_at made (state g old).now.trees)
+
+  -- or those of no content of schema 1
+  abbrev pub HadNoOld : TablesPresent → Type 0
+  HadNoOld made = HasCleanDisk (state g new) → AreNoOldContent (tables_at made (state g old).now.trees)
+
 module _ {S : Type 0} (g : Ghosts S) (old new : Held S) {V : Type 0} (result : Result V OpenFault) where
+  -- what was missing of a desk's tables is made, over an open connection
+  abbrev pub MakesWhole : TablesPresent → Type 0
+  MakesWhole made =
+      HasCleanDisk (state g new) → IsTrue (state g new).is_open → OnOk result (IsWhole g made old new)
+
   -- tables that are made so far are read: what an open connection gives of them, which of them it tells to be
   -- no desk's, and why it fails; nothing is changed
   pub record IsRead (made : TablesPresent) (Gives : Tables → V → Type 0) (Refuses : Tables → Type 0) : Type 0

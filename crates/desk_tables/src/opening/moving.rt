@@ -16,10 +16,11 @@ ghost use Rattle.desk_store.specs.World.{Filed, World};
 ghost use Rattle.desk_store.specs.Content.{IsContent};
 ghost use Rattle.desk_tables.specs.Known.{Knows};
 ghost use Rattle.desk_tables.specs.Opening.{AreRows, BlamesReading, HasRowsOld};
-ghost use Rattle.desk_tables.specs.OpeningSteps.{IsAdded, IsOpened, IsRead, IsSetUp};
+ghost use Rattle.desk_tables.specs.OpeningSteps.{BeginsAllMoved, HadNoOld, IsAdded, IsOpened, IsRead, IsSetUp};
+ghost use Rattle.desk_tables.specs.OpeningSteps.{MakesWhole};
 ghost use Rattle.desk_tables.specs.Moving.{AddsPlanRows, AddsPlansRows, MovesRows, RemovesOldRows, AreNoOldContent};
-ghost use Rattle.desk_tables.specs.Moving.{BeginsAllMoved, BeginsMoved, HadNoOld, KeepsRows, IsOldArea, IsOldContent};
-ghost use Rattle.desk_tables.specs.Moving.{HasNoNewRows, MakesWhole};
+ghost use Rattle.desk_tables.specs.Moving.{BeginsMoved, KeepsRows, IsOldArea, IsOldContent};
+ghost use Rattle.desk_tables.specs.Moving.{HasNoNewRows};
 ghost use Rattle.desk_tables.specs.Moving.{AreSortedOld, IsOldContentOf, IsOldShape};
 ghost use Rattle.desk_tables.specs.Moving.{ShowsNoContent};
 ghost use Rattle.desk_tables.specs.Writing.{AreAwaited, AreWritable, HasSpansToIndex, HaveFewRows};
@@ -109,7 +110,7 @@ fn make_whole<S: Alter>(
     requires part { Holds S.Store connection.old (IsMadeTo made) }
     requires empty { Holds S.Store connection.old (λ db. HasNoNewRows (tables_at made db.trees)) }
     requires settled { connection.old.in_transaction ≡ false }
-    ensures done { MakesWhole S.Store made connection.old connection.new result }
+    ensures done { MakesWhole S.Store connection.old connection.new result made }
     ensures kept { OnErr result (IsKept S.Store connection.old connection.new) }
     ensures cause { Holds S.Store connection.old (HasSpansToIndex made)
         → IfErr result (BlamesReading S.Store connection.old connection.new) }

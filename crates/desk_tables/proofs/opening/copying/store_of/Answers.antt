@@ -11,13 +11,14 @@ pub with-requires-clause-stands : goal.with-requires-clause-stands
 with-requires-clause-stands g c =
     let a = c.create_tables.new.connection in
     let b = c.fill.new.connection in
+    let tables = c.in_ok-create_tables.ensures.set_up in
     let one = c.deref.ensures.value ∙ ap (λ (w : World). w.operators) c.content.view_is in
     let two = c.deref-2.ensures.value ∙ ap (λ (w : World). w.plans) c.content.view_is in
     let is : (record { operators = c.deref.result.now; plans = c.deref-2.result.now }) ≡ c.args.content.now =
     λ i. record { operators = one i; plans = two i } in
     subst (Stands g.S.Store b) (sym c.of-kept.ensures)
     (written_stands g.S.Store a b c.args.content.now
-    (subst (Stands g.S.Store a) c.in_ok-create_tables.ensures.set_up.begins c.in_ok-create_tables.ensures.set_up.stands)
+    (subst (Stands g.S.Store a) tables.begins tables.stands)
     c.in_ok-fill.ensures.over.mode c.in_ok-fill.ensures.over.doubt c.requires.content
     (λ clean. subst (λ w. Commits g.S.Store a b (AddsWorldRows w)) is (c.in_ok-fill.ensures.done clean)))
 

@@ -6,7 +6,8 @@ use Rattle.desk_tables.proofs.store.SqliteStore.adopt_old.Goals as goal
 pub returns-in-Ok-clause-adopted : goal.returns-in-Ok-clause-adopted
 returns-in-Ok-clause-adopted g c =
     let opened = c.in-Ok.ensures.opened in
-    subst (λ s. IsAdopted g.S.Store c.args.connection s.held s.world) (sym c.with-store.ensures.value) (record {
+    subst (λ s. IsAdopted g.S.Store c.args.connection s.held s.world) (sym c.with-store.ensures.value)
+    (record {
       live = opened.live;
       left = c.with-store.ensures.left;
       doubt = opened.doubt;
