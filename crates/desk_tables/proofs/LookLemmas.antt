@@ -10,7 +10,6 @@ use Rattle.sqlite.specs.State.{HasCleanDisk}
 use Rattle.sqlite.specs.Held.{Held, state}
 use Rattle.sqlite.specs.Files.{file_state, over_files}
 use Rattle.desk_sql.specs.declared.opening.finding.TablesPresent.{TablesPresent}
-use Rattle.desk_sql.specs.Effects.{IsOpenIfClean}
 use Rattle.desk_sql.specs.Schema.{blank_schema}
 use Rattle.desk_sql.specs.Finding.{Holds}
 use Rattle.desk_sql.specs.Frames.{OnlyReads}
@@ -20,6 +19,7 @@ use Rattle.desk_tables.specs.declared.opening.open.OpenFault.TheVariants.{NotADe
 use Rattle.desk_tables.specs.Files.{Finds}
 use Rattle.desk_tables.specs.Store.{Shown}
 use Rattle.desk_tables.specs.Opening.{HasRowsOld, ShowsNoDesk}
+use Rattle.desk_tables.specs.OpeningSteps.{IsAdopted}
 use Rattle.desk_tables.specs.Copying.{AreNoContentIn, HoldsNone, IsMadeIn, ShowsNone}
 
 none_held : (made : TablesPresent) (old : Bool) (db : Database) → IsMadeTo made db
@@ -62,16 +62,14 @@ module _ {D : Type 0} {g : disk.Ghosts D} (image : Image) where
   pub made_files : (a : Held (FileStore D g)) (r : Result (Shown (FileStore D g)) OpenFault)
       → Finds image a
       → IfOk r (λ store. HasCleanDisk (file_state store.held) → (file_state a).now.schema ≡ blank_schema)
-      → IfOk r (λ store. IsOpenIfClean (over_files {D = D} {g = g}) store.held)
-      → IfOk r (λ store. doubt (file_state a).is_clean ≤ doubt (file_state store.held).is_clean)
-      → IfOk r (λ store. (file_state a).IsShielded → (file_state store.held).IsShielded)
+      → IfOk r (λ store. IsAdopted (over_files {D = D} {g = g}) a store.held store.world)
       → IfOk r (λ store. IsMadeIn image store.held)
-  made_files a (Err e) finds blank live rises shield = tt
-  made_files a (Ok store) finds blank live rises shield = record {
+  made_files a (Err e) finds blank adopted = tt
+  made_files a (Ok store) finds blank adopted = record {
     found = a;
-    opened = λ clean. finds.first (omega (arith, rises, clean));
+    opened = λ clean. finds.first (omega (arith, adopted.doubt, clean));
     blank = blank;
-    guarded = λ clean. shield (finds.guarded clean);
+    guarded = λ clean. adopted.shield (finds.guarded clean);
     summed = finds.summed;
-    live = live;
+    live = adopted.live;
   }

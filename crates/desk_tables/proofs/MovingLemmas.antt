@@ -27,8 +27,8 @@ use Rattle.desk_store.specs.Content.{IsContent}
 use Rattle.desk_tables.specs.declared.opening.open.OpenFault.{OpenFault}
 use Rattle.desk_tables.specs.declared.opening.open.OpenFault.TheVariants.{NotADesk, OldSchema, Store}
 use Rattle.desk_tables.specs.Opening.{AreRows, BeginsWith, HasNoContent, HasRowsOld, ShowsNoDesk}
-use Rattle.desk_tables.specs.OpeningSteps.{IsOpened, IsRead, IsSetUp}
-use Rattle.desk_tables.specs.Moving.{AddsPlanRows, AddsPlansRows, AreNoOldContent, AreSortedOld, BeginsAllMoved, BeginsMoved, HadNoOld, HasNoNewRows, HasNoOldContent, IsOldArea, IsOldContent, IsOldContentOf, IsOldShape, IsWhole, KeepsRows, ShowsNoContent, WasMoved, old_max_cover, told_count}
+use Rattle.desk_tables.specs.OpeningSteps.{BeginsAllMoved, HadNoOld, IsOpened, IsRead, IsSetUp}
+use Rattle.desk_tables.specs.Moving.{AddsPlanRows, AddsPlansRows, AreNoOldContent, AreSortedOld, BeginsMoved, HasNoNewRows, HasNoOldContent, IsOldArea, IsOldContent, IsOldContentOf, IsOldShape, IsWhole, KeepsRows, ShowsNoContent, WasMoved, old_max_cover, told_count}
 use Rattle.desk_tables.proofs.ContentLemmas.{one_plans}
 use Rattle.desk_tables.proofs.KeyOrderLemmas.{are_old_rows, are_old_tables}
 use Rattle.desk_tables.proofs.OpeningLemmas.{cause_then, desk_made, made_desk}
@@ -367,7 +367,8 @@ moved_after g a b c made world count (Err e) reads part old done = record {
   none = λ is clean live.
       let was = was_live g b c done.kept clean live in
       let mid : HasCleanDisk (state g b) = omega (arith, done.doubt, clean) in
-      subst (λ (db : Database). HasOthers db ⊎ (HasNoContent db ⊎ HasNoOldContent db)) (reads.kept mid was).now
+      let shows = reads.kept mid was in
+      subst (λ (db : Database). HasOthers db ⊎ (HasNoContent db ⊎ HasNoOldContent db)) shows.now
       (inr (inr (record { made = made; desk = part mid was; old = old mid was; none = done.none is clean })));
   older = done.newer;
   cause = cause_then g a b c reads.faults reads.limit e done.cause;

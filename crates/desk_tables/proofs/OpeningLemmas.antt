@@ -26,8 +26,8 @@ use Rattle.desk_tables.specs.declared.opening.open.OpenFault.TheVariants.{NotADe
 use Rattle.desk_store.specs.Content.{IsContent}
 use Rattle.desk_tables.specs.Store.{Stands}
 use Rattle.desk_tables.specs.Tables.{HasNoOldRows, AreTables}
-use Rattle.desk_tables.specs.Opening.{AreSortedByKey, AreAllRows, HadNone, HasNewRows, IsContentOf, AreNoContent, IsPart, BeganBlank, BeginsWith, ShowsNoDesk, ShowsOldRows, IsNoDesk, HasFailed, BlamesReading, BlamesDatabase, open_fault_of}
-use Rattle.desk_tables.specs.OpeningSteps.{IsOpened, IsRead, IsSetUp}
+use Rattle.desk_tables.specs.Opening.{AreSortedByKey, AreAllRows, HasNewRows, IsContentOf, AreNoContent, IsPart, BeganBlank, BeginsWith, ShowsNoDesk, ShowsOldRows, IsNoDesk, HasFailed, BlamesReading, BlamesDatabase, open_fault_of}
+use Rattle.desk_tables.specs.OpeningSteps.{HadNone, IsOpened, IsRead, IsSetUp}
 use Rattle.desk_tables.proofs.FrameLemmas.{kept_on}
 use Rattle.desk_tables.proofs.KeyOrderLemmas.{are_rows, are_tables}
 

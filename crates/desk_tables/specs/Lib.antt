@@ -11,7 +11,6 @@ pub mod SpanBounds
 pub mod Known
 pub mod Records
 pub mod Opening
-pub mod OpeningSteps
 pub mod Moving
 pub mod Writing
 pub mod Counting
@@ -19,5 +18,6 @@ pub mod Copying
 pub mod Causes
 pub mod Files
 pub mod Leaving
+pub mod OpeningSteps
 pub mod Changing
 pub mod Guarding

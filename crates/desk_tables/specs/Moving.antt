@@ -154,15 +154,6 @@ module _ {S : Type 0} (g : Ghosts S) (old new : Held S) where
       HasCleanDisk (state g new) → IsTrue (state g new).is_open →
       ((count ≡ 0) × BeginsWith g old new w) ⊎ ((count ≡ told_count w.plans) × WasMoved g old new w)
 
-  -- over a clean disk, it begins with all plans moved, which are so many
-  abbrev pub BeginsAllMoved : World → ℕ → Type 0
-  BeginsAllMoved w count =
-      HasCleanDisk (state g new) → (count ≡ told_count w.plans) × WasMoved g old new w
-
-  -- over a clean disk, the tables so far as they were made had the rows of no content of schema 1
-  abbrev pub HadNoOld : TablesPresent → Type 0
-  HadNoOld made = HasCleanDisk (state g new) → AreNoOldContent (tables_at made (state g old).now.trees)
-
   -- what is shown is no desk's, in either schema
   abbrev pub ShowsNoContent : Type 0
   ShowsNoContent = HasCleanDisk (state g new) → IsTrue (state g new).is_open →

@@ -188,18 +188,6 @@ module _ {S : Type 0} (g : Ghosts S) (old new : Held S) where
       BeganBlank (state g old).now w
       ⊎ (WasFound g old new w ⊎ (WasCompleted g old new w ⊎ WasOrdered g old new w))
 
-  -- over a clean disk, it begins with tables that are completed
-  abbrev pub BeginsCompleted : World → Type 0
-  BeginsCompleted w = HasCleanDisk (state g new) → WasCompleted g old new w
-
-  -- and with tables that are put in order
-  abbrev pub BeginsOrdered : World → Type 0
-  BeginsOrdered w = HasCleanDisk (state g new) → WasOrdered g old new w
-
-  -- over a clean disk, the tables so far as they were made had the rows of no content
-  abbrev pub HadNone : TablesPresent → Type 0
-  HadNone made = HasCleanDisk (state g new) → AreNoContent (tables_at made (state g old).now.trees)
-
   -- what is shown is no desk's
   abbrev pub ShowsNoDesk : Type 0
   ShowsNoDesk = HasCleanDisk (state g new) → IsTrue (state g new).is_open → IsNoDesk (state g old).now

@@ -1,21 +1,50 @@
 -- What a step of an opening comes to, by its result.
-use Rattle.std.specs.Prelude.{◌≡◌, ◌≢◌, ◌≤◌, Result, IfOk, IfErr, OnOk, OnErr}
+use Rattle.std.specs.Prelude.{◌≡◌, ◌≢◌, ◌≤◌, ℕ, IsTrue, Result, IfOk, IfErr, OnOk, OnErr}
 use Rattle.sqlite_trees.specs.declared.store.Store.{Ghosts}
 use Rattle.sqlite_trees.specs.View.{doubt as doubt_of}
-use Rattle.sqlite.specs.State.{HasCleanDisk}
+use Rattle.sqlite.specs.State.{HasCleanDisk, KeepsCommit}
 use Rattle.sqlite.specs.Held.{Held, state}
 use Rattle.desk_sql.specs.declared.opening.finding.TablesPresent.{TablesPresent}
 use Rattle.desk_sql.specs.Calls.{WasOpen}
-use Rattle.desk_sql.specs.Effects.{IsOpenIfClean}
-use Rattle.desk_sql.specs.Frames.{OnlyReads}
+use Rattle.desk_sql.specs.Effects.{IsOpenIfClean, Makes}
+use Rattle.desk_sql.specs.Frames.{OnlyReads, Remembers}
 use Rattle.desk_sql.specs.Rows.{Tables, tables_at}
 use Rattle.desk_store.specs.World.{World}
 use Rattle.desk_tables.specs.declared.opening.open.OpenFault.{OpenFault}
 use Rattle.desk_tables.specs.declared.opening.open.OpenFault.TheVariants.{NotADesk, OldSchema}
-use Rattle.desk_tables.specs.Opening.{BlamesReading, BlamesDatabase}
+use Rattle.desk_tables.specs.Opening.{AreNoContent, BlamesReading, BlamesDatabase, WasCompleted, WasOrdered}
+use Rattle.desk_tables.specs.Moving.{AreNoOldContent, IsWhole, WasMoved, told_count}
+use Rattle.desk_tables.specs.Leaving.{IsSettledAt}
 use Rattle.desk_tables.specs.Store.{Stands}
 
+module _ {S : Type 0} (g : Ghosts S) (old new : Held S) where
+  -- over a clean disk a store begins with tables that were completed
+  abbrev pub BeginsCompleted : World → Type 0
+  BeginsCompleted w = HasCleanDisk (state g new) → WasCompleted g old new w
+
+  -- with tables that were put in order
+  abbrev pub BeginsOrdered : World → Type 0
+  BeginsOrdered w = HasCleanDisk (state g new) → WasOrdered g old new w
+
+  -- and with plans of schema 1 that were moved, which are so many
+  abbrev pub BeginsAllMoved : World → ℕ → Type 0
+  BeginsAllMoved w count =
+      HasCleanDisk (state g new) → (count ≡ told_count w.plans) × WasMoved g old new w
+
+  -- over a clean disk the tables, so far as they were made, had the rows of no content
+  abbrev pub HadNone : TablesPresent → Type 0
+  HadNone made = HasCleanDisk (state g new) → AreNoContent (tables_at made (state g old).now.trees)
+
+  -- or those of no content of schema 1
+  abbrev pub HadNoOld : TablesPresent → Type 0
+  HadNoOld made = HasCleanDisk (state g new) → AreNoOldContent (tables_at made (state g old).now.trees)
+
 module _ {S : Type 0} (g : Ghosts S) (old new : Held S) {V : Type 0} (result : Result V OpenFault) where
+  -- what was missing of a desk's tables is made, over an open connection
+  abbrev pub MakesWhole : TablesPresent → Type 0
+  MakesWhole made =
+      HasCleanDisk (state g new) → IsTrue (state g new).is_open → OnOk result (IsWhole g made old new)
+
   -- tables that are made so far are read: what an open connection gives of them, which of them it tells to be
   -- no desk's, and why it fails; nothing is changed
   pub record IsRead (made : TablesPresent) (Gives : Tables → V → Type 0) (Refuses : Tables → Type 0) : Type 0
@@ -27,6 +56,13 @@ module _ {S : Type 0} (g : Ghosts S) (old new : Held S) {V : Type 0} (result : R
       pub newer : IfErr result (λ e. e ≢ OldSchema)
       pub cause : IfErr result (BlamesReading g old new)
       pub reads : OnlyReads g old new
+
+  -- rows are added within a transaction, which goes on; what fails commits nothing
+  pub record IsAdded (Changes : Tables → Tables → Type 0) : Type 0 where
+    pub done : HasCleanDisk (state g new) → OnOk result (Makes g old new Changes)
+    pub undone : HasCleanDisk (state g new) → OnErr result (KeepsCommit (state g old) (state g new))
+    pub fault : IfErr result (λ e. (e ≢ NotADesk) × (e ≢ OldSchema))
+    pub remembered : Remembers g old new
 
   module _ (world : V → World) (Begins : V → Type 0) where
     -- tables without a row of schema 1, or with those alone, come to have the rows of a world: how it begins,
@@ -54,3 +90,21 @@ module _ {S : Type 0} (g : Ghosts S) (old new : Held S) {V : Type 0} (result : R
       pub kept : OnErr result Keeps
       pub doubt : doubt_of (state g old).is_clean ≤ doubt_of (state g new).is_clean
       pub shield : (state g old).IsShielded → (state g new).IsShielded
+
+-- ---- of a connection that is given away
+
+module _ {S : Type 0} (g : Ghosts S) (old new : Held S) where
+  -- a store is over the connection, which is open and the same: a crash leaves its content
+  pub record IsAdopted (world : World) : Type 0 where
+    pub live : IsOpenIfClean g new
+    pub left : IsSettledAt g new world
+    pub doubt : doubt_of (state g old).is_clean ≤ doubt_of (state g new).is_clean
+    pub shield : (state g old).IsShielded → (state g new).IsShielded
+
+  -- the connection is given back, for this fault: what is told of it, and what is kept
+  pub record IsNotAdopted (e : OpenFault) (Refuses Older Keeps : Type 0) : Type 0 where
+    pub none : e ≡ NotADesk → Refuses
+    pub older : e ≡ OldSchema → Older
+    pub cause : BlamesDatabase g old new e
+    pub kept : Keeps
+    pub doubt : doubt_of (state g old).is_clean ≤ doubt_of (state g new).is_clean

@@ -1,7 +1,6 @@
 //! How a new database gets a content.
 
-ghost use Rattle.std.specs.Prelude.{◌≡◌, ◌≢◌, ◌≤◌, false, IfOk, IfErr, OnOk, IsTrue};
-ghost use Rattle.sqlite_trees.specs.View.{doubt};
+ghost use Rattle.std.specs.Prelude.{◌≡◌, ◌≢◌, false, IfOk, IfErr, OnOk};
 ghost use Rattle.sqlite.specs.State.{HasCleanDisk};
 ghost use Rattle.sqlite.specs.Held.{state};
 ghost use Rattle.desk_sql.specs.Batches.{IsUnderWay};
@@ -10,7 +9,7 @@ ghost use Rattle.desk_sql.specs.Frames.{IsOver, Remembers};
 ghost use Rattle.desk_sql.specs.Rows.{AddsOperator, AddsPlan};
 ghost use Rattle.desk_sql.specs.Schema.{blank_schema};
 ghost use Rattle.desk_store.specs.Content.{IsContent};
-ghost use Rattle.desk_tables.specs.Leaving.{IsSettledAt};
+ghost use Rattle.desk_tables.specs.OpeningSteps.{IsAdopted};
 ghost use Rattle.desk_tables.specs.Known.{Knows};
 ghost use Rattle.desk_tables.specs.Tables.{operator_row, plan_row};
 ghost use Rattle.desk_tables.specs.Copying.{AddsHeadRows, AddsOperatorRows, AddsWorldRows};
@@ -49,13 +48,8 @@ pub(crate) fn store_of<S: Alter + Drop>(
     ensures value { IfOk result (λ store. store.world ≡ content.now) }
     ensures blank { IfOk result (λ store. HasCleanDisk (state S.Store store.held)
         → (state S.Store connection).now.schema ≡ blank_schema) }
-    ensures live { IfOk result (λ store. IsOpenIfClean S.Store store.held) }
-    ensures left { IfOk result (λ store. IsSettledAt S.Store store.held store.world) }
+    ensures adopted { IfOk result (λ store. IsAdopted S.Store connection store.held store.world) }
     ensures fault { IfErr result (λ e. (e ≢ OpenFault.NotADesk) × (e ≢ OpenFault.OldSchema)) }
-    ensures doubt { IfOk result (λ store. doubt (state S.Store connection).is_clean
-        ≤ doubt (state S.Store store.held).is_clean) }
-    ensures shield { IfOk result (λ store. (state S.Store connection).IsShielded
-        → (state S.Store store.held).IsShielded) }
 {
     let Some(TablesPresent::Nothing) = find_tables(&mut connection)? else {
         return Err(OpenFault::Store);

@@ -16,10 +16,10 @@ ghost use Rattle.desk_tables.specs.Known.{Knows};
 ghost use Rattle.desk_tables.specs.Writing.{HaveFewRows};
 ghost use Rattle.desk_tables.specs.SpanBounds.{IsKnownRow, Keeps};
 ghost use Rattle.desk_tables.specs.Opening.{AreSortedByKey, AreAllRows, IsContentOf, AreNoContent};
-ghost use Rattle.desk_tables.specs.Opening.{BeginsCompleted, BeginsWith, HadNone, HasRowsOld, HasNewRows};
+ghost use Rattle.desk_tables.specs.Opening.{BeginsWith, HasRowsOld, HasNewRows};
 ghost use Rattle.desk_tables.specs.Opening.{ShowsNoDesk, ShowsOldRows};
 ghost use Rattle.desk_tables.specs.Opening.{BlamesReading, BlamesDatabase};
-ghost use Rattle.desk_tables.specs.OpeningSteps.{IsOpened, IsRead, IsSetUp};
+ghost use Rattle.desk_tables.specs.OpeningSteps.{BeginsCompleted, HadNone, IsOpened, IsRead, IsSetUp};
 
 use crate::kept::GhostWorld;
 use crate::known::{Known, live_among, roll_of};

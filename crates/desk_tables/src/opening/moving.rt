@@ -16,10 +16,11 @@ ghost use Rattle.desk_store.specs.World.{Filed, World};
 ghost use Rattle.desk_store.specs.Content.{IsContent};
 ghost use Rattle.desk_tables.specs.Known.{Knows};
 ghost use Rattle.desk_tables.specs.Opening.{AreRows, BlamesReading, HasRowsOld};
-ghost use Rattle.desk_tables.specs.OpeningSteps.{IsOpened, IsRead, IsSetUp};
+ghost use Rattle.desk_tables.specs.OpeningSteps.{BeginsAllMoved, HadNoOld, IsAdded, IsOpened, IsRead, IsSetUp};
+ghost use Rattle.desk_tables.specs.OpeningSteps.{MakesWhole};
 ghost use Rattle.desk_tables.specs.Moving.{AddsPlanRows, AddsPlansRows, MovesRows, RemovesOldRows, AreNoOldContent};
-ghost use Rattle.desk_tables.specs.Moving.{BeginsAllMoved, BeginsMoved, HadNoOld, KeepsRows, IsOldArea, IsOldContent};
-ghost use Rattle.desk_tables.specs.Moving.{HasNoNewRows, IsWhole};
+ghost use Rattle.desk_tables.specs.Moving.{BeginsMoved, KeepsRows, IsOldArea, IsOldContent};
+ghost use Rattle.desk_tables.specs.Moving.{HasNoNewRows};
 ghost use Rattle.desk_tables.specs.Moving.{AreSortedOld, IsOldContentOf, IsOldShape};
 ghost use Rattle.desk_tables.specs.Moving.{ShowsNoContent};
 ghost use Rattle.desk_tables.specs.Writing.{AreAwaited, AreWritable, HasSpansToIndex, HaveFewRows};
@@ -109,8 +110,7 @@ fn make_whole<S: Alter>(
     requires part { Holds S.Store connection.old (IsMadeTo made) }
     requires empty { Holds S.Store connection.old (λ db. HasNoNewRows (tables_at made db.trees)) }
     requires settled { connection.old.in_transaction ≡ false }
-    ensures done { HasCleanDisk (state S.Store connection.new) → IsTrue (state S.Store connection.new).is_open
-        → OnOk result (IsWhole S.Store made connection.old connection.new) }
+    ensures done { MakesWhole S.Store connection.old connection.new result made }
     ensures kept { OnErr result (IsKept S.Store connection.old connection.new) }
     ensures cause { Holds S.Store connection.old (HasSpansToIndex made)
         → IfErr result (BlamesReading S.Store connection.old connection.new) }
@@ -178,15 +178,9 @@ pub(crate) fn write_plans<S: Alter>(
 ) -> Result<(), OpenFault>
     requires under_way { IsUnderWay S.Store tx.old.conn.now }
     ensures same_reference { tx.new.conn.ghost_name ≡ tx.old.conn.ghost_name }
-    ensures done { HasCleanDisk (state S.Store tx.new.conn.now)
-        → OnOk result (Makes S.Store tx.old.conn.now tx.new.conn.now (AddsPlansRows plans.now)) }
-    ensures undone { HasCleanDisk (state S.Store tx.new.conn.now)
-        → OnErr result (KeepsCommit (state S.Store tx.old.conn.now)
-        (state S.Store tx.new.conn.now)) }
-    ensures fault { IfErr result (λ e. (e ≢ OpenFault.NotADesk) × (e ≢ OpenFault.OldSchema)) }
+    ensures added { IsAdded S.Store tx.old.conn.now tx.new.conn.now result (AddsPlansRows plans.now) }
     ensures cause { AreWritable plans.now (state S.Store tx.old.conn.now).now
         → IfErr result (BlamesReading S.Store tx.old.conn.now tx.new.conn.now) }
-    ensures remembered { Remembers S.Store tx.old.conn.now tx.new.conn.now }
 {
     'plans: for plan in plans {
         write_plan(alloc, tx, plan)?;
@@ -202,18 +196,12 @@ fn write_plan<S: Alter>(
 ) -> Result<(), OpenFault>
     requires under_way { IsUnderWay S.Store tx.old.conn.now }
     ensures same_reference { tx.new.conn.ghost_name ≡ tx.old.conn.ghost_name }
-    ensures done { HasCleanDisk (state S.Store tx.new.conn.now)
-        → OnOk result (Makes S.Store tx.old.conn.now tx.new.conn.now (AddsPlanRows plan.now)) }
-    ensures undone { HasCleanDisk (state S.Store tx.new.conn.now)
-        → OnErr result (KeepsCommit (state S.Store tx.old.conn.now)
-        (state S.Store tx.new.conn.now)) }
-    ensures fault { IfErr result (λ e. (e ≢ OpenFault.NotADesk) × (e ≢ OpenFault.OldSchema)) }
+    ensures added { IsAdded S.Store tx.old.conn.now tx.new.conn.now result (AddsPlanRows plan.now) }
     ensures cause { (later : List Filed) → AreWritable (plan.now ∷ later) (state S.Store tx.old.conn.now).now
         → IfErr result (BlamesReading S.Store tx.old.conn.now tx.new.conn.now) }
     ensures left { (later : List Filed) → AreWritable (plan.now ∷ later) (state S.Store tx.old.conn.now).now
         → HasCleanDisk (state S.Store tx.new.conn.now)
         → OnOk result (AreWritable later (state S.Store tx.new.conn.now).now) }
-    ensures remembered { Remembers S.Store tx.old.conn.now tx.new.conn.now }
 {
     one_list_of_ranges();
     let mut buffer = [0u8; 36];

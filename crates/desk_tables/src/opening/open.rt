@@ -1,12 +1,10 @@
 //! Stores of plans made over connections.
 
-ghost use Rattle.std.specs.Prelude.{◌≡◌, ◌≢◌, ◌≤◌, [], false, IfOk, IfErr, MatchResult};
-ghost use Rattle.sqlite_trees.specs.View.{doubt};
-ghost use Rattle.sqlite.specs.Held.{state};
-ghost use Rattle.desk_sql.specs.Effects.{IsKept, IsOpenIfClean};
+ghost use Rattle.std.specs.Prelude.{◌≡◌, [], false, IfOk, IfErr};
+ghost use Rattle.desk_sql.specs.Effects.{IsKept};
 ghost use Rattle.desk_tables.specs.Moving.{BeginsMoved, KeepsRows, ShowsNoContent};
-ghost use Rattle.desk_tables.specs.Opening.{BeginsWith, ShowsNoDesk, ShowsOldRows, BlamesDatabase};
-ghost use Rattle.desk_tables.specs.Leaving.{IsSettledAt};
+ghost use Rattle.desk_tables.specs.Opening.{BeginsWith, ShowsNoDesk, ShowsOldRows};
+ghost use Rattle.desk_tables.specs.OpeningSteps.{IsAdopted, IsNotAdopted};
 
 use crate::known::Known;
 use crate::opening::exact::RowFault;
@@ -154,22 +152,12 @@ impl<S: Alter> SqliteStore<S> {
         requires settled { connection.in_transaction ≡ false }
         ensures begins { IfOk result (λ store.
             BeginsWith S.Store connection store.held store.world) }
-        ensures live { IfOk result (λ store. IsOpenIfClean S.Store store.held) }
-        ensures left { IfOk result (λ store. IsSettledAt S.Store store.held store.world) }
-        ensures none { IfErr result (λ refused. refused.fault ≡ OpenFault.NotADesk →
-            ShowsNoDesk S.Store connection refused.connection) }
-        ensures old { IfErr result (λ refused. refused.fault ≡ OpenFault.OldSchema →
-            ShowsOldRows S.Store connection refused.connection) }
-        ensures cause { IfErr result (λ refused.
-            BlamesDatabase S.Store connection refused.connection refused.fault) }
-        ensures kept { IfErr result (λ refused. IsKept S.Store connection refused.connection) }
-        ensures doubt { MatchResult result
-            (λ store. doubt (state S.Store connection).is_clean
-            ≤ doubt (state S.Store store.held).is_clean)
-            (λ refused. doubt (state S.Store connection).is_clean
-            ≤ doubt (state S.Store refused.connection).is_clean) }
-        ensures shield { IfOk result (λ store. (state S.Store connection).IsShielded
-            → (state S.Store store.held).IsShielded) }
+        ensures adopted { IfOk result (λ store. IsAdopted S.Store connection store.held store.world) }
+        ensures refused { IfErr result (λ refused.
+            IsNotAdopted S.Store connection refused.connection refused.fault
+            (ShowsNoDesk S.Store connection refused.connection)
+            (ShowsOldRows S.Store connection refused.connection)
+            (IsKept S.Store connection refused.connection)) }
     {
         match load_world(alloc, &mut connection) {
             Ok((kept, known, is_enrolled)) => Ok(SqliteStore::with(
@@ -202,21 +190,12 @@ impl<S: Alter> SqliteStore<S> {
         requires settled { connection.in_transaction ≡ false }
         ensures begins { IfOk result (λ moved.
             BeginsMoved S.Store connection moved.0.held moved.0.world moved.1) }
-        ensures live { IfOk result (λ moved. IsOpenIfClean S.Store moved.0.held) }
-        ensures left { IfOk result (λ moved. IsSettledAt S.Store moved.0.held moved.0.world) }
-        ensures none { IfErr result (λ refused. refused.fault ≡ OpenFault.NotADesk →
-            ShowsNoContent S.Store connection refused.connection) }
-        ensures newer { IfErr result (λ refused. refused.fault ≢ OpenFault.OldSchema) }
-        ensures cause { IfErr result (λ refused.
-            BlamesDatabase S.Store connection refused.connection refused.fault) }
-        ensures kept { IfErr result (λ refused. KeepsRows S.Store connection refused.connection) }
-        ensures doubt { MatchResult result
-            (λ moved. doubt (state S.Store connection).is_clean
-            ≤ doubt (state S.Store moved.0.held).is_clean)
-            (λ refused. doubt (state S.Store connection).is_clean
-            ≤ doubt (state S.Store refused.connection).is_clean) }
-        ensures shield { IfOk result (λ moved. (state S.Store connection).IsShielded
-            → (state S.Store moved.0.held).IsShielded) }
+        ensures adopted { IfOk result (λ moved.
+            IsAdopted S.Store connection moved.0.held moved.0.world) }
+        ensures refused { IfErr result (λ refused.
+            IsNotAdopted S.Store connection refused.connection refused.fault
+            (ShowsNoContent S.Store connection refused.connection) ⊥
+            (KeepsRows S.Store connection refused.connection)) }
     {
         match moved_world_in(alloc, &mut connection) {
             Ok((kept, known, count)) => {

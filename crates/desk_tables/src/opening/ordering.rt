@@ -10,8 +10,8 @@ ghost use Rattle.desk_sql.specs.Frames.{IsOver};
 ghost use Rattle.desk_sql.specs.Unpacking.{RemakesTables};
 ghost use Rattle.desk_tables.specs.Known.{Knows};
 ghost use Rattle.desk_tables.specs.Moving.{OrdersRows};
-ghost use Rattle.desk_tables.specs.Opening.{BeginsOrdered, BlamesReading, HadNone, HasNewRows};
-ghost use Rattle.desk_tables.specs.OpeningSteps.{IsSetUp};
+ghost use Rattle.desk_tables.specs.Opening.{BlamesReading, HasNewRows};
+ghost use Rattle.desk_tables.specs.OpeningSteps.{BeginsOrdered, HadNone, IsSetUp};
 ghost use Rattle.desk_tables.specs.Writing.{HasSpansToIndex, IsToOrder};
 
 use crate::kept::GhostWorld;

@@ -6,11 +6,11 @@ use Rattle.desk_tables.proofs.opening.files.adopt_old_files.Goals as goal
 pub returns-in-Ok-clause-begins : goal.returns-in-Ok-clause-begins
 returns-in-Ok-clause-begins g c =
     let was : HasCleanDisk (file_state c.in-Ok.moved.0.held) → HasCleanDisk (file_state c.args.connection) =
-    λ clean. omega (arith, c.in-Ok.ensures.doubt, clean) in λ image finds. record {
+    λ clean. omega (arith, c.in-Ok.ensures.adopted.doubt, clean) in λ image finds. record {
       found = c.args.connection;
       opened = λ clean. finds.first (was clean);
-      guarded = λ clean. c.in-Ok.ensures.shield (finds.guarded clean);
-      live = c.in-Ok.ensures.live;
+      guarded = λ clean. c.in-Ok.ensures.adopted.shield (finds.guarded clean);
+      live = c.in-Ok.ensures.adopted.live;
       begins = c.in-Ok.ensures.begins;
     }
 
@@ -18,16 +18,16 @@ pub returns-in-Err-clause-fault : goal.returns-in-Err-clause-fault
 returns-in-Err-clause-fault g c =
     let was : HasCleanDisk (file_state c.in-Err.refused.connection)
     → HasCleanDisk (file_state c.args.connection) =
-    λ clean. omega (arith, c.in-Err.ensures.doubt, clean) in λ image finds. record {
+    λ clean. omega (arith, c.in-Err.ensures.refused.doubt, clean) in λ image finds. record {
       found = c.args.connection;
       opened = λ clean. finds.first (was clean);
       fresh = c.requires.fresh;
-      none = c.in-Err.ensures.none;
-      newer = c.in-Err.ensures.newer;
-      cause = c.in-Err.ensures.cause;
-      kept = c.in-Err.ensures.kept;
+      none = c.in-Err.ensures.refused.none;
+      newer = c.in-Err.ensures.refused.older;
+      cause = c.in-Err.ensures.refused.cause;
+      kept = c.in-Err.ensures.refused.kept;
     }
 
 pub returns-in-Ok-clause-guarded : goal.returns-in-Ok-clause-guarded
 returns-in-Ok-clause-guarded g c = λ guarded clean.
-    c.in-Ok.ensures.shield (guarded (omega (arith, c.in-Ok.ensures.doubt, clean)))
+    c.in-Ok.ensures.adopted.shield (guarded (omega (arith, c.in-Ok.ensures.adopted.doubt, clean)))

@@ -5,8 +5,8 @@ use Rattle.desk_tables.proofs.opening.finding.completed_in.Goals as goal
 
 pub returns-in_err-found-clause-set_up : goal.returns-in_err-found-clause-set_up
 returns-in_err-found-clause-set_up g c =
-    unread_as g.S.Store c.args.connection.now c.load_tables.new.connection c.args.made c.from_residual.result _
-    c.from_residual.ensures.1 c.in_err-found.ensures.read (λ kept. kept)
+    unread_as g.S.Store c.args.connection.now c.load_tables.new.connection c.args.made
+    c.from_residual.result _ c.from_residual.ensures.1 c.in_err-found.ensures.read (λ kept. kept)
 
 pub returns-in_err-complete_tables-clause-set_up : goal.returns-in_err-complete_tables-clause-set_up
 returns-in_err-complete_tables-clause-set_up g c =

@@ -2,7 +2,8 @@ use Rattle.std.proofs.Common.{inl, inr, rules}
 use Rattle.desk_sql.specs.declared.opening.finding.TablesPresent.TheVariants.{All, Packed}
 use Rattle.desk_sql.specs.Finding.{Holds}
 use Rattle.desk_sql.specs.Rows.{IsMadeTo}
-use Rattle.desk_tables.specs.Opening.{BeginsCompleted, BeginsOrdered, HasNewRows}
+use Rattle.desk_tables.specs.Opening.{HasNewRows}
+use Rattle.desk_tables.specs.OpeningSteps.{BeginsCompleted, BeginsOrdered}
 use Rattle.desk_tables.proofs.OpeningLemmas.{set_up_anew, set_up_as_read}
 use Rattle.desk_tables.proofs.opening.finding.world_of.Goals as goal
 
@@ -20,8 +21,9 @@ returns-in-Packed-clause-set_up g c =
     let new = c.ordered_in.new.connection in
     let part : Holds g.S.Store old (IsMadeTo Packed) = search rules in
     let rows : Holds g.S.Store old (HasNewRows Packed) = search rules in
-    set_up_anew g.S.Store Packed (λ found. found.0.world) c.ordered_in.result (BeginsOrdered g.S.Store old new)
-    old new (λ w begins clean live. inr (inr (inr (begins clean)))) part rows c.ordered_in.ensures.set_up
+    set_up_anew g.S.Store Packed (λ found. found.0.world) c.ordered_in.result
+    (BeginsOrdered g.S.Store old new) old new (λ w begins clean live. inr (inr (inr (begins clean))))
+    part rows c.ordered_in.ensures.set_up
 
 pub returns-in_default-clause-set_up : goal.returns-in_default-clause-set_up
 returns-in_default-clause-set_up g c =

@@ -18,6 +18,6 @@ returns-clause-read g c =
     let none : HasCleanDisk (state g.S.Store b) → HasNoNewRows t = search rules in
     let sorted : HasCleanDisk (state g.S.Store b) → AreSortedOld t c.in_ok-rows.rows = search rules in
     let opened : HasCleanDisk (state g.S.Store b) → IsTrue (state g.S.Store a).is_open = search rules in
-    old_content_read g.S.Store c.args.made a b c.in_ok-rows.rows (λ found. found.0) c.old_content_in.result none
-    sorted opened reads c.old_content_in.ensures.value c.old_content_in.ensures.none
+    old_content_read g.S.Store c.args.made a b c.in_ok-rows.rows (λ found. found.0) c.old_content_in.result
+    none sorted opened reads c.old_content_in.ensures.value c.old_content_in.ensures.none
     c.old_content_in.ensures.fault

@@ -1,4 +1,4 @@
-use Rattle.std.proofs.Common.{◌≡◌, ◌∙◌, ap, arith, map, refl, subst, sym}
+use Rattle.std.proofs.Common.{◌≡◌, ◌∙◌, ap, arith, map, refl, rules, subst, sym}
 use Rattle.std.proofs.lemmas.List.{length-map}
 use Rattle.sqlite.specs.State.{HasCleanDisk}
 use Rattle.sqlite.specs.Held.{state}
@@ -89,3 +89,11 @@ returns-clause-left g c later all clean =
     (c.in_ok-insert_spans.ensures.changed.done clean).changed
     (subst (λ n. TakesRoom 0 0 n (state g.S.Store mid).now.trees (state g.S.Store new).now.trees)
     (sym (length-map spans span_of)) (c.in_ok-insert_spans.ensures.changed.room clean))
+
+pub returns-in_err-insert_spans-clause-added : goal.returns-in_err-insert_spans-clause-added
+returns-in_err-insert_spans-clause-added g c = record {
+  done = search rules;
+  undone = search rules;
+  fault = search rules;
+  remembered = search rules;
+}

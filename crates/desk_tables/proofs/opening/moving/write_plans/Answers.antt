@@ -38,10 +38,10 @@ plans-preserved g c =
           (more_plans (take at plans) plan (take (at + 1) plans)
           (take_more plans at plan c.plans-test.true
           ∙ ap (λ p. take at plans ++ p ∷ []) (sym c.plan-item.is)))
-          c.plans.invariant.1 c.write_plan.ensures.remembered c.in_ok-write_plan.ensures.done,
+          c.plans.invariant.1 c.write_plan.ensures.added.remembered c.in_ok-write_plan.ensures.added.done,
       λ all clean.
           let early : HasCleanDisk (state g.S.Store mid) =
-          omega (arith, c.write_plan.ensures.remembered.doubt, clean) in
+          omega (arith, c.write_plan.ensures.added.remembered.doubt, clean) in
           c.in_ok-write_plan.ensures.left (drop (at + 1) plans)
           (subst (λ ps. AreWritable ps (state g.S.Store mid).now) parted (c.plans.invariant.2 all early))
           clean,
@@ -61,7 +61,7 @@ returns-in_err-write_plan-clause-cause g c all =
     told_as (BlamesReading g.S.Store old new) c.from_residual.result _ c.from_residual.ensures.1
     (λ clean live told.
     let early : HasCleanDisk (state g.S.Store mid) =
-    omega (arith, c.write_plan.ensures.remembered.doubt, clean) in
+    omega (arith, c.write_plan.ensures.added.remembered.doubt, clean) in
     blames_since g.S.Store old mid new so_far.faults so_far.limit c.in_err-write_plan.field-0.0
     (c.in_err-write_plan.ensures.cause (drop (at + 1) plans)
     (subst (λ ps. AreWritable ps (state g.S.Store mid).now) parted (c.plans.invariant.2 all early)))
