@@ -10,9 +10,11 @@ mod timing;
 
 use desk_run::Desk;
 use desk_store::{ListStore, PlanStore};
-use desk_tables::SqliteStore;
+use desk_tables::{FilesFault, SqliteStore};
 use keeping::Keeping;
 use requests::{Requests, Sizes};
+use sqlite::FileStore;
+use sqlite_disk::Disk;
 use timing::{Times, enrol_all, time_list, time_puts};
 
 /// Times requests of these sizes at a desk that keeps its plans in the place named, and prints the times.
@@ -25,10 +27,19 @@ pub fn play(rt: &HostRuntime, keeping: &Keeping, sizes: Sizes) -> anyhow::Result
 fn time_at(rt: &HostRuntime, keeping: &Keeping, requests: &Requests) -> anyhow::Result<Times> {
     match keeping {
         Keeping::List => time_desk(rt, &mut Desk::new(ListStore::new(rt.alloc())), requests),
-        Keeping::File(path) => {
-            let store = SqliteStore::open(rt, path).map_err(|refused| refused.fault)?;
-            time_desk(rt, &mut Desk::new(store), requests)
-        }
+        Keeping::File(path) => time_files(rt, SqliteStore::open(rt, path), requests),
+    }
+}
+
+// Times the requests at a desk over files, on whatever disk they were opened.
+fn time_files<D: Disk + Drop>(
+    rt: &HostRuntime,
+    opened: Result<SqliteStore<FileStore<D>>, FilesFault<FileStore<D>>>,
+    requests: &Requests,
+) -> anyhow::Result<Times> {
+    match opened {
+        Ok(store) => time_desk(rt, &mut Desk::new(store), requests),
+        Err(refused) => Err(refused.fault.into()),
     }
 }
 

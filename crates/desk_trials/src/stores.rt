@@ -7,9 +7,10 @@ use crate::opening::Fused;
 use anyhow::ensure;
 use desk_run::Desk;
 use desk_store::{ListStore, PlanStore};
-use desk_tables::SqliteStore;
+use desk_tables::{FilesFault, SqliteStore};
 use desk_wire::play_all;
 use sqlite::FileStore;
+use sqlite_disk::Disk;
 use std::alloc::Global;
 use std::io::{Read, Write};
 
@@ -30,13 +31,25 @@ pub fn play<D: Fused, W: Write>(
         answers_of(alloc, tables, names, &stream)? == listed,
         "other bytes over tables in memory"
     );
-    let tables = SqliteStore::open(rt, path).map_err(|refused| refused.fault)?;
     ensure!(
-        answers_of(alloc, tables, names, &stream)? == listed,
+        answers_in_files(alloc, SqliteStore::open(rt, path), names, &stream)? == listed,
         "other bytes over tables in a file"
     );
     output.write_all(&listed)?;
     Ok(())
+}
+
+// What a desk over files answers to a stream, on whatever disk they were opened.
+fn answers_in_files<E: Disk + Drop>(
+    alloc: Global,
+    opened: Result<SqliteStore<FileStore<E>>, FilesFault<FileStore<E>>>,
+    names: &[String],
+    stream: &[u8],
+) -> anyhow::Result<Vec<u8>> {
+    match opened {
+        Ok(store) => answers_of(alloc, store, names, stream),
+        Err(refused) => Err(refused.fault.into()),
+    }
 }
 
 // What a desk over a store answers to a stream.

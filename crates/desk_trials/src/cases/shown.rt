@@ -4,9 +4,10 @@ use crate::named::leaf_id;
 use desk_rules::plan::PlanRow;
 use desk_rules::reply::{PutReply, Reply, Shown};
 use desk_run::{DeskFault, Outcome, Ran};
+use s2_cellid::CellId;
 use s2_cover::Rect;
 use std::fmt;
-use volume4d::{Footprint, Meeting};
+use volume4d::{Footprint, Meeting, Volume, Window};
 
 /// What a run of one call came to, as a line.
 #[derive(Clone, Copy)]
@@ -101,26 +102,39 @@ pub struct ShownPlan<'r>(pub &'r PlanRow);
 
 impl fmt::Display for ShownPlan<'_> {
     fn fmt<W: fmt::Write>(&self, f: &mut fmt::Formatter<W>) -> fmt::Result {
-        let row = self.0;
-        write!(
-            f,
-            "{} {:?} {:?} priority {}",
-            row.id, row.usage, row.aircraft, row.priority
-        )?;
-        for volume in row.area.volumes() {
-            let window = volume.window();
-            write!(
-                f,
-                " over {}..{} {}..{}",
-                window.lower(),
-                window.upper(),
-                window.start(),
-                window.end()
-            )?;
-            show_footprint(f, volume.footprint())?;
+        show_states(f, self.0)?;
+        for volume in self.0.area.volumes() {
+            show_volume(f, volume)?;
         }
         Ok(())
     }
+}
+
+// The id of a stored plan, its states and its priority.
+fn show_states<W: fmt::Write>(f: &mut fmt::Formatter<W>, row: &PlanRow) -> fmt::Result {
+    write!(
+        f,
+        "{} {:?} {:?} priority {}",
+        row.id, row.usage, row.aircraft, row.priority
+    )
+}
+
+// A volume: its altitudes, its time and its footprint.
+fn show_volume<W: fmt::Write>(f: &mut fmt::Formatter<W>, volume: &Volume) -> fmt::Result {
+    show_window(f, volume.window())?;
+    show_footprint(f, volume.footprint())
+}
+
+// The altitudes and the time of a volume.
+fn show_window<W: fmt::Write>(f: &mut fmt::Formatter<W>, window: Window) -> fmt::Result {
+    write!(
+        f,
+        " over {}..{} {}..{}",
+        window.lower(),
+        window.upper(),
+        window.start(),
+        window.end()
+    )
 }
 
 // The cells of a footprint, by their tokens, or the parts of its rectangle.
@@ -128,12 +142,17 @@ fn show_footprint<W: fmt::Write>(f: &mut fmt::Formatter<W>, footprint: &Footprin
     match footprint {
         Footprint::Cells(cells) => {
             for cell in cells.iter() {
-                write!(f, " {}", cell.token())?;
+                show_cell(f, *cell)?;
             }
             Ok(())
         }
         Footprint::Rectangle(rect) => show_rect(f, rect),
     }
+}
+
+// A cell, by its token.
+fn show_cell<W: fmt::Write>(f: &mut fmt::Formatter<W>, cell: CellId) -> fmt::Result {
+    write!(f, " {}", cell.token())
 }
 
 // A rectangle: its face, its coordinates and its level.
