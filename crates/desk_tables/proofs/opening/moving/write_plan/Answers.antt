@@ -7,7 +7,7 @@ use Rattle.desk_sql.specs.Putting.{TakesRoom}
 use Rattle.desk_store.specs.Changes.{filed_by}
 use Rattle.desk_tables.specs.Opening.{BlamesReading}
 use Rattle.desk_tables.specs.Tables.{area_covers, area_rows, ArePlanSpanRows}
-use Rattle.desk_tables.proofs.OpeningLemmas.{blames_reading, told_as}
+use Rattle.desk_tables.proofs.OpeningLemmas.{blames_reading, kept_on_err, told_as}
 use Rattle.desk_tables.proofs.WritingLemmas.{rest_writable, spans_fit, volumes_fit}
 use Rattle.desk_tables.proofs.opening.moving.write_plan.Goals as goal
 
@@ -93,7 +93,14 @@ returns-clause-left g c later all clean =
 pub returns-in_err-insert_spans-clause-added : goal.returns-in_err-insert_spans-clause-added
 returns-in_err-insert_spans-clause-added g c = record {
   done = search rules;
-  undone = search rules;
+  undone = λ clean.
+      let made = c.in_ok-insert_volumes.ensures.changed.done
+      (omega (arith, c.insert_spans.ensures.changed.remembered.doubt, clean)) in
+      let keeps = c.in_err-insert_spans.ensures.changed.undone clean in
+      kept_on_err c.from_residual-in_err-insert_spans.result (record {
+        was_open = λ live. made.was_open;
+        committed = λ live. keeps.committed live ∙ made.committed;
+      });
   fault = search rules;
   remembered = search rules;
 }
