@@ -113,15 +113,6 @@ overlap one other =
     && ((int_lt one.lower other.upper && int_lt other.lower one.upper)
     && (nat_le one.first other.last && nat_le other.first one.last))
 
--- it has a priority at least, is none of the operator's plan of the id, and its bounds meet an extent
-abbrev pub is_near : List ℕ → List ℕ → ℕ → Slab → LiveVolume → Bool
-is_near operator id least extent live =
-    overlap live.bounds extent && (nat_le least live.priority && not (is_of operator id live))
-
 -- a fence has a priority at least, and meets an extent
 abbrev pub may_meet : ℕ → Slab → Fence → Bool
 may_meet least extent fence = overlap fence.bounds extent && nat_le least fence.top
-
-abbrev pub is_near_in : List ℕ → List ℕ → ℕ → Slab → Chunk → Bool
-is_near_in operator id least extent chunk =
-    may_meet least extent chunk.fence && list_any (is_near operator id least extent) chunk.volumes.items

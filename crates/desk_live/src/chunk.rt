@@ -1,9 +1,9 @@
 //! Chunks of volumes, each within a fence of its own, so that most are passed over unread.
 
 ghost use Rattle.std.specs.Prelude.{◌≡◌, ◌∷◌, ◌++◌, IfOk, OnOk, IsPermutation};
-ghost use Rattle.std.specs.List.{AllByRecursion, filter, list_any};
+ghost use Rattle.std.specs.List.{AllByRecursion, filter};
 ghost use Rattle.desk_live.specs.Live as spec;
-ghost use Rattle.desk_live.specs.Live.{AreFenced, IsFenced, is_near, is_near_in, stays_at, volumes_in};
+ghost use Rattle.desk_live.specs.Live.{AreFenced, IsFenced, stays_at, volumes_in};
 ghost use Rattle.desk_live.specs.Regions.{AddTheirs};
 ghost use Rattle.desk_live.specs.Near.{AddsPlans};
 ghost use Rattle.volume4d.specs.Slab.{slab_has};
@@ -14,7 +14,6 @@ use crate::near::{NearPlans, Wanted, add_each};
 use crate::order::put_in_order;
 use crate::volume::LiveVolume;
 use desk_rules::operator::Operator;
-use desk_rules::plan_id::PlanId;
 use desk_store::Change;
 use std::alloc::{AllocError, Global};
 use volume4d::Slab;
@@ -43,16 +42,6 @@ impl Chunk {
             fence: Fence::round(first, more),
             volumes,
         })
-    }
-
-    // Whether a volume is near, and the fence says that one may be.
-    fn is_near(&self, operator: &Operator, id: &PlanId, least: u32, extent: &Slab) -> bool
-        ensures { result ≡ is_near_in operator.now id.now least extent.now self.now }
-    {
-        if !self.fence.may_meet(least, extent) {
-            return false;
-        }
-        any_near(&self.volumes, operator, id, least, extent)
     }
 
     // Adds the plans of the volumes that are near, if the fence says that one may be.
@@ -90,36 +79,6 @@ pub(crate) fn add_near_in(
         chunk.add_near(near, wanted, extent)?;
     }
     Ok(())
-}
-
-/// Whether one of some volumes is near.
-pub(crate) fn any_near(
-    lives: &[LiveVolume],
-    operator: &Operator,
-    id: &PlanId,
-    least: u32,
-    extent: &Slab,
-) -> bool
-    ensures { result ≡ list_any (is_near operator.now id.now least extent.now) lives.now }
-{
-    lives
-        .iter()
-        .any(|live| live.is_near(operator, id, least, extent))
-}
-
-/// Whether a volume of one of some chunks is near, and its fence says that one may be.
-pub(crate) fn any_near_in(
-    chunks: &[Chunk],
-    operator: &Operator,
-    id: &PlanId,
-    least: u32,
-    extent: &Slab,
-) -> bool
-    ensures { result ≡ list_any (is_near_in operator.now id.now least extent.now) chunks.now }
-{
-    chunks
-        .iter()
-        .any(|chunk| chunk.is_near(operator, id, least, extent))
 }
 
 /// Appends the bounds of other operators' volumes that meet a slab.

@@ -1,22 +1,19 @@
 //! The volumes of all live plans.
 
-ghost use Rattle.std.specs.Prelude.{◌≡◌, ◌++◌, ◌∷◌, [], List, false, length, IfOk, IfSome, OnOk};
-ghost use Rattle.std.specs.List.{filter, list_any};
+ghost use Rattle.std.specs.Prelude.{◌≡◌, ◌++◌, ◌∷◌, [], List, length, IfOk, IfSome, OnOk};
+ghost use Rattle.std.specs.List.{filter};
 ghost use Rattle.std.specs.List.Sorted.{IsStrictlySortedBy};
 ghost use Rattle.desk_store.specs.World.{Filed, World, filed_cmp};
 ghost use Rattle.desk_store.specs.Changes.{filed_by};
-ghost use Rattle.desk_store.specs.Rivals.{AreRivals};
 ghost use Rattle.desk_store.specs.StoreChange.{changed_by};
 ghost use Rattle.desk_live.specs.Live.{AreBrought, AreFenced, AreKept, AreVolumes, HasRoomFor};
-ghost use Rattle.desk_live.specs.Live.{gathered_in, is_near, stays_at, volumes_of};
+ghost use Rattle.desk_live.specs.Live.{gathered_in, stays_at, volumes_of};
 ghost use Rattle.desk_live.specs.Regions.{AddTheirs, HoldNothingBeside};
 ghost use Rattle.desk_live.specs.Near.{AddsPlans, AreNearPlans, AreOthersPlans, AreRivalPlans};
 ghost use Rattle.volume4d.specs.Slab.{slab_has, slabs_have};
 
 use crate::changing::{brought_by, leave, push_all, push_plan};
-use crate::chunk::{
-    Chunk, add_near_in, any_near, any_near_in, leave_each, push_theirs, push_theirs_in, rechunked,
-};
+use crate::chunk::{Chunk, add_near_in, leave_each, push_theirs, push_theirs_in, rechunked};
 use crate::near::{NearPlans, PlanKey, Wanted, add_each};
 use crate::regions::{joined, overlapping, whole_of};
 use crate::volume::LiveVolume;
@@ -52,20 +49,6 @@ impl LiveVolumes {
             chunks: Vec::new(alloc),
             young: Vec::new(alloc),
         }
-    }
-
-    /// Whether a volume of a priority at least, of another plan than the operator's of the id, may have a
-    /// point of an extent.
-    pub fn may_hold(&self, operator: &Operator, id: &PlanId, least: u32, extent: &Slab) -> bool
-        ensures near { AreFenced self.now.chunks.items → result
-            ≡ list_any (is_near operator.now id.now least extent.now) (volumes_of self.now) }
-        ensures none { (w : World) → AreKept self.now w → result ≡ false
-            → AreRivals w operator.now id.now least extent.now [] }
-    {
-        if any_near_in(&self.chunks, operator, id, least, extent) {
-            return true;
-        }
-        any_near(&self.young, operator, id, least, extent)
     }
 
     /// Regions that have each point of some extents at which plans of other operators may hold something:
@@ -183,6 +166,19 @@ impl LiveVolumes {
             → AddsPlans wanted.now (slab_has extent.now) (volumes_of self.now) near.old near.new) }
     {
         add_near_in(near, &self.chunks, wanted, extent)?;
+        self.add_young(near, wanted, extent)
+    }
+
+    // Adds those of the volumes that are in no chunk.
+    fn add_young(
+        &self,
+        near: &mut NearPlans,
+        wanted: &Wanted,
+        extent: &Slab,
+    ) -> Result<(), AllocError>
+        ensures { OnOk result (AddsPlans wanted.now (slab_has extent.now) self.now.young.items near.old
+            near.new) }
+    {
         add_each(near, &self.young, wanted, extent)
     }
 

@@ -60,26 +60,6 @@ impl LiveVolume {
         operator.cmp(&self.operator).is_eq()
     }
 
-    /// Whether it has a priority at least, is none of the operator's plan of the id, and its bounds have a
-    /// point of an extent.
-    pub(crate) fn is_near(
-        &self,
-        operator: &Operator,
-        id: &PlanId,
-        least: u32,
-        extent: &Slab,
-    ) -> bool
-        ensures { result ≡ spec.is_near operator.now id.now least extent.now self.now }
-    {
-        if !overlap(&self.bounds, extent) {
-            return false;
-        }
-        if self.priority < least {
-            return false;
-        }
-        !self.is_of(operator, id)
-    }
-
     /// The key of its plan.
     pub(crate) fn key(&self) -> PlanKey
         ensures { result ≡ near.key_of self.now }

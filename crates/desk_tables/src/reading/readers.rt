@@ -274,9 +274,6 @@ pub(crate) fn rivals<S: Alter>(
     ensures stands { Stands S.Store connection.new kept.now.world }
     ensures reads { OnlyReads S.Store connection.old connection.new }
 {
-    if !known.live.may_hold(operator, id, least, extent) {
-        return Ok(Vec::new(alloc));
-    }
     if let Some(keys) = known.live.rival_plans(alloc, operator, id, least, extent)? {
         return held_by_plans(alloc, connection, kept, &keys, least, extent);
     }

@@ -12,9 +12,7 @@ returns c =
     let inside = slab_has c.args.extent.now in
     let kept = c.args.self.now in
     let mid = c.add_near_in.new.near in
-    on_ok_weaker c.add_each.result (λ added fenced.
-    adds_both s inside (volumes_in kept.chunks.items) kept.young.items c.args.near.now mid c.add_each.new.near
-    (subst (λ cs. AreFenced cs → AddsPlans s inside (volumes_in cs) c.args.near.now mid) c.deref.ensures.value
-    c.in_ok-add_near_in.ensures fenced)
-    (subst (λ ls. AddsPlans s inside ls mid c.add_each.new.near) c.deref-2.ensures.value added))
-    c.add_each.ensures
+    on_ok_weaker c.add_young.result (λ added fenced.
+    adds_both s inside (volumes_in kept.chunks.items) kept.young.items c.args.near.now mid
+    c.add_young.new.near (subst (λ cs. AreFenced cs → AddsPlans s inside (volumes_in cs) c.args.near.now mid)
+    c.deref.ensures.value c.in_ok-add_near_in.ensures fenced) added) c.add_young.ensures
