@@ -25,10 +25,11 @@ pub fn play<D: Fused, W: Write>(
     let alloc = rt.alloc();
     let mut stream = Vec::new(alloc);
     rt.stdin().read_to_end(&mut stream)?;
-    let listed = answers_of(alloc, ListStore::new(alloc), names, &stream)?;
-    let tables = SqliteStore::<FileStore<D>>::empty(alloc)?;
+    let mut list = Desk::new(ListStore::new(alloc));
+    let listed = answers_of(alloc, &mut list, names, &stream)?;
+    let mut tables = Desk::new(SqliteStore::<FileStore<D>>::empty(alloc)?);
     ensure!(
-        answers_of(alloc, tables, names, &stream)? == listed,
+        answers_of(alloc, &mut tables, names, &stream)? == listed,
         "other bytes over tables in memory"
     );
     ensure!(
@@ -47,24 +48,23 @@ fn answers_in_files<E: Disk + Drop>(
     stream: &[u8],
 ) -> anyhow::Result<Vec<u8>> {
     match opened {
-        Ok(store) => answers_of(alloc, store, names, stream),
+        Ok(store) => answers_of(alloc, &mut Desk::new(store), names, stream),
         Err(refused) => Err(refused.fault.into()),
     }
 }
 
-// What a desk over a store answers to a stream.
-fn answers_of<S: PlanStore + Drop>(
+// What a desk answers to a stream, once these operators are enrolled.
+fn answers_of<S: PlanStore>(
     alloc: Global,
-    store: S,
+    desk: &mut Desk<S>,
     names: &[String],
     stream: &[u8],
 ) -> anyhow::Result<Vec<u8>> {
-    let mut desk = Desk::new(store);
     for name in names {
-        enrol(&mut desk, name.as_str(), CEILING)?;
+        enrol(desk, name.as_str(), CEILING)?;
     }
     let mut input = stream;
     let mut answers = Vec::new(alloc);
-    play_all(alloc, &mut desk, MOMENT, &mut input, &mut answers);
+    play_all(alloc, desk, MOMENT, &mut input, &mut answers);
     Ok(answers)
 }

@@ -7,7 +7,7 @@ use crate::disk::{FusedFiles, Image, Left, is_stopped};
 use crate::opening::{Fused, close, connect, open};
 use crate::stops::content::Content;
 use crate::stops::round::{Came, Stop, when};
-use crate::stops::tables::rows_of;
+use crate::stops::tables::{rows_of, run_all, texts_of};
 use anyhow::bail;
 use desk_run::Desk;
 use desk_tables::{OpenFault, SqliteStore};
@@ -158,7 +158,7 @@ pub fn image_with<D: Fused>(
     sql: &str,
 ) -> anyhow::Result<Image<D>> {
     let mut connection = connect_to(alloc, image)?;
-    connection.execute_batch(sql)?;
+    run_all(&mut connection, sql)?;
     Ok(Image::left(alloc, close(connection), Left::Synced)?)
 }
 
@@ -169,11 +169,7 @@ pub fn texts_in<D: Fused>(
     query: &str,
 ) -> anyhow::Result<Vec<String>> {
     let mut connection = connect_to(alloc, image)?;
-    let mut texts = Vec::new(alloc);
-    for row in &connection.query_all(query, &[])? {
-        texts.push(row.get(0)?)?;
-    }
-    Ok(texts)
+    texts_of(alloc, &mut connection, query)
 }
 
 /// What a desk over files of these bytes answers.
@@ -182,9 +178,8 @@ pub fn answer_over<D: Fused>(
     image: &Image<D>,
     text: &[u8],
 ) -> anyhow::Result<Vec<u8>> {
-    let Ok(store) = open::<D>(alloc, image.files(alloc)?) else {
-        bail!("the files can't be opened");
-    };
-    let mut desk = Desk::new(store);
-    Ok(answer(alloc, &mut desk, MOMENT, text)?)
+    match open::<D>(alloc, image.files(alloc)?) {
+        Ok(store) => Ok(answer(alloc, &mut Desk::new(store), MOMENT, text)?),
+        Err(_) => bail!("the files can't be opened"),
+    }
 }

@@ -54,6 +54,25 @@ fn rows_in<A: Alter + Drop>(
     }
 }
 
+/// Runs statements.
+pub fn run_all<A: Alter + Drop>(connection: &mut Connection<A>, sql: &str) -> anyhow::Result<()> {
+    connection.execute_batch(sql)?;
+    Ok(())
+}
+
+/// The texts that a query of one column lists.
+pub fn texts_of<A: Alter + Drop>(
+    alloc: Global,
+    connection: &mut Connection<A>,
+    query: &str,
+) -> anyhow::Result<Vec<String>> {
+    let mut texts = Vec::new(alloc);
+    for row in &connection.query_all(query, &[])? {
+        texts.push(row.get(0)?)?;
+    }
+    Ok(texts)
+}
+
 // Whether there is a table of this name.
 fn has_table<A: Alter + Drop>(connection: &Connection<A>, name: &str) -> bool {
     for table in connection.schema().tables.as_slice() {
