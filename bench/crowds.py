@@ -98,13 +98,14 @@ def city(count, asked=0):
         yield put(f"op{number // 200}", identity, [flight(chance, hubs)], style=style)
 
 
-def strips(count):
-    """Plans on one ground at altitudes of their own, each of 32 strips, one above the other, of one column."""
+def strips(count, operator="op0", volumes=VOLUMES, first=0):
+    """Plans on one ground at altitudes of their own, each of 32 strips, one above the other, of one column. A plan of
+    fewer volumes has fewer strips; `first` numbers the first of them."""
     rows = {"j_min": FIRST_ROW, "j_max": FIRST_ROW + ROWS - 1}
     column = {"face": 0, "i_min": COLUMN, "i_max": COLUMN, **rows, "level": 24}
-    for number in range(count):
-        lowers = range(320 * number, 320 * (number + 1), 10)
-        yield put("op0", uuid.UUID(int=number + 1), [volume({"rectangle": column}, at, at + 10) for at in lowers])
+    for number in range(first, first + count):
+        lowers = range(320 * number, 320 * number + 10 * volumes, 10)
+        yield put(operator, uuid.UUID(int=number + 1), [volume({"rectangle": column}, at, at + 10) for at in lowers])
 
 
 def random_cells(chance, count):

@@ -19,7 +19,7 @@ DESK = os.environ.get("DESK", str(TOP / "uss_desk"))
 PATIENCE = 60
 """Seconds that a program may take to listen."""
 OPERATORS = {"alfa": "a", "bravo": "b", "carol": "c"}
-"""Names and passwords; each has the ceiling 100."""
+"""Names and passwords, unless others are wanted; each has the ceiling 100."""
 TOMORROW = datetime.now(timezone.utc).replace(hour=0, minute=0, second=0, microsecond=0) + timedelta(days=1)
 
 
@@ -83,7 +83,8 @@ def play(words, stream):
 class Setting:
     """A desk over a file, which is started again whenever it ends, behind nginx."""
 
-    def __init__(self):
+    def __init__(self, operators=None):
+        self.operators = operators or OPERATORS
         self._room = tempfile.TemporaryDirectory(prefix="clients-")
         self.folder = pathlib.Path(self._room.name)
         self.folder.chmod(0o755)
@@ -94,7 +95,7 @@ class Setting:
         self.starts = 0
 
     def __enter__(self):
-        for name in OPERATORS:
+        for name in self.operators:
             words = [DESK, "enrol", "--db", str(self.folder / "desk.db"), name, "100"]
             subprocess.run(words, check=True, timeout=PATIENCE)
         threading.Thread(target=self._keep, daemon=True).start()
@@ -127,14 +128,23 @@ class Setting:
     def kill_desk(self):
         self._desk.send_signal(signal.SIGKILL)
 
+    def hold_desk(self):
+        """The desk takes no connection until it is let go."""
+        self._desk.send_signal(signal.SIGSTOP)
+
+    def let_desk_go(self):
+        self._desk.send_signal(signal.SIGCONT)
+
     def _start_proxy(self):
         text = (TOP / "examples" / "nginx.conf").read_text(encoding="utf-8")
-        text = text.replace("127.0.0.1:8080", f"127.0.0.1:{self.port}")
         text = text.replace("127.0.0.1:8081", f"127.0.0.1:{self.proxy_port}")
         text = text.replace("127.0.0.1:8082", f"127.0.0.1:{self.inner_port}")
+        # without the queue, which serve_check drives
+        text = text.replace("127.0.0.1:8083", f"127.0.0.1:{self.port}")
         (self.folder / "nginx.conf").write_text(text, encoding="utf-8")
-        shutil.copy(TOP / "examples" / "nginx_refusals.conf", self.folder)
-        lines = "".join(f"{name}:{{PLAIN}}{password}\n" for name, password in OPERATORS.items())
+        for name in ("nginx_refusals.conf", "nginx_outcome.js"):
+            shutil.copy(TOP / "examples" / name, self.folder)
+        lines = "".join(f"{name}:{{PLAIN}}{password}\n" for name, password in self.operators.items())
         (self.folder / "operators.htpasswd").write_text(lines, encoding="utf-8")
         words = ["nginx", "-p", str(self.folder), "-c", str(self.folder / "nginx.conf")]
         with open(self.folder / "nginx.errors", "w", encoding="utf-8") as errors:
@@ -143,7 +153,7 @@ class Setting:
 
     def desk(self, name, **more):
         """The desk through nginx, as an operator."""
-        return Desk(self.url, user=name, password=OPERATORS[name], patience=PATIENCE, **more)
+        return Desk(self.url, user=name, password=self.operators[name], patience=PATIENCE, **more)
 
     def desk_itself(self, name):
         """The desk at its own port."""
@@ -155,7 +165,7 @@ class Setting:
                  str(self.bridge_port)]
         paths = os.pathsep.join(str(TOP / "clients" / part) for part in ("python", "interuss_bridge"))
         self._bridge = subprocess.Popen(words, stdout=subprocess.DEVNULL, env={
-            **os.environ, "PYTHONPATH": paths, "USS_DESK_PASSWORD": OPERATORS[name], "PYTHONDONTWRITEBYTECODE": "1"})
+            **os.environ, "PYTHONPATH": paths, "USS_DESK_PASSWORD": self.operators[name], "PYTHONDONTWRITEBYTECODE": "1"})
         until("the bridge", lambda: is_listening(self.bridge_port))
         return f"http://127.0.0.1:{self.bridge_port}"
 

@@ -1,17 +1,24 @@
 """Damage in the log that a killed desk left: the file is refused, or has what was answered, or that without its last
 changes; and damage in FILE beside such a log."""
+import itertools
 import pathlib
 import random
+import re
 from typing import List, NamedTuple
 
+from faults.program import TOP
 from lies.changes import change_by_chance, make_file
 from lies.damage import FRAME, HEAD, SECTOR, bit, burst, cut, damaged, zeroed
 from lies.desk import Complaint, Desk, log_of, opened
-from lies.flights import World, read_all
+from lies.flights import Flight, World, clear, delete, put, read_all
 
 # how many frames the log may hold before the next change copies it into FILE, and how many a change may write
 FRAMES = 320
 CHANGE = 100
+
+
+# README's words on how many changes a log holds
+HELD = re.search(r"some (\d+) to (\d+)\s+changes", (TOP / "README.md").read_text())
 
 
 class Left(NamedTuple):
@@ -62,6 +69,45 @@ def leave(counts, room):
     return Left(path.read_bytes(), live, log[len(live) :], logs[0], worlds)
 
 
+def changes_of_each_kind():
+    """Changes of new flights of two operators: their kind, and what makes one."""
+    for numbers, cells in ((range(30, 110), 1), (range(110, 170), 8)):
+        flights = [(operator, number) for number in numbers for operator in (1, 3)]
+        yield from ((f"PUTs of {cells} cells", put, *flight, Flight(cells, 30)) for flight in flights)
+        yield from ((f"DELETEs of {cells} cells", delete, *flight) for flight in flights)
+        yield from ((f"clears of {cells} cells", clear, *flight) for flight in flights)
+
+
+def held_by_logs(path):
+    """Each change of a desk that serves: its kind, the salts of the log that has it, and how many frames that has."""
+    world = make_file(path, 4).world
+    with Desk(path) as desk:
+        for kind, maker, *words in changes_of_each_kind():
+            asked, told, world = maker(world, *words)
+            if desk.ask(asked) != told:
+                raise Complaint(f"one of the {kind} has a wrong answer")
+            log = log_of(path).read_bytes()
+            yield kind, log[16:24], frames_of(log)
+
+
+def lengths(counts, room):
+    """How many changes a log holds until it is copied into FILE: as many as README says, to a tenth, whatever they
+    are."""
+    made = list(held_by_logs(room / "lengths.db"))
+    logs = [list(group) for _, group in itertools.groupby(made, lambda change: change[1])]
+    for log, later in zip(logs, logs[1:]):
+        # A log is begun anew by the change that finds FRAMES or more, and by no other.
+        counts.expect("the log is begun anew at its bound", all(frames < FRAMES for _, _, frames in log[:-1]))
+        counts.expect("and not before", log[-1][2] >= FRAMES and later[0][2] < FRAMES)
+    whole = [(log[0][0], len(log)) for log in logs[1:-1] if len({kind for kind, _, _ in log}) == 1]
+    least, most = (int(number) for number in HELD.groups())
+    for kind in dict.fromkeys(kind for kind, _, _ in made):
+        held = [count for one, count in whole if one == kind]
+        counts.expect(f"{kind} in a log: {held}, and README says {least} to {most}",
+                      held and 0.9 * least <= min(held) and max(held) <= 1.1 * most)
+        print(f"lies: a log holds {min(held, default=0)} to {max(held, default=0)} {kind}", flush=True)
+
+
 def swapped_frames(data, _, chance):
     """Two frames at each other's place."""
     one, other = (HEAD + number * FRAME for number in chance.sample(range((len(data) - HEAD) // FRAME), 2))
@@ -92,6 +138,7 @@ KINDS = [
 
 def log(counts, room, times):
     """The part."""
+    lengths(counts, room)
     left = leave(counts, room)
     reading = [read_all(world)[1] for world in left.worlds]
     lost = []

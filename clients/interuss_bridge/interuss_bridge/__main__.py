@@ -4,11 +4,19 @@ It asks for no token, so it listens at 127.0.0.1 unless it is told another addre
 """
 import argparse
 import os
+import sys
 
-from aiohttp import web
+try:
+    from aiohttp import web
 
-from interuss_bridge.server import Bridge
-from uss_desk_client import Desk
+    from interuss_bridge.server import Bridge
+    from uss_desk_client import Desk
+    from uss_desk_client.library import found
+
+    found()
+except ImportError as missing:
+    needed = "apt-get install -y python3-pywraps2 python3-aiohttp, and run it by Debian's own /usr/bin/python3"
+    sys.exit(f"interuss_bridge: {missing.name or 'pywraps2'} isn't there for {sys.executable}: {needed}")
 
 
 def main() -> None:

@@ -69,6 +69,8 @@ class Bridge:
             answer = await self._ask(self._desk.close, plan_id)
         except NoAnswer as why:
             return await self._as_stored("Failed", plan_id, str(why))
+        except NoSuchPlan as why:
+            return self._told("Rejected", "NotPlanned", f"{why.word}: {why.advice}")
         return web.json_response(response_of(answer, self._tells_conflict))
 
     async def clear(self, request: web.Request) -> web.Response:
@@ -87,6 +89,10 @@ class Bridge:
             status = (await self._ask(self._desk.show, plan_id)).status
         except NoSuchPlan:
             status = "NotPlanned"
+        return self._told(result, status, notes)
+
+    def _told(self, result: str, status: str, notes: str) -> web.Response:
+        """A result that no conflict brought about."""
         return web.json_response(planning_response(result, status, notes, False if self._tells_conflict else None))
 
 
@@ -103,8 +109,6 @@ async def worded(request: web.Request, handler: Handler) -> web.StreamResponse:
         return await handler(request)
     except Malformed as why:
         return refusal(400, "bad_message", str(why))
-    except NoSuchPlan as why:
-        return refusal(404, why.word, why.advice)
     except Refused as why:
         is_callers = why.status in (400, 413)
         return refusal(why.status if is_callers else 502, why.word, str(why.fault or why.advice))

@@ -29,6 +29,7 @@ class Start(NamedTuple):
 
     moment: int
     equal: Tuple[int, ...]
+    spans: Optional[int]
     enrolled: Tuple[Tuple[str, int], ...]
     requests: Tuple[bytes, ...]
 
@@ -36,12 +37,14 @@ class Start(NamedTuple):
         """The words of the line, over a file or, if none is named, in memory."""
         file = ["--db", path] if path else []
         equal = ["--equal", ",".join(map(str, self.equal))] if self.equal else []
+        spans = ["--spans", str(self.spans)] if self.spans else []
         return [
             "play",
             "--at",
             str(self.moment),
             *file,
             *equal,
+            *spans,
             "--",
             *(f"{name}={most}" for name, most in self.enrolled),
         ]
@@ -95,7 +98,8 @@ def make_history(seed: int, number: int) -> History:
         given = requests(
             scene, asked, [] if at else edges, hostile if kind == "heads" or dice.random() < 0.2 else None
         )
-        starts.append(Start(scene.moment, equal, enrolment(dice, names), given))
+        spans = dice.choice([None, None, None, 1, 2, 3, 5, 20, 300, 5_000_000])
+        starts.append(Start(scene.moment, equal, spans, enrolment(dice, names), given))
     return History(tuple(starts), kind == "file")
 
 
@@ -125,7 +129,7 @@ def full_history(scene: Scene) -> History:
     scene.ids = [f"{number:032x}" for number in (0, 1, 198, 199, 200, 201)]
     found += [heads.plain(scene) for _ in range(12)]
     found += [small_put(it, number, dice) for it in (other, name) for number in (0, 1, 204, 205)]
-    return History((Start(scene.moment, (), ((name, 1000), (other, 1000)), tuple(found)),), dice.random() < 0.5)
+    return History((Start(scene.moment, (), dice.choice([None, 199, 200]), ((name, 1000), (other, 1000)), tuple(found)),), dice.random() < 0.5)
 
 
 def small_put(name: str, number: int, dice: Random) -> bytes:
@@ -153,7 +157,7 @@ def at_mock(history: History, path: str) -> Iterator[Ran]:
         store = Store(path or ":memory:")
         for name, ceiling in start.enrolled:
             store.enrol(name, ceiling)
-        desk = Desk(store, start.equal, lambda: start.moment)
+        desk = Desk(store, start.equal, lambda: start.moment, start.spans)
         told = list(play(desk, b"".join(start.requests)))
         store.close()
         word = told[-1][1] if told else ""

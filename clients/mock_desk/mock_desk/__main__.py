@@ -47,6 +47,7 @@ def read_line(words: Sequence[str]) -> argparse.Namespace:
     line.add_argument("--requests", type=number_within(1, 1_000_000), help="with --port: how many connections")
     line.add_argument("--db", default=":memory:", metavar="FILE", help="a file of this program's own")
     line.add_argument("--equal", metavar="P,P,..", help="the priorities that are permitted")
+    line.add_argument("--spans", type=number_within(1, 5_000_000), metavar="N", help="the most spans of live plans")
     line.add_argument("operators", nargs="*", metavar="NAME=CEILING", help="operators to enrol first")
     end = words.index("--") if "--" in words else len(words)
     found = line.parse_intermixed_args(words[:end])
@@ -152,9 +153,9 @@ def main(words: Sequence[str]) -> int:
         equal = read_equal(line.equal)
         store = open_store(line.db, [read_operator(it) for it in line.operators])
         if line.at is not None:
-            play_input(Desk(store, equal, lambda: line.at))
+            play_input(Desk(store, equal, lambda: line.at, line.spans))
         else:
-            serve(Desk(store, equal, lambda: int(time.time())), line.port, line.requests)
+            serve(Desk(store, equal, lambda: int(time.time()), line.spans), line.port, line.requests)
     except Failed as failed:
         print(f"uss_desk: {failed.word}", file=sys.stderr)
         return failed.status

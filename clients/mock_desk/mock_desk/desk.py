@@ -101,10 +101,13 @@ def first_conflict(
 
 
 class Desk:
-    """A store of operators and plans, the permitted equal priorities, and the moment of a request."""
+    """A store of operators and plans, the permitted equal priorities, the most spans of an operator's live plans (None:
+    any number), and the moment of a request."""
 
-    def __init__(self, store: Store, equal: Tuple[int, ...], clock: Callable[[], int]) -> None:
-        self.store, self.equal, self.clock = store, equal, clock
+    def __init__(
+        self, store: Store, equal: Tuple[int, ...], clock: Callable[[], int], spans: Optional[int] = None
+    ) -> None:
+        self.store, self.equal, self.clock, self.spans = store, equal, clock, spans
 
     def answer(self, request: Request) -> bytes:
         """The whole answer to a request, whose change is made."""
@@ -177,7 +180,7 @@ class Desk:
         """Decides a PUT, and stores what it asks if nothing refuses it."""
         stored = self.store.plans[operator].get(plan_id)
         step = step_of(stored, asked)
-        note = self.note_of(operator, stored, asked, step)
+        note = self.note_of(operator, plan_id, asked, step)
         found = None
         if not note and step == "CHECK":
             found = self.conflict(operator, plan_id, asked.area, asked.priority)
@@ -192,7 +195,7 @@ class Desk:
             self.store.save(operator, plan_id, after)
         return decision(status_of(after), "", "Completed")
 
-    def note_of(self, operator: str, stored: Optional[Plan], asked: Put, step: str) -> str:
+    def note_of(self, operator: str, plan_id: str, asked: Put, step: str) -> str:
         """The note of the first refusal but that for a conflict; empty if there is none."""
         moment = self.clock()
         reports = asked.usage == "InUse" and asked.aircraft != "Nominal"
@@ -206,9 +209,23 @@ class Desk:
             return "horizon"
         if step != "CLOSE" and asked.priority > self.store.ceilings[operator]:
             return "priority"
-        if step != "CLOSE" and stored is None and len(self.store.plans[operator]) >= PLANS_MOST:
+        plans = self.store.plans[operator]
+        if step != "CLOSE" and plan_id not in plans and len(plans) >= PLANS_MOST:
             return "plans_limit"
+        if step != "CLOSE" and self.is_over(operator, plan_id, asked.area):
+            return "spans_limit"
         return ""
+
+    def is_over(self, operator: str, plan_id: str, area: Tuple[Volume, ...]) -> bool:
+        """Whether the operator's other live plans and a plan of an area would take too many spans."""
+        plans = self.store.plans[operator]
+        others = (plan.area for it, plan in plans.items() if it != plan_id and plan.usage != "Closed")
+        return self.spans is not None and sum(map(span_count, [area, *others])) > self.spans
+
+
+def span_count(area: Tuple[Volume, ...]) -> int:
+    """How many spans a plan of an area takes: one for each range of each of its volumes."""
+    return sum(len(volume.ranges) for volume in area)
 
 
 def decision(status: str, note: str, result: str) -> Dict[str, Any]:

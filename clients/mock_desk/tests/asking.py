@@ -13,12 +13,18 @@ NOON = "2026-06-01T12:00:00Z"
 ONE = "2026-06-01T13:00:00Z"
 
 
-def desk(equal: Tuple[int, ...] = (), moment: int = MOMENT, path: str = ":memory:", **ceilings: int) -> Desk:
+def desk(
+    equal: Tuple[int, ...] = (),
+    moment: int = MOMENT,
+    path: str = ":memory:",
+    spans: Optional[int] = None,
+    **ceilings: int,
+) -> Desk:
     """A desk of operators with their ceilings; of alfa and bravo with 100 if none is named."""
     store = Store(path)
     for name, ceiling in (ceilings or {"alfa": 100, "bravo": 100}).items():
         store.enrol(name, ceiling)
-    return Desk(store, equal, lambda: moment)
+    return Desk(store, equal, lambda: moment, spans)
 
 
 def request(method: str, path: str, operator: str = "alfa", body: Optional[Any] = None) -> bytes:

@@ -23,8 +23,8 @@ def run(*words, given=b""):
 @pytest.mark.parametrize("name", sorted(it.stem for it in EXAMPLES.glob("*.http")))
 def test_examples(name):
     given, wanted = ((EXAMPLES / f"{name}.{it}").read_bytes() for it in ("http", "answer"))
-    equal = ["--equal", "10"] if name == "permitted" else []
-    assert run("--at", "1780315000", *equal, "alfa=100", "bravo=100", given=given) == (0, wanted, "")
+    terms = {"permitted": ["--equal", "10"], "spans_limit": ["--spans", "2"]}.get(name, [])
+    assert run("--at", "1780315000", *terms, "alfa=100", "bravo=100", given=given) == (0, wanted, "")
 
 
 def test_a_file(tmp_path):

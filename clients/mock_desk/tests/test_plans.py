@@ -145,6 +145,21 @@ def test_the_greatest_priority_at_the_first_point():
     assert body["conflict"] == {"altitude": 150, "cell": "0000000000000001", "priority": 20, "second": 1780315200}
 
 
+def test_spans():
+    # one cell, and cells that follow each other, are one span; these two are two
+    two = volume(["04", "14"])
+    at = desk(spans=2)
+    assert put(at, "alfa", ID, two)[2] == ""
+    assert put(at, "alfa", ID, two, usage="InUse")[2] == ""
+    assert put(at, "alfa", OTHER, volume(["3"])) == ("Rejected", "NotPlanned", "spans_limit")
+    assert put(at, "alfa", OTHER, volume(["3"]), style="Hypothetical")[2] == "spans_limit"
+    assert put(at, "bravo", OTHER, volume(["5", "9"]))[2] == ""
+    assert put(at, "alfa", OTHER, volume(["5"]))[2] == "spans_limit"
+    assert put(at, "alfa", ID, volume(["04", "14", "3"]), usage="InUse", aircraft="OffNominal")[2] == "spans_limit"
+    ask(at, "DELETE", f"/flight_plans/{ID}")
+    assert put(at, "alfa", OTHER, volume(["04", "0c", "1c"]))[2] == ""
+
+
 def test_permitted_priorities():
     at = desk(equal=(10,))
     put(at, "alfa", ID)

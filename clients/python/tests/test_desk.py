@@ -132,6 +132,25 @@ def test_patience_ends():
     assert ended.value.may_stand and 2 <= len(server.asked) < 100
 
 
+def test_waiting_is_told_at_once_and_each_so_many_seconds(monkeypatch):
+    monkeypatch.setattr(desk_module, "TELL_EACH", 0.2)
+    monkeypatch.setattr(desk_module, "LONGEST_PAUSE", 0.5)
+    lines, begun = [], time.monotonic()
+    _, desk = asks(*[(502, b"")] * 1_000, patience=0.9, tell=lambda line: lines.append((time.monotonic() - begun, line)))
+    with pytest.raises(NoAnswer):
+        desk.status()
+    moments = [moment for moment, _ in lines]
+    assert moments[0] < 0.15 and all(0.18 < later - sooner < 0.35 for sooner, later in zip(moments, moments[1:]))
+    assert len(lines) >= 3 and lines[0][1] == "no answer yet (502 bad_gateway); asking again for 1 s"
+
+
+def test_an_answer_at_once_tells_nothing():
+    lines = []
+    _, desk = asks(DONE, tell=lines.append)
+    desk.plan(ID, AREA)
+    assert not lines
+
+
 def test_no_server_changes_nothing():
     with socket.create_server(("127.0.0.1", 0)) as held:
         port = held.getsockname()[1]

@@ -10,7 +10,7 @@ from uss_desk_client.geojson import collection, features_of_reasons, geometries,
 from uss_desk_client.picture import page_of, svg_of
 from uss_desk_client.shapes import Circle, Corridor, Polygon, ShapeError, Shapes, cells_of
 from uss_desk_client.tokens import evenly, id_of, leaves_of, level_of, token_of
-from uss_desk_client.why import Blocked, Reasons, why
+from uss_desk_client.why import Blocked, Reasons, looks, why
 
 CELLS = ("478fc2d01", "478fc2d03", "478fc2d05", "478fc2d07")
 FIELD = {"type": "Polygon", "coordinates": [[[8.0, 47.0], [8.01, 47.0], [8.01, 47.01], [8.0, 47.0]]]}
@@ -41,6 +41,16 @@ def test_the_blocked_cells_are_found_by_one_request_each_and_one(blocked):
     assert reasons.blocked_cells == [CELLS[at] for at in blocked]
     assert reasons.free_cells == [cell for at, cell in enumerate(CELLS) if at not in blocked]
     assert desk.asked == reasons.requests == len(blocked) + (3 not in blocked)
+
+
+def test_looks_are_told_one_by_one_and_no_more_is_asked_than_is_taken():
+    desk = ListedDesk(*(leaves_of(id_of(CELLS[at]))[0] for at in (1, 2)))
+    asked = looks(desk, [volume(CELLS), volume(CELLS[2:])], 10, usage="Planned")
+    assert desk.asked == 0
+    first = next(asked)
+    assert (first.requests, first.decided, first.cells) == (1, 2, 6) and desk.asked == 1
+    assert [it.cell for it in first.blocked] == [CELLS[1]] and first.blocked[0].volume == volume(CELLS)
+    assert [(it.requests, it.decided, len(it.blocked)) for it in asked] == [(2, 3, 1), (3, 4, 0), (4, 5, 1), (5, 6, 0)]
 
 
 def test_another_refusal_is_raised():

@@ -3,7 +3,8 @@
 Whom to ask, by options or by the environment: USS_DESK_URL; USS_DESK_USER with USS_DESK_PASSWORD, behind a proxy;
 USS_DESK_OPERATOR, at the desk's own port. The exit status is 0 if it was done, 1 if the desk decided and refused (or
 `why` found a blocked cell), 2 if the words of the line are wrong, 3 if a file or the area is wrong, 4 if the desk
-refused the request or didn't answer.
+refused the request or didn't answer, 5 if this Python hasn't the S2 library. While a desk doesn't answer, a line on
+standard error says so at once and each five seconds.
 """
 from __future__ import annotations
 
@@ -17,9 +18,10 @@ from uss_desk_client import limits
 from uss_desk_client.answers import Answer, NotTaken, Plan
 from uss_desk_client.areas import AreaError, Rectangle, Volume, area_of, area_over
 from uss_desk_client.checking import check
-from uss_desk_client.desk import Desk, DeskError, NoAnswer, new_id
+from uss_desk_client.desk import Desk, DeskError, NoAnswer, Tell, new_id
 from uss_desk_client.geojson import collection, features_of_plan, features_of_reasons, lines_in, read_document
 from uss_desk_client.geojson import shape_in
+from uss_desk_client.library import NoLibrary, found
 from uss_desk_client.picture import headline, numbered, page_of, svg_of, windows
 from uss_desk_client.shapes import ShapeError, cells_of
 from uss_desk_client.tokens import evenly
@@ -27,14 +29,17 @@ from uss_desk_client.units import UnitError, datetime_of, decimetres_down, decim
 from uss_desk_client.units import second_down, second_up, time_text
 from uss_desk_client.why import why
 
-DONE, REFUSED, WORDS, FILE, DESK = 0, 1, 2, 3, 4
+DONE, REFUSED, WORDS, FILE, DESK, LIBRARY = 0, 1, 2, 3, 4, 5
 
 
 def main(words: Optional[Sequence[str]] = None) -> int:
     """Runs the command with these words, or those of the line."""
     asked = reader().parse_args(words)
     try:
+        found()
         return int(asked.run(asked))
+    except NoLibrary as wrong:
+        return fail(str(wrong), LIBRARY)
     except (ShapeError, UnitError, AreaError) as wrong:
         return fail(str(wrong), FILE)
     except NotTaken as refused:
@@ -51,8 +56,12 @@ def main(words: Optional[Sequence[str]] = None) -> int:
 
 
 def fail(words: str, status: int) -> int:
-    print(f"uss-plan: {words}", file=sys.stderr)
+    warn(words)
     return status
+
+
+def warn(words: str) -> None:
+    print(f"uss-plan: {words}", file=sys.stderr, flush=True)
 
 
 # ---- the words of the line
@@ -60,14 +69,7 @@ def fail(words: str, status: int) -> int:
 def reader() -> argparse.ArgumentParser:
     top = argparse.ArgumentParser(prog="uss-plan", description="Plans drone flights at a planning desk.")
     whom = argparse.ArgumentParser(add_help=False)
-    group = whom.add_argument_group("whom to ask")
-    group.add_argument("--url", default=os.environ.get("USS_DESK_URL"), help="of the desk (or USS_DESK_URL)")
-    group.add_argument("--user", default=os.environ.get("USS_DESK_USER"), help="behind a proxy (or USS_DESK_USER)")
-    group.add_argument("--password-file", metavar="FILE", help="its first line is the password (or USS_DESK_PASSWORD)")
-    group.add_argument("--operator", default=os.environ.get("USS_DESK_OPERATOR"),
-                       help="at the desk's own port (or USS_DESK_OPERATOR)")
-    group.add_argument("--patience", type=float, default=60.0, metavar="SECONDS",
-                       help="how long a request is asked again that isn't answered (60)")
+    add_whom(whom.add_argument_group("whom to ask"))
     commands = top.add_subparsers(dest="command", required=True, metavar="COMMAND")
 
     def command(name: str, run: Callable[[Any], int], help_text: str) -> argparse.ArgumentParser:
@@ -101,6 +103,17 @@ def reader() -> argparse.ArgumentParser:
     return top
 
 
+def add_whom(group: Any, patience: float = 60.0) -> None:
+    """The options that say whom to ask, for `desk_of`."""
+    group.add_argument("--url", default=os.environ.get("USS_DESK_URL"), help="of the desk (or USS_DESK_URL)")
+    group.add_argument("--user", default=os.environ.get("USS_DESK_USER"), help="behind a proxy (or USS_DESK_USER)")
+    group.add_argument("--password-file", metavar="FILE", help="its first line is the password (or USS_DESK_PASSWORD)")
+    group.add_argument("--operator", default=os.environ.get("USS_DESK_OPERATOR"),
+                       help="at the desk's own port (or USS_DESK_OPERATOR)")
+    group.add_argument("--patience", type=float, default=patience, metavar="SECONDS",
+                       help=f"how long a request is asked again that isn't answered ({patience:g})")
+
+
 def add_flight(words: argparse.ArgumentParser) -> None:
     words.add_argument("--altitude", nargs=2, required=True, type=metres, metavar=("LOWER", "UPPER"),
                        help="metres above the WGS84 ellipsoid")
@@ -130,7 +143,7 @@ def moment(word: str) -> str:
     return word
 
 
-def desk_of(asked: Any) -> Desk:
+def desk_of(asked: Any, tell_waiting: Optional[Tell] = warn) -> Desk:
     if not asked.url:
         raise ValueError("no desk is named: use --url or USS_DESK_URL")
     password = os.environ.get("USS_DESK_PASSWORD", "")
@@ -138,8 +151,8 @@ def desk_of(asked: Any) -> Desk:
         with open(asked.password_file, encoding="utf-8") as file:
             password = file.readline().rstrip("\n")
     if asked.operator:
-        return Desk(asked.url, operator=asked.operator, patience=asked.patience)
-    return Desk(asked.url, user=asked.user, password=password, patience=asked.patience)
+        return Desk(asked.url, operator=asked.operator, patience=asked.patience, tell=tell_waiting)
+    return Desk(asked.url, user=asked.user, password=password, patience=asked.patience, tell=tell_waiting)
 
 
 # ---- what it does

@@ -58,6 +58,9 @@ UNTOUCHED = (429,)
 PLANS, CLEARS = "/flight_plans", "/clear_area_requests"
 FIRST_PAUSE, LONGEST_PAUSE = 0.2, 5.0
 """Seconds before a request is asked again, at first and at most."""
+TELL_EACH = 5.0
+"""Seconds between two lines that say what is waited for."""
+Tell = Callable[[str], None]
 
 
 class DeskError(Exception):
@@ -161,13 +164,14 @@ class Desk:
 
     `Desk("https://desk.example", user="alfa", password=..)` asks behind a proxy that authenticates;
     `Desk("http://127.0.0.1:8080", operator="alfa")` asks at the desk's own port. `timeout` is how many seconds an
-    attempt waits for the next bytes, `patience` after how many a request isn't asked again. Methods raise Refused
-    (NoSuchPlan) if the desk refuses a request, NoAnswer if none came, BadAnswer; a PUT that was decided and refused is
-    an Answer.
+    attempt waits for the next bytes, `patience` after how many a request isn't asked again; meanwhile `tell` is called
+    with a line that says why, at once and each five seconds. Methods raise Refused (NoSuchPlan) if the desk refuses a
+    request, NoAnswer if none came, BadAnswer; a PUT that was decided and refused is an Answer.
     """
 
     def __init__(self, url: str, *, operator: Optional[str] = None, user: Optional[str] = None, password: str = "",
-                 timeout: float = 30.0, patience: float = 60.0, tls: Optional[ssl.SSLContext] = None) -> None:
+                 timeout: float = 30.0, patience: float = 60.0, tls: Optional[ssl.SSLContext] = None,
+                 tell: Optional[Tell] = None) -> None:
         parts = urlsplit(url)
         if parts.scheme not in ("http", "https") or not parts.hostname or parts.query or parts.fragment:
             raise ValueError(f"{url!r} is no URL of a desk, as https://desk.example")
@@ -175,7 +179,7 @@ class Desk:
             raise ValueError("a desk is asked with a user's name and password, or as an operator at its own port")
         self._host, self._port, self._path = parts.hostname, parts.port, parts.path.rstrip("/")
         self._tls = (tls or ssl.create_default_context()) if parts.scheme == "https" else None
-        self._timeout, self._patience = timeout, patience
+        self._timeout, self._patience, self._tell = timeout, patience, tell
         if operator is not None:
             self._fields = {"x-operator": operator}
         else:
@@ -242,7 +246,7 @@ class Desk:
 
     def put(self, plan_id: str, body: Mapping[str, Any]) -> Answer:
         """Asks a PUT with this body. One that may have been done is looked for, and put again if it isn't there."""
-        until, path = Deadline(self._patience), path_of(plan_id)
+        until, path = Deadline(self._patience, self._tell), path_of(plan_id)
         was_lost, is_stored = False, body.get("execution_style") != "Hypothetical"
         while True:
             tried = self._try("PUT", path, body, until)
@@ -284,7 +288,7 @@ class Desk:
     def _again(self, method: str, path: str, body: Optional[Mapping[str, Any]],
                patience: Optional[float] = None) -> Tuple[Response, bool]:
         """The answer to a request that may be asked any number of times, and whether an earlier one was lost."""
-        until = Deadline(self._patience if patience is None else patience)
+        until = Deadline(self._patience if patience is None else patience, self._tell)
         was_lost = False
         while True:
             tried = self._try(method, path, body, until)
@@ -363,8 +367,9 @@ class Unsettled:
 class Deadline:
     """How long a call is asked again, with pauses that grow."""
 
-    def __init__(self, patience: float) -> None:
+    def __init__(self, patience: float, tell: Optional[Tell] = None) -> None:
         self._patience, self._end, self._pause = patience, time.monotonic() + patience, FIRST_PAUSE
+        self._tell, self._tell_at = tell, time.monotonic()
 
     def left(self) -> float:
         return self._end - time.monotonic()
@@ -374,8 +379,19 @@ class Deadline:
         pause = max(self._pause * random.uniform(0.5, 1.0), tried.retry_after)
         if pause >= self.left():
             raise NoAnswer(tried.told, self._patience, may_stand)
-        time.sleep(pause)
+        end = time.monotonic() + pause
+        while time.monotonic() < end:
+            time.sleep(min(max(end - time.monotonic(), 0), self._until_told(tried.told)))
         self._pause = min(self._pause * 2, LONGEST_PAUSE)
+
+    def _until_told(self, why: str) -> float:
+        """The seconds until it is told again why a request waits; now, if it is time."""
+        now = time.monotonic()
+        if now >= self._tell_at:
+            self._tell_at = now + TELL_EACH
+            if self._tell:
+                self._tell(f"no answer yet ({why}); asking again for {max(self.left(), 0):.0f} s")
+        return self._tell_at - now
 
 
 def seconds_of(field: Optional[str]) -> float:

@@ -5,10 +5,9 @@ import json
 import math
 from typing import Any, Dict, Iterable, List, Optional, Sequence, Tuple
 
-import pywraps2 as s2
-
 from uss_desk_client.answers import Plan
 from uss_desk_client.areas import Volume
+from uss_desk_client.library import s2
 from uss_desk_client.shapes import Circle, Corridor, Place, Polygon, Shape, ShapeError, Shapes
 from uss_desk_client.units import Metres, time_text
 from uss_desk_client.why import Reasons

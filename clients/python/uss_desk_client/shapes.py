@@ -12,8 +12,7 @@ import math
 from dataclasses import dataclass
 from typing import Any, Iterable, List, NamedTuple, Sequence, Tuple
 
-import pywraps2 as s2
-
+from uss_desk_client.library import s2
 from uss_desk_client.limits import MAX_CELLS, MAX_VOLUMES
 from uss_desk_client.units import Metres, UnitError, exact
 
@@ -100,7 +99,7 @@ class Corridor(Shape):
         half = angle_of(self.width) / 2
         regions = [cap_of(place, half) for place in path]
         regions += [strip_of(place, after, half) for place, after in zip(path, path[1:])]
-        return merged([cover(region, MAX_CELLS) for region in regions], at_most)
+        return merged([cover(region, max(at_most, MAX_CELLS)) for region in regions], at_most)
 
 
 @dataclass(frozen=True)

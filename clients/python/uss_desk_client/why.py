@@ -6,7 +6,7 @@ request for each blocked cell, and one more.
 from __future__ import annotations
 
 from dataclasses import dataclass, replace
-from typing import List, Optional, Sequence, Tuple
+from typing import Iterator, List, Optional, Sequence, Tuple
 
 from uss_desk_client.answers import Conflict, NotTaken
 from uss_desk_client.areas import AreaError, Volume
@@ -54,27 +54,62 @@ def number_of(token: str) -> int:
     return number
 
 
+@dataclass(frozen=True)
+class Look:
+    """What one request of many told."""
+
+    requests: int
+    """How many PUTs were asked until now."""
+    decided: int
+    """Cells of all volumes that are known to be free or blocked."""
+    cells: int
+    """Cells of all volumes."""
+    blocked: Tuple[Blocked, ...]
+    """The cells that this request has shown to be blocked."""
+
+
+def looks(desk: Desk, area: Sequence[Volume], priority: int = 0, plan_id: Optional[str] = None,
+          usage: Optional[str] = None) -> Iterator[Look]:
+    """What `why` finds, request by request: whoever takes no further look stops the asking. `usage` is that of the
+    stored plan, InUse or Planned, if it is known. Errors as of `why`."""
+    if any(volume.rectangle for volume in area):
+        raise AreaError("of a rectangle it can't be told which of its cells are blocked: use cells")
+    usage = usage or usage_of(desk, plan_id)
+    requests, before, cells = 0, 0, sum(len(volume.cells) for volume in area)
+    for volume in area:
+        rest = sorted(volume.cells, key=number_of)
+        while rest:
+            requests += 1
+            found, rest = look(desk, replace(volume, cells=tuple(rest)), priority, plan_id, usage)
+            decided = before + len(volume.cells) - len(rest)
+            yield Look(requests, decided, cells, tuple(replace(it, volume=volume) for it in found))
+        before += len(volume.cells)
+
+
+def look(desk: Desk, volume: Volume, priority: int, plan_id: Optional[str],
+         usage: str) -> Tuple[List[Blocked], List[str]]:
+    """Asks for a volume whose cells ascend: those of them that are blocked by the least blocked leaf, and those that
+    lie behind it and are still to be asked."""
+    answer = desk.try_plan([volume], priority, plan_id, usage)
+    if answer.is_completed:
+        return [], []
+    if not answer.conflict:
+        raise NotTaken(answer)
+    leaf = number_of(answer.conflict.cell)
+    return ([Blocked(cell, volume, answer.conflict) for cell in volume.cells if has_leaf(cell, leaf)],
+            [cell for cell in volume.cells if leaves_of(number_of(cell))[0] > leaf])
+
+
 def why(desk: Desk, area: Sequence[Volume], priority: int = 0, plan_id: Optional[str] = None) -> Reasons:
     """Which cells of an area are blocked for a flight of this priority. With the id of a stored plan its own version
     doesn't block. A NotTaken is raised if the flight is refused for another reason than a conflict; DeskErrors as of
     `Desk`; an AreaError if a volume has a rectangle in place of cells.
     """
     found: List[Blocked] = []
-    requests, usage = 0, usage_of(desk, plan_id)
-    for volume in area:
-        if volume.rectangle:
-            raise AreaError("of a rectangle it can't be told which of its cells are blocked: use cells")
-        rest = sorted(volume.cells, key=number_of)
-        while rest:
-            requests += 1
-            answer = desk.try_plan([replace(volume, cells=tuple(rest))], priority, plan_id, usage)
-            if answer.is_completed:
-                break
-            if not answer.conflict:
-                raise NotTaken(answer)
-            leaf = number_of(answer.conflict.cell)
-            found += [Blocked(cell, volume, answer.conflict) for cell in rest if has_leaf(cell, leaf)]
-            rest = [cell for cell in rest if leaves_of(number_of(cell))[0] > leaf]
+    requests = 0
+    for one in looks(desk, area, priority, plan_id):
+        found += one.blocked
+        requests = one.requests
     return Reasons(tuple(area), priority, tuple(found), requests)
 
 

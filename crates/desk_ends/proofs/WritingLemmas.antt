@@ -1,9 +1,9 @@
 -- What is written of some bytes.
-use Rattle.std.proofs.Common.{◌≡◌, ℕ, ◌+◌, ◌-◌, ◌≤◌, List, [], ◌++◌, Option, length, take, drop, sym, ap, subst, ◌∙◌, arith, append-nil, length-drop, Result, Ok}
+use Rattle.std.proofs.Common.{◌≡◌, ℕ, ◌+◌, ◌-◌, ◌≤◌, List, ◌++◌, Option, length, take, drop, sym, ap, subst, ◌∙◌, arith, length-drop, Result, Ok, Err, IfOk, OnErr}
 use Rattle.std.specs.Io.{WritesAtMost}
 use Rattle.std.proofs.lemmas.List.{take_all, take-take, drop-take, take-append-drop}
-use Rattle.std.proofs.KnownBytes.{Appends-trans}
-use Rattle.std.specs.Io.KnownBytes.{Appends}
+use Rattle.std.proofs.KnownBytes.{Appends-kept, Appends-trans}
+use Rattle.std.specs.Io.KnownBytes.{Appends, WriteAppends}
 
 pub written_all : (out now : Option (List ℕ)) (bytes : List ℕ) (n : ℕ) → Appends out now (take n bytes)
     → n
@@ -27,18 +27,18 @@ written_more out now after bytes rest n m h more is within =
     subst (Appends out after) (ap (λ r. take n bytes ++ take m r) is ∙ take_more_rest n m bytes within)
     (Appends-trans out now after (take n bytes) (take m rest) h more)
 
-pub written_none : (out now after : Option (List ℕ)) (bytes rest : List ℕ) (n m : ℕ)
-    → Appends out now (take n bytes) → Appends now after (take m rest) → m ≡ 0
-    → Appends out after (take n bytes)
-written_none out now after bytes rest n m h more none =
-    subst (Appends out after) (append-nil (take n bytes))
-    (Appends-trans out now after (take n bytes) [] h
-    (subst (λ k. Appends now after (take k rest)) none more))
-
--- the bytes that are not written yet, as a slice
-pub length_rest : (n : ℕ) (xs : List ℕ) → length (take (length xs - n) (drop n xs)) ≡ length xs - n
-length_rest n xs = ap length (rest_is n xs) ∙ length-drop n xs
-
-pub written_bound : {E : Type 0} (r : Result ℕ E) (bytes : List ℕ) (count : ℕ) → r ≡ Ok count
-    → WritesAtMost r bytes → count ≤ length bytes
-written_bound r bytes count is h = rw is at h
+-- what one write took more
+pub taken_more : {E : Type 0} (written : Result ℕ E) (out now after : Option (List ℕ)) (bytes rest : List ℕ)
+    (n taken : ℕ) → Appends out now (take n bytes) → rest ≡ drop n bytes → n ≤ length bytes
+    → IfOk written (λ count. taken ≡ count) → OnErr written (taken ≡ 0) → WritesAtMost written rest
+    → WriteAppends now after written rest
+    → (n + taken ≤ length bytes) × Appends out after (take (n + taken) bytes)
+taken_more (Ok count) out now after bytes rest n taken h is within ok err bound more = (
+  omega (arith, ok, bound, ap length is, length-drop n bytes, within),
+  written_more out now after bytes rest n taken h (subst (λ k. Appends now after (take k rest)) (sym ok) more)
+      is within,
+)
+taken_more (Err e) out now after bytes rest n taken h is within ok err bound more = (
+  omega (arith, err, within),
+  subst (λ k. Appends out after (take k bytes)) (omega (arith, err)) (Appends-kept out now after _ h more),
+)

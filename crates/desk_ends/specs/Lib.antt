@@ -1,5 +1,6 @@
--- Read first: Writing, Moments. What stands in laws/ is checked and needn't be read.
+-- Read first: Writes, Writing, Moments. What stands in laws/ is checked and needn't be read.
 pub mod Moments
+pub mod Writes
 pub mod Writing
 pub mod Serving
 pub mod laws

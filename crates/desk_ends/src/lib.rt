@@ -4,9 +4,11 @@
 mod interruption;
 mod playing;
 mod serving;
+mod writes;
 mod writing;
 
 pub use interruption::is_interruption;
 pub use playing::PlayEnd;
 pub use serving::{ServeFault, Served};
+pub use writes::{LastWrite, Writes};
 pub use writing::{WriteEnd, WriteFault, write_whole};

@@ -1,11 +1,12 @@
 //! The writing of bytes, whole or broken off.
 
-ghost use Rattle.std.specs.Prelude.{◌≡◌, ◌≤◌, ◌↔◌, length, take, IfErr, OnOk};
+ghost use Rattle.std.specs.Prelude.{◌≡◌, ◌≢◌, ◌≤◌, ◌+◌, ℕ, length, take, IfErr, IfOk, OnErr, OnOk};
 ghost use Rattle.std.specs.Io.KnownBytes.{Appends};
-ghost use Rattle.desk_ends.specs.Writing.{BreaksOff};
+ghost use Rattle.desk_ends.specs.Writing.{BreaksOff, EndsBy, spare_writes};
+ghost use Rattle.desk_ends.specs.declared.writes.Writes.{Writes};
 
-use crate::interruption::is_interruption;
-use std::io::Write;
+use crate::writes::{LastWrite, Writes, write_counted};
+use std::io::{self, Write};
 
 /// How many writes an answer may take beside one for each of its bytes.
 const SPARE_WRITES: usize = 1_000;
@@ -29,6 +30,7 @@ pub enum WriteEnd {
 pub struct WriteFault {
     sent: usize,
     end: WriteEnd,
+    writes: Writes,
 }
 
 impl WriteFault {
@@ -45,13 +47,20 @@ impl WriteFault {
     {
         self.end
     }
+
+    /// The writes that there were.
+    pub fn writes(self) -> Writes
+        ensures { result ≡ self.writes }
+    {
+        self.writes
+    }
 }
 
-// How many bytes were written, the first ones, and why no more were.
+// How many bytes were written, the first ones, and by which writes.
 #[derive(Clone, Copy)]
 struct Written {
     sent: usize,
-    end: WriteEnd,
+    writes: Writes,
 }
 
 /// Writes all bytes, in at most as many writes as they are and 1,000.
@@ -64,12 +73,12 @@ pub fn write_whole<W: Write>(output: &mut W, bytes: &[u8]) -> Result<(), WriteFa
     ensures ok { OnOk result (Appends (W.contents output.old) (W.contents output.new) bytes.now) }
     ensures err { IfErr result (BreaksOff bytes.now (W.contents output.old) (W.contents output.new)) }
 {
-    let Written { sent, end } = write_most(output, bytes);
-    if end == WriteEnd::Whole {
-        Ok(())
-    } else {
-        Err(WriteFault { sent, end })
+    let Written { sent, writes } = write_most(output, bytes);
+    if sent == bytes.len() {
+        return Ok(());
     }
+    let end = end_of(writes.last());
+    Err(WriteFault { sent, end, writes })
 }
 
 // Writes the first bytes, as many as the output takes in so many writes.
@@ -77,42 +86,39 @@ fn write_most<W: Write>(output: &mut W, bytes: &[u8]) -> Written
     ensures written { Appends (W.contents output.old) (W.contents output.new)
         (take result.sent bytes.now) }
     ensures within { result.sent ≤ length bytes.now }
-    ensures whole { (result.end ≡ WriteEnd.Whole) ↔ (result.sent ≡ length bytes.now) }
+    ensures limit { result.sent ≢ length bytes.now → result.writes.last ≡ LastWrite.Passed
+        → result.writes.count ≡ length bytes.now + spare_writes }
 {
     let mut sent = 0;
+    let mut writes = Writes::none();
     for _ in 0..bytes.len().saturating_add(SPARE_WRITES) {
         if sent == bytes.len() {
-            return Written {
-                sent,
-                end: WriteEnd::Whole,
-            };
+            return Written { sent, writes };
         }
-        match output.write(&bytes[sent..]) {
-            Ok(0) => return Written {
-                sent,
-                end: WriteEnd::Nothing,
-            },
-            Ok(count) => sent += count,
-            Err(error) if is_interruption(&error) => {}
-            Err(_) => return Written {
-                sent,
-                end: WriteEnd::Failed,
-            },
+        sent += taken(write_counted(output, &bytes[sent..], &mut writes));
+        if !writes.may_go_on() {
+            return Written { sent, writes };
         }
     }
-    Written {
-        sent,
-        end: end_at_limit(sent, bytes.len()),
-    }
+    Written { sent, writes }
 }
 
-// Why the writing ended after the last write that it may take.
-fn end_at_limit(sent: usize, length: usize) -> WriteEnd
-    ensures { (result ≡ WriteEnd.Whole) ↔ (sent ≡ length) }
+// How many bytes a write took.
+fn taken(written: io::Result<usize>) -> usize
+    ensures ok { IfOk written (λ count. result ≡ count) }
+    ensures err { OnErr written (result ≡ 0) }
 {
-    if sent == length {
-        WriteEnd::Whole
-    } else {
-        WriteEnd::Limit
+    written.unwrap_or(0)
+}
+
+// Why the writing of bytes ended that are not all written, by how the last write came out.
+fn end_of(last: LastWrite) -> WriteEnd
+    ensures { (writes : Writes) → (count : ℕ) → writes.last ≡ last
+        → (last ≡ LastWrite.Passed → writes.count ≡ count + spare_writes) → EndsBy result writes count }
+{
+    match last {
+        LastWrite::Passed => WriteEnd::Limit,
+        LastWrite::Nothing => WriteEnd::Nothing,
+        LastWrite::Failed => WriteEnd::Failed,
     }
 }

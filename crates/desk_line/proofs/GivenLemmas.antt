@@ -1,18 +1,25 @@
 -- What `clap` found for an argument, as the value that was given.
-use Rattle.std.proofs.Common.{◌≡◌, ◌∙◌, ap, sym, Bor, ℕ, ℤ, Bool, true, false, List, [], ◌∷◌, Option, Some, None, Result, refl, IfSome, codes, option_map, unwrap_or, map, w64, ◌<◌, ◌^◌, SFits, subst}
+use Rattle.std.proofs.Common.{◌≡◌, ◌∙◌, ap, sym, Bor, ℕ, ℤ, Bool, true, false, List, [], ◌∷◌, Option, Some, None, Result, Ok, Err, refl, IfSome, codes, option_map, unwrap_or, map, w64, ◌<◌, ◌^◌, SFits, subst}
 use Rattle.std.specs.Option.{IsSomeAnd}
+use Rattle.std.specs.Result.{result_ok}
 use Rattle.std.specs.Str.{bytes_eq}
 use Rattle.std.specs.Str.Parse.{ParsesBool, ParsesSigned, ParsesUnsigned}
 use Rattle.std.proofs.lemmas.Slice.Eq.{bytes_eq-Decides}
 use Rattle.clap.proofs.WalkLemmas.{one_text-rows}
-use Rattle.clap.specs.Matches.{ReadsOne, one_text}
+use Rattle.clap.specs.Matches.{ReadsOne, TriesOne, one_text}
 use Rattle.clap.specs.Walk.{Text, rows_of}
 use Rattle.clap.specs.declared.parser.matches.Found.{Found}
-use Rattle.desk_line.specs.Grammar.{IsNumberGiven, IsSecondGiven, WritesNumber, WritesSecond, enrolment_in, is_given}
+use Rattle.desk_line.specs.Grammar.{IsNumberGiven, IsNumberOrNone, IsSecondGiven, WritesNumber, WritesSecond, enrolment_in, is_given}
 use Rattle.desk_line.specs.declared.line.Enrolment.{Enrolment}
 
 some_none : {A B : Type 0} (x : A) → Some x ≡ None → B
 some_none x h = cc
+
+ok_none : {A E B : Type 0} (x : A) → ◌≡◌ {A = Result (Option A) E} (Ok (Some x)) (Ok None) → B
+ok_none x h = cc
+
+err_none : {A E B : Type 0} (x : E) → ◌≡◌ {A = Result (Option A) E} (Err x) (Ok None) → B
+err_none x h = cc
 
 -- a number that `clap` reads, and one that it doesn't
 module _ {E : Type 0} (M N : Text → Result ℕ E → Type 0) (k : ℕ) (f : Found) (id : Text) where
@@ -39,6 +46,43 @@ module _ {E : Type 0} (M N : Text → Result ℕ E → Type 0) (k : ℕ) (f : Fo
       go : (o : Option Text) → one_text f id ≡ o → IsSomeAnd o (WritesNumber n) → ⊥
       go None e g = g
       go (Some t) e g = (value t e).1.0 (g.0, subst (λ m. m < 2 ^ k) g.1 fits)
+
+-- a number that `clap` reads, if there is one
+module _ {E : Type 0} (M N : Text → Result ℕ E → Type 0) (k : ℕ) (f : Found) (id : Text) where
+  abbrev Tries : Result (Option ℕ) E → Type 0
+  Tries r = (t : Text) → one_text f id ≡ Some t
+      → TriesOne (λ s x. ParsesUnsigned k 10 s x × M s x × N s x) t r
+
+  pub tried_read : (r : Result (Option ℕ) E) (o : Option (Option ℕ)) → o ≡ result_ok r
+      → (one_text f id ≡ None → r ≡ Ok None) → Tries r → IfSome o (IsNumberOrNone id (rows_of f))
+  tried_read r o is none value =
+      subst (λ p. IfSome p (IsNumberOrNone id (rows_of f))) (sym is) (by r none value)
+    where
+      by : (r : Result (Option ℕ) E) → (one_text f id ≡ None → r ≡ Ok None) → Tries r
+          → IfSome (result_ok r) (IsNumberOrNone id (rows_of f))
+      by (Err e) none value = tt
+      by (Ok None) none value = go (one_text f id) refl where
+        go : (o : Option Text) → one_text f id ≡ o → IsNumberOrNone id (rows_of f) None
+        go None e = sym (one_text-rows f id) ∙ e
+        go (Some t) e = absurd (value t e)
+      by (Ok (Some n)) none value = go (one_text f id) refl where
+        go : (o : Option Text) → one_text f id ≡ o → IsNumberGiven id (rows_of f) n
+        go None e = ok_none n (none e)
+        go (Some t) e = subst (λ o. IsSomeAnd o (WritesNumber n)) (sym e ∙ one_text-rows f id)
+            ((value t e).0.0.0, (value t e).0.1)
+
+  pub tried_none : (r : Result (Option ℕ) E) (o : Option (Option ℕ)) → o ≡ result_ok r
+      → (one_text f id ≡ None → r ≡ Ok None) → Tries r → o ≡ None → (found : Option ℕ)
+      → IfSome found (λ n. n < 2 ^ k) → IsNumberOrNone id (rows_of f) found → ⊥
+  tried_none (Ok m) o is none value missing found fits given = some_none m (sym is ∙ missing)
+  tried_none (Err x) o is none value missing None fits given =
+      err_none x (none (one_text-rows f id ∙ given))
+  tried_none (Err x) o is none value missing (Some n) fits given =
+      go (one_text f id) refl (subst (λ o. IsSomeAnd o (WritesNumber n)) (sym (one_text-rows f id)) given)
+    where
+      go : (o : Option Text) → one_text f id ≡ o → IsSomeAnd o (WritesNumber n) → ⊥
+      go None e g = g
+      go (Some t) e g = (value t e).0 (g.0, subst (λ m. m < 2 ^ k) g.1 fits)
 
 module _ {E : Type 0} (M N : Text → Result ℤ E → Type 0) (f : Found) (id : Text) where
   abbrev ReadsSecond : Option ℤ → Type 0

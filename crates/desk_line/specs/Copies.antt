@@ -17,14 +17,14 @@ SameDatabase a b = file_of b ≡ file_of a
 pub record SamePlay (a b : PlayWords) : Type 0 where
   pub database : SameDatabase a.database b.database
   pub moment : b.moment ≡ a.moment
-  pub permitted : b.permitted ≡ a.permitted
+  pub terms : b.terms ≡ a.terms
   pub enrolments : b.enrolments.items ≡ a.enrolments.items
 
 pub record SameServe (a b : ServeWords) : Type 0 where
   pub database : SameDatabase a.database b.database
   pub port : b.port ≡ a.port
   pub connections : b.connections ≡ a.connections
-  pub permitted : b.permitted ≡ a.permitted
+  pub terms : b.terms ≡ a.terms
   pub enrolments : b.enrolments.items ≡ a.enrolments.items
 
 pub record SameEnrol (a b : EnrolWords) : Type 0 where

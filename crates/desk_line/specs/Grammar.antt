@@ -2,7 +2,8 @@
 -- arguments have.
 use Rattle.std.specs.Prelude.{◌≡◌, ◌≢◌, ◌==◌, ◌+◌, ⊤, Result, Ok, Err, ℕ, ℤ, Bool, pos, true, false, List, [], ◌∷◌, map, take, drop}
 use Rattle.std.specs.Prelude.{codes, string_bytes, if◌then◌else◌}
-use Rattle.std.specs.Prelude.{Option, Some, None, option_map, option_and_then, unwrap_or, fold}
+use Rattle.std.specs.Prelude.{IfSome, Option, Some, None, option_map, option_and_then, unwrap_or, fold}
+use Rattle.std.specs.Int.{IsInRange}
 use Rattle.std.specs.List.{position}
 use Rattle.std.specs.Option.{IsSomeAnd, option_map_or}
 use Rattle.std.specs.Str.{bytes_eq}
@@ -15,12 +16,14 @@ use Rattle.clap.specs.Walk.{Row, Rule, Text, all_of, first_of, one_of}
 use Rattle.clap.specs.declared.error.kind.ErrorKind.TheVariants as kind
 use Rattle.clap.specs.declared.builder.action.ArgAction.TheVariants.{Append, SetTrue}
 use Rattle.clap.specs.declared.builder.value_parser.ValueParser.TheVariants.{Signed}
+use Rattle.desk_rules.specs.Limits.{max_spans}
 use Rattle.desk_rules.specs.Name.{is_operator_name}
+use Rattle.desk_rules.specs.declared.terms.Terms.{Terms}
 use Rattle.volume4d.specs.Limits.{max_second}
 use Rattle.desk_line.specs.Equal.{ArePermittedBy, priority_in}
 use Rattle.desk_line.specs.Lines.{IsLine, IsPlay, IsServe, IsTask}
 use Rattle.desk_line.specs.Lines.{file_of, max_connections, max_port}
-use Rattle.desk_line.specs.Lines.{min_connections, min_port, named_file}
+use Rattle.desk_line.specs.Lines.{min_connections, min_port, min_spans, named_file}
 use Rattle.desk_line.specs.declared.line.Copying.{Copying as CopyWords}
 use Rattle.desk_line.specs.declared.line.Cover.{Cover as CoverWords}
 use Rattle.desk_line.specs.declared.line.Enrol.{Enrol as EnrolWords}
@@ -81,6 +84,9 @@ connections =
 abbrev pub equal : Rule
 equal = option (codes "equal") (codes "equal")
 
+abbrev pub spans : Rule
+spans = number min_spans (pos max_spans) (option (codes "spans") (codes "spans"))
+
 abbrev pub enrolments : Rule
 enrolments = values (codes "enrolments")
 
@@ -98,13 +104,13 @@ abbrev pub picture : Rule
 picture = flag (codes "picture") (codes "svg")
 
 abbrev pub words_of_play : List Rule
-words_of_play = database ∷ moment ∷ equal ∷ enrolments ∷ []
+words_of_play = database ∷ moment ∷ equal ∷ spans ∷ enrolments ∷ []
 
 abbrev pub words_of_token : List Rule
 words_of_token = token ∷ []
 
 abbrev pub words_of_serve : List Rule
-words_of_serve = database ∷ port ∷ connections ∷ equal ∷ enrolments ∷ []
+words_of_serve = database ∷ port ∷ connections ∷ equal ∷ spans ∷ enrolments ∷ []
 
 abbrev pub words_of_cover : List Rule
 words_of_cover =
@@ -177,6 +183,20 @@ IsNumberGiven id rows n = IsSomeAnd (one_of id rows) (WritesNumber n)
 abbrev pub IsSecondGiven : Text → List Row → ℤ → Type 0
 IsSecondGiven id rows z = IsSomeAnd (one_of id rows) (WritesSecond z)
 
+-- the number that was given, or none if none was
+abbrev pub IsNumberOrNone : Text → List Row → Option ℕ → Type 0
+IsNumberOrNone id rows None = one_of id rows ≡ None
+IsNumberOrNone id rows (Some n) = IsNumberGiven id rows n
+
+-- the most spans that an operator's live plans may have
+abbrev pub IsMostOf : List Row → Option ℕ → Type 0
+IsMostOf rows most = IfSome most (IsInRange min_spans max_spans) × IsNumberOrNone (codes "spans") rows most
+
+-- the terms of a desk
+pub record AreTermsOf (rows : List Row) (terms : Terms) : Type 0 where
+  pub permitted : ArePermittedBy (first_of (codes "equal") rows) terms.permitted
+  pub spans : IsMostOf rows terms.spans
+
 -- the flag was given
 abbrev pub is_given : Text → List Row → Bool
 is_given id rows = option_map_or (λ text. bytes_eq text (codes "true")) (one_of id rows) false
@@ -215,14 +235,14 @@ enrolment_given rows =
 pub record IsPlayGiven (rows : List Row) (play : PlayWords) : Type 0 where
   pub database : file_of play.database ≡ file_given rows
   pub moment : IsSecondGiven (codes "moment") rows play.moment
-  pub permitted : ArePermittedBy (first_of (codes "equal") rows) play.permitted
+  pub terms : AreTermsOf rows play.terms
   pub enrolments : AreEnrolmentsGiven play.enrolments.items rows
 
 pub record IsServeGiven (rows : List Row) (serve : ServeWords) : Type 0 where
   pub database : file_of serve.database ≡ file_given rows
   pub port : IsNumberGiven (codes "port") rows serve.port
   pub connections : IsNumberGiven (codes "connections") rows serve.connections
-  pub permitted : ArePermittedBy (first_of (codes "equal") rows) serve.permitted
+  pub terms : AreTermsOf rows serve.terms
   pub enrolments : AreEnrolmentsGiven serve.enrolments.items rows
 
 pub record IsCoverGiven (rows : List Row) (cover : CoverWords) : Type 0 where

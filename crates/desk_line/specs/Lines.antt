@@ -29,6 +29,10 @@ min_connections = 1
 abbrev pub max_connections : ℕ
 max_connections = 1000000
 
+-- the least number of spans that may be named as the most of an operator's live plans
+abbrev pub min_spans : ℕ
+min_spans = 1
+
 -- the file of a database; none if it is in memory
 abbrev pub file_of : Database → Option (List ℕ)
 file_of InMemory = None

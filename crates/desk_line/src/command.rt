@@ -10,6 +10,7 @@ ghost use Rattle.desk_line.specs.Grammar.{line_shape, needed, value};
 
 use crate::line::MAX_CONNECTIONS;
 use clap::{Arg, ArgAction, Command, value_parser};
+use desk_rules::terms::MAX_SPANS;
 use std::alloc::{AllocError, Global};
 use volume4d::MAX_SECOND;
 
@@ -36,6 +37,8 @@ enum Word {
     Connections,
     // The priorities at which plans may overlap.
     Equal,
+    // The most spans of an operator's live plans.
+    Spans,
     // Operators and their ceilings.
     Enrolments,
     Token,
@@ -49,7 +52,13 @@ static FORMS: [Form; 8] = [
     Form {
         name: "play",
         about: "Answers the requests of the standard input",
-        words: &[Word::Database, Word::Moment, Word::Equal, Word::Enrolments],
+        words: &[
+            Word::Database,
+            Word::Moment,
+            Word::Equal,
+            Word::Spans,
+            Word::Enrolments,
+        ],
     },
     Form {
         name: "token",
@@ -64,6 +73,7 @@ static FORMS: [Form; 8] = [
             Word::Port,
             Word::Connections,
             Word::Equal,
+            Word::Spans,
             Word::Enrolments,
         ],
     },
@@ -169,6 +179,7 @@ fn arg_of<'a>(alloc: Global, word: &Word) -> Arg<'a>
         Word::Port => port_arg(alloc),
         Word::Connections => connections_arg(alloc),
         Word::Equal => equal_arg(alloc),
+        Word::Spans => spans_arg(alloc),
         Word::Enrolments => enrolments_arg(alloc),
         Word::Token => token_arg(alloc),
         Word::Text(name, help) => text_arg(alloc, name, help),
@@ -239,6 +250,16 @@ fn equal_arg<'a>(alloc: Global) -> Arg<'a>
         .help(
             "Priorities at which plans of equal priority may overlap, ascending, with commas between",
         )
+}
+
+fn spans_arg<'a>(alloc: Global) -> Arg<'a>
+    ensures { rule_of result ≡ spec.spans }
+{
+    Arg::new(alloc, "spans")
+        .long("spans")
+        .value_name("N")
+        .help("The most spans that the live plans of an operator may have")
+        .value_parser(value_parser!(u32).range(1..=i64::from(MAX_SPANS)))
 }
 
 fn enrolments_arg<'a>(alloc: Global) -> Arg<'a>

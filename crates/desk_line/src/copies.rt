@@ -35,7 +35,7 @@ impl Play {
         Ok(Play {
             database: self.database.copy()?,
             moment: self.moment,
-            permitted: self.permitted,
+            terms: self.terms,
             enrolments: copies(&self.enrolments)?,
         })
     }
@@ -54,7 +54,7 @@ impl Serve {
             database: self.database.copy()?,
             port: self.port,
             connections: self.connections,
-            permitted: self.permitted,
+            terms: self.terms,
             enrolments: copies(&self.enrolments)?,
         })
     }

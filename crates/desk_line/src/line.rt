@@ -1,6 +1,6 @@
 //! The command line of the program.
 
-ghost use Rattle.std.specs.Prelude.{◌≡◌, ◌≤◌, ◌<◌, ◌^◌, ℕ, ℤ, List, IfErr, IfOk, IfSome, None, Some, map, option_map};
+ghost use Rattle.std.specs.Prelude.{◌≡◌, ◌≤◌, ◌<◌, ◌^◌, ◌↔◌, ℕ, IsTrue, Option, ℤ, List, IfErr, IfOk, IfSome, None, Some, map, option_map};
 ghost use Rattle.std.specs.Prelude.{codes, string_bytes};
 ghost use Rattle.std.specs.Int.{IsInRange};
 ghost use mir.Syntax.{w64};
@@ -8,10 +8,11 @@ ghost use mir.Val.{SFits};
 ghost use Rattle.clap.specs.Matches.{found_of};
 ghost use Rattle.clap.specs.Simple.{subcommand_of, subcommand_rows_of};
 ghost use Rattle.clap.specs.Walk.{first_of, rows_of};
-ghost use Rattle.desk_rules.specs.Limits.{max_priority};
+ghost use Rattle.desk_rules.specs.Limits.{max_priority, max_spans};
 ghost use Rattle.desk_ends.specs.Moments.{IsMoment};
 ghost use Rattle.desk_line.specs.Equal.{ArePermittedBy};
 ghost use Rattle.desk_line.specs.Grammar as spec;
+ghost use Rattle.desk_line.specs.Grammar.{AreTermsOf, IsMostOf, IsNumberOrNone};
 ghost use Rattle.desk_line.specs.Grammar.{AreEnrolmentsGiven, HasGiven, HasTaskGiven, IsCopyGiven};
 ghost use Rattle.desk_line.specs.Grammar.{IsCoverGiven, IsEnrolGiven, IsGiven, IsLineOf, IsMigrateGiven};
 ghost use Rattle.desk_line.specs.Grammar.{IsNumberGiven, IsPlayGiven, IsPlayOf, IsRefused, IsSecondGiven};
@@ -19,7 +20,7 @@ ghost use Rattle.desk_line.specs.Grammar.{IsServeGiven, IsServeOf, IsTaskOf, IsT
 ghost use Rattle.desk_line.specs.Grammar.{enrolment_given, enrolment_in, file_given, name_of};
 ghost use Rattle.desk_line.specs.Grammar.{program, word_of};
 ghost use Rattle.desk_line.specs.Lines.{AreEnrolments, IsCover, IsEnrol, IsLine, IsPlay, IsServe, IsTask};
-ghost use Rattle.desk_line.specs.Lines.{file_of, max_connections, max_port, min_connections, min_port};
+ghost use Rattle.desk_line.specs.Lines.{file_of, max_connections, max_port, min_connections, min_port, min_spans};
 ghost use Rattle.desk_line.specs.Lines.{named_file};
 ghost use Rattle.desk_line.specs.declared.line.Cover.{Cover as CoverWords};
 ghost use Rattle.desk_line.specs.declared.line.WordsFault.TheVariants as fault;
@@ -30,6 +31,7 @@ use clap::ArgMatches;
 use clap::error::ErrorKind;
 use desk_rules::operator::Operator;
 use desk_rules::permission::Permitted;
+use desk_rules::terms::{MAX_SPANS, Terms};
 use std::alloc::{AllocError, AllocFailed, Global};
 use volume4d::MAX_SECOND;
 
@@ -83,8 +85,9 @@ pub struct Play {
     pub database: Database,
     /// The moment of all requests, a Unix second from 0 to 253,370,764,800.
     pub moment: i64,
-    /// The priorities at which plans of equal priority may overlap.
-    pub permitted: Permitted,
+    /// The terms of the desk: the priorities of which plans may overlap, and the most spans of an operator's
+    /// live plans, 1 to 5,000,000.
+    pub terms: Terms,
     /// The operators, in the order given; a name may be there twice.
     pub enrolments: Vec<Enrolment>,
 }
@@ -98,8 +101,9 @@ pub struct Serve {
     pub port: u16,
     /// How many connections are served, 1 to 1,000,000.
     pub connections: u32,
-    /// The priorities at which plans of equal priority may overlap.
-    pub permitted: Permitted,
+    /// The terms of the desk: the priorities of which plans may overlap, and the most spans of an operator's
+    /// live plans, 1 to 5,000,000.
+    pub terms: Terms,
     /// The operators, in the order given; a name may be there twice.
     pub enrolments: Vec<Enrolment>,
 }
@@ -286,7 +290,7 @@ fn read_play(alloc: Global, given: &ArgMatches<'_>) -> Result<Play, WordsFault>
     Ok(Play {
         database: read_database(alloc, given)?,
         moment,
-        permitted: read_permitted(alloc, given)?,
+        terms: read_terms(alloc, given)?,
         enrolments: read_enrolments(alloc, given)?,
     })
 }
@@ -344,7 +348,7 @@ fn read_serve(alloc: Global, given: &ArgMatches<'_>) -> Result<Serve, WordsFault
         database: read_database(alloc, given)?,
         port,
         connections,
-        permitted: read_permitted(alloc, given)?,
+        terms: read_terms(alloc, given)?,
         enrolments: read_enrolments(alloc, given)?,
     })
 }
@@ -506,6 +510,47 @@ fn database_of(alloc: Global, word: Option<&str>) -> Result<Database, AllocError
             Ok(Database::File(String::from_str(alloc, path)?))
         }
     }
+}
+
+// The terms of the desk.
+fn read_terms(alloc: Global, given: &ArgMatches<'_>) -> Result<Terms, WordsFault>
+    ensures given { IfOk result (AreTermsOf (rows_of (found_of given.now))) }
+    ensures lacks { Lacks (AreTermsOf (rows_of (found_of given.now))) result }
+{
+    Ok(Terms {
+        permitted: read_permitted(alloc, given)?,
+        spans: read_spans(given)?,
+    })
+}
+
+// The most spans of an operator's live plans; none if any number will do.
+fn read_spans(given: &ArgMatches<'_>) -> Result<Option<u32>, WordsFault>
+    ensures given { IfOk result (IsMostOf (rows_of (found_of given.now))) }
+    ensures lacks { Lacks (IsMostOf (rows_of (found_of given.now))) result }
+{
+    let Some(most) = read_if_given(given, "spans") else {
+        return Err(WordsFault::Value);
+    };
+    if !most.is_none_or(is_most) {
+        return Err(WordsFault::Value);
+    }
+    Ok(most)
+}
+
+// Whether so many spans may be named as the most of an operator's live plans.
+fn is_most(spans: u32) -> bool
+    ensures { IsTrue result ↔ IsInRange min_spans max_spans spans }
+{
+    (1..=MAX_SPANS).contains(&spans)
+}
+
+// A number of 32 bits, or that there is none; none if there is something else.
+fn read_if_given(given: &ArgMatches<'_>, id: &str) -> Option<Option<u32>>
+    ensures given { IfSome result (IsNumberOrNone id.now (rows_of (found_of given.now))) }
+    ensures none { result ≡ None → (found : Option ℕ) → IfSome found (λ n. n < 2 ^ 32)
+        → IsNumberOrNone id.now (rows_of (found_of given.now)) found → ⊥ }
+{
+    given.try_get_one(id).ok()
 }
 
 // The priorities at which plans may overlap.

@@ -1,5 +1,5 @@
 -- Plans whose volumes are near: how they are gathered, and what they hold.
-use Rattle.std.proofs.Common.{◌≡◌, ℕ, zero, suc, ◌+◌, ◌<◌, Bool, true, false, true≢false, MatchBool, ◌&&◌, ◌||◌, not, cond, List, [], ◌∷◌, ◌++◌, length, get_or, take, Option, Some, None, Result, Ok, Err, IfOk, refl, sym, ap, subst, ◌∙◌, arith, IsPermutation}
+use Rattle.std.proofs.Common.{◌≡◌, ℕ, zero, suc, ◌+◌, ◌<◌, Bool, true, false, true≢false, MatchBool, ◌&&◌, ◌||◌, not, cond, List, [], ◌∷◌, ◌++◌, length, get_or, take, Option, Some, None, Result, Ok, Err, IfOk, refl, sym, ap, subst, ◌∙◌, arith}
 use Rattle.std.specs.Prelude.{nat_le, IfSome}
 use Rattle.std.specs.List.{AllByRecursion, AllZip, list_any}
 use Rattle.std.specs.Ordering.{is_eq}
@@ -18,7 +18,7 @@ use Rattle.volume4d.specs.Slab.{slab_has, slabs_have}
 use Rattle.volume4d.specs.Volume.{Block, block_has, area_has}
 use Rattle.desk_rules.specs.Conflict.{at_least}
 use Rattle.desk_rules.specs.Plan.{is_live, row_holds}
-use Rattle.desk_store.specs.World.{Filed, World, held, has_id, is_by, text_cmp}
+use Rattle.desk_store.specs.World.{Filed, World, has_id, is_by, text_cmp}
 use Rattle.desk_store.specs.Rows as rows
 use Rattle.desk_store.specs.Rows.{other_level, others_top, rival_level, rivals_top}
 use Rattle.desk_store.specs.laws.Order.{all_append, is_equal}

@@ -1,11 +1,10 @@
 -- Regions near which other operators' volumes lie.
-use Rattle.std.proofs.Common.{◌≡◌, ℕ, ℤ, ◌+◌, ◌<◌, Bool, true, false, true≢false, leb, MatchBool, ◌&&◌, ◌||◌, not, List, [], ◌∷◌, ◌++◌, cond, length, get_or, take, Option, Some, None, refl, sym, ap, subst, ◌∙◌, arith, IsPermutation}
-use Rattle.std.specs.Prelude.{◌≤◌, ◌≤ℤ◌, int_le, int_lt, nat_le, min, max}
+use Rattle.std.proofs.Common.{◌≡◌, ℕ, ℤ, ◌+◌, ◌<◌, Bool, true, false, true≢false, leb, MatchBool, ◌&&◌, ◌||◌, not, List, [], ◌∷◌, ◌++◌, cond, length, get_or, take, Option, None, refl, sym, ap, subst, ◌∙◌, arith, IsPermutation}
+use Rattle.std.specs.Prelude.{◌≤◌, ◌≤ℤ◌, int_le, int_lt, min, max}
 use Rattle.std.specs.Int.{int_min, int_max}
 use Rattle.std.specs.List.{AllZip, list_any}
 use Rattle.std.specs.Ordering.{is_eq}
 use Rattle.std.proofs.lemmas.Int.{ints}
-use Rattle.std.proofs.lemmas.Bool.{and_parts}
 use Rattle.std.proofs.lemmas.Bool.Decides.{nat_tests}
 use Rattle.std.proofs.lemmas.List.{take_more}
 use Rattle.std.proofs.lemmas.List.Folds.{list_any-append, list_any_more}
@@ -26,7 +25,7 @@ use Rattle.desk_store.specs.laws.Rival.{others_top-cons, others_top-nil, held_by
 use Rattle.desk_live.specs.declared.volume.LiveVolume.{LiveVolume}
 use Rattle.desk_live.specs.Live.{AreLive, AreVolumes, AreVolumesOf, IsLiveVolume, overlap}
 use Rattle.desk_live.specs.Regions.{AddTheirs, HaveEach, HaveShared, HoldNothingBeside, IsClip, is_another, is_theirs, is_theirs_at}
-use Rattle.desk_live.specs.laws.Near.{IsIn, both, is_in, overlapping}
+use Rattle.desk_live.specs.laws.Near.{both, is_in, overlapping}
 use Rattle.desk_live.proofs.FenceLemmas.{within_left}
 
 either : (a b : Bool) → (a || b) ≡ false → (a ≡ false) × (b ≡ false)

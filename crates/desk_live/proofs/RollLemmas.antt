@@ -1,13 +1,12 @@
 -- The plans of an account.
-use Rattle.std.proofs.Common.{◌≡◌, ◌≢◌, ℕ, zero, suc, ◌+◌, ◌<◌, ◌≤◌, true, false, List, [], ◌∷◌, ◌++◌, map, take, drop, length, get_or, set, refl, sym, ap, subst, ◌∙◌, arith, Less, Equal, Greater}
+use Rattle.std.proofs.Common.{◌≡◌, ℕ, zero, suc, ◌+◌, ◌<◌, ◌≤◌, true, List, [], ◌∷◌, ◌++◌, map, take, drop, length, get_or, set, refl, sym, ap, ◌∙◌, arith, Less, Equal, Greater}
 use Rattle.std.specs.declared.cmp.Ordering.{Ordering}
 use Rattle.std.specs.Ordering.{is_eq, match_ordering}
 use Rattle.std.proofs.lemmas.List.{append_assoc, drop_more, take_more, length-append, length-drop, length-map}
 use Rattle.std.proofs.Math.Seq.{get_or-append_seam, set-append_seam}
-use Rattle.std.proofs.Math.ListN.{drop_of_length-le}
 use Rattle.desk_store.specs.World.{text_cmp}
 use Rattle.desk_live.specs.declared.account.PlanState.{PlanState}
-use Rattle.desk_live.specs.Roll.{IsBefore, begins_with, put_state}
+use Rattle.desk_live.specs.Roll.{begins_with, put_state}
 
 -- ---- the place of a plan
 

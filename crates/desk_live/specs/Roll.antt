@@ -1,6 +1,6 @@
--- The roll of a store's operators: the ceiling of each, and the states of its plans.
+-- The roll of a store's operators: the ceiling of each, and the states and the spans of its plans.
 use Rattle.std.specs.Prelude.{◌≡◌, ◌≢◌, ⊤, ℕ, ◌+◌, ◌≤◌, Bool, false, not, cond, List, [], ◌∷◌, Option, Some, None, map, length}
-use Rattle.std.specs.List.{filter, find, list_any}
+use Rattle.std.specs.List.{filter, find, list_any, sum_by}
 use Rattle.std.specs.Option.{option_and_then, option_map}
 use Rattle.std.specs.declared.cmp.Ordering.TheVariants.{Greater}
 use Rattle.std.specs.Ordering.{is_eq, match_ordering}
@@ -9,6 +9,7 @@ use Rattle.std.specs.Map.{lookup}
 use Rattle.desk_rules.specs.declared.plan.PlanRow.{PlanRow}
 use Rattle.desk_rules.specs.declared.plan.States.{States}
 use Rattle.desk_rules.specs.declared.words.Usage.TheVariants as usage
+use Rattle.desk_rules.specs.Plan.{row_spans}
 use Rattle.desk_rules.specs.States.{states_in}
 use Rattle.desk_store.specs.World.{Filed, Listed, World, text_cmp, rows_by}
 use Rattle.desk_store.specs.declared.change.Change.{Change}
@@ -22,10 +23,17 @@ Accounts = List (List ℕ × Account)
 
 -- what is kept of a plan
 abbrev pub state_of : PlanRow → PlanState
-state_of row = record { id = row.id; states = states_in row }
+state_of row = record { id = row.id; states = states_in row; spans = row_spans row }
 
 abbrev pub has_id : List ℕ → PlanState → Bool
 has_id id s = is_eq (text_cmp id s.id)
+
+-- the spans of a plan, if it isn't the one with the id, and those of all such plans
+abbrev pub spans_unless : List ℕ → PlanState → ℕ
+spans_unless id s = cond (has_id id s) 0 s.spans
+
+abbrev pub spans_beside : List ℕ → List PlanState → ℕ
+spans_beside id plans = sum_by (spans_unless id) plans
 
 -- the account of an operator, its ceiling, and what is kept of its plans
 abbrev pub account_in : List ℕ → Accounts → Option Account
@@ -79,7 +87,7 @@ HasRoomIn (Some a) = HasRoom a
 abbrev pub IsReadyFor : Change → Roll → Type 0
 IsReadyFor change roll = HasRoomIn (account_in (named_by change) (accounts_of roll))
 
--- a plan's states in place of those of its id, or at their place
+-- what is kept of a plan in place of that of its id, or at its place
 abbrev pub put_state : PlanState → List PlanState → List PlanState
 put_state s [] = s ∷ []
 put_state s (p ∷ ps) = match_ordering (text_cmp s.id p.id) (s ∷ p ∷ ps) (s ∷ ps) (p ∷ put_state s ps)
@@ -88,7 +96,7 @@ abbrev pub closed_states : States → States
 closed_states states = record states { usage = usage.Closed }
 
 abbrev pub close_if : List ℕ → PlanState → PlanState
-close_if id s = cond (has_id id s) (record { id = s.id; states = closed_states s.states }) s
+close_if id s = cond (has_id id s) (record { id = s.id; states = closed_states s.states; spans = 0 }) s
 
 abbrev pub is_named : List (List ℕ) → PlanState → Bool
 is_named ids s = list_any (λ id. has_id id s) ids

@@ -1,10 +1,10 @@
-//! What is kept of an operator: its ceiling, and the states of its plans.
+//! What is kept of an operator: its ceiling, and the states and the spans of its plans.
 
-ghost use Rattle.std.specs.Prelude.{◌≡◌, ◌≤◌, ◌+◌, ◌++◌, ◌∷◌, [], not, map, take, drop, length, IfOk, OnOk};
+ghost use Rattle.std.specs.Prelude.{◌≡◌, ◌<◌, ◌≤◌, ◌+◌, ◌^◌, ◌++◌, ◌∷◌, [], not, map, take, drop, length, IfOk, OnOk};
 ghost use Rattle.std.specs.List.{filter, find};
 ghost use Rattle.std.specs.Option.{option_map};
 ghost use Rattle.desk_live.specs.Roll as spec;
-ghost use Rattle.desk_live.specs.Roll.{HasRoom, ceiling_after, close_if, has_id, is_named, or_else, plans_after, put_state, state_of};
+ghost use Rattle.desk_live.specs.Roll.{HasRoom, ceiling_after, close_if, has_id, is_named, or_else, plans_after, put_state, spans_beside, state_of};
 
 use desk_rules::plan::{PlanRow, States};
 use desk_rules::plan_id::PlanId;
@@ -13,11 +13,12 @@ use desk_store::Change;
 use std::alloc::AllocError;
 use std::cmp::Ordering;
 
-/// The states of a plan, with its id.
+/// The states of a plan, and how many spans it takes, with its id.
 #[derive(Clone, Copy, Debug)]
 pub(crate) struct PlanState {
     id: PlanId,
     states: States,
+    spans: u32,
 }
 
 impl PlanState {
@@ -28,6 +29,7 @@ impl PlanState {
         PlanState {
             id: row.id,
             states: row.states(),
+            spans: row.span_count(),
         }
     }
 
@@ -45,7 +47,7 @@ impl PlanState {
         ids.iter().any(|id| self.has_id(id))
     }
 
-    // The same, with the usage `Closed` if the plan has this id.
+    // The same, with the usage `Closed` and no spans if the plan has this id.
     fn close_if(&self, id: &PlanId) -> PlanState
         ensures { result ≡ spec.close_if id.now self.now }
     {
@@ -58,7 +60,18 @@ impl PlanState {
                 usage: Usage::Closed,
                 aircraft: self.states.aircraft,
             },
+            spans: 0,
         }
+    }
+
+    // How many spans it takes, if it hasn't this id.
+    fn spans_unless(&self, id: &PlanId) -> u32
+        ensures { result ≡ spec.spans_unless id.now self.now }
+    {
+        if self.has_id(id) {
+            return 0;
+        }
+        self.spans
     }
 }
 
@@ -77,6 +90,14 @@ impl Account {
     {
         let found = self.plans.iter().find(|plan| plan.has_id(id))?;
         Some(found.states)
+    }
+
+    /// How many spans its plans take but for that of the id, where 32 bits can say it.
+    pub(crate) fn spans_beside(&self, id: &PlanId) -> u32
+        ensures { spans_beside id.now self.now.plans.items < 2 ^ 32
+            → result ≡ spans_beside id.now self.now.plans.items }
+    {
+        spans_of(&self.plans, id)
     }
 
     /// Takes a ceiling, if it has none.
@@ -129,6 +150,17 @@ impl Account {
             Change::Clear { ids, .. } => clear(&mut self.plans, ids),
         }
     }
+}
+
+// How many spans plans take but for that of the id, where 32 bits can say it.
+fn spans_of(plans: &[PlanState], id: &PlanId) -> u32
+    ensures { spans_beside id.now plans.now < 2 ^ 32 → result ≡ spans_beside id.now plans.now }
+{
+    let mut spans: u32 = 0;
+    for plan in plans {
+        spans = spans.saturating_add(plan.spans_unless(id));
+    }
+    spans
 }
 
 // Puts a plan's states in place of those of its id, or at their place, for which there is room.

@@ -3,7 +3,7 @@
 ghost use Rattle.std.specs.Prelude.{◌≡◌, ◌++◌, ◌∷◌, ◌<◌, ◌^◌, [], List, length, IsSome, IfOk, OnOk};
 ghost use Rattle.std.specs.Option.{is_some};
 ghost use Rattle.desk_rules.specs.States.{states_of};
-ghost use Rattle.desk_store.specs.World.{Filed, Listed, World, ceiling_of, plans_of, stored_of};
+ghost use Rattle.desk_store.specs.World.{Filed, Listed, World, ceiling_of, plans_of, spans_beside, stored_of};
 ghost use Rattle.desk_store.specs.Changes.{filed_by};
 ghost use Rattle.desk_store.specs.StoreChange.{changed_by};
 ghost use Rattle.desk_live.specs.Roll as spec;
@@ -17,7 +17,7 @@ use desk_store::Change;
 use std::alloc::{AllocError, Global};
 use std::collections::BTreeMap;
 
-/// Each operator's ceiling, and the states of its plans.
+/// Each operator's ceiling, and the states and the spans of its plans.
 #[derive(Drop)]
 pub struct Roll {
     accounts: BTreeMap<Operator, Account>,
@@ -57,6 +57,18 @@ impl Roll {
     {
         match self.accounts.get(operator) {
             Some(account) => u32::try_from(account.plans.len()).unwrap_or(u32::MAX),
+            None => 0,
+        }
+    }
+
+    /// How many spans the operator's plans take but for that of the id, where 32 bits can say it.
+    pub fn spans_beside(&self, operator: &Operator, id: &PlanId) -> u32
+        ensures { (w : World) → IsRollOf w self.now
+            → spans_beside id.now (plans_of operator.now w) < 2 ^ 32
+            → result ≡ spans_beside id.now (plans_of operator.now w) }
+    {
+        match self.accounts.get(operator) {
+            Some(account) => account.spans_beside(id),
             None => 0,
         }
     }

@@ -9,7 +9,7 @@ use Rattle.desk_line.specs.declared.failure.Failure.{Failure}
 use Rattle.desk_line.specs.declared.line.Enrolment.{Enrolment}
 use Rattle.desk_line.specs.declared.line.Play.{Play as PlayWords}
 use Rattle.desk_line.specs.Exits.{Ending, EndsWith, FailsWith, IsBreakdown, IsBrokenDown, enrolment_failure}
-use Rattle.desk_program.specs.Enrolling.{AreListedSoFar, permitting}
+use Rattle.desk_program.specs.Enrolling.{AreListedSoFar, on_terms}
 use Rattle.desk_program.specs.Keeping.{FindsEnrolled}
 use Rattle.desk_program.specs.Playing.{IsNotPlayed}
 
@@ -40,7 +40,7 @@ found_enrolled before e end out w found down only (inr is) = inl is
 pub not_played : (H : Type 0) (play : PlayWords) (end : Ending) (old out : Option (List ℕ))
     (w after : DeskWorld) (fault : DeskFault) (f : Failure) → f ≡ enrolment_failure fault
     → IsDeskBreakdown fault → EndsWith {A = ⊤} (Err f) end
-    → AreListedSoFar H play.enrolments.items (permitting w play.permitted) after
+    → AreListedSoFar H play.enrolments.items (on_terms w play.terms) after
     → IsNotPlayed H play end old old out out w after
 not_played H play end old out w after fault f is down ends listed = record {
   ends = broken_down fault f end is down ends;

@@ -17,10 +17,10 @@ use Rattle.desk_line.specs.declared.line.Enrolment.{Enrolment}
 use Rattle.desk_line.specs.declared.line.Play.{Play as PlayWords}
 use Rattle.desk_line.specs.declared.line.Serve.{Serve as ServeWords}
 use Rattle.desk_line.specs.Exits.{Ending, EndsWith, failure_after, failure_at}
-use Rattle.desk_program.specs.Enrolling.{permitting, with_operators}
+use Rattle.desk_program.specs.Enrolling.{on_terms, with_operators}
 use Rattle.desk_program.specs.Keeping.{AreKept, AreKeptSoFar, IsFoundServed, IsLeftByOne, IsPlayKept, IsPortKept}
 use Rattle.desk_program.specs.Playing.{done_unless}
-use Rattle.desk_program.specs.Serving.{EndsAfter, Exchange, Grows, IsDenied, IsUnsent, Traffic, failing, is_whole}
+use Rattle.desk_program.specs.Serving.{EndsAfter, Exchange, Grows, IsDenied, IsUnsent, Listens, Traffic, failing, is_whole}
 use Rattle.desk_program.proofs.ServedLemmas.{all_then, all_unsent, both_more, both_served, none_more, one_ends, served_then, stops}
 
 -- ---- enrolments
@@ -87,6 +87,7 @@ module _ {A B C : Type 0} where
         taken = record {
           exchanges = xs ++ ys;
           few = omega (arith, length-append xs ys, h.taken.few, t.taken.few, few);
+          listened = t.taken.listened ∙ h.taken.listened;
           taken = subst (λ z. Grows a.taken c.taken z) (sym (map-append (λ x. x.arrival) xs ys))
               (both_more a.taken b.taken c.taken (map (λ x. x.arrival) xs) (map (λ x. x.arrival) ys)
               h.taken.taken t.taken.taken);
@@ -112,6 +113,7 @@ none_kept H done count old new w after before now same left ends stays = record 
   taken = record {
     exchanges = [];
     few = omega arith;
+    listened = ap (λ v. v.listened) same;
     taken = none_more old.taken new.taken (ap (λ v. v.taken) same);
     closed = none_more old.closed new.closed (ap (λ v. v.closed) same);
     fresh = All-nil (λ x. IsUnsent old x.out);
@@ -145,17 +147,19 @@ one_found x w after before found served (inr p) = by p.1
 
 pub one_kept : {A : Type 0} (H : Type 0) (done : Result A Failure) (x : Exchange)
     (old new : Traffic) (w after : DeskWorld) (before now : Option World → Type 0)
-    → Grows old.taken new.taken (x.arrival ∷ []) → Grows old.closed new.closed (x.parting ∷ [])
-    → IsUnsent old x.out → x.parting.is_whole ≡ is_whole x.served
+    → new.listened ≡ old.listened → Grows old.taken new.taken (x.arrival ∷ [])
+    → Grows old.closed new.closed (x.parting ∷ []) → IsUnsent old x.out
+    → x.parting.is_whole ≡ is_whole x.served
     → HasServed H x.served x.arrival.bytes x.parting.unread x.out x.parting.sent w x.arrival.moment after
     → failing done ≡ failure_at x.served
     → (H → (found : Option World) → now found → IsFoundNow x.served before
     (IsTaken x.arrival.bytes x.parting.unread) w x.arrival.moment after found)
     → AreKept H done 1 old new w after before now
-one_kept H done x old new w after before now takes closes fresh told served is finds = record {
+one_kept H done x old new w after before now listened takes closes fresh told served is finds = record {
   taken = record {
     exchanges = x ∷ [];
     few = omega arith;
+    listened = listened;
     taken = takes;
     closed = closes;
     fresh = All-cons (λ z. IsUnsent old z.out) x [] fresh (All-nil (λ z. IsUnsent old z.out));
@@ -180,25 +184,24 @@ found_served xs w after before found only (inr p) =
 
 module _ {A : Type 0} (H : Type 0) (done : Result A Failure) (serve : ServeWords)
     (w begun after : DeskWorld) (before now : Option World → Type 0) (p : H)
-    (listed : H → begun ≡ with_operators (permitting w serve.permitted) serve.enrolments.items)
+    (listed : H → begun ≡ with_operators (on_terms w serve.terms) serve.enrolments.items)
     (only : (found : Option World) → before found → found ≡ Some begun.content) where
-  pub port_kept : (old mid new : Traffic) → mid ≡ old
+  pub port_kept : (old mid new : Traffic) → Listens old mid serve.port
       → AreKept H done serve.connections mid new begun after before now
       → (found : Option World) → now found → IsPortKept H done serve old new w after found
-  port_kept old mid new same kept found may =
-      let h = subst (λ v. AreKept H done serve.connections v new begun after before now) same kept in
+  port_kept old mid new listens h found may =
       inl (
-        record { begun = begun; listed = listed; taken = h.taken },
+        record { begun = begun; listed = listed; port = mid; listens = listens; taken = h.taken },
         found_served h.taken.exchanges begun after (before found) found (only found) (h.finds p found may),
       )
 
   -- the operators are listed, and no connection is taken
   pub unserved_kept : (f : Failure) (old new : Traffic) → IsErrAnd done (λ e. e ≡ f)
-      → IsDenied f → new ≡ old → after ≡ begun
+      → IsDenied f → Listens old new serve.port → after ≡ begun
       → ((found : Option World) → now found → before found)
       → (found : Option World) → now found → IsPortKept H done serve old new w after found
-  unserved_kept f old new is denied same left stays = port_kept old old new refl
-      (none_kept H done serve.connections old new begun after before now same left
+  unserved_kept f old new is denied listens left stays = port_kept old new new listens
+      (none_kept H done serve.connections new new begun after before now refl left
       (stops done f is serve.connections [] denied) stays)
 
 -- ---- a run over the input
@@ -206,13 +209,13 @@ module _ {A : Type 0} (H : Type 0) (done : Result A Failure) (serve : ServeWords
 module _ (H : Type 0) (play : PlayWords) (end : Ending) (ended : PlayEnd) (answered : ℕ)
     (old new out now : Option (List ℕ)) (w begun after : DeskWorld) (given : ℤ)
     (ends : EndsWith (done_unless (failure_after ended)) end) (same : given ≡ play.moment)
-    (listed : H → begun ≡ with_operators (permitting w play.permitted) play.enrolments.items)
+    (listed : H → begun ≡ with_operators (on_terms w play.terms) play.enrolments.items)
     (played : HasPlayed H ended answered old new out now begun given after) where
   pub run_kept : H → (found : Option World)
       → IsKept ended (told_in_play ended answered) old out now begun given after found
       → IsPlayKept H play end old new out now w after found
   run_kept p found kept =
-      let start = with_operators (permitting w play.permitted) play.enrolments.items in
+      let start = with_operators (on_terms w play.terms) play.enrolments.items in
       inl (
         record {
           ended = ended;

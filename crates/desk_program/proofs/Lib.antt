@@ -3,3 +3,4 @@ mod EnrolLemmas
 mod KeepingLemmas
 mod BegunLemmas
 mod EndLemmas
+mod CauseLemmas

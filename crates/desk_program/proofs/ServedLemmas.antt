@@ -13,8 +13,8 @@ use Rattle.desk_wire.specs.declared.response.ServerError.{ServerError}
 use Rattle.desk_line.specs.declared.failure.Failure.{Failure}
 use Rattle.desk_line.specs.Exits.{failure_at}
 use Rattle.desk_line.specs.declared.line.Serve.{Serve as ServeWords}
-use Rattle.desk_program.specs.Enrolling.{permitting, with_operators}
-use Rattle.desk_program.specs.Serving.{AreServed, AreTaken, EndsAfter, EndsBy, Exchange, Grows, IsAtPort, IsDenied, IsUnsent, Parting, Traffic, failing, is_whole}
+use Rattle.desk_program.specs.Enrolling.{on_terms, with_operators}
+use Rattle.desk_program.specs.Serving.{AreServed, AreTaken, EndsAfter, EndsBy, Exchange, Grows, IsAtPort, IsDenied, IsUnsent, Listens, Parting, Traffic, failing, is_whole}
 
 -- ---- the connections that are taken
 
@@ -107,6 +107,7 @@ pub none : {A : Type 0} (H : Type 0) (done : Result A Failure) (count : ℕ)
 none H done count old new w after same left ends = record {
   exchanges = [];
   few = omega arith;
+  listened = ap (λ v. v.listened) same;
   taken = none_more old.taken new.taken (ap (λ v. v.taken) same);
   closed = none_more old.closed new.closed (ap (λ v. v.closed) same);
   fresh = All-nil (λ x. IsUnsent old x.out);
@@ -164,12 +165,14 @@ stops_by d whole f then is was m n k xs ys first last = stops whole f is n (xs +
 -- the operators are listed, and no connection is taken
 pub unserved : {A : Type 0} (H : Type 0) (done : Result A Failure) (f : Failure) (serve : ServeWords)
     (old new : Traffic) (w after : DeskWorld) → IsErrAnd done (λ e. e ≡ f)
-    → IsDenied f → new ≡ old → (H → after ≡ with_operators (permitting w serve.permitted)
+    → IsDenied f → Listens old new serve.port → (H → after ≡ with_operators (on_terms w serve.terms)
     serve.enrolments.items)
     → IsAtPort H done serve old new w after
-unserved H done f serve old new w after is denied same listed = inl (record {
+unserved H done f serve old new w after is denied listens listed = inl (record {
   begun = after;
   listed = listed;
-  taken = none H done serve.connections old new after after same refl (stops done f is
+  port = new;
+  listens = listens;
+  taken = none H done serve.connections new new after after refl refl (stops done f is
       serve.connections [] denied);
 })

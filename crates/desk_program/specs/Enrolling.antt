@@ -1,13 +1,14 @@
 -- Enrolling: the world in which operators are listed, and the line that tells of one.
 use Rattle.std.specs.Prelude.{◌≡◌, ◌<◌, ℕ, List, [], ◌∷◌, ◌++◌, length, take, codes, decimal, Option}
+use Rattle.desk_rules.specs.declared.terms.Terms.{Terms}
 use Rattle.desk_run.specs.DeskWorld.{DeskWorld, enrolled}
 use Rattle.desk_ends.specs.Writing.{BreaksOff}
 use Rattle.desk_ends.specs.declared.writing.WriteFault.{WriteFault}
 use Rattle.desk_line.specs.declared.line.Enrolment.{Enrolment}
 
--- these priorities are permitted, and no others
-abbrev pub permitting : DeskWorld → List ℕ → DeskWorld
-permitting w permitted = record w { permitted = permitted }
+-- the desk plans on these terms
+abbrev pub on_terms : DeskWorld → Terms → DeskWorld
+on_terms w terms = record w { terms = terms }
 
 -- each operator under its ceiling, in the order given: a name given twice has its last ceiling
 abbrev pub with_operators : DeskWorld → List Enrolment → DeskWorld

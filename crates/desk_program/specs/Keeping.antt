@@ -13,7 +13,7 @@ use Rattle.desk_line.specs.declared.line.Line.TheVariants as line
 use Rattle.desk_line.specs.declared.line.Play.{Play as PlayWords}
 use Rattle.desk_line.specs.declared.line.Serve.{Serve as ServeWords}
 use Rattle.desk_line.specs.Exits.{Ending, EndsWith, IsBrokenDown}
-use Rattle.desk_program.specs.Enrolling.{AreListedSoFar, permitting, with_operators}
+use Rattle.desk_program.specs.Enrolling.{AreListedSoFar, on_terms, with_operators}
 use Rattle.desk_program.specs.Playing.{IsNotPlayed, IsPlayed}
 use Rattle.desk_program.specs.Serving.{AreTaken, Exchange, HasBegun, IsNotBegun, Traffic}
 
@@ -37,9 +37,9 @@ abbrev pub IsPlayKept :
 IsPlayKept H play end old new out now w after found =
     ((run : IsPlayed H play end old new out now w after)
     × IsKept run.ended (told_in_play run.ended run.answered) old out now
-    (with_operators (permitting w play.permitted) play.enrolments.items) play.moment after found)
+    (with_operators (on_terms w play.terms) play.enrolments.items) play.moment after found)
     ⊎ (IsNotPlayed H play end old new out now w after
-    × AreKeptSoFar H play.enrolments.items (permitting w play.permitted) after found)
+    × AreKeptSoFar H play.enrolments.items (on_terms w play.terms) after found)
 
 -- by the line that is carried out, by reading and writing alone
 abbrev pub IsLinePlayKept :
@@ -87,7 +87,7 @@ abbrev pub IsPortKept :
 IsPortKept H done serve old new w after found =
     ((port : HasBegun H done serve old new w after) × IsFoundServed port.taken.exchanges after found)
     ⊎ (IsNotBegun H done serve old new w after
-    × AreKeptSoFar H serve.enrolments.items (permitting w serve.permitted) after found)
+    × AreKeptSoFar H serve.enrolments.items (on_terms w serve.terms) after found)
 
 -- a line of `serve` is carried out, and that is what is found
 pub record IsServeKept (H : Type 0) (serve : ServeWords) (end : Ending)

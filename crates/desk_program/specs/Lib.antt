@@ -1,4 +1,5 @@
 -- Read first: Playing, Serving.
+pub mod Causes
 pub mod Enrolling
 pub mod Serving
 pub mod Playing

@@ -11,28 +11,28 @@ use Rattle.desk_line.specs.declared.line.Play.{Play as PlayWords}
 use Rattle.desk_line.specs.declared.line.Enrolment.{Enrolment}
 use Rattle.desk_line.specs.declared.failure.Failure.TheVariants as failure
 use Rattle.desk_line.specs.Exits.{Ending, EndsWell, EndsWith, FailsWith, IsBrokenDown, failure_after}
-use Rattle.desk_program.specs.Enrolling.{AreListedSoFar, IsCutOff, Lists, enrolled_line, permitting, with_operators}
+use Rattle.desk_program.specs.Enrolling.{AreListedSoFar, IsCutOff, Lists, enrolled_line, on_terms, with_operators}
 
 -- what was done, if this is why it did not end well
 abbrev pub done_unless : Option Failure → Result ⊤ Failure
 done_unless None = Ok tt
 done_unless (Some failure) = Err failure
 
--- the requests of the input are played at the world in which the line's priorities are permitted and its
--- operators listed, and the line ends as they do
+-- the requests of the input are played at the world on the line's terms in which its operators are
+-- listed, and the line ends as they do
 pub record IsPlayed (H : Type 0) (play : PlayWords) (end : Ending) (old new out now : Option (List ℕ))
     (w after : DeskWorld) : Type 0 where
   pub ended : PlayEnd
   pub answered : ℕ
   pub ends : EndsWith (done_unless (failure_after ended)) end
   pub played : H → HasPlayed H ended answered old new out now
-      (with_operators (permitting w play.permitted) play.enrolments.items) play.moment after
+      (with_operators (on_terms w play.terms) play.enrolments.items) play.moment after
 
 -- an operator could not be listed: those before it are, and nothing is read or written
 pub record IsNotPlayed (H : Type 0) (play : PlayWords) (end : Ending) (old new out now : Option (List ℕ))
     (w after : DeskWorld) : Type 0 where
   pub ends : IsBrokenDown end
-  pub listed : AreListedSoFar H play.enrolments.items (permitting w play.permitted) after
+  pub listed : AreListedSoFar H play.enrolments.items (on_terms w play.terms) after
   pub unread : new ≡ old
   pub unwritten : now ≡ out
 

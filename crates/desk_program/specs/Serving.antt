@@ -10,7 +10,7 @@ use Rattle.desk_line.specs.declared.failure.Failure.{Failure}
 use Rattle.desk_line.specs.declared.line.Serve.{Serve as ServeWords}
 use Rattle.desk_line.specs.declared.failure.Failure.TheVariants as failure
 use Rattle.desk_line.specs.Exits.{Ending, EndsWith, IsAnnounced, IsBreakdown, failure_at}
-use Rattle.desk_program.specs.Enrolling.{AreListedSoFar, permitting, with_operators}
+use Rattle.desk_program.specs.Enrolling.{AreListedSoFar, on_terms, with_operators}
 
 -- what is printed when the port is listened at
 abbrev pub listening_line : ℕ → List ℕ
@@ -35,14 +35,15 @@ pub record Parting : Type 0 where
 abbrev pub parted : Option (List ℕ) → Option (List ℕ) → Bool → Parting
 parted unread sent is_whole = record { unread = unread; sent = sent; is_whole = is_whole }
 
--- what a port tells: the connections that were taken, and those that were closed, in their order, if they are
--- known
+-- what a port tells: the numbers at which it was asked to listen, the connections that were taken, and those
+-- that were closed, in their order, if they are known
 pub record Traffic : Type 0 where
+  pub listened : Option (List ℕ)
   pub taken : Option (List Arrival)
   pub closed : Option (List Parting)
 
 abbrev pub untold : Traffic
-untold = record { taken = None; closed = None }
+untold = record { listened = None; taken = None; closed = None }
 
 -- what is known is followed by these
 abbrev pub Grows : {A : Type 0} → Option (List A) → Option (List A) → List A → Type 0
@@ -50,12 +51,18 @@ Grows None new more = ⊤
 Grows (Some old) None more = ⊥
 Grows (Some old) (Some new) more = new ≡ old ++ more
 
--- a connection is taken; and one is closed
+-- it is asked to listen at a number; a connection is taken; and one is closed
+abbrev pub Listens : Traffic → Traffic → ℕ → Type 0
+Listens old new number = Grows old.listened new.listened (number ∷ []) × (new.taken ≡ old.taken)
+    × (new.closed ≡ old.closed)
+
 abbrev pub Takes : Traffic → Traffic → Arrival → Type 0
 Takes old new arrival = Grows old.taken new.taken (arrival ∷ []) × (new.closed ≡ old.closed)
+    × (new.listened ≡ old.listened)
 
 abbrev pub Closes : Traffic → Traffic → Parting → Type 0
 Closes old new parting = Grows old.closed new.closed (parting ∷ []) × (new.taken ≡ old.taken)
+    × (new.listened ≡ old.listened)
 
 -- at a port that tells what it closes, nothing was sent yet
 abbrev pub IsUnsent : Traffic → Option (List ℕ) → Type 0
@@ -111,6 +118,7 @@ pub record AreTaken {A : Type 0} (H : Type 0) (done : Result A Failure) (count :
     (old new : Traffic) (w after : DeskWorld) : Type 0 where
   pub exchanges : List Exchange
   pub few : length exchanges ≤ count
+  pub listened : new.listened ≡ old.listened
   pub taken : Grows old.taken new.taken (map (λ x. x.arrival) exchanges)
   pub closed : Grows old.closed new.closed (map (λ x. x.parting) exchanges)
   pub fresh : All (λ x. IsUnsent old x.out) exchanges
@@ -118,19 +126,22 @@ pub record AreTaken {A : Type 0} (H : Type 0) (done : Result A Failure) (count :
   pub served : AreServed H exchanges w after
   pub ends : EndsAfter done count exchanges
 
--- the line's priorities are permitted and its operators listed, and then connections are taken
+-- the desk plans on the line's terms and its operators are listed, the port is asked to listen at the line's
+-- number, and then connections are taken
 pub record HasBegun {A : Type 0} (H : Type 0) (done : Result A Failure) (serve : ServeWords)
     (old new : Traffic) (w after : DeskWorld) : Type 0 where
   pub begun : DeskWorld
-  pub listed : H → begun ≡ with_operators (permitting w serve.permitted) serve.enrolments.items
-  pub taken : AreTaken H done serve.connections old new begun after
+  pub listed : H → begun ≡ with_operators (on_terms w serve.terms) serve.enrolments.items
+  pub port : Traffic
+  pub listens : Listens old port serve.port
+  pub taken : AreTaken H done serve.connections port new begun after
 
 -- an operator could not be listed: those before it are, and no connection is taken
 pub record IsNotBegun {A : Type 0} (H : Type 0) (done : Result A Failure) (serve : ServeWords)
     (old new : Traffic) (w after : DeskWorld) : Type 0 where
   pub broken : IsErrAnd done IsBreakdown
   pub untaken : new ≡ old
-  pub listed : AreListedSoFar H serve.enrolments.items (permitting w serve.permitted) after
+  pub listed : AreListedSoFar H serve.enrolments.items (on_terms w serve.terms) after
 
 abbrev pub IsAtPort :
     {A : Type 0} → Type 0 → Result A Failure → ServeWords → Traffic → Traffic

@@ -2,7 +2,7 @@
 
 ghost use Rattle.std.specs.Prelude.{◌≡◌, IfOk, IfErr, OnErr};
 ghost use Rattle.desk_ends.specs.Moments.{IsMoment};
-ghost use Rattle.desk_program.specs.Serving.{Closes, IsDenied, IsUnsent, Takes, Traffic};
+ghost use Rattle.desk_program.specs.Serving.{Closes, IsDenied, IsUnsent, Listens, Takes, Traffic};
 ghost use Rattle.desk_program.specs.Serving.{arrived, parted, untold};
 
 use desk_line::Failure;
@@ -26,7 +26,8 @@ pub trait Port {
 
     type Output: Write + Drop;
 
-    /// The connections that were taken, and those that were closed, in their order, if they are known.
+    /// The numbers at which it was asked to listen, the connections that were taken, and those that were
+    /// closed, in their order, if they are known.
     ghost traffic: { Self → Traffic } = { λ _. untold };
 
     /// Listens at the port of this number.
@@ -35,7 +36,7 @@ pub trait Port {
     ///
     /// `Network` if the port can't be had.
     fn listen(&mut self, number: u16) -> Result<(), Failure>
-        ensures same { traffic self.new ≡ traffic self.old }
+        ensures listens { Listens (traffic self.old) (traffic self.new) number }
         ensures fault { IfErr result IsDenied };
 
     /// Takes the next connection.

@@ -2,7 +2,7 @@
 
 ghost use Rattle.std.specs.Prelude.{◌≡◌, ◌≤◌, ◌⊎◌, Option, IfErr, IfOk, OnErr, OnOk, string_bytes};
 ghost use Rattle.desk_run.specs.DeskWorld.{IsSettled, world_of};
-ghost use Rattle.desk_run.specs.CallFaults.{IsBreakdown};
+ghost use Rattle.desk_run.specs.CallFaults.{IsBreakdown, IsStoreCounted};
 ghost use Rattle.desk_store.specs.StoreFrames.{Remembers};
 ghost use Rattle.desk_store.specs.StoreFaults.{IsHonest};
 ghost use Rattle.desk_store.specs.World.{World};
@@ -10,14 +10,15 @@ ghost use Rattle.desk_line.specs.Exits as spec;
 ghost use Rattle.desk_line.specs.Exits.{ending};
 ghost use Rattle.desk_rules.specs.Limits.{max_priority};
 ghost use Rattle.desk_line.specs.Lines.{AreEnrolments, HasDesk, IsLine, IsPlay};
+ghost use Rattle.desk_program.specs.Causes.{HasCause};
 ghost use Rattle.desk_program.specs.Enrolling as enrolling;
-ghost use Rattle.desk_program.specs.Enrolling.{AreListedSoFar, permitting, with_operators};
+ghost use Rattle.desk_program.specs.Enrolling.{AreListedSoFar, on_terms, with_operators};
 ghost use Rattle.desk_program.specs.Keeping.{AreKeptSoFar, FindsEnrolled, IsLinePlayKept, IsPlayKept};
 ghost use Rattle.desk_program.specs.Playing.{IsEnrolled, IsLinePlayed, IsNotPlayed, IsPlayed, done_unless};
 
 use desk_ends::{PlayEnd, write_whole};
 use desk_line::{Enrolment, Exit, Failure, Line, Play, conclude};
-use desk_rules::permission::Permitted;
+use desk_rules::terms::Terms;
 use desk_run::{Desk, DeskFault};
 use desk_store::PlanStore;
 use desk_wire::play_all;
@@ -49,6 +50,8 @@ pub fn with_desk<S: PlanStore, R: Read, W: Write, E: Write>(
         (W.contents output.old) (W.contents output.new)
         (world_of S.content desk.old) (world_of S.content desk.new) found }
     ensures remembered { Remembers S.doubt S.faults S.is_shielded desk.old.store desk.new.store }
+    ensures cause { HasCause (ending result (E.contents errors.old) (E.contents errors.new))
+        (S.faults desk.old.store) (S.faults desk.new.store) }
 {
     match line {
         Line::Play(play) => play_line(alloc, play, desk, input, output, errors),
@@ -98,8 +101,10 @@ fn play_line<S: PlanStore, R: Read, W: Write, E: Write>(
         (W.contents output.old) (W.contents output.new)
         (world_of S.content desk.old) (world_of S.content desk.new) found }
     ensures remembered { Remembers S.doubt S.faults S.is_shielded desk.old.store desk.new.store }
+    ensures cause { HasCause (ending result (E.contents errors.old) (E.contents errors.new))
+        (S.faults desk.old.store) (S.faults desk.new.store) }
 {
-    if let Err(fault) = set_up(desk, &play.permitted, &play.enrolments) {
+    if let Err(fault) = set_up(desk, &play.terms, &play.enrolments) {
         return conclude(errors, Err(Failure::from(fault)));
     }
     let played = play_all(alloc, desk, play.moment, input, output);
@@ -126,6 +131,8 @@ fn enrol_line<S: PlanStore, W: Write, E: Write>(
         (W.contents output.old) (W.contents output.new)
         (world_of S.content desk.old) found }
     ensures remembered { Remembers S.doubt S.faults S.is_shielded desk.old.store desk.new.store }
+    ensures cause { HasCause (ending result (E.contents errors.old) (E.contents errors.new))
+        (S.faults desk.old.store) (S.faults desk.new.store) }
 {
     let Ok(text) = enrolled_text(alloc, enrolment) else {
         return conclude(errors, Err(Failure::Memory));
@@ -159,34 +166,35 @@ fn done_after(ended: PlayEnd) -> Result<(), Failure>
     }
 }
 
-/// Permits these priorities and no others, and enrols the operators in the order given, so that a name
-/// given twice has its last ceiling.
+/// Has the desk plan on these terms, and enrols the operators in the order given, so that a name given twice
+/// has its last ceiling.
 ///
 /// # Errors
 ///
-/// The first fault of an enrolment, `OutOfMemory` or `Store`; the priorities are permitted, and the
-/// operators before it enrolled.
+/// The first fault of an enrolment, `OutOfMemory` or `Store`; the desk plans on these terms, and the
+/// operators before it are enrolled.
 pub fn set_up<S: PlanStore>(
     desk: &mut Desk<S>,
-    permitted: &Permitted,
+    terms: &Terms,
     enrolments: &[Enrolment],
 ) -> Result<(), DeskFault>
     requires { AreEnrolments enrolments.now }
     ensures ok { IsHonest (S.doubt desk.new.store) → OnOk result (world_of S.content desk.new ≡
-        with_operators (permitting (world_of S.content desk.old) permitted.now) enrolments.now) }
+        with_operators (on_terms (world_of S.content desk.old) terms.now) enrolments.now) }
     ensures err { OnErr result (AreListedSoFar (IsHonest (S.doubt desk.new.store)) enrolments.now
-        (permitting (world_of S.content desk.old) permitted.now) (world_of S.content desk.new)) }
+        (on_terms (world_of S.content desk.old) terms.now) (world_of S.content desk.new)) }
     ensures kept { IsHonest (S.doubt desk.new.store) → IsSettled S.content S.may_leave desk.old →
         OnOk result (IsSettled S.content S.may_leave desk.new) }
     ensures crash { IsHonest (S.doubt desk.new.store) → IsSettled S.content S.may_leave desk.old →
         OnErr result ((found : Option World) → S.may_leave desk.new.store found →
         AreKeptSoFar (IsHonest (S.doubt desk.new.store)) enrolments.now
-        (permitting (world_of S.content desk.old) permitted.now)
+        (on_terms (world_of S.content desk.old) terms.now)
         (world_of S.content desk.new) found) }
     ensures fault { IfErr result IsBreakdown }
     ensures remembered { Remembers S.doubt S.faults S.is_shielded desk.old.store desk.new.store }
+    ensures cause { IfErr result (IsStoreCounted S.faults desk.old.store desk.new.store) }
 {
-    desk.permit(*permitted);
+    desk.keep_to(*terms);
     enrol_all(desk, enrolments)
 }
 
@@ -207,6 +215,7 @@ fn enrol_all<S: PlanStore>(desk: &mut Desk<S>, enrolments: &[Enrolment]) -> Resu
         (world_of S.content desk.old) (world_of S.content desk.new) found) }
     ensures fault { IfErr result IsBreakdown }
     ensures remembered { Remembers S.doubt S.faults S.is_shielded desk.old.store desk.new.store }
+    ensures cause { IfErr result (IsStoreCounted S.faults desk.old.store desk.new.store) }
 {
     for enrolment in enrolments {
         desk.enrol(&enrolment.operator, enrolment.ceiling)?;

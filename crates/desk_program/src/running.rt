@@ -7,6 +7,7 @@ ghost use Rattle.desk_store.specs.World.{World};
 ghost use Rattle.desk_line.specs.Exits.{FailsWith, ending};
 ghost use Rattle.desk_line.specs.Lines.{HasDatabase, IsLine};
 ghost use Rattle.desk_run.specs.DeskWorld.{IsSettled, world_of};
+ghost use Rattle.desk_program.specs.Causes.{HasCause};
 ghost use Rattle.desk_program.specs.Keeping.{IsLineKept};
 ghost use Rattle.desk_program.specs.Running.{IsCarriedOut};
 
@@ -48,6 +49,9 @@ pub fn run_opened<S: PlanStore + Drop, P: Port, R: Read, W: Write, E: Write>(
         (P.traffic port.old) (P.traffic port.new) (R.remaining input.old) (R.remaining input.new)
         (W.contents output.old) (W.contents output.new) (world_of S.content desk)
         (world_of S.content left) found)) }
+    ensures cause { IfOk opened (λ desk. IsSomeAnd result.1 (λ left.
+        HasCause (ending result.0 (E.contents errors.old) (E.contents errors.new))
+        (S.faults desk.store) (S.faults left.store))) }
     ensures unopened { IfErr opened (λ f.
         FailsWith f (ending result.0 (E.contents errors.old) (E.contents errors.new))
         × (result.1 ≡ None) × (P.traffic port.new ≡ P.traffic port.old)
@@ -87,6 +91,8 @@ fn carry_out<S: PlanStore, P: Port, R: Read, W: Write, E: Write>(
         (P.traffic port.old) (P.traffic port.new) (R.remaining input.old) (R.remaining input.new)
         (W.contents output.old) (W.contents output.new) (world_of S.content desk.old)
         (world_of S.content desk.new) found }
+    ensures cause { HasCause (ending result (E.contents errors.old) (E.contents errors.new))
+        (S.faults desk.old.store) (S.faults desk.new.store) }
     ensures doubt { S.doubt desk.old.store ≤ S.doubt desk.new.store }
     ensures shield { S.is_shielded desk.old.store → S.is_shielded desk.new.store }
 {

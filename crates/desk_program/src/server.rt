@@ -9,9 +9,10 @@ ghost use Rattle.desk_line.specs.Exits.{IsAnnounced, ending, failure_at};
 ghost use Rattle.desk_line.specs.Lines.{IsServe};
 ghost use Rattle.desk_line.specs.Written.{HasBegun};
 ghost use Rattle.desk_run.specs.DeskWorld.{IsSettled, world_of};
+ghost use Rattle.desk_program.specs.Causes.{HasCause, IsCounted};
 ghost use Rattle.desk_program.specs.Keeping.{AreKept, IsPortKept, IsServeKept};
 ghost use Rattle.desk_program.specs.Serving as spec;
-ghost use Rattle.desk_program.specs.Serving.{AreTaken, IsAtPort, IsDenied, IsLineServed, failing, listening_line};
+ghost use Rattle.desk_program.specs.Serving.{AreTaken, IsAtPort, IsDenied, IsLineServed, Listens, failing, listening_line};
 
 use crate::port::{Connection, Port};
 use crate::program::set_up;
@@ -48,6 +49,8 @@ pub fn serve<S: PlanStore, P: Port, W: Write, E: Write>(
         (P.traffic port.old) (P.traffic port.new) (world_of S.content desk.old)
         (world_of S.content desk.new) found }
     ensures remembered { Remembers S.doubt S.faults S.is_shielded desk.old.store desk.new.store }
+    ensures cause { HasCause (ending result (E.contents errors.old) (E.contents errors.new))
+        (S.faults desk.old.store) (S.faults desk.new.store) }
 {
     conclude(errors, serve_line(alloc, port, line, desk, output))
 }
@@ -71,8 +74,9 @@ fn serve_line<S: PlanStore, P: Port, W: Write>(
     ensures printed { IsAnnounced result (listening_line line.now.port) (W.contents output.old)
         (W.contents output.new) }
     ensures remembered { Remembers S.doubt S.faults S.is_shielded desk.old.store desk.new.store }
+    ensures cause { IsCounted result (S.faults desk.old.store) (S.faults desk.new.store) }
 {
-    set_up(desk, &line.permitted, &line.enrolments)?;
+    set_up(desk, &line.terms, &line.enrolments)?;
     listen(alloc, port, line.port, output)?;
     serve_connections(alloc, port, line.connections, desk)
 }
@@ -85,7 +89,7 @@ fn listen<P: Port, W: Write>(
     output: &mut W,
 ) -> Result<(), Failure>
     ensures fault { IfErr result IsDenied }
-    ensures same { P.traffic port.new ≡ P.traffic port.old }
+    ensures listens { Listens (P.traffic port.old) (P.traffic port.new) number }
     ensures printed { IsAnnounced result (listening_line number) (W.contents output.old)
         (W.contents output.new) }
 {

@@ -1,6 +1,7 @@
 pub mod Options
 pub mod NameTexts
 pub mod PointTests
+pub mod RefusalLemmas
 pub mod SearchLemmas
 pub mod Reach
 pub mod PermissionLemmas

@@ -7,6 +7,7 @@ pub mod States
 pub mod Outcome
 pub mod Search
 pub mod Permission
+pub mod Terms
 pub mod Conflict
 pub mod Bridge
 pub mod Replies

@@ -14,6 +14,10 @@ max_plans = 200
 abbrev pub max_priority : ℕ
 max_priority = 1000
 
+-- the greatest number of spans that a keeper may name as the most of an operator's live plans
+abbrev pub max_spans : ℕ
+max_spans = 5000000
+
 -- the greatest time between a request and the start of its plan, in seconds: thirty days
 abbrev pub max_ahead : ℕ
 max_ahead = 2592000

@@ -15,6 +15,7 @@ use Rattle.desk_rules.specs.declared.words.Note.{Note}
 use Rattle.desk_rules.specs.declared.words.Note.TheVariants as note
 use Rattle.desk_rules.specs.declared.transition.Step.{Step}
 use Rattle.desk_rules.specs.declared.transition.Step.TheVariants.{Refuse, Check, Report, Shut, Keep}
+use Rattle.desk_rules.specs.declared.decide.Standing.{Standing}
 use Rattle.desk_rules.specs.declared.decide.Verdict.{Verdict}
 use Rattle.desk_rules.specs.declared.decide.Effect.{Effect}
 use Rattle.desk_rules.specs.declared.decide.Effect.TheVariants as effect
@@ -39,8 +40,8 @@ refusal_of (Report s) = None
 refusal_of Shut = None
 refusal_of Keep = None
 
--- which of the later refusals apply: all of them to a check, those of the ceiling and of the number of
--- plans to a report, none to closing
+-- which of the later refusals apply: all of them to a check, those of the ceiling and of the numbers of
+-- plans and of spans to a report, none to closing
 abbrev pub is_check : Step → Bool
 is_check (Refuse n) = false
 is_check (Check s) = true
@@ -65,16 +66,17 @@ abbrev pub note_where : Bool → Note → Option Note
 note_where true n = Some n
 note_where false n = None
 
--- the order of refusals, by the states of the stored plan
-unfoldable pub note_from : PutCall → ℤ → Option States → ℕ → ℕ → Bool → Option Note
-note_from call moment stored own_rows ceiling blocked =
+-- the order of refusals, by the states of the stored plan and the operator's standing
+unfoldable pub note_from : PutCall → ℤ → Option States → Standing → Bool → Option Note
+note_from call moment stored standing blocked =
     let step = step_from stored call in
     first_note (note_where (not (is_offered call.style call.usage call.aircraft)) note.Style
     ∷ refusal_of step
     ∷ note_where (is_check step && has_ended call.area moment) note.Ended
     ∷ note_where (is_check step && is_beyond_horizon call.area moment) note.Horizon
-    ∷ note_where (is_stored step && nat_lt ceiling call.priority) note.Priority
-    ∷ note_where (is_stored step && (is_none stored && nat_le max_plans own_rows)) note.PlansLimit
+    ∷ note_where (is_stored step && nat_lt standing.ceiling call.priority) note.Priority
+    ∷ note_where (is_stored step && (is_none stored && nat_le max_plans standing.own_rows)) note.PlansLimit
+    ∷ note_where (is_stored step && standing.is_over) note.SpansLimit
     ∷ note_where (is_check step && blocked) note.Conflict
     ∷ [])
 
@@ -88,6 +90,7 @@ refused_result note.Ended = result.Rejected
 refused_result note.Horizon = result.Rejected
 refused_result note.Priority = result.Rejected
 refused_result note.PlansLimit = result.Rejected
+refused_result note.SpansLimit = result.Rejected
 refused_result note.Conflict = result.Rejected
 
 -- the conflict is named only beside its own note
@@ -100,6 +103,7 @@ shown_conflict note.Ended conflict = None
 shown_conflict note.Horizon conflict = None
 shown_conflict note.Priority conflict = None
 shown_conflict note.PlansLimit conflict = None
+shown_conflict note.SpansLimit conflict = None
 shown_conflict note.Conflict conflict = conflict
 
 -- the status and the effect of a step that is carried out
@@ -142,12 +146,18 @@ verdict_from call stored conflict None =
       effect = styled_effect call.style (step_effect (step_from stored call));
     }
 
--- the outcome of a request at a moment, given the states of the operator's plan with its id, the number
--- of the operator's plans, the operator's ceiling and the conflict of the requested area
+-- the outcome of a request at a moment, given the states of the operator's plan with its id, the
+-- operator's standing and the conflict of the requested area
+unfoldable pub outcome_under : PutCall → ℤ → Option States → Standing → Option Spot → Verdict
+outcome_under call moment stored standing conflict =
+    verdict_from call stored conflict (note_from call moment stored standing (is_some conflict))
+
+-- the same at a desk where an operator's live plans may have any number of spans, by the number of the
+-- operator's plans and its ceiling
 unfoldable pub outcome_from : PutCall → ℤ → Option States → ℕ → ℕ → Option Spot → Verdict
 outcome_from call moment stored own_rows ceiling conflict =
-    verdict_from call stored conflict
-    (note_from call moment stored own_rows ceiling (is_some conflict))
+    outcome_under call moment stored
+    (record { own_rows = own_rows; ceiling = ceiling; is_over = false }) conflict
 
 -- the same given the plan itself
 unfoldable pub outcome : PutCall → ℤ → Option PlanRow → ℕ → ℕ → Option Spot → Verdict

@@ -1,5 +1,5 @@
 -- Stored plans, and the points that they hold.
-use Rattle.std.specs.Prelude.{ℕ, List, Bool, true, false, ◌&&◌, Option, map}
+use Rattle.std.specs.Prelude.{ℕ, List, Bool, true, false, ◌&&◌, cond, Option, map}
 use Rattle.std.specs.List.{filter}
 use Rattle.desk_rules.specs.declared.plan.PlanRow.{PlanRow}
 use Rattle.desk_rules.specs.declared.words.Usage.{Usage}
@@ -7,6 +7,7 @@ use Rattle.desk_rules.specs.declared.words.Usage.TheVariants as usage
 use Rattle.volume4d.specs.Point.{Point}
 use Rattle.volume4d.specs.Volume.{area_has}
 use Rattle.volume4d.specs.Level.{greatest}
+use Rattle.volume4d.specs.SpanCounts.{area_spans}
 
 -- a plan is live while it is planned or in use
 abbrev pub is_live : Usage → Bool
@@ -17,6 +18,10 @@ is_live usage.Closed = false
 -- a live plan holds the points of its area
 unfoldable pub row_holds : PlanRow → Point → Bool
 row_holds row x = is_live row.usage && area_has row.area x
+
+-- a live plan takes the spans of its area, a closed one none
+abbrev pub row_spans : PlanRow → ℕ
+row_spans row = cond (is_live row.usage) (area_spans row.area) 0
 
 -- the greatest priority of the plans that hold the point, or None
 unfoldable pub top_priority : List PlanRow → Point → Option ℕ

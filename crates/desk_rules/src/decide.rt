@@ -1,9 +1,10 @@
 //! The order of refusals.
 
-ghost use Rattle.std.specs.Prelude.{◌≡◌, ◌&&◌, None, pos, ◌+ℤ◌, ◌-ℤ◌, int_le, int_lt, nat_le, is_none};
+ghost use Rattle.std.specs.Prelude.{◌≡◌, ◌∷◌, [], ◌&&◌, None, pos, ◌+ℤ◌, ◌-ℤ◌, int_le, int_lt, nat_le, nat_lt, is_none};
 ghost use Rattle.std.specs.Option.{option_copied};
+ghost use Rattle.desk_rules.specs.declared.words.Note.TheVariants as notes;
 ghost use Rattle.desk_rules.specs.declared.words.PlanResult.TheVariants as results;
-ghost use Rattle.desk_rules.specs.Outcome.{outcome, outcome_from, has_ended, is_beyond_horizon, step_status, step_effect, styled_effect, note_from, refused_result, shown_conflict};
+ghost use Rattle.desk_rules.specs.Outcome.{outcome, outcome_from, outcome_under, has_ended, is_beyond_horizon, step_status, step_effect, styled_effect, note_from, first_note, note_where, refused_result, shown_conflict};
 ghost use Rattle.desk_rules.specs.Limits.{max_plans, max_ahead};
 ghost use Rattle.desk_rules.specs.States as spec;
 ghost use Rattle.desk_rules.specs.States.{status_in_use, is_offered};
@@ -38,6 +39,18 @@ pub struct Verdict {
     pub meeting: Option<Meeting>,
     /// How the stored plan changes.
     pub effect: Effect,
+}
+
+/// What counts of an operator for the verdict on its request, beside the plan that the request names.
+#[derive(Clone, Copy, Debug, PartialEq, Eq)]
+pub struct Standing {
+    /// How many plans it has, closed ones included.
+    pub own_rows: u32,
+    /// The greatest priority that it may use.
+    pub ceiling: u32,
+    /// Whether its live plans, with the requested one in place of the stored one, would have more spans
+    /// than they may have.
+    pub is_over: bool,
 }
 
 /// The greatest time between a request and the start of its plan, in seconds: thirty days.
@@ -83,7 +96,27 @@ pub fn decide_from(
 ) -> Verdict
     ensures { result ≡ outcome_from call.now moment stored own_rows ceiling meeting }
 {
-    match note_for(call, moment, stored, own_rows, ceiling, meeting.is_some()) {
+    let standing = Standing {
+        own_rows,
+        ceiling,
+        is_over: false,
+    };
+    decide_under(call, moment, stored, &standing, meeting)
+}
+
+/// The verdict on a request, as `decide_from` gives it, of an operator of this standing: it is refused too
+/// where the operator's live plans would have more spans than they may have.
+#[tactic(auto, unfolding(crate::specs::Outcome::outcome_under))]
+pub fn decide_under(
+    call: &PutCall,
+    moment: i64,
+    stored: Option<States>,
+    standing: &Standing,
+    meeting: Option<Meeting>,
+) -> Verdict
+    ensures { result ≡ outcome_under call.now moment stored standing.now meeting }
+{
+    match note_for(call, moment, stored, standing, meeting.is_some()) {
         Some(note) => Verdict {
             result: result_for(note),
             status: status_from(stored),
@@ -120,11 +153,10 @@ fn note_for(
     call: &PutCall,
     moment: i64,
     stored: Option<States>,
-    own_rows: u32,
-    ceiling: u32,
+    standing: &Standing,
     blocked: bool,
 ) -> Option<Note>
-    ensures { result ≡ note_from call.now moment stored own_rows ceiling blocked }
+    ensures { result ≡ note_from call.now moment stored standing.now blocked }
 {
     if !offers(call.style, call.usage, call.aircraft) {
         return Some(Note::Style);
@@ -138,29 +170,36 @@ fn note_for(
             if any_beyond(call.area.volumes(), moment) {
                 return Some(Note::Horizon);
             }
-            if call.priority > ceiling {
-                return Some(Note::Priority);
-            }
-            if is_full(stored, own_rows) {
-                return Some(Note::PlansLimit);
+            if let Some(note) = over_limit(call.priority, stored, standing) {
+                return Some(note);
             }
             if blocked {
                 return Some(Note::Conflict);
             }
             None
         }
-        Step::Report(_) => {
-            if call.priority > ceiling {
-                return Some(Note::Priority);
-            }
-            if is_full(stored, own_rows) {
-                return Some(Note::PlansLimit);
-            }
-            None
-        }
+        Step::Report(_) => over_limit(call.priority, stored, standing),
         Step::Shut => None,
         Step::Keep => None,
     }
+}
+
+// The first of the operator's limits that a request to store a plan would break, or `None` if it breaks none.
+fn over_limit(priority: u32, stored: Option<States>, standing: &Standing) -> Option<Note>
+    ensures { result ≡ first_note (note_where (nat_lt standing.now.ceiling priority) notes.Priority
+        ∷ note_where (is_none stored && nat_le max_plans standing.now.own_rows) notes.PlansLimit
+        ∷ note_where standing.now.is_over notes.SpansLimit ∷ []) }
+{
+    if priority > standing.ceiling {
+        return Some(Note::Priority);
+    }
+    if is_full(stored, standing.own_rows) {
+        return Some(Note::PlansLimit);
+    }
+    if standing.is_over {
+        return Some(Note::SpansLimit);
+    }
+    None
 }
 
 // Whether the request is for a new plan and the operator has as many as it may have.

@@ -11,5 +11,6 @@ pub mod permission;
 pub mod plan;
 pub mod plan_id;
 pub mod reply;
+pub mod terms;
 pub mod transition;
 pub mod words;

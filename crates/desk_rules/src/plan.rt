@@ -1,7 +1,9 @@
 //! Stored plans, and requests to plan.
 
-ghost use Rattle.std.specs.Prelude.{◌≡◌, IfOk};
+ghost use Rattle.std.specs.Prelude.{◌≡◌, ◌*◌, ◌≤◌, IfOk};
 ghost use Rattle.std.specs.Option.{option_copied};
+ghost use Rattle.volume4d.specs.Limits.{max_cover, max_volumes};
+ghost use Rattle.desk_rules.specs.Plan.{row_spans};
 ghost use Rattle.desk_rules.specs.States as spec;
 
 use crate::plan_id::PlanId;
@@ -68,6 +70,19 @@ impl PlanRow {
             aircraft: self.aircraft,
             area: self.area.copy()?,
         })
+    }
+
+    /// How many spans the plan has: one for each range of each of its volumes along the S2 curve while it
+    /// is live, and none once it is closed.
+    pub fn span_count(&self) -> u32
+        ensures value { result ≡ row_spans self.now }
+        ensures few { result ≤ max_volumes * max_cover }
+    {
+        if self.usage.is_live() {
+            self.area.span_count()
+        } else {
+            0
+        }
     }
 
     /// The states of the plan.

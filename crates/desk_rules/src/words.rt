@@ -97,6 +97,8 @@ pub enum Note {
     Priority,
     /// The operator already has as many plans as it may have.
     PlansLimit,
+    /// The operator's live plans would have more spans than they may have.
+    SpansLimit,
     /// Another plan blocks a point of the area.
     Conflict,
 }

@@ -1,9 +1,13 @@
 -- Calls: what is prepared and committed is the verdict's.
-use Rattle.std.proofs.Common.{◌≡◌, ◌≤◌, ℕ, ℤ, List, length, map, Option, Some, None, Result, Ok, Err, true, refl, sym, ap, subst, ◌∙◌}
+use Rattle.std.proofs.Common.{◌≡◌, ◌+◌, ◌≤◌, ℕ, ℤ, List, length, map, Option, Some, None, Result, Ok, Err, true, refl, sym, ap, subst, ◌∙◌}
 use Rattle.std.specs.Prelude.{IsSome, is_some}
 use Rattle.desk_rules.specs.declared.plan.PlanRow.{PlanRow}
 use Rattle.desk_rules.specs.declared.plan.PutCall.{PutCall}
 use Rattle.desk_rules.specs.declared.plan.States.{States}
+use Rattle.desk_rules.specs.declared.decide.Standing.{Standing}
+use Rattle.desk_rules.specs.declared.terms.Terms.{Terms}
+use Rattle.desk_rules.specs.Terms.{exceeds}
+use Rattle.volume4d.specs.SpanCounts.{area_spans}
 use Rattle.desk_rules.specs.States.{states_of}
 use Rattle.desk_rules.specs.declared.words.PlanResult.TheVariants as result
 use Rattle.desk_rules.specs.declared.words.PlanStatus.TheVariants as status
@@ -12,12 +16,12 @@ use Rattle.desk_rules.specs.declared.decide.Effect.{Effect}
 use Rattle.desk_rules.specs.declared.decide.Effect.TheVariants as effect
 use Rattle.volume4d.specs.Meeting.{Spot}
 use Rattle.desk_rules.specs.Conflict.{conflict}
-use Rattle.desk_rules.specs.Outcome.{outcome, outcome_from}
+use Rattle.desk_rules.specs.Outcome.{outcome_under}
 use Rattle.desk_rules.specs.Limits.{max_priority}
 use Rattle.desk_store.specs.declared.change.Change.{Change}
 use Rattle.desk_store.specs.declared.change.Change.TheVariants as change
 use Rattle.desk_store.specs.StoreChange.{changed_by, IsFitting}
-use Rattle.desk_store.specs.World.{World, own, held, held_at, ceiling_of, plans_of, stored_of}
+use Rattle.desk_store.specs.World.{World, own, held, held_at, ceiling_of, plans_of, spans_beside, stored_of}
 use Rattle.volume4d.specs.Volume.{Block}
 use Rattle.desk_rules.specs.declared.call.Call.{Call}
 use Rattle.desk_rules.specs.declared.call.Call.TheVariants as call
@@ -38,17 +42,20 @@ use Rattle.desk_run.proofs.OutcomeLemmas.{outcome_counts}
 use Rattle.desk_run.proofs.PutLemmas.{change_fits}
 
 -- a verdict by the states of the stored plan, the number of plans and the conflict
-pub verdict_is : (permitted : List ℕ) (w : World) (o : List ℕ) (put : PutCall) (given moment : ℤ)
-    (ceiling : ℕ)
-    (stored : Option States) (count : ℕ) (meeting : Option Spot) (v : Verdict) → v
-    ≡ outcome_from put given stored count ceiling meeting → given ≡ moment → stored
-    ≡ states_of (stored_of put.id (plans_of o w)) → (stored ≡ None → count ≡ length (plans_of o w)) → meeting
-    ≡ conflict permitted put.area (held_at (plans_of o w) (held w o) put.id) put.priority → v
-    ≡ put_outcome permitted (own w o) (held w o) ceiling moment put
-unfolding put_outcome own outcome
-verdict_is permitted w o put given moment ceiling stored count meeting v e m s n c = e
-    ∙ outcome_counts put given stored count (length (plans_of o w)) ceiling meeting n
-    ∙ (λ i. outcome_from put (m i) (s i) (length (plans_of o w)) ceiling (c i))
+pub verdict_is : (terms : Terms) (w : World) (o : List ℕ) (put : PutCall) (given moment : ℤ)
+    (stored : Option States) (standing : Standing) (meeting : Option Spot) (v : Verdict) → v
+    ≡ outcome_under put given stored standing meeting → given ≡ moment → stored
+    ≡ states_of (stored_of put.id (plans_of o w))
+    → (stored ≡ None → standing.own_rows ≡ length (plans_of o w))
+    → standing.is_over ≡ exceeds terms.spans (spans_beside put.id (plans_of o w) + area_spans put.area)
+    → meeting
+    ≡ conflict terms.permitted put.area (held_at (plans_of o w) (held w o) put.id) put.priority → v
+    ≡ put_outcome terms (own w o) (held w o) standing.ceiling moment put
+unfolding put_outcome own
+verdict_is terms w o put given moment stored standing meeting v e m s n over c = e
+    ∙ outcome_counts put given stored standing (length (plans_of o w)) meeting n
+    ∙ (λ i. outcome_under put (m i) (s i)
+    (record { own_rows = length (plans_of o w); ceiling = standing.ceiling; is_over = over i }) (c i))
 
 -- a call to which an answer says no more than a word
 unanswered_by : (w : DeskWorld) (moment : ℤ) (asked : Asked) (reason : Told)
@@ -65,7 +72,7 @@ pub unlisted_is : (w : DeskWorld) (moment : ℤ) (asked : Asked)
     → ceiling_of asked.operator w.content ≡ None → IsUnanswered w moment asked unknown_operator
 unfolding verdict own
 unlisted_is w moment asked e = unanswered_by w moment asked unknown_operator
-    (ap (λ c. ruling_under c w.permitted (own w.content asked.operator) (held_in w asked.operator)
+    (ap (λ c. ruling_under c w.terms (own w.content asked.operator) (held_in w asked.operator)
     moment asked.call) e)
 
 -- the change of an effect leaves the plans that the effect leaves
@@ -78,38 +85,38 @@ change_made w o put effect.Save = refl
 change_made w o put effect.Shut = refl
 
 -- the reply to a request to plan, and its change, are ready
-pub put_ready : (permitted : List ℕ) (w : World) (o : List ℕ) (put : PutCall) (given moment : ℤ)
+pub put_ready : (terms : Terms) (w : World) (o : List ℕ) (put : PutCall) (given moment : ℤ)
     (ceiling : ℕ) (v : Verdict)
     (r : PutReply) (c : Option Change) → ceiling_of o w ≡ Some ceiling → ceiling ≤ max_priority → v
-    ≡ put_outcome permitted (own w o) (held w o) ceiling given put → given ≡ moment → c
+    ≡ put_outcome terms (own w o) (held w o) ceiling given put → given ≡ moment → c
     ≡ change_after v.effect o put
     → r ≡ record { result = v.result; status = v.status; note = v.note; meeting = v.meeting }
-    → IsReady w o (put_ruling (put_outcome permitted (own w o) (held w o) ceiling moment put) put
+    → IsReady w o (put_ruling (put_outcome terms (own w o) (held w o) ceiling moment put) put
     (plans_of o w)) (record { reply = reply.Answered r; change = c })
 unfolding put_outcome own
-put_ready permitted w o put given moment ceiling v r c listed low is m change reply_is =
-    let u = put_outcome permitted (own w o) (held w o) ceiling moment put in
-    let v_is : v ≡ u = is ∙ ap (λ t. put_outcome permitted (own w o) (held w o) ceiling t put) m in
+put_ready terms w o put given moment ceiling v r c listed low is m change reply_is =
+    let u = put_outcome terms (own w o) (held w o) ceiling moment put in
+    let v_is : v ≡ u = is ∙ ap (λ t. put_outcome terms (own w o) (held w o) ceiling t put) m in
     let c_is : c ≡ change_after u.effect o put = change ∙ ap (λ x. change_after x.effect o put) v_is in
     record {
       told = ap (λ x. (put_ruling x put (plans_of o w)).told) (sym v_is)
           ∙ ap (λ q. replied (said.answered q)) (sym reply_is);
       left = ap (world_with w) c_is ∙ change_made w o put u.effect;
-      fits = rw c_is (change_fits w o put moment ceiling
-          (conflict permitted put.area (held_at (plans_of o w) (held w o) put.id) put.priority) listed
+      fits = rw c_is (change_fits w o put moment terms.spans ceiling
+          (conflict terms.permitted put.area (held_at (plans_of o w) (held w o) put.id) put.priority) listed
           low);
     }
 
 -- what is ready for an operator under a ceiling is pending
 pending_from : (w : DeskWorld) (moment : ℤ) (asked : Asked) (ceiling : ℕ) (p : Pending)
     → ceiling_of asked.operator w.content ≡ Some ceiling → IsReady w.content asked.operator
-    (enrolled_ruling w.permitted (own w.content asked.operator) (held_in w asked.operator) ceiling moment
+    (enrolled_ruling w.terms (own w.content asked.operator) (held_in w asked.operator) ceiling moment
     asked.call) p → IsPending w moment asked p
 unfolding told_to step verdict own world_committed
 pending_from w moment asked ceiling p listed h =
     let o = asked.operator in
     let under : Option ℕ → Ruling =
-    λ c. ruling_under c w.permitted (own w.content o) (held_in w o) moment asked.call in
+    λ c. ruling_under c w.terms (own w.content o) (held_in w o) moment asked.call in
     record {
       told = ap (λ c. (under c).told) listed ∙ h.told;
       left = ap (λ v. record w { content = v })
@@ -119,13 +126,13 @@ pending_from w moment asked ceiling p listed h =
 
 pub prepares_from : (w : DeskWorld) (moment : ℤ) (asked : Asked) (ceiling : ℕ)
     (r : Result Pending DeskFault) → ceiling_of asked.operator w.content ≡ Some ceiling
-    → Readies w.content asked.operator (enrolled_ruling w.permitted (own w.content asked.operator)
+    → Readies w.content asked.operator (enrolled_ruling w.terms (own w.content asked.operator)
     (held_in w asked.operator) ceiling moment asked.call) r → Prepares w moment asked r
 unfolding verdict own
 prepares_from w moment asked ceiling (Ok p) listed h = pending_from w moment asked ceiling p listed h
 prepares_from w moment asked ceiling (Err NoSuchPlan) listed h =
     unanswered_by w moment asked no_such_plan
-    (ap (λ c. ruling_under c w.permitted (own w.content asked.operator) (held_in w asked.operator)
+    (ap (λ c. ruling_under c w.terms (own w.content asked.operator) (held_in w asked.operator)
     moment asked.call) listed ∙ h)
 prepares_from w moment asked ceiling (Err OutOfMemory) listed h = tt
 prepares_from w moment asked ceiling (Err Store) listed h = tt
@@ -162,7 +169,7 @@ pub status_ready : (w : DeskWorld) (moment : ℤ) (asked : Asked) (ceiling : ℕ
 unfolding enrolled_ruling
 status_ready w moment asked ceiling listed is =
     pending_from w moment asked ceiling (record { reply = reply.Ready; change = None }) listed
-    (subst (λ c. IsReady w.content asked.operator (enrolled_ruling w.permitted
+    (subst (λ c. IsReady w.content asked.operator (enrolled_ruling w.terms
     (own w.content asked.operator) (held_in w asked.operator) ceiling moment c)
     (record { reply = reply.Ready; change = None })) (sym is)
     (record { told = refl; left = refl; fits = tt }))
@@ -198,84 +205,86 @@ delete_ready w o id found e s listed = by_stored (stored_of id (plans_of o w)) r
   by_stored (Some row) f g = record { told = refl; left = refl; fits = (listed, ap is_some f) }
 
 -- the answers to a request to plan, and to close, are those to the call
-pub put_readies : (permitted : List ℕ) (w before : World) (given moment : ℤ) (asked : Asked) (put : PutCall)
+pub put_readies : (terms : Terms) (w before : World) (given moment : ℤ) (asked : Asked) (put : PutCall)
     (ceiling : ℕ)
     (r : Result Pending DeskFault) → w ≡ before → given ≡ moment → asked.call ≡ call.Put put
     → Readies w asked.operator
-    (put_ruling (put_outcome permitted (own w asked.operator) (held w asked.operator) ceiling given put) put
+    (put_ruling (put_outcome terms (own w asked.operator) (held w asked.operator) ceiling given put) put
     (plans_of asked.operator w)) r → Readies before asked.operator
-    (enrolled_ruling permitted (own before asked.operator) (held before asked.operator) ceiling moment
+    (enrolled_ruling terms (own before asked.operator) (held before asked.operator) ceiling moment
     asked.call)
     r
 unfolding enrolled_ruling own
-put_readies permitted w before given moment asked put ceiling r same m is h =
-    subst (λ v. Readies v asked.operator (enrolled_ruling permitted (own v asked.operator)
+put_readies terms w before given moment asked put ceiling r same m is h =
+    subst (λ v. Readies v asked.operator (enrolled_ruling terms (own v asked.operator)
     (held v asked.operator)
     ceiling moment asked.call) r) same
-    (subst (λ t. Readies w asked.operator (enrolled_ruling permitted (own w asked.operator)
+    (subst (λ t. Readies w asked.operator (enrolled_ruling terms (own w asked.operator)
     (held w asked.operator)
     ceiling t asked.call) r) m
-    (subst (λ c. Readies w asked.operator (enrolled_ruling permitted (own w asked.operator)
+    (subst (λ c. Readies w asked.operator (enrolled_ruling terms (own w asked.operator)
     (held w asked.operator)
     ceiling given c) r) (sym is) h))
 
 -- what is ready for a call of a kind is ready for the call
-readies_as : (permitted : List ℕ) (w before : World) (moment : ℤ) (asked : Asked) (kind : Call) (ceiling : ℕ)
+readies_as : (terms : Terms) (w before : World) (moment : ℤ) (asked : Asked) (kind : Call) (ceiling : ℕ)
     (r : Result Pending DeskFault) → w ≡ before → asked.call ≡ kind
-    → Readies w asked.operator (enrolled_ruling permitted (own w asked.operator) (held w asked.operator)
+    → Readies w asked.operator (enrolled_ruling terms (own w asked.operator) (held w asked.operator)
     ceiling
     moment
-    kind) r → Readies before asked.operator (enrolled_ruling permitted (own before asked.operator)
+    kind) r → Readies before asked.operator (enrolled_ruling terms (own before asked.operator)
     (held before asked.operator) ceiling moment asked.call) r
-readies_as permitted w before moment asked kind ceiling r same is h =
-    subst (λ v. Readies v asked.operator (enrolled_ruling permitted (own v asked.operator)
+readies_as terms w before moment asked kind ceiling r same is h =
+    subst (λ v. Readies v asked.operator (enrolled_ruling terms (own v asked.operator)
     (held v asked.operator)
     ceiling moment asked.call) r) same
-    (subst (λ c. Readies w asked.operator (enrolled_ruling permitted (own w asked.operator)
+    (subst (λ c. Readies w asked.operator (enrolled_ruling terms (own w asked.operator)
     (held w asked.operator)
     ceiling moment c) r) (sym is) h)
 
-pub list_readies : (permitted : List ℕ) (w before : World) (moment : ℤ) (asked : Asked) (ceiling : ℕ)
+pub list_readies : (terms : Terms) (w before : World) (moment : ℤ) (asked : Asked) (ceiling : ℕ)
     (r : Result Pending DeskFault) → w ≡ before → asked.call ≡ call.List
-    → Readies w asked.operator (list_ruling permitted (plans_of asked.operator w) (held w asked.operator)) r
-    → Readies before asked.operator (enrolled_ruling permitted (own before asked.operator)
+    → Readies w asked.operator (list_ruling terms.permitted (plans_of asked.operator w)
+    (held w asked.operator)) r
+    → Readies before asked.operator (enrolled_ruling terms (own before asked.operator)
     (held before asked.operator)
     ceiling moment asked.call) r
 unfolding enrolled_ruling own
-list_readies permitted w before moment asked ceiling r same is h =
-    readies_as permitted w before moment asked call.List ceiling r same is h
+list_readies terms w before moment asked ceiling r same is h =
+    readies_as terms w before moment asked call.List ceiling r same is h
 
-pub show_readies : (permitted : List ℕ) (w before : World) (moment : ℤ) (asked : Asked) (id : List ℕ)
+pub show_readies : (terms : Terms) (w before : World) (moment : ℤ) (asked : Asked) (id : List ℕ)
     (ceiling : ℕ)
     (r : Result Pending DeskFault) → w ≡ before → asked.call ≡ call.Show id
-    → Readies w asked.operator (show_ruling permitted (plans_of asked.operator w) (held w asked.operator)
+    → Readies w asked.operator (show_ruling terms.permitted (plans_of asked.operator w)
+    (held w asked.operator)
     (stored_of id (plans_of asked.operator w))) r → Readies before asked.operator
-    (enrolled_ruling permitted (own before asked.operator) (held before asked.operator) ceiling moment
+    (enrolled_ruling terms (own before asked.operator) (held before asked.operator) ceiling moment
     asked.call)
     r
 unfolding enrolled_ruling own
-show_readies permitted w before moment asked id ceiling r same is h =
-    readies_as permitted w before moment asked (call.Show id) ceiling r same is h
+show_readies terms w before moment asked id ceiling r same is h =
+    readies_as terms w before moment asked (call.Show id) ceiling r same is h
 
-pub clear_readies : (permitted : List ℕ) (w before : World) (moment : ℤ) (asked : Asked) (extent : Block)
+pub clear_readies : (terms : Terms) (w before : World) (moment : ℤ) (asked : Asked) (extent : Block)
     (ceiling : ℕ)
     (r : Result Pending DeskFault) → w ≡ before → asked.call ≡ call.Clear extent
     → Readies w asked.operator (clear_ruling (plans_of asked.operator w) extent) r
-    → Readies before asked.operator (enrolled_ruling permitted (own before asked.operator)
+    → Readies before asked.operator (enrolled_ruling terms (own before asked.operator)
     (held before asked.operator)
     ceiling moment asked.call) r
 unfolding enrolled_ruling own
-clear_readies permitted w before moment asked extent ceiling r same is h =
-    readies_as permitted w before moment asked (call.Clear extent) ceiling r same is h
+clear_readies terms w before moment asked extent ceiling r same is h =
+    readies_as terms w before moment asked (call.Clear extent) ceiling r same is h
 
-pub delete_readies : (permitted : List ℕ) (w before : World) (moment : ℤ) (asked : Asked) (id : List ℕ)
+pub delete_readies : (terms : Terms) (w before : World) (moment : ℤ) (asked : Asked) (id : List ℕ)
     (ceiling : ℕ)
     (r : Result Pending DeskFault) → w ≡ before → asked.call ≡ call.Delete id
     → Readies w asked.operator (delete_ruling (plans_of asked.operator w) id
     (stored_of id (plans_of asked.operator w))) r → Readies before asked.operator
-    (enrolled_ruling permitted (own before asked.operator) (held before asked.operator) ceiling moment
+    (enrolled_ruling terms (own before asked.operator) (held before asked.operator) ceiling moment
     asked.call)
     r
 unfolding enrolled_ruling own
-delete_readies permitted w before moment asked id ceiling r same is h =
-    readies_as permitted w before moment asked (call.Delete id) ceiling r same is h
+delete_readies terms w before moment asked id ceiling r same is h =
+    readies_as terms w before moment asked (call.Delete id) ceiling r same is h

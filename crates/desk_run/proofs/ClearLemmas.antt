@@ -18,7 +18,6 @@ use Rattle.volume4d.specs.Slab.{slabs_have}
 use Rattle.volume4d.specs.Volume.{Block, block_has}
 use Rattle.desk_rules.specs.Bridge.{AreSlabsOf}
 use Rattle.desk_rules.specs.declared.plan.PlanRow.{PlanRow}
-use Rattle.desk_rules.specs.declared.reply.Reply.{Reply}
 use Rattle.desk_rules.specs.declared.reply.Reply.TheVariants as reply
 use Rattle.desk_rules.specs.Limits.{max_plans}
 use Rattle.desk_rules.specs.Replies as said

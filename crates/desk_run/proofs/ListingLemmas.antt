@@ -1,7 +1,7 @@
 -- What an operator's plans hold among each other, slab by slab and plan by plan.
-use Rattle.std.proofs.Common.{◌≡◌, ℕ, ◌+◌, ◌≤◌, ◌<◌, Bool, true, false, true≢false, ◌&&◌, ◌||◌, not, cond, List, [], ◌∷◌, ◌++◌, zero, suc, length, map, get_or, take, drop, All, Option, Some, None, refl, sym, ap, subst, ◌∙◌, arith}
+use Rattle.std.proofs.Common.{◌≡◌, ℕ, ◌+◌, ◌≤◌, ◌<◌, Bool, true, false, true≢false, ◌&&◌, ◌||◌, not, cond, List, [], ◌∷◌, ◌++◌, suc, length, map, get_or, take, drop, Option, Some, None, refl, sym, ap, subst, ◌∙◌, arith}
 use Rattle.std.specs.Prelude.{nat_le, max, IsTrue, slice_get}
-use Rattle.std.specs.List.{filter, list_any}
+use Rattle.std.specs.List.{filter}
 use Rattle.std.proofs.lemmas.Bool.{and_parts}
 use Rattle.std.proofs.lemmas.Bool.Decides.{nat_tests}
 use Rattle.std.proofs.lemmas.List.{take_more, drop_more}
@@ -12,11 +12,11 @@ use Rattle.s2_hilbert.specs.Curve.{position_of}
 use Rattle.volume4d.specs.declared.slab.Slab.{Slab}
 use Rattle.volume4d.specs.declared.slab.Held.{Held}
 use Rattle.volume4d.specs.Point.{Point, is_leaf}
-use Rattle.volume4d.specs.Volume.{Block, area_has}
+use Rattle.volume4d.specs.Volume.{area_has}
 use Rattle.volume4d.specs.Slab.{slab_has, slab_has_leaf, slabs_have, top_held}
 use Rattle.volume4d.specs.Level.{greater, level_where}
 use Rattle.volume4d.specs.laws.Level.{greater_none, greater_assoc, top_held-push, top_held-nil}
-use Rattle.volume4d.specs.Bounds.{AreFilled, HasAll, IsBounds, IsFilled}
+use Rattle.volume4d.specs.Bounds.{AreFilled, IsBounds, IsFilled}
 use Rattle.volume4d.specs.Clusters.{IsCluster}
 use Rattle.volume4d.specs.Sweep.{Ascend}
 use Rattle.desk_rules.specs.declared.plan.PlanRow.{PlanRow}

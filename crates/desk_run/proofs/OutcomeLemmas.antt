@@ -3,6 +3,7 @@ use Rattle.std.proofs.Common.{◌≡◌, ℕ, ℤ, Bool, true, false, ◌&&◌, 
 use Rattle.std.specs.Prelude.{⊤, nat_le, nat_lt, is_none, is_some, cond}
 use Rattle.desk_rules.specs.declared.plan.PutCall.{PutCall}
 use Rattle.desk_rules.specs.declared.plan.States.{States}
+use Rattle.desk_rules.specs.declared.decide.Standing.{Standing}
 use Rattle.desk_rules.specs.declared.words.Note.{Note}
 use Rattle.desk_rules.specs.declared.words.Note.TheVariants as note
 use Rattle.desk_rules.specs.declared.words.Usage.{Usage}
@@ -13,17 +14,18 @@ use Rattle.desk_rules.specs.declared.transition.Step.{Step}
 use Rattle.desk_rules.specs.declared.transition.Step.TheVariants.{Refuse, Check, Report, Shut, Keep}
 use Rattle.volume4d.specs.Meeting.{Spot}
 use Rattle.desk_rules.specs.States.{step_from, step_from_none, step_from_planned, step_from_use, step_from_contingency, step_from_closed, step_from_states, is_offered}
-use Rattle.desk_rules.specs.Outcome.{outcome_from, note_from, first_note, note_where, refusal_of, is_check, has_ended, is_beyond_horizon, is_stored, shown_conflict, verdict_from}
+use Rattle.desk_rules.specs.Outcome.{outcome_under, note_from, first_note, note_where, refusal_of, is_check, has_ended, is_beyond_horizon, is_stored, shown_conflict, verdict_from}
 use Rattle.desk_rules.specs.Limits.{max_plans}
 
 -- the number of an operator's plans counts only if no plan is stored
-pub outcome_counts : (put : PutCall) (moment : ℤ) (stored : Option States) (m n ceiling : ℕ)
-    (conflict : Option Spot) → (stored ≡ None → m ≡ n)
-    → outcome_from put moment stored m ceiling conflict ≡ outcome_from put moment stored n ceiling conflict
-unfolding outcome_from note_from
-outcome_counts put moment None m n ceiling conflict same =
-    ap (λ k. outcome_from put moment None k ceiling conflict) (same refl)
-outcome_counts put moment (Some had) m n ceiling conflict same = refl
+pub outcome_counts : (put : PutCall) (moment : ℤ) (stored : Option States) (standing : Standing) (n : ℕ)
+    (conflict : Option Spot) → (stored ≡ None → standing.own_rows ≡ n)
+    → outcome_under put moment stored standing conflict
+    ≡ outcome_under put moment stored (record standing { own_rows = n }) conflict
+unfolding outcome_under note_from
+outcome_counts put moment None standing n conflict same =
+    ap (λ k. outcome_under put moment None (record standing { own_rows = k }) conflict) (same refl)
+outcome_counts put moment (Some had) standing n conflict same = refl
 
 -- a step that refuses does so with a note beside which no conflict is shown
 abbrev ShowsNone : Step → Type 0
@@ -84,37 +86,40 @@ shows_none None put = none_shows_none put.usage put.aircraft
 shows_none (Some had) put = states_show_none had.usage had.aircraft put.usage put.aircraft
 
 -- the first note by the tests of the list of refusals
-abbrev noted : Step → Bool → Bool → Bool → Bool → Bool → Bool → Option Note
-noted next offered ended beyond above full blocked =
+abbrev noted : Step → Bool → Bool → Bool → Bool → Bool → Bool → Bool → Option Note
+noted next offered ended beyond above full over blocked =
     first_note (note_where (not offered) note.Style
     ∷ refusal_of next
     ∷ note_where (is_check next && ended) note.Ended
     ∷ note_where (is_check next && beyond) note.Horizon
     ∷ note_where (is_stored next && above) note.Priority
     ∷ note_where (is_stored next && full) note.PlansLimit
+    ∷ note_where (is_stored next && over) note.SpansLimit
     ∷ note_where (is_check next && blocked) note.Conflict
     ∷ [])
 
 -- where a note is first without a conflict, or the step is no check, a conflict changes nothing
 settled_by : (put : PutCall) (stored : Option States) (conflict : Option Spot) (next : Step)
-    (offered ended beyond above full blocked : Bool) → ShowsNone next
-    → (is_none (noted next offered ended beyond above full false) && is_check next) ≡ false
-    → verdict_from put stored conflict (noted next offered ended beyond above full blocked)
-    ≡ verdict_from put stored None (noted next offered ended beyond above full false)
-settled_by put stored conflict next false ended beyond above full blocked shows e = refl
-settled_by put stored conflict (Refuse n) true ended beyond above full blocked shows e =
+    (offered ended beyond above full over blocked : Bool) → ShowsNone next
+    → (is_none (noted next offered ended beyond above full over false) && is_check next) ≡ false
+    → verdict_from put stored conflict (noted next offered ended beyond above full over blocked)
+    ≡ verdict_from put stored None (noted next offered ended beyond above full over false)
+settled_by put stored conflict next false ended beyond above full over blocked shows e = refl
+settled_by put stored conflict (Refuse n) true ended beyond above full over blocked shows e =
     ap (λ m. record (verdict_from put stored None (Some n)) { meeting = m })
     (shows conflict ∙ sym (shows None))
-settled_by put stored conflict (Check s) true true beyond above full blocked shows e = refl
-settled_by put stored conflict (Check s) true false true above full blocked shows e = refl
-settled_by put stored conflict (Check s) true false false true full blocked shows e = refl
-settled_by put stored conflict (Check s) true false false false true blocked shows e = refl
-settled_by put stored conflict (Check s) true false false false false blocked shows e = cc
-settled_by put stored conflict (Report s) true ended beyond true full blocked shows e = refl
-settled_by put stored conflict (Report s) true ended beyond false true blocked shows e = refl
-settled_by put stored conflict (Report s) true ended beyond false false blocked shows e = refl
-settled_by put stored conflict Shut true ended beyond above full blocked shows e = refl
-settled_by put stored conflict Keep true ended beyond above full blocked shows e = refl
+settled_by put stored conflict (Check s) true true beyond above full over blocked shows e = refl
+settled_by put stored conflict (Check s) true false true above full over blocked shows e = refl
+settled_by put stored conflict (Check s) true false false true full over blocked shows e = refl
+settled_by put stored conflict (Check s) true false false false true over blocked shows e = refl
+settled_by put stored conflict (Check s) true false false false false true blocked shows e = refl
+settled_by put stored conflict (Check s) true false false false false false blocked shows e = cc
+settled_by put stored conflict (Report s) true ended beyond true full over blocked shows e = refl
+settled_by put stored conflict (Report s) true ended beyond false true over blocked shows e = refl
+settled_by put stored conflict (Report s) true ended beyond false false true blocked shows e = refl
+settled_by put stored conflict (Report s) true ended beyond false false false blocked shows e = refl
+settled_by put stored conflict Shut true ended beyond above full over blocked shows e = refl
+settled_by put stored conflict Keep true ended beyond above full over blocked shows e = refl
 
 note_is : (put : PutCall) (stored : Option States) (conflict : Option Spot) (n : Option Note)
     → (verdict_from put stored conflict n).note ≡ n
@@ -122,28 +127,29 @@ note_is put stored conflict None = refl
 note_is put stored conflict (Some n) = refl
 
 -- an outcome that is refused with no conflict, or of a request that isn't checked, is the same with any
-pub settled : (put : PutCall) (moment : ℤ) (stored : Option States) (own_rows ceiling : ℕ)
+pub settled : (put : PutCall) (moment : ℤ) (stored : Option States) (standing : Standing)
     (conflict : Option Spot)
-    → (is_none (outcome_from put moment stored own_rows ceiling None).note && is_check (step_from stored put))
+    → (is_none (outcome_under put moment stored standing None).note && is_check (step_from stored put))
     ≡ false
-    → outcome_from put moment stored own_rows ceiling conflict
-    ≡ outcome_from put moment stored own_rows ceiling None
-unfolding outcome_from note_from
-settled put moment stored own_rows ceiling conflict e =
+    → outcome_under put moment stored standing conflict
+    ≡ outcome_under put moment stored standing None
+unfolding outcome_under note_from
+settled put moment stored standing conflict e =
     settled_by put stored conflict (step_from stored put) (is_offered put.style put.usage put.aircraft)
-    (has_ended put.area moment) (is_beyond_horizon put.area moment) (nat_lt ceiling put.priority)
-    (is_none stored && nat_le max_plans own_rows) (is_some conflict) (shows_none stored put)
+    (has_ended put.area moment) (is_beyond_horizon put.area moment) (nat_lt standing.ceiling put.priority)
+    (is_none stored && nat_le max_plans standing.own_rows) standing.is_over (is_some conflict)
+    (shows_none stored put)
     (ap (λ n. is_none n && is_check (step_from stored put))
-    (sym (note_is put stored None (note_from put moment stored own_rows ceiling false))) ∙ e)
+    (sym (note_is put stored None (note_from put moment stored standing false))) ∙ e)
 
 -- a conflict that is asked for only if it is needed gives the outcome with that conflict
-pub outcome_if_needed : (put : PutCall) (moment : ℤ) (stored : Option States) (own_rows ceiling : ℕ)
+pub outcome_if_needed : (put : PutCall) (moment : ℤ) (stored : Option States) (standing : Standing)
     (needed : Bool) (conflict meeting : Option Spot)
-    → (needed ≡ false → (other : Option Spot) → outcome_from put moment stored own_rows ceiling other
-    ≡ outcome_from put moment stored own_rows ceiling None) → meeting ≡ cond needed conflict None
-    → outcome_from put moment stored own_rows ceiling meeting
-    ≡ outcome_from put moment stored own_rows ceiling conflict
-outcome_if_needed put moment stored own_rows ceiling true conflict meeting settles is =
-    ap (outcome_from put moment stored own_rows ceiling) is
-outcome_if_needed put moment stored own_rows ceiling false conflict meeting settles is =
-    ap (outcome_from put moment stored own_rows ceiling) is ∙ sym (settles refl conflict)
+    → (needed ≡ false → (other : Option Spot) → outcome_under put moment stored standing other
+    ≡ outcome_under put moment stored standing None) → meeting ≡ cond needed conflict None
+    → outcome_under put moment stored standing meeting
+    ≡ outcome_under put moment stored standing conflict
+outcome_if_needed put moment stored standing true conflict meeting settles is =
+    ap (outcome_under put moment stored standing) is
+outcome_if_needed put moment stored standing false conflict meeting settles is =
+    ap (outcome_under put moment stored standing) is ∙ sym (settles refl conflict)

@@ -5,6 +5,8 @@ use Rattle.std.proofs.lemmas.Bool.Decides.{nat_tests}
 use Rattle.desk_rules.specs.declared.plan.PlanRow.{PlanRow}
 use Rattle.desk_rules.specs.declared.plan.PutCall.{PutCall}
 use Rattle.desk_rules.specs.declared.plan.States.{States}
+use Rattle.desk_rules.specs.declared.decide.Standing.{Standing}
+use Rattle.desk_run.specs.Verdicts.{standing_of}
 use Rattle.desk_rules.specs.declared.words.Note.{Note}
 use Rattle.desk_rules.specs.declared.words.Style.{Style}
 use Rattle.desk_rules.specs.declared.words.Style.TheVariants as style
@@ -19,7 +21,7 @@ use Rattle.desk_rules.specs.declared.decide.Effect.{Effect}
 use Rattle.desk_rules.specs.declared.decide.Effect.TheVariants as effect
 use Rattle.volume4d.specs.Meeting.{Spot}
 use Rattle.desk_rules.specs.States.{states_of, step_from, step_from_none, is_offered}
-use Rattle.desk_rules.specs.Outcome.{outcome, outcome_from, note_from, first_note, note_where, refusal_of, is_check, has_ended, is_beyond_horizon, is_stored, step_effect, styled_effect, verdict_from}
+use Rattle.desk_rules.specs.Outcome.{outcome_under, note_from, first_note, note_where, refusal_of, is_check, has_ended, is_beyond_horizon, is_stored, step_effect, styled_effect, verdict_from}
 use Rattle.desk_rules.specs.Limits.{max_plans, max_priority}
 use Rattle.desk_store.specs.World.{World, ceiling_of, stored_of, plans_of}
 use Rattle.desk_store.specs.Changes.{HasRoom}
@@ -35,53 +37,55 @@ not_noted : (b : Bool) (n : Note) → note_where b n ≡ None → b ≡ false
 not_noted true n e = cc
 not_noted false n e = refl
 
-sixth : (a b c d f g h : Option Note) → first_note (a ∷ b ∷ c ∷ d ∷ f ∷ g ∷ h ∷ []) ≡ None → g ≡ None
-sixth a b c d f g h e =
-    let p = no_first a (b ∷ c ∷ d ∷ f ∷ g ∷ h ∷ []) e in
-    let q = no_first b (c ∷ d ∷ f ∷ g ∷ h ∷ []) p.1 in
-    let r = no_first c (d ∷ f ∷ g ∷ h ∷ []) q.1 in
-    let s = no_first d (f ∷ g ∷ h ∷ []) r.1 in
-    let t = no_first f (g ∷ h ∷ []) s.1 in
-    (no_first g (h ∷ []) t.1).0
+sixth : (a b c d f g h k : Option Note) → first_note (a ∷ b ∷ c ∷ d ∷ f ∷ g ∷ h ∷ k ∷ []) ≡ None → g ≡ None
+sixth a b c d f g h k e =
+    let p = no_first a (b ∷ c ∷ d ∷ f ∷ g ∷ h ∷ k ∷ []) e in
+    let q = no_first b (c ∷ d ∷ f ∷ g ∷ h ∷ k ∷ []) p.1 in
+    let r = no_first c (d ∷ f ∷ g ∷ h ∷ k ∷ []) q.1 in
+    let s = no_first d (f ∷ g ∷ h ∷ k ∷ []) r.1 in
+    let t = no_first f (g ∷ h ∷ k ∷ []) s.1 in
+    (no_first g (h ∷ k ∷ []) t.1).0
 
-fifth : (a b c d f g h : Option Note) → first_note (a ∷ b ∷ c ∷ d ∷ f ∷ g ∷ h ∷ []) ≡ None → f ≡ None
-fifth a b c d f g h e =
-    let p = no_first a (b ∷ c ∷ d ∷ f ∷ g ∷ h ∷ []) e in
-    let q = no_first b (c ∷ d ∷ f ∷ g ∷ h ∷ []) p.1 in
-    let r = no_first c (d ∷ f ∷ g ∷ h ∷ []) q.1 in
-    let s = no_first d (f ∷ g ∷ h ∷ []) r.1 in
-    (no_first f (g ∷ h ∷ []) s.1).0
+fifth : (a b c d f g h k : Option Note) → first_note (a ∷ b ∷ c ∷ d ∷ f ∷ g ∷ h ∷ k ∷ []) ≡ None → f ≡ None
+fifth a b c d f g h k e =
+    let p = no_first a (b ∷ c ∷ d ∷ f ∷ g ∷ h ∷ k ∷ []) e in
+    let q = no_first b (c ∷ d ∷ f ∷ g ∷ h ∷ k ∷ []) p.1 in
+    let r = no_first c (d ∷ f ∷ g ∷ h ∷ k ∷ []) q.1 in
+    let s = no_first d (f ∷ g ∷ h ∷ k ∷ []) r.1 in
+    (no_first f (g ∷ h ∷ k ∷ []) s.1).0
 
 -- where nothing is noted, the priority of a stored request is within the ceiling
-within_ceiling : (asked : PutCall) (moment : ℤ) (stored : Option States) (own_rows ceiling : ℕ)
-    (blocked : Bool) → note_from asked moment stored own_rows ceiling blocked ≡ None
-    → (is_stored (step_from stored asked) && nat_lt ceiling asked.priority) ≡ false
+within_ceiling : (asked : PutCall) (moment : ℤ) (stored : Option States) (standing : Standing)
+    (blocked : Bool) → note_from asked moment stored standing blocked ≡ None
+    → (is_stored (step_from stored asked) && nat_lt standing.ceiling asked.priority) ≡ false
 unfolding note_from
-within_ceiling asked moment stored own_rows ceiling blocked e =
+within_ceiling asked moment stored standing blocked e =
     let next = step_from stored asked in
-    not_noted (is_stored next && nat_lt ceiling asked.priority) note.Priority
+    not_noted (is_stored next && nat_lt standing.ceiling asked.priority) note.Priority
     (fifth (note_where (not (is_offered asked.style asked.usage asked.aircraft)) note.Style)
     (refusal_of next)
     (note_where (is_check next && has_ended asked.area moment) note.Ended)
     (note_where (is_check next && is_beyond_horizon asked.area moment) note.Horizon)
-    (note_where (is_stored next && nat_lt ceiling asked.priority) note.Priority)
-    (note_where (is_stored next && (is_none stored && nat_le max_plans own_rows)) note.PlansLimit)
+    (note_where (is_stored next && nat_lt standing.ceiling asked.priority) note.Priority)
+    (note_where (is_stored next && (is_none stored && nat_le max_plans standing.own_rows)) note.PlansLimit)
+    (note_where (is_stored next && standing.is_over) note.SpansLimit)
     (note_where (is_check next && blocked) note.Conflict) e)
 
 -- where nothing is noted, a stored request is no plan too many
-within_limit : (asked : PutCall) (moment : ℤ) (stored : Option States) (own_rows ceiling : ℕ)
-    (blocked : Bool) → note_from asked moment stored own_rows ceiling blocked ≡ None
-    → (is_stored (step_from stored asked) && (is_none stored && nat_le max_plans own_rows)) ≡ false
+within_limit : (asked : PutCall) (moment : ℤ) (stored : Option States) (standing : Standing)
+    (blocked : Bool) → note_from asked moment stored standing blocked ≡ None
+    → (is_stored (step_from stored asked) && (is_none stored && nat_le max_plans standing.own_rows)) ≡ false
 unfolding note_from
-within_limit asked moment stored own_rows ceiling blocked e =
+within_limit asked moment stored standing blocked e =
     let next = step_from stored asked in
-    not_noted (is_stored next && (is_none stored && nat_le max_plans own_rows)) note.PlansLimit
+    not_noted (is_stored next && (is_none stored && nat_le max_plans standing.own_rows)) note.PlansLimit
     (sixth (note_where (not (is_offered asked.style asked.usage asked.aircraft)) note.Style)
     (refusal_of next)
     (note_where (is_check next && has_ended asked.area moment) note.Ended)
     (note_where (is_check next && is_beyond_horizon asked.area moment) note.Horizon)
-    (note_where (is_stored next && nat_lt ceiling asked.priority) note.Priority)
-    (note_where (is_stored next && (is_none stored && nat_le max_plans own_rows)) note.PlansLimit)
+    (note_where (is_stored next && nat_lt standing.ceiling asked.priority) note.Priority)
+    (note_where (is_stored next && (is_none stored && nat_le max_plans standing.own_rows)) note.PlansLimit)
+    (note_where (is_stored next && standing.is_over) note.SpansLimit)
     (note_where (is_check next && blocked) note.Conflict) e)
 
 saves_stored : (s : Style) (t : Step) → styled_effect s (step_effect t) ≡ effect.Save → is_stored t
@@ -98,32 +102,32 @@ saves_stored style.InReality (Report s) e = refl
 saves_stored style.InReality Shut e = cc
 saves_stored style.InReality Keep e = cc
 
-saved_within : (asked : PutCall) (moment : ℤ) (stored : Option States) (own_rows ceiling : ℕ)
-    (spot : Option Spot) → (outcome_from asked moment stored own_rows ceiling spot).effect ≡ effect.Save
-    → (is_none stored && nat_le max_plans own_rows) ≡ false
-unfolding outcome_from
-saved_within asked moment stored own_rows ceiling spot =
-    by_note (note_from asked moment stored own_rows ceiling (is_some spot)) refl where
-      by_note : (n : Option Note) → note_from asked moment stored own_rows ceiling (is_some spot) ≡ n
+saved_within : (asked : PutCall) (moment : ℤ) (stored : Option States) (standing : Standing)
+    (spot : Option Spot) → (outcome_under asked moment stored standing spot).effect ≡ effect.Save
+    → (is_none stored && nat_le max_plans standing.own_rows) ≡ false
+unfolding outcome_under
+saved_within asked moment stored standing spot =
+    by_note (note_from asked moment stored standing (is_some spot)) refl where
+      by_note : (n : Option Note) → note_from asked moment stored standing (is_some spot) ≡ n
           → (verdict_from asked stored spot n).effect ≡ effect.Save
-          → (is_none stored && nat_le max_plans own_rows)
+          → (is_none stored && nat_le max_plans standing.own_rows)
           ≡ false
       by_note (Some n) f e = cc
       by_note None f e = rw (saves_stored asked.style (step_from stored asked) e) at
-          (within_limit asked moment stored own_rows ceiling (is_some spot) f)
+          (within_limit asked moment stored standing (is_some spot) f)
 
-saved_under : (asked : PutCall) (moment : ℤ) (stored : Option States) (own_rows ceiling : ℕ)
-    (spot : Option Spot) → (outcome_from asked moment stored own_rows ceiling spot).effect ≡ effect.Save
-    → nat_lt ceiling asked.priority ≡ false
-unfolding outcome_from
-saved_under asked moment stored own_rows ceiling spot =
-    by_note (note_from asked moment stored own_rows ceiling (is_some spot)) refl where
-      by_note : (n : Option Note) → note_from asked moment stored own_rows ceiling (is_some spot) ≡ n
-          → (verdict_from asked stored spot n).effect ≡ effect.Save → nat_lt ceiling asked.priority
+saved_under : (asked : PutCall) (moment : ℤ) (stored : Option States) (standing : Standing)
+    (spot : Option Spot) → (outcome_under asked moment stored standing spot).effect ≡ effect.Save
+    → nat_lt standing.ceiling asked.priority ≡ false
+unfolding outcome_under
+saved_under asked moment stored standing spot =
+    by_note (note_from asked moment stored standing (is_some spot)) refl where
+      by_note : (n : Option Note) → note_from asked moment stored standing (is_some spot) ≡ n
+          → (verdict_from asked stored spot n).effect ≡ effect.Save → nat_lt standing.ceiling asked.priority
           ≡ false
       by_note (Some n) f e = cc
       by_note None f e = rw (saves_stored asked.style (step_from stored asked) e) at
-          (within_ceiling asked moment stored own_rows ceiling (is_some spot) f)
+          (within_ceiling asked moment stored standing (is_some spot) f)
 
 room_by : (w : World) (operator id : List ℕ) → (is_none (states_of (stored_of id (plans_of operator w)))
     && nat_le max_plans (length (plans_of operator w))) ≡ false → HasRoom w operator id
@@ -164,12 +168,12 @@ stored_if_shut : (stored : Option States) (asked : PutCall) → step_from stored
 stored_if_shut None asked e = absurd (none_is_shut asked.usage asked.aircraft e)
 stored_if_shut (Some row) asked e = refl
 
-shut_is_stored : (asked : PutCall) (moment : ℤ) (stored : Option States) (own_rows ceiling : ℕ)
-    (spot : Option Spot) → (outcome_from asked moment stored own_rows ceiling spot).effect ≡ effect.Shut
+shut_is_stored : (asked : PutCall) (moment : ℤ) (stored : Option States) (standing : Standing)
+    (spot : Option Spot) → (outcome_under asked moment stored standing spot).effect ≡ effect.Shut
     → IsSome stored
-unfolding outcome_from
-shut_is_stored asked moment stored own_rows ceiling spot =
-    by_note (note_from asked moment stored own_rows ceiling (is_some spot)) where
+unfolding outcome_under
+shut_is_stored asked moment stored standing spot =
+    by_note (note_from asked moment stored standing (is_some spot)) where
       by_note : (n : Option Note) → (verdict_from asked stored spot n).effect ≡ effect.Shut
           → IsSome stored
       by_note (Some n) e = cc
@@ -181,20 +185,19 @@ stored_by None e = e
 stored_by (Some row) e = refl
 
 -- the change of a verdict is one that a store takes
-pub change_fits : (w : World) (o : List ℕ) (asked : PutCall) (moment : ℤ) (ceiling : ℕ)
+pub change_fits : (w : World) (o : List ℕ) (asked : PutCall) (moment : ℤ) (most : Option ℕ) (ceiling : ℕ)
     (spot : Option Spot)
     → ceiling_of o w ≡ Some ceiling → ceiling ≤ max_priority
-    → Fits w (change_after (outcome asked moment (stored_of asked.id (plans_of o w))
-    (length (plans_of o w))
-    ceiling spot).effect o asked)
-unfolding IsFitting outcome
-change_fits w o asked moment ceiling spot listed low =
-    by_effect (outcome_from asked moment stored count ceiling spot).effect refl where
+    → Fits w (change_after (outcome_under asked moment (states_of (stored_of asked.id (plans_of o w)))
+    (standing_of most (plans_of o w) ceiling asked) spot).effect o asked)
+unfolding IsFitting
+change_fits w o asked moment most ceiling spot listed low =
+    by_effect (outcome_under asked moment stored standing spot).effect refl where
       stored : Option States
       stored = states_of (stored_of asked.id (plans_of o w))
 
-      count : ℕ
-      count = length (plans_of o w)
+      standing : Standing
+      standing = standing_of most (plans_of o w) ceiling asked
 
       is_listed : IsSome (ceiling_of o w)
       is_listed = ap is_some listed
@@ -202,17 +205,17 @@ change_fits w o asked moment ceiling spot listed low =
       below : (p : ℕ) → nat_lt ceiling p ≡ false → p ≤ max_priority
       below p e = grind (arith, nat_tests)
 
-      by_effect : (e : Effect) → (outcome_from asked moment stored count ceiling spot).effect ≡ e
+      by_effect : (e : Effect) → (outcome_under asked moment stored standing spot).effect ≡ e
           → Fits w (change_after e o asked)
       by_effect effect.Nothing f = tt
       by_effect effect.Save f = (
-        room_by w o asked.id (saved_within asked moment stored count ceiling spot f),
+        room_by w o asked.id (saved_within asked moment stored standing spot f),
         below asked.priority
-            (saved_under asked moment stored count ceiling spot f),
+            (saved_under asked moment stored standing spot f),
         is_listed,
       )
       by_effect effect.Shut f = (
         is_listed,
         stored_by (stored_of asked.id (plans_of o w))
-            (shut_is_stored asked moment stored count ceiling spot f),
+            (shut_is_stored asked moment stored standing spot f),
       )

@@ -1,7 +1,9 @@
 -- Runs: the calls answered so far.
-use Rattle.std.proofs.Common.{◌≡◌, ℕ, ℤ, ◌+◌, ◌<◌, List, [], ◌∷◌, ◌++◌, length, take, get_or, map, Result, Ok, Err, OnOk, OnErr, refl, sym, ap, ◌∙◌}
+use Rattle.std.proofs.Common.{◌≡◌, ℕ, ℤ, ◌+◌, ◌<◌, List, [], ◌∷◌, ◌++◌, length, take, get_or, map, Option, Some, Result, Ok, Err, OnOk, OnErr, refl, sym, subst, ap, ◌∙◌, inl, inr, ◌⊎◌}
 use Rattle.std.proofs.lemmas.List.{take_more, map-append, length-append}
-use Rattle.desk_run.specs.DeskWorld.{DeskWorld}
+use Rattle.desk_store.specs.World.{World}
+use Rattle.desk_store.specs.Crashes.{LeavesOldOr}
+use Rattle.desk_run.specs.DeskWorld.{DeskWorld, IsSettled, Parts, world_of}
 use Rattle.desk_rules.specs.declared.call.Asked.{Asked}
 use Rattle.desk_rules.specs.declared.reply.Reply.{Reply}
 use Rattle.desk_run.specs.declared.fault.DeskFault.{DeskFault}
@@ -9,7 +11,7 @@ use Rattle.desk_run.specs.declared.fault.DeskFault.TheVariants.{OutOfMemory, Sto
 use Rattle.desk_run.specs.declared.run.Outcome.{Outcome}
 use Rattle.desk_run.specs.Verdicts.{told_to, step}
 use Rattle.desk_run.specs.Calls.{Tells}
-use Rattle.desk_run.specs.Runs.{told_in, world_left, told_by, outcome_of}
+use Rattle.desk_run.specs.Runs.{IsFoundIn, told_in, world_left, told_by, outcome_of}
 
 -- the first calls are answered
 pub record AreAnswered (w : DeskWorld) (calls : List (ℤ × Asked)) (n : ℕ) (outcomes : List Outcome)
@@ -70,3 +72,43 @@ answered_is w after moment asked (Err NoSuchPlan) o told ok err is =
 answered_is w after moment asked (Err OutOfMemory) o told ok err is = cc
 answered_is w after moment asked (Err Store) o told ok err is = cc
 answered_is w after moment asked (Err Ceiling) o told ok err is = cc
+
+-- a call that has an outcome leaves a settled desk settled
+pub settled_next : {S : Type 0} (content : S → World) (may_leave : S → Option World → Type 0)
+    (d e : Parts S) (moment : ℤ) (asked : Asked) (r : Result Reply DeskFault)
+    → OnOk r (IsSettled content may_leave d → IsSettled content may_leave e)
+    → OnErr r (world_of content e ≡ world_of content d)
+    → world_of content e ≡ step (world_of content d) asked.operator moment asked.call
+    → LeavesOldOr (step (world_of content d) asked.operator moment asked.call).content (may_leave d.store)
+    (may_leave e.store)
+    → IsSettled content may_leave d → IsSettled content may_leave e
+settled_next content may_leave d e moment asked (Ok reply) kept err left crash settled = kept settled
+settled_next content may_leave d e moment asked (Err fault) kept err left crash settled = λ found may.
+    either (crash found may) where
+      either : {found : Option World} → may_leave d.store found
+          ⊎ (found ≡ Some (step (world_of content d) asked.operator moment asked.call).content)
+          → found ≡ Some (content e.store)
+      either (inl before) = settled _ before ∙ sym (ap (λ w. Some w.content) err)
+      either (inr next) = next ∙ sym (ap (λ w. Some w.content) left)
+
+-- the world that one more call leaves
+left_next : (w now : DeskWorld) (calls : List (ℤ × Asked)) (n : ℕ) (outcomes : List Outcome)
+    (call : ℤ × Asked) → AreAnswered w calls n outcomes now → n < length calls → call ≡ get_or calls n call
+    → step now call.1.operator call.0 call.1.call ≡ world_left w (take (n + 1) calls)
+left_next w now calls n outcomes call h below is =
+    ap (λ v. step v call.1.operator call.0 call.1.call) h.left ∙ sym (left_more w (take n calls) call)
+    ∙ sym (ap (world_left w) (take_more calls n call below ∙ ap (λ c. take n calls ++ c ∷ []) (sym is)))
+
+-- what is found after a call that stopped a run, or after the last
+pub found_next : (w now : DeskWorld) (calls : List (ℤ × Asked)) (n : ℕ) (outcomes : List Outcome)
+    (call : ℤ × Asked) (before : Option World → Type 0) (found : Option World)
+    → AreAnswered w calls n outcomes now → n < length calls → call ≡ get_or calls n call
+    → (before found → found ≡ Some now.content)
+    → before found ⊎ (found ≡ Some (step now call.1.operator call.0 call.1.call).content)
+    → IsFoundIn w calls (length outcomes) found
+found_next w now calls n outcomes call before found h below is settled (inl old) =
+    subst (λ k. IsFoundIn w calls k found) (sym h.count)
+    (inl (settled old ∙ ap (λ v. Some v.content) h.left))
+found_next w now calls n outcomes call before found h below is settled (inr next) =
+    subst (λ k. IsFoundIn w calls k found) (sym h.count)
+    (inr (next ∙ ap (λ v. Some v.content) (left_next w now calls n outcomes call h below is)))

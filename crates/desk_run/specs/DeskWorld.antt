@@ -1,40 +1,46 @@
--- Desks: what a desk's store keeps, and the priorities that are permitted at the desk.
+-- Desks: what a desk's store keeps, and the terms on which the desk plans.
 use Rattle.std.specs.Prelude.{◌≡◌, ◌⊎◌, ℕ, List, Option, refl}
-use Rattle.std.specs.Coded.{Coded, code_by, coded×, coded_list, coded_ℕ}
+use Rattle.std.specs.Coded.{Coded, code_by, coded×, coded_list, coded_option, coded_ℕ}
+use Rattle.desk_rules.specs.declared.terms.Terms.{Terms}
 use Rattle.volume4d.specs.Point.{Point}
 use Rattle.desk_store.specs.World.{World, Own, own, held}
 use Rattle.desk_store.specs.Changes.{with_operator}
 use Rattle.desk_store.specs.Crashes.{LeavesNoMore, LeavesOnly}
 
--- a store, and the permitted priorities
+-- a store, and the desk's terms
 pub record Parts (S : Type 0) : Type 0 where
   pub store : S
-  pub permitted : List ℕ
+  pub terms : Terms
+
+abbrev pub terms_code : Coded Terms
+terms_code =
+    code_by (List ℕ × Option ℕ) (coded× (coded_list coded_ℕ) (coded_option coded_ℕ))
+    (λ t. (t.permitted, t.spans)) (λ p. record { permitted = p.0; spans = p.1 }) (λ _. refl)
 
 abbrev pub parts_code : {S : Type 0} → Coded S → Coded (Parts S)
 parts_code {S} store =
-    code_by (S × List ℕ) (coded× store (coded_list coded_ℕ)) (λ d. (d.store, d.permitted))
-    (λ p. record { store = p.0; permitted = p.1 }) (λ _. refl)
+    code_by (S × Terms) (coded× store terms_code) (λ d. (d.store, d.terms))
+    (λ p. record { store = p.0; terms = p.1 }) (λ _. refl)
 
--- a desk's world: the content of its store, and the permitted priorities, which no request changes
+-- a desk's world: the content of its store, and its terms, which no request changes
 pub record DeskWorld : Type 0 where
   pub content : World
-  pub permitted : List ℕ
+  pub terms : Terms
 
-abbrev pub with_content : List ℕ → World → DeskWorld
-with_content permitted content = record { content = content; permitted = permitted }
+abbrev pub with_content : Terms → World → DeskWorld
+with_content terms content = record { content = content; terms = terms }
 
 -- the world of a desk, by what its store's content is
 abbrev pub world_of : {S : Type 0} → (S → World) → Parts S → DeskWorld
-world_of content d = with_content d.permitted (content d.store)
+world_of content d = with_content d.terms (content d.store)
 
--- an operator's side of a desk: what it owns there, and the permitted priorities
+-- an operator's side of a desk: what it owns there, and the desk's terms
 pub record Side : Type 0 where
   pub own : Own
-  pub permitted : List ℕ
+  pub terms : Terms
 
 abbrev pub side : DeskWorld → List ℕ → Side
-side w operator = record { own = own w.content operator; permitted = w.permitted }
+side w operator = record { own = own w.content operator; terms = w.terms }
 
 -- the greatest priority that others hold at a point
 abbrev pub held_in : DeskWorld → List ℕ → Point → Option ℕ

@@ -4,7 +4,7 @@ use Rattle.std.specs.List.{filter, list_any}
 use Rattle.volume4d.specs.declared.slab.Slab.{Slab}
 use Rattle.volume4d.specs.declared.slab.Held.{Held}
 use Rattle.volume4d.specs.Point.{Point}
-use Rattle.volume4d.specs.Slab.{slab_has, slabs_have, top_held}
+use Rattle.volume4d.specs.Slab.{slabs_have, top_held}
 use Rattle.volume4d.specs.Level.{greater, level_where}
 use Rattle.volume4d.specs.Bounds.{HasAll, IsFilled}
 use Rattle.volume4d.specs.Sweep.{Ascend}

@@ -1,5 +1,6 @@
 -- Runs: calls answered one after the other.
-use Rattle.std.specs.Prelude.{◌≡◌, ◌<◌, ℕ, ℤ, List, [], ◌∷◌, length, take, map, Option, None, Some, Result, Ok, Err}
+use Rattle.std.specs.Prelude.{◌≡◌, ◌<◌, ◌⊎◌, ◌+◌, ℕ, ℤ, List, [], ◌∷◌, length, take, map, Option, None, Some, Result, Ok, Err}
+use Rattle.desk_store.specs.World.{World}
 use Rattle.desk_run.specs.DeskWorld.{DeskWorld}
 use Rattle.desk_rules.specs.declared.call.Asked.{Asked}
 use Rattle.desk_rules.specs.declared.reply.Reply.{Reply}
@@ -56,3 +57,8 @@ pub record IsRun (w : DeskWorld) (calls : List (ℤ × Asked)) (ran : Ran) (afte
   pub told : map told_by ran.outcomes.items ≡ told_in w (take (length ran.outcomes.items) calls)
   pub left : after ≡ world_left w (take (length ran.outcomes.items) calls)
   pub ends : EndsAt ran.stopped (length ran.outcomes.items) (length calls)
+
+-- after n outcomes, what a start finds is what the first n calls left, or what the first n + 1 left
+abbrev pub IsFoundIn : DeskWorld → List (ℤ × Asked) → ℕ → Option World → Type 0
+IsFoundIn w calls n found = (found ≡ Some (world_left w (take n calls)).content)
+    ⊎ (found ≡ Some (world_left w (take (n + 1) calls)).content)

@@ -5,8 +5,8 @@ use Rattle.volume4d.specs.Point.{Point, is_leaf}
 use Rattle.desk_store.specs.World.{text_cmp}
 use Rattle.desk_run.specs.DeskWorld.{DeskWorld, side, held_in}
 
--- the operator owns the same in two worlds, its ceiling and its plans, and the same priorities are
--- permitted
+-- the operator owns the same in two worlds, its ceiling and its plans, and the desks' terms
+-- are the same
 abbrev pub OwnAlike : List ℕ → DeskWorld → DeskWorld → Type 0
 OwnAlike o v w = side v o ≡ side w o
 

@@ -29,7 +29,7 @@ told_for o w calls = beside caller o calls (told_in w calls)
 abbrev pub met_by : List ℕ → DeskWorld → List TimedCall → List DeskWorld
 met_by o w calls = beside caller o calls (along left (λ u call. u) w calls)
 
--- what it owns after each of its calls, and the permitted priorities
+-- what it owns after each of its calls, and the desk's terms
 abbrev pub owned_by : List ℕ → DeskWorld → List TimedCall → List Side
 owned_by o w calls = beside caller o calls (along left (λ u call. side (left u call) o) w calls)
 

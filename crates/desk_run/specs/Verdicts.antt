@@ -1,30 +1,34 @@
--- Verdicts: what a desk answers to a call, and what it leaves, by the permitted priorities, what the
--- operator owns and what others hold.
-use Rattle.std.specs.Prelude.{ℕ, ℤ, length, List, [], ◌∷◌, map, Bool, not, cond, Option, Some, None}
+-- Verdicts: what a desk answers to a call, and what it leaves, by the desk's terms, what the operator owns
+-- and what others hold.
+use Rattle.std.specs.Prelude.{ℕ, ℤ, ◌+◌, length, List, [], ◌∷◌, map, Bool, not, cond, Option, Some, None}
 use Rattle.std.specs.List.{filter, list_any}
 use Rattle.std.specs.Option.{unwrap_or}
 use Rattle.desk_rules.specs.declared.plan.PlanRow.{PlanRow}
 use Rattle.desk_rules.specs.declared.plan.PutCall.{PutCall}
 use Rattle.desk_rules.specs.declared.words.PlanResult.TheVariants as result
 use Rattle.desk_rules.specs.declared.words.PlanStatus.TheVariants as status
+use Rattle.desk_rules.specs.declared.decide.Standing.{Standing}
 use Rattle.desk_rules.specs.declared.decide.Verdict.{Verdict}
+use Rattle.desk_rules.specs.declared.terms.Terms.{Terms}
 use Rattle.desk_rules.specs.declared.decide.Effect.{Effect}
 use Rattle.desk_rules.specs.declared.decide.Effect.TheVariants as effect
 use Rattle.volume4d.specs.Point.{Point}
 use Rattle.volume4d.specs.Meeting.{Spot}
 use Rattle.volume4d.specs.Volume.{Block}
 use Rattle.desk_rules.specs.Plan.{is_live}
-use Rattle.desk_rules.specs.States.{status_of}
+use Rattle.desk_rules.specs.States.{states_of, status_of}
+use Rattle.desk_rules.specs.Terms.{exceeds}
+use Rattle.volume4d.specs.SpanCounts.{area_spans}
 use Rattle.desk_rules.specs.Conflict.{conflict}
 use Rattle.desk_rules.specs.Sharing.{share_a_point}
-use Rattle.desk_rules.specs.Outcome.{outcome}
+use Rattle.desk_rules.specs.Outcome.{outcome_under}
 use Rattle.desk_rules.specs.declared.call.Asked.{Asked}
 use Rattle.desk_rules.specs.declared.call.Call.{Call}
 use Rattle.desk_rules.specs.declared.call.Call.TheVariants as call
 use Rattle.desk_rules.specs.declared.reply.Shown.{Shown}
 use Rattle.desk_rules.specs.Replies as said
 use Rattle.desk_rules.specs.Replies.{ReplyParts}
-use Rattle.desk_store.specs.World.{World, Own, own, held, held_at, plans_of, stored_of}
+use Rattle.desk_store.specs.World.{World, Own, own, held, held_at, plans_of, spans_beside, stored_of}
 use Rattle.desk_store.specs.Changes.{put_row, close_row, with_plans}
 use Rattle.desk_run.specs.DeskWorld.{DeskWorld, Side, held_in}
 
@@ -40,17 +44,28 @@ pub record Ruling : Type 0 where
   pub told : Told
   pub plans : Option (List PlanRow)
 
+-- an operator's standing for a request to plan, by its plans and its ceiling: it would have too many spans
+-- if those of its other live plans and those of the requested area are more than it may have
+abbrev pub standing_of : Option ℕ → List PlanRow → ℕ → PutCall → Standing
+standing_of most rows ceiling asked =
+    record {
+      own_rows = length rows;
+      ceiling = ceiling;
+      is_over = exceeds most (spans_beside asked.id rows + area_spans asked.area);
+    }
+
 -- the verdict on a request to plan of an operator with a ceiling: the outcome with the conflict of
 -- the area asked
-unfoldable pub put_outcome : List ℕ → Own → (Point → Option ℕ) → ℕ → ℤ → PutCall → Verdict
-put_outcome permitted mine others ceiling moment asked =
-    outcome asked moment (stored_of asked.id mine.plans) (length mine.plans) ceiling
-    (conflict permitted asked.area (held_at mine.plans others asked.id) asked.priority)
+unfoldable pub put_outcome : Terms → Own → (Point → Option ℕ) → ℕ → ℤ → PutCall → Verdict
+put_outcome terms mine others ceiling moment asked =
+    outcome_under asked moment (states_of (stored_of asked.id mine.plans))
+    (standing_of terms.spans mine.plans ceiling asked)
+    (conflict terms.permitted asked.area (held_at mine.plans others asked.id) asked.priority)
 
 -- that in a world
-abbrev pub put_outcome_in : List ℕ → World → List ℕ → ℕ → ℤ → PutCall → Verdict
-put_outcome_in permitted w operator ceiling moment asked =
-    put_outcome permitted (own w operator) (held w operator) ceiling moment asked
+abbrev pub put_outcome_in : Terms → World → List ℕ → ℕ → ℤ → PutCall → Verdict
+put_outcome_in terms w operator ceiling moment asked =
+    put_outcome terms (own w operator) (held w operator) ceiling moment asked
 
 -- the conflict of an area with a priority in a world, of an operator's plan of an id
 abbrev pub conflict_in : List ℕ → World → List ℕ → List ℕ → List Block → ℕ → Option Spot
@@ -145,27 +160,27 @@ clear_ruling rows extent =
     }
 
 -- the answer to a call of an operator under a ceiling
-unfoldable pub enrolled_ruling : List ℕ → Own → (Point → Option ℕ) → ℕ → ℤ → Call → Ruling
-enrolled_ruling permitted mine others ceiling moment call.Status = ruling_alone (replied said.ready)
-enrolled_ruling permitted mine others ceiling moment call.List = list_ruling permitted mine.plans others
-enrolled_ruling permitted mine others ceiling moment (call.Show id) =
-    show_ruling permitted mine.plans others (stored_of id mine.plans)
-enrolled_ruling permitted mine others ceiling moment (call.Put asked) =
-    put_ruling (put_outcome permitted mine others ceiling moment asked) asked mine.plans
-enrolled_ruling permitted mine others ceiling moment (call.Delete id) =
+unfoldable pub enrolled_ruling : Terms → Own → (Point → Option ℕ) → ℕ → ℤ → Call → Ruling
+enrolled_ruling terms mine others ceiling moment call.Status = ruling_alone (replied said.ready)
+enrolled_ruling terms mine others ceiling moment call.List = list_ruling terms.permitted mine.plans others
+enrolled_ruling terms mine others ceiling moment (call.Show id) =
+    show_ruling terms.permitted mine.plans others (stored_of id mine.plans)
+enrolled_ruling terms mine others ceiling moment (call.Put asked) =
+    put_ruling (put_outcome terms mine others ceiling moment asked) asked mine.plans
+enrolled_ruling terms mine others ceiling moment (call.Delete id) =
     delete_ruling mine.plans id (stored_of id mine.plans)
-enrolled_ruling permitted mine others ceiling moment (call.Clear extent) =
+enrolled_ruling terms mine others ceiling moment (call.Clear extent) =
     clear_ruling mine.plans extent
 
 -- the answer to a call; none is made to an operator that is not enrolled
-abbrev pub ruling_under : Option ℕ → List ℕ → Own → (Point → Option ℕ) → ℤ → Call → Ruling
-ruling_under None permitted mine others moment asked = ruling_alone unknown_operator
-ruling_under (Some ceiling) permitted mine others moment asked =
-    enrolled_ruling permitted mine others ceiling moment asked
+abbrev pub ruling_under : Option ℕ → Terms → Own → (Point → Option ℕ) → ℤ → Call → Ruling
+ruling_under None terms mine others moment asked = ruling_alone unknown_operator
+ruling_under (Some ceiling) terms mine others moment asked =
+    enrolled_ruling terms mine others ceiling moment asked
 
-unfoldable pub verdict : List ℕ → Own → (Point → Option ℕ) → ℤ → Call → Ruling
-verdict permitted mine others moment asked =
-    ruling_under mine.ceiling permitted mine others moment asked
+unfoldable pub verdict : Terms → Own → (Point → Option ℕ) → ℤ → Call → Ruling
+verdict terms mine others moment asked =
+    ruling_under mine.ceiling terms mine others moment asked
 
 -- the operator's side after a call
 abbrev pub own_left : Own → Option (List PlanRow) → Own
@@ -173,18 +188,18 @@ own_left mine plans = record mine { plans = unwrap_or plans mine.plans }
 
 unfoldable pub side_left : Side → (Point → Option ℕ) → ℤ → Call → Side
 side_left mine others moment asked =
-    record mine { own = own_left mine.own (verdict mine.permitted mine.own others moment asked).plans }
+    record mine { own = own_left mine.own (verdict mine.terms mine.own others moment asked).plans }
 
 -- a world with an operator's plans replaced, where they changed
 abbrev pub world_with_plans : World → List ℕ → Option (List PlanRow) → World
 world_with_plans w operator None = w
 world_with_plans w operator (Some rows) = with_plans w operator rows
 
--- the verdict in a desk's world. It is read through the permitted priorities, what the operator owns
+-- the verdict in a desk's world. It is read through the desk's terms, what the operator owns
 -- and what others hold alone
 abbrev pub ruling_in : DeskWorld → List ℕ → ℤ → Call → Ruling
 ruling_in w operator moment asked =
-    verdict w.permitted (own w.content operator) (held_in w operator) moment asked
+    verdict w.terms (own w.content operator) (held_in w operator) moment asked
 
 -- a call at a moment: what the caller is told, and the desk's world after it
 unfoldable pub told_to : DeskWorld → List ℕ → ℤ → Call → Told

@@ -2,6 +2,7 @@
 
 ghost use Rattle.std.specs.Prelude.{◌≡◌, ◌≢◌, ◌≤◌, ◌<◌, ◌↔◌, [], Err, IfOk, IfErr, OnOk, OnErr};
 ghost use Rattle.desk_rules.specs.Limits.{max_priority};
+ghost use Rattle.desk_rules.specs.Terms.{no_terms};
 
 use crate::fault::DeskFault;
 use crate::pending::{Pending, commit_over, prepare_over};
@@ -10,6 +11,7 @@ use desk_rules::decide::MAX_PRIORITY;
 use desk_rules::operator::Operator;
 use desk_rules::permission::Permitted;
 use desk_rules::reply::Reply;
+use desk_rules::terms::Terms;
 use desk_store::{Change, PlanStore};
 use std::alloc::Global;
 use std::marker::Model;
@@ -24,7 +26,7 @@ use std::marker::Model;
 #[derive(Drop)]
 pub struct Desk<S> {
     store: S,
-    permitted: Permitted,
+    terms: Terms,
 }
 
 impl<S> Model for Desk<S> {
@@ -34,17 +36,18 @@ impl<S> Model for Desk<S> {
 
     ghost coded = { parts_code S.code };
 
-    ghost view = { λ d. record { store = d.store; permitted = d.permitted } };
+    ghost view = { λ d. record { store = d.store; terms = d.terms } };
 }
 
 impl<S> Desk<S> {
-    /// A desk over a store, at which no priority is permitted.
+    /// A desk over a store, at which no priority is permitted, and an operator's live plans may have any
+    /// number of spans.
     pub fn new(store: S) -> Desk<S>
-        ensures { result ≡ record { store = store; permitted = [] } }
+        ensures { result ≡ record { store = store; terms = no_terms } }
     {
         Desk {
             store,
-            permitted: Permitted::none(),
+            terms: Terms::none(),
         }
     }
 
@@ -58,9 +61,19 @@ impl<S> Desk<S> {
     /// Permits these priorities, and no others: a plan may share points with others of the same
     /// priority where that is permitted. The content stays.
     pub fn permit(&mut self, permitted: Permitted)
-        ensures { self.new ≡ record { store = self.old.store; permitted = permitted } }
+        ensures { self.new ≡ record {
+          store = self.old.store;
+          terms = record self.old.terms { permitted = permitted };
+        } }
     {
-        self.permitted = permitted;
+        self.terms.permitted = permitted;
+    }
+
+    /// Plans on these terms from here on. The content stays.
+    pub fn keep_to(&mut self, terms: Terms)
+        ensures { self.new ≡ record { store = self.old.store; terms = terms } }
+    {
+        self.terms = terms;
     }
 }
 
@@ -123,7 +136,7 @@ impl<S: PlanStore> Desk<S> {
         ensures remembered { Remembers S.doubt S.faults S.is_shielded self.old.store self.new.store }
         ensures cause { IfErr result (IsStoreCounted S.faults self.old.store self.new.store) }
     {
-        prepare_over(alloc, &mut self.store, &self.permitted, moment, asked)
+        prepare_over(alloc, &mut self.store, &self.terms, moment, asked)
     }
 
     /// Makes the change that goes with a reply, and hands the reply back; a refusal drops it.

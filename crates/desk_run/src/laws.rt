@@ -13,7 +13,7 @@ ghost use Rattle.desk_run.specs.TwoRuns.{IsSameFor, TimedCall, calls_of, met_by}
 ghost use Rattle.desk_run.specs.Verdicts.{side_left, step};
 ghost use Rattle.desk_store.specs.World.{IsWorld, plans_of, stored_of, text_cmp};
 
-/// A request changes no other operator's plans or ceiling, and not the permitted priorities.
+/// A request changes no other operator's plans or ceiling, and not the desk's terms.
 pub fn others_are_kept()
     ensures { (w : DeskWorld) (operator other : List ℕ) (moment : ℤ) (call : Call) →
         is_eq (text_cmp other operator) ≡ false →
@@ -21,7 +21,7 @@ pub fn others_are_kept()
 {}
 
 /// What a request leaves its operator is decided by what that operator owns, what others hold and the
-/// permitted priorities, which stay.
+/// the desk's terms, which stay.
 pub fn own_is_decided()
     ensures { (w : DeskWorld) (operator : List ℕ) (moment : ℤ) (call : Call) →
         side (step w operator moment call) operator
@@ -35,7 +35,7 @@ pub fn closing_a_closed_plan_changes_nothing()
         step w operator moment (Delete id) ≡ w }
 {}
 
-/// Two runs, from worlds in which an operator owns the same and the same priorities are permitted,
+/// Two runs, from worlds in which an operator owns the same on the same terms,
 /// with the same calls of that operator in the same order and at the same moments. If others hold the
 /// same before each of these calls, then the operator is told the same and owns the same after each of
 /// them and at the end, whatever calls of others stand between.

@@ -12,8 +12,8 @@ use crate::fault::DeskFault;
 use clear::ready_clear;
 use delete::ready_delete;
 use desk_rules::call::{Asked, Call};
-use desk_rules::permission::Permitted;
 use desk_rules::reply::Reply;
+use desk_rules::terms::Terms;
 use desk_store::{Change, PlanStore};
 use put::ready_put;
 use show::{ready_list, ready_show};
@@ -63,16 +63,16 @@ impl Pending {
     }
 }
 
-// Gets a reply ready over a store, at a desk with these permitted priorities.
+// Gets a reply ready over a store, at a desk on these terms.
 pub fn prepare_over<S: PlanStore>(
     alloc: Global,
     store: &mut S,
-    permitted: &Permitted,
+    terms: &Terms,
     moment: i64,
     asked: &Asked,
 ) -> Result<Pending, DeskFault>
     ensures value { IsHonest (S.doubt store.new) →
-        Prepares (with_content permitted.now (S.content store.old)) moment asked.now result }
+        Prepares (with_content terms.now (S.content store.old)) moment asked.now result }
     ensures reads { OnlyReads S.content S.doubt S.faults S.may_leave S.is_shielded store.old store.new }
     ensures cause { IfErr result (IsStoreCounted S.faults store.old store.new) }
 {
@@ -85,9 +85,9 @@ pub fn prepare_over<S: PlanStore>(
             reply: Reply::Ready,
             change: None,
         }),
-        Call::List => ready_list(alloc, store, permitted, operator),
-        Call::Show(id) => ready_show(store, permitted, operator, id),
-        Call::Put(put) => ready_put(store, permitted, moment, operator, put, ceiling),
+        Call::List => ready_list(alloc, store, &terms.permitted, operator),
+        Call::Show(id) => ready_show(store, &terms.permitted, operator, id),
+        Call::Put(put) => ready_put(store, terms, moment, operator, put, ceiling),
         Call::Delete(id) => ready_delete(store, operator, id),
         Call::Clear(extent) => ready_clear(alloc, store, operator, extent),
     }

@@ -1,5 +1,5 @@
 -- Why a query of whole tables is refused.
-use Rattle.std.proofs.Common.{◌≡◌, arith, ◌⊎◌, inl, inr, ℕ, List, [], length, None, Some, Option, Ok, Err, Result, IfOk, Bool, if◌then◌else◌, refl, sym, ap, subst, ◌∙◌, IsTrue, true, false, true≢false, IfErr}
+use Rattle.std.proofs.Common.{◌≡◌, arith, ◌⊎◌, inl, inr, ℕ, List, [], append-nil, None, Some, Option, Ok, Err, Result, IfOk, Bool, if◌then◌else◌, refl, sym, ap, subst, ◌∙◌, IsTrue, true, false, true≢false, IfErr}
 use Rattle.std.specs.Prelude.{IsSome}
 use Rattle.sqlite_disk.specs.Disk.{MoreFaults}
 use Rattle.sqlite.specs.Order.{Row}
@@ -23,13 +23,14 @@ use Rattle.desk_sql.specs.declared.opening.finding.TablesPresent.{TablesPresent}
 use Rattle.desk_sql.specs.declared.opening.numbers.DeskTable.{DeskTable}
 use Rattle.desk_sql.specs.declared.reading.whole.Whole.{Whole}
 use Rattle.desk_sql.specs.Queries.{table_read, table_in, key_cells, rows_read}
-use Rattle.desk_sql.specs.Schema.{HasTable, has_table, is_packed}
+use Rattle.desk_sql.specs.Schema.{desk_schema, HasTable, has_table, is_packed}
+use Rattle.desk_sql.specs.Effects.{IsReady}
 use Rattle.desk_sql.specs.Finding.{Holds}
 use Rattle.sqlite.specs.Tree.{Trees}
 use Rattle.desk_sql.specs.Rows.{Lists, tables_of, tables_in, tables_at}
 use Rattle.desk_sql.specs.Statements.{SelectsAll}
-use Rattle.desk_sql.proofs.ReadLemmas.{shown_read}
-use Rattle.desk_sql.specs.Refusals.{NeverRefuses, IsSureIn, IsSure, IsRefusal}
+use Rattle.desk_sql.proofs.ReadLemmas.{shown_read, sure_plain}
+use Rattle.desk_sql.specs.Refusals.{NeverRefuses, IsSure, IsSureCommand, IsSureGiven, IsSureMeaning, IsRefusal}
 
 -- the cause, of two states
 abbrev pub IsCause : State → State → Error → Type 0
@@ -47,33 +48,37 @@ by_store old new e Full is h live = inr (inl h)
 by_store old new e Broken is h live = absurd (true≢false (sym live ∙ h))
 by_store old new e Unstorable is h live = absurd h
 
-sure_at : (schema : Schema) (text : List ℕ) (r : Result Compiled CompileError) (c : Compiled) → r ≡ Ok c
-    → IsSureIn schema text r → IsSureIn schema text (Ok c)
-sure_at schema text r c is sure = subst (IsSureIn schema text) is sure
+pub sure_at : (schema : Schema) (text : List ℕ) (params : Row) (r : Result Compiled CompileError)
+    (c : Compiled) → r ≡ Ok c → IsSureMeaning schema text params r → IsSureCommand schema text params c
+sure_at schema text params r c is sure = subst (IsSureMeaning schema text params) is sure
 
 -- the text is a statement
-is_statement : (text : List ℕ) (old : State) (e : Error)
-    → IsSureIn old.now.schema text (understood old.now.schema text)
-    → ¬ IsNoStatement old text [] e
-is_statement text old e sure (inl (fault, is, _)) = absurd (subst (IsSureIn old.now.schema text) is sure)
-is_statement text old e sure (inr (c, is, inl (short, _))) =
-    short (sure_at old.now.schema text _ c is sure).3
-is_statement text old e sure (inr (c, is, inr (inl (other, _)))) =
-    other (ap length (sym (sure_at old.now.schema text _ c is sure).2))
-is_statement text old e sure (inr (c, is, inr (inr (timed, _)))) =
-    timed (sure_at old.now.schema text _ c is sure).1
+is_statement : (text : List ℕ) (params : Row) (old : State) (e : Error)
+    → IsSureMeaning old.now.schema text params (understood old.now.schema text)
+    → ¬ IsNoStatement old text params e
+is_statement text params old e sure (inl (fault, is, _)) =
+    absurd (subst (IsSureMeaning old.now.schema text params) is sure)
+is_statement text params old e sure (inr (c, is, inl (short, _))) =
+    short (sure_at old.now.schema text params _ c is sure).whole
+is_statement text params old e sure (inr (c, is, inr (inl (other, _)))) =
+    other (sure_at old.now.schema text params _ c is sure).given
+is_statement text params old e sure (inr (c, is, inr (inr (timed, _)))) =
+    timed (sure_at old.now.schema text params _ c is sure).timeless
 
 -- what is read refuses
-by_rows : (text : List ℕ) (old new : State) (c : Compiled) (params : Row) (e : Error)
+by_rows : (text : List ℕ) (old new : State) (c : Compiled) (given params : Row) (e : Error)
     (r : Option Returning)
-    → r ≡ None → params ≡ [] → NeverRefuses old.now.schema c.command
-    → reads_listing old.now.schema text ≡ false → FailsToShow old new text c params e r
+    → r ≡ None → given ≡ params → NeverRefuses old.now.schema c.command params
+    → reads_listing old.now.schema text ≡ false → FailsToShow old new text c given e r
     → IsCause old new e
-by_rows text old new c params e None none bare never unlisted (db, source, refuses, same) =
+by_rows text old new c given params e None none same never unlisted (db, source, refuses, _) =
     let now : db ≡ old.now = subst (λ b. IsSourceOf b old.now db) unlisted source in
     inr (inr (never old.step_limit db e (ap (λ (d : Database). d.schema) now)
-    (subst (λ ps. RefusesToRead old.step_limit c.command db ps e) bare refuses)))
-by_rows text old new c params e (Some what) none bare never unlisted h = absurd cc
+    (subst (λ ps. RefusesToRead old.step_limit c.command db ps e) same refuses)))
+by_rows text old new c given params e (Some what) none same never unlisted h = absurd cc
+
+timed_none : (params : Row) (formats : _) (now : ℕ) → formats ≡ [] → timed params formats now ≡ params
+timed_none params formats now none = ap (λ f. timed params f now) none ∙ append-nil params
 
 pub was_shown : (text : List ℕ) (old new : State) (c : Compiled) (params : Row) (e : Error)
     (r : Option Returning)
@@ -82,45 +87,59 @@ was_shown text old new c params e None live h = h.3.0.was_open
 was_shown text old new c params e (Some what) live (inl h) = h.1.0.was_open
 was_shown text old new c params e (Some what) live (inr h) = h.3.was_open live
 
-failed : (text : List ℕ) (old new : State) (e : Error)
-    → (IsTrue old.is_open → IsSure old.now.schema text) → IsTrue new.is_open
-    → FailsToQuery text [] old new e → IsCause old new e
+pub failed : (text : List ℕ) (params : Row) (old new : State) (e : Error)
+    → (IsTrue old.is_open → IsSureGiven old.now.schema text params) → IsTrue new.is_open
+    → FailsToQuery text params old new e → IsCause old new e
 unfolding FailsToQuery IsNotRun
-failed text old new e sure live (inl (inl h)) =
-    absurd (is_statement text old e (sure h.1.0.was_open).means h.0)
-failed text old new e sure live (inl (inr (cause, is, h, back, _))) =
+failed text params old new e sure live (inl (inl h)) =
+    absurd (is_statement text params old e (sure h.1.0.was_open).means h.0)
+failed text params old new e sure live (inl (inr (cause, is, h, back, _))) =
     by_store old new e cause is h (back.was_open live)
-failed text old new e sure live (inr (c, it, h)) =
+failed text params old new e sure live (inr (c, it, h)) =
     let here = sure (was_shown text old new c _ e c.returning live h) in
-    let means = sure_at old.now.schema text _ c it.is here.means in
-    by_rows text old new c _ e c.returning means.0 (ap (λ formats. timed [] formats it.now) means.1)
-    means.4 here.unlisted h
+    let means = sure_at old.now.schema text params _ c it.is here.means in
+    by_rows text old new c _ params e c.returning means.bare
+    (timed_none params c.formats it.now means.timeless) means.never here.unlisted h
 
 -- sure in the schema that there is
-abbrev pub KnownSure : {S : Type 0} → Ghosts S → Held S → List ℕ → Type 0
-KnownSure g h text = Holds g h (λ (db : Database). IsSure db.schema text)
+abbrev pub KnownSure : {S : Type 0} → Ghosts S → Held S → List ℕ → Row → Type 0
+KnownSure g h text params = Holds g h (λ (db : Database). IsSureGiven db.schema text params)
+
+-- over a desk's tables
+pub sure_here : {S : Type 0} (g : Ghosts S) (h : Held S) (text : List ℕ) (params : Row) → IsReady g h
+    → IsSureGiven desk_schema text params → KnownSure g h text params
+sure_here g h text params ready sure clean live =
+    subst (λ s. IsSureGiven s text params) (sym (ready clean live).schema) sure
+
+-- a text that shows rows, if the schema is the one that there is
+abbrev pub KnownPlain : {S : Type 0} → Ghosts S → Held S → List ℕ → Type 0
+KnownPlain g h text = Holds g h (λ (db : Database). IsPlain (understood db.schema text))
+
+pub plain_if : {S : Type 0} (g : Ghosts S) (h : Held S) (text : List ℕ) (params : Row)
+    → KnownSure g h text params → KnownPlain g h text
+plain_if g h text params sure clean live = sure_plain (state g h).now.schema text params (sure clean live)
 
 -- a query of a connection
 pub refused : {S V : Type 0} (g : Ghosts S) (old new : Held S) (text : List ℕ)
-    → KnownSure g old text → HasCleanDisk (state g old) → (r : Result V Error)
+    → KnownSure g old text [] → HasCleanDisk (state g old) → (r : Result V Error)
     → IfErr r (FailsToQuery text [] (state g old) (state g new)) → IsTrue (state g new).is_open
     → IfErr r (IsRefusal g old new)
 refused g old new text sure clean (Ok v) fails live = tt
 refused g old new text sure clean (Err e) fails live =
-    failed text (state g old) (state g new) e (sure clean) live fails
+    failed text [] (state g old) (state g new) e (sure clean) live fails
 
 -- a text that is not prepared is not run
-pub refused_unprepared : {S : Type 0} (g : Ghosts S) (old new : Held S) (text : List ℕ)
-    → KnownSure g old text → HasCleanDisk (state g old) → (e : Error)
-    → IsNotRun (state g old) (state g new) text [] e → IsTrue (state g new).is_open
+pub refused_unprepared : {S : Type 0} (g : Ghosts S) (old new : Held S) (text : List ℕ) (params : Row)
+    → KnownSure g old text params → HasCleanDisk (state g old) → (e : Error)
+    → IsNotRun (state g old) (state g new) text params e → IsTrue (state g new).is_open
     → IsRefusal g old new e
 unfolding FailsToQuery
-refused_unprepared g old new text sure clean e not_run live =
-    failed text (state g old) (state g new) e (sure clean) live (inl not_run)
+refused_unprepared g old new text params sure clean e not_run live =
+    failed text params (state g old) (state g new) e (sure clean) live (inl not_run)
 
 -- a query that was prepared before
 pub refused_after : {S V : Type 0} (g : Ghosts S) (old mid new : Held S) (sql text : List ℕ)
-    → KnownSure g old sql → HasCleanDisk (state g old) → HasCleanDisk (state g mid)
+    → KnownSure g old sql [] → HasCleanDisk (state g old) → HasCleanDisk (state g mid)
     → IsUnchanged (state g old) (state g mid) → text ≡ sql
     → Survives (state g old) (state g mid) (λ _. ⊥) → (r : Result V Error)
     → IfErr r (FailsToQuery text [] (state g mid) (state g new)) → IsTrue (state g new).is_open
@@ -136,14 +155,6 @@ refused_after {V = V} g old mid new sql text sure start early same is last (Err 
       | inr (inr steps) ↦ inr (inr (steps.0, subst IsSome last.limit steps.1))
     ]
 
-plain_in : (schema : Schema) (text : List ℕ) (r : Result Compiled CompileError) → IsSureIn schema text r
-    → IsPlain r
-plain_in schema text (Ok c) sure = (sure.0, sure.1)
-plain_in schema text (Err e) sure = absurd sure
-
-pub sure_plain : (schema : Schema) (text : List ℕ) → IsSure schema text → IsPlain (understood schema text)
-sure_plain schema text sure = plain_in schema text _ sure.means
-
 -- what is shown was selected
 pub all_selected : (table : DeskTable) (text : List ℕ) (cells : List ℕ) (wanted : Trees → List Row)
     → SelectsAll table text cells wanted → (old new : State) (rows : List Row) → HasTable table old.now
@@ -151,7 +162,7 @@ pub all_selected : (table : DeskTable) (text : List ℕ) (cells : List ℕ) (wan
 all_selected table text cells wanted known old new rows has h =
     let sure = known.sure old.now has in
     known.rows old.now rows has
-    (shown_read text [] old new rows refl (sure_plain old.now.schema text sure) sure.unlisted h)
+    (shown_read text [] old new rows refl (sure_plain old.now.schema text [] sure) sure.unlisted h)
 
 -- ---- tables that may not be made
 
@@ -177,11 +188,17 @@ pub two_trees : (P : Bool → Type 0) → P false → P true → (packed : Bool)
 two_trees P one two false = one
 two_trees P one two true = two
 
-part_at : (whole : Whole) (made : TablesPresent) (db : Trees) → rows_read whole (tables_at made db)
+pub part_at : (whole : Whole) (made : TablesPresent) (db : Trees) → rows_read whole (tables_at made db)
     ≡ (if has_table made (table_in whole (is_packed made))
     then rows_read whole (tables_in (is_packed made) db)
     else [])
 part_at whole made db = grind arith
+
+pub read_as : (whole : Whole) (made : TablesPresent) (db : Trees)
+    → has_table made (table_in whole (is_packed made)) ≡ true
+    → rows_read whole (tables_in (is_packed made) db) ≡ rows_read whole (tables_at made db)
+read_as whole made db there = sym (part_at whole made db
+    ∙ ap (λ b. if b then rows_read whole (tables_in (is_packed made) db) else []) there)
 
 -- what a table that is made shows is its part of what is made so far
 pub read_at : {V : Type 0} (whole : Whole) (made : TablesPresent) (there : Bool)

@@ -13,11 +13,11 @@ use Rattle.sqlite.specs.State.{HasCleanDisk, Survives, CommitsShowing, Shown, Sh
 use Rattle.sqlite.proofs.Callers.{never_commits, unchanged_then}
 use Rattle.desk_sql.specs.Schema.{desk_schema}
 use Rattle.desk_sql.specs.Rows.{IsDesk, Tables, tables_of}
-use Rattle.desk_sql.specs.Effects.{IsReady, IsKept, Makes, Commits, MayMake, Spares, ShowsAsBefore}
+use Rattle.desk_sql.specs.Effects.{IsKept, Makes, Commits, MayMake, Spares, ShowsAsBefore}
 use Rattle.desk_sql.specs.Frames.{OnlyReads, Remembers}
-use Rattle.desk_sql.specs.Finding.{Holds}
 use Rattle.desk_sql.proofs.ReadLemmas.{failed, if_either, unmoved}
 use Rattle.desk_sql.specs.Taking.{HandsAll, IsLeft}
+use Rattle.desk_sql.proofs.AskLemmas.{KnownPlain}
 use Rattle.desk_sql.proofs.TakingLemmas.{shown_from, rolled_back, begun, shown_if, left_then}
 
 -- a text was prepared, and stands for what it did
@@ -82,7 +82,7 @@ module _ {S : Type 0} (g : Ghosts S) (old mid new : Held S) (sql text : List ℕ
 
 -- a query that was prepared commits nothing
 pub spared_after : {S : Type 0} (g : Ghosts S) (old mid new : Held S) (sql text : List ℕ) (params : Row)
-    → Holds g old (λ db. IsPlain (understood db.schema sql)) → IsPrepared g old mid sql text
+    → KnownPlain g old sql → IsPrepared g old mid sql text
     → Survives (state g old) (state g mid) (λ _. ⊥)
     → Survives (state g mid) (state g new) (CommitsShowing text params (state g mid))
     → Spares g old new
@@ -95,21 +95,13 @@ spared_after g old mid new sql text params plain prepared first last clean =
 -- ---- rows that are handed over
 
 module _ {S : Type 0} (g : Ghosts S) (sql text : List ℕ) (params : Row) (old mid : Held S)
-    (ready : IsReady g old) (plain : IsPlain (understood desk_schema sql))
-    (prepared : IsPrepared g old mid sql text)
+    (plain : KnownPlain g old sql) (prepared : IsPrepared g old mid sql text)
     (survives : Survives (state g old) (state g mid) (λ _. ⊥)) where
-  pub ready_mid : IsReady g mid
-  ready_mid early live =
-      let same = (prepared early).1 in
-      subst IsDesk (sym same.0.now_is) (ready (omega (arith, survives.clean, early)) same.0.was_open)
-
-  pub plain_text : HasCleanDisk (state g mid) → IsPlain (understood desk_schema text)
-  plain_text early = subst (λ t. IsPlain (understood desk_schema t)) (sym (prepared early).0) plain
-
-  plain_old : HasCleanDisk (state g old) → IsTrue (state g old).is_open
-      → IsPlain (understood old.schema sql)
-  plain_old start live = subst (λ schema. IsPlain (understood schema sql))
-      (sym (ready start live).schema) plain
+  pub plain_text : HasCleanDisk (state g mid) → IsTrue (state g mid).is_open
+      → IsPlain (understood mid.schema text)
+  plain_text early live =
+      let start : HasCleanDisk (state g old) = omega (arith, survives.clean, early) in
+      plain_mid g old mid mid sql text params start (plain start) (prepared early).1 (prepared early).0
 
   module _ (first : Held S) (clean : HasCleanDisk (state g first))
       (commits : Survives (state g mid) (state g first) (CommitsShowing text params (state g mid)))
@@ -121,7 +113,7 @@ module _ {S : Type 0} (g : Ghosts S) (sql text : List ℕ) (params : Row) (old m
     start = omega (arith, survives.clean, early)
 
     pub begun_after : IsUnchanged (state g mid) (state g first)
-    begun_after = (begun g text params mid ready_mid (plain_text early) early first begins).1
+    begun_after = (begun g text params mid (plain_text early) first begins).1
 
     pub was_prepared : IsTrue (state g old).is_open
     was_prepared = (prepared early).1.0.was_open
@@ -132,19 +124,19 @@ module _ {S : Type 0} (g : Ghosts S) (sql text : List ℕ) (params : Row) (old m
           → OnOk r ((all : List Row) × Shown sql params (state g old) (state g new) all × has all)
       handed_after had has fresh (Err e) hands = tt
       handed_after had has fresh (Ok u) hands =
-          let (all, shown, takes) = shown_if g text params mid ready_mid (plain_text early) early first new
+          let (all, shown, takes) = shown_if g text params mid (plain_text early) first new
           begins had has fresh (Ok u) hands in (
             all,
-            shown_old g old mid new sql text params start (plain_old start) (prepared early).1
+            shown_old g old mid new sql text params start (plain start) (prepared early).1
                 (prepared early).0 all shown,
             takes,
           )
 
       pub kept_after : (IsTrue (state g old).is_open → (state g old).now ≡ (state g old).committed)
           → IsTrue (state g new).is_open → IsLeft g first new → ShowsAsBefore g old new
-      kept_after settled live left = kept_by_either g old mid new sql text params start (plain_old start)
+      kept_after settled live left = kept_by_either g old mid new sql text params start (plain start)
           (prepared early).1 (prepared early).0 settled live
-          (left_then g text params mid ready_mid (plain_text early) early first new begins left)
+          (left_then g text params mid (plain_text early) first new begins left)
 
   pub kept_refused : (new : Held S)
       → Survives (state g mid) (state g new) (CommitsShowing text params (state g mid))
@@ -155,13 +147,13 @@ module _ {S : Type 0} (g : Ghosts S) (sql text : List ℕ) (params : Row) (old m
   kept_refused new commits clean settled live e fails =
       let early : HasCleanDisk (state g mid) = omega (arith, commits.clean, clean) in
       let start : HasCleanDisk (state g old) = omega (arith, survives.clean, early) in
-      kept_by_either g old mid new sql text params start (plain_old start) (prepared early).1
+      kept_by_either g old mid new sql text params start (plain start) (prepared early).1
       (prepared early).0 settled live (failed text params (state g mid) (state g new) e fails)
 
   pub spared_handed : (new : Held S)
       → Survives (state g mid) (state g new) (CommitsShowing text params (state g mid)) → Spares g old new
   spared_handed new commits =
-      spared_after g old mid new sql text params plain_old prepared survives commits
+      spared_after g old mid new sql text params plain prepared survives commits
 
 pub spared_then : {S : Type 0} (g : Ghosts S) (a b c : Held S)
     → doubt (state g b).is_clean ≤ doubt (state g c).is_clean → Spares g a b → Spares g b c → Spares g a c

@@ -17,6 +17,7 @@ use Rattle.sqlite_tied.specs.Compute.{everything}
 use Rattle.sqlite.specs.Listing.{understood}
 use Rattle.desk_sql.specs.Rows.{differs, is_at_most, is_at_least, is_below, is_above, held_columns, columns}
 use Rattle.desk_sql.specs.declared.reading.rivals.SpanQuery.{SpanQuery}
+use Rattle.desk_sql.specs.Schema.{desk_schema}
 use Rattle.desk_sql.specs.Refusals.{IsSureGiven}
 use Rattle.desk_sql.specs.Statements.{Selects}
 use Rattle.desk_sql.specs.Others.{is_others_from}
@@ -74,7 +75,7 @@ others_test operator reach low s =
     (is_at_least (column s 10) (pos reach.priority)) (differs (column s 1) (Text operator)))
 
 pub other_spans_sure : (operator : List ℕ) (reach : SpanQuery) (low : ℤ)
-    → IsSureGiven other_spans_text (others_params operator reach low)
+    → IsSureGiven desk_schema other_spans_text (others_params operator reach low)
 unfolding understood everything
 other_spans_sure operator reach low =
     sure_given other_spans_text other_spans_query _ _ other_spans_is refl (omega arith)

@@ -13,6 +13,7 @@ use Rattle.sqlite_tied.specs.Compute.{everything}
 use Rattle.sqlite.specs.Listing.{understood}
 use Rattle.desk_sql.specs.Rows.{is_at_most, is_at_least, is_below, is_above, is_of, held_columns, columns}
 use Rattle.desk_sql.specs.declared.reading.rivals.SpanQuery.{SpanQuery}
+use Rattle.desk_sql.specs.Schema.{desk_schema}
 use Rattle.desk_sql.specs.Refusals.{IsSureGiven}
 use Rattle.desk_sql.specs.Statements.{Selects}
 use Rattle.desk_sql.specs.Others.{is_plans}
@@ -69,7 +70,7 @@ plan_test operator id reach s =
     (is_at_least (column s 10) (pos reach.priority)) (is_of operator id (columns 10 s))
 
 pub plan_spans_sure : (operator id : List ℕ) (reach : SpanQuery)
-    → IsSureGiven plan_spans_text (plan_params operator id reach)
+    → IsSureGiven desk_schema plan_spans_text (plan_params operator id reach)
 unfolding understood everything
 plan_spans_sure operator id reach =
     sure_given plan_spans_text plan_spans_query _ _ plan_spans_is refl (omega arith)

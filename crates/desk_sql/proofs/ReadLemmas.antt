@@ -31,7 +31,8 @@ use Rattle.sqlite_keyed.proofs.ListLemmas.{map-map}
 use Rattle.sqlite.proofs.Callers.{IsPlain, reads_as, command_of}
 use Rattle.desk_sql.specs.Rows.{IsDesk, Tables, tables_of, Lists, is_text, is_same, differs, is_at_most, is_at_least, is_below, is_above}
 use Rattle.desk_sql.specs.Effects.{ShowsAsBefore}
-use Rattle.desk_sql.specs.Refusals.{IsSureMeaning}
+use Rattle.desk_sql.specs.Schema.{desk_schema}
+use Rattle.desk_sql.specs.Refusals.{IsSureGiven, IsSureMeaning}
 use Rattle.desk_sql.specs.Statements.{MayRead, Selects}
 use Rattle.desk_sql.proofs.QueryTexts.{IsQueryIn, query_of}
 
@@ -48,7 +49,7 @@ pub was_open : (text : List ℕ) (params : Row) (old new : State) (rows : List R
 unfolding Shown
 was_open text params old new rows h = (showed old new text h.0 _ rows h.0.returning h.2).0
 
-is_open : (text : List ℕ) (params : Row) (old new : State) (rows : List Row)
+pub is_open : (text : List ℕ) (params : Row) (old new : State) (rows : List Row)
     → Shown text params old new rows → IsTrue new.is_open
 unfolding Shown
 is_open text params old new rows h = (showed old new text h.0 _ rows h.0.returning h.2).1
@@ -162,17 +163,21 @@ shown_read {schema} text params old new rows same plain unlisted h =
       by_command (Ok c) is read = read
       by_command (Err e) is read = absurd is
 
-pub plain_in : (text : List ℕ) (params : Row) (r : Result Compiled CompileError)
-    → IsSureMeaning text params r → IsPlain r
-plain_in text params (Ok c) sure = (sure.bare, sure.timeless)
-plain_in text params (Err e) sure = absurd sure
+plain_in : (schema : Schema) (text : List ℕ) (params : Row) (r : Result Compiled CompileError)
+    → IsSureMeaning schema text params r → IsPlain r
+plain_in schema text params (Ok c) sure = (sure.bare, sure.timeless)
+plain_in schema text params (Err e) sure = absurd sure
+
+pub sure_plain : (schema : Schema) (text : List ℕ) (params : Row) → IsSureGiven schema text params
+    → IsPlain (understood schema text)
+sure_plain schema text params sure = plain_in schema text params _ sure.means
 
 -- what is shown was selected
 pub selected : (text : List ℕ) (params : Row) (cells : List ℕ) (wanted : Tables → List Row)
     → Selects text params cells wanted → (old new : State) (rows : List Row) → IsDesk old.now
     → Shown text params old new rows → Lists cells (wanted (tables_of old.now.trees)) rows
 selected text params cells wanted known old new rows desk h = known.rows old.now rows desk
-    (shown_read text params old new rows desk.schema (plain_in text params _ known.sure.means)
+    (shown_read text params old new rows desk.schema (sure_plain desk_schema text params known.sure)
     known.sure.unlisted h)
 
 kept_first : {E : Type 0} (f : E → Row) (e : E) (x : Row) → f e ≡ x → (a b : Bool) → a ≡ b

@@ -17,17 +17,17 @@ use Rattle.sqlite.specs.Does.{Tally, OnRows}
 use Rattle.sqlite_schema.specs.declared.schema.Column.{Column}
 use Rattle.sqlite_schema.specs.declared.schema.Reference.{Reference}
 use Rattle.sqlite.specs.State.{State, Executes}
-use Rattle.desk_sql.specs.Schema.{desk_schema, plan_table, volume_table, span_table}
+use Rattle.desk_sql.specs.Schema.{desk_schema, operator_table, plan_table, volume_table, span_table}
 use Rattle.desk_sql.specs.declared.changing.writing.PlanRecord.{PlanRecord}
 use Rattle.desk_sql.specs.declared.changing.writing.VolumeRecord.{VolumeRecord}
 use Rattle.desk_sql.specs.declared.changing.writing.SpanRecord.{SpanRecord}
 use Rattle.desk_sql.specs.Batches.{volume_params, span_of}
-use Rattle.desk_sql.specs.Rows.{IsDesk, Tables}
+use Rattle.desk_sql.specs.Rows.{IsDesk, Tables, operator_row}
 use Rattle.desk_sql.specs.Statements.{Changes, enforced}
 use Rattle.desk_sql.specs.Changes.{key_row, row_of}
-use Rattle.desk_sql.specs.Putting.{HasRoomFor, TakesRoom, Takes}
-use Rattle.desk_sql.proofs.Texts.{insert_plan_text, insert_volume_text, insert_span_text, remove_plan_text}
-use Rattle.desk_sql.proofs.CommandTexts.{insert_plan_is, insert_plan_terms, insert_volume_is, insert_volume_terms, insert_span_is, insert_span_terms, remove_plan_is}
+use Rattle.desk_sql.specs.Putting.{HasRoomFor, TakesOperators, TakesRoom, Takes}
+use Rattle.desk_sql.proofs.Texts.{insert_operator_text, insert_plan_text, insert_volume_text, insert_span_text, remove_plan_text}
+use Rattle.desk_sql.proofs.CommandTexts.{insert_operator_is, insert_operator_terms, insert_plan_is, insert_plan_terms, insert_volume_is, insert_volume_terms, insert_span_is, insert_span_terms, remove_plan_is}
 use Rattle.desk_sql.proofs.WriteLemmas.{Adds, adds, cast_null, did, insert_applies, ran, rows_written, table_at, task_at}
 use Rattle.desk_sql.proofs.CascadeLemmas.{has_key}
 use Rattle.desk_sql.proofs.NumberLemmas.{unequal}
@@ -70,6 +70,20 @@ module _ (limit : Option ℕ) (params : Row) (name : List ℕ) (cols : List Colu
 pub same_room : (old now : List Row) (left : ℕ) → now ≡ old → HasRoomFor (0 + left) old → HasRoomFor left now
 same_room old now left same room =
     subst (HasRoomFor left) (sym same) (fewer left (0 + left) old (omega arith) room)
+
+pub insert_operator_room : (name : List ℕ) (ceiling : ℕ)
+    → Takes insert_operator_text (operator_row name ceiling) (TakesOperators 1)
+insert_operator_room name ceiling = record {
+  room = λ limit old new desk h.
+      let row = operator_row name ceiling in
+      let db = old.trees in
+      let d = did insert_operator_text row limit old new desk (Insert 0 (Values insert_operator_terms 3))
+      insert_operator_is h in
+      let a = row_added limit row operator_table.name operator_table.columns operator_table.primary
+      operator_table.references 0 db 0 insert_operator_terms 3 d.0 new refl d.1 in
+      λ left. room_taken limit row operator_table.name operator_table.columns operator_table.primary
+      operator_table.references 0 db new.trees left desk.operators.whole a;
+}
 
 pub insert_plan_room : (p : PlanRecord) → Takes insert_plan_text (row_of p) (TakesRoom 1 0 0)
 insert_plan_room p = record {

@@ -1,10 +1,11 @@
 -- From rowids that rise to tables whose rows are numbered.
-use Rattle.std.proofs.Common.{Ok, Err, Result, IfErr, OnErr, inl, inr, IsSorted, Ordering, is_lt, add-one, arith, ◌≡◌, ℤ, Bool, true, false, cond, Option, None, Some, List, [], ◌∷◌, map, refl, sym, ap, subst, ◌∙◌, Less, Equal, Greater, int_lt, true≢false, IsTrue, IsPermutation, ℕ, codes, if◌then◌else◌, ◌≤◌, ◌<◌, suc, length, drop, drop-cons, drop_of_length-le, get_or}
+use Rattle.std.proofs.Common.{Ok, Err, Result, IfErr, OnErr, inl, inr, IsSorted, Ordering, is_lt, add-one, arith, ◌≡◌, ℤ, Bool, true, false, cond, Option, None, Some, List, [], ◌∷◌, ◌++◌, ◌&&◌, append-nil, append_assoc, map, refl, sym, ap, subst, ◌∙◌, Less, Equal, Greater, int_lt, true≢false, IsTrue, IsPermutation, ℕ, codes, if◌then◌else◌, ◌≤◌, suc}
 use Rattle.std.specs.Prelude.{⊤, IsSome}
 use Rattle.std.specs.Ordering.{ordering_then, ordering_reverse}
 use Rattle.std.specs.Ordering.{is_eq}
 use Rattle.std.specs.List.{AllByRecursion, IsDistinct, flat_map, list_all}
 use Rattle.std.proofs.lemmas.List.Sorted.{IsPermutation-sym}
+use Rattle.std.proofs.lemmas.Result.{on_err_weaker}
 use Rattle.std.proofs.lemmas.Map.Keys.{IsDistinct-IsPermutation}
 use Rattle.sqlite.specs.Order.{Row, value_cmp}
 use Rattle.sqlite.specs.declared.types.Value.{Value}
@@ -30,7 +31,8 @@ use Rattle.desk_sql.specs.Rows.{AreNumbered, Lists, by_cells}
 use Rattle.desk_sql.specs.Refusals.{IsRefusal, IsUnnumbered, IsUnread, IsMisnumbered, IsSure}
 use Rattle.desk_sql.specs.Statements.{SelectsAll, rowids}
 use Rattle.desk_sql.specs.Effects.{IsKept}
-use Rattle.desk_sql.specs.Finding.{Holds, AreRising, next_above, exceeds}
+use Rattle.desk_sql.specs.Frames.{OnlyReads}
+use Rattle.desk_sql.specs.Finding.{Holds, AreRising, RiseSo, next_above, exceeds, rises, rises_after}
 use Rattle.desk_sql.specs.declared.opening.numbers.DeskTable.{DeskTable}
 use Rattle.desk_sql.specs.declared.opening.numbers.DeskTable.TheVariants.{Operator, Plan, OldVolume, OldSpan, Volume, Span}
 use Rattle.desk_sql.proofs.Texts.{operator_rowids_text, plan_rowids_text, old_volume_rowids_text, old_span_rowids_text, volume_rowids_text, span_rowids_text}
@@ -39,18 +41,9 @@ use Rattle.desk_sql.proofs.SureTexts.{operator_rowids_sure, plan_rowids_sure, ol
 use Rattle.desk_sql.proofs.ReadLemmas.{scanned}
 use Rattle.desk_sql.proofs.AskLemmas.{all_selected}
 use Rattle.desk_sql.proofs.NumberLemmas.{IsApart, reversed}
-use Rattle.desk_sql.proofs.StatementLemmas.{every, selects_all}
+use Rattle.desk_sql.proofs.StatementLemmas.{both_hold, every, selects_all}
 
 -- ---- the walk along the rows
-
-abbrev rises_after : (Option ℤ → Bool) → Option ℤ → Bool
-rises_after more None = false
-rises_after more (Some n) = more (Some n)
-
--- each rowid is above the one before, and the first above the last of others
-abbrev pub rises : List Row → Option ℤ → Bool
-rises [] last = true
-rises (r ∷ rows) last = rises_after (rises rows) (next_above last (rowid r))
 
 abbrev IsAbove : Option ℤ → Row → Type 0
 IsAbove None r = ⊤
@@ -143,15 +136,18 @@ rising_just_if rows b is = (
       ∙ do_rise rows None up (none_above rows),
 )
 
-pub risen : (rows : List Row) (i : ℕ) (last : Option ℤ) → length rows ≤ i → rises (drop i rows) last
-    ≡ true
-risen rows i last all = ap (λ xs. rises xs last) (drop_of_length-le rows all)
+-- all rows were taken
+pub all_risen : (rows : List Row) (still : Bool) (last : Option ℤ) → RiseSo still last rows
+    → (IsTrue still → AreRising rows) × (AreRising rows → IsTrue still)
+all_risen rows still last so = rising_just_if rows still
+    (ap (λ xs. rises xs None) (sym (append-nil rows)) ∙ so [] ∙ both_hold still)
 
-pub fallen : (rows : List Row) (i : ℕ) (last : Option ℤ) (r : Row) → i < length rows → r
-    ≡ get_or rows i r
-    → next_above last (rowid r) ≡ None → rises (drop i rows) last ≡ false
-fallen rows i last r low is none = ap (λ xs. rises xs last) (drop-cons rows i r low)
-    ∙ ap (rises_after (rises (drop (suc i) rows))) (ap (λ x. next_above last (rowid x)) (sym is) ∙ none)
+-- one more is taken
+pub one_taken : (rows : List Row) (row : Row) (old new : Bool) (last now : Option ℤ) → RiseSo old last rows
+    → ((rest : List Row) → (new && rises rest now) ≡ (old && rises (row ∷ rest) last))
+    → RiseSo new now (rows ++ row ∷ [])
+one_taken rows row old new last now so is rest =
+    ap (λ xs. rises xs None) (append_assoc rows (row ∷ []) rest) ∙ so (row ∷ rest) ∙ sym (is rest)
 
 -- ---- an answer with the rowids of a table
 
@@ -236,6 +232,15 @@ module _ {S : Type 0} (g : Ghosts S) (old new : Held S) (text : List ℕ) (table
       subst (λ (db : Database). AreNumbered (db.trees (tree_of table))) (sym before.now)
       (numbered_by ((state g old).now.trees (tree_of table)) rows all.same up)
 
+  pub numbered_handed : Holds g old (HasTable table) → OnlyReads g old new → (still : Bool) (last : Option ℤ)
+      → (HasCleanDisk (state g new) → (rows : List Row)
+      × Shown text [] (state g old) (state g new) rows × RiseSo still last rows) → still ≡ true
+      → Holds g new (λ (db : Database). AreNumbered (db.trees (tree_of table)))
+  numbered_handed known reads still last handed up clean live =
+      let (rows, shown, so) = handed clean in
+      numbered_if known (λ c. omega (arith, reads.doubt, c)) reads.kept rows (λ c. shown)
+      ((all_risen rows still last so).0 up) clean live
+
 -- ---- rows that are numbered show rowids that rise
 
 then_is : (o : Ordering) → is_lt (ordering_then o Equal) ≡ is_lt o
@@ -303,6 +308,15 @@ module _ {S : Type 0} (g : Ghosts S) (old new : Held S) (text : List ℕ) (table
   unnumbered_if known clean live rows shown (Ok v) broken told = tt
   unnumbered_if known clean live rows shown (Err e) broken told =
       inr (told, λ num. broken (rises_if rows (known clean live) num shown))
+
+  pub unnumbered_handed : {V : Type 0} → Holds g old (HasTable table) → HasCleanDisk (state g old)
+      → IsTrue (state g old).is_open → (still : Bool) (last : Option ℤ) → ((rows : List Row)
+      × Shown text [] (state g old) (state g new) rows × RiseSo still last rows) → (r : Result V Error)
+      → OnErr r (still ≡ false) → IfErr r (λ e. e ≡ SqliteFailure DatabaseCorrupt)
+      → IfErr r (IsUnnumbered g old new table)
+  unnumbered_handed known clean live still last (rows, shown, so) r broken told =
+      unnumbered_if known clean live rows shown r (on_err_weaker r
+      (λ none up. true≢false (sym ((all_risen rows still last so).1 up) ∙ none)) broken) told
 
 module _ {S : Type 0} (g : Ghosts S) (old mid new : Held S)
     (fewer : (state g old).faults ≤ (state g mid).faults) (limit : mid.step_limit ≡ old.step_limit)

@@ -25,7 +25,7 @@ use Rattle.sqlite.specs.Table.{Table}
 use Rattle.sqlite_schema.specs.declared.schema.Index.{Index}
 use Rattle.desk_sql.specs.declared.opening.numbers.DeskTable.{DeskTable}
 use Rattle.desk_sql.specs.declared.opening.numbers.DeskTable.TheVariants.{Operator, Plan, Volume, Span}
-use Rattle.desk_sql.specs.Schema.{schema_to, HasTable}
+use Rattle.desk_sql.specs.Schema.{desk_schema, schema_to, HasTable}
 use Rattle.desk_sql.specs.Finding.{Holds}
 use Rattle.sqlite.specs.Effect.{Database}
 use Rattle.sqlite.specs.Listing.{understood}
@@ -122,7 +122,8 @@ module _ {schema : Schema} (text : List ℕ) (from : Join) (terms : List Term) (
 
 module _ (text : List ℕ) (from : Join) (terms : List Term) (project : List Term) (order : List (Term × Key))
     (names : List (List ℕ)) (known : IsQuery text (query_of from terms project order) names)
-    (params : Row) (sure : IsSureGiven text params) (cells : List ℕ) (wanted : Tables → List Row) where
+    (params : Row) (sure : IsSureGiven desk_schema text params) (cells : List ℕ)
+    (wanted : Tables → List Row) where
   pub selects : ((e : Env) → eval_all (map (λ k. k.0) order) e ≡ map (column (eval_all project e)) cells)
       → ((x y : Row) → key_cmp 0 (map (λ k. k.1) order) (map (column x) cells) (map (column y) cells)
       ≡ by_cells cells x y)

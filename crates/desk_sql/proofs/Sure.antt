@@ -4,12 +4,13 @@ use Rattle.sqlite.specs.declared.types.Value.TheVariants.{Text}
 use Rattle.sqlite_tied.specs.Compute.{everything}
 use Rattle.sqlite.specs.Listing.{understood}
 use Rattle.desk_sql.specs.declared.reading.rivals.SpanQuery.{SpanQuery}
+use Rattle.desk_sql.specs.Schema.{desk_schema}
 use Rattle.desk_sql.specs.Refusals.{IsSureGiven}
 use Rattle.desk_sql.proofs.Texts.{operator_named_text, plan_of_text, volumes_of_text, own_plans_text, rival_spans_text}
 use Rattle.desk_sql.proofs.QueryTexts.{operator_named_is, operator_named_query, plan_of_is, plan_of_query, volumes_of_is, volumes_of_query, own_plans_is, own_plans_query, rival_spans_is, rival_spans_query, rival_params}
 use Rattle.desk_sql.proofs.SureLemmas.{sure_given}
 
-pub operator_named_sure : (name : List ℕ) → IsSureGiven operator_named_text (Text name ∷ [])
+pub operator_named_sure : (name : List ℕ) → IsSureGiven desk_schema operator_named_text (Text name ∷ [])
 unfolding understood everything
 operator_named_sure name =
     sure_given operator_named_text operator_named_query _ _ operator_named_is refl (omega arith)
@@ -19,7 +20,8 @@ operator_named_sure name =
       | inr fold ↦ absurd fold.4
     ])
 
-pub plan_of_sure : (operator id : List ℕ) → IsSureGiven plan_of_text (Text operator ∷ Text id ∷ [])
+pub plan_of_sure : (operator id : List ℕ)
+    → IsSureGiven desk_schema plan_of_text (Text operator ∷ Text id ∷ [])
 unfolding understood everything
 plan_of_sure operator id =
     sure_given plan_of_text plan_of_query _ _ plan_of_is refl (omega arith)
@@ -29,7 +31,8 @@ plan_of_sure operator id =
       | inr fold ↦ absurd fold.4
     ])
 
-pub volumes_of_sure : (operator id : List ℕ) → IsSureGiven volumes_of_text (Text operator ∷ Text id ∷ [])
+pub volumes_of_sure : (operator id : List ℕ)
+    → IsSureGiven desk_schema volumes_of_text (Text operator ∷ Text id ∷ [])
 unfolding understood everything
 volumes_of_sure operator id =
     sure_given volumes_of_text volumes_of_query _ _ volumes_of_is refl (omega arith)
@@ -39,7 +42,7 @@ volumes_of_sure operator id =
       | inr fold ↦ absurd fold.4
     ])
 
-pub own_plans_sure : (operator : List ℕ) → IsSureGiven own_plans_text (Text operator ∷ [])
+pub own_plans_sure : (operator : List ℕ) → IsSureGiven desk_schema own_plans_text (Text operator ∷ [])
 unfolding understood everything
 own_plans_sure operator =
     sure_given own_plans_text own_plans_query _ _ own_plans_is refl (omega arith)
@@ -50,7 +53,7 @@ own_plans_sure operator =
     ])
 
 pub rival_spans_sure : (operator id : List ℕ) (reach : SpanQuery) (low : ℤ)
-    → IsSureGiven rival_spans_text (rival_params operator id reach low)
+    → IsSureGiven desk_schema rival_spans_text (rival_params operator id reach low)
 unfolding understood everything
 rival_spans_sure operator id reach low =
     sure_given rival_spans_text rival_spans_query _ _ rival_spans_is refl (omega arith)

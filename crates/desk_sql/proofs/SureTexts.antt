@@ -1,27 +1,22 @@
 -- The queries that read whole tables are refused for no cause of their own.
-use Rattle.std.proofs.Common.{◌≡◌, ◌≤◌, ℕ, List, [], ◌∷◌, length, Result, Ok, Err, refl, subst, true≢false, arith, inl, inr, sym}
+use Rattle.std.proofs.Common.{◌≡◌, ◌≤◌, ℕ, List, [], length, refl, subst, true≢false, arith, inl, inr}
 use Rattle.sqlite_value.specs.declared.keys.Key.{Key}
 use Rattle.sqlite.specs.Tree.{Trees}
 use Rattle.sqlite.specs.Term.{Term}
 use Rattle.sqlite.specs.Query.{inner, end}
-use Rattle.sqlite.specs.Command.{Command}
 use Rattle.sqlite.specs.Command.TheVariants.{Select}
 use Rattle.sqlite_schema.specs.declared.schema.Schema.{Schema}
 use Rattle.sqlite_tied.specs.Compute.{everything}
-use Rattle.sqlite.specs.Given.{IsPlain}
 use Rattle.sqlite.specs.Listing.{understood}
-use Rattle.sqlite_resolve.specs.declared.compiled.Compiled.{Compiled}
-use Rattle.sqlite_resolve.specs.declared.error.CompileError.{CompileError}
 use Rattle.sqlite_schema.specs.declared.schema.Index.{Index}
 use Rattle.sqlite.specs.Table.{Table}
 use Rattle.desk_sql.specs.declared.opening.numbers.DeskTable.{DeskTable}
 use Rattle.desk_sql.specs.declared.opening.numbers.DeskTable.TheVariants.{Operator, Plan, OldVolume, OldSpan, Volume, Span}
 use Rattle.desk_sql.specs.Schema.{schema_to}
-use Rattle.desk_sql.specs.Refusals.{NeverRefuses, IsSureIn, IsSure}
+use Rattle.desk_sql.specs.Refusals.{NeverRefuses, IsSure}
 use Rattle.desk_sql.proofs.Texts.{all_operators_text, all_plans_text, all_volumes_text, all_covers_text, all_spans_text, operator_rowids_text, plan_rowids_text, old_volume_rowids_text, old_span_rowids_text, volume_rowids_text, span_rowids_text}
-use Rattle.sqlite.proofs.Callers.{command_of}
 use Rattle.desk_sql.proofs.StopLemmas.{names_in, tail_of}
-use Rattle.desk_sql.proofs.SureLemmas.{Misfits}
+use Rattle.desk_sql.proofs.SureLemmas.{Misfits, meant}
 use Rattle.desk_sql.proofs.QueryTexts.{IsQueryIn, query_of, operator_rowids_is, plan_rowids_is, old_volume_rowids_is, old_span_rowids_is, volume_rowids_is, span_rowids_is, all_operators_is, all_plans_is, all_volumes_is, all_covers_is, all_spans_is}
 
 -- nothing in a scan of one table can overflow
@@ -29,29 +24,13 @@ scan_never : (schema : Schema) (tree : ℕ) (project : List Term) (order : List 
     (names : List (List ℕ))
     → ((trees : Trees) → ¬ Misfits (query_of (inner tree end) [] project order) schema trees [])
     → NeverRefuses schema (Select (record { lets = []; body = query_of (inner tree end) [] project order })
-    names)
+    names) []
 scan_never schema tree project order names fits limit db e same (inl h) =
     absurd (fits db.trees
     (subst (λ s. Misfits (query_of (inner tree end) [] project order) s db.trees []) same h.1))
 scan_never schema tree project order names fits limit db e same (inr (inl (code, inl h))) = absurd h
 scan_never schema tree project order names fits limit db e same (inr (inl (code, inr h))) = absurd h.4
 scan_never schema tree project order names fits limit db e same (inr (inr h)) = h
-
-no_names : (names : List (List ℕ)) → 0 ≡ length names → names ≡ []
-no_names [] is = refl
-no_names (name ∷ names) is = grind (arith, is)
-
-scan_meant : (schema : Schema) (text : List ℕ) (r : Result Compiled CompileError) (command : Command)
-    → command_of r ≡ command → IsPlain r → 0 ≡ names_in r → length text ≤ tail_of r
-    → NeverRefuses schema command → IsSureIn schema text r
-scan_meant schema text (Ok c) command is plain count whole never = (
-  plain.0,
-  plain.1,
-  no_names c.names count,
-  whole,
-  subst (NeverRefuses schema) (sym is) never,
-)
-scan_meant schema text (Err e) command is plain count whole never = absurd plain
 
 -- a scan of one table whose types fit, in one whole statement with no parameters
 pub sure_scan : {schema : Schema} {text : List ℕ} {tree : ℕ} {project : List Term} {order : List (Term × Key)}
@@ -60,8 +39,8 @@ pub sure_scan : {schema : Schema} {text : List ℕ} {tree : ℕ} {project : List
     → ((trees : Trees) → ¬ Misfits (query_of (inner tree end) [] project order) schema trees [])
     → IsSure schema text
 sure_scan {schema} {text} {tree} {project} {order} {names} known count whole fits = record {
-  means = scan_meant schema text (understood schema text) _ known.is known.plain count whole
-      (scan_never schema tree project order names fits);
+  means = meant schema text (understood schema text) (query_of (inner tree end) [] project order) names []
+      known.is known.plain count whole (scan_never schema tree project order names fits);
   unlisted = known.unlisted;
 }
 

@@ -5,7 +5,6 @@ use Rattle.sqlite.specs.Order.{Row}
 use Rattle.sqlite.specs.declared.error.Error.{Error}
 use Rattle.sqlite.specs.declared.error.Error.TheVariants.{SqliteFailure}
 use Rattle.sqlite.specs.declared.error.ErrorCode.TheVariants as code
-use Rattle.sqlite_schema.specs.declared.schema.Schema.{Schema}
 use Rattle.sqlite_schema.specs.declared.command.Returning.{Returning}
 use Rattle.sqlite_resolve.specs.declared.compiled.Compiled.{Compiled}
 use Rattle.sqlite.specs.Store.{Ghosts}
@@ -15,10 +14,8 @@ use Rattle.sqlite.specs.Effect.{Database}
 use Rattle.sqlite.specs.Listing.{understood, reads_listing, IsSourceOf}
 use Rattle.sqlite.specs.State.{State, HasCleanDisk, Shown, ShowsRows, IsUnchanged, IsRolledBack}
 use Rattle.sqlite.proofs.Callers.{unchanged_then, begun_plain}
-use Rattle.desk_sql.specs.Schema.{desk_schema}
-use Rattle.desk_sql.specs.Rows.{IsDesk}
-use Rattle.desk_sql.specs.Effects.{IsReady}
-use Rattle.desk_sql.proofs.ReadLemmas.{was_open}
+use Rattle.desk_sql.specs.Finding.{Holds}
+use Rattle.desk_sql.proofs.ReadLemmas.{was_open, is_open}
 use Rattle.desk_sql.specs.Taking.{FailsNext, FailsToHandAll, HandsOver, HandsAll, IsLeft, Refusing}
 
 pub unchanged_itself : (s : State) → IsTrue s.is_open → IsUnchanged s s
@@ -175,15 +172,10 @@ refused_next g old new row (Some r) refuses e is same goes refused =
           (goes sql params given h),
     )
 
--- ---- a query of the desk's tables
+-- ---- a query that shows rows
 
 module _ {S : Type 0} (g : Ghosts S) (sql : List ℕ) (params : Row) (old : Held S)
-    (ready : IsReady g old)
-    (plain : IsPlain (understood desk_schema sql)) (clean : HasCleanDisk (state g old)) where
-  plain_here : IsTrue (state g old).is_open → IsPlain (understood old.schema sql)
-  plain_here live = subst (λ (s : Schema). IsPlain (understood s sql)) (sym (ready clean live).schema)
-      plain
-
+    (plain_here : IsTrue (state g old).is_open → IsPlain (understood old.schema sql)) where
   pub begun : (first : Held S) → HasBegun g sql params old first → HasGiven g sql params first []
       × IsUnchanged (state g old) (state g first)
   begun first (inl h) = h
@@ -217,18 +209,18 @@ pub open_on : (r : Result (Unit {0}) Error) (s : State) → IsTrue s.is_open →
 open_on (Ok u) s live = live
 open_on (Err e) s live = tt
 
--- rows that a desk's tables have are handed over, whenever something is
+-- rows that the tables have are handed over, whenever something is
 pub if_handed : {S : Type 0} (g : Ghosts S) (old new : Held S) (text : List ℕ) (params : Row)
-    (P has : List Row → Type 0) → IsReady g old → HasCleanDisk (state g old)
-    → ((rows : List Row) → IsDesk (state g old).now → Shown text params (state g old) (state g new) rows
+    (Is : Database → Type 0) (P has : List Row → Type 0) → Holds g old Is → HasCleanDisk (state g old)
+    → ((rows : List Row) → Is (state g old).now → Shown text params (state g old) (state g new) rows
     → P rows)
     → (r : Result (Unit {0}) Error) → OnOk r ((rows : List Row)
     × Shown text params (state g old) (state g new) rows × has rows)
     → OnOk r ((rows : List Row) × P rows × has rows)
-if_handed g old new text params P has ready clean gives (Ok u) handed =
+if_handed g old new text params Is P has ready clean gives (Ok u) handed =
     let (rows, shown, takes) = handed
     in (rows, gives rows (ready clean (was_open text params _ _ _ shown)) shown, takes)
-if_handed g old new text params P has ready clean gives (Err e) handed = tt
+if_handed g old new text params Is P has ready clean gives (Err e) handed = tt
 
 -- the same of what the rows of an answer are
 pub handed_as : (P Q has : List Row → Type 0) → ((rows : List Row) → P rows → Q rows)
@@ -236,3 +228,20 @@ pub handed_as : (P Q has : List Row → Type 0) → ((rows : List Row) → P row
     → OnOk r ((rows : List Row) × Q rows × has rows)
 handed_as P Q has so (Ok u) (rows, are, takes) = (rows, so rows are, takes)
 handed_as P Q has so (Err e) h = tt
+
+-- what was handed over leaves the connection open
+pub live_handed : {S : Type 0} (g : Ghosts S) (old new : Held S) (text : List ℕ) (params : Row)
+    (has : List Row → Type 0) (r : Result (Unit {0}) Error)
+    → (HasCleanDisk (state g new) → OnOk r ((rows : List Row)
+    × Shown text params (state g old) (state g new) rows × has rows))
+    → OnOk r (HasCleanDisk (state g new) → IsTrue (state g new).is_open)
+live_handed g old new text params has (Ok u) handed =
+    λ clean. is_open text params (state g old) (state g new) (handed clean).0 (handed clean).1
+live_handed g old new text params has (Err e) handed = tt
+
+-- a taker that was fresh has taken some rows
+pub taken_fresh : (had has : List Row → Type 0) → had [] → (r : Result (Unit {0}) Error)
+    → OnOk r (((rows : List Row) × had rows) → (rows : List Row) × has rows)
+    → OnOk r ((rows : List Row) × has rows)
+taken_fresh had has fresh (Ok u) on = on ([], fresh)
+taken_fresh had has fresh (Err e) on = tt

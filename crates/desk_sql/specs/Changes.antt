@@ -11,7 +11,7 @@ use Rattle.desk_sql.specs.Rows.{Tables, is_by, is_of, operator_row, plan_row, Ad
 use Rattle.desk_sql.specs.Batches.{volume_of, cover_of, volume_params, span_of}
 use Rattle.desk_sql.specs.Statements.{Changes}
 use Rattle.desk_sql.specs.Changing.{AreLow, IsShort, FitsOperator, FitsPlan, FitsVolume, FitsSpan, IsSureChange}
-use Rattle.desk_sql.specs.Putting.{TakesRoom, Takes}
+use Rattle.desk_sql.specs.Putting.{TakesOperators, TakesRoom, Takes}
 
 abbrev pub row_of : PlanRecord → Row
 row_of p = plan_row p.operator.now p.id.now p.priority p.usage p.aircraft
@@ -64,7 +64,7 @@ fits _ db = ⊤
 
 -- the room that it takes, where somebody asks
 abbrev pub takes : Change → Trees → Trees → Type 0
-takes (AddOperator name ceiling) old new = ⊤
+takes (AddOperator name ceiling) old new = TakesOperators 1 old new
 takes (AddPlan p) old new = TakesRoom 1 0 0 old new
 takes (AddVolume v) old new = TakesRoom 0 1 0 old new
 takes (AddSpan s) old new = TakesRoom 0 0 1 old new

@@ -1,5 +1,5 @@
 -- What tables a database has.
-use Rattle.std.specs.Prelude.{◌≡◌, ◌≢◌, ℕ, ◌+◌, List, [], ◌∷◌, ◌++◌, ℤ, Bool, int_lt, if◌then◌else◌, Option}
+use Rattle.std.specs.Prelude.{◌≡◌, ◌≢◌, ℕ, ◌+◌, List, [], ◌∷◌, ◌++◌, ℤ, Bool, ◌&&◌, int_lt, if◌then◌else◌, Option}
 use Rattle.std.specs.Prelude.{None, Some, true, false, codes, IsTrue}
 use Rattle.std.specs.List.{AllByRecursion}
 use Rattle.sqlite.specs.Order.{Row}
@@ -48,6 +48,19 @@ next_above last Null = None
 next_above last (Real x) = None
 next_above last (Text t) = None
 next_above last (Blob b) = None
+
+abbrev pub rises_after : (Option ℤ → Bool) → Option ℤ → Bool
+rises_after more None = false
+rises_after more (Some n) = more (Some n)
+
+-- each rowid is above the one before, and the first above the last of others
+abbrev pub rises : List Row → Option ℤ → Bool
+rises [] last = true
+rises (r ∷ rows) last = rises_after (rises rows) (next_above last (rowid r))
+
+-- whether rows that begin with these rise, by whether these do, and the last of them
+abbrev pub RiseSo : Bool → Option ℤ → List Row → Type 0
+RiseSo still last rows = (rest : List Row) → rises (rows ++ rest) None ≡ (still && rises rest last)
 
 -- ---- the parts of a schema
 

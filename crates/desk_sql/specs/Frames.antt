@@ -25,9 +25,10 @@ module _ {S : Type 0} (g : Ghosts S) (old new : Held S) where
     pub shield : (state g old).IsShielded → (state g new).IsShielded
     pub spared : Spares g old new
 
-  -- a transaction that has ended, whatever it came to
+  -- a transaction that has ended, whatever it came to: the limit on steps is what it was
   pub record IsOver : Type 0 where
     pub mode : new.in_transaction ≡ false
+    pub limit : new.step_limit ≡ old.step_limit
     pub doubt : doubt_of (state g old).is_clean ≤ doubt_of (state g new).is_clean
     pub faults : (state g old).faults ≤ (state g new).faults
     pub shield : (state g old).IsShielded → (state g new).IsShielded

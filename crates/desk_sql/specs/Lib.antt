@@ -1,4 +1,5 @@
 -- Read first: Schema, Rows, Effects, Frames, Calls.
+pub mod Keeping
 pub mod Schema
 pub mod Rows
 pub mod Effects

@@ -25,6 +25,11 @@ pub record TakesRoom (plans volumes spans : ℕ) (old new : Trees) : Type 0 wher
   pub of_volumes : (left : ℕ) → HasRoomFor (volumes + left) (old 9) → HasRoomFor left (new 9)
   pub of_spans : (left : ℕ) → HasRoomFor (spans + left) (old 11) → HasRoomFor left (new 11)
 
+-- and of so many operators
+abbrev pub TakesOperators : ℕ → Trees → Trees → Type 0
+TakesOperators operators old new =
+    (left : ℕ) → HasRoomFor (operators + left) (old 0) → HasRoomFor left (new 0)
+
 -- a text that with these parameters takes this room
 pub record Takes (text : List ℕ) (params : Row) (Room : Trees → Trees → Type 0) : Type 0 where
   pub room : (limit : Option ℕ) (old new : Database) → IsDesk old

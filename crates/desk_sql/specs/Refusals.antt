@@ -18,57 +18,46 @@ use Rattle.sqlite.specs.Held.{Held, state}
 use Rattle.sqlite.specs.Schema.{Schema}
 use Rattle.desk_sql.specs.declared.opening.finding.TablesPresent.{TablesPresent}
 use Rattle.desk_sql.specs.declared.opening.numbers.DeskTable.{DeskTable}
-use Rattle.desk_sql.specs.Schema.{desk_schema, schema_of, tree_of}
+use Rattle.desk_sql.specs.Schema.{schema_of, tree_of}
 use Rattle.desk_sql.specs.Rows.{AreNumbered, IsMadeTo}
 
--- what a command that reads answers with under a schema, if it is refused
-abbrev pub NeverRefuses : Schema → Command → Type 0
-NeverRefuses schema command =
+-- what a command that reads answers with under a schema, given these parameters, if it is refused
+abbrev pub NeverRefuses : Schema → Command → Row → Type 0
+NeverRefuses schema command params =
     (limit : Option ℕ) (db : Database) (e : Error) → db.schema ≡ schema →
-    RefusesToRead limit command db [] e → (e ≡ SqliteFailure code.OperationInterrupted) × IsSome limit
-
--- one whole statement with no parameters, which shows rows of the tables, whatever they have
-abbrev pub IsSureIn : Schema → List ℕ → Result Compiled CompileError → Type 0
-IsSureIn schema text (Ok c) =
-    (c.returning ≡ None) × (c.formats ≡ []) × (c.names ≡ []) × (length text ≤ c.tail)
-    × NeverRefuses schema c.command
-IsSureIn schema text (Err e) = ⊥
-
--- a query under a schema that only memory, the disk and a limit on steps refuse
-pub record IsSure (schema : Schema) (text : List ℕ) : Type 0 where
-  pub means : IsSureIn schema text (understood schema text)
-  pub unlisted : reads_listing schema text ≡ false
-
--- ---- queries with parameters
-
--- a command that reads no table that it makes itself, and refuses to read a desk's tables, given these
--- parameters, only at a limit on steps
-abbrev pub NeverRefusesGiven : Command → Row → Type 0
-NeverRefusesGiven command params =
-    (limit : Option ℕ) (db : Database) (e : Error) → db.schema ≡ desk_schema →
     RefusesToRead limit command db params e → (e ≡ SqliteFailure code.OperationInterrupted) × IsSome limit
 
+-- a command that reads no table that it makes itself
 abbrev pub IsSimple : Command → Type 0
 IsSimple (Select plan names) = lets_of plan ≡ []
 IsSimple _ = ⊥
 
 -- one whole statement with as many parameters, which shows rows of the tables, whatever they have
-pub record IsSureCommand (text : List ℕ) (params : Row) (c : Compiled) : Type 0 where
+pub record IsSureCommand (schema : Schema) (text : List ℕ) (params : Row) (c : Compiled) : Type 0 where
   pub bare : c.returning ≡ None
   pub timeless : c.formats ≡ []
   pub given : length params ≡ length c.names
   pub whole : length text ≤ c.tail
   pub simple : IsSimple c.command
-  pub never : NeverRefusesGiven c.command params
+  pub never : NeverRefuses schema c.command params
 
-abbrev pub IsSureMeaning : List ℕ → Row → Result Compiled CompileError → Type 0
-IsSureMeaning text params (Ok c) = IsSureCommand text params c
-IsSureMeaning text params (Err e) = ⊥
+abbrev pub IsSureMeaning : Schema → List ℕ → Row → Result Compiled CompileError → Type 0
+IsSureMeaning schema text params (Ok c) = IsSureCommand schema text params c
+IsSureMeaning schema text params (Err e) = ⊥
 
--- a query of a desk's tables that, given these parameters, only memory, the disk and a limit on steps refuse
-pub record IsSureGiven (text : List ℕ) (params : Row) : Type 0 where
-  pub means : IsSureMeaning text params (understood desk_schema text)
-  pub unlisted : reads_listing desk_schema text ≡ false
+-- a query under a schema that, given these parameters, only memory, the disk and a limit on steps refuse
+pub record IsSureGiven (schema : Schema) (text : List ℕ) (params : Row) : Type 0 where
+  pub means : IsSureMeaning schema text params (understood schema text)
+  pub unlisted : reads_listing schema text ≡ false
+
+-- one that is given nothing
+abbrev pub IsSure : Schema → List ℕ → Type 0
+IsSure schema text = IsSureGiven schema text []
+
+-- so many rows that they are not counted are as memory that ran out
+abbrev pub but_memory : Error → Error
+but_memory (SqliteFailure code.TooBig) = SqliteFailure code.OutOfMemory
+but_memory e = e
 
 -- a desk's tables, so far as they are made, but in one of them a rowid is no whole number, or comes twice
 pub record IsMisnumbered (db : Database) : Type 0 where

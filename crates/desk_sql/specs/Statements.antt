@@ -28,7 +28,7 @@ MayRead (Err e) db params rows = ⊥
 -- a text that, given these parameters, only memory, the disk and a limit on steps refuse, and that of a
 -- desk's tables shows just the rows that are wanted, in the order of these columns
 pub record Selects (text : List ℕ) (params : Row) (cells : List ℕ) (wanted : Tables → List Row) : Type 0 where
-  pub sure : IsSureGiven text params
+  pub sure : IsSureGiven desk_schema text params
   pub rows : (db : Database) (shown : List Row) → IsDesk db
       → MayRead (understood desk_schema text) db params shown → Lists cells (wanted
       (tables_of db.trees)) shown

@@ -13,6 +13,10 @@ use Rattle.sqlite.specs.State.{HasCleanDisk, FailsToQuery, Shown, IsUnchanged, I
 use Rattle.desk_sql.specs.Frames.{Remembers}
 use Rattle.desk_sql.specs.Refusals.{IsRefusal}
 
+-- what has taken some rows has taken some then, whatever the disk did
+abbrev pub TakesOn : (List Row → Type 0) → (List Row → Type 0) → Type 0
+TakesOn had has = ((rows : List Row) × had rows) → (rows : List Row) × has rows
+
 module _ {S : Type 0} (g : Ghosts S) (old new : Held S) where
   -- nothing was changed, or the transaction that was under way is undone
   abbrev pub IsLeft : Type 0

@@ -1,6 +1,6 @@
 -- Worlds: what a desk knows of its operators and of their plans. What one operator owns, and what others
 -- hold.
-use Rattle.std.specs.Prelude.{ℕ, List, Bool, not, Option, IsSome, map, length, ◌≤◌}
+use Rattle.std.specs.Prelude.{ℕ, ◌+◌, List, [], ◌∷◌, Bool, not, cond, Option, IsSome, map, length, ◌≤◌}
 use Rattle.std.specs.Option.{option_map}
 use Rattle.std.specs.List.{filter, find, AllByRecursion}
 use Rattle.std.specs.List.Sorted.{IsStrictlySortedBy}
@@ -11,7 +11,7 @@ use Rattle.desk_rules.specs.declared.plan.PlanRow.{PlanRow}
 use Rattle.volume4d.specs.Point.{Point}
 use Rattle.volume4d.specs.Level.{greater}
 use Rattle.desk_rules.specs.Limits.{max_plans, max_priority}
-use Rattle.desk_rules.specs.Plan.{top_priority}
+use Rattle.desk_rules.specs.Plan.{row_spans, top_priority}
 
 -- a plan, with its operator's name
 pub record Filed : Type 0 where
@@ -79,6 +79,14 @@ held w operator x = top_priority (others_of operator w) x
 -- the stored plan of an id
 unfoldable pub stored_of : List ℕ → List PlanRow → Option PlanRow
 stored_of id rows = find (has_id id) rows
+
+-- the spans that a plan takes, if it isn't the one with the id, and those of all such plans
+abbrev pub spans_unless : List ℕ → PlanRow → ℕ
+spans_unless id row = cond (has_id id row) 0 (row_spans row)
+
+unfoldable pub spans_beside : List ℕ → List PlanRow → ℕ
+spans_beside id [] = 0
+spans_beside id (row ∷ rows) = spans_unless id row + spans_beside id rows
 
 -- the greatest priority held at a point by plans other than the operator's own of the id: the others', and
 -- its own

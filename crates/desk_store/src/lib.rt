@@ -3,6 +3,7 @@
 
 mod change;
 mod fault;
+pub mod laws;
 mod limits;
 mod list;
 mod meets;

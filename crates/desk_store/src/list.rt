@@ -1,6 +1,6 @@
 //! A store in memory.
 
-ghost use Rattle.std.specs.Prelude.{◌≡◌, ◌≤◌, ◌&&◌, ⊤, true, length, [], IfOk, OnOk, OnErr};
+ghost use Rattle.std.specs.Prelude.{◌≡◌, ◌+◌, ◌<◌, ◌≤◌, ◌^◌, ◌&&◌, ⊤, true, length, [], IfOk, OnOk, OnErr};
 ghost use Rattle.std.specs.List.Sorted.{IsNonDecreasingBy};
 ghost use Rattle.std.specs.Ordering.{is_eq};
 ghost use Rattle.volume4d.specs.Point.{Point};
@@ -8,7 +8,8 @@ ghost use Rattle.volume4d.specs.Slab.{slabs_have, top_held};
 ghost use Rattle.desk_rules.specs.Conflict.{at_least};
 ghost use Rattle.desk_rules.specs.Limits.{max_plans};
 ghost use Rattle.desk_rules.specs.States.{states_of};
-ghost use Rattle.desk_store.specs.World.{text_cmp, rows_by, stored_of};
+ghost use Rattle.desk_store.specs.World as world;
+ghost use Rattle.desk_store.specs.World.{text_cmp, rows_by, spans_beside, stored_of};
 ghost use Rattle.desk_store.specs.Rows.{other_level, others_top, rival_level, rivals_top};
 ghost use Rattle.desk_store.specs.StoreChange.{changed_by, IsFitting};
 ghost use Rattle.desk_store.specs.Rivals.{HaveLevel, AddLevel, AddsLevel};
@@ -18,6 +19,7 @@ ghost use Rattle.desk_store.specs.declared.change.Change.TheVariants as change;
 
 use crate::change::Change;
 use crate::fault::StoreFault;
+use crate::laws::spans_are_few;
 use crate::limits::{name_within, row_within};
 use crate::plan::Plan;
 use crate::store::PlanStore;
@@ -25,6 +27,7 @@ use desk_rules::operator::Operator;
 use desk_rules::plan::{PlanRow, States};
 use desk_rules::plan_id::PlanId;
 use std::alloc::{AllocError, Global};
+use std::cmp::Ordering;
 use std::collections::BTreeMap;
 use std::marker::Model;
 use volume4d::{Held, Slab};
@@ -97,6 +100,11 @@ impl PlanStore for ListStore {
 
     fn own_count(&mut self, operator: &Operator) -> Result<u32, StoreFault> {
         Ok(count_in(&self.operators, operator))
+    }
+
+    fn own_spans(&mut self, operator: &Operator, id: &PlanId) -> Result<u32, StoreFault> {
+        spans_are_few();
+        Ok(spans_of(&self.plans, operator, id))
     }
 
     fn own_plans(&mut self, operator: &Operator) -> Result<Vec<PlanRow>, StoreFault> {
@@ -259,6 +267,30 @@ fn count_of(plans: &Plans, operator: &Operator) -> u32
         }
     }
     count
+}
+
+// How many spans the operator's live plans take, but for its plan with the id.
+fn spans_of(plans: &Plans, operator: &Operator, id: &PlanId) -> u32
+    requires { spans_beside id.now (rows_by operator.now (filed_all plans.now.entries)) < 2 ^ 32 }
+    ensures { result ≡ spans_beside id.now (rows_by operator.now (filed_all plans.now.entries)) }
+{
+    let mut spans = 0;
+    for (key, plan) in plans {
+        if is_by(operator, key) {
+            spans += spans_unless(id, key, plan);
+        }
+    }
+    spans
+}
+
+// How many spans a plan takes, if it isn't the one with the id.
+fn spans_unless(id: &PlanId, key: &(Operator, PlanId), plan: &Plan) -> u32
+    ensures { result ≡ world.spans_unless id.now (filed_of (key.now, plan.now)).row }
+{
+    match id.cmp(&key.1) {
+        Ordering::Equal => 0,
+        _ => plan.span_count(),
+    }
 }
 
 // The operator's plans.

@@ -1,8 +1,9 @@
 //! A plan as a store in memory keeps it.
 
-ghost use Rattle.std.specs.Prelude.{◌≡◌, ◌&&◌, false, nat_le, IfOk, OnOk};
+ghost use Rattle.std.specs.Prelude.{◌≡◌, ◌&&◌, cond, false, nat_le, IfOk, OnOk};
 ghost use Rattle.volume4d.specs.Volume.{area_has};
 ghost use Rattle.volume4d.specs.Level.{level_where};
+ghost use Rattle.volume4d.specs.SpanCounts.{area_spans};
 ghost use Rattle.volume4d.specs.Slab.{slabs_have};
 ghost use Rattle.desk_rules.specs.Plan.{is_live};
 ghost use Rattle.desk_store.specs.Rivals.{AddLevel, AddsLevel};
@@ -89,6 +90,16 @@ impl Plan {
         States {
             usage: self.usage,
             aircraft: self.aircraft,
+        }
+    }
+
+    /// How many spans it takes along the S2 curve: none once it is closed.
+    pub fn span_count(&self) -> u32
+        ensures { result ≡ cond (is_live self.now.usage) (area_spans self.now.area) 0 }
+    {
+        match self.usage {
+            Usage::Planned | Usage::InUse => self.area.span_count(),
+            Usage::Closed => 0,
         }
     }
 

@@ -1,5 +1,5 @@
 -- What a change makes of what stood, from what its transaction came to.
-use Rattle.std.proofs.Common.{◌≡◌, inl, inr, ℕ, pos, ◌≤◌, false, List, ◌∷◌, map, arith, IsTrue, Result, Ok, Err, subst}
+use Rattle.std.proofs.Common.{◌≡◌, inl, inr, ℕ, pos, ◌≤◌, ◌∙◌, false, List, ◌∷◌, map, arith, IsTrue, Result, Ok, Err, subst}
 use Rattle.std.specs.Prelude.{⊤}
 use Rattle.sqlite_trees.specs.declared.store.Store.{Ghosts}
 use Rattle.sqlite_trees.specs.View.{doubt}
@@ -91,15 +91,17 @@ committed_as {g = g} {old} {new} {r} {Fits} Rows is it =
     subst (λ x. IsCommitted g old new r (Rows x) Fits) is it
 
 module _ {S : Type 0} (g : Ghosts S) (old new : Held S) (w : World) (stood : Stands g old w) where
-  stands_changed : new.in_transaction ≡ false → doubt (state g old).is_clean ≤ doubt (state g new).is_clean
+  stands_changed : new.in_transaction ≡ false → new.step_limit ≡ old.step_limit
+      → doubt (state g old).is_clean ≤ doubt (state g new).is_clean
       → (change : Change) (Rows : Tables → Tables → Type 0)
       → (HasCleanDisk (state g new) → Commits g old new Rows)
       → (HasCleanDisk (state g old) → IsFitting change w) → IsWithin change
       → ((one two : Tables) → HasCleanDisk (state g new) → IsContent w → AreTables one w → Rows one two
       → ChangesRows change one two)
       → Stands g new (changed_by change w)
-  stands_changed mode rises change Rows done fits within asks = record {
+  stands_changed mode limit rises change Rows done fits within asks = record {
     settled = mode;
+    unlimited = limit ∙ stood.unlimited;
     standing = λ clean live.
         let made = done clean in
         let before = stood.standing (omega (arith, rises, clean)) made.was_open in
@@ -151,7 +153,8 @@ module _ {S : Type 0} (g : Ghosts S) (old new : Held S) (w : World) (stood : Sta
         by_cases : (r : Result (Unit {0}) Error) (made : Result V StoreFault) → AreAlike r made
             → IsCommitted g old new r Rows Fits → IsMade g old new made w change
         by_cases (Ok u) (Ok v) alike it = record {
-          ok = stands_changed it.over.mode it.over.doubt change Rows it.done fits within asks;
+          ok = stands_changed it.over.mode it.over.limit it.over.doubt change Rows it.done fits within
+              asks;
           err = tt;
           crash = left_changed it.over.doubt change Rows it.crash fits within asks;
           is_open = λ clean. (it.done clean).is_open;
@@ -161,7 +164,7 @@ module _ {S : Type 0} (g : Ghosts S) (old new : Held S) (w : World) (stood : Sta
         }
         by_cases (Err e) (Err f) alike it = record {
           ok = tt;
-          err = kept_stands g old new w stood it.over.mode it.over.doubt it.kept;
+          err = kept_stands g old new w stood it.over.mode it.over.limit it.over.doubt it.kept;
           crash = left_changed it.over.doubt change Rows it.crash fits within asks;
           is_open = λ clean. tt;
           committed = λ clean. tt;

@@ -20,7 +20,7 @@ use Rattle.desk_tables.proofs.ContentLemmas.{one_operators, one_plans}
 use Rattle.desk_tables.proofs.PlanLemmas.{plans_within}
 use Rattle.desk_tables.proofs.ShareLemmas.{has_name, if_listed}
 
-abbrev world_of : List Listed → List Filed → World
+abbrev pub world_of : List Listed → List Filed → World
 world_of ls ps = record { operators = ls; plans = ps }
 
 both : {X : Type 0} (P Q R : X → Type 0) → ((x : X) → P x → Q x → R x) → (xs : List X)

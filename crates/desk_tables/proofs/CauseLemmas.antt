@@ -19,7 +19,7 @@ use Rattle.sqlite.specs.Held.{Held, state}
 use Rattle.volume4d.specs.Volume.{Block}
 use Rattle.desk_rules.specs.Limits.{max_priority}
 use Rattle.desk_rules.specs.declared.plan.PlanRow.{PlanRow}
-use Rattle.desk_sql.specs.Refusals.{IsRefusal}
+use Rattle.desk_sql.specs.Refusals.{HasDiskFailed, IsRefusal}
 use Rattle.desk_store.specs.Rows.{is_own}
 use Rattle.desk_store.specs.World.{Filed, World, plans_of, stored_of}
 use Rattle.desk_store.specs.declared.fault.StoreFault.{StoreFault}
@@ -27,7 +27,6 @@ use Rattle.desk_store.specs.declared.fault.StoreFault.TheVariants.{Store}
 use Rattle.desk_tables.specs.Causes.{BlamesStore}
 use Rattle.desk_store.specs.Content.{IsContent, IsPlan}
 use Rattle.desk_tables.specs.Lookups.{one_or_none, own_of}
-use Rattle.desk_tables.specs.Opening.{HasFailed}
 use Rattle.desk_tables.specs.Reading.{IsHead, IsVolumeAt}
 use Rattle.desk_tables.specs.Tables.{area_rows, plan_row, plan_rows, volume_rows}
 use Rattle.desk_tables.specs.Causes.{HasTooManySpans}
@@ -47,25 +46,25 @@ use Rattle.desk_tables.proofs.CollectorLemmas.{AreLow, listing_short, never_cut}
 use Rattle.desk_tables.proofs.ListingLemmas.{area_read, head_read}
 use Rattle.desk_tables.proofs.SlabLemmas.{spans_read}
 
+no_limit : {S : Type 0} (h : Held S) → h.step_limit ≡ None → ¬ IsSome h.step_limit
+no_limit h unlimited some = absurd (true≢false (sym (subst IsSome unlimited some)))
+
 -- the fault that an error of SQLite is
 module _ {S : Type 0} (g : Ghosts S) where
-  pub blamed : (old new : Held S) (error : Error) (fault : StoreFault)
+  pub blamed : (old new : Held S) (error : Error) (fault : StoreFault) → old.step_limit ≡ None
       → (fault ≡ Store → error ≢ SqliteFailure code.OutOfMemory)
       → (HasCleanDisk (state g new) → IsTrue (state g new).is_open → IsRefusal g old new error)
       → BlamesStore g old new fault
-  blamed old new error fault other refusal clean live is = elim (refusal clean live) [
+  blamed old new error fault unlimited other refusal clean live is = elim (refusal clean live) [
     | inl memory ↦ absurd (other is memory)
-    | inr (inl disk) ↦ inl disk
-    | inr (inr steps) ↦ inr steps.1
+    | inr (inl disk) ↦ disk
+    | inr (inr steps) ↦ absurd (no_limit old unlimited steps.1)
   ]
 
   pub blamed_since : (old mid new : Held S) (fault : StoreFault)
-      → (state g old).faults ≤ (state g mid).faults → mid.step_limit ≡ old.step_limit
-      → BlamesStore g mid new fault → BlamesStore g old new fault
-  blamed_since old mid new fault faults limit h clean live is = elim (h clean live is) [
-    | inl disk ↦ inl (omega (arith, faults, disk))
-    | inr steps ↦ inr (subst IsSome limit steps)
-  ]
+      → (state g old).faults ≤ (state g mid).faults → BlamesStore g mid new fault
+      → BlamesStore g old new fault
+  blamed_since old mid new fault faults h clean live is = omega (arith, faults, h clean live is)
 
 pub err_weaker : {V : Type 0} (r : Result V StoreFault) {P : StoreFault → Type 0}
     (Q : StoreFault → Type 0) → IfErr r P → ((e : StoreFault) → P e → Q e) → IfErr r Q
@@ -150,14 +149,15 @@ name_short name h =
 abbrev Or : (List Row → Row → Type 0) → List Row → Row → Error → Type 0
 Or P taken row e = (e ≡ SqliteFailure code.OutOfMemory) ⊎ P taken row
 
-failed_by : {S : Type 0} (g : Ghosts S) (old new : Held S) (e : Error)
-    → e ≢ SqliteFailure code.OutOfMemory → IsRefusal g old new e → HasFailed g old new
-failed_by g old new e other (inl memory) = absurd (other memory)
-failed_by g old new e other (inr (inl disk)) = inl disk
-failed_by g old new e other (inr (inr steps)) = inr steps.1
+failed_by : {S : Type 0} (g : Ghosts S) (old new : Held S) (e : Error) → old.step_limit ≡ None
+    → e ≢ SqliteFailure code.OutOfMemory → IsRefusal g old new e → HasDiskFailed g old new
+failed_by g old new e unlimited other (inl memory) = absurd (other memory)
+failed_by g old new e unlimited other (inr (inl disk)) = disk
+failed_by g old new e unlimited other (inr (inr steps)) = absurd (no_limit old unlimited steps.1)
 
-module _ {S : Type 0} (g : Ghosts S) (old new : Held S) (IsAnswer : List Row → Type 0) (ps : List Filed)
-    (h : ArePlans ps) (low : AreLow ps) (few : length ps ≤ max_plans)
+module _ {S : Type 0} (g : Ghosts S) (old new : Held S) (unlimited : old.step_limit ≡ None)
+    (IsAnswer : List Row → Type 0) (ps : List Filed) (h : ArePlans ps) (low : AreLow ps)
+    (few : length ps ≤ max_plans)
     (are : (rows : List Row) → IsAnswer rows → rows ≡ listing_rows ps) where
   -- a listing of plans is gathered to its end
   pub listing_blamed : (r : Result (Unit {0}) Error) (plans : List PlanRow) (head : Option Head)
@@ -165,12 +165,12 @@ module _ {S : Type 0} (g : Ghosts S) (old new : Held S) (IsAnswer : List Row →
       → IfErr r (λ e. e ≢ SqliteFailure code.OutOfMemory) × OnOk r (HasNoArea head volumes)
       → IfErr r (IsCutShort g old new IsAnswer (Or BeginNoListing))
       → OnOk r ((rows : List Row) × IsAnswer rows × HasCollected plans head volumes rows)
-      → HasFailed g old new
+      → HasDiskFailed g old new
   listing_blamed (Ok u) plans head volumes why cut handed =
       let (rows, is, taken) = handed in
       absurd (never_cut plans head volumes ps (taken ps [] h (append-nil rows ∙ are rows is)) why.1)
   listing_blamed (Err e) plans head volumes why cut handed = elim cut [
-    | inl refused ↦ failed_by g old new e why.0 refused
+    | inl refused ↦ failed_by g old new e unlimited why.0 refused
     | inr (inl (taken, row, left, is, inl memory)) ↦ absurd (why.0 memory)
     | inr (inl (taken, row, left, is, inr none)) ↦ absurd (none ps left h low (are _ is))
     | inr (inr (big, rows, is, many)) ↦
@@ -186,18 +186,19 @@ kept_few want (r ∷ rows) = by_test (want r) (kept_few want rows) where
   by_test false h = omega (arith, h)
 
 -- spans are read as slabs to the end
-pub spans_blamed : {S : Type 0} (g : Ghosts S) (old new : Held S) (want : Row → Bool) (w : World)
+pub spans_blamed : {S : Type 0} (g : Ghosts S) (old new : Held S) → old.step_limit ≡ None
+    → (want : Row → Bool) (w : World)
     → IsContent w → AreTables (tables_of (state g old).now.trees) w → (r : Result (Unit {0}) Error)
     → IsErrAnd r (λ e. e ≢ SqliteFailure code.OutOfMemory)
     → IfErr r (IsCutShort g old new (IsPermutation
     (map held_columns (filter want (tables_of (state g old).now.trees).spans)))
     (Or (λ taken row. IsNoHeld row)))
-    → HasFailed g old new ⊎ HasTooManySpans (state g old).now
-spans_blamed g old new want w h t (Ok u) why cut = absurd why
-spans_blamed g old new want w h t (Err e) why cut =
+    → HasDiskFailed g old new ⊎ HasTooManySpans (state g old).now
+spans_blamed g old new unlimited want w h t (Ok u) why cut = absurd why
+spans_blamed g old new unlimited want w h t (Err e) why cut =
     let tables = tables_of (state g old).now.trees in
     elim cut [
-      | inl refused ↦ inl (failed_by g old new e why refused)
+      | inl refused ↦ inl (failed_by g old new e unlimited why refused)
       | inr (inl (taken, row, left, is, inl memory)) ↦ absurd (why memory)
       | inr (inl (taken, row, left, is, inr none)) ↦
           absurd (spans_read tables w want taken left row h t is none)

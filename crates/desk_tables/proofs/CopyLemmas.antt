@@ -74,7 +74,7 @@ more_heads ps p all is a b c first last =
 
 -- ---- what stands then
 
-alone : (rows old new : List Row) → old ≡ [] → IsPermutation (rows ++ old) new → IsPermutation rows new
+pub alone : (rows old new : List Row) → old ≡ [] → IsPermutation (rows ++ old) new → IsPermutation rows new
 alone rows old new none same = subst (λ rs. IsPermutation rs new) (append-nil rows)
     (subst (λ os. IsPermutation (rows ++ os) new) none same)
 
@@ -105,10 +105,12 @@ written w old new empty adds =
 
 -- tables that had no row stand for the content that was written into them
 pub written_stands : {S : Type 0} (g : Ghosts S) (old new : Held S) (w : World) → Stands g old nothing
-    → new.in_transaction ≡ false → doubt (state g old).is_clean ≤ doubt (state g new).is_clean
+    → new.in_transaction ≡ false → new.step_limit ≡ old.step_limit
+    → doubt (state g old).is_clean ≤ doubt (state g new).is_clean
     → IsContent w → (HasCleanDisk (state g new) → Commits g old new (AddsWorldRows w)) → Stands g new w
-written_stands g old new w stood mode rises content done = record {
+written_stands g old new w stood mode limit rises content done = record {
   settled = mode;
+  unlimited = limit ∙ stood.unlimited;
   standing = λ clean live.
       let made = done clean in
       let before = stood.standing (omega (arith, rises, clean)) made.was_open in

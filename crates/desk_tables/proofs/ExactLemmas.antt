@@ -182,7 +182,7 @@ pub record Spanning (p : Filed) (area : List Block) (rows : List Row) (i : ℕ) 
   where
     pub same : AreSpanRowsFrom p 0 area rows ↔ AreSpanRowsFrom p i (drop i area) rest
 
-slabs_as_spans : (p : Filed) (place : ℕ) (v : Block) (slabs : List Slab)
+pub slabs_as_spans : (p : Filed) (place : ℕ) (v : Block) (slabs : List Slab)
     → AllByRecursion (λ s. slab_window s ≡ v.window) slabs
     → map (span_row p place v) (map span_of slabs) ≡ map (slab_row p place) slabs
 slabs_as_spans p place v [] h = refl

@@ -21,7 +21,7 @@ use Rattle.desk_store.specs.World.{Filed, Listed, World, text_cmp, listed_cmp, f
 use Rattle.desk_store.specs.laws.Order.{all_weaker, all_append}
 use Rattle.desk_tables.specs.Tables.{id_text, operator_row, operator_rows, plan_row, plan_rows, volume_row, rows_from, volume_rows_from, volume_rows, cover_row, cover_rows, span_row, AreSpanRowsFrom, ArePlanSpanRows, AreSpanRows, HasNoOldRows, AreTables}
 use Rattle.desk_store.specs.Content.{IsPlan, IsContent}
-use Rattle.desk_tables.specs.Opening.{AreRows, AreAllRows, AreSortedByKey}
+use Rattle.desk_tables.specs.Opening.{AreRows, AreAllRows, AreSortedByKey, AreSortedHeads}
 use Rattle.desk_tables.specs.Moving.{AreOldTables, AreSortedOld, HasNoNewRows}
 use Rattle.desk_tables.proofs.IdLemmas.{text_order, then_then}
 use Rattle.desk_tables.proofs.RowLemmas.{after_key, after_place, placed, placed_rows}
@@ -38,7 +38,7 @@ NameBelow r s = by_cells (0 ∷ []) r s ≡ Less
 name_below : (l k : Listed) → listed_cmp l k ≡ Less → NameBelow (operator_row l) (operator_row k)
 name_below l k e = ap (λ o. ordering_then o Equal) (value_cmp-Text l.name k.name ∙ e)
 
-operators_up : (ls : List Listed) → IsStrictlySortedBy listed_cmp ls
+pub operators_up : (ls : List Listed) → IsStrictlySortedBy listed_cmp ls
     → IsAscending NameBelow (map operator_row ls)
 unfolding IsStrictlySortedBy
 operators_up [] s = tt
@@ -104,7 +104,7 @@ later_heads : (p : Filed) (qs : List Filed) → ArePlans qs
 later_heads p [] h s = tt
 later_heads p (q ∷ qs) h s = ((q, h.0, s.0, (after_key (plan_row q), refl)), later_heads p qs h.1 s.1)
 
-plans_up : (ps : List Filed) → ArePlans ps → IsStrictlySortedBy filed_cmp ps
+pub plans_up : (ps : List Filed) → ArePlans ps → IsStrictlySortedBy filed_cmp ps
     → IsAscending (Below []) (plan_rows ps)
 unfolding IsStrictlySortedBy
 plans_up [] h s = tt
@@ -296,6 +296,23 @@ are_rows t rows w h are lists = record {
   rows = rows_are t.operators t.plans t.volumes t.spans rows w h are.operators are.plans are.volumes
       are.spans lists.operator_part lists.plan_part lists.volume_part lists.span_part;
   covers = in_order (0 ∷ 1 ∷ 2 ∷ []) (cover_rows w.plans) t.covers rows.covers
+      (covers_up w.plans h.rows h.world.plans) are.covers lists.cover_part;
+}
+
+-- so it is of the tables but for spans, with any that are the content's
+pub heads_are : (t heads : Tables) (w : World) → IsContent w → AreTables t w → AreSortedHeads t heads
+    → (rows : List Row) → AreSpanRows w.plans rows → AreAllRows (record heads { spans = rows }) w
+heads_are t heads w h are lists rows spans = record {
+  rows = record {
+    operator_part = in_order (0 ∷ []) (operator_rows w) t.operators heads.operators
+        (operators_up w.operators h.world.operators) are.operators lists.operator_part;
+    plan_part = in_order (0 ∷ 1 ∷ []) (plan_rows w.plans) t.plans heads.plans
+        (plans_up w.plans h.rows h.world.plans) are.plans lists.plan_part;
+    volume_part = in_order (0 ∷ 1 ∷ 2 ∷ []) (volume_rows w.plans) t.volumes heads.volumes
+        (volumes_up w.plans h.rows h.world.plans) are.volumes lists.volume_part;
+    span_part = spans;
+  };
+  covers = in_order (0 ∷ 1 ∷ 2 ∷ []) (cover_rows w.plans) t.covers heads.covers
       (covers_up w.plans h.rows h.world.plans) are.covers lists.cover_part;
 }
 

@@ -1,5 +1,5 @@
 -- What a crash leaves is read as one content.
-use Rattle.std.proofs.Common.{◌≡◌, ◌⊎◌, inl, inr, ◌≢◌, Option, Some, None, IsSome, IfSome, IsTrue, length, slice_index_or, refl, sym, ap, subst, ◌∙◌, arith, true, true≢false}
+use Rattle.std.proofs.Common.{◌≡◌, ◌⊎◌, inl, inr, ◌≢◌, Option, Some, None, Result, Ok, Err, IfOk, IsTrue, length, slice_index_or, refl, sym, ap, subst, ◌∙◌, arith, true, true≢false}
 use Rattle.std.specs.Coded.{Coded-set}
 use Rattle.std.proofs.Math.Logic.{∥∥₁_elim, ∥∥₁_map}
 use Rattle.sqlite_trees.specs.declared.store.Store.{Ghosts}
@@ -10,6 +10,7 @@ use Rattle.sqlite_catalog.proofs.ReadLemmas.{lists_once}
 use Rattle.sqlite.specs.Tree.{Trees}
 use Rattle.sqlite.specs.Effect.{Database, IsDatabase}
 use Rattle.sqlite.specs.State.{HasCleanDisk}
+use Rattle.desk_tables.specs.declared.opening.path.Unreached.{Unreached}
 use Rattle.sqlite.specs.Held.{Held, state}
 use Rattle.sqlite.specs.Files.{over_files, file_state}
 use Rattle.sqlite.proofs.Theorems.{next_run}
@@ -205,17 +206,16 @@ module _ {D E : Type 0} {g : disk.Ghosts D} {k : disk.Ghosts E} (last : Held (Fi
         by_fault NotADesk is = never_none it.after is
         by_fault OldSchema is = never_old it.after is
         by_fault Store is = elim (it.after.refused.cause it.after.legible.0 it.after.legible.1 is) [
-          | inl (inl failed) ↦ it.quiet failed
-          | inl (inr limited) ↦ (let none = subst IsSome it.after.refused.fresh.unlimited limited in cc)
+          | inl failed ↦ it.quiet failed
           | inr numbers ↦ taken it.after (inr (inl numbers))
         ]
 
     -- of such files neither is told, by a connection that can be read or by none
     pub not_told : (image : Image) → IsLeftBy last image → (e : OpenFault)
-        → (connection : Option (Held (FileStore E k))) → AreRefused image e connection
-        → IfSome connection IsLegible → IsUnread e
-    not_told image files e None unread legible = unread
-    not_told image files e (Some left) refused legible =
+        → (connection : Result (Held (FileStore E k)) Unreached) → AreRefused image e connection
+        → IfOk connection IsLegible → IsUnread e
+    not_told image files e (Err it) unread legible = unread.unread
+    not_told image files e (Ok left) refused legible =
         let after : IsRefusedAfter last e left = record {
           image = image;
           files = files;

@@ -2,7 +2,8 @@ pub mod IdLemmas
 pub mod ParseLemmas
 pub mod RowLemmas
 pub mod ContentLemmas
-pub mod FilterLemmas
+pub mod FillLemmas
+mod FilterLemmas
 pub mod ChangeLemmas
 pub mod PutLemmas
 pub mod SetLemmas
@@ -21,10 +22,12 @@ pub mod AscendLemmas
 pub mod OperatorLemmas
 pub mod PlanLemmas
 pub mod SpanLemmas
+pub mod SpanCheckLemmas
 pub mod ShareLemmas
 pub mod KeyOrderLemmas
 pub mod AssemblyLemmas
 pub mod OpeningLemmas
+pub mod HeadLemmas
 pub mod UnreadLemmas
 pub mod ExactLemmas
 pub mod CoverLemmas
@@ -44,3 +47,4 @@ pub mod CopyLemmas
 pub mod LookLemmas
 pub mod SmallLemmas
 pub mod WritingLemmas
+pub mod LiftLemmas

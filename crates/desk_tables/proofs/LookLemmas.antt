@@ -1,5 +1,5 @@
 -- What is read of a database in either schema is what it showed before.
-use Rattle.std.proofs.Common.{◌≡◌, ◌≤◌, inl, inr, Bool, true, false, Result, Ok, Err, IfOk, IfErr, subst, arith}
+use Rattle.std.proofs.Common.{◌≡◌, ◌≤◌, inl, inr, Bool, true, false, Result, Ok, Err, IfOk, IfErr, subst, sym, arith}
 use Rattle.sqlite_disk.specs.declared.Disk as disk
 use Rattle.sqlite_wal.specs.Recovery.{Image}
 use Rattle.sqlite_trees.specs.declared.store.Store.{Ghosts}
@@ -20,7 +20,9 @@ use Rattle.desk_tables.specs.Files.{Finds}
 use Rattle.desk_tables.specs.Store.{Shown}
 use Rattle.desk_tables.specs.Opening.{HasRowsOld, ShowsNoDesk}
 use Rattle.desk_tables.specs.OpeningSteps.{IsAdopted}
-use Rattle.desk_tables.specs.Copying.{AreNoContentIn, HoldsNone, IsMadeIn, ShowsNone}
+use Rattle.desk_tables.specs.Copying.{AreCounted, AreNoContentIn, HoldsNone, IsMadeIn, LooksIn, ShowsNone}
+use Rattle.desk_tables.specs.declared.opening.looking.Holdings.{Holdings}
+use Rattle.desk_store.specs.World.{World}
 
 none_held : (made : TablesPresent) (old : Bool) (db : Database) → IsMadeTo made db
     → has_old_rows (tables_at made db.trees) ≡ old → AreNoContentIn old (tables_at made db.trees)
@@ -59,17 +61,29 @@ module _ {S : Type 0} (g : Ghosts S) (a b c : Held S) (made : TablesPresent) (ol
 
 module _ {D : Type 0} {g : disk.Ghosts D} (image : Image) where
   -- a store that was made over a connection to files was made in these files
-  pub made_files : (a : Held (FileStore D g)) (r : Result (Shown (FileStore D g)) OpenFault)
-      → Finds image a
-      → IfOk r (λ store. HasCleanDisk (file_state store.held) → (file_state a).now.schema ≡ blank_schema)
-      → IfOk r (λ store. IsAdopted (over_files {D = D} {g = g}) a store.held store.world)
-      → IfOk r (λ store. IsMadeIn image store.held)
-  made_files a (Err e) finds blank adopted = tt
-  made_files a (Ok store) finds blank adopted = record {
+  pub made_files : (a : Held (FileStore D g)) (store : Shown (FileStore D g)) → Finds image a
+      → (HasCleanDisk (file_state store.held) → (file_state a).now.schema ≡ blank_schema)
+      → IsAdopted (over_files {D = D} {g = g}) a store.held store.world → IsMadeIn image store.held
+  made_files a store finds blank adopted = record {
     found = a;
+    doubt = adopted.doubt;
     opened = λ clean. finds.first (omega (arith, adopted.doubt, clean));
     blank = blank;
     guarded = λ clean. adopted.shield (finds.guarded clean);
     summed = finds.summed;
     live = adopted.live;
   }
+
+-- what was read is looked at as it is copied
+pub copied_looks : {D E F : Type 0} {g : disk.Ghosts D} {k : disk.Ghosts E} (image : Image)
+    (r : Result (Held (FileStore D g) × (Shown (FileStore E k) × Holdings)) F) (left : Held (FileStore D g))
+    (w : World) (old : Bool) → IfOk r (λ x. x.0 ≡ left) → IfOk r (λ x. x.1.0.world ≡ w)
+    → IfOk r (λ x. AreCounted x.1.1 w) → IfOk r (λ x. x.1.1.is_old ≡ old) → LooksIn image left old w
+    → IfOk r (λ x. AreCounted x.1.1 x.1.0.world × LooksIn image x.0 x.1.1.is_old x.1.0.world)
+copied_looks image (Err e) left w old same world counted schema looks = tt
+copied_looks {g = g} image (Ok x) left w old same world counted schema looks = (
+  subst (AreCounted x.1.1) (sym world) counted,
+  subst (λ h. LooksIn {g = g} image h x.1.1.is_old x.1.0.world) (sym same)
+      (subst (λ b. LooksIn {g = g} image left b x.1.0.world) (sym schema)
+      (subst (LooksIn {g = g} image left old) (sym world) looks)),
+)

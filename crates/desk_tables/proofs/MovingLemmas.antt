@@ -357,6 +357,7 @@ moved_after g a b c made world count (Ok v) reads part old done = record {
   older = tt;
   cause = tt;
   kept = tt;
+  limit = done.limit ∙ reads.limit;
   doubt = omega (arith, reads.doubt, done.doubt);
   shield = λ s. done.shield (reads.shield s);
 }
@@ -373,6 +374,7 @@ moved_after g a b c made world count (Err e) reads part old done = record {
   older = done.newer;
   cause = cause_then g a b c reads.faults reads.limit e done.cause;
   kept = keeps_since g a b c reads.kept done.doubt done.kept;
+  limit = done.limit ∙ reads.limit;
   doubt = omega (arith, reads.doubt, done.doubt);
   shield = λ s. done.shield (reads.shield s);
 }

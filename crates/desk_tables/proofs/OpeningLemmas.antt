@@ -1,5 +1,5 @@
 -- What a store begins with, from what was found.
-use Rattle.std.proofs.Common.{◌≡◌, ◌≢◌, ◌≤◌, List, [], ◌∷◌, ◌||◌, Bool, true, false, ◌∙◌, sym, ap, refl, OnOk, OnErr, subst, arith, inl, inr, IsTrue, Result, Ok, Err, IfOk, IfErr, true≢false}
+use Rattle.std.proofs.Common.{◌≡◌, ◌≢◌, ◌≤◌, None, List, [], ◌∷◌, ◌||◌, Bool, true, false, ◌∙◌, sym, ap, refl, OnOk, OnErr, subst, arith, inl, inr, IsTrue, Result, Ok, Err, IfOk, IfErr, true≢false}
 use Rattle.std.specs.Prelude.{IsSome}
 use Rattle.std.specs.Result.{IsErrAnd}
 use Rattle.sqlite.specs.declared.error.Error.{Error}
@@ -68,10 +68,12 @@ module _ {S : Type 0} (g : Ghosts S) where
       subst (IsMadeTo made) (sym before.now) (part (omega (arith, reads.doubt, clean)) before.was_open)
 
   -- what is read of a desk's tables as a content stands
-  found_stands : (w : World) (a b : Held S) → Holds g a (IsMadeTo All) → OnlyReads g a b
+  found_stands : (w : World) (a b : Held S) → a.step_limit ≡ None → Holds g a (IsMadeTo All)
+      → OnlyReads g a b
       → (HasCleanDisk (state g b) → IsContentOf (tables_of (state g a).now.trees) w) → Stands g b w
-  found_stands w a b whole reads found = record {
+  found_stands w a b unlimited whole reads found = record {
     settled = reads.mode;
+    unlimited = reads.limit ∙ unlimited;
     standing = λ clean live.
         let shows = reads.kept clean live in
         let it = found clean in
@@ -99,10 +101,10 @@ module _ {S : Type 0} (g : Ghosts S) where
 
   -- a store begins over a desk's tables as they are read
   pub set_up_as_read : {V : Type 0} (world : V → World) (r : Result V OpenFault) (a b : Held S)
-      → Holds g a (IsMadeTo All) → Holds g a (HasNewRows All)
+      → a.step_limit ≡ None → Holds g a (IsMadeTo All) → Holds g a (HasNewRows All)
       → IsRead g a b r All (λ t v. IsContentOf t (world v)) AreNoContent → OnOk r (IsOpenIfClean g b)
       → IsSetUp g a b r world (λ v. BeginsWith g a b (world v)) (ShowsNoDesk g a b) (IsKept g a b)
-  set_up_as_read world (Ok v) a b whole new read live = record {
+  set_up_as_read world (Ok v) a b unlimited whole new read live = record {
     begins = λ clean live.
         let shows = read.reads.kept clean live in
         let it = read.value clean in
@@ -114,17 +116,18 @@ module _ {S : Type 0} (g : Ghosts S) where
           };
           kept = shows;
         }));
-    stands = found_stands (world v) a b whole read.reads read.value;
+    stands = found_stands (world v) a b unlimited whole read.reads read.value;
     was_open = read.was_open;
     live = live;
     none = tt;
     newer = tt;
     cause = tt;
     kept = tt;
+    limit = read.reads.limit;
     doubt = read.reads.doubt;
     shield = read.reads.shield;
   }
-  set_up_as_read world (Err e) a b whole new read live = record {
+  set_up_as_read world (Err e) a b unlimited whole new read live = record {
     begins = tt;
     stands = tt;
     was_open = read.was_open;
@@ -133,6 +136,7 @@ module _ {S : Type 0} (g : Ghosts S) where
     newer = read.newer;
     cause = read.cause;
     kept = read.reads.kept;
+    limit = read.reads.limit;
     doubt = read.reads.doubt;
     shield = read.reads.shield;
   }
@@ -152,6 +156,7 @@ module _ {S : Type 0} (g : Ghosts S) where
     newer = tt;
     cause = tt;
     kept = tt;
+    limit = done.limit;
     doubt = done.doubt;
     shield = done.shield;
   }
@@ -164,6 +169,7 @@ module _ {S : Type 0} (g : Ghosts S) where
     newer = done.newer;
     cause = done.cause;
     kept = done.kept;
+    limit = done.limit;
     doubt = done.doubt;
     shield = done.shield;
   }
@@ -237,6 +243,7 @@ opened_since g a b c world (Ok v) reads done = record {
   older = tt;
   cause = tt;
   kept = tt;
+  limit = done.limit ∙ reads.limit;
   doubt = omega (arith, reads.doubt, done.doubt);
   shield = λ s. done.shield (reads.shield s);
 }
@@ -248,6 +255,7 @@ opened_since g a b c world (Err e) reads done = record {
   older = λ is. absurd (done.newer is);
   cause = cause_then g a b c reads.faults reads.limit e done.cause;
   kept = kept_on g a b c reads.kept done.kept done.doubt;
+  limit = done.limit ∙ reads.limit;
   doubt = omega (arith, reads.doubt, done.doubt);
   shield = λ s. done.shield (reads.shield s);
 }
@@ -269,6 +277,7 @@ unread_as g a b made (Err f) e is read keeps = record {
   newer = λ told. read.newer (sym is ∙ told);
   cause = subst (BlamesReading g a b) (sym is) read.cause;
   kept = keeps read.reads.kept;
+  limit = read.reads.limit;
   doubt = read.reads.doubt;
   shield = read.reads.shield;
 }
@@ -277,11 +286,11 @@ unread_as g a b made (Err f) e is read keeps = record {
 pub refused_as : {S V : Type 0} (g : Ghosts S) (a c : Held S) {world : V → World} {Begins : V → Type 0}
     {Refuses Older Keeps : Type 0} (r : Result V OpenFault) (e : OpenFault) → IsErrAnd r (λ fault. fault ≡ e)
     → (e ≡ NotADesk → Refuses) → e ≢ OldSchema → BlamesDatabase g a c e → Keeps
-    → doubt (state g a).is_clean ≤ doubt (state g c).is_clean
+    → c.step_limit ≡ a.step_limit → doubt (state g a).is_clean ≤ doubt (state g c).is_clean
     → ((state g a).IsShielded → (state g c).IsShielded)
     → IsOpened g a c r world Begins Refuses Older Keeps
-refused_as g a c (Ok v) e is none newer cause kept rises shield = absurd is
-refused_as g a c (Err f) e is none newer cause kept rises shield = record {
+refused_as g a c (Ok v) e is none newer cause kept limit rises shield = absurd is
+refused_as g a c (Err f) e is none newer cause kept limit rises shield = record {
   begins = tt;
   stands = tt;
   live = tt;
@@ -289,6 +298,7 @@ refused_as g a c (Err f) e is none newer cause kept rises shield = record {
   older = λ told. absurd (newer (sym is ∙ told));
   cause = subst (BlamesDatabase g a c) (sym is) cause;
   kept = kept;
+  limit = limit;
   doubt = rises;
   shield = shield;
 }
@@ -330,17 +340,11 @@ module _ {S : Type 0} (g : Ghosts S) where
   blames_reading a b c error fewer limit why clean live told =
       failed_if a b c error fewer limit (why clean live) told
 
--- what is read in the order of its keys has the tables' content, or theirs is none
-none_there : (t rows : Tables) → AreSortedByKey t rows
-    → ((w : World) → IsContent w → AreAllRows rows w → ⊥)
-    → AreNoContent t
-none_there t rows lists none = λ w h are. none w h (are_rows t rows w h are lists)
-
 no_rows : (rows : List Row) → has_rows rows ≡ false → rows ≡ []
 no_rows [] none = refl
 no_rows (r ∷ rows) none = cc
 
-no_old_rows : (t : Tables) → has_old_rows t ≡ false → HasNoOldRows t
+pub no_old_rows : (t : Tables) → has_old_rows t ≡ false → HasNoOldRows t
 no_old_rows t none =
     let parts = or_parts (has_rows t.old_volumes) (has_rows t.old_spans) none in record {
       volumes = no_rows t.old_volumes parts.0;
@@ -353,38 +357,6 @@ no_old_rows t none =
 -- a content has no rows of schema 1
 pub old_rows_none : (t : Tables) → HasNoOldRows t → has_old_rows t ≡ false
 old_rows_none t old = λ i. has_rows (old.volumes i) || has_rows (old.spans i)
-
--- tables are read as the content that their rows are read as, if there is one
-pub content_read : {S V : Type 0} (g : Ghosts S) (made : TablesPresent) (a b : Held S) (rows : Tables)
-    (world : V → World) (r : Result V OpenFault) → Holds g a (HasNewRows made)
-    → (HasCleanDisk (state g b) → AreSortedByKey (tables_at made (state g a).now.trees) rows)
-    → (HasCleanDisk (state g b) → IsTrue (state g a).is_open) → OnlyReads g a b
-    → IfOk r (λ v. IsContent (world v) × AreAllRows rows (world v))
-    → IfErr r (λ e. e ≡ NotADesk → (w : World) → IsContent w → ¬ AreAllRows rows w)
-    → IfErr r (λ e. (e ≢ Store) × (e ≢ OldSchema))
-    → IsRead g a b r made (λ t v. IsContentOf t (world v)) AreNoContent
-content_read g made a b rows world (Ok v) new sorted opened reads read none other = record {
-  value = λ clean.
-      let t = tables_at made (state g a).now.trees in
-      record {
-        content = read.0;
-        tables = are_tables t rows (world v) (no_old_rows t (new (omega (arith, reads.doubt, clean))
-            (opened clean))) (sorted clean) read.1;
-      };
-  was_open = opened;
-  none = tt;
-  newer = tt;
-  cause = tt;
-  reads = reads;
-}
-content_read g made a b rows world (Err e) new sorted opened reads read none other = record {
-  value = λ clean. tt;
-  was_open = λ clean. tt;
-  none = λ is clean. none_there (tables_at made (state g a).now.trees) rows (sorted clean) (none is);
-  newer = other.1;
-  cause = λ clean live told. absurd (other.0 told);
-  reads = reads;
-}
 
 -- what is made has the operators, unless it is nothing
 pub some_operators : (made : TablesPresent) → made ≢ Nothing → has_table made desk.Operator ≡ true

@@ -46,7 +46,7 @@ use Rattle.desk_tables.proofs.SpanLemmas.{spans_keyed}
 -- ---- keys
 
 -- rows of which one is below the other by some columns differ in them
-apart_by : (a b : Row) (places : List ℕ) → by_cells places a b ≡ Less
+pub apart_by : (a b : Row) (places : List ℕ) → by_cells places a b ≡ Less
     → list_all (λ at. is_same (column a at) (column b at)) places ≡ false
 apart_by a b [] less = cc
 apart_by a b (at ∷ places) less =
@@ -143,7 +143,7 @@ same_name : (name : List ℕ) (rest : Row) (l : Listed)
     → has_same_key 1 (operator_row l) (Text name ∷ rest) ≡ is_eq (text_cmp name l.name)
 same_name name rest l = both_hold _ ∙ ap is_eq (value_cmp-Text l.name name) ∙ turned l.name name
 
-named_row : (name : List ℕ) (rest : Row) (ls : List Listed) → has_name name ls ≡ true
+pub named_row : (name : List ℕ) (rest : Row) (ls : List Listed) → has_name name ls ≡ true
     → HasKey 1 (Text name ∷ rest) (map operator_row ls)
 named_row name rest [] h = h
 named_row name rest (l ∷ ls) h =

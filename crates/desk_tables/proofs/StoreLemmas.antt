@@ -1,5 +1,5 @@
 -- What stands after a query, and what its answer is of the world.
-use Rattle.std.proofs.Common.{◌≡◌, ◌≤◌, false, List, [], ◌∷◌, Result, Ok, Err, IfOk, IsOk, OnOk, refl, sym, subst, arith, IsTrue, IsPermutation}
+use Rattle.std.proofs.Common.{◌≡◌, ◌≤◌, ◌∙◌, None, false, List, [], ◌∷◌, Result, Ok, Err, IfOk, IsOk, OnOk, refl, sym, subst, arith, IsTrue, IsPermutation}
 use Rattle.std.specs.List.Sorted.{IsStrictlySortedBy}
 use Rattle.std.proofs.lemmas.List.Sorted.{IsPermutation-refl, length_permutation}
 use Rattle.sqlite_trees.specs.declared.store.Store.{Ghosts}
@@ -21,7 +21,11 @@ use Rattle.desk_tables.specs.Store.{IsStanding, Stands}
 module _ {S : Type 0} (g : Ghosts S) (old new : Held S) (w : World) (stood : Stands g old w) where
   -- a query leaves what stands
   pub still_stands : OnlyReads g old new → Stands g new w
-  still_stands reads = record { settled = reads.mode; standing = λ clean live. standing clean live }
+  still_stands reads = record {
+    settled = reads.mode;
+    unlimited = reads.limit ∙ stood.unlimited;
+    standing = λ clean live. standing clean live;
+  }
     where
       standing : HasCleanDisk (state g new) → IsTrue (state g new).is_open → IsStanding g new w
       standing clean live =
@@ -34,10 +38,11 @@ module _ {S : Type 0} (g : Ghosts S) (old new : Held S) (w : World) (stood : Sta
           }
 
   -- so does a refusal that keeps what was there
-  pub kept_stands : new.in_transaction ≡ false → doubt (state g old).is_clean ≤ doubt (state g new).is_clean
-      → IsKept g old new → Stands g new w
-  kept_stands settled rises kept = record {
+  pub kept_stands : new.in_transaction ≡ false → new.step_limit ≡ old.step_limit
+      → doubt (state g old).is_clean ≤ doubt (state g new).is_clean → IsKept g old new → Stands g new w
+  kept_stands settled limit rises kept = record {
     settled = settled;
+    unlimited = limit ∙ stood.unlimited;
     standing = λ clean live.
         let shows = kept clean live in
         let before = stood.standing (omega (arith, rises, clean)) shows.was_open in
@@ -89,9 +94,11 @@ nothing_has_no_rows = record {
 
 -- tables that were made stand for no operators and no plans
 pub made_stands : {S : Type 0} (g : Ghosts S) (old new : Held S) → new.in_transaction ≡ false
-    → (HasCleanDisk (state g new) → Completes g Nothing old new) → Stands g new nothing
-made_stands g old new mode done = record {
+    → new.step_limit ≡ None → (HasCleanDisk (state g new) → Completes g Nothing old new)
+    → Stands g new nothing
+made_stands g old new mode unlimited done = record {
   settled = mode;
+  unlimited = unlimited;
   standing = λ clean live. record {
     content = nothing_is_content;
     desk = (done clean).desk;

@@ -79,7 +79,7 @@ none_of p (x ∷ xs) ys all none = ap₂ (λ a b. a || b) all.0 (none_of p xs ys
 
 -- ---- room
 
-fewer : (few many : ℕ) (rows : List Row) → few ≤ many → HasRoomFor many rows → HasRoomFor few rows
+pub fewer : (few many : ℕ) (rows : List Row) → few ≤ many → HasRoomFor many rows → HasRoomFor few rows
 fewer few many rows low room = (
   omega (arith, low, room.0),
   record {
@@ -94,7 +94,7 @@ fits (pos n) h k = grind (arith, ints, nat_tests)
 fits (negsuc n) h k = grind (arith, ints, nat_tests)
 
 -- the first rowid of a table without rows is 1
-blank_room : (count : ℕ) → count < 2 ^ 63 → HasRoomFor count []
+pub blank_room : (count : ℕ) → count < 2 ^ 63 → HasRoomFor count []
 blank_room count few = (
   few,
   record {
@@ -291,7 +291,7 @@ planned_there ps plans rows same = all_weaker (λ r. HasKey 2 r (plan_rows ps)) 
     (λ r k. sym (list_any-IsPermutation (λ q. has_same_key 2 q r) (plan_rows ps) plans same) ∙ k) rows
 
 -- no row has a key in a table without rows
-all_free : (width : ℕ) (rows shown : List Row) → shown ≡ []
+pub all_free : (width : ℕ) (rows shown : List Row) → shown ≡ []
     → AllByRecursion (λ r. LacksKey width r shown) rows
 all_free width rows shown none =
     subst (λ s. AllByRecursion (λ r. LacksKey width r s) rows) (sym none) (free rows) where
@@ -300,7 +300,7 @@ all_free width rows shown none =
       free (r ∷ rs) = (refl, free rs)
 
 -- a tree of which no row is shown has none
-no_tree : (f : Row → Row) (rows : List Row) → map f rows ≡ [] → rows ≡ []
+pub no_tree : (f : Row → Row) (rows : List Row) → map f rows ≡ [] → rows ≡ []
 no_tree f [] none = refl
 no_tree f (r ∷ rows) none = cc
 
@@ -332,7 +332,7 @@ all_covers_short few (p ∷ ps) within = all_append (λ r. AllByRecursion IsShor
     within.0.row.each)
     (all_covers_short few ps within.1)
 
-are_plans : (ps : List Filed) → AllByRecursion IsFiled ps → ArePlans ps
+pub are_plans : (ps : List Filed) → AllByRecursion IsFiled ps → ArePlans ps
 are_plans [] within = tt
 are_plans (p ∷ ps) within = (within.0.row, are_plans ps within.1)
 

@@ -8,13 +8,13 @@ use Rattle.sqlite.specs.Effect.{Database}
 use Rattle.desk_sql.specs.Rows.{tables_of}
 use Rattle.desk_sql.specs.Changing.{AreLow, HasRoom}
 use Rattle.desk_sql.specs.Putting.{HasRoomFor}
+use Rattle.desk_sql.specs.Refusals.{HasDiskFailed}
 use Rattle.desk_store.specs.Changes.{filed_by}
 use Rattle.desk_store.specs.World.{Filed}
 use Rattle.desk_store.specs.declared.change.Change.{Change}
 use Rattle.desk_store.specs.declared.change.Change.TheVariants.{Enrol, Put, Close, Clear}
 use Rattle.desk_store.specs.declared.fault.StoreFault.{StoreFault}
 use Rattle.desk_store.specs.declared.fault.StoreFault.TheVariants.{Store}
-use Rattle.desk_tables.specs.Opening.{HasFailed}
 use Rattle.desk_tables.specs.Tables.{ArePlanSpanRows}
 
 -- `span2` has 2 ^ 64 - 1 rows and more
@@ -28,10 +28,10 @@ pub record HasRoomForPlan (p : Filed) (db : Database) : Type 0 where
   pub spans : (rows : List Row) → ArePlanSpanRows p rows → HasRoomFor (length rows) (db.trees 11)
 
 module _ {S : Type 0} (g : Ghosts S) (old new : Held S) where
-  -- over an open connection a fault of the store's own is the disk's, or the connection allows a statement
-  -- but few steps
+  -- over an open connection a fault of the store's own is the disk's
   abbrev pub BlamesStore : StoreFault → Type 0
-  BlamesStore e = HasCleanDisk (state g new) → IsTrue (state g new).is_open → e ≡ Store → HasFailed g old new
+  BlamesStore e =
+      HasCleanDisk (state g new) → IsTrue (state g new).is_open → e ≡ Store → HasDiskFailed g old new
 
   -- a change: where the tables have room for what it adds
   abbrev pub BlamesChange : Change → StoreFault → Type 0
@@ -44,4 +44,4 @@ module _ {S : Type 0} (g : Ghosts S) (old new : Held S) where
   abbrev pub BlamesSpans : StoreFault → Type 0
   BlamesSpans e =
       HasCleanDisk (state g new) → IsTrue (state g new).is_open → e ≡ Store →
-      HasFailed g old new ⊎ HasTooManySpans (state g old).now
+      HasDiskFailed g old new ⊎ HasTooManySpans (state g old).now

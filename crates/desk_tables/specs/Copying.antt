@@ -1,8 +1,9 @@
 -- Copying: what a database holds, read in either schema, and a new one that gets its content.
-use Rattle.std.specs.Prelude.{◌≡◌, ◌≢◌, ◌⊎◌, ℕ, Bool, true, false, List, ◌++◌, length, map, filter, IsTrue, IsPermutation, Option, Some, None}
+use Rattle.std.specs.Prelude.{◌≡◌, ◌≢◌, ◌≤◌, ◌⊎◌, ℕ, Bool, true, false, List, ◌++◌, length, map, filter, IsTrue, IsPermutation, Result, Ok, Err}
 use Rattle.sqlite_disk.specs.declared.Disk as disk
 use Rattle.sqlite_wal.specs.Recovery.{Image}
 use Rattle.sqlite_trees.specs.declared.store.Store.{Ghosts}
+use Rattle.sqlite_trees.specs.View.{doubt as doubt_of}
 use Rattle.sqlite_store.specs.declared.store.FileStore.{FileStore}
 use Rattle.sqlite_store.specs.FileStore.{view}
 use Rattle.sqlite_value.specs.Order.{Row}
@@ -15,17 +16,22 @@ use Rattle.desk_sql.specs.Frames.{OnlyReads}
 use Rattle.desk_sql.specs.Schema.{blank_schema}
 use Rattle.desk_sql.specs.declared.opening.finding.TablesPresent.{TablesPresent}
 use Rattle.desk_sql.specs.Finding.{HasOthers}
+use Rattle.desk_sql.specs.Refusals.{HasDiskFailed, IsMisnumbered}
+use Rattle.desk_sql.specs.declared.opening.finding.TablesPresent.TheVariants.{Nothing}
 use Rattle.desk_sql.specs.Rows.{IsMadeTo, Tables, tables_at, has_old_rows}
 use Rattle.desk_rules.specs.Plan.{is_live}
 use Rattle.desk_store.specs.World.{Filed, Listed, World}
 use Rattle.desk_tables.specs.Tables.{operator_row, operator_rows, plan_rows, volume_rows, cover_rows, AreSpanRows}
 use Rattle.desk_tables.specs.Counting.{HaveSpanRows}
-use Rattle.desk_tables.specs.Opening.{IsContentOf, HasNoContent, AreNoContent, BlamesDatabase}
+use Rattle.desk_tables.specs.Opening.{IsContentOf, HasNoContent, AreNoContent, BlamesDisk}
 use Rattle.desk_tables.specs.Moving.{IsOldContentOf, HasNoOldContent, AreNoOldContent}
-use Rattle.desk_tables.specs.Files.{FindsFirst, IsUnread}
+use Rattle.desk_tables.specs.Files.{FindsFirst, IsOfUnreached, IsUnread}
+use Rattle.desk_tables.specs.declared.opening.files.CopyFault.{CopyFault}
+use Rattle.desk_tables.specs.declared.opening.files.CopyFault.TheVariants as copy
+use Rattle.desk_tables.specs.declared.opening.path.Unreached.{Unreached}
 use Rattle.desk_tables.specs.declared.opening.looking.Holdings.{Holdings}
 use Rattle.desk_tables.specs.declared.opening.open.OpenFault.{OpenFault}
-use Rattle.desk_tables.specs.declared.opening.open.OpenFault.TheVariants.{NotADesk, OldSchema}
+use Rattle.desk_tables.specs.declared.opening.open.OpenFault.TheVariants.{NotADesk, OldSchema, Store}
 
 -- ---- what a database holds
 
@@ -70,6 +76,21 @@ module _ {S : Type 0} (g : Ghosts S) (old new : Held S) where
   abbrev pub ShowsContent : Bool → World → Type 0
   ShowsContent schema w = HasCleanDisk (state g new) → HoldsContent schema w (state g old).now
 
+-- a table of a desk's, or another
+abbrev pub HasTables : Database → Type 0
+HasTables db = HasOthers db ⊎ ((made : TablesPresent) × (made ≢ Nothing) × IsMadeTo made db)
+
+-- why a new database fails: it has a table, or the disk failed
+abbrev pub BlamesNew : {S : Type 0} → Ghosts S → Held S → Held S → OpenFault → Type 0
+BlamesNew g old new e = HasCleanDisk (state g new) → IsTrue (state g new).is_open → e ≡ Store
+    → HasTables (state g old).now ⊎ (HasDiskFailed g old new ⊎ IsMisnumbered (state g old).now)
+
+-- no store of a content was made over a connection
+pub record IsUnmade {S : Type 0} (g : Ghosts S) (old new : Held S) (e : OpenFault) : Type 0 where
+  pub fault : IsUnread e
+  pub cause : BlamesNew g old new e
+  pub doubt : doubt_of (state g old).is_clean ≤ doubt_of (state g new).is_clean
+
 -- ---- over files
 
 module _ {D : Type 0} {g : disk.Ghosts D} (image : Image) where
@@ -83,6 +104,7 @@ module _ {D : Type 0} {g : disk.Ghosts D} (image : Image) where
   -- a connection found no table in files, and the store of a content was made there
   pub record IsMadeIn (h : Held (FileStore D g)) : Type 0 where
     pub found : Held (FileStore D g)
+    pub doubt : doubt_of (file_state found).is_clean ≤ doubt_of (file_state h).is_clean
     pub opened : HasCleanDisk (file_state h) → FindsFirst image found
     pub blank : HasCleanDisk (file_state h) → (file_state found).now.schema ≡ blank_schema
     pub guarded : HasCleanDisk (file_state found) → (file_state h).IsShielded
@@ -99,13 +121,41 @@ module _ {D : Type 0} {g : disk.Ghosts D} (image : Image) (e : OpenFault) where
     pub fresh : IsNew found
     pub none : e ≡ NotADesk → ShowsNone (over_files {D = D} {g = g}) found left
     pub newer : e ≢ OldSchema
-    pub cause : BlamesDatabase (over_files {D = D} {g = g}) found left e
+    pub cause : BlamesDisk (over_files {D = D} {g = g}) found left e
     pub reads : OnlyReads (over_files {D = D} {g = g}) found left
 
-  -- files of which no content is told were read so; or it isn't said of them that they have none
-  abbrev pub AreNotRead : Option (Held (FileStore D g)) → Type 0
-  AreNotRead None = IsUnread e
-  AreNotRead (Some left) = IsUnreadIn left
+  -- files of which no content is told were read so; or they were not opened, and it isn't said of them that
+  -- they have none
+  abbrev pub AreNotRead : Result (Held (FileStore D g)) Unreached → Type 0
+  AreNotRead (Ok left) = IsUnreadIn left
+  AreNotRead (Err it) = IsOfUnreached e it
+
+  -- the connection that is left had found the database of new files, and no store was made there, since they
+  -- had a table, or the disk failed
+  pub record IsUnmadeIn (left : Held (FileStore D g)) : Type 0 where
+    pub found : Held (FileStore D g)
+    pub opened : HasCleanDisk (file_state left) → FindsFirst image found
+    pub fresh : IsNew found
+    pub unmade : IsUnmade (over_files {D = D} {g = g}) found left e
+
+  -- new files in which no store was made; or they were not opened
+  abbrev pub AreNotMade : Result (Held (FileStore D g)) Unreached → Type 0
+  AreNotMade (Ok left) = IsUnmadeIn left
+  AreNotMade (Err it) = IsOfUnreached e it
+
+-- no store was made in new files that held this
+abbrev pub IsUnmadeOf :
+    {D E : Type 0} {g : disk.Ghosts D} {k : disk.Ghosts E} → Image
+    → CopyFault (FileStore D g) (FileStore E k) → Type 0
+IsUnmadeOf other (copy.Unread it) = ⊥
+IsUnmadeOf other (copy.Unmade it) = AreNotMade other it.fault it.connection
+
+-- nothing was copied from files that held this: they were not read, or nothing was made in the new ones
+abbrev pub AreNotCopied :
+    {D E : Type 0} {g : disk.Ghosts D} {k : disk.Ghosts E} → Image → Image
+    → CopyFault (FileStore D g) (FileStore E k) → Type 0
+AreNotCopied image other (copy.Unread it) = AreNotRead image it.fault it.connection
+AreNotCopied image other (copy.Unmade it) = AreNotMade other it.fault it.connection
 
 -- ---- a content that is written
 

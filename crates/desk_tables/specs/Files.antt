@@ -1,7 +1,8 @@
 -- What a store over files begins with, and why files are refused.
-use Rattle.std.specs.Prelude.{◌≡◌, ◌≢◌, ℕ, true, [], Option, Some, None}
+use Rattle.std.specs.Prelude.{◌≡◌, ◌≢◌, ◌≤◌, ℕ, true, [], Result, Ok, Err}
 use Rattle.sqlite_disk.specs.declared.Disk as disk
 use Rattle.sqlite_wal.specs.Recovery.{Image}
+use Rattle.sqlite_trees.specs.View.{doubt as doubt_of}
 use Rattle.sqlite_store.specs.declared.store.FileStore.{FileStore}
 use Rattle.sqlite.specs.State.{HasCleanDisk}
 use Rattle.sqlite.specs.Held.{Held, IsNew}
@@ -12,8 +13,9 @@ use Rattle.desk_sql.specs.Effects.{IsKept, IsOpenIfClean}
 use Rattle.desk_store.specs.World.{World}
 use Rattle.desk_tables.specs.declared.opening.open.OpenFault.{OpenFault}
 use Rattle.desk_tables.specs.declared.opening.open.OpenFault.TheVariants.{NotADesk, OldSchema}
+use Rattle.desk_tables.specs.declared.opening.path.Unreached.{Unreached}
 use Rattle.desk_tables.specs.Guarding.{IsGuarded}
-use Rattle.desk_tables.specs.Opening.{BeginsWith, ShowsNoDesk, ShowsOldRows, BlamesDatabase}
+use Rattle.desk_tables.specs.Opening.{BeginsWith, ShowsNoDesk, ShowsOldRows, BlamesDisk}
 use Rattle.desk_tables.specs.Moving.{BeginsMoved, KeepsRows, ShowsNoContent}
 
 -- the files that there are where nothing was
@@ -33,10 +35,18 @@ module _ {D : Type 0} {g : disk.Ghosts D} where
     pub summed : HasCleanDisk (file_state found) → IsBlankAs true image
         → (view found.store).has_sums ≡ true
 
+  -- if the disk has returned what was written so far, and the files were new, the connection that opened them
+  -- puts the sums of SQLite's cksumvfs on pages
+  abbrev pub IsSummed : Image → Held (FileStore D g) → Type 0
+  IsSummed image h = HasCleanDisk (file_state h) → IsBlankAs true image
+      → (found : Held (FileStore D g)) × FindsFirst image found × ((view found.store).has_sums ≡ true)
+
   -- a connection finds the database of the files, and is open; the store begins with what that connection
   -- shows
   pub record OpensIn (image : Image) (h : Held (FileStore D g)) (w : World) : Type 0 where
     pub found : Held (FileStore D g)
+    -- what the store's disk returned as written, it had returned so when the connection was there
+    pub doubt : doubt_of (file_state found).is_clean ≤ doubt_of (file_state h).is_clean
     pub opened : HasCleanDisk (file_state h) → FindsFirst image found
     -- if the disk returned what was written until the connection was there, each later read is tested
     pub guarded : HasCleanDisk (file_state found) → (file_state h).IsShielded
@@ -50,6 +60,15 @@ module _ {D : Type 0} {g : disk.Ghosts D} where
 abbrev pub IsUnread : OpenFault → Type 0
 IsUnread e = (e ≢ NotADesk) × (e ≢ OldSchema)
 
+-- files that were not opened are told so
+abbrev pub IsUnreached : Unreached → Type 0
+IsUnreached it = IsUnread it.fault
+
+-- a fault is that of files that were not opened
+pub record IsOfUnreached (e : OpenFault) (it : Unreached) : Type 0 where
+  pub same : e ≡ it.fault
+  pub unread : IsUnread e
+
 module _ {D : Type 0} {g : disk.Ghosts D} (image : Image) (e : OpenFault) where
   -- the connection that is left had found the database of the files, and what it showed says why it is no
   -- store's
@@ -59,14 +78,14 @@ module _ {D : Type 0} {g : disk.Ghosts D} (image : Image) (e : OpenFault) where
     pub fresh : IsNew found
     pub none : e ≡ NotADesk → ShowsNoDesk (over_files {D = D} {g = g}) found left
     pub old : e ≡ OldSchema → ShowsOldRows (over_files {D = D} {g = g}) found left
-    pub cause : BlamesDatabase (over_files {D = D} {g = g}) found left e
+    pub cause : BlamesDisk (over_files {D = D} {g = g}) found left e
     pub kept : IsKept (over_files {D = D} {g = g}) found left
 
-  -- files of which no store comes are refused by the connection that is left; or there was none, and nothing
-  -- in them was read
-  abbrev pub AreRefused : Option (Held (FileStore D g)) → Type 0
-  AreRefused None = IsUnread e
-  AreRefused (Some left) = IsRefusedIn left
+  -- files of which no store comes are refused by the connection that is left; or they were not opened, and
+  -- nothing in them was read
+  abbrev pub AreRefused : Result (Held (FileStore D g)) Unreached → Type 0
+  AreRefused (Ok left) = IsRefusedIn left
+  AreRefused (Err it) = IsOfUnreached e it
 
 -- ---- files that may hold rows of schema 1
 
@@ -75,6 +94,7 @@ module _ {D : Type 0} {g : disk.Ghosts D} where
   -- shows, from which so many plans were moved
   pub record OpensMoved (image : Image) (h : Held (FileStore D g)) (w : World) (count : ℕ) : Type 0 where
     pub found : Held (FileStore D g)
+    pub doubt : doubt_of (file_state found).is_clean ≤ doubt_of (file_state h).is_clean
     pub opened : HasCleanDisk (file_state h) → FindsFirst image found
     pub guarded : HasCleanDisk (file_state found) → (file_state h).IsShielded
     pub live : IsOpenIfClean (over_files {D = D} {g = g}) h
@@ -89,10 +109,10 @@ module _ {D : Type 0} {g : disk.Ghosts D} (image : Image) (e : OpenFault) where
     pub fresh : IsNew found
     pub none : e ≡ NotADesk → ShowsNoContent (over_files {D = D} {g = g}) found left
     pub newer : e ≢ OldSchema
-    pub cause : BlamesDatabase (over_files {D = D} {g = g}) found left e
+    pub cause : BlamesDisk (over_files {D = D} {g = g}) found left e
     pub kept : KeepsRows (over_files {D = D} {g = g}) found left
 
-  -- files that may hold rows of schema 1 are refused so; or nothing in them was read
-  abbrev pub AreNotMoved : Option (Held (FileStore D g)) → Type 0
-  AreNotMoved None = IsUnread e
-  AreNotMoved (Some left) = IsMoveRefusedIn left
+  -- files that may hold rows of schema 1 are refused so; or they were not opened
+  abbrev pub AreNotMoved : Result (Held (FileStore D g)) Unreached → Type 0
+  AreNotMoved (Ok left) = IsMoveRefusedIn left
+  AreNotMoved (Err it) = IsOfUnreached e it

@@ -8,6 +8,8 @@ pub mod Lookups
 pub mod RivalRows
 pub mod Store
 pub mod SpanBounds
+pub mod SpanChecks
+pub mod SpansHeld
 pub mod Known
 pub mod Records
 pub mod Opening
@@ -21,3 +23,4 @@ pub mod Leaving
 pub mod OpeningSteps
 pub mod Changing
 pub mod Guarding
+pub mod Closing

@@ -115,6 +115,26 @@ pub record AreSortedByKey (t rows : Tables) : Type 0 where
   pub cover_part : Lists (0 ∷ 1 ∷ 2 ∷ []) t.covers rows.covers
   pub span_part : Lists (0 ∷ 1 ∷ 2 ∷ 3 ∷ []) t.spans rows.spans
 
+-- the tables but for spans, each put in the order of its key
+pub record AreSortedHeads (t rows : Tables) : Type 0 where
+  pub operator_part : Lists (0 ∷ []) t.operators rows.operators
+  pub plan_part : Lists (0 ∷ 1 ∷ []) t.plans rows.plans
+  pub volume_part : Lists (0 ∷ 1 ∷ 2 ∷ []) t.volumes rows.volumes
+  pub cover_part : Lists (0 ∷ 1 ∷ 2 ∷ []) t.covers rows.covers
+
+-- operators by name, plans by operator and id, and each operator's plans few
+pub record AreInOrder (ls : List Listed) (ps : List Filed) : Type 0 where
+  pub names : IsStrictlySortedBy listed_cmp ls
+  pub keys : IsStrictlySortedBy filed_cmp ps
+  pub shared : AreShared ls ps
+
+-- the tables but for spans have the rows of these operators and plans, which are a content's
+pub record AreHeads (t : Tables) (ls : List Listed) (ps : List Filed) : Type 0 where
+  pub operators : AreOperatorRows ls t.operators
+  pub plans : ArePlanRows ps t.plans t.volumes
+  pub order : AreInOrder ls ps
+  pub covers : t.covers ≡ cover_rows ps
+
 -- ---- what a store begins with
 
 -- the tables are a content's
@@ -210,3 +230,9 @@ module _ {S : Type 0} (g : Ghosts S) (old new : Held S) where
   BlamesDatabase e =
       HasCleanDisk (state g new) → IsTrue (state g new).is_open → e ≡ Store →
       HasFailed ⊎ IsMisnumbered (state g old).now
+
+  -- the same of a connection that has no limit on steps
+  abbrev pub BlamesDisk : OpenFault → Type 0
+  BlamesDisk e =
+      HasCleanDisk (state g new) → IsTrue (state g new).is_open → e ≡ Store →
+      HasDiskFailed g old new ⊎ IsMisnumbered (state g old).now

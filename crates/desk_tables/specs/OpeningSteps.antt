@@ -1,5 +1,5 @@
 -- What a step of an opening comes to, by its result.
-use Rattle.std.specs.Prelude.{◌≡◌, ◌≢◌, ◌≤◌, ℕ, IsTrue, Result, IfOk, IfErr, OnOk, OnErr}
+use Rattle.std.specs.Prelude.{◌≡◌, ◌≢◌, ◌≤◌, ℕ, None, IsTrue, Result, IfOk, IfErr, OnOk, OnErr}
 use Rattle.sqlite_trees.specs.declared.store.Store.{Ghosts}
 use Rattle.sqlite_trees.specs.View.{doubt as doubt_of}
 use Rattle.sqlite.specs.State.{HasCleanDisk, KeepsCommit}
@@ -12,7 +12,7 @@ use Rattle.desk_sql.specs.Rows.{Tables, tables_at}
 use Rattle.desk_store.specs.World.{World}
 use Rattle.desk_tables.specs.declared.opening.open.OpenFault.{OpenFault}
 use Rattle.desk_tables.specs.declared.opening.open.OpenFault.TheVariants.{NotADesk, OldSchema}
-use Rattle.desk_tables.specs.Opening.{AreNoContent, BlamesReading, BlamesDatabase, WasCompleted, WasOrdered}
+use Rattle.desk_tables.specs.Opening.{AreNoContent, BlamesReading, BlamesDatabase, BlamesDisk, WasCompleted, WasOrdered}
 use Rattle.desk_tables.specs.Moving.{AreNoOldContent, IsWhole, WasMoved, told_count}
 use Rattle.desk_tables.specs.Leaving.{IsSettledAt}
 use Rattle.desk_tables.specs.Store.{Stands}
@@ -64,6 +64,14 @@ module _ {S : Type 0} (g : Ghosts S) (old new : Held S) {V : Type 0} (result : R
     pub fault : IfErr result (λ e. (e ≢ NotADesk) × (e ≢ OldSchema))
     pub remembered : Remembers g old new
 
+  -- a database without a table has a desk's tables now, with the rows of a world
+  pub record IsMadeAnew (world : World) : Type 0 where
+    pub stands : OnOk result (Stands g new world)
+    pub live : OnOk result (IsOpenIfClean g new)
+    pub limit : new.step_limit ≡ old.step_limit
+    pub doubt : doubt_of (state g old).is_clean ≤ doubt_of (state g new).is_clean
+    pub shield : (state g old).IsShielded → (state g new).IsShielded
+
   module _ (world : V → World) (Begins : V → Type 0) where
     -- tables without a row of schema 1, or with those alone, come to have the rows of a world: how it begins,
     -- what is told of them if they are no desk's, why it fails, and what is kept then
@@ -76,6 +84,7 @@ module _ {S : Type 0} (g : Ghosts S) (old new : Held S) {V : Type 0} (result : R
       pub newer : IfErr result (λ e. e ≢ OldSchema)
       pub cause : IfErr result (BlamesReading g old new)
       pub kept : OnErr result Keeps
+      pub limit : new.step_limit ≡ old.step_limit
       pub doubt : doubt_of (state g old).is_clean ≤ doubt_of (state g new).is_clean
       pub shield : (state g old).IsShielded → (state g new).IsShielded
 
@@ -88,23 +97,28 @@ module _ {S : Type 0} (g : Ghosts S) (old new : Held S) {V : Type 0} (result : R
       pub older : IfErr result (λ e. e ≡ OldSchema → Older)
       pub cause : IfErr result (BlamesDatabase g old new)
       pub kept : OnErr result Keeps
+      pub limit : new.step_limit ≡ old.step_limit
       pub doubt : doubt_of (state g old).is_clean ≤ doubt_of (state g new).is_clean
       pub shield : (state g old).IsShielded → (state g new).IsShielded
 
 -- ---- of a connection that is given away
 
 module _ {S : Type 0} (g : Ghosts S) (old new : Held S) where
-  -- a store is over the connection, which is open and the same: a crash leaves its content
+  -- a store is over the connection, which is open and the same, without a limit on steps: a crash leaves its
+  -- content
   pub record IsAdopted (world : World) : Type 0 where
     pub live : IsOpenIfClean g new
     pub left : IsSettledAt g new world
+    pub unlimited : new.step_limit ≡ None
     pub doubt : doubt_of (state g old).is_clean ≤ doubt_of (state g new).is_clean
     pub shield : (state g old).IsShielded → (state g new).IsShielded
 
-  -- the connection is given back, for this fault: what is told of it, and what is kept
+  -- the connection is given back, without a limit on steps, for this fault: what is told of it, and what is
+  -- kept
   pub record IsNotAdopted (e : OpenFault) (Refuses Older Keeps : Type 0) : Type 0 where
     pub none : e ≡ NotADesk → Refuses
     pub older : e ≡ OldSchema → Older
-    pub cause : BlamesDatabase g old new e
+    pub cause : BlamesDisk g old new e
     pub kept : Keeps
+    pub unlimited : new.step_limit ≡ None
     pub doubt : doubt_of (state g old).is_clean ≤ doubt_of (state g new).is_clean

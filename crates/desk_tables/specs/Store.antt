@@ -1,5 +1,5 @@
 -- A store over tables: what contracts see of it, and what it always is.
-use Rattle.std.specs.Prelude.{◌≡◌, ℕ, false, IsTrue, refl}
+use Rattle.std.specs.Prelude.{◌≡◌, ℕ, false, None, IsTrue, refl}
 use Rattle.std.specs.Coded.{Coded, code_by, coded×, coded_ℕ}
 use Rattle.sqlite_trees.specs.declared.store.Store.{Ghosts}
 use Rattle.sqlite.specs.State.{HasCleanDisk}
@@ -30,7 +30,8 @@ pub record IsStanding {S : Type 0} (g : Ghosts S) (h : Held S) (w : World) : Typ
   pub tables : AreTables (tables_of (state g h).now.trees) w
 
 -- so it is while the disk has returned what was written and no fault has shut the connection; no transaction
--- is begun
+-- is begun, and no statement is refused for its steps
 pub record Stands {S : Type 0} (g : Ghosts S) (h : Held S) (w : World) : Type 0 where
   pub settled : h.in_transaction ≡ false
+  pub unlimited : h.step_limit ≡ None
   pub standing : HasCleanDisk (state g h) → IsTrue (state g h).is_open → IsStanding g h w

@@ -1,17 +1,19 @@
 -- What plans have to be, so that their rows are refused by nothing but memory, the disk and a limit on steps.
-use Rattle.std.specs.Prelude.{◌≡◌, ◌<◌, ◌^◌, List, [], length, IsPermutation}
+use Rattle.std.specs.Prelude.{◌≡◌, ◌<◌, ◌^◌, ℕ, List, [], length, map, IsPermutation}
 use Rattle.std.specs.List.{AllByRecursion}
 use Rattle.std.specs.List.Sorted.{IsStrictlySortedBy}
 use Rattle.sqlite_value.specs.Order.{Row}
 use Rattle.sqlite.specs.Effect.{Database}
-use Rattle.desk_sql.specs.Putting.{AreNewSpans, AreNewVolumes}
+use Rattle.desk_sql.specs.Changing.{HasKey, IsShort, LacksKey}
+use Rattle.desk_sql.specs.Putting.{AreNewSpans, AreNewVolumes, HasRoomFor, HaveOwnKeys}
 use Rattle.desk_sql.specs.Rows.{Tables, tables_at, tables_of}
 use Rattle.desk_sql.specs.Making.{HasSmallSpans}
 use Rattle.desk_sql.specs.declared.opening.finding.TablesPresent.{TablesPresent}
 use Rattle.desk_sql.specs.declared.opening.finding.TablesPresent.TheVariants.{Packed}
-use Rattle.desk_store.specs.World.{Filed, filed_cmp}
+use Rattle.desk_store.specs.World.{Filed, Listed, World, filed_cmp}
+use Rattle.desk_store.specs.Content.{IsContent}
 use Rattle.desk_tables.specs.Records.{IsFiled}
-use Rattle.desk_tables.specs.Tables.{AreSpanRows, cover_rows, plan_rows, volume_rows}
+use Rattle.desk_tables.specs.Tables.{AreSpanRows, cover_rows, operator_row, plan_rows, volume_rows}
 
 -- fewer than 2 ^ 63 rows of volumes, and of spans
 pub record HaveFewRows (ps : List Filed) : Type 0 where
@@ -35,6 +37,36 @@ pub record AreAwaited (ps : List Filed) (t : Tables) : Type 0 where
   pub plans : IsPermutation (plan_rows ps) t.plans
   pub volumes : t.volumes ≡ []
   pub spans : t.spans ≡ []
+
+-- ---- a content that is written into tables without rows
+
+-- rows that can be added one after the other: there is room, and no row has their keys
+pub record AreNewKeys (width : ℕ) (rows stored shown : List Row) : Type 0 where
+  pub room : HasRoomFor (length rows) stored
+  pub apart : HaveOwnKeys width rows
+  pub free : AllByRecursion (λ r. LacksKey width r shown) rows
+
+-- those of operators
+pub record AreNewOperators (ls : List Listed) (db : Database) : Type 0 where
+  pub names : AllByRecursion (λ l. IsShort l.name) ls
+  pub new : AreNewKeys 1 (map operator_row ls) (db.trees 0) (tables_of db.trees).operators
+
+-- those of plans in `plan`, whose operators are there
+pub record AreNewHeads (ps : List Filed) (db : Database) : Type 0 where
+  pub names : AllByRecursion (λ p. IsShort p.operator) ps
+  pub new : AreNewKeys 2 (plan_rows ps) (db.trees 2) (tables_of db.trees).plans
+  pub listed : AllByRecursion (λ r. HasKey 1 r (tables_of db.trees).operators) (plan_rows ps)
+
+-- no row is there, and the content's are fewer than 2 ^ 63 in each table
+pub record CanBeFilled (w : World) (db : Database) : Type 0 where
+  pub content : IsContent w
+  pub operators : length w.operators < 2 ^ 63
+  pub plans : length w.plans < 2 ^ 63
+  pub few : HaveFewRows w.plans
+  pub no_operators : (tables_of db.trees).operators ≡ []
+  pub no_plans : (tables_of db.trees).plans ≡ []
+  pub no_volumes : (tables_of db.trees).volumes ≡ []
+  pub no_spans : (tables_of db.trees).spans ≡ []
 
 -- ---- what the tables have then
 

@@ -1,13 +1,21 @@
 //! A store over files, closed: the database file alone is the desk then.
 
-ghost use Rattle.std.specs.Prelude.{IfOk};
+ghost use Rattle.std.specs.Prelude.{IfErr, IfOk};
 ghost use Rattle.sqlite_wal.specs.Reads.{AreClean};
 ghost use Rattle.sqlite.specs.Closing.{IsCopied};
+ghost use Rattle.desk_tables.specs.Closing.{IsLeftUnclosed};
 
 use crate::store::SqliteStore;
-use desk_store::StoreFault;
-use sqlite::{FileStore, Files};
+use sqlite::{Error, FileStore, Files};
 use sqlite_disk::Disk;
+use std::snapshot::Snapshot;
+
+/// A log that could not be copied. Only `close` makes one, so what has one has tried.
+#[derive(Drop)]
+pub struct Unclosed<D: Disk> {
+    error: Error,
+    left: Snapshot<FileStore<D>>,
+}
 
 impl<D: Disk + Drop> SqliteStore<FileStore<D>> {
     /// Copies the log into the database file and empties it, and gives the files back. If the disk returned
@@ -15,17 +23,23 @@ impl<D: Disk + Drop> SqliteStore<FileStore<D>> {
     ///
     /// # Errors
     ///
-    /// `Store` if the log can't be copied, for whatever cause. The content is what it was: the files are
-    /// closed as they are, and are read together at the next opening.
-    pub fn close(self) -> Result<Files<D>, StoreFault>
+    /// `Unclosed` if the log can't be copied: memory ran out, the disk failed meanwhile, or the connection
+    /// was shut before. The content is what it was: the files are closed as they are, and are read together
+    /// at the next opening.
+    pub fn close(self) -> Result<Files<D>, Unclosed<D>>
         ensures copied { IfOk result (λ files. AreClean D.Disk files.log files.db →
             IsCopied self.held files) }
+        ensures unclosed { IfErr result (IsLeftUnclosed self.held) }
     {
         match self.release().close_files() {
             Ok(files) => Ok(files),
-            Err((_, left)) => {
+            Err((error, left)) => {
+                let unclosed = Unclosed {
+                    error,
+                    left: Snapshot::of(&left),
+                };
                 drop(left.close());
-                Err(StoreFault::Store)
+                Err(unclosed)
             }
         }
     }

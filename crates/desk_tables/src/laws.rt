@@ -21,10 +21,11 @@ ghost use Rattle.desk_tables.specs.TableChanges.{ChangesRows, EnrolsRows, PutsRo
 ghost use Rattle.desk_tables.specs.TableChanges.{ClosesRows, ClearsRows, IsWithin};
 ghost use Rattle.desk_tables.specs.Store.{IsStanding};
 ghost use Rattle.sqlite_disk.specs.Modelled.{calls_of, start_of};
-ghost use Rattle.desk_tables.specs.Guarding.{HasCollided};
-ghost use Rattle.std.specs.Prelude.{IfSome};
+ghost use Rattle.desk_tables.specs.Copying.{IsMadeIn};
+ghost use Rattle.desk_tables.specs.Guarding.{HasCollided, IsGuarded};
+ghost use Rattle.std.specs.Prelude.{IfOk};
 ghost use Rattle.sqlite_wal.specs.Recovery.{Image};
-ghost use Rattle.desk_tables.specs.Files.{AreRefused, IsUnread};
+ghost use Rattle.desk_tables.specs.Files.{AreRefused, IsSummed, IsUnread, OpensIn, OpensMoved};
 ghost use Rattle.desk_tables.specs.declared.opening.open.OpenFault.{OpenFault};
 ghost use Rattle.desk_tables.specs.Leaving.{MayLeave, IsFoundAfter, BeginsAfter, IsLeftBy, IsLegible};
 ghost use Rattle.desk_tables.specs.Leaving.{IsRefusedAtRest};
@@ -125,7 +126,18 @@ pub fn a_desk_is_not_told_as_none<D: Disk, E: Disk>(refused: &FilesFault<FileSto
     ensures { (last : Held (FileStore D D.Disk)) (image : Image) (w : World)
         → LeavesOnly w (MayLeave over_files last) → IsLeftBy last image
         → AreRefused image refused.now.fault refused.now.connection
-        → IfSome refused.now.connection IsLegible → IsUnread refused.now.fault }
+        → IfOk refused.now.connection IsLegible → IsUnread refused.now.fault }
+{}
+
+/// While the disk of a store that was opened over files, or made in them, has returned what was written, each
+/// later read is tested; and new files were opened by a connection that puts sums on pages.
+pub fn a_store_over_files_is_guarded<D: Disk>()
+    ensures opened { (image : Image) (h : Held (FileStore D D.Disk)) (w : World) → OpensIn image h w
+        → IsGuarded h × IsSummed image h }
+    ensures moved { (image : Image) (h : Held (FileStore D D.Disk)) (w : World) (count : ℕ)
+        → OpensMoved image h w count → IsGuarded h }
+    ensures made { (image : Image) (h : Held (FileStore D D.Disk)) → IsMadeIn image h
+        → IsGuarded h × IsSummed image h }
 {}
 
 /// After a crash in the midst of a change, a store begins with the content before the change or with the one

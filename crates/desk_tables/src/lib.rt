@@ -12,8 +12,10 @@ mod reading;
 mod span_bounds;
 mod store;
 
-pub use opening::files::{Copied, FilesFault, copy_from, look_at};
+pub use closing::Unclosed;
+pub use opening::files::{Copied, CopyFault, FilesFault, copy_from, look_at};
 pub use opening::looking::{Holdings, look_into};
 pub use opening::naming::{PartFault, first_fault, part_at};
 pub use opening::open::{AdoptFault, OpenFault};
+pub use opening::path::Unreached;
 pub use store::SqliteStore;

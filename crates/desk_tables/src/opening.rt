@@ -12,3 +12,4 @@ pub(crate) mod naming;
 pub(crate) mod open;
 pub(crate) mod ordering;
 pub(crate) mod path;
+pub(crate) mod spans;

@@ -16,6 +16,7 @@ use desk_rules::operator::Operator;
 use desk_rules::plan::{PlanRow, States};
 use desk_rules::plan_id::PlanId;
 use desk_sql::laws::settled_and_sound;
+use desk_store::laws::spans_are_few;
 use desk_store::{Change, PlanStore, StoreFault};
 use sqlite::Connection;
 use sqlite_trees::store::Alter;
@@ -31,8 +32,8 @@ use volume4d::{Held, Slab};
 pub struct SqliteStore<S: Alter> {
     connection: Connection<S>,
     kept: GhostWorld,
-    // the roll of operators; and of live plans bounds round each volume, and how long spans are, which is
-    // forgotten at an opening alone
+    // the roll of operators, with how many spans each plan takes; and of live plans bounds round each volume,
+    // and how long spans are, which is forgotten at an opening alone
     known: Known,
     // how many faults of its own it has met, up to the type's last value
     faults: u64,
@@ -139,6 +140,11 @@ impl<S: Alter> PlanStore for SqliteStore<S> {
 
     fn own_count(&mut self, operator: &Operator) -> Result<u32, StoreFault> {
         Ok(self.known.roll.count(operator))
+    }
+
+    fn own_spans(&mut self, operator: &Operator, id: &PlanId) -> Result<u32, StoreFault> {
+        spans_are_few();
+        Ok(self.known.roll.spans_beside(operator, id))
     }
 
     fn own_plans(&mut self, operator: &Operator) -> Result<Vec<PlanRow>, StoreFault> {

@@ -73,6 +73,11 @@ impl PlanStore for Failing {
         self.list.own_count(operator)
     }
 
+    fn own_spans(&mut self, operator: &Operator, id: &PlanId) -> Result<u32, StoreFault> {
+        fail_at(&mut self.calls_left, &mut self.fault_count)?;
+        self.list.own_spans(operator, id)
+    }
+
     fn own_plans(&mut self, operator: &Operator) -> Result<Vec<PlanRow>, StoreFault> {
         fail_at(&mut self.calls_left, &mut self.fault_count)?;
         self.list.own_plans(operator)

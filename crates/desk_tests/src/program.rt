@@ -6,7 +6,7 @@ ghost use Rattle.desk_line.specs.Lines.{IsEnrol, IsPlay};
 use desk_line::{Database, Enrol, Enrolment, Line, Play};
 use desk_program::with_desk;
 use desk_rules::operator::Operator;
-use desk_rules::permission::Permitted;
+use desk_rules::terms::Terms;
 use desk_run::Desk;
 use desk_store::{ListStore, PlanStore};
 use std::alloc::Global;
@@ -37,7 +37,7 @@ fn play_line(alloc: Global) -> Result<Play, Fail>
     Ok(Play {
         database: Database::InMemory,
         moment: 0,
-        permitted: Permitted::none(),
+        terms: Terms::none(),
         enrolments: vec![in alloc; alfa, bravo]?,
     })
 }

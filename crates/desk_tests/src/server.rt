@@ -8,7 +8,7 @@ use crate::given::{COMPLETED, FIRST_PUT, LATE};
 use desk_line::{Database, Enrolment, Serve};
 use desk_program::{LocalPort, serve};
 use desk_rules::operator::Operator;
-use desk_rules::permission::Permitted;
+use desk_rules::terms::Terms;
 use desk_run::Desk;
 use desk_store::ListStore;
 use std::alloc::Global;
@@ -79,7 +79,7 @@ pub fn serve_line(alloc: Global, connections: u32) -> Result<Serve, Fail>
         database: Database::InMemory,
         port: 1,
         connections,
-        permitted: Permitted::none(),
+        terms: Terms::none(),
         enrolments: vec![in alloc; alfa]?,
     })
 }

@@ -5,6 +5,7 @@ use crate::desks::{CEILING, MOMENT, enrol};
 use crate::empty_store::EmptyStore;
 use crate::opening::Fused;
 use anyhow::ensure;
+use desk_rules::terms::Terms;
 use desk_run::Desk;
 use desk_store::{ListStore, PlanStore};
 use desk_tables::{FilesFault, SqliteStore};
@@ -14,8 +15,9 @@ use sqlite_disk::Disk;
 use std::alloc::Global;
 use std::io::{Read, Write};
 
-/// Plays the stream of the standard input at the three desks, at which these operators are enrolled. The file
-/// is best new. It fails if the bytes of one desk are others than those over the list.
+/// Plays the stream of the standard input at the three desks, at which these operators are enrolled.
+/// A name `spans=N` is the most spans of an operator's live plans. The file is best new. It fails if the
+/// bytes of one desk are others than those over the list.
 pub fn play<D: Fused, W: Write>(
     rt: &HostRuntime,
     path: &str,
@@ -53,7 +55,7 @@ fn answers_in_files<E: Disk + Drop>(
     }
 }
 
-// What a desk answers to a stream, once these operators are enrolled.
+// What a desk answers to a stream, once these operators are enrolled, or on the terms of a name.
 fn answers_of<S: PlanStore>(
     alloc: Global,
     desk: &mut Desk<S>,
@@ -61,10 +63,22 @@ fn answers_of<S: PlanStore>(
     stream: &[u8],
 ) -> anyhow::Result<Vec<u8>> {
     for name in names {
-        enrol(desk, name.as_str(), CEILING)?;
+        set_up(desk, name.as_str())?;
     }
     let mut input = stream;
     let mut answers = Vec::new(alloc);
     play_all(alloc, desk, MOMENT, &mut input, &mut answers);
     Ok(answers)
+}
+
+// Enrols an operator, or takes the most spans of an operator's live plans from `spans=N`.
+fn set_up<S: PlanStore>(desk: &mut Desk<S>, name: &str) -> anyhow::Result<()> {
+    let Some(most) = name.strip_prefix("spans=") else {
+        return enrol(desk, name, CEILING);
+    };
+    desk.keep_to(Terms {
+        spans: Some(most.parse()?),
+        ..Terms::none()
+    });
+    Ok(())
 }

@@ -1,5 +1,5 @@
 -- What answering a request leaves, by what its calls left.
-use Rattle.std.proofs.Common.{◌≡◌, ◌≢◌, ◌∙◌, ℕ, ℤ, Option, Some, None, Result, Ok, Err, IfOk, IfErr, IfSome, inl, inr, ap, arith}
+use Rattle.std.proofs.Common.{◌≡◌, ◌≢◌, ◌∙◌, ◌⊎◌, ℕ, ℤ, List, refl, Option, Some, None, Result, Ok, Err, IfOk, IfErr, IfSome, inl, inr, ap, arith}
 use Rattle.desk_rules.specs.declared.call.Asked.{Asked}
 use Rattle.desk_reading.specs.Readings.{Reading}
 use Rattle.desk_store.specs.World.{World}
@@ -9,8 +9,8 @@ use Rattle.desk_store.specs.StoreFrames.{Remembers}
 use Rattle.desk_store.specs.laws.Fault.{was_honest}
 use Rattle.desk_run.specs.DeskWorld.{DeskWorld, Parts, world_of}
 use Rattle.desk_run.specs.laws.Crash.{old_or_changed, settled_after, still_settled}
-use Rattle.desk_wire.specs.Bytes.{IsDone, IsMade, status_for}
-use Rattle.desk_wire.specs.Leaving.{Leaves, failure_of}
+use Rattle.desk_wire.specs.Bytes.{IsDone, IsMade, IsServerError, status_for}
+use Rattle.desk_wire.specs.Leaving.{IsFailure, Leaves, failure_of}
 use Rattle.desk_wire.specs.declared.answering.Response.{Response}
 use Rattle.desk_wire.specs.declared.response.ServerError.{ServerError}
 use Rattle.desk_wire.specs.declared.response.ServerError.TheVariants.{OutOfMemory, Store}
@@ -25,6 +25,13 @@ pub made_if : (H : Type 0) (r : Result Response ServerError) (w : DeskWorld) (mo
 made_if H (Ok v) w moment reading after bytes status other =
     record { bytes = bytes; status = status; other = other }
 made_if H (Err e) w moment reading after bytes status other = tt
+
+-- what holds unless the desk failed, of an answer that says whether it did
+pub unless_failed : {K : Type 0} (e : Option ServerError) (w : DeskWorld) (answer : List ℕ)
+    (after : DeskWorld) → IfSome e (λ why. IsServerError why w answer after) → (e ≡ None → K)
+    → K ⊎ IsFailure answer
+unless_failed None w answer after failed holds = inl (holds refl)
+unless_failed (Some why) w answer after failed holds = inr (why, failed.told)
 
 -- a reply's status code is no 500
 pub no_500 : (r : Result Response ServerError) → IfOk r (λ v. v.status ≡ 200) → IfOk r (λ v. v.status ≢ 500)

@@ -1,5 +1,5 @@
 -- What answering one request leaves of a desk and of its store.
-use Rattle.std.specs.Prelude.{◌≡◌, ℕ, Option, Some, None, IfSome, Result, Ok, Err}
+use Rattle.std.specs.Prelude.{◌≡◌, ℕ, List, Option, Some, None, IfSome, Result, Ok, Err}
 use Rattle.desk_store.specs.World.{World}
 use Rattle.desk_store.specs.Crashes.{LeavesOldOr}
 use Rattle.desk_store.specs.StoreFaults.{IsHonest, HasRisen}
@@ -8,6 +8,7 @@ use Rattle.desk_run.specs.DeskWorld.{DeskWorld, Parts, IsSettled, IsSettledOrSam
 use Rattle.desk_wire.specs.declared.response.Answer.{Answer}
 use Rattle.desk_wire.specs.declared.response.ServerError.{ServerError}
 use Rattle.desk_wire.specs.declared.response.ServerError.TheVariants.{OutOfMemory, Store}
+use Rattle.desk_wire.specs.Refusals.{server_error_text}
 
 -- why the desk failed, if it did
 abbrev pub failure_of : {V : Type 0} → Result V ServerError → Option ServerError
@@ -18,6 +19,10 @@ failure_of (Err why) = Some why
 abbrev pub failure_told : {E : Type 0} → Result Answer E → Option ServerError
 failure_told (Ok answer) = answer.error
 failure_told (Err e) = Some OutOfMemory
+
+-- an answer says that the desk failed
+abbrev pub IsFailure : List ℕ → Type 0
+IsFailure answer = (why : ServerError) × (answer ≡ server_error_text why)
 
 module _ {S : Type 0} (content : S → World) (doubt faults : S → ℕ) (may_leave : S → Option World → Type 0)
     (is_shielded : S → Type 0) (old new : Parts S)

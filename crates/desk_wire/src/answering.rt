@@ -1,19 +1,19 @@
 //! Requests answered at a desk, from bytes to bytes.
 
-ghost use Rattle.std.specs.Prelude.{◌≡◌, ◌≢◌, IfErr, IfOk, OnOk, OnErr, Ok};
+ghost use Rattle.std.specs.Prelude.{◌≡◌, ◌≢◌, ◌⊎◌, IfErr, IfOk, OnOk, OnErr, Ok};
 ghost use Rattle.desk_reading.specs.Messages.{message_read, message_shown};
 ghost use Rattle.desk_reading.specs.Readings.{or_met};
 ghost use Rattle.desk_reading.specs.Requests.{asked, asked_by};
 ghost use Rattle.desk_store.specs.StoreFrames.{Remembers};
 ghost use Rattle.desk_store.specs.Crashes.{LeavesOldOr};
 ghost use Rattle.desk_store.specs.StoreFaults.{IsHonest};
-ghost use Rattle.desk_run.specs.DeskWorld.{world_of};
+ghost use Rattle.desk_run.specs.DeskWorld.{IsSettled, IsSettledOrSame, world_of};
 ghost use Rattle.desk_run.specs.Calls.{CanCommit, reply_in, world_committed};
 ghost use Rattle.desk_rules.specs.Replies.{said_in};
 ghost use Rattle.desk_writing.specs.Replies.{reply_text};
 ghost use Rattle.desk_ends.specs.Moments.{IsMoment};
 ghost use Rattle.desk_wire.specs.Bytes.{IsAnswered, IsMade, IsTold, world_after};
-ghost use Rattle.desk_wire.specs.Leaving.{Leaves, failure_of, failure_told};
+ghost use Rattle.desk_wire.specs.Leaving.{IsFailure, Leaves, failure_of, failure_told};
 ghost use Rattle.desk_wire.specs.Refusals.{refusal_status, refusal_text};
 
 use crate::refusal::Refusal;
@@ -52,10 +52,14 @@ pub fn answer<S: PlanStore>(
     ensures bytes { IfOk result (λ bytes. IsAnswered (IsHonest (S.doubt desk.new.store))
         (world_of S.content desk.old) moment text.now bytes.items (world_of S.content desk.new)
         (S.faults desk.old.store) (S.faults desk.new.store)) }
-    ensures err { OnErr result (world_of S.content desk.new ≡ world_of S.content desk.old) }
+    ensures err { OnErr result (desk.new ≡ desk.old) }
     ensures crash { IsHonest (S.doubt desk.new.store) → LeavesOldOr
         (world_after (world_of S.content desk.old) moment (asked text.now)).content
         (S.may_leave desk.old.store) (S.may_leave desk.new.store) }
+    ensures kept { IsHonest (S.doubt desk.new.store) → IsSettled S.content S.may_leave desk.old →
+        IfOk result (λ bytes. IsSettled S.content S.may_leave desk.new ⊎ IsFailure bytes.items) }
+    ensures settled { IsHonest (S.doubt desk.new.store) → IfOk result (λ bytes.
+        IsSettledOrSame S.content S.may_leave desk.old desk.new ⊎ IsFailure bytes.items) }
     ensures remembered { Remembers S.doubt S.faults S.is_shielded desk.old.store desk.new.store }
 {
     let answer = answer_request(alloc, desk, moment, &read_message(text))?;
@@ -79,6 +83,7 @@ pub fn answer_request<S: PlanStore>(
     ensures leaves { Leaves S.content S.doubt S.faults S.may_leave S.is_shielded desk.old desk.new
         (world_after (world_of S.content desk.old) moment (or_met (message_read request.now) asked_by))
         (failure_told result) }
+    ensures err { OnErr result (desk.new ≡ desk.old) }
 {
     let mut room = Vec::with_capacity(alloc, ANSWER_ROOM)?;
     match respond(alloc, desk, moment, request) {

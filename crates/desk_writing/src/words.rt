@@ -41,6 +41,7 @@ fn note_word(note: Note) -> &'static str
         Note::Horizon => "horizon",
         Note::Priority => "priority",
         Note::PlansLimit => "plans_limit",
+        Note::SpansLimit => "spans_limit",
         Note::Conflict => "conflict",
     }
 }

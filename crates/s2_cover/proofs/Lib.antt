@@ -1,4 +1,5 @@
 pub mod Beginnings
+pub mod Counting
 pub mod Crossings
 pub mod Existence
 pub mod Faces

@@ -28,7 +28,7 @@ listed : (first n p : ℕ) → first ≤ p → p < first + n → (d : ℕ)
 listed first n p low high d = get_or-range_with_len first n (p - first) d (omega (arith, low, high))
     ∙ omega (arith, low)
 
-rises : (first n : ℕ) → IsStrictlyIncreasing (range_with_len first n)
+pub rises : (first n : ℕ) → IsStrictlyIncreasing (range_with_len first n)
 rises first n k below =
     let long : length (range_with_len first n) ≡ n = length-range_with_len first n in
     let here : get_or (range_with_len first n) k 0 ≡ first + k =
@@ -37,7 +37,7 @@ rises first n k below =
     get_or-range_with_len first n (k + 1) 0 (omega (arith, below, long)) in
     omega (arith, here, next)
 
-within : (n p : ℕ) → p < n → Contains (range_with_len 0 n) p
+pub within : (n p : ℕ) → p < n → Contains (range_with_len 0 n) p
 within n p below = (
   p,
   (let long : length (range_with_len 0 n) ≡ n = length-range_with_len 0 n
@@ -54,7 +54,7 @@ kept_step test x rest z true is below there = elim (contains_cases x z rest ther
 ]
 kept_step test x rest z false is below there = below there
 
-passes : (test : ℕ → Bool) (xs : List ℕ) (z : ℕ) → Contains (filter test xs) z → test z ≡ true
+pub passes : (test : ℕ → Bool) (xs : List ℕ) (z : ℕ) → Contains (filter test xs) z → test z ≡ true
 passes test [] z there = absurd (omega (arith, there.1))
 passes test (x ∷ xs) z there = kept_step test x (filter test xs) z (test x) refl (passes test xs z)
     there
@@ -74,7 +74,7 @@ or_later x z xs rest on there = elim (contains_cases x z xs there) [
   | inr later ↦ inr (on later)
 ]
 
-keeps : (test : ℕ → Bool) (xs : List ℕ) (z : ℕ) → test z ≡ true → Contains xs z
+pub keeps : (test : ℕ → Bool) (xs : List ℕ) (z : ℕ) → test z ≡ true → Contains xs z
     → Contains (filter test xs) z
 keeps test [] z has there = absurd (omega (arith, there.1))
 keeps test (x ∷ xs) z has there =

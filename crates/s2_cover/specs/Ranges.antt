@@ -1,7 +1,7 @@
 -- Sets of leaf positions as ranges.
-use Rattle.std.specs.Prelude.{◌≡◌, ℕ, ◌+◌, ◌*◌, ◌^◌, ◌<◌, ◌≤◌, Bool, List, All, AllPairs}
+use Rattle.std.specs.Prelude.{◌≡◌, ℕ, ◌+◌, ◌-◌, ◌*◌, ◌^◌, ◌==◌, ◌<◌, ◌≤◌, Bool, not, ◌&&◌, ◌||◌, List, length, All, AllPairs}
 use Rattle.std.specs.Int.{is_in_range}
-use Rattle.std.specs.List.{list_any}
+use Rattle.std.specs.List.{filter, list_any, range_with_len}
 use Rattle.s2_cover.specs.declared.spans.Span.{Span}
 
 -- whether a position lies in a span
@@ -26,3 +26,11 @@ pub record IsRanges (set : ℕ → Bool) (spans : List Span) : Type 0 where
   pub each : All IsSpan spans
   pub apart : AllPairs IsApart spans
   pub positions : (p : ℕ) → spans_have spans p ≡ set p
+
+-- a position begins a range of a set: it belongs to the set, and the one before it, if there is one, doesn't
+abbrev pub begins_range : (ℕ → Bool) → ℕ → Bool
+begins_range set position = set position && (position == 0 || not (set (position - 1)))
+
+-- how many ranges the set has: as many as positions that begin one
+unfoldable pub range_count : (ℕ → Bool) → ℕ
+range_count set = length (filter (begins_range set) (range_with_len 0 (6 * 2 ^ 60)))

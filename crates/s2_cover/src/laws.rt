@@ -7,7 +7,7 @@ ghost use Rattle.s2_cover.specs.Leaves.{leaves_of};
 ghost use Rattle.s2_cover.specs.Canonical.{IsCanonical};
 ghost use Rattle.s2_cover.specs.CanonicalList.{canonical_list};
 ghost use Rattle.s2_cover.specs.Rectangles.{RectParts, IsRect, IsInFootprint, widened, wide_has};
-ghost use Rattle.s2_cover.specs.Ranges.{IsRanges};
+ghost use Rattle.s2_cover.specs.Ranges.{IsRanges, range_count};
 ghost use Rattle.s2_cover.specs.declared.spans.Span.{Span};
 
 /// A set of leaves has at most one canonical list of cells.
@@ -56,4 +56,15 @@ pub fn one_list_of_ranges()
 pub fn equal_sets_have_equal_ranges()
     ensures { (set other : ℕ → Bool) (spans : List Span) → ((p : ℕ) → set p ≡ other p)
         → IsRanges set spans → IsRanges other spans }
+{}
+
+/// A list of ranges has as many spans as its set has ranges.
+pub fn ranges_are_counted()
+    ensures { (set : ℕ → Bool) (spans : List Span) → IsRanges set spans → length spans ≡ range_count set }
+{}
+
+/// A set of leaves has at most as many ranges as any list of cells that has its leaves.
+pub fn ranges_are_few()
+    ensures { (set : ℕ → Bool) (ids : List ℕ) → ((p : ℕ) → leaves_of ids p ≡ set p)
+        → range_count set ≤ length ids }
 {}

@@ -1,5 +1,6 @@
 -- What a look and a copy come to.
-use Rattle.std.proofs.Common.{◌≡◌, ℕ, List, [], ◌++◌, take, Option, Result, Ok, Err, OnOk, IfErr, refl, sym, ap, ◌∙◌, subst}
+use Rattle.std.proofs.Common.{◌≡◌, ℕ, List, [], ◌++◌, take, Option, None, Some, Result, Ok, Err, OnOk, IfErr, inl, inr, refl, sym, subst}
+use Rattle.std.specs.Option.{IsSomeAnd}
 use Rattle.std.proofs.KnownBytes.{Appends-nil, Appends-trans}
 use Rattle.std.specs.Io.KnownBytes.{Appends}
 use Rattle.sqlite_disk.specs.declared.Disk as disk
@@ -19,14 +20,19 @@ use Rattle.desk_tables.specs.Copying.{AreCounted, IsMadeIn, LooksIn}
 use Rattle.desk_tables.specs.Leaving.{IsSettledAt}
 use Rattle.desk_tables.specs.Store.{Shown}
 use Rattle.desk_tables.specs.declared.opening.looking.Holdings.{Holdings}
-use Rattle.desk_tables.specs.declared.opening.open.OpenFault.{OpenFault}
-use Rattle.desk_tables.specs.declared.opening.open.OpenFault.TheVariants as fault
+use Rattle.desk_line.specs.declared.failure.Failure.TheVariants as failure
+use Rattle.desk_line.specs.declared.line.Database.{Database}
+use Rattle.desk_tables.specs.Closing.{IsLeftUnclosed}
+use Rattle.desk_tables.specs.declared.closing.Unclosed.{Unclosed}
+use Rattle.desk_tables.specs.declared.opening.files.CopyFault.{CopyFault}
 use Rattle.desk_tables.specs.declared.opening.files.FilesFault.{FilesFault}
 use Rattle.uss_desk.specs.declared.opening.Unopened.{Unopened}
-use Rattle.uss_desk.specs.Keeping.{FailsToLook, IsCopyMade, IsReadAs, IsUntold, Tells, TellsHoldings}
-use Rattle.uss_desk.specs.Opening.{IsUnreadFor, open_failure}
-use Rattle.desk_tables.specs.Copying.{AreNotRead}
-use Rattle.desk_tables.specs.Files.{IsUnread}
+use Rattle.uss_desk.specs.Keeping.{CopyEnd, FailsAtFiles, FailsBy, FailsToCopy, FailsToLook, IsCopyMade, IsNamedIf, IsReadAs, IsUncopied, IsUntold, Tells, TellsHoldings}
+use Rattle.std.specs.Result.{IsErrAnd}
+use Rattle.uss_desk.specs.Naming.{IsUnnamed, Step, free_steps}
+use Rattle.uss_desk.specs.Opening.{open_failure}
+use Rattle.desk_tables.specs.Copying.{AreNotCopied, AreNotRead}
+use Rattle.uss_desk.proofs.RunLemmas.{fails_over}
 
 -- nothing is told
 pub tells_nothing : (now : Option (List ℕ)) → Tells now now
@@ -45,38 +51,66 @@ pub tells_written : {U : Type 0} (line : List ℕ) (old now : Option (List ℕ))
 tells_written line old now (Ok u) whole off = record { text = line; told = whole }
 tells_written line old now (Err stop) whole off = record { text = take stop.sent line; told = off.written }
 
-module _ {D : Type 0} {g : disk.Ghosts D} (image : Image) (it : Unopened (FileStore D g)) where
-  -- of what was not read nothing is said
-  unread_fails : (e : OpenFault) → IsUnreadFor it e → IsUnread e → FailsToLook image it
-  unread_fails e is says = record {
-    failure = is.failure ∙ ap (λ r. open_failure r.fault) (sym is.refused);
-    fails = subst (λ r. AreNotRead {g = g} image r.fault r.connection) (sym is.refused) says;
-  }
+module _ {D : Type 0} {g : disk.Ghosts D} (image : Image) (database : Database)
+    (it : Unopened (FileStore D g))
+  where
+    -- what refused the files refuses them in the program
+    pub refused_fails : (refused : FilesFault (FileStore D g)) → it.failure ≡ open_failure refused.fault
+        → IsSomeAnd it.refused (λ s. s.value ≡ refused)
+        → AreNotRead image refused.fault refused.connection → FailsToLook image database it
+    refused_fails refused failure same says =
+        inr (inr (fails_over (λ files. AreNotRead image files.fault files.connection) it refused failure same
+        says))
 
-  pub store_fails : IsUnreadFor it fault.Store → FailsToLook image it
-  store_fails is =
-      let no : fault.Store ≡ fault.NotADesk → ⊥ = λ e. cc in
-      let newer : fault.Store ≡ fault.OldSchema → ⊥ = λ e. cc in
-      unread_fails fault.Store is (no, newer)
+    -- a failure is told after its cause, and nothing is printed
+    pub untold : (end : Ending) (between out : Option (List ℕ)) → FailsToLook image database it
+        → Tells end.before between → FailsWith it.failure (record end { before = between })
+        → IsUntold image database end it out out
+    untold end between out look cause fails = record {
+      look = look;
+      told = record { between = between; cause = cause; fails = fails };
+      unprinted = refl;
+    }
 
-  -- what refused the files refuses them in the program
-  pub refused_fails : (refused : FilesFault (FileStore D g)) → it.failure ≡ open_failure refused.fault
-      → it.refused.value ≡ refused → AreNotRead image refused.fault refused.connection
-      → FailsToLook image it
-  refused_fails refused failure same says = record {
-    failure = failure ∙ ap (λ r. open_failure r.fault) (sym same);
-    fails = subst (λ r. AreNotRead {g = g} image r.fault r.connection) (sym same) says;
-  }
+module _ {D E : Type 0} {g : disk.Ghosts D} {k : disk.Ghosts E} (image other : Image) where
+  -- files that are refused are not copied
+  pub refused_copy : (it : CopyEnd g k) (fault : CopyFault (FileStore D g) (FileStore E k))
+      → FailsBy fault it → AreNotCopied image other fault → FailsAtFiles {g = g} {k = k} image other it
+  refused_copy it fault by are = inl (record { fault = fault; by = by; are = are })
 
-  -- a failure is told after its cause, and nothing is printed
-  pub untold : (end : Ending) (between out : Option (List ℕ)) → FailsToLook image it
-      → Tells end.before between → FailsWith it.failure (record end { before = between })
-      → IsUntold image end it out out
-  untold end between out look cause fails = record {
-    look = look;
+  -- nor is what can't be closed
+  pub fails_closing : (store : Shown (FileStore E k)) (unclosed : Unclosed E k) → IsMadeIn other store.held
+      → IsLeftUnclosed store.held unclosed
+      → FailsAtFiles {g = g} {k = k} image other
+      (record { failure = failure.Store; unread = None; unmade = None; unclosed = Some unclosed })
+  fails_closing store unclosed made left =
+      inr (record { held = store.held; failure = refl; made = made; left = left })
+
+  pub uncopied : (database : Database) (old new : Option (List Step)) (end : Ending)
+      (it : CopyEnd g k) (between out : Option (List ℕ))
+      → FailsToCopy {g = g} {k = k} image other database old new it → Tells end.before between
+      → FailsWith it.failure (record end { before = between })
+      → IsUncopied {g = g} {k = k} image other database old new end it out out
+  uncopied database old new end it between out why cause fails = record {
+    why = why;
     told = record { between = between; cause = cause; fails = fails };
     unprinted = refl;
   }
+
+-- what the files refused is told on
+pub copy_fails : {D E V : Type 0} {g : disk.Ghosts D} {k : disk.Ghosts E} (image other : Image)
+    (database : Database) (old new : Option (List Step)) (r : Result V (CopyEnd g k)) (it : CopyEnd g k)
+    → IsErrAnd r (λ e. e ≡ it) → FailsAtFiles image other it
+    → IfErr r (FailsToCopy image other database old new)
+copy_fails image other database old new (Ok v) it is fails = tt
+copy_fails image other database old new (Err e) it is fails =
+    subst (FailsToCopy image other database old new) (sym is) (inr (inr (inr fails)))
+
+-- what failed got no name
+pub named_if : {A B : Type 0} (P : B → Type 0) (to : List ℕ) (old new : Option (List Step)) (r : Result A B)
+    → IsErrAnd r P → IsUnnamed (free_steps to) to old new → IsNamedIf r to old new
+named_if P to old new (Ok v) is unnamed = absurd is
+named_if P to old new (Err e) is unnamed = unnamed
 
 -- what was read is told as it was counted
 pub read_as : {D : Type 0} {g : disk.Ghosts D} (image : Image) (left : Held (FileStore D g))

@@ -1,5 +1,5 @@
 -- What was opened for a line says of that line, and what comes of a desk over files whose reads are tested.
-use Rattle.std.proofs.Common.{◌≡◌, ℕ, List, Option, None, Some, Result, Ok, Err, IfOk, Bool, true, IsTrue, inl, inr, refl, sym, ap, ◌∙◌, subst}
+use Rattle.std.proofs.Common.{◌≡◌, ℕ, List, Option, None, Some, Result, Ok, Err, IfOk, IfErr, Bool, true, IsTrue, inl, inr, refl, sym, ap, ◌∙◌, subst}
 use Rattle.sqlite_trees.specs.View.{doubt}
 use Rattle.sqlite_trees.specs.declared.store.Store.{Ghosts}
 use Rattle.sqlite_disk.specs.declared.Disk as disk
@@ -20,12 +20,14 @@ use Rattle.desk_line.specs.declared.line.Line.{Line}
 use Rattle.desk_line.specs.declared.line.Line.TheVariants as line
 use Rattle.desk_program.specs.Serving.{Traffic}
 use Rattle.uss_desk.specs.declared.opening.Opened.TheVariants as opened
-use Rattle.uss_desk.specs.Closing.{IsClosed}
+use Rattle.desk_tables.specs.Closing.{IsLeftUnclosed}
+use Rattle.desk_tables.specs.declared.closing.Unclosed.{Unclosed}
+use Rattle.uss_desk.specs.Closing.{IsClosed, IsEnded}
 use Rattle.uss_desk.specs.Guarding.{Account, IsTrueOrCollided}
-use Rattle.desk_tables.specs.Files.{AreNotMoved, AreRefused}
+use Rattle.std.specs.Option.{IsSomeAnd}
 use Rattle.desk_tables.specs.declared.opening.files.FilesFault.{FilesFault}
 use Rattle.uss_desk.specs.declared.opening.Unopened.{Unopened}
-use Rattle.uss_desk.specs.Opening.{FailsAt, FailsMovingAt, FileDesk, IsOpenedFor, IsOpenedIn, open_failure, or_failure}
+use Rattle.uss_desk.specs.Opening.{FailsOver, FileDesk, IsOpenedFor, IsOpenedIn, open_failure, or_failure}
 use Rattle.uss_desk.specs.Running.{IsDoneAt, IsRun, StaysGuarded}
 
 -- a desk over files is opened for a line that names them, and they held this
@@ -79,25 +81,23 @@ stays_guarded account fair clean image it from to old new out now end (Err unrea
 
 -- a desk whose store was closed, by what the store is
 pub is_closed : {D : Type 0} {g : disk.Ghosts D} (desk : Parts (Shown (FileStore D g)))
-    → (store : Shown (FileStore D g)) (exit : Exit) (status : ℕ) (told : Option (List ℕ)) (files : Files D)
-    → exit.status ≡ status → exit.cut ≡ None
-    → store ≡ desk.store → (AreClean g files.log files.db → IsCopied store.held files)
-    → IsClosed (Some desk) status (ending exit told told) (Some files)
-is_closed {D} {g} desk store exit status told files is uncut same copied =
-    ((is, (uncut, refl)), subst (λ s. AreClean g files.log files.db → IsCopied s.held files) same copied)
+    → (store : Shown (FileStore D g)) (closed : Result (Files D) (Unclosed D g)) (status : ℕ) (end : Ending)
+    → store ≡ desk.store → IsEnded closed status end
+    → IfOk closed (λ files. AreClean g files.log files.db → IsCopied store.held files)
+    → IfErr closed (IsLeftUnclosed store.held) → IsClosed (Some desk) status end (Some closed)
+is_closed {D} {g} desk store closed status end same ended copied left = (
+  ended,
+  subst (λ s. IfOk closed (λ files. AreClean g files.log files.db → IsCopied s.held files)) same copied,
+  subst (λ s. IfErr closed (IsLeftUnclosed s.held)) same left,
+)
 
-module _ {D : Type 0} {g : disk.Ghosts D} (image : Image) (it : Unopened (FileStore D g))
-    (refused : FilesFault (FileStore D g)) (failure : it.failure ≡ open_failure refused.fault)
-    (same : it.refused.value ≡ refused) where
-  -- what refused files refuses them in the program
-  pub fails_at : AreRefused image refused.fault refused.connection → FailsAt g image it
-  fails_at says = record {
-    failure = failure ∙ ap (λ r. open_failure r.fault) (sym same);
-    refused = subst (λ r. AreRefused {g = g} image r.fault r.connection) (sym same) says;
-  }
-
-  pub fails_moving_at : AreNotMoved image refused.fault refused.connection → FailsMovingAt g image it
-  fails_moving_at says = record {
-    failure = failure ∙ ap (λ r. open_failure r.fault) (sym same);
-    refused = subst (λ r. AreNotMoved {g = g} image r.fault r.connection) (sym same) says;
-  }
+-- what refused files refuses them in the program
+pub fails_over : {S : Type 0} (Refused : FilesFault S → Type 0) (it : Unopened S) (refused : FilesFault S)
+    → it.failure ≡ open_failure refused.fault → IsSomeAnd it.refused (λ s. s.value ≡ refused)
+    → Refused refused → FailsOver Refused it
+fails_over Refused it refused failure same says = record {
+  files = refused;
+  are = same;
+  failure = failure;
+  refused = says;
+}

@@ -1,12 +1,14 @@
 -- Closing: what is left of a desk's files once its line has ended.
-use Rattle.std.specs.Prelude.{◌≡◌, ◌≢◌, ◌⊎◌, ℕ, Option, None, Some}
+use Rattle.std.specs.Prelude.{◌≡◌, ◌≢◌, ◌⊎◌, ℕ, Option, None, Some, Result, Ok, Err, IfOk, IfErr}
 use Rattle.sqlite_disk.specs.declared.Disk as disk
 use Rattle.sqlite_disk.specs.declared.Files.{Files}
 use Rattle.sqlite_wal.specs.Reads.{AreClean}
 use Rattle.sqlite_store.specs.declared.store.FileStore.{FileStore}
 use Rattle.sqlite.specs.Closing.{IsCopied}
 use Rattle.desk_run.specs.DeskWorld.{Parts}
+use Rattle.desk_tables.specs.Closing.{IsLeftUnclosed}
 use Rattle.desk_tables.specs.Store.{Shown}
+use Rattle.desk_tables.specs.declared.closing.Unclosed.{Unclosed}
 use Rattle.desk_line.specs.declared.failure.Failure.TheVariants as failure
 use Rattle.desk_line.specs.Exits.{Ending, FailsWith, IsSilent}
 
@@ -19,11 +21,20 @@ abbrev pub IsUnclosed : ℕ → Ending → Type 0
 IsUnclosed status end =
     ((status ≡ 0) × FailsWith failure.Store end) ⊎ ((status ≢ 0) × EndsAsItWas status end)
 
+-- by what came of its desk
+abbrev pub IsEnded : {A B : Type 0} → Result A B → ℕ → Ending → Type 0
+IsEnded (Ok files) status end = EndsAsItWas status end
+IsEnded (Err it) status end = IsUnclosed status end
+
 module _ {D : Type 0} {g : disk.Ghosts D} where
-  -- the desk is closed: if the disk returned what was written, its last commit is in the database file alone.
-  -- Or it can't be closed, and the failure tells it. In memory there is nothing to close
-  abbrev pub IsClosed : Option (Parts (Shown (FileStore D g))) → ℕ → Ending → Option (Files D) → Type 0
-  IsClosed None status end files = EndsAsItWas status end × (files ≡ None)
-  IsClosed (Some desk) status end None = IsUnclosed status end
-  IsClosed (Some desk) status end (Some files) =
-      EndsAsItWas status end × (AreClean g files.log files.db → IsCopied desk.store.held files)
+  -- a desk over files is closed, however its line ended: if the disk returned what was written, its last
+  -- commit is in the database file alone. Or it was tried, and can't be, which the failure tells. In memory
+  -- there is nothing to close
+  abbrev pub IsClosed :
+      Option (Parts (Shown (FileStore D g))) → ℕ → Ending → Option (Result (Files D) (Unclosed D g))
+      → Type 0
+  IsClosed None status end closed = EndsAsItWas status end × (closed ≡ None)
+  IsClosed (Some desk) status end None = ⊥
+  IsClosed (Some desk) status end (Some closed) = IsEnded closed status end
+      × IfOk closed (λ files. AreClean g files.log files.db → IsCopied desk.store.held files)
+      × IfErr closed (IsLeftUnclosed desk.store.held)

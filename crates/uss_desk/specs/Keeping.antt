@@ -1,5 +1,6 @@
 -- Keeping: what a keeper is told of a file, and what is copied of it.
-use Rattle.std.specs.Prelude.{◌≡◌, ℕ, List, length, Option, Result, Ok, Err}
+use Rattle.std.specs.Prelude.{◌≡◌, ⊤, ℕ, List, length, Option, Result, Ok, Err, ◌⊎◌, None}
+use Rattle.std.specs.Option.{IsSomeAnd}
 use Rattle.std.specs.Io.KnownBytes.{Appends}
 use Rattle.sqlite_disk.specs.declared.Disk as disk
 use Rattle.sqlite_disk.specs.declared.Files.{Files}
@@ -11,16 +12,46 @@ use Rattle.sqlite.specs.Files.{over_files}
 use Rattle.sqlite.specs.Held.{Held}
 use Rattle.desk_store.specs.World.{World}
 use Rattle.desk_line.specs.declared.failure.Failure.{Failure}
+use Rattle.desk_line.specs.declared.line.Line.{Line}
+use Rattle.desk_line.specs.declared.line.Line.TheVariants as line
+use Rattle.desk_line.specs.declared.failure.Failure.TheVariants as failure
+use Rattle.desk_line.specs.declared.line.Database.{Database}
 use Rattle.desk_line.specs.Exits.{Ending, FailsWith}
 use Rattle.desk_program.specs.Looking.{IsTextPrinted, checked_line, copied_line}
 use Rattle.desk_program.specs.declared.looking.CheckedFile.{CheckedFile}
 use Rattle.desk_tables.specs.Counting.{HaveSpanRows}
-use Rattle.desk_tables.specs.Copying.{AreCounted, AreNotRead, IsMadeIn, LooksIn, live_count}
+use Rattle.desk_tables.specs.Closing.{IsLeftUnclosed}
+use Rattle.desk_tables.specs.Copying.{AreCounted, AreNotCopied, AreNotRead, IsMadeIn, LooksIn, live_count}
+use Rattle.desk_tables.specs.declared.closing.Unclosed.{Unclosed}
+use Rattle.desk_tables.specs.declared.opening.files.CopyFault.{CopyFault}
+use Rattle.desk_tables.specs.declared.opening.files.CopyFault.TheVariants as copy
+use Rattle.desk_tables.specs.declared.opening.files.FilesFault.{FilesFault}
+use Rattle.desk_tables.specs.declared.opening.open.OpenFault.TheVariants as opening
 use Rattle.desk_tables.specs.Leaving.{IsSettledAt}
 use Rattle.desk_tables.specs.declared.opening.looking.Holdings.{Holdings}
+use Rattle.uss_desk.specs.declared.keeping.Uncopied.{Uncopied}
 use Rattle.uss_desk.specs.declared.opening.Unopened.{Unopened}
-use Rattle.uss_desk.specs.Naming.{IsNamed, IsUnnamed, Step, free_steps}
-use Rattle.uss_desk.specs.Opening.{open_failure}
+use Rattle.uss_desk.specs.declared.opening.Opened.{Opened}
+use Rattle.uss_desk.specs.declared.opening.Opened.TheVariants as opened
+use Rattle.uss_desk.specs.Naming.{IsNamed, IsUnnamed, Step, free_steps, HasFailed}
+use Rattle.uss_desk.specs.Opening.{open_failure, FailsOver, IsInMemory, IsUnreadFor}
+
+-- a line that moves plans
+abbrev pub IsMove : Line → Type 0
+IsMove (line.Play play) = ⊥
+IsMove (line.Token token) = ⊥
+IsMove (line.Serve serve) = ⊥
+IsMove (line.Cover cover) = ⊥
+IsMove (line.Enrol enrol) = ⊥
+IsMove (line.Migrate migrate) = ⊤
+
+-- files were refused from which plans were to be moved
+abbrev pub IsMoveRefused : {M D V U : Type 0} → Opened M D (Result V U) → Type 0
+IsMoveRefused opened.Nothing = ⊥
+IsMoveRefused (opened.Memory desk) = ⊥
+IsMoveRefused (opened.Files desk) = ⊥
+IsMoveRefused (opened.Moved (Ok moved)) = ⊥
+IsMoveRefused (opened.Moved (Err unread)) = ⊤
 
 -- some text is told, of which nothing is said, and nothing else
 pub record Tells (old new : Option (List ℕ)) : Type 0 where
@@ -47,15 +78,17 @@ module _ {D : Type 0} {g : disk.Ghosts D} (image : Image) where
     pub told : TellsHoldings file w
     pub looks : LooksIn image left file.is_old w
 
-  -- why no content is told of them: what the connection showed that read them, or nothing in them was read
-  pub record FailsToLook (it : Unopened (FileStore D g)) : Type 0 where
-    pub failure : it.failure ≡ open_failure it.refused.value.fault
-    pub fails : AreNotRead image it.refused.value.fault it.refused.value.connection
+  -- why no content is told of a database: it is in memory, or memory ran out; or what the connection showed
+  -- that read its files, or that they were not opened
+  abbrev pub FailsToLook : Database → Unopened (FileStore D g) → Type 0
+  FailsToLook database it = (IsInMemory database × IsUnreadFor it opening.Store)
+      ⊎ (IsUnreadFor it opening.OutOfMemory
+      ⊎ FailsOver (λ files. AreNotRead image files.fault files.connection) it)
 
   -- a failure is told, and nothing is printed
-  pub record IsUntold (end : Ending) (it : Unopened (FileStore D g)) (out now : Option (List ℕ))
-      : Type 0 where
-    pub look : FailsToLook it
+  pub record IsUntold (database : Database) (end : Ending) (it : Unopened (FileStore D g))
+      (out now : Option (List ℕ)) : Type 0 where
+    pub look : FailsToLook database it
     pub told : FailsTelling it.failure end
     pub unprinted : now ≡ out
 
@@ -67,10 +100,60 @@ module _ {D : Type 0} {g : disk.Ghosts D} (image : Image) where
 
   -- what they hold is told, or a failure is
   abbrev pub IsChecked :
-      Ending → Result (Held (FileStore D g)) (Unopened (FileStore D g)) → Option (List ℕ)
+      Database → Ending → Result (Held (FileStore D g)) (Unopened (FileStore D g)) → Option (List ℕ)
       → Option (List ℕ) → Type 0
-  IsChecked end (Ok left) out now = IsTold end left out now
-  IsChecked end (Err it) out now = IsUntold end it out now
+  IsChecked database end (Ok left) out now = IsTold end left out now
+  IsChecked database end (Err it) out now = IsUntold database end it out now
+
+-- ---- a copy
+
+-- nothing was asked of files, or they were not refused, and this is the failure
+pub record FailsUntried {R M U : Type 0} (f : Failure) (it : Uncopied R M U) : Type 0 where
+  pub failure : it.failure ≡ f
+  pub unread : it.unread ≡ None
+  pub unmade : it.unmade ≡ None
+  pub unclosed : it.unclosed ≡ None
+
+-- why files were not copied
+abbrev pub CopyEnd : {D E : Type 0} → disk.Ghosts D → disk.Ghosts E → Type 0
+CopyEnd {D} {E} g k = Uncopied (FilesFault (FileStore D g)) (FilesFault (FileStore E k)) (Unclosed E k)
+
+-- this fault of files is the failure
+abbrev pub FailsBy : {S N U : Type 0} → CopyFault S N → Uncopied (FilesFault S) (FilesFault N) U → Type 0
+FailsBy (copy.Unread files) it =
+    (it.failure ≡ open_failure files.fault) × IsSomeAnd it.unread (λ s. s.value ≡ files)
+FailsBy (copy.Unmade files) it =
+    (it.failure ≡ open_failure files.fault) × IsSomeAnd it.unmade (λ s. s.value ≡ files)
+
+module _ {D E : Type 0} {g : disk.Ghosts D} {k : disk.Ghosts E} (image other : Image) where
+  -- the files refuse it
+  pub record FailsRefused (it : CopyEnd g k) : Type 0 where
+    pub fault : CopyFault (FileStore D g) (FileStore E k)
+    pub by : FailsBy fault it
+    pub are : AreNotCopied image other fault
+
+  -- a store was made in the new files, and can't be closed
+  pub record FailsUnclosed (it : CopyEnd g k) : Type 0 where
+    pub held : Held (FileStore E k)
+    pub failure : it.failure ≡ failure.Store
+    pub made : IsMadeIn other held
+    pub left : IsSomeAnd it.unclosed (IsLeftUnclosed held)
+
+  abbrev pub FailsAtFiles : CopyEnd g k → Type 0
+  FailsAtFiles it = FailsRefused it ⊎ FailsUnclosed it
+
+  -- a database in memory is not copied; memory ran out; a step of its folders failed; or the files refuse it
+  abbrev pub FailsToCopy : Database → Option (List Step) → Option (List Step) → CopyEnd g k → Type 0
+  FailsToCopy database old new it = (IsInMemory database × FailsUntried failure.Store it)
+      ⊎ (FailsUntried failure.Memory it
+      ⊎ ((HasFailed old new × FailsUntried failure.Store it) ⊎ FailsAtFiles it))
+
+  -- a failure is told, and nothing is printed
+  pub record IsUncopied (database : Database) (old new : Option (List Step)) (end : Ending)
+      (it : CopyEnd g k) (out now : Option (List ℕ)) : Type 0 where
+    pub why : FailsToCopy database old new it
+    pub told : FailsTelling it.failure end
+    pub unprinted : now ≡ out
 
 module _ {D E : Type 0} {g : disk.Ghosts D} (k : disk.Ghosts E) (image other : Image) where
   -- a connection to files that held this leaves them, and new files, whose log is empty, have their content:
@@ -86,11 +169,12 @@ module _ {D E : Type 0} {g : disk.Ghosts D} (k : disk.Ghosts E) (image other : I
 
   -- how much was copied is told; or a failure is
   abbrev pub IsCopied :
-      Ending → Result (Held (FileStore D g) × (Files E × Holdings)) (Unopened (FileStore D g))
-      → Option (List ℕ) → Option (List ℕ) → Type 0
-  IsCopied end (Ok copies) out now =
+      Database → Option (List Step) → Option (List Step) → Ending
+      → Result (Held (FileStore D g) × (Files E × Holdings)) (CopyEnd g k) → Option (List ℕ) → Option (List ℕ)
+      → Type 0
+  IsCopied database old new end (Ok copies) out now =
       IsCopyMade copies × IsTextPrinted (copied_line copies.1.1.operators copies.1.1.plans) end out now
-  IsCopied end (Err it) out now = IsUntold image end it out now
+  IsCopied database old new end (Err it) out now = IsUncopied image other database old new end it out now
 
 -- what is copied has got its name, and there was nothing at its names; or no file got a name, or the file got
 -- its own, whole, and its folder can't be synced

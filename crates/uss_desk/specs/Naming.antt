@@ -2,10 +2,12 @@
 use Rattle.std.specs.Prelude.{◌≡◌, ◌⊎◌, ⊤, ℕ, Bool, true, false, List, [], ◌∷◌, ◌++◌, All, codes, Option, None, Some, string_bytes}
 use Rattle.uss_desk.specs.declared.naming.Names.{Names}
 
--- a step: a path is looked at, and there is nothing; a file is removed; one gets another name; the folder of
--- a path is synced; or what was asked is not so, or can't be done
+-- a step: a path is looked at, and there is nothing; a file is made there for a trial, and is gone again; a
+-- file is removed; one gets another name; the folder of a path is synced; or what was asked is not so, or
+-- can't be done
 pub data Step : Type 0 where
   Free : List ℕ → Step
+  Tried : List ℕ → Step
   Removed : List ℕ → Step
   Renamed : List ℕ → List ℕ → Step
   Synced : List ℕ → Step
@@ -22,6 +24,11 @@ abbrev pub Takes : Option (List Step) → Option (List Step) → Bool → Step �
 Takes old new true step = Follows old new (step ∷ [])
 Takes old new false step = Follows old new (Failed ∷ [])
 
+-- a step is made, or fails with a cause
+abbrev pub TakesIfNone : {X : Type 0} → Option (List Step) → Option (List Step) → Option X → Step → Type 0
+TakesIfNone old new None step = Follows old new (step ∷ [])
+TakesIfNone old new (Some cause) step = Follows old new (Failed ∷ [])
+
 -- the name of the log of a file, and that which a new file has first
 abbrev pub log_of : List ℕ → List ℕ
 log_of path = path ++ codes "-wal"
@@ -36,9 +43,10 @@ pub record AreNames (to : List ℕ) (names : Names) : Type 0 where
   pub part_is : string_bytes names.part ≡ part_of to
   pub part_log_is : string_bytes names.part_log ≡ log_of (part_of to)
 
--- there was nothing at any of its names
+-- there was nothing at any of its names, and it can be made
 abbrev pub free_steps : List ℕ → List Step
-free_steps to = Free to ∷ Free (log_of to) ∷ Free (part_of to) ∷ Free (log_of (part_of to)) ∷ []
+free_steps to =
+    Free to ∷ Free (log_of to) ∷ Free (part_of to) ∷ Free (log_of (part_of to)) ∷ Tried (part_of to) ∷ []
 
 -- its log goes, and it gets its name; then one step more
 abbrev pub named_steps : List ℕ → Step → List Step
@@ -47,6 +55,7 @@ named_steps to last = Removed (log_of (part_of to)) ∷ Renamed (part_of to) to 
 -- a step by which no file gets a name
 abbrev pub GivesNoName : Step → Type 0
 GivesNoName (Free path) = ⊤
+GivesNoName (Tried path) = ⊤
 GivesNoName (Removed path) = ⊤
 GivesNoName (Renamed from to) = ⊥
 GivesNoName (Synced path) = ⊤
@@ -57,6 +66,57 @@ pub record LeavesNames (old new : Option (List Step)) : Type 0 where
   pub steps : List Step
   pub made : Follows old new steps
   pub unnamed : All GivesNoName steps
+
+-- a step that changes nothing
+abbrev pub ChangesNothing : Step → Type 0
+ChangesNothing (Free path) = ⊤
+ChangesNothing (Tried path) = ⊥
+ChangesNothing (Removed path) = ⊥
+ChangesNothing (Renamed from to) = ⊥
+ChangesNothing (Synced path) = ⊤
+ChangesNothing Failed = ⊤
+
+-- a step that changes nothing but the new file, or its log, under the names that they have first
+abbrev pub ChangesOwn : List ℕ → Step → Type 0
+ChangesOwn to (Free path) = ⊤
+ChangesOwn to (Tried path) = ⊥
+ChangesOwn to (Removed path) = (path ≡ part_of to) ⊎ (path ≡ log_of (part_of to))
+ChangesOwn to (Renamed from into) = (from ≡ part_of to) × (into ≡ to)
+ChangesOwn to (Synced path) = ⊤
+ChangesOwn to Failed = ⊤
+
+-- steps of which each is so
+pub record TakesAll (Is : Step → Type 0) (old new : Option (List Step)) : Type 0 where
+  pub steps : List Step
+  pub made : Follows old new steps
+  pub each : All Is steps
+
+-- once nothing was found at the names of a new file, it alone is changed
+pub record ChangesFound (to : List ℕ) (old new : Option (List Step)) : Type 0 where
+  pub rest : List Step
+  pub made : Follows old new (free_steps to ++ rest)
+  pub own : All (ChangesOwn to) rest
+
+-- no file is changed at whose name something was found: nothing is changed at all, or only the new file, once
+-- nothing was found at its names
+abbrev pub LeavesOthers : List ℕ → Option (List Step) → Option (List Step) → Type 0
+LeavesOthers to old new = TakesAll ChangesNothing old new ⊎ ChangesFound to old new
+
+-- so, and no file gets a name
+abbrev pub GivesUp : List ℕ → Option (List Step) → Option (List Step) → Type 0
+GivesUp to = TakesAll (λ step. ChangesOwn to step × GivesNoName step)
+
+-- one of the steps failed
+pub record HasFailed (old new : Option (List Step)) : Type 0 where
+  pub before : List Step
+  pub after : List Step
+  pub made : Follows old new (before ++ Failed ∷ after)
+
+-- a step failed, after steps that changed nothing
+pub record IsNotFree (old new : Option (List Step)) : Type 0 where
+  pub before : List Step
+  pub made : Follows old new (before ++ Failed ∷ [])
+  pub looks : All ChangesNothing before
 
 -- no file gets a name; or, after these steps, the file gets its own, and its folder can't be synced
 abbrev pub IsUnnamed : List Step → List ℕ → Option (List Step) → Option (List Step) → Type 0

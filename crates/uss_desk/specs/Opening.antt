@@ -1,11 +1,13 @@
 -- Opening: what a line is carried out at, and what a database that can't be opened means.
 use Rattle.std.specs.Prelude.{◌≡◌, ℕ, [], None, Result, Ok, Err, IfErr, IfOk, MatchResult, ⊤}
+use Rattle.std.specs.Option.{IsSomeAnd}
 use Rattle.sqlite_disk.specs.declared.Disk as disk
 use Rattle.sqlite_wal.specs.Recovery.{Image}
 use Rattle.sqlite_store.specs.declared.store.FileStore.{FileStore}
 use Rattle.sqlite.specs.Files.{file_state, over_files}
 use Rattle.sqlite.specs.State.{HasCleanDisk}
 use Rattle.desk_store.specs.Crashes.{LeavesOnly}
+use Rattle.desk_rules.specs.Terms.{no_terms}
 use Rattle.desk_run.specs.DeskWorld.{DeskWorld, Parts, with_content, world_of}
 use Rattle.desk_line.specs.declared.failure.Failure.{Failure}
 use Rattle.desk_line.specs.declared.failure.Failure.TheVariants as failure
@@ -17,6 +19,7 @@ use Rattle.desk_tables.specs.Files.{AreNotMoved, AreRefused, OpensIn, OpensMoved
 use Rattle.desk_tables.specs.Guarding.{IsGuarded}
 use Rattle.desk_tables.specs.Leaving.{MayLeave}
 use Rattle.desk_tables.specs.Store.{Shown}
+use Rattle.desk_tables.specs.declared.opening.files.FilesFault.{FilesFault}
 use Rattle.desk_tables.specs.declared.opening.open.OpenFault.{OpenFault}
 use Rattle.desk_tables.specs.declared.opening.open.OpenFault.TheVariants as opening
 use Rattle.uss_desk.specs.declared.opening.Unopened.{Unopened}
@@ -30,10 +33,17 @@ open_failure opening.Store = failure.Store
 open_failure opening.NotADesk = failure.NotADesk
 open_failure opening.OldSchema = failure.OldSchema
 
--- the failure is that of this fault, and nothing in the database was read
+-- the failure is that of this fault, and no files were asked for
 pub record IsUnreadFor {S : Type 0} (it : Unopened S) (fault : OpenFault) : Type 0 where
   pub failure : it.failure ≡ open_failure fault
-  pub refused : it.refused.value ≡ record { fault = fault; connection = None }
+  pub refused : it.refused ≡ None
+
+-- the failure is that of files that were refused, of which this is so
+pub record FailsOver {S : Type 0} (Refused : FilesFault S → Type 0) (it : Unopened S) : Type 0 where
+  pub files : FilesFault S
+  pub are : IsSomeAnd it.refused (λ s. s.value ≡ files)
+  pub failure : it.failure ≡ open_failure files.fault
+  pub refused : Refused files
 
 -- memory ran out: nothing else keeps a desk in memory from being opened
 abbrev pub IsMemory : Failure → Type 0
@@ -43,31 +53,29 @@ IsMemory f = f ≡ failure.Memory
 abbrev pub load_world : {S : Type 0} → Parts (Shown S) → DeskWorld
 load_world desk = world_of (λ s. s.world) desk
 
--- no operators, no plans, no permitted priorities
+-- no operators, no plans, no terms
 abbrev pub IsBlank : {S : Type 0} → Parts (Shown S) → Type 0
-IsBlank desk = load_world desk ≡ with_content [] (record { operators = []; plans = [] })
+IsBlank desk = load_world desk ≡ with_content no_terms (record { operators = []; plans = [] })
 
 module _ {D : Type 0} (g : disk.Ghosts D) (image : Image) where
   -- the store of a desk over files that held this begins with the world that is found in them, which a crash
-  -- leaves there; no priority is permitted; and if the disk returned what was written so far, each later read
+  -- leaves there; it has no terms; and if the disk returned what was written so far, each later read
   -- is tested
   pub record BeginsIn (desk : Parts (Shown (FileStore D g))) : Type 0 where
     pub opens : OpensIn image desk.store.held desk.store.world
     pub left : HasCleanDisk (file_state desk.store.held)
         → LeavesOnly desk.store.world (MayLeave over_files desk.store.held)
     pub guarded : IsGuarded desk.store.held
-    pub none : desk.permitted ≡ []
+    pub none : desk.terms ≡ no_terms
 
   -- the failure is that of files that the connection refused: their database is no desk's, has rows of
-  -- schema 1, or can't be read; or of files in which nothing was read
-  pub record FailsAt (it : Unopened (FileStore D g)) : Type 0 where
-    pub failure : it.failure ≡ open_failure it.refused.value.fault
-    pub refused : AreRefused image it.refused.value.fault it.refused.value.connection
+  -- schema 1, or can't be read; or of files that were not opened
+  abbrev pub FailsAt : Unopened (FileStore D g) → Type 0
+  FailsAt = FailsOver (λ files. AreRefused image files.fault files.connection)
 
   -- the same of files whose plans of schema 1 are to be moved
-  pub record FailsMovingAt (it : Unopened (FileStore D g)) : Type 0 where
-    pub failure : it.failure ≡ open_failure it.refused.value.fault
-    pub refused : AreNotMoved image it.refused.value.fault it.refused.value.connection
+  abbrev pub FailsMovingAt : Unopened (FileStore D g) → Type 0
+  FailsMovingAt = FailsOver (λ files. AreNotMoved image files.fault files.connection)
 
 -- a desk over files, or why there is none
 abbrev pub FileDesk : {D : Type 0} → disk.Ghosts D → Type 0

@@ -2,10 +2,10 @@
 //! something is told, and not what.
 
 ghost use Rattle.std.specs.Prelude.{◌≡◌, [], ◌∷◌, None};
-ghost use Rattle.uss_desk.specs.Keeping.{Tells};
-ghost use Rattle.uss_desk.specs.Naming.{Follows, Free, LeavesNames};
+ghost use Rattle.uss_desk.specs.Keeping.{IsMove, IsMoveRefused, Tells};
+ghost use Rattle.uss_desk.specs.Naming.{Follows, Free, LeavesNames, TakesIfNone};
 
-use crate::naming::Folder;
+use crate::naming::{Folder, TAKEN, is_no_path};
 use crate::opening::{Opened, OpenedDesk};
 use desk_ends::write_whole;
 use desk_line::{Database, Failure, Line};
@@ -18,18 +18,21 @@ use std::io::{ErrorKind, Read, Write};
 
 const NO_PATH: &str = "a name that SQLite reads otherwise than as a path";
 
-const TAKEN: &str = "it is there already";
-
 // What a database file begins with.
 const MAGIC: &[u8; 16] = b"SQLite format 3\0";
 
-/// Tells why the file of `migrate` can't be opened, if it can't.
+/// Tells why the file of `migrate` can't be opened, if it can't, and before no other line.
+#[tactic(auto, using(crate::proofs::KeepLemmas::tells_nothing))]
 pub fn tell_cause<F: Start, E: Write>(
     rt: &HostRuntime,
     line: &Line,
     opened: &OpenedDesk<F>,
     errors: &mut E,
-) {
+)
+    ensures tells { Tells (E.contents errors.old) (E.contents errors.new) }
+    ensures silent { (IsMove line.now → ¬ (IsMoveRefused opened.now)) →
+        E.contents errors.new ≡ E.contents errors.old }
+{
     if let Line::Migrate(words) = line
         && let Database::File(path) = &words.database
         && let Opened::Moved(Err(unread)) = opened
@@ -84,33 +87,17 @@ fn line_of(alloc: Global, path: &str, text: &str) -> Result<String, AllocError> 
 
 /// Why there can be no new file at a path, if that is so: it is no path, or something is there.
 pub fn new_cause<P: Folder>(folder: &mut P, path: &str) -> Option<&'static str>
-    ensures free { result ≡ None → Follows (P.steps folder.old) (P.steps folder.new) (Free path.now ∷ []) }
-    ensures unnamed { LeavesNames (P.steps folder.old) (P.steps folder.new) }
+    ensures { TakesIfNone (P.steps folder.old) (P.steps folder.new) result (Free path.now) }
 {
-    if path == ":memory:" || path.starts_with("file:") {
-        return Some(NO_PATH);
+    if folder.is_free(path) {
+        return None;
     }
-    if !folder.is_free(path) {
-        return Some(TAKEN);
-    }
-    None
+    Some(taken_cause(path))
 }
 
-/// Why a file can't be made at a path, if that is so; it is tried, and gone again.
-pub fn room_cause(rt: &HostRuntime, path: &str) -> Option<&'static str> {
-    let made = OpenOptions::new()
-        .write(true)
-        .create_new(true)
-        .open(rt, path);
-    match made.and_then(|_| fs::remove_file(rt, path)) {
-        Ok(()) => None,
-        Err(error) => Some(match error.kind() {
-            ErrorKind::AlreadyExists => TAKEN,
-            ErrorKind::NotFound => "no such folder",
-            ErrorKind::PermissionDenied => "no right to make it",
-            _ => "it can't be made",
-        }),
-    }
+// Why a path is not free.
+fn taken_cause(path: &str) -> &'static str {
+    if is_no_path(path) { NO_PATH } else { TAKEN }
 }
 
 // Why a file holds no desk, if that is found once more.

@@ -1,6 +1,6 @@
 //! What a keeper does to a file: a look at what it holds, and a copy of it.
 
-ghost use Rattle.std.specs.Prelude.{◌≡◌, ℕ, [], ◌∷◌, List, None, false, IfErr, IfOk, OnOk, string_bytes};
+ghost use Rattle.std.specs.Prelude.{◌≡◌, ℕ, List, MatchOption, not, false, true, IfErr, IfOk, OnOk, string_bytes};
 ghost use Rattle.sqlite_wal.specs.Files.{image_at};
 ghost use Rattle.sqlite_wal.specs.Recovery.{Image};
 ghost use Rattle.sqlite.specs.Files.{over_files};
@@ -9,21 +9,27 @@ ghost use Rattle.desk_line.specs.Exits.{ending};
 ghost use Rattle.desk_program.specs.Looking.{IsTextPrinted, copied_line};
 ghost use Rattle.desk_tables.specs.Copying.{AreCounted, IsMadeIn, LooksIn};
 ghost use Rattle.desk_tables.specs.Leaving.{IsSettledAt};
-ghost use Rattle.uss_desk.specs.Keeping.{FailsTelling, FailsToLook, IsChecked, IsCopied, IsCopyMade};
-ghost use Rattle.uss_desk.specs.Keeping.{IsNamedIf, IsReadAs, Tells, TellsHoldings};
-ghost use Rattle.uss_desk.specs.Naming.{AreNames, Follows, Free, LeavesNames, free_steps};
+ghost use Rattle.uss_desk.specs.Keeping as spec;
+ghost use Rattle.uss_desk.specs.Keeping.{FailsAtFiles, FailsBy, FailsTelling, FailsToCopy, FailsToLook};
+ghost use Rattle.uss_desk.specs.Keeping.{FailsUntried, IsChecked, IsCopied, IsCopyMade, IsNamedIf, IsReadAs};
+ghost use Rattle.uss_desk.specs.Keeping.{Tells, TellsHoldings};
+ghost use Rattle.uss_desk.specs.Naming.{AreNames, Follows, Free, GivesUp, IsNotFree, LeavesOthers, Takes, Tried};
+ghost use Rattle.uss_desk.specs.Naming.{free_steps};
 
-use crate::causes::{new_cause, room_cause, tell, tell_of};
+use crate::causes::{new_cause, tell, tell_of};
 use crate::naming::{Folder, Names, name_with, names_of, put_in_place};
-use crate::opening::{Unopened, Unread};
+use crate::opening::{Unopened, Unread, open_failure};
 use desk_line::{Copying, Database, Exit, Failure, conclude};
 use desk_program::{CheckedFile, print_checked, print_copied};
-use desk_tables::{Copied, Holdings, OpenFault, copy_from, look_at};
+use desk_tables::{
+    Copied, CopyFault, FilesFault, Holdings, OpenFault, Unclosed, copy_from, look_at,
+};
 use sqlite::{Connection, FileFrom, FileStore, Files, Start};
 use sqlite_disk::Disk;
 use std::alloc::{AllocError, Global};
 use std::fs::{self, File};
 use std::io::{self, Read, Write};
+use std::snapshot::Snapshot;
 
 /// A connection with which a file was read, where `F` stands for what the file held.
 pub type Look<F> = Connection<FileStore<FileFrom<F>>>;
@@ -31,6 +37,74 @@ pub type Look<F> = Connection<FileStore<FileFrom<F>>>;
 /// What was copied from files of a disk `D` to files of `N`: the connection to the first, the new files, and
 /// what they hold.
 pub type Copies<D, N> = (Connection<FileStore<D>>, (Files<N>, Holdings));
+
+/// Why nothing was copied. What refused it is closed, and clauses alone read what it was.
+#[derive(Drop)]
+pub struct Uncopied<R, M, U: Drop> {
+    /// The failure with which the line ends.
+    pub failure: Failure,
+    /// What refused the files that were to be copied, if they were refused.
+    pub unread: Option<Snapshot<R>>,
+    /// What refused the new files, if they were refused.
+    pub unmade: Option<Snapshot<M>>,
+    /// The log of the new files, if it can't be copied.
+    pub unclosed: Option<U>,
+}
+
+/// Why files of a disk `D` were not copied to files of `N`.
+pub type CopyEnd<D, N> = Uncopied<FilesFault<FileStore<D>>, FilesFault<FileStore<N>>, Unclosed<N>>;
+
+impl<D: Disk + Drop, N: Disk + Drop> Uncopied<
+    FilesFault<FileStore<D>>,
+    FilesFault<FileStore<N>>,
+    Unclosed<N>,
+> {
+    // No files were asked for, or their names failed.
+    fn untried(failure: Failure) -> CopyEnd<D, N>
+        ensures { FailsUntried failure result }
+    {
+        Uncopied {
+            failure,
+            unread: None,
+            unmade: None,
+            unclosed: None,
+        }
+    }
+}
+
+impl<D: Disk + Drop, N: Disk + Drop> From<AllocError>
+    for Uncopied<FilesFault<FileStore<D>>, FilesFault<FileStore<N>>, Unclosed<N>> {
+    ghost use Rattle.desk_line.specs.declared.failure.Failure.TheVariants.{Memory};
+    ghost use Rattle.uss_desk.specs.Keeping.{FailsUntried};
+
+    ghost from_gives = { λ _ it. FailsUntried Memory it };
+
+    fn from(_error: AllocError) -> CopyEnd<D, N> {
+        Uncopied::untried(Failure::Memory)
+    }
+}
+
+// Files were refused, on whatever disks they lie.
+fn refused_copy<D: Disk + Drop, N: Disk + Drop>(
+    refused: &CopyFault<FileStore<D>, FileStore<N>>,
+) -> CopyEnd<D, N>
+    ensures { FailsBy refused.now result }
+{
+    match refused {
+        CopyFault::Unread(files) => Uncopied {
+            failure: open_failure(&files.fault),
+            unread: Some(Snapshot::of(files)),
+            unmade: None,
+            unclosed: None,
+        },
+        CopyFault::Unmade(files) => Uncopied {
+            failure: open_failure(&files.fault),
+            unread: None,
+            unmade: Some(Snapshot::of(files)),
+            unclosed: None,
+        },
+    }
+}
 
 // Where in its header a database says how many bytes at the end of each page are kept for sums, and how many
 // SQLite's cksumvfs needs (the SQLite file format, section 1.3.4).
@@ -56,7 +130,7 @@ pub fn check_file<F: Start, W: Write, E: Write>(
     output: &mut W,
     errors: &mut E,
 ) -> (Exit, Result<Look<F>, Unread<F>>)
-    ensures { IsChecked (image_at F.Start)
+    ensures { IsChecked (image_at F.Start) database.now
         (ending result.0 (E.contents errors.old) (E.contents errors.new)) result.1
         (W.contents output.old) (W.contents output.new) }
 {
@@ -117,7 +191,7 @@ fn look_for<F: Start>(
     start: F,
 ) -> Result<(Look<F>, CheckedFile), Unread<F>>
     ensures looks { IfOk result (λ found. IsReadAs (image_at F.Start) found.0 found.1) }
-    ensures fault { IfErr result (FailsToLook (image_at F.Start)) }
+    ensures fault { IfErr result (FailsToLook (image_at F.Start) database.now) }
 {
     let Database::File(path) = database else {
         return Err(Unopened::unread(OpenFault::Store));
@@ -179,7 +253,7 @@ fn read_header(rt: &HostRuntime, path: &str, header: &mut [u8]) -> io::Result<()
 /// Copies what a database holds to a new file, prints how much it is, and answers how that ended and the
 /// connection to the first with the new files, or why nothing is copied. The first is left as it is. Why, and
 /// the word of the failure, go to `errors`; a fault there is passed over.
-#[tactic(auto, using(crate::proofs::KeepLemmas::untold))]
+#[tactic(auto, using(crate::proofs::KeepLemmas::uncopied))]
 pub fn copy_file<F: Start, N: Start, P: Folder, W: Write, E: Write>(
     rt: &HostRuntime,
     folder: &mut P,
@@ -188,24 +262,29 @@ pub fn copy_file<F: Start, N: Start, P: Folder, W: Write, E: Write>(
     other: N,
     output: &mut W,
     errors: &mut E,
-) -> (Exit, Result<Copies<FileFrom<F>, FileFrom<N>>, Unread<F>>)
+) -> (
+    Exit,
+    Result<Copies<FileFrom<F>, FileFrom<N>>, CopyEnd<FileFrom<F>, FileFrom<N>>>,
+)
     ensures copied { IsCopied ⟦<FileFrom<N> as Disk>⟧ (image_at F.Start) (image_at N.Start)
+        words.now.database (P.steps folder.old) (P.steps folder.new)
         (ending result.0 (E.contents errors.old) (E.contents errors.new)) result.1
         (W.contents output.old) (W.contents output.new) }
     ensures named { IsNamedIf result.1 (string_bytes words.now.to) (P.steps folder.old) (P.steps folder.new) }
+    ensures own { LeavesOthers (string_bytes words.now.to) (P.steps folder.old) (P.steps folder.new) }
 {
     match copy_for(rt, folder, words, start, other, errors) {
         Ok(copies) => {
             let exit = print_holdings(rt.alloc(), &copies.1.1, output, errors);
             (exit, Ok(copies))
         }
-        Err(unread) => (conclude(errors, Err(unread.failure)), Err(unread)),
+        Err(uncopied) => (conclude(errors, Err(uncopied.failure)), Err(uncopied)),
     }
 }
 
 /// The exit status of a copy. What was copied, on whatever disk it is, is closed.
 pub fn status_copied<D: Disk + Drop, N: Disk + Drop>(
-    copied: (Exit, Result<Copies<D, N>, Unopened<FileStore<D>>>),
+    copied: (Exit, Result<Copies<D, N>, CopyEnd<D, N>>),
 ) -> u8
     ensures { result ≡ copied.0.status }
 {
@@ -229,7 +308,7 @@ fn print_holdings<W: Write, E: Write>(
 
 // Copies what a database holds to a new file. It is written under another name, which it loses once all is on
 // the disk: a copy that is cut off leaves nothing of the new name.
-#[tactic(auto, using(crate::proofs::NameLemmas::leaves_none, crate::proofs::KeepLemmas::tells_nothing))]
+#[tactic(auto, using(crate::proofs::NameLemmas::leaves_none, crate::proofs::NameLemmas::leaves_all))]
 fn copy_for<F: Start, N: Start, P: Folder, E: Write>(
     rt: &HostRuntime,
     folder: &mut P,
@@ -237,95 +316,107 @@ fn copy_for<F: Start, N: Start, P: Folder, E: Write>(
     start: F,
     other: N,
     errors: &mut E,
-) -> Result<Copies<FileFrom<F>, FileFrom<N>>, Unread<F>>
+) -> Result<Copies<FileFrom<F>, FileFrom<N>>, CopyEnd<FileFrom<F>, FileFrom<N>>>
     ensures made { IfOk result
         (IsCopyMade ⟦<FileFrom<N> as Disk>⟧ (image_at F.Start) (image_at N.Start)) }
-    ensures fault { IfErr result (FailsToLook (image_at F.Start)) }
+    ensures fault { IfErr result (FailsToCopy (image_at F.Start) (image_at N.Start) words.now.database
+        (P.steps folder.old) (P.steps folder.new)) }
     ensures quiet { OnOk result (E.contents errors.new ≡ E.contents errors.old) }
     ensures told { Tells (E.contents errors.old) (E.contents errors.new) }
     ensures named { IsNamedIf result (string_bytes words.now.to) (P.steps folder.old) (P.steps folder.new) }
+    ensures own { LeavesOthers (string_bytes words.now.to) (P.steps folder.old) (P.steps folder.new) }
 {
     let Database::File(path) = &words.database else {
-        return Err(Unopened::unread(OpenFault::Store));
+        return Err(Uncopied::untried(Failure::Store));
     };
     let names = names_of(rt.alloc(), &words.to)?;
-    if is_refused(rt, folder, &names, errors) {
-        return Err(Unopened::unread(OpenFault::Store));
+    if is_refused(rt.alloc(), folder, &names, errors) {
+        return Err(Uncopied::untried(Failure::Store));
     }
-    let copies = copy_to(rt, path, start, &names, other, errors)?;
+    let copies = copy_to(rt, folder, path, start, &names, other, errors)?;
     if !put_in_place(folder, &names) {
         let cause = "it can't be given its name, or its folder can't be synced";
         tell_of(rt.alloc(), &names.to, cause, errors);
-        return Err(Unopened::unread(OpenFault::Store));
+        return Err(Uncopied::untried(Failure::Store));
     }
     Ok(copies)
 }
 
-// Copies what the file at a path holds to new files under the names that they have first, or tells why not.
-fn copy_to<F: Start, N: Start, E: Write>(
+// Copies what the file at a path holds to new files under the names that they have first, or tells why not,
+// and removes what was made.
+#[tactic(auto, using(crate::proofs::NameLemmas::takes_none))]
+fn copy_to<F: Start, N: Start, P: Folder, E: Write>(
     rt: &HostRuntime,
+    folder: &mut P,
     path: &str,
     start: F,
     names: &Names,
     other: N,
     errors: &mut E,
-) -> Result<Copies<FileFrom<F>, FileFrom<N>>, Unread<F>>
+) -> Result<Copies<FileFrom<F>, FileFrom<N>>, CopyEnd<FileFrom<F>, FileFrom<N>>>
     ensures made { IfOk result
         (IsCopyMade ⟦<FileFrom<N> as Disk>⟧ (image_at F.Start) (image_at N.Start)) }
-    ensures fault { IfErr result (FailsToLook (image_at F.Start)) }
+    ensures fault { IfErr result (FailsAtFiles (image_at F.Start) (image_at N.Start)) }
     ensures quiet { OnOk result (E.contents errors.new ≡ E.contents errors.old) }
     ensures told { Tells (E.contents errors.old) (E.contents errors.new) }
+    ensures kept { OnOk result (P.steps folder.new ≡ P.steps folder.old) }
+    ensures gone { (to : List ℕ) → AreNames to names.now
+        → GivesUp to (P.steps folder.old) (P.steps folder.new) }
 {
     match copy_closed(rt, path, start, &names.part, other) {
         Ok(copies) => Ok(copies),
-        Err(unread) => {
-            give_up(rt, path, names, unread.failure, errors);
-            Err(unread)
+        Err(uncopied) => {
+            give_up(rt, folder, path, names, uncopied.failure, errors);
+            Err(uncopied)
         }
     }
 }
 
 // Copies what the file at a path holds to new files at another, and closes these.
-#[tactic(auto, using(crate::proofs::KeepLemmas::refused_fails))]
 fn copy_closed<F: Start, N: Start>(
     rt: &HostRuntime,
     path: &str,
     start: F,
     to: &str,
     other: N,
-) -> Result<Copies<FileFrom<F>, FileFrom<N>>, Unread<F>>
+) -> Result<Copies<FileFrom<F>, FileFrom<N>>, CopyEnd<FileFrom<F>, FileFrom<N>>>
     ensures made { IfOk result
         (IsCopyMade ⟦<FileFrom<N> as Disk>⟧ (image_at F.Start) (image_at N.Start)) }
-    ensures fault { IfErr result (FailsToLook (image_at F.Start)) }
+    ensures fault { IfErr result (FailsAtFiles (image_at F.Start) (image_at N.Start)) }
 {
     match copy_from(rt, path, start, to, other) {
         Ok(copied) => close_copy(copied),
-        Err(refused) => Err(Unopened::of(refused)),
+        Err(refused) => Err(refused_copy(&refused)),
     }
 }
 
 // Closes the store of a copy, on whatever disks it and what was copied are.
-#[tactic(auto, using(crate::proofs::KeepLemmas::copy_made, crate::proofs::KeepLemmas::store_fails))]
+#[tactic(auto, using(crate::proofs::KeepLemmas::copy_made, crate::proofs::KeepLemmas::fails_closing))]
 fn close_copy<D: Disk + Drop, N: Disk + Drop>(
     copied: Copied<D, N>,
-) -> Result<Copies<D, N>, Unopened<FileStore<D>>>
+) -> Result<Copies<D, N>, CopyEnd<D, N>>
     ensures made { (image other : Image) → AreCounted copied.1.1 copied.1.0.world
         → LooksIn image copied.0 copied.1.1.is_old copied.1.0.world → IsMadeIn other copied.1.0.held
         → IsSettledAt over_files copied.1.0.held copied.1.0.world
         → IfOk result (IsCopyMade N.Disk image other) }
-    ensures fault { (image : Image) → IfErr result (FailsToLook image) }
+    ensures fault { (image other : Image) → IsMadeIn other copied.1.0.held
+        → IfErr result (FailsAtFiles image other) }
 {
     let (connection, (store, holdings)) = copied;
     match store.close() {
         Ok(files) => Ok((connection, (files, holdings))),
-        Err(_) => Err(Unopened::unread(OpenFault::Store)),
+        Err(unclosed) => Err(Uncopied {
+            failure: Failure::Store,
+            unread: None,
+            unmade: None,
+            unclosed: Some(unclosed),
+        }),
     }
 }
 
 // Whether the new file can't be made, or there is something at one of its names, which is told.
-#[tactic(auto, using(crate::proofs::NameLemmas::free_chain))]
 fn is_refused<P: Folder, E: Write>(
-    rt: &HostRuntime,
+    alloc: Global,
     folder: &mut P,
     names: &Names,
     errors: &mut E,
@@ -334,32 +425,41 @@ fn is_refused<P: Folder, E: Write>(
     ensures told { Tells (E.contents errors.old) (E.contents errors.new) }
     ensures free { (to : List ℕ) → AreNames to names.now → result ≡ false
         → Follows (P.steps folder.old) (P.steps folder.new) (free_steps to) }
-    ensures unnamed { LeavesNames (P.steps folder.old) (P.steps folder.new) }
+    ensures refused { result ≡ true → IsNotFree (P.steps folder.old) (P.steps folder.new) }
 {
-    if is_taken(rt.alloc(), folder, &names.to, errors) {
+    if is_taken(alloc, folder, &names.to, errors) {
         return true;
     }
-    if is_taken(rt.alloc(), folder, &names.to_log, errors) {
+    if is_taken(alloc, folder, &names.to_log, errors) {
         return true;
     }
-    if is_taken(rt.alloc(), folder, &names.part, errors) {
+    if is_taken(alloc, folder, &names.part, errors) {
         return true;
     }
-    if is_taken(rt.alloc(), folder, &names.part_log, errors) {
+    if is_taken(alloc, folder, &names.part_log, errors) {
         return true;
     }
-    is_told(rt.alloc(), &names.part, room_cause(rt, &names.part), errors)
+    is_unmade(alloc, folder, &names.part, errors)
 }
 
 // Whether there can be no new file at a path, which is told.
+#[tactic(auto, using(crate::proofs::NameLemmas::takes_told))]
 fn is_taken<P: Folder, E: Write>(alloc: Global, folder: &mut P, path: &str, errors: &mut E) -> bool
     ensures quiet { result ≡ false → E.contents errors.new ≡ E.contents errors.old }
     ensures told { Tells (E.contents errors.old) (E.contents errors.new) }
-    ensures free { result ≡ false
-        → Follows (P.steps folder.old) (P.steps folder.new) (Free path.now ∷ []) }
-    ensures unnamed { LeavesNames (P.steps folder.old) (P.steps folder.new) }
+    ensures taken { Takes (P.steps folder.old) (P.steps folder.new) (not result) (Free path.now) }
 {
     is_told(alloc, path, new_cause(folder, path), errors)
+}
+
+// Whether a new file can't be made at a path, which is told; it is tried, and gone again.
+#[tactic(auto, using(crate::proofs::NameLemmas::takes_told))]
+fn is_unmade<P: Folder, E: Write>(alloc: Global, folder: &mut P, path: &str, errors: &mut E) -> bool
+    ensures quiet { result ≡ false → E.contents errors.new ≡ E.contents errors.old }
+    ensures told { Tells (E.contents errors.old) (E.contents errors.new) }
+    ensures tried { Takes (P.steps folder.old) (P.steps folder.new) (not result) (Tried path.now) }
+{
+    is_told(alloc, path, folder.try_file(path), errors)
 }
 
 // Tells a cause, if there is one, and whether there is.
@@ -367,7 +467,7 @@ fn is_taken<P: Folder, E: Write>(alloc: Global, folder: &mut P, path: &str, erro
 fn is_told<E: Write>(alloc: Global, path: &str, cause: Option<&'static str>, errors: &mut E) -> bool
     ensures quiet { result ≡ false → E.contents errors.new ≡ E.contents errors.old }
     ensures told { Tells (E.contents errors.old) (E.contents errors.new) }
-    ensures none { result ≡ false → cause.entry ≡ None }
+    ensures same { MatchOption cause.entry (result ≡ false) (λ _. result ≡ true) }
 {
     match cause {
         Some(cause) => {
@@ -380,10 +480,19 @@ fn is_told<E: Write>(alloc: Global, path: &str, cause: Option<&'static str>, err
 
 // Tells why nothing is copied, and removes what was made.
 #[tactic(auto, using(crate::proofs::KeepLemmas::tells_nothing))]
-fn give_up<E: Write>(rt: &HostRuntime, path: &str, names: &Names, failure: Failure, errors: &mut E)
-    ensures { Tells (E.contents errors.old) (E.contents errors.new) }
+fn give_up<P: Folder, E: Write>(
+    rt: &HostRuntime,
+    folder: &mut P,
+    path: &str,
+    names: &Names,
+    failure: Failure,
+    errors: &mut E,
+)
+    ensures told { Tells (E.contents errors.old) (E.contents errors.new) }
+    ensures gone { (to : List ℕ) → AreNames to names.now
+        → GivesUp to (P.steps folder.old) (P.steps folder.new) }
 {
-    if let Ok(false) = fs::exists(rt, names.part.as_str()) {
+    if folder.is_free(&names.part) {
         tell(rt, path, failure, errors);
         return;
     }
@@ -391,6 +500,6 @@ fn give_up<E: Write>(rt: &HostRuntime, path: &str, names: &Names, failure: Failu
         let cause = "it can't be written: a full disk, or one that fails";
         tell_of(rt.alloc(), &names.to, cause, errors);
     }
-    let _ = fs::remove_file(rt, names.part.as_str());
-    let _ = fs::remove_file(rt, names.part_log.as_str());
+    folder.remove(&names.part);
+    folder.remove(&names.part_log);
 }

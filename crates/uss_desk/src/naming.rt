@@ -1,21 +1,29 @@
 //! How a new file gets its name, once it is whole.
 
 ghost use Rattle.std.specs.Prelude.{◌≡◌, ℕ, ◌++◌, [], List, Option, None, false, true, IfOk, string_bytes};
-ghost use Rattle.uss_desk.specs.Naming.{AreNames, Follows, Free, IsUnnamed, Removed, Renamed, Step, Synced};
-ghost use Rattle.uss_desk.specs.Naming.{Takes, named_steps};
+ghost use Rattle.uss_desk.specs.Naming.{AreNames, ChangesOwn, Follows, Free, HasFailed, IsUnnamed, Removed};
+ghost use Rattle.uss_desk.specs.Naming.{Renamed, Step, Synced, Takes, TakesAll, TakesIfNone, Tried};
+ghost use Rattle.uss_desk.specs.Naming.{named_steps};
 
 use std::alloc::{AllocError, Global};
-use std::fs::{self, File};
-use std::io;
+use std::fs::{self, File, OpenOptions};
+use std::io::{self, ErrorKind};
+
+/// What is told of a path at which there is something.
+pub const TAKEN: &str = "it is there already";
 
 /// The folders in which a new file gets its name.
 pub trait Folder {
     /// What was asked of them, in its order, if it is known.
     ghost steps: { Self → Option (List Step) } = { λ _. None };
 
-    /// Whether there is nothing at a path.
+    /// Whether there is nothing at a path, and SQLite reads it as one.
     fn is_free(&mut self, path: &str) -> bool
         ensures { Takes (steps self.old) (steps self.new) result (Free path.now) };
+
+    /// Makes a file at a path, removes it, and answers why that could not be done, if so.
+    fn try_file(&mut self, path: &str) -> Option<&'static str>
+        ensures { TakesIfNone (steps self.old) (steps self.new) result (Tried path.now) };
 
     /// Removes a file, and answers whether that was done.
     fn remove(&mut self, path: &str) -> bool
@@ -45,7 +53,23 @@ impl<'s> LocalFolder<'s> {
 
 impl<'s> Folder for LocalFolder<'s> {
     fn is_free(&mut self, path: &str) -> bool {
-        matches!(fs::exists(self.rt, path), Ok(false))
+        !is_no_path(path) && matches!(fs::exists(self.rt, path), Ok(false))
+    }
+
+    fn try_file(&mut self, path: &str) -> Option<&'static str> {
+        let made = OpenOptions::new()
+            .write(true)
+            .create_new(true)
+            .open(self.rt, path);
+        match made.and_then(|_| fs::remove_file(self.rt, path)) {
+            Ok(()) => None,
+            Err(error) => Some(match error.kind() {
+                ErrorKind::AlreadyExists => TAKEN,
+                ErrorKind::NotFound => "no such folder",
+                ErrorKind::PermissionDenied => "no right to make it",
+                _ => "it can't be made",
+            }),
+        }
     }
 
     fn remove(&mut self, path: &str) -> bool {
@@ -59,6 +83,11 @@ impl<'s> Folder for LocalFolder<'s> {
     fn sync(&mut self, path: &str) -> bool {
         sync_folder(self.rt, path).is_ok()
     }
+}
+
+/// Whether SQLite reads a name otherwise than as a path.
+pub fn is_no_path(path: &str) -> bool {
+    path == ":memory:" || path.starts_with("file:")
 }
 
 // Syncs the folder of a path.
@@ -117,6 +146,9 @@ pub fn put_in_place<N: Folder>(folder: &mut N, names: &Names) -> bool
         → Follows (N.steps folder.old) (N.steps folder.new) (named_steps to (Synced to)) }
     ensures unnamed { (to : List ℕ) → AreNames to names.now → result ≡ false
         → IsUnnamed [] to (N.steps folder.old) (N.steps folder.new) }
+    ensures own { (to : List ℕ) → AreNames to names.now
+        → TakesAll (ChangesOwn to) (N.steps folder.old) (N.steps folder.new) }
+    ensures failed { result ≡ false → HasFailed (N.steps folder.old) (N.steps folder.new) }
 {
     if !folder.remove(&names.part_log) {
         return false;

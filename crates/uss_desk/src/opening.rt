@@ -1,6 +1,7 @@
 //! What a line is carried out at: a desk over the database that it names, or why that can't be opened.
 
 ghost use Rattle.std.specs.Prelude.{◌≡◌, IfErr, IfOk};
+ghost use Rattle.std.specs.Option.{IsSomeAnd};
 ghost use Rattle.sqlite_wal.specs.Files.{image_at};
 ghost use Rattle.uss_desk.specs.Opening as spec;
 ghost use Rattle.uss_desk.specs.Opening.{IsBlank, IsMemory, IsMovedAt, IsMovedIn, IsOpenedAt, IsOpenedFor};
@@ -28,30 +29,30 @@ pub type FileDesk<F> = Desk<SqliteStore<FileStore<FileFrom<F>>>>;
 pub struct Unopened<S: Alter> {
     /// The failure with which the line ends.
     pub failure: Failure,
-    /// The fault, and the connection that read the database, if there was one.
-    pub refused: Snapshot<FilesFault<S>>,
+    /// What refused the files, if files were asked for.
+    pub refused: Option<Snapshot<FilesFault<S>>>,
 }
 
 impl<D: Disk + Drop> Unopened<FileStore<D>> {
     /// Files were refused. Their connection is closed, so that they can be looked at again.
     pub fn of(refused: FilesFault<FileStore<D>>) -> Unopened<FileStore<D>>
         ensures failure { result.failure ≡ spec.open_failure refused.fault }
-        ensures refused { result.refused.value ≡ refused }
+        ensures refused { IsSomeAnd result.refused (λ s. s.value ≡ refused) }
     {
         Unopened {
             failure: open_failure(&refused.fault),
-            refused: Snapshot::of(&refused),
+            refused: Some(Snapshot::of(&refused)),
         }
     }
 
-    /// Nothing in the database was read.
+    /// No files were asked for.
     pub fn unread(fault: OpenFault) -> Unopened<FileStore<D>>
         ensures { IsUnreadFor result fault }
     {
-        Unopened::of(FilesFault {
-            fault,
-            connection: None,
-        })
+        Unopened {
+            failure: open_failure(&fault),
+            refused: None,
+        }
     }
 }
 

@@ -1,6 +1,5 @@
 -- Slabs parted at a gap.
-use Rattle.std.proofs.Common.{◌≡◌, ℕ, ◌<◌, ◌≤◌, Bool, true, false, ◌||◌, List, length, get_or, take, drop, sym, ap, ◌∙◌, arith, take-append-drop}
-use Rattle.std.specs.List.{list_any}
+use Rattle.std.proofs.Common.{◌≡◌, ℕ, ◌<◌, ◌≤◌, true, ◌||◌, List, length, get_or, take, drop, sym, ap, ◌∙◌, arith, take-append-drop}
 use Rattle.std.proofs.lemmas.List.Folds.{list_any-append}
 use Rattle.s2_hilbert.specs.Curve.{position_of}
 use Rattle.volume4d.specs.declared.slab.Slab.{Slab}

@@ -1,7 +1,6 @@
 -- How many cells the canonical cover of a footprint has.
-use Rattle.std.proofs.Common.{◌≡◌, ℕ, ◌*◌, ◌^◌, ◌≤◌, Bool, true, false, List, [], ◌∷◌, length, refl, sym, ap, subst, ◌∙◌, arith, inl, inr, IsTrue}
+use Rattle.std.proofs.Common.{◌≡◌, ℕ, ◌*◌, ◌^◌, ◌≤◌, Bool, false, List, [], ◌∷◌, length, refl, sym, subst, ◌∙◌, arith, inl, inr, IsTrue}
 use Rattle.std.specs.Prelude.{All, Contains, nat_le, nat_eq}
-use Rattle.std.specs.List.{list_any}
 use Rattle.std.proofs.lemmas.Bool.{cases_lt, and_left, and_parts, false_from_ne_true, leb-true, or_from}
 use Rattle.std.proofs.lemmas.Bool.Decides.{nat_tests}
 use Rattle.std.proofs.lemmas.List.Elements.{All-head, All-tail, All-contains}
@@ -11,7 +10,7 @@ use Rattle.s2_cellid.specs.laws.Family.{position_in}
 use Rattle.s2_cover.specs.Canonical.{IsCanonical}
 use Rattle.s2_cover.specs.CanonicalList.{canonical_list}
 use Rattle.s2_cover.specs.Leaves.{leaves_of}
-use Rattle.s2_cover.specs.Rectangles.{RectParts, IsRect, widened, wide_has, wide_set, rect_leaves}
+use Rattle.s2_cover.specs.Rectangles.{RectParts, IsRect, wide_set, rect_leaves}
 use Rattle.volume4d.specs.Limits.{max_cells, max_cover}
 use Rattle.volume4d.specs.Shape.{Shape, cells, rectangle, is_footprint, shape_positions}
 use Rattle.volume4d.specs.FootprintBytes.{HasValidParts}

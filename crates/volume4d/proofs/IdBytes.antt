@@ -3,7 +3,7 @@ use Rattle.std.specs.Prelude.{◌≡◌, ℕ, suc, zero, ◌+◌, ◌*◌, ◌^�
 use Rattle.std.specs.List.{flat_map}
 use Rattle.std.specs.Int.{w64, to_be_bytes, from_be_bytes}
 use Rattle.std.specs.Simd.{first_chunks}
-use Rattle.std.proofs.Common.{ap, ap₂, sym, ◌∙◌, arith, get_or}
+use Rattle.std.proofs.Common.{ap₂, sym, ◌∙◌, arith, get_or}
 use Rattle.std.proofs.lemmas.Nat.{be_bytes_8, from_be_bytes-to_be_bytes_8}
 use Rattle.std.proofs.lemmas.List.{length-append, length-take-le, length-drop, take-append-drop, get_or-drop, nil_from_length}
 use Rattle.s2_cellid.specs.Cell.{IsCellId}

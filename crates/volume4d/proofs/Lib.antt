@@ -6,6 +6,7 @@ pub mod LeafTests
 pub mod FootprintRanges
 pub mod CoverCounts
 pub mod SlabPoints
+pub mod SpanLemmas
 pub mod Filled
 pub mod PointsIn
 pub mod BoundLemmas

@@ -1,9 +1,10 @@
 -- What a volume keeps beside its footprint, and why a footprint is refused.
-use Rattle.std.specs.Prelude.{◌≡◌, ◌<◌, false, IsTrue, List, length}
+use Rattle.std.specs.Prelude.{◌≡◌, ◌<◌, ◌≤◌, false, IsTrue, List, length}
 use Rattle.s2_cover.specs.declared.spans.Span.{Span}
 use Rattle.s2_cover.specs.Ranges.{IsRanges}
 use Rattle.volume4d.specs.declared.fault.VolumeFault.{VolumeFault}
 use Rattle.volume4d.specs.declared.fault.VolumeFault.TheVariants.{Cells, TooManyCells, OutOfMemory}
+use Rattle.volume4d.specs.Limits.{max_cover}
 use Rattle.volume4d.specs.Shape.{Shape, cells, rectangle, shape_positions, is_footprint}
 
 -- a footprint within the limits, and its leaves as ranges of positions
@@ -11,6 +12,7 @@ pub record HasRanges (shape : Shape) (spans : List Span) : Type 0 where
   pub limits : IsTrue (is_footprint shape)
   pub ranges : IsRanges (shape_positions shape) spans
   pub some : 0 < length spans
+  pub few : length spans ≤ max_cover
 
 -- the fault of a footprint past its limit
 abbrev pub limit_fault : Shape → VolumeFault

@@ -11,6 +11,7 @@ pub mod Level
 pub mod Slab
 pub mod Bounds
 pub mod Slabs
+pub mod SpanCounts
 pub mod Meeting
 pub mod Shared
 pub mod Sweep

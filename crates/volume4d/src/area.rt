@@ -1,12 +1,13 @@
 //! Areas: the volumes of a plan.
 
-ghost use Rattle.std.specs.Prelude.{◌≡◌, ◌<◌, Some, None, if◌then◌else◌, IsTrue, IfOk, length};
+ghost use Rattle.std.specs.Prelude.{◌≡◌, ◌*◌, ◌<◌, ◌≤◌, Some, None, if◌then◌else◌, IsTrue, IfOk, length};
 ghost use Rattle.std.specs.List.Sorted.{IsPermutation, IsNonDecreasingBy};
-ghost use Rattle.volume4d.specs.Limits.{within_volumes};
+ghost use Rattle.volume4d.specs.Limits.{max_cover, max_volumes, within_volumes};
 ghost use Rattle.volume4d.specs.Point.{Point};
 ghost use Rattle.volume4d.specs.Slab.{slabs_have};
 ghost use Rattle.volume4d.specs.Bounds.{AreFilled, IsBounds};
 ghost use Rattle.volume4d.specs.Slabs.{AreAreaSlabs, AreSortedSlabs};
+ghost use Rattle.volume4d.specs.SpanCounts.{area_spans};
 ghost use Rattle.volume4d.specs.Volume.{is_area, area_has};
 
 use crate::bounds::bounds_of;
@@ -69,6 +70,14 @@ impl Area {
         ensures filled { IfOk result (λ slabs. AreFilled slabs.items) }
     {
         ascending(*self.volumes.allocator(), &self.volumes)
+    }
+
+    /// How many slabs the area has: one for each range of each of its volumes.
+    pub fn span_count(&self) -> u32
+        ensures value { result ≡ area_spans self.now }
+        ensures few { result ≤ max_volumes * max_cover }
+    {
+        spans_in(&self.volumes)
     }
 
     /// The smallest slab that has all points of the area.
@@ -147,4 +156,17 @@ fn is_count(count: usize) -> bool
         return false;
     }
     count <= MAX_VOLUMES
+}
+
+// How many slabs volumes have, of which there are as many as an area may have.
+fn spans_in(volumes: &[Volume]) -> u32
+    requires { length volumes.now ≤ max_volumes }
+    ensures value { result ≡ area_spans volumes.now }
+    ensures few { result ≤ max_volumes * max_cover }
+{
+    let mut spans = 0;
+    for volume in volumes {
+        spans += volume.span_count();
+    }
+    spans
 }

@@ -13,6 +13,7 @@ ghost use Rattle.volume4d.specs.Attributes.{HasRanges, IsFaultOf};
 
 use crate::fault::VolumeFault;
 use s2_cellid::CellId;
+use s2_cover::laws::{ranges_are_counted, ranges_are_few};
 use s2_cover::{CoverFault, Ranges, Rect, cover, normalise};
 use std::alloc::{AllocError, Global};
 
@@ -117,6 +118,8 @@ fn cell_ranges(alloc: Global, cells: &[CellId]) -> Result<Ranges, VolumeFault>
     if !is_count(cells.len()) {
         return Err(VolumeFault::Cells);
     }
+    ranges_are_counted();
+    ranges_are_few();
     Ok(normalise(alloc, cells)?.ranges()?)
 }
 
@@ -125,6 +128,8 @@ fn rect_ranges(alloc: Global, rect: &Rect) -> Result<Ranges, VolumeFault>
     ensures ok { IfOk result (HasRanges (shapes.rectangle rect.now)) }
     ensures err { IfErr result (IsFaultOf (shapes.rectangle rect.now)) }
 {
+    ranges_are_counted();
+    ranges_are_few();
     match cover(alloc, rect, MAX_COVER) {
         Ok(cover) => Ok(cover.ranges()?),
         Err(CoverFault::TooManyCells { .. }) => Err(VolumeFault::TooManyCells),

@@ -5,9 +5,12 @@ ghost use Rattle.s2_cover.specs.CanonicalList.{canonical_list};
 ghost use Rattle.volume4d.specs.Limits.{max_cover};
 ghost use Rattle.volume4d.specs.Shape.{Shape, is_footprint, shape_positions};
 ghost use Rattle.volume4d.specs.FootprintBytes.{HasValidParts, footprint_bytes};
+ghost use Rattle.volume4d.specs.SpanCounts.{volume_spans};
+ghost use Rattle.volume4d.specs.Volume.{Block};
 
 use s2_cover::laws::{
-    canonical_list_is, equal_sets_have_equal_covers, one_canonical_list, shortest,
+    canonical_list_exists, canonical_list_is, equal_sets_have_equal_covers, one_canonical_list,
+    ranges_are_few, shortest,
 };
 
 /// Two footprints that have the same bytes are the same.
@@ -25,4 +28,16 @@ pub fn covers_are_few()
     equal_sets_have_equal_covers();
     canonical_list_is();
     shortest();
+}
+
+/// A volume takes at most as many spans as the cover of a rectangle may have cells.
+pub fn spans_are_few()
+    ensures { (v : Block) → IsTrue (is_footprint v.footprint) → HasValidParts v.footprint
+        → volume_spans v ≤ max_cover }
+{
+    covers_are_few();
+    one_canonical_list();
+    canonical_list_exists();
+    canonical_list_is();
+    ranges_are_few();
 }

@@ -1,11 +1,13 @@
 //! Volumes.
 
-ghost use Rattle.std.specs.Prelude.{◌≡◌, IsTrue, IfOk, IfErr, All};
+ghost use Rattle.std.specs.Prelude.{◌≡◌, ◌≤◌, IsTrue, IfOk, IfErr, All};
 ghost use Rattle.s2_cover.specs.Canonical.{IsCanonical};
 ghost use Rattle.s2_cover.specs.Ranges.{IsSpan};
 ghost use Rattle.volume4d.specs.Point.{Point};
 ghost use Rattle.volume4d.specs.Windows.{is_window};
 ghost use Rattle.volume4d.specs.Footprint.{shape_of};
+ghost use Rattle.volume4d.specs.Limits.{max_cover};
+ghost use Rattle.volume4d.specs.SpanCounts.{volume_spans};
 ghost use Rattle.volume4d.specs.Shape.{shape_positions, is_footprint};
 ghost use Rattle.volume4d.specs.Volume.{block_has};
 ghost use Rattle.volume4d.specs.Slab.{slabs_have, span_of, slab_window};
@@ -17,6 +19,7 @@ use crate::fault::VolumeFault;
 use crate::footprint::Footprint;
 use crate::slab::Slab;
 use crate::window::Window;
+use s2_cover::laws::ranges_are_counted;
 use s2_cover::{Cover, Ranges, Span};
 use std::alloc::{AllocError, Global};
 use std::marker::Model;
@@ -104,6 +107,15 @@ impl Volume {
         ensures filled { IfOk result (λ slabs. AreFilled slabs.items) }
     {
         slabs_of(self.alloc, self.ranges.spans(), self.window)
+    }
+
+    /// How many slabs the volume has: one for each range of the footprint's leaves along the S2 curve.
+    pub fn span_count(&self) -> u32
+        ensures value { result ≡ volume_spans self.now }
+        ensures few { result ≤ max_cover }
+    {
+        ranges_are_counted();
+        self.ranges.spans().len() as u32
     }
 
     /// The canonical cover of the footprint's leaves: for a rectangle the cover that its limit speaks of.

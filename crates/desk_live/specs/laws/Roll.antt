@@ -1,11 +1,12 @@
 -- The roll before a change and after it, with proofs.
-use Rattle.std.proofs.Common.{◌≡◌, ℕ, Bool, true, false, cond, not, List, [], ◌∷◌, ◌++◌, map, Option, Some, None, refl, sym, ap, subst, ◌∙◌, Less, Equal, Greater}
+use Rattle.std.proofs.Common.{◌≡◌, ℕ, ◌+◌, Bool, true, false, cond, not, List, [], ◌∷◌, ◌++◌, map, Option, Some, None, refl, sym, ap, subst, ◌∙◌, Less, Equal, Greater}
 use Rattle.std.specs.List.{filter, find}
 use Rattle.std.specs.Option.{is_some, option_and_then, option_map}
 use Rattle.std.specs.declared.cmp.Ordering.{Ordering}
 use Rattle.std.specs.Ordering.{is_eq, match_ordering, ordering_reverse}
 use Rattle.std.specs.Cmp.Lexicographic.{nat_list_cmp_total}
 use Rattle.std.proofs.lemmas.Cmp.{tied_itself}
+use Rattle.std.proofs.lemmas.List.Sums.{sum_by-cons}
 use Rattle.std.proofs.lemmas.Map.Lookups.{exact_bytes}
 use Rattle.desk_rules.specs.declared.plan.PlanRow.{PlanRow}
 use Rattle.desk_rules.specs.States.{states_in, states_of}
@@ -20,7 +21,7 @@ use Rattle.desk_store.specs.declared.change.Change.{Change}
 use Rattle.desk_store.specs.declared.change.Change.TheVariants.{Enrol, Put, Close, Clear}
 use Rattle.desk_live.specs.declared.account.PlanState.{PlanState}
 use Rattle.desk_live.specs.declared.account.Account.{Account}
-use Rattle.desk_live.specs.Roll.{Accounts, AreAccountsOf, account_in, ceiling_after, ceiling_in, close_if, has_id, is_named, named_by, or_else, plans_after, plans_in, plans_or_none, put_state, state_of}
+use Rattle.desk_live.specs.Roll.{Accounts, AreAccountsOf, account_in, ceiling_after, ceiling_in, close_if, has_id, is_named, named_by, or_else, plans_after, plans_in, plans_or_none, put_state, spans_beside, spans_unless, state_of}
 
 -- ---- names
 
@@ -320,3 +321,11 @@ states_found id (r ∷ rows) = go (is_eq (text_cmp id r.id)) (states_found id ro
       ≡ option_map states_in (cond b (Some r) (find (world.has_id id) rows))
   go true ih = refl
   go false ih = ih
+
+pub spans_found : (id : List ℕ) (rows : List PlanRow)
+    → spans_beside id (map state_of rows) ≡ world.spans_beside id rows
+unfolding world.spans_beside
+spans_found id [] = refl
+spans_found id (r ∷ rows) =
+    sum_by-cons (spans_unless id) (state_of r) (map state_of rows)
+    ∙ ap (λ n. spans_unless id (state_of r) + n) (spans_found id rows)

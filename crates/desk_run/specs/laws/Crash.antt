@@ -18,15 +18,15 @@ pub still_settled : {old new : Option World → Type 0} {v w : World} → Leaves
 still_settled read only same found may = only found (read found may) ∙ ap Some (sym same)
 
 module _ {S : Type 0} (content : S → World) (may_leave : S → Option World → Type 0) where
-  -- of a store, and of a desk over it whose permitted priorities stay
+  -- of a store, and of a desk over it whose terms stay
   pub settled_desk : (inside old : Parts S) (new : S) → inside ≡ old
       → LeavesOnly (content new) (may_leave new)
       ⊎ ((content new ≡ content inside.store)
       × LeavesNoMore (may_leave inside.store) (may_leave new))
-      → IsSettledOrSame content may_leave old (record { store = new; permitted = inside.permitted })
+      → IsSettledOrSame content may_leave old (record { store = new; terms = inside.terms })
   settled_desk inside old new is (inl settled) = inl settled
   settled_desk inside old new is (inr same) = inr (
-    ap (with_content inside.permitted) same.0 ∙ ap (world_of content) is,
+    ap (with_content inside.terms) same.0 ∙ ap (world_of content) is,
     subst (λ d. LeavesNoMore (may_leave d.store) (may_leave new)) is same.1,
   )
 

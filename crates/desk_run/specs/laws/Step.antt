@@ -29,7 +29,7 @@ pub others_stay :
 unfolding step
 others_stay w o q moment asked e = λ i. record {
   own = others_changed w.content o q (ruling_in w o moment asked).plans e i;
-  permitted = w.permitted;
+  terms = w.terms;
 }
 
 own_changed :
@@ -45,7 +45,7 @@ pub own_stays :
 unfolding step side_left own
 own_stays w o moment asked = λ i. record {
   own = own_changed w.content o (ruling_in w o moment asked).plans i;
-  permitted = w.permitted;
+  terms = w.terms;
 }
 
 -- closing a closed plan leaves the world as it is
@@ -58,7 +58,7 @@ closing_closed w o id moment row h stored shut =
     ap (λ v. record w { content = v }) (by_ceiling (ceiling_of o w.content)) where
       by_ceiling :
           (c : Option ℕ) → world_with_plans w.content o
-          (ruling_under c w.permitted (own w.content o) (held_in w o) moment (Delete id)).plans ≡ w.content
+          (ruling_under c w.terms (own w.content o) (held_in w o) moment (Delete id)).plans ≡ w.content
       by_ceiling None = refl
       by_ceiling (Some c) =
           ap (λ s. world_with_plans w.content o (delete_ruling (plans_of o w.content) id s).plans) stored

@@ -1,7 +1,6 @@
 -- Laws of two runs of calls, with their proofs: what an operator is told, and what it owns.
-use Rattle.std.proofs.Common.{◌≡◌, ℕ, true, List, [], ◌∷◌, Less, Equal, Greater, refl, sym, ap, subst, ◌∙◌}
+use Rattle.std.proofs.Common.{◌≡◌, ℕ, true, List, [], ◌∷◌, refl, sym, ap, subst, ◌∙◌}
 use Rattle.std.specs.List.{AllZip}
-use Rattle.std.specs.declared.cmp.Ordering.{Ordering}
 use Rattle.std.specs.Ordering.{is_eq}
 use Rattle.std.proofs.lemmas.Map.Lookups.{exact_bytes}
 use Rattle.desk_store.specs.World.{own, text_cmp}
@@ -19,7 +18,7 @@ same_name o name e = exact_bytes o name (is_equal (text_cmp o name) e)
 
 -- what is told, and what is left to its operator, by its side and what others hold
 abbrev pub tell : Side → Levels → TimedCall → Told
-tell mine levels call = (verdict mine.permitted mine.own levels call.0 call.1.call).told
+tell mine levels call = (verdict mine.terms mine.own levels call.0 call.1.call).told
 
 abbrev pub keep : Side → Levels → TimedCall → Side
 keep mine levels call = side_left mine levels call.0 call.1.call
@@ -30,7 +29,7 @@ told_at w call = told_to w call.1.operator call.0 call.1.call
 pub seen : (o : List ℕ) → IsSeenBy caller o told_at tell
 unfolding told_to
 seen o w call e =
-    ap (λ name. (verdict w.permitted (own w.content name) (held_in w name) call.0 call.1.call).told)
+    ap (λ name. (verdict w.terms (own w.content name) (held_in w name) call.0 call.1.call).told)
     (sym (same_name o call.1.operator e))
 
 pub kept : (o : List ℕ) → IsKeptBy caller o left keep

@@ -1,26 +1,29 @@
 //! Requests to plan, decided over a store.
 
-ghost use Rattle.std.specs.Prelude.{◌≡◌, ◌≤◌, length, Option, Some, None, true, false, cond, IfOk, IfErr};
+ghost use Rattle.std.specs.Prelude.{◌≡◌, ◌+◌, ◌≤◌, length, Option, Some, None, true, false, cond, IfOk, IfErr};
 ghost use Rattle.desk_run.specs.CallFaults.{IsStoreCounted};
 ghost use Rattle.desk_store.specs.StoreFrames.{OnlyReads};
 ghost use Rattle.desk_store.specs.StoreFaults.{IsHonest, IsCounted};
 ghost use Rattle.desk_rules.specs.Limits.{max_priority};
-ghost use Rattle.desk_store.specs.World.{own, ceiling_of, plans_of, stored_of, held};
+ghost use Rattle.desk_store.specs.World.{own, ceiling_of, plans_of, spans_beside, stored_of, held};
 ghost use Rattle.desk_run.specs.Calls.{Readies, change_after};
-ghost use Rattle.desk_rules.specs.Outcome.{outcome_from, is_check};
+ghost use Rattle.desk_rules.specs.Outcome.{outcome_under, is_check};
 ghost use Rattle.desk_rules.specs.States.{states_of, step_from};
+ghost use Rattle.desk_rules.specs.Terms.{exceeds};
+ghost use Rattle.volume4d.specs.SpanCounts.{area_spans};
 ghost use Rattle.volume4d.specs.Meeting.{Spot};
 ghost use Rattle.desk_run.specs.Verdicts.{put_ruling, put_outcome_in, row_asked, conflict_in};
 
 use super::Pending;
 use super::conflict::conflict_of;
 use crate::fault::DeskFault;
-use desk_rules::decide::{Effect, Verdict, decide_from};
+use desk_rules::decide::{Effect, Standing, Verdict, decide_under};
 use desk_rules::operator::Operator;
 use desk_rules::permission::Permitted;
 use desk_rules::plan::{PlanRow, PutCall, States};
 use desk_rules::plan_id::PlanId;
 use desk_rules::reply::{PutReply, Reply};
+use desk_rules::terms::Terms;
 use desk_rules::transition::{Step, transition_from};
 use desk_store::{Change, PlanStore, StoreFault};
 use std::alloc::AllocError;
@@ -29,7 +32,7 @@ use volume4d::Meeting;
 // Gets the reply to a request of an operator under a ceiling ready.
 pub fn ready_put<S: PlanStore>(
     store: &mut S,
-    permitted: &Permitted,
+    terms: &Terms,
     moment: i64,
     operator: &Operator,
     put: &PutCall,
@@ -40,12 +43,12 @@ pub fn ready_put<S: PlanStore>(
     requires low { IsHonest (S.doubt store.old) → ceiling ≤ max_priority }
     ensures value { IsHonest (S.doubt store.new) → Readies (S.content store.old) operator.now
         (put_ruling
-        (put_outcome_in permitted.now (S.content store.old) operator.now ceiling moment put.now)
+        (put_outcome_in terms.now (S.content store.old) operator.now ceiling moment put.now)
         put.now (plans_of operator.now (S.content store.old))) result }
     ensures reads { OnlyReads S.content S.doubt S.faults S.may_leave S.is_shielded store.old store.new }
     ensures cause { IfErr result (IsStoreCounted S.faults store.old store.new) }
 {
-    let verdict = verdict_on(store, permitted, moment, operator, put, ceiling)?;
+    let verdict = verdict_on(store, terms, moment, operator, put, ceiling)?;
     let change = change_for(verdict.effect, operator, put)?;
     let reply = Reply::Answered(reply_of(&verdict));
     Ok(Pending { reply, change })
@@ -70,42 +73,42 @@ fn reply_of(verdict: &Verdict) -> PutReply
 // The verdict on a request of an operator under a ceiling.
 fn verdict_on<S: PlanStore>(
     store: &mut S,
-    permitted: &Permitted,
+    terms: &Terms,
     moment: i64,
     operator: &Operator,
     put: &PutCall,
     ceiling: u32,
 ) -> Result<Verdict, StoreFault>
     ensures verdict { IsHonest (S.doubt store.new) → IfOk result (λ v.
-        v ≡ put_outcome_in permitted.now (S.content store.old) operator.now ceiling moment
+        v ≡ put_outcome_in terms.now (S.content store.old) operator.now ceiling moment
         put.now) }
     ensures reads { OnlyReads S.content S.doubt S.faults S.may_leave S.is_shielded store.old store.new }
     ensures cause { IfErr result (IsCounted S.faults store.old store.new) }
 {
     let (stored, own_rows) = states_and_count(store, operator, &put.id)?;
-    let needed = needs_conflict(put, moment, stored, own_rows, ceiling);
-    let meeting = conflict_if(needed, store, permitted, operator, put)?;
-    Ok(decide_from(put, moment, stored, own_rows, ceiling, meeting))
+    let is_over = is_over(store, terms, operator, put)?;
+    let standing = Standing {
+        own_rows,
+        ceiling,
+        is_over,
+    };
+    let needed = needs_conflict(put, moment, stored, &standing);
+    let meeting = conflict_if(needed, store, &terms.permitted, operator, put)?;
+    Ok(decide_under(put, moment, stored, &standing, meeting))
 }
 
 // Whether a conflict may change the verdict on a request: nothing else refuses it, and the state table
 // says that it is checked.
 #[tactic(auto, using(crate::proofs::OutcomeLemmas::settled))]
-fn needs_conflict(
-    put: &PutCall,
-    moment: i64,
-    stored: Option<States>,
-    own_rows: u32,
-    ceiling: u32,
-) -> bool
+fn needs_conflict(put: &PutCall, moment: i64, stored: Option<States>, standing: &Standing) -> bool
     ensures settled { result ≡ false → (conflict : Option Spot) →
-        outcome_from put.now moment stored own_rows ceiling conflict
-        ≡ outcome_from put.now moment stored own_rows ceiling None }
+        outcome_under put.now moment stored standing.now conflict
+        ≡ outcome_under put.now moment stored standing.now None }
     ensures unrefused { result ≡ true →
-        (outcome_from put.now moment stored own_rows ceiling None).note ≡ None }
+        (outcome_under put.now moment stored standing.now None).note ≡ None }
     ensures checked { result ≡ true → is_check (step_from stored put.now) ≡ true }
 {
-    let verdict = decide_from(put, moment, stored, own_rows, ceiling, None);
+    let verdict = decide_under(put, moment, stored, standing, None);
     verdict.note.is_none() && is_checked(transition_from(stored, put))
 }
 
@@ -155,6 +158,27 @@ fn states_and_count<S: PlanStore>(
     }
     let own_rows = store.own_count(operator)?;
     Ok((stored, own_rows))
+}
+
+// Whether the operator's live plans would have more spans than they may have, with the requested one in
+// place of that of its id. Nothing is counted if any number will do.
+fn is_over<S: PlanStore>(
+    store: &mut S,
+    terms: &Terms,
+    operator: &Operator,
+    put: &PutCall,
+) -> Result<bool, StoreFault>
+    ensures value { IsHonest (S.doubt store.new) → IfOk result (λ over.
+        over ≡ exceeds terms.now.spans (spans_beside put.now.id
+        (plans_of operator.now (S.content store.old)) + area_spans put.now.area)) }
+    ensures reads { OnlyReads S.content S.doubt S.faults S.may_leave S.is_shielded store.old store.new }
+    ensures cause { IfErr result (IsCounted S.faults store.old store.new) }
+{
+    if terms.spans.is_none() {
+        return Ok(false);
+    }
+    let others = store.own_spans(operator, &put.id)?;
+    Ok(terms.is_exceeded_by(u64::from(others) + u64::from(put.area.span_count())))
 }
 
 // The change that an effect is.

@@ -5,7 +5,7 @@ ghost use Rattle.desk_sql.specs.Rows.{operator_row, plan_row, AddsOperator, Adds
 ghost use Rattle.desk_sql.specs.Effects.{IsReady};
 ghost use Rattle.desk_sql.specs.Calls.{IsChanged};
 ghost use Rattle.desk_sql.specs.Changing.{FitsOperator, FitsPlan};
-ghost use Rattle.desk_sql.specs.Putting.{TakesRoom};
+ghost use Rattle.desk_sql.specs.Putting.{TakesOperators, TakesRoom};
 
 use crate::changing::change::Change;
 use crate::changing::execute::execute;
@@ -62,7 +62,7 @@ pub fn insert_operator<S: Alter>(
     ensures same_reference { tx.new.conn.ghost_name ≡ tx.old.conn.ghost_name }
     ensures changed { IsChanged S.Store tx.old.conn.now tx.new.conn.now result
         (AddsOperator (operator_row name.now ceiling))
-        (FitsOperator name.now (operator_row name.now ceiling)) (λ _ _. ⊤) }
+        (FitsOperator name.now (operator_row name.now ceiling)) (TakesOperators 1) }
 {
     execute(tx, Change::AddOperator { name, ceiling })
 }

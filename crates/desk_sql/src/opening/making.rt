@@ -155,7 +155,6 @@ pub fn complete_tables<S: Alter>(
     ensures cause { HasSmallSpans (tables_at made (state S.Store connection.old).now.trees)
         → HasCleanDisk (state S.Store connection.new) → IsTrue (state S.Store connection.new).is_open
         → IfErr result (IsRefusal S.Store connection.old connection.new) }
-    ensures limit { connection.new.step_limit ≡ connection.old.step_limit }
     ensures over { IsOver S.Store connection.old connection.new }
     ensures crash { MayComplete S.Store made connection.old connection.new }
 {

@@ -1,18 +1,19 @@
 //! Whether the rowids of the tables are whole numbers, none of them twice.
 
-ghost use Rattle.std.specs.Prelude.{◌≡◌, ◌↔◌, [], ◌∷◌, true, false, IsTrue, OnOk, OnErr, IfErr};
+ghost use Rattle.std.specs.Prelude.{◌≡◌, ◌&&◌, List, [], ◌∷◌, true, false, IsTrue, OnOk, OnErr, IfErr};
+ghost use Rattle.sqlite.specs.Order.{Row as Values};
 ghost use Rattle.sqlite.specs.Tree.{rowid};
 ghost use Rattle.sqlite.specs.State.{HasCleanDisk};
 ghost use Rattle.sqlite.specs.Held.{state};
 ghost use Rattle.desk_sql.specs.Schema.{HasTable, schema_of, has_table, is_old, tree_of};
 ghost use Rattle.desk_sql.specs.Rows.{AreNumbered, IsMadeTo};
-ghost use Rattle.desk_sql.specs.Refusals.{IsUnnumbered, IsUnread};
+ghost use Rattle.desk_sql.specs.Refusals.{IsUnnumbered, IsUnread, but_memory};
 ghost use Rattle.desk_sql.specs.Statements.{SelectsAll, rowids};
-ghost use Rattle.desk_sql.specs.Finding.{Holds, AreRising, next_above};
+ghost use Rattle.desk_sql.specs.Finding.{Holds, next_above, rises};
 ghost use Rattle.desk_sql.specs.Frames.{OnlyReads};
 
 use crate::opening::finding::TablesPresent;
-use crate::reading::asking::ask;
+use crate::reading::taking::{RowSink, hand_rows};
 use sqlite::{Alter, Connection, Error, ErrorCode, Row};
 use sqlite_value::value::ValueRef;
 
@@ -29,32 +30,68 @@ fn next_above(last: Option<i64>, row: &Row) -> Option<i64>
     }
 }
 
-/// Whether the rowids are whole numbers, each above the one before.
-fn are_rising(rows: &[Row]) -> bool
-    ensures { IsTrue result ↔ AreRising rows.now }
-{
-    let mut last = None;
-    for row in rows {
-        let Some(rowid) = next_above(last, row) else {
-            return false;
-        };
-        last = Some(rowid);
+/// Rowids that are taken one at a time: the last of them, and whether each was a whole number, and above the
+/// one before.
+#[derive(Drop)]
+struct Rowids {
+    last: Option<i64>,
+    rise: bool,
+}
+
+impl Rowids {
+    // Takes the next.
+    fn add(&mut self, row: &Row)
+        ensures { (rest : List Values) → (self.new.rise && rises rest self.new.last)
+            ≡ (self.old.rise && rises (row.now ∷ rest) self.old.last) }
+    {
+        if !self.rise {
+            return;
+        }
+        match next_above(self.last, row) {
+            Some(rowid) => self.last = Some(rowid),
+            None => self.rise = false,
+        }
     }
-    true
+}
+
+impl RowSink for Rowids {
+    ghost use Rattle.std.specs.Prelude.{⊤};
+    ghost use Rattle.desk_sql.specs.Finding.{RiseSo};
+
+    ghost has_taken = { λ r rows. RiseSo r.rise r.last rows };
+
+    ghost keeps = { λ first now. ⊤ };
+
+    ghost refuses = { λ taken row e. ⊥ };
+
+    fn take(&mut self, row: &Row) -> Result<(), Error> {
+        self.add(row);
+        Ok(())
+    }
 }
 
 /// # Errors
 ///
-/// `DatabaseCorrupt` if the rowids do not rise.
-fn test_rising(rows: &[Row]) -> Result<(), Error>
-    ensures rising { OnOk result (AreRising rows.now) }
-    ensures broken { OnErr result (¬ AreRising rows.now) }
+/// `DatabaseCorrupt` if rowids do not rise.
+fn tested(rise: bool) -> Result<(), Error>
+    ensures rising { OnOk result (rise ≡ true) }
+    ensures broken { OnErr result (rise ≡ false) }
     ensures code { IfErr result (λ e. e ≡ Error.SqliteFailure ErrorCode.DatabaseCorrupt) }
 {
-    if are_rising(rows) {
+    if rise {
         Ok(())
     } else {
         Err(Error::SqliteFailure(ErrorCode::DatabaseCorrupt))
+    }
+}
+
+/// Of so many rows that they are not counted, that memory ran out.
+fn but_memory(error: Error) -> Error
+    ensures { result ≡ but_memory error }
+{
+    match error {
+        Error::SqliteFailure(ErrorCode::TooBig) => Error::SqliteFailure(ErrorCode::OutOfMemory),
+        error => error,
     }
 }
 
@@ -117,8 +154,14 @@ fn test_rowids<S: Alter>(connection: &mut Connection<S>, table: DeskTable) -> Re
         → IfErr result (IsUnnumbered S.Store connection.old connection.new table) }
     ensures reads { OnlyReads S.Store connection.old connection.new }
 {
-    let rows = ask(connection, rowids_text(table))?;
-    test_rising(&rows)
+    let mut rowids = Rowids {
+        last: None,
+        rise: true,
+    };
+    match hand_rows(connection, rowids_text(table), &[], &mut rowids) {
+        Ok(()) => tested(rowids.rise),
+        Err(e) => Err(but_memory(e)),
+    }
 }
 
 /// Tests the rowids of a table that may not be made.

@@ -3,13 +3,16 @@
 ghost use Rattle.std.specs.Prelude.{◌≡◌, List, [], false, OnOk, IsTrue};
 ghost use Rattle.sqlite.specs.Order.{Row as Values};
 ghost use Rattle.sqlite.specs.Values.{bound};
-ghost use Rattle.sqlite.specs.State.{HasCleanDisk, IsUnchanged};
+ghost use Rattle.sqlite.specs.State.{HasCleanDisk, IsUnchanged, Shown};
 ghost use Rattle.sqlite.specs.Held.{state};
 ghost use Rattle.desk_sql.specs.Rows.{tables_of, Lists};
-ghost use Rattle.desk_sql.specs.Effects.{IsReady};
+ghost use Rattle.desk_sql.specs.Effects.{IsReady, IsOpenIfClean};
 ghost use Rattle.desk_sql.specs.Calls.{WasOpen, HandsOut};
 ghost use Rattle.desk_sql.specs.Queries.{params_of, order_of, rows_of};
-ghost use Rattle.desk_sql.specs.Taking.{FailsNext, FailsToHandAll, HandsOver, HandsAll, IsHanded};
+ghost use Rattle.desk_sql.specs.Finding.{Holds};
+ghost use Rattle.desk_sql.specs.Keeping.{KeepsOn};
+ghost use Rattle.desk_sql.specs.Refusals.{IsSureGiven};
+ghost use Rattle.desk_sql.specs.Taking.{FailsNext, FailsToHandAll, HandsOver, HandsAll, IsHanded, TakesOn};
 
 use crate::laws::settled_and_sound;
 use crate::reading::query::Query;
@@ -22,12 +25,16 @@ pub trait RowSink {
     ghost use Rattle.std.specs.Prelude.{IfErr};
     ghost use Rattle.sqlite.specs.Order.{Row};
     ghost use Rattle.sqlite.specs.declared.error.Error.{Error};
+    ghost use Rattle.desk_sql.specs.Keeping.{KeepsOn};
 
     /// Whether these rows were taken, in this order.
     ghost has_taken: { Self → List Row → Type 0 };
 
     /// Whether, after these rows, this one may be refused with this error.
     ghost refuses: { List Row → Row → Error → Type 0 };
+
+    /// Whether what a taker was given at the start, as at a first moment, is kept now.
+    ghost keeps: { Self → Self → Type 0 };
 
     /// Takes the next row.
     ///
@@ -37,6 +44,7 @@ pub trait RowSink {
     fn take(&mut self, row: &Row) -> Result<(), Error>
         ensures taken { OnOk result ((rows : List Row) → has_taken self.old rows
             → has_taken self.new (rows ++ row.now ∷ [])) }
+        ensures kept { OnOk result (KeepsOn keeps self.old self.new) }
         ensures refused { IfErr result (λ e. (rows : List Row) → has_taken self.old rows
             → refuses rows row.now e) };
 }
@@ -49,6 +57,8 @@ fn hand_next<S: Alter, T: RowSink>(rows: &mut Rows<'_, S>, taker: &mut T) -> Res
         (T.has_taken taker.new))
         (FailsNext S.Store rows.old.conn.now rows.new.conn.now
         (λ row e. (taken : List Values) → T.has_taken taker.old taken → T.refuses taken row e)) }
+    ensures taken { OnOk result (TakesOn (T.has_taken taker.old) (T.has_taken taker.new)) }
+    ensures kept { OnOk result (KeepsOn T.keeps taker.old taker.new) }
     ensures same { HasCleanDisk (state S.Store rows.new.conn.now)
         → OnOk result (IsUnchanged (state S.Store rows.old.conn.now)
         (state S.Store rows.new.conn.now)) }
@@ -77,6 +87,8 @@ fn hand_all<S: Alter, T: RowSink>(rows: &mut Rows<'_, S>, taker: &mut T) -> Resu
         (T.has_taken taker.new))
         (FailsToHandAll S.Store rows.old.conn.now rows.new.conn.now (T.has_taken taker.old)
         T.refuses) }
+    ensures taken { OnOk result (TakesOn (T.has_taken taker.old) (T.has_taken taker.new)) }
+    ensures kept { OnOk result (KeepsOn T.keeps taker.old taker.new) }
 {
     for _ in 0..u64::MAX {
         if !hand_next(rows, taker)? {
@@ -84,6 +96,36 @@ fn hand_all<S: Alter, T: RowSink>(rows: &mut Rows<'_, S>, taker: &mut T) -> Resu
         }
     }
     Err(Error::SqliteFailure(ErrorCode::TooBig))
+}
+
+/// Hands over each row of the answer of a text that shows rows, given its parameters. The rows of the tables
+/// stay, whatever is answered.
+///
+/// # Errors
+///
+/// What a query or the taker may fail with.
+pub(crate) fn hand_rows<S: Alter, T: RowSink>(
+    connection: &mut Connection<S>,
+    text: &str,
+    params: &[ValueRef<'_>],
+    taker: &mut T,
+) -> Result<(), Error>
+    requires settled { connection.old.in_transaction ≡ false }
+    requires sure { Holds S.Store connection.old (λ db. IsSureGiven db.schema text.now (bound params.now)) }
+    requires fresh { T.has_taken taker.old [] }
+    ensures answers { HandsOut S.Store connection.old connection.new result
+        (λ _. Shown text.now (bound params.now) (state S.Store connection.old)
+        (state S.Store connection.new)) (T.has_taken taker.new) T.refuses }
+    ensures open { WasOpen S.Store connection.old connection.new result }
+    ensures live { OnOk result (IsOpenIfClean S.Store connection.new) }
+    ensures taken { OnOk result ((rows : List Values) × T.has_taken taker.new rows) }
+    ensures kept { OnOk result (KeepsOn T.keeps taker.old taker.new) }
+{
+    settled_and_sound(connection);
+    // Refused on a connection that is shut, whose schema is not known.
+    let statement = connection.prepare(text)?;
+    let mut rows = connection.query_prepared(&statement, params)?;
+    hand_all(&mut rows, taker)
 }
 
 /// Hands over each row of a query's answer, given the parameters of its text. The rows of the tables stay,
@@ -106,10 +148,9 @@ pub(crate) fn for_each_row<S: Alter, T: RowSink>(
         (λ db. Lists (order_of query.entry) (rows_of query.entry (tables_of db)))
         (T.has_taken taker.new) T.refuses }
     ensures open { WasOpen S.Store connection.old connection.new result }
+    ensures live { OnOk result (IsOpenIfClean S.Store connection.new) }
+    ensures taken { OnOk result ((rows : List Values) × T.has_taken taker.new rows) }
+    ensures kept { OnOk result (KeepsOn T.keeps taker.old taker.new) }
 {
-    settled_and_sound(connection);
-    // Refused on a connection that is shut, whose schema is not known.
-    let statement = connection.prepare(query.text())?;
-    let mut rows = connection.query_prepared(&statement, params)?;
-    hand_all(&mut rows, taker)
+    hand_rows(connection, query.text(), params, taker)
 }

@@ -1,17 +1,20 @@
 //! The rows of whole tables, as an opening reads them.
 
-ghost use Rattle.std.specs.Prelude.{◌≡◌, Bool, true, false, OnOk};
+ghost use Rattle.std.specs.Prelude.{◌≡◌, Bool, true, false, OnOk, List, []};
+ghost use Rattle.sqlite.specs.Order.{Row as Values};
 ghost use Rattle.desk_sql.specs.Schema.{has_table, is_packed};
 ghost use Rattle.desk_sql.specs.Rows.{IsMadeTo, tables_in, tables_at, Lists};
 ghost use Rattle.desk_sql.specs.Effects.{StaysOpen};
 ghost use Rattle.desk_sql.specs.Finding.{Holds};
 ghost use Rattle.desk_sql.specs.Statements.{SelectsAll};
 ghost use Rattle.desk_sql.specs.Queries.{table_read, table_in, key_cells, rows_read};
-ghost use Rattle.desk_sql.specs.Calls.{WasOpen, Answers};
+ghost use Rattle.desk_sql.specs.Keeping.{KeepsOn};
+ghost use Rattle.desk_sql.specs.Calls.{WasOpen, Answers, HandsOut};
 
 use crate::opening::finding::TablesPresent;
 use crate::opening::numbers::DeskTable;
 use crate::reading::asking::ask;
+use crate::reading::taking::{RowSink, hand_rows};
 use sqlite::{Alter, Connection, Error, Row};
 use std::alloc::Global;
 
@@ -101,5 +104,35 @@ pub fn all_rows<S: Alter>(
         ask(connection, whole.text())
     } else {
         Ok(Vec::new(alloc))
+    }
+}
+
+/// Hands over, one at a time and by the table's key, all rows of what is read; none if the table isn't made.
+///
+/// # Errors
+///
+/// What a query or the taker may fail with.
+pub fn each_row<S: Alter, T: RowSink>(
+    connection: &mut Connection<S>,
+    whole: Whole,
+    made: TablesPresent,
+    taker: &mut T,
+) -> Result<(), Error>
+    requires part { Holds S.Store connection.old (IsMadeTo made) }
+    requires settled { connection.old.in_transaction ≡ false }
+    requires fresh { T.has_taken taker.old [] }
+    ensures answers { HandsOut S.Store connection.old connection.new result
+        (λ db. Lists (key_cells (table_read whole)) (rows_read whole (tables_at made db)))
+        (T.has_taken taker.new) T.refuses }
+    ensures open { has_table made (table_in whole (is_packed made)) ≡ true
+        → WasOpen S.Store connection.old connection.new result }
+    ensures live { OnOk result (StaysOpen S.Store connection.old connection.new) }
+    ensures taken { OnOk result ((rows : List Values) × T.has_taken taker.new rows) }
+    ensures kept { OnOk result (KeepsOn T.keeps taker.old taker.new) }
+{
+    if made.has(whole.table(made.is_packed())) {
+        hand_rows(connection, whole.text(), &[], taker)
+    } else {
+        Ok(())
     }
 }

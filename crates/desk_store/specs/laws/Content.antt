@@ -38,7 +38,7 @@ all_put P row (r ∷ rs) new h = by_order (text_cmp row.id r.id) (all_put P row 
   by_order Equal ih = (new, h.1)
   by_order Greater ih = (h.0, ih)
 
-own_plans : (o : List ℕ) (ps : List Filed) → AllByRecursion (λ p. IsPlan p.row) ps
+pub own_plans : (o : List ℕ) (ps : List Filed) → AllByRecursion (λ p. IsPlan p.row) ps
     → AllByRecursion IsPlan (rows_by o ps)
 own_plans o ps h = all_map IsPlan (λ p. p.row) (filter (is_by o) ps)
     (all_filter (λ p. IsPlan p.row) (is_by o) ps h)

@@ -1,18 +1,23 @@
 //! How a new database gets a content.
 
-ghost use Rattle.std.specs.Prelude.{◌≡◌, ◌≢◌, false, IfOk, IfErr, OnOk};
+ghost use Rattle.std.specs.Prelude.{◌≡◌, List, ◌∷◌, false, IfOk, IfErr, OnOk, None};
 ghost use Rattle.sqlite.specs.State.{HasCleanDisk};
 ghost use Rattle.sqlite.specs.Held.{state};
 ghost use Rattle.desk_sql.specs.Batches.{IsUnderWay};
 ghost use Rattle.desk_sql.specs.Effects.{IsReady, IsOpenIfClean, Makes, Commits};
-ghost use Rattle.desk_sql.specs.Frames.{IsOver, Remembers};
-ghost use Rattle.desk_sql.specs.Rows.{AddsOperator, AddsPlan};
+ghost use Rattle.desk_sql.specs.Finding.{Holds};
+ghost use Rattle.desk_sql.specs.Frames.{IsOver, OnlyReads, Remembers};
+ghost use Rattle.desk_sql.specs.Rows.{AddsOperator, AddsPlan, IsMadeTo};
 ghost use Rattle.desk_sql.specs.Schema.{blank_schema};
 ghost use Rattle.desk_store.specs.Content.{IsContent};
-ghost use Rattle.desk_tables.specs.OpeningSteps.{IsAdopted};
+ghost use Rattle.desk_store.specs.World.{Filed, Listed};
+ghost use Rattle.desk_tables.specs.Files.{IsUnread};
+ghost use Rattle.desk_tables.specs.Opening.{BlamesReading};
+ghost use Rattle.desk_tables.specs.OpeningSteps.{IsAdopted, IsMadeAnew};
 ghost use Rattle.desk_tables.specs.Known.{Knows};
 ghost use Rattle.desk_tables.specs.Tables.{operator_row, plan_row};
-ghost use Rattle.desk_tables.specs.Copying.{AddsHeadRows, AddsOperatorRows, AddsWorldRows};
+ghost use Rattle.desk_tables.specs.Copying.{AddsHeadRows, AddsOperatorRows, AddsWorldRows, BlamesNew, IsUnmade};
+ghost use Rattle.desk_tables.specs.Writing.{AreNewHeads, AreNewOperators, CanBeFilled, HaveFewRows};
 
 use crate::changing::records::{aircraft_number, usage_number};
 use crate::kept::GhostWorld;
@@ -21,7 +26,7 @@ use crate::opening::content::Content;
 use crate::opening::exact::{FiledPlan, ListedOperator};
 use crate::opening::finding::create_tables;
 use crate::opening::moving::write_plans;
-use crate::opening::open::OpenFault;
+use crate::opening::open::{AdoptFault, OpenFault};
 use crate::store::SqliteStore;
 use desk_sql::laws::settled_and_sound;
 use desk_sql::{TablesPresent, find_tables, insert_operator, insert_plan};
@@ -29,35 +34,78 @@ use desk_store::StoreFault;
 use sqlite::{Connection, Transaction};
 use sqlite_trees::store::Alter;
 use std::alloc::Global;
+use volume4d::laws::covers_are_few;
 
 /// A store of a content, over a connection to a database that has to have no table. The tables are made in
 /// one transaction, and all rows come in another.
 ///
 /// # Errors
 ///
-/// `OutOfMemory` if memory runs out. `Store` if there is a table, or if SQLite refuses for another cause.
+/// The connection, and `OutOfMemory` if memory runs out. `Store` if there is a table, or if SQLite refuses
+/// for another cause.
 pub(crate) fn store_of<S: Alter + Drop>(
     alloc: Global,
     mut connection: Connection<S>,
     content: &Content,
     known: Known,
-) -> Result<SqliteStore<S>, OpenFault>
+) -> Result<SqliteStore<S>, AdoptFault<S>>
     requires settled { connection.in_transaction ≡ false }
+    requires unlimited { connection.step_limit ≡ None }
     requires content { IsContent content.now }
+    requires few { HaveFewRows content.now.plans }
     requires bounded { Knows known content.now }
     ensures value { IfOk result (λ store. store.world ≡ content.now) }
     ensures blank { IfOk result (λ store. HasCleanDisk (state S.Store store.held)
         → (state S.Store connection).now.schema ≡ blank_schema) }
     ensures adopted { IfOk result (λ store. IsAdopted S.Store connection store.held store.world) }
-    ensures fault { IfErr result (λ e. (e ≢ OpenFault.NotADesk) × (e ≢ OpenFault.OldSchema)) }
+    ensures unmade { IfErr result (λ refused.
+        IsUnmade S.Store connection refused.connection refused.fault) }
 {
-    let Some(TablesPresent::Nothing) = find_tables(&mut connection)? else {
+    match make_world(alloc, &mut connection, content) {
+        Ok(kept) => Ok(SqliteStore::with(alloc, connection, kept, known, StoreFault::Store, true)),
+        Err(fault) => Err(AdoptFault { fault, connection }),
+    }
+}
+
+// Makes the tables, which have to be none before, and adds all rows of a content.
+fn make_world<S: Alter>(
+    alloc: Global,
+    connection: &mut Connection<S>,
+    content: &Content,
+) -> Result<GhostWorld, OpenFault>
+    requires settled { connection.old.in_transaction ≡ false }
+    requires unlimited { connection.old.step_limit ≡ None }
+    requires content { IsContent content.now }
+    requires few { HaveFewRows content.now.plans }
+    ensures value { IfOk result (λ kept. kept.world ≡ content.now) }
+    ensures blank { OnOk result (HasCleanDisk (state S.Store connection.new)
+        → (state S.Store connection.old).now.schema ≡ blank_schema) }
+    ensures made { IsMadeAnew S.Store connection.old connection.new result content.now }
+    ensures fault { IfErr result IsUnread }
+    ensures cause { IfErr result (BlamesNew S.Store connection.old connection.new) }
+{
+    find_blank(connection)?;
+    create_tables(connection)?;
+    fill(alloc, connection, &content.operators, &content.plans)?;
+    Ok(GhostWorld::of(content))
+}
+
+// Whether a database has no table; else it fails.
+fn find_blank<S: Alter>(connection: &mut Connection<S>) -> Result<(), OpenFault>
+    requires settled { connection.old.in_transaction ≡ false }
+    requires unlimited { connection.old.step_limit ≡ None }
+    ensures blank { OnOk result (Holds S.Store connection.new (IsMadeTo TablesPresent.Nothing)) }
+    ensures fault { IfErr result IsUnread }
+    ensures cause { IfErr result (BlamesNew S.Store connection.old connection.new) }
+    ensures reads { OnlyReads S.Store connection.old connection.new }
+{
+    let Some(made) = find_tables(connection)? else {
         return Err(OpenFault::Store);
     };
-    create_tables(&mut connection)?;
-    fill(alloc, &mut connection, &content.operators, &content.plans)?;
-    let kept = GhostWorld::of(content);
-    Ok(SqliteStore::with(alloc, connection, kept, known, StoreFault::Store, true))
+    if made != TablesPresent::Nothing {
+        return Err(OpenFault::Store);
+    }
+    Ok(())
 }
 
 // Adds the rows of operators and plans, as one transaction.
@@ -73,16 +121,41 @@ fn fill<S: Alter>(
     ensures done { HasCleanDisk (state S.Store connection.new)
         → OnOk result (Commits S.Store connection.old connection.new (AddsWorldRows
         (record { operators = operators.now; plans = plans.now }))) }
-    ensures fault { IfErr result (λ e. (e ≢ OpenFault.NotADesk) × (e ≢ OpenFault.OldSchema)) }
+    ensures fault { IfErr result IsUnread }
+    ensures cause { Holds S.Store connection.old (CanBeFilled
+        (record { operators = operators.now; plans = plans.now }))
+        → IfErr result (BlamesReading S.Store connection.old connection.new) }
     ensures over { IsOver S.Store connection.old connection.new }
 {
     settled_and_sound(connection);
     let mut tx = connection.transaction();
-    write_operators(&mut tx, operators)?;
-    write_heads(&mut tx, plans)?;
-    write_plans(alloc, &mut tx, plans)?;
+    write_world(alloc, &mut tx, operators, plans)?;
     tx.commit()?;
     Ok(())
+}
+
+// Adds the rows of operators and plans.
+fn write_world<S: Alter>(
+    alloc: Global,
+    tx: &mut Transaction<'_, S>,
+    operators: &[ListedOperator],
+    plans: &[FiledPlan],
+) -> Result<(), OpenFault>
+    requires under_way { IsUnderWay S.Store tx.old.conn.now }
+    ensures same_reference { tx.new.conn.ghost_name ≡ tx.old.conn.ghost_name }
+    ensures done { HasCleanDisk (state S.Store tx.new.conn.now) → OnOk result
+        (Makes S.Store tx.old.conn.now tx.new.conn.now (AddsWorldRows
+        (record { operators = operators.now; plans = plans.now }))) }
+    ensures fault { IfErr result IsUnread }
+    ensures cause { (HasCleanDisk (state S.Store tx.old.conn.now) → CanBeFilled
+        (record { operators = operators.now; plans = plans.now }) (state S.Store tx.old.conn.now).now)
+        → IfErr result (BlamesReading S.Store tx.old.conn.now tx.new.conn.now) }
+    ensures remembered { Remembers S.Store tx.old.conn.now tx.new.conn.now }
+{
+    covers_are_few();
+    write_operators(tx, operators)?;
+    write_heads(tx, plans)?;
+    write_plans(alloc, tx, plans)
 }
 
 // Adds the rows of operators.
@@ -94,7 +167,9 @@ fn write_operators<S: Alter>(
     ensures same_reference { tx.new.conn.ghost_name ≡ tx.old.conn.ghost_name }
     ensures done { HasCleanDisk (state S.Store tx.new.conn.now) → OnOk result
         (Makes S.Store tx.old.conn.now tx.new.conn.now (AddsOperatorRows operators.now)) }
-    ensures fault { IfErr result (λ e. (e ≢ OpenFault.NotADesk) × (e ≢ OpenFault.OldSchema)) }
+    ensures fault { IfErr result IsUnread }
+    ensures cause { AreNewOperators operators.now (state S.Store tx.old.conn.now).now
+        → IfErr result (BlamesReading S.Store tx.old.conn.now tx.new.conn.now) }
     ensures remembered { Remembers S.Store tx.old.conn.now tx.new.conn.now }
 {
     'operators: for listed in operators {
@@ -112,7 +187,14 @@ fn write_operator<S: Alter>(
     ensures same_reference { tx.new.conn.ghost_name ≡ tx.old.conn.ghost_name }
     ensures done { HasCleanDisk (state S.Store tx.new.conn.now) → OnOk result
         (Makes S.Store tx.old.conn.now tx.new.conn.now (AddsOperator (operator_row listed.now))) }
-    ensures fault { IfErr result (λ e. (e ≢ OpenFault.NotADesk) × (e ≢ OpenFault.OldSchema)) }
+    ensures fault { IfErr result IsUnread }
+    ensures cause { (later : List Listed)
+        → AreNewOperators (listed.now ∷ later) (state S.Store tx.old.conn.now).now
+        → IfErr result (BlamesReading S.Store tx.old.conn.now tx.new.conn.now) }
+    ensures left { (later : List Listed)
+        → AreNewOperators (listed.now ∷ later) (state S.Store tx.old.conn.now).now
+        → HasCleanDisk (state S.Store tx.new.conn.now)
+        → OnOk result (AreNewOperators later (state S.Store tx.new.conn.now).now) }
     ensures remembered { Remembers S.Store tx.old.conn.now tx.new.conn.now }
 {
     insert_operator(tx, listed.operator.as_str(), listed.ceiling)?;
@@ -125,7 +207,9 @@ fn write_heads<S: Alter>(tx: &mut Transaction<'_, S>, plans: &[FiledPlan]) -> Re
     ensures same_reference { tx.new.conn.ghost_name ≡ tx.old.conn.ghost_name }
     ensures done { HasCleanDisk (state S.Store tx.new.conn.now) → OnOk result
         (Makes S.Store tx.old.conn.now tx.new.conn.now (AddsHeadRows plans.now)) }
-    ensures fault { IfErr result (λ e. (e ≢ OpenFault.NotADesk) × (e ≢ OpenFault.OldSchema)) }
+    ensures fault { IfErr result IsUnread }
+    ensures cause { AreNewHeads plans.now (state S.Store tx.old.conn.now).now
+        → IfErr result (BlamesReading S.Store tx.old.conn.now tx.new.conn.now) }
     ensures remembered { Remembers S.Store tx.old.conn.now tx.new.conn.now }
 {
     'plans: for plan in plans {
@@ -140,7 +224,12 @@ fn write_head<S: Alter>(tx: &mut Transaction<'_, S>, plan: &FiledPlan) -> Result
     ensures same_reference { tx.new.conn.ghost_name ≡ tx.old.conn.ghost_name }
     ensures done { HasCleanDisk (state S.Store tx.new.conn.now) → OnOk result
         (Makes S.Store tx.old.conn.now tx.new.conn.now (AddsPlan (plan_row plan.now))) }
-    ensures fault { IfErr result (λ e. (e ≢ OpenFault.NotADesk) × (e ≢ OpenFault.OldSchema)) }
+    ensures fault { IfErr result IsUnread }
+    ensures cause { (later : List Filed) → AreNewHeads (plan.now ∷ later) (state S.Store tx.old.conn.now).now
+        → IfErr result (BlamesReading S.Store tx.old.conn.now tx.new.conn.now) }
+    ensures left { (later : List Filed) → AreNewHeads (plan.now ∷ later) (state S.Store tx.old.conn.now).now
+        → HasCleanDisk (state S.Store tx.new.conn.now)
+        → OnOk result (AreNewHeads later (state S.Store tx.new.conn.now).now) }
     ensures remembered { Remembers S.Store tx.old.conn.now tx.new.conn.now }
 {
     let mut buffer = [0u8; 36];

@@ -243,8 +243,8 @@ fn after_slabs<'r>(
     Some(rest)
 }
 
-// Whether a row is that of a slab of the volume at a place.
-fn is_slab_row(plan: &FiledPlan, id: &str, place: usize, slab: &Slab, row: &Row) -> bool
+/// Whether a row is that of a slab of the volume at a place.
+pub(crate) fn is_slab_row(plan: &FiledPlan, id: &str, place: usize, slab: &Slab, row: &Row) -> bool
     requires id { id.now ≡ id_text plan.now.row.id }
     ensures { IsTrue result ↔ (row.now ≡ slab_row plan.now place slab.now) }
 {

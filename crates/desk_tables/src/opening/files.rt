@@ -5,21 +5,23 @@ ghost use Rattle.sqlite_wal.specs.Files.{image_at};
 ghost use Rattle.sqlite_wal.specs.Recovery.{Image};
 ghost use Rattle.sqlite.specs.Held.{IsNew};
 ghost use Rattle.sqlite.specs.Files.{over_files};
-ghost use Rattle.desk_tables.specs.Files.{AreNotMoved, AreRefused, Finds, IsUnread, OpensIn, OpensMoved};
+ghost use Rattle.desk_tables.specs.Files.{AreNotMoved, AreRefused, Finds, OpensIn, OpensMoved};
 ghost use Rattle.desk_tables.specs.Files.{no_files};
 ghost use Rattle.desk_tables.specs.Guarding.{IsGuarded};
 ghost use Rattle.desk_tables.specs.Leaving.{IsSettledAt};
 ghost use Rattle.desk_store.specs.World.{World};
 ghost use Rattle.desk_store.specs.Content.{IsContent};
-ghost use Rattle.desk_tables.specs.Copying.{AreCounted, AreNotRead, IsMadeIn, LooksIn};
+ghost use Rattle.desk_tables.specs.Copying.{AreCounted, AreNotCopied, AreNotMade, AreNotRead, IsMadeIn};
+ghost use Rattle.desk_tables.specs.Copying.{IsUnmadeOf, LooksIn};
 ghost use Rattle.desk_tables.specs.Known.{Knows};
+ghost use Rattle.desk_tables.specs.Writing.{HaveFewRows};
 
 use crate::known::Known;
 use crate::opening::content::Content;
 use crate::opening::copying::store_of;
 use crate::opening::looking::{Holdings, holdings_of, read_content};
 use crate::opening::open::OpenFault;
-use crate::opening::path::{connect, connect_new, connect_there};
+use crate::opening::path::{Unreached, connect, connect_new, connect_there};
 use crate::store::SqliteStore;
 use sqlite::{Connection, FileFrom, FileStore, Start, Unknown};
 use sqlite_disk::Disk;
@@ -36,13 +38,22 @@ pub type Copied<D, E> = (
     (SqliteStore<FileStore<E>>, Holdings),
 );
 
-/// Why files were refused, with the connection that read them, if there was one.
+/// Why files were refused, with the connection that read them, or that they were not opened.
 #[derive(Drop)]
 pub struct FilesFault<S: Alter> {
-    /// What was found in them, or what kept them from being read.
+    /// What was found in them, or what kept them from being opened.
     pub fault: OpenFault,
-    /// The connection, with the rows that it had; none if nothing in the files was read.
-    pub connection: Option<Connection<S>>,
+    /// The connection, with the rows that it had; or that nothing in the files was read.
+    pub connection: Result<Connection<S>, Unreached>,
+}
+
+/// Why nothing was copied.
+#[derive(Drop)]
+pub enum CopyFault<S: Alter, N: Alter> {
+    /// What was to be copied was not read.
+    Unread(FilesFault<S>),
+    /// In the new files no store was made.
+    Unmade(FilesFault<N>),
 }
 
 impl<S: Start> SqliteStore<FileStore<FileFrom<S>>> {
@@ -67,9 +78,9 @@ impl<S: Start> SqliteStore<FileStore<FileFrom<S>>> {
     {
         match connect(rt, path, start) {
             Ok(connection) => adopt_files(rt.alloc(), connection),
-            Err(fault) => Err(FilesFault {
-                fault,
-                connection: None,
+            Err(unreached) => Err(FilesFault {
+                fault: unreached.fault(),
+                connection: Err(unreached),
             }),
         }
     }
@@ -96,9 +107,9 @@ impl<S: Start> SqliteStore<FileStore<FileFrom<S>>> {
     {
         match connect_there(rt, path, start) {
             Ok(connection) => adopt_old_files(rt.alloc(), connection),
-            Err(fault) => Err(FilesFault {
-                fault,
-                connection: None,
+            Err(unreached) => Err(FilesFault {
+                fault: unreached.fault(),
+                connection: Err(unreached),
             }),
         }
     }
@@ -171,28 +182,52 @@ pub fn look_at<S: Start>(
 ///
 /// # Errors
 ///
-/// Those of `look_at`, and without a connection `OutOfMemory`, or `Store` if there is a file at the other
-/// path or if the new files fail.
+/// Those of `look_at`; and of the new files `OutOfMemory` if memory runs out, and `Store` if there is a file
+/// at the other path, if they can't be opened, if they have a table, or if they fail.
 pub fn copy_from<S: Start, N: Start>(
     rt: &HostRuntime,
     path: &str,
     start: S,
     to: &str,
     other: N,
-) -> Result<Copied<FileFrom<S>, FileFrom<N>>, FilesFault<FileStore<FileFrom<S>>>>
+) -> Result<
+    Copied<FileFrom<S>, FileFrom<N>>,
+    CopyFault<FileStore<FileFrom<S>>, FileStore<FileFrom<N>>>,
+>
     ensures looks { IfOk result (λ copied. AreCounted copied.1.1 copied.1.0.world
         × LooksIn (image_at S.Start) copied.0 copied.1.1.is_old copied.1.0.world) }
     ensures made { IfOk result (λ copied. IsMadeIn (image_at N.Start) copied.1.0.held) }
     ensures left { IfOk result (λ copied. IsSettledAt over_files copied.1.0.held copied.1.0.world) }
-    ensures fault { IfErr result (λ e. AreNotRead (image_at S.Start) e.fault e.connection) }
+    ensures fault { IfErr result (AreNotCopied (image_at S.Start) (image_at N.Start)) }
 {
-    let (connection, content, known, old) = read_there(rt, path, start)?;
+    match read_there(rt, path, start) {
+        Ok(found) => copy_read(rt, found, to, other),
+        Err(refused) => Err(CopyFault::Unread(refused)),
+    }
+}
+
+// A store of the content that was read, in new files at a path.
+fn copy_read<D: Disk + Drop, N: Start>(
+    rt: &HostRuntime,
+    found: ReadFiles<FileStore<D>>,
+    to: &str,
+    other: N,
+) -> Result<Copied<D, FileFrom<N>>, CopyFault<FileStore<D>, FileStore<FileFrom<N>>>>
+    requires content { IsContent found.1 }
+    requires few { HaveFewRows found.1.plans }
+    requires bounded { Knows found.2 found.1 }
+    ensures same { IfOk result (λ copied. copied.0 ≡ found.0) }
+    ensures world { IfOk result (λ copied. copied.1.0.world ≡ found.1) }
+    ensures counted { IfOk result (λ copied. AreCounted copied.1.1 found.1) }
+    ensures schema { IfOk result (λ copied. copied.1.1.is_old ≡ found.3) }
+    ensures made { IfOk result (λ copied. IsMadeIn (image_at N.Start) copied.1.0.held) }
+    ensures left { IfOk result (λ copied. IsSettledAt over_files copied.1.0.held copied.1.0.world) }
+    ensures unmade { IfErr result (IsUnmadeOf (image_at N.Start)) }
+{
+    let (connection, content, known, old) = found;
     match store_at(rt, to, other, &content, known) {
         Ok(store) => Ok((connection, (store, holdings_of(&content, old)))),
-        Err(fault) => Err(FilesFault {
-            fault,
-            connection: None,
-        }),
+        Err(refused) => Err(CopyFault::Unmade(refused)),
     }
 }
 
@@ -204,14 +239,15 @@ fn read_there<S: Start>(
 ) -> Result<ReadFiles<FileStore<FileFrom<S>>>, FilesFault<FileStore<FileFrom<S>>>>
     ensures looks { IfOk result (λ found. LooksIn (image_at S.Start) found.0 found.3 found.1) }
     ensures content { IfOk result (λ found. IsContent found.1) }
+    ensures few { IfOk result (λ found. HaveFewRows found.1.plans) }
     ensures bounded { IfOk result (λ found. Knows found.2 found.1) }
     ensures fault { IfErr result (λ e. AreNotRead (image_at S.Start) e.fault e.connection) }
 {
     match connect_there(rt, path, start) {
         Ok(connection) => read_files(rt.alloc(), connection),
-        Err(fault) => Err(FilesFault {
-            fault,
-            connection: None,
+        Err(unreached) => Err(FilesFault {
+            fault: unreached.fault(),
+            connection: Err(unreached),
         }),
     }
 }
@@ -225,6 +261,7 @@ fn read_files<D: Disk + Drop>(
     ensures looks { (image : Image) → Finds image connection → IfOk result (λ found.
         LooksIn image found.0 found.3 found.1) }
     ensures content { IfOk result (λ found. IsContent found.1) }
+    ensures few { IfOk result (λ found. HaveFewRows found.1.plans) }
     ensures bounded { IfOk result (λ found. Knows found.2 found.1) }
     ensures fault { (image : Image) → Finds image connection → IfErr result (λ e.
         AreNotRead image e.fault e.connection) }
@@ -233,7 +270,7 @@ fn read_files<D: Disk + Drop>(
         Ok((content, known, old)) => Ok((connection, content, known, old)),
         Err(fault) => Err(FilesFault {
             fault,
-            connection: Some(connection),
+            connection: Ok(connection),
         }),
     }
 }
@@ -245,15 +282,22 @@ fn store_at<S: Start>(
     start: S,
     content: &Content,
     known: Known,
-) -> Result<SqliteStore<FileStore<FileFrom<S>>>, OpenFault>
+) -> Result<SqliteStore<FileStore<FileFrom<S>>>, FilesFault<FileStore<FileFrom<S>>>>
     requires content { IsContent content.now }
+    requires few { HaveFewRows content.now.plans }
     requires bounded { Knows known content.now }
     ensures value { IfOk result (λ store. store.world ≡ content.now) }
     ensures made { IfOk result (λ store. IsMadeIn (image_at S.Start) store.held) }
     ensures left { IfOk result (λ store. IsSettledAt over_files store.held store.world) }
-    ensures fault { IfErr result IsUnread }
+    ensures fault { IfErr result (λ e. AreNotMade (image_at S.Start) e.fault e.connection) }
 {
-    store_files(rt.alloc(), connect_new(rt, path, start)?, content, known)
+    match connect_new(rt, path, start) {
+        Ok(connection) => store_files(rt.alloc(), connection, content, known),
+        Err(unreached) => Err(FilesFault {
+            fault: unreached.fault(),
+            connection: Err(unreached),
+        }),
+    }
 }
 
 // The store of a content in new files.
@@ -262,17 +306,25 @@ fn store_files<D: Disk + Drop>(
     connection: Connection<FileStore<D>>,
     content: &Content,
     known: Known,
-) -> Result<SqliteStore<FileStore<D>>, OpenFault>
+) -> Result<SqliteStore<FileStore<D>>, FilesFault<FileStore<D>>>
     requires fresh { IsNew connection }
     requires content { IsContent content.now }
+    requires few { HaveFewRows content.now.plans }
     requires bounded { Knows known content.now }
     ensures value { IfOk result (λ store. store.world ≡ content.now) }
     ensures made { (image : Image) → Finds image connection → IfOk result (λ store.
         IsMadeIn image store.held) }
     ensures left { IfOk result (λ store. IsSettledAt over_files store.held store.world) }
-    ensures fault { IfErr result IsUnread }
+    ensures fault { (image : Image) → Finds image connection → IfErr result (λ e.
+        AreNotMade image e.fault e.connection) }
 {
-    store_of(alloc, connection, content, known)
+    match store_of(alloc, connection, content, known) {
+        Ok(store) => Ok(store),
+        Err(refused) => Err(FilesFault {
+            fault: refused.fault,
+            connection: Ok(refused.connection),
+        }),
+    }
 }
 
 // The store over a connection that was opened to files, as `adopt` gives it, on whatever disk they are. A
@@ -293,7 +345,7 @@ fn adopt_files<D: Disk + Drop>(
         Ok(store) => Ok(store),
         Err(refused) => Err(FilesFault {
             fault: refused.fault,
-            connection: Some(refused.connection),
+            connection: Ok(refused.connection),
         }),
     }
 }
@@ -315,7 +367,7 @@ fn adopt_old_files<D: Disk + Drop>(
         Ok(moved) => Ok(moved),
         Err(refused) => Err(FilesFault {
             fault: refused.fault,
-            connection: Some(refused.connection),
+            connection: Ok(refused.connection),
         }),
     }
 }

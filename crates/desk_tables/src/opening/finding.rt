@@ -1,12 +1,13 @@
 //! The world that a database stands for when a store is opened over it.
 
-ghost use Rattle.std.specs.Prelude.{◌≡◌, ◌≢◌, [], true, false, IfOk, IfErr, OnOk};
+ghost use Rattle.std.specs.Prelude.{◌≡◌, ◌≢◌, ◌↔◌, ◌<◌, ◌^◌, List, [], length, true, false, IfOk, IfErr, OnOk, IsTrue, None, ◌≤◌};
+ghost use Rattle.sqlite_value.specs.Order.{Row as Values};
 ghost use Rattle.std.specs.List.{AllByRecursion};
 ghost use Rattle.sqlite.specs.State.{HasCleanDisk};
 ghost use Rattle.sqlite.specs.Held.{state};
 ghost use Rattle.desk_sql.specs.Calls.{WasOpen};
 ghost use Rattle.desk_sql.specs.Schema.{has_table};
-ghost use Rattle.desk_sql.specs.Rows.{IsMadeTo, tables_at};
+ghost use Rattle.desk_sql.specs.Rows.{IsMadeTo, Tables, tables_at};
 ghost use Rattle.desk_sql.specs.Effects.{IsKept, IsOpenIfClean};
 ghost use Rattle.desk_sql.specs.Frames.{OnlyReads};
 ghost use Rattle.desk_sql.specs.Finding.{Holds};
@@ -15,7 +16,10 @@ ghost use Rattle.desk_store.specs.Content.{IsContent};
 ghost use Rattle.desk_tables.specs.Known.{Knows};
 ghost use Rattle.desk_tables.specs.Writing.{HaveFewRows};
 ghost use Rattle.desk_tables.specs.SpanBounds.{IsKnownRow, Keeps};
-ghost use Rattle.desk_tables.specs.Opening.{AreSortedByKey, AreAllRows, IsContentOf, AreNoContent};
+ghost use Rattle.desk_tables.specs.Opening.{AreAllRows, IsContentOf, AreNoContent};
+ghost use Rattle.desk_tables.specs.Tables.{AreSpanRows, volume_rows};
+ghost use Rattle.desk_tables.specs.SpansHeld.{AreHeld};
+ghost use Rattle.desk_tables.specs.Opening.{AreHeads, AreInOrder, AreSortedHeads};
 ghost use Rattle.desk_tables.specs.Opening.{BeginsWith, HasRowsOld, HasNewRows};
 ghost use Rattle.desk_tables.specs.Opening.{ShowsNoDesk, ShowsOldRows};
 ghost use Rattle.desk_tables.specs.Opening.{BlamesReading, BlamesDatabase};
@@ -23,10 +27,14 @@ ghost use Rattle.desk_tables.specs.OpeningSteps.{BeginsCompleted, HadNone, IsOpe
 
 use crate::kept::GhostWorld;
 use crate::known::{Known, live_among, roll_of};
-use crate::opening::content::{Content, TableRows, content_in};
+use crate::opening::content::{
+    Content, TableRows, are_shared, keys_ascend, names_ascend, operators_in, plans_in,
+};
 use crate::opening::covers::covers_agree;
+use crate::opening::exact::{FiledPlan, ListedOperator};
 use crate::opening::open::OpenFault;
 use crate::opening::ordering::ordered_in;
+use crate::opening::spans::{SpanCheck, take_spans};
 use crate::span_bounds::SpanBounds;
 use desk_sql::{
     DeskTable, TablesPresent, Whole, all_rows, complete_tables, find_tables, has_old_rows,
@@ -52,6 +60,7 @@ pub(crate) fn load_world<S: Alter>(
     connection: &mut Connection<S>,
 ) -> Result<(GhostWorld, Known, bool), OpenFault>
     requires settled { connection.old.in_transaction ≡ false }
+    requires unlimited { connection.old.step_limit ≡ None }
     ensures opened { IsOpened S.Store connection.old connection.new result (λ found. found.0.world)
         (λ found. BeginsWith S.Store connection.old connection.new found.0.world)
         (ShowsNoDesk S.Store connection.old connection.new)
@@ -100,6 +109,7 @@ pub(crate) fn world_of<S: Alter>(
     requires part { Holds S.Store connection.old (IsMadeTo made) }
     requires new { Holds S.Store connection.old (HasNewRows made) }
     requires settled { connection.old.in_transaction ≡ false }
+    requires unlimited { connection.old.step_limit ≡ None }
     ensures set_up { IsSetUp S.Store connection.old connection.new result (λ found. found.0.world)
         (λ found. BeginsWith S.Store connection.old connection.new found.0.world)
         (ShowsNoDesk S.Store connection.old connection.new) (IsKept S.Store connection.old connection.new) }
@@ -119,9 +129,11 @@ pub(crate) fn create_tables<S: Alter>(
 ) -> Result<GhostWorld, OpenFault>
     requires blank { Holds S.Store connection.old (IsMadeTo TablesPresent.Nothing) }
     requires settled { connection.old.in_transaction ≡ false }
+    requires unlimited { connection.old.step_limit ≡ None }
     ensures set_up { IsSetUp S.Store connection.old connection.new result (λ kept. kept.world)
         (λ kept. kept.world ≡ record { operators = []; plans = [] }) ⊥
         (IsKept S.Store connection.old connection.new) }
+    ensures faults { (state S.Store connection.old).faults ≤ (state S.Store connection.new).faults }
 {
     complete_tables(connection, TablesPresent::Nothing)?;
     Ok(GhostWorld::new())
@@ -140,6 +152,7 @@ fn completed_in<S: Alter>(
     requires ordered { made ≢ TablesPresent.Packed }
     requires some { made ≢ TablesPresent.Nothing }
     requires settled { connection.old.in_transaction ≡ false }
+    requires unlimited { connection.old.step_limit ≡ None }
     ensures set_up { IsSetUp S.Store connection.old connection.new result (λ found. found.0.world)
         (λ found. BeginsCompleted S.Store connection.old connection.new found.0.world)
         (HadNone S.Store connection.old connection.new made) (IsKept S.Store connection.old connection.new) }
@@ -187,8 +200,117 @@ pub(crate) fn content_found<S: Alter>(
     ensures bounded { IfOk result (λ found. Knows found.1 found.0) }
     ensures live { OnOk result (IsOpenIfClean S.Store connection.new) }
 {
-    let rows = rows_in(alloc, connection, made)?;
-    content_of(alloc, &rows)
+    one_shape();
+    let heads = heads_in(alloc, connection, made)?;
+    let (operators, plans) = parts_of(alloc, &heads)?;
+    let mut check = SpanCheck::new(alloc, plans);
+    take_spans(connection, made, &mut check)?;
+    content_with(alloc, operators, check)
+}
+
+// The operators and plans of rows that are those of a content, but for those of spans.
+fn parts_of(
+    alloc: Global,
+    heads: &TableRows,
+) -> Result<(Vec<ListedOperator>, Vec<FiledPlan>), OpenFault>
+    ensures value { IfOk result (λ found. AreHeads heads.now found.0.items found.1.items) }
+    ensures few { IfOk result (λ found. length (volume_rows found.1.items) < 2 ^ 63) }
+    ensures none { IfErr result (λ e. e ≡ OpenFault.NotADesk → (w : World) (spans : List Values)
+        → IsContent w → ¬ AreAllRows (record heads.now { spans = spans }) w) }
+    ensures fault { IfErr result (λ e. (e ≢ OpenFault.Store) × (e ≢ OpenFault.OldSchema)) }
+{
+    one_shape();
+    let operators = operators_in(alloc, &heads.operators)?;
+    let plans = plans_in(alloc, &heads.plans, &heads.volumes)?;
+    if !are_in_order(&operators, &plans) {
+        return Err(OpenFault::NotADesk);
+    }
+    if !covers_agree(alloc, &plans, &heads.covers)? {
+        return Err(OpenFault::NotADesk);
+    }
+    Ok((operators, plans))
+}
+
+// Whether operators and plans are those of one content.
+fn are_in_order(operators: &[ListedOperator], plans: &[FiledPlan]) -> bool
+    ensures { IsTrue result ↔ AreInOrder operators.now plans.now }
+{
+    if !names_ascend(operators) {
+        return false;
+    }
+    if !keys_ascend(plans) {
+        return false;
+    }
+    are_shared(operators, plans)
+}
+
+// The content of these operators, and of plans against which all rows of spans were held; and what is known
+// of it.
+fn content_with(
+    alloc: Global,
+    operators: Vec<ListedOperator>,
+    check: SpanCheck,
+) -> Result<(Content, Known), OpenFault>
+    requires taken { (rows : List Values) × AreHeld check rows }
+    ensures value { IfOk result (λ found. (found.0.operators ≡ operators.items)
+        × (found.0.plans ≡ check.plans.items)) }
+    ensures agree { (rows : List Values) → AreHeld check rows
+        → OnOk result (AreSpanRows check.plans.items rows) }
+    ensures bounded { (heads : Tables) → AreHeads heads operators.items check.plans.items
+        → IfOk result (λ found. Knows found.1 found.0) }
+    ensures none { IfErr result (λ e. e ≡ OpenFault.NotADesk → (rows : List Values)
+        → AreHeld check rows → ¬ AreSpanRows check.plans.items rows) }
+    ensures fault { IfErr result (λ e. (e ≢ OpenFault.Store) × (e ≢ OpenFault.OldSchema)) }
+{
+    one_list_of_ranges();
+    let mut check = check;
+    if !check.agrees()? {
+        return Err(OpenFault::NotADesk);
+    }
+    let known = Known {
+        span_bounds: check.span_bounds,
+        live: live_among(alloc, &check.plans)?,
+        roll: roll_of(alloc, &operators, &check.plans)?,
+    };
+    let content = Content {
+        operators,
+        spans: check.count,
+        plans: check.plans,
+    };
+    Ok((content, known))
+}
+
+/// The rows of the tables of schema 2 but for spans, each by the columns of its key; of those that aren't
+/// made none.
+#[tactic(auto, using(crate::proofs::FrameLemmas::reads_then, crate::proofs::OpeningLemmas::part_on))]
+pub(crate) fn heads_in<S: Alter>(
+    alloc: Global,
+    connection: &mut Connection<S>,
+    made: TablesPresent,
+) -> Result<TableRows, OpenFault>
+    requires part { Holds S.Store connection.old (IsMadeTo made) }
+    requires some { has_table made DeskTable.Operator ≡ true }
+    requires settled { connection.old.in_transaction ≡ false }
+    ensures value { HasCleanDisk (state S.Store connection.new) →
+        IfOk result (AreSortedHeads (tables_at made (state S.Store connection.old).now.trees)) }
+    ensures open { WasOpen S.Store connection.old connection.new result }
+    ensures live { OnOk result (IsOpenIfClean S.Store connection.new) }
+    ensures fault { IfErr result (λ e. (e ≢ OpenFault.NotADesk) × (e ≢ OpenFault.OldSchema)) }
+    ensures cause { IfErr result (BlamesReading S.Store connection.old connection.new) }
+    ensures reads { OnlyReads S.Store connection.old connection.new }
+{
+    let operators = all_rows(alloc, connection, Whole::Operators, made)?;
+    let plans = all_rows(alloc, connection, Whole::Plans, made)?;
+    let volumes = all_rows(alloc, connection, Whole::Volumes, made)?;
+    let covers = all_rows(alloc, connection, Whole::Covers, made)?;
+    let spans = Vec::new(alloc);
+    Ok(TableRows {
+        operators,
+        plans,
+        volumes,
+        covers,
+        spans,
+    })
 }
 
 // How long the spans of these rows of `span` are.
@@ -204,8 +326,8 @@ pub(crate) fn lengths_in(rows: &[Row]) -> SpanBounds
     span_bounds
 }
 
-// Span bounds, with that of the span of a row.
-fn length_with(span_bounds: &SpanBounds, row: &Row) -> SpanBounds
+/// Span bounds, with that of the span of a row.
+pub(crate) fn length_with(span_bounds: &SpanBounds, row: &Row) -> SpanBounds
     ensures kept { Keeps span_bounds.now result }
     ensures known { IsKnownRow result row.now }
 {
@@ -213,61 +335,4 @@ fn length_with(span_bounds: &SpanBounds, row: &Row) -> SpanBounds
         (Ok(ValueRef::Int(first)), Ok(ValueRef::Int(last))) => span_bounds.with(first, last),
         _ => *span_bounds,
     }
-}
-
-// The content whose rows these are, and what is known of its plans.
-fn content_of(alloc: Global, rows: &TableRows) -> Result<(Content, Known), OpenFault>
-    ensures value { IfOk result (λ found.
-        IsContent found.0 × AreAllRows rows.now found.0) }
-    ensures few { IfOk result (λ found. HaveFewRows found.0.plans) }
-    ensures bounded { IfOk result (λ found. Knows found.1 found.0) }
-    ensures none { IfErr result (λ e. e ≡ OpenFault.NotADesk →
-        (w : World) → IsContent w → ¬ AreAllRows rows.now w) }
-    ensures fault { IfErr result (λ e. (e ≢ OpenFault.Store)
-        × (e ≢ OpenFault.OldSchema)) }
-{
-    one_shape();
-    one_list_of_ranges();
-    let content = content_in(alloc, rows)?;
-    if !covers_agree(alloc, &content.plans, &rows.covers)? {
-        return Err(OpenFault::NotADesk);
-    }
-    let known = Known {
-        span_bounds: lengths_in(&rows.spans),
-        live: live_among(alloc, &content.plans)?,
-        roll: roll_of(alloc, &content.operators, &content.plans)?,
-    };
-    Ok((content, known))
-}
-
-/// The rows of the tables of schema 2, each by the columns of its key; of those that aren't made none.
-#[tactic(auto, using(crate::proofs::FrameLemmas::reads_then, crate::proofs::OpeningLemmas::part_on))]
-pub(crate) fn rows_in<S: Alter>(
-    alloc: Global,
-    connection: &mut Connection<S>,
-    made: TablesPresent,
-) -> Result<TableRows, OpenFault>
-    requires part { Holds S.Store connection.old (IsMadeTo made) }
-    requires some { has_table made DeskTable.Operator ≡ true }
-    requires settled { connection.old.in_transaction ≡ false }
-    ensures value { HasCleanDisk (state S.Store connection.new) →
-        IfOk result (AreSortedByKey (tables_at made (state S.Store connection.old).now.trees)) }
-    ensures open { WasOpen S.Store connection.old connection.new result }
-    ensures live { OnOk result (IsOpenIfClean S.Store connection.new) }
-    ensures fault { IfErr result (λ e. (e ≢ OpenFault.NotADesk) × (e ≢ OpenFault.OldSchema)) }
-    ensures cause { IfErr result (BlamesReading S.Store connection.old connection.new) }
-    ensures reads { OnlyReads S.Store connection.old connection.new }
-{
-    let operators = all_rows(alloc, connection, Whole::Operators, made)?;
-    let plans = all_rows(alloc, connection, Whole::Plans, made)?;
-    let volumes = all_rows(alloc, connection, Whole::Volumes, made)?;
-    let covers = all_rows(alloc, connection, Whole::Covers, made)?;
-    let spans = all_rows(alloc, connection, Whole::Spans, made)?;
-    Ok(TableRows {
-        operators,
-        plans,
-        volumes,
-        covers,
-        spans,
-    })
 }

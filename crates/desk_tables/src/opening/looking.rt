@@ -10,6 +10,7 @@ ghost use Rattle.desk_store.specs.Content.{IsContent};
 ghost use Rattle.desk_tables.specs.Known.{Knows};
 ghost use Rattle.desk_tables.specs.Opening.{BlamesDatabase, HasRowsOld};
 ghost use Rattle.desk_tables.specs.OpeningSteps.{IsRead};
+ghost use Rattle.desk_tables.specs.Writing.{HaveFewRows};
 ghost use Rattle.desk_tables.specs.Copying as spec;
 ghost use Rattle.desk_tables.specs.Copying.{AreCounted, AreNoContentIn, IsContentIn, ShowsContent, ShowsNone};
 
@@ -91,6 +92,7 @@ pub(crate) fn read_content<S: Alter>(
     ensures value { IfOk result (λ found.
         ShowsContent S.Store connection.old connection.new found.2 found.0) }
     ensures content { IfOk result (λ found. IsContent found.0) }
+    ensures few { IfOk result (λ found. HaveFewRows found.0.plans) }
     ensures bounded { IfOk result (λ found. Knows found.1 found.0) }
     ensures none { IfErr result (λ e. e ≡ OpenFault.NotADesk →
         ShowsNone S.Store connection.old connection.new) }
@@ -121,6 +123,7 @@ fn content_at<S: Alter>(
     ensures read { IsRead S.Store connection.old connection.new result made
         (λ tables found. IsContentIn old tables found.0) (AreNoContentIn old) }
     ensures content { IfOk result (λ found. IsContent found.0) }
+    ensures few { IfOk result (λ found. HaveFewRows found.0.plans) }
     ensures bounded { IfOk result (λ found. Knows found.1 found.0) }
 {
     if old {
@@ -137,8 +140,8 @@ fn live_count(plans: &[FiledPlan]) -> usize
     plans.iter().filter(|plan| is_live(plan)).count()
 }
 
-// Whether a plan is not closed.
-fn is_live(plan: &FiledPlan) -> bool
+/// Whether a plan is not closed.
+pub(crate) fn is_live(plan: &FiledPlan) -> bool
     ensures { result ≡ is_live plan.now.row.usage }
 {
     plan.row.usage != Usage::Closed

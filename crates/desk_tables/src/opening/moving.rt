@@ -1,6 +1,6 @@
 //! How a content of schema 1 is moved to schema 2.
 
-ghost use Rattle.std.specs.Prelude.{◌≡◌, ◌≢◌, ◌↔◌, ◌-◌, ◌^◌, List, [], ◌∷◌, true, false, IfOk, IfErr, OnOk, OnErr, IsTrue, length};
+ghost use Rattle.std.specs.Prelude.{◌≡◌, ◌≢◌, ◌↔◌, ◌-◌, ◌^◌, List, [], ◌∷◌, true, false, IfOk, IfErr, OnOk, OnErr, IsTrue, length, None};
 ghost use Rattle.std.specs.List.{AllByRecursion};
 ghost use Rattle.sqlite.specs.State.{HasCleanDisk, KeepsCommit};
 ghost use Rattle.sqlite.specs.Held.{state};
@@ -64,6 +64,7 @@ pub(crate) fn moved_world_in<S: Alter>(
     connection: &mut Connection<S>,
 ) -> Result<(GhostWorld, Known, u32), OpenFault>
     requires settled { connection.old.in_transaction ≡ false }
+    requires unlimited { connection.old.step_limit ≡ None }
     ensures opened { IsOpened S.Store connection.old connection.new result (λ moved. moved.0.world)
         (λ moved. BeginsMoved S.Store connection.old connection.new moved.0.world moved.2)
         (ShowsNoContent S.Store connection.old connection.new) ⊥
@@ -89,6 +90,7 @@ fn move_tables<S: Alter>(
     requires rows { Holds S.Store connection.old (HasRowsOld made true) }
     requires some { made ≢ TablesPresent.Nothing }
     requires settled { connection.old.in_transaction ≡ false }
+    requires unlimited { connection.old.step_limit ≡ None }
     ensures set_up { IsSetUp S.Store connection.old connection.new result (λ moved. moved.0.world)
         (λ moved. BeginsAllMoved S.Store connection.old connection.new moved.0.world moved.2)
         (HadNoOld S.Store connection.old connection.new made)
@@ -115,7 +117,6 @@ fn make_whole<S: Alter>(
     ensures cause { Holds S.Store connection.old (HasSpansToIndex made)
         → IfErr result (BlamesReading S.Store connection.old connection.new) }
     ensures fault { IfErr result (λ e. (e ≢ OpenFault.NotADesk) × (e ≢ OpenFault.OldSchema)) }
-    ensures limit { connection.new.step_limit ≡ connection.old.step_limit }
     ensures over { IsOver S.Store connection.old connection.new }
 {
     if made == TablesPresent::All {

@@ -2,24 +2,26 @@
 //! found afterwards, by the tests that refuse a database, in their order. Nothing is changed, and no clause
 //! says which part is named.
 
-ghost use Rattle.std.specs.Prelude.{◌≡◌, ◌≢◌, false};
+ghost use Rattle.std.specs.Prelude.{◌≡◌, ◌≢◌, true, false};
 ghost use Rattle.sqlite.specs.Held.{IsNew};
 ghost use Rattle.desk_sql.specs.Frames.{OnlyReads};
 ghost use Rattle.desk_sql.specs.Finding.{Holds};
 ghost use Rattle.desk_sql.specs.Rows.{IsMadeTo};
+ghost use Rattle.desk_sql.specs.Schema.{has_table};
 
 use crate::opening::content::{
     TableRows, are_shared, content_in, keys_ascend, names_ascend, operators_in, plans_in,
 };
 use crate::opening::covers::covers_agree;
-use crate::opening::exact::{PLAN_WIDTH, RowFault, is_keyed, operator_in};
-use crate::opening::finding::{rows_in, tables_found};
+use crate::opening::exact::{FiledPlan, PLAN_WIDTH, RowFault, is_keyed, operator_in};
+use crate::opening::finding::{heads_in, tables_found};
 use crate::opening::moving::{are_new_empty, are_old, old_rows_in};
 use crate::opening::open::OpenFault;
 use crate::opening::path::connect_there;
+use crate::opening::spans::{SpanCheck, take_spans};
 use crate::reading::values::{count_at, head_in, id_in};
 use desk_rules::decide::MAX_PRIORITY;
-use desk_sql::TablesPresent;
+use desk_sql::{DeskTable, TablesPresent};
 use sqlite::{Connection, FileStore, Row, Unknown};
 use sqlite_disk::Disk;
 use sqlite_trees::store::Alter;
@@ -75,6 +77,7 @@ fn part_in<D: Disk + Drop>(
 
 /// The first part of a database that is that of no desk. None if there is none, or if the database can't be
 /// read.
+#[tactic(auto, using(crate::proofs::OpeningLemmas::some_operators))]
 pub fn first_fault<S: Alter>(alloc: Global, connection: &mut Connection<S>) -> Option<PartFault>
     requires settled { connection.old.in_transaction ≡ false }
     ensures { OnlyReads S.Store connection.old connection.new }
@@ -95,19 +98,27 @@ pub fn first_fault<S: Alter>(alloc: Global, connection: &mut Connection<S>) -> O
 }
 
 // The first part of tables without rows of schema 1.
-#[tactic(auto, using(crate::proofs::OpeningLemmas::some_operators))]
+#[tactic(auto, using(crate::proofs::FrameLemmas::reads_then, crate::proofs::OpeningLemmas::part_on))]
 fn new_fault<S: Alter>(
     alloc: Global,
     connection: &mut Connection<S>,
     made: TablesPresent,
 ) -> Option<PartFault>
     requires part { Holds S.Store connection.old (IsMadeTo made) }
-    requires some { made ≢ TablesPresent.Nothing }
+    requires some { has_table made DeskTable.Operator ≡ true }
     requires settled { connection.old.in_transaction ≡ false }
     ensures { OnlyReads S.Store connection.old connection.new }
 {
-    match rows_in(alloc, connection, made) {
-        Ok(rows) => fault_of_rows(alloc, &rows),
+    let Ok(heads) = heads_in(alloc, connection, made) else {
+        return None;
+    };
+    let plans = match plans_of(alloc, &heads, PartFault::Volume) {
+        Ok(plans) => plans,
+        Err(part) => return part,
+    };
+    let mut check = SpanCheck::new(alloc, plans);
+    match take_spans(connection, made, &mut check) {
+        Ok(()) => fault_of_spans(alloc, check, &heads.covers),
         Err(_) => None,
     }
 }
@@ -135,15 +146,16 @@ fn old_fault<S: Alter>(
     }
 }
 
-// The first part of the rows of schema 2.
-fn fault_of_rows(alloc: Global, rows: &TableRows) -> Option<PartFault> {
-    match content_in(alloc, rows) {
-        Ok(content) => match covers_agree(alloc, &content.plans, &rows.covers) {
-            Ok(false) => Some(PartFault::Cover),
-            _ => None,
-        },
-        Err(RowFault::NoDesk) => part_of(alloc, rows, PartFault::Volume, PartFault::Span),
-        Err(RowFault::OutOfMemory) => None,
+// The spans, which were held against the plans, or the covers.
+fn fault_of_spans(alloc: Global, mut check: SpanCheck, covers: &[Row]) -> Option<PartFault> {
+    match check.agrees() {
+        Ok(true) => {}
+        Ok(false) => return Some(PartFault::Span),
+        Err(_) => return None,
+    }
+    match covers_agree(alloc, &check.plans, covers) {
+        Ok(false) => Some(PartFault::Cover),
+        _ => None,
     }
 }
 
@@ -154,36 +166,38 @@ fn fault_of_old_rows(alloc: Global, rows: &TableRows) -> Option<PartFault> {
             Ok(false) => Some(PartFault::OldPlan),
             _ => None,
         },
-        Err(RowFault::NoDesk) => part_of(alloc, rows, PartFault::OldVolume, PartFault::OldSpan),
+        Err(RowFault::NoDesk) => match plans_of(alloc, rows, PartFault::OldVolume) {
+            Ok(_) => Some(PartFault::OldSpan),
+            Err(part) => part,
+        },
         Err(RowFault::OutOfMemory) => None,
     }
 }
 
-// The first part of rows that are those of no content but for covers: the spans, if it is no other.
-fn part_of(
+// The plans of rows, or the first part of them but for spans and covers; none if memory runs out.
+fn plans_of(
     alloc: Global,
     rows: &TableRows,
     volume: PartFault,
-    span: PartFault,
-) -> Option<PartFault> {
+) -> Result<Vec<FiledPlan>, Option<PartFault>> {
     let operators = match operators_in(alloc, &rows.operators) {
         Ok(operators) => operators,
-        Err(fault) => return if_no_desk(fault, PartFault::Operator),
+        Err(fault) => return Err(if_no_desk(fault, PartFault::Operator)),
     };
     let plans = match plans_in(alloc, &rows.plans, &rows.volumes) {
         Ok(plans) => plans,
-        Err(fault) => return if_no_desk(fault, plan_or(volume, &rows.plans)),
+        Err(fault) => return Err(if_no_desk(fault, plan_or(volume, &rows.plans))),
     };
     if !names_ascend(&operators) {
-        return Some(PartFault::Operator);
+        return Err(Some(PartFault::Operator));
     }
     if !keys_ascend(&plans) {
-        return Some(PartFault::Plan);
+        return Err(Some(PartFault::Plan));
     }
     if !are_shared(&operators, &plans) {
-        return Some(PartFault::Plans);
+        return Err(Some(PartFault::Plans));
     }
-    Some(span)
+    Ok(plans)
 }
 
 // The part whose rows were not read, if they are no desk's.

@@ -1,6 +1,6 @@
 //! Stores of plans made over connections.
 
-ghost use Rattle.std.specs.Prelude.{◌≡◌, [], false, IfOk, IfErr};
+ghost use Rattle.std.specs.Prelude.{◌≡◌, [], false, IfOk, IfErr, None};
 ghost use Rattle.desk_sql.specs.Effects.{IsKept};
 ghost use Rattle.desk_tables.specs.Moving.{BeginsMoved, KeepsRows, ShowsNoContent};
 ghost use Rattle.desk_tables.specs.Opening.{BeginsWith, ShowsNoDesk, ShowsOldRows};
@@ -137,7 +137,7 @@ impl<S: Alter> SqliteStore<S> {
     /// The store over a connection, which is open. In a database with no table a desk's tables are made,
     /// and the world is empty. A desk's tables stay as they are, and the world is the content whose rows
     /// they have; those of a packed file are put into a desk's own order, in one transaction. That holds
-    /// while the disk has returned what was written.
+    /// while the disk has returned what was written. If the connection has a limit on steps, it is lifted.
     ///
     /// # Errors
     ///
@@ -159,6 +159,7 @@ impl<S: Alter> SqliteStore<S> {
             (ShowsOldRows S.Store connection refused.connection)
             (IsKept S.Store connection refused.connection)) }
     {
+        connection.set_step_limit(None);
         match load_world(alloc, &mut connection) {
             Ok((kept, known, is_enrolled)) => Ok(SqliteStore::with(
                 alloc,
@@ -173,6 +174,7 @@ impl<S: Alter> SqliteStore<S> {
     }
 
     /// The store over a connection, as `adopt` gives it, and how many plans were moved to it from schema 1.
+    /// A limit on steps is lifted.
     /// Where there are rows of schema 1, they are replaced by those of the same content in schema 2, in one
     /// transaction. Where there are none, no plan is moved, and the number is 0. More plans than the number
     /// can tell are told as its greatest value.
@@ -197,6 +199,7 @@ impl<S: Alter> SqliteStore<S> {
             (ShowsNoContent S.Store connection refused.connection) ⊥
             (KeepsRows S.Store connection refused.connection)) }
     {
+        connection.set_step_limit(None);
         match moved_world_in(alloc, &mut connection) {
             Ok((kept, known, count)) => {
                 let store = SqliteStore::with(
@@ -246,6 +249,7 @@ fn over_blank<S: Alter + Drop>(
     mut connection: Connection<S>,
 ) -> Result<SqliteStore<S>, OpenFault>
     requires settled { connection.in_transaction ≡ false }
+    requires unlimited { connection.step_limit ≡ None }
     ensures { IfOk result (λ store. store.world ≡ record { operators = []; plans = [] }) }
 {
     let Some(TablesPresent::Nothing) = find_tables(&mut connection)? else {

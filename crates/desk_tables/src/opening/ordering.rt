@@ -1,6 +1,6 @@
 //! How a packed file, whose tables come before all indexes, is put into a desk's own order.
 
-ghost use Rattle.std.specs.Prelude.{◌≡◌, ◌≢◌, false, IfOk, IfErr, OnOk, OnErr};
+ghost use Rattle.std.specs.Prelude.{◌≡◌, ◌≢◌, false, IfOk, IfErr, OnOk, OnErr, None};
 ghost use Rattle.sqlite.specs.State.{HasCleanDisk};
 ghost use Rattle.sqlite.specs.Held.{state};
 ghost use Rattle.desk_sql.specs.Rows.{IsMadeTo};
@@ -36,6 +36,7 @@ pub(crate) fn ordered_in<S: Alter>(
     requires part { Holds S.Store connection.old (IsMadeTo TablesPresent.Packed) }
     requires new { Holds S.Store connection.old (HasNewRows TablesPresent.Packed) }
     requires settled { connection.old.in_transaction ≡ false }
+    requires unlimited { connection.old.step_limit ≡ None }
     ensures set_up { IsSetUp S.Store connection.old connection.new result (λ found. found.0.world)
         (λ found. BeginsOrdered S.Store connection.old connection.new found.0.world)
         (HadNone S.Store connection.old connection.new TablesPresent.Packed)
@@ -85,7 +86,6 @@ pub(crate) fn unpack<S: Alter>(connection: &mut Connection<S>) -> Result<(), Ope
     ensures cause { Holds S.Store connection.old (HasSpansToIndex TablesPresent.Packed)
         → IfErr result (BlamesReading S.Store connection.old connection.new) }
     ensures fault { IfErr result (λ e. (e ≢ OpenFault.NotADesk) × (e ≢ OpenFault.OldSchema)) }
-    ensures limit { connection.new.step_limit ≡ connection.old.step_limit }
     ensures over { IsOver S.Store connection.old connection.new }
 {
     settled_and_sound(connection);

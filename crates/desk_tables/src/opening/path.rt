@@ -1,10 +1,10 @@
 //! A connection to the files at a path, with the options of a desk.
 
-ghost use Rattle.std.specs.Prelude.{IfErr, IfOk, IsTrue, true, false};
+ghost use Rattle.std.specs.Prelude.{◌≡◌, IfErr, IfOk, IsTrue, true, false};
 ghost use Rattle.sqlite_wal.specs.Files.{image_at};
 ghost use Rattle.sqlite_std_file.specs.File.{file_is_usable, IsFresh};
 ghost use Rattle.sqlite.specs.Held.{IsNew};
-ghost use Rattle.desk_tables.specs.Files.{Finds, IsUnread};
+ghost use Rattle.desk_tables.specs.Files.{Finds, IsUnreached};
 
 use crate::opening::open::OpenFault;
 use sqlite::{Connection, FileFrom, FileStore, Files, Options, Start};
@@ -19,6 +19,22 @@ const NEW_HAS_SUMS: bool = true;
 // How many frames the log holds before it is copied into the database file: what 20 to 60 changes write.
 const LOG_FRAMES: usize = 320;
 
+/// Files that were not opened, so that nothing in them was read. Only what opens files makes one, so what has
+/// one has tried.
+#[derive(Clone, Copy, Debug, PartialEq, Eq)]
+pub struct Unreached {
+    fault: OpenFault,
+}
+
+impl Unreached {
+    /// Why they were not opened.
+    pub fn fault(self) -> OpenFault
+        ensures { result ≡ self.fault }
+    {
+        self.fault
+    }
+}
+
 /// A connection to the database in the files at a path; `start` stands for what the files held. Where there
 /// are no files, they are made.
 ///
@@ -29,16 +45,16 @@ pub(crate) fn connect<S: Start>(
     rt: &HostRuntime,
     path: &str,
     start: S,
-) -> Result<Connection<FileStore<FileFrom<S>>>, OpenFault>
+) -> Result<Connection<FileStore<FileFrom<S>>>, Unreached>
     ensures found { IfOk result (Finds (image_at S.Start)) }
     ensures fresh { IfOk result IsNew }
-    ensures unread { IfErr result IsUnread }
+    ensures unread { IfErr result IsUnreached }
 {
     let files = open_pair(rt, path, start)?;
     let options = options(rt)?;
     match Connection::open_files_with(rt.alloc(), files, options, NEW_HAS_SUMS) {
         Ok(connection) => Ok(connection),
-        Err((error, _)) => Err(OpenFault::from(error)),
+        Err((error, _)) => Err(unopened(OpenFault::from(error))),
     }
 }
 
@@ -51,14 +67,14 @@ pub(crate) fn connect_there<S: Start>(
     rt: &HostRuntime,
     path: &str,
     start: S,
-) -> Result<Connection<FileStore<FileFrom<S>>>, OpenFault>
+) -> Result<Connection<FileStore<FileFrom<S>>>, Unreached>
     ensures found { IfOk result (Finds (image_at S.Start)) }
     ensures fresh { IfOk result IsNew }
-    ensures unread { IfErr result IsUnread }
+    ensures unread { IfErr result IsUnreached }
 {
     match metadata(rt, path) {
         Ok(found) if found.len() > 0 => connect(rt, path, start),
-        _ => Err(OpenFault::Store),
+        _ => Err(unopened(OpenFault::Store)),
     }
 }
 
@@ -71,14 +87,14 @@ pub(crate) fn connect_new<S: Start>(
     rt: &HostRuntime,
     path: &str,
     start: S,
-) -> Result<Connection<FileStore<FileFrom<S>>>, OpenFault>
+) -> Result<Connection<FileStore<FileFrom<S>>>, Unreached>
     ensures found { IfOk result (Finds (image_at S.Start)) }
     ensures fresh { IfOk result IsNew }
-    ensures unread { IfErr result IsUnread }
+    ensures unread { IfErr result IsUnreached }
 {
     match exists(rt, path) {
         Ok(false) => connect(rt, path, start),
-        _ => Err(OpenFault::Store),
+        _ => Err(unopened(OpenFault::Store)),
     }
 }
 
@@ -87,28 +103,28 @@ fn open_pair<S: Start>(
     rt: &HostRuntime,
     path: &str,
     start: S,
-) -> Result<Files<FileFrom<S>>, OpenFault>
+) -> Result<Files<FileFrom<S>>, Unreached>
     ensures log { IfOk result (λ files. IsTrue (file_is_usable S.Start files.log)) }
     ensures db { IfOk result (λ files. IsTrue (file_is_usable S.Start files.db)) }
     ensures fresh { IfOk result (λ files. IsFresh true files.log × IsFresh false files.db) }
-    ensures unread { IfErr result IsUnread }
+    ensures unread { IfErr result IsUnreached }
 {
     if path == ":memory:" || path.starts_with("file:") {
-        return Err(OpenFault::Store);
+        return Err(unopened(OpenFault::Store));
     }
     match sqlite_std_file::open(rt, path, start) {
         Ok(files) => Ok(files),
-        Err(OpenError::OutOfMemory) => Err(OpenFault::OutOfMemory),
+        Err(OpenError::OutOfMemory) => Err(unopened(OpenFault::OutOfMemory)),
         Err(OpenError::Io(error)) if error.kind() == ErrorKind::OutOfMemory => {
-            Err(OpenFault::OutOfMemory)
+            Err(unopened(OpenFault::OutOfMemory))
         }
-        Err(_) => Err(OpenFault::Store),
+        Err(_) => Err(unopened(OpenFault::Store)),
     }
 }
 
 // The options of a desk's files: the seed of the log's salts is drawn by the operating system.
-fn options(rt: &HostRuntime) -> Result<Options, OpenFault>
-    ensures { IfErr result IsUnread }
+fn options(rt: &HostRuntime) -> Result<Options, Unreached>
+    ensures { IfErr result IsUnreached }
 {
     match RandomState::new(rt) {
         Ok(random) => {
@@ -118,6 +134,13 @@ fn options(rt: &HostRuntime) -> Result<Options, OpenFault>
                 ..Options::new(seed)
             })
         }
-        Err(_) => Err(OpenFault::Store),
+        Err(_) => Err(unopened(OpenFault::Store)),
     }
+}
+
+// Files that were not opened, for this cause.
+fn unopened(fault: OpenFault) -> Unreached
+    ensures { result.fault ≡ fault }
+{
+    Unreached { fault }
 }

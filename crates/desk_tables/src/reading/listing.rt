@@ -113,12 +113,14 @@ impl PlanCollector {
 }
 
 impl RowSink for PlanCollector {
-    ghost use Rattle.std.specs.Prelude.{◌≡◌, ◌⊎◌};
+    ghost use Rattle.std.specs.Prelude.{◌≡◌, ◌⊎◌, ⊤};
     ghost use Rattle.sqlite.specs.declared.error.Error.TheVariants.{SqliteFailure};
     ghost use Rattle.sqlite.specs.declared.error.ErrorCode.TheVariants.{OutOfMemory};
     ghost use Rattle.desk_tables.specs.Gathering.{HasCollected, BeginNoListing};
 
     ghost has_taken = { λ g rows. HasCollected g.plans.items g.head g.volumes.items rows };
+
+    ghost keeps = { λ _ _. ⊤ };
 
     ghost refuses = { λ taken row e. (e ≡ SqliteFailure OutOfMemory) ⊎ BeginNoListing taken row };
 

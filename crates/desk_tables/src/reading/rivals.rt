@@ -44,12 +44,14 @@ impl Rivals {
 }
 
 impl RowSink for Rivals {
-    ghost use Rattle.std.specs.Prelude.{◌≡◌, ◌⊎◌};
+    ghost use Rattle.std.specs.Prelude.{◌≡◌, ◌⊎◌, ⊤};
     ghost use Rattle.sqlite.specs.declared.error.Error.TheVariants.{SqliteFailure};
     ghost use Rattle.sqlite.specs.declared.error.ErrorCode.TheVariants.{OutOfMemory};
     ghost use Rattle.desk_tables.specs.RivalRows.{HasTakenHelds, IsNoHeld};
 
     ghost has_taken = { λ r rows. HasTakenHelds r.helds.items rows };
+
+    ghost keeps = { λ _ _. ⊤ };
 
     ghost refuses = { λ taken row e. (e ≡ SqliteFailure OutOfMemory) ⊎ IsNoHeld row };
 

@@ -15,6 +15,7 @@ use desk_rules::operator::Operator;
 use desk_rules::permission::Permitted;
 use desk_rules::plan::PlanRow;
 use desk_rules::reply::Reply;
+use desk_rules::terms::Terms;
 use desk_rules::words::PlanResult;
 use desk_run::{Desk, Outcome};
 use desk_wire::answer;
@@ -49,7 +50,7 @@ pub struct Stage<S> {
     desk: Desk<S>,
     moment: Moment,
     // those of the desk
-    permitted: Permitted,
+    terms: Terms,
     alloc: Global,
 }
 
@@ -60,7 +61,7 @@ impl<S: EmptyStore> Stage<S> {
         Ok(Stage {
             desk: Desk::new(store),
             moment: Moment { second: 0 },
-            permitted: Permitted::none(),
+            terms: Terms::none(),
             alloc,
         })
     }
@@ -72,6 +73,7 @@ impl<S: EmptyStore> Stage<S> {
             Step::Desk(enrolments) => self.begin(enrolments),
             Step::At(word) => self.set_moment(word),
             Step::Equal(list) => self.set_permitted(list, output),
+            Step::Spans(word) => self.set_spans(word),
             Step::Ask(ask) => self.send_ask(ask, output),
             Step::Request {
                 method,
@@ -94,15 +96,31 @@ impl<S: EmptyStore> Stage<S> {
     // Permits these priorities, or prints why they are refused.
     fn set_permitted<W: Write>(&mut self, list: &str, output: &mut W) -> anyhow::Result<()> {
         match Permitted::try_new(&numbers_in(self.alloc, list)?) {
-            Ok(permitted) => self.permit(permitted),
+            Ok(permitted) => self.keep_to(&Terms {
+                permitted,
+                ..self.terms
+            }),
             Err(fault) => writeln!(output, "refused: {fault}")?,
         }
         Ok(())
     }
 
-    fn permit(&mut self, permitted: Permitted) {
-        self.permitted = permitted;
-        self.desk.permit(permitted);
+    // Takes the most spans of an operator's live plans; `-` if any number will do.
+    fn set_spans(&mut self, word: &str) -> anyhow::Result<()> {
+        let spans = match word {
+            "-" => None,
+            word => Some(word.parse()?),
+        };
+        self.keep_to(&Terms {
+            spans,
+            ..self.terms
+        });
+        Ok(())
+    }
+
+    fn keep_to(&mut self, terms: &Terms) {
+        self.terms = *terms;
+        self.desk.keep_to(*terms);
     }
 
     // Makes the call of a step that makes one.
@@ -116,7 +134,7 @@ impl<S: EmptyStore> Stage<S> {
     // A new desk with these enrolments, `NAME=CEILING ..`.
     fn begin(&mut self, enrolments: &str) -> anyhow::Result<()> {
         self.desk = Desk::new(S::empty(self.alloc)?);
-        self.permitted = Permitted::none();
+        self.terms = Terms::none();
         for enrolment in enrolments.split_whitespace() {
             self.enrol(enrolment)?;
         }
@@ -203,7 +221,7 @@ impl<S: EmptyStore> Stage<S> {
         let mut store = std::mem::replace(&mut self.desk, empty).into_store();
         let rows = store.own_plans(operator);
         self.desk = Desk::new(store);
-        self.desk.permit(self.permitted);
+        self.desk.keep_to(self.terms);
         rows.ok().context("the plans can't be read")
     }
 }

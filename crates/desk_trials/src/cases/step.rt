@@ -16,6 +16,8 @@ pub enum Step<'l> {
     At(&'l str),
     /// `equal PRIORITY,..`: these priorities are permitted from here on; if they can't be, it is told why.
     Equal(&'l str),
+    /// `spans N`: the most spans of an operator's live plans from here on; `-` for any number.
+    Spans(&'l str),
     /// `ask OPERATOR ID STYLE USAGE AIRCRAFT PRIORITY LOWER UPPER START END CELL,..`: a PUT as bytes.
     Ask(Ask<'l>),
     /// `request METHOD TARGET OPERATOR BODY`: a request as bytes, with a content-length; OPERATOR `-` leaves
@@ -74,6 +76,7 @@ impl<'l> Step<'l> {
             "desk" => Some(Step::Desk(rest)),
             "at" => Some(Step::At(rest)),
             "equal" => Some(Step::Equal(rest)),
+            "spans" => Some(Step::Spans(rest)),
             "raw" => Some(Step::Raw(rest)),
             "request" => request_of(rest),
             _ => {

@@ -1,7 +1,8 @@
-use Rattle.std.proofs.Common.{◌∙◌, Err, ap, arith, inr, refl}
+use Rattle.std.proofs.Common.{◌∙◌, Err, ap, arith, inr, refl, rules}
 use Rattle.desk_run.specs.DeskWorld.{world_of}
 use Rattle.desk_line.specs.Exits.{ending}
 use Rattle.desk_program.proofs.EndLemmas.{broken_down, found_enrolled}
+use Rattle.desk_program.proofs.CauseLemmas.{ends_counted, ends_memory, ends_well, ends_write}
 use Rattle.desk_program.proofs.program.enrol_line.Goals as goal
 
 -- its ceiling is in range, so memory ran out or the store failed
@@ -33,3 +34,18 @@ returns-in-Err-clause-kept g c = λ p settled found may.
       c.requires,
     ))) (c.conclude-in-Err.ensures.status, c.conclude-in-Err.ensures.told))
     (settled found) (c.enrol.ensures.crash p found may)
+
+-- why the line ends so
+pub returns-in_default-clause-cause : goal.returns-in_default-clause-cause
+returns-in_default-clause-cause g c = search (rules, ends_memory)
+
+pub returns-in-Err-clause-cause : goal.returns-in-Err-clause-cause
+returns-in-Err-clause-cause g c =
+    ends_counted c.in-Err.fault c.from.result _ _ _ c.from.ensures c.in-Err.ensures.cause
+    (c.conclude-in-Err.ensures.status, c.conclude-in-Err.ensures.told)
+
+pub returns-in-Ok-write_whole-clause-cause : goal.returns-in-Ok-write_whole-clause-cause
+returns-in-Ok-write_whole-clause-cause g c = search (rules, ends_well)
+
+pub returns-clause-cause : goal.returns-clause-cause
+returns-clause-cause g c = search (rules, ends_write)

@@ -5,10 +5,11 @@ use Rattle.desk_run.specs.DeskWorld.{world_of}
 use Rattle.desk_ends.specs.laws.Moment.{same_moment}
 use Rattle.desk_wire.specs.Playing.{HasPlayed}
 use Rattle.desk_line.specs.Exits.{EndsWith, ending}
-use Rattle.desk_program.specs.Enrolling.{AreListedSoFar, permitting, with_operators}
+use Rattle.desk_program.specs.Enrolling.{AreListedSoFar, on_terms, with_operators}
 use Rattle.desk_program.specs.Keeping.{AreKeptSoFar}
 use Rattle.desk_program.proofs.EndLemmas.{not_played}
 use Rattle.desk_program.proofs.KeepingLemmas.{run_kept}
+use Rattle.desk_program.proofs.CauseLemmas.{ends_counted}
 use Rattle.desk_program.proofs.program.play_line.Goals as goal
 
 pub returns-in-Err-clause-played : goal.returns-in-Err-clause-played
@@ -21,7 +22,7 @@ returns-in-Err-clause-played g c =
     inr (not_played honest c.args.play.now end (g.R.Read.remaining c.args.input.now)
     (g.W.Write.contents c.args.output.now) w after c.in-Err.fault c.from.result c.from.ensures
     c.in-Err.ensures.fault (c.conclude.ensures.status, c.conclude.ensures.told)
-    (subst (λ es. AreListedSoFar honest es (permitting w c.args.play.now.permitted) after)
+    (subst (λ es. AreListedSoFar honest es (on_terms w c.args.play.now.terms) after)
     c.deref.ensures.value c.in-Err.ensures.err))
 
 pub returns-in-Err-clause-kept : goal.returns-in-Err-clause-kept
@@ -35,9 +36,9 @@ returns-in-Err-clause-kept g c = λ p settled found may.
       not_played honest c.args.play.now end (g.R.Read.remaining c.args.input.now)
           (g.W.Write.contents c.args.output.now) w after c.in-Err.fault c.from.result c.from.ensures
           c.in-Err.ensures.fault (c.conclude.ensures.status, c.conclude.ensures.told)
-          (subst (λ es. AreListedSoFar honest es (permitting w c.args.play.now.permitted) after)
+          (subst (λ es. AreListedSoFar honest es (on_terms w c.args.play.now.terms) after)
           c.deref.ensures.value c.in-Err.ensures.err),
-      subst (λ es. AreKeptSoFar honest es (permitting w c.args.play.now.permitted) after found)
+      subst (λ es. AreKeptSoFar honest es (on_terms w c.args.play.now.terms) after found)
           c.deref.ensures.value (c.in-Err.ensures.crash p settled found may),
     )
 
@@ -50,7 +51,7 @@ returns-clause-played g c =
     let out = g.W.Write.contents c.args.output.now in
     let now = g.W.Write.contents c.play_all-played.new.output in
     let w = world_of g.S.PlanStore.content c.args.desk.now in
-    let permitted = permitting w c.args.play.now.permitted in
+    let begun = on_terms w c.args.play.now.terms in
     let after = world_of g.S.PlanStore.content c.play_all-played.new.desk in
     let moment = c.args.play.now.moment in
     inl (record {
@@ -61,9 +62,9 @@ returns-clause-played g c =
           (c.conclude-2.ensures.status, c.conclude-2.ensures.told);
       played = λ h.
           let listed = c.in_default.ensures.ok (was_honest c.play_all-played.ensures.remembered.doubt h)
-          ∙ ap (with_operators permitted) c.deref.ensures.value in
+          ∙ ap (with_operators begun) c.deref.ensures.value in
           subst (λ m. HasPlayed honest played.ended played.answered old new out now
-          (with_operators permitted c.args.play.now.enrolments.items) m after)
+          (with_operators begun c.args.play.now.enrolments.items) m after)
           (same_moment moment c.requires.moment)
           (subst (λ v. HasPlayed honest played.ended played.answered old new out now v
           (to_z w64 (of_z w64 moment)) after) listed c.play_all-played.ensures.played);
@@ -85,6 +86,11 @@ returns-clause-kept g c = λ p settled found may.
     (c.conclude-2.ensures.status, c.conclude-2.ensures.told))
     (same_moment c.args.play.now.moment c.requires.moment)
     (λ h. c.in_default.ensures.ok (was_honest c.play_all-played.ensures.remembered.doubt h)
-    ∙ ap (with_operators (permitting w c.args.play.now.permitted)) c.deref.ensures.value)
+    ∙ ap (with_operators (on_terms w c.args.play.now.terms)) c.deref.ensures.value)
     c.play_all-played.ensures.played p found
     (c.play_all-played.ensures.kept p (c.in_default.ensures.kept before settled) found may)
+
+pub returns-in-Err-clause-cause : goal.returns-in-Err-clause-cause
+returns-in-Err-clause-cause g c =
+    ends_counted c.in-Err.fault c.from.result _ _ _ c.from.ensures c.in-Err.ensures.cause
+    (c.conclude.ensures.status, c.conclude.ensures.told)

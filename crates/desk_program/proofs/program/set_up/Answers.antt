@@ -11,5 +11,5 @@ returns-clause-crash g c = λ p.
     subst (λ d. IsSettled g.S.PlanStore.content g.S.PlanStore.may_leave d → OnErr c.enrol_all.result
     ((found : Option World) → g.S.PlanStore.may_leave after.store found
     → AreKeptSoFar (IsHonest (g.S.PlanStore.doubt after.store)) c.args.enrolments.now
-    (world_of g.S.PlanStore.content d) (world_of g.S.PlanStore.content after) found)) c.permit.ensures
+    (world_of g.S.PlanStore.content d) (world_of g.S.PlanStore.content after) found)) c.keep_to.ensures
     (c.enrol_all.ensures.crash p)

@@ -1,4 +1,4 @@
-use Rattle.std.proofs.Common.{◌∷◌, [], refl, sym, subst}
+use Rattle.std.proofs.Common.{◌∙◌, ◌∷◌, [], refl, sym, subst}
 use Rattle.desk_store.specs.StoreFaults.{IsHonest}
 use Rattle.desk_run.specs.DeskWorld.{world_of}
 use Rattle.desk_ends.specs.laws.Moment.{same_moment}
@@ -39,6 +39,7 @@ returns-clause-kept g c =
       served = c.serve_one-served.result;
       parting = parted unread now c.is_whole.result;
     }) _ _ w after before (g.S.PlanStore.may_leave c.serve_one-served.new.desk.store)
+    (c.close.ensures.2 ∙ taken.2)
     (subst (λ v. Grows (g.P.Port.traffic c.args.port.now).taken v (arrived client.moment bytes ∷ []))
     (sym c.close.ensures.1) taken.0)
     (subst (λ v. Grows v (g.P.Port.traffic c.close.new.self).closed

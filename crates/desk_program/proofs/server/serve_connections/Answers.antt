@@ -1,9 +1,11 @@
-use Rattle.std.proofs.Common.{◌≡◌, ◌+◌, Ok, arith, subst}
+use Rattle.std.proofs.Common.{◌≡◌, ◌+◌, None, Ok, arith, refl, subst}
+use Rattle.std.proofs.lemmas.List.Elements.{All-nil}
 use Rattle.desk_store.specs.StoreFaults.{IsHonest}
 use Rattle.desk_store.specs.laws.Fault.{was_honest}
 use Rattle.desk_run.specs.DeskWorld.{world_of}
+use Rattle.desk_line.specs.Exits.{failure_at}
 use Rattle.desk_program.specs.Keeping.{AreKept}
-use Rattle.desk_program.proofs.KeepingLemmas.{both_kept}
+use Rattle.desk_program.proofs.KeepingLemmas.{both_kept, none_kept}
 use Rattle.desk_program.proofs.ServedLemmas.{goes_on_by, stops_by}
 use Rattle.desk_program.proofs.server.serve_connections.Goals as goal
 
@@ -45,3 +47,12 @@ returns-clause-kept g c =
     (world_of g.S.PlanStore.content c.args.desk.now) (world_of g.S.PlanStore.content c.loop-before.desk)
     (g.S.PlanStore.may_leave c.args.desk.now.store) (g.S.PlanStore.may_leave c.loop-before.desk.store)) all
     c.loop-before.invariant.kept
+
+pub loop-before-init : goal.loop-before-init
+loop-before-init g c = record {
+  kept = none_kept {A = Unit {0}} (IsHonest (g.S.PlanStore.doubt c.args.desk.now.store)) (Ok tt) 0 _ _ _ _ _ _
+      refl refl (refl, All-nil (λ x. failure_at x.served ≡ None)) (λ found may. may);
+  doubt = omega arith;
+  counted = omega arith;
+  shield = λ s. s;
+}

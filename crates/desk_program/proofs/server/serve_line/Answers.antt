@@ -2,11 +2,12 @@ use Rattle.std.proofs.Common.{◌∙◌, ap, inl, refl, subst}
 use Rattle.desk_store.specs.StoreFaults.{IsHonest}
 use Rattle.desk_store.specs.laws.Fault.{was_honest}
 use Rattle.desk_run.specs.DeskWorld.{world_of}
-use Rattle.desk_program.specs.Enrolling.{permitting, with_operators}
+use Rattle.desk_program.specs.Enrolling.{on_terms, with_operators}
 use Rattle.desk_program.specs.Serving.{AreTaken}
 use Rattle.desk_program.proofs.KeepingLemmas.{port_kept, unserved_kept}
 use Rattle.desk_program.proofs.ServedLemmas.{unserved}
 use Rattle.desk_program.proofs.BegunLemmas.{announced_none, announced_same, announced_whole}
+use Rattle.desk_program.proofs.CauseLemmas.{served_counted}
 use Rattle.desk_program.proofs.server.serve_line.Goals as goal
 
 pub returns-in_err-set_up-clause-printed : goal.returns-in_err-set_up-clause-printed
@@ -25,10 +26,10 @@ returns-in_err-listen-clause-served g c =
     unserved (IsHonest (g.S.PlanStore.doubt c.set_up.new.desk.store)) c.from_residual-in_err-listen.result
     c.in_err-listen.field-0.0 c.args.line.now _ _ (world_of g.S.PlanStore.content c.args.desk.now)
     (world_of g.S.PlanStore.content c.set_up.new.desk) c.from_residual-in_err-listen.ensures.1
-    c.in_err-listen.ensures.fault c.in_err-listen.ensures.same
+    c.in_err-listen.ensures.fault c.in_err-listen.ensures.listens
     (λ h. c.in_ok-set_up.ensures.ok h
-    ∙ ap (with_operators (permitting (world_of g.S.PlanStore.content c.args.desk.now)
-    c.args.line.now.permitted)) c.deref.ensures.value)
+    ∙ ap (with_operators (on_terms (world_of g.S.PlanStore.content c.args.desk.now)
+    c.args.line.now.terms)) c.deref.ensures.value)
 
 pub returns-clause-served : goal.returns-clause-served
 returns-clause-served g c =
@@ -39,10 +40,10 @@ returns-clause-served g c =
     inl (record {
       begun = begun;
       listed = λ h. c.in_ok-set_up.ensures.ok (was_honest c.serve_connections.ensures.remembered.doubt h)
-          ∙ ap (with_operators (permitting w c.args.line.now.permitted)) c.deref.ensures.value;
-      taken = subst (λ v. AreTaken honest c.serve_connections.result c.args.line.now.connections v
-          (g.P.Port.traffic c.serve_connections.new.port) begun after) c.in_ok-listen.ensures.same
-          c.serve_connections.ensures.served;
+          ∙ ap (with_operators (on_terms w c.args.line.now.terms)) c.deref.ensures.value;
+      port = _;
+      listens = c.in_ok-listen.ensures.listens;
+      taken = c.serve_connections.ensures.served;
     })
 
 pub returns-in_err-listen-clause-kept : goal.returns-in_err-listen-clause-kept
@@ -52,10 +53,10 @@ returns-in_err-listen-clause-kept g c = λ p settled.
     (world_of g.S.PlanStore.content c.set_up.new.desk) (world_of g.S.PlanStore.content c.set_up.new.desk)
     (g.S.PlanStore.may_leave c.set_up.new.desk.store) (g.S.PlanStore.may_leave c.set_up.new.desk.store) p
     (λ h. c.in_ok-set_up.ensures.ok h
-    ∙ ap (with_operators (permitting (world_of g.S.PlanStore.content c.args.desk.now)
-    c.args.line.now.permitted)) c.deref.ensures.value) (c.in_ok-set_up.ensures.kept p settled)
+    ∙ ap (with_operators (on_terms (world_of g.S.PlanStore.content c.args.desk.now)
+    c.args.line.now.terms)) c.deref.ensures.value) (c.in_ok-set_up.ensures.kept p settled)
     c.in_err-listen.field-0.0 _ _ c.from_residual-in_err-listen.ensures.1 c.in_err-listen.ensures.fault
-    c.in_err-listen.ensures.same refl (λ found may. may)
+    c.in_err-listen.ensures.listens refl (λ found may. may)
 
 pub returns-clause-kept : goal.returns-clause-kept
 returns-clause-kept g c = λ p settled.
@@ -67,6 +68,11 @@ returns-clause-kept g c = λ p settled.
     (g.S.PlanStore.may_leave c.set_up.new.desk.store)
     (g.S.PlanStore.may_leave c.serve_connections.new.desk.store) p
     (λ h. c.in_ok-set_up.ensures.ok (was_honest c.serve_connections.ensures.remembered.doubt h)
-    ∙ ap (with_operators (permitting (world_of g.S.PlanStore.content c.args.desk.now)
-    c.args.line.now.permitted)) c.deref.ensures.value) (c.in_ok-set_up.ensures.kept listed settled)
-    _ _ _ c.in_ok-listen.ensures.same c.serve_connections.ensures.kept
+    ∙ ap (with_operators (on_terms (world_of g.S.PlanStore.content c.args.desk.now)
+    c.args.line.now.terms)) c.deref.ensures.value) (c.in_ok-set_up.ensures.kept listed settled)
+    _ _ _ c.in_ok-listen.ensures.listens c.serve_connections.ensures.kept
+
+-- why it ends with a store that failed: it doesn't, once connections are taken
+pub returns-clause-cause : goal.returns-clause-cause
+returns-clause-cause g c =
+    served_counted c.serve_connections.result _ _ _ _ c.serve_connections.ensures.served.ends

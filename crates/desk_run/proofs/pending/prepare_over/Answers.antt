@@ -17,13 +17,13 @@ ready_put-requires-clause-low g c = λ honest.
 
 pub returns-in_default-clause-value : goal.returns-in_default-clause-value
 returns-in_default-clause-value g c = λ honest.
-    unlisted_is (with_content c.args.permitted.now (g.S.PlanStore.content c.args.store.now)) c.args.moment
+    unlisted_is (with_content c.args.terms.now (g.S.PlanStore.content c.args.store.now)) c.args.moment
     c.args.asked.now
     (sym (c.in_ok-ceiling.ensures.value honest) ∙ c.in_default.is)
 
 pub returns-in-Status-clause-value : goal.returns-in-Status-clause-value
 returns-in-Status-clause-value g c = λ honest.
-    status_ready (with_content c.args.permitted.now (g.S.PlanStore.content c.args.store.now)) c.args.moment
+    status_ready (with_content c.args.terms.now (g.S.PlanStore.content c.args.store.now)) c.args.moment
     c.args.asked.now
     c.in-Some.ceiling
     (sym (c.in_ok-ceiling.ensures.value honest) ∙ c.in-Some.is) c.in-Status.is
@@ -31,11 +31,11 @@ returns-in-Status-clause-value g c = λ honest.
 pub returns-in-Put-clause-value : goal.returns-in-Put-clause-value
 returns-in-Put-clause-value g c = λ honest.
     let listing = was_honest c.ready_put.ensures.reads.doubt honest in
-    let before = with_content c.args.permitted.now (g.S.PlanStore.content c.args.store.now) in
+    let before = with_content c.args.terms.now (g.S.PlanStore.content c.args.store.now) in
     let asked = c.args.asked.now in
     prepares_from before c.args.moment asked c.in-Some.ceiling c.ready_put.result
     (sym (c.in_ok-ceiling.ensures.value listing) ∙ c.in-Some.is)
-    (put_readies before.permitted (g.S.PlanStore.content c.ceiling.new.self) before.content _ c.args.moment
+    (put_readies before.terms (g.S.PlanStore.content c.ceiling.new.self) before.content _ c.args.moment
     asked c.in-Put.put
     c.in-Some.ceiling c.ready_put.result c.ceiling.ensures.reads.same
     (to_z-of_z w64 c.args.moment c.ranges.moment) c.in-Put.is (c.ready_put.ensures.value honest))
@@ -43,11 +43,11 @@ returns-in-Put-clause-value g c = λ honest.
 pub returns-in-Delete-clause-value : goal.returns-in-Delete-clause-value
 returns-in-Delete-clause-value g c = λ honest.
     let listing = was_honest c.ready_delete.ensures.reads.doubt honest in
-    let before = with_content c.args.permitted.now (g.S.PlanStore.content c.args.store.now) in
+    let before = with_content c.args.terms.now (g.S.PlanStore.content c.args.store.now) in
     let asked = c.args.asked.now in
     prepares_from before c.args.moment asked c.in-Some.ceiling c.ready_delete.result
     (sym (c.in_ok-ceiling.ensures.value listing) ∙ c.in-Some.is)
-    (delete_readies before.permitted (g.S.PlanStore.content c.ceiling.new.self) before.content c.args.moment
+    (delete_readies before.terms (g.S.PlanStore.content c.ceiling.new.self) before.content c.args.moment
     asked c.in-Delete.id
     c.in-Some.ceiling c.ready_delete.result c.ceiling.ensures.reads.same
     c.in-Delete.is (c.ready_delete.ensures.value honest))
@@ -55,11 +55,11 @@ returns-in-Delete-clause-value g c = λ honest.
 pub returns-in-List-clause-value : goal.returns-in-List-clause-value
 returns-in-List-clause-value g c = λ honest.
     let listing = was_honest c.ready_list.ensures.reads.doubt honest in
-    let before = with_content c.args.permitted.now (g.S.PlanStore.content c.args.store.now) in
+    let before = with_content c.args.terms.now (g.S.PlanStore.content c.args.store.now) in
     let asked = c.args.asked.now in
     prepares_from before c.args.moment asked c.in-Some.ceiling c.ready_list.result
     (sym (c.in_ok-ceiling.ensures.value listing) ∙ c.in-Some.is)
-    (list_readies before.permitted (g.S.PlanStore.content c.ceiling.new.self) before.content c.args.moment
+    (list_readies before.terms (g.S.PlanStore.content c.ceiling.new.self) before.content c.args.moment
     asked
     c.in-Some.ceiling
     c.ready_list.result c.ceiling.ensures.reads.same
@@ -68,11 +68,11 @@ returns-in-List-clause-value g c = λ honest.
 pub returns-in-Show-clause-value : goal.returns-in-Show-clause-value
 returns-in-Show-clause-value g c = λ honest.
     let listing = was_honest c.ready_show.ensures.reads.doubt honest in
-    let before = with_content c.args.permitted.now (g.S.PlanStore.content c.args.store.now) in
+    let before = with_content c.args.terms.now (g.S.PlanStore.content c.args.store.now) in
     let asked = c.args.asked.now in
     prepares_from before c.args.moment asked c.in-Some.ceiling c.ready_show.result
     (sym (c.in_ok-ceiling.ensures.value listing) ∙ c.in-Some.is)
-    (show_readies before.permitted (g.S.PlanStore.content c.ceiling.new.self) before.content c.args.moment
+    (show_readies before.terms (g.S.PlanStore.content c.ceiling.new.self) before.content c.args.moment
     asked c.in-Show.id
     c.in-Some.ceiling c.ready_show.result c.ceiling.ensures.reads.same
     c.in-Show.is (c.ready_show.ensures.value honest))
@@ -80,11 +80,11 @@ returns-in-Show-clause-value g c = λ honest.
 pub returns-in-Clear-clause-value : goal.returns-in-Clear-clause-value
 returns-in-Clear-clause-value g c = λ honest.
     let listing = was_honest c.ready_clear.ensures.reads.doubt honest in
-    let before = with_content c.args.permitted.now (g.S.PlanStore.content c.args.store.now) in
+    let before = with_content c.args.terms.now (g.S.PlanStore.content c.args.store.now) in
     let asked = c.args.asked.now in
     prepares_from before c.args.moment asked c.in-Some.ceiling c.ready_clear.result
     (sym (c.in_ok-ceiling.ensures.value listing) ∙ c.in-Some.is)
-    (clear_readies before.permitted (g.S.PlanStore.content c.ceiling.new.self) before.content c.args.moment
+    (clear_readies before.terms (g.S.PlanStore.content c.ceiling.new.self) before.content c.args.moment
     asked
     c.in-Clear.extent
     c.in-Some.ceiling c.ready_clear.result c.ceiling.ensures.reads.same

@@ -2,11 +2,12 @@ use Rattle.std.proofs.Common.{◌≤◌, ◌+◌, ◌∙◌, ◌∷◌, [], sym,
 use Rattle.std.proofs.lemmas.Int.{to_z-of_z}
 use Rattle.std.proofs.lemmas.List.{length-append}
 use Rattle.std.proofs.lemmas.Result.{on_ok_weaker}
+use Rattle.desk_store.specs.Crashes.{LeavesOldOr}
 use Rattle.desk_store.specs.laws.Fault.{was_honest}
 use Rattle.desk_run.specs.Calls.{Tells}
 use Rattle.desk_run.specs.Verdicts.{step}
 use Rattle.desk_run.specs.DeskWorld.{world_of}
-use Rattle.desk_run.proofs.RunLemmas.{AreAnswered, one_answered, answered_is}
+use Rattle.desk_run.proofs.RunLemmas.{AreAnswered, one_answered, answered_is, found_next, settled_next}
 use Rattle.desk_run.proofs.run.run_over.Goals as goal
 
 pub loop-moment-preserved : goal.loop-moment-preserved
@@ -32,6 +33,18 @@ loop-moment-preserved g c =
           call c.in-Ok.outcome
           (c.loop-moment.invariant.answered (was_honest c.call.ensures.remembered.doubt honest))
           c.loop-moment-test.true c.loop-moment-item.is done.0 done.1);
+      settled = λ honest h.
+          let done = answered_is w after call.0 call.1 c.call.result c.in-Ok.outcome
+          (subst (λ m. Tells w m call.1 c.call.result) same (c.call.ensures.told honest))
+          (on_ok_weaker c.call.result (λ e. e ∙ ap (λ m. step w call.1.operator m call.1.call) same)
+          (c.call.ensures.ok honest))
+          c.call.ensures.err (sym c.outcome_of.ensures ∙ c.in-Ok.is) in
+          settled_next g.S.PlanStore.content g.S.PlanStore.may_leave c.loop-moment.desk c.call.new.self
+          call.0 call.1 c.call.result (c.call.ensures.kept honest) c.call.ensures.err done.1
+          (subst (λ m. LeavesOldOr (step w call.1.operator m call.1.call).content
+          (g.S.PlanStore.may_leave c.loop-moment.desk.store)
+          (g.S.PlanStore.may_leave c.call.new.self.store)) same (c.call.ensures.crash honest))
+          (c.loop-moment.invariant.settled (was_honest c.call.ensures.remembered.doubt honest) h);
       count = ap length c.push_reserved.ensures.items
           ∙ length-append c.loop-moment.outcomes.items (c.in-Ok.outcome ∷ [])
           ∙ ap (λ k. k + 1) c.loop-moment.invariant.count;
@@ -41,3 +54,18 @@ loop-moment-preserved g c =
       counted = omega (arith, c.loop-moment.invariant.counted, c.call.ensures.remembered.counted);
       shield = λ s. c.call.ensures.remembered.shield (c.loop-moment.invariant.shield s);
     }
+
+pub returns-in-Err-clause-kept : goal.returns-in-Err-clause-kept
+returns-in-Err-clause-kept g c = λ honest settled found may.
+    let w = world_of g.S.PlanStore.content c.loop-moment.desk in
+    let call = c.loop-moment-item.result in
+    let old = was_honest c.call.ensures.remembered.doubt honest in
+    let fits : SFits w64 call.0 = search rules in
+    found_next (world_of g.S.PlanStore.content c.args.desk.now) w c.args.calls.now
+    c.loop-moment.moment-index c.loop-moment.outcomes.items call
+    (g.S.PlanStore.may_leave c.loop-moment.desk.store) found (c.loop-moment.invariant.answered old)
+    c.loop-moment-test.true c.loop-moment-item.is (c.loop-moment.invariant.settled old settled found)
+    (subst (λ m. LeavesOldOr (step w call.1.operator m call.1.call).content
+    (g.S.PlanStore.may_leave c.loop-moment.desk.store)
+    (g.S.PlanStore.may_leave c.call.new.self.store)) (to_z-of_z w64 call.0 fits)
+    (c.call.ensures.crash honest) found may)

@@ -1,6 +1,6 @@
 use Rattle.std.proofs.Common.{◌≡◌, ◌≤◌, length}
 use Rattle.desk_store.specs.StoreFaults.{IsHonest}
-use Rattle.desk_run.specs.DeskWorld.{world_of}
+use Rattle.desk_run.specs.DeskWorld.{IsSettled, world_of}
 use Rattle.desk_run.proofs.RunLemmas.{AreAnswered}
 use Rattle.desk_run.proofs.run.run_over.Given as goal
 
@@ -12,6 +12,9 @@ invariant-loop-moment g l =
           IsHonest (g.S.PlanStore.doubt l.desk.store) → AreAnswered
           (world_of g.S.PlanStore.content l.fn.desk) l.calls
           l.moment-index l.outcomes.items (world_of g.S.PlanStore.content l.desk);
+      settled : IsHonest (g.S.PlanStore.doubt l.desk.store)
+          → IsSettled g.S.PlanStore.content g.S.PlanStore.may_leave l.fn.desk
+          → IsSettled g.S.PlanStore.content g.S.PlanStore.may_leave l.desk;
       count : length l.outcomes.items ≡ l.moment-index;
       room : length l.calls ≤ l.outcomes.cap;
       doubt : g.S.PlanStore.doubt l.fn.desk.store ≤ g.S.PlanStore.doubt l.desk.store;

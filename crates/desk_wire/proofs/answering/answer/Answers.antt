@@ -5,6 +5,7 @@ use Rattle.desk_store.specs.StoreFaults.{IsHonest}
 use Rattle.desk_run.specs.laws.Crash.{old_or_changed}
 use Rattle.desk_run.specs.DeskWorld.{world_of}
 use Rattle.desk_wire.proofs.BytesLemmas.{answered_so, left_read}
+use Rattle.desk_wire.proofs.LeavingLemmas.{unless_failed}
 use Rattle.desk_wire.proofs.answering.answer.Goals as goal
 
 pub returns-clause-bytes : goal.returns-clause-bytes
@@ -30,3 +31,13 @@ returns-clause-crash g c = λ honest.
     (ap (λ v. v.content) (left_read (world_of g.S.PlanStore.content c.args.desk.now) _ c.args.moment
     c.args.text.now (message_read c.read_message.result) (to_z-of_z w64 c.args.moment c.ranges.moment)
     c.read_message.ensures))
+
+pub returns-clause-kept : goal.returns-clause-kept
+returns-clause-kept g c = λ honest settled.
+    unless_failed c.in_ok-answer.answer.error _ _ _ c.in_ok-answer.ensures.told.failed
+    (λ none. c.in_ok-answer.ensures.leaves.kept honest none settled)
+
+pub returns-clause-settled : goal.returns-clause-settled
+returns-clause-settled g c = λ honest.
+    unless_failed c.in_ok-answer.answer.error _ _ _ c.in_ok-answer.ensures.told.failed
+    (λ none. c.in_ok-answer.ensures.leaves.settled honest none)

@@ -9,5 +9,5 @@ returns-in-Ok-clause-looks g c =
 
 pub returns-in-Err-clause-fault : goal.returns-in-Err-clause-fault
 returns-in-Err-clause-fault g c =
-    refused_fails (image_at g.F.Start) c.of.result c.in-Err.refused c.of.ensures.failure
+    refused_fails (image_at g.F.Start) c.args.database.now c.of.result c.in-Err.refused c.of.ensures.failure
     c.of.ensures.refused c.in-Err.ensures.fault

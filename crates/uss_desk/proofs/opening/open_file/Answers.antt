@@ -1,10 +1,10 @@
 use Rattle.std.proofs.Common.{ap, sym, subst}
 use Rattle.sqlite_wal.specs.Files.{image_at}
 use Rattle.sqlite.specs.Files.{over_files}
-use Rattle.desk_tables.specs.Files.{OpensIn}
+use Rattle.desk_tables.specs.Files.{AreRefused, OpensIn}
 use Rattle.desk_tables.specs.Guarding.{IsGuarded}
 use Rattle.desk_tables.specs.Leaving.{IsSettledAt}
-use Rattle.uss_desk.proofs.RunLemmas.{fails_at}
+use Rattle.uss_desk.proofs.RunLemmas.{fails_over}
 use Rattle.uss_desk.proofs.opening.open_file.Goals as goal
 
 pub returns-after-is_told : goal.returns-after-is_told
@@ -16,10 +16,10 @@ returns-after-is_told g c =
       opens = opens;
       left = λ clean. left clean (opens.live clean);
       guarded = subst (λ d. IsGuarded d.store.held) (sym c.new.ensures) c.in-Ok.ensures.guarded;
-      none = ap (λ d. d.permitted) c.new.ensures;
+      none = ap (λ d. d.terms) c.new.ensures;
     }
 
 pub returns-in-Err : goal.returns-in-Err
 returns-in-Err g c =
-    fails_at (image_at g.F.Start) c.of.result c.in-Err.refused c.of.ensures.failure c.of.ensures.refused
-    c.in-Err.ensures.fault
+    fails_over (λ files. AreRefused (image_at g.F.Start) files.fault files.connection) c.of.result
+    c.in-Err.refused c.of.ensures.failure c.of.ensures.refused c.in-Err.ensures.fault

@@ -1,7 +1,7 @@
 use Rattle.std.proofs.Common.{sym, subst}
 use Rattle.sqlite_wal.specs.Files.{image_at}
-use Rattle.desk_tables.specs.Files.{OpensMoved}
-use Rattle.uss_desk.proofs.RunLemmas.{fails_moving_at}
+use Rattle.desk_tables.specs.Files.{AreNotMoved, OpensMoved}
+use Rattle.uss_desk.proofs.RunLemmas.{fails_over}
 use Rattle.uss_desk.proofs.opening.open_old_file.Goals as goal
 
 pub returns-in-Ok : goal.returns-in-Ok
@@ -10,5 +10,5 @@ returns-in-Ok g c = subst (λ d. OpensMoved (image_at g.F.Start) d.store.held d.
 
 pub returns-in-Err : goal.returns-in-Err
 returns-in-Err g c =
-    fails_moving_at (image_at g.F.Start) c.of.result c.in-Err.refused c.of.ensures.failure
-    c.of.ensures.refused c.in-Err.ensures.fault
+    fails_over (λ files. AreNotMoved (image_at g.F.Start) files.fault files.connection) c.of.result
+    c.in-Err.refused c.of.ensures.failure c.of.ensures.refused c.in-Err.ensures.fault

@@ -1,4 +1,3 @@
-use Rattle.std.proofs.Common.{refl}
 use Rattle.volume4d.proofs.ClusterLemmas.{in_turn_at}
 use Rattle.volume4d.proofs.clusters.cluster_len.Goals as goal
 

@@ -13,10 +13,12 @@ returns-in_ok-ranges-in-Ok-clause-ok c =
     let spans = c.in_ok-ranges-in-Ok.field-0 in
     let few : length (canonical_list (rect_leaves rect)) ≤ max_cover =
     subst (λ ids. length ids ≤ max_cover) c.in-Ok.ensures.list c.in-Ok.ensures.few in
+    let ranges = c.in_ok-ranges-in-Ok.ensures.same (rect_leaves rect) c.in-Ok.ensures.leaves in
+    let counted = c.ranges_are_counted.ensures (rect_leaves rect) spans ranges in
+    let least = c.ranges_are_few.ensures (rect_leaves rect) c.in-Ok.cover.ids c.in-Ok.ensures.leaves in
     record {
       limits = grind (arith, nat_tests, few);
-      ranges =
-          rectangle_ranges rect spans
-          (c.in_ok-ranges-in-Ok.ensures.same (rect_leaves rect) c.in-Ok.ensures.leaves);
+      ranges = rectangle_ranges rect spans ranges;
       some = c.in_ok-ranges-in-Ok.ensures.some c.in-Ok.ensures.some;
+      few = omega (arith, counted, least, c.in-Ok.ensures.few);
     }

@@ -18,7 +18,7 @@ returns-in_err-apply-clause-ceiling g c =
 pub returns-clause-ok : goal.returns-clause-ok
 unfolding changed_by
 returns-clause-ok g c = λ honest.
-    ap (with_content c.self.inside.permitted) (c.in_ok-apply.ensures.ok honest)
+    ap (with_content c.self.inside.terms) (c.in_ok-apply.ensures.ok honest)
     ∙ ap (λ d. enrolled (world_of g.S.PlanStore.content d) c.args.operator.now c.args.ceiling)
     c.self.view_is
 

@@ -7,7 +7,7 @@ use Rattle.desk_run.proofs.pending.put.ready_put.Goals as goal
 pub returns-clause-value : goal.returns-clause-value
 returns-clause-value g c = λ honest.
     let before = was_honest c.verdict_on.ensures.reads.doubt honest in
-    put_ready c.args.permitted.now (g.S.PlanStore.content c.args.store.now) c.args.operator.now
+    put_ready c.args.terms.now (g.S.PlanStore.content c.args.store.now) c.args.operator.now
     c.args.put.now _ c.args.moment
     c.args.ceiling c.in_ok-verdict.verdict c.reply_of.result c.in_ok-change.change
     (c.requires.listed before) (c.requires.low before) (c.in_ok-verdict.ensures.verdict honest)

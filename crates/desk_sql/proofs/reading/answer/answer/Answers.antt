@@ -1,6 +1,4 @@
-use Rattle.std.proofs.Common.{arith, rules, subst, sym, IsTrue}
-use Rattle.sqlite.specs.Given.{IsPlain}
-use Rattle.sqlite.specs.Listing.{understood}
+use Rattle.std.proofs.Common.{arith, rules, IsTrue}
 use Rattle.sqlite.specs.Values.{bound}
 use Rattle.sqlite.specs.State.{HasCleanDisk}
 use Rattle.sqlite.specs.Held.{state}
@@ -9,11 +7,12 @@ use Rattle.desk_sql.specs.Frames.{OnlyReads}
 use Rattle.desk_sql.specs.Rows.{tables_of, Lists}
 use Rattle.desk_sql.specs.Queries.{order_of, rows_of}
 use Rattle.desk_sql.specs.Statements.{Selects}
-use Rattle.desk_sql.proofs.ReadLemmas.{open_if, if_either, unprepared, plain_in, selected}
+use Rattle.desk_sql.proofs.ReadLemmas.{open_if, if_either, unprepared, selected}
 use Rattle.desk_sql.proofs.StatementLemmas.{if_shown}
 use Rattle.desk_sql.proofs.LeavingLemmas.{shown_after, kept_by_query, spared_after, reads_unprepared, reads_prepared}
 use Rattle.desk_sql.specs.Refusals.{IsRefusal}
-use Rattle.desk_sql.proofs.HandLemmas.{refused_unprepared, refused_given}
+use Rattle.desk_sql.proofs.HandLemmas.{refused_given}
+use Rattle.desk_sql.proofs.AskLemmas.{plain_if, refused_unprepared, sure_here}
 use Rattle.desk_sql.proofs.reading.answer.answer.Goals as goal
 
 -- a text that is not prepared
@@ -29,9 +28,9 @@ returns-in_err-statement-clause-answers g c =
     c.prepare.ensures.survives in
     let refused : HasCleanDisk (state g.S.Store new) → IsTrue (state g.S.Store new).is_open
     → IsRefusal g.S.Store old new c.in_err-statement.field-0.0 = λ clean live.
-    (refused_unprepared g.S.Store c.text.result.now (bound c.args.params.now)
-    (rw c.requires.given c.text.ensures.sure)
-    old c.requires.ready (omega (arith, c.prepare.ensures.survives.clean, clean)) new _
+    (refused_unprepared g.S.Store old new c.text.result.now (bound c.args.params.now)
+    (sure_here g.S.Store old c.text.result.now (bound c.args.params.now) c.requires.ready
+    (rw c.requires.given c.text.ensures.sure)) (omega (arith, c.prepare.ensures.survives.clean, clean)) _
     (c.in_err-statement.ensures.err clean (bound c.args.params.now)) live) in
     search (rules, reads, refused)
 
@@ -47,12 +46,10 @@ returns-clause-answers g c =
     omega (arith, c.query_all.ensures.survives.clean, clean) in
     let start : HasCleanDisk (state g.S.Store new) → HasCleanDisk (state g.S.Store old) = λ clean.
     omega (arith, c.prepare.ensures.survives.clean, early clean) in
-    let plain : HasCleanDisk (state g.S.Store old) → IsTrue (state g.S.Store old).is_open
-    → IsPlain (understood old.schema sql) = λ whole live.
-    subst (λ s. IsPlain (understood s sql)) (sym (c.requires.ready whole live).schema)
-    (plain_in _ _ _ c.text.ensures.sure.means) in
     let known : Selects sql params (order_of c.args.query) (rows_of c.args.query) =
     rw c.requires.given c.text.ensures in
+    let sure = sure_here g.S.Store old sql params c.requires.ready known.sure in
+    let plain = plain_if g.S.Store old sql params sure in
     let kept : IsKept g.S.Store old new = λ clean live.
     (let it = c.in_ok-statement.ensures.ok (early clean) in
     kept_by_query g.S.Store old mid new sql text params (start clean) (plain (start clean)) it.1 it.0
@@ -71,9 +68,8 @@ returns-clause-answers g c =
           (λ v. v.items) c.query_all.result (c.query_all.ensures.ok clean));
       cause = λ clean live.
           let it = c.in_ok-statement.ensures.ok (early clean) in
-          refused_given g.S.Store sql params (rw c.requires.given c.text.ensures.sure) old c.requires.ready
-          mid text it.0 it.1 c.prepare.ensures.survives (start clean) new c.query_all.result
-          (c.query_all.ensures.err clean) live;
+          refused_given g.S.Store sql params old sure mid text it.0 it.1 c.prepare.ensures.survives
+          (start clean) new c.query_all.result (c.query_all.ensures.err clean) live;
       reads = reads_prepared g.S.Store old mid new _ kept
           (c.query_all.ensures.mode (c.prepare.ensures.mode c.requires.settled)) spared
           c.prepare.ensures.survives c.query_all.ensures.survives;
@@ -86,10 +82,11 @@ returns-clause-open g c clean =
     let start : HasCleanDisk (state g.S.Store c.args.connection.now) =
     omega (arith, c.prepare.ensures.survives.clean, early) in
     let it = c.in_ok-statement.ensures.ok early in
+    let sure = sure_here g.S.Store c.args.connection.now c.text.result.now (bound c.args.params.now)
+    c.requires.ready (rw c.requires.given c.text.ensures.sure) in
     open_if (λ v. v.items) c.text.result.now _ (state g.S.Store c.args.connection.now)
     (state g.S.Store c.query_all.new.conn) c.query_all.result
     (shown_after g.S.Store c.args.connection.now c.prepare.new.self c.query_all.new.conn
     c.text.result.now c.in_ok-statement.statement.text (bound c.args.params.now) start
-    (λ live. subst (λ s. IsPlain (understood s c.text.result.now))
-    (sym (c.requires.ready start live).schema) (plain_in _ _ _ c.text.ensures.sure.means)) it.1 it.0
-    (λ v. v.items) c.query_all.result (c.query_all.ensures.ok clean))
+    (plain_if g.S.Store c.args.connection.now c.text.result.now (bound c.args.params.now) sure start) it.1
+    it.0 (λ v. v.items) c.query_all.result (c.query_all.ensures.ok clean))

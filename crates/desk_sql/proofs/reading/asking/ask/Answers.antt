@@ -4,8 +4,8 @@ use Rattle.sqlite.specs.Held.{state}
 use Rattle.desk_sql.specs.Effects.{IsKept, Spares}
 use Rattle.desk_sql.specs.Frames.{OnlyReads}
 use Rattle.desk_sql.specs.Refusals.{IsRefusal}
-use Rattle.desk_sql.proofs.ReadLemmas.{open_after, open_if, if_either, unprepared}
-use Rattle.desk_sql.proofs.AskLemmas.{refused_unprepared, refused_after, sure_plain}
+use Rattle.desk_sql.proofs.ReadLemmas.{open_after, open_if, if_either, sure_plain, unprepared}
+use Rattle.desk_sql.proofs.AskLemmas.{refused_unprepared, refused_after}
 use Rattle.desk_sql.proofs.LeavingLemmas.{shown_after, kept_by_query, spared_after, reads_unprepared, reads_prepared}
 use Rattle.desk_sql.proofs.reading.asking.ask.Goals as goal
 
@@ -22,8 +22,8 @@ returns-in_err-statement-clause-answers g c =
     c.prepare.ensures.survives in
     let refused : HasCleanDisk (state g.S.Store new) → IsTrue (state g.S.Store new).is_open
     → IsRefusal g.S.Store old new c.in_err-statement.field-0.0 = λ clean live.
-    (refused_unprepared g.S.Store old new c.args.query.now
-    c.requires.sure (omega (arith, c.prepare.ensures.survives.clean, clean)) _
+    (refused_unprepared g.S.Store old new c.args.query.now [] c.requires.sure
+    (omega (arith, c.prepare.ensures.survives.clean, clean)) _
     (c.in_err-statement.ensures.err clean []) live) in
     search (rules, reads, refused)
 
@@ -41,17 +41,17 @@ returns-clause-answers g c =
     let kept : IsKept g.S.Store old new = λ clean live.
     (let it = c.in_ok-statement.ensures.ok (early clean) in
     kept_by_query g.S.Store old mid new sql text [] (start clean)
-    (λ live. sure_plain _ sql (c.requires.sure (start clean) live)) it.1 it.0
+    (λ live. sure_plain _ sql [] (c.requires.sure (start clean) live)) it.1 it.0
     (c.settled_and_sound.ensures.settled c.requires.settled)
     (λ v. v.items) c.query_all.result (c.query_all.ensures.ok clean) (c.query_all.ensures.err clean) live) in
     let spared : Spares g.S.Store old new =
     spared_after g.S.Store old mid new sql text []
-    (λ whole live. sure_plain _ sql (c.requires.sure whole live))
+    (λ whole live. sure_plain _ sql [] (c.requires.sure whole live))
     c.in_ok-statement.ensures.ok c.prepare.ensures.survives c.query_all.ensures.survives in record {
       value = λ clean.
           let it = c.in_ok-statement.ensures.ok (early clean) in
           shown_after g.S.Store old mid new sql text [] (start clean)
-          (λ live. sure_plain _ sql (c.requires.sure (start clean) live)) it.1 it.0
+          (λ live. sure_plain _ sql [] (c.requires.sure (start clean) live)) it.1 it.0
           (λ v. v.items) c.query_all.result (c.query_all.ensures.ok clean);
       cause = λ clean live.
           let it = c.in_ok-statement.ensures.ok (early clean) in

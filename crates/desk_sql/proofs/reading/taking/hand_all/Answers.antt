@@ -15,6 +15,8 @@ loop-init g c = (
   remembers_itself g.S.Store c.args.rows.now.conn.now,
   begins g.S.Store c.args.rows.now.conn.now
       (g.T.RowSink.has_taken c.args.taker.now) c.requires,
+  λ some. some,
+  λ first k. k,
 )
 
 pub returns-in_err-hand_next-clause-handed : goal.returns-in_err-hand_next-clause-handed
@@ -64,6 +66,8 @@ loop-preserved g c = (
       (λ clean. omega (arith, clean, c.hand_next.ensures.handed.remembered.doubt))
       c.in_ok-hand_next.ensures.same c.in_ok-hand_next.field-0 c.if-not-branch.false
       c.in_ok-hand_next.ensures.handed.handed,
+  λ some. c.in_ok-hand_next.ensures.taken (c.loop.invariant.4 some),
+  λ first k. c.in_ok-hand_next.ensures.kept first (c.loop.invariant.5 first k),
 )
 
 pub returns-clause-handed : goal.returns-clause-handed

@@ -1,5 +1,7 @@
 use Rattle.std.proofs.Common.{◌≡◌, false}
 use Rattle.desk_sql.specs.Frames.{Remembers}
+use Rattle.desk_sql.specs.Keeping.{KeepsOn}
+use Rattle.desk_sql.specs.Taking.{TakesOn}
 use Rattle.desk_sql.proofs.TakingLemmas.{IsUnderWay}
 use Rattle.desk_sql.proofs.reading.taking.hand_all.Given as goal
 
@@ -10,3 +12,5 @@ invariant-loop g l =
     × Remembers g.S.Store l.fn.rows.conn.now l.rows.conn.now
     × IsUnderWay g.S.Store l.fn.rows.conn.now l.rows.conn.now (g.T.RowSink.has_taken l.fn.taker)
     (g.T.RowSink.has_taken l.taker) l.counter
+    × TakesOn (g.T.RowSink.has_taken l.fn.taker) (g.T.RowSink.has_taken l.taker)
+    × KeepsOn g.T.RowSink.keeps l.fn.taker l.taker

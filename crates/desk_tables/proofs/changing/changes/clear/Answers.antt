@@ -39,4 +39,4 @@ returns-clause-made g c =
 pub returns-clause-cause : goal.returns-clause-cause
 returns-clause-cause g c =
     blamed g.S.Store c.args.connection.now c.clear_plans.new.connection c.in-Err.e c.fault_of.result
-    c.fault_of.ensures (c.in-Err.ensures.committed.cause tt)
+    c.requires.stands.unlimited c.fault_of.ensures (c.in-Err.ensures.committed.cause tt)

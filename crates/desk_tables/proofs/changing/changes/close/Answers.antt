@@ -90,8 +90,9 @@ returns-clause-cause g c low clean live =
     (sym (c.head_rows.ensures.reads.kept (omega (arith, c.close_plan.ensures.committed.over.doubt, clean))
     before.was_open).now) low in
     blamed_since g.S.Store c.args.connection.now mid c.close_plan.new.connection c.fault_of.result
-    c.head_rows.ensures.reads.faults c.head_rows.ensures.reads.limit
-    (blamed g.S.Store mid c.close_plan.new.connection c.in-Err.e c.fault_of.result c.fault_of.ensures
+    c.head_rows.ensures.reads.faults
+    (blamed g.S.Store mid c.close_plan.new.connection c.in-Err.e c.fault_of.result
+    c.head_rows.ensures.stands.unlimited c.fault_of.ensures
     (c.in-Err.ensures.committed.cause (
       subst IsShort (sym c.as_str.ensures.value) (name_short _ c.as_str.ensures.valid),
       (let short = parsed_short c.encode-text.result.now c.args.id.now c.encode-text.ensures.parsed in

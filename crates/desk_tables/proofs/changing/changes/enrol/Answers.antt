@@ -23,5 +23,5 @@ returns-in-Err-clause-made g c =
 pub returns-in-Err-clause-cause : goal.returns-in-Err-clause-cause
 returns-in-Err-clause-cause g c room =
     blamed g.S.Store c.args.connection.now c.put_operator.new.connection c.in-Err.e c.fault_of.result
-    c.fault_of.ensures (c.in-Err.ensures.committed.cause
+    c.requires.stands.unlimited c.fault_of.ensures (c.in-Err.ensures.committed.cause
     (subst IsShort (sym c.as_str.ensures.value) (name_short _ c.as_str.ensures.valid), room))

@@ -126,7 +126,7 @@ returns-clause-cause g c room clean live =
     c.as_str.ensures.valid
     (let short = parsed_short text row.id c.encode-id.ensures.parsed in omega (arith, short))
     (c.requires.fits early) stood.tables room in
-    blamed g.S.Store old new c.in-Err.e c.fault_of.result c.fault_of.ensures
+    blamed g.S.Store old new c.in-Err.e c.fault_of.result c.requires.stands.unlimited c.fault_of.ensures
     (c.in-Err.ensures.committed.cause (subst (λ name. IsPuttable name text
     (sql.plan_row name text row.priority c.usage_number.result c.aircraft_number.result) volumes covers spans
     (state g.S.Store old).now) (sym c.as_str-3.ensures.value) it)) clean live

@@ -1,10 +1,15 @@
-use Rattle.std.proofs.Common.{take, [], ◌∷◌, ◌++◌, refl, ap, sym, ◌+◌, ◌∙◌}
-use Rattle.std.proofs.lemmas.List.{take_more}
+use Rattle.std.proofs.Common.{◌≡◌, drop, take, [], ◌∷◌, ◌++◌, refl, ap, arith, subst, sym, ◌+◌, ◌∙◌}
+use Rattle.std.proofs.lemmas.List.{drop_more, take_more}
+use Rattle.sqlite.specs.State.{HasCleanDisk}
+use Rattle.sqlite.specs.Held.{state}
 use Rattle.desk_sql.specs.Rows.{AddsPlan}
 use Rattle.desk_tables.specs.Copying.{AddsHeadRows}
+use Rattle.desk_tables.specs.Opening.{BlamesReading}
 use Rattle.desk_tables.specs.Tables.{plan_row}
+use Rattle.desk_tables.specs.Writing.{AreNewHeads}
 use Rattle.desk_tables.proofs.CopyLemmas.{no_heads, more_heads}
 use Rattle.desk_tables.proofs.MovingLemmas.{begins, goes_on, way_on}
+use Rattle.desk_tables.proofs.OpeningLemmas.{blames_since, told_as}
 use Rattle.desk_tables.proofs.opening.copying.write_heads.Goals as goal
 
 pub plans-init : goal.plans-init
@@ -12,6 +17,7 @@ plans-init g c = (
   refl,
   begins g.S.Store c.args.tx.now.conn.now (AddsHeadRows (take 0 c.args.plans.now)) no_heads
       c.requires.under_way,
+  λ all clean. all,
 )
 
 pub write_head-requires : goal.write_head-requires
@@ -22,14 +28,44 @@ write_head-requires g c = record {
 
 pub plans-preserved : goal.plans-preserved
 plans-preserved g c =
-    let plans = c.args.plans.now in
+    let all = c.args.plans.now in
     let at = c.plans.plan-index in
-    let plan = c.plan-item.result in (
+    let one = c.plan-item.result in
+    let mid = c.plans.tx.conn.now in
+    let new = c.write_head.new.tx.conn.now in
+    let parted : drop at all ≡ one ∷ drop (at + 1) all =
+    drop_more all at one c.plans-test.true ∙ ap (λ p. p ∷ drop (at + 1) all) (sym c.plan-item.is) in (
       c.write_head.ensures.same_reference ∙ c.plans.invariant.0,
-      goes_on g.S.Store c.args.tx.now.conn.now c.plans.tx.conn.now c.write_head.new.tx.conn.now
-          (AddsHeadRows (take at plans)) (AddsPlan (plan_row plan)) (AddsHeadRows (take (at + 1) plans))
-          (more_heads (take at plans) plan (take (at + 1) plans)
-          (take_more plans at plan c.plans-test.true
-          ∙ ap (λ p. take at plans ++ p ∷ []) (sym c.plan-item.is)))
+      goes_on g.S.Store c.args.tx.now.conn.now mid new
+          (AddsHeadRows (take at all)) (AddsPlan (plan_row one)) (AddsHeadRows (take (at + 1) all))
+          (more_heads (take at all) one (take (at + 1) all)
+          (take_more all at one c.plans-test.true
+          ∙ ap (λ p. take at all ++ p ∷ []) (sym c.plan-item.is)))
           c.plans.invariant.1 c.write_head.ensures.remembered c.in_ok-write_head.ensures.done,
+      λ can clean.
+          let early : HasCleanDisk (state g.S.Store mid) =
+          omega (arith, c.write_head.ensures.remembered.doubt, clean) in
+          c.in_ok-write_head.ensures.left (drop (at + 1) all)
+          (subst (λ ps. AreNewHeads ps (state g.S.Store mid).now) parted (c.plans.invariant.2 can early))
+          clean,
     )
+
+pub returns-in_err-write_head-clause-cause : goal.returns-in_err-write_head-clause-cause
+returns-in_err-write_head-clause-cause g c can =
+    let all = c.args.plans.now in
+    let at = c.plans.plan-index in
+    let one = c.plan-item.result in
+    let old = c.args.tx.now.conn.now in
+    let mid = c.plans.tx.conn.now in
+    let new = c.write_head.new.tx.conn.now in
+    let so_far = c.plans.invariant.1.remembered in
+    let parted : drop at all ≡ one ∷ drop (at + 1) all =
+    drop_more all at one c.plans-test.true ∙ ap (λ p. p ∷ drop (at + 1) all) (sym c.plan-item.is) in
+    told_as (BlamesReading g.S.Store old new) c.from_residual.result _ c.from_residual.ensures.1
+    (λ clean live told.
+    let early : HasCleanDisk (state g.S.Store mid) =
+    omega (arith, c.write_head.ensures.remembered.doubt, clean) in
+    blames_since g.S.Store old mid new so_far.faults so_far.limit c.in_err-write_head.field-0.0
+    (c.in_err-write_head.ensures.cause (drop (at + 1) all)
+    (subst (λ ps. AreNewHeads ps (state g.S.Store mid).now) parted (c.plans.invariant.2 can early)))
+    clean live told)

@@ -8,6 +8,7 @@ returns-in-Ok-clause-begins g c =
     let was : HasCleanDisk (file_state c.in-Ok.moved.0.held) → HasCleanDisk (file_state c.args.connection) =
     λ clean. omega (arith, c.in-Ok.ensures.adopted.doubt, clean) in λ image finds. record {
       found = c.args.connection;
+      doubt = c.in-Ok.ensures.adopted.doubt;
       opened = λ clean. finds.first (was clean);
       guarded = λ clean. c.in-Ok.ensures.adopted.shield (finds.guarded clean);
       live = c.in-Ok.ensures.adopted.live;

@@ -1,6 +1,7 @@
 use Rattle.std.proofs.Common.{arith}
-use Rattle.sqlite.specs.Files.{file_state}
+use Rattle.sqlite.specs.Files.{file_state, over_files}
 use Rattle.sqlite.specs.State.{HasCleanDisk}
+use Rattle.desk_tables.proofs.LiftLemmas.{disk_blamed}
 use Rattle.desk_tables.proofs.opening.files.read_files.Goals as goal
 
 pub returns-in-Err-clause-fault : goal.returns-in-Err-clause-fault
@@ -13,7 +14,8 @@ returns-in-Err-clause-fault g c =
       fresh = c.requires.fresh;
       none = c.in-Err.ensures.none;
       newer = c.in-Err.ensures.newer;
-      cause = c.in-Err.ensures.cause;
+      cause = disk_blamed over_files c.args.connection c.read_content.new.connection _
+          c.requires.fresh.unlimited c.in-Err.ensures.cause;
       reads = c.in-Err.ensures.reads;
     }
 

@@ -1,9 +1,53 @@
-use Rattle.desk_tables.proofs.OpeningLemmas.{content_read}
+use Rattle.std.proofs.Common.{List, arith}
+use Rattle.sqlite_value.specs.Order.{Row}
+use Rattle.desk_tables.specs.SpanChecks.{HasChecked}
+use Rattle.desk_tables.proofs.FrameLemmas.{reads_then}
+use Rattle.desk_tables.proofs.HeadLemmas.{content_held, content_if, heads_refused, listed_since, of_plans}
 use Rattle.desk_tables.proofs.opening.finding.content_found.Goals as goal
+
+pub returns-in_err-operators-clause-read : goal.returns-in_err-operators-clause-read
+returns-in_err-operators-clause-read g c =
+    let heads = c.in_ok-heads.ensures in
+    heads_refused g.S.Store c.args.made c.args.connection.now c.heads_in.new.connection c.in_ok-heads.heads
+    c.from_residual-in_err-operators.result _ c.from_residual-in_err-operators.ensures.1 heads.value
+    heads.reads c.in_err-operators.ensures.none c.in_err-operators.ensures.fault
 
 pub returns-clause-read : goal.returns-clause-read
 returns-clause-read g c =
-    let rows = c.in_ok-rows.ensures in
-    content_read g.S.Store c.args.made c.args.connection.now c.rows_in.new.connection _ (λ found. found.0)
-    c.content_of.result c.requires.new rows.value rows.open rows.reads c.content_of.ensures.value
-    c.content_of.ensures.none c.content_of.ensures.fault
+    let a = c.args.connection.now in
+    let m = c.heads_in.new.connection in
+    let b = c.take_spans.new.connection in
+    let heads = c.in_ok-heads.ensures in
+    let taken = c.in_ok-take_spans.ensures in
+    let check = c.take_spans.new.check in
+    let ls = c.in_ok-operators.operators.items in
+    let Checked : List Row → Type 0 = HasChecked check.plans.items check.cursor check.agree check.count
+    check.span_bounds in
+    let are = of_plans c.in_ok-heads.heads ls c.in_ok-operators.plans.items c.new-check.result.plans.items
+    check.plans.items c.in_ok-operators.ensures.value c.new-check.ensures.plans taken.plans in
+    content_held c.one_shape.ensures c.in_ok-heads.heads ls check.plans.items are g.S.Store c.args.made a b
+    (λ found. found.0) Checked c.content_with.result c.requires.new
+    (λ clean. heads.value (omega (arith, taken.reads.doubt, clean)))
+    (λ clean. heads.open (omega (arith, taken.reads.doubt, clean)))
+    (reads_then g.S.Store a m b heads.reads taken.reads)
+    (listed_since g.S.Store c.args.made a m b Checked heads.reads taken.reads heads.live taken.value)
+    c.content_with.ensures.value c.content_with.ensures.agree c.content_with.ensures.none
+    c.content_with.ensures.fault
+
+pub returns-clause-content : goal.returns-clause-content
+returns-clause-content g c =
+    let taken = c.in_ok-take_spans.ensures in
+    let check = c.take_spans.new.check in
+    let ls = c.in_ok-operators.operators.items in
+    let are = of_plans c.in_ok-heads.heads ls c.in_ok-operators.plans.items c.new-check.result.plans.items
+    check.plans.items c.in_ok-operators.ensures.value c.new-check.ensures.plans taken.plans in
+    content_if c.one_shape.ensures c.in_ok-heads.heads ls check.plans.items are (λ found. found.0)
+    c.content_with.result taken.taken.0 c.content_with.ensures.value
+    (c.content_with.ensures.agree taken.taken.0 taken.taken.1)
+
+pub returns-clause-bounded : goal.returns-clause-bounded
+returns-clause-bounded g c =
+    c.content_with.ensures.bounded c.in_ok-heads.heads (of_plans c.in_ok-heads.heads
+    c.in_ok-operators.operators.items c.in_ok-operators.plans.items c.new-check.result.plans.items
+    c.take_spans.new.check.plans.items c.in_ok-operators.ensures.value c.new-check.ensures.plans
+    c.in_ok-take_spans.ensures.plans)

@@ -1,21 +1,22 @@
-use Rattle.std.proofs.Common.{arith, refl, rules, sym, subst}
+use Rattle.std.proofs.Common.{◌∙◌, arith, refl, rules, sym, subst}
 use Rattle.desk_tables.specs.Store.{Stands}
 use Rattle.desk_tables.proofs.OpeningLemmas.{blames_reading}
 use Rattle.desk_tables.proofs.SmallLemmas.{blank_spans}
 use Rattle.desk_tables.proofs.StoreLemmas.{made_stands}
 use Rattle.desk_tables.proofs.opening.finding.create_tables.Goals as goal
 
-pub returns : goal.returns
-returns g c =
+pub returns-clause-set_up : goal.returns-clause-set_up
+returns-clause-set_up g c =
     let stands : Stands g.S.Store c.complete_tables.new.connection c.new.result.world =
     subst (Stands g.S.Store c.complete_tables.new.connection) (sym c.new.ensures)
     (made_stands g.S.Store c.args.connection.now c.complete_tables.new.connection
     c.in_ok-complete_tables.ensures.over.mode
+    (c.in_ok-complete_tables.ensures.over.limit ∙ c.requires.unlimited)
     c.in_ok-complete_tables.ensures.done) in
     search (rules, stands)
 
-pub returns-in_err-complete_tables : goal.returns-in_err-complete_tables
-returns-in_err-complete_tables g c =
+pub returns-in_err-complete_tables-clause-set_up : goal.returns-in_err-complete_tables-clause-set_up
+returns-in_err-complete_tables-clause-set_up g c =
     let old = c.args.connection.now in
     let blames = blames_reading g.S.Store old old c.complete_tables.new.connection
     c.in_err-complete_tables.field-0.0 (omega arith) refl

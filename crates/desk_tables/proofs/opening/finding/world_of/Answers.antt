@@ -13,7 +13,7 @@ returns-in-All-clause-set_up g c =
     let whole : Holds g.S.Store old (IsMadeTo All) = search rules in
     let new : Holds g.S.Store old (HasNewRows All) = search rules in
     set_up_as_read g.S.Store (λ found. found.0.world) c.load_tables.result old c.load_tables.new.connection
-    whole new c.load_tables.ensures.read c.load_tables.ensures.live
+    c.requires.unlimited whole new c.load_tables.ensures.read c.load_tables.ensures.live
 
 pub returns-in-Packed-clause-set_up : goal.returns-in-Packed-clause-set_up
 returns-in-Packed-clause-set_up g c =

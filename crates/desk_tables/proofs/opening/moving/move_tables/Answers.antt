@@ -52,7 +52,7 @@ returns-in_err-rewrite-clause-set_up g c =
     told_as (BlamesReading g.S.Store a new) c.from_residual-in_err-rewrite.result _
     c.from_residual-in_err-rewrite.ensures.1
     (blames_since g.S.Store a d new (omega (arith, found.reads.faults, whole.over.faults))
-    (whole.limit ∙ found.reads.limit) c.in_err-rewrite.field-0.0
+    (whole.over.limit ∙ found.reads.limit) c.in_err-rewrite.field-0.0
     (c.in_err-rewrite.ensures.cause
     (whole_awaited g.S.Store c.args.made c.in_ok-content.content a b found.reads found.value
     c.deref.result.now d plans whole.over.doubt c.in_ok-make_whole.ensures.done

@@ -13,7 +13,8 @@ returns-in_err-made-clause-opened g c =
     let refused = c.in_err-made.ensures in
     refused_as g.S.Store old new c.from_residual.result _ c.from_residual.ensures.1
     (λ is. none_unmoved g.S.Store old new (refused.none is)) refused.newer refused.cause
-    (λ clean live. inl (refused.reads.kept clean live)) refused.reads.doubt refused.reads.shield
+    (λ clean live. inl (refused.reads.kept clean live)) refused.reads.limit refused.reads.doubt
+    refused.reads.shield
 
 pub returns-then-old-clause-opened : goal.returns-then-old-clause-opened
 returns-then-old-clause-opened g c =
@@ -32,7 +33,7 @@ returns-in_err-kept-clause-opened g c =
     c.in_ok-made.ensures.reads set_up in
     refused_as g.S.Store old new c.from_residual-in_err-kept.result _ c.from_residual-in_err-kept.ensures.1
     (λ is. none_unmoved g.S.Store old new (since.none is)) set_up.newer since.cause
-    (λ clean live. inl (since.kept clean live)) since.doubt since.shield
+    (λ clean live. inl (since.kept clean live)) since.limit since.doubt since.shield
 
 pub returns-clause-opened : goal.returns-clause-opened
 returns-clause-opened g c =
@@ -50,6 +51,7 @@ returns-clause-opened g c =
       older = tt;
       cause = tt;
       kept = tt;
+      limit = since.limit;
       doubt = since.doubt;
       shield = since.shield;
     }

@@ -38,7 +38,8 @@ returns-clause-cause g c =
     (let before = c.rival_spans-handed.ensures.answers.reads.kept clean live in
     let standing = c.requires.stands.standing
     (omega (arith, c.rival_spans-handed.ensures.answers.reads.doubt, clean)) before.was_open in
-    spans_blamed g.S.Store c.args.connection.now c.rival_spans-handed.new.connection _ c.args.kept.now.world
+    spans_blamed g.S.Store c.args.connection.now c.rival_spans-handed.new.connection
+    c.requires.stands.unlimited _ c.args.kept.now.world
     standing.content standing.tables c.rival_spans-handed.result (why is)
     (c.rival_spans-handed.ensures.answers.cause clean live)))
 

@@ -25,4 +25,4 @@ returns-in-Ok-clause-value g c = λ clean.
 pub returns-in-Err-clause-cause : goal.returns-in-Err-clause-cause
 returns-in-Err-clause-cause g c =
     blamed g.S.Store c.args.connection.now c.plan_of.new.connection c.in-Err.e c.fault_of.result
-    c.fault_of.ensures c.in-Err.ensures.answers.cause
+    c.requires.unlimited c.fault_of.ensures c.in-Err.ensures.answers.cause

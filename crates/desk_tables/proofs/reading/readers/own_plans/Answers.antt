@@ -53,7 +53,7 @@ returns-clause-cause g c =
       length-map mine (λ p. p.row),
       standing.content.world.rows o,
     ) in
-    listing_blamed g.S.Store c.args.connection.now c.own_plans-taken.new.connection
+    listing_blamed g.S.Store c.args.connection.now c.own_plans-taken.new.connection c.requires.unlimited
     (Lists (1 ∷ 5 ∷ []) (with_volumes (sql.is_by c.as_str.result.now) tables)) mine
     (own_plans_are w o standing.content)
     (all_filter (λ p. p.row.priority < 2 ^ 32) (is_by o) w.plans

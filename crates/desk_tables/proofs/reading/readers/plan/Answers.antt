@@ -36,7 +36,7 @@ returns-in_err-rows-clause-cause g c =
     (BlamesStore g.S.Store c.args.connection.now c.volumes.new.connection)
     c.from_residual-in_err-rows.ensures.1
     (blamed_since g.S.Store c.args.connection.now c.head_rows.new.connection c.volumes.new.connection
-    c.in_err-rows.field-0.0 c.head_rows.ensures.reads.faults c.head_rows.ensures.reads.limit
+    c.in_err-rows.field-0.0 c.head_rows.ensures.reads.faults
     c.in_err-rows.ensures.cause)
 
 pub returns-in_err-plan_of_rows-clause-cause : goal.returns-in_err-plan_of_rows-clause-cause

@@ -1,19 +1,42 @@
 use Rattle.std.proofs.Common.{sym, subst}
 use Rattle.desk_tables.specs.Opening.{BeginsWith}
 use Rattle.desk_tables.specs.OpeningSteps.{IsAdopted}
+use Rattle.desk_tables.proofs.LiftLemmas.{doubt_lifted, none_then, shield_lifted, begins_lifted, blames_lifted, kept_lifted, none_lifted, older_lifted}
 use Rattle.desk_tables.proofs.store.SqliteStore.adopt.Goals as goal
 
 pub returns-in-Ok-clause-adopted : goal.returns-in-Ok-clause-adopted
 returns-in-Ok-clause-adopted g c =
     let opened = c.in-Ok.ensures.opened in
-    subst (λ s. IsAdopted g.S.Store c.args.connection s.held s.world) (sym c.with.ensures.value) (record {
+    let is = c.set_step_limit.ensures in
+    let old = c.args.connection in
+    let mid = c.set_step_limit.new.self in
+    let new = c.load_world.new.connection in
+    subst (λ s. IsAdopted g.S.Store old s.held s.world) (sym c.with.ensures.value) (record {
       live = opened.live;
       left = c.with.ensures.left;
-      doubt = opened.doubt;
-      shield = opened.shield;
+      unlimited = opened.stands.unlimited;
+      doubt = doubt_lifted g.S.Store old mid new is opened.doubt;
+      shield = shield_lifted g.S.Store old mid new is opened.shield;
     })
 
 pub returns-in-Ok-clause-begins : goal.returns-in-Ok-clause-begins
 returns-in-Ok-clause-begins g c =
     subst (λ s. BeginsWith g.S.Store c.args.connection s.held s.world) (sym c.with.ensures.value)
-    c.in-Ok.ensures.opened.begins
+    (begins_lifted g.S.Store c.args.connection c.set_step_limit.new.self c.load_world.new.connection
+    c.set_step_limit.ensures _ c.in-Ok.ensures.opened.begins)
+
+pub returns-in-Err-clause-refused : goal.returns-in-Err-clause-refused
+returns-in-Err-clause-refused g c =
+    let opened = c.in-Err.ensures.opened in
+    let is = c.set_step_limit.ensures in
+    let old = c.args.connection in
+    let mid = c.set_step_limit.new.self in
+    let new = c.load_world.new.connection in
+    record {
+      none = λ told. none_lifted g.S.Store old mid new is (opened.none told);
+      older = λ told. older_lifted g.S.Store old mid new is (opened.older told);
+      cause = blames_lifted g.S.Store old mid new is _ opened.cause;
+      kept = kept_lifted g.S.Store old mid new is opened.kept;
+      unlimited = none_then g.S.Store old mid new is opened.limit;
+      doubt = doubt_lifted g.S.Store old mid new is opened.doubt;
+    }

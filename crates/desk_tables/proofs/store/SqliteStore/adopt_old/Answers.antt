@@ -1,20 +1,43 @@
 use Rattle.std.proofs.Common.{sym, subst}
 use Rattle.desk_tables.specs.Moving.{BeginsMoved}
 use Rattle.desk_tables.specs.OpeningSteps.{IsAdopted}
+use Rattle.desk_tables.proofs.LiftLemmas.{doubt_lifted, none_then, shield_lifted, blames_lifted, keeps_lifted, moves_lifted, unmoved_lifted}
 use Rattle.desk_tables.proofs.store.SqliteStore.adopt_old.Goals as goal
 
 pub returns-in-Ok-clause-adopted : goal.returns-in-Ok-clause-adopted
 returns-in-Ok-clause-adopted g c =
     let opened = c.in-Ok.ensures.opened in
-    subst (λ s. IsAdopted g.S.Store c.args.connection s.held s.world) (sym c.with-store.ensures.value)
-    (record {
+    let is = c.set_step_limit.ensures in
+    let old = c.args.connection in
+    let mid = c.set_step_limit.new.self in
+    let new = c.moved_world_in.new.connection in
+    subst (λ s. IsAdopted g.S.Store old s.held s.world) (sym c.with-store.ensures.value) (record {
       live = opened.live;
       left = c.with-store.ensures.left;
-      doubt = opened.doubt;
-      shield = opened.shield;
+      unlimited = opened.stands.unlimited;
+      doubt = doubt_lifted g.S.Store old mid new is opened.doubt;
+      shield = shield_lifted g.S.Store old mid new is opened.shield;
     })
 
 pub returns-in-Ok-clause-begins : goal.returns-in-Ok-clause-begins
 returns-in-Ok-clause-begins g c =
     subst (λ s. BeginsMoved g.S.Store c.args.connection s.held s.world c.in-Ok.count)
-    (sym c.with-store.ensures.value) c.in-Ok.ensures.opened.begins
+    (sym c.with-store.ensures.value)
+    (moves_lifted g.S.Store c.args.connection c.set_step_limit.new.self c.moved_world_in.new.connection
+    c.set_step_limit.ensures _ _ c.in-Ok.ensures.opened.begins)
+
+pub returns-in-Err-clause-refused : goal.returns-in-Err-clause-refused
+returns-in-Err-clause-refused g c =
+    let opened = c.in-Err.ensures.opened in
+    let is = c.set_step_limit.ensures in
+    let old = c.args.connection in
+    let mid = c.set_step_limit.new.self in
+    let new = c.moved_world_in.new.connection in
+    record {
+      none = λ told. unmoved_lifted g.S.Store old mid new is (opened.none told);
+      older = opened.older;
+      cause = blames_lifted g.S.Store old mid new is _ opened.cause;
+      kept = keeps_lifted g.S.Store old mid new is opened.kept;
+      unlimited = none_then g.S.Store old mid new is opened.limit;
+      doubt = doubt_lifted g.S.Store old mid new is opened.doubt;
+    }

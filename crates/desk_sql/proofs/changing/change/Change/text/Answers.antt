@@ -8,12 +8,16 @@ use Rattle.desk_sql.proofs.RemoveLemmas.{remove_plan_changes, remove_spans_chang
 use Rattle.desk_sql.proofs.RemoveStops.{remove_plan_sure, remove_spans_sure}
 use Rattle.desk_sql.proofs.old_tables.EmptyLemmas.{empty_old_volumes_changes, empty_old_spans_changes, empty_old_volumes_room, empty_old_spans_room}
 use Rattle.desk_sql.proofs.old_tables.EmptyStops.{empty_old_volumes_sure, empty_old_spans_sure}
-use Rattle.desk_sql.proofs.RoomTexts.{any_room, insert_plan_room, insert_volume_room, insert_span_room, remove_plan_room}
+use Rattle.desk_sql.proofs.RoomTexts.{any_room, insert_operator_room, insert_plan_room, insert_volume_room, insert_span_room, remove_plan_room}
 use Rattle.desk_sql.proofs.changing.change.Change.text.Goals as goal
 
 pub returns-in-AddOperator : goal.returns-in-AddOperator
 returns-in-AddOperator c = subst (λ change. IsTextOf change _) (sym c.in-AddOperator.is)
-    (record { changed = insert_operator_changes _ _; sure = insert_operator_sure _ _; room = any_room _ _ })
+    (record {
+      changed = insert_operator_changes _ _;
+      sure = insert_operator_sure _ _;
+      room = insert_operator_room _ _;
+    })
 
 pub returns-in-AddPlan : goal.returns-in-AddPlan
 returns-in-AddPlan c =

@@ -1,0 +1,1 @@
+"""A map of an operator's flights: one page for the operator's own browser, served at 127.0.0.1."""

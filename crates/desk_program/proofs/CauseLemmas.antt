@@ -1,0 +1,111 @@
+-- Why a line ends with a store that failed.
+use Rattle.std.proofs.Common.{◌≡◌, ◌∙◌, ◌==◌, ◌≤◌, ℕ, List, [], ◌∷◌, Bool, true, false, Option, Some, None, if◌then◌else◌, Result, Ok, Err, inl, inr, sym, subst, ap, refl, arith}
+use Rattle.std.specs.Prelude.{⊤}
+use Rattle.desk_store.specs.StoreFaults.{HasRisen}
+use Rattle.desk_run.specs.declared.fault.DeskFault.{DeskFault}
+use Rattle.desk_run.specs.declared.fault.DeskFault.TheVariants as desk
+use Rattle.desk_ends.specs.declared.serving.Served.{Served}
+use Rattle.desk_ends.specs.declared.serving.Served.TheVariants.{Answered, End}
+use Rattle.desk_ends.specs.declared.serving.ServeFault.{ServeFault}
+use Rattle.desk_ends.specs.declared.serving.ServeFault.TheVariants.{Read, Write, CutShort, OutOfMemory}
+use Rattle.desk_line.specs.declared.failure.Failure.{Failure}
+use Rattle.desk_line.specs.declared.failure.Failure.TheVariants.{Store, Broken, Memory}
+use Rattle.desk_line.specs.declared.failure.Failure.TheVariants as failure
+use Rattle.desk_line.specs.Exits.{Ending, EndsWith, enrolment_failure, failure_at}
+use Rattle.desk_program.specs.Causes.{HasCause, IsCounted}
+use Rattle.desk_store.specs.World.{World}
+use Rattle.desk_run.specs.DeskWorld.{DeskWorld}
+use Rattle.desk_line.specs.declared.line.Line.{Line}
+use Rattle.desk_line.specs.declared.line.Line.TheVariants as line
+use Rattle.desk_program.specs.Keeping.{IsLineKept, IsLinePlayKept}
+use Rattle.desk_program.specs.Playing.{IsLinePlayed}
+use Rattle.desk_program.specs.Running.{IsCarriedOut}
+use Rattle.desk_program.specs.Serving.{EndsAfter, EndsBy, Exchange, IsDenied, Traffic}
+
+-- an enrolment that is told as a store that failed had that fault
+store_told : (fault : DeskFault) → enrolment_failure fault ≡ Store → fault ≡ desk.Store
+store_told desk.OutOfMemory is = cc
+store_told desk.Store is = refl
+store_told desk.UnknownOperator is = cc
+store_told desk.NoSuchPlan is = cc
+store_told desk.Ceiling is = cc
+
+pub enrolment_counted : {A : Type 0} (fault : DeskFault) (f : Failure) (old new : ℕ)
+    → f ≡ enrolment_failure fault → (fault ≡ desk.Store → HasRisen old new)
+    → IsCounted {A = A} (Err f) old new
+enrolment_counted {A} fault f old new is cause store =
+    cause (store_told fault (sym is ∙ same_failure store)) where
+      same_failure : ◌≡◌ {A = Result A Failure} (Err f) (Err Store) → f ≡ Store
+      same_failure e = cc
+
+-- a line that ends so
+pub ends_counted : (fault : DeskFault) (f : Failure) (end : Ending) (old new : ℕ)
+    → f ≡ enrolment_failure fault → (fault ≡ desk.Store → HasRisen old new)
+    → EndsWith {A = ⊤} (Err f) end → HasCause end old new
+ends_counted fault f end old new is cause ends =
+    record { done = Err f; ends = ends; cause = enrolment_counted fault f old new is cause }
+
+-- a line that ends well, for want of memory, or as a write failed
+pub ends_well : (end : Ending) (old new : ℕ) → EndsWith {A = ⊤} (Ok tt) end → HasCause end old new
+ends_well end old new ends = record { done = Ok tt; ends = ends; cause = λ store. cc }
+
+pub ends_memory : (end : Ending) (old new : ℕ) → EndsWith {A = ⊤} (Err Memory) end → HasCause end old new
+ends_memory end old new ends = record { done = Err Memory; ends = ends; cause = λ store. cc }
+
+pub ends_write : (end : Ending) (old new : ℕ) → EndsWith {A = ⊤} (Err failure.Write) end
+    → HasCause end old new
+ends_write end old new ends = record { done = Err failure.Write; ends = ends; cause = λ store. cc }
+
+-- connections end with no such failure
+at_no_store : (served : Result Served ServeFault) → failure_at served ≡ Some Store → ⊥
+at_no_store (Ok (Answered status framed)) is = by (status == 500) is where
+  by : (b : Bool) → (if b then Some Broken else None) ≡ Some Store → ⊥
+  by true e = cc
+  by false e = cc
+at_no_store (Ok End) is = cc
+at_no_store (Err OutOfMemory) is = cc
+at_no_store (Err Read) is = cc
+at_no_store (Err (Write fault)) is = cc
+at_no_store (Err CutShort) is = cc
+
+denied_no_store : IsDenied Store → ⊥
+denied_no_store (inl e) = cc
+denied_no_store (inr (inl e)) = cc
+denied_no_store (inr (inr (inl e))) = cc
+denied_no_store (inr (inr (inr e))) = cc
+
+ends_no_store : (xs : List Exchange) → EndsBy Store xs → ⊥
+ends_no_store [] ends = denied_no_store ends
+ends_no_store (x ∷ xs) (inl later) = ends_no_store xs later.1
+ends_no_store (x ∷ xs) (inr last) = at_no_store x.served last.0
+
+pub served_counted : {A : Type 0} (done : Result A Failure) (count : ℕ) (xs : List Exchange) (old new : ℕ)
+    → EndsAfter done count xs → IsCounted done old new
+served_counted (Ok d) count xs old new ends store = cc
+served_counted {A} (Err f) count xs old new ends store =
+    absurd (ends_no_store xs (subst (λ v. EndsBy v xs) (same_failure store) ends)) where
+      same_failure : ◌≡◌ {A = Result A Failure} (Err f) (Err Store) → f ≡ Store
+      same_failure e = cc
+
+-- a line that takes no connection is carried out, and kept, as it is played
+pub carried_out : (H : Type 0) (line : Line) (end : Ending) (port : Traffic)
+    (old new out now : Option (List ℕ)) (w after : DeskWorld)
+    → IsLinePlayed H line end old new out now w after
+    → IsCarriedOut H line end port port old new out now w after
+carried_out H (line.Play play) end port old new out now w after h = (refl, h)
+carried_out H (line.Enrol enrol) end port old new out now w after h = (refl, h)
+carried_out H (line.Token token) end port old new out now w after h = absurd h
+carried_out H (line.Serve serve) end port old new out now w after h = absurd h
+carried_out H (line.Cover cover) end port old new out now w after h = absurd h
+carried_out H (line.Migrate migrate) end port old new out now w after h = absurd h
+
+pub line_kept : (H : Type 0) (line : Line) (end : Ending) (port : Traffic)
+    (old new out now : Option (List ℕ)) (w after : DeskWorld) (found : Option World)
+    → IsLinePlayKept H line end old new out now w after found
+    → IsLineKept H line end port port old new out now w after found
+line_kept H (line.Play play) end port old new out now w after found h = h
+line_kept H (line.Enrol enrol) end port old new out now w after found h = h
+line_kept H (line.Token token) end port old new out now w after found h = absurd h
+line_kept H (line.Serve serve) end port old new out now w after found h = absurd h
+line_kept H (line.Cover cover) end port old new out now w after found h = absurd h
+line_kept H (line.Migrate migrate) end port old new out now w after found h = absurd h

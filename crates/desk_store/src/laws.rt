@@ -1,0 +1,17 @@
+//! Laws of what a store keeps. Each is the contract of a function that does nothing else.
+
+ghost use Rattle.std.specs.Prelude.{ℕ, ◌*◌, ◌≤◌, List};
+ghost use Rattle.volume4d.specs.Limits.{max_cover, max_volumes};
+ghost use Rattle.desk_rules.specs.Limits.{max_plans};
+ghost use Rattle.desk_store.specs.Content.{IsContent};
+ghost use Rattle.desk_store.specs.World.{World, plans_of, spans_beside};
+
+use volume4d::laws;
+
+/// An operator's plans take at most 6,553,600 spans.
+pub fn spans_are_few()
+    ensures { (w : World) (operator id : List ℕ) → IsContent w
+        → spans_beside id (plans_of operator w) ≤ max_plans * (max_volumes * max_cover) }
+{
+    laws::spans_are_few();
+}

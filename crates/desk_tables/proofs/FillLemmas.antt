@@ -1,0 +1,210 @@
+-- A content whose rows are added to tables without rows is refused by nothing of its own.
+use Rattle.std.proofs.Common.{◌≡◌, ◌≤◌, ◌<◌, ◌+◌, ◌^◌, ◌||◌, ℕ, false, true, List, [], ◌∷◌, drop, length, map, None, IsTrue, Less, inl, inr, sym, ap, ap₂, subst, ◌∙◌, arith, IsPermutation}
+use Rattle.std.specs.List.{AllByRecursion}
+use Rattle.std.specs.List.Sorted.{IsStrictlySortedBy}
+use Rattle.std.proofs.lemmas.List.{length-map}
+use Rattle.std.proofs.lemmas.List.Sorted.{list_any-IsPermutation}
+use Rattle.sqlite_trees.specs.declared.store.Store.{Ghosts}
+use Rattle.sqlite_trees.proofs.ListLemmas.{ascending_weaker}
+use Rattle.sqlite_value.specs.Order.{Row}
+use Rattle.sqlite.specs.Effect.{Database}
+use Rattle.sqlite.specs.State.{HasCleanDisk}
+use Rattle.sqlite.specs.Held.{Held, state}
+use Rattle.desk_sql.specs.Changing.{HasKey, IsNewRow, IsShort, FitsOperator, FitsPlan, LacksKey, has_same_key}
+use Rattle.desk_rules.specs.Name.{is_operator_name}
+use Rattle.desk_sql.specs.Effects.{IsOpenIfClean}
+use Rattle.desk_sql.specs.Finding.{Holds}
+use Rattle.desk_sql.specs.Putting.{HasRoomFor, HaveOwnKeys, TakesOperators, TakesRoom}
+use Rattle.desk_sql.specs.Rows.{AddsOperator, AddsPlan, Tables, by_cells, tables_of}
+use Rattle.desk_store.specs.World.{Filed, IsListed, Listed, World, filed_cmp, listed_cmp}
+use Rattle.desk_store.specs.laws.Order.{all_weaker}
+use Rattle.desk_tables.specs.declared.opening.open.OpenFault.{OpenFault}
+use Rattle.desk_tables.specs.Opening.{BlamesDatabase, BlamesReading}
+use Rattle.desk_tables.specs.Copying.{AddsHeadRows, AddsOperatorRows, BlamesNew}
+use Rattle.desk_store.specs.Content.{IsContent}
+use Rattle.desk_tables.specs.Records.{IsFiled}
+use Rattle.desk_tables.specs.Store.{Stands}
+use Rattle.desk_tables.specs.Tables.{id_text, operator_row, operator_rows, plan_row, plan_rows}
+use Rattle.desk_tables.specs.Writing.{AreNewHeads, AreNewKeys, AreNewOperators, AreWritable, CanBeFilled, HaveFewRows}
+use Rattle.desk_tables.proofs.AssemblyLemmas.{filed_within}
+use Rattle.desk_tables.proofs.CauseLemmas.{name_short}
+use Rattle.desk_tables.proofs.CopyLemmas.{alone}
+use Rattle.desk_tables.proofs.FilterLemmas.{ArePlans}
+use Rattle.desk_tables.proofs.KeyOrderLemmas.{operators_up, plans_up}
+use Rattle.desk_tables.proofs.LiftLemmas.{disk_blamed}
+use Rattle.desk_tables.proofs.OpeningLemmas.{cause_then}
+use Rattle.desk_tables.proofs.PuttableLemmas.{apart_by, named_row}
+use Rattle.desk_tables.proofs.ShareLemmas.{if_listed}
+use Rattle.desk_tables.proofs.SmallLemmas.{id_short}
+use Rattle.desk_tables.proofs.StoreLemmas.{no_row, nothing}
+use Rattle.desk_tables.proofs.WritingLemmas.{FewCovers, all_free, are_plans, blank_room, fewer, no_tree, writable}
+
+-- ---- one row after the other
+
+module _ (width : ℕ) (x : Row) (xs stored shown : List Row)
+    (new : AreNewKeys width (x ∷ xs) stored shown) where
+  pub first_key : IsNewRow width x stored shown
+  first_key = ((fewer 1 (length (x ∷ xs)) stored (omega arith) new.room).1, new.free.0)
+
+  pub later_keys : (next now : List Row) → ((left : ℕ) → HasRoomFor (1 + left) stored → HasRoomFor left next)
+      → IsPermutation (x ∷ shown) now → AreNewKeys width xs next now
+  later_keys next now takes same = record {
+    room = takes (length xs) (fewer (1 + length xs) (length (x ∷ xs)) stored (omega arith) new.room);
+    apart = new.apart.1;
+    free = each xs new.apart.0 new.free.1;
+  } where
+    each : (zs : List Row) → AllByRecursion (λ z. has_same_key width x z ≡ false) zs
+        → AllByRecursion (λ z. LacksKey width z shown) zs → AllByRecursion (λ z. LacksKey width z now) zs
+    each [] h k = tt
+    each (z ∷ zs) h k = (
+      sym (list_any-IsPermutation (λ r. has_same_key width r z) (x ∷ shown) now same)
+          ∙ ap₂ (λ a b. a || b) h.0 k.0,
+      each zs h.1 k.1,
+    )
+
+module _ (l : Listed) (later : List Listed) (a : Database) (all : AreNewOperators (l ∷ later) a) where
+  pub operator_fits : FitsOperator l.name (operator_row l) a
+  operator_fits = (
+    all.names.0,
+    first_key 1 (operator_row l) (map operator_row later) (a.trees 0) (tables_of a.trees).operators all.new,
+  )
+
+  pub operators_left : (b : Database) → AddsOperator (operator_row l) (tables_of a.trees) (tables_of b.trees)
+      → TakesOperators 1 a.trees b.trees → AreNewOperators later b
+  operators_left b adds takes = record {
+    names = all.names.1;
+    new = later_keys 1 (operator_row l) (map operator_row later) (a.trees 0) (tables_of a.trees).operators
+        all.new (b.trees 0) (tables_of b.trees).operators takes adds.0;
+  }
+
+module _ (p : Filed) (later : List Filed) (a : Database) (all : AreNewHeads (p ∷ later) a) where
+  pub head_fits : (name text : List ℕ) (row : Row) → name ≡ p.operator → text ≡ id_text p.row.id
+      → row ≡ plan_row p → FitsPlan name text row a
+  head_fits name text row named written is = (
+    subst IsShort (sym named) all.names.0,
+    subst IsShort (sym written) (id_short p.row.id),
+    subst (λ r. IsNewRow 2 r (a.trees 2) (tables_of a.trees).plans) (sym is)
+        (first_key 2 (plan_row p) (plan_rows later) (a.trees 2) (tables_of a.trees).plans all.new),
+    subst (λ r. HasKey 1 r (tables_of a.trees).operators) (sym is) all.listed.0,
+  )
+
+  pub heads_left : (b : Database) → AddsPlan (plan_row p) (tables_of a.trees) (tables_of b.trees)
+      → TakesRoom 1 0 0 a.trees b.trees → AreNewHeads later b
+  heads_left b adds takes = record {
+    names = all.names.1;
+    new = later_keys 2 (plan_row p) (plan_rows later) (a.trees 2) (tables_of a.trees).plans all.new
+        (b.trees 2) (tables_of b.trees).plans takes.of_plans adds.0;
+    listed = subst (λ ls. AllByRecursion (λ r. HasKey 1 r ls) (plan_rows later))
+        (sym (ap (λ (t : Tables). t.operators) adds.1)) all.listed.1;
+  }
+
+-- ---- what tables without rows begin with
+
+operators_apart : (ls : List Listed) → IsStrictlySortedBy listed_cmp ls → HaveOwnKeys 1 (map operator_row ls)
+operators_apart ls sorted = ascending_weaker (λ a b. by_cells (0 ∷ []) a b ≡ Less)
+    (λ a b. has_same_key 1 a b ≡ false) (λ a b. apart_by a b (0 ∷ [])) (map operator_row ls)
+    (operators_up ls sorted)
+
+heads_apart : (ps : List Filed) → ArePlans ps → IsStrictlySortedBy filed_cmp ps → HaveOwnKeys 2 (plan_rows ps)
+heads_apart ps are sorted = ascending_weaker (λ a b. by_cells (0 ∷ 1 ∷ []) a b ≡ Less)
+    (λ a b. has_same_key 2 a b ≡ false) (λ a b. apart_by a b (0 ∷ 1 ∷ [])) (plan_rows ps)
+    (plans_up ps are sorted)
+
+-- rows can be added to a table without any
+to_blank : (width : ℕ) (rows stored shown : List Row) → stored ≡ [] → shown ≡ [] → length rows < 2 ^ 63
+    → HaveOwnKeys width rows → AreNewKeys width rows stored shown
+to_blank width rows stored shown tree none few apart = record {
+  room = subst (HasRoomFor (length rows)) (sym tree) (blank_room (length rows) few);
+  apart = apart;
+  free = all_free width rows shown none;
+}
+
+-- the operators of plans are there, in whatever order
+heads_listed : (w : World) (qs : List Filed) (shown : List Row) → AllByRecursion (IsListed w) qs
+    → IsPermutation (map operator_row w.operators) shown
+    → AllByRecursion (λ r. HasKey 1 r shown) (plan_rows qs)
+heads_listed w [] shown h same = tt
+heads_listed w (q ∷ qs) shown h same = (
+  sym (list_any-IsPermutation (λ r. has_same_key 1 r (plan_row q)) (map operator_row w.operators) shown same)
+      ∙ named_row q.operator (drop 1 (plan_row q)) w.operators (if_listed w.operators w.plans q h.0),
+  heads_listed w qs shown h.1 same,
+)
+
+module _ (w : World) (old : Database) (can : CanBeFilled w old) where
+  pub operators_new : AreNewOperators w.operators old
+  operators_new = record {
+    names = all_weaker (λ l. IsTrue (is_operator_name l.name)) (λ l. IsShort l.name)
+        (λ l. name_short l.name) w.operators can.content.names;
+    new = to_blank 1 (map operator_row w.operators) (old.trees 0) (tables_of old.trees).operators
+        (no_tree _ (old.trees 0) can.no_operators) can.no_operators
+        (subst (λ n. n < 2 ^ 63) (sym (length-map w.operators operator_row)) can.operators)
+        (operators_apart w.operators can.content.world.operators);
+  }
+
+  module _ (mid : Database)
+      (listed : AddsOperatorRows w.operators (tables_of old.trees) (tables_of mid.trees))
+    where
+      pub heads_new : AreNewHeads w.plans mid
+      heads_new =
+          let within = filed_within w can.content in
+          let none : (tables_of mid.trees).plans ≡ [] = listed.plans ∙ can.no_plans in
+          record {
+            names = all_weaker IsFiled (λ p. IsShort p.operator) (λ p is. name_short p.operator is.operator)
+                w.plans within;
+            new = to_blank 2 (plan_rows w.plans) (mid.trees 2) (tables_of mid.trees).plans
+                (no_tree _ (mid.trees 2) none) none
+                (subst (λ n. n < 2 ^ 63) (sym (length-map w.plans plan_row)) can.plans)
+                (heads_apart w.plans (are_plans w.plans within) can.content.world.plans);
+            listed = heads_listed w w.plans (tables_of mid.trees).operators can.content.world.listed
+                (alone (operator_rows w) (tables_of old.trees).operators (tables_of mid.trees).operators
+                can.no_operators listed.operators);
+          }
+
+      pub plans_new : FewCovers → (next : Database)
+          → AddsHeadRows w.plans (tables_of mid.trees) (tables_of next.trees) → AreWritable w.plans next
+      plans_new few next heads = writable few w.plans next (record {
+        within = filed_within w can.content;
+        keys = can.content.world.plans;
+        few = can.few;
+        plans = alone (plan_rows w.plans) (tables_of mid.trees).plans (tables_of next.trees).plans
+            (listed.plans ∙ can.no_plans) heads.plans;
+        volumes = heads.volumes ∙ listed.volumes ∙ can.no_volumes;
+        spans = heads.spans ∙ listed.spans ∙ can.no_spans;
+      })
+
+-- what can be filled can be once a transaction was begun
+pub can_then : {S : Type 0} (g : Ghosts S) (w : World) (old begun : Held S)
+    → begun ≡ record old { in_transaction = true } → Holds g old (CanBeFilled w) → IsOpenIfClean g old
+    → HasCleanDisk (state g begun) → CanBeFilled w (state g begun).now
+can_then g w old begun is can live =
+    subst (λ h. HasCleanDisk (state g h) → CanBeFilled w (state g h).now) (sym is)
+    (λ clean. can clean (live clean))
+
+-- ---- why no store is made
+
+module _ {S : Type 0} (g : Ghosts S) (a c : Held S) where
+  pub blames_disk : (e : OpenFault) → a.step_limit ≡ None → BlamesDatabase g a c e → BlamesNew g a c e
+  blames_disk e unlimited why clean live told = inr (disk_blamed g a c e unlimited why clean live told)
+
+  pub blames_later : (b : Held S) → (state g a).faults ≤ (state g b).faults → b.step_limit ≡ a.step_limit
+      → (e : OpenFault) → a.step_limit ≡ None → BlamesReading g b c e → BlamesNew g a c e
+  blames_later b faults limit e unlimited why =
+      blames_disk e unlimited (cause_then g a b c faults limit e why)
+
+-- tables without rows can be filled
+pub can_fill : {S : Type 0} (g : Ghosts S) (h : Held S) (w : World) → Stands g h nothing → IsContent w
+    → length w.operators < 2 ^ 63 → length w.plans < 2 ^ 63 → HaveFewRows w.plans → Holds g h (CanBeFilled w)
+can_fill g h w stood content few_operators few_plans few = λ clean live.
+    let t = tables_of (state g h).now.trees in
+    let blank = (stood.standing clean live).tables in
+    let spans : blank.spans.0 ≡ [] = blank.spans.1 in
+    record {
+      content = content;
+      operators = few_operators;
+      plans = few_plans;
+      few = few;
+      no_operators = no_row t.operators blank.operators;
+      no_plans = no_row t.plans blank.plans;
+      no_volumes = no_row t.volumes blank.volumes;
+      no_spans = no_row t.spans (subst (λ rs. IsPermutation rs t.spans) spans blank.spans.2);
+    }

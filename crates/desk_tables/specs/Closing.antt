@@ -1,0 +1,15 @@
+-- Closing: what a store's log comes to that can't be copied into the database file.
+use Rattle.sqlite_disk.specs.declared.Disk as disk
+use Rattle.sqlite_trees.specs.View.{IsClean}
+use Rattle.sqlite_store.specs.declared.store.FileStore.{FileStore}
+use Rattle.sqlite_store.specs.FileStore.{view}
+use Rattle.sqlite.specs.Files.{FailsToClose, IsClosed}
+use Rattle.sqlite.specs.Held.{Held}
+use Rattle.desk_tables.specs.declared.closing.Unclosed.{Unclosed}
+
+-- what was to be closed was rolled back, a crash has no new outcome, and if the disk returned what was
+-- written, memory ran out, the disk failed meanwhile, or the connection was shut before
+pub record IsLeftUnclosed {D : Type 0} {g : disk.Ghosts D} (h : Held (FileStore D g)) (it : Unclosed D g)
+    : Type 0 where
+  pub closed : IsClosed h it.left.value
+  pub cause : IsClean (view it.left.value) → FailsToClose h it.left.value it.error

@@ -1,0 +1,53 @@
+"""A port in a desk's place that reads whole requests and then hangs up, or answers late; it counts what came."""
+import socketserver
+import threading
+import time
+
+READY = b'HTTP/1.1 200 OK\r\ncontent-length: 0\r\nconnection: close\r\n\r\n'
+
+
+class Bare:
+    """A port that waits so long after each request and then hangs up, or answers if it is told to."""
+
+    def __init__(self, port, seconds, answers):
+        self.paths = []
+        self.most = 0
+        self._open = 0
+        self._lock = threading.Lock()
+        self._seconds, self._answer = seconds, READY if answers else b""
+        bare = self
+
+        class Taken(socketserver.StreamRequestHandler):
+            def handle(self):
+                bare.take(self)
+
+        class Server(socketserver.ThreadingTCPServer):
+            allow_reuse_address = daemon_threads = True
+            request_queue_size = 128
+
+        self._server = Server(("127.0.0.1", port), Taken)
+
+    def __enter__(self):
+        threading.Thread(target=self._server.serve_forever, args=(0.05,), daemon=True).start()
+        return self
+
+    def __exit__(self, *_):
+        self._server.shutdown()
+        self._server.server_close()
+
+    def take(self, connection):
+        """Reads a request, notes its path and how many connections are open, and answers or hangs up."""
+        with self._lock:
+            self._open += 1
+            self.most = max(self.most, self._open)
+        path = connection.rfile.readline().split()[1].decode()
+        length = 0
+        for line in iter(connection.rfile.readline, b"\r\n"):
+            name, _, value = line.partition(b":")
+            length = int(value) if name.lower() == b"content-length" else length
+        connection.rfile.read(length)
+        time.sleep(self._seconds)
+        with self._lock:
+            self.paths.append(path)
+            self._open -= 1
+        connection.wfile.write(self._answer)

@@ -1,0 +1,75 @@
+"""Manual pages: the desk's, of the tables of RULES and KEEPING; and those of commands that tell their own help."""
+import re
+
+from tables import codes_in, failures, lines_of_the_program, plain, rows_of
+
+NAME = "the planning desk of one UAS service supplier"
+DESCRIPTION = """
+The desk answers drone operators over HTTP: they plan, activate, change, show and close flights, and a flight that would
+lie where another of a higher priority is planned, or of the same one unless that is permitted, is refused. Each
+invocation is one line, of which the first word says what is done. /usr/share/doc/uss-desk/docs has the rules
+(RULES.md), and all for whoever keeps a desk (KEEPING.md).
+"""
+STATUSES = """
+0 if all was done. A failure is one line "uss_desk: WORD" on standard error, and 2 if the words of the line are wrong, 3
+for the input of play, or what token or cover was given, 4 for what the machine denied.
+"""
+FILES = (
+    ("/var/lib/uss_desk/desk.db", "operators and plans of the desk that uss_desk.service runs, with desk.db-wal"),
+    ("/var/lib/uss_desk/PORT/desk.db", "those of uss_desk@PORT.service"),
+    ("/etc/default/uss_desk, /etc/default/uss_desk-PORT", "further options of their lines"),
+    ("/etc/uss_desk/nginx.conf", "the proxy before the desk, which uss_desk_proxy.service runs"),
+    ("/etc/uss_desk/operators.htpasswd", "operators' names and passwords"),
+    ("/var/log/uss_desk_proxy/access.log", "a line for each request"),
+)
+
+
+def escaped(text):
+    """A text as roff takes it."""
+    text = text.replace("\\", "\\e").replace("-", "\\-").replace("'", "\\(aq")
+    return re.sub(r"^\.", r"\\&.", text, flags=re.MULTILINE)
+
+
+def marked(text):
+    """A text of a document: what is between backquotes is bold, and where to read more is left out."""
+    parts = plain(re.sub(r"\s*\(\[[^\]]*\]\([^)\s]*\)\)", "", text)).split("`")
+    return "".join(f"\\fB{escaped(part)}\\fR" if at % 2 else escaped(part) for at, part in enumerate(parts))
+
+
+def bold(text):
+    return f"\\fB{escaped(text)}\\fR"
+
+
+def tagged(tag, text):
+    """A paragraph under a tag."""
+    return f".TP\n{tag}\n{text}\n"
+
+
+def desk_page(top, version):
+    """uss_desk(1): its lines, its words and its statuses are those of the documents."""
+    parts = [f'.TH USS_DESK 1 "" "uss_desk {version}" "The planning desk"\n', f".SH NAME\nuss_desk \\- {NAME}\n",
+             ".SH SYNOPSIS\n"]
+    lines = lines_of_the_program(top)
+    parts += [f"{bold('uss_desk ' + line)} {escaped(' '.join(words))}\n.br\n" for line, words, _ in lines]
+    parts.append(f".SH DESCRIPTION\n{escaped(DESCRIPTION.strip())}\n.SH LINES\n")
+    for what, does in rows_of(top / "docs" / "KEEPING.md", ["words", "what it does"]):
+        parts.append(tagged(", ".join(bold(words) for words in codes_in(what)), marked(does)))
+    parts.append(".SH WORDS\n")
+    parts += [tagged(f"{bold(line)} {escaped(' '.join(words))}", marked(what)) for line, words, what in lines]
+    parts.append(f".SH EXIT STATUS\n{escaped(STATUSES.strip())}\n.SH DIAGNOSTICS\n")
+    for word, status, happened, to_do in failures(top):
+        done = f"\n.br\nWhat to do: {marked(to_do)}" if to_do else ""
+        parts.append(tagged(f"{marked(word)} ({status})", f"{marked(happened)}{done}"))
+    parts.append(".SH FILES\n")
+    parts += [tagged(bold(name), escaped(what)) for name, what in FILES]
+    parts.append(".SH SEE ALSO\n\\fBplanned_now\\fR(1), \\fBdesk_metrics\\fR(1), /usr/share/doc/uss\\-desk\n")
+    return "".join(parts)
+
+
+def page_of_help(name, told, purpose=None):
+    """A page of what a command tells as its help; its purpose is the help's first sentence unless it is given."""
+    usage, _, rest = told.partition("\n\n")
+    purpose = purpose or re.split(r"[.:]\s", rest.strip(), maxsplit=1)[0].replace("\n", " ")
+    synopsis = re.sub(r"\s+", " ", usage.partition("usage: ")[2])
+    return (f'.TH {name.upper()} 1 "" "" "The planning desk"\n.SH NAME\n{name} \\- {escaped(purpose)}\n'
+            f".SH SYNOPSIS\n{escaped(synopsis)}\n.SH DESCRIPTION\n.nf\n{escaped(rest.rstrip())}\n.fi\n")
