@@ -125,8 +125,10 @@ def same(count):
 def comb(count, operators=1):
     """Plans of 32 volumes of 64 cells whose leaves lie side by side, in one window and at the same altitudes."""
     for number in range(count):
-        places = [[cell_at(20, ((at * CELLS + cell) * 2 * count + 2 * number)) for cell in range(CELLS)]
-                  for at in range(VOLUMES)]
+        places = [
+            [cell_at(20, ((at * CELLS + cell) * 2 * count + 2 * number)) for cell in range(CELLS)]
+            for at in range(VOLUMES)
+        ]
         areas = [{"cells": [token_of(cell) for cell in cells]} for cells in places]
         yield put(f"op{number % operators}", uuid.UUID(int=number + 1), [volume(area, 0, 1000) for area in areas])
 

@@ -15,16 +15,20 @@ def options_of(words):
 
 def all_options(top):
     """Each option of some line, with the name of its value, or with none."""
-    return sorted({option for _, words, _ in lines_of_the_program(top) for option in options_of(words)},
-                  key=lambda option: option[0])
+    return sorted(
+        {option for _, words, _ in lines_of_the_program(top) for option in options_of(words)},
+        key=lambda option: option[0],
+    )
 
 
 def for_bash(top):
     lines = lines_of_the_program(top)
     paths = "|".join(name for name, value in all_options(top) if value in PATHS)
     values = "|".join(name for name, value in all_options(top) if value and value not in PATHS)
-    cases = "".join(f"    {line}) offered='{' '.join([*(name for name, _ in options_of(words)), '--help'])}' ;;\n"
-                    for line, words, _ in lines)
+    cases = "".join(
+        f"    {line}) offered='{' '.join([*(name for name, _ in options_of(words)), '--help'])}' ;;\n"
+        for line, words, _ in lines
+    )
     return f"""# What bash offers behind uss_desk. Made of the table of docs/RULES.md.
 _uss_desk() {{
     local word=${{COMP_WORDS[COMP_CWORD]}} offered=
@@ -57,8 +61,10 @@ def zsh_option(name, value):
 
 def for_zsh(top):
     lines = lines_of_the_program(top)
-    cases = "".join(f"    {line}) _arguments {' '.join([*(zsh_option(*it) for it in options_of(words)), '--help'])} ;;\n"
-                    for line, words, _ in lines)
+    cases = "".join(
+        f"    {line}) _arguments {' '.join([*(zsh_option(*it) for it in options_of(words)), '--help'])} ;;\n"
+        for line, words, _ in lines
+    )
     return f"""#compdef uss_desk
 # What zsh offers behind uss_desk. Made of the table of docs/RULES.md.
 _uss_desk() {{

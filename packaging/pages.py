@@ -47,8 +47,11 @@ def tagged(tag, text):
 
 def desk_page(top, version):
     """uss_desk(1): its lines, its words and its statuses are those of the documents."""
-    parts = [f'.TH USS_DESK 1 "" "uss_desk {version}" "The planning desk"\n', f".SH NAME\nuss_desk \\- {NAME}\n",
-             ".SH SYNOPSIS\n"]
+    parts = [
+        f'.TH USS_DESK 1 "" "uss_desk {version}" "The planning desk"\n',
+        f".SH NAME\nuss_desk \\- {NAME}\n",
+        ".SH SYNOPSIS\n",
+    ]
     lines = lines_of_the_program(top)
     parts += [f"{bold('uss_desk ' + line)} {escaped(' '.join(words))}\n.br\n" for line, words, _ in lines]
     parts.append(f".SH DESCRIPTION\n{escaped(DESCRIPTION.strip())}\n.SH LINES\n")
@@ -71,5 +74,7 @@ def page_of_help(name, told, purpose=None):
     usage, _, rest = told.partition("\n\n")
     purpose = purpose or re.split(r"[.:]\s", rest.strip(), maxsplit=1)[0].replace("\n", " ")
     synopsis = re.sub(r"\s+", " ", usage.partition("usage: ")[2])
-    return (f'.TH {name.upper()} 1 "" "" "The planning desk"\n.SH NAME\n{name} \\- {escaped(purpose)}\n'
-            f".SH SYNOPSIS\n{escaped(synopsis)}\n.SH DESCRIPTION\n.nf\n{escaped(rest.rstrip())}\n.fi\n")
+    return (
+        f'.TH {name.upper()} 1 "" "" "The planning desk"\n.SH NAME\n{name} \\- {escaped(purpose)}\n'
+        f".SH SYNOPSIS\n{escaped(synopsis)}\n.SH DESCRIPTION\n.nf\n{escaped(rest.rstrip())}\n.fi\n"
+    )

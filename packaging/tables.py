@@ -7,7 +7,7 @@ def rows_of(document, heading):
     lines = document.read_text().splitlines()
     first = next(at for at, line in enumerate(lines) if cells_of(line) == heading)
     rows = []
-    for line in lines[first + 2:]:
+    for line in lines[first + 2 :]:
         if not line.startswith("|"):
             break
         rows.append(cells_of(line))
@@ -45,5 +45,9 @@ def failures(top):
 
 def words_and_statuses(top):
     """Each word of KEEPING's table with its status; the texts of clap have no word."""
-    return {(word, status) for cell, status, _, _ in failures(top) if not cell.startswith("a text")
-            for word in codes_in(cell)}
+    return {
+        (word, status)
+        for cell, status, _, _ in failures(top)
+        if not cell.startswith("a text")
+        for word in codes_in(cell)
+    }

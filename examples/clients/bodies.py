@@ -9,25 +9,122 @@ MOMENT = 1_780_315_000
 """2026-06-01T11:56:40Z, the moment of all requests."""
 TOKENS = ["04", "1", "3", "5", "b", "0000000000000001", "478fc2d07ff", "89C25", "478fc2d07fc", "bfffffffffffffff"]
 ODD_TOKENS = ["", "0", "c", "x", "00000000000000001", "1 ", "7f", "478fc2d07fe", "2", "\u0661", "8", "0x1", "+1"]
-ODD_VALUES = [None, True, False, 0, 1, -1, "", "x", [], {}, [[]], 0.5, 10.0, 1e1, 2**63 - 1, 2**63, -2**63, -2**63 - 1,
-              2**64, 10**30, -0.0, "10", ["04"], {"cells": ["04"]}]
-WORDS = ["Hypothetical", "IfAllowed", "InReality", "Planned", "InUse", "Closed", "Nominal", "OffNominal", "Contingent",
-         "NotSpecified", "planned", "RFC3339", "RFC 3339"]
-TIMES = ["2026-06-01T12:00:00Z", "2026-06-01t12:00:00z", "2026-06-01T12:00:00.000Z", "2026-06-01T12:00:00.5Z",
-         "2026-06-01T12:00:00+00:00", "2026-06-01T12:00:00-00:00", "2026-06-01T14:00:00+02:00", "2026-02-29T12:00:00Z",
-         "2028-02-29T12:00:00Z", "2026-06-01T24:00:00Z", "2026-06-01T23:59:60Z", "2026-06-01 12:00:00Z",
-         "1969-12-31T23:59:59Z", "1969-12-31T23:59:59.5Z", "0000-01-01T00:00:00Z", "9998-12-31T23:59:59Z",
-         "9998-12-31T23:59:59.5Z", "9999-12-31T23:59:59-23:59", "2026-06-01T12:00:00+24:00",
-         "2026-06-01T12:00:00+23:60", "2026-06-01T12:00Z", "2026-06-01T12:00:00.Z", "2026-06-01T12:00:00",
-         "2026-06-01T12:00:00." + "0" * 43 + "Z",
-         "2026-06-01T12:00:00." + "0" * 44 + "Z", "2026-13-01T12:00:00Z", "2026-06-31T12:00:00Z",
-         "2O26-06-01T12:00:00Z", "+026-06-01T12:00:00Z", "2026-06-01T1\u0662:00:00Z", "1970-01-01T00:00:00Z",
-         "2026-06-01T12:00:00.10Z"]
+ODD_VALUES = [
+    None,
+    True,
+    False,
+    0,
+    1,
+    -1,
+    "",
+    "x",
+    [],
+    {},
+    [[]],
+    0.5,
+    10.0,
+    1e1,
+    2**63 - 1,
+    2**63,
+    -(2**63),
+    -(2**63) - 1,
+    2**64,
+    10**30,
+    -0.0,
+    "10",
+    ["04"],
+    {"cells": ["04"]},
+]
+WORDS = [
+    "Hypothetical",
+    "IfAllowed",
+    "InReality",
+    "Planned",
+    "InUse",
+    "Closed",
+    "Nominal",
+    "OffNominal",
+    "Contingent",
+    "NotSpecified",
+    "planned",
+    "RFC3339",
+    "RFC 3339",
+]
+TIMES = [
+    "2026-06-01T12:00:00Z",
+    "2026-06-01t12:00:00z",
+    "2026-06-01T12:00:00.000Z",
+    "2026-06-01T12:00:00.5Z",
+    "2026-06-01T12:00:00+00:00",
+    "2026-06-01T12:00:00-00:00",
+    "2026-06-01T14:00:00+02:00",
+    "2026-02-29T12:00:00Z",
+    "2028-02-29T12:00:00Z",
+    "2026-06-01T24:00:00Z",
+    "2026-06-01T23:59:60Z",
+    "2026-06-01 12:00:00Z",
+    "1969-12-31T23:59:59Z",
+    "1969-12-31T23:59:59.5Z",
+    "0000-01-01T00:00:00Z",
+    "9998-12-31T23:59:59Z",
+    "9998-12-31T23:59:59.5Z",
+    "9999-12-31T23:59:59-23:59",
+    "2026-06-01T12:00:00+24:00",
+    "2026-06-01T12:00:00+23:60",
+    "2026-06-01T12:00Z",
+    "2026-06-01T12:00:00.Z",
+    "2026-06-01T12:00:00",
+    "2026-06-01T12:00:00." + "0" * 43 + "Z",
+    "2026-06-01T12:00:00." + "0" * 44 + "Z",
+    "2026-13-01T12:00:00Z",
+    "2026-06-31T12:00:00Z",
+    "2O26-06-01T12:00:00Z",
+    "+026-06-01T12:00:00Z",
+    "2026-06-01T1\u0662:00:00Z",
+    "1970-01-01T00:00:00Z",
+    "2026-06-01T12:00:00.10Z",
+]
 ALTITUDES = [-10_001, -10_000, -1, 0, 1, 600, 1_200, 199_999, 200_000, 200_001]
-SECONDS = [MOMENT, MOMENT + 1, MOMENT - 1, MOMENT + 86_400, MOMENT + 86_401, MOMENT + 2_592_000, MOMENT + 2_592_001,
-           MOMENT + 2_592_000 + 86_400, 0, MOMENT + 3_600]
-MARKS = [b"{", b"}", b"[", b"]", b",", b":", b'"', b"\\", b"\\u0041", b"\\ud800", b"\\ud83d\\ude00", b"\x00", b"\xff",
-         b"\xc3\xa9", b"0", b"-0", b"1e400", b"1E2", b"-", b".5", b"NaN", b"null", b" ", b"\n", b"\xef\xbb\xbf", b"/"]
+SECONDS = [
+    MOMENT,
+    MOMENT + 1,
+    MOMENT - 1,
+    MOMENT + 86_400,
+    MOMENT + 86_401,
+    MOMENT + 2_592_000,
+    MOMENT + 2_592_001,
+    MOMENT + 2_592_000 + 86_400,
+    0,
+    MOMENT + 3_600,
+]
+MARKS = [
+    b"{",
+    b"}",
+    b"[",
+    b"]",
+    b",",
+    b":",
+    b'"',
+    b"\\",
+    b"\\u0041",
+    b"\\ud800",
+    b"\\ud83d\\ude00",
+    b"\x00",
+    b"\xff",
+    b"\xc3\xa9",
+    b"0",
+    b"-0",
+    b"1e400",
+    b"1E2",
+    b"-",
+    b".5",
+    b"NaN",
+    b"null",
+    b" ",
+    b"\n",
+    b"\xef\xbb\xbf",
+    b"/",
+]
 
 
 def time_of(text):
@@ -40,8 +137,14 @@ def rectangle(some):
     side = 1 << (30 - max(8, min(level, 24)))
     i, j = (some.randrange(2**30) for _ in range(2))
     reach = [some.choice([0, 1, 3, 17, 100, 400, 700]) * side for _ in range(2)]
-    made = {"face": some.randrange(7), "i_min": i, "i_max": min(i + reach[0], 2**30 - 1), "j_min": j,
-            "j_max": min(j + reach[1], 2**30 - some.choice([0, 1, 1, 1])), "level": level}
+    made = {
+        "face": some.randrange(7),
+        "i_min": i,
+        "i_max": min(i + reach[0], 2**30 - 1),
+        "j_min": j,
+        "j_max": min(j + reach[1], 2**30 - some.choice([0, 1, 1, 1])),
+        "level": level,
+    }
     if some.random() < 0.5:
         made["face"] = some.randrange(6)
     return made
@@ -55,15 +158,22 @@ def volume(some):
         shape["cells"] = [some.choice(TOKENS) for _ in range(some.choice([1, 1, 2, 3, 64]))]
     else:
         shape["rectangle"] = rectangle(some)
-    return {"volume": shape, "time_start": time_of(time_text(start)),
-            "time_end": time_of(time_text(start + some.choice([1, 3_600, 3_600, 86_400, 86_401])))}
+    return {
+        "volume": shape,
+        "time_start": time_of(time_text(start)),
+        "time_end": time_of(time_text(start + some.choice([1, 3_600, 3_600, 86_400, 86_401]))),
+    }
 
 
 def put(some):
     style = some.choice(["IfAllowed", "IfAllowed", "IfAllowed", "Hypothetical", "InReality"])
-    plan = {"basic_information": {"usage_state": some.choice(["Planned", "Planned", "Planned", "InUse", "Closed"]),
-                                  "uas_state": some.choice([*["Nominal"] * 3, "OffNominal", "Contingent"]),
-                                  "area": [volume(some) for _ in range(some.choice([1, 1, 1, 2, 3]))]}}
+    plan = {
+        "basic_information": {
+            "usage_state": some.choice(["Planned", "Planned", "Planned", "InUse", "Closed"]),
+            "uas_state": some.choice([*["Nominal"] * 3, "OffNominal", "Contingent"]),
+            "area": [volume(some) for _ in range(some.choice([1, 1, 1, 2, 3]))],
+        }
+    }
     if some.random() < 0.8:
         plan["astm_f3548_21"] = {"priority": some.choice([0, 10, 50, 100, 101, 1_000, 1_001, None])}
     return {"execution_style": style, "flight_plan": plan, "request_id": "r"}
@@ -117,7 +227,7 @@ def spoil_bytes(some, data):
     if act < 0.55:
         return data[:at] + some.choice(MARKS) + data[at:]
     if act < 0.8:
-        return data[:at] + data[at + some.choice([1, 1, 2, 9]):]
+        return data[:at] + data[at + some.choice([1, 1, 2, 9]) :]
     if act < 0.9:
         deep = some.choice([1, 120, 126, 127, 128, 5_000])
         return b'{"x":' + b"[" * deep + b"]" * deep + b"," + data[1:]

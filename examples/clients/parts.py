@@ -56,13 +56,20 @@ def tests(checks):
     """The tests of each package."""
     for name in ("python", "interuss_bridge", "mock_desk"):
         words = [sys.executable, "-m", "pytest", "-q", "-p", "no:cacheprovider"]
-        ran = subprocess.run(words, cwd=TOP / "clients" / name, capture_output=True, text=True, check=False,
-                             env={**os.environ, "PYTHONDONTWRITEBYTECODE": "1"})
+        ran = subprocess.run(
+            words,
+            cwd=TOP / "clients" / name,
+            capture_output=True,
+            text=True,
+            check=False,
+            env={**os.environ, "PYTHONDONTWRITEBYTECODE": "1"},
+        )
         print(f"clients/{name}: {ran.stdout.strip().splitlines()[-1]}")
         checks.told(f"the tests of clients/{name}", 0, ran.returncode)
 
 
 # ---- random bodies
+
 
 def random_bodies(checks, count, seed):
     """Of each body the check says the word that the desk says, or nothing."""
@@ -71,7 +78,9 @@ def random_bodies(checks, count, seed):
     stream = b""
     for number, (method, body) in enumerate(requests):
         path = f"/flight_plans/{uuid.UUID(int=number + 1)}" if method == "PUT" else "/clear_area_requests"
-        head = f"{method} {path} HTTP/1.1\r\nx-operator: {names[number // 100]}\r\ncontent-length: {len(body)}\r\n\r\n"
+        head = (
+            f"{method} {path} HTTP/1.1\r\nx-operator: {names[number // 100]}\r\ncontent-length: {len(body)}\r\n\r\n"
+        )
         stream += head.encode() + body
     answers, ended = play(["--at", str(MOMENT), *(f"{name}=100" for name in names)], stream)
     checks.told("random bodies: the end", (0, ""), ended)
@@ -84,11 +93,25 @@ def random_bodies(checks, count, seed):
         words[word] += 1
         checks.told(f"random body {body[:2_000]!r}", None if word == "conflict" else word, fault and fault.word)
     print("random bodies: " + ", ".join(f"{number} {word or 'taken'}" for word, number in words.most_common()))
-    checks.holds("random bodies: every word that a body alone brings about", words.keys() >= {
-        "bad_json", "bad_member", "bad_volume", "too_many_cells", "style", "state", "not_planned", "priority", None})
+    checks.holds(
+        "random bodies: every word that a body alone brings about",
+        words.keys()
+        >= {
+            "bad_json",
+            "bad_member",
+            "bad_volume",
+            "too_many_cells",
+            "style",
+            "state",
+            "not_planned",
+            "priority",
+            None,
+        },
+    )
 
 
 # ---- the client
+
 
 def metres_from(ring, conflict):
     """How far a conflict's leaf, by its centre, lies from a polygon; 0 within it."""
@@ -102,8 +125,13 @@ def metres_from(ring, conflict):
 def cells_with_leaf(area, conflict):
     """The cells of an area that have a conflict's leaf."""
     leaf = id_of(conflict.cell)
-    return [cell for volume in area for cell in volume.cells for least, greatest in [leaves_of(id_of(cell))]
-            if least <= leaf <= greatest]
+    return [
+        cell
+        for volume in area
+        for cell in volume.cells
+        for least, greatest in [leaves_of(id_of(cell))]
+        if least <= leaf <= greatest
+    ]
 
 
 def size_of(cell):
@@ -116,9 +144,16 @@ def along_grid(cell):
     """A polygon some millimetres within the edges of a cell, so that its cover is this cell."""
     middle = s2.S2CellId.FromToken(cell).ToLatLng()
     corners = [s2.S2Cell(s2.S2CellId.FromToken(cell)).GetS2LatLngVertex(at) for at in range(4)]
-    return [tuple(corner + (centre - corner) * 1e-5 for corner, centre in (
-        (place.lng().degrees(), middle.lng().degrees()), (place.lat().degrees(), middle.lat().degrees())))
-        for place in corners]
+    return [
+        tuple(
+            corner + (centre - corner) * 1e-5
+            for corner, centre in (
+                (place.lng().degrees(), middle.lng().degrees()),
+                (place.lat().degrees(), middle.lat().degrees()),
+            )
+        )
+        for place in corners
+    ]
 
 
 def through_client(checks, setting):
@@ -136,7 +171,9 @@ def through_client(checks, setting):
     refused = alfa.activate(plan_id)
     checks.told("no way back", ("Rejected", "OffNominal", "state"), (*result_of(refused), refused.note))
     checks.told("closed", ("Completed", "Closed"), result_of(alfa.close(plan_id)))
-    checks.told("free again", "Completed", bravo.try_plan(area_of(Polygon(WOOD), (60, 120), at(12), at(13)), 10).result)
+    checks.told(
+        "free again", "Completed", bravo.try_plan(area_of(Polygon(WOOD), (60, 120), at(12), at(13)), 10).result
+    )
     thirty_hours(checks, alfa)
     clockwise(checks, alfa)
     checks.told("cleared", 1, alfa.clear(area_of(Polygon(FIELD), (-1_000, 20_000), at(0), at(24))).count)
@@ -158,8 +195,10 @@ def blocked_for_another(checks, alfa, bravo, field):
     for ring, area in ((FIELD, field), (WOOD, wood)):
         cells = cells_with_leaf(area, conflict)
         checks.holds("the leaf lies in both covers", cells)
-        checks.holds("the leaf lies at most a cell's size outside of both polygons",
-                     metres_from(ring, conflict) <= max(map(size_of, cells), default=0))
+        checks.holds(
+            "the leaf lies at most a cell's size outside of both polygons",
+            metres_from(ring, conflict) <= max(map(size_of, cells), default=0),
+        )
     in_both_polygons(checks, alfa, bravo)
     reasons = why(bravo, wood, 10)
     both = {cell for cell in wood[0].cells if any(meets(cell, other) for other in field[0].cells)}
@@ -170,13 +209,18 @@ def blocked_for_another(checks, alfa, bravo, field):
 def in_both_polygons(checks, alfa, bravo):
     """The blocked leaf lies in both polygons. Before it on the curve, a centimetre away, comes a leaf that isn't in
     both covers: so this is tried where a polygon's edge is that of its cover, and where no leaf comes before."""
-    for name, one, other in (("a field along the grid", along_grid(CELL), FIELD),
-                             ("the curve's beginning", BEGINNING, AROUND_IT)):
+    for name, one, other in (
+        ("a field along the grid", along_grid(CELL), FIELD),
+        ("the curve's beginning", BEGINNING, AROUND_IT),
+    ):
         areas = [area_of(Polygon(ring), (60, 120), at(20), at(21)) for ring in (one, other)]
         checks.told(f"{name}: planned", "Completed", alfa.plan(new_id(), areas[0], 10).result)
         conflict = bravo.try_plan(areas[1], 10).conflict
-        checks.told(f"{name}: the leaf lies in both polygons", [0.0, 0.0],
-                    [metres_from(ring, conflict) for ring in (one, other)])
+        checks.told(
+            f"{name}: the leaf lies in both polygons",
+            [0.0, 0.0],
+            [metres_from(ring, conflict) for ring in (one, other)],
+        )
         checks.told(f"{name}: cleared", 1, alfa.clear(areas[0]).count)
 
 
@@ -190,7 +234,9 @@ def thirty_hours(checks, alfa):
     area = area_of(Polygon(FAR), (30.05, 99.91), at(6), at(12, day=1))
     checks.told("30 hours", "Completed", alfa.plan(plan_id, area, 1).result)
     shown = [(volume.lower, volume.upper, volume.start_time, volume.end_time) for volume in alfa.show(plan_id).area]
-    checks.told("30 hours shown", [(300, 1_000, at(6), at(6, day=1)), (300, 1_000, at(6, day=1), at(12, day=1))], shown)
+    checks.told(
+        "30 hours shown", [(300, 1_000, at(6), at(6, day=1)), (300, 1_000, at(6, day=1), at(12, day=1))], shown
+    )
 
 
 def clockwise(checks, alfa):
@@ -202,9 +248,11 @@ def clockwise(checks, alfa):
 
 def refusals(checks, setting):
     """What nginx and the desk refuse, by their words."""
-    for wanted, desk in ((("unauthorized", 401), Desk(setting.url, user="alfa", password="b")),
-                         (("unauthorized", 401), Desk(setting.url, user="nobody", password="b")),
-                         (("no_route", 404), Desk(setting.url + "/desk", user="alfa", password="a"))):
+    for wanted, desk in (
+        (("unauthorized", 401), Desk(setting.url, user="alfa", password="b")),
+        (("unauthorized", 401), Desk(setting.url, user="nobody", password="b")),
+        (("no_route", 404), Desk(setting.url + "/desk", user="alfa", password="a")),
+    ):
         try:
             desk.plans()
             checks.told("refused", wanted, None)
@@ -214,31 +262,40 @@ def refusals(checks, setting):
         setting.desk("alfa").plan(new_id(), [Volume(("04",), 0, 200_001, 0, 1)])
         checks.told("refused", "bad_volume", None)
     except Refused as refused:
-        checks.told("refused", ("bad_volume", 0, "volume.altitude_upper"),
-                    (refused.word, refused.fault.volume, refused.fault.member))
+        checks.told(
+            "refused",
+            ("bad_volume", 0, "volume.altitude_upper"),
+            (refused.word, refused.fault.volume, refused.fault.member),
+        )
 
 
 # ---- the proxy
+
 
 def proxy(checks, setting):
     """What nginx refuses itself is JSON, and described in docs/openapi.json."""
     user = {"authorization": "Basic YWxmYTph"}
     for status, word, method, path, fields, body in (
-            (401, "unauthorized", "GET", "/status", {}, None),
-            (413, "too_large", "GET", "/status", {**user, "x": "x" * 20_000}, None),
-            (413, "too_large", "PUT", "/flight_plans/x", user, b" " * 131_073),
-            (414, "too_large", "GET", "/" + "x" * 5_000, user, None),
-            (501, "transfer_encoding", "GET", "/status", {**user, "transfer-encoding": "gzip"}, None)):
+        (401, "unauthorized", "GET", "/status", {}, None),
+        (413, "too_large", "GET", "/status", {**user, "x": "x" * 20_000}, None),
+        (413, "too_large", "PUT", "/flight_plans/x", user, b" " * 131_073),
+        (414, "too_large", "GET", "/" + "x" * 5_000, user, None),
+        (501, "transfer_encoding", "GET", "/status", {**user, "transfer-encoding": "gzip"}, None),
+    ):
         told = raw(setting, method, path, fields, body)
         checks.told(f"nginx: {status}", (status, {"error": word}, "application/json"), told[:3])
         checks.holds(f"openapi.json has {status} {word}", word in described(status))
     checks.told("nginx: another method", (405, {"error": "method"}), raw(setting, "TRACE", "/status", user, None)[:2])
-    checks.told("nginx: no page of its own", (404, {"error": "no_route"}),
-                raw(setting, "GET", "/refused/502", user, None)[:2])
+    checks.told(
+        "nginx: no page of its own", (404, {"error": "no_route"}), raw(setting, "GET", "/refused/502", user, None)[:2]
+    )
     flood = [raw(setting, "GET", "/status", user, None) for _ in range(300)]
     refused = [answer for answer in flood if answer[0] != 200]
-    checks.told("nginx: too many requests", {(429, "too_many_requests", "5")},
-                {(status, value["error"], after) for status, value, _, after in refused})
+    checks.told(
+        "nginx: too many requests",
+        {(429, "too_many_requests", "5")},
+        {(status, value["error"], after) for status, value, _, after in refused},
+    )
     words = {429: "too_many_requests", 502: "bad_gateway", 504: "gateway_timeout"}
     checks.holds("openapi.json has 429, 502, 504", all(word in described(status) for status, word in words.items()))
 
@@ -265,6 +322,7 @@ def described(status):
 
 # ---- what docs/CLIENTS.md has
 
+
 def page(checks, setting):
     """The lines of Python and those of the terminal that docs/CLIENTS.md begins with, asked of this desk."""
     text = (TOP / "docs" / "CLIENTS.md").read_text(encoding="utf-8")
@@ -282,13 +340,18 @@ def page(checks, setting):
     checks.told("the page's plan in a terminal", (0, "Completed, OkToFly\n"), (status, told))
     asked_why = lines_of(text, "## What blocks a flight", "## When others")
     why_lines = "\n".join(["day=$(date -u -d tomorrow +%F)", *asked_why])
-    for priority, blocked, told in ((10, 1, "A flight of priority 10 is blocked in 64 of 64 cells"),
-                                    (11, 0, "Nothing blocks this flight of priority 11")):
+    for priority, blocked, told in (
+        (10, 1, "A flight of priority 10 is blocked in 64 of 64 cells"),
+        (11, 0, "Nothing blocks this flight of priority 11"),
+    ):
         status, output = in_shell(setting, [why_lines.replace("--priority 10", f"--priority {priority}")])
         checks.told("the page's why", (blocked, told), (status, output.splitlines()[0]))
     status, output = in_shell(setting, lines[at_list:], plan_id)
-    checks.told("the page's list, show and close", (0, ["no conflict", f"{plan_id}  Completed, Closed"]),
-                (status, output.splitlines()[-2:]))
+    checks.told(
+        "the page's list, show and close",
+        (0, ["no conflict", f"{plan_id}  Completed, Closed"]),
+        (status, output.splitlines()[-2:]),
+    )
 
 
 def lines_of(text, begin, end):
@@ -300,16 +363,28 @@ def lines_of(text, begin, end):
 def in_shell(setting, lines, plan_id=""):
     """The exit status and the output of lines of a terminal, asked as alfa of this desk."""
     script = "\n".join(['python3() { "$PYTHON" "$@"; }', *lines]).replace(" ID", f" {plan_id}")
-    ran = subprocess.run(["bash", "-e"], input=script, capture_output=True, text=True, timeout=120, check=False,
-                         cwd=setting.folder,
-                         env={**os.environ, **environment(setting, "alfa"), "PYTHON": sys.executable})
+    ran = subprocess.run(
+        ["bash", "-e"],
+        input=script,
+        capture_output=True,
+        text=True,
+        timeout=120,
+        check=False,
+        cwd=setting.folder,
+        env={**os.environ, **environment(setting, "alfa"), "PYTHON": sys.executable},
+    )
     return ran.returncode, ran.stdout
 
 
 def environment(setting, name):
     """What a terminal has, to ask as an operator of this desk."""
-    return {"PYTHONPATH": str(TOP / "clients" / "python"), "USS_DESK_URL": setting.url, "USS_DESK_USER": name,
-            "USS_DESK_PASSWORD": OPERATORS[name], "PYTHONDONTWRITEBYTECODE": "1"}
+    return {
+        "PYTHONPATH": str(TOP / "clients" / "python"),
+        "USS_DESK_URL": setting.url,
+        "USS_DESK_USER": name,
+        "USS_DESK_PASSWORD": OPERATORS[name],
+        "PYTHONDONTWRITEBYTECODE": "1",
+    }
 
 
 def command_line(checks, setting):
@@ -324,8 +399,9 @@ def command_line(checks, setting):
     plan_id, _, told = output.partition("  ")
     checks.told("uss-plan plan", (0, "Completed, OkToFly\n"), (status, told))
     status, output = uss_plan(setting, "bravo", "plan", "--polygon", str(field), *flight)
-    checks.told("uss-plan blocked", (1, True),
-                (status, "Rejected, NotPlanned: conflict (priority 30 at 47.3" in output))
+    checks.told(
+        "uss-plan blocked", (1, True), (status, "Rejected, NotPlanned: conflict (priority 30 at 47.3" in output)
+    )
     status, output = uss_plan(setting, "carol", "list")
     checks.told("uss-plan list", (0, ["OkToFly"]), (status, [line.split()[1] for line in output.splitlines()[1:]]))
     status, output = uss_plan(setting, "carol", "show", plan_id)
@@ -337,7 +413,9 @@ def command_line(checks, setting):
     minidom.parse(str(picture))
     states = {one["properties"]["state"] for one in json.loads(cells.read_text())["features"]}
     checks.told("uss-plan why, as GeoJSON", {"blocked", "first blocked point"}, states)
-    checks.told("uss-plan close", (0, f"{plan_id}  Completed, Closed\n"), uss_plan(setting, "carol", "close", plan_id))
+    checks.told(
+        "uss-plan close", (0, f"{plan_id}  Completed, Closed\n"), uss_plan(setting, "carol", "close", plan_id)
+    )
     checks.told("uss-plan why, free", 0, uss_plan(setting, "bravo", "why", str(field), *flight)[0])
     checks.told("uss-plan, no such plan", 4, uss_plan(setting, "carol", "show", new_id())[0])
     checks.told("uss-plan, no such file", 3, uss_plan(setting, "carol", "plan", "--polygon", "none", *flight)[0])
@@ -346,12 +424,20 @@ def command_line(checks, setting):
 
 def uss_plan(setting, name, *words):
     """The exit status and the output of a line."""
-    ran = subprocess.run([sys.executable, "-m", "uss_desk_client", *words], capture_output=True, text=True, timeout=120,
-                         check=False, cwd=setting.folder, env={**os.environ, **environment(setting, name)})
+    ran = subprocess.run(
+        [sys.executable, "-m", "uss_desk_client", *words],
+        capture_output=True,
+        text=True,
+        timeout=120,
+        check=False,
+        cwd=setting.folder,
+        env={**os.environ, **environment(setting, name)},
+    )
     return ran.returncode, ran.stdout
 
 
 # ---- the bridge
+
 
 def through_bridge(checks, setting):
     """The messages of clients/interuss, one after the other, each with its answer. Another operator's flight is in the
@@ -359,8 +445,11 @@ def through_bridge(checks, setting):
     spot = area_of(Circle((8.556, 47.379), 300), (80, 150), at(12, 30), at(14))
     checks.told("in the bridge's way", "Completed", setting.desk("bravo").plan(new_id(), spot, 30).result)
     url = setting.start_bridge("carol")
-    checks.told("nothing else of the bridge's operator", 0, len([
-        plan for plan in setting.desk("carol").plans() if plan.status != "Closed"]))
+    checks.told(
+        "nothing else of the bridge's operator",
+        0,
+        len([plan for plan in setting.desk("carol").plans() if plan.status != "Closed"]),
+    )
     for path in sorted(MESSAGES.glob("*.json")):
         text = path.read_text(encoding="utf-8").replace("2026-06-01", f"{at(0):%Y-%m-%d}")
         message = json.loads(text.replace("2026-06-02", f"{at(0, day=1):%Y-%m-%d}"))
@@ -372,8 +461,11 @@ def through_bridge(checks, setting):
         got.pop("message", None)
         got.get("outcome", {}).pop("timestamp", None)
         checks.told(f"{path.name}", (answer["status"], answer["body"]), (status, got))
-        checks.told(f"{path.name}: notes", answer.get("notes_begin", ""), notes[:len(answer.get("notes_begin", ""))]
-                    if "notes_begin" in answer else notes)
+        checks.told(
+            f"{path.name}: notes",
+            answer.get("notes_begin", ""),
+            notes[: len(answer.get("notes_begin", ""))] if "notes_begin" in answer else notes,
+        )
 
 
 # ---- kills
@@ -425,8 +517,11 @@ def killed(checks, setting):
             plan_id = f"00000000-0000-4000-8000-{number:012d}"
             wanted[plan_id] = life_of(alfa, plan_id, number, results, killer)
     checks.told("while the desk is killed", {"Completed"}, {answer.result for answer in results})
-    checks.told("what was answered is there, once", wanted,
-                {plan.plan_id: (plan.status, plan.priority) for plan in alfa.plans()})
+    checks.told(
+        "what was answered is there, once",
+        wanted,
+        {plan.plan_id: (plan.status, plan.priority) for plan in alfa.plans()},
+    )
     checks.holds("the desk was killed", setting.starts - starts >= 3)
     lost = sum(answer.was_lost for answer in results)
     print(f"kills: {setting.starts - starts} starts, {lost} of {len(results)} answers were lost at first")
@@ -453,5 +548,11 @@ def second(moment):
     return int(moment.timestamp())
 
 
-PARTS = {"client": through_client, "page": page, "command": command_line, "proxy": proxy, "bridge": through_bridge,
-         "kills": killed}
+PARTS = {
+    "client": through_client,
+    "page": page,
+    "command": command_line,
+    "proxy": proxy,
+    "bridge": through_bridge,
+    "kills": killed,
+}

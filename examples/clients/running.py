@@ -118,8 +118,15 @@ class Setting:
         """Starts the desk, and again each time that it ends."""
         with open(self.folder / "output", "w", encoding="utf-8") as output:
             while not self._is_ending:
-                words = ["serve", "--db", str(self.folder / "desk.db"), "--port", str(self.port),
-                         "--requests", "1000000"]
+                words = [
+                    "serve",
+                    "--db",
+                    str(self.folder / "desk.db"),
+                    "--port",
+                    str(self.port),
+                    "--requests",
+                    "1000000",
+                ]
                 self._desk = subprocess.Popen([DESK, *words], stdout=output, stderr=subprocess.DEVNULL)
                 self.starts += 1
                 self._desk.wait()
@@ -161,11 +168,28 @@ class Setting:
 
     def start_bridge(self, name):
         """The bridge for an operator; its URL."""
-        words = [sys.executable, "-m", "interuss_bridge", "--desk", self.url, "--user", name, "--port",
-                 str(self.bridge_port)]
+        words = [
+            sys.executable,
+            "-m",
+            "interuss_bridge",
+            "--desk",
+            self.url,
+            "--user",
+            name,
+            "--port",
+            str(self.bridge_port),
+        ]
         paths = os.pathsep.join(str(TOP / "clients" / part) for part in ("python", "interuss_bridge"))
-        self._bridge = subprocess.Popen(words, stdout=subprocess.DEVNULL, env={
-            **os.environ, "PYTHONPATH": paths, "USS_DESK_PASSWORD": self.operators[name], "PYTHONDONTWRITEBYTECODE": "1"})
+        self._bridge = subprocess.Popen(
+            words,
+            stdout=subprocess.DEVNULL,
+            env={
+                **os.environ,
+                "PYTHONPATH": paths,
+                "USS_DESK_PASSWORD": self.operators[name],
+                "PYTHONDONTWRITEBYTECODE": "1",
+            },
+        )
         until("the bridge", lambda: is_listening(self.bridge_port))
         return f"http://127.0.0.1:{self.bridge_port}"
 

@@ -49,7 +49,9 @@ def wrong_copy(ran, left, plans):
     names = sorted(file.name for file in left.iterdir())
     if ran.status == 0:
         said = ran.output == f"copied {len(OPERATORS)} operators, {plans} plans\n".encode() and not ran.errors
-        return None if said and names == ["copy.db", *SOURCES] else f"status 0, {ran.output!r}, {ran.errors!r}, {names}"
+        return (
+            None if said and names == ["copy.db", *SOURCES] else f"status 0, {ran.output!r}, {ran.errors!r}, {names}"
+        )
     if (ran.status, ran.output) != (4, b"") or not ran.errors.endswith("uss_desk: store\n"):
         return f"status {ran.status}: {ran.output!r}, {ran.errors!r}"
     return None if names == list(SOURCES) else f"what is left is {names}"
@@ -93,7 +95,8 @@ def copies(processors):
         part.add("the log of the file", None if log > 4096 else f"it has {log} bytes")
         ended = set()
         for room, (ran, complaint) in zip(
-                ROOM, side_by_side(lambda room: copy_in(apart, source, room, content), ROOM, processors)):
+            ROOM, side_by_side(lambda room: copy_in(apart, source, room, content), ROOM, processors)
+        ):
             part.count("sizes")
             part.count("failed" if ran.status else "whole")
             ended.add(ran.status)

@@ -50,7 +50,9 @@ def wrong_in_place(ran, allowed, is_enrolled):
         return None
     if not is_enrolled and ran.status == 4 and ran.errors == "uss_desk: store\n":
         return None
-    if ran.output in allowed and ran.status == 4 and ran.errors == "uss_desk: store\n":  # the log can't be copied there
+    if (
+        ran.output in allowed and ran.status == 4 and ran.errors == "uss_desk: store\n"
+    ):  # the log can't be copied there
         return None
     return f"read in place: status {ran.status}, {ran.errors!r}, {ran.output[-200:]!r}"
 

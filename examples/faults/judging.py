@@ -20,7 +20,7 @@ def told(output, answers):
     for count, right in enumerate(answers):
         if not output.startswith(right):
             return count, output
-        output = output[len(right):]
+        output = output[len(right) :]
     return len(answers), output
 
 

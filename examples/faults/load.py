@@ -4,7 +4,20 @@ Each plan has a layer of altitudes of its own, so none is ever blocked, and a cl
 plans that are in them.
 """
 from faults.scenario import (
-    CELL, NOON, ONE, READING, answer, area_shown, clear, cleared, done, listed, put, request, shown, volume,
+    CELL,
+    NOON,
+    ONE,
+    READING,
+    answer,
+    area_shown,
+    clear,
+    cleared,
+    done,
+    listed,
+    put,
+    request,
+    shown,
+    volume,
 )
 
 OPERATORS = ("alfa", "bravo")

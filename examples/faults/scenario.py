@@ -58,9 +58,7 @@ def cleared(count):
 
 def point(altitude, second, priority):
     """A member `conflict` at the first leaf of the curve."""
-    return (
-        f'"conflict":{{"altitude":{altitude},"cell":"0000000000000001","priority":{priority},"second":{second}}},'
-    )
+    return f'"conflict":{{"altitude":{altitude},"cell":"0000000000000001","priority":{priority},"second":{second}}},'
 
 
 def shown(plan, priority, area, conflict="", state="Planned"):
@@ -97,7 +95,8 @@ OVER_CLOSED = shown(FIRST, 20, area_shown(*BRAVOS_FACE), state="Closed")
 
 REFUSED = answer(
     200,
-    "{" + point(500, HALF_PAST, 10)
+    "{"
+    + point(500, HALF_PAST, 10)
     + '"flight_plan_status":"NotPlanned","notes":"conflict","planning_result":"Rejected"}',
 )
 UNKNOWN = answer(403, '{"error":"unknown_operator"}')

@@ -1,9 +1,7 @@
 """Damage in a closed file between two lines. It is refused, or has the same content; pages of an older state, each of
 them whole, may show another one, and so may a file without sums."""
 from lies.changes import make_file, make_without_sums
-from lies.damage import (
-    PAGE, SECTOR, bit, burst, cut, damaged, older_page, older_pages, pair_of_bits, swapped, zeroed,
-)
+from lies.damage import PAGE, SECTOR, bit, burst, cut, damaged, older_page, older_pages, pair_of_bits, swapped, zeroed
 from lies.desk import Complaint, opened
 from lies.flights import read_all
 

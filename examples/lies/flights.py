@@ -90,13 +90,20 @@ def shown(world, operator, number):
     flight = world.flights[operator, number]
     lower, upper = LAYERS[operator % 2]
     area = {
-        "altitude_lower": lower, "altitude_upper": upper, "cells": tokens(operator, number, flight.cells),
-        "second_end": END, "second_start": START,
+        "altitude_lower": lower,
+        "altitude_upper": upper,
+        "cells": tokens(operator, number, flight.cells),
+        "second_end": END,
+        "second_start": START,
     }
     conflict = conflict_of(world, operator, number)
     return {
-        "area": [area], **({"conflict": conflict} if conflict else {}), "flight_plan_id": id_of(number),
-        "flight_plan_status": STATUS[flight.usage], "priority": flight.priority, "uas_state": "Nominal",
+        "area": [area],
+        **({"conflict": conflict} if conflict else {}),
+        "flight_plan_id": id_of(number),
+        "flight_plan_status": STATUS[flight.usage],
+        "priority": flight.priority,
+        "uas_state": "Nominal",
         "usage_state": flight.usage,
     }
 

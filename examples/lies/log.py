@@ -103,8 +103,10 @@ def lengths(counts, room):
     least, most = (int(number) for number in HELD.groups())
     for kind in dict.fromkeys(kind for kind, _, _ in made):
         held = [count for one, count in whole if one == kind]
-        counts.expect(f"{kind} in a log: {held}, and README says {least} to {most}",
-                      held and 0.9 * least <= min(held) and max(held) <= 1.1 * most)
+        counts.expect(
+            f"{kind} in a log: {held}, and README says {least} to {most}",
+            held and 0.9 * least <= min(held) and max(held) <= 1.1 * most,
+        )
         print(f"lies: a log holds {min(held, default=0)} to {max(held, default=0)} {kind}", flush=True)
 
 

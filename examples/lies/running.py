@@ -130,4 +130,6 @@ def running(counts, room, times):
 
         counts.try_all(f"5 % of FILE's {len(made.data) // PAGE} pages under a running desk, {name}", trial, 4 * times)
     small = make_file(room / "small.db", 4)
-    counts.try_all("FILE-wal under a running desk, a bit", lambda *words: in_log(words[0], small, words[1]), 20 * times)
+    counts.try_all(
+        "FILE-wal under a running desk, a bit", lambda *words: in_log(words[0], small, words[1]), 20 * times
+    )

@@ -26,7 +26,9 @@ def build(checks, program, folder):
     """Builds both packages."""
     (folder / "first").mkdir()
     told, first = built(program, folder / "first")
-    checks.told("the packages", ["uss-desk-client_1.0.0_all.deb", "uss-desk_1.0.0_amd64.deb"], [it.name for it in first])
+    checks.told(
+        "the packages", ["uss-desk-client_1.0.0_all.deb", "uss-desk_1.0.0_amd64.deb"], [it.name for it in first]
+    )
     for path in first:
         checks.has(f"the sum of {path.name}", f"{sums([path])[path.name]}  {path}\n", told)
     return {path.name.split("_")[0]: path for path in first}
@@ -51,8 +53,11 @@ def lint(checks, debs):
 def sources(checks, debs, program, folder):
     """What is shipped is what examples/ has, but for the paths that build_deb names; the program is the one given."""
     desk = unpacked(debs["uss-desk"], folder / "desk")
-    checks.told("the program's bytes", hashlib.sha256(program.read_bytes()).hexdigest(),
-                hashlib.sha256((desk / "usr/bin/uss_desk").read_bytes()).hexdigest())
+    checks.told(
+        "the program's bytes",
+        hashlib.sha256(program.read_bytes()).hexdigest(),
+        hashlib.sha256((desk / "usr/bin/uss_desk").read_bytes()).hexdigest(),
+    )
     for name in ("uss_desk.service", "uss_desk@.service"):
         ours = settings((TOP / "examples" / name).read_text().replace("/usr/local/bin", "/usr/bin"))
         checks.told(f"the settings of {name}", ours, settings((desk / "lib/systemd/system" / name).read_text()))
@@ -81,8 +86,9 @@ def repacked(deb, folder, version, change=lambda folder: None):
     control.write_text(re.sub(r"(?m)^Version: .*", f"Version: {version}", control.read_text()))
     change(folder)
     path = pathlib.Path(f"{folder}_{version}.deb")
-    subprocess.run(["dpkg-deb", "--root-owner-group", "-Zgzip", "--build", folder, path], stdout=subprocess.DEVNULL,
-                   check=True)
+    subprocess.run(
+        ["dpkg-deb", "--root-owner-group", "-Zgzip", "--build", folder, path], stdout=subprocess.DEVNULL, check=True
+    )
     return path
 
 

@@ -34,6 +34,14 @@ class Checks:
 
 def run(words, given="", **options):
     """What a command prints, on both outputs; behind it how it ended if it failed."""
-    ran = subprocess.run([str(word) for word in words], input=given, stdout=subprocess.PIPE, stderr=subprocess.STDOUT,
-                         text=True, timeout=PATIENCE, check=False, **options)
+    ran = subprocess.run(
+        [str(word) for word in words],
+        input=given,
+        stdout=subprocess.PIPE,
+        stderr=subprocess.STDOUT,
+        text=True,
+        timeout=PATIENCE,
+        check=False,
+        **options,
+    )
     return f"{ran.stdout}status {ran.returncode}\n" if ran.returncode else ran.stdout

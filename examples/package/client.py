@@ -15,12 +15,16 @@ def run_all(checks, machine, deb):
     commands = sorted(path.name for path in (machine.folder / "usr/bin").glob("uss-*"))
     for command in commands:
         checks.has(f"{command} --help", "usage: ", machine.sh(f"{command} --help"))
-    machine.sh("uss-desk-mock --port 8095 alfa=100 >/run/mock.log 2>&1 & for i in $(seq 50); do "
-            "grep -q listening /run/mock.log && break; sleep 0.1; done")
+    machine.sh(
+        "uss-desk-mock --port 8095 alfa=100 >/run/mock.log 2>&1 & for i in $(seq 50); do "
+        "grep -q listening /run/mock.log && break; sleep 0.1; done"
+    )
     (machine.folder / "root/field.geojson").write_text(FIELD)
     day = (datetime.now(timezone.utc) + timedelta(days=1)).date().isoformat()
-    told = machine.sh(f"uss-plan plan --polygon field.geojson --altitude 60 120 --from {day}T12:00:00Z --to {day}T13:00:00Z "
-                   f"{DESK}")
+    told = machine.sh(
+        f"uss-plan plan --polygon field.geojson --altitude 60 120 --from {day}T12:00:00Z --to {day}T13:00:00Z "
+        f"{DESK}"
+    )
     checks.told("a polygon is planned at the mock desk", (False, True), ("status" in told, "Planned" in told))
     checks.has("and listed", "Planned", machine.sh(f"uss-plan list {DESK}"))
     told = machine.sh("apt-get purge -y uss-desk-client")

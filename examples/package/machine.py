@@ -24,8 +24,21 @@ PATH = "/usr/local/sbin:/usr/local/bin:/usr/sbin:/usr/bin:/sbin:/bin"
 ROOM = 2_000_000_000
 # Seconds that a machine may take to boot.
 BOOTED = 60
-PASSED_OVER = {"proc", "sys", "dev", "run", "tmp", "root", "var/lib/dpkg", "var/lib/apt", "var/lib/systemd", "var/cache",
-               "var/log"}
+PASSED_OVER = {
+    "proc",
+    "sys",
+    "dev",
+    "run",
+    "tmp",
+    "root",
+    "var/lib/dpkg",
+    "var/lib/apt",
+    "var/lib/systemd",
+    "var/cache",
+    "var/log",
+}
+
+
 def quick_folder():
     """A folder in memory, if there is one with room that runs programs; else none, which is that of TMPDIR."""
     with contextlib.suppress(OSError):
@@ -48,12 +61,23 @@ class Making:
         KEPT.mkdir(parents=True, exist_ok=True)
         for old in KEPT.glob("bookworm-*.tar"):
             old.unlink()
-        words = ["mmdebstrap", "--quiet", "--variant=apt", "--components=main", "--format=tar",
-                 f"--include={','.join(packages)}", *(f"--dpkgopt=path-exclude={glob}" for glob in LEFT_OUT),
-                 '--aptopt=Acquire::Languages "none"', "bookworm", str(self.part), MIRROR]
+        words = [
+            "mmdebstrap",
+            "--quiet",
+            "--variant=apt",
+            "--components=main",
+            "--format=tar",
+            f"--include={','.join(packages)}",
+            *(f"--dpkgopt=path-exclude={glob}" for glob in LEFT_OUT),
+            '--aptopt=Acquire::Languages "none"',
+            "bookworm",
+            str(self.part),
+            MIRROR,
+        ]
         place = {"TMPDIR": quick_folder()} if quick_folder() else {}
-        self.made = subprocess.Popen(words, stdout=subprocess.PIPE, stderr=subprocess.STDOUT, text=True,
-                                     env={**os.environ, **place})
+        self.made = subprocess.Popen(
+            words, stdout=subprocess.PIPE, stderr=subprocess.STDOUT, text=True, env={**os.environ, **place}
+        )
 
     def archive(self):
         """The archive, once it is made."""
@@ -77,8 +101,16 @@ class Machine:
         subprocess.run(["tar", "--extract", "--numeric-owner", f"--file={archive}"], cwd=self.folder, check=True)
         # Where no systemd runs, there is none that could be asked for a unit.
         alone = [] if pathlib.Path("/run/systemd/system").is_dir() else ["--keep-unit"]
-        words = ["systemd-nspawn", "--quiet", "--register=no", *alone, "--private-network", "--console=pipe",
-                 f"--directory={self.folder}", "--boot"]
+        words = [
+            "systemd-nspawn",
+            "--quiet",
+            "--register=no",
+            *alone,
+            "--private-network",
+            "--console=pipe",
+            f"--directory={self.folder}",
+            "--boot",
+        ]
         self.log = open(f"{self._room.name}/log", "w+", encoding="utf-8", errors="replace")
         self.nspawn = subprocess.Popen(words, stdin=subprocess.DEVNULL, stdout=self.log, stderr=subprocess.STDOUT)
         self.first = self._first_process()
@@ -110,14 +142,40 @@ class Machine:
 
     def sh(self, line):
         """What a line of a shell prints there, as root in /root."""
-        words = ["nsenter", f"--target={self.first}", "--mount", "--uts", "--ipc", "--net", "--pid", "env", "-i",
-                 f"PATH={PATH}", "HOME=/root", "LC_ALL=C.UTF-8", "DEBIAN_FRONTEND=noninteractive", "sh", "-c"]
+        words = [
+            "nsenter",
+            f"--target={self.first}",
+            "--mount",
+            "--uts",
+            "--ipc",
+            "--net",
+            "--pid",
+            "env",
+            "-i",
+            f"PATH={PATH}",
+            "HOME=/root",
+            "LC_ALL=C.UTF-8",
+            "DEBIAN_FRONTEND=noninteractive",
+            "sh",
+            "-c",
+        ]
         return run([*words, f"cd /root && {line}"])
 
     def curl(self, *words):
         """What this machine's curl prints in the network of that one."""
-        return run(["nsenter", f"--target={self.first}", "--net", "curl", "--silent", "--show-error", "--max-time", "30",
-                    *words])
+        return run(
+            [
+                "nsenter",
+                f"--target={self.first}",
+                "--net",
+                "curl",
+                "--silent",
+                "--show-error",
+                "--max-time",
+                "30",
+                *words,
+            ]
+        )
 
     def tree(self):
         """Each path, but for what dpkg, apt, systemd and the kernel keep, and the keeper's own folder."""

@@ -31,19 +31,26 @@ def pages(checks, folder):
     """Each command has a page that man reads without a warning, and uss_desk's has each word with its status."""
     for command in sorted((folder / "usr/bin").iterdir()):
         page = folder / f"usr/share/man/man1/{command.name}.1.gz"
-        told = run(["man", "--warnings", "--local-file", "--encoding=UTF-8", "-Tutf8", "-Z", page]) if page.is_file() else ""
+        told = (
+            run(["man", "--warnings", "--local-file", "--encoding=UTF-8", "-Tutf8", "-Z", page])
+            if page.is_file()
+            else ""
+        )
         warnings = [line for line in told.splitlines() if "warning" in line or "status" in line]
         checks.told(f"the page of {command.name}", (True, []), (page.is_file(), warnings))
 
 
 def desk_page(checks, folder):
     """uss_desk(1) as it is read."""
-    text = run(["man", "--local-file", folder / "usr/share/man/man1/uss_desk.1.gz"],
-               env={"MANWIDTH": "200", "LC_ALL": "C.UTF-8", "PATH": "/usr/bin:/bin", "MANPAGER": "cat"})
+    text = run(
+        ["man", "--local-file", folder / "usr/share/man/man1/uss_desk.1.gz"],
+        env={"MANWIDTH": "200", "LC_ALL": "C.UTF-8", "PATH": "/usr/bin:/bin", "MANPAGER": "cat"},
+    )
     part = text.partition("DIAGNOSTICS")[2].partition("FILES")[0]
     rows = re.findall(r"^ {7}([a-z_, ]+) \((\d)\)$", part, re.MULTILINE)
-    found = {(word, int(status)) for words, status in rows if not words.startswith("a text")
-             for word in words.split(", ")}
+    found = {
+        (word, int(status)) for words, status in rows if not words.startswith("a text") for word in words.split(", ")
+    }
     checks.told("words and statuses of the page", words_of_proofs(), found)
     checks.told("words and statuses of KEEPING", words_of_proofs(), words_and_statuses(TOP))
 
@@ -52,11 +59,15 @@ def words_of_proofs():
     """Each word of a failure with its status, as the proofs have them."""
     text = EXITS.read_text()
     statuses = dict(re.findall(r"^failure_status \(?failure\.(\w+)(?: fault\))? = (\d)", text, re.MULTILINE))
-    found = {(word, int(statuses[name]))
-             for name, word in re.findall(r'^failure_word failure\.(\w+) = codes "(\w+)"', text, re.MULTILINE)}
+    found = {
+        (word, int(statuses[name]))
+        for name, word in re.findall(r'^failure_word failure\.(\w+) = codes "(\w+)"', text, re.MULTILINE)
+    }
     for kind, name in (("token", "Token"), ("rect", "Rect")):
-        found |= {(word, int(statuses[name]))
-                  for word in re.findall(rf'^{kind}_word {kind}\.\w+ = codes "(\w+)"', text, re.MULTILINE)}
+        found |= {
+            (word, int(statuses[name]))
+            for word in re.findall(rf'^{kind}_word {kind}\.\w+ = codes "(\w+)"', text, re.MULTILINE)
+        }
     return found
 
 
@@ -69,9 +80,15 @@ def completions(checks, program, folder):
     """Completions and RULES' table have the lines and options that the program's own help tells."""
     lines = [line for line, _, _ in lines_of_the_program(TOP)]
     commands = run([program, "--help"]).partition("Commands:")[2].partition("Options:")[0]
-    checks.told("the lines of RULES", sorted(lines), sorted(set(re.findall(r"^  ([a-z]+)", commands, re.MULTILINE)) - {"help"}))
-    shells = {"bash": (["bash", "--norc", "-c"], BASH, folder / "usr/share/bash-completion/completions/uss_desk"),
-              "zsh": (["zsh", "-f", "-c"], ZSH, folder / "usr/share/zsh/vendor-completions/_uss_desk")}
+    checks.told(
+        "the lines of RULES",
+        sorted(lines),
+        sorted(set(re.findall(r"^  ([a-z]+)", commands, re.MULTILINE)) - {"help"}),
+    )
+    shells = {
+        "bash": (["bash", "--norc", "-c"], BASH, folder / "usr/share/bash-completion/completions/uss_desk"),
+        "zsh": (["zsh", "-f", "-c"], ZSH, folder / "usr/share/zsh/vendor-completions/_uss_desk"),
+    }
     for shell, (words, script, file) in shells.items():
         offered = run([*words, script.format(file=file, words="''")]).split()
         checks.told(f"{shell}: lines", sorted([*lines, "--help", "--version"]), sorted(offered))
@@ -79,4 +96,6 @@ def completions(checks, program, folder):
             offered = run([*words, script.format(file=file, words=f"{line} --")]).split()
             checks.told(f"{shell}: {line}", told_by_program(program, line), set(offered))
     for line, words, _ in lines_of_the_program(TOP):
-        checks.told(f"RULES: {line}", told_by_program(program, line) - {"--help"}, {name for name, _ in options_of(words)})
+        checks.told(
+            f"RULES: {line}", told_by_program(program, line) - {"--help"}, {name for name, _ in options_of(words)}
+        )

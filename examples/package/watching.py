@@ -76,19 +76,25 @@ uss_desk_most_spans{operator="bravo"} 2
 
 
 def put(operator, plan, start, cells):
-    body = ('{"execution_style":"IfAllowed","flight_plan":{"astm_f3548_21":{"priority":10},"basic_information":{"area":[{'
-            f'"time_start":{{"format":"RFC3339","value":"2026-06-01T{start}:00Z"}},'
-            '"time_end":{"format":"RFC3339","value":"2026-06-01T13:00:00Z"},'
-            f'"volume":{{"altitude_lower":0,"altitude_upper":1000,"cells":{cells}}}}}],'
-            '"uas_state":"Nominal","usage_state":"Planned"}}}')
-    return (f"PUT /flight_plans/11111111-1111-4111-8111-11111111111{plan} HTTP/1.1\r\nx-operator: {operator}\r\n"
-            f"content-length: {len(body)}\r\n\r\n{body}")
+    body = (
+        '{"execution_style":"IfAllowed","flight_plan":{"astm_f3548_21":{"priority":10},"basic_information":{"area":[{'
+        f'"time_start":{{"format":"RFC3339","value":"2026-06-01T{start}:00Z"}},'
+        '"time_end":{"format":"RFC3339","value":"2026-06-01T13:00:00Z"},'
+        f'"volume":{{"altitude_lower":0,"altitude_upper":1000,"cells":{cells}}}}}],'
+        '"uas_state":"Nominal","usage_state":"Planned"}}}'
+    )
+    return (
+        f"PUT /flight_plans/11111111-1111-4111-8111-11111111111{plan} HTTP/1.1\r\nx-operator: {operator}\r\n"
+        f"content-length: {len(body)}\r\n\r\n{body}"
+    )
 
 
 def copy(checks, program, folder):
     """A copy of a desk, and one that is no desk's."""
     file = folder / "desk.db"
-    given = put("alfa", 1, "12:00", '["04"]') + put("bravo", 1, "12:40", '["34","9"]') + put("alfa", 2, "12:50", '["b"]')
+    given = (
+        put("alfa", 1, "12:00", '["04"]') + put("bravo", 1, "12:40", '["34","9"]') + put("alfa", 2, "12:50", '["b"]')
+    )
     given += "DELETE /flight_plans/11111111-1111-4111-8111-111111111112 HTTP/1.1\r\nx-operator: alfa\r\n\r\n"
     run([program, "play", "--db", file, "--at", "1780315000", "alfa=100", "bravo=100"], given=given)
     words = [EXAMPLES / "desk_metrics", "--copy", file, "--file", file, "--program", program, "--at", "1780317000"]
@@ -99,7 +105,9 @@ def copy(checks, program, folder):
     promtool(checks, "a copy", told)
     file.write_bytes(b"no database" * 1000)
     told = run(words)
-    checks.told("a copy that is no desk's", (True, False), ("uss_desk_copy_intact 0\n" in told, "uss_desk_plans" in told))
+    checks.told(
+        "a copy that is no desk's", (True, False), ("uss_desk_copy_intact 0\n" in told, "uss_desk_plans" in told)
+    )
 
 
 def run_all(checks, program, folder):

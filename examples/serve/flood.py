@@ -124,7 +124,8 @@ def flooded(port, queue_id, desk):
     yield "alfa's own wait in the queue", "for five others and more", "for five others and more" if deep else "less"
     yield "beyond its connections alfa is refused", "200 429", statuses(a for a in flood if a.status != 502)
     yield "in whose name alfa asked", "200 404", " ".join(
-        str(ask(port, name, "GET", LARGEST[0], b"").status) for name in PASSWORDS)
+        str(ask(port, name, "GET", LARGEST[0], b"").status) for name in PASSWORDS
+    )
 
 
 def at_the_queue(port, queue_port):
@@ -145,8 +146,7 @@ def hangs_up(bare, port):
     asked = [f"/flight_plans/{number}" for number in range(40)]
     with bare, ThreadPoolExecutor(AT_ONCE) as pool:
         answers = list(pool.map(lambda path: ask(port, "alfa", "PUT", path, LARGEST[1]), asked))
-    yield "requests that a desk gets that hangs up", f"{len(asked)} of {len(asked)}", \
-        f"{len(bare.paths)} of {len(set(bare.paths))}"
+    yield "requests that a desk gets that hangs up", f"{len(asked)} of {len(asked)}", f"{len(bare.paths)} of {len(set(bare.paths))}"
     yield "what is told then", str({(502, "2", WORD)}), str({(a.status, a.after, a.body) for a in answers})
 
 
@@ -155,7 +155,9 @@ def hung_up(bare, port):
     with bare, ThreadPoolExecutor(CONNECTIONS) as pool:
         list(pool.map(lambda _: ask(port, "alfa", "PUT", *LARGEST, hang_up=0.05), range(AT_ONCE + 4)))
         more = list(pool.map(lambda _: ask(port, "alfa", "GET", "/status", b""), range(4)))
-        yield "alfa after requests that it hung up on", "refused", "refused" if "429" in statuses(more) else "asks more"
+        yield "alfa after requests that it hung up on", "refused", "refused" if "429" in statuses(
+            more
+        ) else "asks more"
         answers = [ask(port, "bravo", "GET", "/status", b"")]
         yield "bravo beside them", "200 not too long", f"{statuses(answers)} {within(1, *waits(answers))}"
         time.sleep(AT_ONCE * 0.25)

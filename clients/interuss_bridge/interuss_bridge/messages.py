@@ -46,13 +46,17 @@ class Upsert(NamedTuple):
             "execution_style": self.style,
             "flight_plan": {
                 "astm_f3548_21": {"priority": self.priority},
-                "basic_information": {"area": [volume.to_json() for volume in self.area],
-                                      "uas_state": self.aircraft, "usage_state": self.usage},
+                "basic_information": {
+                    "area": [volume.to_json() for volume in self.area],
+                    "uas_state": self.aircraft,
+                    "usage_state": self.usage,
+                },
             },
         }
 
 
 # ---- reading
+
 
 def no_constant(word: str) -> Any:
     raise ValueError(f"{word} is no number")
@@ -118,8 +122,10 @@ def upsert_of(message: Mapping[str, Any]) -> Upsert:
     if aircraft == "NotSpecified":
         raise NotSupported(f"{path}.uas_state: the desk wants to know it, and NotSpecified tells nothing")
     if not 1 <= len(area) <= limits.MAX_VOLUMES:
-        raise NotSupported(f"{path}.area: {len(area)} volumes of 64 cells and a day are needed, and the desk takes "
-                           f"1 to {limits.MAX_VOLUMES}")
+        raise NotSupported(
+            f"{path}.area: {len(area)} volumes of 64 cells and a day are needed, and the desk takes "
+            f"1 to {limits.MAX_VOLUMES}"
+        )
     return Upsert(style, usage, aircraft, priority, area)
 
 
@@ -242,15 +248,18 @@ def outline_of(inner: Mapping[str, Any], path: str) -> Shape:
         circle = member(inner, "outline_circle", f"{path}.outline_circle")
         radius = member(circle, "radius", f"{path}.outline_circle.radius")
         word(radius, "units", f"{path}.outline_circle.radius.units", ("M",))
-        return Circle(place_of(circle.get("center"), f"{path}.outline_circle.center"),
-                      number(radius, "value", f"{path}.outline_circle.radius.value"))
+        return Circle(
+            place_of(circle.get("center"), f"{path}.outline_circle.center"),
+            number(radius, "value", f"{path}.outline_circle.radius.value"),
+        )
     if polygon is not None:
         polygon = member(inner, "outline_polygon", f"{path}.outline_polygon")
         vertices = polygon.get("vertices")
         if not isinstance(vertices, list) or len(vertices) < 3:
             raise Malformed(f"{path}.outline_polygon.vertices is no array of three places")
-        return Polygon([place_of(vertex, f"{path}.outline_polygon.vertices[{at}]")
-                        for at, vertex in enumerate(vertices)])
+        return Polygon(
+            [place_of(vertex, f"{path}.outline_polygon.vertices[{at}]") for at, vertex in enumerate(vertices)]
+        )
     raise NotSupported(f"{path}: the desk wants an outline")
 
 
@@ -263,10 +272,14 @@ def place_of(value: Any, path: str) -> Tuple[float, float]:
 
 # ---- answering
 
+
 def planning_response(result: str, status: str, notes: str, conflict: Optional[bool]) -> Dict[str, Any]:
     """An UpsertFlightPlanResponse or a DeleteFlightPlanResponse; `has_conflict` is there if it is told."""
-    response: Dict[str, Any] = {"planning_result": result, "flight_plan_status": status,
-                                "includes_advisories": NO_ADVISORIES}
+    response: Dict[str, Any] = {
+        "planning_result": result,
+        "flight_plan_status": status,
+        "includes_advisories": NO_ADVISORIES,
+    }
     if notes:
         response["notes"] = notes
     if conflict is not None:
@@ -280,5 +293,6 @@ def response_of(answer: Answer, tells_conflict: bool) -> Dict[str, Any]:
     if not answer.is_completed:
         where = f" ({answer.conflict})" if answer.conflict else ""
         notes = f"{answer.note}{where}: {answer.advice}"
-    return planning_response(answer.result, answer.status, notes,
-                             answer.note == "conflict" if tells_conflict else None)
+    return planning_response(
+        answer.result, answer.status, notes, answer.note == "conflict" if tells_conflict else None
+    )

@@ -29,12 +29,14 @@ class Bridge:
 
     def application(self) -> web.Application:
         application = web.Application(middlewares=[worded])
-        application.add_routes([
-            web.get("/status", self.status),
-            web.put("/flight_plans/{flight_plan_id}", self.upsert),
-            web.delete("/flight_plans/{flight_plan_id}", self.delete),
-            web.post("/clear_area_requests", self.clear),
-        ])
+        application.add_routes(
+            [
+                web.get("/status", self.status),
+                web.put("/flight_plans/{flight_plan_id}", self.upsert),
+                web.delete("/flight_plans/{flight_plan_id}", self.delete),
+                web.post("/clear_area_requests", self.clear),
+            ]
+        )
         return application
 
     async def _ask(self, call: Callable[..., Result], *words: Any) -> Result:
@@ -123,5 +125,6 @@ async def worded(request: web.Request, handler: Handler) -> web.StreamResponse:
 
 
 def refusal(status: int, name: str, message: str) -> web.Response:
-    return web.Response(status=status, content_type="application/json",
-                        text=json.dumps({"error": name, "message": message}))
+    return web.Response(
+        status=status, content_type="application/json", text=json.dumps({"error": name, "message": message})
+    )

@@ -129,7 +129,10 @@ def full_history(scene: Scene) -> History:
     scene.ids = [f"{number:032x}" for number in (0, 1, 198, 199, 200, 201)]
     found += [heads.plain(scene) for _ in range(12)]
     found += [small_put(it, number, dice) for it in (other, name) for number in (0, 1, 204, 205)]
-    return History((Start(scene.moment, (), dice.choice([None, 199, 200]), ((name, 1000), (other, 1000)), tuple(found)),), dice.random() < 0.5)
+    return History(
+        (Start(scene.moment, (), dice.choice([None, 199, 200]), ((name, 1000), (other, 1000)), tuple(found)),),
+        dice.random() < 0.5,
+    )
 
 
 def small_put(name: str, number: int, dice: Random) -> bytes:

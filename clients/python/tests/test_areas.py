@@ -31,10 +31,16 @@ def test_130_cells_are_three_volumes():
     assert [len(volume.cells) for volume in area] == [64, 64, 2]
 
 
-@pytest.mark.parametrize("words", [
-    (["1"] * 2_049, 0, 10, NOON, NOON + 1), (["1"], 0, 10, NOON, NOON + 32 * 86_400 + 1), ([], 0, 10, NOON, NOON + 1),
-    (["1"], 10, 10, NOON, NOON + 1), (["1"], 0, 10, NOON, NOON),
-])
+@pytest.mark.parametrize(
+    "words",
+    [
+        (["1"] * 2_049, 0, 10, NOON, NOON + 1),
+        (["1"], 0, 10, NOON, NOON + 32 * 86_400 + 1),
+        ([], 0, 10, NOON, NOON + 1),
+        (["1"], 10, 10, NOON, NOON + 1),
+        (["1"], 0, 10, NOON, NOON),
+    ],
+)
 def test_areas_that_no_plan_has(words):
     with pytest.raises(AreaError):
         area_over(*words)
@@ -45,9 +51,15 @@ def test_a_volume_as_json_and_back():
     assert volume.to_json() == {
         "time_end": {"format": "RFC3339", "value": "2026-06-01T13:00:00Z"},
         "time_start": {"format": "RFC3339", "value": "2026-06-01T12:00:00Z"},
-        "volume": {"altitude_lower": -5, "altitude_upper": 1_000, "cells": ["04"]}}
-    shown = {"altitude_lower": -5, "altitude_upper": 1_000, "cells": ["04"], "second_start": NOON,
-             "second_end": NOON + 3_600}
+        "volume": {"altitude_lower": -5, "altitude_upper": 1_000, "cells": ["04"]},
+    }
+    shown = {
+        "altitude_lower": -5,
+        "altitude_upper": 1_000,
+        "cells": ["04"],
+        "second_start": NOON,
+        "second_end": NOON + 3_600,
+    }
     assert Volume.from_answer(shown) == volume
     assert time_text(volume.end) == "2026-06-01T13:00:00Z" and volume.lower_metres == -0.5
 

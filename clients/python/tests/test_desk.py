@@ -14,12 +14,35 @@ from uss_desk_client.desk import BadAnswer, Desk, NoAnswer, NoSuchPlan, Refused,
 ID = "11111111-1111-4111-8111-111111111111"
 AREA = [Volume(("04",), 0, 1_000, 1_780_315_200, 1_780_318_800)]
 DONE = (200, {"flight_plan_status": "Planned", "notes": "", "planning_result": "Completed"})
-SHOWN = (200, {"area": [{"altitude_lower": 0, "altitude_upper": 1000, "cells": ["04"], "second_end": 1780318800,
-                         "second_start": 1780315200}], "flight_plan_id": ID, "flight_plan_status": "Planned",
-               "priority": 10, "uas_state": "Nominal", "usage_state": "Planned"})
+SHOWN = (
+    200,
+    {
+        "area": [
+            {
+                "altitude_lower": 0,
+                "altitude_upper": 1000,
+                "cells": ["04"],
+                "second_end": 1780318800,
+                "second_start": 1780315200,
+            }
+        ],
+        "flight_plan_id": ID,
+        "flight_plan_status": "Planned",
+        "priority": 10,
+        "uas_state": "Nominal",
+        "usage_state": "Planned",
+    },
+)
 NO_PLAN = (404, {"error": "no_such_plan"})
-BLOCKED = (200, {"conflict": {"altitude": 500, "cell": "0000000000000001", "priority": 10, "second": 1780317000},
-                 "flight_plan_status": "NotPlanned", "notes": "conflict", "planning_result": "Rejected"})
+BLOCKED = (
+    200,
+    {
+        "conflict": {"altitude": 500, "cell": "0000000000000001", "priority": 10, "second": 1780317000},
+        "flight_plan_status": "NotPlanned",
+        "notes": "conflict",
+        "planning_result": "Rejected",
+    },
+)
 HANG_UP = None
 
 
@@ -136,7 +159,9 @@ def test_waiting_is_told_at_once_and_each_so_many_seconds(monkeypatch):
     monkeypatch.setattr(desk_module, "TELL_EACH", 0.2)
     monkeypatch.setattr(desk_module, "LONGEST_PAUSE", 0.5)
     lines, begun = [], time.monotonic()
-    _, desk = asks(*[(502, b"")] * 1_000, patience=0.9, tell=lambda line: lines.append((time.monotonic() - begun, line)))
+    _, desk = asks(
+        *[(502, b"")] * 1_000, patience=0.9, tell=lambda line: lines.append((time.monotonic() - begun, line))
+    )
     with pytest.raises(NoAnswer):
         desk.status()
     moments = [moment for moment, _ in lines]
@@ -208,7 +233,8 @@ def test_a_refusal_is_told_once():
     with pytest.raises(Refused) as refused:
         desk.plan(ID, [Volume(("x",), 0, 1, 0, 1)])
     assert str(refused.value) == (
-        "400 bad_volume: volume 0: volume.cells[0]: the token of an S2 cell, 1 to 16 hex digits")
+        "400 bad_volume: volume 0: volume.cells[0]: the token of an S2 cell, 1 to 16 hex digits"
+    )
     with pytest.raises(Refused) as refused:
         desk.plan(ID, AREA)
     assert str(refused.value) == "403 unknown_operator: the operator isn't enrolled: ask the keeper of the desk"
@@ -223,8 +249,10 @@ def test_a_closed_plan_is_not_changed():
 
 
 def test_a_change_in_use_stays_so_and_is_nominal():
-    server, desk = asks((200, {**SHOWN[1], "flight_plan_status": "OffNominal", "usage_state": "InUse",
-                               "uas_state": "OffNominal"}), DONE)
+    server, desk = asks(
+        (200, {**SHOWN[1], "flight_plan_status": "OffNominal", "usage_state": "InUse", "uas_state": "OffNominal"}),
+        DONE,
+    )
     desk.change(ID, priority=5)
     assert json.loads(server.asked[1][3]) == put_body(AREA, "InUse", "Nominal", 5, "IfAllowed")
 
@@ -254,13 +282,27 @@ def test_a_dry_run_without_an_answer_changed_nothing():
         desk.try_plan(AREA)
 
 
-@pytest.mark.parametrize("value", [[], {}, "x", {"status": 1, "flight_plans": [{}], "planning_result": "Completed"},
-                                   {"outcome": {"message": "none"}, "flight_plans": 5, "area": [{}]},
-                                   {"outcome": {"message": ""}}, {"outcome": 1}])
+@pytest.mark.parametrize(
+    "value",
+    [
+        [],
+        {},
+        "x",
+        {"status": 1, "flight_plans": [{}], "planning_result": "Completed"},
+        {"outcome": {"message": "none"}, "flight_plans": 5, "area": [{}]},
+        {"outcome": {"message": ""}},
+        {"outcome": 1},
+    ],
+)
 def test_answers_of_another_server(value):
     _, desk = asks(*[(200, value)] * 5)
-    for call in (lambda: desk.plan(ID, AREA), lambda: desk.close(ID), lambda: desk.show(ID), desk.plans,
-                 lambda: desk.clear(AREA)):
+    for call in (
+        lambda: desk.plan(ID, AREA),
+        lambda: desk.close(ID),
+        lambda: desk.show(ID),
+        desk.plans,
+        lambda: desk.clear(AREA),
+    ):
         with pytest.raises(BadAnswer):
             call()
 
@@ -277,8 +319,14 @@ def test_what_stands_is_told_from_what_does_not():
     stored = Plan.from_answer(SHOWN[1])
     body = put_body(AREA, "Planned", "Nominal", 10, "IfAllowed")
     assert is_as_put(stored, body)
-    assert is_as_put(stored, put_body([Volume(("0400",), 0, 1_000, 1_780_315_200, 1_780_318_800)], "Planned", "Nominal",
-                                      10, "IfAllowed"))
-    for other in (put_body(AREA, "InUse", "Nominal", 10, "IfAllowed"), put_body(AREA, "Planned", "Nominal", 0, ""),
-                  put_body(AREA * 2, "Planned", "Nominal", 10, ""), put_body(AREA, "Closed", "Nominal", 10, "")):
+    assert is_as_put(
+        stored,
+        put_body([Volume(("0400",), 0, 1_000, 1_780_315_200, 1_780_318_800)], "Planned", "Nominal", 10, "IfAllowed"),
+    )
+    for other in (
+        put_body(AREA, "InUse", "Nominal", 10, "IfAllowed"),
+        put_body(AREA, "Planned", "Nominal", 0, ""),
+        put_body(AREA * 2, "Planned", "Nominal", 10, ""),
+        put_body(AREA, "Closed", "Nominal", 10, ""),
+    ):
         assert not is_as_put(stored, other)

@@ -54,23 +54,37 @@ def volume(cells, lower=0, upper=10, start=0, end=10, rectangle=None):
     return Volume(tuple(cells), lower, upper, start, end, rectangle)
 
 
-@pytest.mark.parametrize("other, is_shared", [
-    (volume(["04"]), True), (volume(["1"]), True), (volume(["0000000000000001"]), True), (volume(["0c"]), False),
-    (volume(["04"], lower=10, upper=11), False), (volume(["04"], start=10, end=11), False),
-    (volume(["04"], lower=9, upper=11, start=9, end=11), True),
-    (volume([], rectangle=Rectangle(0, 0, 63, 0, 63, 24)), True),
-    (volume([], rectangle=Rectangle(0, LEAVES // 2, LEAVES // 2, 0, 0, 24)), False),
-    (volume([], rectangle=Rectangle(1, 0, 63, 0, 63, 24)), False)])
+@pytest.mark.parametrize(
+    "other, is_shared",
+    [
+        (volume(["04"]), True),
+        (volume(["1"]), True),
+        (volume(["0000000000000001"]), True),
+        (volume(["0c"]), False),
+        (volume(["04"], lower=10, upper=11), False),
+        (volume(["04"], start=10, end=11), False),
+        (volume(["04"], lower=9, upper=11, start=9, end=11), True),
+        (volume([], rectangle=Rectangle(0, 0, 63, 0, 63, 24)), True),
+        (volume([], rectangle=Rectangle(0, LEAVES // 2, LEAVES // 2, 0, 0, 24)), False),
+        (volume([], rectangle=Rectangle(1, 0, 63, 0, 63, 24)), False),
+    ],
+)
 def test_areas_that_share_a_point(other, is_shared):
     assert share_a_point([volume(["04"])], [volume(["3"]), other]) == is_shared
     assert share_a_point([other], [volume(["04"])]) == is_shared
 
 
-@pytest.mark.parametrize("shape, wanted", [
-    (FIELD, 1_394_200), (Polygon(FIELD.ring[::-1]), 1_394_200), (Circle((8, 60), 1_000), 3_176_600),
-    (Corridor([(8, 47), (8, 47.1)], 100), 11_119.5 * 100.56 + 7_900),
-    (Corridor([(8, 47), (8, 47.1), (8.2, 47.1)], 100), (11_119.5 + 15_138) * 100.56 + 7_900),
-    (Shapes([Circle((8, 60), 1_000), Circle((9, 60), 1_000)]), 6_353_200)])
+@pytest.mark.parametrize(
+    "shape, wanted",
+    [
+        (FIELD, 1_394_200),
+        (Polygon(FIELD.ring[::-1]), 1_394_200),
+        (Circle((8, 60), 1_000), 3_176_600),
+        (Corridor([(8, 47), (8, 47.1)], 100), 11_119.5 * 100.56 + 7_900),
+        (Corridor([(8, 47), (8, 47.1), (8.2, 47.1)], 100), (11_119.5 + 15_138) * 100.56 + 7_900),
+        (Shapes([Circle((8, 60), 1_000), Circle((9, 60), 1_000)]), 6_353_200),
+    ],
+)
 def test_sizes(shape, wanted):
     assert square_metres(shape) == pytest.approx(wanted, rel=0.003)
     taken = square_metres_of_cells(cells_of(shape, 2_048))
@@ -78,4 +92,4 @@ def test_sizes(shape, wanted):
 
 
 def test_the_size_of_a_face():
-    assert square_metres_of_cells(["1"]) == pytest.approx(4 * 3.141593 * 6_371_008.8 ** 2 / 6, rel=1e-5)
+    assert square_metres_of_cells(["1"]) == pytest.approx(4 * 3.141593 * 6_371_008.8**2 / 6, rel=1e-5)

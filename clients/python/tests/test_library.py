@@ -12,15 +12,32 @@ def no_library(monkeypatch):
     monkeypatch.setitem(sys.modules, "pywraps2", None)
 
 
-@pytest.mark.parametrize("words", [["list"], ["check", "none.json"], ["plan", "--polygon", "none", "--altitude", "0", "1",
-                                                                      "--from", "2026-06-01T12:00:00Z",
-                                                                      "--to", "2026-06-01T13:00:00Z"]])
+@pytest.mark.parametrize(
+    "words",
+    [
+        ["list"],
+        ["check", "none.json"],
+        [
+            "plan",
+            "--polygon",
+            "none",
+            "--altitude",
+            "0",
+            "1",
+            "--from",
+            "2026-06-01T12:00:00Z",
+            "--to",
+            "2026-06-01T13:00:00Z",
+        ],
+    ],
+)
 def test_one_line_names_the_package_and_the_interpreter(words, capsys):
     assert command.main([*words, "--url", "http://127.0.0.1:1", "--operator", "alfa"]) == 5
     output, errors = capsys.readouterr()
     assert output == "" and errors == (
         f"uss-plan: pywraps2 isn't there for {sys.executable}: apt-get install -y python3-pywraps2, and run it by "
-        "Debian's own /usr/bin/python3\n")
+        "Debian's own /usr/bin/python3\n"
+    )
 
 
 def test_a_program_is_told_the_same():

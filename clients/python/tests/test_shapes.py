@@ -10,8 +10,11 @@ from uss_desk_client.tokens import id_of, leaves_of
 
 SQUARE = [(8.0, 47.0), (8.01, 47.0), (8.01, 47.01), (8.0, 47.01)]
 HOLE = [(8.002, 47.002), (8.008, 47.002), (8.008, 47.008), (8.002, 47.008)]
-BELT = [(longitude, latitude) for latitude, longitudes in
-        ((-40, range(-170, 171, 20)), (40, range(170, -171, -20))) for longitude in longitudes]
+BELT = [
+    (longitude, latitude)
+    for latitude, longitudes in ((-40, range(-170, 171, 20)), (40, range(170, -171, -20)))
+    for longitude in longitudes
+]
 
 
 def has(cells, longitude, latitude):
@@ -32,7 +35,7 @@ def metres_apart(x, y, u, v):
     """The length of a short way over the WGS84 ellipsoid, by its radii of curvature at the middle latitude."""
     middle = math.radians((y + v) / 2)
     root = math.sqrt(1 - 0.00669437999014 * math.sin(middle) ** 2)
-    east, north = 6_378_137 / root, 6_378_137 * (1 - 0.00669437999014) / root ** 3
+    east, north = 6_378_137 / root, 6_378_137 * (1 - 0.00669437999014) / root**3
     return math.hypot(math.radians(u - x) * east * math.cos(middle), math.radians(v - y) * north)
 
 
@@ -41,8 +44,13 @@ def some_ring(some):
     middle = (some.uniform(-179, 179), some.uniform(-70, 70))
     size, count = 10 ** some.uniform(-4, 0), some.randrange(3, 12)
     reaches = [size * some.uniform(0.3, 1) for _ in range(count)]
-    return [(middle[0] + reach * math.cos(2 * math.pi * at / count),
-             middle[1] + reach * math.sin(2 * math.pi * at / count)) for at, reach in enumerate(reaches)]
+    return [
+        (
+            middle[0] + reach * math.cos(2 * math.pi * at / count),
+            middle[1] + reach * math.sin(2 * math.pi * at / count),
+        )
+        for at, reach in enumerate(reaches)
+    ]
 
 
 @pytest.mark.parametrize("seed", range(40))
@@ -81,8 +89,10 @@ def test_a_cover_contains_its_corridor():
     for _ in range(500):
         (x, y), (u, v) = some.choice([pair for pair in zip(path, path[1:]) if pair[0] != pair[1]])
         share, angle, reach = some.random(), some.uniform(0, 2 * math.pi), 199 * some.random()
-        place = (x + share * (u - x) + reach * math.cos(angle) / 111_400 / math.cos(math.radians(47.05)),
-                 y + share * (v - y) + reach * math.sin(angle) / 111_400)
+        place = (
+            x + share * (u - x) + reach * math.cos(angle) / 111_400 / math.cos(math.radians(47.05)),
+            y + share * (v - y) + reach * math.sin(angle) / 111_400,
+        )
         assert has(cells, *place)
     assert not has(cells, 8.05, 47.05)
 
@@ -119,9 +129,11 @@ def test_places_that_are_one_to_s2_do_not_end_the_program(gap):
 
 def test_a_pole_and_the_antimeridian_are_one_place_however_they_are_written():
     assert cells_of(Polygon([(0, 90), (120, 90), (10, 89.99), (20, 89.99)])) == cells_of(
-        Polygon([(77, 90), (10, 89.99), (20, 89.99)]))
+        Polygon([(77, 90), (10, 89.99), (20, 89.99)])
+    )
     assert cells_of(Polygon([(180, 0), (-180, 0), (-179.99, 0), (-179.99, 0.01)])) == cells_of(
-        Polygon([(-180, 0), (-179.99, 0), (-179.99, 0.01)]))
+        Polygon([(-180, 0), (-179.99, 0), (-179.99, 0.01)])
+    )
 
 
 def test_the_way_around_and_the_last_place_are_the_same_to_a_ring():
@@ -162,21 +174,24 @@ def test_more_cells_follow_more_closely():
     assert len(cells_of(Polygon(SQUARE), 6)) <= 6 < len(cells_of(Polygon(SQUARE), 1_000)) <= 1_000
 
 
-@pytest.mark.parametrize("shape, told", [
-    (Polygon(BELT), "more than a hemisphere"),
-    (Polygon(BELT[::-1]), "more than a hemisphere"),
-    (Polygon([(8, 47), (8.01, 47.01), (8, 47.01), (8.01, 47)]), "crosses itself"),
-    (Polygon([(8, 47), (8.01, 47.01), (8, 47), (8, 47.01)]), "twice"),
-    (Polygon([(8, 47), (8.01, 47)]), "at least three places"),
-    (Polygon([(0, 0), (100, 0), (50, 50)]), "quarter of the globe"),
-    (Polygon([(47, 8), (47, 91), (46, 8)]), "beyond 90 degrees"),
-    (Polygon([(200, 8), (47, 9), (46, 8)]), "beyond 180 degrees"),
-    (Polygon([(float("nan"), 8), (47, 9), (46, 8)]), "no number of degrees"),
-    (Circle((8, 47), 0), "above 0"),
-    (Circle((8, 47), 2e7), "a quarter of the globe"),
-    (Corridor([(8, 47), (8, 47)], 10), "at least two places"),
-    (Shapes([]), "no shape"),
-])
+@pytest.mark.parametrize(
+    "shape, told",
+    [
+        (Polygon(BELT), "more than a hemisphere"),
+        (Polygon(BELT[::-1]), "more than a hemisphere"),
+        (Polygon([(8, 47), (8.01, 47.01), (8, 47.01), (8.01, 47)]), "crosses itself"),
+        (Polygon([(8, 47), (8.01, 47.01), (8, 47), (8, 47.01)]), "twice"),
+        (Polygon([(8, 47), (8.01, 47)]), "at least three places"),
+        (Polygon([(0, 0), (100, 0), (50, 50)]), "quarter of the globe"),
+        (Polygon([(47, 8), (47, 91), (46, 8)]), "beyond 90 degrees"),
+        (Polygon([(200, 8), (47, 9), (46, 8)]), "beyond 180 degrees"),
+        (Polygon([(float("nan"), 8), (47, 9), (46, 8)]), "no number of degrees"),
+        (Circle((8, 47), 0), "above 0"),
+        (Circle((8, 47), 2e7), "a quarter of the globe"),
+        (Corridor([(8, 47), (8, 47)], 10), "at least two places"),
+        (Shapes([]), "no shape"),
+    ],
+)
 def test_shapes_without_a_cover(shape, told):
     with pytest.raises(ShapeError, match=told):
         cells_of(shape)

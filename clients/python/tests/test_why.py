@@ -50,13 +50,19 @@ def test_looks_are_told_one_by_one_and_no_more_is_asked_than_is_taken():
     first = next(asked)
     assert (first.requests, first.decided, first.cells) == (1, 2, 6) and desk.asked == 1
     assert [it.cell for it in first.blocked] == [CELLS[1]] and first.blocked[0].volume == volume(CELLS)
-    assert [(it.requests, it.decided, len(it.blocked)) for it in asked] == [(2, 3, 1), (3, 4, 0), (4, 5, 1), (5, 6, 0)]
+    assert [(it.requests, it.decided, len(it.blocked)) for it in asked] == [
+        (2, 3, 1),
+        (3, 4, 0),
+        (4, 5, 1),
+        (5, 6, 0),
+    ]
 
 
 def test_another_refusal_is_raised():
     class Ended(ListedDesk):
         def try_plan(self, area, priority, plan_id, usage):
             return Answer("Rejected", "NotPlanned", "ended")
+
     with pytest.raises(NotTaken, match="clock"):
         why(Ended(), [volume(CELLS)])
     with pytest.raises(AreaError):
@@ -80,15 +86,23 @@ def test_pictures_and_geojson():
 def reasons_of(cells, priority_of):
     """All cells blocked, each at its first leaf, at a priority that is told by its number."""
     asked, leaves = volume(cells), [f"{leaves_of(id_of(cell))[0]:016x}" for cell in cells]
-    return Reasons((asked,), 10, tuple(
-        Blocked(cell, asked, Conflict(leaf, 600, 5, priority_of(at)))
-        for at, (cell, leaf) in enumerate(zip(cells, leaves))), len(cells))
+    return Reasons(
+        (asked,),
+        10,
+        tuple(
+            Blocked(cell, asked, Conflict(leaf, 600, 5, priority_of(at)))
+            for at, (cell, leaf) in enumerate(zip(cells, leaves))
+        ),
+        len(cells),
+    )
 
 
 def texts_of(picture):
     """Each text of a picture with its place."""
-    return [(float(one.getAttribute("x")), float(one.getAttribute("y")), one.firstChild.data)
-            for one in minidom.parseString(picture).getElementsByTagName("text")]
+    return [
+        (float(one.getAttribute("x")), float(one.getAttribute("y")), one.firstChild.data)
+        for one in minidom.parseString(picture).getElementsByTagName("text")
+    ]
 
 
 @pytest.mark.parametrize("priority_of", [lambda at: 30, lambda at: 10 + at])
@@ -122,22 +136,37 @@ def test_shapes_of_geojson():
     both = {"type": "FeatureCollection", "features": [{"type": "Feature", "geometry": FIELD}] * 2}
     assert isinstance(shape_in(both), Shapes)
     assert len(geometries({"type": "MultiPolygon", "coordinates": [FIELD["coordinates"]] * 3})) == 3
-    for wrong in ({}, [], None, {"type": "Polygon"}, {"type": "Feature", "geometry": None},
-                  {"type": "Point", "coordinates": [8, 47]}, {"type": "LineString", "coordinates": [[8, 47], [9, 47]]}):
+    for wrong in (
+        {},
+        [],
+        None,
+        {"type": "Polygon"},
+        {"type": "Feature", "geometry": None},
+        {"type": "Point", "coordinates": [8, 47]},
+        {"type": "LineString", "coordinates": [[8, 47], [9, 47]]},
+    ):
         with pytest.raises(ShapeError):
             shape_in(wrong)
 
 
-@pytest.mark.parametrize("token, number, level", [
-    ("1", 1 << 60, 0), ("B", 0xB << 60, 0), ("04", 0x04 << 56, 1), ("0000000000000001", 1, 30),
-    ("04000000", 1 << 58, 1)])
+@pytest.mark.parametrize(
+    "token, number, level",
+    [
+        ("1", 1 << 60, 0),
+        ("B", 0xB << 60, 0),
+        ("04", 0x04 << 56, 1),
+        ("0000000000000001", 1, 30),
+        ("04000000", 1 << 58, 1),
+    ],
+)
 def test_tokens(token, number, level):
     assert id_of(token) == number and level_of(number) == level
     assert id_of(token_of(number)) == number
 
 
-@pytest.mark.parametrize("token", ["", "0", "2", "c", "d", "f", "x", "00000000000000001", "0000000000000002", " 1",
-                                   "1\n"])
+@pytest.mark.parametrize(
+    "token", ["", "0", "2", "c", "d", "f", "x", "00000000000000001", "0000000000000002", " 1", "1\n"]
+)
 def test_no_tokens(token):
     assert id_of(token) is None
 
@@ -146,11 +175,17 @@ def test_leaves():
     assert leaves_of(1 << 60) == (1, (1 << 61) - 1) and leaves_of(1) == (1, 1)
 
 
-@pytest.mark.parametrize("tokens, at_most, found", [
-    (["1"], 1, ["1"]), (["1"], 3, ["1"]), (["1"], 4, ["04", "0c", "14", "1c"]),
-    (["0000000000000001"], 9, ["0000000000000001"]),
-    (["1", "3"], 5, ["04", "0c", "14", "1c", "3"]), (["1"], 7, ["01", "03", "05", "07", "0c", "14", "1c"]),
-    (["3", "04"], 5, ["04", "24", "2c", "34", "3c"]),
-])
+@pytest.mark.parametrize(
+    "tokens, at_most, found",
+    [
+        (["1"], 1, ["1"]),
+        (["1"], 3, ["1"]),
+        (["1"], 4, ["04", "0c", "14", "1c"]),
+        (["0000000000000001"], 9, ["0000000000000001"]),
+        (["1", "3"], 5, ["04", "0c", "14", "1c", "3"]),
+        (["1"], 7, ["01", "03", "05", "07", "0c", "14", "1c"]),
+        (["3", "04"], 5, ["04", "24", "2c", "34", "3c"]),
+    ],
+)
 def test_cells_are_cut_evenly(tokens, at_most, found):
     assert evenly(tokens, at_most) == found

@@ -66,8 +66,10 @@ class Conflict:
         return datetime_of(self.second)
 
     def __str__(self) -> str:
-        return (f"priority {self.priority} at {self.latitude:.6f} {self.longitude:.6f}, {self.altitude_metres:g} m, "
-                f"{self.time:%Y-%m-%d %H:%M:%S}Z")
+        return (
+            f"priority {self.priority} at {self.latitude:.6f} {self.longitude:.6f}, {self.altitude_metres:g} m, "
+            f"{self.time:%Y-%m-%d %H:%M:%S}Z"
+        )
 
 
 @dataclass(frozen=True)
@@ -88,8 +90,13 @@ class Answer:
     @classmethod
     def from_answer(cls, told: Mapping[str, Any], was_lost: bool = False) -> Answer:
         conflict = told.get("conflict")
-        return cls(str(told["planning_result"]), str(told["flight_plan_status"]), str(told.get("notes", "")),
-                   Conflict.from_answer(conflict) if conflict else None, was_lost)
+        return cls(
+            str(told["planning_result"]),
+            str(told["flight_plan_status"]),
+            str(told.get("notes", "")),
+            Conflict.from_answer(conflict) if conflict else None,
+            was_lost,
+        )
 
     @property
     def is_completed(self) -> bool:
@@ -138,10 +145,15 @@ class Plan:
     @classmethod
     def from_answer(cls, shown: Mapping[str, Any]) -> Plan:
         conflict = shown.get("conflict")
-        return cls(str(shown["flight_plan_id"]), str(shown["flight_plan_status"]), str(shown["usage_state"]),
-                   str(shown["uas_state"]), int(shown["priority"]),
-                   tuple(Volume.from_answer(volume) for volume in shown["area"]),
-                   Conflict.from_answer(conflict) if conflict else None)
+        return cls(
+            str(shown["flight_plan_id"]),
+            str(shown["flight_plan_status"]),
+            str(shown["usage_state"]),
+            str(shown["uas_state"]),
+            int(shown["priority"]),
+            tuple(Volume.from_answer(volume) for volume in shown["area"]),
+            Conflict.from_answer(conflict) if conflict else None,
+        )
 
 
 @dataclass(frozen=True)

@@ -94,8 +94,7 @@ class Volume:
     def printed(self) -> Volume:
         """The volume with its tokens as the desk prints them; a token of no cell stays as it is."""
         numbers = [id_of(token) for token in self.cells]
-        cells = tuple(token if number is None else token_of(number)
-                      for token, number in zip(self.cells, numbers))
+        cells = tuple(token if number is None else token_of(number) for token, number in zip(self.cells, numbers))
         return Volume(cells, self.lower, self.upper, self.start, self.end, self.rectangle)
 
 
@@ -111,16 +110,19 @@ def area_over(tokens: Sequence[str], lower: int, upper: int, start: int, end: in
         raise AreaError(f"the lower altitude, {lower} dm, isn't below the upper one, {upper} dm")
     if start >= end:
         raise AreaError(f"the start, {time_text(start)}, isn't before the end, {time_text(end)}")
-    parts = [tuple(tokens[at:at + MAX_CELLS]) for at in range(0, len(tokens), MAX_CELLS)]
+    parts = [tuple(tokens[at : at + MAX_CELLS]) for at in range(0, len(tokens), MAX_CELLS)]
     days = days_of(start, end)
     if not 1 <= len(parts) * len(days) <= MAX_VOLUMES:
-        raise AreaError(f"{len(tokens)} cells on {len(days)} days make {len(parts) * len(days)} volumes, and a "
-                        f"plan has 1 to {MAX_VOLUMES}: use fewer cells, or make several plans")
+        raise AreaError(
+            f"{len(tokens)} cells on {len(days)} days make {len(parts) * len(days)} volumes, and a "
+            f"plan has 1 to {MAX_VOLUMES}: use fewer cells, or make several plans"
+        )
     return [Volume(cells, lower, upper, begun, ended) for begun, ended in days for cells in parts]
 
 
-def area_of(shape: Shape, altitude: Tuple[Metres, Metres], start: Time, end: Time,
-            at_most: int = MAX_CELLS) -> List[Volume]:
+def area_of(
+    shape: Shape, altitude: Tuple[Metres, Metres], start: Time, end: Time, at_most: int = MAX_CELLS
+) -> List[Volume]:
     """The area of a flight over a shape, between two altitudes in metres above the WGS84 ellipsoid and two
     moments. Nothing of the flight is left out: the cells contain the shape, altitudes and seconds are rounded
     outward. A flight of over a day has a volume for each day, and one over more than 64 cells several.
@@ -129,5 +131,6 @@ def area_of(shape: Shape, altitude: Tuple[Metres, Metres], start: Time, end: Tim
     Errors: UnitError, ShapeError, and AreaError if the plan would have more than 32 volumes.
     """
     lower, upper = altitude
-    return area_over(cells_of(shape, at_most), decimetres_down(lower), decimetres_up(upper),
-                     second_down(start), second_up(end))
+    return area_over(
+        cells_of(shape, at_most), decimetres_down(lower), decimetres_up(upper), second_down(start), second_up(end)
+    )

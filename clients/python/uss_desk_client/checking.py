@@ -70,8 +70,9 @@ class Wrong(Exception):
         self.fault = Fault(word, volume, member, limit)
 
 
-def check(body: Body, moment: Optional[Time] = None, ceiling: Optional[int] = None,
-          stored: Optional[str] = None) -> Optional[Fault]:
+def check(
+    body: Body, moment: Optional[Time] = None, ceiling: Optional[int] = None, stored: Optional[str] = None
+) -> Optional[Fault]:
     """The first thing that the desk would refuse in the body of a PUT, or None.
 
     `moment` is that of the request, `ceiling` the operator's; each is looked at only if it is given. `stored` is what
@@ -117,6 +118,7 @@ def member_of(value: Any, name: str) -> Any:
 
 # ---- the body of a PUT
 
+
 def read_put(body: Any) -> Read:
     """What a body asks, or the first thing that is wrong with it."""
     style = word_of(body, "execution_style", "execution_style", STYLES)
@@ -160,8 +162,11 @@ def priority_of(plan: Any) -> int:
     if priority is None:
         return 0
     if not is_whole(priority) or not 0 <= priority <= limits.MAX_PRIORITY:
-        raise Wrong("bad_member", "flight_plan.astm_f3548_21.priority",
-                    f"a whole number from 0 to {limits.MAX_PRIORITY:,}, or left out{hint(priority)}")
+        raise Wrong(
+            "bad_member",
+            "flight_plan.astm_f3548_21.priority",
+            f"a whole number from 0 to {limits.MAX_PRIORITY:,}, or left out{hint(priority)}",
+        )
     return int(priority)
 
 
@@ -178,6 +183,7 @@ def hint(value: Any) -> str:
 
 # ---- a volume
 
+
 def read_volume(volume: Any, at: Optional[int]) -> Window:
     """The times of a volume, or the first thing that is wrong with it: its form and limits, then its cover's size.
     `at` is its number in the area; the extent of a clear has none."""
@@ -186,8 +192,12 @@ def read_volume(volume: Any, at: Optional[int]) -> Window:
         raise Wrong("bad_volume", before + member, limit, at)
     rectangle = volume["volume"].get("rectangle")
     if rectangle is not None and has_large_cover(rectangle):
-        raise Wrong("too_many_cells", f"{before}volume.rectangle",
-                    f"a canonical cover of at most {limits.MAX_COVER:,} cells: take a lower level", at)
+        raise Wrong(
+            "too_many_cells",
+            f"{before}volume.rectangle",
+            f"a canonical cover of at most {limits.MAX_COVER:,} cells: take a lower level",
+            at,
+        )
     return Window(time_of(volume, "time_start"), time_of(volume, "time_end"))
 
 
@@ -218,12 +228,14 @@ def faults_of(volume: Any) -> Iterator[Tuple[str, str]]:
         if wanted:
             yield f"{name}{wanted[0]}", wanted[1]
             return
-    yield from faults_of_window(shape["altitude_lower"], shape["altitude_upper"],
-                                time_of(volume, "time_start"), time_of(volume, "time_end"))
+    yield from faults_of_window(
+        shape["altitude_lower"], shape["altitude_upper"], time_of(volume, "time_start"), time_of(volume, "time_end")
+    )
     cells, rectangle = shape.get("cells"), shape.get("rectangle")
     if (cells is None) == (rectangle is None):
         yield "volume", "exactly one of cells and rectangle" + (
-            "; one is missing" if cells is None else "; both are there")
+            "; one is missing" if cells is None else "; both are there"
+        )
     elif rectangle is None:
         yield from faults_of_cells(cells)
     else:
@@ -299,8 +311,9 @@ CHECKED, REPORTED, CLOSING = "check", "report", "close"
 def refuse_by_rules(read: Read, moment: Optional[int], ceiling: Optional[int], stored: Optional[str]) -> None:
     """The notes of a PUT in their order (docs/RULES.md, "The order of refusals in a PUT")."""
     basic = "flight_plan.basic_information"
-    is_offered = read.style != "InReality" or read.usage == "Closed" or (
-        read.usage == "InUse" and read.aircraft in REPORTS)
+    is_offered = (
+        read.style != "InReality" or read.usage == "Closed" or (read.usage == "InUse" and read.aircraft in REPORTS)
+    )
     if (moment, ceiling, stored) != (None, None, None) and not is_offered:
         raise Wrong("style", "execution_style", "InReality only reports OffNominal or Contingent, or closes")
     step = step_of(read, stored)
@@ -312,8 +325,12 @@ def refuse_by_rules(read: Read, moment: Optional[int], ceiling: Optional[int], s
                 raise Wrong("ended", "time_end.value", f"after the moment of the request, {time_text(moment)}", at)
         for at, window in enumerate(read.windows):
             if window.start > moment + limits.MAX_AHEAD:
-                raise Wrong("horizon", "time_start.value",
-                            f"at most {limits.MAX_AHEAD:,} s after the moment of the request, {time_text(moment)}", at)
+                raise Wrong(
+                    "horizon",
+                    "time_start.value",
+                    f"at most {limits.MAX_AHEAD:,} s after the moment of the request, {time_text(moment)}",
+                    at,
+                )
     if ceiling is not None and step in (CHECKED, REPORTED) and read.priority > ceiling:
         raise Wrong("priority", "flight_plan.astm_f3548_21.priority", f"at most the operator's ceiling, {ceiling}")
 

@@ -66,6 +66,7 @@ def warn(words: str) -> None:
 
 # ---- the words of the line
 
+
 def reader() -> argparse.ArgumentParser:
     top = argparse.ArgumentParser(prog="uss-plan", description="Plans drone flights at a planning desk.")
     whom = argparse.ArgumentParser(add_help=False)
@@ -78,8 +79,13 @@ def reader() -> argparse.ArgumentParser:
         return made
 
     plan = command("plan", run_plan, "plan a flight over the shapes of a GeoJSON file")
-    plan.add_argument("--polygon", dest="file", metavar="FILE.geojson", required=True,
-                      help="polygons; lines with --width, points with --radius")
+    plan.add_argument(
+        "--polygon",
+        dest="file",
+        metavar="FILE.geojson",
+        required=True,
+        help="polygons; lines with --width, points with --radius",
+    )
     add_flight(plan)
     plan.add_argument("--activate", action="store_true", help="and take it into use at once")
     listed = command("list", run_list, "list the operator's plans, closed ones too")
@@ -87,8 +93,10 @@ def reader() -> argparse.ArgumentParser:
     show = command("show", run_show, "show a plan, and whether it would be refused now")
     show.add_argument("id")
     show.add_argument("--geojson", action="store_true", help="print GeoJSON in place of a table")
-    for name, run, help_text in (("activate", run_activate, "take a planned flight into use"),
-                                 ("close", run_close, "close a plan")):
+    for name, run, help_text in (
+        ("activate", run_activate, "take a planned flight into use"),
+        ("close", run_close, "close a plan"),
+    ):
         command(name, run, help_text).add_argument("id")
     report = command("report", run_report, "report an aircraft that is off its plan")
     report.add_argument("id")
@@ -97,7 +105,9 @@ def reader() -> argparse.ArgumentParser:
     reasons.add_argument("file", metavar="FILE.geojson")
     add_flight(reasons)
     reasons.add_argument("--geojson", metavar="FILE", help="write the cells there as GeoJSON; - is the terminal")
-    reasons.add_argument("--picture", metavar="FILE", help="write a picture there: FILE.svg, or FILE.html with a table")
+    reasons.add_argument(
+        "--picture", metavar="FILE", help="write a picture there: FILE.svg, or FILE.html with a table"
+    )
     checked = command("check", run_check, "tell what the desk would refuse in the body of a PUT; nobody is asked")
     checked.add_argument("file", metavar="FILE.json")
     return top
@@ -107,23 +117,45 @@ def add_whom(group: Any, patience: float = 60.0) -> None:
     """The options that say whom to ask, for `desk_of`."""
     group.add_argument("--url", default=os.environ.get("USS_DESK_URL"), help="of the desk (or USS_DESK_URL)")
     group.add_argument("--user", default=os.environ.get("USS_DESK_USER"), help="behind a proxy (or USS_DESK_USER)")
-    group.add_argument("--password-file", metavar="FILE", help="its first line is the password (or USS_DESK_PASSWORD)")
-    group.add_argument("--operator", default=os.environ.get("USS_DESK_OPERATOR"),
-                       help="at the desk's own port (or USS_DESK_OPERATOR)")
-    group.add_argument("--patience", type=float, default=patience, metavar="SECONDS",
-                       help=f"how long a request is asked again that isn't answered ({patience:g})")
+    group.add_argument(
+        "--password-file", metavar="FILE", help="its first line is the password (or USS_DESK_PASSWORD)"
+    )
+    group.add_argument(
+        "--operator",
+        default=os.environ.get("USS_DESK_OPERATOR"),
+        help="at the desk's own port (or USS_DESK_OPERATOR)",
+    )
+    group.add_argument(
+        "--patience",
+        type=float,
+        default=patience,
+        metavar="SECONDS",
+        help=f"how long a request is asked again that isn't answered ({patience:g})",
+    )
 
 
 def add_flight(words: argparse.ArgumentParser) -> None:
-    words.add_argument("--altitude", nargs=2, required=True, type=metres, metavar=("LOWER", "UPPER"),
-                       help="metres above the WGS84 ellipsoid")
-    words.add_argument("--from", dest="start", required=True, type=moment, metavar="TIME",
-                       help="RFC 3339, as 2026-06-01T12:00:00Z")
+    words.add_argument(
+        "--altitude",
+        nargs=2,
+        required=True,
+        type=metres,
+        metavar=("LOWER", "UPPER"),
+        help="metres above the WGS84 ellipsoid",
+    )
+    words.add_argument(
+        "--from", dest="start", required=True, type=moment, metavar="TIME", help="RFC 3339, as 2026-06-01T12:00:00Z"
+    )
     words.add_argument("--to", dest="end", required=True, type=moment, metavar="TIME")
     words.add_argument("--priority", type=int, default=0, help="0 to 1,000 (0)")
     words.add_argument("--id", help="of the plan: a UUID (a new one)")
-    words.add_argument("--cells", type=int, default=limits.MAX_CELLS, metavar="N",
-                       help="how many cells may cover the shapes (64); more follow them more closely")
+    words.add_argument(
+        "--cells",
+        type=int,
+        default=limits.MAX_CELLS,
+        metavar="N",
+        help="how many cells may cover the shapes (64); more follow them more closely",
+    )
     words.add_argument("--width", type=metres, metavar="METRES", help="of the corridor along a line")
     words.add_argument("--radius", type=metres, metavar="METRES", help="of the circle around a point")
 
@@ -157,16 +189,27 @@ def desk_of(asked: Any, tell_waiting: Optional[Tell] = warn) -> Desk:
 
 # ---- what it does
 
+
 def area_asked(asked: Any, document: Any) -> List[Volume]:
-    return area_of(shape_in(document, asked.radius, asked.width), (asked.altitude[0], asked.altitude[1]),
-                   asked.start, asked.end, asked.cells)
+    return area_of(
+        shape_in(document, asked.radius, asked.width),
+        (asked.altitude[0], asked.altitude[1]),
+        asked.start,
+        asked.end,
+        asked.cells,
+    )
 
 
 def area_looked_at(asked: Any, document: Any) -> List[Volume]:
     """The area in cells that are cut as evenly as their number allows."""
     cells = cells_of(shape_in(document, asked.radius, asked.width), asked.cells)
-    return area_over(evenly(cells, asked.cells), decimetres_down(asked.altitude[0]), decimetres_up(asked.altitude[1]),
-                     second_down(asked.start), second_up(asked.end))
+    return area_over(
+        evenly(cells, asked.cells),
+        decimetres_down(asked.altitude[0]),
+        decimetres_up(asked.altitude[1]),
+        second_down(asked.start),
+        second_up(asked.end),
+    )
 
 
 def run_plan(asked: Any) -> int:
@@ -193,17 +236,27 @@ def run_list(asked: Any) -> int:
     elif not plans:
         print("no plans")
     else:
-        print(table(("id", "status", "priority", "from (UTC)", "to (UTC)", "metres", "cells", "conflict"),
-                    map(row_of, plans)))
+        print(
+            table(
+                ("id", "status", "priority", "from (UTC)", "to (UTC)", "metres", "cells", "conflict"),
+                map(row_of, plans),
+            )
+        )
     return DONE
 
 
 def row_of(plan: Plan) -> Sequence[str]:
     area = plan.area
-    return (plan.plan_id, plan.status, str(plan.priority), short(min(volume.start for volume in area)),
-            short(max(volume.end for volume in area)),
-            f"{min(volume.lower_metres for volume in area):g} to {max(volume.upper_metres for volume in area):g}",
-            footprint(area), f"priority {plan.conflict.priority}" if plan.conflict else "")
+    return (
+        plan.plan_id,
+        plan.status,
+        str(plan.priority),
+        short(min(volume.start for volume in area)),
+        short(max(volume.end for volume in area)),
+        f"{min(volume.lower_metres for volume in area):g} to {max(volume.upper_metres for volume in area):g}",
+        footprint(area),
+        f"priority {plan.conflict.priority}" if plan.conflict else "",
+    )
 
 
 def footprint(area: Sequence[Volume]) -> str:
@@ -215,8 +268,10 @@ def footprint(area: Sequence[Volume]) -> str:
 
 
 def rectangle_told(rectangle: Rectangle) -> str:
-    return (f"rectangle: face {rectangle.face}, i {rectangle.i_min} to {rectangle.i_max}, "
-            f"j {rectangle.j_min} to {rectangle.j_max}, level {rectangle.level}")
+    return (
+        f"rectangle: face {rectangle.face}, i {rectangle.i_min} to {rectangle.i_max}, "
+        f"j {rectangle.j_min} to {rectangle.j_max}, level {rectangle.level}"
+    )
 
 
 def short(second: int) -> str:
@@ -236,10 +291,17 @@ def run_show(asked: Any) -> int:
         print(json.dumps(collection(features_of_plan(plan))))
         return DONE
     print(f"{plan.plan_id}  {plan.status} ({plan.usage}, {plan.aircraft}), priority {plan.priority}")
-    rows = [(str(at), time_text(volume.start), time_text(volume.end), f"{volume.lower_metres:g}",
-             f"{volume.upper_metres:g}",
-             rectangle_told(volume.rectangle) if volume.rectangle else str(len(volume.cells)))
-            for at, volume in enumerate(plan.area)]
+    rows = [
+        (
+            str(at),
+            time_text(volume.start),
+            time_text(volume.end),
+            f"{volume.lower_metres:g}",
+            f"{volume.upper_metres:g}",
+            rectangle_told(volume.rectangle) if volume.rectangle else str(len(volume.cells)),
+        )
+        for at, volume in enumerate(plan.area)
+    ]
     print(table(("volume", "from", "to", "lower m", "upper m", "cells"), rows))
     print(f"conflict: {plan.conflict}" if plan.conflict else "no conflict")
     return DONE
@@ -270,9 +332,18 @@ def run_why(asked: Any) -> int:
     if asked.geojson != "-":
         print(headline(reasons))
         print(windows(reasons))
-        rows = [(str(number), it.cell, str(it.conflict.priority), f"{it.conflict.altitude_metres:g}",
-                 time_text(it.conflict.second), f"{it.conflict.latitude:.6f}", f"{it.conflict.longitude:.6f}")
-                for number, it in numbered(reasons)]
+        rows = [
+            (
+                str(number),
+                it.cell,
+                str(it.conflict.priority),
+                f"{it.conflict.altitude_metres:g}",
+                time_text(it.conflict.second),
+                f"{it.conflict.latitude:.6f}",
+                f"{it.conflict.longitude:.6f}",
+            )
+            for number, it in numbered(reasons)
+        ]
         if rows:
             print("The first blocked point of each:")
             print(table(("cell", "token", "priority held", "metres", "time", "latitude", "longitude"), rows))
@@ -292,5 +363,3 @@ def run_check(asked: Any) -> int:
         fault = check(file.read())
     print(fault or "nothing in this body would be refused for its form")
     return REFUSED if fault else DONE
-
-

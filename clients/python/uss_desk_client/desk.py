@@ -48,8 +48,16 @@ ADVICE = {
 }
 """What to do after each word."""
 
-WORDS = {401: "unauthorized", 403: "unknown_operator", 413: "too_large", 414: "too_large",
-         429: "too_many_requests", 502: "bad_gateway", 503: "unavailable", 504: "gateway_timeout"}
+WORDS = {
+    401: "unauthorized",
+    403: "unknown_operator",
+    413: "too_large",
+    414: "too_large",
+    429: "too_many_requests",
+    502: "bad_gateway",
+    503: "unavailable",
+    504: "gateway_timeout",
+}
 """The word of a status of a proxy that answers none of its own."""
 AGAIN = (429, 500, 502, 503, 504)
 """Statuses after which a request is asked again."""
@@ -169,9 +177,18 @@ class Desk:
     request, NoAnswer if none came, BadAnswer; a PUT that was decided and refused is an Answer.
     """
 
-    def __init__(self, url: str, *, operator: Optional[str] = None, user: Optional[str] = None, password: str = "",
-                 timeout: float = 30.0, patience: float = 60.0, tls: Optional[ssl.SSLContext] = None,
-                 tell: Optional[Tell] = None) -> None:
+    def __init__(
+        self,
+        url: str,
+        *,
+        operator: Optional[str] = None,
+        user: Optional[str] = None,
+        password: str = "",
+        timeout: float = 30.0,
+        patience: float = 60.0,
+        tls: Optional[ssl.SSLContext] = None,
+        tell: Optional[Tell] = None,
+    ) -> None:
         parts = urlsplit(url)
         if parts.scheme not in ("http", "https") or not parts.hostname or parts.query or parts.fragment:
             raise ValueError(f"{url!r} is no URL of a desk, as https://desk.example")
@@ -196,19 +213,26 @@ class Desk:
         """Plans a flight under an id of the caller's choice (`new_id`), or replaces a planned one."""
         return self.put(plan_id, put_body(area, "Planned", "Nominal", priority, "IfAllowed"))
 
-    def try_plan(self, area: Sequence[Volume], priority: int = 0, plan_id: Optional[str] = None,
-                 usage: str = "Planned") -> Answer:
+    def try_plan(
+        self, area: Sequence[Volume], priority: int = 0, plan_id: Optional[str] = None, usage: str = "Planned"
+    ) -> Answer:
         """What `plan` would answer now, or `activate` with the usage InUse; nothing is stored. With a plan's id its
         stored version doesn't block."""
         return self.put(plan_id or new_id(), put_body(area, usage, "Nominal", priority, "Hypothetical"))
 
-    def activate(self, plan_id: str, area: Optional[Sequence[Volume]] = None,
-                 priority: Optional[int] = None) -> Answer:
+    def activate(
+        self, plan_id: str, area: Optional[Sequence[Volume]] = None, priority: Optional[int] = None
+    ) -> Answer:
         """Takes a flight into use, as it is stored or with another area or priority."""
         return self._put_again(plan_id, "InUse", "Nominal", area, priority)
 
-    def report(self, plan_id: str, aircraft: str = "OffNominal", area: Optional[Sequence[Volume]] = None,
-               priority: Optional[int] = None) -> Answer:
+    def report(
+        self,
+        plan_id: str,
+        aircraft: str = "OffNominal",
+        area: Optional[Sequence[Volume]] = None,
+        priority: Optional[int] = None,
+    ) -> Answer:
         """Reports an aircraft that is off its plan, `OffNominal` or `Contingent`, and where it may be now."""
         return self._put_again(plan_id, "InUse", aircraft, area, priority)
 
@@ -239,8 +263,9 @@ class Desk:
         for extent in area:
             body = {"extent": extent.to_json()}
             response, was_lost = self._again("POST", CLEARS, body)
-            count += told(lambda value: int(value["outcome"]["message"].split()[-1]),
-                          self._object(response, CLEARS, body))
+            count += told(
+                lambda value: int(value["outcome"]["message"].split()[-1]), self._object(response, CLEARS, body)
+            )
             is_lost = is_lost or was_lost
         return Cleared(count, is_lost)
 
@@ -262,17 +287,26 @@ class Desk:
 
     # ---- how it is asked
 
-    def _put_again(self, plan_id: str, usage: str, aircraft: str, area: Optional[Sequence[Volume]],
-                   priority: Optional[int]) -> Answer:
+    def _put_again(
+        self, plan_id: str, usage: str, aircraft: str, area: Optional[Sequence[Volume]], priority: Optional[int]
+    ) -> Answer:
         if area is not None and priority is not None:
             return self.put(plan_id, put_body(area, usage, aircraft, priority, "IfAllowed"))
         return self._put_stored(self.show(plan_id), usage, aircraft, area, priority)
 
-    def _put_stored(self, stored: Plan, usage: str, aircraft: str, area: Optional[Sequence[Volume]],
-                    priority: Optional[int]) -> Answer:
-        return self.put(stored.plan_id, put_body(
-            stored.area if area is None else area, usage, aircraft,
-            stored.priority if priority is None else priority, "IfAllowed"))
+    def _put_stored(
+        self, stored: Plan, usage: str, aircraft: str, area: Optional[Sequence[Volume]], priority: Optional[int]
+    ) -> Answer:
+        return self.put(
+            stored.plan_id,
+            put_body(
+                stored.area if area is None else area,
+                usage,
+                aircraft,
+                stored.priority if priority is None else priority,
+                "IfAllowed",
+            ),
+        )
 
     def _read(self, path: str, patience: Optional[float] = None) -> Any:
         return self._object(self._again("GET", path, None, patience)[0], path)
@@ -285,8 +319,9 @@ class Desk:
             return None
         return told(Plan.from_answer, self._object(tried, path))
 
-    def _again(self, method: str, path: str, body: Optional[Mapping[str, Any]],
-               patience: Optional[float] = None) -> Tuple[Response, bool]:
+    def _again(
+        self, method: str, path: str, body: Optional[Mapping[str, Any]], patience: Optional[float] = None
+    ) -> Tuple[Response, bool]:
         """The answer to a request that may be asked any number of times, and whether an earlier one was lost."""
         until = Deadline(self._patience if patience is None else patience, self._tell)
         was_lost = False
@@ -297,8 +332,9 @@ class Desk:
             was_lost = was_lost or (tried.may_stand and method != "GET")
             until.wait(tried, was_lost)
 
-    def _try(self, method: str, path: str, body: Optional[Mapping[str, Any]],
-             until: Deadline) -> Union[Response, Unsettled]:
+    def _try(
+        self, method: str, path: str, body: Optional[Mapping[str, Any]], until: Deadline
+    ) -> Union[Response, Unsettled]:
         """One attempt, after which the request is settled or is to be asked again."""
         try:
             response = self._ask(method, path, body, min(self._timeout, max(until.left(), 0.1)))
@@ -415,6 +451,9 @@ def is_as_put(stored: Plan, body: Mapping[str, Any]) -> bool:
 def volume_put(volume: Mapping[str, Any]) -> Optional[Volume]:
     """The volume that a member of a PUT's `area` asks for, as the desk shows it."""
     shape = volume["volume"]
-    shown = {**shape, "second_start": second_down(volume["time_start"]["value"]),
-             "second_end": second_up(volume["time_end"]["value"])}
+    shown = {
+        **shape,
+        "second_start": second_down(volume["time_start"]["value"]),
+        "second_end": second_up(volume["time_end"]["value"]),
+    }
     return Volume.from_answer({name: value for name, value in shown.items() if value is not None}).printed()

@@ -30,7 +30,7 @@ def geometries(document: Any) -> List[Dict[str, Any]]:
         if not isinstance(document.get("coordinates"), list) or not document["coordinates"]:
             raise ShapeError(f"a {kind} of the file has no coordinates")
         if kind.startswith("Multi"):
-            return [{"type": kind[len("Multi"):], "coordinates": part} for part in document["coordinates"]]
+            return [{"type": kind[len("Multi") :], "coordinates": part} for part in document["coordinates"]]
         return [document]
     raise ShapeError(f"a geometry or a Feature is wanted, and {kind!r} is none")
 
@@ -63,7 +63,8 @@ def ring_around(place: Place, radius: Metres) -> List[Place]:
         return []
     turns = [2 * math.pi * part / 72 for part in range(73)]
     return [(place[0] + up / shorten * math.cos(turn), place[1] + up * math.sin(turn)) for turn in turns[:-1]] + [
-        (place[0] + up / shorten, place[1])]
+        (place[0] + up / shorten, place[1])
+    ]
 
 
 def lines_in(document: Any, radius: Optional[Metres] = None) -> List[List[Place]]:
@@ -90,14 +91,16 @@ def read_document(path: str) -> Any:
 
 # ---- writing
 
+
 def ring_of(token: str) -> List[Place]:
     """The corners of a cell, counterclockwise, without the first again. Longitudes may pass 180 degrees, so that the
     corners of a cell on the antimeridian stand beside each other."""
     cell = s2.S2Cell(s2.S2CellId.FromToken(token))
     corners = [cell.GetS2LatLngVertex(at) for at in range(4)]
     first = corners[0].lng().degrees()
-    return [(first + (corner.lng().degrees() - first + 540) % 360 - 180, corner.lat().degrees())
-            for corner in corners]
+    return [
+        (first + (corner.lng().degrees() - first + 540) % 360 - 180, corner.lat().degrees()) for corner in corners
+    ]
 
 
 def collection(features: Iterable[Feature]) -> Dict[str, Any]:
@@ -107,45 +110,76 @@ def collection(features: Iterable[Feature]) -> Dict[str, Any]:
 def feature(tokens: Sequence[str], properties: Dict[str, Any]) -> Feature:
     """Some cells as one feature."""
     polygons = [[[list(place) for place in (*ring_of(token), ring_of(token)[0])]] for token in tokens]
-    return {"type": "Feature", "geometry": {"type": "MultiPolygon", "coordinates": polygons},
-            "properties": properties}
+    return {
+        "type": "Feature",
+        "geometry": {"type": "MultiPolygon", "coordinates": polygons},
+        "properties": properties,
+    }
 
 
 def window_of(volume: Volume) -> Dict[str, Any]:
     """The altitudes and times of a volume, in metres and RFC 3339."""
-    return {"lower_metres": volume.lower_metres, "upper_metres": volume.upper_metres,
-            "start": time_text(volume.start), "end": time_text(volume.end)}
+    return {
+        "lower_metres": volume.lower_metres,
+        "upper_metres": volume.upper_metres,
+        "start": time_text(volume.start),
+        "end": time_text(volume.end),
+    }
 
 
 def features_of_plan(plan: Plan) -> List[Feature]:
     """Each volume of a plan, and its conflict as a point. A rectangle has no geometry here."""
     about = {"flight_plan_id": plan.plan_id, "status": plan.status, "priority": plan.priority}
-    found = [feature(volume.cells, {**about, "volume": at, **window_of(volume)})
-             for at, volume in enumerate(plan.area)]
+    found = [
+        feature(volume.cells, {**about, "volume": at, **window_of(volume)}) for at, volume in enumerate(plan.area)
+    ]
     for one in found:
         if not one["geometry"]["coordinates"]:
             one["geometry"] = None
     if plan.conflict:
-        found.append(point_of(plan.conflict.longitude, plan.conflict.latitude, {
-            "flight_plan_id": plan.plan_id, "conflict": str(plan.conflict), "priority": plan.conflict.priority}))
+        found.append(
+            point_of(
+                plan.conflict.longitude,
+                plan.conflict.latitude,
+                {"flight_plan_id": plan.plan_id, "conflict": str(plan.conflict), "priority": plan.conflict.priority},
+            )
+        )
     return found
 
 
 def point_of(longitude: float, latitude: float, properties: Dict[str, Any]) -> Feature:
-    return {"type": "Feature", "geometry": {"type": "Point", "coordinates": [longitude, latitude]},
-            "properties": properties}
+    return {
+        "type": "Feature",
+        "geometry": {"type": "Point", "coordinates": [longitude, latitude]},
+        "properties": properties,
+    }
 
 
 def features_of_reasons(reasons: Reasons) -> List[Feature]:
     """Each blocked cell of each volume with its first blocked point, and the free cells."""
-    found = [feature([it.cell], {
-        "state": "blocked", "cell": it.cell, "priority": it.conflict.priority,
-        "altitude_metres": it.conflict.altitude_metres, "time": time_text(it.conflict.second),
-        **window_of(it.volume)}) for it in reasons.blocked]
+    found = [
+        feature(
+            [it.cell],
+            {
+                "state": "blocked",
+                "cell": it.cell,
+                "priority": it.conflict.priority,
+                "altitude_metres": it.conflict.altitude_metres,
+                "time": time_text(it.conflict.second),
+                **window_of(it.volume),
+            },
+        )
+        for it in reasons.blocked
+    ]
     found += [feature([cell], {"state": "free", "cell": cell}) for cell in reasons.free_cells]
-    found += [point_of(it.conflict.longitude, it.conflict.latitude, {
-        "state": "first blocked point", "cell": it.conflict.cell, "priority": it.conflict.priority})
-        for it in reasons.blocked]
+    found += [
+        point_of(
+            it.conflict.longitude,
+            it.conflict.latitude,
+            {"state": "first blocked point", "cell": it.conflict.cell, "priority": it.conflict.priority},
+        )
+        for it in reasons.blocked
+    ]
     return found
 
 

@@ -24,8 +24,13 @@ class Block(NamedTuple):
     j_to: int
 
     def meets(self, other: Block) -> bool:
-        return (self.face == other.face and self.i_from < other.i_to and other.i_from < self.i_to
-                and self.j_from < other.j_to and other.j_from < self.j_to)
+        return (
+            self.face == other.face
+            and self.i_from < other.i_to
+            and other.i_from < self.i_to
+            and self.j_from < other.j_to
+            and other.j_from < self.j_to
+        )
 
 
 def block_of_cell(token: str) -> Block:
@@ -41,8 +46,13 @@ def block_of_cell(token: str) -> Block:
 def block_of_rectangle(rectangle: Rectangle) -> Block:
     """The leaves of a rectangle, widened to whole squares of its level."""
     shift = LEAF_LEVEL - rectangle.level
-    return Block(rectangle.face, rectangle.i_min >> shift << shift, (rectangle.i_max >> shift) + 1 << shift,
-                 rectangle.j_min >> shift << shift, (rectangle.j_max >> shift) + 1 << shift)
+    return Block(
+        rectangle.face,
+        rectangle.i_min >> shift << shift,
+        (rectangle.i_max >> shift) + 1 << shift,
+        rectangle.j_min >> shift << shift,
+        (rectangle.j_max >> shift) + 1 << shift,
+    )
 
 
 def blocks_of(volume: Volume) -> List[Block]:
@@ -81,11 +91,17 @@ def projected(share: float) -> float:
 def outline_of(block: Block, parts: int = 1) -> List[Place]:
     """The corners of a block, and so many parts of each of its sides, counterclockwise, without the first again.
     Longitudes may pass 180 degrees, so that places stand beside each other."""
-    corners: Sequence[Tuple[int, int]] = ((block.i_from, block.j_from), (block.i_to, block.j_from),
-                                          (block.i_to, block.j_to), (block.i_from, block.j_to))
+    corners: Sequence[Tuple[int, int]] = (
+        (block.i_from, block.j_from),
+        (block.i_to, block.j_from),
+        (block.i_to, block.j_to),
+        (block.i_from, block.j_to),
+    )
     ring: List[Place] = []
     for (i, j), (next_i, next_j) in zip(corners, (*corners[1:], corners[0])):
-        ring += [corner_of(block.face, i + (next_i - i) * part // parts, j + (next_j - j) * part // parts)
-                 for part in range(parts)]
+        ring += [
+            corner_of(block.face, i + (next_i - i) * part // parts, j + (next_j - j) * part // parts)
+            for part in range(parts)
+        ]
     first = ring[0][0]
     return [(first + (longitude - first + 540) % 360 - 180, latitude) for longitude, latitude in ring]

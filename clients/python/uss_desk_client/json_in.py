@@ -24,8 +24,9 @@ def read_json(body: Union[bytes, str]) -> Any:
     """The value of a body. Whole numbers are `int`s that fit a signed 64-bit integer, all others `NotWhole`."""
     try:
         text = body.decode("utf-8") if isinstance(body, bytes) else body
-        found = json.loads(text, parse_int=number_of, parse_float=float_of, parse_constant=no_constant,
-                           object_pairs_hook=object_of)
+        found = json.loads(
+            text, parse_int=number_of, parse_float=float_of, parse_constant=no_constant, object_pairs_hook=object_of
+        )
     except UnicodeDecodeError as wrong:
         raise BadJson(f"byte {wrong.start} is no UTF-8") from None
     except json.JSONDecodeError as wrong:
@@ -42,7 +43,7 @@ def number_of(digits: str) -> Union[int, NotWhole]:
     if len(digits) > 20 or digits == "-0":
         return float_of(digits)
     number = int(digits)
-    return number if -2**63 <= number < 2**63 else float_of(digits)
+    return number if -(2**63) <= number < 2**63 else float_of(digits)
 
 
 def float_of(digits: str) -> NotWhole:

@@ -12,8 +12,10 @@ class NoLibrary(ImportError):
     """This Python hasn't the library: the message says which package has it, and for which Python."""
 
     def __init__(self) -> None:
-        super().__init__(f"{NAME} isn't there for {sys.executable}: apt-get install -y python3-{NAME}, and run it by "
-                         f"Debian's own /usr/bin/python3")
+        super().__init__(
+            f"{NAME} isn't there for {sys.executable}: apt-get install -y python3-{NAME}, and run it by "
+            f"Debian's own /usr/bin/python3"
+        )
 
 
 class Library:

@@ -39,7 +39,8 @@ class Map:
     def around(cls, lines: Sequence[Sequence[Place]]) -> Map:
         first = lines[0][0][0]
         west, east, south, north = bounds_of(
-            [[(first + (place[0] - first + 540) % 360 - 180, place[1]) for place in line] for line in lines])
+            [[(first + (place[0] - first + 540) % 360 - 180, place[1]) for place in line] for line in lines]
+        )
         shorten = max(0.05, math.cos(math.radians((south + north) / 2)))
         size = max((east - west) * shorten, north - south, 1e-9) * 1.06
         middle_x, middle_y = (west + east) / 2, (south + north) / 2
@@ -47,8 +48,10 @@ class Map:
 
     def point(self, place: Place) -> Tuple[float, float]:
         longitude = self.west + (place[0] - self.west) % 360
-        return (LEFT + (longitude - self.west) * self.shorten * self.scale,
-                TOP + (self.north - place[1]) * self.scale)
+        return (
+            LEFT + (longitude - self.west) * self.shorten * self.scale,
+            TOP + (self.north - place[1]) * self.scale,
+        )
 
     def path(self, line: Sequence[Place], is_closed: bool = True) -> str:
         points = " L".join(f"{x:.1f} {y:.1f}" for x, y in map(self.point, line))
@@ -81,8 +84,10 @@ def headline(reasons: Reasons) -> str:
     if not reasons.blocked:
         return f"Nothing blocks this flight of priority {reasons.priority}"
     count = len(reasons.blocked_cells)
-    return (f"A flight of priority {reasons.priority} is blocked in {count} of "
-            f"{count + len(reasons.free_cells)} cells")
+    return (
+        f"A flight of priority {reasons.priority} is blocked in {count} of "
+        f"{count + len(reasons.free_cells)} cells"
+    )
 
 
 def windows(reasons: Reasons) -> str:
@@ -99,10 +104,13 @@ def numbered(reasons: Reasons) -> List[Tuple[int, Blocked]]:
 
 
 def cells_drawn(reasons: Reasons, at: Map) -> List[str]:
-    found = [f'<path d="{at.path(ring_of(cell))}" fill="{FREE}" stroke="{EDGE}" stroke-width="0.7"/>'
-             for cell in reasons.free_cells]
-    worst = {cell: max(it.conflict.priority for it in reasons.blocked if it.cell == cell)
-             for cell in reasons.blocked_cells}
+    found = [
+        f'<path d="{at.path(ring_of(cell))}" fill="{FREE}" stroke="{EDGE}" stroke-width="0.7"/>'
+        for cell in reasons.free_cells
+    ]
+    worst = {
+        cell: max(it.conflict.priority for it in reasons.blocked if it.cell == cell) for cell in reasons.blocked_cells
+    }
     for cell, priority in worst.items():
         path = at.path(ring_of(cell))
         found.append(f'<path d="{path}" fill="{colours(reasons)[priority]}" stroke="#5c1a12"/>')
@@ -113,8 +121,11 @@ def cells_drawn(reasons: Reasons, at: Map) -> List[str]:
 def labels_drawn(reasons: Reasons, at: Map) -> List[str]:
     """The numbers of the blocked cells."""
     rings = [at.point((it.conflict.longitude, it.conflict.latitude)) for it in reasons.blocked]
-    return [label for number, cell in enumerate(reasons.blocked_cells, 1)
-            for label in label_drawn(str(number), [at.point(place) for place in ring_of(cell)], rings)]
+    return [
+        label
+        for number, cell in enumerate(reasons.blocked_cells, 1)
+        for label in label_drawn(str(number), [at.point(place) for place in ring_of(cell)], rings)
+    ]
 
 
 def label_drawn(number: str, corners: List[Tuple[float, float]], rings: List[Tuple[float, float]]) -> List[str]:
@@ -126,16 +137,25 @@ def label_drawn(number: str, corners: List[Tuple[float, float]], rings: List[Tup
         return []
     if high >= 36 and any(abs(ring[0] - x) < 9 and abs(ring[1] - y) < 9 for ring in rings):
         y += 12
-    return [text(x, y + 4, number, size, 'text-anchor="middle" font-weight="bold" stroke="#fff" '
-                 'stroke-width="3" paint-order="stroke"')]
+    return [
+        text(
+            x,
+            y + 4,
+            number,
+            size,
+            'text-anchor="middle" font-weight="bold" stroke="#fff" ' 'stroke-width="3" paint-order="stroke"',
+        )
+    ]
 
 
 def points_drawn(reasons: Reasons, at: Map) -> List[str]:
     found, size = [], 3.2 if len(reasons.blocked) <= 40 else 2.0
     for it in reasons.blocked:
         x, y = at.point((it.conflict.longitude, it.conflict.latitude))
-        found.append(f'<circle cx="{x:.1f}" cy="{y:.1f}" r="{size}" fill="#fff" stroke="#000" '
-                     f'stroke-width="{size * 0.4:.1f}"/>')
+        found.append(
+            f'<circle cx="{x:.1f}" cy="{y:.1f}" r="{size}" fill="#fff" stroke="#000" '
+            f'stroke-width="{size * 0.4:.1f}"/>'
+        )
     return found
 
 
@@ -143,8 +163,10 @@ def ticks_of(low: float, high: float) -> List[Tuple[float, str]]:
     """Round numbers of degrees from one to another, some two to six, with their words but for the side."""
     step = round_length((high - low) / 2.5)
     digits = max(0, -math.floor(math.log10(step) + 1e-9))
-    return [(at * step, f"{abs((at * step + 180) % 360 - 180):.{digits}f}°")
-            for at in range(math.ceil(low / step), math.floor(high / step) + 1)]
+    return [
+        (at * step, f"{abs((at * step + 180) % 360 - 180):.{digits}f}°")
+        for at in range(math.ceil(low / step), math.floor(high / step) + 1)
+    ]
 
 
 def frame_drawn(at: Map) -> List[str]:
@@ -165,8 +187,10 @@ def frame_drawn(at: Map) -> List[str]:
     found.append(f'<path d="M{LEFT} {y - 5}v5h{units:.1f}v-5" fill="none" stroke="#1d2733" stroke-width="1.5"/>')
     told = f"{length / 1000:g} km" if length >= 1000 else f"{length:g} m"
     found.append(text(LEFT + units + 8, y, told, 12))
-    found.append(f'<path d="M{LEFT + SIDE - 12} {y + 4}v-18l-4 7m4 -7l4 7" fill="none" stroke="#1d2733" '
-                 'stroke-width="1.5"/>')
+    found.append(
+        f'<path d="M{LEFT + SIDE - 12} {y + 4}v-18l-4 7m4 -7l4 7" fill="none" stroke="#1d2733" '
+        'stroke-width="1.5"/>'
+    )
     found.append(text(LEFT + SIDE - 30, y, "N", 12))
     return found
 
@@ -210,8 +234,13 @@ def list_drawn(reasons: Reasons, y: int) -> List[str]:
     room = (LIST_END - y) // 19
     for number, it in rows[:room]:
         y += 19
-        told = (str(number), str(it.conflict.priority), f"{it.conflict.altitude_metres:g}",
-                f"{it.conflict.time:%Y-%m-%d %H:%M:%S}", f"{it.conflict.latitude:.5f}, {it.conflict.longitude:.5f}")
+        told = (
+            str(number),
+            str(it.conflict.priority),
+            f"{it.conflict.altitude_metres:g}",
+            f"{it.conflict.time:%Y-%m-%d %H:%M:%S}",
+            f"{it.conflict.latitude:.5f}, {it.conflict.longitude:.5f}",
+        )
         found += [text(LIST_LEFT + x, y, words, 12) for (x, _), words in zip(columns, told)]
     if len(rows) > room:
         found.append(text(LIST_LEFT, y + 19, f"and {len(rows) - room} more", 12))
@@ -219,8 +248,14 @@ def list_drawn(reasons: Reasons, y: int) -> List[str]:
 
 
 def footnote(reasons: Reasons) -> List[str]:
-    lines = ("Of a blocked cell the first blocked point (a ring) is told, the least by leaf, then",
-             "altitude, then second, with the priority held there. Who holds it isn't told.") if reasons.blocked else ()
+    lines = (
+        (
+            "Of a blocked cell the first blocked point (a ring) is told, the least by leaf, then",
+            "altitude, then second, with the priority held there. Who holds it isn't told.",
+        )
+        if reasons.blocked
+        else ()
+    )
     return [text(LIST_LEFT, HEIGHT - 44 + 16 * at, line, 11, 'fill="#4a5360"') for at, line in enumerate(lines)]
 
 
@@ -239,8 +274,11 @@ def svg_of(reasons: Reasons, lines: Sequence[Sequence[Place]]) -> str:
         text(LEFT, 40, headline(reasons), 21, 'font-weight="bold"'),
         text(LEFT, 66, windows(reasons), 13, 'fill="#4a5360"'),
         *cells_drawn(reasons, at),
-        *(f'<path d="{at.path(line, is_closed=line[0] == line[-1])}" fill="none" stroke="#14213d" '
-          'stroke-width="2.5" stroke-linejoin="round"/>' for line in lines),
+        *(
+            f'<path d="{at.path(line, is_closed=line[0] == line[-1])}" fill="none" stroke="#14213d" '
+            'stroke-width="2.5" stroke-linejoin="round"/>'
+            for line in lines
+        ),
         *points_drawn(reasons, at),
         *labels_drawn(reasons, at),
         *frame_drawn(at),
@@ -258,7 +296,8 @@ def page_of(reasons: Reasons, lines: Sequence[Sequence[Place]]) -> str:
         f"<tr><td>{number}</td><td>{it.cell}</td><td>{it.conflict.priority}</td>"
         f"<td>{it.conflict.altitude_metres:g}</td><td>{time_text(it.conflict.second)}</td>"
         f"<td>{it.conflict.latitude:.6f}</td><td>{it.conflict.longitude:.6f}</td></tr>"
-        for number, it in numbered(reasons))
+        for number, it in numbered(reasons)
+    )
     names = ("cell", "token", "priority held", "altitude, m", "time", "latitude", "longitude")
     heads = "".join(f"<th>{name}</th>" for name in names)
     table = f"<div><table><thead><tr>{heads}</tr></thead><tbody>\n{rows}\n</tbody></table></div>" if rows else ""

@@ -151,6 +151,7 @@ def merged(covers: Iterable[List[Any]], at_most: int) -> List[Any]:
 
 # ---- places and angles
 
+
 def place_of(pair: Sequence[float]) -> Place:
     """A place, if the pair is one."""
     if len(pair) < 2:
@@ -160,8 +161,7 @@ def place_of(pair: Sequence[float]) -> Place:
         if isinstance(degrees, bool) or not isinstance(degrees, (int, float)) or not math.isfinite(degrees):
             raise ShapeError(f"the {name} {degrees!r} is no number of degrees")
         if abs(degrees) > limit:
-            raise ShapeError(f"the {name} {degrees} lies beyond {limit} degrees; a place is "
-                             "(longitude, latitude)")
+            raise ShapeError(f"the {name} {degrees} lies beyond {limit} degrees; a place is " "(longitude, latitude)")
     return float(longitude), float(latitude)
 
 
@@ -184,8 +184,7 @@ def point_of(place: Place) -> Any:
 
 def vector_of(place: Place) -> Vector:
     longitude, latitude = math.radians(place[0]), math.radians(place[1])
-    return (math.cos(latitude) * math.cos(longitude), math.cos(latitude) * math.sin(longitude),
-            math.sin(latitude))
+    return (math.cos(latitude) * math.cos(longitude), math.cos(latitude) * math.sin(longitude), math.sin(latitude))
 
 
 def is_same(one: Place, other: Place) -> bool:
@@ -215,6 +214,7 @@ def turn(begin: Place, end: Place) -> float:
 
 # ---- regions of S2
 
+
 def cap_of(place: Place, angle: float) -> Any:
     return s2.S2Cap(point_of(place), s2.S1Angle.Radians(angle + MARGIN))
 
@@ -223,8 +223,11 @@ def strip_of(begin: Place, end: Place, half: float) -> Any:
     """A loop that contains all points within an angle of the shortest line between two places, but for those that
     are beyond its ends. Its long sides are shortest lines too, so they bend away from the line between them."""
     first, last = vector_of(begin), vector_of(end)
-    normal = (first[1] * last[2] - first[2] * last[1], first[2] * last[0] - first[0] * last[2],
-              first[0] * last[1] - first[1] * last[0])
+    normal = (
+        first[1] * last[2] - first[2] * last[1],
+        first[2] * last[0] - first[0] * last[2],
+        first[0] * last[1] - first[1] * last[0],
+    )
     size = math.hypot(*normal)
     if size == 0 or length_of(begin, end) > math.pi / 2:
         raise ShapeError(f"the line from {begin} to {end} is longer than a quarter of the globe")
@@ -255,6 +258,7 @@ def loop_of(ring: Sequence[Place], is_straight: bool) -> Any:
 
 # ---- rings
 
+
 def open_ring(ring: Sequence[Place]) -> List[Place]:
     """The places of a ring, each once in a row, the first not again at the end."""
     kept = that_move(place_of(place) for place in ring)
@@ -272,8 +276,9 @@ def is_in_reach(places: List[Place]) -> None:
     area, turned = 0.0, 0.0
     for begin, end in zip(places, places[1:] + places[:1]):
         if length_of(begin, end) > math.pi / 2:
-            raise ShapeError(f"the edge from {begin} to {end} is longer than a quarter of the globe: "
-                             "put places in between")
+            raise ShapeError(
+                f"the edge from {begin} to {end} is longer than a quarter of the globe: " "put places in between"
+            )
         step = turn(begin, end)
         turned += step
         heights = math.sin(math.radians(begin[1])) + math.sin(math.radians(end[1]))
@@ -298,8 +303,10 @@ def followed(places: List[Place], is_ring: bool) -> List[Place]:
         bent = east * math.sin(2 * min(latitude, math.pi / 4)) / 2 + 2 * north * math.sin(latitude)
         parts = max(1, math.ceil(math.sqrt(GREATEST_RADIUS * east * bent / 8 / STRAIGHT_WITHIN)))
         if len(found) + parts > MOST_PLACES:
-            raise ShapeError("the edges are too long to follow lines that are straight in longitude and "
-                             "latitude: use several shapes, or shortest lines")
+            raise ShapeError(
+                "the edges are too long to follow lines that are straight in longitude and "
+                "latitude: use several shapes, or shortest lines"
+            )
         for part in range(parts):
             longitude = begin[0] + step * part / parts
             longitude -= 360 if longitude > 180 else -360 if longitude < -180 else 0
@@ -352,5 +359,7 @@ def is_simple(places: List[Place]) -> None:
         if {first, after} & {second, beyond}:
             continue
         if s2.CrossingSign(points[first], points[after], points[second], points[beyond]) > 0:
-            raise ShapeError(f"the ring crosses itself: the edge from {places[first]} to {places[after]} and that "
-                             f"from {places[second]} to {places[beyond]}")
+            raise ShapeError(
+                f"the ring crosses itself: the edge from {places[first]} to {places[after]} and that "
+                f"from {places[second]} to {places[beyond]}"
+            )

@@ -40,7 +40,7 @@ def square_metres(shape: Shape) -> float:
 
 
 def metres_of(steradians: float) -> float:
-    return steradians * MEAN_RADIUS ** 2
+    return steradians * MEAN_RADIUS**2
 
 
 def size_within(ring: Sequence[Place], is_straight: bool) -> float:
@@ -56,7 +56,9 @@ def size_along(path: List[Place], half: float) -> float:
     """The size of a corridor: its strips, a round end, and what bends add outside and take within."""
     strips = sum(length_of(begin, end) for begin, end in zip(path, path[1:])) * 2 * math.sin(half)
     bends = (bend_of(*places) for places in zip(path, path[1:], path[2:]))
-    return size_around(half) + strips + half ** 2 * sum(turned / 2 - math.tan(min(turned, 2.0) / 2) for turned in bends)
+    return (
+        size_around(half) + strips + half**2 * sum(turned / 2 - math.tan(min(turned, 2.0) / 2) for turned in bends)
+    )
 
 
 def bend_of(before: Place, here: Place, after: Place) -> float:

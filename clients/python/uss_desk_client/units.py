@@ -15,7 +15,8 @@ Time = Union[datetime, str, int]
 
 EPOCH = datetime(1970, 1, 1, tzinfo=timezone.utc)
 WRITTEN = re.compile(
-    r"(\d{4})-(\d{2})-(\d{2})[Tt](\d{2}):(\d{2}):(\d{2})(\.\d+)?([Zz]|([+-])(\d{2}):(\d{2}))", re.ASCII)
+    r"(\d{4})-(\d{2})-(\d{2})[Tt](\d{2}):(\d{2}):(\d{2})(\.\d+)?([Zz]|([+-])(\d{2}):(\d{2}))", re.ASCII
+)
 FIRST_INSTANT, LAST_INSTANT = -377_705_023_201, 253_402_207_200
 """The Unix seconds between which the desk reads a time at all."""
 
@@ -24,7 +25,7 @@ class UnitError(ValueError):
     """A length, an altitude or a time that can't be told to the desk."""
 
 
-MOST_METRES = 10 ** 9
+MOST_METRES = 10**9
 
 
 def exact(number: Metres) -> Decimal:

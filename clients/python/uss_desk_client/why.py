@@ -68,8 +68,9 @@ class Look:
     """The cells that this request has shown to be blocked."""
 
 
-def looks(desk: Desk, area: Sequence[Volume], priority: int = 0, plan_id: Optional[str] = None,
-          usage: Optional[str] = None) -> Iterator[Look]:
+def looks(
+    desk: Desk, area: Sequence[Volume], priority: int = 0, plan_id: Optional[str] = None, usage: Optional[str] = None
+) -> Iterator[Look]:
     """What `why` finds, request by request: whoever takes no further look stops the asking. `usage` is that of the
     stored plan, InUse or Planned, if it is known. Errors as of `why`."""
     if any(volume.rectangle for volume in area):
@@ -86,8 +87,9 @@ def looks(desk: Desk, area: Sequence[Volume], priority: int = 0, plan_id: Option
         before += len(volume.cells)
 
 
-def look(desk: Desk, volume: Volume, priority: int, plan_id: Optional[str],
-         usage: str) -> Tuple[List[Blocked], List[str]]:
+def look(
+    desk: Desk, volume: Volume, priority: int, plan_id: Optional[str], usage: str
+) -> Tuple[List[Blocked], List[str]]:
     """Asks for a volume whose cells ascend: those of them that are blocked by the least blocked leaf, and those that
     lie behind it and are still to be asked."""
     answer = desk.try_plan([volume], priority, plan_id, usage)
@@ -96,8 +98,10 @@ def look(desk: Desk, volume: Volume, priority: int, plan_id: Optional[str],
     if not answer.conflict:
         raise NotTaken(answer)
     leaf = number_of(answer.conflict.cell)
-    return ([Blocked(cell, volume, answer.conflict) for cell in volume.cells if has_leaf(cell, leaf)],
-            [cell for cell in volume.cells if leaves_of(number_of(cell))[0] > leaf])
+    return (
+        [Blocked(cell, volume, answer.conflict) for cell in volume.cells if has_leaf(cell, leaf)],
+        [cell for cell in volume.cells if leaves_of(number_of(cell))[0] > leaf],
+    )
 
 
 def why(desk: Desk, area: Sequence[Volume], priority: int = 0, plan_id: Optional[str] = None) -> Reasons:
