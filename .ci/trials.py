@@ -28,7 +28,7 @@ RANGES = ("overflow_", "bounds", "slice_bounds", "nonzero_", "offset_bounds")
 
 
 def label_of(goal: str) -> str:
-    """The label of the clause that a goal is named after, or the word for what else it asks."""
+    """The label of the clause that a goal is named after, or the word for what else is open."""
     goal = re.sub(r"-\d+$", "", goal)
     if "-requires" in goal:
         return "requires of " + goal.partition("-requires")[0].partition("-")[0]
@@ -38,7 +38,7 @@ def label_of(goal: str) -> str:
         return "invariant"
     if goal.startswith(RANGES):
         return "range"
-    return "loop" if re.search(r"-(init|preserved|smaller)(-|$)", goal) else goal
+    return "loop" if re.search(r"-(init|preserved|smaller)(-|$)", goal) else "lemma"
 
 
 @dataclass
@@ -135,16 +135,35 @@ class Room:
         """A check of the crate with these edits."""
         shutil.rmtree(self.folder / "out")
         link_tree(self.room / "proved", self.folder / "out")
-        was: dict[str, str] = {}
+        made = edits[0].texts(self.folder) if len(edits) == 1 else self.joined(edits)
+        was = {path: (self.folder / path).read_text() for path in made}
         try:
-            for edit in edits:
-                for path, text in edit.texts(self.folder).items():
-                    was.setdefault(path, (self.folder / path).read_text())
-                    (self.folder / path).write_text(text)
+            self.write(made)
             return self.check()
         finally:
-            for path, text in was.items():
-                (self.folder / path).write_text(text)
+            self.write(was)
+
+    def write(self, texts: dict[str, str]) -> None:
+        """Writes texts of files of the crate."""
+        for path, text in texts.items():
+            (self.folder / path).write_text(text)
+
+    def joined(self, edits: list[Edit]) -> dict[str, str]:
+        """The texts of the files that edits of different functions change, with each function as its edit leaves it."""
+        parts: defaultdict[str, list[tuple[int, int, str]]] = defaultdict(list)
+        for edit in edits:
+            item = touched(edit, self.index)[0]
+            for path, text in edit.texts(self.folder).items():
+                more = len(text) - len(item.source.text)
+                parts[path].append((item.start, item.end, text[item.start : item.end + more]))
+        return {path: spliced((self.folder / path).read_text(), those) for path, those in parts.items()}
+
+
+def spliced(text: str, parts: list[tuple[int, int, str]]) -> str:
+    """A text with other parts between these places."""
+    for start, end, part in sorted(parts, reverse=True):
+        text = text[:start] + part + text[end:]
+    return text
 
 
 def is_folder_of(item: Item, folders: list[str]) -> bool:
