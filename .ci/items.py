@@ -104,6 +104,10 @@ class Item:
     trait: str = ""
     header: str = ""
 
+    def width(self) -> int:
+        """How long the whole text is."""
+        return self.end - self.start
+
     @property
     def key(self) -> str:
         """What tells the item from all others."""
@@ -335,4 +339,4 @@ class Index:
     def at(self, path: str, place: int) -> Item | None:
         """The item of a file that stands at this place."""
         found = [item for item in self.by_file[path] if item.start <= place < item.end]
-        return min(found, key=lambda item: item.end - item.start, default=None)
+        return min(found, key=Item.width) if found else None

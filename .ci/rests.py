@@ -67,7 +67,7 @@ class Rests:
         """The items that a text of this file names."""
         before, end = "", 0
         for found in WORD.finditer(bare):
-            between, rest = bare[end : found.start()].strip(), bare[found.end() : found.end() + 4].lstrip()
+            between, rest = bare[end : found.start()].lstrip(), bare[found.end() : found.end() + 4].lstrip()
             if between.endswith("::"):
                 yield from self.find(found[0], self.below[source.crate])
             elif between.endswith(".") and not between.endswith(".."):

@@ -177,7 +177,7 @@ def is_folder_of(item: Item, folders: list[str]) -> bool:
 
 
 def link_tree(folder: pathlib.Path, to: pathlib.Path) -> None:
-    """A copy of a folder of kept work; what was proved is linked, since a check replaces such a file and changes none."""
+    """A copy of a folder of kept work; what was proved is linked, as a check replaces such a file and changes none."""
 
     def copy(one: str, other: str) -> object:
         if not one.endswith(".oantt"):
@@ -215,7 +215,7 @@ def next_round(left: list[Edit], index: Index) -> list[Edit]:
 def try_all(room: Room, edits: list[Edit]) -> dict[Edit, dict[str, set[str]]]:
     """What each edit is refused by: the labels by function; nothing where it is not refused, or could not be read."""
     found: dict[Edit, dict[str, set[str]]] = {}
-    left, alone = list(edits), []
+    left, alone = list(edits), list[Edit]()
     while left or alone:
         trial = next_round(left, room.index) if left else alone[:1]
         told = room.attempt(trial)
