@@ -124,8 +124,8 @@ def is_member(item: Item, block: Item) -> bool:
 
 
 def proof_texts(item: Item) -> Iterator[str]:
-    """The files of proofs/ that are a function's own, each with its name."""
-    folder = TOP / "crates" / item.source.crate / "proofs" / item.source.module.replace("::", "/")
-    for path in sorted(folder.glob(f"{item.owner}*/{item.name}/*" if item.owner else f"{item.name}/*")):
-        if path.suffix == ".antt":
-            yield f"{path.relative_to(TOP)} {without_layout(path.read_text())}"
+    """The files of proofs/ that are a function's own, each with its name; a method's stand below its type's module."""
+    proofs = TOP / "crates" / item.source.crate / "proofs"
+    folder = "/".join(["**", f"{item.owner}*"] if item.owner else filter(None, item.source.module.split("::")))
+    for path in sorted(proofs.glob(f"{folder}/{item.name}/*.antt" if folder else f"{item.name}/*.antt")):
+        yield f"{path.relative_to(TOP)} {without_layout(path.read_text())}"

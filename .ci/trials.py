@@ -167,13 +167,10 @@ def spliced(text: str, parts: list[tuple[int, int, str]]) -> str:
 
 
 def is_folder_of(item: Item, folders: list[str]) -> bool:
-    """Whether the proofs of a function stand in these folders, the last of which begins with its owner's name."""
-    module = [part for part in item.source.module.split("::") if part]
+    """Whether a function's proofs stand in these folders: its module's, or its type's wherever that is."""
     if not item.owner:
-        return folders == module
-    return (
-        folders[:-1] == module and bool(folders) and re.match(rf"{item.owner}(?![a-z0-9_])", folders[-1]) is not None
-    )
+        return folders == [part for part in item.source.module.split("::") if part]
+    return bool(folders) and re.match(rf"{item.owner}(?![a-z0-9_])", folders[-1]) is not None
 
 
 def link_tree(folder: pathlib.Path, to: pathlib.Path) -> None:
