@@ -208,27 +208,17 @@ def items_at(
 
 
 def nested(source: Source, column: int, start: int, stop: int, word: str, said: str) -> Iterator[Item]:
-    """An impl, a trait or an inner module, and its items."""
+    """An impl, a trait or an inner module, and its items; what stands before its first function is its own."""
     brace = source.bare.index("{", start)
     header = re.sub(r"\s+", " ", source.text[start:brace]).strip()
     if word == "mod":
         yield from block_items(source, column + 4, brace + 1, stop, "", "", "")
         return
     owner, trait = owner_of(said.partition("{")[0])
-    if word == "trait":
-        inside = list(block_items(source, column + 4, brace + 1, stop, owner, "", header))
-        for item in inside:
-            item.kind = "fn" if item.kind == "fn" else "other"
-    else:
-        inside = list(block_items(source, column + 4, brace + 1, stop, owner, trait, header))
-    yield Item(source, word, owner, start, inside_end(source, brace, stop, inside), "", trait, "")
-    yield from inside
-
-
-def inside_end(source: Source, brace: int, stop: int, inside: list[Item]) -> int:
-    """Where the first function of a block begins; what stands before it is the block's own."""
+    inside = list(block_items(source, column + 4, brace + 1, stop, owner, trait, header))
     functions = [item.start for item in inside if item.kind == "fn"]
-    return min(functions, default=stop) if functions else stop
+    yield Item(source, word, owner, start, min(functions, default=stop), "", trait, "")
+    yield from inside
 
 
 def owner_of(said: str) -> tuple[str, str]:

@@ -76,6 +76,9 @@ class Rests:
             else:
                 yield from self.plain(source, found[0], used)
             before, end = found[0], found.end()
+        for name in sorted(name for name in (*source.names, *source.imports) if "◌" in name):
+            if name.strip("◌") in bare:
+                yield from self.plain(source, name, used)
 
     def steps(self, item: Item, whole: bool) -> tuple[set[Item], str]:
         """The items that an item names, or its face, and a sum of its text and of what its imports say of them."""

@@ -7,6 +7,7 @@ beside fewer, and at last alone.
 
 from __future__ import annotations
 
+import os
 import pathlib
 import re
 import shutil
@@ -78,13 +79,9 @@ class Room:
 
     def check(self) -> Told:
         """A check of the crate, as it stands in the clone."""
+        words = ["rt", "check", "--jobs", os.environ.get("RT_JOBS", "2")]
         ran = subprocess.run(
-            ["rt", "check"],
-            cwd=self.folder,
-            stdin=subprocess.DEVNULL,
-            capture_output=True,
-            text=True,
-            errors="replace",
+            words, cwd=self.folder, stdin=subprocess.DEVNULL, capture_output=True, text=True, errors="replace"
         )
         said = ran.stdout + ran.stderr
         told = Told(is_proved=ran.returncode == 0, words=said)
