@@ -1,0 +1,224 @@
+"""Tries edits in a scratch clone: which clauses of which functions refuse them.
+
+Several edits of different functions are tried in one check, since a function is proved over the clauses of what it
+calls: what is open in a function is its own edit's doing. One that came to nothing in such a round is tried again
+beside fewer, and at last alone.
+"""
+
+from __future__ import annotations
+
+import os
+import pathlib
+import re
+import shutil
+import subprocess
+import tempfile
+from collections import defaultdict
+from collections.abc import Iterable
+from dataclasses import dataclass, field
+
+from edits import Edit, named, touched
+from items import TOP, Index, Item
+
+PROOF = re.compile(r"(?:note: )?(?:\./)?proofs/(\S+?)\.antt:\d+:\d+: error: (.*)")
+SOURCE = re.compile(r"(?:note: )?(?:\./)?(src/\S+?\.rt):(\d+):\d+: .*\(`([^`]+)`\)")
+BEHIND = re.compile(r"declarations? that depends? on `([^`]+)`.*: (.*)$")
+LOST_NAME = re.compile(r"has no field|is not in scope|has no `|was not admitted")
+GOAL_WORD = re.compile(r"[\w+-]+")
+RANGES = ("overflow_", "bounds", "slice_bounds", "nonzero_", "offset_bounds")
+
+
+def label_of(goal: str) -> str:
+    """The label of the clause that a goal is named after, or the word for what else is open."""
+    goal = re.sub(r"-\d+$", "", goal)
+    if "-requires" in goal:
+        return "requires of " + goal.partition("-requires")[0].partition("-")[0]
+    if goal == "returns" or goal.startswith("returns-"):
+        return goal.rpartition("-clause-")[2] if "-clause-" in goal else "ensures"
+    if goal.startswith("invariant_of"):
+        return "invariant"
+    if goal.startswith(RANGES):
+        return "range"
+    return "loop" if re.search(r"-(init|preserved|smaller)(-|$)", goal) else "lemma"
+
+
+@dataclass
+class Told:
+    """What a check tells: the labels of what is open by function, whether all is proved, and whether it was one."""
+
+    open: defaultdict[str, set[str]] = field(default_factory=lambda: defaultdict(set))
+    is_proved: bool = False
+    is_verdict: bool = False
+    words: str = ""
+
+
+class Room:
+    """A scratch clone of HEAD in which a crate's edits are tried over what checks have kept here."""
+
+    def __init__(self, crate: str, below: Iterable[str], index: Index) -> None:
+        self.crate, self.index = crate, index
+        self.room = pathlib.Path(tempfile.mkdtemp(prefix="audit-"))
+        self.folder = self.room / "clone" / "crates" / crate
+        subprocess.run(["git", "clone", "-q", str(TOP), str(self.room / "clone")], check=True)
+        for one in below:
+            kept = TOP / "crates" / one / "out"
+            if kept.is_dir():
+                link_tree(kept, self.room / "clone" / "crates" / one / "out")
+        shutil.rmtree(self.folder / "must-fail", ignore_errors=True)
+
+    def close(self) -> None:
+        """Removes the clone."""
+        shutil.rmtree(self.room)
+
+    def prove(self) -> None:
+        """Proves the crate as it stands, so that trials begin with it, and keeps what was found."""
+        told = self.check()
+        if not told.is_proved:
+            raise SystemExit(f"audit: {self.crate} is not proved as it stands:\n{told.words[-2000:]}")
+        link_tree(self.folder / "out", self.room / "proved")
+
+    def check(self) -> Told:
+        """A check of the crate, as it stands in the clone."""
+        words = ["rt", "check", "--jobs", os.environ.get("RT_JOBS", "2")]
+        ran = subprocess.run(
+            words, cwd=self.folder, stdin=subprocess.DEVNULL, capture_output=True, text=True, errors="replace"
+        )
+        said = ran.stdout + ran.stderr
+        told = Told(is_proved=ran.returncode == 0, words=said)
+        told.is_verdict = told.is_proved or "\nlogic=not-proved" in said
+        for line in said.split("\n"):
+            self.hear(line, told)
+        return told
+
+    def hear(self, line: str, told: Told) -> None:
+        """Notes what a line tells of an open goal."""
+        source = SOURCE.match(line)
+        if source:
+            told.open[self.function_at(source[1], int(source[2]))].add(label_of(source[3]))
+            return
+        proof = PROOF.match(line)
+        if proof is None:
+            return
+        function = self.function_of(proof[1])
+        behind, goal = BEHIND.search(proof[2]), re.match(r"`([^`]+)`", proof[2])
+        if behind:
+            told.open[function].update(label_of(word) for word in GOAL_WORD.findall(behind[2]))
+        elif LOST_NAME.search(proof[2]):
+            told.open[function].add("name")
+        elif "/" not in proof[1]:
+            told.open[function].add("lemma")
+        elif goal:
+            told.open[function].add(label_of(goal[1]))
+
+    def function_at(self, path: str, line: int) -> str:
+        """The function that has this line of a file of src/."""
+        source = self.index.sources[f"crates/{self.crate}/{path}"]
+        place = sum(len(text) + 1 for text in source.text.split("\n")[: line - 1])
+        rest = source.text[place:]
+        item = self.index.at(source.path, place + len(rest) - len(rest.lstrip()))
+        return item.place if item else source.module
+
+    def function_of(self, path: str) -> str:
+        """The function whose proof a file of proofs/ is, or the file's own name."""
+        *folders, name, _ = ["", *path.split("/")]
+        if not name:
+            return path
+        for item in self.index.by_name.get(name, ()):
+            if item.source.crate == self.crate and item.kind == "fn" and is_folder_of(item, folders[1:]):
+                return item.place
+        return path
+
+    def attempt(self, edits: list[Edit]) -> Told:
+        """A check of the crate with these edits."""
+        shutil.rmtree(self.folder / "out")
+        link_tree(self.room / "proved", self.folder / "out")
+        made = edits[0].texts(self.folder) if len(edits) == 1 else self.joined(edits)
+        was = {path: (self.folder / path).read_text() for path in made}
+        try:
+            self.write(made)
+            return self.check()
+        finally:
+            self.write(was)
+
+    def write(self, texts: dict[str, str]) -> None:
+        """Writes texts of files of the crate."""
+        for path, text in texts.items():
+            (self.folder / path).write_text(text)
+
+    def joined(self, edits: list[Edit]) -> dict[str, str]:
+        """The texts of the files that edits of different functions change, with each function as its edit leaves it."""
+        parts: defaultdict[str, list[tuple[int, int, str]]] = defaultdict(list)
+        for edit in edits:
+            item = touched(edit, self.index)[0]
+            for path, text in edit.texts(self.folder).items():
+                more = len(text) - len(item.source.text)
+                parts[path].append((item.start, item.end, text[item.start : item.end + more]))
+        return {path: spliced((self.folder / path).read_text(), those) for path, those in parts.items()}
+
+
+def spliced(text: str, parts: list[tuple[int, int, str]]) -> str:
+    """A text with other parts between these places."""
+    for start, end, part in sorted(parts, reverse=True):
+        text = text[:start] + part + text[end:]
+    return text
+
+
+def is_folder_of(item: Item, folders: list[str]) -> bool:
+    """Whether a function's proofs stand in these folders: its module's, or its type's wherever that is."""
+    if not item.owner:
+        return folders == [part for part in item.source.module.split("::") if part]
+    return bool(folders) and re.match(rf"{item.owner}(?![a-z0-9_])", folders[-1]) is not None
+
+
+def link_tree(folder: pathlib.Path, to: pathlib.Path) -> None:
+    """A copy of a folder of kept work; what was proved is linked, as a check replaces such a file and changes none."""
+
+    def copy(one: str, other: str) -> object:
+        if not one.endswith(".oantt"):
+            return shutil.copy2(one, other)
+        pathlib.Path(other).hardlink_to(one)
+        return other
+
+    shutil.copytree(folder, to, symlinks=True, copy_function=copy)
+
+
+def functions_of(edit: Edit, index: Index) -> list[Item]:
+    """The items that an edit is the doing of: what it changes and what its clause names."""
+    return list(dict.fromkeys([*touched(edit, index), *named(edit, index)]))
+
+
+def is_single(edit: Edit, index: Index) -> bool:
+    """Whether an edit changes what only its own function sees, so that others may stand beside it."""
+    changed = touched(edit, index)
+    names_own = [item for item in named(edit, index) if item in changed]
+    return len(changed) == 1 and bool(names_own) and not changed[0].shows_body
+
+
+def next_round(left: list[Edit], index: Index) -> list[Edit]:
+    """Edits of different functions, or one that has to be alone."""
+    chosen: list[Edit] = []
+    taken: set[Item] = set()
+    for edit in left:
+        own = set(functions_of(edit, index))
+        if is_single(edit, index) and not own & taken:
+            chosen.append(edit)
+            taken |= own
+    return chosen or left[:1]
+
+
+def try_all(room: Room, edits: list[Edit]) -> dict[Edit, dict[str, set[str]]]:
+    """What each edit is refused by: the labels by function; nothing where it is not refused, or could not be read."""
+    found: dict[Edit, dict[str, set[str]]] = {}
+    left, alone = list(edits), list[Edit]()
+    while left or alone:
+        trial = next_round(left, room.index) if left else alone[:1]
+        told = room.attempt(trial)
+        well = [edit for edit in trial if told.open.get(edit.function)]
+        if len(trial) == 1:
+            found[trial[0]] = {} if told.is_proved or not told.is_verdict else dict(told.open)
+        else:
+            found.update({edit: {edit.function: told.open[edit.function]} for edit in well})
+            alone += [] if well else trial
+        left = [edit for edit in left if edit not in found and edit not in alone]
+        alone = [edit for edit in alone if edit not in found]
+    return found
