@@ -127,12 +127,17 @@ def named(edit: Edit, index: Index) -> list[Item]:
     return functions_at(edit.crate, edit.function, index)
 
 
+def lemmas_at(crate: str, place: str) -> pathlib.Path:
+    """The file of lemmas of a crate that has this name, if there is one."""
+    return TOP / "crates" / crate / "proofs" / f"{place}.antt"
+
+
 def unsaid(edit: Edit, index: Index) -> str:
     """Why the edit's line of a clause says nothing, or nothing."""
     if not edit.function:
         return "no line '# clause: FUNCTION (LABEL)' says what must refuse it"
     functions = named(edit, index)
-    if not functions and edit.label != "lemma":
+    if not functions and not (edit.label == "lemma" and lemmas_at(edit.crate, edit.function).is_file()):
         return f"{edit.function} is no function of {edit.crate}"
     labels = {label for item in functions for label in labels_of(item)}
     if edit.label in labels or edit.label in OTHER or edit.label.startswith("requires of "):
