@@ -5,7 +5,7 @@ import pathlib
 import shlex
 import subprocess
 from collections.abc import Sequence
-from typing import NamedTuple
+from typing import Any, NamedTuple
 
 from harness.places import CRATES, TOP
 
@@ -33,12 +33,19 @@ class Ran(NamedTuple):
     errors: str
 
 
-def command(words: Sequence[str], given: bytes | None = None, patience: float = PATIENCE) -> Ran:
-    """Runs a command on these bytes."""
-    ran = subprocess.run(words, input=given, capture_output=True, timeout=patience, check=False)
-    return Ran(ran.returncode, ran.stdout, ran.stderr.decode(errors="replace"))
+def command(words: Sequence[str], given: bytes = b"", stdin: int | None = None, stdout: int = subprocess.PIPE) -> Ran:
+    """Runs a command on these bytes, or on a descriptor that is open; its output is empty if it goes elsewhere."""
+    from_bytes: dict[str, Any] = {"input": given} if stdin is None else {"stdin": stdin}
+    ran = subprocess.run(words, **from_bytes, stdout=stdout, stderr=subprocess.PIPE, timeout=PATIENCE, check=False)
+    return Ran(ran.returncode, ran.stdout or b"", ran.stderr.decode(errors="replace"))
 
 
-def run(*words: str, given: bytes = b"", under: Sequence[str] = ()) -> Ran:
-    """Runs a line of the program on these bytes, under another command (as `strace`) if there is one."""
-    return command([*under, *DESK, *words], given)
+def run(
+    *words: str,
+    given: bytes = b"",
+    under: Sequence[str] = (),
+    stdin: int | None = None,
+    stdout: int = subprocess.PIPE
+) -> Ran:
+    """Runs a line of the program as `command` does, under another command (as `strace`) if there is one."""
+    return command([*under, *DESK, *words], given, stdin, stdout)

@@ -1,7 +1,15 @@
-"""The rows of a scenario."""
+"""Rows: those of a table, which are parameters of a test, and those of a scenario."""
 
+from collections.abc import Iterable
 from contextlib import AbstractContextManager
-from typing import Protocol
+from typing import Any, Protocol
+
+import pytest
+
+
+def named(table: Iterable[tuple[Any, ...]]) -> list[Any]:
+    """The rows of a table as parameters of a test: the first column is a row's name."""
+    return [pytest.param(*row[1:], id=row[0]) for row in table]
 
 
 class Subtests(Protocol):
@@ -12,10 +20,7 @@ class Subtests(Protocol):
 
 
 class Rows:
-    """Compares what a scenario gives, row by row: each is counted, and one that fails doesn't end the scenario.
-
-    A scenario is a test whose steps rest on those before. Rows that don't are parameters of a test instead.
-    """
+    """Compares what a scenario gives, row by row: each is counted, and one that fails doesn't end the scenario."""
 
     def __init__(self, subtests: Subtests) -> None:
         self._subtests = subtests
