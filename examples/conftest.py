@@ -33,7 +33,7 @@ from collections.abc import Callable, Iterator
 
 import pytest
 
-pytest.register_assert_rewrite("harness.rows")
+pytest.register_assert_rewrite("harness.rows", "tables.judging")
 
 from harness.program import DESK, run  # noqa: E402  (rewritten before it is read)
 from harness.rows import Rows, Subtests  # noqa: E402
