@@ -41,6 +41,15 @@ from harness.serving import Served  # noqa: E402
 from harness.setting import Setting  # noqa: E402
 
 
+def pytest_addoption(parser: pytest.Parser) -> None:
+    """How much is made at random, and of which seed."""
+    group = parser.getgroup("examples", "what is made at random")
+    group.addoption("--seed", type=int, default=1, help="the seed of streams, histories and bodies (1)")
+    group.addoption("--requests", type=int, default=1500, help="how many requests a stream has (1,500)")
+    group.addoption("--answers", type=int, default=3000, help="how many answers histories have (some 3,000)")
+    group.addoption("--bodies", type=int, default=1000, help="how many random bodies there are (1,000)")
+
+
 def pytest_sessionstart(session: pytest.Session) -> None:
     """Has the script uss_desk build the program, if it isn't built, once and before anything is timed."""
     is_worker = "PYTEST_XDIST_WORKER" in os.environ
