@@ -127,20 +127,26 @@ class Setting:
                     "--requests",
                     "1000000",
                 ]
-                self._desk = subprocess.Popen([DESK, *words], stdout=output, stderr=subprocess.DEVNULL)
+                self._desk = subprocess.Popen(
+                    [DESK, *words], stdout=output, stderr=subprocess.DEVNULL, start_new_session=True
+                )
                 self.starts += 1
                 self._desk.wait()
                 time.sleep(0.1)
 
     def kill_desk(self):
-        self._desk.send_signal(signal.SIGKILL)
+        self._signal_desk(signal.SIGKILL)
 
     def hold_desk(self):
         """The desk takes no connection until it is let go."""
-        self._desk.send_signal(signal.SIGSTOP)
+        self._signal_desk(signal.SIGSTOP)
 
     def let_desk_go(self):
-        self._desk.send_signal(signal.SIGCONT)
+        self._signal_desk(signal.SIGCONT)
+
+    def _signal_desk(self, number):
+        """Signals all processes of the desk: the script uss_desk runs the program as a child of its shell."""
+        os.killpg(self._desk.pid, number)
 
     def _start_proxy(self):
         text = (TOP / "examples" / "nginx.conf").read_text(encoding="utf-8")

@@ -1,10 +1,12 @@
 """A desk that serves at a port of this machine."""
 
+import contextlib
+import os
 import signal
 import socket
 import subprocess
 import tempfile
-from collections.abc import Sequence
+from collections.abc import Iterator, Sequence
 from typing import IO, Self
 
 from harness.ports import free_port
@@ -53,7 +55,11 @@ class Served:
         self.port, self.errors = port, tempfile.TemporaryFile()
         line = ["serve", "--port", str(port), "--requests", str(self.connections), *self._words]
         self.process = subprocess.Popen(
-            [*self._under, *DESK, *line], stdin=subprocess.DEVNULL, stdout=subprocess.PIPE, stderr=self.errors
+            [*self._under, *DESK, *line],
+            stdin=subprocess.DEVNULL,
+            stdout=subprocess.PIPE,
+            stderr=self.errors,
+            start_new_session=True,
         )
 
     def ask(self, request: bytes) -> bytes:
@@ -62,13 +68,19 @@ class Served:
             connection.sendall(request)
             return b"".join(iter(lambda: connection.recv(65_536), b""))
 
-    def hold(self) -> None:
-        """Lets it take no connection until it is let go."""
-        self.process.send_signal(signal.SIGSTOP)
+    @contextlib.contextmanager
+    def held(self) -> Iterator[None]:
+        """Within it the desk answers nothing."""
+        self._signal(signal.SIGSTOP)
+        try:
+            yield
+        finally:
+            self._signal(signal.SIGCONT)
 
-    def let_go(self) -> None:
-        """Lets it go on."""
-        self.process.send_signal(signal.SIGCONT)
+    def _signal(self, number: signal.Signals) -> None:
+        """Signals all its processes: the script uss_desk runs the program as a child of its shell."""
+        with contextlib.suppress(ProcessLookupError):
+            os.killpg(self.process.pid, number)
 
     def end(self) -> Ran:
         """How it ends by itself; what it has printed after its first line is in it."""
@@ -80,8 +92,8 @@ class Served:
 
     def kill(self) -> None:
         """Kills it, unless it has ended."""
-        self.process.kill()
         if not self.errors.closed:
+            self._signal(signal.SIGKILL)
             self.end()
 
     def restart(self) -> None:

@@ -1,12 +1,14 @@
 """A desk over a file, which is started again whenever it ends, behind nginx, for some operators."""
 
 import contextlib
+import os
 import pathlib
+import signal
 import subprocess
 import tempfile
 import threading
 import time
-from collections.abc import Mapping
+from collections.abc import Iterator, Mapping
 from typing import Self
 
 from harness.nginx import Nginx
@@ -65,11 +67,32 @@ class Setting:
         with open(self.folder / "output", "w", encoding="utf-8") as output:
             while not self._is_ending:
                 self.process = subprocess.Popen(
-                    [*DESK, "serve", *words], stdout=output, stderr=subprocess.DEVNULL, stdin=subprocess.DEVNULL
+                    [*DESK, "serve", *words],
+                    stdout=output,
+                    stderr=subprocess.DEVNULL,
+                    stdin=subprocess.DEVNULL,
+                    start_new_session=True,
                 )
                 self.starts += 1
                 self.process.wait()
                 time.sleep(0.1)
+
+    def kill(self) -> None:
+        """Kills the desk; it is started again."""
+        self._signal(signal.SIGKILL)
+
+    @contextlib.contextmanager
+    def held(self) -> Iterator[None]:
+        """Within it the desk answers nothing."""
+        self._signal(signal.SIGSTOP)
+        try:
+            yield
+        finally:
+            self._signal(signal.SIGCONT)
+
+    def _signal(self, number: signal.Signals) -> None:
+        """Signals all processes of the desk: the script uss_desk runs the program as a child of its shell."""
+        os.killpg(self.process.pid, number)
 
     def _end(self, keeper: threading.Thread) -> None:
         """Ends the desk for good."""

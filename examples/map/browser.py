@@ -21,6 +21,17 @@ PATIENCE = 30
 """Seconds after which what the page should show is taken for not there."""
 ZONE = "Europe/Zurich"
 """The local time of the browser: never that of UTC."""
+IS_STILL = """
+    const [element, done] = arguments;
+    element.scrollIntoView({ block: 'center' });
+    const place = () => JSON.stringify(element.getBoundingClientRect());
+    const before = place();
+    requestAnimationFrame(() => requestAnimationFrame(() => {
+        const { left, top, width, height } = element.getBoundingClientRect();
+        const there = document.elementFromPoint(left + width / 2, top + height / 2);
+        done(place() === before && element.contains(there));
+    }))"""
+"""Whether an element stays where it is over two frames, and is what a press at its middle meets."""
 WORDS = [
     "--headless=new",
     "--disable-gpu",
@@ -196,13 +207,13 @@ class Page:
             time.sleep(0.05)
 
     def act(self, selector, do):
-        """Does something with an element once it is there and can be used; again, if the page has drawn it anew."""
+        """Does something with an element once it is there, stands still and can be used; again, if the page has drawn
+        it anew."""
 
         def tried():
             try:
                 element = self.find(selector)
-                if element.get_attribute("disabled") is None:
-                    self.js("arguments[0].scrollIntoView({ block: 'center' })", element)
+                if element.get_attribute("disabled") is None and self.driver.execute_async_script(IS_STILL, element):
                     do(element)
                     return True
             except (NoSuchElementException, StaleElementReferenceException):
