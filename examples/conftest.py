@@ -24,6 +24,8 @@ DESK in the environment is the command that runs the program (the script uss_des
 | fixture `desk_file` | the path of a desk's file in it, in which operators are enrolled |
 """
 
+from __future__ import annotations
+
 import contextlib
 import os
 import pathlib

@@ -3,6 +3,8 @@
 First the cases of clients/mock_desk/tests/cases, in each of which a reader of the rules went wrong once.
 """
 
+from __future__ import annotations
+
 import itertools
 from collections.abc import Callable, Iterator
 

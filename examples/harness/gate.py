@@ -1,5 +1,7 @@
 """How a check of the gate runs: pytest over its files, with a last line `NAME: N passed, M failed`."""
 
+from __future__ import annotations
+
 import collections
 import os
 import sys

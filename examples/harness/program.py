@@ -1,5 +1,7 @@
 """The program: the command that runs it, and what a line of it comes to."""
 
+from __future__ import annotations
+
 import os
 import pathlib
 import shlex
@@ -45,7 +47,7 @@ def run(
     given: bytes = b"",
     under: Sequence[str] = (),
     stdin: int | None = None,
-    stdout: int = subprocess.PIPE
+    stdout: int = subprocess.PIPE,
 ) -> Ran:
     """Runs a line of the program as `command` does, under another command (as `strace`) if there is one."""
     return command([*under, *DESK, *words], given, stdin, stdout)

@@ -6,6 +6,8 @@ of which lengths, and what is held elsewhere must not show. Each answer is also 
 here.
 """
 
+from __future__ import annotations
+
 from collections.abc import Iterator, Sequence
 from typing import NamedTuple
 

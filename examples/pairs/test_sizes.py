@@ -1,5 +1,7 @@
 """Single lines of sizes at which a desk could give up."""
 
+from __future__ import annotations
+
 import json
 import pathlib
 import subprocess

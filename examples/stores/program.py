@@ -1,5 +1,7 @@
 """The part `stores` of crates/desk_trials, which plays a stream over the three stores."""
 
+from __future__ import annotations
+
 import pathlib
 import subprocess
 

@@ -1,5 +1,7 @@
 """Streams of requests over plans that are put, changed, closed, removed, shown, listed and cleared."""
 
+from __future__ import annotations
+
 import random
 import uuid
 from collections.abc import Iterator
@@ -121,4 +123,4 @@ def streams(seed: int, count: int) -> dict[str, Stream]:
         Stream(life(chance, count, flights(chance)), CITY_SPANS, SPANS),
         Stream(life(chance, count, teeth(chance)), COMB_SPANS, SPANS),
     ]
-    return dict(zip(NAMES, made, strict=True))
+    return dict(zip(NAMES, made))

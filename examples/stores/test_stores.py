@@ -1,5 +1,7 @@
 """The three desks give the same answers, and a stream has something for the stores to decide."""
 
+from __future__ import annotations
+
 import functools
 import pathlib
 import re
