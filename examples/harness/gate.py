@@ -69,7 +69,8 @@ def main(
         print(f"{name}: 0 passed, 1 failed")
         return 1
     before()
-    return run(name, ["-q", "-rfEs", "-n", processes, *words, *(str(EXAMPLES / file) for file in files)])
+    quiet = [] if any(word.startswith("-v") for word in words) else ["-q"]
+    return run(name, [*quiet, "-rfEs", "-n", processes, *words, *(str(EXAMPLES / file) for file in files)])
 
 
 def run(name: str, words: list[str]) -> int:
