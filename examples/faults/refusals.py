@@ -108,8 +108,9 @@ def check_target(target, step, lasting_step, processors):
     first, last = growths(target)
     part.count("growths", last + 1 - first)
     numbers = list(enumerate([*range(first, last, step), last + 1]))
-    work = lambda item: both(target, item[1], item[0] % lasting_step == 0)
-    for single, *lasting in side_by_side(work, numbers, processors):
+    for single, *lasting in side_by_side(
+        lambda item: both(target, item[1], item[0] % lasting_step == 0), numbers, processors
+    ):
         part.add(f"growth {single.number} alone", single.complaint)
         for after in lasting:
             part.add(f"growth {single.number} and later", first_of(after.complaint, lost_500(single, after)))

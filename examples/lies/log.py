@@ -1,7 +1,6 @@
 """Damage in the log that a killed desk left: the file is refused, or has what was answered, or that without its last
 changes; and damage in FILE beside such a log."""
 import itertools
-import pathlib
 import random
 import re
 from typing import List, NamedTuple

@@ -25,7 +25,7 @@ def sizes(checks, setting, programs, driver):
 
 
 def fits(checks, page, what, width):
-    """Nothing of the page, but for what scrolls by itself, reaches beyond its width; what is pressed is large enough."""
+    """Nothing of the page, but what scrolls by itself, reaches beyond its width; what is pressed is large enough."""
     checks.told(f"{what}: the page's width", width, page.js("return document.documentElement.scrollWidth"))
     small = page.js(
         """return [...document.querySelectorAll("button:not(.plain), select, input:not([type=checkbox])")]
