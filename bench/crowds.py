@@ -8,7 +8,13 @@ The other rows are plans of the greatest number of volumes, most of one operator
 import datetime
 import json
 import random
+import re
 import uuid
+from collections.abc import Callable, Iterator
+from typing import Any
+
+Json = dict[str, Any]
+Square = tuple[int, int]
 
 CITY_LEVEL, CITY_SIDE, HUBS, REACH = 17, 128, 20, 40
 CORNER = (37 * CITY_SIDE, 90 * CITY_SIDE)
@@ -20,18 +26,18 @@ CHILDREN = ((0, 1, 3, 2), (0, 2, 3, 1), (3, 2, 0, 1), (3, 1, 0, 2))
 TURNS = (1, 0, 0, 3)
 
 
-def token_of(cell):
+def token_of(cell: int) -> str:
     """The token of a cell id."""
     return f"{cell:016x}".rstrip("0")
 
 
-def cell_at(level, position):
+def cell_at(level: int, position: int) -> int:
     """The id of the cell of face 0 at a position of its level."""
     free = 2 * (30 - level)
     return position << free + 1 | 1 << free
 
 
-def position(level, i, j):
+def position(level: int, i: int, j: int) -> int:
     """The position on the curve of a square of face 0."""
     at = turn = 0
     for bit in range(level - 1, -1, -1):
@@ -40,15 +46,21 @@ def position(level, i, j):
     return at
 
 
-def request(method, path, operator, body=b""):
+def request(method: str, path: str, operator: str, body: bytes = b"") -> bytes:
     """A request's bytes."""
     head = f"{method} {path} HTTP/1.1\r\nhost: desk\r\nx-operator: {operator}\r\ncontent-length: {len(body)}\r\n\r\n"
     return head.encode() + body
 
 
-def volume(shape, lower, upper, start="2026-06-01T12:00:00Z", end="2026-06-01T13:00:00Z"):
+def moment(value: str) -> Json:
+    """A moment as a request has it."""
+    return {"format": "RFC3339", "value": value}
+
+
+def volume(
+    shape: Json, lower: int, upper: int, start: str = "2026-06-01T12:00:00Z", end: str = "2026-06-01T13:00:00Z"
+) -> Json:
     """A volume of a shape: cells or a rectangle."""
-    moment = lambda value: {"format": "RFC3339", "value": value}
     return {
         "time_end": moment(end),
         "time_start": moment(start),
@@ -56,7 +68,7 @@ def volume(shape, lower, upper, start="2026-06-01T12:00:00Z", end="2026-06-01T13
     }
 
 
-def put(operator, plan, volumes, priority=10, style="IfAllowed"):
+def put(operator: str, plan: uuid.UUID, volumes: list[Json], priority: int = 10, style: str = "IfAllowed") -> bytes:
     """A PUT of a plan."""
     asked = {
         "execution_style": style,
@@ -69,18 +81,19 @@ def put(operator, plan, volumes, priority=10, style="IfAllowed"):
     return request("PUT", f"/flight_plans/{plan}", operator, json.dumps(asked, separators=(",", ":")).encode())
 
 
-def line(one, other):
+def line(one: Square, other: Square) -> list[Square]:
     """The squares between two, both included, each once, at most CELLS of them."""
-    steps = max(abs(other[0] - one[0]), abs(other[1] - one[1]), 1)
-    way = [tuple(a + (b - a) * step // steps for a, b in zip(one, other)) for step in range(steps + 1)]
+    i, j = other[0] - one[0], other[1] - one[1]
+    steps = max(abs(i), abs(j), 1)
+    way = [(one[0] + i * step // steps, one[1] + j * step // steps) for step in range(steps + 1)]
     return list(dict.fromkeys(way))[:CELLS]
 
 
-def flight(chance, hubs, days=25):
+def flight(chance: random.Random, hubs: list[Square], days: int = 25) -> Json:
     """A volume of a flight in the city, on one of so many days."""
     hub = chance.choice(hubs)
-    to = [min(max(at + chance.randrange(-REACH, REACH + 1), 0), CITY_SIDE - 1) for at in hub]
-    squares = [position(CITY_LEVEL, CORNER[0] + i, CORNER[1] + j) for i, j in line(hub, to)]
+    to_i, to_j = (min(max(at + chance.randrange(-REACH, REACH + 1), 0), CITY_SIDE - 1) for at in hub)
+    squares = [position(CITY_LEVEL, CORNER[0] + i, CORNER[1] + j) for i, j in line(hub, (to_i, to_j))]
     start = datetime.datetime(2026, 6, 1, 12, 10) + datetime.timedelta(minutes=chance.randrange(days * 24 * 60))
     written = [at.strftime("%Y-%m-%dT%H:%M:%SZ") for at in (start, start + datetime.timedelta(minutes=10))]
     band = chance.randrange(4) * 300
@@ -88,7 +101,7 @@ def flight(chance, hubs, days=25):
     return volume({"cells": cells}, band, band + 300, *written)
 
 
-def city(count, asked=0):
+def city(count: int, asked: int = 0) -> Iterator[bytes]:
     """So many first PUTs of a city, 200 an operator, and then so many that only ask."""
     chance = random.Random(7)
     hubs = [(chance.randrange(CITY_SIDE), chance.randrange(CITY_SIDE)) for _ in range(HUBS)]
@@ -98,7 +111,7 @@ def city(count, asked=0):
         yield put(f"op{number // 200}", identity, [flight(chance, hubs)], style=style)
 
 
-def strips(count, operator="op0", volumes=VOLUMES, first=0):
+def strips(count: int, operator: str = "op0", volumes: int = VOLUMES, first: int = 0) -> Iterator[bytes]:
     """Plans on one ground at altitudes of their own, each of 32 strips, one above the other, of one column. A plan of
     fewer volumes has fewer strips; `first` numbers the first of them."""
     rows = {"j_min": FIRST_ROW, "j_max": FIRST_ROW + ROWS - 1}
@@ -108,12 +121,18 @@ def strips(count, operator="op0", volumes=VOLUMES, first=0):
         yield put(operator, uuid.UUID(int=number + 1), [volume({"rectangle": column}, at, at + 10) for at in lowers])
 
 
-def random_cells(chance, count):
+def length_of(head: bytes) -> int:
+    """How many bytes an answer has behind its head."""
+    found = re.search(rb"(?i)content-length: (\d+)", head)
+    return int(found[1]) if found else 0
+
+
+def random_cells(chance: random.Random, count: int) -> list[str]:
     """Random cells of level 16."""
     return [token_of(chance.randrange(6) << 61 | chance.randrange(1 << 32) << 29 | 1 << 28) for _ in range(count)]
 
 
-def same(count):
+def same(count: int) -> Iterator[bytes]:
     """Plans of 32 volumes of 64 cells, the same cells in each, at altitudes of their own."""
     chance = random.Random(5)
     areas = [{"cells": random_cells(chance, CELLS)} for _ in range(VOLUMES)]
@@ -122,7 +141,7 @@ def same(count):
         yield put("op0", uuid.UUID(int=number + 1), [volume(area, lower, lower + 100) for area in areas])
 
 
-def comb(count, operators=1):
+def comb(count: int, operators: int = 1) -> Iterator[bytes]:
     """Plans of 32 volumes of 64 cells whose leaves lie side by side, in one window and at the same altitudes."""
     for number in range(count):
         places = [
@@ -133,17 +152,17 @@ def comb(count, operators=1):
         yield put(f"op{number % operators}", uuid.UUID(int=number + 1), [volume(area, 0, 1000) for area in areas])
 
 
-def combs(count):
+def combs(count: int) -> Iterator[bytes]:
     """The same, by two operators in turn."""
     return comb(count, operators=2)
 
 
-def wide():
+def wide() -> bytes:
     """A plan of 24 volumes, each a cell of level 1, so that it has more long spans than are asked for by themselves."""
     cells = [token_of(face << 61 | quarter << 59 | 1 << 58) for face in range(6) for quarter in range(4)]
     return put("op0", uuid.UUID(int=1), [volume({"cells": [cell]}, 50_000, 51_000) for cell in cells])
 
 
-LISTED = {"strips": strips, "same": same, "comb": comb, "combs": combs}
+LISTED: dict[str, Callable[[int], Iterator[bytes]]] = {"strips": strips, "same": same, "comb": comb, "combs": combs}
 SHOWN_LIST = request("GET", "/flight_plans", "op0")
 OVER_A_FACE = [put("op1", uuid.UUID(int=1), [volume({"cells": ["1"]}, -10_000, 200_000)], priority=5)]

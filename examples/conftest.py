@@ -24,6 +24,8 @@ DESK in the environment is the command that runs the program (the script uss_des
 | fixture `desk_file` | the path of a desk's file in it, in which operators are enrolled |
 """
 
+from __future__ import annotations
+
 import contextlib
 import os
 import pathlib
@@ -39,6 +41,15 @@ from harness.program import DESK, run  # noqa: E402  (rewritten before it is rea
 from harness.rows import Rows, Subtests  # noqa: E402
 from harness.serving import Served  # noqa: E402
 from harness.setting import Setting  # noqa: E402
+
+
+def pytest_addoption(parser: pytest.Parser) -> None:
+    """How much is made at random, and of which seed."""
+    group = parser.getgroup("examples", "what is made at random")
+    group.addoption("--seed", type=int, default=1, help="the seed of streams, histories and bodies (1)")
+    group.addoption("--requests", type=int, default=1500, help="how many requests a stream has (1,500)")
+    group.addoption("--answers", type=int, default=3000, help="how many answers histories have (some 3,000)")
+    group.addoption("--bodies", type=int, default=1000, help="how many random bodies there are (1,000)")
 
 
 def pytest_sessionstart(session: pytest.Session) -> None:

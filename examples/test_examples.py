@@ -1,6 +1,8 @@
 """Each NAME.http of this folder, played at an empty desk of two operators, is answered by NAME.answer, byte for byte;
 and a plan is kept from one run over a file to the next."""
 
+from __future__ import annotations
+
 import pathlib
 
 import pytest

@@ -3,6 +3,8 @@
 A line that is refused prints nothing on standard output but the answers to what came before.
 """
 
+from __future__ import annotations
+
 import os
 import pathlib
 from collections.abc import Iterator

@@ -1,19 +1,24 @@
 """What bash and zsh offer behind uss_desk: the lines of RULES' table, and the options of each."""
+import pathlib
 import re
+from typing import Optional
 
 from tables import lines_of_the_program
+
+Option = tuple[str, Optional[str]]
+"""Its name, and that of its value."""
 
 # Values that are paths; of others nothing is offered.
 PATHS = ("FILE", "NEW")
 
 
-def options_of(words):
+def options_of(words: list[str]) -> list[Option]:
     """The options among a line's words, each with the name of its value, or with none."""
     found = [re.match(r"\[?(--[a-z-]+)(?: ([^\]]+))?\]?$", word) for word in words]
     return [(it[1], it[2]) for it in found if it]
 
 
-def all_options(top):
+def all_options(top: pathlib.Path) -> list[Option]:
     """Each option of some line, with the name of its value, or with none."""
     return sorted(
         {option for _, words, _ in lines_of_the_program(top) for option in options_of(words)},
@@ -21,7 +26,7 @@ def all_options(top):
     )
 
 
-def for_bash(top):
+def for_bash(top: pathlib.Path) -> str:
     lines = lines_of_the_program(top)
     paths = "|".join(name for name, value in all_options(top) if value in PATHS)
     values = "|".join(name for name, value in all_options(top) if value and value not in PATHS)
@@ -52,14 +57,14 @@ complete -F _uss_desk uss_desk
 """
 
 
-def zsh_option(name, value):
+def zsh_option(name: str, value: Optional[str]) -> str:
     """An option as zsh's _arguments takes it."""
     if not value:
         return f"'{name}'"
     return f"'{name}=:{value}:{'_files' if value in PATHS else ' '}'"
 
 
-def for_zsh(top):
+def for_zsh(top: pathlib.Path) -> str:
     lines = lines_of_the_program(top)
     cases = "".join(
         f"    {line}) _arguments {' '.join([*(zsh_option(*it) for it in options_of(words)), '--help'])} ;;\n"

@@ -1,5 +1,7 @@
 """Manual pages: the desk's, of the tables of RULES and KEEPING; and those of commands that tell their own help."""
+import pathlib
 import re
+from typing import Optional
 
 from tables import codes_in, failures, lines_of_the_program, plain, rows_of
 
@@ -24,28 +26,28 @@ FILES = (
 )
 
 
-def escaped(text):
+def escaped(text: str) -> str:
     """A text as roff takes it."""
     text = text.replace("\\", "\\e").replace("-", "\\-").replace("'", "\\(aq")
     return re.sub(r"^\.", r"\\&.", text, flags=re.MULTILINE)
 
 
-def marked(text):
+def marked(text: str) -> str:
     """A text of a document: what is between backquotes is bold, and where to read more is left out."""
     parts = plain(re.sub(r"\s*\(\[[^\]]*\]\([^)\s]*\)\)", "", text)).split("`")
     return "".join(f"\\fB{escaped(part)}\\fR" if at % 2 else escaped(part) for at, part in enumerate(parts))
 
 
-def bold(text):
+def bold(text: str) -> str:
     return f"\\fB{escaped(text)}\\fR"
 
 
-def tagged(tag, text):
+def tagged(tag: str, text: str) -> str:
     """A paragraph under a tag."""
     return f".TP\n{tag}\n{text}\n"
 
 
-def desk_page(top, version):
+def desk_page(top: pathlib.Path, version: str) -> str:
     """uss_desk(1): its lines, its words and its statuses are those of the documents."""
     parts = [
         f'.TH USS_DESK 1 "" "uss_desk {version}" "The planning desk"\n',
@@ -69,7 +71,7 @@ def desk_page(top, version):
     return "".join(parts)
 
 
-def page_of_help(name, told, purpose=None):
+def page_of_help(name: str, told: str, purpose: Optional[str] = None) -> str:
     """A page of what a command tells as its help; its purpose is the help's first sentence unless it is given."""
     usage, _, rest = told.partition("\n\n")
     purpose = purpose or re.split(r"[.:]\s", rest.strip(), maxsplit=1)[0].replace("\n", " ")

@@ -65,7 +65,7 @@ pub fn point_of_four(key: usize) -> &'static FourPoints
 """
 
 
-def four_levels(turn, i, j):
+def four_levels(turn: int, i: int, j: int) -> tuple[int, int]:
     """The place of a point in a square of 16 by 16, and the orientation there."""
     place = 0
     for bit in (3, 2, 1, 0):
@@ -76,7 +76,7 @@ def four_levels(turn, i, j):
     return place, turn
 
 
-def print_table(name, entry_type, macro, entries):
+def print_table(name: str, entry_type: str, macro: str, entries: list[str]) -> None:
     print(f"\nstatic {name}: [{entry_type}; {len(entries)}] = {macro}![")
     for first in range(0, len(entries), 8):
         print("    " + ", ".join(entries[first : first + 8]) + ",")

@@ -1,9 +1,11 @@
 """How a check of the gate runs: pytest over its files, with a last line `NAME: N passed, M failed`."""
 
+from __future__ import annotations
+
 import collections
 import os
 import sys
-from collections.abc import Mapping, Sequence
+from collections.abc import Callable, Mapping, Sequence
 from typing import TYPE_CHECKING
 
 from harness.places import EXAMPLES
@@ -50,11 +52,12 @@ def main(
     needs: tuple[str, ...] = (),
     packages: Mapping[str, str] | None = None,
     processes: str = "0",
+    before: Callable[[], object] = lambda: None,
 ) -> int:
     """Runs the tests of these files of examples/; the exit status.
 
     `needs` are tools as harness.tools has them, `packages` those that it lacks. `processes` is -n, unless it is given:
-    "auto" (one a processor) where tests take longer than as many processes to start.
+    "auto" (one a processor) where tests take longer than as many processes to start. `before` makes what they run.
     """
     words = sys.argv[1:]
     if "-h" in words or "--help" in words:
@@ -65,7 +68,9 @@ def main(
         print(f"{name}: these aren't installed: apt-get install -y {' '.join(lacking)}", file=sys.stderr)
         print(f"{name}: 0 passed, 1 failed")
         return 1
-    return run(name, ["-q", "-rfEs", "-n", processes, *words, *(str(EXAMPLES / file) for file in files)])
+    before()
+    quiet = [] if any(word.startswith("-v") for word in words) else ["-q"]
+    return run(name, [*quiet, "-rfEs", "-n", processes, *words, *(str(EXAMPLES / file) for file in files)])
 
 
 def run(name: str, words: list[str]) -> int:

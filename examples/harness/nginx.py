@@ -1,10 +1,11 @@
 """nginx with examples/nginx.conf before a desk, at ports of its own."""
 
+from __future__ import annotations
+
 import pathlib
 import shutil
 import subprocess
 from collections.abc import Mapping
-from typing import Self
 
 from harness.places import EXAMPLES
 from harness.ports import PATIENCE, free_port, is_listening, until
@@ -42,7 +43,7 @@ class Nginx:
         lines = "".join(f"{name}:{{PLAIN}}{password}\n" for name, password in self._passwords.items())
         (self._folder / "operators.htpasswd").write_text(lines, encoding="utf-8")
 
-    def __enter__(self) -> Self:
+    def __enter__(self) -> Nginx:
         self._write()
         words = ["nginx", "-p", str(self._folder), "-c", str(self._folder / "nginx.conf")]
         with open(self._folder / "nginx.errors", "w", encoding="utf-8") as errors:

@@ -1,5 +1,7 @@
 """Where things are in the repository."""
 
+from __future__ import annotations
+
 import pathlib
 
 EXAMPLES = pathlib.Path(__file__).resolve().parent.parent

@@ -1,5 +1,7 @@
 """Ports of this machine, and waiting for whoever listens there."""
 
+from __future__ import annotations
+
 import os
 import random
 import socket

@@ -1,5 +1,7 @@
 """The program: the command that runs it, and what a line of it comes to."""
 
+from __future__ import annotations
+
 import os
 import pathlib
 import shlex

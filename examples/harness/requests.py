@@ -3,6 +3,8 @@
 All are in the form of docs/RULES.md. Plans are in an hour of 2026-06-01, and MOMENT is 200 seconds before it.
 """
 
+from __future__ import annotations
+
 import json
 import uuid
 from collections.abc import Mapping, Sequence

@@ -1,5 +1,7 @@
 """Rows: those of a table, which are parameters of a test, and those of a scenario."""
 
+from __future__ import annotations
+
 from collections.abc import Iterable
 from contextlib import AbstractContextManager
 from typing import Any, Protocol
@@ -29,6 +31,11 @@ class Rows:
         """Two values are the same."""
         with self._subtests.test(what):
             assert got == wanted, what
+
+    def at_most(self, what: str, most: float, got: float) -> None:
+        """A number isn't greater than another."""
+        with self._subtests.test(what):
+            assert got <= most, what
 
     def holds(self, what: str, is_so: object) -> None:
         """Something holds."""

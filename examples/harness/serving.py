@@ -1,5 +1,7 @@
 """A desk that serves at a port of this machine."""
 
+from __future__ import annotations
+
 import contextlib
 import os
 import signal
@@ -7,7 +9,7 @@ import socket
 import subprocess
 import tempfile
 from collections.abc import Iterator, Sequence
-from typing import IO, Self
+from typing import IO
 
 from harness.ports import free_port
 from harness.program import DESK, Ran
@@ -101,7 +103,7 @@ class Served:
         self.kill()
         self.start()
 
-    def __enter__(self) -> Self:
+    def __enter__(self) -> Served:
         self.start()
         return self
 

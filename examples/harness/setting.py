@@ -1,5 +1,7 @@
 """A desk over a file, which is started again whenever it ends, behind nginx, for some operators."""
 
+from __future__ import annotations
+
 import contextlib
 import os
 import pathlib
@@ -9,7 +11,6 @@ import tempfile
 import threading
 import time
 from collections.abc import Iterator, Mapping
-from typing import Self
 
 from harness.nginx import Nginx
 from harness.ports import PATIENCE, free_port, until
@@ -37,7 +38,7 @@ class Setting:
         """Where nginx is asked."""
         return self.nginx.url
 
-    def __enter__(self) -> Self:
+    def __enter__(self) -> Setting:
         with contextlib.ExitStack() as left:
             self.folder = pathlib.Path(left.enter_context(tempfile.TemporaryDirectory(prefix="setting-")))
             # nginx's workers, which are another user's, read what is in it

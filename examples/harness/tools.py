@@ -1,5 +1,7 @@
 """What of Debian a check needs."""
 
+from __future__ import annotations
+
 import importlib.util
 import os
 import pathlib

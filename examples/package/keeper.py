@@ -1,5 +1,5 @@
-"""What a keeper does with the packages on a clean machine, by the lines that KEEPING prints: install, enrol, proxy; then
-an upgrade, downgrades, a removal and a purge."""
+"""What a keeper does with the packages on a clean machine, by the lines that KEEPING prints: install, enrol, proxy;
+then an upgrade, downgrades, a removal and a purge."""
 import re
 import time
 

@@ -146,7 +146,8 @@ def hangs_up(bare, port):
     asked = [f"/flight_plans/{number}" for number in range(40)]
     with bare, ThreadPoolExecutor(AT_ONCE) as pool:
         answers = list(pool.map(lambda path: ask(port, "alfa", "PUT", path, LARGEST[1]), asked))
-    yield "requests that a desk gets that hangs up", f"{len(asked)} of {len(asked)}", f"{len(bare.paths)} of {len(set(bare.paths))}"
+    came = f"{len(bare.paths)} of {len(set(bare.paths))}"
+    yield "requests that a desk gets that hangs up", f"{len(asked)} of {len(asked)}", came
     yield "what is told then", str({(502, "2", WORD)}), str({(a.status, a.after, a.body) for a in answers})
 
 

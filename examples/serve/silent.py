@@ -46,7 +46,7 @@ def opened(port, asked, room=None):
 
 
 def taken(client):
-    """All that still comes by a connection, up to its end, a reset, or the end of patience; the status, and the body."""
+    """All that still comes by a connection, to its end, a reset, or the end of patience; the status, and the body."""
     told = b""
     try:
         for part in iter(lambda: client.recv(65536), b""):

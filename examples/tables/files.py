@@ -1,5 +1,7 @@
 """Files of SQLite: made by statements, and what is in them."""
 
+from __future__ import annotations
+
 import os
 import pathlib
 import shutil

@@ -1,5 +1,7 @@
 """What the program does with a file: it opens it, moves it, copies it, or refuses it and leaves it as it is."""
 
+from __future__ import annotations
+
 import os
 from typing import Any
 

@@ -1,5 +1,7 @@
 """Copies and openings that are killed at each call that writes, and copies for which there is no room."""
 
+from __future__ import annotations
+
 import os
 import pathlib
 import shutil

@@ -1,5 +1,7 @@
 """Files that are looked into by `check` and copied by `copy`, or refused by both with the cause."""
 
+from __future__ import annotations
+
 import contextlib
 import os
 import pathlib

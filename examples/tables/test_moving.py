@@ -1,5 +1,7 @@
 """Files of schema 1, moved to schema 2, or refused and left as they are."""
 
+from __future__ import annotations
+
 import pathlib
 import subprocess
 

@@ -1,5 +1,7 @@
 """Files that the program opens, or refuses and leaves as they are, byte for byte."""
 
+from __future__ import annotations
+
 import pathlib
 from typing import NamedTuple
 

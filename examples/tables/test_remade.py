@@ -1,5 +1,7 @@
 """Files that sqlite3 made of a desk's, packed files, and files that look like them."""
 
+from __future__ import annotations
+
 import os
 import pathlib
 import subprocess

@@ -2,13 +2,15 @@
 import copy
 import json
 import random
+from collections.abc import Iterator
+from typing import Any
 
 import pytest
 
-from interuss_bridge.messages import Malformed, NotSupported, extent_of, read_object, response_of, upsert_of
+from interuss_bridge.messages import Malformed, NotSupported, Upsert, extent_of, read_object, response_of, upsert_of
 from uss_desk_client import Answer, Conflict
 
-VOLUME = {
+VOLUME: Any = {
     "volume": {
         "outline_polygon": {
             "vertices": [{"lat": 47.0, "lng": 8.0}, {"lat": 47.0, "lng": 8.01}, {"lat": 47.01, "lng": 8.01}]
@@ -19,7 +21,7 @@ VOLUME = {
     "time_start": {"value": "2026-06-01T12:00:00.9Z", "format": "RFC3339"},
     "time_end": {"value": "2026-06-01T13:00:00.1Z", "format": "RFC3339"},
 }
-MESSAGE = {
+MESSAGE: Any = {
     "request_id": "r",
     "execution_style": "IfAllowed",
     "flight_plan": {
@@ -30,11 +32,11 @@ MESSAGE = {
 NOON = 1_780_315_200
 
 
-def asked(message):
+def asked(message: Any) -> Upsert:
     return upsert_of(read_object(json.dumps(message).encode()))
 
 
-def put(path, value):
+def put(path: tuple[Any, ...], value: Any) -> Any:
     message = copy.deepcopy(MESSAGE)
     holder = message
     *before, last = path
@@ -51,7 +53,7 @@ BASIC = ("flight_plan", "basic_information")
 AREA = (*BASIC, "area", 0)
 
 
-def test_a_message():
+def test_a_message() -> None:
     upsert = asked(MESSAGE)
     (volume,) = upsert.area
     assert (volume.lower, volume.upper, volume.start, volume.end) == (600, 1_200, NOON, NOON + 3_601)
@@ -60,7 +62,7 @@ def test_a_message():
     assert upsert.body["flight_plan"]["astm_f3548_21"] == {"priority": 7}
 
 
-def test_what_is_passed_over():
+def test_what_is_passed_over() -> None:
     message = put(("flight_plan", "additional_information"), {"x": 1})
     message["flight_plan"]["uspace_flight_authorisation"] = {"uas_class": "C1"}
     assert asked(message) == asked(MESSAGE)
@@ -91,7 +93,7 @@ def test_what_is_passed_over():
         ((*AREA, "volume", "outline_circle"), {}, "both a circle and a polygon"),
     ],
 )
-def test_what_is_not_of_the_published_form(path, value, told):
+def test_what_is_not_of_the_published_form(path: tuple[Any, ...], value: Any, told: str) -> None:
     with pytest.raises(Malformed, match=told):
         asked(put(path, value))
 
@@ -110,7 +112,7 @@ def test_what_is_not_of_the_published_form(path, value, told):
         ((*AREA, "time_end", "value"), "2026-07-10T12:00:00Z", "make 39 volumes"),
     ],
 )
-def test_what_the_desk_has_no_words_for(path, value, told):
+def test_what_the_desk_has_no_words_for(path: tuple[Any, ...], value: Any, told: str) -> None:
     with pytest.raises(NotSupported, match=told):
         asked(put(path, value))
 
@@ -118,7 +120,7 @@ def test_what_the_desk_has_no_words_for(path, value, told):
 @pytest.mark.parametrize(
     "data", [b"", b"[]", b"{", b"\xff", b'{"a":NaN}', b'{"a":1e99999999999999999999}', b"[" * 9_999]
 )
-def test_no_objects(data):
+def test_no_objects(data: bytes) -> None:
     with pytest.raises(Malformed):
         read_object(data)
 
@@ -127,12 +129,12 @@ def test_no_objects(data):
 @pytest.mark.parametrize(
     "path", [(*AREA, "volume", "altitude_upper", "value"), (*AREA, "volume", "outline_polygon", "vertices", 0, "lng")]
 )
-def test_huge_numbers(path, number):
+def test_huge_numbers(path: tuple[Any, ...], number: str) -> None:
     with pytest.raises(Malformed, match="above 1,000,000,000"):
         upsert_of(read_object(json.dumps(put(path, "NUMBER")).replace('"NUMBER"', number).encode()))
 
 
-def places(value, path=()):
+def places(value: Any, path: tuple[Any, ...] = ()) -> Iterator[tuple[Any, ...]]:
     """The paths of all members and items of a value."""
     for name, part in (
         value.items() if isinstance(value, dict) else enumerate(value) if isinstance(value, list) else ()
@@ -141,7 +143,7 @@ def places(value, path=()):
         yield from places(part, (*path, name))
 
 
-ODD = [
+ODD: list[Any] = [
     None,
     True,
     0,
@@ -167,7 +169,7 @@ ODD = [
 
 
 @pytest.mark.parametrize("seed", range(300))
-def test_whatever_comes_is_read_or_refused(seed):
+def test_whatever_comes_is_read_or_refused(seed: int) -> None:
     some = random.Random(seed)
     message = copy.deepcopy({**MESSAGE, "extent": VOLUME})
     if some.random() < 0.3:
@@ -189,7 +191,7 @@ def test_whatever_comes_is_read_or_refused(seed):
             assert str(refused)
 
 
-def test_a_circle_and_30_hours():
+def test_a_circle_and_30_hours() -> None:
     message = put((*AREA, "volume", "outline_polygon"), ...)
     message["flight_plan"]["basic_information"]["area"][0]["volume"]["outline_circle"] = {
         "center": {"lat": 47, "lng": 8},
@@ -202,7 +204,7 @@ def test_a_circle_and_30_hours():
     ]
 
 
-def test_an_extent_without_altitudes_is_of_all():
+def test_an_extent_without_altitudes_is_of_all() -> None:
     extent = copy.deepcopy(VOLUME)
     del extent["volume"]["altitude_lower"], extent["volume"]["altitude_upper"]
     (volume,) = extent_of(read_object(json.dumps({"request_id": "r", "extent": extent}).encode()))
@@ -211,7 +213,7 @@ def test_an_extent_without_altitudes_is_of_all():
         extent_of({"extent": extent})
 
 
-def test_an_extent_of_many_days():
+def test_an_extent_of_many_days() -> None:
     extent = copy.deepcopy(VOLUME)
     message = {"request_id": "r", "extent": extent}
     extent["time_start"]["value"], extent["time_end"]["value"] = "2026-06-01T00:00:00Z", "2026-08-04T00:00:00Z"
@@ -223,7 +225,7 @@ def test_an_extent_of_many_days():
         extent_of(read_object(json.dumps(message).encode()))
 
 
-def test_answers():
+def test_answers() -> None:
     done = response_of(Answer("Completed", "OkToFly"), False)
     assert done == {
         "planning_result": "Completed",

@@ -1,6 +1,7 @@
 """Drafts as the page sends them, right and wrong; the grid beneath the map."""
 import copy
 import random
+from typing import Any
 
 import pytest
 
@@ -10,7 +11,7 @@ from uss_desk_map.drafts import Wrong, draft_of
 from uss_desk_map.ground import grid_over, ring_of_rectangle, rings_of
 
 PLACES = [[8.54, 47.37], [8.556, 47.369], [8.56, 47.379]]
-DRAFT = {
+DRAFT: dict[str, Any] = {
     "kind": "polygon",
     "places": PLACES,
     "cells": [],
@@ -25,7 +26,7 @@ DRAFT = {
 }
 
 
-def test_a_draft_is_an_area():
+def test_a_draft_is_an_area() -> None:
     draft = draft_of(DRAFT)
     assert draft.shape == Polygon(((8.54, 47.37), (8.556, 47.369), (8.56, 47.379)))
     (volume,) = draft.area()
@@ -34,7 +35,7 @@ def test_a_draft_is_an_area():
     assert [one.start for one in draft.later(900).area()] == [DRAFT["start"] + 900]
 
 
-def test_the_other_kinds():
+def test_the_other_kinds() -> None:
     assert draft_of({**DRAFT, "kind": "line"}).shape == Corridor(draft_of(DRAFT).places, 200)
     assert draft_of({**DRAFT, "kind": "circle"}).shape == Circle((8.54, 47.37), 200)
     kept = draft_of({**DRAFT, "kind": "cells", "places": [], "cells": ["04", "479AA0A5C"]})
@@ -52,7 +53,7 @@ def test_the_other_kinds():
         ("priority", True), ("at_most", 5), ("at_most", 2_049), ("plan_id", 5), ("plan_id", "x" * 101),
     ],
 )  # fmt: skip
-def test_what_is_no_draft(member, value):
+def test_what_is_no_draft(member: str, value: Any) -> None:
     with pytest.raises(Wrong):
         draft_of({**DRAFT, member: value})
 
@@ -73,12 +74,12 @@ def test_what_is_no_draft(member, value):
         ({"upper": 2e9}, Wrong),
     ],
 )
-def test_drafts_that_are_no_areas(members, wrong):
+def test_drafts_that_are_no_areas(members: dict[str, Any], wrong: type[Exception]) -> None:
     with pytest.raises(wrong):
         draft_of({**DRAFT, **members}).area()
 
 
-ODD = [
+ODD: list[Any] = [
     None,
     True,
     -1,
@@ -99,7 +100,7 @@ ODD = [
 
 
 @pytest.mark.parametrize("seed", range(200))
-def test_whatever_comes_is_an_area_or_told(seed):
+def test_whatever_comes_is_an_area_or_told(seed: int) -> None:
     some = random.Random(seed)
     value = copy.deepcopy(DRAFT)
     value["kind"] = some.choice(["polygon", "line", "circle", "cells"])
@@ -111,32 +112,33 @@ def test_whatever_comes_is_an_area_or_told(seed):
         assert str(why)
 
 
-def inside(place, low, high):
+def inside(place: tuple[float, float], low: tuple[float, float], high: tuple[float, float]) -> bool:
     return all(one <= at <= other for one, at, other in zip(low, place, high))
 
 
 @pytest.mark.parametrize("longitude", [8.5, 179.99, -180, 539.99, -365])
-def test_the_grid_lies_over_the_map(longitude):
+def test_the_grid_lies_over_the_map(longitude: float) -> None:
     rings = grid_over(longitude - 0.05, 47.35, longitude + 0.05, 47.4, 13)
     places = [place for ring in rings for place in ring]
     assert 20 < len(rings) < 200 and all(len(ring) == 4 for ring in rings)
     assert all(inside(place, (47.2, longitude - 0.2), (47.6, longitude + 0.2)) for place in places)
 
 
-def test_a_grid_that_is_too_fine_is_left_out():
+def test_a_grid_that_is_too_fine_is_left_out() -> None:
     assert grid_over(8, 47, 9, 48, 20) == []
     assert 1 <= len(grid_over(-180, -85, 180, 85, 0)) <= 6
     assert len(grid_over(-500, -90, 500, 90, 2)) == 96
 
 
-def test_rings_over_the_antimeridian_lie_side_by_side():
+def test_rings_over_the_antimeridian_lie_side_by_side() -> None:
     tokens = cells_of(Polygon([(179.99, -17.01), (-179.98, -17.0), (-179.98, -16.98)]))
     longitudes = [longitude for ring in rings_of(tokens) for _, longitude in ring]
     assert max(longitudes) - min(longitudes) < 0.1
     assert rings_of([]) == []
 
 
-def test_rings_of_large_cells_and_of_rectangles_bend():
-    assert [len(ring) for ring in rings_of(["1", "479aa0a5c"])] == [48, 4] and level_of(id_of("479aa0a5c")) == 15
+def test_rings_of_large_cells_and_of_rectangles_bend() -> None:
+    assert [len(ring) for ring in rings_of(["1", "479aa0a5c"])] == [48, 4]
+    assert level_of(id_of("479aa0a5c") or 0) == 15
     ring = ring_of_rectangle(Rectangle(2, 0, 2**29, 0, 2**29, 10))
     assert len(ring) == 48 and len(set(ring)) == 48

@@ -1,13 +1,17 @@
 """The server over desks that are lists of what they answer: guards, calls, steps that are stopped, changes in a row."""
+from __future__ import annotations
+
 import asyncio
 import json
 import threading
 import time
+from collections.abc import Awaitable, Callable
+from typing import Any, Optional
 
 import pytest
 from aiohttp import ClientSession, web
 
-from uss_desk_client import Answer, BadAnswer, Conflict, NoAnswer, NoSuchPlan, Plan, Rectangle, Refused, Volume
+from uss_desk_client import Answer, BadAnswer, Conflict, Desk, NoAnswer, NoSuchPlan, Plan, Rectangle, Refused, Volume
 from uss_desk_client.tokens import id_of, leaves_of
 from uss_desk_map.door import Door
 from uss_desk_map.server import Map, files_of
@@ -25,11 +29,12 @@ PLAN = Plan(ID, "Planned", "Planned", "Nominal", 10, AREA, None)
 class FakeDesk:
     """Answers by functions; counts what is asked."""
 
-    def __init__(self, **answers):
-        self.answers, self.asked = answers, []
+    def __init__(self, **answers: Any) -> None:
+        self.answers = answers
+        self.asked: list[Any] = []
 
-    def __getattr__(self, name):
-        def call(*words):
+    def __getattr__(self, name: str) -> Callable[..., Any]:
+        def call(*words: Any) -> Any:
             self.asked.append((name, *words))
             answer = self.answers[name]
             answer = answer(*words) if callable(answer) else answer
@@ -43,53 +48,53 @@ class FakeDesk:
 class Served:
     """A server over a desk, and one who asks it as its page does."""
 
-    def __init__(self, desk, tiles=None):
-        self.desk, self.tiles = desk, tiles
+    def __init__(self, desk: FakeDesk, tiles: Optional[str] = None) -> None:
+        self.desk: Any = desk
+        self.tiles = tiles
 
-    async def __aenter__(self):
+    async def __aenter__(self) -> Served:
         self.door = Door(0)
         self._runner = web.AppRunner(web.Application())
         await self._runner.setup()
         site = web.TCPSite(self._runner, "127.0.0.1", 0)
         await site.start()
-        port = site._server.sockets[0].getsockname()[1]
+        port = self._runner.addresses[0][1]
         await self._runner.cleanup()
         self.door = Door(port)
-        self._runner = web.AppRunner(
-            Map(self.door, lambda: self.desk, {"operator": "alfa"}, self.tiles).application()
-        )
+        desk: Desk = self.desk
+        self._runner = web.AppRunner(Map(self.door, lambda: desk, {"operator": "alfa"}, self.tiles).application())
         await self._runner.setup()
         await web.TCPSite(self._runner, "127.0.0.1", port).start()
         self.session = ClientSession(headers={"origin": self.door.origin})
         return self
 
-    async def __aexit__(self, *_):
+    async def __aexit__(self, *_: object) -> None:
         await self.session.close()
         await self._runner.cleanup()
 
-    async def ask(self, call, data=b"{}", **fields):
+    async def ask(self, call: str, data: Any = b"{}", **fields: str) -> tuple[int, Any]:
         data = data if isinstance(data, bytes) else json.dumps(data).encode()
         async with self.session.post(f"{self.door.address}api/{call}", data=data, headers=fields) as answer:
             body = await answer.read()
             return answer.status, json.loads(body) if answer.content_type == "application/json" else body.decode()
 
 
-def over(desk, run):
+def over(desk: FakeDesk, run: Callable[[Served], Awaitable[Any]]) -> Any:
     """What is found by asking a server over this desk."""
 
-    async def whole():
+    async def whole() -> Any:
         async with Served(desk) as served:
             return await run(served)
 
     return asyncio.run(whole())
 
 
-def asked(desk, call, words):
+def asked(desk: FakeDesk, call: str, words: Any) -> Any:
     return over(desk, lambda served: served.ask(call, words))
 
 
-def test_each_answer_is_guarded():
-    async def run(served):
+def test_each_answer_is_guarded() -> None:
+    async def run(served: Served) -> Any:
         found = []
         for url in (
             served.door.address,
@@ -124,8 +129,8 @@ def test_each_answer_is_guarded():
         "index.html",
     ],
 )
-def test_nothing_else_is_served(path):
-    async def run(served):
+def test_nothing_else_is_served(path: str) -> None:
+    async def run(served: Served) -> Any:
         reader, writer = await asyncio.open_connection("127.0.0.1", served.door.port)
         writer.write(
             f"GET /{served.door.token}/{path} HTTP/1.1\r\nhost: 127.0.0.1:{served.door.port}\r\n"
@@ -138,7 +143,7 @@ def test_nothing_else_is_served(path):
     assert over(FakeDesk(), run) == b"404"
 
 
-def test_the_files_of_the_page_are_there():
+def test_the_files_of_the_page_are_there() -> None:
     files = files_of()
     assert files[""].name == "index.html" and "static/page.js" in files and "leaflet/leaflet.js" in files
     assert not any(name.endswith((".py", ".typed")) for name in files)
@@ -148,11 +153,11 @@ def test_the_files_of_the_page_are_there():
     "data, status",
     [(b"", 400), (b"[]", 400), (b"{", 400), (b"[" * 100_000, 400), (b"\xff", 400), (b" " * 1_000_001, 413)],
 )
-def test_what_is_no_object(data, status):
+def test_what_is_no_object(data: bytes, status: int) -> None:
     assert asked(FakeDesk(), "plans", data)[0] == status
 
 
-def test_a_plan_is_planned_and_shown():
+def test_a_plan_is_planned_and_shown() -> None:
     desk = FakeDesk(plan=DONE, show=PLAN)
     status, told = asked(desk, "plan", {"draft": DRAFT})
     assert status == 200 and told["answer"]["result"] == "Completed" and told["plan"]["id"] == ID
@@ -160,7 +165,7 @@ def test_a_plan_is_planned_and_shown():
     assert len(told["plan"]["volumes"][0]["rings"][0]) == 4
 
 
-def test_a_plan_that_is_stored_is_changed():
+def test_a_plan_that_is_stored_is_changed() -> None:
     desk = FakeDesk(change=BLOCKED, show=NoAnswer("502", 1, False))
     _, told = asked(desk, "plan", {"draft": DRAFT, "is_change": True})
     assert (
@@ -179,7 +184,7 @@ def test_a_plan_that_is_stored_is_changed():
         (BadAnswer("another"), "other_server", ""), (PermissionError(13, "denied"), "password", ""),
     ],
 )  # fmt: skip
-def test_troubles_are_told(raised, kind, word):
+def test_troubles_are_told(raised: Exception, kind: str, word: str) -> None:
     status, told = asked(FakeDesk(plans=raised), "plans", {})
     assert (
         status == 502
@@ -189,12 +194,12 @@ def test_troubles_are_told(raised, kind, word):
     assert told["trouble"]["may_stand"] == (getattr(raised, "may_stand", False))
 
 
-def test_what_was_drawn_wrong_is_told():
+def test_what_was_drawn_wrong_is_told() -> None:
     status, told = asked(FakeDesk(), "cover", {"draft": {**DRAFT, "places": [[0, 0], [1, 1], [1, 0], [0, 1]]}})
     assert status == 400 and told["trouble"]["kind"] == "drawn" and "crosses itself" in told["trouble"]["text"]
 
 
-def test_a_cover_is_told_with_what_it_takes_beyond():
+def test_a_cover_is_told_with_what_it_takes_beyond() -> None:
     _, told = asked(FakeDesk(), "cover", {"draft": DRAFT})
     assert told["volumes"] == 1 and not told["fault"] and len(told["rings"]) == len(told["cells"])
     assert 1.0 < told["square_metres"] / told["shape_square_metres"] < 1.5
@@ -202,7 +207,7 @@ def test_a_cover_is_told_with_what_it_takes_beyond():
     assert told["rings"] and "isn't before the end" in told["fault"]
 
 
-def test_plans_that_a_clear_removes():
+def test_plans_that_a_clear_removes() -> None:
     beside = (Volume((), 600, 700, AREA[0].start, AREA[0].end, Rectangle(2, 0, 2**30 - 1, 0, 2**30 - 1, 8)),)
     later = (Volume(("479aa0a5c",), 600, 1200, AREA[0].end, AREA[0].end + 1),)
     stored = [PLAN] + [
@@ -212,7 +217,7 @@ def test_plans_that_a_clear_removes():
     assert asked(FakeDesk(plans=stored), "would_clear", {"id": "x"})[0] == 400
 
 
-def test_plans_that_are_gone():
+def test_plans_that_are_gone() -> None:
     desk = FakeDesk(show=lambda plan_id: PLAN if plan_id == ID else NoSuchPlan(404, "no_such_plan"))
     _, told = asked(desk, "show", {"ids": [ID, "b"]})
     assert [one["id"] for one in told["plans"]] == [ID] and told["gone"] == ["b"]
@@ -221,18 +226,18 @@ def test_plans_that_are_gone():
 class ListedDesk(FakeDesk):
     """Every cell is blocked at its first leaf; each request takes a while."""
 
-    def try_plan(self, area, *words):
+    def try_plan(self, area: Any, *words: Any) -> Answer:
         time.sleep(0.02)
         self.asked.append(("try_plan", area, *words))
         return Answer(
             "Rejected",
             "NotPlanned",
             "conflict",
-            Conflict(f"{leaves_of(id_of(area[0].cells[0]))[0]:016x}", 600, 5, 30),
+            Conflict(f"{leaves_of(id_of(area[0].cells[0]) or 0)[0]:016x}", 600, 5, 30),
         )
 
 
-def test_steps_are_told_one_by_one():
+def test_steps_are_told_one_by_one() -> None:
     desk = ListedDesk()
     status, told = asked(desk, "why", {"draft": DRAFT, "usage": "Planned"})
     steps = [json.loads(line) for line in told.splitlines()]
@@ -244,10 +249,10 @@ def test_steps_are_told_one_by_one():
     assert steps[0]["decided"] == 1 and len(steps[0]["blocked"]) == 1
 
 
-def test_steps_end_when_the_page_goes():
+def test_steps_end_when_the_page_goes() -> None:
     desk = ListedDesk()
 
-    async def run(served):
+    async def run(served: Served) -> Any:
         words = json.dumps({"draft": DRAFT, "usage": "Planned"}).encode()
         async with served.session.post(f"{served.door.address}api/why", data=words) as answer:
             await answer.content.readline()
@@ -261,7 +266,7 @@ def test_steps_end_when_the_page_goes():
     assert before == after < 20
 
 
-def test_trouble_ends_steps():
+def test_trouble_ends_steps() -> None:
     _, told = asked(FakeDesk(try_plan=NoAnswer("502", 1, False)), "why", {"draft": DRAFT, "usage": "Planned"})
     assert json.loads(told)["trouble"]["kind"] == "no_answer"
     _, told = asked(
@@ -270,7 +275,7 @@ def test_trouble_ends_steps():
     assert json.loads(told)["refused"]["note"] == "priority"
 
 
-def test_the_first_free_time_ends_the_trying():
+def test_the_first_free_time_ends_the_trying() -> None:
     desk = FakeDesk(try_plan=lambda area, *_: DONE if area[0].start >= DRAFT["start"] + 1800 else BLOCKED)
     words = {"draft": DRAFT, "usage": "InUse", "step": 900, "tries": 96}
     steps = [json.loads(line) for line in asked(desk, "free_time", words)[1].splitlines()]
@@ -282,11 +287,11 @@ def test_the_first_free_time_ends_the_trying():
     assert {one[4] for one in desk.asked} == {"InUse"} and {one[3] for one in desk.asked} == {ID}
 
 
-def test_changes_are_made_in_a_row_though_the_page_goes():
+def test_changes_are_made_in_a_row_though_the_page_goes() -> None:
     under_way, most = [], []
     lock = threading.Lock()
 
-    def slow(*_):
+    def slow(*_: object) -> Answer:
         with lock:
             under_way.append(1)
             most.append(len(under_way))
@@ -297,7 +302,7 @@ def test_changes_are_made_in_a_row_though_the_page_goes():
 
     desk = FakeDesk(activate=slow, close=slow, show=PLAN)
 
-    async def run(served):
+    async def run(served: Served) -> Any:
         asking = [asyncio.ensure_future(served.ask(call, {"id": ID})) for call in ("activate", "close", "activate")]
         await asyncio.sleep(0.05)
         asking[1].cancel()

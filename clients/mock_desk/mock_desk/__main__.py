@@ -153,7 +153,7 @@ def main(words: Sequence[str]) -> int:
         equal = read_equal(line.equal)
         store = open_store(line.db, [read_operator(it) for it in line.operators])
         if line.at is not None:
-            play_input(Desk(store, equal, lambda: line.at, line.spans))
+            play_input(Desk(store, equal, lambda: int(line.at), line.spans))
         else:
             serve(Desk(store, equal, lambda: int(time.time()), line.spans), line.port, line.requests)
     except Failed as failed:

@@ -108,7 +108,7 @@ def member(holder: Dict[str, Any], name: str, kind: type) -> Any:
 
 def word_of(holder: Dict[str, Any], name: str, words: Tuple[str, ...]) -> str:
     """The member that must be one of these words; raises Fault."""
-    found = member(holder, name, str)
+    found: str = member(holder, name, str)
     if found not in words:
         raise Fault(name)
     return found

@@ -1,5 +1,7 @@
 """Bodies of PUT and POST: members, volumes and times."""
 import json
+from collections.abc import Sequence
+from typing import Any, Optional
 
 import pytest
 from asking import ID, NOON, ONE, ask, desk, plan, volume
@@ -7,13 +9,13 @@ from asking import ID, NOON, ONE, ask, desk, plan, volume
 RECTANGLE = {"face": 0, "i_min": 0, "i_max": 65535, "j_min": 0, "j_max": 0, "level": 24}
 
 
-def word(body):
+def word(body: Any) -> Any:
     """The word of the refusal of a PUT's body, or its note if it isn't refused."""
     given = ask(desk(), "PUT", f"/flight_plans/{ID}", "alfa", body)[1]
     return given.get("error", given.get("notes"))
 
 
-def changed(body, path, value):
+def changed(body: Any, path: Sequence[Any], value: Any) -> Any:
     """A body with another value at a path of members, or without the member if the value is ...."""
     body = json.loads(json.dumps(body))
     holder = body
@@ -66,11 +68,11 @@ BASIC = ("flight_plan", "basic_information")
         ((*BASIC, "area", 0), None, "bad_volume"),
     ],
 )
-def test_members(path, value, wanted):
+def test_members(path: Sequence[Any], value: Any, wanted: str) -> None:
     assert word(changed(plan(), path, value)) == wanted
 
 
-def test_the_first_fault_decides():
+def test_the_first_fault_decides() -> None:
     wide = volume(None, rectangle={**RECTANGLE, "i_max": 65536})
     assert word(plan(volume(None, rectangle=RECTANGLE))) == ""
     assert word(plan(wide, volume(["0"]))) == "too_many_cells"
@@ -81,7 +83,7 @@ def test_the_first_fault_decides():
     assert word(plan(*[volume(["0"])] * 33)) == "bad_volume"
 
 
-def test_a_member_named_twice_has_its_last_value():
+def test_a_member_named_twice_has_its_last_value() -> None:
     text = json.dumps(plan())
     assert word(text.replace('"IfAllowed"', '"x", "execution_style": "IfAllowed"').encode()) == ""
     assert word(text.replace('"IfAllowed"', '"IfAllowed", "execution_style": "x"').encode()) == "bad_member"
@@ -91,12 +93,12 @@ def test_a_member_named_twice_has_its_last_value():
     "body",
     [b"", b"{", b"{} x", b"{'a':1}", b"\xef\xbb\xbf{}", b'{"a":NaN}', b'{"a":01}', b'{"a":"\xff"}', b'{"a":1,}'],
 )
-def test_no_json(body):
+def test_no_json(body: Any) -> None:
     assert word(body) == "bad_json"
 
 
-def test_extents():
-    def told(body):
+def test_extents() -> None:
+    def told(body: Any) -> Any:
         return ask(desk(), "POST", "/clear_area_requests", "alfa", body)[1].get("error", "")
 
     assert told({"extent": volume()}) == ""
@@ -129,7 +131,7 @@ def test_extents():
         ("\u0662026-06-01T13:00:00Z", None),
     ],
 )
-def test_times(end, second):
+def test_times(end: str, second: Optional[int]) -> None:
     at = desk()
     ask(at, "PUT", f"/flight_plans/{ID}", "alfa", plan(volume(end=end)))
     shown = ask(at, "GET", f"/flight_plans/{ID}")[1]
@@ -138,9 +140,12 @@ def test_times(end, second):
         assert shown["area"][0]["second_end"] == second
 
 
-def test_the_first_and_the_last_second():
+def test_the_first_and_the_last_second() -> None:
     at = desk(moment=0)
-    put = lambda start, end: ask(at, "PUT", f"/flight_plans/{ID}", "alfa", plan(volume(start=start, end=end)))[1]
+
+    def put(start: str, end: str) -> Any:
+        return ask(at, "PUT", f"/flight_plans/{ID}", "alfa", plan(volume(start=start, end=end)))[1]
+
     assert put("1969-12-31T23:59:59Z", "1970-01-01T00:00:01Z") == {"error": "bad_volume"}
     assert put("1970-01-01T00:00:00Z", "1970-01-01T00:00:01Z")["notes"] == ""
     late = "9998-12-31T23:59:59Z"

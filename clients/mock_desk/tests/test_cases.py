@@ -11,7 +11,7 @@ ENDS = {"target_of_utf_8": "unframed", "too_large": "unframed"}
 
 
 @pytest.mark.parametrize("name", sorted(it.stem for it in CASES.glob("*.http")))
-def test_case(name):
+def test_case(name: str) -> None:
     told = list(play(desk(), (CASES / f"{name}.http").read_bytes()))
     assert b"".join(answer for answer, _ in told) == (CASES / f"{name}.answer").read_bytes()
     assert told[-1][1] == ENDS.get(name, "")

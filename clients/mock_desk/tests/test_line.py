@@ -12,7 +12,7 @@ STATUS = b"GET /status HTTP/1.1\r\nx-operator: alfa\r\n\r\n"
 READY = b'{"status":"Ready"}'
 
 
-def run(*words, given=b""):
+def run(*words: str, given: bytes = b"") -> tuple[int, bytes, str]:
     """The exit status, the standard output and the standard error of a line."""
     ran = subprocess.run(
         [sys.executable, "-m", "mock_desk", *words], cwd=PLACE, input=given, capture_output=True, timeout=60
@@ -21,13 +21,13 @@ def run(*words, given=b""):
 
 
 @pytest.mark.parametrize("name", sorted(it.stem for it in EXAMPLES.glob("*.http")))
-def test_examples(name):
+def test_examples(name: str) -> None:
     given, wanted = ((EXAMPLES / f"{name}.{it}").read_bytes() for it in ("http", "answer"))
     terms = {"permitted": ["--equal", "10"], "spans_limit": ["--spans", "2"]}.get(name, [])
     assert run("--at", "1780315000", *terms, "alfa=100", "bravo=100", given=given) == (0, wanted, "")
 
 
-def test_a_file(tmp_path):
+def test_a_file(tmp_path: pathlib.Path) -> None:
     line = ["--db", str(tmp_path / "mock.db"), "--at", "1780315000"]
     put, show = ((EXAMPLES / f"{it}.http").read_bytes() for it in ("first_put", "show_p"))
     assert run(*line, "alfa=100", given=put) == (0, (EXAMPLES / "first_put.answer").read_bytes(), "")
@@ -41,7 +41,7 @@ def test_a_file(tmp_path):
         ["--equal", it] for it in ("", "5, 10", "5,", "00010", "1001", "10,5", "10,10", ",".join(map(str, range(33))))
     ],
 )
-def test_values(words):
+def test_values(words: list[str]) -> None:
     assert run("--at", "1780315000", *words) == (2, b"", "uss_desk: value\n")
 
 
@@ -56,12 +56,12 @@ def test_values(words):
         ["--at", "x"],
     ],
 )
-def test_lines_that_are_none(words):
+def test_lines_that_are_none(words: list[str]) -> None:
     status, output, complained = run(*words)
     assert (status, output) == (2, b"") and complained
 
 
-def test_ends():
+def test_ends() -> None:
     line = ["--at", "1780315000", "alfa=1", "alfa=100"]
     assert run(*line, given=b"") == (0, b"", "")
     status, output, complained = run(*line, given=STATUS + b"GET")
@@ -72,13 +72,13 @@ def test_ends():
     assert run("--at", "1780315000", "--", "-=5", given=STATUS.replace(b"alfa", b"-"))[1].endswith(READY)
 
 
-def test_a_port():
+def test_a_port() -> None:
     with socket.socket() as free:
         free.bind(("127.0.0.1", 0))
         port = free.getsockname()[1]
     line = [sys.executable, "-m", "mock_desk", "--port", str(port), "--requests", "3", "alfa=100"]
     with subprocess.Popen(line, cwd=PLACE, stdout=subprocess.PIPE) as served:
-        assert served.stdout.readline() == f"listening 127.0.0.1:{port}\n".encode()
+        assert served.stdout and served.stdout.readline() == f"listening 127.0.0.1:{port}\n".encode()
         for pieces, wanted in [([STATUS], READY), ([STATUS[:9], STATUS[9:]], READY), ([STATUS[:9]], b"")]:
             with socket.create_connection(("127.0.0.1", port)) as client:
                 for piece in pieces:

@@ -1,4 +1,7 @@
 """States, refusals in a PUT, conflicts, Show, List and Clear, by the tables of the rules."""
+import pathlib
+from typing import Any, Optional
+
 import pytest
 from asking import ID, MOMENT, NOON, ONE, ask, desk, plan, put, volume
 from mock_desk import cells
@@ -6,7 +9,7 @@ from mock_desk import cells
 OTHER = "22222222-2222-4222-8222-222222222222"
 
 
-def test_the_life_of_a_plan():
+def test_the_life_of_a_plan() -> None:
     at = desk()
     assert put(at, "alfa", ID) == ("Completed", "Planned", "")
     assert put(at, "alfa", ID) == ("Completed", "Planned", "")
@@ -43,7 +46,7 @@ STATES = [
 
 
 @pytest.mark.parametrize("stored, usage, aircraft, note, status", STATES)
-def test_states(stored, usage, aircraft, note, status):
+def test_states(stored: Optional[tuple[str, str]], usage: str, aircraft: str, note: str, status: str) -> None:
     at = desk()
     if stored:
         put(at, "alfa", ID)
@@ -52,7 +55,7 @@ def test_states(stored, usage, aircraft, note, status):
     assert put(at, "alfa", ID, usage=usage, aircraft=aircraft) == (result, status, note)
 
 
-def test_styles():
+def test_styles() -> None:
     at = desk()
     assert put(at, "alfa", ID, style="InReality") == ("NotSupported", "NotPlanned", "style")
     assert put(at, "alfa", ID, style="Hypothetical") == ("Completed", "Planned", "")
@@ -67,7 +70,7 @@ def test_styles():
     assert put(at, "alfa", ID, style="InReality", usage="Closed") == ("Completed", "Closed", "")
 
 
-def test_moments():
+def test_moments() -> None:
     # 2026-06-01T11:56:40Z is the moment: what ends at it has ended
     at = desk()
     assert put(at, "alfa", ID, volume(start="2026-06-01T11:00:00Z", end="2026-06-01T11:56:40Z"))[2] == "ended"
@@ -77,7 +80,7 @@ def test_moments():
     assert put(at, "alfa", OTHER, volume(start="2026-07-01T11:56:40.9Z", end="2026-07-01T12:00:00Z"))[2] == ""
 
 
-def test_priorities():
+def test_priorities() -> None:
     at = desk(alfa=10)
     assert put(at, "alfa", ID, priority=11) == ("Rejected", "NotPlanned", "priority")
     assert put(at, "alfa", ID, priority=10)[2] == ""
@@ -86,7 +89,7 @@ def test_priorities():
     assert put(at, "alfa", ID, usage="Closed")[2] == ""
 
 
-def test_200_plans():
+def test_200_plans() -> None:
     at = desk()
     for number in range(200):
         token = cells.token_of(2 * number + 1)
@@ -96,7 +99,7 @@ def test_200_plans():
     assert put(at, "bravo", f"{200:032x}", volume(["9"]))[0] == "Completed"
 
 
-def test_a_conflict():
+def test_a_conflict() -> None:
     at = desk()
     put(at, "alfa", ID)
     answer = ask(
@@ -118,14 +121,14 @@ def test_a_conflict():
     assert put(at, "bravo", ID, volume(["1"]), priority=11)[2] == ""
 
 
-def test_own_plans_block_too_but_not_the_stored_version():
+def test_own_plans_block_too_but_not_the_stored_version() -> None:
     at = desk()
     put(at, "alfa", ID)
     assert put(at, "alfa", OTHER)[2] == "conflict"
     assert put(at, "alfa", ID)[2] == ""
 
 
-def test_volumes_that_touch():
+def test_volumes_that_touch() -> None:
     at = desk()
     put(at, "alfa", ID)
     assert put(at, "bravo", ID, volume(start=ONE, end="2026-06-01T14:00:00Z"))[2] == ""
@@ -133,7 +136,7 @@ def test_volumes_that_touch():
     assert put(at, "bravo", "3" * 32, volume(["0c"]))[2] == ""
 
 
-def test_the_greatest_priority_at_the_first_point():
+def test_the_greatest_priority_at_the_first_point() -> None:
     # the first leaf is bravo's at 20 alone; at the second both are
     at = desk(equal=(10,), alfa=100, bravo=100, c=100)
     first, second = cells.token_of(1), cells.token_of(3)
@@ -145,7 +148,7 @@ def test_the_greatest_priority_at_the_first_point():
     assert body["conflict"] == {"altitude": 150, "cell": "0000000000000001", "priority": 20, "second": 1780315200}
 
 
-def test_spans():
+def test_spans() -> None:
     # one cell, and cells that follow each other, are one span; these two are two
     two = volume(["04", "14"])
     at = desk(spans=2)
@@ -160,7 +163,7 @@ def test_spans():
     assert put(at, "alfa", OTHER, volume(["04", "0c", "1c"]))[2] == ""
 
 
-def test_permitted_priorities():
+def test_permitted_priorities() -> None:
     at = desk(equal=(10,))
     put(at, "alfa", ID)
     assert put(at, "bravo", ID)[2] == ""
@@ -170,21 +173,21 @@ def test_permitted_priorities():
     assert shown["conflict"] == {"altitude": 0, "cell": "0000000000000001", "priority": 11, "second": 1780315200}
 
 
-def test_shown_and_listed():
+def test_shown_and_listed() -> None:
     at = desk()
     rectangle = {"face": 0, "i_min": 0, "i_max": 7, "j_min": 0, "j_max": 0, "level": 24}
     put(at, "alfa", OTHER, volume(["0C", "1c", "0C"]), volume(None, rectangle=rectangle))
     put(at, "alfa", ID, volume(["3"]), usage="InUse")
     ask(at, "DELETE", f"/flight_plans/{ID}")
-    window = {"altitude_lower": 0, "altitude_upper": 1000, "second_end": 1780318800, "second_start": 1780315200}
-    closed = {
+    window: Any = {"altitude_lower": 0, "altitude_upper": 1000, "second_end": 1780318800, "second_start": 1780315200}
+    closed: Any = {
         "area": [{**window, "cells": ["3"]}],
         "flight_plan_id": ID,
         "flight_plan_status": "Closed",
         "priority": 10,
     }
-    area = [{**window, "cells": ["0c", "1c", "0c"]}, {**window, "rectangle": rectangle}]
-    planned = {"area": area, "flight_plan_id": OTHER, "flight_plan_status": "Planned", "priority": 10}
+    area: Any = [{**window, "cells": ["0c", "1c", "0c"]}, {**window, "rectangle": rectangle}]
+    planned: Any = {"area": area, "flight_plan_id": OTHER, "flight_plan_status": "Planned", "priority": 10}
     rows = [
         {**closed, "uas_state": "Nominal", "usage_state": "Closed"},
         {**planned, "uas_state": "Nominal", "usage_state": "Planned"},
@@ -193,7 +196,7 @@ def test_shown_and_listed():
     assert ask(at, "GET", "/flight_plans", "bravo") == (200, {"flight_plans": []})
 
 
-def test_cleared():
+def test_cleared() -> None:
     at = desk()
     put(at, "alfa", ID)
     put(at, "alfa", OTHER, volume(["3"]))
@@ -205,7 +208,7 @@ def test_cleared():
     assert ask(at, "GET", f"/flight_plans/{ID}", "bravo")[0] == 200
 
 
-def test_two_starts_over_a_file(tmp_path):
+def test_two_starts_over_a_file(tmp_path: pathlib.Path) -> None:
     path = str(tmp_path / "mock.db")
     at = desk(path=path)
     put(at, "alfa", ID, usage="InUse")
@@ -223,6 +226,6 @@ def test_two_starts_over_a_file(tmp_path):
 @pytest.mark.parametrize(
     "start, end, word", [(NOON, "2026-06-02T12:00:00Z", ""), (NOON, "2026-06-02T12:00:00.01Z", "bad_volume")]
 )
-def test_an_end_with_a_fraction_is_a_second_later(start, end, word):
+def test_an_end_with_a_fraction_is_a_second_later(start: str, end: str, word: str) -> None:
     status, body = ask(desk(), "PUT", f"/flight_plans/{ID}", "alfa", plan(volume(start=start, end=end)))
     assert body.get("error", "") == word

@@ -10,13 +10,13 @@ READY = (
 )
 
 
-def told(given):
+def told(given: bytes) -> tuple[list[tuple[int, str]], str]:
     """The status and the word of each answer, and the word at the end."""
     found = list(play(desk(), given))
     return [(int(it.split()[1]), it.split(b'"')[3].decode()) for it, _ in found if it], found[-1][1] if found else ""
 
 
-def test_a_stream():
+def test_a_stream() -> None:
     answers = list(play(desk(), (STATUS + b"\r\n") * 2))
     assert answers == [(READY, ""), (READY, "")]
     assert told(b"") == ([], "")
@@ -49,17 +49,17 @@ def test_a_stream():
         (STATUS + b"content-length: 0000000000000000000\r\n\r\n", True),
     ],
 )
-def test_heads(head, ready):
+def test_heads(head: bytes, ready: bool) -> None:
     assert told(head) == (([(200, "Ready")], "") if ready else ([(400, "bad_head")], "unframed"))
 
 
 @pytest.mark.parametrize("length, word", [(16_384, "Ready"), (16_385, "too_large")])
-def test_the_longest_head(length, word):
+def test_the_longest_head(length: int, word: str) -> None:
     head = STATUS + b"x: "
     assert told(head + b"a" * (length - len(head) - 4) + b"\r\n\r\n")[0][0][1] == word
 
 
-def test_codings_and_lengths():
+def test_codings_and_lengths() -> None:
     assert told(STATUS + b"transfer-encoding: x\r\ncontent-length: x\r\n\r\n") == (
         [(501, "transfer_encoding")],
         "unframed",
@@ -88,17 +88,17 @@ def test_codings_and_lengths():
         (request("GET", "/status", "nobody"), 403, "unknown_operator"),
     ],
 )
-def test_places_6_to_14(given, status, word):
+def test_places_6_to_14(given: bytes, status: int, word: str) -> None:
     assert told(given) == ([(status, word)], "")
 
 
-def test_the_methods_of_a_path():
+def test_the_methods_of_a_path() -> None:
     ((answer, _),) = play(desk(), request("PATCH", f"/flight_plans/{ID}"))
     head = b"HTTP/1.1 405 Method Not Allowed\r\ncontent-type: application/json\r\ncontent-length: 18\r\n"
     assert answer == head + b'allow: DELETE, GET, PUT\r\nconnection: close\r\n\r\n{"error":"method"}'
 
 
-def test_operator_twice():
+def test_operator_twice() -> None:
     assert told(STATUS + b"x-operator: alfa\r\n\r\n") == ([(400, "bad_operator")], "")
 
 
@@ -119,5 +119,5 @@ def test_operator_twice():
         (f"%7B{ID}%7D", "bad_plan_id"),
     ],
 )
-def test_ids(written, word):
+def test_ids(written: str, word: str) -> None:
     assert told(request("GET", f"/flight_plans/{written}"))[0][0][1] == word

@@ -1,19 +1,20 @@
 """What the desk would refuse, with the words written by hand from docs/RULES.md."""
 import copy
 import json
+from typing import Any, Optional
 
 import pytest
 
-from uss_desk_client.checking import check, check_clear
+from uss_desk_client.checking import Fault, check, check_clear
 from uss_desk_client.covers import cover_size
 
 MOMENT = 1_780_315_000
-VOLUME = {
+VOLUME: Any = {
     "time_end": {"format": "RFC3339", "value": "2026-06-01T13:00:00Z"},
     "time_start": {"format": "RFC3339", "value": "2026-06-01T12:00:00Z"},
     "volume": {"altitude_lower": 0, "altitude_upper": 1000, "cells": ["04"]},
 }
-BODY = {
+BODY: Any = {
     "execution_style": "IfAllowed",
     "flight_plan": {
         "astm_f3548_21": {"priority": 10},
@@ -24,7 +25,14 @@ BASIC = "flight_plan.basic_information"
 RECTANGLE = {"face": 0, "i_min": 0, "i_max": 100, "j_min": 0, "j_max": 100, "level": 24}
 
 
-def put(path, value):
+def fault_of(body: Any) -> Fault:
+    """What the desk would refuse in a body, which has a fault."""
+    fault = check(body)
+    assert fault
+    return fault
+
+
+def put(path: tuple[Any, ...], value: Any) -> Any:
     """The body with another value at a path, or without the member if the value is Ellipsis."""
     body = json.loads(json.dumps(BODY))
     holder = body
@@ -38,21 +46,21 @@ def put(path, value):
     return body
 
 
-def in_second(*path):
+def in_second(*path: Any) -> tuple[Any, ...]:
     return ("flight_plan", "basic_information", "area", 1, *path)
 
 
-def test_a_body_is_as_large_as_it_is_sent():
+def test_a_body_is_as_large_as_it_is_sent() -> None:
     """The limit is 131,072 bytes, and the client sends no blanks."""
-    body = {**BODY, "x": [0] * 50_000}
+    body: Any = {**BODY, "x": [0] * 50_000}
     text = json.dumps(body, separators=(",", ":"))
     body["y"] = "z" * (131_072 - len(text) - len(',"y":""'))
     assert len(json.dumps(body, separators=(",", ":"))) == 131_072 and check(body) is None
     body["y"] += "z"
-    assert check(body).word == "too_large"
+    assert fault_of(body).word == "too_large"
 
 
-def test_a_good_body():
+def test_a_good_body() -> None:
     assert check(BODY) is None
     assert check(json.dumps(BODY).encode(), moment=MOMENT, ceiling=10, stored="NotPlanned") is None
 
@@ -114,8 +122,10 @@ def test_a_good_body():
         (in_second("volume", "rectangle"), RECTANGLE, "bad_volume", 1, "volume"),
     ],
 )
-def test_one_wrong_member(path, value, word, volume, member):
-    fault = check(put(path, value))
+def test_one_wrong_member(
+    path: tuple[Any, ...], value: Any, word: Optional[str], volume: Optional[int], member: str
+) -> None:
+    fault = fault_of(put(path, value))
     assert (fault.word, fault.volume, fault.member) == (word, volume, member)
     assert member in str(fault)
 
@@ -132,18 +142,18 @@ def test_one_wrong_member(path, value, word, volume, member):
         ("i_max", 2**30 - 1, "too_many_cells", ""),
     ],
 )
-def test_one_wrong_number_of_a_rectangle(name, value, word, member):
+def test_one_wrong_number_of_a_rectangle(name: str, value: Any, word: Optional[str], member: str) -> None:
     shape = {"altitude_lower": 0, "altitude_upper": 1, "rectangle": {**RECTANGLE, name: value}}
-    fault = check(put(in_second("volume"), shape))
+    fault = fault_of(put(in_second("volume"), shape))
     assert (fault.word, fault.volume, fault.member) == (word, 1, "volume.rectangle" + member)
 
 
-def test_the_first_fault_decides():
+def test_the_first_fault_decides() -> None:
     body = put(in_second("volume", "cells"), ["x"])
     body["flight_plan"]["basic_information"]["area"][0] = {**VOLUME, "time_start": None}
-    assert check(body).volume == 0
+    assert fault_of(body).volume == 0
     body["flight_plan"]["astm_f3548_21"]["priority"] = -1
-    assert check(body).word == "bad_member"
+    assert fault_of(body).word == "bad_member"
 
 
 @pytest.mark.parametrize(
@@ -166,14 +176,14 @@ def test_the_first_fault_decides():
         (b"[]", "bad_member"),
     ],
 )
-def test_texts(text, word):
-    assert check(text).word == word
+def test_texts(text: bytes, word: Optional[str]) -> None:
+    assert fault_of(text).word == word
 
 
-def test_the_last_value_of_a_member_counts():
+def test_the_last_value_of_a_member_counts() -> None:
     text = json.dumps(BODY)
     assert check(text.replace('"priority": 10', '"priority": 9999, "priority": 10')) is None
-    assert check(text.replace('"priority": 10', '"priority": 10, "priority": -0')).word == "bad_member"
+    assert fault_of(text.replace('"priority": 10', '"priority": 10, "priority": -0')).word == "bad_member"
 
 
 @pytest.mark.parametrize(
@@ -199,7 +209,7 @@ def test_the_last_value_of_a_member_counts():
         ),
     ],
 )
-def test_the_notes(change, words, word):
+def test_the_notes(change: dict[str, str], words: Any, word: Optional[str]) -> None:
     body = copy.deepcopy(BODY)
     for name, value in change.items():
         (body if name in body else body["flight_plan"]["basic_information"])[name] = value
@@ -217,7 +227,7 @@ def test_the_notes(change, words, word):
         ({"extent": {**VOLUME, "time_end": None}}, "bad_volume", "extent.time_end"),
     ],
 )
-def test_clears(body, word, member):
+def test_clears(body: Any, word: Optional[str], member: Optional[str]) -> None:
     fault = check_clear(body)
     assert (fault and (fault.word, fault.member)) == (word and (word, member))
 
@@ -232,5 +242,5 @@ def test_clears(body, word, member):
         ((2**22, 3 * 2**22 - 1), (0, 2**22 - 1), 8, 2),
     ],
 )
-def test_sizes_of_covers(i, j, level, count):
+def test_sizes_of_covers(i: tuple[int, int], j: tuple[int, int], level: int, count: int) -> None:
     assert cover_size(i, j, level, 1_024) == count

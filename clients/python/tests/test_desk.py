@@ -3,6 +3,8 @@ import json
 import socket
 import threading
 import time
+from collections.abc import Callable
+from typing import Any, Optional
 
 import pytest
 
@@ -14,7 +16,7 @@ from uss_desk_client.desk import BadAnswer, Desk, NoAnswer, NoSuchPlan, Refused,
 ID = "11111111-1111-4111-8111-111111111111"
 AREA = [Volume(("04",), 0, 1_000, 1_780_315_200, 1_780_318_800)]
 DONE = (200, {"flight_plan_status": "Planned", "notes": "", "planning_result": "Completed"})
-SHOWN = (
+SHOWN: tuple[int, Any] = (
     200,
     {
         "area": [
@@ -43,31 +45,33 @@ BLOCKED = (
         "planning_result": "Rejected",
     },
 )
-HANG_UP = None
+Act = tuple[Any, ...]
+"""An answer: its status, its value, and its fields."""
+HANG_UP: Optional[Act] = None
 
 
 class Server:
     """A server at a port, which does what a script says: an answer (status, value, fields), or it hangs up."""
 
-    def __init__(self, *script):
-        self.asked = []
+    def __init__(self, *script: Optional[Act]) -> None:
+        self.asked: list[tuple[str, str, str, bytes]] = []
         self._script = list(script)
         self._socket = socket.create_server(("127.0.0.1", 0))
         self.url = f"http://127.0.0.1:{self._socket.getsockname()[1]}"
         threading.Thread(target=self._run, daemon=True).start()
 
-    def _run(self):
+    def _run(self) -> None:
         for act in self._script:
             connection, _ = self._socket.accept()
             with connection:
                 head, body = self._request(connection)
                 self.asked.append((head.split(" ", 2)[0], head.split(" ", 2)[1], head, body))
-                if act is not HANG_UP:
+                if act is not None:
                     connection.sendall(self._answer(*act))
         self._socket.close()
 
     @staticmethod
-    def _request(connection):
+    def _request(connection: socket.socket) -> tuple[str, bytes]:
         data = b""
         while b"\r\n\r\n" not in data:
             data += connection.recv(65_536)
@@ -78,26 +82,27 @@ class Server:
         return head.decode(), body
 
     @staticmethod
-    def _answer(status, value, fields=""):
+    def _answer(status: int, value: Any, fields: str = "") -> bytes:
         body = value if isinstance(value, bytes) else json.dumps(value).encode()
         return f"HTTP/1.1 {status} X\r\n{fields}content-length: {len(body)}\r\n\r\n".encode() + body
 
     @property
-    def methods(self):
+    def methods(self) -> list[str]:
         return [asked[0] for asked in self.asked]
 
 
 @pytest.fixture(autouse=True)
-def no_pauses(monkeypatch):
+def no_pauses(monkeypatch: pytest.MonkeyPatch) -> None:
     monkeypatch.setattr(desk_module, "FIRST_PAUSE", 0.01)
 
 
-def asks(*script, **words):
+def asks(*script: Optional[Act], **words: Any) -> tuple[Server, Desk]:
     server = Server(*script)
-    return server, Desk(server.url, **{"operator": "alfa", "timeout": 5, **words})
+    given: Any = {"operator": "alfa", "timeout": 5, **words}
+    return server, Desk(server.url, **given)
 
 
-def test_a_plan_is_put():
+def test_a_plan_is_put() -> None:
     server, desk = asks(DONE)
     answer = desk.plan(ID, AREA, 10)
     assert answer.is_completed and answer.status == "Planned" and not answer.was_lost
@@ -106,16 +111,17 @@ def test_a_plan_is_put():
     assert json.loads(body)["flight_plan"]["basic_information"]["area"][0]["volume"]["cells"] == ["04"]
 
 
-def test_a_user_has_a_password_and_no_operator():
+def test_a_user_has_a_password_and_no_operator() -> None:
     server, desk = asks((200, {"status": "Ready"}), operator=None, user="alfa", password="p:w")
     assert desk.status() == "Ready"
     assert "authorization: Basic YWxmYTpwOnc=" in server.asked[0][2] and "x-operator" not in server.asked[0][2]
 
 
-def test_a_conflict():
+def test_a_conflict() -> None:
     _, desk = asks(BLOCKED)
     answer = desk.plan(ID, AREA, 10)
-    assert not answer.is_completed and answer.note == "conflict" and answer.conflict.priority == 10
+    assert not answer.is_completed and answer.note == "conflict"
+    assert answer.conflict and answer.conflict.priority == 10
     assert answer.conflict.altitude_metres == 50 and answer.conflict.time.isoformat() == "2026-06-01T12:30:00+00:00"
     assert abs(answer.conflict.latitude + 35.264390) < 1e-5 and abs(answer.conflict.longitude + 45) < 1e-5
     with pytest.raises(NotTaken, match="priority 10"):
@@ -123,42 +129,43 @@ def test_a_conflict():
 
 
 @pytest.mark.parametrize("lost", [HANG_UP, (500, {"error": "store"}), (502, b"<html>"), (503, b""), (504, b"")])
-def test_a_put_whose_answer_was_lost_and_that_stands_is_not_put_again(lost):
+def test_a_put_whose_answer_was_lost_and_that_stands_is_not_put_again(lost: Optional[Act]) -> None:
     server, desk = asks(lost, SHOWN)
     answer = desk.plan(ID, AREA, 10)
     assert answer.is_completed and answer.was_lost and server.methods == ["PUT", "GET"]
 
 
 @pytest.mark.parametrize("found", [NO_PLAN, (200, {**SHOWN[1], "priority": 9}), HANG_UP])
-def test_a_put_that_is_not_there_is_put_again(found):
+def test_a_put_that_is_not_there_is_put_again(found: Optional[Act]) -> None:
     server, desk = asks(HANG_UP, found, DONE)
     answer = desk.plan(ID, AREA, 10)
     assert answer.is_completed and answer.was_lost and server.methods == ["PUT", "GET", "PUT"]
 
 
-def test_a_dry_run_is_asked_again_at_once():
+def test_a_dry_run_is_asked_again_at_once() -> None:
     server, desk = asks(HANG_UP, BLOCKED)
     assert desk.try_plan(AREA, 10).note == "conflict" and server.methods == ["PUT", "PUT"]
 
 
-def test_too_many_requests_are_waited_for():
+def test_too_many_requests_are_waited_for() -> None:
     server, desk = asks((429, b"", "retry-after: 1\r\n"), DONE)
     begun = time.monotonic()
     assert not desk.plan(ID, AREA, 10).was_lost
     assert 1 <= time.monotonic() - begun < 4 and server.methods == ["PUT", "PUT"]
 
 
-def test_patience_ends():
+def test_patience_ends() -> None:
     server, desk = asks(*[(502, b"")] * 1_000, patience=0.3)
     with pytest.raises(NoAnswer, match="may stand") as ended:
         desk.plan(ID, AREA, 10)
     assert ended.value.may_stand and 2 <= len(server.asked) < 100
 
 
-def test_waiting_is_told_at_once_and_each_so_many_seconds(monkeypatch):
+def test_waiting_is_told_at_once_and_each_so_many_seconds(monkeypatch: pytest.MonkeyPatch) -> None:
     monkeypatch.setattr(desk_module, "TELL_EACH", 0.2)
     monkeypatch.setattr(desk_module, "LONGEST_PAUSE", 0.5)
-    lines, begun = [], time.monotonic()
+    lines: list[tuple[float, str]] = []
+    begun = time.monotonic()
     _, desk = asks(
         *[(502, b"")] * 1_000, patience=0.9, tell=lambda line: lines.append((time.monotonic() - begun, line))
     )
@@ -169,21 +176,21 @@ def test_waiting_is_told_at_once_and_each_so_many_seconds(monkeypatch):
     assert len(lines) >= 3 and lines[0][1] == "no answer yet (502 bad_gateway); asking again for 1 s"
 
 
-def test_an_answer_at_once_tells_nothing():
-    lines = []
+def test_an_answer_at_once_tells_nothing() -> None:
+    lines: list[str] = []
     _, desk = asks(DONE, tell=lines.append)
     desk.plan(ID, AREA)
     assert not lines
 
 
-def test_no_server_changes_nothing():
+def test_no_server_changes_nothing() -> None:
     with socket.create_server(("127.0.0.1", 0)) as held:
         port = held.getsockname()[1]
     with pytest.raises(NoAnswer, match="nothing was changed"):
         Desk(f"http://127.0.0.1:{port}", operator="alfa", patience=0.2).plan(ID, AREA)
 
 
-def test_a_clear_and_a_close_asked_again():
+def test_a_clear_and_a_close_asked_again() -> None:
     cleared = (200, {"outcome": {"message": "cleared 2", "success": True}})
     _, desk = asks(HANG_UP, cleared)
     told = desk.clear(AREA)
@@ -192,14 +199,14 @@ def test_a_clear_and_a_close_asked_again():
     assert desk.close(ID).was_lost
 
 
-def test_a_path_has_the_whole_id():
+def test_a_path_has_the_whole_id() -> None:
     server, desk = asks(NO_PLAN)
     with pytest.raises(NoSuchPlan):
         desk.show("a/b?c")
     assert server.asked[0][1] == "/flight_plans/a%2Fb%3Fc"
 
 
-def test_activation_repeats_what_is_stored():
+def test_activation_repeats_what_is_stored() -> None:
     server, desk = asks(SHOWN, DONE)
     desk.activate(ID)
     body = json.loads(server.asked[1][3])
@@ -207,7 +214,7 @@ def test_activation_repeats_what_is_stored():
     assert body == {**put_body(AREA, "InUse", "Nominal", 10, "IfAllowed")}
 
 
-def test_refusals():
+def test_refusals() -> None:
     _, desk = asks(NO_PLAN, (401, b"<html>"), (403, {"error": "unknown_operator"}), (404, b"<html>"), (200, b"hello"))
     with pytest.raises(NoSuchPlan):
         desk.show(ID)
@@ -221,14 +228,15 @@ def test_refusals():
         desk.status()
 
 
-def test_a_refusal_names_the_volume():
+def test_a_refusal_names_the_volume() -> None:
     _, desk = asks((400, {"error": "bad_volume"}))
     with pytest.raises(Refused) as refused:
         desk.plan(ID, [AREA[0], Volume(("04",), 0, 300_000, 0, 1)])
+    assert refused.value.fault
     assert (refused.value.fault.volume, refused.value.fault.member) == (1, "volume.altitude_upper")
 
 
-def test_a_refusal_is_told_once():
+def test_a_refusal_is_told_once() -> None:
     _, desk = asks((400, {"error": "bad_volume"}), (403, {"error": "unknown_operator"}))
     with pytest.raises(Refused) as refused:
         desk.plan(ID, [Volume(("x",), 0, 1, 0, 1)])
@@ -240,7 +248,7 @@ def test_a_refusal_is_told_once():
     assert str(refused.value) == "403 unknown_operator: the operator isn't enrolled: ask the keeper of the desk"
 
 
-def test_a_closed_plan_is_not_changed():
+def test_a_closed_plan_is_not_changed() -> None:
     closed = (200, {**SHOWN[1], "flight_plan_status": "Closed", "usage_state": "Closed"})
     refused = (200, {"flight_plan_status": "Closed", "notes": "closed", "planning_result": "Rejected"})
     server, desk = asks(closed, refused)
@@ -248,7 +256,7 @@ def test_a_closed_plan_is_not_changed():
     assert json.loads(server.asked[1][3])["flight_plan"]["basic_information"]["usage_state"] == "Planned"
 
 
-def test_a_change_in_use_stays_so_and_is_nominal():
+def test_a_change_in_use_stays_so_and_is_nominal() -> None:
     server, desk = asks(
         (200, {**SHOWN[1], "flight_plan_status": "OffNominal", "usage_state": "InUse", "uas_state": "OffNominal"}),
         DONE,
@@ -257,26 +265,26 @@ def test_a_change_in_use_stays_so_and_is_nominal():
     assert json.loads(server.asked[1][3]) == put_body(AREA, "InUse", "Nominal", 5, "IfAllowed")
 
 
-def test_a_malformed_put_that_was_lost_is_put_again():
+def test_a_malformed_put_that_was_lost_is_put_again() -> None:
     server, desk = asks((502, b""), SHOWN, (400, {"error": "bad_member"}))
     with pytest.raises(Refused, match="flight_plan"):
         desk.put(ID, {"execution_style": "IfAllowed"})
     assert server.methods == ["PUT", "GET", "PUT"]
 
 
-def test_a_lost_put_that_is_refused_then_is_an_answer():
+def test_a_lost_put_that_is_refused_then_is_an_answer() -> None:
     server, desk = asks((504, b""), NO_PLAN, BLOCKED)
     answer = desk.plan(ID, AREA, 10)
     assert (answer.note, answer.was_lost, server.methods) == ("conflict", True, ["PUT", "GET", "PUT"])
 
 
-def test_a_close_by_put_that_was_lost_is_seen():
+def test_a_close_by_put_that_was_lost_is_seen() -> None:
     closed = (200, {**SHOWN[1], "flight_plan_status": "Closed", "usage_state": "Closed", "priority": 3})
     server, desk = asks(HANG_UP, closed)
     assert desk.put(ID, put_body(AREA, "Closed", "Nominal", 10, "IfAllowed")).status == "Closed"
 
 
-def test_a_dry_run_without_an_answer_changed_nothing():
+def test_a_dry_run_without_an_answer_changed_nothing() -> None:
     _, desk = asks(*[(502, b"")] * 1_000, patience=0.2)
     with pytest.raises(NoAnswer, match="nothing was changed"):
         desk.try_plan(AREA)
@@ -294,28 +302,29 @@ def test_a_dry_run_without_an_answer_changed_nothing():
         {"outcome": 1},
     ],
 )
-def test_answers_of_another_server(value):
+def test_answers_of_another_server(value: Any) -> None:
     _, desk = asks(*[(200, value)] * 5)
-    for call in (
+    calls: tuple[Callable[[], Any], ...] = (
         lambda: desk.plan(ID, AREA),
         lambda: desk.close(ID),
         lambda: desk.show(ID),
         desk.plans,
         lambda: desk.clear(AREA),
-    ):
+    )
+    for call in calls:
         with pytest.raises(BadAnswer):
             call()
 
 
 @pytest.mark.parametrize("words", [("desk.example",), ("ftp://x",), ("http://x?y",)])
-def test_no_urls(words):
+def test_no_urls(words: tuple[str, ...]) -> None:
     with pytest.raises(ValueError):
         Desk(*words, operator="alfa")
     with pytest.raises(ValueError):
         Desk("http://x")
 
 
-def test_what_stands_is_told_from_what_does_not():
+def test_what_stands_is_told_from_what_does_not() -> None:
     stored = Plan.from_answer(SHOWN[1])
     body = put_body(AREA, "Planned", "Nominal", 10, "IfAllowed")
     assert is_as_put(stored, body)

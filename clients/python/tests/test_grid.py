@@ -1,30 +1,32 @@
 """Squares of the grid against S2's own corners, areas that share a point, sizes."""
 import random
+from collections.abc import Sequence
+from typing import Optional
 
 import pytest
 
 from uss_desk_client.areas import Rectangle, Volume
 from uss_desk_client.geojson import ring_of
 from uss_desk_client.grid import LEAVES, Block, block_of_cell, block_of_rectangle, outline_of, share_a_point
-from uss_desk_client.shapes import Circle, Corridor, Polygon, Shapes, cells_of
+from uss_desk_client.shapes import Circle, Corridor, Place, Polygon, Shape, Shapes, cells_of
 from uss_desk_client.sizes import square_metres, square_metres_of_cells
 from uss_desk_client.tokens import token_of
 
 FIELD = Polygon([(8.54, 47.37), (8.556, 47.369), (8.56, 47.379), (8.539, 47.378)])
 
 
-def cell(some, level):
+def cell(some: random.Random, level: int) -> str:
     leaf = some.randrange(6) << 61 | some.getrandbits(60) << 1 | 1
     bit = 1 << 2 * (30 - level)
     return token_of(leaf & -bit | bit)
 
 
-def round_the_globe(ring):
+def round_the_globe(ring: Sequence[Place]) -> list[Place]:
     return sorted((round(latitude, 6), round(longitude % 360, 6)) for longitude, latitude in ring)
 
 
 @pytest.mark.parametrize("level", range(31))
-def test_the_corners_of_a_block_are_those_of_its_cell(level):
+def test_the_corners_of_a_block_are_those_of_its_cell(level: int) -> None:
     some = random.Random(level)
     for _ in range(20):
         token = cell(some, level)
@@ -32,7 +34,7 @@ def test_the_corners_of_a_block_are_those_of_its_cell(level):
             assert one == pytest.approx(other, abs=2e-6)
 
 
-def test_a_block_has_its_cells_leaves_and_no_others():
+def test_a_block_has_its_cells_leaves_and_no_others() -> None:
     assert block_of_cell("1") == Block(0, 0, LEAVES, 0, LEAVES)
     assert block_of_cell("0000000000000001") == Block(0, 0, 1, 0, 1)
     assert block_of_cell("400000000000006B") == Block(2, 3, 4, 4, 5)
@@ -40,17 +42,24 @@ def test_a_block_has_its_cells_leaves_and_no_others():
         block_of_cell("2")
 
 
-def test_a_rectangle_is_widened_to_whole_squares():
+def test_a_rectangle_is_widened_to_whole_squares() -> None:
     assert block_of_rectangle(Rectangle(3, 63, 64, 5, 5, 24)) == Block(3, 0, 128, 0, 64)
 
 
-def test_a_side_is_cut_into_parts():
+def test_a_side_is_cut_into_parts() -> None:
     ring = outline_of(block_of_cell("9"), 4)
     assert len(ring) == 16 and len(set(ring)) == 16
     assert max(one[0] for one in ring) - min(one[0] for one in ring) == pytest.approx(90)
 
 
-def volume(cells, lower=0, upper=10, start=0, end=10, rectangle=None):
+def volume(
+    cells: Sequence[str],
+    lower: int = 0,
+    upper: int = 10,
+    start: int = 0,
+    end: int = 10,
+    rectangle: Optional[Rectangle] = None,
+) -> Volume:
     return Volume(tuple(cells), lower, upper, start, end, rectangle)
 
 
@@ -69,7 +78,7 @@ def volume(cells, lower=0, upper=10, start=0, end=10, rectangle=None):
         (volume([], rectangle=Rectangle(1, 0, 63, 0, 63, 24)), False),
     ],
 )
-def test_areas_that_share_a_point(other, is_shared):
+def test_areas_that_share_a_point(other: Volume, is_shared: bool) -> None:
     assert share_a_point([volume(["04"])], [volume(["3"]), other]) == is_shared
     assert share_a_point([other], [volume(["04"])]) == is_shared
 
@@ -85,11 +94,11 @@ def test_areas_that_share_a_point(other, is_shared):
         (Shapes([Circle((8, 60), 1_000), Circle((9, 60), 1_000)]), 6_353_200),
     ],
 )
-def test_sizes(shape, wanted):
+def test_sizes(shape: Shape, wanted: float) -> None:
     assert square_metres(shape) == pytest.approx(wanted, rel=0.003)
     taken = square_metres_of_cells(cells_of(shape, 2_048))
     assert wanted * 0.998 < taken < wanted * 1.35
 
 
-def test_the_size_of_a_face():
+def test_the_size_of_a_face() -> None:
     assert square_metres_of_cells(["1"]) == pytest.approx(4 * 3.141593 * 6_371_008.8**2 / 6, rel=1e-5)

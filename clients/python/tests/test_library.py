@@ -1,5 +1,6 @@
 """A Python that hasn't the S2 library."""
 import sys
+from typing import Any
 
 import pytest
 
@@ -8,8 +9,9 @@ from uss_desk_client.library import Library, NoLibrary
 
 
 @pytest.fixture(autouse=True)
-def no_library(monkeypatch):
-    monkeypatch.setitem(sys.modules, "pywraps2", None)
+def no_library(monkeypatch: pytest.MonkeyPatch) -> None:
+    modules: Any = sys.modules
+    monkeypatch.setitem(modules, "pywraps2", None)
 
 
 @pytest.mark.parametrize(
@@ -31,7 +33,7 @@ def no_library(monkeypatch):
         ],
     ],
 )
-def test_one_line_names_the_package_and_the_interpreter(words, capsys):
+def test_one_line_names_the_package_and_the_interpreter(words: list[str], capsys: pytest.CaptureFixture[str]) -> None:
     assert command.main([*words, "--url", "http://127.0.0.1:1", "--operator", "alfa"]) == 5
     output, errors = capsys.readouterr()
     assert output == "" and errors == (
@@ -40,6 +42,6 @@ def test_one_line_names_the_package_and_the_interpreter(words, capsys):
     )
 
 
-def test_a_program_is_told_the_same():
+def test_a_program_is_told_the_same() -> None:
     with pytest.raises(NoLibrary, match="python3-pywraps2"):
         Library().S2CellId

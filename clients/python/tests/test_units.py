@@ -1,6 +1,7 @@
 """Rounding outward, and times as the desk reads them; the answers are written by hand."""
 from datetime import datetime, timedelta, timezone
 from decimal import Decimal
+from typing import Any
 
 import pytest
 
@@ -24,7 +25,7 @@ from uss_desk_client.units import time_text
         (10**9, 10**10, 10**10),
     ],
 )
-def test_altitudes_are_rounded_outward(metres, down, up):
+def test_altitudes_are_rounded_outward(metres: Any, down: int, up: int) -> None:
     assert (decimetres_down(metres), decimetres_up(metres)) == (down, up)
 
 
@@ -32,7 +33,7 @@ def test_altitudes_are_rounded_outward(metres, down, up):
     "metres",
     [float("nan"), float("inf"), True, "60", None, 1e300, Decimal("1E+999999999"), Decimal("sNaN"), -(10**400)],
 )
-def test_no_number_of_metres(metres):
+def test_no_number_of_metres(metres: Any) -> None:
     with pytest.raises(UnitError):
         decimetres_down(metres)
 
@@ -51,7 +52,7 @@ def test_no_number_of_metres(metres):
         ("0000-03-01T00:00:00Z", -62_162_035_200, False),
     ],
 )
-def test_times(text, second, has_fraction):
+def test_times(text: str, second: int, has_fraction: bool) -> None:
     assert read_time(text) == (second, has_fraction)
 
 
@@ -76,11 +77,11 @@ def test_times(text, second, has_fraction):
         "2026-06-01T12:00:00Z\n",
     ],
 )
-def test_no_times(text):
+def test_no_times(text: str) -> None:
     assert read_time(text) is None
 
 
-def test_a_moment_is_rounded_outward():
+def test_a_moment_is_rounded_outward() -> None:
     half = datetime(2026, 6, 1, 12, 0, 0, 500_000, tzinfo=timezone.utc)
     assert (second_down(half), second_up(half)) == (1_780_315_200, 1_780_315_201)
     ahead = datetime(2026, 6, 1, 14, 0, tzinfo=timezone(timedelta(hours=2)))
@@ -90,6 +91,6 @@ def test_a_moment_is_rounded_outward():
 
 
 @pytest.mark.parametrize("time", [datetime(2026, 6, 1), "soon", 1.5, None, True, 1_780_315_200_000, -(10**20)])
-def test_no_moments(time):
+def test_no_moments(time: Any) -> None:
     with pytest.raises(UnitError):
         second_down(time)

@@ -20,8 +20,8 @@ ADVICE = {
     "horizon": "a volume starts more than thirty days ahead: plan it later",
     "priority": "the priority is above the operator's ceiling: lower it, or ask the keeper of the desk",
     "plans_limit": "the operator has 200 plans, closed ones too: clear those whose time is over",
-    "spans_limit": "the operator's live plans would take more spans than the keeper allows: close or clear plans, or ask"
-    " for fewer cells",
+    "spans_limit": "the operator's live plans would take more spans than the keeper allows: close or clear plans, or"
+    " ask for fewer cells",
     "conflict": "a point of the flight is blocked: avoid it (uss-plan why draws where), or use a higher priority",
 }
 """What to do after each note."""
