@@ -54,8 +54,8 @@ def pytest_addoption(parser: pytest.Parser) -> None:
 
 def pytest_sessionstart(session: pytest.Session) -> None:
     """Has the script uss_desk build the program, if it isn't built, once and before anything is timed."""
-    is_worker = "PYTEST_XDIST_WORKER" in os.environ
-    if not is_worker and not session.config.option.collectonly:
+    is_given = not os.environ.keys().isdisjoint(("DESK", "PROGRAM", "PYTEST_XDIST_WORKER"))
+    if not is_given and not session.config.option.collectonly:
         subprocess.run([*DESK, "--help"], stdout=subprocess.DEVNULL, stdin=subprocess.DEVNULL, check=False)
 
 

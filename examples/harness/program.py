@@ -27,6 +27,14 @@ PROGRAM = pathlib.Path(command_of("PROGRAM", CRATES / "uss_desk" / "out" / "uss_
 """The program's file, for checks that trace it or want one process: PROGRAM, or what is built here."""
 
 
+def need_program() -> None:
+    """Has the script uss_desk prove and build the program's file, unless one is given as PROGRAM."""
+    if "PROGRAM" not in os.environ:
+        words = [str(TOP / "uss_desk"), "check", "--help"]
+        subprocess.run(words, stdin=subprocess.DEVNULL, stdout=subprocess.DEVNULL, check=True)
+    assert os.access(PROGRAM, os.X_OK), f"{PROGRAM} isn't there"
+
+
 class Ran(NamedTuple):
     """What a line of the program came to."""
 

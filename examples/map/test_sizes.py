@@ -1,11 +1,13 @@
 """The page on small and large screens, in dark and in light, and by the keyboard."""
+
+from harness.rows import Rows
+from map.browser import Driver, Page
+from map.conftest import Programs
+from map.given import MIDDLE
 from selenium.webdriver.common.keys import Keys
 
-from map.browser import Page
-from map.given import MIDDLE
 
-
-def sizes(checks, setting, programs, driver):
+def test_sizes(rows: Rows, programs: Programs, driver: Driver) -> None:
     """Of use at 360 pixels and at 4k, dark and light, and by keys."""
     page = Page(driver, programs["bravo"].address)
     page.go_to(*MIDDLE)
@@ -14,19 +16,19 @@ def sizes(checks, setting, programs, driver):
     page.draw_by_keys("circle", [(Keys.ARROW_UP, 1)])
     page.type("#draft-priority", "95")
     page.click("#ask")
-    checks.told("360 pixels: asked", "free", page.verdict())
-    checks.told("360 pixels: drawn", before + 1, len(page.drafts()))
-    fits(checks, page, "360 pixels", 360)
+    rows.equal("360 pixels: asked", "free", page.verdict())
+    rows.equal("360 pixels: drawn", before + 1, len(page.drafts()))
+    fits(rows, page, "360 pixels", 360)
     page.size(3840, 2160)
-    fits(checks, page, "4k", 3840)
-    checks.holds("4k: larger letters", page.js("return parseFloat(getComputedStyle(document.body).fontSize)") >= 22)
-    colours(checks, page)
-    reached_by_keys(checks, page)
+    fits(rows, page, "4k", 3840)
+    rows.holds("4k: larger letters", page.js("return parseFloat(getComputedStyle(document.body).fontSize)") >= 22)
+    colours(rows, page)
+    reached_by_keys(rows, page)
 
 
-def fits(checks, page, what, width):
-    """Nothing of the page, but what scrolls by itself, reaches beyond its width; what is pressed is large enough."""
-    checks.told(f"{what}: the page's width", width, page.js("return document.documentElement.scrollWidth"))
+def fits(rows: Rows, page: Page, what: str, width: int) -> None:
+    """Nothing but what scrolls by itself reaches beyond the page's width; what is pressed is large enough."""
+    rows.equal(f"{what}: the page's width", width, page.js("return document.documentElement.scrollWidth"))
     small = page.js(
         """return [...document.querySelectorAll("button:not(.plain), select, input:not([type=checkbox])")]
         .filter((one) => one.offsetParent && !one.closest(".wide"))
@@ -34,17 +36,17 @@ def fits(checks, page, what, width):
         .filter(([, box]) => box.left < 0 || box.right > innerWidth || Math.max(box.height, box.width) < 24)
         .map(([name]) => name)"""
     )
-    checks.told(f"{what}: what can't be pressed", [], small)
+    rows.equal(f"{what}: what can't be pressed", [], small)
 
 
-def colours(checks, page):
+def colours(rows: Rows, page: Page) -> None:
     """In dark and in light, words stand out from their ground by 4.5 to 1."""
     found = {}
     for scheme in ("light", "dark"):
         page.scheme(scheme)
         found[scheme] = page.js(CONTRASTS)
-        checks.told(f"{scheme}: words that don't stand out", [], [one for one in found[scheme] if one[1] < 4.5])
-    checks.holds("dark isn't light", found["dark"] != found["light"])
+        rows.equal(f"{scheme}: words that don't stand out", [], [one for one in found[scheme] if one[1] < 4.5])
+    rows.holds("dark isn't light", found["dark"] != found["light"])
 
 
 CONTRASTS = """
@@ -66,11 +68,11 @@ CONTRASTS = """
 """
 
 
-def reached_by_keys(checks, page):
+def reached_by_keys(rows: Rows, page: Page) -> None:
     """The tabulator reaches what acts, and shows where it is."""
     wanted = {"go-to", "map", "moment", "height", "new-polygon", "ask", "plan", "list-again", "draft-bar", "theme"}
     page.js("document.activeElement.blur(); scrollTo(0, 0)")
-    seen, unseen = set(), []
+    seen, unseen = set[str](), list[str]()
     for _ in range(90):
         page.press(Keys.TAB)
         name, outline = page.js(
@@ -82,5 +84,5 @@ def reached_by_keys(checks, page):
             unseen.append(name)
         if wanted <= seen:
             break
-    checks.told("keys: not reached", set(), wanted - seen)
-    checks.told("keys: reached, and not shown", [], unseen)
+    rows.equal("keys: not reached", set(), wanted - seen)
+    rows.equal("keys: reached, and not shown", [], unseen)

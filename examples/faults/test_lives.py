@@ -1,20 +1,26 @@
 """Lives of a desk over one file: it is killed at random under load and started again on what it left."""
+
 import pathlib
 import random
 import subprocess
 import tempfile
 import time
+from collections.abc import Sequence
 
+import pytest
+from faults.conftest import Note
 from faults.judging import first_of, told, wrong_content, wrong_stop
-from faults.load import load, reading_of
-from faults.parts import Part, side_by_side
+from faults.load import Content, load, reading_of
 from faults.program import PROGRAM, Ran, play_words, read_content
 from faults.scenario import OPERATORS
+from harness.rows import Rows
 
 REQUESTS = 300
+DESKS = 4
+"""How many desks share the lives."""
 
 
-def live(path, operators, given, seconds):
+def live(path: str, operators: Sequence[str], given: bytes, seconds: float) -> Ran:
     """Runs the program on requests, and kills it after so many seconds if it hasn't ended."""
     with tempfile.TemporaryFile() as asked, tempfile.TemporaryFile() as output:
         asked.write(given)
@@ -30,7 +36,9 @@ def live(path, operators, given, seconds):
         return Ran(desk.returncode, output.read(), errors.decode(), [])
 
 
-def judged(path, ran, answers, contents):
+def judged(
+    path: str, ran: Ran, answers: Sequence[bytes], contents: Sequence[Content]
+) -> tuple[str | None, Content, int]:
     """The complaint about a life, the content that it left, and the number of answers."""
     count, _ = told(ran.output, answers)
     allowed = contents[count : count + 2]
@@ -40,40 +48,23 @@ def judged(path, ran, answers, contents):
     return complaint, found, count
 
 
-def lives_of(desk, count, chance, path):
-    """One life that isn't killed, which tells how long one takes, and then `count` that are: what came of each."""
-    requests, answers, contents = load(chance, {}, REQUESTS)
-    started = time.monotonic()
-    ran = live(path, OPERATORS, requests, 300)
-    whole = time.monotonic() - started
-    complaint, content, answered = judged(path, ran, answers, contents)
-    yield f"desk {desk}, life 0", ran, complaint, answered
-    for number in range(1, count + 1):
+@pytest.mark.parametrize("desk", range(DESKS))
+def test_lives(rows: Rows, note: Note, room: pathlib.Path, pytestconfig: pytest.Config, desk: int) -> None:
+    """One life that isn't killed, which tells how long one takes, and then those that are: what was answered stands,
+    and one call more at most."""
+    lives: int = pytestconfig.getoption("--lives", 20)
+    chance, path, whole = random.Random(desk), str(room / "desk.db"), 300.0
+    content: Content = {}
+    for life in range((lives + desk) // DESKS + 1):
         requests, answers, contents = load(chance, content, REQUESTS)
         started = time.monotonic()
-        ran = live(path, [], requests, chance.uniform(0, whole))
+        ran = live(path, [] if life else OPERATORS, requests, chance.uniform(0, whole) if life else whole)
         if ran.status == 0:
             whole = min(whole, time.monotonic() - started)
         complaint, content, answered = judged(path, ran, answers, contents)
-        yield f"desk {desk}, life {number}", ran, complaint, answered
+        rows.equal(f"life {life}", None, complaint)
+        note("killed under load: lives")
+        note("killed under load: killed in mid-run", int(ran.status == -9))
+        note("killed under load: answers", answered)
         if complaint:
-            return
-
-
-def lives(count, processors):
-    """The part: so many lives, over a file for each processor."""
-    part = Part("killed under load")
-
-    def desk(number):
-        share = (count + number) // processors
-        with tempfile.TemporaryDirectory(prefix="faults-") as room:
-            path = str(pathlib.Path(room) / "desk.db")
-            return list(lives_of(number, share, random.Random(number), path))
-
-    for came in side_by_side(desk, range(processors), processors):
-        for what, ran, complaint, answered in came:
-            part.count("lives")
-            part.count("killed in mid-run", int(ran.status == -9))
-            part.count("answers", answered)
-            part.add(what, complaint)
-    return part.close()
+            break
