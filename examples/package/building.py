@@ -1,5 +1,7 @@
 """The packages as they are built and taken apart."""
 
+from __future__ import annotations
+
 import hashlib
 import os
 import pathlib

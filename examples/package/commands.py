@@ -1,5 +1,7 @@
 """Commands that are run, and what promtool says of metrics."""
 
+from __future__ import annotations
+
 import subprocess
 from collections.abc import Mapping, Sequence
 from os import PathLike

@@ -1,5 +1,7 @@
 """What the tests of packages share: the packages, what is in them, and a clean machine."""
 
+from __future__ import annotations
+
 import os
 import pathlib
 import tempfile

@@ -5,6 +5,8 @@ Its root is made once by mmdebstrap, and kept for some days in packaging/out. sy
 its own, so that its ports are free and nothing of it is left.
 """
 
+from __future__ import annotations
+
 import contextlib
 import hashlib
 import os
@@ -14,7 +16,6 @@ import subprocess
 import tempfile
 import time
 from collections.abc import Sequence
-from typing import Self
 
 from harness.places import TOP
 from package.commands import PATIENCE, run
@@ -137,7 +138,7 @@ class Machine:
         self.log.seek(0)
         raise RuntimeError(f"systemd-nspawn boots no machine here: {self.log.read()[-500:]}")
 
-    def __enter__(self) -> Self:
+    def __enter__(self) -> Machine:
         return self
 
     def __exit__(self, *_: object) -> None:

@@ -1,5 +1,7 @@
 """The packages as they are built: the same bytes in every setting, and nothing that lintian calls an error."""
 
+from __future__ import annotations
+
 import hashlib
 import os
 import pathlib

@@ -1,6 +1,8 @@
 """What a keeper does with the packages on a clean machine, by the lines that KEEPING prints: install, enrol, proxy;
 then an upgrade, downgrades, a removal and a purge."""
 
+from __future__ import annotations
+
 import pathlib
 import re
 import time

@@ -1,5 +1,7 @@
 """What an operator does with the clients' package on the clean machine."""
 
+from __future__ import annotations
+
 from datetime import datetime, timedelta, timezone
 
 from harness.rows import Rows

@@ -1,5 +1,7 @@
 """What a keeper reads and types: pages, completions, the words of failures, against the program and the proofs."""
 
+from __future__ import annotations
+
 import pathlib
 import re
 import sys

@@ -1,5 +1,7 @@
 """What a keeper watches: desk_metrics over logs of known lines, and the alerts."""
 
+from __future__ import annotations
+
 import pathlib
 import re
 
