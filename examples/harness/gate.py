@@ -70,7 +70,9 @@ def main(
         return 1
     before()
     quiet = [] if any(word.startswith("-v") for word in words) else ["-q"]
-    return run(name, [*quiet, "-rfEs", "-n", processes, *words, *(str(EXAMPLES / file) for file in files)])
+    return run(
+        name, [*quiet, "-rfEs", "--tb=short", "-n", processes, *words, *(str(EXAMPLES / file) for file in files)]
+    )
 
 
 def run(name: str, words: list[str]) -> int:
