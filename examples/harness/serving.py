@@ -23,8 +23,8 @@ TRIES = 5
 class Served:
     """A desk at a free port, from its first line of output on; it is killed when it is left.
 
-    `words` are further words of the line: `"--db", path`, `"alfa=100"`; `under` is a command before it, as `strace`; with
-    `at` it is at that port, or at none.
+    `words` are further words of the line: `"--db", path`, `"alfa=100"`; `under` is a command before it, as `strace`;
+    with `at` it is at that port, or at none.
     """
 
     port: int
