@@ -6,14 +6,17 @@ The other rows are plans of the greatest number of volumes, most of one operator
 """
 
 import datetime
-import json
+import pathlib
 import random
 import re
+import sys
 import uuid
 from collections.abc import Callable, Iterator
-from typing import Any
 
-Json = dict[str, Any]
+sys.path.insert(0, str(pathlib.Path(__file__).resolve().parent.parent / "examples"))
+
+from harness.requests import Json, list_plans, over, put, volume  # noqa: E402  (the path is set above)
+
 Square = tuple[int, int]
 
 CITY_LEVEL, CITY_SIDE, HUBS, REACH = 17, 128, 20, 40
@@ -44,41 +47,6 @@ def position(level: int, i: int, j: int) -> int:
         child = CHILDREN[turn].index(2 * (i >> bit & 1) + (j >> bit & 1))
         at, turn = 4 * at + child, turn ^ TURNS[child]
     return at
-
-
-def request(method: str, path: str, operator: str, body: bytes = b"") -> bytes:
-    """A request's bytes."""
-    head = f"{method} {path} HTTP/1.1\r\nhost: desk\r\nx-operator: {operator}\r\ncontent-length: {len(body)}\r\n\r\n"
-    return head.encode() + body
-
-
-def moment(value: str) -> Json:
-    """A moment as a request has it."""
-    return {"format": "RFC3339", "value": value}
-
-
-def volume(
-    shape: Json, lower: int, upper: int, start: str = "2026-06-01T12:00:00Z", end: str = "2026-06-01T13:00:00Z"
-) -> Json:
-    """A volume of a shape: cells or a rectangle."""
-    return {
-        "time_end": moment(end),
-        "time_start": moment(start),
-        "volume": {"altitude_lower": lower, "altitude_upper": upper, **shape},
-    }
-
-
-def put(operator: str, plan: uuid.UUID, volumes: list[Json], priority: int = 10, style: str = "IfAllowed") -> bytes:
-    """A PUT of a plan."""
-    asked = {
-        "execution_style": style,
-        "flight_plan": {
-            "astm_f3548_21": {"priority": priority},
-            "basic_information": {"area": volumes, "uas_state": "Nominal", "usage_state": "Planned"},
-        },
-        "request_id": "r1",
-    }
-    return request("PUT", f"/flight_plans/{plan}", operator, json.dumps(asked, separators=(",", ":")).encode())
 
 
 def line(one: Square, other: Square) -> list[Square]:
@@ -160,9 +128,9 @@ def combs(count: int) -> Iterator[bytes]:
 def wide() -> bytes:
     """A plan of 24 volumes, each a cell of level 1, so that it has more long spans than are asked for by themselves."""
     cells = [token_of(face << 61 | quarter << 59 | 1 << 58) for face in range(6) for quarter in range(4)]
-    return put("op0", uuid.UUID(int=1), [volume({"cells": [cell]}, 50_000, 51_000) for cell in cells])
+    return put("op0", uuid.UUID(int=1), [over([cell], 50_000, 51_000) for cell in cells])
 
 
 LISTED: dict[str, Callable[[int], Iterator[bytes]]] = {"strips": strips, "same": same, "comb": comb, "combs": combs}
-SHOWN_LIST = request("GET", "/flight_plans", "op0")
-OVER_A_FACE = [put("op1", uuid.UUID(int=1), [volume({"cells": ["1"]}, -10_000, 200_000)], priority=5)]
+SHOWN_LIST = list_plans("op0")
+OVER_A_FACE = [put("op1", uuid.UUID(int=1), [over(["1"], -10_000, 200_000)], priority=5)]

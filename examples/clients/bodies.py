@@ -1,15 +1,19 @@
 """Random bodies of PUTs and clears, most of them nearly right: one seed, the same bodies."""
+
+from __future__ import annotations
+
 import copy
 import json
-import random
+from collections.abc import Callable, Iterator
+from random import Random
+from typing import Any
 
+from harness.requests import MOMENT, Json, plan, volume
 from uss_desk_client.units import time_text
 
-MOMENT = 1_780_315_000
-"""2026-06-01T11:56:40Z, the moment of all requests."""
 TOKENS = ["04", "1", "3", "5", "b", "0000000000000001", "478fc2d07ff", "89C25", "478fc2d07fc", "bfffffffffffffff"]
 ODD_TOKENS = ["", "0", "c", "x", "00000000000000001", "1 ", "7f", "478fc2d07fe", "2", "\u0661", "8", "0x1", "+1"]
-ODD_VALUES = [
+ODD_VALUES: list[Any] = [
     None,
     True,
     False,
@@ -127,11 +131,7 @@ MARKS = [
 ]
 
 
-def time_of(text):
-    return {"format": "RFC3339", "value": text}
-
-
-def rectangle(some):
+def random_rectangle(some: Random) -> Json:
     """A rectangle, small or large, sometimes with an odd member."""
     level = some.choice([8, 9, 10, 12, 16, 20, 24, 7, 25])
     side = 1 << (30 - max(8, min(level, 24)))
@@ -150,36 +150,37 @@ def rectangle(some):
     return made
 
 
-def volume(some):
+def random_volume(some: Random) -> Json:
     """A volume that is well formed, but for a rectangle."""
     start = some.choice(SECONDS) if some.random() < 0.2 else MOMENT + some.randrange(1, 2_000_000)
-    shape = {"altitude_lower": 600, "altitude_upper": 1_200}
+    shape: Json
     if some.random() < 0.75:
-        shape["cells"] = [some.choice(TOKENS) for _ in range(some.choice([1, 1, 2, 3, 64]))]
+        shape = {"cells": [some.choice(TOKENS) for _ in range(some.choice([1, 1, 2, 3, 64]))]}
     else:
-        shape["rectangle"] = rectangle(some)
-    return {
-        "volume": shape,
-        "time_start": time_of(time_text(start)),
-        "time_end": time_of(time_text(start + some.choice([1, 3_600, 3_600, 86_400, 86_401]))),
-    }
+        shape = {"rectangle": random_rectangle(some)}
+    end = start + some.choice([1, 3_600, 3_600, 86_400, 86_401])
+    return volume(shape, 600, 1_200, time_text(start), time_text(end))
 
 
-def put(some):
+def random_put(some: Random) -> Json:
+    """The body of a PUT."""
     style = some.choice(["IfAllowed", "IfAllowed", "IfAllowed", "Hypothetical", "InReality"])
-    plan = {
-        "basic_information": {
-            "usage_state": some.choice(["Planned", "Planned", "Planned", "InUse", "Closed"]),
-            "uas_state": some.choice([*["Nominal"] * 3, "OffNominal", "Contingent"]),
-            "area": [volume(some) for _ in range(some.choice([1, 1, 1, 2, 3]))],
-        }
-    }
+    usage = some.choice(["Planned", "Planned", "Planned", "InUse", "Closed"])
+    aircraft = some.choice([*["Nominal"] * 3, "OffNominal", "Contingent"])
+    area = [random_volume(some) for _ in range(some.choice([1, 1, 1, 2, 3]))]
+    made = plan(area, None, style, usage, aircraft)
     if some.random() < 0.8:
-        plan["astm_f3548_21"] = {"priority": some.choice([0, 10, 50, 100, 101, 1_000, 1_001, None])}
-    return {"execution_style": style, "flight_plan": plan, "request_id": "r"}
+        priority = some.choice([0, 10, 50, 100, 101, 1_000, 1_001, None])
+        made["flight_plan"]["astm_f3548_21"] = {"priority": priority}
+    return made
 
 
-def places(value, path=()):
+def random_clear(some: Random) -> Json:
+    """The body of a clear."""
+    return {"request_id": "r", "extent": random_volume(some)}
+
+
+def places(value: Any, path: tuple[Any, ...] = ()) -> Iterator[tuple[Any, ...]]:
     """The paths of all members and items of a value."""
     if path:
         yield path
@@ -188,7 +189,8 @@ def places(value, path=()):
         yield from places(part, (*path, name))
 
 
-def odd_value(some, name):
+def odd_value(some: Random, name: object) -> Any:
+    """A value in the place of a member's or an item's."""
     if name in ("altitude_lower", "altitude_upper") and some.random() < 0.7:
         return some.choice(ALTITUDES)
     if name == "value" and some.random() < 0.85:
@@ -198,13 +200,13 @@ def odd_value(some, name):
     if name in ("usage_state", "uas_state", "execution_style", "format") and some.random() < 0.7:
         return some.choice(WORDS)
     if name == "area" and some.random() < 0.8:
-        return [volume(some) for _ in range(some.choice([0, 31, 32, 33]))]
+        return [random_volume(some) for _ in range(some.choice([0, 31, 32, 33]))]
     if name == "cells" and some.random() < 0.8:
         return [some.choice(TOKENS) for _ in range(some.choice([0, 64, 65]))]
     return copy.deepcopy(some.choice(ODD_VALUES))
 
 
-def spoil(some, value):
+def spoil(some: Random, value: Json) -> None:
     """Changes, removes or adds one member somewhere."""
     path = some.choice(list(places(value)))
     holder = value
@@ -220,7 +222,7 @@ def spoil(some, value):
         holder[name] = odd_value(some, name)
 
 
-def spoil_bytes(some, data):
+def spoil_bytes(some: Random, data: bytes) -> bytes:
     """Puts in, removes or doubles some bytes."""
     at = some.randrange(len(data))
     act = some.random()
@@ -234,7 +236,7 @@ def spoil_bytes(some, data):
     return data[:at]
 
 
-def body(some, make):
+def body(some: Random, make: Callable[[Random], Json]) -> bytes:
     """The bytes of one body."""
     value = make(some)
     for _ in range(some.choice([0, 0, 1, 1, 1, 1, 2, 2, 3])):
@@ -243,10 +245,9 @@ def body(some, make):
     return spoil_bytes(some, data) if some.random() < 0.2 else data
 
 
-def bodies(seed, count):
+def bodies(seed: int, count: int) -> Iterator[tuple[str, bytes]]:
     """Each a method, PUT or POST, and a body."""
-    some = random.Random(seed)
+    some = Random(seed)
     for _ in range(count):
         is_put = some.random() < 0.85
-        make = put if is_put else (lambda some: {"request_id": "r", "extent": volume(some)})
-        yield ("PUT" if is_put else "POST"), body(some, make)
+        yield ("PUT" if is_put else "POST"), body(some, random_put if is_put else random_clear)

@@ -7,6 +7,7 @@ told to make each allocation by one mapping, and tries a second one if that is r
 none is refused. What the program writes and its exit status are its own; a last line on standard error tells how
 many growths were refused, of how many, and how many at most came after one write.
 """
+
 import ctypes
 import errno
 import fcntl
@@ -15,6 +16,7 @@ import select
 import struct
 import sys
 import time
+
 
 # Each allocation is one mmap of its own: a mapping that is refused is a growth that is refused.
 ONE_MAPPING_EACH = ":".join(
@@ -54,14 +56,14 @@ class Program(ctypes.Structure):
     _fields_ = [("length", ctypes.c_ushort), ("steps", ctypes.c_char_p)]
 
 
-def called(result):
+def called(result: int) -> int:
     """The result of a call of the C library, unless it failed."""
     if result < 0:
         raise OSError(ctypes.get_errno(), os.strerror(ctypes.get_errno()))
     return result
 
 
-def run_filtered(words, gate):
+def run_filtered(words: list[str], gate: int) -> None:
     """In the child: asks before the calls of the filter from now on, waits for the gate, and becomes the program."""
     steps = b"".join(struct.pack("=HBBI", *step) for step in FILTER)
     program = Program(len(FILTER), steps)
@@ -72,7 +74,7 @@ def run_filtered(words, gate):
     os.execve(words[0], words, environment)
 
 
-def listener_of(child):
+def listener_of(child: int) -> int:
     """The end at which a child's questions arrive, once it has one."""
     while True:
         for name in os.listdir(f"/proc/{child}/fd"):
@@ -84,12 +86,13 @@ def listener_of(child):
 class Refuser:
     """What is said to each question: the Nth growth after each write is refused, and the one after it."""
 
-    def __init__(self, number):
+    def __init__(self, number: int) -> None:
         self.number = number
-        self.since = None  # how many growths since the last write, or None before the first
+        self.since: int | None = None  # how many growths since the last write, or None before the first
         self.refused = self.growths = self.longest = 0
 
-    def is_refused(self, call):
+    def is_refused(self, call: int) -> bool:
+        """Whether a call is refused, and counts it."""
         if call == WRITE:
             self.since = 0
         if call == WRITE or self.since is None:
@@ -103,7 +106,7 @@ class Refuser:
         return self.since == self.number
 
 
-def answer_all(listener, refuser):
+def answer_all(listener: int, refuser: Refuser) -> None:
     """Answers the questions until nobody is left who asks."""
     poll = select.poll()
     poll.register(listener, select.POLLIN)
@@ -115,7 +118,8 @@ def answer_all(listener, refuser):
         fcntl.ioctl(listener, SEND, TOLD.pack(question, *told))
 
 
-def main():
+def main() -> int:
+    """Runs the line; the exit status of the program."""
     number, words = int(sys.argv[1]), sys.argv[2:]
     gate, opened = os.pipe()
     child = os.fork()

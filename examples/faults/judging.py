@@ -2,9 +2,11 @@
 
 Each function answers None if all is well, else a line that says what is wrong.
 """
-import signal
 
-from faults.program import damage, read_content
+import signal
+from collections.abc import Sequence
+
+from faults.program import Ran, damage, read_content
 from faults.scenario import ANSWERS, CONTENTS, ENROLLED, answer
 
 # The word of a 500, and the word on standard error if the program ends with no answer.
@@ -15,7 +17,7 @@ STORE = ("store", "store")
 UNENROLLED = "no operator is enrolled, so each request is answered 403"
 
 
-def told(output, answers):
+def told(output: bytes, answers: Sequence[bytes]) -> tuple[int, bytes]:
     """How many of the right answers an output begins with, and the bytes after them."""
     for count, right in enumerate(answers):
         if not output.startswith(right):
@@ -24,7 +26,7 @@ def told(output, answers):
     return len(answers), output
 
 
-def wrong_whole(ran, answers):
+def wrong_whole(ran: Ran, answers: Sequence[bytes]) -> str | None:
     """A run that ends with status 0 has given every answer."""
     if ran.output != b"".join(answers):
         count, rest = told(ran.output, answers)
@@ -32,7 +34,7 @@ def wrong_whole(ran, answers):
     return f"status 0, but it said {ran.errors!r}" if ran.errors else None
 
 
-def wrong_failure(ran, answers, words):
+def wrong_failure(ran: Ran, answers: Sequence[bytes], words: tuple[str, str]) -> str | None:
     """A run that ends with status 4 has given right answers, and then one 500 or none, with its word. After all answers
     its files could not be closed, for whatever cause, which loses nothing."""
     broken, ended = words
@@ -48,7 +50,7 @@ def wrong_failure(ran, answers, words):
     return None if right else f"{ran.errors.strip()} after {count} right answers and {rest[:200]!r}"
 
 
-def wrong_end(ran, answers, words, was_refused):
+def wrong_end(ran: Ran, answers: Sequence[bytes], words: tuple[str, str], was_refused: bool) -> str | None:
     """A run to which a fault was done, or none."""
     if ran.status == 0:
         return wrong_whole(ran, answers)
@@ -59,7 +61,7 @@ def wrong_end(ran, answers, words, was_refused):
     return wrong_failure(ran, answers, words)
 
 
-def wrong_stop(ran, answers):
+def wrong_stop(ran: Ran, answers: Sequence[bytes]) -> str | None:
     """A run that was killed, or ended before it could be."""
     if ran.status != -signal.SIGKILL:
         return wrong_whole(ran, answers) if ran.status == 0 else f"status {ran.status}: {ran.errors[:200]!r}"
@@ -68,7 +70,7 @@ def wrong_stop(ran, answers):
     return None if right.startswith(rest) else f"killed after {count} right answers and {rest[:200]!r}"
 
 
-def wrong_content(path, allowed):
+def wrong_content(path: str, allowed: Sequence[bytes]) -> str | None:
     """A file that is opened again has one of the contents that are allowed, as a List of each operator tells them."""
     ran = read_content(path)
     if ran.status != 0 or ran.errors not in ("", f"uss_desk: {path}: {UNENROLLED}\n"):
@@ -78,7 +80,7 @@ def wrong_content(path, allowed):
     return damage(path)
 
 
-def contents_after(output, more):
+def contents_after(output: bytes, more: int) -> list[bytes]:
     """What the scenario may have left: what was answered; and one call more, if `more`.
 
     Before the first answer as many operators as you like may be enrolled.
@@ -88,6 +90,12 @@ def contents_after(output, more):
     return CONTENTS[first : ENROLLED + count + 1 + more]
 
 
-def first_of(*complaints):
+def first_of(*complaints: str | None) -> str | None:
     """The first complaint, or None."""
     return next((text for text in complaints if text), None)
+
+
+def kind_of(ran: Ran) -> str:
+    """How a run ended, in a word."""
+    ends = {0: "whole", 4: ran.errors.strip().replace("uss_desk: ", "ended "), -signal.SIGKILL: "killed"}
+    return ends.get(ran.status, "crashed")

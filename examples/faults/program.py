@@ -1,19 +1,18 @@
 """Runs of the program: bare, or under strace, which refuses and stops what it is told to."""
+
 import os
 import pathlib
 import re
 import shutil
 import subprocess
 import tempfile
-from typing import List, NamedTuple
+from collections.abc import Sequence
+from typing import NamedTuple
 
 from faults.scenario import MOMENT, OPERATORS, READING
+from harness import program
 
-TOP = pathlib.Path(__file__).resolve().parent.parent.parent
-PROGRAM = os.environ.get("PROGRAM", str(TOP / "crates" / "uss_desk" / "out" / "uss_desk"))
-# Its part `refusals` makes calls that grow, and makes each again if it was refused.
-CALLS = TOP / "crates" / "desk_trials"
-FAULTS = pathlib.Path(__file__).resolve().parent
+PROGRAM = str(program.PROGRAM)
 PATIENCE = 300
 # With -f each line of strace begins with the number of a process.
 PROCESS = re.compile(r"^\d+ +", re.MULTILINE)
@@ -26,16 +25,16 @@ class Ran(NamedTuple):
     status: int
     output: bytes
     errors: str
-    trace: List[str]
+    trace: list[str]
 
 
-def play_words(path=None, operators=OPERATORS):
+def play_words(path: str | None = None, operators: Sequence[str] = OPERATORS) -> list[str]:
     """The line of a `play`, in memory or over a file, that enrols operators first."""
     where = ["--db", path] if path else []
     return ["play", *where, "--at", MOMENT, *operators]
 
 
-def finish(line, given):
+def finish(line: Sequence[str], given: bytes) -> Ran:
     """Runs a line to its end, or until patience ends, which is told as status 124."""
     try:
         ran = subprocess.run(line, input=given, capture_output=True, timeout=PATIENCE, check=False)
@@ -44,26 +43,26 @@ def finish(line, given):
     return Ran(ran.returncode, ran.stdout, ran.stderr.decode(errors="replace"), [])
 
 
-def run(words, given=b""):
+def run(words: Sequence[str], given: bytes = b"") -> Ran:
     """Runs the program bare."""
     return finish([PROGRAM, *words], given)
 
 
-def run_traced(words, given, options, program=PROGRAM):
-    """Runs the program, or another one, under strace with these options."""
+def run_traced(words: Sequence[str], given: bytes, options: Sequence[str]) -> Ran:
+    """Runs the program under strace with these options."""
     with tempfile.TemporaryDirectory(prefix="faults-") as room:
         trace = pathlib.Path(room) / "trace"
-        ran = finish(["strace", "-qq", "-o", str(trace), *options, program, *words], given)
+        ran = finish(["strace", "-qq", "-o", str(trace), *options, PROGRAM, *words], given)
         lines = PROCESS.sub("", trace.read_text(errors="replace")).splitlines() if trace.exists() else []
     return ran._replace(trace=lines)
 
 
-def read_content(path):
+def read_content(path: str) -> Ran:
     """What the program answers to a List of each operator, over a file that it opens again."""
     return run(play_words(path, []), READING)
 
 
-def damage(path):
+def damage(path: str) -> str | None:
     """What SQLite's own tools find wrong with a copy of a file and of its log, or None."""
     with tempfile.TemporaryDirectory(prefix="faults-") as room:
         for name in filter(os.path.exists, (path, f"{path}-wal")):

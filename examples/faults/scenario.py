@@ -12,19 +12,19 @@ FIRST = "11111111-1111-4111-8111-111111111111"
 SECOND = "22222222-2222-4222-8222-222222222222"
 
 
-def request(method, path, operator, body=""):
+def request(method: str, path: str, operator: str, body: str = "") -> bytes:
     """The bytes of a request."""
     length = f"content-length: {len(body)}\r\n" if body else ""
     return f"{method} {path} HTTP/1.1\r\nhost: desk\r\nx-operator: {operator}\r\n{length}\r\n{body}".encode()
 
 
-def answer(status, body):
+def answer(status: int, body: str) -> bytes:
     """The bytes of an answer with a status and a body."""
     head = f"HTTP/1.1 {status} {PHRASES[status]}\r\ncontent-type: application/json\r\n"
     return f"{head}content-length: {len(body)}\r\nconnection: close\r\n\r\n{body}".encode()
 
 
-def volume(lower, upper, start, end, footprint):
+def volume(lower: int, upper: int, start: int, end: int, footprint: str) -> str:
     """A volume of a request; altitudes in decimetres, Unix seconds, the footprint a member in JSON."""
     ends = ",".join(
         f'"{name}":{{"format":"RFC3339","value":"2026-06-01T{TIMES[second]}:00Z"}}'
@@ -33,7 +33,7 @@ def volume(lower, upper, start, end, footprint):
     return f'{{{ends},"volume":{{"altitude_lower":{lower},"altitude_upper":{upper},{footprint}}}}}'
 
 
-def put(operator, plan, priority, asked):
+def put(operator: str, plan: str, priority: int, asked: str) -> bytes:
     """A PUT of a planned flight over one volume."""
     flight = f'"area":[{asked}],"uas_state":"Nominal","usage_state":"Planned"'
     levels = f'"astm_f3548_21":{{"priority":{priority}}},"basic_information":{{{flight}}}'
@@ -41,39 +41,39 @@ def put(operator, plan, priority, asked):
     return request("PUT", f"/flight_plans/{plan}", operator, body)
 
 
-def clear(operator, asked):
+def clear(operator: str, asked: str) -> bytes:
     """A request to clear an extent."""
     return request("POST", "/clear_area_requests", operator, f'{{"extent":{asked}}}')
 
 
-def done(status):
+def done(status: str) -> bytes:
     """The answer to a PUT or a DELETE that was completed."""
     return answer(200, f'{{"flight_plan_status":"{status}","notes":"","planning_result":"Completed"}}')
 
 
-def cleared(count):
+def cleared(count: int) -> bytes:
     """The answer to a clear."""
     return answer(200, f'{{"outcome":{{"message":"cleared {count}","success":true}}}}')
 
 
-def point(altitude, second, priority):
+def point(altitude: int, second: int, priority: int) -> str:
     """A member `conflict` at the first leaf of the curve."""
     return f'"conflict":{{"altitude":{altitude},"cell":"0000000000000001","priority":{priority},"second":{second}}},'
 
 
-def shown(plan, priority, area, conflict="", state="Planned"):
+def shown(plan: str, priority: int, area: str, conflict: str = "", state: str = "Planned") -> str:
     """A plan as a GET shows it: its one volume without its seconds is `area`, its window and its lines follow."""
     lines = f'"flight_plan_id":"{plan}","flight_plan_status":"{state}","priority":{priority}'
     return f'{{"area":[{area}],{conflict}{lines},"uas_state":"Nominal","usage_state":"{state}"}}'
 
 
-def area_shown(lower, upper, start, end, footprint):
+def area_shown(lower: int, upper: int, start: int, end: int, footprint: str) -> str:
     """A volume as a GET shows it."""
     extent = f'"altitude_lower":{lower},"altitude_upper":{upper},{footprint}'
     return f'{{{extent},"second_end":{end},"second_start":{start}}}'
 
 
-def listed(*plans):
+def listed(*plans: str) -> bytes:
     """The answer to a List."""
     return answer(200, f'{{"flight_plans":[{",".join(plans)}]}}')
 

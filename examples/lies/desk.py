@@ -1,12 +1,15 @@
 """Lines of the program over files, and a desk at a port that is asked, killed, or left to end."""
+
 import pathlib
 import shutil
 import socket
 import subprocess
-from typing import NamedTuple, Optional
+from collections.abc import Mapping, Sequence
+from typing import NamedTuple, Self
 
 from faults.program import PROGRAM, finish
-from lies.flights import MOMENT, name_of, read_all
+from harness.ports import free_port
+from lies.flights import MOMENT, Step, World, name_of, read_all
 
 # seconds in which a desk answers or ends
 PATIENCE = 120
@@ -15,22 +18,19 @@ REFUSED = ("uss_desk: store\n", "uss_desk: not_a_desk\n")
 CONNECTIONS = 100_000
 
 
-class Complaint(Exception):
-    """What is wrong."""
-
-
 class Opened(NamedTuple):
     """What came of opening a file: the word with which it was refused, or all that was read of its content."""
 
-    word: Optional[str]
+    word: str | None
     content: bytes
 
 
-def log_of(path):
+def log_of(path: pathlib.Path) -> pathlib.Path:
+    """Where a file's log is."""
     return pathlib.Path(f"{path}-wal")
 
 
-def copy_pair(path, to):
+def copy_pair(path: pathlib.Path, to: pathlib.Path) -> pathlib.Path:
     """Copies a file, and its log if it has one."""
     shutil.copy(path, to)
     if log_of(path).exists():
@@ -38,65 +38,61 @@ def copy_pair(path, to):
     return to
 
 
-def play(path, steps, ceilings=None):
+def play(path: pathlib.Path, steps: Sequence[Step], ceilings: Mapping[int, int]) -> bool:
     """Plays requests over a file, and enrols operators first. Tells whether each was answered right."""
-    operators = [f"{name_of(operator)}={ceiling}" for operator, ceiling in (ceilings or {}).items()]
+    operators = [f"{name_of(operator)}={ceiling}" for operator, ceiling in ceilings.items()]
     line = [PROGRAM, "play", "--db", str(path), "--at", str(MOMENT), *operators]
     ran = finish(line, b"".join(step[0] for step in steps))
     return (ran.status, ran.errors, ran.output) == (0, "", b"".join(step[1] for step in steps))
 
 
-def opened(path, world):
-    """Opens a file, and reads its content by the requests that tell a world. A complaint is raised as an error."""
+def opened(path: pathlib.Path, world: World) -> Opened:
+    """Opens a file, and reads its content by the requests that tell a world."""
     ran = finish([PROGRAM, "play", "--db", str(path), "--at", str(MOMENT)], read_all(world)[0])
     if ran.status == 0 and not ran.errors:
         return Opened(None, ran.output)
-    if ran.status == 4 and ran.errors in REFUSED and not ran.output:
-        return Opened(ran.errors.split()[1], b"")
-    raise Complaint(f"opened again: status {ran.status}, {ran.errors!r}, {ran.output[-200:]!r}")
+    assert (ran.status, ran.output) == (
+        4,
+        b"",
+    ) and ran.errors in REFUSED, f"opened again: {ran.status}, {ran.errors!r}, {ran.output[-200:]!r}"
+    return Opened(ran.errors.split()[1], b"")
 
 
 class Desk:
     """A desk that serves a file at a port of its own."""
 
-    def __init__(self, path, connections=CONNECTIONS):
+    def __init__(self, path: pathlib.Path, connections: int = CONNECTIONS) -> None:
         for _ in range(5):
             self.port = free_port()
             words = ["serve", "--db", str(path), "--port", str(self.port), "--requests", str(connections)]
             self.process = subprocess.Popen([PROGRAM, *words], stdout=subprocess.PIPE, stderr=subprocess.PIPE)
+            assert self.process.stdout
             if self.process.stdout.readline() == f"listening 127.0.0.1:{self.port}\n".encode():
                 return
             self.process.kill()
             errors = self.process.communicate()[1].decode()
-            if errors != "uss_desk: network\n":
+            if not errors.endswith("uss_desk: network\n"):
                 break
-        raise Complaint(f"serve doesn't listen: {errors!r}")
+        raise OSError(f"serve doesn't listen: {errors!r}")
 
-    def __enter__(self):
+    def __enter__(self) -> Self:
         return self
 
-    def __exit__(self, *_):
+    def __exit__(self, *_: object) -> None:
         self.kill()
 
-    def ask(self, asked):
+    def ask(self, asked: bytes) -> bytes:
         """The answer to a request, over a connection of its own."""
         with socket.create_connection(("127.0.0.1", self.port), timeout=PATIENCE) as client:
             client.sendall(asked)
             return b"".join(iter(lambda: client.recv(65536), b""))
 
-    def kill(self):
+    def kill(self) -> None:
         """Kills the desk by SIGKILL, unless it has ended."""
         self.process.kill()
         self.process.communicate()
 
-    def ended(self):
+    def ended(self) -> tuple[int, str]:
         """The exit status and the errors of a desk that ends by itself."""
         errors = self.process.communicate(timeout=PATIENCE)[1].decode(errors="replace")
         return self.process.returncode, errors
-
-
-def free_port():
-    """A port that nobody listened at a moment ago."""
-    with socket.socket() as probe:
-        probe.bind(("127.0.0.1", 0))
-        return probe.getsockname()[1]

@@ -1,4 +1,5 @@
 """What all parts are given: operators, places, the map's program and how long it asks the desk again."""
+
 OPERATORS = {"alfa": "the word of alfa 4711", "bravo": "the word of bravo 4712", "carol": "the word of carol 4713"}
 """Names and passwords; nothing that the page shows has these words."""
 MIDDLE = (47.3750, 8.5450)

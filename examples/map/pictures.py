@@ -1,18 +1,25 @@
 """The pictures of docs: a day of flights, one that is drawn and blocked, the same at 360 pixels."""
+
 import subprocess
 import time
+from collections.abc import Sequence
+from typing import Any
 
-from clients.running import DESK, TOP, Setting
+from clients.given import desk_itself
+from harness.places import DOCS
+from harness.program import run as run_program
+from harness.setting import Setting
 from map.browser import Page, Program, browser
 from map.given import HOUR, MAP_PATIENCE, OPERATORS
 from uss_desk_client import Circle, Corridor, Polygon, area_of, new_id
+from uss_desk_client.shapes import Shape
 
-DOCS = TOP / "docs"
+Place = tuple[float, float]
 
 
-def run():
+def run() -> int:
     """Makes the pictures anew; the exit status."""
-    subprocess.run([DESK, "--help"], check=True, stdout=subprocess.DEVNULL)
+    run_program("--help")
     with Setting(OPERATORS) as setting, browser() as driver:
         program = Program(setting, "alfa", MAP_PATIENCE)
         try:
@@ -22,7 +29,7 @@ def run():
     return 0
 
 
-def make_pictures(setting, page):
+def make_pictures(setting: Setting, page: Page) -> None:
     """A day of flights; one that is drawn and blocked, in the dark; the same at 360 pixels."""
     page.size(1200, 760)
     page.scheme("light")
@@ -52,7 +59,7 @@ def make_pictures(setting, page):
     save(page, "map-small.png")
 
 
-FLIGHTS = (
+FLIGHTS: Sequence[tuple[str, str, list[Place], float, tuple[int, int], tuple[float, float], int]] = (
     (
         "field survey",
         "polygon",
@@ -77,17 +84,16 @@ FLIGHTS = (
 """Of the pictures: name, kind, places, metres, altitudes, hours, priority."""
 
 
-def shape_of(kind, places, metres):
-    return {
-        "polygon": lambda: Polygon(places),
-        "line": lambda: Corridor(places, metres),
-        "circle": lambda: Circle(places[0], metres),
-    }[kind]()
+def shape_of(kind: str, places: Sequence[Place], metres: float) -> Shape:
+    """The shape that one has drawn."""
+    if kind == "circle":
+        return Circle(places[0], metres)
+    return Polygon(places) if kind == "polygon" else Corridor(places, metres)
 
 
-def plan_a_day(setting, day):
+def plan_a_day(setting: Setting, day: int) -> list[dict[str, Any]]:
     """Flights of alfa and of bravo; what the browser keeps of alfa's, as if they had been drawn there."""
-    alfa, bravo, kept = setting.desk_itself("alfa"), setting.desk_itself("bravo"), []
+    alfa, bravo, kept = desk_itself(setting, "alfa"), desk_itself(setting, "bravo"), list[dict[str, Any]]()
     for digit, (name, kind, places, metres, (lower, upper), hours, priority) in zip("1234", FLIGHTS):
         plan_id = f"{digit * 8}-{digit * 4}-4{digit * 3}-8{digit * 3}-{digit * 12}"
         start, end = (day + int(hour * HOUR) for hour in hours)
@@ -119,7 +125,8 @@ def plan_a_day(setting, day):
     return kept
 
 
-def draw_a_blocked_one(page, day):
+def draw_a_blocked_one(page: Page, day: int) -> None:
+    """Draws one by the mouse, and asks what blocks it."""
     page.draw_by_mouse("polygon", [(0.42, 0.38), (0.7, 0.36), (0.74, 0.62), (0.5, 0.66)])
     page.type("#draft-name", "roof inspection")
     page.js("document.activeElement.blur()")
@@ -133,7 +140,8 @@ def draw_a_blocked_one(page, day):
     time.sleep(1)
 
 
-def save(page, name):
+def save(page: Page, name: str) -> None:
+    """Saves what the page shows."""
     time.sleep(1)
     page.driver.save_screenshot(str(DOCS / name))
     subprocess.run(["pngquant", "--force", "--speed", "1", "--output", DOCS / name, "64", DOCS / name], check=True)

@@ -1,86 +1,88 @@
 """What may go wrong between the page and the desk: all is told, and nothing is lost that was drawn."""
-from selenium.webdriver.common.keys import Keys
 
+from clients.given import desk_itself
+from harness.rows import Rows
+from harness.setting import Setting
+from map.browser import Page, Program
 from map.given import AROUND_ASIDE, ASIDE, OPERATORS, SHORT
+from selenium.webdriver.common.keys import Keys
 from uss_desk_client import Polygon, area_of, new_id
 
 
-def troubles(checks, setting, page, program):
+def troubles(rows: Rows, setting: Setting, page: Page, program: Program) -> None:
     """A wrong password, a desk that is killed or held, too many requests: all is told, and nothing is lost."""
     page.go_to(*ASIDE)
     page.draw_by_keys("line", [(Keys.ARROW_UP, 1), (Keys.ARROW_RIGHT, 2)])
     page.until("the cells", lambda: "cells: they take" in page.text("#cover"))
     drawn = page.drafts()
-    wrong_password(checks, page, program)
-    killed(checks, setting, page)
-    held(checks, setting, page)
-    free_time(checks, setting, page)
-    checks.told(
+    wrong_password(rows, page, program)
+    killed(rows, setting, page)
+    held(rows, setting, page)
+    free_time(rows, setting, page)
+    rows.equal(
         "carol: nothing that was drawn is lost",
         [one["places"] for one in drawn],
         [one["places"] for one in page.drafts()],
     )
-    checks.told("complaints of the page", [], page.errors())
+    rows.equal("complaints of the page", [], page.errors())
 
 
-def wrong_password(checks, page, program):
+def wrong_password(rows: Rows, page: Page, program: Program) -> None:
+    """A wrong password is told; once it is mended, a button asks again."""
     program.set_password("another word")
     page.click("#plan")
     page.told("Plan line 1: the user's name or password is wrong")
     program.set_password(OPERATORS["carol"])
     page.click(".message.trouble button")
     page.told("Plan line 1: done, it is planned")
-    checks.holds("carol: planned after the password was mended", page.all("#activate"))
+    rows.holds("carol: planned after the password was mended", page.all("#activate"))
 
 
-def killed(checks, setting, page):
+def killed(rows: Rows, setting: Setting, page: Page) -> None:
     """The desk is killed and started again: a change is asked again until it is done."""
-    setting.kill_desk()
+    setting.kill()
     page.click("#activate")
     page.told("Activate line 1: done, it is in use")
-    checks.told(
-        "carol: in use at the desk that was started again", "OkToFly", setting.desk_itself("carol").plans()[0].status
+    rows.equal(
+        "carol: in use at the desk that was started again", "OkToFly", desk_itself(setting, "carol").plans()[0].status
     )
 
 
-def held(checks, setting, page):
+def held(rows: Rows, setting: Setting, page: Page) -> None:
     """The desk doesn't answer: that is told, and what was asked is asked again by a button."""
     page.click("#change")
-    setting.hold_desk()
-    try:
+    with setting.held():
         page.click("#ask")
         page.click("#asked button")
-        checks.told("carol: stopped", "stopped", page.verdict())
+        rows.equal("carol: stopped", "stopped", page.verdict())
         page.click("#ask")
-        checks.told("carol: no answer", "trouble", page.verdict())
-        checks.holds("carol: told in the page", f"no answer within {SHORT} s" in page.text("#asked"))
+        rows.equal("carol: no answer", "trouble", page.verdict())
+        rows.holds("carol: told in the page", f"no answer within {SHORT} s" in page.text("#asked"))
         page.until("the header", lambda: "the desk doesn't answer" in page.text("#desk"))
-    finally:
-        setting.let_desk_go()
     page.until("the header", lambda: "the desk answers" in page.text("#desk"))
     page.click("#ask")
-    checks.told("carol: answered again", "free", page.verdict())
+    rows.equal("carol: answered again", "free", page.verdict())
     page.click("#list-again")
     page.click("#list-again")
     page.click("#list-again")
     page.told("The flights couldn't be listed: too many requests in a short time")
 
 
-def free_time(checks, setting, page):
+def free_time(rows: Rows, setting: Setting, page: Page) -> None:
     """Others hold the place for an hour: the first free quarter of an hour is found."""
-    (plan,) = setting.desk_itself("carol").plans()
+    (plan,) = desk_itself(setting, "carol").plans()
     start, end = plan.area[0].start, plan.area[0].end
-    checks.told(
+    rows.equal(
         "bravo: over it",
         "Completed",
-        setting.desk_itself("bravo")
+        desk_itself(setting, "bravo")
         .plan(new_id(), area_of(Polygon(AROUND_ASIDE), (0, 300), start - 60, end), 90)
         .result,
     )
     page.click("#find-free")
     page.until("a free time", lambda: page.value("#tried", "data-state") == "free")
-    checks.told("carol: the first free quarter of an hour", [end], [one["start"] for one in page.drafts()])
+    rows.equal("carol: the first free quarter of an hour", [end], [one["start"] for one in page.drafts()])
     page.click("#plan")
     page.told("Change line 1: done, it is in use")
     page.until("the form is put away", lambda: not page.all("#draft-name") and not page.all("#draft-bar"))
-    checks.told("carol: moved", end, setting.desk_itself("carol").show(plan.plan_id).area[0].start)
+    rows.equal("carol: moved", end, desk_itself(setting, "carol").show(plan.plan_id).area[0].start)

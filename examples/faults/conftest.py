@@ -1,0 +1,57 @@
+"""What the tests of faults share: that the program is there and may be traced, and a count of what came of each."""
+
+import os
+import subprocess
+import tempfile
+from collections import Counter
+from collections.abc import Callable, Iterator
+
+import pytest
+from faults.mounting import way_to_mount
+from harness.program import need_program
+
+Note = Callable[..., None]
+"""Counts something: `note("full disks: sizes")`, `note("lives: answers", 12)`."""
+
+
+def pytest_addoption(parser: pytest.Parser) -> None:
+    """How many faults are put in."""
+    parser.addoption("--every", action="store_true", help="refuse each growth of memory, and not a sample")
+    parser.addoption("--lives", type=int, default=20, metavar="N", help="so many lives beside those not killed")
+
+
+@pytest.fixture(scope="session", autouse=True)
+def program_is_there() -> None:
+    """The program is built, and strace may trace it."""
+    need_program()
+    with tempfile.TemporaryDirectory(prefix="faults-") as room:
+        tried = subprocess.run(["strace", "-qq", "-o", os.path.join(room, "trace"), "true"], check=False)
+    assert tried.returncode == 0, "strace can't trace here (in a container: --cap-add SYS_PTRACE)"
+
+
+@pytest.fixture(scope="session")
+def is_every(pytestconfig: pytest.Config) -> bool:
+    """Whether each growth is refused."""
+    return bool(pytestconfig.getoption("--every", False))
+
+
+@pytest.fixture
+def note(record_property: Callable[[str, object], None]) -> Iterator[Note]:
+    """Counts what came of faults; the counts are told before the last line."""
+    counts = Counter[str]()
+
+    def count(what: str, number: int = 1) -> None:
+        counts[what] += number
+
+    yield count
+    for what, number in counts.items():
+        record_property(what, number)
+
+
+@pytest.fixture(scope="session")
+def apart() -> list[str]:
+    """The words that run a command where it may mount."""
+    words = way_to_mount()
+    if words is None:
+        pytest.skip("no file system can be mounted here")
+    return words

@@ -1,0 +1,1 @@
+"""Files of a desk that are damaged."""

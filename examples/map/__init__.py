@@ -1,0 +1,1 @@
+"""The page of clients/map in a browser."""

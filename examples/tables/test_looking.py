@@ -1,0 +1,169 @@
+"""Files that are looked into by `check` and copied by `copy`, or refused by both with the cause."""
+
+from __future__ import annotations
+
+import contextlib
+import os
+import pathlib
+import sqlite3
+
+import pytest
+from harness.program import run
+from harness.rows import named
+from tables.causes import DAMAGED, NO_TABLE, OTHER, TAKEN
+from tables.files import bytes_of, logged_file, made_file, old_file, rows_of, stated_file
+from tables.judging import (
+    REFUSED,
+    assert_copied,
+    assert_in_schema_2,
+    assert_looked,
+    assert_passed,
+    assert_refused_by_all,
+    copied,
+    looked,
+    told,
+)
+from tables.statements import CLOSED, PLAN, many
+
+# name, the statements of a file, and how many operators, plans, live plans and spans it has
+FILES: list[tuple[str, list[str], tuple[int, int, int, int]]] = [
+    ("one_plan", PLAN, (1, 1, 1, 1)),
+    ("closed_plan", CLOSED, (1, 1, 0, 0)),
+    ("no_plan", [], (0, 0, 0, 0)),
+    ("many_plans", many(200), (1, 200, 0, 0)),
+]
+# name, a new name that is none, within the folder if it has a slash, the name that is told, and the cause
+NO_NAMES = [
+    ("into_memory", ":memory:", ":memory:", "a name that SQLite reads otherwise than as a path"),
+    ("to_a_uri", "file:new.db", "file:new.db", "a name that SQLite reads otherwise than as a path"),
+    ("to_itself", "/desk.db", "/desk.db", TAKEN),
+    ("into_no_folder", "/nowhere/new.db", "/nowhere/new.db.part", "no such folder"),
+]
+
+
+@pytest.fixture
+def one_plan(room: pathlib.Path) -> str:
+    """The path of a file of one plan."""
+    return made_file(str(room / "desk.db"), PLAN)
+
+
+@pytest.mark.parametrize("statements, counts", named(FILES))
+def test_check(statements: list[str], counts: tuple[int, int, int, int], room: pathlib.Path) -> None:
+    """What `check` counts in a file."""
+    path = made_file(str(room / "desk.db"), statements)
+    operators, plans, live, spans = counts
+    size = os.path.getsize(path) // 100_000
+    line = f"schema 2, sums no, {operators} operators, {plans} plans, {live} live, {spans} spans"
+    assert_looked(path, f"{line}, {size // 10}.{size % 10} MB, 0.0 MB in the log")
+
+
+@pytest.mark.parametrize("statements, counts", named(FILES))
+def test_copy(statements: list[str], counts: tuple[int, int, int, int], room: pathlib.Path) -> None:
+    """What `copy` counts in a file, and copies."""
+    path = made_file(str(room / "desk.db"), statements)
+    assert_copied(path, f"copied {counts[0]} operators, {counts[1]} plans")
+
+
+def test_copy_with_its_log(room: pathlib.Path) -> None:
+    """What is in the log alone is looked into and copied too, and stays."""
+    path = logged_file(str(room / "desk.db"))
+    look = looked(path)
+    assert look.status == 0
+    assert look.output.startswith(b"schema 2, sums no, 1 operators, 1 plans, 1 live, 1 spans")
+    assert copied(path, path + ".copy") == (0, b"copied 1 operators, 1 plans\n", "")
+    rows = rows_of(path)
+    assert len(rows[1]) == 1
+    assert_in_schema_2(rows, path + ".copy")
+
+
+def test_check_of_schema_1(room: pathlib.Path) -> None:
+    """What `check` counts in a file of schema 1."""
+    path = old_file(str(room / "old.db"), [])
+    assert_looked(path, "schema 1, sums no, 2 operators, 3 plans, 2 live, 2 spans, 0.0 MB, 0.0 MB in the log")
+
+
+def test_copy_of_schema_1(room: pathlib.Path) -> None:
+    """A copy of a file of schema 1 is of schema 2."""
+    assert_copied(old_file(str(room / "old.db"), []), "copied 2 operators, 3 plans")
+
+
+def test_check_of_a_copy(one_plan: str) -> None:
+    """A copy has sums on its pages; another operator is enrolled in it."""
+    assert_copied(one_plan, "copied 1 operators, 1 plans")
+    assert looked(one_plan + ".copy").output.startswith(b"schema 2, sums yes, 2 operators, 1 plans")
+
+
+def test_damaged(one_plan: str, room: pathlib.Path) -> None:
+    """A bit of a page with sums that isn't as it was."""
+    assert copied(one_plan, one_plan + ".copy").status == 0
+    whole = bytearray(bytes_of(one_plan + ".copy"))
+    whole[-100] ^= 1
+    (room / "damaged.db").write_bytes(whole)
+    assert_refused_by_all(str(room / "damaged.db"), DAMAGED, "store")
+
+
+def test_nothing(room: pathlib.Path) -> None:
+    """A file that isn't there."""
+    assert_refused_by_all(str(room / "nothing.db"), "no such file", "store")
+
+
+def test_empty(room: pathlib.Path) -> None:
+    """An empty file stays empty."""
+    path = room / "empty.db"
+    path.touch()
+    assert_refused_by_all(str(path), "an empty file", "store")
+    assert path.read_bytes() == b""
+
+
+def test_text(room: pathlib.Path) -> None:
+    """A file of text."""
+    path = room / "text.db"
+    path.write_bytes(b"no database, and long enough\n" * 200)
+    assert_refused_by_all(str(path), "no SQLite database", "store")
+
+
+def test_file_of_another_program(room: pathlib.Path) -> None:
+    """A file of other tables alone."""
+    path = stated_file(str(room / "other.db"), ["CREATE TABLE note (id INTEGER PRIMARY KEY)"])
+    assert_refused_by_all(path, OTHER, "not_a_desk")
+
+
+def test_no_table(room: pathlib.Path) -> None:
+    """A database without a table."""
+    assert_passed(stated_file(str(room / "bare.db"), ["PRAGMA user_version = 1"]), NO_TABLE)
+
+
+def test_folder(room: pathlib.Path) -> None:
+    """A folder in place of a file."""
+    assert_refused_by_all(os.path.join(room, "."), "no file", "store")
+
+
+def test_check_in_memory() -> None:
+    """There is nothing to look into in memory."""
+    look = run("check", "--db", ":memory:")
+    assert (look.status, look.errors) == (REFUSED, "uss_desk: store\n")
+
+
+def test_in_use(one_plan: str) -> None:
+    """A file that another program has locked."""
+    with contextlib.closing(sqlite3.connect(one_plan, isolation_level=None)) as holder:
+        holder.execute("BEGIN EXCLUSIVE")
+        assert_refused_by_all(one_plan, "in use by another program", "store")
+
+
+@pytest.mark.parametrize("new, at, cause", named(NO_NAMES))
+def test_copy_to_what_is_no_name(new: str, at: str, cause: str, one_plan: str, room: pathlib.Path) -> None:
+    """A new name that is none: its cause is told, and nothing is made."""
+    new, at = (f"{room}{name}" if name.startswith("/") else name for name in (new, at))
+    before = bytes_of(one_plan), sorted(os.listdir(room))
+    assert copied(one_plan, new) == (REFUSED, b"", told(at, cause, "store"))
+    assert (bytes_of(one_plan), sorted(os.listdir(room))) == before
+
+
+@pytest.mark.parametrize("end", ["-wal", ".part", ".part-wal"])
+def test_copy_beside(end: str, one_plan: str, room: pathlib.Path) -> None:
+    """A new name, beside which something has a name of what belongs to it."""
+    new = room / "new.db"
+    (room / f"new.db{end}").touch()
+    assert copied(one_plan, str(new)) == (REFUSED, b"", told(f"{new}{end}", TAKEN, "store"))
+    assert not new.exists()

@@ -1,0 +1,193 @@
+"""Lines that end with a failure: the exit status, and the word on standard error.
+
+A line that is refused prints nothing on standard output but the answers to what came before.
+"""
+
+from __future__ import annotations
+
+import os
+import pathlib
+from collections.abc import Iterator
+
+import pytest
+from harness.places import EXAMPLES
+from harness.program import run
+from harness.requests import READY, answers
+from harness.rows import named
+
+AT = ["play", "--at", "1780315000"]
+STATUS = b"GET /status HTTP/1.1\r\nx-operator: alfa\r\n\r\n"
+VERSION = b"uss_desk 1.0.0\nrattle-kit-13f logic dac8208d650f15bf\n"
+COVER = ["cover", "0", "0", "0", "0", "65535", "24"]
+
+
+def cover(*changes: tuple[int, str]) -> list[str]:
+    """The line of a cover with some words changed, each by its place."""
+    words = list(COVER)
+    for place, word in changes:
+        words[place] = word
+    return words
+
+
+# the words, the standard input, the exit status, what stands on standard error
+LINES = [
+    ("a name given twice", [*AT, "alfa=1", "alfa=100"], STATUS, 0, ""),
+    (
+        "nobody in memory",
+        AT,
+        b"",
+        0,
+        "uss_desk: in memory: no operator is enrolled, so each request is answered 403\n",
+    ),
+    ("a ceiling too great", [*AT, "alfa=1001"], b"", 2, "uss_desk: value\n"),
+    ("a ceiling of five digits", [*AT, "alfa=00100"], b"", 2, "uss_desk: value\n"),
+    ("a ceiling that is no number", [*AT, "alfa=x"], b"", 2, "uss_desk: value\n"),
+    ("a name in upper case", [*AT, "Alfa=100"], b"", 2, "uss_desk: value\n"),
+    ("a name with no ceiling", [*AT, "alfa"], b"", 2, "uss_desk: value\n"),
+    ("equal priorities", [*AT, "--equal", "0,10,1000", "alfa=100"], STATUS, 0, ""),
+    ("equal priorities with a blank", [*AT, "--equal", "5, 10"], b"", 2, "uss_desk: value\n"),
+    ("no number of an equal priority", [*AT, "--equal", ""], b"", 2, "uss_desk: value\n"),
+    ("a comma too many", [*AT, "--equal", "5,"], b"", 2, "uss_desk: value\n"),
+    ("an equal priority of five digits", [*AT, "--equal", "00010"], b"", 2, "uss_desk: value\n"),
+    ("an equal priority too great", [*AT, "--equal", "5,1001"], b"", 2, "uss_desk: value\n"),
+    ("equal priorities that descend", [*AT, "--equal", "10,5"], b"", 2, "uss_desk: value\n"),
+    ("an equal priority given twice", [*AT, "--equal", "10,10"], b"", 2, "uss_desk: value\n"),
+    ("33 equal priorities", [*AT, "--equal", ",".join(map(str, range(33)))], b"", 2, "uss_desk: value\n"),
+    ("32 equal priorities", [*AT, "--equal", ",".join(map(str, range(32))), "alfa=100"], STATUS, 0, ""),
+    ("the least spans", [*AT, "--spans", "1", "alfa=100"], STATUS, 0, ""),
+    ("the most spans", [*AT, "--spans", "5000000", "alfa=100"], STATUS, 0, ""),
+    ("a request cut short", [*AT, "alfa=100"], STATUS[:-2], 3, "uss_desk: cut_short\n"),
+    ("one request and a cut one", [*AT, "alfa=100"], STATUS + b"GET", 3, "uss_desk: cut_short\n"),
+    (
+        "a request with no end in sight",
+        [*AT, "alfa=100"],
+        b"GET / HTTP/1.1\r\n\r\n\x00\r\n\r\n",
+        3,
+        "uss_desk: unframed\n",
+    ),
+    (
+        "a folder that isn't there",
+        ["play", "--db", "/no/such/folder/desk.db", "--at", "1780315000"],
+        b"",
+        4,
+        "uss_desk: store\n",
+    ),
+    (
+        "enrolled under too great a ceiling",
+        ["enrol", "--db", ":memory:", "alfa", "1001"],
+        b"",
+        2,
+        "uss_desk: value\n",
+    ),
+    ("plans of a database in memory", ["migrate", "--db", ":memory:"], b"", 4, "uss_desk: store\n"),
+    (
+        "plans in a folder that isn't there",
+        ["migrate", "--db", "/no/such/folder/desk.db"],
+        b"",
+        4,
+        "uss_desk: /no/such/folder/desk.db: no such file\nuss_desk: store\n",
+    ),
+    ("a token that is empty", ["token", ""], b"", 3, "uss_desk: empty\n"),
+    ("a token of 17 digits", ["token", "0" * 17], b"", 3, "uss_desk: too_long\n"),
+    ("a token that is not hex", ["token", "X"], b"", 3, "uss_desk: not_hex\n"),
+    ("a token of no cell", ["token", "2"], b"", 3, "uss_desk: not_a_cell\n"),
+    ("a face above 5", cover((1, "6")), b"", 3, "uss_desk: face\n"),
+    ("a coordinate past the face", cover((5, "1073741824")), b"", 3, "uss_desk: coordinate\n"),
+    ("a least coordinate above its greatest", cover((2, "1")), b"", 3, "uss_desk: order\n"),
+    ("level 7", cover((6, "7")), b"", 3, "uss_desk: level\n"),
+    ("1,025 cells", cover((5, "65536")), b"", 3, "uss_desk: too_many_cells\n"),
+    ("1,024 cells", COVER, b"", 0, ""),
+]
+# lines that clap refuses: the status alone
+REFUSED = [
+    ("no line", []),
+    ("a line that is none", ["fly"]),
+    ("no moment", ["play", "alfa=100"]),
+    ("a moment before 1970", ["play", "--at", "-1"]),
+    ("no spans", ["play", "--at", "0", "--spans", "0"]),
+    ("too many spans", ["play", "--at", "0", "--spans", "5000001"]),
+    ("spans that are no number", ["play", "--at", "0", "--spans", "x"]),
+    ("spans given twice", ["play", "--at", "0", "--spans", "1", "--spans", "1"]),
+    ("a moment too late", ["play", "--at", "253370764801"]),
+    ("port 0", ["serve", "--port", "0", "--requests", "1"]),
+    ("no connections", ["serve", "--port", "8080", "--requests", "0"]),
+    ("plans of no database", ["migrate"]),
+    ("a database at its place", ["migrate", "desk.db"]),
+    ("a coordinate that no number of 32 bits is", cover((5, "4294967296"))),
+]
+
+
+@pytest.mark.parametrize("words, given, status, errors", named(LINES))
+def test_line(words: list[str], given: bytes, status: int, errors: str) -> None:
+    """How a line ends, and what it says."""
+    ran = run(*words, given=given)
+    assert (ran.status, ran.errors) == (status, errors)
+
+
+@pytest.mark.parametrize("words", named(REFUSED))
+def test_line_that_clap_refuses(words: list[str]) -> None:
+    """Its status, a text of clap's, and no output."""
+    ran = run(*words)
+    assert (ran.status, ran.output, ran.errors != "") == (2, b"", True)
+
+
+def test_version() -> None:
+    """The version, and the kit's."""
+    assert run("--version") == (0, VERSION, "")
+
+
+def test_input_that_cannot_be_read() -> None:
+    """A folder is no input."""
+    folder = os.open(EXAMPLES, os.O_RDONLY)
+    try:
+        ran = run(*AT, "alfa=100", stdin=folder)
+    finally:
+        os.close(folder)
+    assert (ran.status, ran.errors) == (3, "uss_desk: read\n")
+
+
+@pytest.fixture
+def full() -> Iterator[int]:
+    """An output that takes nothing."""
+    with open("/dev/full", "wb") as file:
+        yield file.fileno()
+
+
+def test_answer_before_a_cut_request() -> None:
+    """What came whole is answered."""
+    assert answers(run(*AT, "alfa=100", given=STATUS + b"GET").output)[0].body == READY
+
+
+def test_full_output(full: int) -> None:
+    """An answer that can't be written."""
+    ran = run(*AT, "alfa=100", given=STATUS, stdout=full)
+    assert (ran.status, ran.errors) == (4, "uss_desk: write\n")
+
+
+def test_enrolled(room: pathlib.Path) -> None:
+    """A ceiling is printed as a number."""
+    assert run("enrol", "--db", f"{room}/desk.db", "alfa", "0100")[:2] == (0, b"enrolled alfa 100\n")
+
+
+def test_file_whose_name_has_blanks(room: pathlib.Path) -> None:
+    """The name of a file begins and ends as it is given."""
+    run("enrol", "--db", f"{room}/ blanks .db ", "alfa", "1")
+    assert " blanks .db " in os.listdir(room)
+
+
+def test_moved_though_of_schema_2(desk_file: pathlib.Path) -> None:
+    """A file of schema 2 has no plan to move."""
+    assert run("migrate", "--db", str(desk_file)) == (0, b"migrated 0 plans\n", "")
+
+
+def test_moved_though_no_file(room: pathlib.Path) -> None:
+    """No file is made for a move."""
+    path = room / "fresh.db"
+    assert run("migrate", "--db", str(path)) == (4, b"", f"uss_desk: {path}: no such file\nuss_desk: store\n")
+    assert not path.exists()
+
+
+def test_moved_to_a_full_output(desk_file: pathlib.Path, full: int) -> None:
+    """The count of a move that can't be written."""
+    ran = run("migrate", "--db", str(desk_file), stdout=full)
+    assert (ran.status, ran.errors) == (4, "uss_desk: write\n")
