@@ -176,7 +176,7 @@ def link_tree(folder: pathlib.Path, to: pathlib.Path) -> None:
     def copy(one: str, other: str) -> object:
         if not one.endswith(".oantt"):
             return shutil.copy2(one, other)
-        pathlib.Path(other).hardlink_to(one)
+        os.link(one, other)
         return other
 
     shutil.copytree(folder, to, symlinks=True, copy_function=copy)
