@@ -43,6 +43,7 @@ word_simple word.Port = refl
 word_simple word.Connections = refl
 word_simple word.Equal = refl
 word_simple word.Spans = refl
+word_simple word.Operators = refl
 word_simple word.Enrolments = refl
 word_simple word.Token = refl
 word_simple (word.Text name help) = refl

@@ -3,3 +3,4 @@ pub mod GivenLemmas
 pub mod CommandLemmas
 pub mod EqualLemmas
 pub mod LackLemmas
+mod RegisterLemmas

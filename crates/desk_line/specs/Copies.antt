@@ -1,5 +1,5 @@
 -- Copies: what it means that two lines say the same.
-use Rattle.std.specs.Prelude.{◌≡◌, string_bytes}
+use Rattle.std.specs.Prelude.{◌≡◌, option_map, string_bytes}
 use Rattle.desk_line.specs.Lines.{file_of}
 use Rattle.desk_line.specs.declared.line.Copying.{Copying as CopyWords}
 use Rattle.desk_line.specs.declared.line.Database.{Database}
@@ -26,6 +26,7 @@ pub record SameServe (a b : ServeWords) : Type 0 where
   pub connections : b.connections ≡ a.connections
   pub terms : b.terms ≡ a.terms
   pub enrolments : b.enrolments.items ≡ a.enrolments.items
+  pub operators : option_map string_bytes b.operators ≡ option_map string_bytes a.operators
 
 pub record SameEnrol (a b : EnrolWords) : Type 0 where
   pub database : SameDatabase a.database b.database

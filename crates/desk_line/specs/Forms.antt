@@ -3,7 +3,7 @@ use Rattle.std.specs.Prelude.{map}
 use Rattle.clap.specs.Simple.{Shape}
 use Rattle.clap.specs.Walk.{Rule}
 use Rattle.desk_line.specs.Grammar.{connections, coordinate, database, enrolments, equal, line_shape, moment}
-use Rattle.desk_line.specs.Grammar.{needed, new_file}
+use Rattle.desk_line.specs.Grammar.{needed, new_file, operators}
 use Rattle.desk_line.specs.Grammar.{picture, port, small, spans, value, token}
 use Rattle.desk_line.specs.declared.command.Form.{Form}
 use Rattle.desk_line.specs.declared.command.Word.{Word}
@@ -18,6 +18,7 @@ rule_of_word word.Port = port
 rule_of_word word.Connections = connections
 rule_of_word word.Equal = equal
 rule_of_word word.Spans = spans
+rule_of_word word.Operators = operators
 rule_of_word word.Enrolments = enrolments
 rule_of_word word.Token = token
 rule_of_word (word.Text name help) = needed (value name.now)

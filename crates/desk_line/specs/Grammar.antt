@@ -87,6 +87,10 @@ equal = option (codes "equal") (codes "equal")
 abbrev pub spans : Rule
 spans = number min_spans (pos max_spans) (option (codes "spans") (codes "spans"))
 
+-- the file of enrolments
+abbrev pub operators : Rule
+operators = option (codes "operators") (codes "operators")
+
 abbrev pub enrolments : Rule
 enrolments = values (codes "enrolments")
 
@@ -110,7 +114,7 @@ abbrev pub words_of_token : List Rule
 words_of_token = token ∷ []
 
 abbrev pub words_of_serve : List Rule
-words_of_serve = database ∷ port ∷ connections ∷ equal ∷ spans ∷ enrolments ∷ []
+words_of_serve = database ∷ port ∷ connections ∷ equal ∷ spans ∷ operators ∷ enrolments ∷ []
 
 abbrev pub words_of_cover : List Rule
 words_of_cover =
@@ -244,6 +248,7 @@ pub record IsServeGiven (rows : List Row) (serve : ServeWords) : Type 0 where
   pub connections : IsNumberGiven (codes "connections") rows serve.connections
   pub terms : AreTermsOf rows serve.terms
   pub enrolments : AreEnrolmentsGiven serve.enrolments.items rows
+  pub operators : option_map string_bytes serve.operators ≡ first_of (codes "operators") rows
 
 pub record IsCoverGiven (rows : List Row) (cover : CoverWords) : Type 0 where
   pub face : IsNumberGiven (codes "FACE") rows cover.face

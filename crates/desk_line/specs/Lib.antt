@@ -5,5 +5,6 @@ pub mod Equal
 pub mod Lines
 pub mod Grammar
 pub mod Forms
+pub mod Register
 pub mod Printing
 pub mod Copies

@@ -39,6 +39,8 @@ enum Word {
     Equal,
     // The most spans of an operator's live plans.
     Spans,
+    // The file of enrolments that the keeper changes.
+    Operators,
     // Operators and their ceilings.
     Enrolments,
     Token,
@@ -74,6 +76,7 @@ static FORMS: [Form; 8] = [
             Word::Connections,
             Word::Equal,
             Word::Spans,
+            Word::Operators,
             Word::Enrolments,
         ],
     },
@@ -180,6 +183,7 @@ fn arg_of<'a>(alloc: Global, word: &Word) -> Arg<'a>
         Word::Connections => connections_arg(alloc),
         Word::Equal => equal_arg(alloc),
         Word::Spans => spans_arg(alloc),
+        Word::Operators => operators_arg(alloc),
         Word::Enrolments => enrolments_arg(alloc),
         Word::Token => token_arg(alloc),
         Word::Text(name, help) => text_arg(alloc, name, help),
@@ -260,6 +264,15 @@ fn spans_arg<'a>(alloc: Global) -> Arg<'a>
         .value_name("N")
         .help("The most spans that the live plans of an operator may have")
         .value_parser(value_parser!(u32).range(1..=i64::from(MAX_SPANS)))
+}
+
+fn operators_arg<'a>(alloc: Global) -> Arg<'a>
+    ensures { rule_of result ≡ spec.operators }
+{
+    Arg::new(alloc, "operators")
+        .long("operators")
+        .value_name("FILE")
+        .help("A file of lines NAME CEILING, read again when it has changed")
 }
 
 fn enrolments_arg<'a>(alloc: Global) -> Arg<'a>

@@ -1,6 +1,6 @@
 //! Copies of lines and of their parts.
 
-ghost use Rattle.std.specs.Prelude.{◌≡◌, IfOk, string_bytes};
+ghost use Rattle.std.specs.Prelude.{◌≡◌, IfOk, option_map, string_bytes};
 ghost use Rattle.desk_line.specs.Copies.{SameCopying, SameDatabase, SameEnrol, SameLine, SamePlay, SameServe};
 ghost use Rattle.desk_line.specs.Copies.{SameTask};
 
@@ -56,6 +56,7 @@ impl Serve {
             connections: self.connections,
             terms: self.terms,
             enrolments: copies(&self.enrolments)?,
+            operators: copy_text(&self.operators)?,
         })
     }
 }
@@ -141,6 +142,16 @@ impl Task {
             Task::Check(database) => Ok(Task::Check(database.copy()?)),
             Task::Copy(words) => Ok(Task::Copy(words.copy()?)),
         }
+    }
+}
+
+// The same text, if there is one.
+fn copy_text(text: &Option<String>) -> Result<Option<String>, AllocError>
+    ensures { IfOk result (λ copy. option_map string_bytes copy ≡ option_map string_bytes text.now) }
+{
+    match text {
+        None => Ok(None),
+        Some(text) => Ok(Some(text.clone()?)),
     }
 }
 

@@ -9,6 +9,7 @@ mod failure;
 mod line;
 mod picture;
 mod printed;
+mod register;
 
 pub use failure::{Exit, Failure, conclude};
 pub use line::{
@@ -16,3 +17,4 @@ pub use line::{
     read_words,
 };
 pub use printed::print_line;
+pub use register::{enrolment_on, enrolments_on, lines_of};

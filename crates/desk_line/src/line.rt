@@ -106,6 +106,8 @@ pub struct Serve {
     pub terms: Terms,
     /// The operators, in the order given; a name may be there twice.
     pub enrolments: Vec<Enrolment>,
+    /// The path of the file of enrolments that the keeper changes while the desk serves, if there is one.
+    pub operators: Option<String>,
 }
 
 /// The words of `cover`: the parts of a rectangle of leaves, of which nothing is known yet.
@@ -350,6 +352,7 @@ fn read_serve(alloc: Global, given: &ArgMatches<'_>) -> Result<Serve, WordsFault
         connections,
         terms: read_terms(alloc, given)?,
         enrolments: read_enrolments(alloc, given)?,
+        operators: read_operators(alloc, given)?,
     })
 }
 
@@ -382,6 +385,25 @@ fn read_connections(given: &ArgMatches<'_>) -> Option<u32>
         return None;
     }
     Some(connections)
+}
+
+// The path of the file of enrolments, if one is named.
+fn read_operators(alloc: Global, given: &ArgMatches<'_>) -> Result<Option<String>, AllocError>
+    ensures { IfOk result (λ operators. option_map string_bytes operators
+        ≡ first_of (codes "operators") (rows_of (found_of given.now))) }
+{
+    owned_text(alloc, text_of(given, "operators"))
+}
+
+// A text of its own, if there is a text.
+fn owned_text(alloc: Global, text: Option<&str>) -> Result<Option<String>, AllocError>
+    ensures { IfOk result (λ owned. option_map string_bytes owned
+        ≡ option_map (λ text. text.now) text.entry) }
+{
+    match text {
+        None => Ok(None),
+        Some(text) => Ok(Some(String::from_str(alloc, text)?)),
+    }
 }
 
 // The words of `cover`.
@@ -602,8 +624,8 @@ fn enrolment_of(word: &str) -> Option<Enrolment>
     enrolment_by(name, ceiling)
 }
 
-// An enrolment of an operator under a ceiling.
-fn enrolment_by(name: &str, ceiling: &str) -> Option<Enrolment>
+/// An enrolment of an operator under a ceiling.
+pub(crate) fn enrolment_by(name: &str, ceiling: &str) -> Option<Enrolment>
     ensures value { result ≡ spec.enrolment_by name.now ceiling.now }
     ensures small { IfSome result (λ e. e.ceiling ≤ max_priority) }
 {

@@ -1,5 +1,5 @@
 -- Why a line ends with a store that failed.
-use Rattle.std.proofs.Common.{◌≡◌, ◌∙◌, ◌==◌, ◌≤◌, ℕ, List, [], ◌∷◌, Bool, true, false, Option, Some, None, if◌then◌else◌, Result, Ok, Err, inl, inr, sym, subst, ap, refl, arith}
+use Rattle.std.proofs.Common.{◌≡◌, ◌∙◌, ◌==◌, ◌≤◌, ℕ, List, Bool, true, false, Option, Some, None, if◌then◌else◌, Result, Ok, Err, inl, inr, sym, subst, ap, refl, arith}
 use Rattle.std.specs.Prelude.{⊤}
 use Rattle.desk_store.specs.StoreFaults.{HasRisen}
 use Rattle.desk_run.specs.declared.fault.DeskFault.{DeskFault}
@@ -20,7 +20,8 @@ use Rattle.desk_line.specs.declared.line.Line.TheVariants as line
 use Rattle.desk_program.specs.Keeping.{IsLineKept, IsLinePlayKept}
 use Rattle.desk_program.specs.Playing.{IsLinePlayed}
 use Rattle.desk_program.specs.Running.{IsCarriedOut}
-use Rattle.desk_program.specs.Serving.{EndsAfter, EndsBy, Exchange, IsDenied, Traffic}
+use Rattle.std.specs.Result.{IsErrAnd}
+use Rattle.desk_program.specs.Serving.{IsDenied, Traffic, failing}
 
 -- an enrolment that is told as a store that failed had that fault
 store_told : (fault : DeskFault) → enrolment_failure fault ≡ Store → fault ≡ desk.Store
@@ -74,18 +75,40 @@ denied_no_store (inr (inl e)) = cc
 denied_no_store (inr (inr (inl e))) = cc
 denied_no_store (inr (inr (inr e))) = cc
 
-ends_no_store : (xs : List Exchange) → EndsBy Store xs → ⊥
-ends_no_store [] ends = denied_no_store ends
-ends_no_store (x ∷ xs) (inl later) = ends_no_store xs later.1
-ends_no_store (x ∷ xs) (inr last) = at_no_store x.served last.0
+same_failure : {A : Type 0} (f : Failure) → ◌≡◌ {A = Result A Failure} (Err f) (Err Store) → f ≡ Store
+same_failure f e = cc
 
-pub served_counted : {A : Type 0} (done : Result A Failure) (count : ℕ) (xs : List Exchange) (old new : ℕ)
-    → EndsAfter done count xs → IsCounted done old new
-served_counted (Ok d) count xs old new ends store = cc
-served_counted {A} (Err f) count xs old new ends store =
-    absurd (ends_no_store xs (subst (λ v. EndsBy v xs) (same_failure store) ends)) where
-      same_failure : ◌≡◌ {A = Result A Failure} (Err f) (Err Store) → f ≡ Store
-      same_failure e = cc
+pub served_counted : {A : Type 0} (done : Result A Failure) (served : Result Served ServeFault) (old new : ℕ)
+    → failing done ≡ failure_at served → IsCounted done old new
+served_counted (Ok d) served old new is store = cc
+served_counted (Err f) served old new is store =
+    absurd (at_no_store served (sym is ∙ ap Some (same_failure f store)))
+
+-- nor does the machine
+pub denied_counted : {A : Type 0} (done : Result A Failure) (f : Failure) (old new : ℕ)
+    → IsErrAnd done (λ e. e ≡ f) → IsDenied f → IsCounted done old new
+denied_counted (Ok d) f old new is denied store = cc
+denied_counted (Err e) f old new is denied store =
+    absurd (denied_no_store (subst IsDenied (sym is ∙ same_failure e store) denied))
+
+-- an operator of news that could not be listed
+pub news_counted : {A : Type 0} (done : Result A Failure) (fault : DeskFault) (old new : ℕ)
+    → IsErrAnd done (λ e. e ≡ enrolment_failure fault) → (fault ≡ desk.Store → HasRisen old new)
+    → IsCounted done old new
+news_counted (Ok d) fault old new is cause store = cc
+news_counted (Err f) fault old new is cause store = enrolment_counted fault f old new is cause store
+
+-- what was counted later was counted
+pub counted_later : {A : Type 0} (done : Result A Failure) (old mid new : ℕ) → old ≤ mid
+    → IsCounted done mid new → IsCounted done old new
+counted_later done old mid new more h store few = omega (arith, more, h store few)
+
+pub counted_on : {A B : Type 0} (one : Result A Failure) (whole : Result B Failure) (f : Failure)
+    (old mid new : ℕ) → one ≡ Err f → IsErrAnd whole (λ e. e ≡ f) → old ≤ mid → IsCounted one mid new
+    → IsCounted whole old new
+counted_on one (Ok d) f old mid new was is more h store = cc
+counted_on {A} one (Err e) f old mid new was is more h store =
+    counted_later {A = A} one old mid new more h (was ∙ ap Err (sym is ∙ same_failure e store))
 
 -- a line that takes no connection is carried out, and kept, as it is played
 pub carried_out : (H : Type 0) (line : Line) (end : Ending) (port : Traffic)

@@ -14,7 +14,7 @@ use Rattle.desk_program.specs.Keeping.{FindsEnrolled}
 use Rattle.desk_program.specs.Playing.{IsNotPlayed}
 
 -- what it is told as
-told_breakdown : (fault : DeskFault) (f : Failure) → f ≡ enrolment_failure fault → IsDeskBreakdown fault
+pub told_breakdown : (fault : DeskFault) (f : Failure) → f ≡ enrolment_failure fault → IsDeskBreakdown fault
     → IsBreakdown f
 told_breakdown fault f is (inl memory) = inl (is ∙ ap enrolment_failure memory)
 told_breakdown fault f is (inr store) = inr (is ∙ ap enrolment_failure store)

@@ -1,11 +1,11 @@
 -- What may be found of a desk's content, over several connections and enrolments.
-use Rattle.std.proofs.Common.{◌≡◌, ◌≤◌, ◌<◌, ◌⊎◌, inl, inr, ◌+◌, ℕ, ℤ, List, [], ◌∷◌, ◌++◌, ◌∙◌, Option, Some, Result, Ok, Err, OnErr, length, map, take, refl, ap, sym, subst, arith}
+use Rattle.std.proofs.Common.{◌≡◌, ◌≤◌, ◌<◌, ◌⊎◌, inl, inr, ◌+◌, ℕ, ℤ, List, [], ◌∷◌, ◌++◌, ◌∙◌, Option, Some, None, Result, Ok, Err, OnErr, length, map, take, refl, ap, sym, subst, arith}
 use Rattle.std.specs.Prelude.{⊤}
 use Rattle.std.specs.Result.{IsErrAnd}
 use Rattle.std.proofs.lemmas.List.{length-append, map-append}
 use Rattle.std.proofs.lemmas.List.Elements.{All-append, All-cons, All-nil}
 use Rattle.desk_store.specs.World.{World}
-use Rattle.desk_store.specs.Crashes.{LeavesOldOr}
+use Rattle.desk_store.specs.Crashes.{LeavesNoMore, LeavesOldOr, LeavesOnly}
 use Rattle.desk_run.specs.DeskWorld.{DeskWorld, enrolled}
 use Rattle.desk_ends.specs.declared.playing.PlayEnd.{PlayEnd}
 use Rattle.desk_wire.specs.Given.{told_in_play}
@@ -17,11 +17,11 @@ use Rattle.desk_line.specs.declared.line.Enrolment.{Enrolment}
 use Rattle.desk_line.specs.declared.line.Play.{Play as PlayWords}
 use Rattle.desk_line.specs.declared.line.Serve.{Serve as ServeWords}
 use Rattle.desk_line.specs.Exits.{Ending, EndsWith, failure_after, failure_at}
-use Rattle.desk_program.specs.Enrolling.{on_terms, with_operators}
-use Rattle.desk_program.specs.Keeping.{AreKept, AreKeptSoFar, IsFoundServed, IsLeftByOne, IsPlayKept, IsPortKept}
+use Rattle.desk_program.specs.Enrolling.{AreEnrolled, on_terms, with_operators}
+use Rattle.desk_program.specs.Keeping.{AreKept, AreKeptSoFar, FindsNews, IsFoundServed, IsLeftByOne, IsPlayKept, IsPortKept}
 use Rattle.desk_program.specs.Playing.{done_unless}
-use Rattle.desk_program.specs.Serving.{EndsAfter, Exchange, Grows, IsDenied, IsUnsent, Listens, Traffic, failing, is_whole}
-use Rattle.desk_program.proofs.ServedLemmas.{all_then, all_unsent, both_more, both_served, none_more, one_ends, served_then, stops}
+use Rattle.desk_program.specs.Serving.{AreServed, BringsNews, EndsAfter, EndsAtNews, Exchange, Grows, IsDenied, IsLast, IsUnsent, Listens, Traffic, failing, is_whole, news_of}
+use Rattle.desk_program.proofs.ServedLemmas.{all_then, all_unsent, both_more, both_news, both_served, none_last, none_more, one_ends, served_then, stops}
 
 -- ---- enrolments
 
@@ -44,6 +44,41 @@ kept_so_far H es w v after e count before now few same listed next only crash p 
     by (inl is) = inl (only found is ∙ ap (λ x. Some x.content) (listed p))
     by (inr is) = inr (is ∙ ap (λ x. Some x.content) next)
 
+-- so it is if all that is known of what was found before is that nothing was changed
+pub found_so_far : (es : List Enrolment) (w v after : DeskWorld) (e : Enrolment) (count : ℕ)
+    (before mid now : Option World → Type 0) → count < length es → after ≡ v
+    → v ≡ with_operators w (take count es)
+    → enrolled v e.operator e.ceiling ≡ with_operators w (take (count + 1) es)
+    → LeavesOnly v.content mid ⊎ ((v ≡ w) × LeavesNoMore before mid)
+    → LeavesOldOr (enrolled v e.operator e.ceiling).content mid now
+    → (found : Option World) → now found → AreKeptSoFar ⊤ es w after found ⊎ ((after ≡ w) × before found)
+found_so_far es w v after e count before mid now few same listed next (inl only) crash found may =
+    inl (kept_so_far ⊤ es w v after e count mid now few (λ _. same) (λ _. listed) next only crash tt found
+    may)
+found_so_far es w v after e count before mid now few same listed next (inr p) crash found may =
+    by (crash found may)
+  where
+    by : mid found ⊎ (found ≡ Some (enrolled v e.operator e.ceiling).content)
+        → AreKeptSoFar ⊤ es w after found ⊎ ((after ≡ w) × before found)
+    by (inl was) = inr (same ∙ p.0, p.1 found was)
+    by (inr is) = inl (record {
+      listed = record { count = count; few = few; left = λ _. same ∙ listed };
+      finds = inr (is ∙ ap (λ x. Some x.content) next);
+    })
+
+pub finds_err : {A B : Type 0} (done : Result A B) (P : B → Type 0) (es : List Enrolment)
+    (w after : DeskWorld) (before now : Option World → Type 0) → IsErrAnd done P
+    → ((found : Option World) → now found → AreKeptSoFar ⊤ es w after found ⊎ ((after ≡ w) × before found))
+    → FindsNews done es w after before now
+finds_err (Ok d) P es w after before now is finds = absurd is
+finds_err (Err e) P es w after before now is finds = finds
+
+pub finds_ok : (w after : DeskWorld) (before now : Option World → Type 0)
+    → LeavesOnly after.content now ⊎ ((after ≡ w) × LeavesNoMore before now)
+    → (found : Option World) → now found → (found ≡ Some after.content) ⊎ ((after ≡ w) × before found)
+finds_ok w after before now (inl only) found may = inl (only found may)
+finds_ok w after before now (inr p) found may = inr (p.0, p.1 found may)
+
 -- ---- connections
 
 some_left : (xs ys : List Exchange) (w : DeskWorld) (found : Option World) → IsLeftByOne w found xs
@@ -57,35 +92,44 @@ some_right : (xs ys : List Exchange) (w : DeskWorld) (found : Option World) → 
 some_right [] ys w found h = h
 some_right (x ∷ xs) ys w found h = inr (some_right xs ys w found h)
 
-both_found : (xs ys : List Exchange) (u v w : DeskWorld) (before mid : Type 0) (found : Option World)
-    → (mid → IsFoundServed xs v found ⊎ ((v ≡ u) × before))
-    → IsFoundServed ys w found ⊎ ((w ≡ v) × mid)
-    → IsFoundServed (xs ++ ys) w found ⊎ ((w ≡ u) × before)
-both_found xs ys u v w before mid found first (inl (inl is)) = inl (inl is)
-both_found xs ys u v w before mid found first (inl (inr some)) = inl (inr (some_right xs ys w found some))
-both_found xs ys u v w before mid found first (inr p) = by (first p.1)
+both_found : (xs ys : List Exchange) (last : Option (List Enrolment)) (u v w : DeskWorld)
+    (before mid : Type 0) (found : Option World) → (mid → IsFoundServed xs None v found ⊎ ((v ≡ u) × before))
+    → IsFoundServed ys last w found ⊎ ((w ≡ v) × mid)
+    → IsFoundServed (xs ++ ys) last w found ⊎ ((w ≡ u) × before)
+both_found xs ys last u v w before mid found first (inl (inl is)) = inl (inl is)
+both_found xs ys last u v w before mid found first (inl (inr (inl some))) =
+    inl (inr (inl (some_right xs ys w found some)))
+both_found xs ys last u v w before mid found first (inl (inr (inr news))) = inl (inr (inr news))
+both_found xs ys last u v w before mid found first (inr p) = by (first p.1)
   where
-    by : IsFoundServed xs v found ⊎ ((v ≡ u) × before)
-        → IsFoundServed (xs ++ ys) w found ⊎ ((w ≡ u) × before)
+    by : IsFoundServed xs None v found ⊎ ((v ≡ u) × before)
+        → IsFoundServed (xs ++ ys) last w found ⊎ ((w ≡ u) × before)
     by (inl (inl is)) = inl (inl (is ∙ ap (λ x. Some x.content) (sym p.0)))
-    by (inl (inr some)) =
-        inl (inr (some_left xs ys w found (subst (λ x. IsLeftByOne x found xs) (sym p.0) some)))
+    by (inl (inr (inl some))) =
+        inl (inr (inl (some_left xs ys w found (subst (λ x. IsLeftByOne x found xs) (sym p.0) some))))
+    by (inl (inr (inr none))) = absurd none
     by (inr q) = inr (p.0 ∙ q.0, q.1)
 
 -- so many connections, and then others
 module _ {A B C : Type 0} where
-  pub both_kept : (H K : Type 0) → (K → H) → (first : Result A Failure) (then : Result B Failure)
+  pub both_kept : (H K : Type 0) → (K → H) → (d : A) (then : Result B Failure)
       (whole : Result C Failure) (m k n : ℕ) (a b c : Traffic) (u v w : DeskWorld)
-      (before mid now : Option World → Type 0) → AreKept H first m a b u v before mid
+      (before mid now : Option World → Type 0) → AreKept {A = A} H (Ok d) m a b u v before mid
       → AreKept K then k b c v w mid now → m + k ≤ n
-      → ((xs ys : List Exchange) → EndsAfter first m xs → EndsAfter then k ys
-      → EndsAfter whole n (xs ++ ys)) → AreKept K whole n a c u w before now
-  both_kept H K by first then whole m k n a b c u v w before mid now h t few ends =
+      → ((xs ys : List Exchange) (one last : Option (List Enrolment)) → EndsAfter {A = A} (Ok d) m xs one
+      → EndsAfter then k ys last → EndsAfter whole n (xs ++ ys) last)
+      → ((last : Option (List Enrolment)) (x y : DeskWorld) → IsLast K last then x y
+      → IsLast K last whole x y)
+      → AreKept K whole n a c u w before now
+  both_kept H K by d then whole m k n a b c u v w before mid now h t few ends lasts =
       let xs = h.taken.exchanges in
       let ys = t.taken.exchanges in
+      let goes = none_last H h.taken.last d h.taken.between v h.taken.untaken in
       record {
         taken = record {
           exchanges = xs ++ ys;
+          last = t.taken.last;
+          between = t.taken.between;
           few = omega (arith, length-append xs ys, h.taken.few, t.taken.few, few);
           listened = t.taken.listened ∙ h.taken.listened;
           taken = subst (λ z. Grows a.taken c.taken z) (sym (map-append (λ x. x.arrival) xs ys))
@@ -97,89 +141,186 @@ module _ {A B C : Type 0} where
           fresh = All-append (λ x. IsUnsent a x.out) xs ys h.taken.fresh
               (all_unsent a b (map (λ x. x.parting) xs) h.taken.closed ys t.taken.fresh);
           told = All-append (λ x. x.parting.is_whole ≡ is_whole x.served) xs ys h.taken.told t.taken.told;
-          served = both_served K xs ys u v w (all_then H K by xs u v h.taken.served) t.taken.served;
-          ends = ends xs ys h.taken.ends t.taken.ends;
+          news = subst (λ z. Grows a.news c.news z) (both_news xs ys t.taken.last)
+              (both_more a.news b.news c.news (news_of xs None) (news_of ys t.taken.last)
+              (subst (λ l. Grows a.news b.news (news_of xs l)) goes.0 h.taken.news) t.taken.news);
+          served = both_served K xs ys u v t.taken.between
+              (all_then H K by xs u v (subst (λ z. AreServed H xs u z) (sym goes.1) h.taken.served))
+              t.taken.served;
+          untaken = lasts t.taken.last t.taken.between w t.taken.untaken;
+          ends = ends xs ys h.taken.last t.taken.last h.taken.ends t.taken.ends;
         };
-        finds = λ p found may. both_found xs ys u v w (before found) (mid found) found
-            (h.finds (by p) found) (t.finds p found may);
+        finds = λ p found may. both_found xs ys t.taken.last u v w (before found) (mid found) found
+            (λ was. subst (λ l. IsFoundServed xs l v found ⊎ ((v ≡ u) × before found)) goes.0
+            (h.finds (by p) found was)) (t.finds p found may);
       }
 
 -- nothing is taken
 pub none_kept : {A : Type 0} (H : Type 0) (done : Result A Failure) (count : ℕ)
     (old new : Traffic) (w after : DeskWorld) (before now : Option World → Type 0)
-    → new ≡ old → after ≡ w → EndsAfter done count []
+    → new ≡ old → after ≡ w → EndsAfter done count [] None
     → ((found : Option World) → now found → before found) → AreKept H done count old new w after before now
 none_kept H done count old new w after before now same left ends stays = record {
   taken = record {
     exchanges = [];
+    last = None;
+    between = w;
     few = omega arith;
     listened = ap (λ v. v.listened) same;
     taken = none_more old.taken new.taken (ap (λ v. v.taken) same);
     closed = none_more old.closed new.closed (ap (λ v. v.closed) same);
     fresh = All-nil (λ x. IsUnsent old x.out);
     told = All-nil (λ x. x.parting.is_whole ≡ is_whole x.served);
-    served = left;
+    news = none_more old.news new.news (ap (λ v. v.news) same);
+    served = refl;
+    untaken = left;
     ends = ends;
   };
   finds = λ p found may. inr (left, stays found may);
 }
+
+-- news are brought, and no connection is taken then
+last_news : {A : Type 0} (H : Type 0) (done : Result A Failure) (f : Failure) (news : List Enrolment)
+    (w after : DeskWorld) → IsErrAnd done (λ e. e ≡ f) → EndsAtNews H f news w after
+    → IsLast H (Some news) done w after
+last_news H (Ok d) f news w after is ends = absurd is
+last_news H (Err e) f news w after is ends = subst (λ v. EndsAtNews H v news w after) (sym is) ends
+
+ends_news : {A : Type 0} (done : Result A Failure) (f : Failure) (news : List Enrolment)
+    → IsErrAnd done (λ e. e ≡ f) → EndsAfter done 1 [] (Some news)
+ends_news (Ok d) f news is = absurd is
+ends_news (Err e) f news is = tt
+
+pub news_kept : {A : Type 0} (H : Type 0) (done : Result A Failure) (f : Failure) (news : List Enrolment)
+    (old new : Traffic) (w after : DeskWorld) (before now : Option World → Type 0)
+    → IsErrAnd done (λ e. e ≡ f) → BringsNews old new news → EndsAtNews H f news w after
+    → (H → (found : Option World) → now found
+    → IsFoundServed [] (Some news) after found ⊎ ((after ≡ w) × before found))
+    → AreKept H done 1 old new w after before now
+news_kept H done f news old new w after before now is brings ends finds = record {
+  taken = record {
+    exchanges = [];
+    last = Some news;
+    between = w;
+    few = omega arith;
+    listened = brings.3;
+    taken = none_more old.taken new.taken brings.1;
+    closed = none_more old.closed new.closed brings.2;
+    fresh = All-nil (λ x. IsUnsent old x.out);
+    told = All-nil (λ x. x.parting.is_whole ≡ is_whole x.served);
+    news = brings.0;
+    served = refl;
+    untaken = last_news H done f news w after is ends;
+    ends = ends_news done f news is;
+  };
+  finds = finds;
+}
+
+-- what is found then: an operator could not be listed, or all are
+module _ {A B : Type 0} (done : Result A B) (news : List Enrolment) (w after : DeskWorld)
+    (before now : Option World → Type 0) (finds : FindsNews done news w after before now)
+    (found : Option World) where
+  pub unlisted_found : (fault : B) → done ≡ Err fault → now found
+      → IsFoundServed [] (Some news) after found ⊎ ((after ≡ w) × before found)
+  unlisted_found fault was may =
+      by (subst (λ r. FindsNews r news w after before now) was finds found may)
+    where
+      by : AreKeptSoFar ⊤ news w after found ⊎ ((after ≡ w) × before found)
+          → IsFoundServed [] (Some news) after found ⊎ ((after ≡ w) × before found)
+      by (inl kept) = inl (inr (inr (w, kept)))
+      by (inr same) = inr same
+
+  pub listed_found : (d : A) → done ≡ Ok d → now found
+      → (found ≡ Some after.content) ⊎ ((after ≡ w) × before found)
+  listed_found d was may = subst (λ r. FindsNews r news w after before now) was finds found may
+
+  pub untaken_found : (d : A) → done ≡ Ok d → now found
+      → IsFoundServed [] (Some news) after found ⊎ ((after ≡ w) × before found)
+  untaken_found d was may = by (listed_found d was may)
+    where
+      by : (found ≡ Some after.content) ⊎ ((after ≡ w) × before found)
+          → IsFoundServed [] (Some news) after found ⊎ ((after ≡ w) × before found)
+      by (inl is) = inl (inl is)
+      by (inr same) = inr same
 
 -- one connection is taken
 one_found : (x : Exchange) (w after : DeskWorld) (before : Type 0) (found : Option World)
     → HasServed ⊤ x.served x.arrival.bytes x.parting.unread x.out x.parting.sent w x.arrival.moment after
     → IsFoundNow x.served (λ z. before) (IsTaken x.arrival.bytes x.parting.unread) w x.arrival.moment after
     found
-    → IsFoundServed (x ∷ []) after found ⊎ ((after ≡ w) × before)
+    → IsFoundServed (x ∷ []) None after found ⊎ ((after ≡ w) × before)
 one_found x w after before found served (inl is) = inl (inl is)
 one_found x w after before found served (inr p) = by p.1
   where
     by : before ⊎ ((¬ IsCertain x.served)
         × IsLeftBy (IsTaken x.arrival.bytes x.parting.unread) w x.arrival.moment found)
-        → IsFoundServed (x ∷ []) after found ⊎ ((after ≡ w) × before)
+        → IsFoundServed (x ∷ []) None after found ⊎ ((after ≡ w) × before)
     by (inl h) = inr (p.0, h)
-    by (inr h) = inl (inr (inl (
+    by (inr h) = inl (inr (inl (inl (
       h.0,
       subst (λ v. HasServed ⊤ x.served x.arrival.bytes x.parting.unread x.out x.parting.sent v
           x.arrival.moment after)
           (sym p.0) served,
       subst (λ v. IsLeftBy (IsTaken x.arrival.bytes x.parting.unread) v x.arrival.moment found) (sym p.0) h.1,
-    )))
+    ))))
+
+-- what is found after news and one connection
+after_news : (x : Exchange) (w listed after : DeskWorld) (before mid : Type 0) (found : Option World)
+    → (mid → (found ≡ Some listed.content) ⊎ ((listed ≡ w) × before))
+    → IsFoundServed (x ∷ []) None after found ⊎ ((after ≡ listed) × mid)
+    → IsFoundServed (x ∷ []) None after found ⊎ ((after ≡ w) × before)
+after_news x w listed after before mid found news (inl is) = inl is
+after_news x w listed after before mid found news (inr p) = by (news p.1)
+  where
+    by : (found ≡ Some listed.content) ⊎ ((listed ≡ w) × before)
+        → IsFoundServed (x ∷ []) None after found ⊎ ((after ≡ w) × before)
+    by (inl is) = inl (inl (is ∙ ap (λ v. Some v.content) (sym p.0)))
+    by (inr q) = inr (p.0 ∙ q.0, q.1)
 
 pub one_kept : {A : Type 0} (H : Type 0) (done : Result A Failure) (x : Exchange)
-    (old new : Traffic) (w after : DeskWorld) (before now : Option World → Type 0)
+    (old new : Traffic) (w listed after : DeskWorld) (before mid now : Option World → Type 0)
     → new.listened ≡ old.listened → Grows old.taken new.taken (x.arrival ∷ [])
     → Grows old.closed new.closed (x.parting ∷ []) → IsUnsent old x.out
-    → x.parting.is_whole ≡ is_whole x.served
-    → HasServed H x.served x.arrival.bytes x.parting.unread x.out x.parting.sent w x.arrival.moment after
+    → x.parting.is_whole ≡ is_whole x.served → Grows old.news new.news (x.news ∷ [])
+    → AreEnrolled H x.news w listed
+    → HasServed H x.served x.arrival.bytes x.parting.unread x.out x.parting.sent listed x.arrival.moment after
     → failing done ≡ failure_at x.served
-    → (H → (found : Option World) → now found → IsFoundNow x.served before
-    (IsTaken x.arrival.bytes x.parting.unread) w x.arrival.moment after found)
+    → (H → (found : Option World) → mid found
+    → (found ≡ Some listed.content) ⊎ ((listed ≡ w) × before found))
+    → (H → (found : Option World) → now found → IsFoundNow x.served mid
+    (IsTaken x.arrival.bytes x.parting.unread) listed x.arrival.moment after found)
     → AreKept H done 1 old new w after before now
-one_kept H done x old new w after before now listened takes closes fresh told served is finds = record {
-  taken = record {
-    exchanges = x ∷ [];
-    few = omega arith;
-    listened = listened;
-    taken = takes;
-    closed = closes;
-    fresh = All-cons (λ z. IsUnsent old z.out) x [] fresh (All-nil (λ z. IsUnsent old z.out));
-    told = All-cons (λ z. z.parting.is_whole ≡ is_whole z.served) x [] told
-        (All-nil (λ z. z.parting.is_whole ≡ is_whole z.served));
-    served = (after, served, refl);
-    ends = one_ends done x is;
-  };
-  finds = λ p found may. one_found x w after (before found) found
-      (served_then H ⊤ (λ k. p) x.served x.arrival.bytes x.parting.unread x.out x.parting.sent w
-      x.arrival.moment after served)
-      (finds p found may);
-}
+one_kept H done x old new w listed after before mid now listened takes closes fresh told news lists served is
+    first finds = record {
+      taken = record {
+        exchanges = x ∷ [];
+        last = None;
+        between = after;
+        few = omega arith;
+        listened = listened;
+        taken = takes;
+        closed = closes;
+        fresh = All-cons (λ z. IsUnsent old z.out) x [] fresh (All-nil (λ z. IsUnsent old z.out));
+        told = All-cons (λ z. z.parting.is_whole ≡ is_whole z.served) x [] told
+            (All-nil (λ z. z.parting.is_whole ≡ is_whole z.served));
+        news = news;
+        served = (listed, after, lists, served, refl);
+        untaken = refl;
+        ends = one_ends done x is;
+      };
+      finds = λ p found may. after_news x w listed after (before found) (mid found) found (first p found)
+          (one_found x listed after (mid found) found
+          (served_then H ⊤ (λ k. p) x.served x.arrival.bytes x.parting.unread x.out x.parting.sent listed
+          x.arrival.moment after served)
+          (finds p found may));
+    }
 
 -- what is found, if what was there before was settled
-pub found_served : (xs : List Exchange) (w after : DeskWorld) (before : Type 0) (found : Option World)
-    → (before → found ≡ Some w.content) → IsFoundServed xs after found ⊎ ((after ≡ w) × before)
-    → IsFoundServed xs after found
-found_served xs w after before found only (inl is) = is
-found_served xs w after before found only (inr p) =
+pub found_served : (xs : List Exchange) (last : Option (List Enrolment)) (w after : DeskWorld)
+    (before : Type 0) (found : Option World) → (before → found ≡ Some w.content)
+    → IsFoundServed xs last after found ⊎ ((after ≡ w) × before) → IsFoundServed xs last after found
+found_served xs last w after before found only (inl is) = is
+found_served xs last w after before found only (inr p) =
     inl (only p.1 ∙ ap (λ x. Some x.content) (sym p.0))
 
 module _ {A : Type 0} (H : Type 0) (done : Result A Failure) (serve : ServeWords)
@@ -192,7 +333,8 @@ module _ {A : Type 0} (H : Type 0) (done : Result A Failure) (serve : ServeWords
   port_kept old mid new listens h found may =
       inl (
         record { begun = begun; listed = listed; port = mid; listens = listens; taken = h.taken },
-        found_served h.taken.exchanges begun after (before found) found (only found) (h.finds p found may),
+        found_served h.taken.exchanges h.taken.last begun after (before found) found (only found)
+            (h.finds p found may),
       )
 
   -- the operators are listed, and no connection is taken
@@ -202,7 +344,7 @@ module _ {A : Type 0} (H : Type 0) (done : Result A Failure) (serve : ServeWords
       → (found : Option World) → now found → IsPortKept H done serve old new w after found
   unserved_kept f old new is denied listens left stays = port_kept old new new listens
       (none_kept H done serve.connections new new begun after before now refl left
-      (stops done f is serve.connections [] denied) stays)
+      (stops done f is serve.connections [] None denied) stays)
 
 -- ---- a run over the input
 

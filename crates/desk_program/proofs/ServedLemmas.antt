@@ -13,8 +13,9 @@ use Rattle.desk_wire.specs.declared.response.ServerError.{ServerError}
 use Rattle.desk_line.specs.declared.failure.Failure.{Failure}
 use Rattle.desk_line.specs.Exits.{failure_at}
 use Rattle.desk_line.specs.declared.line.Serve.{Serve as ServeWords}
-use Rattle.desk_program.specs.Enrolling.{on_terms, with_operators}
-use Rattle.desk_program.specs.Serving.{AreServed, AreTaken, EndsAfter, EndsBy, Exchange, Grows, IsAtPort, IsDenied, IsUnsent, Listens, Parting, Traffic, failing, is_whole}
+use Rattle.desk_line.specs.declared.line.Enrolment.{Enrolment}
+use Rattle.desk_program.specs.Enrolling.{AreEnrolled, on_terms, with_operators}
+use Rattle.desk_program.specs.Serving.{AreServed, AreTaken, EndsAfter, EndsAtNews, EndsBy, Exchange, Grows, IsAtPort, IsDenied, IsLast, IsUnsent, Listens, Parting, Traffic, failing, is_whole, news_of}
 
 -- ---- the connections that are taken
 
@@ -81,86 +82,129 @@ served_then H K by (Err CutShort) old new out now w moment after h = h
 served_then H K by (Err Read) old new out now w moment after h = h
 served_then H K by (Err OutOfMemory) old new out now w moment after h = h
 
+pub enrolled_then : (H K : Type 0) → (K → H) → (es : List Enrolment) (w listed : DeskWorld)
+    → AreEnrolled H es w listed → AreEnrolled K es w listed
+enrolled_then H K by [] w listed h = h
+enrolled_then H K by (e ∷ es) w listed h = λ k. h (by k)
+
 pub all_then : (H K : Type 0) → (K → H) → (xs : List Exchange) (w after : DeskWorld) → AreServed H xs w after
     → AreServed K xs w after
 all_then H K by [] w after h = h
 all_then H K by (x ∷ xs) w after h = (
   h.0,
-  served_then H K by x.served x.arrival.bytes x.parting.unread x.out x.parting.sent w x.arrival.moment h.0
-      h.1,
-  all_then H K by xs h.0 after h.2,
+  h.1,
+  enrolled_then H K by x.news w h.0 h.2,
+  served_then H K by x.served x.arrival.bytes x.parting.unread x.out x.parting.sent h.0 x.arrival.moment h.1
+      h.3,
+  all_then H K by xs h.1 after h.4,
 )
 
 pub both_served : (H : Type 0) (xs ys : List Exchange) (u v w : DeskWorld) → AreServed H xs u v
     → AreServed H ys v w → AreServed H (xs ++ ys) u w
 both_served H [] ys u v w first then = subst (λ z. AreServed H ys z w) first then
 both_served H (x ∷ xs) ys u v w first then =
-    (first.0, first.1, both_served H xs ys first.0 v w first.2 then)
+    (first.0, first.1, first.2, first.3, both_served H xs ys first.1 v w first.4 then)
 
 -- ---- both
+
+-- the news of some connections, and of others
+pub both_news : (xs ys : List Exchange) (last : Option (List Enrolment)) → news_of xs None ++ news_of ys last
+    ≡ news_of (xs ++ ys) last
+both_news [] ys last = refl
+both_news (x ∷ xs) ys last = ap (λ rest. x.news ∷ rest) (both_news xs ys last)
+
+-- a desk that goes on has listed the operators of all news
+pub none_last : {A : Type 0} (H : Type 0) (last : Option (List Enrolment)) (d : A) (w after : DeskWorld)
+    → IsLast H last (Ok d) w after → (last ≡ None) × (after ≡ w)
+none_last H None d w after h = (refl, h)
+none_last H (Some news) d w after h = absurd h
 
 -- nothing is taken
 pub none : {A : Type 0} (H : Type 0) (done : Result A Failure) (count : ℕ)
     (old new : Traffic)
-    (w after : DeskWorld) → new ≡ old → after ≡ w → EndsAfter done count []
+    (w after : DeskWorld) → new ≡ old → after ≡ w → EndsAfter done count [] None
     → AreTaken H done count old new w after
 none H done count old new w after same left ends = record {
   exchanges = [];
+  last = None;
+  between = w;
   few = omega arith;
   listened = ap (λ v. v.listened) same;
   taken = none_more old.taken new.taken (ap (λ v. v.taken) same);
   closed = none_more old.closed new.closed (ap (λ v. v.closed) same);
   fresh = All-nil (λ x. IsUnsent old x.out);
   told = All-nil (λ x. x.parting.is_whole ≡ is_whole x.served);
-  served = left;
+  news = none_more old.news new.news (ap (λ v. v.news) same);
+  served = refl;
+  untaken = left;
   ends = ends;
 }
 
 -- one connection is taken
 pub one_ends : {A : Type 0} (done : Result A Failure) (x : Exchange) → failing done ≡ failure_at x.served
-    → EndsAfter done 1 (x ∷ [])
+    → EndsAfter done 1 (x ∷ []) None
 one_ends (Ok d) x is = (
   refl,
   All-cons (λ z. failure_at z.served ≡ None) x [] (sym is)
       (All-nil (λ z. failure_at z.served ≡ None)),
 )
-one_ends (Err f) x is = inr (sym is, refl)
+one_ends (Err f) x is = inr (sym is, refl, refl)
 
 -- so many connections and then others are so many in all
 pub goes_on : {A B C : Type 0} (d : A) (e : B) (whole : C) (m k : ℕ) (xs ys : List Exchange)
-    → EndsAfter {A = A} (Ok d) m xs → EndsAfter {A = B} (Ok e) k ys
-    → EndsAfter {A = C} (Ok whole) (m + k) (xs ++ ys)
-goes_on d e whole m k xs ys first then = (
+    (one last : Option (List Enrolment)) → EndsAfter {A = A} (Ok d) m xs one
+    → EndsAfter {A = B} (Ok e) k ys last → EndsAfter {A = C} (Ok whole) (m + k) (xs ++ ys) last
+goes_on d e whole m k xs ys one last first then = (
   length-append xs ys ∙ ap (λ n. n + length ys) first.0 ∙ ap (λ n. m + n) then.0,
   All-append (λ z. failure_at z.served ≡ None) xs ys first.1 then.1,
 )
 
 pub goes_on_by : {A B C : Type 0} (d : A) (e : B) (whole : C) (then : Result B Failure) → then ≡ Ok e
-    → (m k : ℕ) (xs ys : List Exchange) → EndsAfter {A = A} (Ok d) m xs → EndsAfter then k ys
-    → EndsAfter {A = C} (Ok whole) (m + k) (xs ++ ys)
-goes_on_by d e whole then is m k xs ys first last =
-    goes_on d e whole m k xs ys first (subst (λ r. EndsAfter r k ys) is last)
+    → (m k : ℕ) (xs ys : List Exchange) (one last : Option (List Enrolment))
+    → EndsAfter {A = A} (Ok d) m xs one → EndsAfter then k ys last
+    → EndsAfter {A = C} (Ok whole) (m + k) (xs ++ ys) last
+goes_on_by d e whole then is m k xs ys one last first ends =
+    goes_on d e whole m k xs ys one last first (subst (λ r. EndsAfter r k ys last) is ends)
 
 -- a failure is handed on
 pub stops : {A : Type 0} (whole : Result A Failure) (f : Failure) → IsErrAnd whole (λ e. e ≡ f)
-    → (count : ℕ) (xs : List Exchange) → EndsBy f xs → EndsAfter whole count xs
-stops (Ok d) f is count xs ends = absurd is
-stops (Err e) f is count xs ends = subst (λ v. EndsBy v xs) (sym is) ends
+    → (count : ℕ) (xs : List Exchange) (last : Option (List Enrolment)) → EndsBy f xs last
+    → EndsAfter whole count xs last
+stops (Ok d) f is count xs last ends = absurd is
+stops (Err e) f is count xs last ends = subst (λ v. EndsBy v xs last) (sym is) ends
 
 -- a failure comes after connections that the desk went on after
-ends_more : (f : Failure) (xs ys : List Exchange) → All (λ x. failure_at x.served ≡ None) xs → EndsBy f ys
-    → EndsBy f (xs ++ ys)
-ends_more f [] ys on ends = ends
-ends_more f (x ∷ xs) ys on ends = inl (
+ends_more : (f : Failure) (xs ys : List Exchange) (last : Option (List Enrolment))
+    → All (λ x. failure_at x.served ≡ None) xs → EndsBy f ys last → EndsBy f (xs ++ ys) last
+ends_more f [] ys last on ends = ends
+ends_more f (x ∷ xs) ys last on ends = inl (
   All-head (λ z. failure_at z.served ≡ None) x xs on,
-  ends_more f xs ys (All-tail (λ z. failure_at z.served ≡ None) x xs on) ends,
+  ends_more f xs ys last (All-tail (λ z. failure_at z.served ≡ None) x xs on) ends,
 )
 
 pub stops_by : {A B C : Type 0} (d : C) (whole : Result A Failure) (f : Failure) (then : Result B Failure)
     → IsErrAnd whole (λ e. e ≡ f) → then ≡ Err f → (m n k : ℕ) (xs ys : List Exchange)
-    → EndsAfter {A = C} (Ok d) m xs → EndsAfter then k ys → EndsAfter whole n (xs ++ ys)
-stops_by d whole f then is was m n k xs ys first last = stops whole f is n (xs ++ ys)
-    (ends_more f xs ys first.1 (subst (λ r. EndsAfter r k ys) was last))
+    (one last : Option (List Enrolment)) → EndsAfter {A = C} (Ok d) m xs one → EndsAfter then k ys last
+    → EndsAfter whole n (xs ++ ys) last
+stops_by d whole f then is was m n k xs ys one last first ends = stops whole f is n (xs ++ ys) last
+    (ends_more f xs ys last first.1 (subst (λ r. EndsAfter r k ys last) was ends))
+
+-- so are the last news
+pub last_goes_on : {B C : Type 0} (H : Type 0) (then : Result B Failure) (e : B) (whole : C) → then ≡ Ok e
+    → (last : Option (List Enrolment)) (w after : DeskWorld) → IsLast H last then w after
+    → IsLast {A = C} H last (Ok whole) w after
+last_goes_on H then e whole is None w after h = h
+last_goes_on H then e whole is (Some news) w after h =
+    absurd (subst (λ r. IsLast H (Some news) r w after) is h)
+
+pub last_stops : {A B : Type 0} (H : Type 0) (whole : Result A Failure) (f : Failure)
+    (then : Result B Failure) → IsErrAnd whole (λ e. e ≡ f) → then ≡ Err f
+    → (last : Option (List Enrolment)) (w after : DeskWorld) → IsLast H last then w after
+    → IsLast H last whole w after
+last_stops H whole f then is was None w after h = h
+last_stops H (Ok d) f then is was (Some news) w after h = absurd is
+last_stops H (Err e) f then is was (Some news) w after h = subst (λ v. EndsAtNews H v news w after) (sym is)
+    (subst (λ r. IsLast H (Some news) r w after) was h)
 
 -- the operators are listed, and no connection is taken
 pub unserved : {A : Type 0} (H : Type 0) (done : Result A Failure) (f : Failure) (serve : ServeWords)
@@ -174,5 +218,5 @@ unserved H done f serve old new w after is denied listens listed = inl (record {
   port = new;
   listens = listens;
   taken = none H done serve.connections new new after after refl refl (stops done f is
-      serve.connections [] denied);
+      serve.connections [] None denied);
 })

@@ -15,6 +15,11 @@ abbrev pub with_operators : DeskWorld → List Enrolment → DeskWorld
 with_operators w [] = w
 with_operators w (e ∷ es) = with_operators (enrolled w e.operator e.ceiling) es
 
+-- if the store is honest, the operators are listed, in the order given; if there are none, nothing is changed
+abbrev pub AreEnrolled : Type 0 → List Enrolment → DeskWorld → DeskWorld → Type 0
+AreEnrolled H [] w after = after ≡ w
+AreEnrolled H (e ∷ es) w after = H → after ≡ with_operators w (e ∷ es)
+
 -- the first operators are listed, and not all of them
 pub record AreListedSoFar (H : Type 0) (es : List Enrolment) (w after : DeskWorld) : Type 0 where
   pub count : ℕ

@@ -1,6 +1,6 @@
 -- Keeping: what a start may find of a desk's content, whatever ended the program that carried out a line
 -- there.
-use Rattle.std.specs.Prelude.{◌≡◌, ◌⊎◌, ◌+◌, ⊤, ℕ, List, [], ◌∷◌, take, Option, Some, Result}
+use Rattle.std.specs.Prelude.{◌≡◌, ◌⊎◌, ◌+◌, ⊤, ℕ, List, [], ◌∷◌, take, Option, Some, None, Result, Ok, Err}
 use Rattle.desk_store.specs.World.{World}
 use Rattle.desk_run.specs.DeskWorld.{DeskWorld, enrolled}
 use Rattle.desk_wire.specs.Given.{told_in_play}
@@ -23,6 +23,16 @@ pub record AreKeptSoFar (H : Type 0) (es : List Enrolment) (w after : DeskWorld)
   pub listed : AreListedSoFar H es w after
   pub finds : (found ≡ Some (with_operators w (take listed.count es)).content)
       ⊎ (found ≡ Some (with_operators w (take (listed.count + 1) es)).content)
+
+-- what is found once operators were enrolled is what that left; or, if an enrolment failed, what one more
+-- would leave. If nothing was changed, it may be what might have been found before
+abbrev pub FindsNews :
+    {A B : Type 0} → Result A B → List Enrolment → DeskWorld → DeskWorld → (Option World → Type 0)
+    → (Option World → Type 0) → Type 0
+FindsNews (Ok done) es w after before now = (found : Option World) → now found
+    → (found ≡ Some after.content) ⊎ ((after ≡ w) × before found)
+FindsNews (Err fault) es w after before now = (found : Option World) → now found
+    → AreKeptSoFar ⊤ es w after found ⊎ ((after ≡ w) × before found)
 
 -- what is found has the operator listed; or it is what was there before, and nothing was printed
 abbrev pub FindsEnrolled :
@@ -66,10 +76,16 @@ abbrev pub IsLeftByOne : DeskWorld → Option World → List Exchange → Type 0
 IsLeftByOne w found [] = ⊥
 IsLeftByOne w found (x ∷ xs) = IsLeftUncertain w found x ⊎ IsLeftByOne w found xs
 
--- what is found after connections is what their requests left; or what one of these would leave of that,
--- which left it as it was, and its answer was a 500 or is not whole
-abbrev pub IsFoundServed : List Exchange → DeskWorld → Option World → Type 0
-IsFoundServed xs after found = (found ≡ Some after.content) ⊎ IsLeftByOne after found xs
+-- of the last news an operator could not be listed, and what is found has it listed, or has not
+abbrev pub IsLeftByNews : DeskWorld → Option World → Option (List Enrolment) → Type 0
+IsLeftByNews w found None = ⊥
+IsLeftByNews w found (Some news) = (before : DeskWorld) × AreKeptSoFar ⊤ news before w found
+
+-- what is found after connections is what their requests and the news left; or what one of these would leave
+-- of that, which left it as it was, and its answer was a 500 or is not whole; or one more enrolment
+abbrev pub IsFoundServed : List Exchange → Option (List Enrolment) → DeskWorld → Option World → Type 0
+IsFoundServed xs last after found =
+    (found ≡ Some after.content) ⊎ IsLeftByOne after found xs ⊎ IsLeftByNews after found last
 
 -- connections are taken, and that is what is found, where `now` says what may be found now; or, if their
 -- requests left all as it was, what might have been found before
@@ -78,14 +94,15 @@ pub record AreKept {A : Type 0} (H : Type 0) (done : Result A Failure) (count : 
     Type 0 where
   pub taken : AreTaken H done count old new w after
   pub finds : H → (found : Option World) → now found
-      → IsFoundServed taken.exchanges after found ⊎ ((after ≡ w) × before found)
+      → IsFoundServed taken.exchanges taken.last after found ⊎ ((after ≡ w) × before found)
 
 -- connections are taken once all operators are listed, or an operator could not be listed
 abbrev pub IsPortKept :
     {A : Type 0} → Type 0 → Result A Failure → ServeWords → Traffic → Traffic
     → DeskWorld → DeskWorld → Option World → Type 0
 IsPortKept H done serve old new w after found =
-    ((port : HasBegun H done serve old new w after) × IsFoundServed port.taken.exchanges after found)
+    ((port : HasBegun H done serve old new w after)
+    × IsFoundServed port.taken.exchanges port.taken.last after found)
     ⊎ (IsNotBegun H done serve old new w after
     × AreKeptSoFar H serve.enrolments.items (on_terms w serve.terms) after found)
 

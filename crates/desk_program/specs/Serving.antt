@@ -1,5 +1,5 @@
 -- Serving: what a desk at a port prints, and what its connections leave.
-use Rattle.std.specs.Prelude.{◌≡◌, ◌≤◌, ◌⊎◌, ⊤, ℕ, ℤ, Bool, true, List, [], ◌∷◌, ◌++◌, All, map, length, codes, decimal, Option, Some, None, IfSome, Result, Ok, Err}
+use Rattle.std.specs.Prelude.{◌≡◌, ◌≤◌, ◌⊎◌, ⊤, ℕ, ℤ, Bool, true, List, [], ◌∷◌, ◌++◌, All, map, length, codes, decimal, Option, Some, None, IfSome, option_to_list, Result, Ok, Err}
 use Rattle.std.specs.Result.{IsErrAnd}
 use Rattle.desk_run.specs.DeskWorld.{DeskWorld}
 use Rattle.desk_ends.specs.declared.serving.Served.{Served}
@@ -10,7 +10,8 @@ use Rattle.desk_line.specs.declared.failure.Failure.{Failure}
 use Rattle.desk_line.specs.declared.line.Serve.{Serve as ServeWords}
 use Rattle.desk_line.specs.declared.failure.Failure.TheVariants as failure
 use Rattle.desk_line.specs.Exits.{Ending, EndsWith, IsAnnounced, IsBreakdown, failure_at}
-use Rattle.desk_program.specs.Enrolling.{AreListedSoFar, on_terms, with_operators}
+use Rattle.desk_line.specs.declared.line.Enrolment.{Enrolment}
+use Rattle.desk_program.specs.Enrolling.{AreEnrolled, AreListedSoFar, on_terms, with_operators}
 
 -- what is printed when the port is listened at
 abbrev pub listening_line : ℕ → List ℕ
@@ -35,15 +36,16 @@ pub record Parting : Type 0 where
 abbrev pub parted : Option (List ℕ) → Option (List ℕ) → Bool → Parting
 parted unread sent is_whole = record { unread = unread; sent = sent; is_whole = is_whole }
 
--- what a port tells: the numbers at which it was asked to listen, the connections that were taken, and those
--- that were closed, in their order, if they are known
+-- what a port tells: the numbers at which it was asked to listen, the connections that were taken, those that
+-- were closed, and the enrolments of each news that it was asked for, in their order, if they are known
 pub record Traffic : Type 0 where
   pub listened : Option (List ℕ)
   pub taken : Option (List Arrival)
   pub closed : Option (List Parting)
+  pub news : Option (List (List Enrolment))
 
 abbrev pub untold : Traffic
-untold = record { listened = None; taken = None; closed = None }
+untold = record { listened = None; taken = None; closed = None; news = None }
 
 -- what is known is followed by these
 abbrev pub Grows : {A : Type 0} → Option (List A) → Option (List A) → List A → Type 0
@@ -51,26 +53,31 @@ Grows None new more = ⊤
 Grows (Some old) None more = ⊥
 Grows (Some old) (Some new) more = new ≡ old ++ more
 
--- it is asked to listen at a number; a connection is taken; and one is closed
+-- it is asked to listen at a number; a connection is taken; one is closed; and news are brought
 abbrev pub Listens : Traffic → Traffic → ℕ → Type 0
 Listens old new number = Grows old.listened new.listened (number ∷ []) × (new.taken ≡ old.taken)
-    × (new.closed ≡ old.closed)
+    × (new.closed ≡ old.closed) × (new.news ≡ old.news)
 
 abbrev pub Takes : Traffic → Traffic → Arrival → Type 0
 Takes old new arrival = Grows old.taken new.taken (arrival ∷ []) × (new.closed ≡ old.closed)
-    × (new.listened ≡ old.listened)
+    × (new.listened ≡ old.listened) × (new.news ≡ old.news)
 
 abbrev pub Closes : Traffic → Traffic → Parting → Type 0
 Closes old new parting = Grows old.closed new.closed (parting ∷ []) × (new.taken ≡ old.taken)
-    × (new.listened ≡ old.listened)
+    × (new.listened ≡ old.listened) × (new.news ≡ old.news)
+
+abbrev pub BringsNews : Traffic → Traffic → List Enrolment → Type 0
+BringsNews old new enrolments = Grows old.news new.news (enrolments ∷ []) × (new.taken ≡ old.taken)
+    × (new.closed ≡ old.closed) × (new.listened ≡ old.listened)
 
 -- at a port that tells what it closes, nothing was sent yet
 abbrev pub IsUnsent : Traffic → Option (List ℕ) → Type 0
 IsUnsent port out = IfSome port.closed (λ partings. out ≡ Some [])
 
--- a connection, what its client was sent before, if that is known, what came of its request, and the
--- connection as it is closed then
+-- the news that were brought before a connection was taken, the connection, what its client was sent before,
+-- if that is known, what came of its request, and the connection as it is closed then
 pub record Exchange : Type 0 where
+  pub news : List Enrolment
   pub arrival : Arrival
   pub out : Option (List ℕ)
   pub served : Result Served ServeFault
@@ -82,12 +89,16 @@ is_whole (Ok (Answered status framed)) = framed
 is_whole (Ok End) = true
 is_whole (Err fault) = true
 
--- the requests of connections are served one after the other, each at the moment of its connection
+-- the requests of connections are served one after the other, each at the moment of its connection, once the
+-- operators of its news are listed
 abbrev pub AreServed : Type 0 → List Exchange → DeskWorld → DeskWorld → Type 0
 AreServed H [] w after = after ≡ w
 AreServed H (x ∷ xs) w after =
-    (between : DeskWorld)
-    × HasServed H x.served x.arrival.bytes x.parting.unread x.out x.parting.sent w x.arrival.moment between
+    (listed : DeskWorld)
+    × (between : DeskWorld)
+    × AreEnrolled H x.news w listed
+    × HasServed H x.served x.arrival.bytes x.parting.unread x.out x.parting.sent listed x.arrival.moment
+    between
     × AreServed H xs between after
 
 -- why the desk ends after a result; none if it goes on
@@ -99,32 +110,54 @@ failing (Err failure) = Some failure
 abbrev pub IsDenied : Failure → Type 0
 IsDenied f = (f ≡ failure.Memory) ⊎ (f ≡ failure.Write) ⊎ (f ≡ failure.Network) ⊎ (f ≡ failure.Clock)
 
--- the failure is what the last of these connections ended the desk with, or the machine denied something
--- after them; none before ended the desk
-abbrev pub EndsBy : Failure → List Exchange → Type 0
-EndsBy f [] = IsDenied f
-EndsBy f (x ∷ xs) =
-    ((failure_at x.served ≡ None) × EndsBy f xs) ⊎ ((failure_at x.served ≡ Some f) × (xs ≡ []))
+-- the news after which no connection was taken: an operator could not be listed, and those before it are;
+-- or all are listed, and the machine denied something
+abbrev pub EndsAtNews : Type 0 → Failure → List Enrolment → DeskWorld → DeskWorld → Type 0
+EndsAtNews H f news w after =
+    (IsBreakdown f × AreListedSoFar H news w after) ⊎ (IsDenied f × AreEnrolled H news w after)
+
+-- what was told after the last connection that was taken is listed, as far as it could be, if the desk ended
+abbrev pub IsLast :
+    {A : Type 0} → Type 0 → Option (List Enrolment) → Result A Failure → DeskWorld → DeskWorld → Type 0
+IsLast H None done w after = after ≡ w
+IsLast H (Some news) (Ok done) w after = ⊥
+IsLast H (Some news) (Err failure) w after = EndsAtNews H failure news w after
+
+-- the news of connections, and the last of them
+abbrev pub news_of : List Exchange → Option (List Enrolment) → List (List Enrolment)
+news_of xs last = map (λ x. x.news) xs ++ option_to_list last
+
+-- the failure is what the last of these connections ended the desk with, or came after them, with the news
+-- for which no connection was taken; none before ended the desk
+abbrev pub EndsBy : Failure → List Exchange → Option (List Enrolment) → Type 0
+EndsBy f [] None = IsDenied f
+EndsBy f [] (Some news) = ⊤
+EndsBy f (x ∷ xs) last = ((failure_at x.served ≡ None) × EndsBy f xs last)
+    ⊎ ((failure_at x.served ≡ Some f) × (xs ≡ []) × (last ≡ None))
 
 -- no more connections are taken, since they are as many as were asked for, and the desk failed at none; or
 -- by why the desk ended
-abbrev pub EndsAfter : {A : Type 0} → Result A Failure → ℕ → List Exchange → Type 0
-EndsAfter (Ok done) count exchanges =
+abbrev pub EndsAfter : {A : Type 0} → Result A Failure → ℕ → List Exchange → Option (List Enrolment) → Type 0
+EndsAfter (Ok done) count exchanges last =
     (length exchanges ≡ count) × All (λ x. failure_at x.served ≡ None) exchanges
-EndsAfter (Err failure) count exchanges = EndsBy failure exchanges
+EndsAfter (Err failure) count exchanges last = EndsBy failure exchanges last
 
--- connections are taken, at most so many, and what is left is what their requests leave
+-- connections are taken, at most so many, and what is left is what their requests and the news leave
 pub record AreTaken {A : Type 0} (H : Type 0) (done : Result A Failure) (count : ℕ)
     (old new : Traffic) (w after : DeskWorld) : Type 0 where
   pub exchanges : List Exchange
+  pub last : Option (List Enrolment)
+  pub between : DeskWorld
   pub few : length exchanges ≤ count
   pub listened : new.listened ≡ old.listened
   pub taken : Grows old.taken new.taken (map (λ x. x.arrival) exchanges)
   pub closed : Grows old.closed new.closed (map (λ x. x.parting) exchanges)
   pub fresh : All (λ x. IsUnsent old x.out) exchanges
   pub told : All (λ x. x.parting.is_whole ≡ is_whole x.served) exchanges
-  pub served : AreServed H exchanges w after
-  pub ends : EndsAfter done count exchanges
+  pub news : Grows old.news new.news (news_of exchanges last)
+  pub served : AreServed H exchanges w between
+  pub untaken : IsLast H last done between after
+  pub ends : EndsAfter done count exchanges last
 
 -- the desk plans on the line's terms and its operators are listed, the port is asked to listen at the line's
 -- number, and then connections are taken

@@ -14,7 +14,7 @@ mod timed;
 pub use local::LocalPort;
 pub use looking::{CheckedFile, print_checked, print_copied};
 pub use moving::print_migrated;
-pub use port::{Connection, Port};
+pub use port::{Connection, Port, Register};
 pub use program::with_desk;
 pub use running::run_opened;
 pub use server::serve;

@@ -7,36 +7,54 @@ ghost use Rattle.desk_ends.specs.Moments.{IsMoment};
 ghost use Rattle.desk_program.specs.Serving.{IsDenied};
 ghost use Rattle.desk_program.specs.Waiting.{moment_at};
 
-use crate::port::{Connection, Port};
+use crate::port::{Connection, Port, Register};
 use crate::timed::{Timed, discard_extra, discard_rest};
-use desk_line::Failure;
+use desk_line::{Enrolment, Failure};
 use std::alloc::Global;
 use std::io::{self, BufReader, ErrorKind};
 use std::net::{Ipv4Addr, Net, OpenListener, OpenStream, TcpListener};
 use std::time::{Clock, SystemTime};
 use volume4d::MAX_SECOND;
 
-/// A port of 127.0.0.1, whose connections have the moments of a clock. Each client has `PATIENCE` seconds
-/// to send its request, and as many to take the answer.
+/// A port of 127.0.0.1, whose connections have the moments of a clock, and whose news are those of a
+/// register. Each client has `PATIENCE` seconds to send its request, and as many to take the answer.
 #[derive(Drop)]
-pub struct LocalPort<'s, N: Net, C> {
+pub struct LocalPort<'s, N: Net, C, G: Drop> {
     net: &'s N,
     clock: &'s C,
+    register: G,
     listener: Option<N::Listener>,
+    // The connection that is there, until it is taken.
+    waiting: Option<N::Stream>,
 }
 
-impl<'s, N: Net, C: Clock> LocalPort<'s, N, C> {
+impl<'s, N: Net, C: Clock, G: Register + Drop> LocalPort<'s, N, C, G> {
     /// A port that is not listened at yet.
-    pub fn new(net: &'s N, clock: &'s C) -> LocalPort<'s, N, C> {
+    pub fn new(net: &'s N, clock: &'s C, register: G) -> LocalPort<'s, N, C, G> {
         LocalPort {
             net,
             clock,
+            register,
             listener: None,
+            waiting: None,
+        }
+    }
+
+    // The stream of the next connection: the one that is there, or the next that comes.
+    fn next_stream(&mut self) -> Result<N::Stream, Failure>
+        ensures { IfErr result IsDenied }
+    {
+        if let Some(stream) = self.waiting.take() {
+            return Ok(stream);
+        }
+        match &self.listener {
+            Some(listener) => accept_from(listener),
+            None => Err(Failure::Network),
         }
     }
 }
 
-impl<'s, N: Net, C: Clock> Port for LocalPort<'s, N, C> {
+impl<'s, N: Net, C: Clock, G: Register + Drop> Port for LocalPort<'s, N, C, G> {
     type Input = BufReader<Timed<'s, N::Stream, C>>;
 
     type Output = Timed<'s, N::Stream, C>;
@@ -51,14 +69,16 @@ impl<'s, N: Net, C: Clock> Port for LocalPort<'s, N, C> {
         }
     }
 
+    fn news(&mut self, alloc: Global) -> Result<Vec<Enrolment>, Failure> {
+        self.waiting = Some(self.next_stream()?);
+        self.register.look(alloc)
+    }
+
     fn take(
         &mut self,
         alloc: Global,
     ) -> Result<Connection<BufReader<Timed<'s, N::Stream, C>>, Timed<'s, N::Stream, C>>, Failure> {
-        let Some(listener) = &self.listener else {
-            return Err(Failure::Network);
-        };
-        let stream = accept_from(listener)?;
+        let stream = self.next_stream()?;
         let Ok(now) = SystemTime::now(self.clock) else {
             return Err(Failure::Clock);
         };

@@ -2,10 +2,12 @@
 
 ghost use Rattle.std.specs.Prelude.{◌≡◌, IfOk, IfErr, OnErr};
 ghost use Rattle.desk_ends.specs.Moments.{IsMoment};
-ghost use Rattle.desk_program.specs.Serving.{Closes, IsDenied, IsUnsent, Listens, Takes, Traffic};
+ghost use Rattle.desk_line.specs.Lines.{AreEnrolments};
+ghost use Rattle.desk_program.specs.Serving.{BringsNews, Closes, IsDenied, IsUnsent, Listens};
+ghost use Rattle.desk_program.specs.Serving.{Takes, Traffic};
 ghost use Rattle.desk_program.specs.Serving.{arrived, parted, untold};
 
-use desk_line::Failure;
+use desk_line::{Enrolment, Failure};
 use std::alloc::Global;
 use std::io::{Read, Write};
 
@@ -20,14 +22,26 @@ pub struct Connection<I, O> {
     pub output: O,
 }
 
+/// What the keeper has enrolled while a desk serves.
+pub trait Register {
+    /// The operators that are to be enrolled since this was asked last.
+    ///
+    /// # Errors
+    ///
+    /// `Memory`.
+    fn look(&mut self, alloc: Global) -> Result<Vec<Enrolment>, Failure>
+        ensures small { IfOk result (λ news. AreEnrolments news.items) }
+        ensures fault { IfErr result IsDenied };
+}
+
 /// A port, from which connections are taken one after the other.
 pub trait Port {
     type Input: Read + Drop;
 
     type Output: Write + Drop;
 
-    /// The numbers at which it was asked to listen, the connections that were taken, and those that were
-    /// closed, in their order, if they are known.
+    /// The numbers at which it was asked to listen, the connections that were taken, those that were closed,
+    /// and the news that it brought, in their order, if they are known.
     ghost traffic: { Self → Traffic } = { λ _. untold };
 
     /// Listens at the port of this number.
@@ -37,6 +51,18 @@ pub trait Port {
     /// `Network` if the port can't be had.
     fn listen(&mut self, number: u16) -> Result<(), Failure>
         ensures listens { Listens (traffic self.old) (traffic self.new) number }
+        ensures fault { IfErr result IsDenied };
+
+    /// Waits until there is a connection, which `take` takes then, and tells the operators that the keeper
+    /// has had enrolled since this was asked last.
+    ///
+    /// # Errors
+    ///
+    /// `Network` if no connection can be had, `Memory`.
+    fn news(&mut self, alloc: Global) -> Result<Vec<Enrolment>, Failure>
+        ensures small { IfOk result (λ news. AreEnrolments news.items) }
+        ensures brings { IfOk result (λ news. BringsNews (traffic self.old) (traffic self.new) news.items) }
+        ensures same { OnErr result (traffic self.new ≡ traffic self.old) }
         ensures fault { IfErr result IsDenied };
 
     /// Takes the next connection.

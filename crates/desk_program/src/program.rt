@@ -12,8 +12,8 @@ ghost use Rattle.desk_rules.specs.Limits.{max_priority};
 ghost use Rattle.desk_line.specs.Lines.{AreEnrolments, HasDesk, IsLine, IsPlay};
 ghost use Rattle.desk_program.specs.Causes.{HasCause};
 ghost use Rattle.desk_program.specs.Enrolling as enrolling;
-ghost use Rattle.desk_program.specs.Enrolling.{AreListedSoFar, on_terms, with_operators};
-ghost use Rattle.desk_program.specs.Keeping.{AreKeptSoFar, FindsEnrolled, IsLinePlayKept, IsPlayKept};
+ghost use Rattle.desk_program.specs.Enrolling.{AreEnrolled, AreListedSoFar, on_terms, with_operators};
+ghost use Rattle.desk_program.specs.Keeping.{AreKeptSoFar, FindsEnrolled, FindsNews, IsLinePlayKept, IsPlayKept};
 ghost use Rattle.desk_program.specs.Playing.{IsEnrolled, IsLinePlayed, IsNotPlayed, IsPlayed, done_unless};
 
 use desk_ends::{PlayEnd, write_whole};
@@ -198,6 +198,30 @@ pub fn set_up<S: PlanStore>(
     enrol_all(desk, enrolments)
 }
 
+/// Enrols the operators of news, in the order given, and changes nothing if there are none.
+///
+/// # Errors
+///
+/// The first fault of an enrolment, `OutOfMemory` or `Store`; the operators before it are enrolled.
+pub fn enrol_news<S: PlanStore>(desk: &mut Desk<S>, news: &[Enrolment]) -> Result<(), DeskFault>
+    requires { AreEnrolments news.now }
+    ensures ok { OnOk result (AreEnrolled (IsHonest (S.doubt desk.new.store)) news.now
+        (world_of S.content desk.old) (world_of S.content desk.new)) }
+    ensures err { OnErr result (AreListedSoFar (IsHonest (S.doubt desk.new.store)) news.now
+        (world_of S.content desk.old) (world_of S.content desk.new)) }
+    ensures found { IsHonest (S.doubt desk.new.store) → FindsNews result news.now
+        (world_of S.content desk.old) (world_of S.content desk.new) (S.may_leave desk.old.store)
+        (S.may_leave desk.new.store) }
+    ensures fault { IfErr result IsBreakdown }
+    ensures remembered { Remembers S.doubt S.faults S.is_shielded desk.old.store desk.new.store }
+    ensures cause { IfErr result (IsStoreCounted S.faults desk.old.store desk.new.store) }
+{
+    if news.is_empty() {
+        return Ok(());
+    }
+    enrol_all(desk, news)
+}
+
 // Enrols the operators in the order given, so that a name given twice has its last ceiling. At a fault of
 // an enrolment, `OutOfMemory` or `Store`, those before it stand.
 fn enrol_all<S: PlanStore>(desk: &mut Desk<S>, enrolments: &[Enrolment]) -> Result<(), DeskFault>
@@ -213,6 +237,9 @@ fn enrol_all<S: PlanStore>(desk: &mut Desk<S>, enrolments: &[Enrolment]) -> Resu
         OnErr result ((found : Option World) → S.may_leave desk.new.store found →
         AreKeptSoFar (IsHonest (S.doubt desk.new.store)) enrolments.now
         (world_of S.content desk.old) (world_of S.content desk.new) found) }
+    ensures found { IsHonest (S.doubt desk.new.store) → FindsNews result enrolments.now
+        (world_of S.content desk.old) (world_of S.content desk.new) (S.may_leave desk.old.store)
+        (S.may_leave desk.new.store) }
     ensures fault { IfErr result IsBreakdown }
     ensures remembered { Remembers S.doubt S.faults S.is_shielded desk.old.store desk.new.store }
     ensures cause { IfErr result (IsStoreCounted S.faults desk.old.store desk.new.store) }

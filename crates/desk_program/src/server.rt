@@ -15,7 +15,7 @@ ghost use Rattle.desk_program.specs.Serving as spec;
 ghost use Rattle.desk_program.specs.Serving.{AreTaken, IsAtPort, IsDenied, IsLineServed, Listens, failing, listening_line};
 
 use crate::port::{Connection, Port};
-use crate::program::set_up;
+use crate::program::{enrol_news, set_up};
 use desk_ends::{ServeFault, Served, write_whole};
 use desk_line::{Exit, Failure, Serve, conclude};
 use desk_run::Desk;
@@ -130,6 +130,7 @@ fn serve_connections<S: PlanStore, P: Port>(
         (P.traffic port.old) (P.traffic port.new) (world_of S.content desk.old)
         (world_of S.content desk.new) (S.may_leave desk.old.store) (S.may_leave desk.new.store) }
     ensures remembered { Remembers S.doubt S.faults S.is_shielded desk.old.store desk.new.store }
+    ensures cause { IsCounted result (S.faults desk.old.store) (S.faults desk.new.store) }
 {
     for before in 0..count {
         serve_connection(alloc, port, desk)?;
@@ -137,7 +138,8 @@ fn serve_connections<S: PlanStore, P: Port>(
     Ok(())
 }
 
-// Serves the next connection. Faults of the connection are passed over.
+// Serves the next connection, once the operators of the news are enrolled. Faults of the connection are
+// passed over.
 fn serve_connection<S: PlanStore, P: Port>(
     alloc: Global,
     port: &mut P,
@@ -150,7 +152,10 @@ fn serve_connection<S: PlanStore, P: Port>(
         (P.traffic port.old) (P.traffic port.new) (world_of S.content desk.old)
         (world_of S.content desk.new) (S.may_leave desk.old.store) (S.may_leave desk.new.store) }
     ensures remembered { Remembers S.doubt S.faults S.is_shielded desk.old.store desk.new.store }
+    ensures cause { IsCounted result (S.faults desk.old.store) (S.faults desk.new.store) }
 {
+    let news = port.news(alloc)?;
+    enrol_news(desk, &news)?;
     let mut client = port.take(alloc)?;
     let served = serve_one(
         alloc,

@@ -1,12 +1,12 @@
 //! Connections served in one thread: clients write their requests, the desk serves them, clients read.
 
-ghost use Rattle.std.specs.Prelude.{IfOk};
+ghost use Rattle.std.specs.Prelude.{◌≤◌, IfOk};
 ghost use Rattle.std.specs.Int.{IsInRange};
-ghost use Rattle.desk_line.specs.Lines.{IsServe};
+ghost use Rattle.desk_line.specs.Lines.{AreEnrolments, IsServe};
 
 use crate::given::{COMPLETED, FIRST_PUT, LATE};
-use desk_line::{Database, Enrolment, Serve};
-use desk_program::{LocalPort, serve};
+use desk_line::{Database, Enrolment, Failure, Serve};
+use desk_program::{LocalPort, Register, serve};
 use desk_rules::operator::Operator;
 use desk_rules::terms::Terms;
 use desk_run::Desk;
@@ -66,41 +66,65 @@ fn read_by(alloc: Global, mut client: TcpStream) -> Result<Vec<u8>, Fail> {
     Ok(answer)
 }
 
-// The line of `serve` at port 1 for so many connections, with `alfa`.
-pub fn serve_line(alloc: Global, connections: u32) -> Result<Serve, Fail>
+// The line of `serve` at port 1 for so many connections, with no operator.
+pub fn serve_line(alloc: Global, connections: u32) -> Serve
     requires { IsInRange 1 1000000 connections }
-    ensures { IfOk result IsServe }
+    ensures { IsServe result }
 {
-    let alfa = Enrolment {
-        operator: Operator::try_new(b"alfa").ok_or("a name")?,
-        ceiling: 100,
-    };
-    Ok(Serve {
+    Serve {
         database: Database::InMemory,
         port: 1,
         connections,
         terms: Terms::none(),
-        enrolments: vec![in alloc; alfa]?,
-    })
+        enrolments: Vec::new(alloc),
+        operators: None,
+    }
 }
 
-// Serves so many connections of a port at a moment, and compares the word of the failure, if there is one.
+// A register that tells `alfa` when it is looked into for the Nth time.
+#[derive(Drop)]
+struct AtLook {
+    looks: u32,
+    wanted: u32,
+}
+
+// A register that tells `alfa` at the look of this number.
+fn alfa_at(wanted: u32) -> AtLook {
+    AtLook { looks: 0, wanted }
+}
+
+impl Register for AtLook {
+    fn look(&mut self, alloc: Global) -> Result<Vec<Enrolment>, Failure> {
+        self.looks = self.looks.saturating_add(1);
+        match Operator::try_new(b"alfa") {
+            Some(operator) if self.looks == self.wanted => {
+                let ceiling = 100;
+                Ok(vec![in alloc; Enrolment { operator, ceiling }]?)
+            }
+            _ => Ok(Vec::new(alloc)),
+        }
+    }
+}
+
+// Serves so many connections of a port at a moment, with `alfa` from the connection of a number on, and
+// compares the word of the failure, if there is one.
 fn check_served(
     rt: &impl Abort,
     alloc: Global,
     net: Listened<'_>,
     connections: u32,
+    alfa: u32,
     row: (u64, &str),
 ) -> Result<(), Fail>
     requires { IsInRange 1 1000000 connections }
 {
     let (second, word) = row;
-    let line = serve_line(alloc, connections)?;
+    let line = serve_line(alloc, connections);
     let mut desk = Desk::new(ListStore::new(alloc));
     let mut output = Vec::new(alloc);
     let mut errors = Vec::new(alloc);
     let clock = Standing(second);
-    let mut port = LocalPort::new(&net, &clock);
+    let mut port = LocalPort::new(&net, &clock, alfa_at(alfa));
     let exit = serve(alloc, &mut port, &line, &mut desk, &mut output, &mut errors);
     assert_eq!(rt;
         exit.status,
@@ -122,7 +146,7 @@ fn serves_after_a_cut(rt: HostRuntime) -> Result<(), Fail> {
     let net = Listened {
         listener: &listener,
     };
-    check_served(&rt, rt.alloc(), net, 2, (1_780_315_000, ""))?;
+    check_served(&rt, rt.alloc(), net, 2, 1, (1_780_315_000, ""))?;
     assert_eq!(rt; read_by(rt.alloc(), client)?.as_slice(), COMPLETED);
     Ok(())
 }
@@ -140,7 +164,7 @@ fn takes_moments_in_range(rt: HostRuntime) -> Result<(), Fail> {
         let net = Listened {
             listener: &listener,
         };
-        check_served(&rt, rt.alloc(), net, 1, row)?;
+        check_served(&rt, rt.alloc(), net, 1, 1, row)?;
         drop(client);
     }
     Ok(())
@@ -156,8 +180,24 @@ fn asks_the_clock(rt: HostRuntime) -> Result<(), Fail> {
         let net = Listened {
             listener: &listener,
         };
-        check_served(&rt, rt.alloc(), net, 1, (second, ""))?;
+        check_served(&rt, rt.alloc(), net, 1, 1, (second, ""))?;
         assert_eq!(rt; read_by(rt.alloc(), client)?.as_slice(), answer);
     }
+    Ok(())
+}
+
+// An operator that is enrolled between two connections is known to the second alone.
+#[test]
+fn enrols_between_connections(rt: HostRuntime) -> Result<(), Fail> {
+    let listener = TcpListener::bind(&rt, (Ipv4Addr::LOCALHOST, 0u16))?;
+    let address = listener.local_addr()?;
+    let first = client_of(&rt, address, FIRST_PUT)?;
+    let second = client_of(&rt, address, FIRST_PUT)?;
+    let net = Listened {
+        listener: &listener,
+    };
+    check_served(&rt, rt.alloc(), net, 2, 2, (1_780_315_000, ""))?;
+    assert!(rt; read_by(rt.alloc(), first)?.starts_with(b"HTTP/1.1 403 "));
+    assert_eq!(rt; read_by(rt.alloc(), second)?.as_slice(), COMPLETED);
     Ok(())
 }

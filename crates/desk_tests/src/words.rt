@@ -1,6 +1,6 @@
 //! Words, and the lines that they are.
 
-use desk_line::{Database, Line, Task, WordsFault, read_words};
+use desk_line::{Database, Line, Task, WordsFault, enrolments_on, lines_of, read_words};
 use std::alloc::{AllocError, Global};
 use std::test::Fail;
 
@@ -179,5 +179,19 @@ fn shows_help(rt: HostRuntime) -> Result<(), Fail> {
         text.as_str().contains("Usage: uss_desk play [OPTIONS] --at <SECOND> [NAME=CEILING]...")
     );
     assert_eq!(rt; help.exit_code(), 0);
+    Ok(())
+}
+
+// Lines of a file of enrolments, of which the first and the last are some.
+#[test]
+fn reads_lines(rt: HostRuntime) -> Result<(), Fail> {
+    let text =
+        "alfa 100\n\nbravo 7\r\nalfa 1001\nalfa  5\nAlfa 1\nalfa 7 \n alfa 7\nalfa=9\nalfa\nalfa 12";
+    let lines = lines_of(rt.alloc(), text)?;
+    let enrolments = enrolments_on(rt.alloc(), &lines)?;
+    assert_eq!(rt; enrolments.len(), 2);
+    assert_eq!(rt; enrolments[0].ceiling, 100);
+    assert_eq!(rt; enrolments[1].operator.as_bytes(), b"alfa".as_slice());
+    assert_eq!(rt; enrolments[1].ceiling, 12);
     Ok(())
 }

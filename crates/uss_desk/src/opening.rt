@@ -103,7 +103,8 @@ pub fn open_for<F: Start>(rt: &HostRuntime, line: &Line, start: F) -> OpenedDesk
         }
         Line::Enrol(words) => open_database(rt, &words.database, false, start),
         Line::Serve(words) => {
-            open_database(rt, &words.database, words.enrolments.is_empty(), start)
+            let is_told = words.enrolments.is_empty() && words.operators.is_none();
+            open_database(rt, &words.database, is_told, start)
         }
         Line::Migrate(words) => Opened::Moved(open_old(rt, &words.database, start)),
         Line::Token(_) | Line::Cover(_) => Opened::Nothing,

@@ -1,11 +1,11 @@
-use Rattle.std.proofs.Common.{◌∙◌, ◌++◌, ◌∷◌, [], ap, sym, arith, take}
+use Rattle.std.proofs.Common.{◌∙◌, ◌++◌, ◌∷◌, [], ap, inl, sym, arith, take}
 use Rattle.std.proofs.lemmas.List.{take_more}
 use Rattle.desk_store.specs.StoreFaults.{IsHonest}
 use Rattle.desk_store.specs.laws.Fault.{was_honest}
 use Rattle.desk_run.specs.DeskWorld.{enrolled, world_of}
 use Rattle.desk_program.specs.Enrolling.{with_operators}
 use Rattle.desk_program.proofs.EnrolLemmas.{one_more}
-use Rattle.desk_program.proofs.KeepingLemmas.{kept_so_far, on_err}
+use Rattle.desk_program.proofs.KeepingLemmas.{finds_err, finds_ok, found_so_far, kept_so_far, on_err}
 use Rattle.desk_program.proofs.program.enrol_all.Goals as goal
 
 pub loop-enrolment-preserved : goal.loop-enrolment-preserved
@@ -22,6 +22,7 @@ loop-enrolment-preserved g c =
           ∙ ap (λ x. with_operators w (take index es ++ x ∷ [])) c.enrolment-item.is
           ∙ ap (with_operators w) (sym (take_more es index e c.loop-enrolment-test.true));
       settled = λ h was. c.in_ok-enrol.ensures.kept h;
+      sure = λ h. inl (c.in_ok-enrol.ensures.kept h);
       doubt = omega (arith, c.loop-enrolment.invariant.doubt, c.enrol.ensures.remembered.doubt);
       counted = omega (arith, c.loop-enrolment.invariant.counted, c.enrol.ensures.remembered.counted);
       shield = λ s. c.enrol.ensures.remembered.shield (c.loop-enrolment.invariant.shield s);
@@ -46,3 +47,26 @@ returns-in_err-enrol-clause-crash g c = λ p settled.
     ∙ ap (λ x. with_operators w (take index es ++ x ∷ [])) c.enrolment-item.is
     ∙ ap (with_operators w) (sym (take_more es index e c.loop-enrolment-test.true)))
     (c.loop-enrolment.invariant.settled before settled) (c.enrol.ensures.crash p) p)
+
+pub returns-in_err-enrol-clause-found : goal.returns-in_err-enrol-clause-found
+returns-in_err-enrol-clause-found g c = λ p.
+    let index = c.loop-enrolment.enrolment-index in
+    let es = c.args.enrolments.now in
+    let e = c.enrolment-item.result in
+    let w = world_of g.S.PlanStore.content c.args.desk.now in
+    let v = world_of g.S.PlanStore.content c.loop-enrolment.desk in
+    let after = world_of g.S.PlanStore.content c.enrol.new.self in
+    let was = was_honest c.enrol.ensures.remembered.doubt p in
+    let listed = c.loop-enrolment.invariant.listed was in
+    let before = g.S.PlanStore.may_leave c.args.desk.now.store in
+    let now = g.S.PlanStore.may_leave c.enrol.new.self.store in
+    finds_err c.from_residual.result _ es w after before now c.from_residual.ensures.1
+    (found_so_far es w v after e index before (g.S.PlanStore.may_leave c.loop-enrolment.desk.store) now
+    c.loop-enrolment-test.true c.in_err-enrol.ensures.err listed
+    (ap (λ x. enrolled x e.operator e.ceiling) listed ∙ sym (one_more (take index es) w e)
+    ∙ ap (λ x. with_operators w (take index es ++ x ∷ [])) c.enrolment-item.is
+    ∙ ap (with_operators w) (sym (take_more es index e c.loop-enrolment-test.true)))
+    (c.loop-enrolment.invariant.sure was) (c.enrol.ensures.crash p))
+
+pub returns-clause-found : goal.returns-clause-found
+returns-clause-found g c = λ p. finds_ok _ _ _ _ (c.loop-enrolment.invariant.sure p)

@@ -1,56 +1,149 @@
-use Rattle.std.proofs.Common.{◌∙◌, ◌∷◌, [], refl, sym, subst}
+use Rattle.std.proofs.Common.{◌≡◌, ◌∙◌, ◌∷◌, [], IfSome, Some, inl, inr, refl, sym, subst}
 use Rattle.desk_store.specs.StoreFaults.{IsHonest}
+use Rattle.desk_store.specs.laws.Fault.{was_honest}
 use Rattle.desk_run.specs.DeskWorld.{world_of}
 use Rattle.desk_ends.specs.laws.Moment.{same_moment}
 use Rattle.desk_wire.specs.Crashes.{IsFoundNow}
 use Rattle.desk_wire.specs.Serving.{HasServed, IsTaken}
-use Rattle.desk_program.specs.Serving.{Grows, arrived, parted}
-use Rattle.desk_program.proofs.KeepingLemmas.{none_kept, one_kept}
-use Rattle.desk_program.proofs.ServedLemmas.{stops}
+use Rattle.desk_line.specs.Exits.{enrolment_failure}
+use Rattle.desk_program.specs.Enrolling.{AreEnrolled, AreListedSoFar}
+use Rattle.desk_program.specs.Keeping.{FindsNews}
+use Rattle.desk_program.specs.Serving.{BringsNews, Grows, arrived, parted}
+use Rattle.desk_program.proofs.CauseLemmas.{denied_counted, news_counted, served_counted}
+use Rattle.desk_program.proofs.EndLemmas.{told_breakdown}
+use Rattle.desk_program.proofs.KeepingLemmas.{listed_found, news_kept, none_kept, one_kept, unlisted_found, untaken_found}
+use Rattle.desk_program.proofs.ServedLemmas.{enrolled_then, stops}
 use Rattle.desk_program.proofs.server.serve_connection.Goals as goal
 
-pub returns-in_err-client-clause-kept : goal.returns-in_err-client-clause-kept
-returns-in_err-client-clause-kept g c =
+-- no news are brought
+pub returns-in_err-news-clause-kept : goal.returns-in_err-news-clause-kept
+returns-in_err-news-clause-kept g c =
     let w = world_of g.S.PlanStore.content c.args.desk.now in
     let before = g.S.PlanStore.may_leave c.args.desk.now.store in
     none_kept (IsHonest (g.S.PlanStore.doubt c.args.desk.now.store)) c.from_residual.result 1
-    (g.P.Port.traffic c.args.port.now) (g.P.Port.traffic c.take.new.self) w w before before
-    c.in_err-client.ensures.same refl (stops c.from_residual.result c.in_err-client.field-0.0
-    c.from_residual.ensures.1 1 [] c.in_err-client.ensures.fault) (λ found may. may)
+    (g.P.Port.traffic c.args.port.now) (g.P.Port.traffic c.news.new.self) w w before before
+    c.in_err-news.ensures.same refl (stops c.from_residual.result c.in_err-news.field-0.0
+    c.from_residual.ensures.1 1 [] _ c.in_err-news.ensures.fault) (λ found may. may)
+
+pub returns-in_err-news-clause-served : goal.returns-in_err-news-clause-served
+returns-in_err-news-clause-served g c = (returns-in_err-news-clause-kept g c).taken
+
+pub returns-in_err-news-clause-cause : goal.returns-in_err-news-clause-cause
+returns-in_err-news-clause-cause g c =
+    denied_counted c.from_residual.result c.in_err-news.field-0.0 _ _ c.from_residual.ensures.1
+    c.in_err-news.ensures.fault
+
+-- an operator of the news could not be listed
+pub returns-in_err-enrol_news-clause-kept : goal.returns-in_err-enrol_news-clause-kept
+returns-in_err-enrol_news-clause-kept g c =
+    let honest = IsHonest (g.S.PlanStore.doubt c.enrol_news.new.desk.store) in
+    let fault = c.in_err-enrol_news.field-0.0 in
+    let news = c.in_ok-news.news.items in
+    let w = world_of g.S.PlanStore.content c.args.desk.now in
+    let after = world_of g.S.PlanStore.content c.enrol_news.new.desk in
+    let before = g.S.PlanStore.may_leave c.args.desk.now.store in
+    let now = g.S.PlanStore.may_leave c.enrol_news.new.desk.store in
+    news_kept honest c.from_residual-in_err-enrol_news.result (enrolment_failure fault) news
+    (g.P.Port.traffic c.args.port.now) (g.P.Port.traffic c.news.new.self) w after before now
+    c.from_residual-in_err-enrol_news.ensures.1 c.in_ok-news.ensures.brings
+    (inl (
+      told_breakdown fault (enrolment_failure fault) refl c.in_err-enrol_news.ensures.fault,
+      subst (λ es. AreListedSoFar honest es w after) c.deref.ensures.value c.in_err-enrol_news.ensures.err,
+    ))
+    (λ p found may. unlisted_found c.enrol_news.result news w after before now
+    (subst (λ es. FindsNews c.enrol_news.result es w after before now) c.deref.ensures.value
+    (c.enrol_news.ensures.found p)) found fault c.in_err-enrol_news.was may)
+
+pub returns-in_err-enrol_news-clause-served : goal.returns-in_err-enrol_news-clause-served
+returns-in_err-enrol_news-clause-served g c = (returns-in_err-enrol_news-clause-kept g c).taken
+
+pub returns-in_err-enrol_news-clause-cause : goal.returns-in_err-enrol_news-clause-cause
+returns-in_err-enrol_news-clause-cause g c =
+    news_counted c.from_residual-in_err-enrol_news.result c.in_err-enrol_news.field-0.0 _ _
+    c.from_residual-in_err-enrol_news.ensures.1 c.in_err-enrol_news.ensures.cause
+
+-- all are listed, and no connection can be taken
+pub returns-in_err-client-clause-kept : goal.returns-in_err-client-clause-kept
+returns-in_err-client-clause-kept g c =
+    let honest = IsHonest (g.S.PlanStore.doubt c.enrol_news.new.desk.store) in
+    let f = c.in_err-client.field-0.0 in
+    let news = c.in_ok-news.news.items in
+    let w = world_of g.S.PlanStore.content c.args.desk.now in
+    let after = world_of g.S.PlanStore.content c.enrol_news.new.desk in
+    let before = g.S.PlanStore.may_leave c.args.desk.now.store in
+    let now = g.S.PlanStore.may_leave c.enrol_news.new.desk.store in
+    news_kept honest c.from_residual-in_err-client.result f news
+    (g.P.Port.traffic c.args.port.now) (g.P.Port.traffic c.take.new.self) w after before now
+    c.from_residual-in_err-client.ensures.1
+    (subst (λ v. BringsNews (g.P.Port.traffic c.args.port.now) v news) (sym c.in_err-client.ensures.same)
+    c.in_ok-news.ensures.brings)
+    (inr (
+      c.in_err-client.ensures.fault,
+      subst (λ es. AreEnrolled honest es w after) c.deref.ensures.value c.in_ok-enrol_news.ensures.ok,
+    ))
+    (λ p found may. untaken_found c.enrol_news.result news w after before now
+    (subst (λ es. FindsNews c.enrol_news.result es w after before now) c.deref.ensures.value
+    (c.enrol_news.ensures.found p)) found c.in_ok-enrol_news.field-0 c.in_ok-enrol_news.was may)
 
 pub returns-in_err-client-clause-served : goal.returns-in_err-client-clause-served
 returns-in_err-client-clause-served g c = (returns-in_err-client-clause-kept g c).taken
 
+pub returns-in_err-client-clause-cause : goal.returns-in_err-client-clause-cause
+returns-in_err-client-clause-cause g c =
+    denied_counted c.from_residual-in_err-client.result c.in_err-client.field-0.0 _ _
+    c.from_residual-in_err-client.ensures.1 c.in_err-client.ensures.fault
+
+-- the request of the connection is served
 pub returns-clause-kept : goal.returns-clause-kept
 returns-clause-kept g c =
     let honest = IsHonest (g.S.PlanStore.doubt c.serve_one-served.new.desk.store) in
+    let was = was_honest c.serve_one-served.ensures.remembered.doubt in
     let client = c.in_ok-client.client in
+    let news = c.in_ok-news.news.items in
     let bytes = g.P.Input.Read.remaining client.input in
     let unread = g.P.Input.Read.remaining c.serve_one-served.new.input in
     let out = g.P.Output.Write.contents client.output in
     let now = g.P.Output.Write.contents c.serve_one-served.new.output in
     let w = world_of g.S.PlanStore.content c.args.desk.now in
+    let listed = world_of g.S.PlanStore.content c.enrol_news.new.desk in
     let after = world_of g.S.PlanStore.content c.serve_one-served.new.desk in
     let before = g.S.PlanStore.may_leave c.args.desk.now.store in
+    let mid = g.S.PlanStore.may_leave c.enrol_news.new.desk.store in
+    let brings = c.in_ok-news.ensures.brings in
     let taken = c.in_ok-client.ensures.taken in
     one_kept honest c.done_after.result (record {
+      news = news;
       arrival = arrived client.moment bytes;
       out = out;
       served = c.serve_one-served.result;
       parting = parted unread now c.is_whole.result;
-    }) _ _ w after before (g.S.PlanStore.may_leave c.serve_one-served.new.desk.store)
-    (c.close.ensures.2 ∙ taken.2)
-    (subst (λ v. Grows (g.P.Port.traffic c.args.port.now).taken v (arrived client.moment bytes ∷ []))
-    (sym c.close.ensures.1) taken.0)
+    }) _ _ w listed after before mid (g.S.PlanStore.may_leave c.serve_one-served.new.desk.store)
+    (c.close.ensures.2 ∙ taken.2 ∙ brings.3)
+    (subst (λ v. Grows v (g.P.Port.traffic c.close.new.self).taken (arrived client.moment bytes ∷ []))
+    brings.1 (subst (λ v. Grows (g.P.Port.traffic c.news.new.self).taken v (arrived client.moment bytes ∷ []))
+    (sym c.close.ensures.1) taken.0))
     (subst (λ v. Grows v (g.P.Port.traffic c.close.new.self).closed
-    (parted unread now c.is_whole.result ∷ [])) taken.1 c.close.ensures.0)
-    c.in_ok-client.ensures.unsent c.is_whole.ensures
-    (subst (λ m. HasServed honest c.serve_one-served.result bytes unread out now w m after)
+    (parted unread now c.is_whole.result ∷ [])) (taken.1 ∙ brings.2) c.close.ensures.0)
+    (subst (λ v. IfSome v (λ partings. out ≡ Some [])) brings.2 c.in_ok-client.ensures.unsent)
+    c.is_whole.ensures
+    (subst (λ v. Grows (g.P.Port.traffic c.args.port.now).news v (news ∷ []))
+    (sym (c.close.ensures.3 ∙ taken.3)) brings.0)
+    (enrolled_then _ honest was news w listed
+    (subst (λ es. AreEnrolled (IsHonest (g.S.PlanStore.doubt c.enrol_news.new.desk.store)) es w listed)
+    c.deref.ensures.value c.in_ok-enrol_news.ensures.ok))
+    (subst (λ m. HasServed honest c.serve_one-served.result bytes unread out now listed m after)
     (same_moment client.moment c.in_ok-client.ensures.moment) c.serve_one-served.ensures.served)
     c.done_after.ensures
-    (λ p found may. subst (λ m. IsFoundNow c.serve_one-served.result before (IsTaken bytes unread) w m after
+    (λ p found may. listed_found c.enrol_news.result news w listed before mid
+    (subst (λ es. FindsNews c.enrol_news.result es w listed before mid) c.deref.ensures.value
+    (c.enrol_news.ensures.found (was p))) found c.in_ok-enrol_news.field-0 c.in_ok-enrol_news.was may)
+    (λ p found may. subst (λ m. IsFoundNow c.serve_one-served.result mid (IsTaken bytes unread) listed m after
     found) (same_moment client.moment c.in_ok-client.ensures.moment)
     (c.serve_one-served.ensures.found p found may))
 
 pub returns-clause-served : goal.returns-clause-served
 returns-clause-served g c = (returns-clause-kept g c).taken
+
+pub returns-clause-cause : goal.returns-clause-cause
+returns-clause-cause g c =
+    served_counted c.done_after.result c.serve_one-served.result _ _ c.done_after.ensures

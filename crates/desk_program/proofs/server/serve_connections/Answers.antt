@@ -5,34 +5,46 @@ use Rattle.desk_store.specs.laws.Fault.{was_honest}
 use Rattle.desk_run.specs.DeskWorld.{world_of}
 use Rattle.desk_line.specs.Exits.{failure_at}
 use Rattle.desk_program.specs.Keeping.{AreKept}
+use Rattle.desk_program.proofs.CauseLemmas.{counted_on}
 use Rattle.desk_program.proofs.KeepingLemmas.{both_kept, none_kept}
-use Rattle.desk_program.proofs.ServedLemmas.{goes_on_by, stops_by}
+use Rattle.desk_program.proofs.ServedLemmas.{goes_on_by, last_goes_on, last_stops, stops_by}
 use Rattle.desk_program.proofs.server.serve_connections.Goals as goal
 
 pub returns-in_err-serve_connection-clause-kept : goal.returns-in_err-serve_connection-clause-kept
 returns-in_err-serve_connection-clause-kept g c =
     both_kept (IsHonest (g.S.PlanStore.doubt c.loop-before.desk.store))
     (IsHonest (g.S.PlanStore.doubt c.serve_connection.new.desk.store))
-    (was_honest c.serve_connection.ensures.remembered.doubt) (Ok tt) c.serve_connection.result
+    (was_honest c.serve_connection.ensures.remembered.doubt) tt c.serve_connection.result
     c.from_residual.result
     c.loop-before.before 1 c.args.count _ _ _ _ _ _ _ _ _ c.loop-before.invariant.kept
     c.serve_connection.ensures.kept (omega (arith, c.loop-before-test.true))
-    (λ xs ys. stops_by (tt {0}) c.from_residual.result c.in_err-serve_connection.field-0.0
+    (λ xs ys one last. stops_by (tt {0}) c.from_residual.result c.in_err-serve_connection.field-0.0
     c.serve_connection.result c.from_residual.ensures.1 c.in_err-serve_connection.was c.loop-before.before
-    c.args.count 1 xs ys)
+    c.args.count 1 xs ys one last)
+    (last_stops (IsHonest (g.S.PlanStore.doubt c.serve_connection.new.desk.store)) c.from_residual.result
+    c.in_err-serve_connection.field-0.0 c.serve_connection.result c.from_residual.ensures.1
+    c.in_err-serve_connection.was)
 
 pub returns-in_err-serve_connection-clause-served : goal.returns-in_err-serve_connection-clause-served
 returns-in_err-serve_connection-clause-served g c = (returns-in_err-serve_connection-clause-kept g c).taken
+
+pub returns-in_err-serve_connection-clause-cause : goal.returns-in_err-serve_connection-clause-cause
+returns-in_err-serve_connection-clause-cause g c =
+    counted_on c.serve_connection.result c.from_residual.result c.in_err-serve_connection.field-0.0 _ _ _
+    c.in_err-serve_connection.was c.from_residual.ensures.1 c.loop-before.invariant.counted
+    c.serve_connection.ensures.cause
 
 pub loop-before-preserved : goal.loop-before-preserved
 loop-before-preserved g c = record {
   kept = both_kept (IsHonest (g.S.PlanStore.doubt c.loop-before.desk.store))
       (IsHonest (g.S.PlanStore.doubt c.serve_connection.new.desk.store))
-      (was_honest c.serve_connection.ensures.remembered.doubt) (Ok tt) c.serve_connection.result (Ok tt)
+      (was_honest c.serve_connection.ensures.remembered.doubt) tt c.serve_connection.result (Ok tt)
       c.loop-before.before 1 (c.loop-before.before + 1) _ _ _ _ _ _ _ _ _ c.loop-before.invariant.kept
       c.serve_connection.ensures.kept (omega arith)
-      (λ xs ys. goes_on_by (tt {0}) c.in_ok-serve_connection.field-0 (tt {0}) c.serve_connection.result
-      c.in_ok-serve_connection.was c.loop-before.before 1 xs ys);
+      (λ xs ys one last. goes_on_by (tt {0}) c.in_ok-serve_connection.field-0 (tt {0})
+      c.serve_connection.result c.in_ok-serve_connection.was c.loop-before.before 1 xs ys one last)
+      (last_goes_on (IsHonest (g.S.PlanStore.doubt c.serve_connection.new.desk.store))
+      c.serve_connection.result c.in_ok-serve_connection.field-0 (tt {0}) c.in_ok-serve_connection.was);
   doubt = omega (arith, c.loop-before.invariant.doubt, c.serve_connection.ensures.remembered.doubt);
   counted = omega (arith, c.loop-before.invariant.counted, c.serve_connection.ensures.remembered.counted);
   shield = λ s. c.serve_connection.ensures.remembered.shield (c.loop-before.invariant.shield s);

@@ -1,13 +1,12 @@
-use Rattle.std.proofs.Common.{◌∙◌, ap, inl, refl, subst}
+use Rattle.std.proofs.Common.{◌∙◌, ap, inl, refl}
 use Rattle.desk_store.specs.StoreFaults.{IsHonest}
 use Rattle.desk_store.specs.laws.Fault.{was_honest}
 use Rattle.desk_run.specs.DeskWorld.{world_of}
 use Rattle.desk_program.specs.Enrolling.{on_terms, with_operators}
-use Rattle.desk_program.specs.Serving.{AreTaken}
 use Rattle.desk_program.proofs.KeepingLemmas.{port_kept, unserved_kept}
 use Rattle.desk_program.proofs.ServedLemmas.{unserved}
 use Rattle.desk_program.proofs.BegunLemmas.{announced_none, announced_same, announced_whole}
-use Rattle.desk_program.proofs.CauseLemmas.{served_counted}
+use Rattle.desk_program.proofs.CauseLemmas.{counted_later}
 use Rattle.desk_program.proofs.server.serve_line.Goals as goal
 
 pub returns-in_err-set_up-clause-printed : goal.returns-in_err-set_up-clause-printed
@@ -72,7 +71,8 @@ returns-clause-kept g c = λ p settled.
     c.args.line.now.terms)) c.deref.ensures.value) (c.in_ok-set_up.ensures.kept listed settled)
     _ _ _ c.in_ok-listen.ensures.listens c.serve_connections.ensures.kept
 
--- why it ends with a store that failed: it doesn't, once connections are taken
+-- why it ends with a store that failed
 pub returns-clause-cause : goal.returns-clause-cause
 returns-clause-cause g c =
-    served_counted c.serve_connections.result _ _ _ _ c.serve_connections.ensures.served.ends
+    counted_later c.serve_connections.result _ _ _ c.set_up.ensures.remembered.counted
+    c.serve_connections.ensures.cause

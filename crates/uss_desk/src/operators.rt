@@ -1,0 +1,203 @@
+//! The file of enrolments that the keeper changes while a desk serves: lines `NAME CEILING`.
+
+use crate::causes::tell_of;
+use desk_line::{Enrolment, Failure, Line, enrolment_on, enrolments_on, lines_of};
+use desk_program::Register;
+use std::alloc::{AllocError, Global};
+use std::fs::{self, File};
+use std::io::{self, ErrorKind, Read};
+use std::time::SystemTime;
+
+/// The most bytes of the file: 1 MiB.
+const MAX_BYTES: u64 = 1_048_576;
+
+/// How many lines are told of each time that the file is read.
+const TOLD_LINES: u32 = 20;
+
+// When a file was changed last, and how long it is.
+#[derive(Clone, Copy, PartialEq, Eq)]
+struct Stamp {
+    modified: Option<SystemTime>,
+    len: u64,
+}
+
+// Why a file can't be read.
+#[derive(Drop)]
+enum Unread {
+    // Memory ran out.
+    Memory,
+    // Another cause, as it is told.
+    Cause(&'static str),
+}
+
+impl From<AllocError> for Unread {
+    fn from(_error: AllocError) -> Unread {
+        Unread::Memory
+    }
+}
+
+impl From<io::Error> for Unread {
+    fn from(error: io::Error) -> Unread {
+        match error.kind() {
+            ErrorKind::OutOfMemory => Unread::Memory,
+            ErrorKind::NotFound => Unread::Cause("no such file"),
+            ErrorKind::PermissionDenied => Unread::Cause("no right to read it"),
+            _ => Unread::Cause("it can't be read"),
+        }
+    }
+}
+
+/// A file of enrolments, or none. What can't be read of it is told on the standard error.
+#[derive(Drop)]
+pub struct OperatorsFile<'r> {
+    rt: &'r HostRuntime,
+    path: Option<&'r str>,
+    // The file whose operators were told.
+    seen: Option<Stamp>,
+    // The file of whose lines it was told which can't be read.
+    checked: Option<Stamp>,
+    // Why the file could not be read, as it was told last.
+    told: Option<&'static str>,
+}
+
+/// The file of enrolments that a line names, read once, so that its keeper is told which lines can't be read.
+///
+/// # Errors
+///
+/// `Read` if the file can't be read, after a line that tells why; `Memory`.
+pub fn operators_of<'r>(rt: &'r HostRuntime, line: &'r Line) -> Result<OperatorsFile<'r>, Failure> {
+    let mut file = OperatorsFile {
+        rt,
+        path: path_of(line),
+        seen: None,
+        checked: None,
+        told: None,
+    };
+    let Some(path) = file.path else {
+        return Ok(file);
+    };
+    match file.read_file(rt.alloc(), path) {
+        Ok(_) => Ok(file),
+        Err(Unread::Memory) => Err(Failure::Memory),
+        Err(Unread::Cause(cause)) => {
+            tell_of(rt.alloc(), path, cause, &mut rt.stderr());
+            Err(Failure::Read)
+        }
+    }
+}
+
+// The path of the file of enrolments that a line names, if it names one.
+fn path_of(line: &Line) -> Option<&str> {
+    match line {
+        Line::Serve(words) => words.operators.as_deref(),
+        _ => None,
+    }
+}
+
+impl OperatorsFile<'_> {
+    // The operators of the file. Lines that can't be read are told once.
+    fn read_file(&mut self, alloc: Global, path: &str) -> Result<Vec<Enrolment>, Unread> {
+        let stamp = stamp_of(self.rt, path)?;
+        let text = read_text(self.rt, alloc, path)?;
+        let lines = lines_of(alloc, &text)?;
+        if self.checked != Some(stamp) {
+            self.checked = Some(stamp);
+            tell_lines(self.rt, path, &lines)?;
+        }
+        Ok(enrolments_on(alloc, &lines)?)
+    }
+
+    // Tells why the file can't be read, if that wasn't told.
+    fn tell_once(&mut self, path: &str, cause: &'static str) {
+        if self.told != Some(cause) {
+            self.told = Some(cause);
+            tell_of(self.rt.alloc(), path, cause, &mut self.rt.stderr());
+        }
+    }
+}
+
+impl Register for OperatorsFile<'_> {
+    fn look(&mut self, alloc: Global) -> Result<Vec<Enrolment>, Failure> {
+        let Some(path) = self.path else {
+            return Ok(Vec::new(alloc));
+        };
+        let stamp = stamp_of(self.rt, path).ok();
+        if stamp.is_some() && stamp == self.seen {
+            return Ok(Vec::new(alloc));
+        }
+        self.seen = stamp;
+        match self.read_file(alloc, path) {
+            Ok(enrolments) => {
+                self.told = None;
+                Ok(enrolments)
+            }
+            Err(Unread::Memory) => Err(Failure::Memory),
+            Err(Unread::Cause(cause)) => {
+                self.seen = None;
+                self.tell_once(path, cause);
+                Ok(Vec::new(alloc))
+            }
+        }
+    }
+}
+
+// When the file at a path was changed last, and its length.
+fn stamp_of(rt: &HostRuntime, path: &str) -> Result<Stamp, Unread> {
+    let found = fs::metadata(rt, path)?;
+    if !found.is_file() {
+        return Err(Unread::Cause("no file"));
+    }
+    Ok(Stamp {
+        modified: found.modified().ok(),
+        len: found.len(),
+    })
+}
+
+// The text of the file at a path. Bytes that are no text stand for themselves in no line that can be read.
+fn read_text(rt: &HostRuntime, alloc: Global, path: &str) -> Result<String, Unread> {
+    let mut bytes = Vec::new(alloc);
+    let mut file = File::open(rt, path)?.take(MAX_BYTES + 1);
+    file.read_to_end(&mut bytes)?;
+    if bytes.len() as u64 > MAX_BYTES {
+        return Err(Unread::Cause("longer than 1,048,576 bytes"));
+    }
+    Ok(String::from_utf8_lossy(alloc, &bytes)?)
+}
+
+// Tells which lines of a file can't be read, the first of them one by one.
+fn tell_lines(rt: &HostRuntime, path: &str, lines: &[&str]) -> Result<(), AllocError> {
+    let mut unread = 0u32;
+    let mut number = 0u32;
+    for line in lines {
+        number = number.saturating_add(1);
+        if is_unread(line) {
+            unread = unread.saturating_add(1);
+            if unread <= TOLD_LINES {
+                tell_line(rt, path, number)?;
+            }
+        }
+    }
+    if unread > TOLD_LINES {
+        tell_more(rt, path, unread - TOLD_LINES)?;
+    }
+    Ok(())
+}
+
+// Whether a line is neither empty nor an enrolment.
+fn is_unread(line: &str) -> bool {
+    !line.is_empty() && enrolment_on(line).is_none()
+}
+
+fn tell_line(rt: &HostRuntime, path: &str, number: u32) -> Result<(), AllocError> {
+    let alloc = rt.alloc();
+    let text = format!(in alloc; "line {number} is not NAME CEILING, and passed over")?;
+    tell_of(alloc, path, &text, &mut rt.stderr());
+    Ok(())
+}
+
+fn tell_more(rt: &HostRuntime, path: &str, count: u32) -> Result<(), AllocError> {
+    let alloc = rt.alloc();
+    let text = format!(in alloc; "{count} more such lines")?;
+    tell_of(alloc, path, &text, &mut rt.stderr());
+    Ok(())
+}
