@@ -1,5 +1,5 @@
-"""Operators of a file, while a client asks all the time: enrolled without a stop, a ceiling changed, lines that can't be
-read, a line taken out, the file gone and there again."""
+"""Operators of a file, while a client asks all the time: enrolled without a stop, a ceiling changed, lines that are no
+enrolment, a line taken out, the file gone and there again."""
 
 from __future__ import annotations
 
