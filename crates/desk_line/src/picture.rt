@@ -1,5 +1,5 @@
-//! Pictures of covers (SVG): the squares of the face round a rectangle, the cells of its cover, and the
-//! order in which the curve goes through them.
+//! Pictures of covers (SVG): the squares of the face round a rectangle, the cells of its cover, the order in
+//! which the curve goes through them, and below what the lines mean.
 
 ghost use Rattle.std.specs.Prelude.{◌<◌, ◌≤◌};
 
@@ -21,7 +21,22 @@ const STYLE: &str = "<style>\
     .cell{fill:#9ecae1;fill-opacity:.5;stroke:#3182bd}\
     .asked{stroke:#d62728}\
     .way,.jump{stroke:#222}\
+    text{font:14px sans-serif;stroke:none}\
     </style>\n";
+
+/// What the lines mean, below the squares.
+const LEGEND: &str = "\
+    <path class=\"cell\" d=\"M12 18H48\"/>\
+    <text x=\"60\" y=\"23\">a cell of the cover, which tells its token when it is pointed at</text>\n\
+    <path class=\"asked\" d=\"M12 38H48\"/>\
+    <text x=\"60\" y=\"43\">the rectangle that was asked for</text>\n\
+    <path class=\"way\" d=\"M12 58H48\"/>\
+    <text x=\"60\" y=\"63\">the curve, from a cell to the next in its order</text>\n\
+    <path class=\"jump\" stroke-dasharray=\"4\" d=\"M12 78H48\"/>\
+    <text x=\"60\" y=\"83\">the same, where it goes through leaves of no cell</text>\n";
+
+/// How many pixels the legend is high.
+const LEGEND_HEIGHT: u64 = 90;
 
 // The part of a face that a picture shows, in leaves: `i` runs to the right, `j` upwards.
 #[derive(Clone, Copy)]
@@ -51,14 +66,14 @@ struct Place {
 /// `AllocError` if memory runs out.
 pub fn picture_of(alloc: Global, rect: &Rect, cells: &[CellId]) -> Result<String, AllocError> {
     let frame = Frame::round(rect);
-    let mut text = head_of(alloc, &frame)?;
+    let mut text = head_of(alloc, &frame, rect)?;
     text.push_str(&squares_of(alloc, &frame)?)?;
     for cell in cells {
         text.push_str(&cell_of(alloc, &frame, cell)?)?;
     }
     text.push_str(&asked_of(alloc, &frame, rect)?)?;
     text.push_str(&curve_of(alloc, &frame, cells)?)?;
-    text.push_str("</svg>\n")?;
+    text.push_str(&tail_of(alloc, &frame)?)?;
     Ok(text)
 }
 
@@ -99,6 +114,12 @@ impl Frame {
     // How thick a line of one pixel is.
     fn line(&self) -> u64 {
         (self.width / WIDTH).max(1)
+    }
+
+    // How many pixels the part is high.
+    fn tall(&self) -> u64 {
+        let high = self.height.saturating_mul(WIDTH);
+        high.checked_div(self.width).unwrap_or(0)
     }
 
     // How far below the upper edge a coordinate `j` is.
@@ -142,18 +163,43 @@ fn shown(least: u32, greatest: u32, margin: u64, step: u64) -> (u64, u64)
     (from, to.saturating_sub(from))
 }
 
-// The beginning of the picture.
-fn head_of(alloc: Global, frame: &Frame) -> Result<String, AllocError> {
+// The beginning of the picture, and of the part of the face in it, whose coordinates are leaves.
+fn head_of(alloc: Global, frame: &Frame, rect: &Rect) -> Result<String, AllocError> {
     let Frame { width, height, .. } = *frame;
     let line = frame.line();
+    let tall = frame.tall();
+    let whole = tall.saturating_add(LEGEND_HEIGHT);
     let mut text = format!(in alloc;
-        "<svg xmlns=\"http://www.w3.org/2000/svg\" width=\"{WIDTH}\" \
-        viewBox=\"0 0 {width} {height}\" stroke-width=\"{line}\">\n"
+        "<svg xmlns=\"http://www.w3.org/2000/svg\" width=\"{WIDTH}\" viewBox=\"0 0 {WIDTH} {whole}\">\n"
     )?;
+    text.push_str(&title_of(alloc, rect)?)?;
     text.push_str(STYLE)?;
     text.push_str(&format!(in alloc;
-        "<rect class=\"face\" width=\"{width}\" height=\"{height}\"/>\n"
+        "<svg width=\"{WIDTH}\" height=\"{tall}\" viewBox=\"0 0 {width} {height}\" \
+        stroke-width=\"{line}\">\n\
+        <rect class=\"face\" width=\"{width}\" height=\"{height}\"/>\n"
     )?)?;
+    Ok(text)
+}
+
+// What the picture shows.
+fn title_of(alloc: Global, rect: &Rect) -> Result<String, AllocError> {
+    let face = rect.face();
+    let level = rect.level();
+    format!(in alloc;
+        "<title>The cells of a rectangle on face {face}, widened to whole squares of level {level}</title>\n"
+    )
+}
+
+// The end of the picture: that of the part of the face, and what its lines mean. Browsers draw no text as
+// large as leaves are.
+fn tail_of(alloc: Global, frame: &Frame) -> Result<String, AllocError> {
+    let tall = frame.tall();
+    let mut text = format!(in alloc;
+        "</svg>\n<g transform=\"translate(0 {tall})\" stroke-width=\"2\">\n"
+    )?;
+    text.push_str(LEGEND)?;
+    text.push_str("</g>\n</svg>\n")?;
     Ok(text)
 }
 

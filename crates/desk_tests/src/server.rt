@@ -124,7 +124,7 @@ fn check_served(
     let mut output = Vec::new(alloc);
     let mut errors = Vec::new(alloc);
     let clock = Standing(second);
-    let mut port = LocalPort::new(&net, &clock, alfa_at(alfa));
+    let mut port = LocalPort::new(&net, &clock, alfa_at(alfa), alloc, Vec::new(alloc));
     let exit = serve(alloc, &mut port, &line, &mut desk, &mut output, &mut errors);
     assert_eq!(rt;
         exit.status,
