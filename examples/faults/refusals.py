@@ -10,7 +10,7 @@ import tempfile
 from typing import Callable, List, NamedTuple, Optional
 
 from faults.in_each_call import ONE_MAPPING_EACH
-from faults.judging import MEMORY, contents_after, first_of, wrong_content, wrong_end
+from faults.judging import MEMORY, contents_after, first_of, word_of, wrong_content, wrong_end
 from faults.parts import Part, side_by_side
 from faults.program import play_words, run, run_traced
 from faults.scenario import ANSWERS, CONTENTS, ENROLLED, OPERATORS, READING, REQUESTS, STEPS
@@ -70,7 +70,7 @@ def kind_of(ran):
     """How a run ended, in a word."""
     if ran.status == 0:
         return "whole"
-    return ran.errors.strip().replace("uss_desk: ", "ended ") if ran.status == 4 else "crashed"
+    return word_of(ran.errors).strip().replace("uss_desk: ", "ended ") if ran.status == 4 else "crashed"
 
 
 def refuse(target, number, is_lasting):

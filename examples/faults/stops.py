@@ -2,7 +2,7 @@
 import pathlib
 import tempfile
 
-from faults.judging import STORE, contents_after, first_of, wrong_content, wrong_end, wrong_stop
+from faults.judging import STORE, contents_after, first_of, word_of, wrong_content, wrong_end, wrong_stop
 from faults.parts import Part, side_by_side
 from faults.program import play_words, run_traced
 from faults.scenario import ANSWERS, REQUESTS
@@ -41,7 +41,7 @@ def stop(call, fault, number):
 
 def kind_of(ran):
     """How a run ended, in a word."""
-    ends = {0: "whole", 4: ran.errors.strip().replace("uss_desk: ", "ended "), -9: "killed"}
+    ends = {0: "whole", 4: word_of(ran.errors).strip().replace("uss_desk: ", "ended "), -9: "killed"}
     return ends.get(ran.status, "crashed")
 
 

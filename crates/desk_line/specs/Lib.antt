@@ -4,6 +4,7 @@ pub mod Exits
 pub mod Equal
 pub mod Lines
 pub mod Grammar
+pub mod Malformed
 pub mod Forms
 pub mod Printing
 pub mod Copies

@@ -7,6 +7,7 @@ mod copies;
 mod equal;
 mod failure;
 mod line;
+mod malformed;
 mod picture;
 mod printed;
 
@@ -15,4 +16,5 @@ pub use line::{
     Copying, Cover, Database, Enrol, Enrolment, Line, Migrate, Play, Serve, Task, WordsFault,
     read_words,
 };
+pub use malformed::malformed_word;
 pub use printed::print_line;

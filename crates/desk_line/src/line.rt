@@ -234,8 +234,12 @@ fn read_slice(alloc: Global, words: &[String]) -> Result<Task, WordsFault>
     }
 }
 
-// What `clap` finds in the words.
-fn matches_of(alloc: Global, words: &[String]) -> Result<ArgMatches<'_>, WordsFault>
+/// What `clap` finds in the words.
+///
+/// # Errors
+///
+/// `OutOfMemory`; `Words`.
+pub(crate) fn matches_of(alloc: Global, words: &[String]) -> Result<ArgMatches<'_>, WordsFault>
     ensures found { IfOk result (λ matches.
         subcommand_rows_of matches ≡ subcommand_of program (map string_bytes words.now)) }
     ensures untaken { IfErr result (IsUntaken (map string_bytes words.now)) }
@@ -482,8 +486,8 @@ fn read_operator(given: &ArgMatches<'_>) -> Option<Enrolment>
     enrolment_by(text_of(given, "NAME")?, text_of(given, "CEILING")?)
 }
 
-// The text of an argument.
-fn text_of<'a>(given: &ArgMatches<'a>, id: &str) -> Option<&'a str>
+/// The text of an argument.
+pub(crate) fn text_of<'a>(given: &ArgMatches<'a>, id: &str) -> Option<&'a str>
     ensures { option_map (λ text. text.now) result ≡ first_of id.now (rows_of (found_of given.now)) }
 {
     given.get_str(id)

@@ -16,6 +16,11 @@ use Rattle.desk_program.specs.Enrolling.{AreListedSoFar, on_terms, with_operator
 abbrev pub listening_line : ℕ → List ℕ
 listening_line port = codes "listening 127.0.0.1:" ++ (decimal port ++ codes "\n")
 
+-- why a port can't be had
+abbrev pub port_line : ℕ → List ℕ → List ℕ
+port_line port cause =
+    codes "uss_desk: 127.0.0.1:" ++ (decimal port ++ (codes ": " ++ (cause ++ codes "\n")))
+
 -- a connection as it is taken: the moment of the clock, and the bytes that come from the client, if they are
 -- known
 pub record Arrival : Type 0 where

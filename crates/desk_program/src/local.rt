@@ -1,42 +1,49 @@
 //! A port of 127.0.0.1, with the moments of the clock.
 
-ghost use Rattle.std.specs.Prelude.{◌≡◌, ◌≢◌, None, Some, Err, Ok, IfErr, IfOk};
+ghost use Rattle.std.specs.Prelude.{◌≡◌, ◌≢◌, None, Some, Err, Ok, IfErr, IfOk, codes, string_bytes};
 ghost use Rattle.std.specs.IoError.{error_kind};
 ghost use Rattle.std.specs.Time.{system_time_nanos};
 ghost use Rattle.desk_ends.specs.Moments.{IsMoment};
+ghost use Rattle.desk_program.specs.Serving as spec;
 ghost use Rattle.desk_program.specs.Serving.{IsDenied};
 ghost use Rattle.desk_program.specs.Waiting.{moment_at};
 
 use crate::port::{Connection, Port};
 use crate::timed::{Timed, discard_extra, discard_rest};
+use desk_ends::write_whole;
 use desk_line::Failure;
-use std::alloc::Global;
-use std::io::{self, BufReader, ErrorKind};
+use std::alloc::{AllocError, Global};
+use std::io::{self, BufReader, ErrorKind, Write};
 use std::net::{Ipv4Addr, Net, OpenListener, OpenStream, TcpListener};
 use std::time::{Clock, SystemTime};
 use volume4d::MAX_SECOND;
 
 /// A port of 127.0.0.1, whose connections have the moments of a clock. Each client has `PATIENCE` seconds
-/// to send its request, and as many to take the answer.
+/// to send its request, and as many to take the answer. Why the port can't be had is told.
 #[derive(Drop)]
-pub struct LocalPort<'s, N: Net, C> {
+pub struct LocalPort<'s, N: Net, C, E> {
     net: &'s N,
     clock: &'s C,
+    alloc: Global,
+    errors: E,
     listener: Option<N::Listener>,
 }
 
-impl<'s, N: Net, C: Clock> LocalPort<'s, N, C> {
-    /// A port that is not listened at yet.
-    pub fn new(net: &'s N, clock: &'s C) -> LocalPort<'s, N, C> {
+impl<'s, N: Net, C: Clock, E: Write> LocalPort<'s, N, C, E> {
+    /// A port that is not listened at yet. Why it can't be had goes to `errors`; a fault there is passed
+    /// over.
+    pub fn new(net: &'s N, clock: &'s C, alloc: Global, errors: E) -> LocalPort<'s, N, C, E> {
         LocalPort {
             net,
             clock,
+            alloc,
+            errors,
             listener: None,
         }
     }
 }
 
-impl<'s, N: Net, C: Clock> Port for LocalPort<'s, N, C> {
+impl<'s, N: Net, C: Clock, E: Write> Port for LocalPort<'s, N, C, E> {
     type Input = BufReader<Timed<'s, N::Stream, C>>;
 
     type Output = Timed<'s, N::Stream, C>;
@@ -47,7 +54,10 @@ impl<'s, N: Net, C: Clock> Port for LocalPort<'s, N, C> {
                 self.listener = Some(listener);
                 Ok(())
             }
-            Err(_) => Err(Failure::Network),
+            Err(error) => {
+                tell_port(self.alloc, number, error.kind(), &mut self.errors);
+                Err(Failure::Network)
+            }
         }
     }
 
@@ -76,6 +86,32 @@ impl<'s, N: Net, C: Clock> Port for LocalPort<'s, N, C> {
         } else {
             discard_rest(input.get_mut(), &output)
         };
+    }
+}
+
+// Tells why a port can't be had. A fault of the writer is passed over, and so is want of memory.
+fn tell_port<E: Write>(alloc: Global, number: u16, kind: ErrorKind, errors: &mut E) {
+    if let Ok(text) = port_text(alloc, number, port_cause(kind)) {
+        let _ = write_whole(errors, text.as_bytes());
+    }
+}
+
+// The line that tells why a port can't be had.
+fn port_text(alloc: Global, number: u16, cause: &str) -> Result<String, AllocError>
+    ensures { IfOk result (λ text. string_bytes text ≡ spec.port_line number cause.now) }
+{
+    format!(in alloc; "uss_desk: 127.0.0.1:{number}: {cause}\n")
+}
+
+// Why a port can't be had, by the kind of the error.
+fn port_cause(kind: ErrorKind) -> &'static str
+    ensures used { kind ≡ ErrorKind.AddrInUse → result.now ≡ codes "in use by another program" }
+    ensures denied { kind ≡ ErrorKind.PermissionDenied → result.now ≡ codes "no right to it" }
+{
+    match kind {
+        ErrorKind::AddrInUse => "in use by another program",
+        ErrorKind::PermissionDenied => "no right to it",
+        _ => "it can't be had",
     }
 }
 

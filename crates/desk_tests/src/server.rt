@@ -100,7 +100,7 @@ fn check_served(
     let mut output = Vec::new(alloc);
     let mut errors = Vec::new(alloc);
     let clock = Standing(second);
-    let mut port = LocalPort::new(&net, &clock);
+    let mut port = LocalPort::new(&net, &clock, alloc, Vec::new(alloc));
     let exit = serve(alloc, &mut port, &line, &mut desk, &mut output, &mut errors);
     assert_eq!(rt;
         exit.status,

@@ -2,7 +2,7 @@
 use Rattle.std.proofs.Common.{◌≡◌, ℕ, Bool, true, false, not, List, [], ◌∷◌, ◌++◌, Option, None, Some, append-nil, append_assoc, ap, inl, inr, subst, sym, ◌∙◌}
 use Rattle.std.proofs.lemmas.List.Elements.{All-append, All-cons, All-nil, All-weaker}
 use Rattle.std.specs.Prelude.{All, MatchOption}
-use Rattle.uss_desk.specs.Naming.{ChangesFound, ChangesNothing, ChangesOwn, Failed, Follows, Free, GivesNoName, GivesUp, HasFailed, IsNotFree, IsUnnamed, LeavesNames, LeavesOthers, Removed, Renamed, Step, Synced, Takes, TakesAll, TakesIfNone, Tried, free_steps, log_of, named_steps, part_of}
+use Rattle.uss_desk.specs.Naming.{ChangesFound, ChangesOwn, Cleared, ClearsOwn, Failed, Follows, Free, GivesNoName, GivesUp, HasFailed, IsNotFree, IsUnnamed, LeavesNames, LeavesOthers, Removed, Renamed, Step, Synced, Takes, TakesAll, TakesIfNone, Tried, clearing, free_steps, log_of, named_steps, part_of}
 
 -- steps after steps
 pub follows_both : (old mid new : Option (List Step)) (xs ys : List Step) → Follows old mid xs
@@ -45,7 +45,7 @@ pub leaves_none : (now : Option (List Step)) → LeavesNames now now
 leaves_none now = record { steps = []; made = follows_none now; unnamed = All-nil GivesNoName }
 
 pub leaves_all : (to : List ℕ) (now : Option (List Step)) → LeavesOthers to now now
-leaves_all to now = inl (takes_none ChangesNothing now)
+leaves_all to now = inl (takes_none (ClearsOwn to) now)
 
 -- ---- a step that fails
 
@@ -91,36 +91,51 @@ pub taken_if : (old new : Option (List Step)) (step : Step) (b : Bool) → Takes
     → b ≡ false → Follows old new (step ∷ [])
 taken_if old new step b made is = subst (λ c. Takes old new (not c) step) is made
 
-pub not_free_now : (old new : Option (List Step)) (step : Step) (b : Bool) → Takes old new (not b) step
-    → b ≡ true → IsNotFree old new
-not_free_now old new step b made is = record {
+pub not_free_now : (to : List ℕ) (old new : Option (List Step)) (step : Step) (b : Bool)
+    → Takes old new (not b) step → b ≡ true → IsNotFree to old new
+not_free_now to old new step b made is = record {
   before = [];
   made = subst (λ c. Takes old new (not c) step) is made;
-  looks = All-nil ChangesNothing;
+  looks = All-nil (ClearsOwn to);
 }
 
-pub not_free_after : (old mid new : Option (List Step)) (path : List ℕ) (b : Bool)
-    → Takes old mid (not b) (Free path) → b ≡ false → IsNotFree mid new → IsNotFree old new
-not_free_after old mid new path b made is next = record {
-  before = Free path ∷ next.before;
-  made = follows_both old mid new (Free path ∷ []) (next.before ++ Failed ∷ [])
-      (taken_if old mid (Free path) b made is) next.made;
-  looks = All-cons ChangesNothing (Free path) next.before tt next.looks;
+-- a step was made that changes nothing but what a copy left, and a later one failed
+pub not_free_after : (to : List ℕ) (old mid new : Option (List Step)) (step : Step) (b : Bool)
+    → Takes old mid (not b) step → b ≡ false → ClearsOwn to step → IsNotFree to mid new
+    → IsNotFree to old new
+not_free_after to old mid new step b made is own next = record {
+  before = step ∷ next.before;
+  made = follows_both old mid new (step ∷ []) (next.before ++ Failed ∷ [])
+      (taken_if old mid step b made is) next.made;
+  looks = All-cons (ClearsOwn to) step next.before own next.looks;
 }
+
+-- what a copy left under its names is gone
+pub clears_own : (to part log : List ℕ) → part ≡ part_of to → log ≡ log_of (part_of to)
+    → ClearsOwn to (Cleared part log)
+clears_own to part log is_part is_log = (is_part, is_log)
+
+pub cleared_as : (old new : Option (List Step)) (to part log : List ℕ) → part ≡ part_of to
+    → log ≡ log_of (part_of to) → Follows old new (Cleared part log ∷ [])
+    → Follows old new (clearing to ∷ [])
+cleared_as old new to part log is_part is_log made =
+    subst (λ v. Follows old new (Cleared (part_of to) v ∷ [])) is_log
+    (subst (λ v. Follows old new (Cleared v log ∷ [])) is_part made)
 
 -- nothing was at the names of a new file, and it can be made
-pub free_chain : (a b c d e f : Option (List Step)) (to p q r s u : List ℕ) → p ≡ to → q ≡ log_of to
+pub free_chain : (a b c d e f h : Option (List Step)) (to p q r s u : List ℕ) → p ≡ to → q ≡ log_of to
     → r ≡ part_of to → s ≡ log_of (part_of to) → u ≡ part_of to → Follows a b (Free p ∷ [])
-    → Follows b c (Free q ∷ []) → Follows c d (Free r ∷ []) → Follows d e (Free s ∷ [])
-    → Follows e f (Tried u ∷ []) → Follows a f (free_steps to)
-free_chain a b c d e f to p q r s u is_p is_q is_r is_s is_u one two three four five =
-    follows_both a b f _ _ (subst (λ v. Follows a b (Free v ∷ [])) is_p one)
-    (follows_both b c f _ _ (subst (λ v. Follows b c (Free v ∷ [])) is_q two)
-    (follows_both c d f _ _ (subst (λ v. Follows c d (Free v ∷ [])) is_r three)
-    (follows_both d e f _ _ (subst (λ v. Follows d e (Free v ∷ [])) is_s four)
-    (subst (λ v. Follows e f (Tried v ∷ [])) is_u five))))
+    → Follows b c (Free q ∷ []) → Follows c d (clearing to ∷ []) → Follows d e (Free r ∷ [])
+    → Follows e f (Free s ∷ []) → Follows f h (Tried u ∷ []) → Follows a h (free_steps to)
+free_chain a b c d e f h to p q r s u is_p is_q is_r is_s is_u one two clear three four five =
+    follows_both a b h _ _ (subst (λ v. Follows a b (Free v ∷ [])) is_p one)
+    (follows_both b c h _ _ (subst (λ v. Follows b c (Free v ∷ [])) is_q two)
+    (follows_both c d h _ _ clear
+    (follows_both d e h _ _ (subst (λ v. Follows d e (Free v ∷ [])) is_r three)
+    (follows_both e f h _ _ (subst (λ v. Follows e f (Free v ∷ [])) is_s four)
+    (subst (λ v. Follows f h (Tried v ∷ [])) is_u five)))))
 
-module _ {old new : Option (List Step)} (it : IsNotFree old new) where
+module _ {to : List ℕ} {old new : Option (List Step)} (it : IsNotFree to old new) where
   pub not_free_failed : HasFailed old new
   not_free_failed = record { before = it.before; after = []; made = it.made }
 
@@ -129,36 +144,41 @@ module _ {old new : Option (List Step)} (it : IsNotFree old new) where
     steps = it.before ++ Failed ∷ [];
     made = it.made;
     unnamed = All-append GivesNoName it.before (Failed ∷ [])
-        (All-weaker ChangesNothing GivesNoName names_none it.before it.looks) (one GivesNoName Failed tt);
+        (All-weaker (ClearsOwn to) GivesNoName names_none it.before it.looks) (one GivesNoName Failed tt);
   } where
-    names_none : (step : Step) → ChangesNothing step → GivesNoName step
+    names_none : (step : Step) → ClearsOwn to step → GivesNoName step
     names_none (Free path) is = tt
+    names_none (Cleared part log) is = tt
     names_none (Tried path) is = tt
     names_none (Removed path) is = tt
-    names_none (Renamed from to) is = is
+    names_none (Renamed from into) is = is
     names_none (Synced path) is = tt
     names_none Failed is = tt
 
-  pub not_free_others : (to : List ℕ) → LeavesOthers to old new
-  not_free_others to = inl (record {
+  pub not_free_others : LeavesOthers to old new
+  not_free_others = inl (record {
     steps = it.before ++ Failed ∷ [];
     made = it.made;
-    each = All-append ChangesNothing it.before (Failed ∷ []) it.looks (one ChangesNothing Failed tt);
+    each = All-append (ClearsOwn to) it.before (Failed ∷ []) it.looks (one (ClearsOwn to) Failed tt);
   })
 
 -- ---- once nothing was found at its names
 
 free_no_name : (to : List ℕ) → All GivesNoName (free_steps to)
 free_no_name to =
-    let five = one GivesNoName (Tried (part_of to)) tt in
-    let four = All-cons GivesNoName (Free (log_of (part_of to))) (Tried (part_of to) ∷ []) tt five in
-    let three =
+    let six = one GivesNoName (Tried (part_of to)) tt in
+    let five = All-cons GivesNoName (Free (log_of (part_of to))) (Tried (part_of to) ∷ []) tt six in
+    let four =
     All-cons GivesNoName (Free (part_of to)) (Free (log_of (part_of to)) ∷ Tried (part_of to) ∷ [])
-    tt four in
+    tt five in
+    let three = All-cons GivesNoName (clearing to)
+    (Free (part_of to) ∷ Free (log_of (part_of to)) ∷ Tried (part_of to) ∷ []) tt four in
     let two = All-cons GivesNoName (Free (log_of to))
-    (Free (part_of to) ∷ Free (log_of (part_of to)) ∷ Tried (part_of to) ∷ []) tt three in
+    (clearing to ∷ Free (part_of to) ∷ Free (log_of (part_of to)) ∷ Tried (part_of to) ∷ []) tt three in
     All-cons GivesNoName (Free to)
-    (Free (log_of to) ∷ Free (part_of to) ∷ Free (log_of (part_of to)) ∷ Tried (part_of to) ∷ []) tt two
+    (Free (log_of to) ∷ clearing to ∷ Free (part_of to) ∷ Free (log_of (part_of to))
+    ∷ Tried (part_of to) ∷ [])
+    tt two
 
 module _ (old mid new : Option (List Step)) (to : List ℕ) (free : Follows old mid (free_steps to)) where
   pub found_own : TakesAll (ChangesOwn to) mid new → LeavesOthers to old new

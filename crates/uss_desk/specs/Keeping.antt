@@ -12,8 +12,6 @@ use Rattle.sqlite.specs.Files.{over_files}
 use Rattle.sqlite.specs.Held.{Held}
 use Rattle.desk_store.specs.World.{World}
 use Rattle.desk_line.specs.declared.failure.Failure.{Failure}
-use Rattle.desk_line.specs.declared.line.Line.{Line}
-use Rattle.desk_line.specs.declared.line.Line.TheVariants as line
 use Rattle.desk_line.specs.declared.failure.Failure.TheVariants as failure
 use Rattle.desk_line.specs.declared.line.Database.{Database}
 use Rattle.desk_line.specs.Exits.{Ending, FailsWith}
@@ -36,22 +34,14 @@ use Rattle.uss_desk.specs.declared.opening.Opened.TheVariants as opened
 use Rattle.uss_desk.specs.Naming.{IsNamed, IsUnnamed, Step, free_steps, HasFailed}
 use Rattle.uss_desk.specs.Opening.{open_failure, FailsOver, IsInMemory, IsUnreadFor}
 
--- a line that moves plans
-abbrev pub IsMove : Line → Type 0
-IsMove (line.Play play) = ⊥
-IsMove (line.Token token) = ⊥
-IsMove (line.Serve serve) = ⊥
-IsMove (line.Cover cover) = ⊥
-IsMove (line.Enrol enrol) = ⊥
-IsMove (line.Migrate migrate) = ⊤
-
--- files were refused from which plans were to be moved
-abbrev pub IsMoveRefused : {M D V U : Type 0} → Opened M D (Result V U) → Type 0
-IsMoveRefused opened.Nothing = ⊥
-IsMoveRefused (opened.Memory desk) = ⊥
-IsMoveRefused (opened.Files desk) = ⊥
-IsMoveRefused (opened.Moved (Ok moved)) = ⊥
-IsMoveRefused (opened.Moved (Err unread)) = ⊤
+-- files were refused over which a line was to be carried out, or from which plans were to be moved
+abbrev pub AreFilesRefused : {M D V U W : Type 0} → Opened M (Result D U) (Result V W) → Type 0
+AreFilesRefused opened.Nothing = ⊥
+AreFilesRefused (opened.Memory desk) = ⊥
+AreFilesRefused (opened.Files (Ok desk)) = ⊥
+AreFilesRefused (opened.Files (Err unread)) = ⊤
+AreFilesRefused (opened.Moved (Ok moved)) = ⊥
+AreFilesRefused (opened.Moved (Err unread)) = ⊤
 
 -- some text is told, of which nothing is said, and nothing else
 pub record Tells (old new : Option (List ℕ)) : Type 0 where

@@ -2,11 +2,12 @@
 use Rattle.std.specs.Prelude.{◌≡◌, ◌⊎◌, ⊤, ℕ, Bool, true, false, List, [], ◌∷◌, ◌++◌, All, codes, Option, None, Some, string_bytes}
 use Rattle.uss_desk.specs.declared.naming.Names.{Names}
 
--- a step: a path is looked at, and there is nothing; a file is made there for a trial, and is gone again; a
--- file is removed; one gets another name; the folder of a path is synced; or what was asked is not so, or
--- can't be done
+-- a step: a path is looked at, and there is nothing; what a copy that was cut off left at two paths, a file
+-- and its log, is gone; a file is made there for a trial, and is gone again; a file is removed; one gets
+-- another name; the folder of a path is synced; or what was asked is not so, or can't be done
 pub data Step : Type 0 where
   Free : List ℕ → Step
+  Cleared : List ℕ → List ℕ → Step
   Tried : List ℕ → Step
   Removed : List ℕ → Step
   Renamed : List ℕ → List ℕ → Step
@@ -43,10 +44,16 @@ pub record AreNames (to : List ℕ) (names : Names) : Type 0 where
   pub part_is : string_bytes names.part ≡ part_of to
   pub part_log_is : string_bytes names.part_log ≡ log_of (part_of to)
 
--- there was nothing at any of its names, and it can be made
+-- what a copy left under the names that it has first is gone
+abbrev pub clearing : List ℕ → Step
+clearing to = Cleared (part_of to) (log_of (part_of to))
+
+-- there was nothing at its names, nor, but for what a copy left, at those that it has first; and it can be
+-- made
 abbrev pub free_steps : List ℕ → List Step
 free_steps to =
-    Free to ∷ Free (log_of to) ∷ Free (part_of to) ∷ Free (log_of (part_of to)) ∷ Tried (part_of to) ∷ []
+    Free to ∷ Free (log_of to) ∷ clearing to ∷ Free (part_of to) ∷ Free (log_of (part_of to))
+    ∷ Tried (part_of to) ∷ []
 
 -- its log goes, and it gets its name; then one step more
 abbrev pub named_steps : List ℕ → Step → List Step
@@ -55,6 +62,7 @@ named_steps to last = Removed (log_of (part_of to)) ∷ Renamed (part_of to) to 
 -- a step by which no file gets a name
 abbrev pub GivesNoName : Step → Type 0
 GivesNoName (Free path) = ⊤
+GivesNoName (Cleared part log) = ⊤
 GivesNoName (Tried path) = ⊤
 GivesNoName (Removed path) = ⊤
 GivesNoName (Renamed from to) = ⊥
@@ -67,18 +75,20 @@ pub record LeavesNames (old new : Option (List Step)) : Type 0 where
   pub made : Follows old new steps
   pub unnamed : All GivesNoName steps
 
--- a step that changes nothing
-abbrev pub ChangesNothing : Step → Type 0
-ChangesNothing (Free path) = ⊤
-ChangesNothing (Tried path) = ⊥
-ChangesNothing (Removed path) = ⊥
-ChangesNothing (Renamed from to) = ⊥
-ChangesNothing (Synced path) = ⊤
-ChangesNothing Failed = ⊤
+-- a step that changes nothing but what a copy left under the names that a new file has first
+abbrev pub ClearsOwn : List ℕ → Step → Type 0
+ClearsOwn to (Free path) = ⊤
+ClearsOwn to (Cleared part log) = (part ≡ part_of to) × (log ≡ log_of (part_of to))
+ClearsOwn to (Tried path) = ⊥
+ClearsOwn to (Removed path) = ⊥
+ClearsOwn to (Renamed from into) = ⊥
+ClearsOwn to (Synced path) = ⊤
+ClearsOwn to Failed = ⊤
 
 -- a step that changes nothing but the new file, or its log, under the names that they have first
 abbrev pub ChangesOwn : List ℕ → Step → Type 0
 ChangesOwn to (Free path) = ⊤
+ChangesOwn to (Cleared part log) = ⊥
 ChangesOwn to (Tried path) = ⊥
 ChangesOwn to (Removed path) = (path ≡ part_of to) ⊎ (path ≡ log_of (part_of to))
 ChangesOwn to (Renamed from into) = (from ≡ part_of to) × (into ≡ to)
@@ -97,10 +107,10 @@ pub record ChangesFound (to : List ℕ) (old new : Option (List Step)) : Type 0 
   pub made : Follows old new (free_steps to ++ rest)
   pub own : All (ChangesOwn to) rest
 
--- no file is changed at whose name something was found: nothing is changed at all, or only the new file, once
--- nothing was found at its names
+-- no file is changed at whose name something was found, but what a copy left: that alone is gone, or the new
+-- file is changed too, once nothing was found at its names
 abbrev pub LeavesOthers : List ℕ → Option (List Step) → Option (List Step) → Type 0
-LeavesOthers to old new = TakesAll ChangesNothing old new ⊎ ChangesFound to old new
+LeavesOthers to old new = TakesAll (ClearsOwn to) old new ⊎ ChangesFound to old new
 
 -- so, and no file gets a name
 abbrev pub GivesUp : List ℕ → Option (List Step) → Option (List Step) → Type 0
@@ -112,11 +122,11 @@ pub record HasFailed (old new : Option (List Step)) : Type 0 where
   pub after : List Step
   pub made : Follows old new (before ++ Failed ∷ after)
 
--- a step failed, after steps that changed nothing
-pub record IsNotFree (old new : Option (List Step)) : Type 0 where
+-- a step failed, after steps that changed nothing but what a copy left
+pub record IsNotFree (to : List ℕ) (old new : Option (List Step)) : Type 0 where
   pub before : List Step
   pub made : Follows old new (before ++ Failed ∷ [])
-  pub looks : All ChangesNothing before
+  pub looks : All (ClearsOwn to) before
 
 -- no file gets a name; or, after these steps, the file gets its own, and its folder can't be synced
 abbrev pub IsUnnamed : List Step → List ℕ → Option (List Step) → Option (List Step) → Type 0

@@ -1,14 +1,14 @@
 //! Why a file can't be opened, as far as that can be told afterwards: a line for the keeper. Clauses say that
 //! something is told, and not what.
 
-ghost use Rattle.std.specs.Prelude.{◌≡◌, [], ◌∷◌, None};
-ghost use Rattle.uss_desk.specs.Keeping.{IsMove, IsMoveRefused, Tells};
+ghost use Rattle.std.specs.Prelude.{◌≡◌, [], ◌∷◌, IfSome, None};
+ghost use Rattle.uss_desk.specs.Keeping.{AreFilesRefused, Tells};
 ghost use Rattle.uss_desk.specs.Naming.{Follows, Free, LeavesNames, TakesIfNone};
 
-use crate::naming::{Folder, TAKEN, is_no_path};
+use crate::naming::{Folder, IN_USE, LocalFolder, READ_ONLY, TAKEN, is_no_path};
 use crate::opening::{Opened, OpenedDesk};
 use desk_ends::write_whole;
-use desk_line::{Database, Failure, Line};
+use desk_line::{Database, Failure, Line, malformed_word};
 use desk_tables::{PartFault, part_at};
 use sqlite::{Start, Unknown};
 use sqlite_std_file::OpenError;
@@ -18,10 +18,13 @@ use std::io::{ErrorKind, Read, Write};
 
 const NO_PATH: &str = "a name that SQLite reads otherwise than as a path";
 
+// What a file of anything else is, and what is no regular file.
+const NO_DATABASE: &str = "no SQLite database";
+
 // What a database file begins with.
 const MAGIC: &[u8; 16] = b"SQLite format 3\0";
 
-/// Tells why the file of `migrate` can't be opened, if it can't, and before no other line.
+/// Tells why the files of a line can't be opened, if they can't, and before no other line.
 #[tactic(auto, using(crate::proofs::KeepLemmas::tells_nothing))]
 pub fn tell_cause<F: Start, E: Write>(
     rt: &HostRuntime,
@@ -30,14 +33,74 @@ pub fn tell_cause<F: Start, E: Write>(
     errors: &mut E,
 )
     ensures tells { Tells (E.contents errors.old) (E.contents errors.new) }
-    ensures silent { (IsMove line.now → ¬ (IsMoveRefused opened.now)) →
-        E.contents errors.new ≡ E.contents errors.old }
+    ensures silent { ¬ (AreFilesRefused opened.now) → E.contents errors.new ≡ E.contents errors.old }
 {
-    if let Line::Migrate(words) = line
-        && let Database::File(path) = &words.database
-        && let Opened::Moved(Err(unread)) = opened
-    {
-        tell(rt, path, unread.failure, errors);
+    if let Some(failure) = refusal_of(opened) {
+        tell_for(rt, line, failure, errors);
+    }
+}
+
+// The failure of files that were refused, if some were.
+fn refusal_of<F: Start>(opened: &OpenedDesk<F>) -> Option<Failure>
+    ensures { IfSome result (λ _. AreFilesRefused opened.now) }
+{
+    match opened {
+        Opened::Files(Err(unread)) => Some(unread.failure),
+        Opened::Moved(Err(unread)) => Some(unread.failure),
+        _ => None,
+    }
+}
+
+// Tells why the file that a line names can't be opened.
+#[tactic(auto, using(crate::proofs::KeepLemmas::tells_nothing))]
+fn tell_for<E: Write>(rt: &HostRuntime, line: &Line, failure: Failure, errors: &mut E)
+    ensures { Tells (E.contents errors.old) (E.contents errors.new) }
+{
+    match line {
+        Line::Play(words) => tell_made(rt, &words.database, failure, errors),
+        Line::Enrol(words) => tell_made(rt, &words.database, failure, errors),
+        Line::Serve(words) => tell_made(rt, &words.database, failure, errors),
+        Line::Migrate(words) => tell_database(rt, &words.database, failure, errors),
+        Line::Token(_) | Line::Cover(_) => {}
+    }
+}
+
+// Tells why a database can't be opened by a line that makes its file where there is none.
+#[tactic(auto, using(crate::proofs::KeepLemmas::tells_nothing))]
+fn tell_made<E: Write>(rt: &HostRuntime, database: &Database, failure: Failure, errors: &mut E)
+    ensures { Tells (E.contents errors.old) (E.contents errors.new) }
+{
+    match (database, failure) {
+        (Database::File(path), Failure::Store) => {
+            tell_of(rt.alloc(), path, made_cause(rt, path), errors);
+        }
+        _ => tell_database(rt, database, failure, errors),
+    }
+}
+
+/// Tells why a database can't be opened, if it is in a file that has to be there.
+#[tactic(auto, using(crate::proofs::KeepLemmas::tells_nothing))]
+pub fn tell_database<E: Write>(
+    rt: &HostRuntime,
+    database: &Database,
+    failure: Failure,
+    errors: &mut E,
+)
+    ensures { Tells (E.contents errors.old) (E.contents errors.new) }
+{
+    match database {
+        Database::File(path) => tell(rt, path, failure, errors),
+        Database::InMemory => {}
+    }
+}
+
+/// Tells which word of a line is malformed: `uss_desk: WORD: CAUSE`. A fault of the writer is passed over.
+#[tactic(auto, using(crate::proofs::KeepLemmas::tells_nothing))]
+pub fn tell_malformed<E: Write>(alloc: Global, words: &[String], errors: &mut E)
+    ensures { Tells (E.contents errors.old) (E.contents errors.new) }
+{
+    if let Some((word, cause)) = malformed_word(alloc, words) {
+        tell_of(alloc, word, cause, errors);
     }
 }
 
@@ -126,41 +189,88 @@ fn part_cause(part: PartFault) -> &'static str {
     }
 }
 
-// Why SQLite refuses a file.
+// Why SQLite refuses a file that has to be there.
 fn store_cause(rt: &HostRuntime, path: &str) -> &'static str {
-    if path.starts_with("file:") {
+    match place_cause(rt, path) {
+        Some(cause) => cause,
+        None => file_cause(rt, path),
+    }
+}
+
+// Why SQLite refuses a file that is made where there is none.
+fn made_cause(rt: &HostRuntime, path: &str) -> &'static str {
+    match fs::metadata(rt, path) {
+        Err(error) if error.kind() == ErrorKind::NotFound => unmade_cause(rt, path),
+        Ok(found) if found.is_file() && found.len() == 0 => {
+            access_cause(rt, path).unwrap_or("it can't be written: a full disk, or one that fails")
+        }
+        _ => store_cause(rt, path),
+    }
+}
+
+// Why no file is made at a path at which there is none.
+fn unmade_cause(rt: &HostRuntime, path: &str) -> &'static str {
+    if is_no_path(path) {
         return NO_PATH;
     }
+    if fs::symlink_metadata(rt, path).is_ok() {
+        return "a link to no file";
+    }
+    LocalFolder::new(rt)
+        .try_file(path)
+        .unwrap_or("it can't be made")
+}
+
+// Why what stands at a path is no file of a database, as far as a look at it tells.
+fn place_cause(rt: &HostRuntime, path: &str) -> Option<&'static str> {
+    if is_no_path(path) {
+        return Some(NO_PATH);
+    }
     match fs::metadata(rt, path) {
-        Err(error) if error.kind() == ErrorKind::NotFound => return "no such file",
-        Err(error) if error.kind() == ErrorKind::PermissionDenied => return "no right to reach it",
-        Err(_) => return "it can't be reached",
-        Ok(found) if !found.is_file() => return "no file",
-        Ok(found) if found.len() == 0 => return "an empty file",
-        Ok(_) => {}
+        Err(error) => Some(match error.kind() {
+            ErrorKind::NotFound => "no such file",
+            ErrorKind::NotADirectory => "no such folder",
+            ErrorKind::PermissionDenied => "no right to reach it",
+            _ => "it can't be reached",
+        }),
+        Ok(found) if !found.is_file() => Some(NO_DATABASE),
+        Ok(found) if found.len() == 0 => Some("an empty file"),
+        Ok(_) => None,
     }
-    if let Some(cause) = right_cause(rt, path) {
+}
+
+// Why SQLite refuses a file that is there and is not empty.
+fn file_cause(rt: &HostRuntime, path: &str) -> &'static str {
+    if let Some(cause) = access_cause(rt, path) {
         return cause;
-    }
-    match sqlite_std_file::open(rt, path, Unknown) {
-        Err(OpenError::Busy) => return "in use by another program",
-        Err(OpenError::HotJournal) =>
-            return "a journal of SQLite beside it: open it with sqlite3 first",
-        Err(OpenError::Io(_)) => {
-            return "no right to its log or folder, a second name, or a disk that fails";
-        }
-        _ => {}
     }
     match begins(rt, path) {
         Some(true) => {
             "a damaged page, the log of another file, rows that break a key, or a disk that fails"
         }
-        Some(false) => "no SQLite database",
+        Some(false) => NO_DATABASE,
         None => "it can't be read",
     }
 }
 
-// Whether a right to a file is missing.
+// Why a file can't be had, whatever it holds.
+fn access_cause(rt: &HostRuntime, path: &str) -> Option<&'static str> {
+    if let Some(cause) = right_cause(rt, path) {
+        return Some(cause);
+    }
+    match sqlite_std_file::open(rt, path, Unknown) {
+        Err(OpenError::Busy) => Some(IN_USE),
+        Err(OpenError::HotJournal) => {
+            Some("a journal of SQLite beside it: open it with sqlite3 first")
+        }
+        Err(OpenError::Io(_)) => {
+            Some("no right to its log or folder, a second name, or a disk that fails")
+        }
+        _ => None,
+    }
+}
+
+// Whether a right to a file is missing, or its file system takes no writing.
 fn right_cause(rt: &HostRuntime, path: &str) -> Option<&'static str> {
     match File::open(rt, path) {
         Err(error) if error.kind() == ErrorKind::PermissionDenied => Some("no right to read it"),
@@ -168,6 +278,7 @@ fn right_cause(rt: &HostRuntime, path: &str) -> Option<&'static str> {
             Err(error) if error.kind() == ErrorKind::PermissionDenied => {
                 Some("no right to write it")
             }
+            Err(error) if error.kind() == ErrorKind::ReadOnlyFilesystem => Some(READ_ONLY),
             _ => None,
         },
     }

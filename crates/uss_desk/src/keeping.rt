@@ -13,10 +13,10 @@ ghost use Rattle.uss_desk.specs.Keeping as spec;
 ghost use Rattle.uss_desk.specs.Keeping.{FailsAtFiles, FailsBy, FailsTelling, FailsToCopy, FailsToLook};
 ghost use Rattle.uss_desk.specs.Keeping.{FailsUntried, IsChecked, IsCopied, IsCopyMade, IsNamedIf, IsReadAs};
 ghost use Rattle.uss_desk.specs.Keeping.{Tells, TellsHoldings};
-ghost use Rattle.uss_desk.specs.Naming.{AreNames, Follows, Free, GivesUp, IsNotFree, LeavesOthers, Takes, Tried};
+ghost use Rattle.uss_desk.specs.Naming.{AreNames, Cleared, Follows, Free, GivesUp, IsNotFree, LeavesOthers, Takes, Tried};
 ghost use Rattle.uss_desk.specs.Naming.{free_steps};
 
-use crate::causes::{new_cause, tell, tell_of};
+use crate::causes::{new_cause, tell, tell_database, tell_of};
 use crate::naming::{Folder, Names, name_with, names_of, put_in_place};
 use crate::opening::{Unopened, Unread, open_failure};
 use desk_line::{Copying, Database, Exit, Failure, conclude};
@@ -28,7 +28,7 @@ use sqlite::{Connection, FileFrom, FileStore, Files, Start};
 use sqlite_disk::Disk;
 use std::alloc::{AllocError, Global};
 use std::fs::{self, File};
-use std::io::{self, Read, Write};
+use std::io::{self, ErrorKind, Read, Write};
 use std::snapshot::Snapshot;
 
 /// A connection with which a file was read, where `F` stands for what the file held.
@@ -172,17 +172,6 @@ fn tell_unread<E: Write>(
     conclude(errors, Err(failure))
 }
 
-// Tells why a database can't be read, if it is in a file.
-#[tactic(auto, using(crate::proofs::KeepLemmas::tells_nothing))]
-fn tell_database<E: Write>(rt: &HostRuntime, database: &Database, failure: Failure, errors: &mut E)
-    ensures { Tells (E.contents errors.old) (E.contents errors.new) }
-{
-    match database {
-        Database::File(path) => tell(rt, path, failure, errors),
-        Database::InMemory => {}
-    }
-}
-
 // What a database holds, with the connection with which it was read.
 #[tactic(auto, using(crate::proofs::KeepLemmas::read_as, crate::proofs::KeepLemmas::refused_fails))]
 fn look_for<F: Start>(
@@ -246,7 +235,11 @@ fn has_sums(rt: &HostRuntime, path: &str) -> bool {
     }
 }
 
+// Reads the first bytes of a file. What is no regular file is not opened: a pipe would wait for a writer.
 fn read_header(rt: &HostRuntime, path: &str, header: &mut [u8]) -> io::Result<()> {
+    if !fs::metadata(rt, path)?.is_file() {
+        return Err(io::Error::from(ErrorKind::Unsupported));
+    }
     File::open(rt, path)?.read_exact(header)
 }
 
@@ -330,7 +323,7 @@ fn copy_for<F: Start, N: Start, P: Folder, E: Write>(
         return Err(Uncopied::untried(Failure::Store));
     };
     let names = names_of(rt.alloc(), &words.to)?;
-    if is_refused(rt.alloc(), folder, &names, errors) {
+    if is_refused(rt.alloc(), folder, path, &names, errors) {
         return Err(Uncopied::untried(Failure::Store));
     }
     let copies = copy_to(rt, folder, path, start, &names, other, errors)?;
@@ -414,10 +407,12 @@ fn close_copy<D: Disk + Drop, N: Disk + Drop>(
     }
 }
 
-// Whether the new file can't be made, or there is something at one of its names, which is told.
+// Whether the new file can't be made, or there is something at one of its names, which is told. What a copy
+// that was cut off left there is removed, but nothing of what is copied (`source`).
 fn is_refused<P: Folder, E: Write>(
     alloc: Global,
     folder: &mut P,
+    source: &str,
     names: &Names,
     errors: &mut E,
 ) -> bool
@@ -425,12 +420,16 @@ fn is_refused<P: Folder, E: Write>(
     ensures told { Tells (E.contents errors.old) (E.contents errors.new) }
     ensures free { (to : List ℕ) → AreNames to names.now → result ≡ false
         → Follows (P.steps folder.old) (P.steps folder.new) (free_steps to) }
-    ensures refused { result ≡ true → IsNotFree (P.steps folder.old) (P.steps folder.new) }
+    ensures refused { (to : List ℕ) → AreNames to names.now → result ≡ true
+        → IsNotFree to (P.steps folder.old) (P.steps folder.new) }
 {
     if is_taken(alloc, folder, &names.to, errors) {
         return true;
     }
     if is_taken(alloc, folder, &names.to_log, errors) {
+        return true;
+    }
+    if is_uncleared(alloc, folder, source, &names.part, &names.part_log, errors) {
         return true;
     }
     if is_taken(alloc, folder, &names.part, errors) {
@@ -450,6 +449,24 @@ fn is_taken<P: Folder, E: Write>(alloc: Global, folder: &mut P, path: &str, erro
     ensures taken { Takes (P.steps folder.old) (P.steps folder.new) (not result) (Free path.now) }
 {
     is_told(alloc, path, new_cause(folder, path), errors)
+}
+
+// Whether what a copy left at two paths can't be removed, which is told.
+#[tactic(auto, using(crate::proofs::NameLemmas::takes_told))]
+fn is_uncleared<P: Folder, E: Write>(
+    alloc: Global,
+    folder: &mut P,
+    source: &str,
+    part: &str,
+    log: &str,
+    errors: &mut E,
+) -> bool
+    ensures quiet { result ≡ false → E.contents errors.new ≡ E.contents errors.old }
+    ensures told { Tells (E.contents errors.old) (E.contents errors.new) }
+    ensures cleared { Takes (P.steps folder.old) (P.steps folder.new) (not result)
+        (Cleared part.now log.now) }
+{
+    is_told(alloc, part, folder.clear(source, part, log), errors)
 }
 
 // Whether a new file can't be made at a path, which is told; it is tried, and gone again.

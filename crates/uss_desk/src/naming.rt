@@ -1,16 +1,28 @@
 //! How a new file gets its name, once it is whole.
 
 ghost use Rattle.std.specs.Prelude.{◌≡◌, ℕ, ◌++◌, [], List, Option, None, false, true, IfOk, string_bytes};
-ghost use Rattle.uss_desk.specs.Naming.{AreNames, ChangesOwn, Follows, Free, HasFailed, IsUnnamed, Removed};
+ghost use Rattle.uss_desk.specs.Naming.{AreNames, ChangesOwn, Cleared, Follows, Free, HasFailed, IsUnnamed, Removed};
 ghost use Rattle.uss_desk.specs.Naming.{Renamed, Step, Synced, Takes, TakesAll, TakesIfNone, Tried};
 ghost use Rattle.uss_desk.specs.Naming.{named_steps};
 
+use sqlite::Unknown;
+use sqlite_std_file::OpenError;
 use std::alloc::{AllocError, Global};
-use std::fs::{self, File, OpenOptions};
+use std::fs::{self, File, Metadata, OpenOptions};
 use std::io::{self, ErrorKind};
+use std::os::unix::fs::{MetadataExt, OpenOptionsExt};
 
 /// What is told of a path at which there is something.
 pub const TAKEN: &str = "it is there already";
+
+/// What is told of a file that another program has locked.
+pub const IN_USE: &str = "in use by another program";
+
+/// What is told of a path whose file system takes no writing.
+pub const READ_ONLY: &str = "a read-only file system";
+
+// The mode of a file that its owner alone reads and writes.
+const OWNER_ALONE: u32 = 0o600;
 
 /// The folders in which a new file gets its name.
 pub trait Folder {
@@ -20,6 +32,11 @@ pub trait Folder {
     /// Whether there is nothing at a path, and SQLite reads it as one.
     fn is_free(&mut self, path: &str) -> bool
         ensures { Takes (steps self.old) (steps self.new) result (Free path.now) };
+
+    /// Removes what a copy that was cut off left at two paths, a file and its log, unless that is `source` or
+    /// its log, or a program holds it; and answers why there is still something, if so.
+    fn clear(&mut self, source: &str, part: &str, log: &str) -> Option<&'static str>
+        ensures { TakesIfNone (steps self.old) (steps self.new) result (Cleared part.now log.now) };
 
     /// Makes a file at a path, removes it, and answers why that could not be done, if so.
     fn try_file(&mut self, path: &str) -> Option<&'static str>
@@ -56,6 +73,17 @@ impl<'s> Folder for LocalFolder<'s> {
         !is_no_path(path) && matches!(fs::exists(self.rt, path), Ok(false))
     }
 
+    fn clear(&mut self, source: &str, part: &str, log: &str) -> Option<&'static str> {
+        if is_missing(self.rt, part) && is_missing(self.rt, log) {
+            return None;
+        }
+        if is_left(self.rt, source, part) && is_left(self.rt, source, log) {
+            clear_left(self.rt, part, log)
+        } else {
+            Some(TAKEN)
+        }
+    }
+
     fn try_file(&mut self, path: &str) -> Option<&'static str> {
         let made = OpenOptions::new()
             .write(true)
@@ -65,8 +93,10 @@ impl<'s> Folder for LocalFolder<'s> {
             Ok(()) => None,
             Err(error) => Some(match error.kind() {
                 ErrorKind::AlreadyExists => TAKEN,
-                ErrorKind::NotFound => "no such folder",
+                ErrorKind::NotFound | ErrorKind::NotADirectory => "no such folder",
                 ErrorKind::PermissionDenied => "no right to make it",
+                ErrorKind::ReadOnlyFilesystem => READ_ONLY,
+                ErrorKind::StorageFull | ErrorKind::QuotaExceeded => "a full disk",
                 _ => "it can't be made",
             }),
         }
@@ -88,6 +118,51 @@ impl<'s> Folder for LocalFolder<'s> {
 /// Whether SQLite reads a name otherwise than as a path.
 pub fn is_no_path(path: &str) -> bool {
     path == ":memory:" || path.starts_with("file:")
+}
+
+// Whether nothing stands at a path.
+fn is_missing(rt: &HostRuntime, path: &str) -> bool {
+    matches!(fs::symlink_metadata(rt, path), Err(error) if error.kind() == ErrorKind::NotFound)
+}
+
+// Whether a copy may have left what stands at a path, if something does: a file, and not `source`.
+fn is_left(rt: &HostRuntime, source: &str, path: &str) -> bool {
+    match fs::symlink_metadata(rt, path) {
+        Ok(found) => found.is_file() && !is_same(rt, &found, source),
+        Err(error) => error.kind() == ErrorKind::NotFound,
+    }
+}
+
+// Whether a path leads to this file.
+fn is_same(rt: &HostRuntime, file: &Metadata, path: &str) -> bool {
+    match fs::metadata(rt, path) {
+        Ok(found) => found.dev() == file.dev() && found.ino() == file.ino(),
+        Err(_) => false,
+    }
+}
+
+// Removes a file and its log, which are held meanwhile; or why not.
+fn clear_left(rt: &HostRuntime, part: &str, log: &str) -> Option<&'static str> {
+    match sqlite_std_file::open(rt, part, Unknown) {
+        Ok(_held) => match fs::remove_file(rt, log).and_then(|()| fs::remove_file(rt, part)) {
+            Ok(()) => None,
+            Err(_) => Some("it can't be removed"),
+        },
+        Err(OpenError::Busy) => Some(IN_USE),
+        Err(_) => Some(TAKEN),
+    }
+}
+
+/// Makes an empty file at a path that is its owner's alone, if there is nothing. A fault is passed over,
+/// since whoever opens the file meets it too.
+pub fn make_private(rt: &HostRuntime, path: &str) {
+    if !is_no_path(path) {
+        let _ = OpenOptions::new()
+            .write(true)
+            .create_new(true)
+            .mode(OWNER_ALONE)
+            .open(rt, path);
+    }
 }
 
 // Syncs the folder of a path.

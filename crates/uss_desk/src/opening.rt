@@ -8,6 +8,7 @@ ghost use Rattle.uss_desk.specs.Opening.{IsBlank, IsMemory, IsMovedAt, IsMovedIn
 ghost use Rattle.uss_desk.specs.Opening.{IsOpenedIn, IsUnreadFor};
 
 use crate::causes::tell_unenrolled;
+use crate::naming::make_private;
 use desk_line::{Database, Failure, Line};
 use desk_run::Desk;
 use desk_tables::{FilesFault, OpenFault, SqliteStore};
@@ -157,8 +158,8 @@ pub fn open_in_memory(alloc: Global) -> Result<MemoryDesk, Failure>
     }
 }
 
-/// The desk over the database in the files at a path; `start` stands for what the files held. If it is to be
-/// told that no operator is enrolled (`is_told`), it is.
+/// The desk over the database in the files at a path; `start` stands for what the files held. A file that is
+/// made is its owner's alone. If it is to be told that no operator is enrolled (`is_told`), it is.
 ///
 /// # Errors
 ///
@@ -166,6 +167,7 @@ pub fn open_in_memory(alloc: Global) -> Result<MemoryDesk, Failure>
 pub fn open_file<F: Start>(rt: &HostRuntime, path: &str, is_told: bool, start: F) -> FoundDesk<F>
     ensures { IsOpenedIn (image_at F.Start) result }
 {
+    make_private(rt, path);
     match SqliteStore::open_from(rt, path, start) {
         Ok(store) => {
             if is_told && !store.has_begun_enrolled() {

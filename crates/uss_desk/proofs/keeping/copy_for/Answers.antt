@@ -7,20 +7,26 @@ use Rattle.uss_desk.proofs.keeping.copy_for.Goals as goal
 
 pub returns-then-is_refused-clause-fault : goal.returns-then-is_refused-clause-fault
 returns-then-is_refused-clause-fault g c =
+    let to = string_bytes c.args.words.now.to in
+    let are : AreNames to c.in_ok-names.names = search rules in
     let refused : c.is_refused.result ≡ true = search rules in
     inr
     (inr
-    (inl (not_free_failed (c.is_refused.ensures.refused refused), c.untried-then-is_refused.ensures)))
+    (inl (not_free_failed (c.is_refused.ensures.refused to are refused), c.untried-then-is_refused.ensures)))
 
 pub returns-then-is_refused-clause-named : goal.returns-then-is_refused-clause-named
 returns-then-is_refused-clause-named g c =
+    let to = string_bytes c.args.words.now.to in
+    let are : AreNames to c.in_ok-names.names = search rules in
     let refused : c.is_refused.result ≡ true = search rules in
-    inl (not_free_names (c.is_refused.ensures.refused refused))
+    inl (not_free_names (c.is_refused.ensures.refused to are refused))
 
 pub returns-then-is_refused-clause-own : goal.returns-then-is_refused-clause-own
 returns-then-is_refused-clause-own g c =
+    let to = string_bytes c.args.words.now.to in
+    let are : AreNames to c.in_ok-names.names = search rules in
     let refused : c.is_refused.result ≡ true = search rules in
-    not_free_others (c.is_refused.ensures.refused refused) (string_bytes c.args.words.now.to)
+    not_free_others (c.is_refused.ensures.refused to are refused)
 
 pub returns-in_err-copies-clause-fault : goal.returns-in_err-copies-clause-fault
 returns-in_err-copies-clause-fault g c =
