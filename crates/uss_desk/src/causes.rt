@@ -7,6 +7,7 @@ ghost use Rattle.uss_desk.specs.Naming.{Follows, Free, LeavesNames, TakesIfNone}
 
 use crate::naming::{Folder, IN_USE, LocalFolder, READ_ONLY, TAKEN, is_no_path};
 use crate::opening::{Opened, OpenedDesk};
+use crate::sums::pages_without_sums;
 use desk_ends::write_whole;
 use desk_line::{Database, Failure, Line, malformed_word};
 use desk_tables::{PartFault, part_at};
@@ -20,6 +21,10 @@ const NO_PATH: &str = "a name that SQLite reads otherwise than as a path";
 
 // What a file of anything else is, and what is no regular file.
 const NO_DATABASE: &str = "no SQLite database";
+
+// What a file of a database is that SQLite refuses for what it holds.
+const DAMAGED: &str =
+    "a damaged page, the log of another file, rows that break a key, or a disk that fails";
 
 // What a database file begins with.
 const MAGIC: &[u8; 16] = b"SQLite format 3\0";
@@ -72,7 +77,7 @@ fn tell_made<E: Write>(rt: &HostRuntime, database: &Database, failure: Failure, 
 {
     match (database, failure) {
         (Database::File(path), Failure::Store) => {
-            tell_of(rt.alloc(), path, made_cause(rt, path), errors);
+            tell_store(rt, path, made_cause(rt, path), errors);
         }
         _ => tell_database(rt, database, failure, errors),
     }
@@ -111,12 +116,42 @@ pub fn tell<E: Write>(rt: &HostRuntime, path: &str, failure: Failure, errors: &m
     ensures { Tells (E.contents errors.old) (E.contents errors.new) }
 {
     let cause = match failure {
-        Failure::Store => store_cause(rt, path),
+        Failure::Store => return tell_store(rt, path, store_cause(rt, path), errors),
         Failure::NotADesk => desk_cause(rt, path),
         Failure::OldSchema => "rows of schema 1: migrate it",
         _ => return,
     };
     tell_of(rt.alloc(), path, cause, errors);
+}
+
+// Tells why SQLite refuses the file at a path: of one that is damaged, how many pages are, if their sums tell.
+#[tactic(auto, using(crate::proofs::KeepLemmas::tells_nothing))]
+fn tell_store<E: Write>(rt: &HostRuntime, path: &str, cause: &str, errors: &mut E)
+    ensures { Tells (E.contents errors.old) (E.contents errors.new) }
+{
+    match pages_of(rt, path, cause) {
+        Some(count) => tell_pages(rt.alloc(), path, count, errors),
+        None => tell_of(rt.alloc(), path, cause, errors),
+    }
+}
+
+// How many pages of a damaged file have another sum than theirs, if some have.
+fn pages_of(rt: &HostRuntime, path: &str, cause: &str) -> Option<u64> {
+    if cause != DAMAGED {
+        return None;
+    }
+    pages_without_sums(rt, path).filter(|count| *count > 0)
+}
+
+// Tells that so many pages have another sum than theirs.
+#[tactic(auto, using(crate::proofs::KeepLemmas::tells_nothing))]
+fn tell_pages<E: Write>(alloc: Global, path: &str, count: u64, errors: &mut E)
+    ensures { Tells (E.contents errors.old) (E.contents errors.new) }
+{
+    let told = format!(in alloc; "{count} pages without their sums, as sqlite3 leaves them, or damaged");
+    if let Ok(text) = told {
+        tell_of(alloc, path, &text, errors);
+    }
 }
 
 /// Tells that a desk has no operator: that in the file at the path, or one in memory. A fault of the stream
@@ -245,9 +280,7 @@ fn file_cause(rt: &HostRuntime, path: &str) -> &'static str {
         return cause;
     }
     match begins(rt, path) {
-        Some(true) => {
-            "a damaged page, the log of another file, rows that break a key, or a disk that fails"
-        }
+        Some(true) => DAMAGED,
         Some(false) => NO_DATABASE,
         None => "it can't be read",
     }

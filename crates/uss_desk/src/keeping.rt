@@ -19,6 +19,7 @@ ghost use Rattle.uss_desk.specs.Naming.{free_steps};
 use crate::causes::{new_cause, tell, tell_database, tell_of};
 use crate::naming::{Folder, Names, name_with, names_of, put_in_place};
 use crate::opening::{Unopened, Unread, open_failure};
+use crate::sums::has_sums;
 use desk_line::{Copying, Database, Exit, Failure, conclude};
 use desk_program::{CheckedFile, print_checked, print_copied};
 use desk_tables::{
@@ -27,8 +28,8 @@ use desk_tables::{
 use sqlite::{Connection, FileFrom, FileStore, Files, Start};
 use sqlite_disk::Disk;
 use std::alloc::{AllocError, Global};
-use std::fs::{self, File};
-use std::io::{self, ErrorKind, Read, Write};
+use std::fs;
+use std::io::Write;
 use std::snapshot::Snapshot;
 
 /// A connection with which a file was read, where `F` stands for what the file held.
@@ -105,12 +106,6 @@ fn refused_copy<D: Disk + Drop, N: Disk + Drop>(
         },
     }
 }
-
-// Where in its header a database says how many bytes at the end of each page are kept for sums, and how many
-// SQLite's cksumvfs needs (the SQLite file format, section 1.3.4).
-const RESERVED_AT: usize = 20;
-
-const RESERVED_FOR_SUMS: u8 = 8;
 
 // What is known of a file beside what it holds.
 #[derive(Clone, Copy)]
@@ -225,22 +220,6 @@ fn size_of(rt: &HostRuntime, path: &str) -> u64 {
         Ok(found) => found.len(),
         Err(_) => 0,
     }
-}
-
-fn has_sums(rt: &HostRuntime, path: &str) -> bool {
-    let mut header = [0u8; 24];
-    match read_header(rt, path, &mut header) {
-        Ok(()) => header[RESERVED_AT] == RESERVED_FOR_SUMS,
-        Err(_) => false,
-    }
-}
-
-// Reads the first bytes of a file. What is no regular file is not opened: a pipe would wait for a writer.
-fn read_header(rt: &HostRuntime, path: &str, header: &mut [u8]) -> io::Result<()> {
-    if !fs::metadata(rt, path)?.is_file() {
-        return Err(io::Error::from(ErrorKind::Unsupported));
-    }
-    File::open(rt, path)?.read_exact(header)
 }
 
 /// Copies what a database holds to a new file, prints how much it is, and answers how that ended and the
