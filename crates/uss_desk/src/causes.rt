@@ -124,7 +124,7 @@ pub fn tell<E: Write>(rt: &HostRuntime, path: &str, failure: Failure, errors: &m
     tell_of(rt.alloc(), path, cause, errors);
 }
 
-// Tells why SQLite refuses the file at a path: of one that is damaged, how many pages are, if their sums tell.
+// Tells why SQLite refuses the file at a path: of one that is damaged, how many pages, if their sums tell.
 #[tactic(auto, using(crate::proofs::KeepLemmas::tells_nothing))]
 fn tell_store<E: Write>(rt: &HostRuntime, path: &str, cause: &str, errors: &mut E)
     ensures { Tells (E.contents errors.old) (E.contents errors.new) }
@@ -148,7 +148,9 @@ fn pages_of(rt: &HostRuntime, path: &str, cause: &str) -> Option<u64> {
 fn tell_pages<E: Write>(alloc: Global, path: &str, count: u64, errors: &mut E)
     ensures { Tells (E.contents errors.old) (E.contents errors.new) }
 {
-    let told = format!(in alloc; "{count} pages without their sums, as sqlite3 leaves them, or damaged");
+    let told = format!(in alloc;
+        "{count} pages without their sums, as sqlite3 leaves them, or damaged"
+    );
     if let Ok(text) = told {
         tell_of(alloc, path, &text, errors);
     }

@@ -1,5 +1,5 @@
-//! The sums on the pages of a database, as SQLite's cksumvfs has them: the last eight bytes of each page. The desk
-//! keeps them, and sqlite3 doesn't.
+//! The sums on the pages of a database, as SQLite's cksumvfs has them: the last eight bytes of each page. The
+//! desk keeps them, and sqlite3 doesn't.
 
 ghost use Rattle.std.specs.Prelude.{◌≤◌, length};
 
@@ -7,8 +7,8 @@ use sqlite_wal::{PageSize, checksum_of};
 use std::fs::{self, File};
 use std::io::{self, ErrorKind, Read};
 
-// Where the header of a database says how large a page is, and how many bytes at the end of each page are kept
-// for a sum (the SQLite file format, sections 1.3.2 and 1.3.4).
+// Where the header of a database says how large a page is, and how many bytes at the end of each page are
+// kept for a sum (the SQLite file format, sections 1.3.2 and 1.3.4).
 const SIZE_AT: usize = 16;
 
 const RESERVED_AT: usize = 20;
