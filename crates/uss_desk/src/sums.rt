@@ -62,11 +62,11 @@ fn read_header(rt: &HostRuntime, path: &str, header: &mut [u8]) -> io::Result<()
 fn count_unsummed<R: Read>(file: &mut R, size: PageSize, count: u64) -> io::Result<u64> {
     let mut room = [0u8; MAX_PAGE];
     let page = &mut room[..size.bytes()];
-    let mut unsummed = 0u64;
+    let mut unsummed: u64 = 0;
     for _ in 0..count {
         file.read_exact(page)?;
         if !has_its_sum(page) {
-            unsummed += 1;
+            unsummed = unsummed.saturating_add(1);
         }
     }
     Ok(unsummed)
@@ -78,5 +78,5 @@ fn has_its_sum(page: &[u8]) -> bool
 {
     let (bytes, sum) = page.split_at(page.len() - SUM);
     let (first, second) = checksum_of(false, (0, 0), bytes);
-    sum[..4] == first.to_le_bytes() && sum[4..] == second.to_le_bytes()
+    sum[..4] == first.to_le_bytes()[..] && sum[4..] == second.to_le_bytes()[..]
 }
