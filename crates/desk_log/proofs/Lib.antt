@@ -1,0 +1,4 @@
+pub mod CountLemmas
+pub mod JudgeLemmas
+pub mod ReadLemmas
+pub mod WalkLemmas

@@ -1,0 +1,16 @@
+use Rattle.std.proofs.Common.{◌≡◌, ◌≤◌, ℕ, ◌+◌, List, length}
+use Rattle.sqlite_wal.specs.Recovery.{header}
+use Rattle.desk_log.specs.Damage.{commits_in}
+use Rattle.desk_log.specs.Walks.{HasFrame}
+use Rattle.desk_log.proofs.judging.count_commits.Given as goal
+
+-- the commits before the frame in hand are counted
+abbrev pub invariant-loop : goal.invariant-loop
+invariant-loop g l =
+    record {
+      few : l.commits ≤ l.counter;
+      counted : (page stop : ℕ) (bytes : List ℕ) → length l.fn.frame ≡ 24 + page → header bytes ≡ l.head
+          → HasFrame page bytes stop l.fn.frame (g.R.Read.remaining l.fn.log)
+          → HasFrame page bytes (stop + l.counter) l.frame (g.R.Read.remaining l.log)
+              × (l.commits ≡ commits_in page bytes stop l.counter);
+    }
