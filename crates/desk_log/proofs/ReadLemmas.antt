@@ -1,5 +1,5 @@
 -- Bytes that are read into a part of a room.
-use Rattle.std.proofs.Common.{◌≡◌, ℕ, ◌+◌, ◌-◌, ◌≤◌, List, ◌++◌, arith, length, take, slice_range, sym, ap, ◌∙◌, subst, le_refl, drop_at, length-take-le, length-append, Option}
+use Rattle.std.proofs.Common.{◌≡◌, ℕ, ◌+◌, ◌-◌, ◌≤◌, List, ◌++◌, arith, length, take, sym, ap, ◌∙◌, subst, le_refl, drop_at, length-take-le, length-append, Option}
 use Rattle.std.proofs.lemmas.Slice.{take-put_mid_below}
 use Rattle.std.specs.Io.KnownBytes.{Consumes, Keeps}
 use Rattle.std.proofs.KnownBytes.{Consumes-trans, Consumes-kept}
@@ -12,7 +12,6 @@ pub record Reached (a c : Option (List ℕ)) (room : List ℕ) (count : ℕ) : T
   pub taken : Consumes a c (take count room)
 
 module _ (from : ℕ) (old part : List ℕ) (a b c : Option (List ℕ)) (before : Reached a b old from) where
-
   room_left : from ≤ length (put_mid from (length old - from) old part) × (from + length part ≤ length (put_mid from (length old - from) old part))
   room_left =
       let after = post_of from (length old - from) old in
@@ -20,7 +19,6 @@ module _ (from : ℕ) (old part : List ℕ) (a b c : Option (List ℕ)) (before 
       let behind = length-append part after in
       let front = length-take-le from old before.within in
       (omega (arith, parts, behind, front), omega (arith, parts, behind, front))
-
 
   joined : (count : ℕ) → count ≤ length part → take from old ++ take count part ≡ take (from + count) (put_mid from (length old - from) old part)
   joined count fits =

@@ -1,17 +1,16 @@
 -- Steps from one frame of a log to the next.
-use Rattle.std.proofs.Common.{◌≡◌, ℕ, suc, ◌+◌, ◌-◌, ◌<◌, ◌≤◌, inl, inr, Bool, true, false, List, ◌++◌, length, take, drop, Option, Some, None, Result, Ok, Err, IfOk, IfSome, refl, sym, ap, ◌∙◌, subst, arith, length-append, length-drop, drop_at, drop-drop, add-one}
+use Rattle.std.proofs.Common.{◌≡◌, ℕ, suc, ◌+◌, ◌-◌, ◌<◌, inl, inr, Bool, true, false, List, ◌++◌, length, take, drop, Option, Some, None, Result, Ok, Err, IfOk, IfSome, refl, sym, ap, ◌∙◌, subst, arith, length-append, length-drop, drop_at, drop-drop, add-one}
 use Rattle.std.proofs.lemmas.Bool.{le-leb, leb-true}
 use Rattle.std.proofs.lemmas.Bool.Decides.{leb_tells}
 use Rattle.std.proofs.lemmas.List.{take_at}
 use Rattle.std.specs.Io.KnownBytes.{Consumes}
 use Rattle.sqlite_wal.specs.Format.{part, stored_sum, IsFrame}
-use Rattle.sqlite_wal.specs.Recovery.{Passes, frame, frame_at, header, sum_before}
+use Rattle.sqlite_wal.specs.Recovery.{Passes, frame_at, header, sum_before}
 use Rattle.sqlite_wal.proofs.PartLemmas.{frames_len-suc}
 use Rattle.desk_log.specs.Damage.{is_whole}
 use Rattle.desk_log.specs.Walks.{HasFrame, IsBefore, IsFollowed, IsNext, IsStop}
 
 module _ (page n : ℕ) (log room : List ℕ) (len : length room ≡ 24 + page) where
-
   -- the bytes of a frame stand in front of those that follow it
   frame_there : (rest : List ℕ) → drop (frame_at page n) log ≡ room ++ rest → HasFrame page log n room (Some rest)
   unfolding part
@@ -57,7 +56,6 @@ module _ (page n : ℕ) (log room : List ℕ) (len : length room ≡ 24 + page) 
       too_short (subst (λ o. IfSome o (λ rest. length rest < length room)) before (short refl))
 
 module _ (page n : ℕ) (log head room : List ℕ) (sum : ℕ × ℕ) (left : Option (List ℕ)) (same : header log ≡ head) (so_far : IsFollowed page log n sum) (next : HasFrame page log n room left) where
-
   passes : IsFrame head sum room → Passes page log n
   passes taken = record {
     within = leb-true _ _ next.whole;

@@ -1,8 +1,7 @@
 -- How far a log was read, frame by frame.
 use Rattle.std.specs.Prelude.{◌≡◌, ◌<◌, ◌≤◌, ℕ, suc, Bool, true, false, List, drop, Option, Some, None}
-use Rattle.sqlite_wal.specs.Format.{IsFrame}
-use Rattle.sqlite_wal.specs.Recovery.{Passes, frame, frame_at, header, sum_before}
-use Rattle.desk_log.specs.Damage.{commits_from, is_whole}
+use Rattle.sqlite_wal.specs.Recovery.{Passes, frame, frame_at, sum_before}
+use Rattle.desk_log.specs.Damage.{IsRun, ends_in, is_whole}
 use Rattle.desk_log.specs.declared.judging.Verdict.{Verdict}
 use Rattle.desk_log.specs.declared.judging.Verdict.TheVariants.{Damaged, Sound}
 
@@ -41,7 +40,13 @@ abbrev pub StopsAt : ℕ → List ℕ → List ℕ → Option (List ℕ) → Opt
 StopsAt page log bytes left None = IsAllTaken page log
 StopsAt page log bytes left (Some n) = IsStop page log n bytes left
 
+-- so many commits end in the run of frames from frame n on
+pub record IsCounted (page : ℕ) (log : List ℕ) (n commits : ℕ) : Type 0 where
+  pub frames : ℕ
+  pub run : IsRun page log n frames
+  pub lost : commits ≡ ends_in page log n frames
+
 -- what is told of a log in which recovery stops at frame n
 abbrev pub IsTold : ℕ → List ℕ → ℕ → Verdict → Type 0
-IsTold page log n Sound = commits_from page log n < 2
-IsTold page log n (Damaged stop commits) = (stop ≡ n) × (commits ≡ commits_from page log n) × (2 ≤ commits)
+IsTold page log n Sound = (commits : ℕ) × IsCounted page log n commits × (commits < 2)
+IsTold page log n (Damaged stop commits) = (stop ≡ n) × IsCounted page log n commits × (2 ≤ commits)

@@ -33,13 +33,9 @@ pub fn has_salts(head: &[u8; 32], frame: &[u8]) -> bool
 }
 
 /// 1 if a frame ends a commit, else 0.
-pub fn commits_of(head: &[u8; 32], frame: &[u8]) -> u64
+pub fn ends_of(frame: &[u8]) -> u64
     requires { 24 ≤ length frame.now }
-    ensures { result ≡ (if spec.ends_commit head.now frame.now then 1 else 0) }
+    ensures { result ≡ (if spec.ends_commit frame.now then 1 else 0) }
 {
-    if has_salts(head, frame) && number_at(frame, 4) != 0 {
-        1
-    } else {
-        0
-    }
+    if number_at(frame, 4) != 0 { 1 } else { 0 }
 }

@@ -4,10 +4,10 @@ ghost use Rattle.std.specs.Prelude.{◌≡◌, ◌<◌, ◌≤◌, ◌+◌, ◌^
 ghost use Rattle.sqlite_wal.specs.Format.{IsHeader};
 ghost use Rattle.sqlite_wal.specs.PageSize.{IsPageSize};
 ghost use Rattle.sqlite_wal.specs.Recovery.{header};
-ghost use Rattle.desk_log.specs.Damage.{IsVerdict, commits_from};
-ghost use Rattle.desk_log.specs.Walks.{HasFrame, IsBefore, IsNext, IsTold, StopsAt};
+ghost use Rattle.desk_log.specs.Damage.{IsVerdict};
+ghost use Rattle.desk_log.specs.Walks.{HasFrame, IsBefore, IsCounted, IsNext, IsTold, StopsAt};
 
-use crate::frames::{FRAME_HEADER, commits_of, has_salts, is_taken};
+use crate::frames::{FRAME_HEADER, ends_of, has_salts, is_taken};
 use crate::header::{HEADER, page_size_in};
 use crate::numbers::sum_at;
 use crate::reading::read_whole;
@@ -60,8 +60,8 @@ fn judge_frames<R: Read>(log: &mut R, head: &[u8; HEADER], frame: &mut [u8]) -> 
         → IfOk result (IsVerdict bytes) }
 {
     match follow(log, head, frame)? {
-        Some(stop) if has_salts(head, frame) => judge_rest(log, head, frame, stop),
-        _ => Ok(Verdict::Sound),
+        Some(stop) => judge_rest(log, head, frame, stop),
+        None => Ok(Verdict::Sound),
     }
 }
 
@@ -108,20 +108,19 @@ fn follow<R: Read>(log: &mut R, head: &[u8; HEADER], frame: &mut [u8]) -> io::Re
     Err(ErrorKind::FileTooLarge.into())
 }
 
-// How many commits end at the frame that was read last, or behind it.
-fn count_commits<R: Read>(
-    log: &mut R,
-    head: &[u8; HEADER],
-    frame: &mut [u8],
-) -> io::Result<u64>
+// How many commits end at the frame that was read last, or behind it as far as frames have the salts of the header.
+fn count_commits<R: Read>(log: &mut R, head: &[u8; HEADER], frame: &mut [u8]) -> io::Result<u64>
     requires { 24 ≤ length frame.old }
     ensures { (page stop : ℕ) (bytes : List ℕ) → length frame.old ≡ 24 + page → header bytes ≡ head.now
         → HasFrame page bytes stop frame.old (R.remaining log.old)
-        → IfOk result (λ commits. commits ≡ commits_from page bytes stop) }
+        → IfOk result (IsCounted page bytes stop) }
 {
     let mut commits = 0;
     for _ in 0..u64::MAX {
-        commits += commits_of(head, frame);
+        if !has_salts(head, frame) {
+            return Ok(commits);
+        }
+        commits += ends_of(frame);
         if !next_frame(log, frame)? {
             return Ok(commits);
         }

@@ -1,9 +1,9 @@
 //! Laws of what a damaged log is. Each is the contract of a function that does nothing.
 
-ghost use Rattle.std.specs.Prelude.{◌≡◌, ◌≢◌, ◌<◌, ◌≤◌, ℕ, List, [], true, false};
+ghost use Rattle.std.specs.Prelude.{◌≡◌, ◌<◌, ◌≤◌, ◌+◌, ℕ, suc, List, [], true, false};
 ghost use Rattle.sqlite_wal.specs.Format.{be32};
-ghost use Rattle.sqlite_wal.specs.Recovery.{Passes, header};
-ghost use Rattle.desk_log.specs.Damage.{IsDamaged, is_end, is_whole};
+ghost use Rattle.sqlite_wal.specs.Recovery.{Passes, frame, header};
+ghost use Rattle.desk_log.specs.Damage.{IsDamaged, ends_commit, is_salted, is_whole};
 
 /// An empty log is not damaged.
 pub fn empty_is_sound()
@@ -12,16 +12,25 @@ pub fn empty_is_sound()
 
 /// A log of which recovery takes each whole frame is not damaged.
 pub fn good_is_sound()
-    ensures { (log : List ℕ) → ((i : ℕ) → is_whole (be32 (header log) 8) log i ≡ true → Passes (be32 (header log) 8) log i)
+    ensures { (log : List ℕ) → let page = be32 (header log) 8 in
+        ((i : ℕ) → is_whole page log i ≡ true → Passes page log i)
         → (stop commits : ℕ) → ¬ IsDamaged log stop commits }
 {}
 
-/// A log is not damaged where, behind the frames that recovery takes, one frame at most ends a commit: that of the
-/// commit that a crash tore.
+/// Nor is one whose last commit alone is torn, whatever a crash left of its frames: recovery takes those before it,
+/// none of its own but the last ends a commit, and the frame behind that lacks the log's salts.
 pub fn torn_is_sound()
-    ensures { (log : List ℕ) (taken last : ℕ)
-        → ((i : ℕ) → i < taken → Passes (be32 (header log) 8) log i)
-        → ((i : ℕ) → taken ≤ i → i ≢ last → is_end (be32 (header log) 8) log i ≡ false)
+    ensures { (log : List ℕ) (first last : ℕ) → let page = be32 (header log) 8 in
+        ((i : ℕ) → i < first → Passes page log i)
+        → ((i : ℕ) → first ≤ i → i < last → ends_commit (frame page log i) ≡ false)
+        → is_salted page log (suc last) ≡ false
+        → (stop commits : ℕ) → ¬ IsDamaged log stop commits }
+{}
+
+/// Nor is one in which recovery stops at a frame without the log's salts, as behind a shut gate, whatever follows.
+pub fn shut_is_sound()
+    ensures { (log : List ℕ) (first : ℕ) → let page = be32 (header log) 8 in
+        ((i : ℕ) → i < first → Passes page log i) → is_salted page log first ≡ false
         → (stop commits : ℕ) → ¬ IsDamaged log stop commits }
 {}
 

@@ -9,4 +9,4 @@ mod numbers;
 mod reading;
 
 pub use judging::{Verdict, judge_log};
-pub use laws::{damaged_once, empty_is_sound, good_is_sound, torn_is_sound};
+pub use laws::{damaged_once, empty_is_sound, good_is_sound, shut_is_sound, torn_is_sound};

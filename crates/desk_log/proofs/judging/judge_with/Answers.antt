@@ -1,5 +1,5 @@
-use Rattle.std.proofs.Common.{◌+◌, arith, rules, refl, sym, subst, ◌∙◌, length-take-le}
-use Rattle.desk_log.proofs.JudgeLemmas.{told_of_all, no_log}
+use Rattle.std.proofs.Common.{◌+◌, arith, refl, length-take-le}
+use Rattle.desk_log.proofs.JudgeLemmas.{told_of_all, no_log, too_short}
 use Rattle.desk_log.proofs.judging.judge_with.Goals as goal
 
 pub returns-in-Some : goal.returns-in-Some
@@ -13,3 +13,7 @@ pub returns-in-None : goal.returns-in-None
 returns-in-None g c =
     no_log c.read_whole.new.room _ _ c.read_whole.auto.room (c.in_ok-read_whole.ensures.whole c.if-not-branch.false)
     (c.in-None.ensures.none refl)
+
+pub returns-then-not-branch : goal.returns-then-not-branch
+returns-then-not-branch g c =
+    too_short _ c.read_whole.new.room c.read_whole.auto.room (c.in_ok-read_whole.ensures.short c.if-not-branch.true)

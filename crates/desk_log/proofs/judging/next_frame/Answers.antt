@@ -1,4 +1,4 @@
-use Rattle.std.proofs.Common.{arith, rules, sym, subst, ◌∙◌}
+use Rattle.std.proofs.Common.{◌∙◌}
 use Rattle.desk_log.proofs.WalkLemmas.{next_read}
 use Rattle.desk_log.proofs.judging.next_frame.Goals as goal
 
