@@ -13,7 +13,8 @@ one_at_most true one is = omega (arith, is)
 one_at_most false one is = omega (arith, is)
 
 -- the frames before this one have the log's salts, and it is in hand
-pub record IsCounting (page : ℕ) (log : List ℕ) (stop n count : ℕ) (room : List ℕ) (left : Option (List ℕ)) : Type 0 where
+pub record IsCounting (page : ℕ) (log : List ℕ) (stop n count : ℕ) (room : List ℕ)
+    (left : Option (List ℕ)) : Type 0 where
   pub salted : (i : ℕ) → i < n → is_salted page log (stop + i) ≡ true
   pub so_far : count ≡ ends_in page log stop n
   pub next : HasFrame page log (stop + n) room left
@@ -36,7 +37,8 @@ in_hand page i log head room left salted same next is =
     ∙ ap₂ has_salts same (sym next.same)
     ∙ is
 
-module _ (page stop n count : ℕ) (log head room : List ℕ) (left : Option (List ℕ)) (same : header log ≡ head) (here : IsCounting page log stop n count room left) where
+module _ (page stop n count : ℕ) (log head room : List ℕ) (left : Option (List ℕ))
+    (same : header log ≡ head) (here : IsCounting page log stop n count room left) where
   -- the next frame is to be read
   pub before_next : IsBefore page log (stop + (n + 1)) left
   before_next =
@@ -48,7 +50,11 @@ module _ (page stop n count : ℕ) (log head room : List ℕ) (left : Option (Li
   ends_here unsalted =
       record {
         frames = n;
-        run = record { salted = here.salted; ended = in_hand page (stop + n) log head room left false same here.next unsalted };
+        run = record {
+          salted = here.salted;
+          ended =
+              in_hand page (stop + n) log head room left false same here.next unsalted;
+        };
         lost = here.so_far;
       }
 

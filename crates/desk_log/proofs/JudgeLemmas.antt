@@ -51,9 +51,11 @@ pub too_short : (old : Option (List ℕ)) (room : List ℕ) → length room ≡ 
     → IfSome old (λ bytes. length bytes < length room) → IfSome old (λ bytes. IsVerdict bytes Sound)
 too_short None room len short = tt
 too_short (Some bytes) room len short =
-    λ stop commits damaged. absurd (omega (arith, len, short, leb-true _ _ (first_whole _ bytes stop commits damaged)))
+    λ stop commits damaged. absurd
+    (omega (arith, len, short, leb-true _ _ (first_whole _ bytes stop commits damaged)))
 
-module _ (page : ℕ) (log head : List ℕ) (same : header log ≡ head) (is_head : IsHeader page head) (size : IsPageSize page) where
+module _ (page : ℕ) (log head : List ℕ) (same : header log ≡ head) (is_head : IsHeader page head)
+    (size : IsPageSize page) where
   page_is : be32 (header log) 8 ≡ page
   page_is = ap (λ h. be32 h 8) same ∙ is_head.size
 
@@ -69,13 +71,15 @@ module _ (page : ℕ) (log head : List ℕ) (same : header log ≡ head) (is_hea
         | inr h ↦ true≢false (sym (whole_before page log taken.0 stop (omega (arith, h.1)) whole) ∙ taken.1)
       ]
 
-  counted_once : (n commits others : ℕ) → IsDamagedAt page log n commits → IsCounted page log n others → commits ≡ others
+  counted_once : (n commits others : ℕ) → IsDamagedAt page log n commits → IsCounted page log n others
+      → commits ≡ others
   counted_once n commits others damaged counted =
       let run = one_run page log n damaged.frames counted.frames damaged.run counted.run in
       damaged.lost ∙ ap (ends_in page log n) run ∙ sym counted.lost
 
   -- what is told of a log in which recovery stops at frame n
-  pub told_at : {E : Type 0} (n : ℕ) (room : List ℕ) (left : Option (List ℕ)) (r : Result Verdict E) → IsStop page log n room left
+  pub told_at : {E : Type 0} (n : ℕ) (room : List ℕ) (left : Option (List ℕ)) (r : Result Verdict E)
+      → IsStop page log n room left
       → IfOk r (IsTold page log n) → IfOk r (IsVerdict log)
   told_at n room left (Err e) at told = tt
   told_at n room left (Ok Sound) at told =
@@ -95,4 +99,5 @@ module _ (page : ℕ) (log head : List ℕ) (same : header log ≡ head) (is_hea
         lost = told.1.lost;
         several = told.2;
       } in
-      subst (λ p. IsDamagedAt p log stop commits) (sym page_is) (subst (λ k. IsDamagedAt page log k commits) (sym told.0) there)
+      subst (λ p. IsDamagedAt p log stop commits) (sym page_is)
+      (subst (λ k. IsDamagedAt page log k commits) (sym told.0) there)

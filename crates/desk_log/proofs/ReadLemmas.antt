@@ -12,7 +12,8 @@ pub record Reached (a c : Option (List ℕ)) (room : List ℕ) (count : ℕ) : T
   pub taken : Consumes a c (take count room)
 
 module _ (from : ℕ) (old part : List ℕ) (a b c : Option (List ℕ)) (before : Reached a b old from) where
-  room_left : from ≤ length (put_mid from (length old - from) old part) × (from + length part ≤ length (put_mid from (length old - from) old part))
+  room_left : from ≤ length (put_mid from (length old - from) old part)
+      × (from + length part ≤ length (put_mid from (length old - from) old part))
   room_left =
       let after = post_of from (length old - from) old in
       let parts = length-append (take from old) (part ++ after) in
@@ -20,12 +21,15 @@ module _ (from : ℕ) (old part : List ℕ) (a b c : Option (List ℕ)) (before 
       let front = length-take-le from old before.within in
       (omega (arith, parts, behind, front), omega (arith, parts, behind, front))
 
-  joined : (count : ℕ) → count ≤ length part → take from old ++ take count part ≡ take (from + count) (put_mid from (length old - from) old part)
+  joined : (count : ℕ) → count ≤ length part → take from old ++ take count part
+      ≡ take (from + count) (put_mid from (length old - from) old part)
   joined count fits =
       let new = put_mid from (length old - from) old part in
       let front = take-put_mid_below from (length old - from) old part from (le_refl from) before.within in
       let after = post_of from (length old - from) old in
-      let behind = ap (take count) (drop_at (take from old) (part ++ after) from (length-take-le from old before.within)) ∙ take-append-le count part after fits in
+      let front_len = length-take-le from old before.within in
+      let behind = ap (take count) (drop_at (take from old) (part ++ after) from front_len)
+      ∙ take-append-le count part after fits in
       ap (λ l. l ++ take count part) (sym front)
       ∙ ap (λ l. take from new ++ l) (sym behind)
       ∙ sym (take-add from count new)
@@ -45,6 +49,8 @@ module _ (from : ℕ) (old part : List ℕ) (a b c : Option (List ℕ)) (before 
       record {
         within = room_left.0;
         taken =
-            subst (Consumes a c) (sym (take-put_mid_below from (length old - from) old part from (le_refl from) before.within))
+            let start = le_refl from in
+            let same = take-put_mid_below from (length old - from) old part from start before.within in
+            subst (Consumes a c) (sym same)
             (Consumes-kept a b c _ before.taken kept);
       }

@@ -8,17 +8,20 @@ use Rattle.sqlite_wal.specs.Format.{part, stored_sum, IsFrame}
 use Rattle.sqlite_wal.specs.Recovery.{Passes, frame_at, header, sum_before}
 use Rattle.sqlite_wal.proofs.PartLemmas.{frames_len-suc}
 use Rattle.desk_log.specs.Damage.{is_whole}
-use Rattle.desk_log.specs.Walks.{HasFrame, IsBefore, IsFollowed, IsNext, IsStop}
+use Rattle.desk_log.specs.Walks.{HasFrame, IsBefore, IsFollowed, IsNext}
 
 module _ (page n : ℕ) (log room : List ℕ) (len : length room ≡ 24 + page) where
   -- the bytes of a frame stand in front of those that follow it
-  frame_there : (rest : List ℕ) → drop (frame_at page n) log ≡ room ++ rest → HasFrame page log n room (Some rest)
+  frame_there : (rest : List ℕ) → drop (frame_at page n) log ≡ room ++ rest
+      → HasFrame page log n room (Some rest)
   unfolding part
   frame_there rest split =
       let sizes = length-append room rest in
       let left = length-drop (frame_at page n) log in
-      let total : length log - frame_at page n ≡ length room + length rest = sym left ∙ ap length split ∙ sizes in
-      let further : frame_at page (suc n) ≡ frame_at page n + (24 + page) = omega (arith, frames_len-suc page n) in
+      let total : length log - frame_at page n ≡ length room + length rest = sym left ∙ ap length split
+      ∙ sizes in
+      let further : frame_at page (suc n) ≡ frame_at page n + (24 + page) =
+      omega (arith, frames_len-suc page n) in
       record {
         whole = le-leb _ _ (omega (arith, total, len));
         same = sym (ap (take (24 + page)) split ∙ take_at room rest (24 + page) len);
@@ -55,12 +58,15 @@ module _ (page n : ℕ) (log room : List ℕ) (len : length room ≡ 24 + page) 
   next_read old new (Ok false) whole short before =
       too_short (subst (λ o. IfSome o (λ rest. length rest < length room)) before (short refl))
 
-module _ (page n : ℕ) (log head room : List ℕ) (sum : ℕ × ℕ) (left : Option (List ℕ)) (same : header log ≡ head) (so_far : IsFollowed page log n sum) (next : HasFrame page log n room left) where
+module _ (page n : ℕ) (log head room : List ℕ) (sum : ℕ × ℕ) (left : Option (List ℕ))
+    (same : header log ≡ head) (so_far : IsFollowed page log n sum)
+    (next : HasFrame page log n room left) where
   passes : IsFrame head sum room → Passes page log n
   passes taken = record {
     within = leb-true _ _ next.whole;
     passes = subst (λ f. IsFrame (header log) (sum_before page log n) f) next.same
-        (subst (λ s. IsFrame (header log) s room) so_far.same (subst (λ h. IsFrame h sum room) (sym same) taken));
+        (subst (λ s. IsFrame (header log) s room) so_far.same
+        (subst (λ h. IsFrame h sum room) (sym same) taken));
   }
 
   same_place : (i : ℕ) → i < suc n → n < suc i → n ≡ i
@@ -80,16 +86,7 @@ module _ (page n : ℕ) (log head room : List ℕ) (sum : ℕ × ℕ) (left : Op
       → IsFollowed page log (n + 1) after × IsBefore page log (n + 1) left
   follows_on after is taken =
       let further = sym (add-one n) in (
-        subst (λ k. IsFollowed page log k after) further (subst (IsFollowed page log (suc n)) (sym is) (follows taken)),
+        subst (λ k. IsFollowed page log k after) further
+            (subst (IsFollowed page log (suc n)) (sym is) (follows taken)),
         subst (λ k. IsBefore page log k left) further next.behind,
       )
-
-  -- or stops there
-  pub stops : ¬ IsFrame head sum room → IsStop page log n room left
-  stops refused = record {
-    taken = so_far.taken;
-    refused = λ p. refused (subst (λ h. IsFrame h sum room) same
-        (subst (λ s. IsFrame (header log) s room) (sym so_far.same)
-        (subst (λ f. IsFrame (header log) (sum_before page log n) f) (sym next.same) p.passes)));
-    next = next;
-  }

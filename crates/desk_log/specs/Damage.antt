@@ -1,9 +1,9 @@
 -- A log that damage has cut short, and no crash (the SQLite file format, section 4, "The WAL file format").
 --
--- A commit is written behind all that an earlier one has synced, and the place behind its own last frame lacks the
--- log's salts until the next is written there. So of the frames that follow one another with these salts, from the
--- first that recovery does not take, a crash leaves the end of one commit at most. Two ends were written by two
--- commits, of which the first was synced before the second began.
+-- A commit is written behind all that an earlier one has synced, and the place behind its own last frame
+-- lacks the log's salts until the next is written there. So of the frames that follow one another with these
+-- salts, from the first that recovery does not take, a crash leaves the end of one commit at most. Two ends
+-- were written by two commits, of which the first was synced before the second began.
 use Rattle.std.specs.Prelude.{◌≡◌, ◌≤◌, ◌<◌, ℕ, zero, suc, ◌+◌, ◌==◌, ◌&&◌, not, nat_le, if◌then◌else◌, Bool, true, false, List, length}
 use Rattle.std.specs.Str.{bytes_eq}
 use Rattle.sqlite_wal.specs.Format.{part, be32, IsHeader, commit_size}
@@ -39,8 +39,8 @@ pub record IsRun (page : ℕ) (log : List ℕ) (from n : ℕ) : Type 0 where
   pub salted : (i : ℕ) → i < n → is_salted page log (from + i) ≡ true
   pub ended : is_salted page log (from + n) ≡ false
 
--- Recovery stops at frame `stop`, and among the frames from there on that have the log's salts two commits end or
--- more. Such a log of pages of this size is damaged at that frame, and loses these commits.
+-- Recovery stops at frame `stop`, and among the frames from there on that have the log's salts two commits
+-- end or more. Such a log of pages of this size is damaged at that frame, and loses these commits.
 pub record IsDamagedAt (page : ℕ) (log : List ℕ) (stop commits : ℕ) : Type 0 where
   pub head : IsHeader page (header log)
   pub size : IsPageSize page

@@ -87,8 +87,8 @@ fn judge_rest<R: Read>(
     })
 }
 
-// Reads as long as recovery takes the frames, and answers at which whole frame it stops, if it does. That frame
-// was read last then.
+// Reads as long as recovery takes the frames, and answers at which whole frame it stops, if it does. That
+// frame was read last then.
 fn follow<R: Read>(log: &mut R, head: &[u8; HEADER], frame: &mut [u8]) -> io::Result<Option<u64>>
     requires { 24 ≤ length frame.old }
     ensures { (page : ℕ) (bytes : List ℕ) → length frame.old ≡ 24 + page → header bytes ≡ head.now
@@ -108,7 +108,8 @@ fn follow<R: Read>(log: &mut R, head: &[u8; HEADER], frame: &mut [u8]) -> io::Re
     Err(ErrorKind::FileTooLarge.into())
 }
 
-// How many commits end at the frame that was read last, or behind it as far as frames have the salts of the header.
+// How many commits end at the frame that was read last, or behind it as far as frames have the salts of the
+// header.
 fn count_commits<R: Read>(log: &mut R, head: &[u8; HEADER], frame: &mut [u8]) -> io::Result<u64>
     requires { 24 ≤ length frame.old }
     ensures { (page stop : ℕ) (bytes : List ℕ) → length frame.old ≡ 24 + page → header bytes ≡ head.now

@@ -17,8 +17,8 @@ pub fn good_is_sound()
         → (stop commits : ℕ) → ¬ IsDamaged log stop commits }
 {}
 
-/// Nor is one whose last commit alone is torn, whatever a crash left of its frames: recovery takes those before it,
-/// none of its own but the last ends a commit, and the frame behind that lacks the log's salts.
+/// Nor is one whose last commit alone is torn, whatever a crash left of its frames: recovery takes those
+/// before it, none of its own but the last ends a commit, and the frame behind that lacks the log's salts.
 pub fn torn_is_sound()
     ensures { (log : List ℕ) (first last : ℕ) → let page = be32 (header log) 8 in
         ((i : ℕ) → i < first → Passes page log i)
@@ -27,7 +27,8 @@ pub fn torn_is_sound()
         → (stop commits : ℕ) → ¬ IsDamaged log stop commits }
 {}
 
-/// Nor is one in which recovery stops at a frame without the log's salts, as behind a shut gate, whatever follows.
+/// Nor is one in which recovery stops at a frame without the log's salts, as behind a shut gate, whatever
+/// follows.
 pub fn shut_is_sound()
     ensures { (log : List ℕ) (first : ℕ) → let page = be32 (header log) 8 in
         ((i : ℕ) → i < first → Passes page log i) → is_salted page log first ≡ false

@@ -11,7 +11,8 @@ returns-then-ne c = (
   λ no'. absurd (false≢true no'),
   λ passes. elim (c.then-ne.branch) [
     | then-ne-via-then-ne w ↦ absurd (salts_differ _ _ (sym w.if-ne.true ∙ c.ne.ensures) passes.salt)
-    | then-ne-via-else-ne+then-number_at-eq0 w ↦ absurd (passes.page (sym w.number_at.ensures ∙ w.if-number_at-eq0.true))
+    | then-ne-via-else-ne+then-number_at-eq0 w ↦ absurd
+        (passes.page (sym w.number_at.ensures ∙ w.if-number_at-eq0.true))
   ],
 )
 
@@ -19,7 +20,8 @@ pub returns : goal.returns
 returns c =
     let decides = same_sums _ _ _ c.eq.ensures in
     let big = is_big c.args.head.now in
-    let front = ap (checksum big c.args.before) (part_front c.args.frame.now 8) ∙ sym c.checksum_of-front.ensures in
+    let front = ap (checksum big c.args.before) (part_front c.args.frame.now 8)
+    ∙ sym c.checksum_of-front.ensures in
     let ours = ap₂ (checksum big) front (sym (take_rest c.args.frame.now 24)) ∙ sym c.checksum_of.ensures in (
       λ same. record {
         salt = salts_agree _ _ c.if-ne.ensures;

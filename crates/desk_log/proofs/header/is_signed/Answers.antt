@@ -7,7 +7,8 @@ pub returns : goal.returns
 returns c =
     let decides = same_sums _ _ _ c.eq.ensures in
     let ours =
-    ap (checksum (is_big c.args.head.now) (0, 0)) (part_front c.args.head.now 24) ∙ sym c.checksum_of.ensures in (
+    ap (checksum (is_big c.args.head.now) (0, 0)) (part_front c.args.head.now 24)
+    ∙ sym c.checksum_of.ensures in (
       λ same. record {
         first = c.if-head-ne55.false;
         second = c.if-head-ne127.false;

@@ -25,7 +25,8 @@ loop-preserved g c = record {
       let salted = sym c.has_salts.ensures ∙ is_so in
       let behind = before_next page stop n _ bytes _ _ _ head here in
       let next =
-      rw c.if-not-branch.false at (c.in_ok-next_frame.ensures page (stop + (n + 1)) bytes (c.loop.auto.frame ∙ len) behind) in
+      rw c.if-not-branch.false at (c.in_ok-next_frame.ensures page (stop + (n + 1)) bytes
+      (c.loop.auto.frame ∙ len) behind) in
       goes_on page stop n _ bytes _ _ _ head here _ c.ends_of.ensures salted _ _ next;
 }
 
@@ -37,5 +38,6 @@ returns-then-not-branch g c page stop bytes len head first =
     let salted = sym c.has_salts.ensures ∙ is_so in
     let behind = before_next page stop n _ bytes _ _ _ head here in
     let next =
-    rw c.if-not-branch.true at (c.in_ok-next_frame.ensures page (stop + (n + 1)) bytes (c.loop.auto.frame ∙ len) behind) in
+    rw c.if-not-branch.true at (c.in_ok-next_frame.ensures page (stop + (n + 1)) bytes
+    (c.loop.auto.frame ∙ len) behind) in
     ends_behind page stop n _ bytes _ _ _ head here _ c.ends_of.ensures salted next

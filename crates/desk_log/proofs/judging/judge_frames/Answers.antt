@@ -10,4 +10,5 @@ returns-in-Some g c page bytes len same is_head size before =
 
 pub returns-in-None : goal.returns-in-None
 returns-in-None g c page bytes len same is_head size before =
-    all_taken page bytes _ same is_head size (rw c.in-None.is at (c.in_ok-stop.ensures page bytes len same before))
+    all_taken page bytes _ same is_head size (rw c.in-None.is at
+    (c.in_ok-stop.ensures page bytes len same before))

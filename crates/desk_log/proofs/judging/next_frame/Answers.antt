@@ -4,5 +4,6 @@ use Rattle.desk_log.proofs.judging.next_frame.Goals as goal
 
 pub returns : goal.returns
 returns g c page n bytes len before =
-    next_read page n bytes c.read_whole.new.room (c.read_whole.auto.room ∙ len) _ _ _ c.read_whole.ensures.whole
+    next_read page n bytes c.read_whole.new.room
+    (c.read_whole.auto.room ∙ len) _ _ _ c.read_whole.ensures.whole
     c.read_whole.ensures.short before

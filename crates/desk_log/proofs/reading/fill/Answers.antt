@@ -9,7 +9,8 @@ loop-preserved g c =
     elim c.match-read.branch [
       | in-Ok w ↦
           subst (Reached _ _ _) (sym w.count-is)
-          (more_taken c.loop.count c.loop.room c.read.new.buf _ _ _ so_far w.in-Ok.more w.in-Ok.ensures.bound.0
+          (more_taken c.loop.count c.loop.room c.read.new.buf _ _ _ so_far w.in-Ok.more
+          w.in-Ok.ensures.bound.0
           w.in-Ok.ensures.bytes.0)
       | in-Err+else-ne w ↦
           subst (Reached _ _ _) (sym w.count-is)
