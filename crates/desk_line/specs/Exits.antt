@@ -39,6 +39,7 @@ failure_status failure.Network = 4
 failure_status failure.Clock = 4
 failure_status failure.NotADesk = 4
 failure_status failure.OldSchema = 4
+failure_status failure.DamagedLog = 4
 
 abbrev pub token_word : TokenFault → List ℕ
 token_word token.Empty = codes "empty"
@@ -69,6 +70,7 @@ failure_word failure.Network = codes "network"
 failure_word failure.Clock = codes "clock"
 failure_word failure.NotADesk = codes "not_a_desk"
 failure_word failure.OldSchema = codes "old_schema"
+failure_word failure.DamagedLog = codes "damaged_log"
 
 -- the line that tells a failure
 abbrev pub failure_line : Failure → List ℕ

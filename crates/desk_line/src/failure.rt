@@ -48,6 +48,8 @@ pub enum Failure {
     NotADesk,
     /// A database has rows of schema 1, which have to be migrated.
     OldSchema,
+    /// The log of a database is damaged.
+    DamagedLog,
 }
 
 impl Failure {
@@ -62,6 +64,7 @@ impl Failure {
             Failure::Token(_) | Failure::Rect(_) | Failure::TooManyCells => 3,
             Failure::Broken | Failure::Memory | Failure::Store | Failure::Write => 4,
             Failure::Network | Failure::Clock | Failure::NotADesk | Failure::OldSchema => 4,
+            Failure::DamagedLog => 4,
         }
     }
 
@@ -86,6 +89,7 @@ impl Failure {
             Failure::Value => "value",
             Failure::NotADesk => "not_a_desk",
             Failure::OldSchema => "old_schema",
+            Failure::DamagedLog => "damaged_log",
         }
     }
 }

@@ -1,7 +1,8 @@
--- Read first: Running, Opening, Guarding, Closing, Keeping.
+-- Read first: Running, Opening, Guarding, Closing, Keeping; Damage stands alone.
 pub mod Opening
 pub mod Guarding
 pub mod Running
 pub mod Closing
 pub mod Naming
 pub mod Keeping
+pub mod Damage

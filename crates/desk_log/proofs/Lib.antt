@@ -1,0 +1,5 @@
+pub mod CountLemmas
+pub mod DamageLemmas
+pub mod JudgeLemmas
+pub mod ReadLemmas
+pub mod WalkLemmas
