@@ -3,7 +3,7 @@ import pathlib
 import re
 from typing import Optional
 
-from tables import lines_of_the_program
+from documents import lines_of_the_program
 
 Option = tuple[str, Optional[str]]
 """Its name, and that of its value."""

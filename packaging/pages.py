@@ -3,7 +3,7 @@ import pathlib
 import re
 from typing import Optional
 
-from tables import codes_in, failures, lines_of_the_program, plain, rows_of
+from documents import codes_in, failures, lines_of_the_program, plain, rows_of
 
 NAME = "the planning desk of one UAS service supplier"
 DESCRIPTION = """

@@ -32,7 +32,7 @@ def program_is_there() -> None:
 @pytest.fixture(scope="session")
 def is_every(pytestconfig: pytest.Config) -> bool:
     """Whether each growth is refused."""
-    return bool(pytestconfig.getoption("--every"))
+    return bool(pytestconfig.getoption("--every", False))
 
 
 @pytest.fixture

@@ -47,7 +47,7 @@ class Nginx:
         self._write()
         words = ["nginx", "-p", str(self._folder), "-c", str(self._folder / "nginx.conf")]
         with open(self._folder / "nginx.errors", "w", encoding="utf-8") as errors:
-            self.process = subprocess.Popen(words, stderr=errors)
+            self.process = subprocess.Popen(words, stderr=errors, umask=0o027)
         until("nginx", lambda: is_listening(self.port))
         return self
 

@@ -23,15 +23,18 @@ TRIES = 5
 class Served:
     """A desk at a free port, from its first line of output on; it is killed when it is left.
 
-    `words` are further words of the line: `"--db", path`, `"alfa=100"`; `under` is a command before it, as `strace`.
+    `words` are further words of the line: `"--db", path`, `"alfa=100"`; `under` is a command before it, as `strace`;
+    with `at` it is at that port, or at none.
     """
 
     port: int
     process: subprocess.Popen[bytes]
     errors: IO[bytes]
 
-    def __init__(self, *words: str, connections: int = 1_000_000, under: Sequence[str] = ()) -> None:
-        self._words, self._under = words, under
+    def __init__(
+        self, *words: str, connections: int = 1_000_000, under: Sequence[str] = (), at: int | None = None
+    ) -> None:
+        self._words, self._under, self._at = words, under, at
         self.connections = connections
 
     @property
@@ -42,13 +45,13 @@ class Served:
     def start(self) -> None:
         """Starts it, and returns when it listens."""
         for _ in range(TRIES):
-            self._start_at(free_port())
+            self._start_at(self._at or free_port())
             assert self.process.stdout
             line = self.process.stdout.readline()
             if line == f"listening 127.0.0.1:{self.port}\n".encode():
                 return
             ended = self.end()
-            if ended.errors != "uss_desk: network\n":
+            if self._at or not ended.errors.endswith("uss_desk: network\n"):
                 break
         raise OSError(f"the desk doesn't listen: {line!r}, {ended}")
 

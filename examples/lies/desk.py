@@ -71,7 +71,7 @@ class Desk:
                 return
             self.process.kill()
             errors = self.process.communicate()[1].decode()
-            if errors != "uss_desk: network\n":
+            if not errors.endswith("uss_desk: network\n"):
                 break
         raise OSError(f"serve doesn't listen: {errors!r}")
 

@@ -1,8 +1,5 @@
 """What all parts are given: operators, places, the map's program and how long it asks the desk again."""
 
-from harness.setting import Setting
-from uss_desk_client import Desk
-
 OPERATORS = {"alfa": "the word of alfa 4711", "bravo": "the word of bravo 4712", "carol": "the word of carol 4713"}
 """Names and passwords; nothing that the page shows has these words."""
 MIDDLE = (47.3750, 8.5450)
@@ -16,8 +13,3 @@ MAP_PATIENCE = 8
 """Seconds that the map's program asks the desk again."""
 SHORT = 4
 """The same of carol's: less than a proxy wants it to wait after too many requests."""
-
-
-def desk_of(setting: Setting, name: str) -> Desk:
-    """The desk at its own port, as an operator."""
-    return Desk(f"http://127.0.0.1:{setting.port}", operator=name, patience=60)

@@ -5,11 +5,12 @@ import time
 from collections.abc import Sequence
 from typing import Any
 
+from clients.given import desk_itself
 from harness.places import DOCS
 from harness.program import run as run_program
 from harness.setting import Setting
 from map.browser import Page, Program, browser
-from map.given import HOUR, MAP_PATIENCE, OPERATORS, desk_of
+from map.given import HOUR, MAP_PATIENCE, OPERATORS
 from uss_desk_client import Circle, Corridor, Polygon, area_of, new_id
 from uss_desk_client.shapes import Shape
 
@@ -92,7 +93,7 @@ def shape_of(kind: str, places: Sequence[Place], metres: float) -> Shape:
 
 def plan_a_day(setting: Setting, day: int) -> list[dict[str, Any]]:
     """Flights of alfa and of bravo; what the browser keeps of alfa's, as if they had been drawn there."""
-    alfa, bravo, kept = desk_of(setting, "alfa"), desk_of(setting, "bravo"), list[dict[str, Any]]()
+    alfa, bravo, kept = desk_itself(setting, "alfa"), desk_itself(setting, "bravo"), list[dict[str, Any]]()
     for digit, (name, kind, places, metres, (lower, upper), hours, priority) in zip("1234", FLIGHTS):
         plan_id = f"{digit * 8}-{digit * 4}-4{digit * 3}-8{digit * 3}-{digit * 12}"
         start, end = (day + int(hour * HOUR) for hour in hours)

@@ -3,11 +3,12 @@
 import re
 import time
 
+from clients.given import desk_itself
 from harness.rows import Rows
 from harness.setting import Setting
 from map.browser import Driver, Page
 from map.conftest import Programs
-from map.given import HOUR, MIDDLE, WIDE, desk_of
+from map.given import HOUR, MIDDLE, WIDE
 from map.troubles import troubles
 from selenium.webdriver.common.keys import Keys
 from uss_desk_client import Polygon, area_of, new_id
@@ -47,10 +48,10 @@ def block(rows: Rows, setting: Setting, bravo: Page) -> None:
     bravo.lengthen(2 * HOUR)
     bravo.keys("#ask", Keys.ENTER)
     rows.equal("bravo: free", "free", bravo.verdict())
-    rows.equal("bravo: nothing was stored by asking", 0, len(desk_of(setting, "bravo").plans()))
+    rows.equal("bravo: nothing was stored by asking", 0, len(desk_itself(setting, "bravo").plans()))
     bravo.keys("#plan", Keys.ENTER)
     bravo.told("Plan polygon 1: done, it is planned")
-    (plan,) = desk_of(setting, "bravo").plans()
+    (plan,) = desk_itself(setting, "bravo").plans()
     rows.equal(
         "bravo: planned",
         ("Planned", 20, 600, 1200),
@@ -101,12 +102,12 @@ def refused_and_moved(rows: Rows, setting: Setting, alfa: Page) -> None:
     rows.holds("alfa: it took more than one step", moved > 1)
     alfa.click("#plan")
     alfa.told("Plan survey: done, it is planned")
-    (plan,) = desk_of(setting, "alfa").plans()
-    (other,) = desk_of(setting, "bravo").plans()
+    (plan,) = desk_itself(setting, "alfa").plans()
+    (other,) = desk_itself(setting, "bravo").plans()
     rows.holds("alfa: planned behind bravo's", plan.area[0].start >= other.area[0].end)
     alfa.click("#activate")
     alfa.told("Activate survey: done, it is in use")
-    rows.equal("alfa: in use", "OkToFly", desk_of(setting, "alfa").show(plan.plan_id).status)
+    rows.equal("alfa: in use", "OkToFly", desk_itself(setting, "alfa").show(plan.plan_id).status)
 
 
 def times_are_local(rows: Rows, alfa: Page) -> None:
@@ -177,8 +178,8 @@ def move_until_free(alfa: Page) -> int:
 
 def planned_over(rows: Rows, setting: Setting) -> None:
     """Bravo is planned over a flight in use."""
-    (plan,) = desk_of(setting, "alfa").plans()
-    rows.equal("bravo: over it", "Completed", desk_of(setting, "bravo").plan(new_id(), plan.area, 30).result)
+    (plan,) = desk_itself(setting, "alfa").plans()
+    rows.equal("bravo: over it", "Completed", desk_itself(setting, "bravo").plan(new_id(), plan.area, 30).result)
 
 
 def hears_of_it(rows: Rows, alfa: Page) -> None:
@@ -210,16 +211,16 @@ def ended(rows: Rows, setting: Setting, alfa: Page) -> None:
     """Closes the flight, and clears it."""
     alfa.click("#close")
     alfa.click("#question button:not(.danger)")
-    rows.equal("alfa: not closed", "OffNominal", desk_of(setting, "alfa").plans()[0].status)
+    rows.equal("alfa: not closed", "OffNominal", desk_itself(setting, "alfa").plans()[0].status)
     alfa.click("#close")
     alfa.click("#question .danger")
     alfa.told("Close survey: done, it is closed")
-    rows.equal("alfa: closed", "Closed", desk_of(setting, "alfa").plans()[0].status)
+    rows.equal("alfa: closed", "Closed", desk_itself(setting, "alfa").plans()[0].status)
     alfa.click("#clear")
     alfa.until("the question", lambda: "Remove survey from the desk?" in alfa.text("#question"))
     alfa.click("#question .danger")
     alfa.told("Clear: 1 flight removed")
-    rows.equal("alfa: cleared", [], desk_of(setting, "alfa").plans())
-    desk_of(setting, "bravo").clear(
+    rows.equal("alfa: cleared", [], desk_itself(setting, "alfa").plans())
+    desk_itself(setting, "bravo").clear(
         area_of(Polygon(WIDE), (-1_000, 20_000), int(time.time()) - 12 * HOUR, int(time.time()) + 40 * HOUR)
     )

@@ -1,9 +1,10 @@
 """What may go wrong between the page and the desk: all is told, and nothing is lost that was drawn."""
 
+from clients.given import desk_itself
 from harness.rows import Rows
 from harness.setting import Setting
 from map.browser import Page, Program
-from map.given import AROUND_ASIDE, ASIDE, OPERATORS, SHORT, desk_of
+from map.given import AROUND_ASIDE, ASIDE, OPERATORS, SHORT
 from selenium.webdriver.common.keys import Keys
 from uss_desk_client import Polygon, area_of, new_id
 
@@ -43,7 +44,7 @@ def killed(rows: Rows, setting: Setting, page: Page) -> None:
     page.click("#activate")
     page.told("Activate line 1: done, it is in use")
     rows.equal(
-        "carol: in use at the desk that was started again", "OkToFly", desk_of(setting, "carol").plans()[0].status
+        "carol: in use at the desk that was started again", "OkToFly", desk_itself(setting, "carol").plans()[0].status
     )
 
 
@@ -69,12 +70,12 @@ def held(rows: Rows, setting: Setting, page: Page) -> None:
 
 def free_time(rows: Rows, setting: Setting, page: Page) -> None:
     """Others hold the place for an hour: the first free quarter of an hour is found."""
-    (plan,) = desk_of(setting, "carol").plans()
+    (plan,) = desk_itself(setting, "carol").plans()
     start, end = plan.area[0].start, plan.area[0].end
     rows.equal(
         "bravo: over it",
         "Completed",
-        desk_of(setting, "bravo")
+        desk_itself(setting, "bravo")
         .plan(new_id(), area_of(Polygon(AROUND_ASIDE), (0, 300), start - 60, end), 90)
         .result,
     )
@@ -84,4 +85,4 @@ def free_time(rows: Rows, setting: Setting, page: Page) -> None:
     page.click("#plan")
     page.told("Change line 1: done, it is in use")
     page.until("the form is put away", lambda: not page.all("#draft-name") and not page.all("#draft-bar"))
-    rows.equal("carol: moved", end, desk_of(setting, "carol").show(plan.plan_id).area[0].start)
+    rows.equal("carol: moved", end, desk_itself(setting, "carol").show(plan.plan_id).area[0].start)

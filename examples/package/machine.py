@@ -4,6 +4,9 @@ installed and run.
 Its root is made once by mmdebstrap, and kept for some days in packaging/out. systemd-nspawn boots it, with a network of
 its own, so that its ports are free and nothing of it is left.
 """
+
+from __future__ import annotations
+
 import contextlib
 import hashlib
 import os
@@ -12,8 +15,10 @@ import signal
 import subprocess
 import tempfile
 import time
+from collections.abc import Sequence
 
-from package.checks import PATIENCE, TOP, run
+from harness.places import TOP
+from package.commands import PATIENCE, run
 
 MIRROR = os.environ.get("DEBIAN_MIRROR", "http://deb.debian.org/debian")
 KEPT = TOP / "packaging" / "out"
@@ -39,7 +44,7 @@ PASSED_OVER = {
 }
 
 
-def quick_folder():
+def quick_folder() -> str | None:
     """A folder in memory, if there is one with room that runs programs; else none, which is that of TMPDIR."""
     with contextlib.suppress(OSError):
         room = os.statvfs("/dev/shm")
@@ -51,7 +56,9 @@ def quick_folder():
 class Making:
     """The archive of a root with these packages of Debian; it is begun at once if it isn't there."""
 
-    def __init__(self, packages):
+    made: subprocess.Popen[str] | None
+
+    def __init__(self, packages: Sequence[str]) -> None:
         sum_of = hashlib.sha256(" ".join([MIRROR, *packages]).encode()).hexdigest()[:12]
         self.path = KEPT / f"bookworm-{sum_of}.tar"
         self.part = pathlib.Path(f"{self.path}.{os.getpid()}")
@@ -74,27 +81,28 @@ class Making:
             str(self.part),
             MIRROR,
         ]
-        place = {"TMPDIR": quick_folder()} if quick_folder() else {}
+        quick = quick_folder()
+        place = {"TMPDIR": quick} if quick else {}
         self.made = subprocess.Popen(
             words, stdout=subprocess.PIPE, stderr=subprocess.STDOUT, text=True, env={**os.environ, **place}
         )
 
-    def archive(self):
+    def archive(self) -> pathlib.Path:
         """The archive, once it is made."""
-        if self.made:
-            told, _ = self.made.communicate(timeout=PATIENCE)
-            if self.made.returncode:
+        made, self.made = self.made, None
+        if made:
+            told, _ = made.communicate(timeout=PATIENCE)
+            if made.returncode:
                 self.part.unlink(missing_ok=True)
                 raise RuntimeError(f"mmdebstrap made no root: {told.strip()[-500:]}")
             self.part.rename(self.path)
-            self.made = None
         return self.path
 
 
 class Machine:
     """A machine that systemd boots in a root of an archive; all of it is gone at the end."""
 
-    def __init__(self, archive):
+    def __init__(self, archive: pathlib.Path) -> None:
         self._room = tempfile.TemporaryDirectory(prefix="machine-", dir=quick_folder())
         self.folder = pathlib.Path(self._room.name) / "root"
         self.folder.mkdir()
@@ -115,7 +123,7 @@ class Machine:
         self.nspawn = subprocess.Popen(words, stdin=subprocess.DEVNULL, stdout=self.log, stderr=subprocess.STDOUT)
         self.first = self._first_process()
 
-    def _first_process(self):
+    def _first_process(self) -> str:
         """The number of the machine's systemd, once it has started what it starts."""
         path = pathlib.Path(f"/proc/{self.nspawn.pid}/task/{self.nspawn.pid}/children")
         for _ in range(10 * BOOTED):
@@ -130,17 +138,17 @@ class Machine:
         self.log.seek(0)
         raise RuntimeError(f"systemd-nspawn boots no machine here: {self.log.read()[-500:]}")
 
-    def __enter__(self):
+    def __enter__(self) -> Machine:
         return self
 
-    def __exit__(self, *_):
+    def __exit__(self, *_: object) -> None:
         with contextlib.suppress(ProcessLookupError):
             os.kill(int(self.first), signal.SIGKILL)
         self.nspawn.wait(timeout=PATIENCE)
         self.log.close()
         self._room.cleanup()
 
-    def sh(self, line):
+    def sh(self, line: str) -> str:
         """What a line of a shell prints there, as root in /root."""
         words = [
             "nsenter",
@@ -161,7 +169,7 @@ class Machine:
         ]
         return run([*words, f"cd /root && {line}"])
 
-    def curl(self, *words):
+    def curl(self, *words: str) -> str:
         """What this machine's curl prints in the network of that one."""
         return run(
             [
@@ -177,11 +185,17 @@ class Machine:
             ]
         )
 
-    def tree(self):
+    def tree(self) -> set[str]:
         """Each path, but for what dpkg, apt, systemd and the kernel keep, and the keeper's own folder."""
-        found = set()
+        found = set[str]()
         for folder, names, files in os.walk(self.folder):
             here = pathlib.Path(folder).relative_to(self.folder)
             names[:] = [name for name in names if str(here / name) not in PASSED_OVER]
             found |= {str(here / name) for name in [*names, *files]}
         return found | {str(path.relative_to(self.folder)) for path in (self.folder / "var/log").glob("uss*")}
+
+
+def put_in(machine: Machine, *debs: pathlib.Path) -> None:
+    """Hands packages to the keeper of the machine."""
+    for deb in debs:
+        (machine.folder / "root" / deb.name).write_bytes(deb.read_bytes())

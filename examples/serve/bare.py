@@ -1,4 +1,7 @@
 """A port in a desk's place that reads whole requests and then hangs up, or answers late; it counts what came."""
+
+from __future__ import annotations
+
 import socketserver
 import threading
 import time
@@ -9,8 +12,8 @@ READY = b"HTTP/1.1 200 OK\r\ncontent-length: 0\r\nconnection: close\r\n\r\n"
 class Bare:
     """A port that waits so long after each request and then hangs up, or answers if it is told to."""
 
-    def __init__(self, port, seconds, answers):
-        self.paths = []
+    def __init__(self, port: int, seconds: float, answers: bool) -> None:
+        self.paths: list[str] = []
         self.most = 0
         self._open = 0
         self._lock = threading.Lock()
@@ -18,24 +21,29 @@ class Bare:
         bare = self
 
         class Taken(socketserver.StreamRequestHandler):
-            def handle(self):
+            """One connection."""
+
+            def handle(self) -> None:
+                """Takes it."""
                 bare.take(self)
 
         class Server(socketserver.ThreadingTCPServer):
+            """The port."""
+
             allow_reuse_address = daemon_threads = True
             request_queue_size = 128
 
         self._server = Server(("127.0.0.1", port), Taken)
 
-    def __enter__(self):
+    def __enter__(self) -> Bare:
         threading.Thread(target=self._server.serve_forever, args=(0.05,), daemon=True).start()
         return self
 
-    def __exit__(self, *_):
+    def __exit__(self, *_: object) -> None:
         self._server.shutdown()
         self._server.server_close()
 
-    def take(self, connection):
+    def take(self, connection: socketserver.StreamRequestHandler) -> None:
         """Reads a request, notes its path and how many connections are open, and answers or hangs up."""
         with self._lock:
             self._open += 1

@@ -1,0 +1,1 @@
+"""What README and KEEPING show a keeper."""

@@ -1,0 +1,1 @@
+"""Debian's packages of the program and of the clients."""

@@ -1,0 +1,1 @@
+"""The desk at a port, by curl; behind nginx and HAProxy too."""
