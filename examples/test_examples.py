@@ -13,12 +13,6 @@ AT = ["play", "--at", "1780315000"]
 NAMES = sorted(path.stem for path in EXAMPLES.glob("*.http"))
 
 
-def terms(name: str) -> list[str]:
-    """The words that an example is played with beside the operators: those of NAME.args, if that is there."""
-    path = EXAMPLES / f"{name}.args"
-    return path.read_text(encoding="utf-8").split() if path.is_file() else []
-
-
 def file(name: str) -> bytes:
     """The bytes of a file of this folder."""
     return (EXAMPLES / name).read_bytes()
@@ -27,7 +21,8 @@ def file(name: str) -> bytes:
 @pytest.mark.parametrize("name", NAMES)
 def test_answers(name: str) -> None:
     """What is answered to the requests of an example."""
-    ran = run(*AT, *terms(name), "alfa=100", "bravo=100", given=file(f"{name}.http"))
+    terms = file(f"{name}.args").decode().split() if (EXAMPLES / f"{name}.args").exists() else []
+    ran = run(*AT, *terms, "alfa=100", "bravo=100", given=file(f"{name}.http"))
     assert (ran.output, ran.status) == (file(f"{name}.answer"), 0)
 
 
