@@ -10,8 +10,6 @@ from harness.places import EXAMPLES
 from harness.program import Ran, command, run
 
 AT = ["play", "--at", "1780315000"]
-TERMS = {"permitted": ["--equal", "10"], "spans_limit": ["--spans", "2"]}
-"""What an example is played with beside the operators."""
 NAMES = sorted(path.stem for path in EXAMPLES.glob("*.http"))
 
 
@@ -23,7 +21,8 @@ def file(name: str) -> bytes:
 @pytest.mark.parametrize("name", NAMES)
 def test_answers(name: str) -> None:
     """What is answered to the requests of an example."""
-    ran = run(*AT, *TERMS.get(name, []), "alfa=100", "bravo=100", given=file(f"{name}.http"))
+    terms = file(f"{name}.args").decode().split() if (EXAMPLES / f"{name}.args").exists() else []
+    ran = run(*AT, *terms, "alfa=100", "bravo=100", given=file(f"{name}.http"))
     assert (ran.output, ran.status) == (file(f"{name}.answer"), 0)
 
 

@@ -58,12 +58,22 @@ def test_case(name: str) -> None:
     assert ran.output == (CASES / f"{name}.answer").read_bytes()
 
 
+def smallest(history: History, difference: Difference) -> tuple[History, Difference]:
+    """The smallest history that was found to differ in the same way: in an answer, or in how a line ends."""
+
+    def found(less: History) -> Difference | None:
+        other = compare(less, DESK)[1]
+        return other if other and (other.request is None) == (difference.request is None) else None
+
+    least = shrunk(history, lambda less: found(less) is not None)
+    return least, found(least) or difference
+
+
 def test_history(number: int, pytestconfig: pytest.Config, record_property: Callable[[str, object], None]) -> None:
-    """Both desks give the same answers to a history; else the smallest is told that was found to differ."""
+    """Both desks give the same answers to a history."""
     history = make_history(pytestconfig.getoption("--seed"), number)
     count, difference = compare(history, DESK)
     record_property("answers alike", count)
     if difference:
-        least = shrunk(history, lambda less: compare(less, DESK)[1] is not None)
-        difference = compare(least, DESK)[1] or difference
-        pytest.fail("\n".join(["the desks differ; these are enough:", *described(least, difference)]), pytrace=False)
+        lines = described(*smallest(history, difference))
+        pytest.fail("\n".join(["the desks differ; these are enough:", *lines]), pytrace=False)

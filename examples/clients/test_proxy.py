@@ -81,11 +81,22 @@ def test_no_page_of_its_own(setting: Setting) -> None:
     assert ask(setting, "GET", "/refused/502", USER)[:2] == (404, {"error": "no_route"})
 
 
+def refused_of(setting: Setting, most: int, enough: int) -> set[tuple[int, str, str | None]]:
+    """What is refused of so many requests of one operator, one after the other, up to the number that is enough."""
+    found = []
+    for _ in range(most):
+        answer = ask(setting, "GET", "/status", USER)
+        if answer.status != 200:
+            found.append((answer.status, answer.value["error"], answer.after))
+        if len(found) == enough:
+            break
+    return {*found}
+
+
 def test_too_many_requests(setting: Setting) -> None:
-    """An operator that asks more often than it may hears of it, and when to ask again."""
-    flood = [ask(setting, "GET", "/status", USER) for _ in range(300)]
-    refused = {(it.status, it.value["error"], it.after) for it in flood if it.status != 200}
-    assert refused == {(429, "too_many_requests", "5")}
+    """An operator that asks more often than it may hears of it, and when to ask again. On a busy machine it takes more
+    requests until they are too many."""
+    assert refused_of(setting, most=5_000, enough=100) == {(429, "too_many_requests", "5")}
 
 
 @pytest.mark.parametrize("status, word", [(429, "too_many_requests"), (502, "bad_gateway"), (504, "gateway_timeout")])

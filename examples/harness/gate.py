@@ -70,9 +70,9 @@ def main(
         return 1
     before()
     quiet = [] if any(word.startswith("-v") for word in words) else ["-q"]
-    return run(
-        name, [*quiet, "-rfEs", "--tb=short", "-n", processes, *words, *(str(EXAMPLES / file) for file in files)]
-    )
+    # the files come first: beside them pytest finds conftest.py, without which it doesn't know the options of that
+    places = [str(EXAMPLES / file) for file in files]
+    return run(name, [*places, *quiet, "-rfEs", "--tb=short", "-n", processes, *words])
 
 
 def run(name: str, words: list[str]) -> int:

@@ -60,14 +60,14 @@ def test_five_mib() -> None:
 def old_file_of_200(path: pathlib.Path) -> None:
     """Makes a file of schema 1 of 200 plans of 8 volumes each."""
     made = (EXAMPLES / "schema1.sql").read_text(encoding="utf-8").partition("INSERT")[0]
-    made += "INSERT INTO operator VALUES ('bravo', 100);\n"
+    made += "BEGIN;\nINSERT INTO operator VALUES ('bravo', 100);\n"
     for number, place in ((number, place) for number in range(200) for place in range(8)):
         if place == 0:
             made += f"INSERT INTO plan VALUES ('bravo', '{plan_id(number)}', 10, 0, 0);\n"
         named, level = f"'bravo', '{plan_id(number)}', {place}", f"{place * 10}, {place * 10 + 10}"
         made += f"INSERT INTO volume VALUES ({named}, {level}, 1780315200, 1780318800, x'010400000000000000');\n"
         made += f"INSERT INTO span VALUES ({named}, 0, 288230376151711743, {level}, 1780315200, 1780318800, 10);\n"
-    subprocess.run(["sqlite3", path], input=made.encode(), check=True)
+    subprocess.run(["sqlite3", path], input=f"{made}COMMIT;\n".encode(), check=True)
 
 
 def test_move_of_200_plans(room: pathlib.Path) -> None:

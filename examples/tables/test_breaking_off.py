@@ -16,13 +16,13 @@ from tables.statements import PACKED, PLAN
 
 # calls that write, sync, remove and rename, and how often at least a copy, and an opening, makes each
 CALLS = [
-    ("pwrite64", 1, 1),
-    ("ftruncate", 0, 0),
-    ("fdatasync", 0, 0),
+    ("pwrite64", 10, 5),
+    ("ftruncate", 1, 1),
+    ("fdatasync", 5, 3),
     ("fsync", 1, 1),
-    ("unlink", 0, 0),
+    ("unlink", 1, 0),
     ("unlinkat", 0, 0),
-    ("rename", 0, 0),
+    ("rename", 1, 0),
     ("renameat", 0, 0),
     ("renameat2", 0, 0),
 ]

@@ -23,8 +23,9 @@ def run(*words: str, given: bytes = b"") -> tuple[int, bytes, str]:
 @pytest.mark.parametrize("name", sorted(it.stem for it in EXAMPLES.glob("*.http")))
 def test_examples(name: str) -> None:
     given, wanted = ((EXAMPLES / f"{name}.{it}").read_bytes() for it in ("http", "answer"))
-    terms = {"permitted": ["--equal", "10"], "spans_limit": ["--spans", "2"]}.get(name, [])
-    assert run("--at", "1780315000", *terms, "alfa=100", "bravo=100", given=given) == (0, wanted, "")
+    terms = EXAMPLES / f"{name}.args"
+    words = terms.read_text().split() if terms.is_file() else []
+    assert run("--at", "1780315000", *words, "alfa=100", "bravo=100", given=given) == (0, wanted, "")
 
 
 def test_a_file(tmp_path: pathlib.Path) -> None:
