@@ -10,6 +10,8 @@ from harness.rows import Rows
 from harness.serving import Served
 
 OPERATORS = ("alfa=100", "bravo=100")
+Row = tuple[str, object, object]
+"""What, what was wanted, what was got."""
 
 
 @contextlib.contextmanager

@@ -4,6 +4,7 @@ a file."""
 from __future__ import annotations
 
 import contextlib
+import itertools
 import pathlib
 import socket
 import subprocess
@@ -15,7 +16,7 @@ from concurrent.futures import ThreadPoolExecutor
 from harness.program import run
 from harness.rows import Rows
 from harness.serving import Served
-from serve.desks import connected, serving
+from serve.desks import Row, connected, serving
 from serve.given import (
     ABOVE,
     BLOCKED,
@@ -31,10 +32,11 @@ from serve.given import (
     curl,
     operator,
 )
+from serve.silent import silent
+
 
 REFUSED = 7
 """curl's status for a connection that is refused."""
-Row = tuple[str, object, object]
 # what is refused, its answer, curl's words behind the URL's path, and what curl is given
 REFUSALS: list[tuple[str, str, tuple[str, ...], str, bytes]] = [
     ("two operators", '{"error":"bad_operator"} 400', (*operator("alfa"), *operator("bravo")), "/status", b""),
@@ -149,9 +151,14 @@ def dripping(desk: Served) -> Iterator[Row]:
         thread.join()
 
 
-def test_clients_that_stall(rows: Rows) -> None:
-    """Each is left after ten seconds, and the next client is served."""
-    with serving(rows, 2) as one, serving(rows, 2) as other, ThreadPoolExecutor(2) as pool:
-        first, second = pool.submit(lambda: list(stalled(one))), pool.submit(lambda: list(dripping(other)))
-        for row in [*first.result(), *second.result()]:
+def rows_of(found: Iterator[Row]) -> list[Row]:
+    """Rows, once the last is found."""
+    return list(found)
+
+
+def test_clients_that_stall(rows: Rows, room: pathlib.Path) -> None:
+    """Each is left after ten seconds, and the next client is served: at three desks beside each other."""
+    with serving(rows, 2) as one, serving(rows, 2) as other, ThreadPoolExecutor() as pool:
+        told = [pool.submit(rows_of, found) for found in (stalled(one), dripping(other), silent(room))]
+        for row in itertools.chain.from_iterable(future.result() for future in told):
             rows.equal(*row)

@@ -14,8 +14,8 @@ import crowds
 from harness.program import run
 from harness.requests import list_plans, over, plan_id, put
 from harness.requests import status as status_asked
-from harness.rows import Rows
-from serve.desks import serving
+from harness.serving import Served
+from serve.desks import Row
 
 PLANS = 200
 PATIENCE = 20
@@ -53,18 +53,20 @@ def taken(client: socket.socket) -> tuple[str, bytes, int]:
     return head[9:12].decode() or "no answer", body, int(length[1]) if length else 0
 
 
-def test_client_that_reads_nothing(rows: Rows, room: pathlib.Path) -> None:
+def silent(room: pathlib.Path) -> Iterator[Row]:
     """Its answer is cut off after ten seconds, and the next clients are served."""
     file = ("--db", str(room / "silent.db"))
     ran = run("play", *file, "--at", MOMENT, "alfa=100", given=b"".join(large_plans()))
-    rows.equal("plans of a large List", PLANS, ran.output.count(b'"planning_result":"Completed"'))
-    with serving(rows, 3, *file) as desk:
-        silent, begun = opened(desk.port, list_plans("alfa"), room=4096), time.monotonic()
+    yield "plans of a large List", PLANS, ran.output.count(b'"planning_result":"Completed"')
+    with Served(*file, connections=3) as desk:
+        client, begun = opened(desk.port, list_plans("alfa"), room=4096), time.monotonic()
         told = taken(opened(desk.port, status_asked("alfa")))
-        rows.equal("after a client that reads nothing", ("200", b'{"status":"Ready"}'), told[:2])
+        yield "after a client that reads nothing", ("200", b'{"status":"Ready"}'), told[:2]
         seconds = time.monotonic() - begun
-        rows.holds(f"after a client that reads nothing: 10 seconds, not {seconds:.1f}", 9 <= seconds <= 12)
-        _, body, length = taken(silent)
-        rows.holds(f"its answer is cut off: {len(body)} of {length} bytes", len(body) < length)
+        yield f"after a client that reads nothing: 10 seconds, not {seconds:.1f}", True, 9 <= seconds <= 12
+        _, body, length = taken(client)
+        yield f"its answer is cut off: {len(body)} of {length} bytes", True, len(body) < length
         status, body, length = taken(opened(desk.port, list_plans("alfa")))
-        rows.equal("a client that reads", ("200", length), (status, len(body)))
+        yield "a client that reads", ("200", length), (status, len(body))
+        ended = desk.end()
+        yield "the end of the desk", (0, ""), (ended.status, ended.errors)
