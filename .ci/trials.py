@@ -51,6 +51,11 @@ class Told:
     is_verdict: bool = False
     words: str = ""
 
+    def unread(self) -> list[str]:
+        """The first lines of a check that came to no verdict and name an error."""
+        lines = [line for line in self.words.split("\n") if re.search(r"\berror\b", line)]
+        return [] if self.is_verdict else lines[:3]
+
 
 class Room:
     """A scratch clone of HEAD in which a crate's edits are tried over what checks have kept here."""
@@ -206,19 +211,27 @@ def next_round(left: list[Edit], index: Index) -> list[Edit]:
     return chosen or left[:1]
 
 
+def settle(room: Room, trial: list[Edit]) -> dict[Edit, dict[str, set[str]]]:
+    """What edits that stand side by side are refused by; those of which nothing is told yet are left out."""
+    told = room.attempt(trial)
+    if len(trial) == 1:
+        print(*told.unread(), sep="\n", end="\n" if told.unread() else "", flush=True)
+        return {trial[0]: dict(told.open) if told.is_verdict and not told.is_proved else {}}
+    well = [edit for edit in trial if told.open.get(edit.function)]
+    if told.is_verdict and well:
+        return {edit: {edit.function: told.open[edit.function]} for edit in well}
+    parts = 2 if not told.is_verdict else len(trial)
+    found: dict[Edit, dict[str, set[str]]] = {}
+    for part in range(parts):
+        found.update(settle(room, trial[part::parts]))
+    return found
+
+
 def try_all(room: Room, edits: list[Edit]) -> dict[Edit, dict[str, set[str]]]:
     """What each edit is refused by: the labels by function; nothing where it is not refused, or could not be read."""
     found: dict[Edit, dict[str, set[str]]] = {}
-    left, alone = list(edits), list[Edit]()
-    while left or alone:
-        trial = next_round(left, room.index) if left else alone[:1]
-        told = room.attempt(trial)
-        well = [edit for edit in trial if told.open.get(edit.function)]
-        if len(trial) == 1:
-            found[trial[0]] = {} if told.is_proved or not told.is_verdict else dict(told.open)
-        else:
-            found.update({edit: {edit.function: told.open[edit.function]} for edit in well})
-            alone += [] if well else trial
-        left = [edit for edit in left if edit not in found and edit not in alone]
-        alone = [edit for edit in alone if edit not in found]
+    left = list(edits)
+    while left:
+        found.update(settle(room, next_round(left, room.index)))
+        left = [edit for edit in left if edit not in found]
     return found
