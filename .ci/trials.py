@@ -14,7 +14,7 @@ import shutil
 import subprocess
 import tempfile
 from collections import defaultdict
-from collections.abc import Iterable
+from collections.abc import Iterable, Iterator
 from dataclasses import dataclass, field
 
 from edits import Edit, named, touched
@@ -227,11 +227,10 @@ def settle(room: Room, trial: list[Edit]) -> dict[Edit, dict[str, set[str]]]:
     return found
 
 
-def try_all(room: Room, edits: list[Edit]) -> dict[Edit, dict[str, set[str]]]:
-    """What each edit is refused by: the labels by function; nothing where it is not refused, or could not be read."""
-    found: dict[Edit, dict[str, set[str]]] = {}
+def rounds(room: Room, edits: list[Edit]) -> Iterator[dict[Edit, dict[str, set[str]]]]:
+    """What each edit is refused by, the labels by function, a round at a time; nothing where it is not refused."""
     left = list(edits)
     while left:
-        found.update(settle(room, next_round(left, room.index)))
+        found = settle(room, next_round(left, room.index))
         left = [edit for edit in left if edit not in found]
-    return found
+        yield found
