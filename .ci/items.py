@@ -30,6 +30,8 @@ RUST_START = re.compile(
 )
 CLAUSE = re.compile(r"\b(?:ensures|requires)\b")
 IMPORT = re.compile(r"\buse\s+([^;{]*?)(?:::|\.)?(?:\{([^}]*)\}|(\*)|)(?:\s+as\s+(\w+))?\s*(?:;|$)", re.MULTILINE)
+# What isn't followed, and so may not stand in a source: imports within imports, and names that are opened.
+UNFOLLOWED = re.compile(r"\buse\s[^;{}]*\{[^;}]*\{|^ *open ", re.MULTILINE)
 ANTT_NAME = re.compile(r"(?:(?:abbrev|unfoldable|pub|record|data|infix[lr]?\s+\d+)\s+)*([^\s:({]+)")
 BEFORE_TYPES = ("struct", "enum", "type", "trait", "const", "static", "union")
 
@@ -146,6 +148,8 @@ class Item:
 
 def add_imports(source: Source) -> None:
     """Notes what each name that the file imports stands for."""
+    if UNFOLLOWED.search(source.bare):
+        raise ValueError(f"{source.path}: write an import for each path, and open none: .ci/audit follows no others")
     for path, listed, star, alias in IMPORT.findall(source.bare):
         path = re.sub(r"\s", "", path).rstrip(":.")
         if star:

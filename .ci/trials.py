@@ -14,7 +14,7 @@ import shutil
 import subprocess
 import tempfile
 from collections import defaultdict
-from collections.abc import Iterable
+from collections.abc import Iterable, Iterator
 from dataclasses import dataclass, field
 
 from edits import Edit, named, touched
@@ -50,6 +50,11 @@ class Told:
     is_proved: bool = False
     is_verdict: bool = False
     words: str = ""
+
+    def unread(self) -> list[str]:
+        """The first lines of a check that came to no verdict and name an error."""
+        lines = [line for line in self.words.split("\n") if re.search(r"\berror\b", line)]
+        return [] if self.is_verdict else lines[:3]
 
 
 class Room:
@@ -206,19 +211,26 @@ def next_round(left: list[Edit], index: Index) -> list[Edit]:
     return chosen or left[:1]
 
 
-def try_all(room: Room, edits: list[Edit]) -> dict[Edit, dict[str, set[str]]]:
-    """What each edit is refused by: the labels by function; nothing where it is not refused, or could not be read."""
+def settle(room: Room, trial: list[Edit]) -> dict[Edit, dict[str, set[str]]]:
+    """What edits that stand side by side are refused by; those of which nothing is told yet are left out."""
+    told = room.attempt(trial)
+    if len(trial) == 1:
+        print(*told.unread(), sep="\n", end="\n" if told.unread() else "", flush=True)
+        return {trial[0]: dict(told.open) if told.is_verdict and not told.is_proved else {}}
+    well = [edit for edit in trial if told.open.get(edit.function)]
+    if told.is_verdict and well:
+        return {edit: {edit.function: told.open[edit.function]} for edit in well}
+    parts = 2 if not told.is_verdict else len(trial)
     found: dict[Edit, dict[str, set[str]]] = {}
-    left, alone = list(edits), list[Edit]()
-    while left or alone:
-        trial = next_round(left, room.index) if left else alone[:1]
-        told = room.attempt(trial)
-        well = [edit for edit in trial if told.open.get(edit.function)]
-        if len(trial) == 1:
-            found[trial[0]] = {} if told.is_proved or not told.is_verdict else dict(told.open)
-        else:
-            found.update({edit: {edit.function: told.open[edit.function]} for edit in well})
-            alone += [] if well else trial
-        left = [edit for edit in left if edit not in found and edit not in alone]
-        alone = [edit for edit in alone if edit not in found]
+    for part in range(parts):
+        found.update(settle(room, trial[part::parts]))
     return found
+
+
+def rounds(room: Room, edits: list[Edit]) -> Iterator[dict[Edit, dict[str, set[str]]]]:
+    """What each edit is refused by, the labels by function, a round at a time; nothing where it is not refused."""
+    left = list(edits)
+    while left:
+        found = settle(room, next_round(left, room.index))
+        left = [edit for edit in left if edit not in found]
+        yield found
