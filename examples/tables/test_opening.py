@@ -14,8 +14,8 @@ from tables.statements import many, wide
 
 
 class Case(NamedTuple):
-    """A file of a desk's tables and of these statements; the word of its refusal, if it is refused, and the cause, if it
-    is a desk's in neither schema."""
+    """A file of a desk's tables and of these statements; the word of its refusal, if it is refused, and the cause, if
+    it is a desk's in neither schema."""
 
     name: str
     statements: list[str]
