@@ -19,6 +19,7 @@ DESK in the environment is the command that runs the program (the script uss_des
 | `harness.nginx` | nginx with nginx.conf before it |
 | `harness.setting`, fixture `setting` | a desk over a file that is started again when it ends, behind nginx |
 | `harness.ports` | `free_port`, `is_listening`, `until` |
+| `harness.sums` | the sums on the pages of a file: counted, and made anew |
 | `harness.tracing` | strace: the words before a command that is killed at a call |
 | fixture `room` | a folder that is removed afterwards |
 | fixture `desk_file` | the path of a desk's file in it, in which operators are enrolled |

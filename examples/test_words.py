@@ -1,4 +1,4 @@
-"""Lines that end with a failure: the exit status, and the word on standard error.
+"""Lines that end with a failure: the exit status, and on standard error the word, and the cause before it.
 
 A line that is refused prints nothing on standard output but the answers to what came before.
 """
@@ -19,6 +19,17 @@ AT = ["play", "--at", "1780315000"]
 STATUS = b"GET /status HTTP/1.1\r\nx-operator: alfa\r\n\r\n"
 VERSION = b"uss_desk 1.0.0\nrattle-kit-13f logic dac8208d650f15bf\n"
 COVER = ["cover", "0", "0", "0", "0", "65535", "24"]
+# what is told of a word that is malformed
+PAIR = "no NAME=CEILING"
+NAME = "no operator's name: 1 to 32 of a to z, 0 to 9 and -"
+CEILING = "no ceiling: a number from 0 to 1000, of at most 4 digits"
+LIST = "no list of priorities: at most 32 from 0 to 1000, ascending, with commas between"
+TOO_MANY = ",".join(map(str, range(33)))
+
+
+def malformed(word: str, cause: str) -> str:
+    """What stands on standard error of a line with a malformed word."""
+    return f"uss_desk: {word}: {cause}\nuss_desk: value\n"
 
 
 def cover(*changes: tuple[int, str]) -> list[str]:
@@ -39,20 +50,21 @@ LINES = [
         0,
         "uss_desk: in memory: no operator is enrolled, so each request is answered 403\n",
     ),
-    ("a ceiling too great", [*AT, "alfa=1001"], b"", 2, "uss_desk: value\n"),
-    ("a ceiling of five digits", [*AT, "alfa=00100"], b"", 2, "uss_desk: value\n"),
-    ("a ceiling that is no number", [*AT, "alfa=x"], b"", 2, "uss_desk: value\n"),
-    ("a name in upper case", [*AT, "Alfa=100"], b"", 2, "uss_desk: value\n"),
-    ("a name with no ceiling", [*AT, "alfa"], b"", 2, "uss_desk: value\n"),
+    ("a ceiling too great", [*AT, "alfa=1001"], b"", 2, malformed("alfa=1001", CEILING)),
+    ("a ceiling of five digits", [*AT, "alfa=00100"], b"", 2, malformed("alfa=00100", CEILING)),
+    ("a ceiling that is no number", [*AT, "alfa=x"], b"", 2, malformed("alfa=x", CEILING)),
+    ("a name in upper case", [*AT, "Alfa=100"], b"", 2, malformed("Alfa=100", NAME)),
+    ("a name with no ceiling", [*AT, "alfa"], b"", 2, malformed("alfa", PAIR)),
+    ("the second of three words", [*AT, "alfa=1", "bravo=", "carol"], b"", 2, malformed("bravo=", CEILING)),
     ("equal priorities", [*AT, "--equal", "0,10,1000", "alfa=100"], STATUS, 0, ""),
-    ("equal priorities with a blank", [*AT, "--equal", "5, 10"], b"", 2, "uss_desk: value\n"),
-    ("no number of an equal priority", [*AT, "--equal", ""], b"", 2, "uss_desk: value\n"),
-    ("a comma too many", [*AT, "--equal", "5,"], b"", 2, "uss_desk: value\n"),
-    ("an equal priority of five digits", [*AT, "--equal", "00010"], b"", 2, "uss_desk: value\n"),
-    ("an equal priority too great", [*AT, "--equal", "5,1001"], b"", 2, "uss_desk: value\n"),
-    ("equal priorities that descend", [*AT, "--equal", "10,5"], b"", 2, "uss_desk: value\n"),
-    ("an equal priority given twice", [*AT, "--equal", "10,10"], b"", 2, "uss_desk: value\n"),
-    ("33 equal priorities", [*AT, "--equal", ",".join(map(str, range(33)))], b"", 2, "uss_desk: value\n"),
+    ("equal priorities with a blank", [*AT, "--equal", "5, 10"], b"", 2, malformed("5, 10", LIST)),
+    ("no number of an equal priority", [*AT, "--equal", ""], b"", 2, malformed("", LIST)),
+    ("a comma too many", [*AT, "--equal", "5,"], b"", 2, malformed("5,", LIST)),
+    ("an equal priority of five digits", [*AT, "--equal", "00010"], b"", 2, malformed("00010", LIST)),
+    ("an equal priority too great", [*AT, "--equal", "5,1001"], b"", 2, malformed("5,1001", LIST)),
+    ("equal priorities that descend", [*AT, "--equal", "10,5"], b"", 2, malformed("10,5", LIST)),
+    ("an equal priority given twice", [*AT, "--equal", "10,10"], b"", 2, malformed("10,10", LIST)),
+    ("33 equal priorities", [*AT, "--equal", TOO_MANY], b"", 2, malformed(TOO_MANY, LIST)),
     ("32 equal priorities", [*AT, "--equal", ",".join(map(str, range(32))), "alfa=100"], STATUS, 0, ""),
     ("the least spans", [*AT, "--spans", "1", "alfa=100"], STATUS, 0, ""),
     ("the most spans", [*AT, "--spans", "5000000", "alfa=100"], STATUS, 0, ""),
@@ -70,15 +82,16 @@ LINES = [
         ["play", "--db", "/no/such/folder/desk.db", "--at", "1780315000"],
         b"",
         4,
-        "uss_desk: store\n",
+        "uss_desk: /no/such/folder/desk.db: no such folder\nuss_desk: store\n",
     ),
     (
         "enrolled under too great a ceiling",
         ["enrol", "--db", ":memory:", "alfa", "1001"],
         b"",
         2,
-        "uss_desk: value\n",
+        malformed("1001", CEILING),
     ),
+    ("enrolled under no name", ["enrol", "--db", ":memory:", "a b", "1"], b"", 2, malformed("a b", NAME)),
     ("plans of a database in memory", ["migrate", "--db", ":memory:"], b"", 4, "uss_desk: store\n"),
     (
         "plans in a folder that isn't there",
@@ -176,6 +189,12 @@ def test_full_output(full: int) -> None:
 def test_enrolled(room: pathlib.Path) -> None:
     """A ceiling is printed as a number."""
     assert run("enrol", "--db", f"{room}/desk.db", "alfa", "0100")[:2] == (0, b"enrolled alfa 100\n")
+
+
+def test_mode_of_a_new_file(room: pathlib.Path) -> None:
+    """A new file and its log are their owner's alone."""
+    run("enrol", "--db", f"{room}/desk.db", "alfa", "100")
+    assert [oct(os.stat(f"{room}/desk.db{end}").st_mode & 0o777) for end in ("", "-wal")] == ["0o600", "0o600"]
 
 
 def test_file_whose_name_has_blanks(room: pathlib.Path) -> None:

@@ -8,6 +8,7 @@ import pathlib
 import pytest
 from harness.program import DESK
 from harness.rows import Rows
+from harness.sums import count_unsummed
 from keeping.given import KEEPING, made_file, run, shown
 
 HELD = "schema 2, sums yes, 2 operators, 5 plans, 4 live"
@@ -33,9 +34,25 @@ def file(room: pathlib.Path) -> pathlib.Path:
     return room / "desk.db"
 
 
-def test_file(file: pathlib.Path) -> None:
-    """What the file holds."""
-    assert held_by(file) == HELD
+def told_of(file: pathlib.Path) -> str:
+    """What `check` tells of a file some of whose pages lack their sums."""
+    cause = f"{count_unsummed(file)} pages without their sums, as sqlite3 leaves them, or damaged"
+    return f"status 4: uss_desk: {file}: {cause}\nuss_desk: store\n"
+
+
+def test_file(rows: Rows, file: pathlib.Path) -> None:
+    """What the file holds; each page has its sum."""
+    rows.equal("what it holds", HELD, held_by(file))
+    rows.equal("pages without their sums", 0, count_unsummed(file))
+
+
+def test_flipped_bit(rows: Rows, file: pathlib.Path) -> None:
+    """A bit that isn't as it was is told as one page."""
+    data = bytearray(file.read_bytes())
+    data[-100] ^= 1
+    file.write_bytes(data)
+    rows.equal("pages without their sums", 1, count_unsummed(file))
+    rows.equal("what is told", told_of(file), run([*DESK, "check", "--db", file]))
 
 
 def restore(line: str, left: pathlib.Path, dumped: pathlib.Path, again: pathlib.Path) -> None:
@@ -51,7 +68,8 @@ def test_by_sqlite3(rows: Rows, file: pathlib.Path, text: str) -> None:
     run(["sqlite3", file, text.replace("NEW", str(made))])
     left = made if made.exists() else file
     rows.equal("its own test", "ok\n", run(["sqlite3", left, "PRAGMA integrity_check"]))
-    rows.equal("refused", "store", run([*DESK, "check", "--db", left]).split()[-1])
+    rows.holds("pages without their sums", count_unsummed(left) > 0)
+    rows.equal("refused", told_of(left), run([*DESK, "check", "--db", left]))
     for beginning in ("sqlite3 FILE .dump", "uss_desk copy --db NEW"):
         restore(shown(KEEPING, beginning), left, dumped, again)
     rows.equal("the desk of its dump", HELD.replace("yes", "no"), held_by(dumped))

@@ -70,7 +70,8 @@ def test_while_a_desk_runs(rows: Rows, made: Made, room: pathlib.Path) -> None:
             rows.has(text, LOCKED, sqlite(path, text)[1])
         rows.equal("Python's SQLite", LOCKED, by_python(path, READS[1]))
         ran = finish([PROGRAM, "enrol", "--db", str(path), "carol", "1"], b"")
-        rows.equal("a second desk", (4, "uss_desk: store\n"), (ran.status, ran.errors))
+        in_use = f"uss_desk: {path}: in use by another program\nuss_desk: store\n"
+        rows.equal("a second desk", (4, in_use), (ran.status, ran.errors))
         for key in made.world.flights:
             asked, told, _ = show(made.world, *key)
             rows.equal("an answer afterwards", told, desk.ask(asked))

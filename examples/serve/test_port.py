@@ -82,7 +82,8 @@ def test_statuses(rows: Rows) -> None:
             status, _ = curl(f"http://{address}:{desk.port}/status")
             rows.equal(f"the port at {address}", REFUSED, status)
         second = run("serve", "--port", str(desk.port), "--requests", "1", "alfa=100")
-        rows.equal("a port in use", (4, "uss_desk: network\n"), (second.status, second.errors))
+        in_use = f"uss_desk: 127.0.0.1:{desk.port}: in use by another program\nuss_desk: network\n"
+        rows.equal("a port in use", (4, in_use), (second.status, second.errors))
         url, alfa = f"{desk.url}{PLAN}", operator("alfa")
         rows.equal("ready", READY, asked(*alfa, f"{desk.url}/status"))
         rows.equal("put", STORED, asked(*alfa, *PUT, url, given=BODY))

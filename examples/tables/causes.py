@@ -1,4 +1,4 @@
-"""Why a file holds no desk, as the program tells it."""
+"""Why a file can't be opened, as the program tells it."""
 
 NO_TABLE = "no table"
 OTHER = "other tables than a desk's"
@@ -14,3 +14,12 @@ OLD_SPANS = "rows of no content in span"
 OLD_LIMITS = "plans beyond the limits of schema 1 in volume"
 DAMAGED = "a damaged page, the log of another file, rows that break a key, or a disk that fails"
 TAKEN = "it is there already"
+IN_USE = "in use by another program"
+NO_DATABASE = "no SQLite database"
+# what a line tells that moves no rows of schema 1
+MIGRATE = "rows of schema 1: migrate it"
+
+
+def unsummed(count: int) -> str:
+    """What is told of a file so many of whose pages have another sum than theirs."""
+    return f"{count} pages without their sums, as sqlite3 leaves them, or damaged"

@@ -6,7 +6,7 @@ import os
 from typing import Any
 
 from harness.program import Ran, run
-from tables.causes import TAKEN
+from tables.causes import MIGRATE, TAKEN
 from tables.files import INDEXES, SOUND, Content, bytes_of, content_of, names_beside, rows_of
 
 REFUSED = 4
@@ -14,7 +14,7 @@ REFUSED = 4
 
 
 def told(path: str, cause: str, word: str) -> str:
-    """What is told on standard error of a file that `migrate`, `check` or `copy` refuses."""
+    """What is told on standard error of a file that a line refuses."""
     return f"uss_desk: {path}: {cause}\nuss_desk: {word}\n"
 
 
@@ -45,18 +45,26 @@ def assert_opened(path: str) -> None:
     assert content_of(path) == Content([sorted([*before[0], ("bravo", 100)]), *before[1:]], INDEXES, SOUND)
 
 
-def assert_refused(path: str, word: str, cause: str | None) -> None:
-    """A file isn't opened, and stays the same, byte for byte."""
+def assert_refused(path: str, word: str, cause: str) -> None:
+    """A file isn't opened, with the cause, and stays the same, byte for byte."""
     before = bytes_of(path)
-    ran = enrolled(path)
-    assert (ran.status, ran.errors) == (REFUSED, f"uss_desk: {word}\n")
+    assert enrolled(path) == (REFUSED, b"", told(path, cause, word))
+    assert bytes_of(path) == before
+    assert_passed(path, cause, word)
+
+
+def assert_refused_unmoved(path: str, cause: str = "") -> None:
+    """A file with rows of schema 1 isn't opened, and stays the same, byte for byte. `check` and `copy` take it, or tell
+    the cause that is given."""
+    before = bytes_of(path)
+    assert enrolled(path) == (REFUSED, b"", told(path, MIGRATE, "old_schema"))
     assert bytes_of(path) == before
     assert_passed(path, cause)
 
 
-def assert_passed(path: str, cause: str | None) -> None:
+def assert_passed(path: str, cause: str, word: str = "not_a_desk") -> None:
     """A file that isn't opened is refused by `copy` too, which makes nothing, and by `check`, unless it is of schema 1.
-    Both tell the cause, if there is one; the file stays the same."""
+    Both tell the cause; the file stays the same."""
     before, new = bytes_of(path), path + ".new"
     look, copy = looked(path), copied(path, new)
     if look.status == 0:
@@ -64,16 +72,14 @@ def assert_passed(path: str, cause: str | None) -> None:
     else:
         assert (look.status, copy.status, copy.output) == (REFUSED, REFUSED, b"")
         assert names_beside(new) == set()
-        if cause:
-            assert [look.errors, copy.errors] == [told(path, cause, "not_a_desk")] * 2
+        assert [look.errors, copy.errors] == [told(path, cause, word)] * 2
     assert bytes_of(path) == before
 
 
 def assert_moved(path: str, count: int) -> None:
     """A file of schema 1 is refused before it is moved, and is a desk's afterwards; moved again, none is moved."""
     before = rows_of(path)
-    ran = enrolled(path)
-    assert (ran.status, ran.errors) == (REFUSED, "uss_desk: old_schema\n")
+    assert enrolled(path) == (REFUSED, b"", told(path, MIGRATE, "old_schema"))
     assert rows_of(path) == before
     for moved_now in (count, 0):
         assert moved(path) == (0, f"migrated {moved_now} plans\n".encode(), "")

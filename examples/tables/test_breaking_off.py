@@ -9,9 +9,8 @@ import shutil
 import pytest
 from harness.program import run
 from harness.tracing import killed_at, was_killed
-from tables.causes import TAKEN
 from tables.files import bytes_of, made_file, names_beside, rows_of, stated_file
-from tables.judging import REFUSED, assert_in_schema_2, assert_opened, copied, looked, told
+from tables.judging import REFUSED, assert_in_schema_2, assert_opened, copied, looked
 from tables.statements import PACKED, PLAN
 
 # calls that write, sync, remove and rename, and how often at least a copy, and an opening, makes each
@@ -29,27 +28,25 @@ CALLS = [
 MOST = 1_000
 
 
-def assert_whole_or_nothing(before: list[list[object]], new: str) -> None:
-    """What a killed copy leaves of the new name: all rows, or nothing, and then what is left beside it isn't taken for
-    a copy."""
-    if os.path.exists(new):
-        assert_in_schema_2(before, new)
-        return
-    left = [name for name in (new + ".part", new + ".part-wal") if os.path.exists(name)]
-    at, cause = (left[0], TAKEN) if left else (new, "no such file")
-    assert copied(new, new) == (REFUSED, b"", told(at, cause, "store"))
+def assert_whole_or_nothing(before: list[list[object]], path: str, new: str) -> None:
+    """What a killed copy leaves of the new name: all rows, or nothing, and then the next copy makes the file, whatever
+    is left beside it, and leaves nothing there."""
+    if not os.path.exists(new):
+        assert copied(path, new).status == 0
+        assert names_beside(new) == {os.path.basename(new)}
+    assert_in_schema_2(before, new)
 
 
 @pytest.mark.parametrize("call, least", [pytest.param(call, least, id=call) for call, least, _ in CALLS])
 def test_copy_killed(call: str, least: int, room: pathlib.Path) -> None:
     """A copy that is killed at each of these calls: no file of the new name, or the whole of it; the file keeps its
-    rows."""
+    rows, and what is left beside the new name keeps no later copy from it."""
     path = made_file(str(room / "desk.db"), PLAN)
     before = rows_of(path)
     for number in range(1, MOST):
         new = f"{path}.{number}"
         ran = run("copy", "--db", path, "--to", new, under=killed_at(call, number))
-        assert_whole_or_nothing(before, new)
+        assert_whole_or_nothing(before, path, new)
         assert rows_of(path) == before
         if not was_killed(ran.status):
             break

@@ -5,13 +5,15 @@ from __future__ import annotations
 import contextlib
 import os
 import pathlib
+import shutil
 import sqlite3
 
 import pytest
 from harness.program import run
 from harness.rows import named
-from tables.causes import DAMAGED, NO_TABLE, OTHER, TAKEN
-from tables.files import bytes_of, logged_file, made_file, old_file, rows_of, stated_file
+from harness.sums import sum_anew
+from tables.causes import DAMAGED, IN_USE, NO_DATABASE, NO_TABLE, OTHER, TAKEN, unsummed
+from tables.files import bytes_of, logged_file, made_file, names_beside, old_file, rows_of, stated_file
 from tables.judging import (
     REFUSED,
     assert_copied,
@@ -20,6 +22,7 @@ from tables.judging import (
     assert_passed,
     assert_refused_by_all,
     copied,
+    enrolled,
     looked,
     told,
 )
@@ -38,6 +41,13 @@ NO_NAMES = [
     ("to_a_uri", "file:new.db", "file:new.db", "a name that SQLite reads otherwise than as a path"),
     ("to_itself", "/desk.db", "/desk.db", TAKEN),
     ("into_no_folder", "/nowhere/new.db", "/nowhere/new.db.part", "no such folder"),
+]
+
+# name, and a line that opens a file, or makes it; its words but for the file
+OPENING = [
+    ("enrol", ["enrol", "bravo", "100"]),
+    ("play", ["play", "--at", "0"]),
+    ("serve", ["serve", "--port", "8080", "--requests", "1"]),
 ]
 
 
@@ -93,13 +103,35 @@ def test_check_of_a_copy(one_plan: str) -> None:
     assert looked(one_plan + ".copy").output.startswith(b"schema 2, sums yes, 2 operators, 1 plans")
 
 
-def test_damaged(one_plan: str, room: pathlib.Path) -> None:
-    """A bit of a page with sums that isn't as it was."""
-    assert copied(one_plan, one_plan + ".copy").status == 0
-    whole = bytearray(bytes_of(one_plan + ".copy"))
+@pytest.fixture
+def damaged(one_plan: str, room: pathlib.Path) -> str:
+    """The path of a file with sums, a bit of which isn't as it was."""
+    path = room / "damaged.db"
+    assert copied(one_plan, str(path)).status == 0
+    whole = bytearray(path.read_bytes())
     whole[-100] ^= 1
-    (room / "damaged.db").write_bytes(whole)
-    assert_refused_by_all(str(room / "damaged.db"), DAMAGED, "store")
+    path.write_bytes(whole)
+    return str(path)
+
+
+def test_damaged(damaged: str) -> None:
+    """The page of that bit is told."""
+    assert_refused_by_all(damaged, unsummed(1), "store")
+
+
+@pytest.mark.parametrize("words", named(OPENING))
+def test_damaged_opened(words: list[str], damaged: str) -> None:
+    """It is told by the lines that make a file where there is none too."""
+    assert run(words[0], "--db", damaged, *words[1:]) == (REFUSED, b"", told(damaged, unsummed(1), "store"))
+
+
+def test_damaged_under_its_sums(one_plan: str, room: pathlib.Path) -> None:
+    """Rows that break a key, in pages whose sums are right."""
+    path = room / "summed.db"
+    assert copied(one_plan, str(path)).status == 0
+    stated_file(str(path), ["DELETE FROM operator"])
+    sum_anew(path)
+    assert_refused_by_all(str(path), DAMAGED, "store")
 
 
 def test_nothing(room: pathlib.Path) -> None:
@@ -119,7 +151,7 @@ def test_text(room: pathlib.Path) -> None:
     """A file of text."""
     path = room / "text.db"
     path.write_bytes(b"no database, and long enough\n" * 200)
-    assert_refused_by_all(str(path), "no SQLite database", "store")
+    assert_refused_by_all(str(path), NO_DATABASE, "store")
 
 
 def test_file_of_another_program(room: pathlib.Path) -> None:
@@ -135,7 +167,15 @@ def test_no_table(room: pathlib.Path) -> None:
 
 def test_folder(room: pathlib.Path) -> None:
     """A folder in place of a file."""
-    assert_refused_by_all(os.path.join(room, "."), "no file", "store")
+    assert_refused_by_all(os.path.join(room, "."), NO_DATABASE, "store")
+
+
+def test_pipe(room: pathlib.Path) -> None:
+    """A pipe in place of a file, for whose writer no line waits."""
+    path = str(room / "pipe.db")
+    os.mkfifo(path)
+    assert_refused_by_all(path, NO_DATABASE, "store")
+    assert enrolled(path) == (REFUSED, b"", told(path, NO_DATABASE, "store"))
 
 
 def test_check_in_memory() -> None:
@@ -148,7 +188,8 @@ def test_in_use(one_plan: str) -> None:
     """A file that another program has locked."""
     with contextlib.closing(sqlite3.connect(one_plan, isolation_level=None)) as holder:
         holder.execute("BEGIN EXCLUSIVE")
-        assert_refused_by_all(one_plan, "in use by another program", "store")
+        assert_refused_by_all(one_plan, IN_USE, "store")
+        assert enrolled(one_plan) == (REFUSED, b"", told(one_plan, IN_USE, "store"))
 
 
 @pytest.mark.parametrize("new, at, cause", named(NO_NAMES))
@@ -160,10 +201,45 @@ def test_copy_to_what_is_no_name(new: str, at: str, cause: str, one_plan: str, r
     assert (bytes_of(one_plan), sorted(os.listdir(room))) == before
 
 
-@pytest.mark.parametrize("end", ["-wal", ".part", ".part-wal"])
-def test_copy_beside(end: str, one_plan: str, room: pathlib.Path) -> None:
-    """A new name, beside which something has a name of what belongs to it."""
+def test_copy_beside_a_log(one_plan: str, room: pathlib.Path) -> None:
+    """A new name, beside which a log is."""
     new = room / "new.db"
-    (room / f"new.db{end}").touch()
-    assert copied(one_plan, str(new)) == (REFUSED, b"", told(f"{new}{end}", TAKEN, "store"))
+    (room / "new.db-wal").touch()
+    assert copied(one_plan, str(new)) == (REFUSED, b"", told(f"{new}-wal", TAKEN, "store"))
     assert not new.exists()
+
+
+@pytest.mark.parametrize("end", [".part", ".part-wal"])
+def test_copy_over_what_is_left(end: str, one_plan: str, room: pathlib.Path) -> None:
+    """What a copy left under the names that a new file has first is made anew."""
+    (room / f"new.db{end}").touch()
+    assert copied(one_plan, str(room / "new.db")) == (0, b"copied 1 operators, 1 plans\n", "")
+    assert names_beside(str(room / "new.db")) == {"new.db"}
+
+
+def assert_not_copied(path: str, new: pathlib.Path, cause: str) -> None:
+    """A file isn't copied, for what stands where the new one is written first, and which stays."""
+    names = names_beside(str(new))
+    assert copied(path, str(new)) == (REFUSED, b"", told(f"{new}.part", cause, "store"))
+    assert names_beside(str(new)) == names
+
+
+def test_copy_over_a_held_file(one_plan: str, room: pathlib.Path) -> None:
+    """Another program has locked what stands there."""
+    with contextlib.closing(sqlite3.connect(room / "new.db.part", isolation_level=None)) as holder:
+        holder.execute("BEGIN EXCLUSIVE")
+        assert_not_copied(one_plan, room / "new.db", IN_USE)
+
+
+def test_copy_of_what_is_left(one_plan: str, room: pathlib.Path) -> None:
+    """What stands there is what is to be copied."""
+    part = room / "new.db.part"
+    shutil.copyfile(one_plan, part)
+    assert_not_copied(str(part), room / "new.db", TAKEN)
+    assert bytes_of(str(part)) == bytes_of(one_plan)
+
+
+def test_copy_beside_a_folder(one_plan: str, room: pathlib.Path) -> None:
+    """A folder stands there."""
+    (room / "new.db.part").mkdir()
+    assert_not_copied(one_plan, room / "new.db", TAKEN)

@@ -6,21 +6,21 @@ import pathlib
 from typing import NamedTuple
 
 import pytest
-from tables.causes import BOTH, CANON_OF, HEAD, MANY, OPERATOR, OTHER, SPAN, VOLUME
+from tables.causes import BOTH, CANON_OF, DAMAGED, HEAD, MANY, NO_DATABASE, OPERATOR, OTHER, SPAN, VOLUME
 from tables.files import made_file, stated_file
-from tables.judging import assert_opened, assert_refused
+from tables.judging import assert_opened, assert_refused, assert_refused_unmoved
 from tables.statements import CLOSED, DROPPED, ENROLLED, ID, NO_INDEX, OLD, OLD_SPAN, OLD_VOLUME, PLAN, SCHEMA
 from tables.statements import many, wide
 
 
 class Case(NamedTuple):
-    """A file of a desk's tables and of these statements; the word of its refusal, if it is refused, and the cause that
-    is told by `check` and `copy`, if it is a desk's in neither schema."""
+    """A file of a desk's tables and of these statements; the word of its refusal, if it is refused, and the cause, if
+    it is a desk's in neither schema."""
 
     name: str
     statements: list[str]
     word: str | None
-    cause: str | None = None
+    cause: str = ""
 
 
 CASES = [
@@ -31,8 +31,8 @@ CASES = [
     Case("thirty_two_volumes", wide(32), None),
     Case("volumes_33", wide(33), "not_a_desk", VOLUME),
     # rows that break a foreign key are refused as a damaged database
-    Case("plan_of_nobody", PLAN + ["DELETE FROM operator"], "store"),
-    Case("volume_of_no_plan", PLAN + ["DELETE FROM plan", "DELETE FROM span2"], "store"),
+    Case("plan_of_nobody", PLAN + ["DELETE FROM operator"], "store", DAMAGED),
+    Case("volume_of_no_plan", PLAN + ["DELETE FROM plan", "DELETE FROM span2"], "store", DAMAGED),
     Case("plan_without_volumes", PLAN + ["DELETE FROM volume2", "DELETE FROM span2"], "not_a_desk", VOLUME),
     Case(
         "gap_in_places", PLAN + ["UPDATE volume2 SET place = 1", "UPDATE span2 SET place = 1"], "not_a_desk", VOLUME
@@ -136,6 +136,8 @@ def test_opening(case: Case, room: pathlib.Path) -> None:
     path = made_file(str(room / f"{case.name}.db"), case.statements)
     if case.word is None:
         assert_opened(path)
+    elif case.word == "old_schema":
+        assert_refused_unmoved(path, case.cause)
     else:
         assert_refused(path, case.word, case.cause)
 
@@ -150,4 +152,4 @@ def test_no_database(room: pathlib.Path) -> None:
     """A file of text."""
     path = room / "text.db"
     path.write_bytes(b"this is no database, and long enough to be looked at as one\n" * 100)
-    assert_refused(str(path), "store", None)
+    assert_refused(str(path), "store", NO_DATABASE)

@@ -8,9 +8,9 @@ import subprocess
 
 import pytest
 from harness.rows import named
-from tables.causes import OTHER, SPAN
+from tables.causes import DAMAGED, OTHER, SPAN
 from tables.files import bytes_of, made_file, rows_of, stated_file
-from tables.judging import assert_in_schema_2, assert_opened, assert_refused, copied, moved
+from tables.judging import assert_in_schema_2, assert_opened, assert_refused, assert_refused_unmoved, copied, moved
 from tables.statements import CLOSED, OLD, PACKED, PLAN, many, packed_but
 
 # what sqlite3 makes of a desk's file, and the word of the refusal: VACUUM, and what is restored from a dump, have all
@@ -93,11 +93,11 @@ def test_packed_of_no_content(room: pathlib.Path) -> None:
 
 def test_packed_of_schema_1(room: pathlib.Path) -> None:
     """A packed file with a plan in schema 1."""
-    assert_refused(stated_file(str(room / "packed.db"), [*PACKED, *OLD]), "old_schema", None)
+    assert_refused_unmoved(stated_file(str(room / "packed.db"), [*PACKED, *OLD]))
 
 
 @pytest.mark.parametrize("statements, word", named(NEARLY))
 def test_nearly_packed(statements: list[str], word: str, room: pathlib.Path) -> None:
     """A file that looks like a packed one is refused."""
     path = stated_file(str(room / "nearly.db"), statements)
-    assert_refused(path, word, OTHER if word == "not_a_desk" else None)
+    assert_refused(path, word, OTHER if word == "not_a_desk" else DAMAGED)
