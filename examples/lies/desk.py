@@ -14,7 +14,7 @@ from lies.flights import MOMENT, Step, World, name_of, read_all
 
 # seconds in which a desk answers or ends
 PATIENCE = 120
-REFUSED = ("uss_desk: store\n", "uss_desk: not_a_desk\n")
+REFUSED = ("store", "not_a_desk", "damaged_log")
 # more than any part asks
 CONNECTIONS = 100_000
 
@@ -49,13 +49,18 @@ def play(path: pathlib.Path, steps: Sequence[Step], ceilings: Mapping[int, int])
 
 def opened(path: pathlib.Path, world: World) -> Opened:
     """Opens a file, and reads its content by the requests that tell a world."""
+    return opened_or_told(path, world)[0]
+
+
+def opened_or_told(path: pathlib.Path, world: World) -> tuple[Opened, str]:
+    """The same, and the lines before the word of a refusal."""
     ran = finish([PROGRAM, "play", "--db", str(path), "--at", str(MOMENT)], read_all(world)[0])
     if ran.status == 0 and not ran.errors:
-        return Opened(None, ran.output)
-    word = word_of(ran.errors)
+        return Opened(None, ran.output), ""
+    cause, _, word = ran.errors.removesuffix("\n").rpartition("uss_desk: ")
     is_refused = (ran.status, ran.output) == (4, b"") and word in REFUSED
     assert is_refused, f"opened again: {ran.status}, {ran.errors!r}, {ran.output[-200:]!r}"
-    return Opened(word.split()[1], b"")
+    return Opened(word, b""), cause
 
 
 class Desk:

@@ -1,5 +1,6 @@
-"""Damage in the log that a killed desk left: the file is refused, or has what was answered, or that without its last
-changes; and damage in FILE beside such a log. How many changes a log holds."""
+"""Damage in the log that a killed desk left: where the rule says so the file is refused, and copied without what is
+lost; else it has what was answered, or that without its last changes. Damage in FILE beside such a log. How many
+changes a log holds."""
 
 import itertools
 import pathlib
@@ -9,13 +10,15 @@ from collections.abc import Iterator
 from typing import Any
 
 import pytest
+from faults.program import PROGRAM, finish
 from harness.places import TOP
 from harness.rows import Rows
 from lies.changes import make_file
 from lies.damage import FRAME, HEAD, SECTOR, Kind, bit, burst, cut, damaged, frames_of, zeroed
-from lies.desk import Desk, log_of, opened
+from lies.desk import Desk, log_of, opened, opened_or_told
 from lies.flights import Flight, clear, delete, put
 from lies.killed import FRAMES, Left, leave
+from lies.rule import damage_of
 from lies.trials import Note, Trial
 
 CHANGE = 100
@@ -109,21 +112,55 @@ KINDS = [
 ]
 
 
+LOST = ("the same content", "without its last change", "without some last changes, untold")
+"""What came of a log that is not refused, by how many changes are lost."""
+
+
 @pytest.mark.trials("FILE-wal of a killed desk", KINDS)
-def test_damaged_log(trial: Trial, words: tuple[Kind], left: Left, record_property: Note) -> None:
-    """A damaged log: the file is refused, or lacks some of the last changes."""
+def test_damaged_log(trial: Trial, words: tuple[Kind], left: Left) -> None:
+    """A damaged log: the file is refused, and copied without what is lost; or it lacks some of the last changes."""
     trial.path.write_bytes(left.file)
     changed = damaged(left.log, left.earlier, words[0], trial.chance)
     if changed:
         log_of(trial.path).write_bytes(changed + left.rest if len(changed) == len(left.log) else changed)
-    found = opened(trial.path, left.world)
-    if found.word:
-        trial.came_to("refused")
-        return
-    assert found.content in left.readings, "it opens with what was never its content"
-    lost = left.readings[::-1].index(found.content)
-    trial.came_to("without its last changes" if lost else "the same content")
-    record_property(f"FILE-wal of a killed desk: {lost} of {len(left.readings) - 1} changes lost", 1)
+    lost = lost_at(trial.path, left)
+    trial.came_to("told" if lost is None else LOST[min(lost, 2)])
+
+
+def lost_at(path: pathlib.Path, left: Left) -> int | None:
+    """How many of the last changes a pair whose log was changed has lost, or None if it is refused for its log, as the
+    rule says."""
+    before = pair_of(path)
+    damage, (found, cause) = damage_of(before[1]), opened_or_told(path, left.world)
+    if damage is None:
+        assert found.word is None, f"it is refused: {found.word}"
+        assert found.content in left.readings, "it opens with what was never its content"
+        return left.readings[::-1].index(found.content)
+    told = f"its log is damaged at frame {damage.frame}: {damage.commits} commits from there on can't be read"
+    told = f"uss_desk: {path}: {told}\n"
+    assert (found.word, cause, pair_of(path)) == ("damaged_log", told, before)
+    assert_copied_without(path, told, left)
+    return None
+
+
+def pair_of(path: pathlib.Path) -> list[bytes]:
+    """The bytes of a file and of its log."""
+    return [it.read_bytes() if it.exists() else b"" for it in (path, log_of(path))]
+
+
+def assert_copied_without(path: pathlib.Path, told: str, left: Left) -> None:
+    """Copies a pair whose log is damaged: the loss is told, and the copy has what was its content before; `check` tells
+    the same."""
+    copy = path.with_name(f"{path.name}.copy")
+    copied, looked = (finish([PROGRAM, *words], b"") for words in lines_over(path, copy))
+    assert (copied.status, copied.errors) == (0, told)
+    assert opened(copy, left.world).content in left.readings[:-1]
+    assert (looked.status, looked.output, looked.errors) == (4, b"", f"{told}uss_desk: damaged_log\n")
+
+
+def lines_over(path: pathlib.Path, copy: pathlib.Path) -> list[list[str]]:
+    """The lines that copy a file and look into it."""
+    return [["copy", "--db", str(path), "--to", str(copy)], ["check", "--db", str(path)]]
 
 
 @pytest.mark.trials("FILE beside such a log", [("single bits", 50)])
