@@ -10,7 +10,7 @@ from lies.flights import MOMENT, name_of, read_all
 
 # seconds in which a desk answers or ends
 PATIENCE = 120
-REFUSED = ("uss_desk: store\n", "uss_desk: not_a_desk\n")
+REFUSED = ("store", "not_a_desk", "damaged_log")
 # more than any part asks
 CONNECTIONS = 100_000
 
@@ -48,11 +48,17 @@ def play(path, steps, ceilings=None):
 
 def opened(path, world):
     """Opens a file, and reads its content by the requests that tell a world. A complaint is raised as an error."""
+    return opened_or_told(path, world)[0]
+
+
+def opened_or_told(path, world):
+    """The same, and the lines before the word of a refusal."""
     ran = finish([PROGRAM, "play", "--db", str(path), "--at", str(MOMENT)], read_all(world)[0])
     if ran.status == 0 and not ran.errors:
-        return Opened(None, ran.output)
-    if ran.status == 4 and ran.errors in REFUSED and not ran.output:
-        return Opened(ran.errors.split()[1], b"")
+        return Opened(None, ran.output), ""
+    cause, _, word = ran.errors.removesuffix("\n").rpartition("uss_desk: ")
+    if ran.status == 4 and word in REFUSED and not ran.output:
+        return Opened(word, b""), cause
     raise Complaint(f"opened again: status {ran.status}, {ran.errors!r}, {ran.output[-200:]!r}")
 
 

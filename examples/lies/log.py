@@ -1,16 +1,17 @@
-"""Damage in the log that a killed desk left: the file is refused, or has what was answered, or that without its last
-changes; and damage in FILE beside such a log."""
+"""Damage in the log that a killed desk left: where the rule says so, the file is refused and copied without what is
+lost; else it has what was answered, or that without its last changes. And damage in FILE beside such a log."""
 import itertools
 import pathlib
 import random
 import re
 from typing import List, NamedTuple
 
-from faults.program import TOP
+from faults.program import TOP, run
 from lies.changes import change_by_chance, make_file
 from lies.damage import FRAME, HEAD, SECTOR, bit, burst, cut, damaged, zeroed
-from lies.desk import Complaint, Desk, log_of, opened
+from lies.desk import Complaint, Desk, log_of, opened, opened_or_told
 from lies.flights import Flight, World, clear, delete, put, read_all
+from lies.rule import damage_of
 
 # how many frames the log may hold before the next change copies it into FILE, and how many a change may write
 FRAMES = 320
@@ -127,6 +128,9 @@ def none(data, *_):
     data.clear()
 
 
+# what came of a log that is not refused, by how many changes are lost
+LOST = ["the same content", "without its last change", "without some last changes, untold"]
+
 KINDS = [
     ("single bits", bit, 100),
     ("64 random bytes", burst, 40),
@@ -143,7 +147,6 @@ def log(counts, room, times):
     lengths(counts, room)
     left = leave(counts, room)
     reading = [read_all(world)[1] for world in left.worlds]
-    lost = []
     for name, kind, often in KINDS:
 
         def trial(path, chance):
@@ -151,13 +154,13 @@ def log(counts, room, times):
             changed = damaged(left.log, left.earlier, kind, chance)
             if changed:
                 log_of(path).write_bytes(changed + left.rest if len(changed) == len(left.log) else changed)
-            lost.append(lost_at(path, left.worlds[-1], reading))
-            return "refused" if lost[-1] is None else "without its last changes" if lost[-1] else "the same content"
+            lost = lost_at(path, left.worlds[-1], reading)
+            return "told" if lost is None else LOST[min(lost, 2)]
 
         counts.try_all(f"FILE-wal of a killed desk, {name}", trial, often * times)
-    some = [number for number in lost if number] or [0]
-    held = f"{len(left.worlds) - 1} changes in {frames_of(left.log)} frames"
-    print(f"lies: FILE-wal of a killed desk: of {held} {min(some)} to {max(some)} were lost", flush=True)
+    print(
+        f"lies: FILE-wal of a killed desk: {len(left.worlds) - 1} changes in {frames_of(left.log)} frames", flush=True
+    )
 
     def beside(path, chance):
         path.write_bytes(damaged(left.file, b"", bit, chance))
@@ -171,11 +174,28 @@ def log(counts, room, times):
 
 
 def lost_at(path, world, reading):
-    """How many of the last changes a pair whose log is damaged has lost, or None if it is refused. `reading` has what
-    each world answers, the newest last."""
-    found = opened(path, world)
-    if found.word:
+    """How many of the last changes a pair whose log was changed has lost, or None if it is refused for its log, as the
+    rule says. `reading` has what each world answers, the newest last."""
+    pair = [path, log_of(path)]
+    before = [it.read_bytes() if it.exists() else b"" for it in pair]
+    damage, (found, cause) = damage_of(before[1]), opened_or_told(path, world)
+    if damage is not None:
+        told = f"uss_desk: {path}: its log is damaged at frame {damage.frame}: {damage.commits} commits from there on"
+        told = f"{told} can't be read\n"
+        if (found.word, cause) != ("damaged_log", told) or [it.read_bytes() for it in pair] != before:
+            raise Complaint(f"{damage}, and opened again: {found.word}, {cause!r}")
+        copied_without(path, told, world, reading)
         return None
-    if found.content in reading:
+    if found.word is None and found.content in reading:
         return reading[::-1].index(found.content)
-    raise Complaint("it opens with what was never its content")
+    raise Complaint("it is refused" if found.word else "it opens with what was never its content")
+
+
+def copied_without(path, told, world, reading):
+    """Copies a pair whose log is damaged: the loss is told, and the copy has what was its content before."""
+    copy = path.with_name("copy.db")
+    ran = run(["copy", "--db", str(path), "--to", str(copy)])
+    if ran.status or ran.errors != told or opened(copy, world).content not in reading[:-1]:
+        raise Complaint(f"copied with status {ran.status}, {ran.errors!r}")
+    if run(["check", "--db", str(path)])[:3] != (4, b"", f"{told}uss_desk: damaged_log\n"):
+        raise Complaint("`check` says otherwise")
