@@ -1,5 +1,8 @@
 //! The file of enrolments that the keeper changes while a desk serves: lines `NAME CEILING`.
 
+ghost use Rattle.std.specs.Prelude.{IfOk};
+ghost use Rattle.desk_line.specs.Lines.{AreEnrolments};
+
 use crate::causes::tell_of;
 use desk_line::{Enrolment, Failure, Line, enrolment_on, enrolments_on, lines_of};
 use desk_program::Register;
@@ -96,7 +99,9 @@ fn path_of(line: &Line) -> Option<&str> {
 
 impl OperatorsFile<'_> {
     // The operators of the file. Lines that can't be read are told once.
-    fn read_file(&mut self, alloc: Global, path: &str) -> Result<Vec<Enrolment>, Unread> {
+    fn read_file(&mut self, alloc: Global, path: &str) -> Result<Vec<Enrolment>, Unread>
+        ensures { IfOk result (λ enrolments. AreEnrolments enrolments.items) }
+    {
         let stamp = stamp_of(self.rt, path)?;
         let text = read_text(self.rt, alloc, path)?;
         let lines = lines_of(alloc, &text)?;
