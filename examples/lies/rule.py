@@ -1,9 +1,14 @@
 """Which logs are damaged, and what is lost: the definition of crates/desk_log/specs/Damage.antt, by another hand."""
+
+from __future__ import annotations
+
 import struct
-from typing import NamedTuple, Optional
+from collections.abc import Iterator
+from typing import NamedTuple
 
 HEAD, FRAME_HEAD = 32, 24
 MAGIC, VERSION = 0x377F0682, 3007000
+Sum = tuple[int, int]
 
 
 class Damage(NamedTuple):
@@ -19,10 +24,10 @@ class Header(NamedTuple):
     order: str
     page: int
     salts: bytes
-    total: tuple
+    total: Sum
 
 
-def summed(order, data, state):
+def summed(order: str, data: bytes, state: Sum) -> Sum:
     """SQLite's checksum of some bytes, going on from a state."""
     first, second = state
     words = iter(struct.unpack(f"{order}{len(data) // 4}I", data))
@@ -32,7 +37,7 @@ def summed(order, data, state):
     return first, second
 
 
-def header_of(log) -> Optional[Header]:
+def header_of(log: bytes) -> Header | None:
     """The header of a log, if it has one."""
     if len(log) < HEAD:
         return None
@@ -43,19 +48,20 @@ def header_of(log) -> Optional[Header]:
     return Header(order, page, log[16:24], total) if summed(order, log[:24], (0, 0)) == total else None
 
 
-def frames_of(log, page):
+def frames_of(log: bytes, page: int) -> Iterator[tuple[bytes, bytes]]:
     """The heads and the pages of the whole frames."""
     size = FRAME_HEAD + page
     for at in range(HEAD, len(log) - size + 1, size):
         yield log[at : at + FRAME_HEAD], log[at + FRAME_HEAD : at + size]
 
 
-def damage_of(log) -> Optional[Damage]:
+def damage_of(log: bytes) -> Damage | None:
     """The damage of a log, if it is damaged."""
     header = header_of(log)
     if header is None:
         return None
-    stop, ends, state = None, 0, header.total
+    stop: int | None = None
+    ends, state = 0, header.total
     for number, (head, page) in enumerate(frames_of(log, header.page)):
         is_salted = head[8:16] == header.salts
         if stop is None:
@@ -66,4 +72,4 @@ def damage_of(log) -> Optional[Damage]:
         if not is_salted:
             break
         ends += head[4:8] != bytes(4)
-    return Damage(stop, ends) if ends >= 2 else None
+    return Damage(stop, ends) if stop is not None and ends >= 2 else None
