@@ -42,7 +42,8 @@ def header_of(log: bytes) -> Header | None:
     if len(log) < HEAD:
         return None
     magic, version, page = struct.unpack(">III", log[:12])
-    order, total = "><"[magic % 2 == 0], struct.unpack(">II", log[24:32])
+    first, second = struct.unpack(">II", log[24:32])
+    order, total = "><"[magic % 2 == 0], (first, second)
     if magic // 2 != MAGIC // 2 or version != VERSION or page not in {2**power for power in range(9, 17)}:
         return None
     return Header(order, page, log[16:24], total) if summed(order, log[:24], (0, 0)) == total else None
