@@ -26,6 +26,11 @@ def told(output: bytes, answers: Sequence[bytes]) -> tuple[int, bytes]:
     return len(answers), output
 
 
+def word_of(errors: str) -> str:
+    """The line of the word with which a run failed, which is the last; before it may stand why."""
+    return "".join(errors.splitlines(keepends=True)[-1:])
+
+
 def wrong_whole(ran: Ran, answers: Sequence[bytes]) -> str | None:
     """A run that ends with status 0 has given every answer."""
     if ran.output != b"".join(answers):
@@ -39,11 +44,12 @@ def wrong_failure(ran: Ran, answers: Sequence[bytes], words: tuple[str, str]) ->
     its files could not be closed, for whatever cause, which loses nothing."""
     broken, ended = words
     count, rest = told(ran.output, answers)
-    if ran.errors == "uss_desk: store\n" and count == len(answers) and not rest:
+    word = word_of(ran.errors)
+    if word == "uss_desk: store\n" and count == len(answers) and not rest:
         return None
-    if ran.errors == "uss_desk: broken\n":
+    if word == "uss_desk: broken\n":
         right = rest == answer(500, f'{{"error":"{broken}"}}')
-    elif ran.errors == f"uss_desk: {ended}\n":
+    elif word == f"uss_desk: {ended}\n":
         right = not rest and (count == 0 or ended == "memory")
     else:
         return f"it said {ran.errors!r}"
@@ -97,5 +103,5 @@ def first_of(*complaints: str | None) -> str | None:
 
 def kind_of(ran: Ran) -> str:
     """How a run ended, in a word."""
-    ends = {0: "whole", 4: ran.errors.strip().replace("uss_desk: ", "ended "), -signal.SIGKILL: "killed"}
+    ends = {0: "whole", 4: word_of(ran.errors).strip().replace("uss_desk: ", "ended "), -signal.SIGKILL: "killed"}
     return ends.get(ran.status, "crashed")

@@ -7,7 +7,7 @@ from collections.abc import Sequence
 
 import pytest
 from faults.conftest import Note
-from faults.judging import STORE, kind_of, told, wrong_content, wrong_end
+from faults.judging import STORE, kind_of, told, word_of, wrong_content, wrong_end
 from faults.load import load, reading_of
 from faults.program import PATIENCE, PROGRAM, Ran, play_words
 from faults.scenario import CONTENTS, OPERATORS, READING
@@ -36,10 +36,10 @@ def wrong_in_place(ran: Ran, allowed: Sequence[bytes], is_enrolled: bool) -> str
     """What is read on the full disk itself: one of the contents, or nothing where no operator could be enrolled."""
     if ran.status == 0 and ran.output in allowed:
         return None
-    if not is_enrolled and ran.status == 4 and ran.errors == "uss_desk: store\n":
+    if not is_enrolled and ran.status == 4 and word_of(ran.errors) == "uss_desk: store\n":
         return None
     if (
-        ran.output in allowed and ran.status == 4 and ran.errors == "uss_desk: store\n"
+        ran.output in allowed and ran.status == 4 and word_of(ran.errors) == "uss_desk: store\n"
     ):  # the log can't be copied there
         return None
     return f"read in place: status {ran.status}, {ran.errors!r}, {ran.output[-200:]!r}"

@@ -7,6 +7,7 @@ import subprocess
 from collections.abc import Mapping, Sequence
 from typing import NamedTuple, Self
 
+from faults.judging import word_of
 from faults.program import PROGRAM, finish
 from harness.ports import free_port
 from lies.flights import MOMENT, Step, World, name_of, read_all
@@ -51,11 +52,10 @@ def opened(path: pathlib.Path, world: World) -> Opened:
     ran = finish([PROGRAM, "play", "--db", str(path), "--at", str(MOMENT)], read_all(world)[0])
     if ran.status == 0 and not ran.errors:
         return Opened(None, ran.output)
-    assert (ran.status, ran.output) == (
-        4,
-        b"",
-    ) and ran.errors in REFUSED, f"opened again: {ran.status}, {ran.errors!r}, {ran.output[-200:]!r}"
-    return Opened(ran.errors.split()[1], b"")
+    word = word_of(ran.errors)
+    is_refused = (ran.status, ran.output) == (4, b"") and word in REFUSED
+    assert is_refused, f"opened again: {ran.status}, {ran.errors!r}, {ran.output[-200:]!r}"
+    return Opened(word.split()[1], b"")
 
 
 class Desk:
@@ -71,7 +71,7 @@ class Desk:
                 return
             self.process.kill()
             errors = self.process.communicate()[1].decode()
-            if not errors.endswith("uss_desk: network\n"):
+            if word_of(errors) != "uss_desk: network\n":
                 break
         raise OSError(f"serve doesn't listen: {errors!r}")
 
