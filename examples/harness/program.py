@@ -35,6 +35,14 @@ def need_program() -> None:
     assert os.access(PROGRAM, os.X_OK), f"{PROGRAM} isn't there"
 
 
+def quick_command() -> list[str]:
+    """DESK if it is given, else the program's file: the script uss_desk reads all sources at each start."""
+    if "DESK" in os.environ:
+        return DESK
+    need_program()
+    return [str(PROGRAM)]
+
+
 class Ran(NamedTuple):
     """What a line of the program came to."""
 

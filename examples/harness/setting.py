@@ -14,7 +14,7 @@ from collections.abc import Iterator, Mapping
 
 from harness.nginx import Nginx
 from harness.ports import PATIENCE, free_port, until
-from harness.program import DESK, run
+from harness.program import quick_command, run
 
 OPERATORS = {"alfa": "a", "bravo": "b", "carol": "c"}
 """Names and passwords, unless others are wanted; each has the ceiling 100."""
@@ -30,6 +30,7 @@ class Setting:
         self.operators = operators
         self.port = free_port()
         self.starts = 0
+        self._command = quick_command()
         self._is_ending = False
         self._left = contextlib.ExitStack()
 
@@ -68,7 +69,7 @@ class Setting:
         with open(self.folder / "output", "w", encoding="utf-8") as output:
             while not self._is_ending:
                 self.process = subprocess.Popen(
-                    [*DESK, "serve", *words],
+                    [*self._command, "serve", *words],
                     stdout=output,
                     stderr=subprocess.DEVNULL,
                     stdin=subprocess.DEVNULL,
