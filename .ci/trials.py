@@ -25,6 +25,8 @@ SOURCE = re.compile(r"(?:note: )?(?:\./)?(src/\S+?\.rt):(\d+):\d+: .*\(`([^`]+)`
 BEHIND = re.compile(r"declarations? that depends? on `([^`]+)`.*: (.*)$")
 LOST_NAME = re.compile(r"has no field|is not in scope|has no `|was not admitted")
 GOAL_WORD = re.compile(r"[\w+-]+")
+# How many edits are tried in one check at most: what it came to is known at its end only.
+MOST = 12
 RANGES = ("overflow_", "bounds", "slice_bounds", "nonzero_", "offset_bounds")
 
 
@@ -205,7 +207,7 @@ def next_round(left: list[Edit], index: Index) -> list[Edit]:
     taken: set[Item] = set()
     for edit in left:
         own = set(functions_of(edit, index))
-        if is_single(edit, index) and not own & taken:
+        if len(chosen) < MOST and is_single(edit, index) and not own & taken:
             chosen.append(edit)
             taken |= own
     return chosen or left[:1]
