@@ -149,18 +149,16 @@ def pair_of(path: pathlib.Path) -> list[bytes]:
 
 
 def assert_copied_without(path: pathlib.Path, told: str, left: Left) -> None:
-    """Copies a pair whose log is damaged: the loss is told, and the copy has what was its content before; `check` tells
-    the same."""
-    copy = path.with_name(f"{path.name}.copy")
-    copied, looked = (finish([PROGRAM, *words], b"") for words in lines_over(path, copy))
-    assert (copied.status, copied.errors) == (0, told)
-    assert opened(copy, left.world).content in left.readings[:-1]
+    """`check` tells the loss, and so does the copy of a pair whose log is damaged, which has what was its content before.
+    Afterwards the pair is that too: to read it ends its log there."""
+    looked = finish([PROGRAM, "check", "--db", str(path)], b"")
     assert (looked.status, looked.output, looked.errors) == (4, b"", f"{told}uss_desk: damaged_log\n")
-
-
-def lines_over(path: pathlib.Path, copy: pathlib.Path) -> list[list[str]]:
-    """The lines that copy a file and look into it."""
-    return [["copy", "--db", str(path), "--to", str(copy)], ["check", "--db", str(path)]]
+    copy = path.with_name(f"{path.name}.copy")
+    copied = finish([PROGRAM, "copy", "--db", str(path), "--to", str(copy)], b"")
+    assert (copied.status, copied.errors) == (0, told)
+    found = opened(copy, left.world)
+    assert found.content in left.readings[:-1]
+    assert opened(path, left.world) == found
 
 
 @pytest.mark.trials("FILE beside such a log", [("single bits", 50)])
