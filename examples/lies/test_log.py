@@ -149,8 +149,8 @@ def pair_of(path: pathlib.Path) -> list[bytes]:
 
 
 def assert_copied_without(path: pathlib.Path, told: str, left: Left) -> None:
-    """`check` tells the loss, and so does the copy of a pair whose log is damaged, which has what was its content before.
-    Afterwards the pair is that too: to read it ends its log there."""
+    """`check` tells the loss, and so does the copy of a pair whose log is damaged, which has what was its content
+    before. Afterwards the pair is that too: to read it ends its log there."""
     looked = finish([PROGRAM, "check", "--db", str(path)], b"")
     assert (looked.status, looked.output, looked.errors) == (4, b"", f"{told}uss_desk: damaged_log\n")
     copy = path.with_name(f"{path.name}.copy")
