@@ -30,11 +30,22 @@ def serve_line(port: int) -> list[str]:
     return shown(README, "./uss_desk serve").replace("8080", str(port)).split()
 
 
+def hear_interrupts() -> None:
+    """Ctrl-C is heard. What a shell begins in the background ignores it, and then no script can trap it."""
+    signal.signal(signal.SIGINT, signal.SIG_DFL)
+
+
 @contextlib.contextmanager
 def serving(words: Sequence[str], folder: pathlib.Path) -> Iterator[subprocess.Popen[str]]:
     """A desk that serves, once it says so; all its processes are killed if they are left."""
     desk = subprocess.Popen(
-        words, cwd=folder, stdout=subprocess.PIPE, stderr=subprocess.PIPE, text=True, start_new_session=True
+        words,
+        cwd=folder,
+        stdout=subprocess.PIPE,
+        stderr=subprocess.PIPE,
+        text=True,
+        start_new_session=True,
+        preexec_fn=hear_interrupts,
     )
     assert desk.stdout
     desk.stdout.readline()
