@@ -1,0 +1,67 @@
+-- Lines: what stands at their places, and which texts are lines.
+use Rattle.std.specs.Prelude.{◌≡◌, ◌<◌, ◌^◌, ℕ, ◌+◌, ◌-◌, ◌*◌, nat_lt, ◌&&◌, List, [], ◌∷◌, length, take, drop, codes, Option, Some, None, option_and_then, if◌then◌else◌}
+use Rattle.std.specs.Char.{is_ascii_digit}
+use Rattle.std.specs.Str.{bytes_eq}
+use Rattle.desk_record.specs.declared.kind.Kind.{Kind}
+use Rattle.desk_record.specs.declared.kind.Kind.TheVariants as kind
+use Rattle.desk_record.specs.declared.line.Line.{Line}
+use Rattle.desk_record.specs.Record.{line}
+
+-- the kind of a word
+abbrev pub kind_of : List ℕ → Option Kind
+kind_of text =
+    if bytes_eq text (codes "record   ") then Some kind.Record
+    else if bytes_eq text (codes "permitted") then Some kind.Permitted
+    else if bytes_eq text (codes "spans    ") then Some kind.Spans
+    else if bytes_eq text (codes "operator ") then Some kind.Operator
+    else if bytes_eq text (codes "request  ") then Some kind.Request
+    else if bytes_eq text (codes "answer   ") then Some kind.Answer
+    else None
+
+-- a number below 2^64 with one more digit
+abbrev pub next_digit : ℕ → ℕ → Option ℕ
+next_digit n digit =
+    if is_ascii_digit digit && nat_lt (n * 10 + (digit - 48)) (2 ^ 64) then Some (n * 10 + (digit - 48))
+    else None
+
+-- a number with more digits
+abbrev pub number_from : ℕ → List ℕ → Option ℕ
+number_from n [] = Some n
+number_from n (digit ∷ digits) = option_and_then (λ m. number_from m digits) (next_digit n digit)
+
+-- what a line says
+pub record LineParts : Type 0 where
+  pub kind : Kind
+  pub number : ℕ
+  pub size : ℕ
+  pub sum : List ℕ
+
+abbrev pub line_shown : Line → LineParts
+line_shown l = record { kind = l.kind; number = l.number; size = l.size; sum = l.sum.items }
+
+-- its text
+abbrev pub line_said : LineParts → List ℕ
+line_said l = line l.kind l.number l.size l.sum
+
+-- what stands at the places of a line
+unfoldable pub said_in : List ℕ → Option LineParts
+said_in bytes =
+    option_and_then (λ told.
+    option_and_then (λ n.
+    option_and_then (λ size.
+    Some (record { kind = told; number = n; size = size; sum = take 16 (drop 52 bytes) }))
+    (number_from 0 (take 20 (drop 31 bytes))))
+    (number_from 0 (take 20 (drop 10 bytes))))
+    (kind_of (take 9 bytes))
+
+-- what a line says, if this is its text
+unfoldable pub line_in : List ℕ → Option LineParts
+line_in bytes =
+    option_and_then (λ l. if bytes_eq (line_said l) bytes then Some l else None) (said_in bytes)
+
+-- this is a line with numbers of 64 bits
+pub record IsLine (bytes : List ℕ) (l : LineParts) : Type 0 where
+  pub text : bytes ≡ line_said l
+  pub number : l.number < 2 ^ 64
+  pub size : l.size < 2 ^ 64
+  pub sum : length l.sum ≡ 16

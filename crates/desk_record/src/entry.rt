@@ -1,0 +1,60 @@
+//! Entries of a record.
+
+ghost use Rattle.std.specs.Prelude.{◌≡◌, ◌++◌, IfOk, OnErr, OnOk};
+ghost use Rattle.desk_record.specs.Record.{entry};
+ghost use Rattle.desk_record.specs.Reading.{entry_shown};
+
+use crate::kind::Kind;
+use crate::line::{Line, line_text};
+use crate::sums::sum_of;
+use std::alloc::{AllocError, Global};
+
+/// One entry of a record.
+#[derive(Debug, Drop)]
+pub struct Entry {
+    pub kind: Kind,
+    /// What it counts is said by the kind.
+    pub number: u64,
+    pub bytes: Vec<u8>,
+}
+
+/// Appends an entry to a text.
+///
+/// # Errors
+///
+/// `AllocError` for want of memory: the text is as it was.
+pub fn write_entry(
+    text: &mut Vec<u8>,
+    kind: Kind,
+    number: u64,
+    bytes: &[u8],
+) -> Result<(), AllocError>
+    ensures ok { OnOk result (text.new.items ≡ text.old.items
+        ++ entry (record { kind = kind; number = number; bytes = bytes.now })) }
+    ensures err { OnErr result (text.new.items ≡ text.old.items) }
+{
+    let entry = entry_text(*text.allocator(), kind, number, bytes)?;
+    text.extend_from_slice(&entry)
+}
+
+// The text of an entry.
+#[tactic(auto, unfolding(crate::specs::Record::entry))]
+fn entry_text(alloc: Global, kind: Kind, number: u64, bytes: &[u8]) -> Result<Vec<u8>, AllocError>
+    ensures { IfOk result (λ text. text.items
+        ≡ entry (record { kind = kind; number = number; bytes = bytes.now })) }
+{
+    let size = bytes.len() as u64;
+    let sum = sum_of(alloc, bytes)?;
+    let mut text = line_text(
+        alloc,
+        &Line {
+            kind,
+            number,
+            size,
+            sum,
+        },
+    )?;
+    text.extend_from_slice(bytes)?;
+    text.extend_from_slice(b"\n")?;
+    Ok(text)
+}

@@ -1,0 +1,54 @@
+//! Numbers of a line, as twenty digits.
+
+ghost use Rattle.std.specs.Prelude.{◌≡◌, ◌++◌, OnOk};
+ghost use Rattle.desk_record.specs.Record as record_text;
+ghost use Rattle.desk_record.specs.Record.{digits};
+ghost use Rattle.desk_record.specs.Lines.{next_digit, number_from};
+
+use std::alloc::AllocError;
+
+/// Appends a number as twenty digits.
+///
+/// # Errors
+///
+/// `AllocError` for want of memory.
+#[tactic(auto, unfolding(crate::specs::Record::number))]
+pub fn write_number(out: &mut Vec<u8>, number: u64) -> Result<(), AllocError>
+    ensures { OnOk result (out.new.items ≡ out.old.items ++ record_text.number number) }
+{
+    write_digits(out, 20, number)
+}
+
+// Appends the last digits of a number, so many of them.
+#[tactic(auto, using(crate::proofs::DigitLemmas::one_digit), unfolding(crate::specs::Record::digits))]
+fn write_digits(out: &mut Vec<u8>, width: u32, number: u64) -> Result<(), AllocError>
+    ensures { OnOk result (out.new.items ≡ out.old.items ++ digits width number) }
+{
+    if width == 0 {
+        return Ok(());
+    }
+    write_digits(out, width - 1, number / 10)?;
+    out.extend_from_slice(&[b'0' + (number % 10) as u8])?;
+    Ok(())
+}
+
+/// The number that digits write, below 2^64. None for every other text.
+pub fn number_in(text: &[u8]) -> Option<u64>
+    ensures { result ≡ number_from 0 text.now }
+{
+    let mut number = 0;
+    for digit in text {
+        number = with_digit(number, *digit)?;
+    }
+    Some(number)
+}
+
+// A number with one more digit.
+fn with_digit(number: u64, digit: u8) -> Option<u64>
+    ensures { result ≡ next_digit number digit }
+{
+    if !digit.is_ascii_digit() {
+        return None;
+    }
+    number.checked_mul(10)?.checked_add(u64::from(digit - b'0'))
+}

@@ -1,0 +1,136 @@
+//! Entries read from a stream.
+
+ghost use Rattle.std.specs.Prelude.{◌≡◌, ◌≤◌, ◌<◌, None, length, take, IfErr, IfOk, IfSome};
+ghost use Rattle.std.specs.Io.{ReadsAtMost};
+ghost use Rattle.std.specs.Io.KnownBytes.{Consumes, IsAtEnd};
+ghost use Rattle.desk_record.specs.Record.{Fits, entry};
+ghost use Rattle.desk_record.specs.Lines.{line_shown};
+ghost use Rattle.desk_record.specs.Reading.{IsFailure, Stops, entry_shown, has_bytes};
+
+use crate::entry::Entry;
+use crate::line::{LINE, Line, read_line};
+use crate::sums::sum_of;
+use desk_ends::is_interruption;
+use std::alloc::{AllocError, Global};
+use std::io::Read;
+
+/// How many bytes are read at a time, at most.
+const CHUNK: usize = 4_096;
+
+/// How often one read is tried that is interrupted.
+const MAX_TRIES: u32 = 1_000_000;
+
+/// Why no entry was read.
+#[derive(Clone, Copy, Debug, PartialEq, Eq)]
+pub enum ReadFault {
+    /// A read failed.
+    Read,
+    /// Memory ran out.
+    OutOfMemory,
+    /// The input ended inside an entry.
+    CutShort,
+    /// What the input has next is no entry.
+    NoRecord,
+}
+
+impl From<AllocError> for ReadFault {
+    ghost use Rattle.std.specs.Prelude.{◌≡◌};
+    ghost use Rattle.desk_record.specs.declared.reading.ReadFault.TheVariants as read_fault;
+
+    ghost from_gives = { λ _ fault. fault ≡ read_fault.OutOfMemory };
+
+    fn from(_: AllocError) -> ReadFault {
+        ReadFault::OutOfMemory
+    }
+}
+
+/// Reads one entry, and leaves the rest unread. None if the input has ended.
+///
+/// # Errors
+///
+/// As `ReadFault` says: `CutShort` and `NoRecord` come of what the input has, whatever is read of it.
+pub fn read_entry<R: Read>(alloc: Global, input: &mut R) -> Result<Option<Entry>, ReadFault>
+    ensures entry { IfOk result (λ found. IfSome found (λ e.
+        Consumes (R.remaining input.old) (R.remaining input.new) (entry (entry_shown e)))) }
+    ensures fits { IfOk result (λ found. IfSome found (λ e. Fits (entry_shown e))) }
+    ensures end { IfOk result (λ found. found ≡ None → IsAtEnd (R.remaining input.old)) }
+    ensures fault { IfErr result (Stops (R.remaining input.old)) }
+{
+    let text = receive(alloc, input, LINE as u64)?;
+    if text.is_empty() {
+        return Ok(None);
+    }
+    if text.len() < LINE {
+        return Err(ReadFault::CutShort);
+    }
+    let Some(line) = read_line(alloc, &text)? else {
+        return Err(ReadFault::NoRecord);
+    };
+    let bytes = receive(alloc, input, line.size)?;
+    let last = receive(alloc, input, 1)?;
+    if last.is_empty() {
+        return Err(ReadFault::CutShort);
+    }
+    if !is_sound(alloc, &line, &bytes, &last)? {
+        return Err(ReadFault::NoRecord);
+    }
+    let Line { kind, number, .. } = line;
+    Ok(Some(Entry {
+        kind,
+        number,
+        bytes,
+    }))
+}
+
+// Whether these are the bytes of a line and the line feed behind them.
+#[tactic(auto, unfolding(crate::specs::Record::entry))]
+fn is_sound(alloc: Global, line: &Line, bytes: &[u8], last: &[u8]) -> Result<bool, AllocError>
+    ensures { IfOk result (λ sound. sound ≡ has_bytes (line_shown line.now) bytes.now last.now) }
+{
+    let sum = sum_of(alloc, bytes)?;
+    Ok(bytes.len() as u64 == line.size && sum == line.sum && last == b"\n".as_slice())
+}
+
+// Reads so many bytes, or as many as there are.
+fn receive<R: Read>(alloc: Global, input: &mut R, size: u64) -> Result<Vec<u8>, ReadFault>
+    ensures taken { IfOk result (λ text.
+        Consumes (R.remaining input.old) (R.remaining input.new) text.items) }
+    ensures within { IfOk result (λ text. length text.items ≤ size) }
+    ensures end { IfOk result (λ text. length text.items < size → IsAtEnd (R.remaining input.new)) }
+    ensures fault { IfErr result IsFailure }
+{
+    let mut text = Vec::new(alloc);
+    let mut chunk = [0u8; CHUNK];
+    let mut left = size;
+    for _ in 0..size {
+        if left == 0 {
+            return Ok(text);
+        }
+        let room = left.min(CHUNK as u64) as usize;
+        let count = receive_some(input, &mut chunk[..room])?;
+        if count == 0 {
+            return Ok(text);
+        }
+        text.extend_from_slice(&chunk[..count])?;
+        left -= count as u64;
+    }
+    Ok(text)
+}
+
+// Reads once, and again if that was interrupted.
+fn receive_some<R: Read>(input: &mut R, room: &mut [u8]) -> Result<usize, ReadFault>
+    ensures bound { ReadsAtMost result room.new }
+    ensures taken { IfOk result (λ n.
+        Consumes (R.remaining input.old) (R.remaining input.new) (take n room.new)) }
+    ensures end { IfOk result (λ n. n ≡ 0 → 0 < length room.new → IsAtEnd (R.remaining input.new)) }
+    ensures fault { IfErr result IsFailure }
+{
+    for _ in 0..MAX_TRIES {
+        match input.read(room) {
+            Ok(count) => return Ok(count),
+            Err(error) if is_interruption(&error) => {}
+            Err(_) => return Err(ReadFault::Read),
+        }
+    }
+    Err(ReadFault::Read)
+}
