@@ -202,7 +202,8 @@ module _ (old mid : Option (List ℕ)) (text : List ℕ) (first : Consumes old m
                 some = omega (arith, len);
                 whole = λ h. elim h.short [
                   | inl w ↦ omega (arith, len, w)
-                  | inr w ↦ (let found = line_read (take 86 (text ++ (bytes ++ (last ++ rest)))) w.line w.first in
+                  | inr w ↦ (let found =
+                      line_read (take 86 (text ++ (bytes ++ (last ++ rest)))) w.line w.first in
                       let same : w.line ≡ l =
                       some_same (sym found ∙ ap line_in (the_line (bytes ++ (last ++ rest))) ∙ read) in
                       let size : w.line.size ≡ l.size = ap (λ x. x.size) same in

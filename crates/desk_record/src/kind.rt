@@ -17,7 +17,7 @@ pub enum Kind {
     Operator,
     /// A request is asked at a moment. The Unix second, and the request as it came.
     Request,
-    /// The request before is answered. The answer's status code, and the answer as it was sent.
+    /// The request before is answered. That request's Unix second, and the answer as it was sent.
     Answer,
 }
 

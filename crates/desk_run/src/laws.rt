@@ -7,7 +7,7 @@ ghost use Rattle.desk_rules.specs.declared.call.Call.{Call};
 ghost use Rattle.desk_rules.specs.declared.call.Call.TheVariants.{Delete};
 ghost use Rattle.desk_rules.specs.declared.plan.PlanRow.{PlanRow};
 ghost use Rattle.desk_rules.specs.declared.words.Usage.TheVariants as usage;
-ghost use Rattle.desk_run.specs.DeskWorld.{DeskWorld, side, held_in};
+ghost use Rattle.desk_run.specs.DeskWorld.{DeskWorld, enrolled, side, held_in};
 ghost use Rattle.desk_run.specs.Sides.{HoldAlike, OwnAlike};
 ghost use Rattle.desk_run.specs.TwoRuns.{IsSameFor, TimedCall, calls_of, met_by};
 ghost use Rattle.desk_run.specs.Verdicts.{side_left, step};
@@ -33,6 +33,15 @@ pub fn closing_a_closed_plan_changes_nothing()
     ensures { (w : DeskWorld) (operator id : List ℕ) (moment : ℤ) (row : PlanRow) → IsWorld w.content →
         stored_of id (plans_of operator w.content) ≡ Some row → row.usage ≡ usage.Closed →
         step w operator moment (Delete id) ≡ w }
+{}
+
+/// Repeated: a call, and an enrolment, made twice in a row leaves what it leaves once. (The second answer may
+/// be another: a plan that is closed then can't be changed, and a clear finds none.)
+pub fn repeated()
+    ensures call { (w : DeskWorld) (operator : List ℕ) (moment : ℤ) (call : Call) →
+        step (step w operator moment call) operator moment call ≡ step w operator moment call }
+    ensures enrolment { (w : DeskWorld) (name : List ℕ) (ceiling : ℕ) →
+        enrolled (enrolled w name ceiling) name ceiling ≡ enrolled w name ceiling }
 {}
 
 /// Two runs, from worlds in which an operator owns the same on the same terms,

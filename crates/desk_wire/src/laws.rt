@@ -8,6 +8,8 @@ ghost use Rattle.desk_run.specs.DeskWorld.{DeskWorld};
 ghost use Rattle.desk_run.specs.Sides.{HoldAlike, OwnAlike};
 ghost use Rattle.desk_ends.specs.declared.playing.PlayEnd.{PlayEnd};
 ghost use Rattle.desk_wire.specs.declared.batch.AnswersEnd.{AnswersEnd};
+ghost use Rattle.desk_reading.specs.Requests.{asked};
+ghost use Rattle.desk_wire.specs.Bytes.{world_after};
 ghost use Rattle.desk_wire.specs.AllAnswers.{AreAnswers, AreFirst, Sent};
 ghost use Rattle.desk_wire.specs.Given.{answered, AreGiven, told_in_play};
 ghost use Rattle.desk_wire.specs.Headline.{Headline, LookAlike, sender, world_at};
@@ -91,6 +93,13 @@ pub fn kept()
         (moment : ℤ) (after : DeskWorld) (found : Option World) →
         IsKept ended n (Some stream) out now w moment after found →
         IsFoundAfter w moment stream n found }
+{}
+
+/// Repeated: a request that is asked twice in a row, at one moment, leaves what it leaves once.
+pub fn repeated()
+    ensures { (w : DeskWorld) (moment : ℤ) (request : List ℕ) →
+        world_after (world_after w moment (asked request)) moment (asked request)
+        ≡ world_after w moment (asked request) }
 {}
 
 /// Whatever follows a request in a stream, the request is the stream's first: so what is taken of a
