@@ -1,8 +1,8 @@
 -- What one step more changes of what a port tells.
-use Rattle.std.proofs.Common.{◌≡◌, ℕ, ℤ, List, [], ◌∷◌, ◌++◌, Option, None, Some, append-nil, ap, refl, subst, sym, ◌∙◌}
+use Rattle.std.proofs.Common.{◌≡◌, ℕ, ℤ, List, [], ◌∷◌, ◌++◌, Option, None, Some, append-nil, ap, inl, inr, refl, subst, sym, ◌∙◌}
 use Rattle.desk_line.specs.declared.line.Enrolment.{Enrolment}
 use Rattle.desk_program.specs.Serving.{Arrival, BringsNews, Closes, Parting, Takes, arrived}
-use Rattle.desk_recording.specs.Recording.{Adds, Answered, Asked, Enrolled, Lost, Step, arrivals_in, news_in, partings_in, traffic_of}
+use Rattle.desk_recording.specs.Recording.{Adds, Answered, Asked, Enrolled, Lost, SendsKept, Step, arrivals_in, news_in, partings_in, traffic_of}
 
 news_and : (steps : List Step) (step : Step)
     → news_in (steps ++ step ∷ []) ≡ news_in steps ++ news_in (step ∷ [])
@@ -74,3 +74,10 @@ closes_lost (Some steps) new parting is =
     (partings_and steps (Lost parting),
     ap Some (arrivals_and steps (Lost parting) ∙ append-nil (arrivals_in steps)), refl,
     ap Some (news_and steps (Lost parting) ∙ append-nil (news_in steps)))
+
+-- one is closed, whatever came of its answer
+pub closes_so : (old new : Option (List Step)) (parting : Parting) (answer : List ℕ)
+    (out now : Option (List ℕ)) → SendsKept old new parting answer out now
+    → Closes (traffic_of old) (traffic_of new) parting
+closes_so old new parting answer out now (inl kept) = closes_kept old new parting kept.0
+closes_so old new parting answer out now (inr lost) = closes_lost old new parting lost.0

@@ -1,7 +1,14 @@
 -- Recording: what a record is asked to keep, in its order, and what a port tells whose connections are kept.
-use Rattle.std.specs.Prelude.{◌≡◌, ℕ, ℤ, Bool, true, false, List, [], ◌∷◌, ◌++◌, Option, None, Some, option_map}
+use Rattle.std.specs.Prelude.{◌≡◌, ◌<◌, ◌⊎◌, ℕ, ℤ, length, Bool, true, false, List, [], ◌∷◌, ◌++◌, Option, None, Some, option_map}
 use Rattle.desk_line.specs.declared.line.Enrolment.{Enrolment}
-use Rattle.desk_program.specs.Serving.{Arrival, Parting, Traffic, arrived, untold}
+use Rattle.desk_ends.specs.Writing.{BreaksOff}
+use Rattle.desk_ends.specs.declared.writing.WriteFault.{WriteFault}
+use Rattle.desk_wire.specs.Refusals.{server_error_text}
+use Rattle.desk_wire.specs.Serving.{IsTaken}
+use Rattle.desk_wire.specs.declared.response.ServerError.TheVariants.{Store}
+use Rattle.desk_program.specs.Serving.{Arrival, Closes, Parting, Takes, Traffic, arrived, parted, untold}
+use Rattle.desk_recording.specs.declared.record.Parted.{Parted}
+use Rattle.std.specs.Io.KnownBytes.{Appends}
 
 -- a step: operators are enrolled; a request is taken at a moment, and no bytes stand for a connection of which
 -- no whole request came; the answer of a connection is kept; or it can't be
@@ -51,3 +58,31 @@ traffic_of (Some steps) = record {
   closed = Some (partings_in steps);
   news = Some (news_in steps);
 }
+
+-- a connection as it is closed
+abbrev pub parting_of : Parted → Parting
+parting_of connection = parted (Some connection.unread.now) (Some connection.sent.now) connection.is_whole
+
+-- the bytes are sent, or as many of them as the client takes
+abbrev pub Sends : List ℕ → Option (List ℕ) → Option (List ℕ) → Type 0
+Sends bytes out now = Appends out now bytes ⊎ ((fault : WriteFault) × BreaksOff bytes out now fault)
+
+-- a client is sent the answer that is kept; or it can't be kept, and the client is sent that the desk failed
+abbrev pub SendsKept :
+    Option (List Step) → Option (List Step) → Parting → List ℕ → Option (List ℕ) → Option (List ℕ) → Type 0
+SendsKept old new parting answer out now = (Adds old new (Answered parting) × Sends answer out now)
+    ⊎ (Adds old new (Lost parting) × Sends (server_error_text Store) out now)
+
+-- a client was sent this, and its connection is closed
+pub record IsClosedBy (old new : Option (List Step)) (parting : Parting) (answer : List ℕ)
+    (out left : Option (List ℕ)) (before after : Traffic) : Type 0 where
+  pub now : Option (List ℕ)
+  pub sends : SendsKept old new parting answer out now
+  pub closes : Closes before after (parted left now parting.is_whole)
+
+-- the bytes that are kept as a request are those of one that a client sent
+pub record IsTakenFrom (moment : ℤ) (request : List ℕ) (left : Option (List ℕ)) (before after : Traffic) :
+    Type 0 where
+  pub sent : Option (List ℕ)
+  pub takes : Takes before after (arrived moment sent)
+  pub whole : 0 < length request → IsTaken sent left request

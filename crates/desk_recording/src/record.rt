@@ -1,8 +1,8 @@
 //! What keeps requests and answers.
 
-ghost use Rattle.std.specs.Prelude.{List, Option, None, Some};
-ghost use Rattle.desk_program.specs.Serving.{parted};
+ghost use Rattle.std.specs.Prelude.{List, Option, None};
 ghost use Rattle.desk_recording.specs.Recording.{Adds, AddsIf, Answered, Asked, Enrolled, Lost, Step};
+ghost use Rattle.desk_recording.specs.Recording.{parting_of};
 
 use desk_line::Enrolment;
 
@@ -35,10 +35,9 @@ pub trait Record {
     /// disk with the next request.
     fn keep_answer(&mut self, connection: Parted<'_>) -> bool
         ensures { AddsIf (steps self.old) (steps self.new) result
-            (Answered (parted (Some connection.unread.now) (Some connection.sent.now) connection.is_whole)) };
+            (Answered (parting_of connection.entry)) };
 
     /// Notes that the answer to the request that was kept last is not kept.
     fn lose_answer(&mut self, connection: Parted<'_>)
-        ensures { Adds (steps self.old) (steps self.new)
-            (Lost (parted (Some connection.unread.now) (Some connection.sent.now) connection.is_whole)) };
+        ensures { Adds (steps self.old) (steps self.new) (Lost (parting_of connection.entry)) };
 }
