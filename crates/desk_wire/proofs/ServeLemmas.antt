@@ -1,5 +1,5 @@
 -- One request of a stream, from what its head, its body and its answer came to.
-use Rattle.std.proofs.Common.{◌≡◌, ℕ, ℤ, Bool, List, ◌++◌, Option, IfSome, Result, Ok, Err, length, refl, sym, ap, subst, ◌∙◌}
+use Rattle.std.proofs.Common.{◌≡◌, ◌<◌, ℕ, ℤ, Bool, List, ◌++◌, Option, IfErr, IfOk, IfSome, Result, Ok, Err, length, refl, sym, ap, subst, ◌∙◌}
 use Rattle.std.proofs.KnownBytes.{Consumes-trans, Keeps-refl}
 use Rattle.std.specs.Io.KnownBytes.{Consumes}
 use Rattle.std.specs.Result.{IsErrAnd, is_ok}
@@ -112,3 +112,22 @@ broken H (Err e) fault old new out now w after moment request answer why is off 
       replied = told;
       off = off;
     })
+
+-- the exit of a `?` that hands on what stopped the reading of a request, with what that says of the request
+pub stopped_so : {A : Type 0} (cut whole : Type 0) (r : Result A ServeFault) (f : ServeFault)
+    → IsErrAnd r (λ e. e ≡ f) → Stops cut f → (cut → whole) → IfErr r (Stops whole)
+stopped_so cut whole (Ok x) f is stops then_whole = tt
+stopped_so cut whole (Err e) f is stops then_whole = subst (Stops whole) (sym is) (by f stops)
+  where
+    by : (f : ServeFault) → Stops cut f → Stops whole f
+    by Read s = tt
+    by OutOfMemory s = tt
+    by CutShort s = then_whole s
+    by (Write fault) s = absurd s
+
+-- a request that was put together, if that was done
+pub taken_so : {V : Type 0} (items : V → List ℕ) (r : Result V ServeFault) (old new : Option (List ℕ))
+    (request : List ℕ) → IfOk r (λ v. items v ≡ request) → IsTaken old new request
+    → IfOk r (λ v. 0 < length (items v) → IsTaken old new (items v))
+taken_so items (Ok v) old new request is taken = λ some. subst (IsTaken old new) (sym is) taken
+taken_so items (Err e) old new request is taken = tt

@@ -14,4 +14,5 @@ pub use batch::{Answers, AnswersEnd, answer_all};
 pub use desk_ends::{PlayEnd, ServeFault, Served, WriteEnd, WriteFault, write_whole};
 pub use desk_reading::{ReadError, Route, WireFault, read_request};
 pub use play::{Played, play_all};
-pub use stream::serve_one;
+pub use response::ServerError;
+pub use stream::{receive_request, serve_one};

@@ -1,6 +1,6 @@
 //! Connections: requests read from a stream, and their answers written to one.
 
-ghost use Rattle.std.specs.Prelude.{◌≡◌, ◌<◌, ◌+◌, [], length, take, ◌⊎◌, Option, IfErr, IfOk};
+ghost use Rattle.std.specs.Prelude.{◌≡◌, ◌<◌, ◌+◌, ◌++◌, [], length, take, ◌⊎◌, Option, IfErr, IfOk};
 ghost use Rattle.std.specs.Prelude.{IfSome, None};
 ghost use Rattle.std.specs.Io.{ReadsAtMost};
 ghost use Rattle.std.specs.Result.{is_ok};
@@ -76,6 +76,36 @@ pub fn serve_one<S: PlanStore, R: Read, W: Write>(
     let answer = answer_request(alloc, desk, moment, &request)?;
     write_whole(output, &answer.bytes)?;
     Ok(answered(answer.status, &request))
+}
+
+/// Reads one request, the head byte by byte, and leaves the rest unread: its bytes, or none if the input has
+/// ended. Interrupted reads are tried again.
+///
+/// # Errors
+///
+/// `CutShort`, `Read` and `OutOfMemory`, as `ServeFault` says.
+pub fn receive_request<R: Read>(alloc: Global, input: &mut R) -> Result<Vec<u8>, ServeFault>
+    ensures taken { IfOk result (λ request. 0 < length request.items
+        → IsTaken (R.remaining input.old) (R.remaining input.new) request.items) }
+    ensures end { IfOk result (λ request. request.items ≡ [] → IsAtEnd (R.remaining input.old)) }
+    ensures fault { IfErr result (Stops (IfSome (R.remaining input.old) IsCut)) }
+{
+    let mut reads = MAX_READS;
+    let text = receive_head(alloc, input, &mut reads)?;
+    if text.is_empty() {
+        return Ok(text);
+    }
+    let body = receive_body(alloc, input, size_of(&front_of(&text)), &mut reads)?;
+    whole_of(text, &body)
+}
+
+// A head and its body.
+fn whole_of(mut head: Vec<u8>, body: &[u8]) -> Result<Vec<u8>, ServeFault>
+    ensures ok { IfOk result (λ whole. whole.items ≡ head.items ++ body.now) }
+    ensures err { IfErr result (λ fault. fault ≡ serve_fault.OutOfMemory) }
+{
+    head.extend_from_slice(body)?;
+    Ok(head)
 }
 
 // What came of a request that was answered with this status: it is framed where it could be read.

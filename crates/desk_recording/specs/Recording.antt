@@ -1,0 +1,88 @@
+-- Recording: what a record is asked to keep, in its order, and what a port tells whose connections are kept.
+use Rattle.std.specs.Prelude.{◌≡◌, ◌<◌, ◌⊎◌, ℕ, ℤ, length, Bool, true, false, List, [], ◌∷◌, ◌++◌, Option, None, Some, option_map}
+use Rattle.desk_line.specs.declared.line.Enrolment.{Enrolment}
+use Rattle.desk_ends.specs.Writing.{BreaksOff}
+use Rattle.desk_ends.specs.declared.writing.WriteFault.{WriteFault}
+use Rattle.desk_wire.specs.Refusals.{server_error_text}
+use Rattle.desk_wire.specs.Serving.{IsTaken}
+use Rattle.desk_wire.specs.declared.response.ServerError.TheVariants.{Store}
+use Rattle.desk_program.specs.Serving.{Arrival, Closes, Parting, Takes, Traffic, arrived, parted, untold}
+use Rattle.desk_recording.specs.declared.record.Parted.{Parted}
+use Rattle.std.specs.Io.KnownBytes.{Appends}
+
+-- a step: operators are enrolled; a request is taken at a moment, and no bytes stand for a connection of which
+-- no whole request came; the answer of a connection is kept; or it can't be
+pub data Step : Type 0 where
+  Enrolled : List Enrolment → Step
+  Asked : ℤ → List ℕ → Step
+  Answered : Parting → Step
+  Lost : Parting → Step
+
+-- known steps are followed by one more
+abbrev pub Adds : Option (List Step) → Option (List Step) → Step → Type 0
+Adds old new step = new ≡ option_map (λ steps. steps ++ step ∷ []) old
+
+-- one step more is made, or none
+abbrev pub AddsIf : Option (List Step) → Option (List Step) → Bool → Step → Type 0
+AddsIf old new true step = Adds old new step
+AddsIf old new false step = new ≡ old
+
+-- the news, the connections that were taken, and those that were closed, of these steps
+abbrev pub news_in : List Step → List (List Enrolment)
+news_in [] = []
+news_in (Enrolled news ∷ steps) = news ∷ news_in steps
+news_in (Asked moment bytes ∷ steps) = news_in steps
+news_in (Answered parting ∷ steps) = news_in steps
+news_in (Lost parting ∷ steps) = news_in steps
+
+abbrev pub arrivals_in : List Step → List Arrival
+arrivals_in [] = []
+arrivals_in (Enrolled news ∷ steps) = arrivals_in steps
+arrivals_in (Asked moment bytes ∷ steps) = arrived moment (Some bytes) ∷ arrivals_in steps
+arrivals_in (Answered parting ∷ steps) = arrivals_in steps
+arrivals_in (Lost parting ∷ steps) = arrivals_in steps
+
+abbrev pub partings_in : List Step → List Parting
+partings_in [] = []
+partings_in (Enrolled news ∷ steps) = partings_in steps
+partings_in (Asked moment bytes ∷ steps) = partings_in steps
+partings_in (Answered parting ∷ steps) = parting ∷ partings_in steps
+partings_in (Lost parting ∷ steps) = parting ∷ partings_in steps
+
+-- what a port tells whose record has made these steps
+abbrev pub traffic_of : Option (List Step) → Traffic
+traffic_of None = untold
+traffic_of (Some steps) = record {
+  listened = None;
+  taken = Some (arrivals_in steps);
+  closed = Some (partings_in steps);
+  news = Some (news_in steps);
+}
+
+-- a connection as it is closed
+abbrev pub parting_of : Parted → Parting
+parting_of connection = parted (Some connection.unread.now) (Some connection.sent.now) connection.is_whole
+
+-- the bytes are sent, or as many of them as the client takes
+abbrev pub Sends : List ℕ → Option (List ℕ) → Option (List ℕ) → Type 0
+Sends bytes out now = Appends out now bytes ⊎ ((fault : WriteFault) × BreaksOff bytes out now fault)
+
+-- a client is sent the answer that is kept; or it can't be kept, and the client is sent that the desk failed
+abbrev pub SendsKept :
+    Option (List Step) → Option (List Step) → Parting → List ℕ → Option (List ℕ) → Option (List ℕ) → Type 0
+SendsKept old new parting answer out now = (Adds old new (Answered parting) × Sends answer out now)
+    ⊎ (Adds old new (Lost parting) × Sends (server_error_text Store) out now)
+
+-- a client was sent this, and its connection is closed
+pub record IsClosedBy (old new : Option (List Step)) (parting : Parting) (answer : List ℕ)
+    (out left : Option (List ℕ)) (before after : Traffic) : Type 0 where
+  pub now : Option (List ℕ)
+  pub sends : SendsKept old new parting answer out now
+  pub closes : Closes before after (parted left now parting.is_whole)
+
+-- the bytes that are kept as a request are those of one that a client sent
+pub record IsTakenFrom (moment : ℤ) (request : List ℕ) (left : Option (List ℕ)) (before after : Traffic) :
+    Type 0 where
+  pub sent : Option (List ℕ)
+  pub takes : Takes before after (arrived moment sent)
+  pub whole : 0 < length request → IsTaken sent left request

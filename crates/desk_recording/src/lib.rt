@@ -1,0 +1,10 @@
+//! A port whose requests are recorded before they are served, and whose answers before they are sent.
+#![tactic(auto)]
+
+mod port;
+mod record;
+mod streams;
+
+pub use port::RecordedPort;
+pub use record::{Parted, Record};
+pub use streams::{Given, Held};

@@ -1,0 +1,191 @@
+//! A port whose connections are recorded.
+
+ghost use Rattle.std.specs.Prelude.{◌≡◌, ◌<◌, length, Some, IfErr, IfOk, OnErr};
+ghost use Rattle.std.specs.Io.Cursor.{cursor_inner, cursor_remaining};
+ghost use Rattle.desk_ends.specs.Moments.{IsMoment};
+ghost use Rattle.desk_wire.specs.Refusals.{server_error_text};
+ghost use Rattle.desk_wire.specs.Serving.{IsTaken};
+ghost use Rattle.desk_wire.specs.declared.response.ServerError.TheVariants.{Store};
+ghost use Rattle.desk_program.specs.Serving.{Closes, IsDenied, IsUnsent, Takes, arrived, parted};
+ghost use Rattle.desk_recording.specs.Recording.{IsClosedBy, IsTakenFrom, Sends, SendsKept, parting_of};
+ghost use Rattle.desk_recording.specs.Recording.{traffic_of};
+
+use crate::record::{Parted, Record};
+use crate::streams::{Given, Held};
+use desk_ends::{ServeFault, write_whole};
+use desk_line::{Enrolment, Failure};
+use desk_program::{Connection, Port};
+use desk_wire::{ServerError, receive_request};
+use std::alloc::Global;
+use std::io::{Cursor, Read, Write};
+
+/// A port whose requests are kept on the disk before they are served, and whose answers are kept before they
+/// are sent. Once something can't be kept, no connection is taken any more.
+#[derive(Drop)]
+pub struct RecordedPort<P: Drop, R: Drop> {
+    port: P,
+    keeper: R,
+    is_broken: bool,
+}
+
+impl<P: Port + Drop, R: Record + Drop> RecordedPort<P, R> {
+    /// A port whose connections are kept by a keeper.
+    pub fn new(port: P, keeper: R) -> RecordedPort<P, R>
+        ensures port { result.port ≡ port }
+        ensures keeper { result.keeper ≡ keeper }
+    {
+        RecordedPort {
+            port,
+            keeper,
+            is_broken: false,
+        }
+    }
+}
+
+impl<P: Port + Drop, R: Record + Drop> Port for RecordedPort<P, R> {
+    type Input = Given<P::Input>;
+
+    type Output = Held<P::Output>;
+
+    ghost traffic = { λ s. traffic_of (R.steps s.keeper) };
+
+    fn listen(&mut self, number: u16) -> Result<(), Failure> {
+        self.port.listen(number)
+    }
+
+    #[tactic(auto, using(crate::proofs::StepLemmas::brings_news))]
+    fn news(&mut self, alloc: Global) -> Result<Vec<Enrolment>, Failure> {
+        if self.is_broken {
+            return Err(Failure::Write);
+        }
+        let news = self.port.news(alloc)?;
+        if self.keeper.keep_news(&news) {
+            Ok(news)
+        } else {
+            self.is_broken = true;
+            Err(Failure::Write)
+        }
+    }
+
+    #[tactic(auto, using(crate::proofs::StepLemmas::takes_one))]
+    fn take(
+        &mut self,
+        alloc: Global,
+    ) -> Result<Connection<Given<P::Input>, Held<P::Output>>, Failure>
+        ensures moment { IfOk result (λ c. IsMoment c.moment) }
+        ensures taken { IfOk result (λ c. Takes (traffic_of (R.steps self.old.keeper))
+            (traffic_of (R.steps self.new.keeper))
+            (arrived c.moment (cursor_remaining (λ v. Some v.items) c.input.request))) }
+        ensures unsent { IfOk result (λ c.
+            IsUnsent (traffic_of (R.steps self.old.keeper)) (Some c.output.answer.items)) }
+        ensures same { OnErr result (traffic_of (R.steps self.new.keeper)
+            ≡ traffic_of (R.steps self.old.keeper)) }
+        ensures fault { IfErr result IsDenied }
+        ensures client { IfOk result (λ c. IsTakenFrom c.moment (cursor_inner c.input.request).items
+            (P.Input.remaining c.input.client) (P.traffic self.old.port) (P.traffic self.new.port)) }
+        ensures waits { IfOk result (λ c. IsUnsent (P.traffic self.old.port) (P.Output.contents c.output.to)) }
+    {
+        if self.is_broken {
+            return Err(Failure::Write);
+        }
+        let mut taken = self.port.take(alloc)?;
+        let Ok(request) = request_of(alloc, &mut taken.input) else {
+            self.port.close(taken.input, taken.output, true);
+            return Err(Failure::Memory);
+        };
+        if self.keeper.keep_request(taken.moment, &request) {
+            return Ok(Connection {
+                moment: taken.moment,
+                input: Given {
+                    request: Cursor::new(request),
+                    client: taken.input,
+                },
+                output: Held {
+                    answer: Vec::new(alloc),
+                    to: taken.output,
+                },
+            });
+        }
+        self.is_broken = true;
+        refuse(&mut taken.output);
+        self.port.close(taken.input, taken.output, true);
+        Err(Failure::Write)
+    }
+
+    #[tactic(auto, using(crate::proofs::StepLemmas::closes_so))]
+    fn close(&mut self, input: Given<P::Input>, output: Held<P::Output>, is_whole: bool)
+        ensures closed { Closes (traffic_of (R.steps self.old.keeper)) (traffic_of (R.steps self.new.keeper))
+            (parted (cursor_remaining (λ v. Some v.items) input.request) (Some output.answer.items) is_whole) }
+        ensures kept { IsClosedBy (R.steps self.old.keeper) (R.steps self.new.keeper)
+            (parted (cursor_remaining (λ v. Some v.items) input.request) (Some output.answer.items) is_whole)
+            output.answer.items (P.Output.contents output.to) (P.Input.remaining input.client)
+            (P.traffic self.old.port) (P.traffic self.new.port) }
+    {
+        let Given { request, client } = input;
+        let Held { answer, mut to } = output;
+        let is_answered = !answer.is_empty() || request.get_ref().is_empty();
+        let connection = Parted {
+            unread: unread_of(&request),
+            sent: &answer,
+            is_whole,
+        };
+        let is_kept = send_kept(&mut self.keeper, is_answered, connection, &mut to);
+        self.is_broken = self.is_broken || !is_kept;
+        self.port.close(client, to, is_whole);
+    }
+}
+
+// Keeps the answer of a connection, if there is one, and then sends it; or else tells the client that the
+// desk failed. Whether it is kept.
+fn send_kept<R: Record, W: Write>(
+    keeper: &mut R,
+    is_answered: bool,
+    connection: Parted<'_>,
+    client: &mut W,
+) -> bool
+    ensures { SendsKept (R.steps keeper.old) (R.steps keeper.new) (parting_of connection.entry)
+        connection.entry.sent.now (W.contents client.old) (W.contents client.new) }
+{
+    let is_kept = is_answered && keeper.keep_answer(connection);
+    if is_kept {
+        send(client, connection.sent);
+    } else {
+        keeper.lose_answer(connection);
+        refuse(client);
+    }
+    is_kept
+}
+
+// The request that a client sends: none, if it doesn't come whole.
+fn request_of<R: Read>(alloc: Global, client: &mut R) -> Result<Vec<u8>, ServeFault>
+    ensures { IfOk result (λ request. 0 < length request.items
+        → IsTaken (R.remaining client.old) (R.remaining client.new) request.items) }
+{
+    match receive_request(alloc, client) {
+        Err(ServeFault::CutShort | ServeFault::Read) => Ok(Vec::new(alloc)),
+        received => received,
+    }
+}
+
+// Tells a client that its request, or the answer to it, can't be kept.
+fn refuse<W: Write>(client: &mut W)
+    ensures { Sends (server_error_text Store) (W.contents client.old) (W.contents client.new) }
+{
+    send(client, ServerError::Store.answer());
+}
+
+// Sends bytes to a client. A fault of the connection is passed over.
+fn send<W: Write>(client: &mut W, bytes: &[u8])
+    ensures { Sends bytes.now (W.contents client.old) (W.contents client.new) }
+{
+    let _ = write_whole(client, bytes);
+}
+
+// The bytes that are left of a request.
+fn unread_of(request: &Cursor<Vec<u8>>) -> &[u8]
+    ensures { Some result.now ≡ cursor_remaining (λ v. Some v.items) request.now }
+{
+    let bytes = request.get_ref();
+    let next = request.position().min(bytes.len() as u64) as usize;
+    &bytes[next..]
+}
