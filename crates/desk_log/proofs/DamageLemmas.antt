@@ -1,10 +1,10 @@
 -- What a damaged log is, and what is none.
-use Rattle.std.proofs.Common.{◌≡◌, inl, inr, ℕ, zero, suc, ◌+◌, ◌-◌, ◌<◌, ◌≤◌, true, false, List, [], refl, sym, ap, ap₂, ◌∙◌, subst, arith, add-zero}
+use Rattle.std.proofs.Common.{◌≡◌, inl, inr, ℕ, zero, suc, ◌+◌, ◌-◌, ◌<◌, ◌≤◌, true, false, List, [], length, refl, sym, ap, ap₂, ◌∙◌, subst, arith, add-zero}
 use Rattle.std.proofs.lemmas.Bool.{leb-true, le-leb, true≢false, and_parts, and_from}
 use Rattle.std.proofs.lemmas.Bool.Decides.{leb_tells}
 use Rattle.std.proofs.lemmas.Slice.Eq.{bytes_eq-Decides}
-use Rattle.sqlite_wal.specs.Recovery.{Passes, frame}
-use Rattle.sqlite_wal.proofs.PartLemmas.{frames_len-le}
+use Rattle.sqlite_wal.specs.Recovery.{Passes, frame, frame_at}
+use Rattle.sqlite_wal.proofs.PartLemmas.{frames_len-le, frames_len-suc, frames_len-zero}
 use Rattle.desk_log.specs.Damage.{IsDamaged, IsDamagedAt, IsRun, ends_commit, ends_in, is_salted, is_whole}
 use Rattle.desk_log.proofs.CountLemmas.{one_at_most, one_if}
 
@@ -133,6 +133,23 @@ module _ (page : ℕ) (log : List ℕ) where
           let short = run_within stop (suc last) damaged.frames damaged.run high unsalted in
           let few = one_end stop damaged.frames low short in
           omega (arith, few, damaged.lost, damaged.several)
+
+-- no more commits end in a run than it has frames
+few_ends : (page : ℕ) (log : List ℕ) (stop n : ℕ) → ends_in page log stop n ≤ n
+unfolding ends_in
+few_ends page log stop zero = omega arith
+few_ends page log stop (suc n) =
+    omega (arith, few_ends page log stop n, one_at_most (ends_commit (frame page log (stop + n))) _ refl)
+
+pub long : (page : ℕ) (log : List ℕ) (stop commits : ℕ) → IsDamagedAt page log stop commits
+    → 1104 ≤ length log
+long page log stop commits damaged =
+    let few = few_ends page log stop damaged.frames in
+    let two : 2 ≤ damaged.frames = omega (arith, few, damaged.lost, damaged.several) in
+    let second = damaged.run.salted 1 two in
+    let fits : frame_at page (stop + 1) + (24 + page) ≤ length log = leb-true _ _ (and_parts _ _ second).0 in
+    let behind = frames_len-le page 1 (stop + 1) (omega arith) in
+    omega (arith, fits, behind, frames_len-suc page 0, frames_len-zero page, damaged.size.0)
 
 pub empty : (stop commits : ℕ) → ¬ IsDamaged [] stop commits
 empty stop commits damaged = absurd (omega (arith, leb-true _ _ (first_whole _ [] stop commits damaged)))

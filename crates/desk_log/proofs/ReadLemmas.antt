@@ -1,8 +1,12 @@
 -- Bytes that are read into a part of a room.
-use Rattle.std.proofs.Common.{◌≡◌, ℕ, ◌+◌, ◌-◌, ◌≤◌, List, ◌++◌, arith, length, take, sym, ap, ◌∙◌, subst, le_refl, drop_at, length-take-le, length-append, Option}
+use Rattle.std.proofs.Common.{◌≡◌, ℕ, ◌+◌, ◌-◌, ◌*◌, ◌≤◌, List, ◌++◌, arith, length, take, sym, ap, ◌∙◌, subst, refl, le_refl, drop_at, length-take-le, length-append, Option, None, Some, Ok}
 use Rattle.std.proofs.lemmas.Slice.{take-put_mid_below}
 use Rattle.std.specs.Io.KnownBytes.{Consumes, Keeps}
 use Rattle.std.proofs.KnownBytes.{Consumes-trans, Consumes-kept}
+use Rattle.desk_log.specs.Reads.{IsLast}
+use Rattle.desk_log.specs.Walks.{HasRead}
+use Rattle.desk_log.specs.declared.reads.LastRead.{LastRead}
+use Rattle.desk_log.specs.declared.reads.LastRead.TheVariants.{Failed, Passed}
 use borrow.Rule.Slice.PartMut.{put_mid, post_of}
 use lib.Seq.{take-add, take-append-le}
 
@@ -54,3 +58,22 @@ module _ (from : ℕ) (old part : List ℕ) (a b c : Option (List ℕ)) (before 
             subst (Consumes a c) (sym same)
             (Consumes-kept a b c _ before.taken kept);
       }
+
+-- a read that answered a number passed
+pub passed_if_ok : (count : ℕ) (last : LastRead) → IsLast (Ok count) last → last ≡ Passed
+passed_if_ok count Passed is = refl
+passed_if_ok count Failed is = absurd is
+
+-- nothing was read yet
+pub begins_read : (left : Option (List ℕ)) → HasRead left left 0
+begins_read None = tt
+begins_read (Some left) = omega arith
+
+-- a frame more was read
+pub frame_more : (old mid now : Option (List ℕ)) (frame : List ℕ) (n : ℕ) → HasRead old mid (24 * n)
+    → 24 ≤ length frame → Consumes mid now frame → HasRead old now (24 * (n + 1))
+frame_more None mid now frame n so_far long taken = tt
+frame_more (Some old) None now frame n so_far long taken = absurd so_far
+frame_more (Some old) (Some mid) None frame n so_far long taken = absurd taken
+frame_more (Some old) (Some mid) (Some now) frame n so_far long taken =
+    omega (arith, so_far, long, ap length taken, length-append frame now)

@@ -55,6 +55,10 @@ pub record IsDamagedAt (page : ℕ) (log : List ℕ) (stop commits : ℕ) : Type
 abbrev pub IsDamaged : List ℕ → ℕ → ℕ → Type 0
 IsDamaged log = IsDamagedAt (be32 (header log) 8) log
 
+-- how many bytes a damaged log has at least: a header, and two frames of the smallest pages
+abbrev pub least_damaged : ℕ
+least_damaged = 1_104
+
 -- what is told of a log
 abbrev pub IsVerdict : List ℕ → Verdict → Type 0
 IsVerdict log Sound = (stop commits : ℕ) → ¬ IsDamaged log stop commits

@@ -1,5 +1,5 @@
 -- How far a log was read, frame by frame.
-use Rattle.std.specs.Prelude.{◌≡◌, ◌<◌, ◌≤◌, ℕ, suc, Bool, true, false, List, drop, Option, Some, None}
+use Rattle.std.specs.Prelude.{◌≡◌, ◌<◌, ◌≤◌, ◌+◌, ⊤, ℕ, suc, Bool, true, false, List, drop, length, Option, Some, None}
 use Rattle.sqlite_wal.specs.Recovery.{Passes, frame, frame_at, sum_before}
 use Rattle.desk_log.specs.Damage.{IsRun, ends_in, is_whole}
 use Rattle.desk_log.specs.declared.judging.Verdict.{Verdict}
@@ -50,3 +50,9 @@ pub record IsCounted (page : ℕ) (log : List ℕ) (n commits : ℕ) : Type 0 wh
 abbrev pub IsTold : ℕ → List ℕ → ℕ → Verdict → Type 0
 IsTold page log n Sound = (commits : ℕ) × IsCounted page log n commits × (commits < 2)
 IsTold page log n (Damaged stop commits) = (stop ≡ n) × IsCounted page log n commits × (2 ≤ commits)
+
+-- so many bytes or more were read
+abbrev pub HasRead : Option (List ℕ) → Option (List ℕ) → ℕ → Type 0
+HasRead None now count = ⊤
+HasRead (Some old) None count = ⊥
+HasRead (Some old) (Some now) count = count + length now ≤ length old

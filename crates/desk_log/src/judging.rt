@@ -1,17 +1,20 @@
 //! What is found of a log.
 
-ghost use Rattle.std.specs.Prelude.{◌≡◌, ◌<◌, ◌≤◌, ◌+◌, ◌^◌, ℕ, List, length, IfOk, IfSome};
+ghost use Rattle.std.specs.Io.KnownBytes.{Consumes};
+ghost use Rattle.std.specs.Prelude.{◌≡◌, true, ◌<◌, ◌≤◌, ◌+◌, ◌^◌, ℕ, List, length, IfErr, IfOk, IfSome};
 ghost use Rattle.sqlite_wal.specs.Format.{IsHeader};
 ghost use Rattle.sqlite_wal.specs.PageSize.{IsPageSize};
 ghost use Rattle.sqlite_wal.specs.Recovery.{header};
 ghost use Rattle.desk_log.specs.Damage.{IsVerdict};
-ghost use Rattle.desk_log.specs.Walks.{HasFrame, IsBefore, IsCounted, IsNext, IsTold, StopsAt};
+ghost use Rattle.desk_log.specs.Reads.{HaveBrokenOff, IsUnjudged};
+ghost use Rattle.desk_log.specs.Walks.{HasFrame, HasRead, IsBefore, IsCounted, IsNext, IsTold, StopsAt};
 
 use crate::frames::{FRAME_HEADER, ends_of, has_salts, is_taken};
 use crate::header::{HEADER, page_size_in};
 use crate::numbers::sum_at;
 use crate::reading::read_whole;
-use std::io::{self, ErrorKind, Read};
+use crate::reads::Reads;
+use std::io::Read;
 
 // How many bytes the largest frame has.
 const ROOM: usize = 65_560;
@@ -25,22 +28,44 @@ pub enum Verdict {
     Damaged { frame: u64, commits: u64 },
 }
 
+/// Why nothing is found of a log.
+#[derive(Clone, Copy, Debug, PartialEq, Eq)]
+pub enum LogFault {
+    /// Its reading broke off: the last of these reads failed, or there were as many as a frame may take.
+    Unread(Reads),
+    /// It has 2^64 bytes or more.
+    Endless,
+}
+
+impl From<Reads> for LogFault {
+    ghost use Rattle.std.specs.Prelude.{◌≡◌};
+    ghost use Rattle.desk_log.specs.declared.judging.LogFault.TheVariants.{Unread};
+
+    ghost from_gives = { λ reads fault. fault ≡ Unread reads };
+
+    fn from(reads: Reads) -> LogFault {
+        LogFault::Unread(reads)
+    }
+}
+
 /// What is found of a log, of which one frame is read at a time.
 ///
 /// # Errors
 ///
-/// That of a read.
-pub fn judge_log<R: Read>(log: &mut R) -> io::Result<Verdict>
-    ensures { IfOk result (λ verdict. IfSome (R.remaining log.old) (λ bytes. IsVerdict bytes verdict)) }
+/// As `LogFault` says.
+pub fn judge_log<R: Read>(log: &mut R) -> Result<Verdict, LogFault>
+    ensures value { IfOk result (λ verdict. IfSome (R.remaining log.old) (λ bytes. IsVerdict bytes verdict)) }
+    ensures fault { IfErr result (IsUnjudged (R.remaining log.old)) }
 {
     let mut room = [0u8; ROOM];
     judge_with(log, &mut room)
 }
 
 // What is found of a log, with room for a frame.
-fn judge_with<R: Read>(log: &mut R, room: &mut [u8]) -> io::Result<Verdict>
+fn judge_with<R: Read>(log: &mut R, room: &mut [u8]) -> Result<Verdict, LogFault>
     requires { length room.old ≡ 65560 }
-    ensures { IfOk result (λ verdict. IfSome (R.remaining log.old) (λ bytes. IsVerdict bytes verdict)) }
+    ensures value { IfOk result (λ verdict. IfSome (R.remaining log.old) (λ bytes. IsVerdict bytes verdict)) }
+    ensures fault { IfErr result (IsUnjudged (R.remaining log.old)) }
 {
     let mut head = [0u8; HEADER];
     if !read_whole(log, &mut head)? {
@@ -53,11 +78,16 @@ fn judge_with<R: Read>(log: &mut R, room: &mut [u8]) -> io::Result<Verdict>
 }
 
 // What is found of a log with this header, from its first frame on.
-fn judge_frames<R: Read>(log: &mut R, head: &[u8; HEADER], frame: &mut [u8]) -> io::Result<Verdict>
+fn judge_frames<R: Read>(
+    log: &mut R,
+    head: &[u8; HEADER],
+    frame: &mut [u8],
+) -> Result<Verdict, LogFault>
     requires { 24 ≤ length frame.old }
-    ensures { (page : ℕ) (bytes : List ℕ) → length frame.old ≡ 24 + page → header bytes ≡ head.now
+    ensures value { (page : ℕ) (bytes : List ℕ) → length frame.old ≡ 24 + page → header bytes ≡ head.now
         → IsHeader page head.now → IsPageSize page → IsBefore page bytes 0 (R.remaining log.old)
         → IfOk result (IsVerdict bytes) }
+    ensures fault { IfErr result (IsUnjudged (R.remaining log.old)) }
 {
     match follow(log, head, frame)? {
         Some(stop) => judge_rest(log, head, frame, stop),
@@ -71,11 +101,12 @@ fn judge_rest<R: Read>(
     head: &[u8; HEADER],
     frame: &mut [u8],
     stop: u64,
-) -> io::Result<Verdict>
+) -> Result<Verdict, LogFault>
     requires { 24 ≤ length frame.old }
-    ensures { (page : ℕ) (bytes : List ℕ) → length frame.old ≡ 24 + page → header bytes ≡ head.now
+    ensures value { (page : ℕ) (bytes : List ℕ) → length frame.old ≡ 24 + page → header bytes ≡ head.now
         → HasFrame page bytes stop frame.old (R.remaining log.old)
         → IfOk result (IsTold page bytes stop) }
+    ensures fault { IfErr result (IsUnjudged (R.remaining log.old)) }
 {
     let commits = count_commits(log, head, frame)?;
     if commits < 2 {
@@ -89,11 +120,18 @@ fn judge_rest<R: Read>(
 
 // Reads as long as recovery takes the frames, and answers at which whole frame it stops, if it does. That
 // frame was read last then.
-fn follow<R: Read>(log: &mut R, head: &[u8; HEADER], frame: &mut [u8]) -> io::Result<Option<u64>>
+fn follow<R: Read>(
+    log: &mut R,
+    head: &[u8; HEADER],
+    frame: &mut [u8],
+) -> Result<Option<u64>, LogFault>
     requires { 24 ≤ length frame.old }
-    ensures { (page : ℕ) (bytes : List ℕ) → length frame.old ≡ 24 + page → header bytes ≡ head.now
+    ensures value { (page : ℕ) (bytes : List ℕ) → length frame.old ≡ 24 + page → header bytes ≡ head.now
         → IsBefore page bytes 0 (R.remaining log.old)
         → IfOk result (StopsAt page bytes frame.new (R.remaining log.new)) }
+    ensures left { IfOk result (λ stop. IfSome stop (λ _.
+        HasRead (R.remaining log.old) (R.remaining log.new) 0)) }
+    ensures fault { IfErr result (IsUnjudged (R.remaining log.old)) }
 {
     let mut sum = sum_at(head, 24);
     for stop in 0..u64::MAX {
@@ -105,16 +143,21 @@ fn follow<R: Read>(log: &mut R, head: &[u8; HEADER], frame: &mut [u8]) -> io::Re
         }
         sum = sum_at(frame, 16);
     }
-    Err(ErrorKind::FileTooLarge.into())
+    Err(LogFault::Endless)
 }
 
 // How many commits end at the frame that was read last, or behind it as far as frames have the salts of the
 // header.
-fn count_commits<R: Read>(log: &mut R, head: &[u8; HEADER], frame: &mut [u8]) -> io::Result<u64>
+fn count_commits<R: Read>(
+    log: &mut R,
+    head: &[u8; HEADER],
+    frame: &mut [u8],
+) -> Result<u64, LogFault>
     requires { 24 ≤ length frame.old }
-    ensures { (page stop : ℕ) (bytes : List ℕ) → length frame.old ≡ 24 + page → header bytes ≡ head.now
+    ensures value { (page stop : ℕ) (bytes : List ℕ) → length frame.old ≡ 24 + page → header bytes ≡ head.now
         → HasFrame page bytes stop frame.old (R.remaining log.old)
         → IfOk result (IsCounted page bytes stop) }
+    ensures fault { IfErr result (IsUnjudged (R.remaining log.old)) }
 {
     let mut commits = 0;
     for _ in 0..u64::MAX {
@@ -126,14 +169,17 @@ fn count_commits<R: Read>(log: &mut R, head: &[u8; HEADER], frame: &mut [u8]) ->
             return Ok(commits);
         }
     }
-    Err(ErrorKind::FileTooLarge.into())
+    Err(LogFault::Endless)
 }
 
 // Reads the next frame, and answers whether it is whole.
-fn next_frame<R: Read>(log: &mut R, frame: &mut [u8]) -> io::Result<bool>
-    ensures { (page n : ℕ) (bytes : List ℕ) → length frame.old ≡ 24 + page
+fn next_frame<R: Read>(log: &mut R, frame: &mut [u8]) -> Result<bool, Reads>
+    ensures value { (page n : ℕ) (bytes : List ℕ) → length frame.old ≡ 24 + page
         → IsBefore page bytes n (R.remaining log.old)
         → IfOk result (IsNext page bytes n frame.new (R.remaining log.new)) }
+    ensures read { IfOk result (λ is_whole. is_whole ≡ true →
+        Consumes (R.remaining log.old) (R.remaining log.new) frame.new) }
+    ensures fault { IfErr result HaveBrokenOff }
 {
     read_whole(log, frame)
 }

@@ -1,9 +1,9 @@
 //! Laws of what a damaged log is. Each is the contract of a function that does nothing.
 
-ghost use Rattle.std.specs.Prelude.{◌≡◌, ◌<◌, ◌≤◌, ◌+◌, ℕ, suc, List, [], true, false};
+ghost use Rattle.std.specs.Prelude.{◌≡◌, ◌<◌, ◌≤◌, ◌+◌, ℕ, suc, List, [], length, true, false};
 ghost use Rattle.sqlite_wal.specs.Format.{be32};
 ghost use Rattle.sqlite_wal.specs.Recovery.{Passes, frame, header};
-ghost use Rattle.desk_log.specs.Damage.{IsDamaged, ends_commit, is_salted, is_whole};
+ghost use Rattle.desk_log.specs.Damage.{IsDamaged, ends_commit, is_salted, is_whole, least_damaged};
 
 /// An empty log is not damaged.
 pub fn empty_is_sound()
@@ -39,4 +39,9 @@ pub fn shut_is_sound()
 pub fn damaged_once()
     ensures { (log : List ℕ) (stop commits other others : ℕ) → IsDamaged log stop commits
         → IsDamaged log other others → (stop ≡ other) × (commits ≡ others) }
+{}
+
+/// A damaged log has 1,104 bytes or more, so that a shorter one needn't be read.
+pub fn damaged_is_long()
+    ensures { (log : List ℕ) (stop commits : ℕ) → IsDamaged log stop commits → least_damaged ≤ length log }
 {}

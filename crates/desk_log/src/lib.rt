@@ -7,6 +7,10 @@ mod judging;
 mod laws;
 mod numbers;
 mod reading;
+mod reads;
 
-pub use judging::{Verdict, judge_log};
-pub use laws::{damaged_once, empty_is_sound, good_is_sound, shut_is_sound, torn_is_sound};
+pub use judging::{LogFault, Verdict, judge_log};
+pub use laws::{
+    damaged_is_long, damaged_once, empty_is_sound, good_is_sound, shut_is_sound, torn_is_sound,
+};
+pub use reads::{LastRead, Reads};

@@ -1,14 +1,22 @@
 -- Damage: what is told of a damaged log, and which files are opened.
-use Rattle.std.specs.Prelude.{◌≡◌, ◌⊎◌, ℕ, Bool, true, false, List, ◌++◌, codes, decimal, Option, None, Some, Result, Ok, Err}
+use Rattle.std.specs.Prelude.{◌≡◌, ◌⊎◌, ⊤, ℕ, Bool, true, false, if◌then◌else◌, List, ◌++◌, codes, decimal}
+use Rattle.std.specs.Prelude.{Option, None, Some, IfSome, option_and_then, Result, Ok, Err}
 use Rattle.std.specs.Io.KnownBytes.{Appends}
 use Rattle.desk_ends.specs.Writing.{BreaksOff}
 use Rattle.desk_ends.specs.declared.writing.WriteFault.{WriteFault}
 use Rattle.desk_line.specs.declared.failure.Failure.{Failure}
 use Rattle.desk_line.specs.declared.failure.Failure.TheVariants as failure
+use Rattle.desk_line.specs.declared.line.Database.{Database}
+use Rattle.desk_line.specs.declared.line.Line.{Line}
+use Rattle.desk_line.specs.declared.line.Line.TheVariants as line
 use Rattle.desk_line.specs.declared.line.Task.{Task}
 use Rattle.desk_line.specs.declared.line.Task.TheVariants as task
+use Rattle.desk_line.specs.Lines.{file_of}
 use Rattle.desk_log.specs.Damage.{IsDamaged}
+use Rattle.desk_log.specs.Reads.{IsUnjudged}
 use Rattle.uss_desk.specs.declared.damage.Look.{Look}
+use Rattle.uss_desk.specs.declared.damage.Unlooked.{Unlooked}
+use Rattle.uss_desk.specs.declared.damage.Unlooked.TheVariants as unlooked
 
 -- the line that tells the damage in the log of a file
 unfoldable pub damage_line : List ℕ → ℕ → ℕ → List ℕ
@@ -33,17 +41,45 @@ abbrev pub IsUndamaged : List ℕ → Option (List ℕ) → Option (List ℕ) �
 IsUndamaged log out now = ((frame commits : ℕ) → ¬ IsDamaged log frame commits) × (now ≡ out)
 
 -- A file with this log is admitted if the log is not damaged, or if the file is copied: then the loss is
--- told. It is refused if the log is damaged and the file is not copied; or memory ran out, or the log can't
--- be read.
+-- told. It is refused if the log is damaged and the file is not copied. If nothing is known of the log,
+-- nothing is told.
 abbrev pub IsLookedAt :
-    Bool → List ℕ → List ℕ → Result Look Failure → Option (List ℕ) → Option (List ℕ) → Type 0
+    Bool → List ℕ → List ℕ → Result Look Unlooked → Option (List ℕ) → Option (List ℕ) → Type 0
 IsLookedAt copied path log (Ok look) out now =
     ((look.is_admitted ≡ true) × IsUndamaged log out now)
     ⊎ ((look.is_admitted ≡ copied) × IsLossTold path log look.cut out now)
-IsLookedAt copied path log (Err f) out now = ((f ≡ failure.Memory) ⊎ (f ≡ failure.Store)) × (now ≡ out)
+IsLookedAt copied path log (Err it) out now = now ≡ out
+
+-- why nothing is known of a log: memory ran out for the line that tells its damage, or it can't be read
+abbrev pub HasCause : Option (List ℕ) → Unlooked → Type 0
+HasCause log unlooked.OutOfMemory = IfSome log (λ bytes. (frame commits : ℕ) × IsDamaged bytes frame commits)
+HasCause log (unlooked.Unread fault) = IsUnjudged log fault
+
+-- whether a task is begun at a file, by what came of the look at its log
+abbrev pub admission_of : Result Look Unlooked → Result ⊤ Failure
+admission_of (Ok look) = if look.is_admitted then Ok tt else Err failure.DamagedLog
+admission_of (Err unlooked.OutOfMemory) = Err failure.Memory
+admission_of (Err (unlooked.Unread fault)) = Err failure.Store
 
 -- a task copies its file
 abbrev pub is_copy : Task → Bool
 is_copy (task.Run line) = false
 is_copy (task.Check database) = false
 is_copy (task.Copy words) = true
+
+-- the database of a task, if it has one, and the path of its file, if it is in one
+abbrev pub database_of_line : Line → Option Database
+database_of_line (line.Play words) = Some words.database
+database_of_line (line.Token text) = None
+database_of_line (line.Serve words) = Some words.database
+database_of_line (line.Cover words) = None
+database_of_line (line.Enrol words) = Some words.database
+database_of_line (line.Migrate words) = Some words.database
+
+abbrev pub database_of : Task → Option Database
+database_of (task.Run line) = database_of_line line
+database_of (task.Check database) = Some database
+database_of (task.Copy words) = Some words.database
+
+abbrev pub path_of : Task → Option (List ℕ)
+path_of task = option_and_then file_of (database_of task)

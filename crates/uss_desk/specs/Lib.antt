@@ -1,5 +1,6 @@
 -- Read first: Running, Opening, Guarding, Closing, Keeping; Damage stands alone.
 pub mod Opening
+pub mod Operators
 pub mod Guarding
 pub mod Running
 pub mod Closing

@@ -1,20 +1,21 @@
 //! The log of a file, looked at before the file is opened.
 
-ghost use Rattle.std.specs.Prelude.{◌≡◌, IfErr, IfOk, IfSome, codes, option_map, string_bytes};
+ghost use Rattle.std.specs.Prelude.{◌≡◌, ℕ, false, IfErr, IfOk, IfSome, List, codes, length, option_map, string_bytes};
+ghost use Rattle.desk_log.specs.Damage.{IsDamaged};
 ghost use Rattle.uss_desk.specs.Damage as spec;
-ghost use Rattle.uss_desk.specs.Damage.{IsLookedAt, IsWritten};
+ghost use Rattle.uss_desk.specs.Damage.{HasCause, IsLookedAt, IsWritten};
 
 use desk_ends::{WriteFault, write_whole};
 use desk_line::{Database, Failure, Line, Task};
-use desk_log::{Verdict, judge_log};
+use desk_log::{LogFault, Verdict, damaged_is_long, judge_log};
 use sqlite::Unknown;
 use sqlite_std_file::OpenError;
 use std::alloc::{AllocError, Global};
 use std::fs::{self, File};
 use std::io::{self, ErrorKind, Read, Write};
 
-// How many bytes the least log has in which two commits end: a header, and two frames of the smallest pages.
-const LEAST: u64 = 1_104;
+// How many bytes a damaged log has at least.
+const LEAST_DAMAGED: u64 = 1_104;
 
 /// What came of a look at a log.
 #[derive(Clone, Copy, Debug, PartialEq, Eq)]
@@ -23,6 +24,26 @@ pub struct Look {
     pub is_admitted: bool,
     /// Where the line that tells its damage was broken off, if it was.
     pub cut: Option<WriteFault>,
+}
+
+/// Why nothing is known of a log.
+#[derive(Clone, Copy, Debug, PartialEq, Eq)]
+pub enum Unlooked {
+    /// Memory ran out for the line that tells its damage.
+    OutOfMemory,
+    /// It can't be read.
+    Unread(LogFault),
+}
+
+impl From<AllocError> for Unlooked {
+    ghost use Rattle.std.specs.Prelude.{◌≡◌};
+    ghost use Rattle.uss_desk.specs.declared.damage.Unlooked.TheVariants.{OutOfMemory};
+
+    ghost from_gives = { λ _ it. it ≡ OutOfMemory };
+
+    fn from(_error: AllocError) -> Unlooked {
+        Unlooked::OutOfMemory
+    }
 }
 
 /// Refuses a task at a file whose log is damaged, and tells why. A copy is made of what can be read, and the
@@ -38,11 +59,18 @@ pub fn look_before<E: Write>(rt: &HostRuntime, task: &Task, errors: &mut E) -> R
     let Some(mut log) = log_of(rt, path)? else {
         return Ok(());
     };
-    let look = look_at_log(rt.alloc(), path, is_copy(task), &mut log, errors)?;
-    if look.is_admitted {
-        Ok(())
-    } else {
-        Err(Failure::DamagedLog)
+    admission_of(look_at_log(rt.alloc(), path, is_copy(task), &mut log, errors))
+}
+
+// Whether a task is begun at a file, by what came of the look at its log.
+fn admission_of(look: Result<Look, Unlooked>) -> Result<(), Failure>
+    ensures { result ≡ spec.admission_of look }
+{
+    match look {
+        Ok(look) if look.is_admitted => Ok(()),
+        Ok(_) => Err(Failure::DamagedLog),
+        Err(Unlooked::OutOfMemory) => Err(Failure::Memory),
+        Err(Unlooked::Unread(_)) => Err(Failure::Store),
     }
 }
 
@@ -51,16 +79,17 @@ pub fn look_before<E: Write>(rt: &HostRuntime, task: &Task, errors: &mut E) -> R
 ///
 /// # Errors
 ///
-/// `Memory` if memory runs out; `Store` if the log can't be read.
+/// As `Unlooked` says.
 pub fn look_at_log<R: Read, E: Write>(
     alloc: Global,
     path: &str,
     is_copied: bool,
     log: &mut R,
     errors: &mut E,
-) -> Result<Look, Failure>
-    ensures { IfSome (R.remaining log.old) (λ bytes. IsLookedAt is_copied path.now bytes result
+) -> Result<Look, Unlooked>
+    ensures looked { IfSome (R.remaining log.old) (λ bytes. IsLookedAt is_copied path.now bytes result
         (E.contents errors.old) (E.contents errors.new)) }
+    ensures cause { IfErr result (HasCause (R.remaining log.old)) }
 {
     match judge_log(log) {
         Ok(Verdict::Sound) => Ok(Look {
@@ -74,7 +103,7 @@ pub fn look_at_log<R: Read, E: Write>(
                 cut,
             })
         }
-        Err(_) => Err(Failure::Store),
+        Err(fault) => Err(Unlooked::Unread(fault)),
     }
 }
 
@@ -117,8 +146,10 @@ fn is_copy(task: &Task) -> bool
     }
 }
 
-// The file of a task, if it has one.
-fn file_of(task: &Task) -> Option<&str> {
+// The path of the file of a task, if it has one.
+fn file_of(task: &Task) -> Option<&str>
+    ensures { option_map (λ path. path.now) result ≡ spec.path_of task.now }
+{
     match database_of(task)? {
         Database::File(path) => Some(path),
         Database::InMemory => None,
@@ -126,7 +157,9 @@ fn file_of(task: &Task) -> Option<&str> {
 }
 
 // The database of a task, if it has one.
-fn database_of(task: &Task) -> Option<&Database> {
+fn database_of(task: &Task) -> Option<&Database>
+    ensures { option_map (λ database. database.now) result ≡ spec.database_of task.now }
+{
     match task {
         Task::Run(line) => database_of_line(line),
         Task::Check(database) => Some(database),
@@ -135,7 +168,9 @@ fn database_of(task: &Task) -> Option<&Database> {
 }
 
 // The database of a line, if it has one.
-fn database_of_line(line: &Line) -> Option<&Database> {
+fn database_of_line(line: &Line) -> Option<&Database>
+    ensures { option_map (λ database. database.now) result ≡ spec.database_of_line line.now }
+{
     match line {
         Line::Play(words) => Some(&words.database),
         Line::Enrol(words) => Some(&words.database),
@@ -151,8 +186,8 @@ fn log_of(rt: &HostRuntime, path: &str) -> Result<Option<File>, Failure> {
         return Ok(None);
     };
     let name = format!(in rt.alloc(); "{}-wal", real.as_str())?;
-    if !is_long_file(rt, real.as_str(), 1)
-        || !is_long_file(rt, &name, LEAST)
+    if size_of(rt, real.as_str()) == 0
+        || !may_be_damaged(size_of(rt, &name))
         || is_in_use(rt, path)
     {
         return Ok(None);
@@ -169,12 +204,21 @@ fn if_there<T: Drop>(found: io::Result<T>) -> Result<Option<T>, Failure> {
     }
 }
 
-// Whether there is a file of so many bytes or more.
-fn is_long_file(rt: &HostRuntime, path: &str, least: u64) -> bool {
+// How many bytes a file has; 0 if there is none.
+fn size_of(rt: &HostRuntime, path: &str) -> u64 {
     match fs::metadata(rt, path) {
-        Ok(found) => found.is_file() && found.len() >= least,
-        Err(_) => false,
+        Ok(found) if found.is_file() => found.len(),
+        _ => 0,
     }
+}
+
+// Whether a log of so many bytes may be damaged.
+fn may_be_damaged(size: u64) -> bool
+    ensures { result ≡ false → (log : List ℕ) → length log ≡ size
+        → (frame commits : ℕ) → ¬ IsDamaged log frame commits }
+{
+    damaged_is_long();
+    size >= LEAST_DAMAGED
 }
 
 // Whether another program has a file open.

@@ -1,7 +1,10 @@
 //! The file of enrolments that the keeper changes while a desk serves: lines `NAME CEILING`.
 
-ghost use Rattle.std.specs.Prelude.{IfOk};
+ghost use Rattle.std.specs.Prelude.{◌≡◌, List, IfErr, IfOk, MatchResult, None, OnErr, Option, option_map, string_bytes};
 ghost use Rattle.desk_line.specs.Lines.{AreEnrolments};
+ghost use Rattle.desk_program.specs.Serving.{IsDenied};
+ghost use Rattle.uss_desk.specs.Operators as spec;
+ghost use Rattle.uss_desk.specs.Operators.{AreNews, Gives, IsRead, LeavesGiven, Reading};
 
 use crate::causes::tell_of;
 use desk_line::{Enrolment, Failure, Line, enrolment_on, enrolments_on, lines_of};
@@ -17,23 +20,28 @@ const MAX_BYTES: u64 = 1_048_576;
 /// How many lines are told of each time that the file is read.
 const TOLD_LINES: u32 = 20;
 
-// When a file was changed last, and how long it is.
+/// When a file was changed last, and how long it is.
 #[derive(Clone, Copy, PartialEq, Eq)]
-struct Stamp {
+pub struct Stamp {
     modified: Option<SystemTime>,
     len: u64,
 }
 
-// Why a file can't be read.
+/// Why a file can't be read.
 #[derive(Drop)]
-enum Unread {
-    // Memory ran out.
+pub enum Unread {
+    /// Memory ran out.
     Memory,
-    // Another cause, as it is told.
+    /// Another cause, as it is told.
     Cause(&'static str),
 }
 
 impl From<AllocError> for Unread {
+    ghost use Rattle.std.specs.Prelude.{◌≡◌};
+    ghost use Rattle.uss_desk.specs.declared.operators.Unread.TheVariants.{Memory};
+
+    ghost from_gives = { λ _ it. it ≡ Memory };
+
     fn from(_error: AllocError) -> Unread {
         Unread::Memory
     }
@@ -50,10 +58,58 @@ impl From<io::Error> for Unread {
     }
 }
 
+/// The files of texts that a keeper changes while a desk serves.
+pub trait TextFiles {
+    /// The texts that were read, each with its path, in their order, if they are known.
+    ghost given: { Self → Option (List Reading) } = { λ _. None };
+
+    /// When the file at a path was changed last, and its length.
+    ///
+    /// # Errors
+    ///
+    /// As `Unread` says.
+    fn stamp(&mut self, path: &str) -> Result<Stamp, Unread>
+        ensures { given self.new ≡ given self.old };
+
+    /// The text of the file at a path. Bytes that are no text stand for themselves in no line that can be read.
+    ///
+    /// # Errors
+    ///
+    /// As `Unread` says.
+    fn text(&mut self, alloc: Global, path: &str) -> Result<String, Unread>
+        ensures gives { IfOk result (λ text.
+            Gives (given self.old) (given self.new) path.now (string_bytes text)) }
+        ensures same { OnErr result (given self.new ≡ given self.old) };
+}
+
+/// The files of the operating system, of which nothing is told.
+#[derive(Drop)]
+pub struct LocalFiles<'s> {
+    rt: &'s HostRuntime,
+}
+
+impl<'s> LocalFiles<'s> {
+    /// The files of this run.
+    pub fn new(rt: &'s HostRuntime) -> LocalFiles<'s> {
+        LocalFiles { rt }
+    }
+}
+
+impl<'s> TextFiles for LocalFiles<'s> {
+    fn stamp(&mut self, path: &str) -> Result<Stamp, Unread> {
+        stamp_of(self.rt, path)
+    }
+
+    fn text(&mut self, alloc: Global, path: &str) -> Result<String, Unread> {
+        read_text(self.rt, alloc, path)
+    }
+}
+
 /// A file of enrolments, or none. What can't be read of it is told on the standard error.
 #[derive(Drop)]
-pub struct OperatorsFile<'r> {
+pub struct OperatorsFile<'r, F: Drop> {
     rt: &'r HostRuntime,
+    files: F,
     path: Option<&'r str>,
     // The file whose operators were told.
     seen: Option<Stamp>,
@@ -68,9 +124,16 @@ pub struct OperatorsFile<'r> {
 /// # Errors
 ///
 /// `Read` if the file can't be read, after a line that tells why; `Memory`.
-pub fn operators_of<'r>(rt: &'r HostRuntime, line: &'r Line) -> Result<OperatorsFile<'r>, Failure> {
+pub fn operators_of<'r, F: TextFiles + Drop>(
+    rt: &'r HostRuntime,
+    files: F,
+    line: &'r Line,
+) -> Result<OperatorsFile<'r, F>, Failure>
+    ensures { IfOk result (λ file. option_map (λ path. path.now) file.path ≡ spec.operators_of line.now) }
+{
     let mut file = OperatorsFile {
         rt,
+        files,
         path: path_of(line),
         seen: None,
         checked: None,
@@ -90,20 +153,26 @@ pub fn operators_of<'r>(rt: &'r HostRuntime, line: &'r Line) -> Result<Operators
 }
 
 // The path of the file of enrolments that a line names, if it names one.
-fn path_of(line: &Line) -> Option<&str> {
+fn path_of(line: &Line) -> Option<&str>
+    ensures { option_map (λ path. path.now) result ≡ spec.operators_of line.now }
+{
     match line {
         Line::Serve(words) => words.operators.as_deref(),
         _ => None,
     }
 }
 
-impl OperatorsFile<'_> {
+impl<F: TextFiles + Drop> OperatorsFile<'_, F> {
     // The operators of the file. Lines that can't be read are told once.
     fn read_file(&mut self, alloc: Global, path: &str) -> Result<Vec<Enrolment>, Unread>
-        ensures { IfOk result (λ enrolments. AreEnrolments enrolments.items) }
+        ensures small { IfOk result (λ enrolments. AreEnrolments enrolments.items) }
+        ensures read { IfOk result (λ enrolments.
+            IsRead path.now (F.given self.old.files) (F.given self.new.files) enrolments.items) }
+        ensures cause { IfErr result (LeavesGiven (F.given self.old.files) (F.given self.new.files)) }
+        ensures same { self.new.path ≡ self.old.path }
     {
-        let stamp = stamp_of(self.rt, path)?;
-        let text = read_text(self.rt, alloc, path)?;
+        let stamp = self.files.stamp(path)?;
+        let text = self.files.text(alloc, path)?;
         let lines = lines_of(alloc, &text)?;
         if self.checked != Some(stamp) {
             self.checked = Some(stamp);
@@ -113,7 +182,9 @@ impl OperatorsFile<'_> {
     }
 
     // Tells why the file can't be read, if that wasn't told.
-    fn tell_once(&mut self, path: &str, cause: &'static str) {
+    fn tell_once(&mut self, path: &str, cause: &'static str)
+        ensures { F.given self.new.files ≡ F.given self.old.files }
+    {
         if self.told != Some(cause) {
             self.told = Some(cause);
             tell_of(self.rt.alloc(), path, cause, &mut self.rt.stderr());
@@ -121,12 +192,17 @@ impl OperatorsFile<'_> {
     }
 }
 
-impl Register for OperatorsFile<'_> {
-    fn look(&mut self, alloc: Global) -> Result<Vec<Enrolment>, Failure> {
+impl<F: TextFiles + Drop> Register for OperatorsFile<'_, F> {
+    fn look(&mut self, alloc: Global) -> Result<Vec<Enrolment>, Failure>
+        ensures small { IfOk result (λ news. AreEnrolments news.items) }
+        ensures fault { IfErr result IsDenied }
+        ensures news { IfOk result (λ news. AreNews (option_map (λ path. path.now) self.old.path)
+            (F.given self.old.files) (F.given self.new.files) news.items) }
+    {
         let Some(path) = self.path else {
             return Ok(Vec::new(alloc));
         };
-        let stamp = stamp_of(self.rt, path).ok();
+        let stamp = self.files.stamp(path).ok();
         if stamp.is_some() && stamp == self.seen {
             return Ok(Vec::new(alloc));
         }

@@ -1,6 +1,6 @@
-use Rattle.std.proofs.Common.{◌≡◌, ◌≤◌, ℕ, ◌+◌, List, length}
+use Rattle.std.proofs.Common.{◌≡◌, ◌≤◌, ℕ, ◌+◌, ◌*◌, List, length}
 use Rattle.sqlite_wal.specs.Recovery.{header}
-use Rattle.desk_log.specs.Walks.{HasFrame}
+use Rattle.desk_log.specs.Walks.{HasFrame, HasRead}
 use Rattle.desk_log.proofs.CountLemmas.{IsCounting}
 use Rattle.desk_log.proofs.judging.count_commits.Given as goal
 
@@ -12,4 +12,5 @@ invariant-loop g l =
       counted : (page stop : ℕ) (bytes : List ℕ) → length l.fn.frame ≡ 24 + page → header bytes ≡ l.head
           → HasFrame page bytes stop l.fn.frame (g.R.Read.remaining l.fn.log)
           → IsCounting page bytes stop l.counter l.commits l.frame (g.R.Read.remaining l.log);
+      read : HasRead (g.R.Read.remaining l.fn.log) (g.R.Read.remaining l.log) (24 * l.counter);
     }

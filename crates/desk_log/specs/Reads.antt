@@ -1,0 +1,30 @@
+-- Reads: how the last of some reads came out, and why nothing is found of a log.
+use Rattle.std.specs.Prelude.{◌≡◌, ◌≢◌, ◌≤◌, ◌⊎◌, ◌-◌, ◌^◌, ⊤, ℕ, List, length, Option, IfSome, Result, Ok, Err}
+use Rattle.std.specs.IoError.{error_kind}
+use Rattle.std.specs.declared.io.Error.{Error}
+use Rattle.std.specs.declared.io.ErrorKind.TheVariants.{Interrupted}
+use Rattle.desk_log.specs.declared.judging.LogFault.{LogFault}
+use Rattle.desk_log.specs.declared.judging.LogFault.TheVariants.{Endless, Unread}
+use Rattle.desk_log.specs.declared.reads.LastRead.{LastRead}
+use Rattle.desk_log.specs.declared.reads.LastRead.TheVariants.{Failed, Passed}
+use Rattle.desk_log.specs.declared.reads.Reads.{Reads}
+
+-- how a read came out, by what it answered
+abbrev pub IsLast : Result ℕ Error → LastRead → Type 0
+IsLast (Ok count) Passed = ⊤
+IsLast (Ok count) Failed = ⊥
+IsLast (Err error) Passed = error_kind error ≡ Interrupted
+IsLast (Err error) Failed = error_kind error ≢ Interrupted
+
+-- how many reads a frame may take: this desk's own limit
+abbrev pub most_reads : ℕ
+most_reads = 2 ^ 32 - 1
+
+-- the last of some reads failed; or there were as many as there may be, which all passed
+abbrev pub HaveBrokenOff : Reads → Type 0
+HaveBrokenOff reads = (reads.last ≡ Failed) ⊎ ((reads.last ≡ Passed) × (reads.count ≡ most_reads))
+
+-- why nothing is found of a log: its reading broke off; or it has 2 ^ 64 bytes or more
+abbrev pub IsUnjudged : Option (List ℕ) → LogFault → Type 0
+IsUnjudged log (Unread reads) = HaveBrokenOff reads
+IsUnjudged log Endless = IfSome log (λ bytes. 2 ^ 64 ≤ length bytes)
