@@ -71,6 +71,19 @@ def many(count: int) -> list[str]:
     return made
 
 
+def shared(*counts: int) -> list[str]:
+    """Plans over face 0 of several operators, so many of each, one above the other."""
+    made, height = [], 0
+    for at, count in enumerate(counts):
+        made.append(f"INSERT INTO operator VALUES ('op{at}', 100)")
+        for number in range(count):
+            name, below, height = f"'op{at}', '00000000-0000-4000-8000-{number:012x}'", height, height + 100
+            made.append(f"INSERT INTO plan VALUES ({name}, 10, 0, 0)")
+            made.append(f"INSERT INTO volume2 VALUES ({name}, 0, {below}, {height}, {WHEN}, {FACE}, {COVER})")
+            made.append(f"INSERT INTO span2 VALUES ({name}, 0, 0, {2**60 - 1}, {below}, {height}, {WHEN}, 10)")
+    return made
+
+
 def wide(count: int) -> list[str]:
     """One closed plan of so many volumes."""
     made = [*PLAN[:2], "UPDATE plan SET usage = 2"]

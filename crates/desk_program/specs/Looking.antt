@@ -22,11 +22,14 @@ unfoldable pub sizes_text : CheckedFile → List ℕ
 sizes_text file =
     codes ", " ++ (decimal (file.size / 100000 / 10) ++ (codes "." ++ (decimal (file.size / 100000 % 10)
     ++ (codes " MB, " ++ (decimal (file.log / 100000 / 10) ++ (codes "." ++ (decimal (file.log / 100000 % 10)
-    ++ codes " MB in the log\n")))))))
+    ++ codes " MB in the log")))))))
+
+unfoldable pub most_text : CheckedFile → List ℕ
+most_text file = codes ", at most " ++ (decimal file.most_spans ++ codes " spans of one operator\n")
 
 -- the line of `check`
 abbrev pub checked_line : CheckedFile → List ℕ
-checked_line file = (tables_text file ++ plans_text file) ++ sizes_text file
+checked_line file = ((tables_text file ++ plans_text file) ++ sizes_text file) ++ most_text file
 
 unfoldable pub copied_line : ℕ → ℕ → List ℕ
 copied_line operators plans =

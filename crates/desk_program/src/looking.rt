@@ -28,6 +28,8 @@ pub struct CheckedFile {
     pub live: usize,
     /// How many rows of spans there are.
     pub spans: usize,
+    /// How many of them are those of the operator that has most.
+    pub most_spans: usize,
     /// How many bytes the file has.
     pub size: u64,
     /// How many bytes its log has.
@@ -89,6 +91,7 @@ fn checked_text(alloc: Global, file: &CheckedFile) -> Result<String, AllocError>
     let mut text = tables_text(alloc, file)?;
     text.push_str(&plans_text(alloc, file)?)?;
     text.push_str(&sizes_text(alloc, file)?)?;
+    text.push_str(&most_text(alloc, file)?)?;
     Ok(text)
 }
 
@@ -138,7 +141,16 @@ fn sizes_text(alloc: Global, file: &CheckedFile) -> Result<String, AllocError>
     let log = file.log / TENTH;
     let log_whole = log / 10;
     let log_part = log % 10;
-    format!(in alloc; ", {whole}.{part} MB, {log_whole}.{log_part} MB in the log\n")
+    format!(in alloc; ", {whole}.{part} MB, {log_whole}.{log_part} MB in the log")
+}
+
+// How many spans the operator that has most has.
+#[tactic(auto, unfolding(crate::specs::Looking::most_text))]
+fn most_text(alloc: Global, file: &CheckedFile) -> Result<String, AllocError>
+    ensures { IfOk result (λ text. string_bytes text ≡ spec.most_text file.now) }
+{
+    let most = file.most_spans;
+    format!(in alloc; ", at most {most} spans of one operator\n")
 }
 
 // The line that tells what was copied.

@@ -24,6 +24,7 @@ pub mod PlanLemmas
 pub mod SpanLemmas
 pub mod SpanCheckLemmas
 pub mod ShareLemmas
+pub mod CountingLemmas
 pub mod KeyOrderLemmas
 pub mod AssemblyLemmas
 pub mod OpeningLemmas

@@ -42,7 +42,7 @@ pub record Shares (ls : List Listed) (ps : List Filed) : Type 0 where
   pub listed : AllByRecursion (HasOperator ls) ps
   pub few : (operator : List ℕ) → length (filter (is_by operator) ps) ≤ max_plans
 
-count_is : (o : List ℕ) (ps : List Filed) → length (rows_by o ps) ≡ length (filter (is_by o) ps)
+pub count_is : (o : List ℕ) (ps : List Filed) → length (rows_by o ps) ≡ length (filter (is_by o) ps)
 count_is o ps = length-map (filter (is_by o) ps) (λ p. p.row)
 
 pub shares_if : (ls : List Listed) (ps : List Filed) → AreShared ls ps → Shares ls ps
@@ -90,7 +90,7 @@ counted o (p ∷ ps) = by_test (is_by o p) refl (counted o ps) where
   by_test false e ih = rw e (omega arith)
 
 -- another operator's plans are all left
-others_left : (o q : List ℕ) (ps : List Filed) → is_eq (text_cmp q o) ≡ false → filter (is_by q) ps
+pub others_left : (o q : List ℕ) (ps : List Filed) → is_eq (text_cmp q o) ≡ false → filter (is_by q) ps
     ≡ filter (is_by q) (rest_of o ps)
 others_left o q [] e = refl
 others_left o q (p ∷ ps) e = by_test (is_by o p) refl (others_left o q ps e) where
@@ -105,7 +105,7 @@ others_left o q (p ∷ ps) e = by_test (is_by o p) refl (others_left o q ps e) w
 
 -- ---- names of operators in order
 
-abbrev Above : List ℕ → Filed → Type 0
+abbrev pub Above : List ℕ → Filed → Type 0
 Above o p = text_cmp o p.operator ≡ Less
 
 names_above : (o : List ℕ) (ls : List Listed) (p : Filed)
@@ -122,7 +122,7 @@ names_above o (k ∷ ks) p h e = by_test (is_eq (text_cmp p.operator k.name)) re
         ap (text_cmp o) (exact_bytes p.operator k.name (is_equal (text_cmp p.operator k.name) f)) ∙ h.0
     by_test false f g ih = ih g
 
-not_by : (o : List ℕ) (p : Filed) → Above o p → is_by o p ≡ false
+pub not_by : (o : List ℕ) (p : Filed) → Above o p → is_by o p ≡ false
 not_by o p h = ap is_eq h
 
 none_left : (o : List ℕ) (ls : List Listed) (ps : List Filed)
@@ -171,7 +171,7 @@ all_listed l ls (p ∷ ps) h = by_test (is_by l.name p) refl h (all_listed l ls 
       k
 
 -- plans after one that is above a name are above it
-above_on : (o : List ℕ) (p q : Filed) → Above o p → filed_cmp p q ≡ Less → Above o q
+pub above_on : (o : List ℕ) (p q : Filed) → Above o p → filed_cmp p q ≡ Less → Above o q
 above_on o p q h e = by_names (text_cmp p.operator q.operator) refl e where
   by_names : (n : Ordering) → text_cmp p.operator q.operator ≡ n
       → ordering_then n (text_cmp p.row.id q.row.id) ≡ Less → Above o q
@@ -202,7 +202,7 @@ left_listed l ls (p ∷ ps) h s k = by_test (is_by l.name p) refl (left_listed l
   by_test true e ih = ih
   by_test false e ih = (here e, each ps (on e) k.1)
 
-rest_sorted : (o : List ℕ) (ps : List Filed) → IsStrictlySortedBy filed_cmp ps
+pub rest_sorted : (o : List ℕ) (ps : List Filed) → IsStrictlySortedBy filed_cmp ps
     → IsStrictlySortedBy filed_cmp (rest_of o ps)
 unfolding IsStrictlySortedBy
 rest_sorted o [] s = tt

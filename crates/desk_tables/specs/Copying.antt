@@ -22,7 +22,7 @@ use Rattle.desk_sql.specs.Rows.{IsMadeTo, Tables, tables_at, has_old_rows}
 use Rattle.desk_rules.specs.Plan.{is_live}
 use Rattle.desk_store.specs.World.{Filed, Listed, World}
 use Rattle.desk_tables.specs.Tables.{operator_row, operator_rows, plan_rows, volume_rows, cover_rows, AreSpanRows}
-use Rattle.desk_tables.specs.Counting.{HaveSpanRows}
+use Rattle.desk_tables.specs.Counting.{HaveSpanRows, IsMostSpans}
 use Rattle.desk_tables.specs.Opening.{IsContentOf, HasNoContent, AreNoContent, BlamesDisk}
 use Rattle.desk_tables.specs.Moving.{IsOldContentOf, HasNoOldContent, AreNoOldContent}
 use Rattle.desk_tables.specs.Files.{FindsFirst, IsOfUnreached, IsUnread}
@@ -66,6 +66,7 @@ pub record AreCounted (h : Holdings) (w : World) : Type 0 where
   pub plans : h.plans ≡ length w.plans
   pub live : h.live ≡ live_count w.plans
   pub spans : HaveSpanRows w.plans h.spans
+  pub most : IsMostSpans w.plans h.most_spans
 
 module _ {S : Type 0} (g : Ghosts S) (old new : Held S) where
   -- what is shown is no content

@@ -2,6 +2,7 @@
 
 pub(crate) mod content;
 pub(crate) mod copying;
+pub(crate) mod counting;
 pub(crate) mod covers;
 pub(crate) mod exact;
 pub(crate) mod files;

@@ -17,7 +17,7 @@ use Rattle.desk_line.specs.declared.line.Database.{Database}
 use Rattle.desk_line.specs.Exits.{Ending, FailsWith}
 use Rattle.desk_program.specs.Looking.{IsTextPrinted, checked_line, copied_line}
 use Rattle.desk_program.specs.declared.looking.CheckedFile.{CheckedFile}
-use Rattle.desk_tables.specs.Counting.{HaveSpanRows}
+use Rattle.desk_tables.specs.Counting.{HaveSpanRows, IsMostSpans}
 use Rattle.desk_tables.specs.Closing.{IsLeftUnclosed}
 use Rattle.desk_tables.specs.Copying.{AreCounted, AreNotCopied, AreNotRead, IsMadeIn, LooksIn, live_count}
 use Rattle.desk_tables.specs.declared.closing.Unclosed.{Unclosed}
@@ -60,6 +60,7 @@ pub record TellsHoldings (file : CheckedFile) (w : World) : Type 0 where
   pub plans : file.plans ≡ length w.plans
   pub live : file.live ≡ live_count w.plans
   pub spans : HaveSpanRows w.plans file.spans
+  pub most : IsMostSpans w.plans file.most_spans
 
 module _ {D : Type 0} {g : disk.Ghosts D} (image : Image) where
   -- what is told of files that held this, as a connection read it, which leaves their rows

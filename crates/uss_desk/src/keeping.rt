@@ -199,6 +199,7 @@ fn told_of(holdings: &Holdings, bulk: Bulk) -> CheckedFile
         plans: holdings.plans,
         live: holdings.live,
         spans: holdings.spans,
+        most_spans: holdings.most_spans,
         size: bulk.size,
         log: bulk.log,
     }

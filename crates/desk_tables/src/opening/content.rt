@@ -17,6 +17,7 @@ ghost use Rattle.desk_tables.specs.Writing.{HaveFewRows};
 
 use crate::opening::exact::{FiledPlan, ListedOperator, RowFault, are_spans, filed_in, listed_in};
 use desk_rules::decide::MAX_PLANS;
+use desk_rules::operator::Operator;
 use sqlite::Row;
 use sqlite_value::value::ValueRef;
 use std::alloc::{AllocError, AllocFailed, Global};
@@ -321,7 +322,7 @@ pub(crate) fn are_shared(operators: &[ListedOperator], plans: &[FiledPlan]) -> b
     let mut others = operators;
     let mut left = plans;
     while let Some((listed, later)) = others.split_first() {
-        let count = count_own(listed, left);
+        let count = count_own(&listed.operator, left);
         if !are_few(count) {
             return false;
         }
@@ -339,17 +340,20 @@ fn are_few(count: usize) -> bool
     count <= MAX_PLANS as usize
 }
 
-// How many of the first plans are the operator's.
+/// How many of the first plans are the operator's.
 #[tactic(auto, using(crate::proofs::JoinLemmas::within))]
-fn count_own(listed: &ListedOperator, plans: &[FiledPlan]) -> usize
-    ensures value { result ≡ prefix_len (world.is_by listed.now.name) plans.now }
+pub(crate) fn count_own(operator: &Operator, plans: &[FiledPlan]) -> usize
+    ensures value { result ≡ prefix_len (world.is_by operator.now) plans.now }
     ensures within { result ≤ length plans.now }
 {
-    plans.iter().take_while(|plan| is_by(listed, plan)).count()
+    plans
+        .iter()
+        .take_while(|plan| is_by(operator, plan))
+        .count()
 }
 
-fn is_by(listed: &ListedOperator, plan: &FiledPlan) -> bool
-    ensures { result ≡ world.is_by listed.now.name plan.now }
+fn is_by(operator: &Operator, plan: &FiledPlan) -> bool
+    ensures { result ≡ world.is_by operator.now plan.now }
 {
-    listed.operator.cmp(&plan.operator).is_eq()
+    operator.cmp(&plan.operator).is_eq()
 }

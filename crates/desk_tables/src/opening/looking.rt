@@ -16,6 +16,7 @@ ghost use Rattle.desk_tables.specs.Copying.{AreCounted, AreNoContentIn, IsConten
 
 use crate::known::Known;
 use crate::opening::content::Content;
+use crate::opening::counting::most_spans;
 use crate::opening::exact::FiledPlan;
 use crate::opening::finding::{content_found, tables_found};
 use crate::opening::moving::load_old_tables;
@@ -39,6 +40,8 @@ pub struct Holdings {
     pub live: usize,
     /// How many rows of spans there are.
     pub spans: usize,
+    /// How many of them are those of the operator that has most.
+    pub most_spans: usize,
 }
 
 /// How many operators and plans a database holds, in either schema. It makes and changes nothing.
@@ -64,8 +67,9 @@ pub fn look_into<S: Alter>(
     Ok(holdings_of(&content, old))
 }
 
-/// How many operators and plans a content has, and whether it was read in schema 1.
+/// How many operators, plans and spans a content has, and whether it was read in schema 1.
 pub(crate) fn holdings_of(content: &Content, is_old: bool) -> Holdings
+    requires { IsContent content.now }
     ensures counted { AreCounted result content.now }
     ensures schema { result.is_old ≡ is_old }
 {
@@ -75,6 +79,7 @@ pub(crate) fn holdings_of(content: &Content, is_old: bool) -> Holdings
         plans: content.plans.len(),
         live: live_count(&content.plans),
         spans: content.spans,
+        most_spans: most_spans(&content.plans),
     }
 }
 

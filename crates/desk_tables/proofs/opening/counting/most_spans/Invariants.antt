@@ -1,0 +1,9 @@
+use Rattle.std.proofs.Common.{length}
+use Rattle.desk_tables.proofs.CountingLemmas.{AreSummed}
+use Rattle.desk_tables.proofs.opening.counting.most_spans.Given as goal
+
+abbrev pub invariant-loop-first : goal.invariant-loop-first
+invariant-loop-first l = AreSummed l.plans l.left l.most
+
+abbrev pub decreases-loop-first : goal.decreases-loop-first
+decreases-loop-first l = length l.left
