@@ -2,7 +2,8 @@
 
 Several edits of different functions are tried in one check, since a function is proved over the clauses of what it
 calls: what is open in a function is its own edit's doing. One that came to nothing in such a round is tried again
-beside fewer, and at last alone.
+beside fewer, and at last alone. A check proves the functions alone that the edits' clauses name. If an edit that is
+alone comes to nothing there, the whole crate is checked with it.
 """
 
 from __future__ import annotations
@@ -24,6 +25,7 @@ PROOF = re.compile(r"(?:note: )?(?:\./)?proofs/(\S+?)\.antt:\d+:\d+: error: (.*)
 SOURCE = re.compile(r"(?:note: )?(?:\./)?(src/\S+?\.rt):(\d+):\d+: .*\(`([^`]+)`\)")
 BEHIND = re.compile(r"declarations? that depends? on `([^`]+)`.*: (.*)$")
 LOST_NAME = re.compile(r"has no field|is not in scope|has no `|was not admitted")
+VERDICT = re.compile(r"^(?:logic=not-proved|only=\d+ proved=\d+)", re.MULTILINE)
 GOAL_WORD = re.compile(r"[\w+-]+")
 # How many edits are tried in one check at most: what it came to is known at its end only.
 MOST = 12
@@ -77,22 +79,29 @@ class Room:
         """Removes the clone."""
         shutil.rmtree(self.room)
 
-    def prove(self) -> None:
-        """Proves the crate as it stands, so that trials begin with it, and keeps what was found."""
-        told = self.check()
+    def prove(self, edits: list[Edit]) -> None:
+        """Has the functions that the edits' clauses name proved as they stand, and keeps what was found.
+
+        A library that was built here has that done, and `rt lib` says so at once."""
+        library = self.folder / "out" / "rlib" / f"{self.crate}.rlib"
+        told = self.run("lib") if library.is_file() else self.check(edits)
         if not told.is_proved:
             raise SystemExit(f"audit: {self.crate} is not proved as it stands:\n{told.words[-2000:]}")
-        link_tree(self.folder / "out", self.room / "proved")
 
-    def check(self) -> Told:
-        """A check of the crate, as it stands in the clone."""
-        words = ["rt", "check", "--jobs", os.environ.get("RT_JOBS", "2")]
+    def check(self, edits: Iterable[Edit] = ()) -> Told:
+        """A check of the crate, as it stands in the clone, or of the functions alone that the edits' clauses name."""
+        names = dict.fromkeys(name for edit in edits for name in only_names(edit, self.index))
+        return self.run("check", *(word for name in names for word in ("--only", name)))
+
+    def run(self, command: str, *flags: str) -> Told:
+        """What a command of the kit tells of the crate."""
+        words = ["rt", command, "--jobs", os.environ.get("RT_JOBS", "2"), *flags]
         ran = subprocess.run(
             words, cwd=self.folder, stdin=subprocess.DEVNULL, capture_output=True, text=True, errors="replace"
         )
         said = ran.stdout + ran.stderr
         told = Told(is_proved=ran.returncode == 0, words=said)
-        told.is_verdict = told.is_proved or "\nlogic=not-proved" in said
+        told.is_verdict = told.is_proved or bool(VERDICT.search(said))
         for line in said.split("\n"):
             self.hear(line, told)
         return told
@@ -136,14 +145,13 @@ class Room:
         return path
 
     def attempt(self, edits: list[Edit]) -> Told:
-        """A check of the crate with these edits."""
-        shutil.rmtree(self.folder / "out")
-        link_tree(self.room / "proved", self.folder / "out")
+        """A check with these edits: of the functions that their clauses name, or of all if one edit passes there."""
         made = edits[0].texts(self.folder) if len(edits) == 1 else self.joined(edits)
         was = {path: (self.folder / path).read_text() for path in made}
         try:
             self.write(made)
-            return self.check()
+            told = self.check(edits)
+            return self.check() if len(edits) == 1 and told.is_proved else told
         finally:
             self.write(was)
 
@@ -187,6 +195,12 @@ def link_tree(folder: pathlib.Path, to: pathlib.Path) -> None:
         return other
 
     shutil.copytree(folder, to, symlinks=True, copy_function=copy)
+
+
+def only_names(edit: Edit, index: Index) -> list[str]:
+    """What `rt check --only` takes for the functions that the edit's clause names: for a trait's functions, whose names
+    are the kit's own, their module; nothing if there are none, and all has to be checked."""
+    return [item.source.module or item.name if item.trait else item.place for item in named(edit, index)]
 
 
 def functions_of(edit: Edit, index: Index) -> list[Item]:
