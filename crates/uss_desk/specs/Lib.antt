@@ -2,6 +2,7 @@
 pub mod Opening
 pub mod Guarding
 pub mod Running
+pub mod Watching
 pub mod Closing
 pub mod Naming
 pub mod Keeping
