@@ -197,6 +197,12 @@ def test_mode_of_a_new_file(room: pathlib.Path) -> None:
     assert [oct(os.stat(f"{room}/desk.db{end}").st_mode & 0o777) for end in ("", "-wal")] == ["0o600", "0o600"]
 
 
+def test_mode_of_a_copy(room: pathlib.Path, desk_file: pathlib.Path) -> None:
+    """A copy is its owner's alone."""
+    run("copy", "--db", str(desk_file), "--to", f"{room}/new.db")
+    assert oct(os.stat(f"{room}/new.db").st_mode & 0o777) == "0o600"
+
+
 def test_file_whose_name_has_blanks(room: pathlib.Path) -> None:
     """The name of a file begins and ends as it is given."""
     run("enrol", "--db", f"{room}/ blanks .db ", "alfa", "1")

@@ -3,7 +3,6 @@ use Rattle.std.proofs.Common.{◌≡◌, ℕ, List, Option, None, Some, Result, 
 use Rattle.sqlite_trees.specs.View.{doubt}
 use Rattle.sqlite_trees.specs.declared.store.Store.{Ghosts}
 use Rattle.sqlite_disk.specs.declared.Disk as disk
-use Rattle.sqlite_disk.specs.declared.Files.{Files}
 use Rattle.sqlite_disk.specs.Events.{Event, replay}
 use Rattle.sqlite_wal.specs.Reads.{AreClean}
 use Rattle.sqlite_wal.specs.Recovery.{Image}
@@ -21,12 +20,12 @@ use Rattle.desk_line.specs.declared.line.Line.TheVariants as line
 use Rattle.desk_program.specs.Serving.{Traffic}
 use Rattle.uss_desk.specs.declared.opening.Opened.TheVariants as opened
 use Rattle.desk_tables.specs.Closing.{IsLeftUnclosed}
-use Rattle.desk_tables.specs.declared.closing.Unclosed.{Unclosed}
 use Rattle.uss_desk.specs.Closing.{IsClosed, IsEnded}
 use Rattle.uss_desk.specs.Guarding.{Account, IsTrueOrCollided}
 use Rattle.std.specs.Option.{IsSomeAnd}
 use Rattle.desk_tables.specs.declared.opening.files.FilesFault.{FilesFault}
 use Rattle.uss_desk.specs.declared.opening.Unopened.{Unopened}
+use Rattle.uss_desk.specs.declared.watching.Closed.{Closed}
 use Rattle.uss_desk.specs.Opening.{FailsOver, FileDesk, IsOpenedFor, IsOpenedIn, open_failure, or_failure}
 use Rattle.uss_desk.specs.Running.{IsDoneAt, IsRun, StaysGuarded}
 
@@ -81,14 +80,15 @@ stays_guarded account fair clean image it from to old new out now end (Err unrea
 
 -- a desk whose store was closed, by what the store is
 pub is_closed : {D : Type 0} {g : disk.Ghosts D} (desk : Parts (Shown (FileStore D g)))
-    → (store : Shown (FileStore D g)) (closed : Result (Files D) (Unclosed D g)) (status : ℕ) (end : Ending)
-    → store ≡ desk.store → IsEnded closed status end
-    → IfOk closed (λ files. AreClean g files.log files.db → IsCopied store.held files)
-    → IfErr closed (IsLeftUnclosed store.held) → IsClosed (Some desk) status end (Some closed)
+    → (store : Shown (FileStore D g)) (closed : Closed D g) (status : ℕ) (end : Ending)
+    → store ≡ desk.store → IsEnded closed.files closed.are_at_paths status end
+    → IfOk closed.files (λ files. AreClean g files.log files.db → IsCopied store.held files)
+    → IfErr closed.files (IsLeftUnclosed store.held) → IsClosed (Some desk) status end (Some closed)
 is_closed {D} {g} desk store closed status end same ended copied left = (
   ended,
-  subst (λ s. IfOk closed (λ files. AreClean g files.log files.db → IsCopied s.held files)) same copied,
-  subst (λ s. IfErr closed (IsLeftUnclosed s.held)) same left,
+  subst (λ s. IfOk closed.files (λ files. AreClean g files.log files.db → IsCopied s.held files)) same
+      copied,
+  subst (λ s. IfErr closed.files (IsLeftUnclosed s.held)) same left,
 )
 
 -- what refused files refuses them in the program

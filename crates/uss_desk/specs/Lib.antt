@@ -3,6 +3,7 @@ pub mod Opening
 pub mod Operators
 pub mod Guarding
 pub mod Running
+pub mod Watching
 pub mod Closing
 pub mod Naming
 pub mod Keeping

@@ -8,6 +8,7 @@ ghost use Rattle.uss_desk.specs.Naming.{Follows, Free, LeavesNames, TakesIfNone}
 use crate::naming::{Folder, IN_USE, LocalFolder, READ_ONLY, TAKEN, is_no_path};
 use crate::opening::{Opened, OpenedDesk};
 use crate::sums::pages_without_sums;
+use crate::watching::Paths;
 use desk_ends::write_whole;
 use desk_line::{Database, Failure, Line, malformed_word};
 use desk_tables::{PartFault, part_at};
@@ -31,10 +32,10 @@ const MAGIC: &[u8; 16] = b"SQLite format 3\0";
 
 /// Tells why the files of a line can't be opened, if they can't, and before no other line.
 #[tactic(auto, using(crate::proofs::KeepLemmas::tells_nothing))]
-pub fn tell_cause<F: Start, E: Write>(
+pub fn tell_cause<F: Start, N: Paths + Drop, E: Write>(
     rt: &HostRuntime,
     line: &Line,
-    opened: &OpenedDesk<F>,
+    opened: &OpenedDesk<F, N>,
     errors: &mut E,
 )
     ensures tells { Tells (E.contents errors.old) (E.contents errors.new) }
@@ -46,7 +47,7 @@ pub fn tell_cause<F: Start, E: Write>(
 }
 
 // The failure of files that were refused, if some were.
-fn refusal_of<F: Start>(opened: &OpenedDesk<F>) -> Option<Failure>
+fn refusal_of<F: Start, N: Paths + Drop>(opened: &OpenedDesk<F, N>) -> Option<Failure>
     ensures { IfSome result (λ _. AreFilesRefused opened.now) }
 {
     match opened {

@@ -2,24 +2,22 @@
 
 ghost use Rattle.std.specs.Prelude.{◌≡◌};
 ghost use Rattle.desk_line.specs.Exits.{ending};
-ghost use Rattle.uss_desk.specs.Closing.{IsClosed, IsEnded};
+ghost use Rattle.uss_desk.specs.Closing.{IsClosed, IsEnded, IsUnclosed};
 
 use crate::opening::FileDesk;
+use crate::watching::{Closed, Paths};
 use desk_line::{Exit, Failure, conclude};
-use desk_tables::Unclosed;
-use sqlite::{FileFrom, Files, Start};
+use sqlite::{FileFrom, Start};
 use sqlite_disk::Disk;
 use std::io::Write;
 
-/// What came of the files of a desk: the log is copied into the database file, or can't be.
-pub type Closed<D> = Result<Files<D>, Unclosed<D>>;
-
 /// Copies the log of a desk over files into the database file, empties it, and gives the files back, with the
-/// exit status: that of the line, or that of `Store` if the line ended well and its desk can't be closed. The
-/// word of that failure goes to `errors`; a fault there is passed over. In memory there is nothing to close.
-pub fn close_after<F: Start, E: Write>(
+/// exit status: that of the line, or that of `Store` if the line ended well and its desk can't be closed, or
+/// was not at its paths any more. The word of that failure goes to `errors`; a fault there is passed over. In
+/// memory there is nothing to close.
+pub fn close_after<F: Start, N: Paths + Drop, E: Write>(
     status: u8,
-    desk: Option<FileDesk<F>>,
+    desk: Option<FileDesk<F, N>>,
     errors: &mut E,
 ) -> (Exit, Option<Closed<FileFrom<F>>>)
     ensures { IsClosed desk status
@@ -35,12 +33,24 @@ pub fn close_after<F: Start, E: Write>(
 
 // How a line ends whose desk was closed, or can't be.
 fn end_closed<D: Disk, E: Write>(status: u8, closed: &Closed<D>, errors: &mut E) -> Exit
-    ensures { IsEnded closed.now status (ending result (E.contents errors.old) (E.contents errors.new)) }
+    ensures { IsEnded closed.now.files closed.now.are_at_paths status
+        (ending result (E.contents errors.old) (E.contents errors.new)) }
 {
-    match closed {
-        Err(_) if status == 0 => conclude(errors, Err(Failure::Store)),
-        _ => Exit::silent(status),
+    match &closed.files {
+        Ok(_) if closed.are_at_paths => Exit::silent(status),
+        Ok(_) => end_unclosed(status, errors),
+        Err(_) => end_unclosed(status, errors),
     }
+}
+
+// How a line ends whose desk can't be closed, or wasn't at its paths any more.
+fn end_unclosed<E: Write>(status: u8, errors: &mut E) -> Exit
+    ensures { IsUnclosed status (ending result (E.contents errors.old) (E.contents errors.new)) }
+{
+    if status == 0 {
+        return conclude(errors, Err(Failure::Store));
+    }
+    Exit::silent(status)
 }
 
 /// The exit status of a line whose desk was closed, on whatever disk it was.

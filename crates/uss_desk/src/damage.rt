@@ -1,10 +1,13 @@
 //! The log of a file, looked at before the file is opened.
 
-ghost use Rattle.std.specs.Prelude.{◌≡◌, ℕ, false, IfErr, IfOk, IfSome, List, codes, length, option_map, string_bytes};
+ghost use Rattle.std.specs.Prelude.{◌≡◌, ℕ, false, IfErr, IfOk, IfSome, List, codes, length, option_map};
+ghost use Rattle.std.specs.Prelude.{string_bytes};
+ghost use Rattle.desk_line.specs.Lines as lines;
 ghost use Rattle.desk_log.specs.Damage.{IsDamaged};
 ghost use Rattle.uss_desk.specs.Damage as spec;
 ghost use Rattle.uss_desk.specs.Damage.{HasCause, IsLookedAt, IsWritten};
 
+use crate::causes::tell_of;
 use desk_ends::{WriteFault, write_whole};
 use desk_line::{Database, Failure, Line, Task};
 use desk_log::{LogFault, Verdict, damaged_is_long, judge_log};
@@ -16,6 +19,12 @@ use std::io::{self, ErrorKind, Read, Write};
 
 // How many bytes a damaged log has at least.
 const LEAST_DAMAGED: u64 = 1_104;
+
+// How many the least has in which one ends.
+const LEAST_WITH_A_COMMIT: u64 = 568;
+
+// What is told of a file that isn't there, and its log is.
+const LOG_ALONE: &str = "its log is there without it: was it moved or removed while a desk ran?";
 
 /// What came of a look at a log.
 #[derive(Clone, Copy, Debug, PartialEq, Eq)]
@@ -46,16 +55,21 @@ impl From<AllocError> for Unlooked {
     }
 }
 
-/// Refuses a task at a file whose log is damaged, and tells why. A copy is made of what can be read, and the
-/// loss is told. A file that another program has open is not looked at: to open it tells that.
+/// Refuses a task at a file whose log is damaged, or is there without it, and tells why. A copy is made of
+/// what can be read, and the loss is told. A file that another program has open is not looked at: to open it
+/// tells that.
 ///
 /// # Errors
 ///
-/// `DamagedLog`; `Memory` if memory runs out; `Store` if the log can't be read.
+/// `DamagedLog`; `Memory` if memory runs out; `Store` if the log can't be read, or is there without its file.
 pub fn look_before<E: Write>(rt: &HostRuntime, task: &Task, errors: &mut E) -> Result<(), Failure> {
     let Some(path) = file_of(task) else {
         return Ok(());
     };
+    if is_log_alone(rt, path)? {
+        tell_of(rt.alloc(), path, LOG_ALONE, errors);
+        return Err(Failure::Store);
+    }
     let Some(mut log) = log_of(rt, path)? else {
         return Ok(());
     };
@@ -132,7 +146,8 @@ fn damage_line(alloc: Global, path: &str, frame: u64, commits: u64) -> Result<St
     ensures { IfOk result (λ line. string_bytes line ≡ spec.damage_line path.now frame commits) }
 {
     format!(in alloc;
-        "uss_desk: {path}: its log is damaged at frame {frame}: {commits} commits from there on can't be read\n"
+        "uss_desk: {path}: its log is damaged at frame {frame}: \
+         {commits} commits from there on can't be read\n"
     )
 }
 
@@ -150,7 +165,19 @@ fn is_copy(task: &Task) -> bool
 fn file_of(task: &Task) -> Option<&str>
     ensures { option_map (λ path. path.now) result ≡ spec.path_of task.now }
 {
-    match database_of(task)? {
+    path_of(database_of(task)?)
+}
+
+/// The file that a line names, if it names one.
+pub fn file_of_line(line: &Line) -> Option<&str> {
+    path_of(database_of_line(line)?)
+}
+
+// The path of a database, if it is in a file.
+fn path_of(database: &Database) -> Option<&str>
+    ensures { option_map (λ path. path.now) result ≡ lines.file_of database.now }
+{
+    match database {
         Database::File(path) => Some(path),
         Database::InMemory => None,
     }
@@ -178,6 +205,15 @@ fn database_of_line(line: &Line) -> Option<&Database>
         Line::Migrate(words) => Some(&words.database),
         Line::Token(_) | Line::Cover(_) => None,
     }
+}
+
+// Whether a log with a commit is there, and nothing at the path of its file.
+fn is_log_alone(rt: &HostRuntime, path: &str) -> Result<bool, Failure> {
+    if !matches!(fs::exists(rt, path), Ok(false)) {
+        return Ok(false);
+    }
+    let name = format!(in rt.alloc(); "{path}-wal")?;
+    Ok(size_of(rt, &name) >= LEAST_WITH_A_COMMIT)
 }
 
 // The log of the file at a path, if both are files and no other program has them open.

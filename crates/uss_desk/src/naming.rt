@@ -8,9 +8,9 @@ ghost use Rattle.uss_desk.specs.Naming.{named_steps};
 use sqlite::Unknown;
 use sqlite_std_file::OpenError;
 use std::alloc::{AllocError, Global};
-use std::fs::{self, File, Metadata, OpenOptions};
+use std::fs::{self, File, Metadata, OpenOptions, Permissions};
 use std::io::{self, ErrorKind};
-use std::os::unix::fs::{MetadataExt, OpenOptionsExt};
+use std::os::unix::fs::{MetadataExt, OpenOptionsExt, PermissionsExt};
 
 /// What is told of a path at which there is something.
 pub const TAKEN: &str = "it is there already";
@@ -46,7 +46,8 @@ pub trait Folder {
     fn remove(&mut self, path: &str) -> bool
         ensures { Takes (steps self.old) (steps self.new) result (Removed path.now) };
 
-    /// Gives a file another name, and answers whether that was done.
+    /// Gives a file another name, and answers whether that was done. It is its owner's alone then, where the
+    /// file system has modes.
     fn rename(&mut self, from: &str, to: &str) -> bool
         ensures { Takes (steps self.old) (steps self.new) result (Renamed from.now to.now) };
 
@@ -107,6 +108,8 @@ impl<'s> Folder for LocalFolder<'s> {
     }
 
     fn rename(&mut self, from: &str, to: &str) -> bool {
+        // A file system without modes refuses this, and the copy is made all the same.
+        let _ = fs::set_permissions(self.rt, from, Permissions::from_mode(OWNER_ALONE));
         fs::rename(self.rt, from, to).is_ok()
     }
 

@@ -9,6 +9,7 @@ ghost use Rattle.uss_desk.specs.Opening.{IsOpenedIn, IsUnreadFor};
 
 use crate::causes::tell_unenrolled;
 use crate::naming::make_private;
+use crate::watching::{NoPaths, Paths, Watched};
 use desk_line::{Database, Failure, Line};
 use desk_run::Desk;
 use desk_tables::{FilesFault, OpenFault, SqliteStore};
@@ -20,10 +21,10 @@ use std::alloc::{AllocError, Global};
 use std::snapshot::Snapshot;
 
 /// A desk in memory.
-pub type MemoryDesk = Desk<SqliteStore<FileStore<Ram>>>;
+pub type MemoryDesk = Desk<Watched<FileStore<Ram>, NoPaths>>;
 
-/// A desk over the database in files, where `F` stands for what they held.
-pub type FileDesk<F> = Desk<SqliteStore<FileStore<FileFrom<F>>>>;
+/// A desk over the database in files, where `F` stands for what they held, and `N` for their paths.
+pub type FileDesk<F, N> = Desk<Watched<FileStore<FileFrom<F>>, N>>;
 
 /// Why a database was not opened. What refused it is closed, and clauses alone read what it was.
 #[derive(Drop)]
@@ -85,40 +86,53 @@ pub enum Opened<M: Drop, D: Drop, V: Drop> {
     Moved(V),
 }
 
-/// What is opened for a line, where `F` stands for what the files that it names held.
-pub type OpenedDesk<F> = Opened<Result<MemoryDesk, Failure>, FoundDesk<F>, MovedDesk<F>>;
+/// What is opened for a line, where `F` stands for what the files that it names held, and `N` for their
+/// paths.
+pub type OpenedDesk<F, N> = Opened<Result<MemoryDesk, Failure>, FoundDesk<F, N>, MovedDesk<F, N>>;
 
 /// A desk over files, or why there is none.
-pub type FoundDesk<F> = Result<FileDesk<F>, Unread<F>>;
+pub type FoundDesk<F, N> = Result<FileDesk<F, N>, Unread<F>>;
 
 /// A desk over files and how many plans were moved to it from schema 1, or why there is none.
-pub type MovedDesk<F> = Result<(FileDesk<F>, u32), Unread<F>>;
+pub type MovedDesk<F, N> = Result<(FileDesk<F, N>, u32), Unread<F>>;
 
-/// Opens what a line needs; `start` stands for what the files that it names held.
-pub fn open_for<F: Start>(rt: &HostRuntime, line: &Line, start: F) -> OpenedDesk<F>
+/// Opens what a line needs; `start` stands for what the files that it names held, and `paths` are theirs.
+pub fn open_for<F: Start, N: Paths + Drop>(
+    rt: &HostRuntime,
+    line: &Line,
+    start: F,
+    paths: N,
+) -> OpenedDesk<F, N>
     ensures { IsOpenedFor (image_at F.Start) line.now result }
 {
     match line {
         Line::Play(words) => {
-            open_database(rt, &words.database, words.enrolments.is_empty(), start)
+            open_database(
+                rt,
+                &words.database,
+                words.enrolments.is_empty(),
+                start,
+                paths,
+            )
         }
-        Line::Enrol(words) => open_database(rt, &words.database, false, start),
+        Line::Enrol(words) => open_database(rt, &words.database, false, start, paths),
         Line::Serve(words) => {
             let is_told = words.enrolments.is_empty() && words.operators.is_none();
-            open_database(rt, &words.database, is_told, start)
+            open_database(rt, &words.database, is_told, start, paths)
         }
-        Line::Migrate(words) => Opened::Moved(open_old(rt, &words.database, start)),
+        Line::Migrate(words) => Opened::Moved(open_old(rt, &words.database, start, paths)),
         Line::Token(_) | Line::Cover(_) => Opened::Nothing,
     }
 }
 
 // Opens the desk over a database. If it is to be told that no operator is enrolled (`is_told`), it is.
-fn open_database<F: Start>(
+fn open_database<F: Start, N: Paths + Drop>(
     rt: &HostRuntime,
     database: &Database,
     is_told: bool,
     start: F,
-) -> OpenedDesk<F>
+    paths: N,
+) -> OpenedDesk<F, N>
     ensures { IsOpenedAt (image_at F.Start) database.now result }
 {
     match database {
@@ -128,7 +142,7 @@ fn open_database<F: Start>(
             }
             Opened::Memory(open_in_memory(rt.alloc()))
         }
-        Database::File(path) => Opened::Files(open_file(rt, path, is_told, start)),
+        Database::File(path) => Opened::Files(open_file(rt, path, is_told, start, paths)),
     }
 }
 
@@ -154,27 +168,36 @@ pub fn open_in_memory(alloc: Global) -> Result<MemoryDesk, Failure>
     ensures failure { IfErr result IsMemory }
 {
     match SqliteStore::in_memory(alloc) {
-        Ok(store) => Ok(Desk::new(store)),
+        Ok(store) => Ok(Desk::new(Watched::over(store, NoPaths))),
         Err(fault) => Err(open_failure(&fault)),
     }
 }
 
-/// The desk over the database in the files at a path; `start` stands for what the files held. A file that is
-/// made is its owner's alone. If it is to be told that no operator is enrolled (`is_told`), it is.
+/// The desk over the database in the files at a path; `start` stands for what the files held, and `paths` are
+/// theirs. A file that is made is its owner's alone. If it is to be told that no operator is enrolled
+/// (`is_told`), it is.
 ///
 /// # Errors
 ///
 /// The failure is that of `open_failure`.
-pub fn open_file<F: Start>(rt: &HostRuntime, path: &str, is_told: bool, start: F) -> FoundDesk<F>
+pub fn open_file<F: Start, N: Paths + Drop>(
+    rt: &HostRuntime,
+    path: &str,
+    is_told: bool,
+    start: F,
+    mut paths: N,
+) -> FoundDesk<F, N>
     ensures { IsOpenedIn (image_at F.Start) result }
 {
     make_private(rt, path);
+    paths.hold();
     match SqliteStore::open_from(rt, path, start) {
         Ok(store) => {
             if is_told && !store.has_begun_enrolled() {
                 tell_unenrolled(rt, Some(path));
             }
-            Ok(Desk::new(store))
+            paths.hold();
+            Ok(Desk::new(Watched::over(store, paths)))
         }
         Err(refused) => Err(Unopened::of(refused)),
     }
@@ -182,21 +205,35 @@ pub fn open_file<F: Start>(rt: &HostRuntime, path: &str, is_told: bool, start: F
 
 // The desk over a database that may be of schema 1, and how many plans were moved. A database in memory can't
 // have plans of schema 1, and fails as `Store`.
-fn open_old<F: Start>(rt: &HostRuntime, database: &Database, start: F) -> MovedDesk<F>
+fn open_old<F: Start, N: Paths + Drop>(
+    rt: &HostRuntime,
+    database: &Database,
+    start: F,
+    paths: N,
+) -> MovedDesk<F, N>
     ensures { IsMovedAt (image_at F.Start) database.now result }
 {
     match database {
         Database::InMemory => Err(Unopened::unread(OpenFault::Store)),
-        Database::File(path) => open_old_file(rt, path, start),
+        Database::File(path) => open_old_file(rt, path, start, paths),
     }
 }
 
 // The desk over the files at a path, to which the plans of schema 1 in them were moved.
-fn open_old_file<F: Start>(rt: &HostRuntime, path: &str, start: F) -> MovedDesk<F>
+fn open_old_file<F: Start, N: Paths + Drop>(
+    rt: &HostRuntime,
+    path: &str,
+    start: F,
+    mut paths: N,
+) -> MovedDesk<F, N>
     ensures { IsMovedIn (image_at F.Start) result }
 {
+    paths.hold();
     match SqliteStore::migrate_from(rt, path, start) {
-        Ok((store, count)) => Ok((Desk::new(store), count)),
+        Ok((store, count)) => {
+            paths.hold();
+            Ok((Desk::new(Watched::over(store, paths)), count))
+        }
         Err(refused) => Err(Unopened::of(refused)),
     }
 }

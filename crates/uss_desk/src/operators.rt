@@ -71,7 +71,8 @@ pub trait TextFiles {
     fn stamp(&mut self, path: &str) -> Result<Stamp, Unread>
         ensures { given self.new ≡ given self.old };
 
-    /// The text of the file at a path. Bytes that are no text stand for themselves in no line that can be read.
+    /// The text of the file at a path. Bytes that are no text stand for themselves in no line that can be
+    /// read.
     ///
     /// # Errors
     ///

@@ -10,10 +10,10 @@ ghost use Rattle.uss_desk.specs.Opening.{IsOpenedFor};
 ghost use Rattle.uss_desk.specs.Running.{IsDone, IsDoneAt, IsKeptAt, IsMoveTold, IsUndone};
 
 use crate::opening::{FileDesk, MemoryDesk, Opened, OpenedDesk, or_failure};
+use crate::watching::{Paths, Watched};
 use desk_line::{Exit, Failure, Line, conclude, print_line};
 use desk_program::{Port, print_migrated, run_opened};
 use desk_run::Desk;
-use desk_tables::SqliteStore;
 use sqlite::{FileStore, Start};
 use sqlite_disk::Disk;
 use std::alloc::Global;
@@ -22,15 +22,15 @@ use std::io::{Read, Write};
 /// Does what a line says at what was opened for it, and answers how it ended and the desk in memory or over
 /// files at which it was done, if there was one. The word of a failure goes to `errors`; a fault there
 /// is passed over.
-pub fn run_line<F: Start, P: Port, R: Read, W: Write, E: Write>(
+pub fn run_line<F: Start, N: Paths + Drop, P: Port, R: Read, W: Write, E: Write>(
     alloc: Global,
     line: &Line,
-    opened: OpenedDesk<F>,
+    opened: OpenedDesk<F, N>,
     port: &mut P,
     input: &mut R,
     output: &mut W,
     errors: &mut E,
-) -> (Exit, Option<MemoryDesk>, Option<FileDesk<F>>)
+) -> (Exit, Option<MemoryDesk>, Option<FileDesk<F, N>>)
     requires line { IsLine line.now }
     requires opened { IsOpenedFor (image_at F.Start) line.now opened }
     ensures { IsDone (account_of F.Start) opened line.now
@@ -57,15 +57,15 @@ pub fn run_line<F: Start, P: Port, R: Read, W: Write, E: Write>(
 }
 
 // Does what a line says at the desk over files that was opened, on whatever disk they are.
-fn run_over<D: Disk + Drop, P: Port, R: Read, W: Write, E: Write>(
+fn run_over<D: Disk + Drop, N: Paths + Drop, P: Port, R: Read, W: Write, E: Write>(
     alloc: Global,
     line: &Line,
-    opened: Result<Desk<SqliteStore<FileStore<D>>>, Failure>,
+    opened: Result<Desk<Watched<FileStore<D>, N>>, Failure>,
     port: &mut P,
     input: &mut R,
     output: &mut W,
     errors: &mut E,
-) -> (Exit, Option<Desk<SqliteStore<FileStore<D>>>>)
+) -> (Exit, Option<Desk<Watched<FileStore<D>, N>>>)
     requires line { IsLine line.now }
     requires desk { HasDatabase line.now }
     ensures opened { IfOk opened (IsDoneAt over_files line.now (P.traffic port.old) (P.traffic port.new)
@@ -82,12 +82,12 @@ fn run_over<D: Disk + Drop, P: Port, R: Read, W: Write, E: Write>(
 }
 
 // Prints how many plans were moved, or the word of the failure.
-fn tell_moved<F: Start, W: Write, E: Write>(
+fn tell_moved<F: Start, N: Paths + Drop, W: Write, E: Write>(
     alloc: Global,
-    moved: Result<(FileDesk<F>, u32), Failure>,
+    moved: Result<(FileDesk<F, N>, u32), Failure>,
     output: &mut W,
     errors: &mut E,
-) -> (Exit, Option<FileDesk<F>>)
+) -> (Exit, Option<FileDesk<F, N>>)
     ensures { IsMoveTold moved (ending result.0 (E.contents errors.old) (E.contents errors.new)) result.1
         (W.contents output.old) (W.contents output.new) }
 {

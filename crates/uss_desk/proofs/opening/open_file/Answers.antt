@@ -1,4 +1,4 @@
-use Rattle.std.proofs.Common.{ap, sym, subst}
+use Rattle.std.proofs.Common.{ap, sym, subst, ◌∙◌}
 use Rattle.sqlite_wal.specs.Files.{image_at}
 use Rattle.sqlite.specs.Files.{over_files}
 use Rattle.desk_tables.specs.Files.{AreRefused, OpensIn}
@@ -9,13 +9,12 @@ use Rattle.uss_desk.proofs.opening.open_file.Goals as goal
 
 pub returns-after-is_told : goal.returns-after-is_told
 returns-after-is_told g c =
-    let opens = subst (λ d. OpensIn (image_at g.F.Start) d.store.held d.store.world) (sym c.new.ensures)
-    c.in-Ok.ensures.begins in
-    let left = subst (λ d. IsSettledAt over_files d.store.held d.store.world) (sym c.new.ensures)
-    c.in-Ok.ensures.left in record {
+    let same = ap (λ d. d.store) c.new.ensures ∙ c.over.ensures in
+    let opens = subst (λ s. OpensIn (image_at g.F.Start) s.held s.world) (sym same) c.in-Ok.ensures.begins in
+    let left = subst (λ s. IsSettledAt over_files s.held s.world) (sym same) c.in-Ok.ensures.left in record {
       opens = opens;
       left = λ clean. left clean (opens.live clean);
-      guarded = subst (λ d. IsGuarded d.store.held) (sym c.new.ensures) c.in-Ok.ensures.guarded;
+      guarded = subst (λ s. IsGuarded s.held) (sym same) c.in-Ok.ensures.guarded;
       none = ap (λ d. d.terms) c.new.ensures;
     }
 

@@ -1,12 +1,12 @@
-use Rattle.std.proofs.Common.{sym, subst}
+use Rattle.std.proofs.Common.{ap, sym, subst, ◌∙◌}
 use Rattle.sqlite_wal.specs.Files.{image_at}
 use Rattle.desk_tables.specs.Files.{AreNotMoved, OpensMoved}
 use Rattle.uss_desk.proofs.RunLemmas.{fails_over}
 use Rattle.uss_desk.proofs.opening.open_old_file.Goals as goal
 
 pub returns-in-Ok : goal.returns-in-Ok
-returns-in-Ok g c = subst (λ d. OpensMoved (image_at g.F.Start) d.store.held d.store.world c.in-Ok.count)
-    (sym c.new.ensures) c.in-Ok.ensures.begins
+returns-in-Ok g c = subst (λ s. OpensMoved (image_at g.F.Start) s.held s.world c.in-Ok.count)
+    (sym (ap (λ d. d.store) c.new.ensures ∙ c.over.ensures)) c.in-Ok.ensures.begins
 
 pub returns-in-Err : goal.returns-in-Err
 returns-in-Err g c =

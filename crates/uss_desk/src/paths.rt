@@ -1,0 +1,122 @@
+//! The paths of a desk's files in the folders of the operating system.
+
+ghost use Rattle.std.specs.Prelude.{◌≡◌, ◌↔◌, IsTrue};
+
+use crate::causes::tell_of;
+use crate::damage::file_of_line;
+use crate::watching::Paths;
+use desk_line::{Failure, Line};
+use std::alloc::{AllocError, Global};
+use std::fs;
+use std::io::ErrorKind;
+use std::os::unix::fs::MetadataExt;
+
+// Which file it is to which a path leads.
+#[derive(Clone, Copy)]
+struct Identity {
+    device: u64,
+    inode: u64,
+}
+
+/// The paths of a file and of its log. That one doesn't lead to the file that is open is told on the
+/// standard error, once.
+#[derive(Drop)]
+pub struct LocalPaths<'r> {
+    rt: &'r HostRuntime,
+    file: &'r str,
+    log: String,
+    // the files that are open
+    held_file: Option<Identity>,
+    held_log: Option<Identity>,
+    is_told: bool,
+}
+
+/// The paths of the file that a line names; of no file if it names none.
+///
+/// # Errors
+///
+/// `Memory` if memory runs out.
+pub fn paths_of<'r>(rt: &'r HostRuntime, line: &'r Line) -> Result<LocalPaths<'r>, Failure> {
+    let file = file_of_line(line).unwrap_or("");
+    Ok(LocalPaths {
+        rt,
+        file,
+        log: log_beside(rt, file)?,
+        held_file: None,
+        held_log: None,
+        is_told: false,
+    })
+}
+
+// The path of the log of a file, which is beside the file to which a link leads.
+fn log_beside(rt: &HostRuntime, file: &str) -> Result<String, Failure> {
+    match fs::canonicalize(rt, file) {
+        Ok(real) => Ok(format!(in rt.alloc(); "{}-wal", real.as_str())?),
+        Err(error) if error.kind() == ErrorKind::OutOfMemory => Err(Failure::Memory),
+        Err(_) => Ok(format!(in rt.alloc(); "{file}-wal")?),
+    }
+}
+
+impl LocalPaths<'_> {
+    // Tells that a file isn't at its path any more, if nothing was told.
+    fn tell_once(&mut self, text: &str) {
+        if !self.is_told {
+            self.is_told = true;
+            tell_of(self.rt.alloc(), self.file, text, &mut self.rt.stderr());
+        }
+    }
+}
+
+impl Paths for LocalPaths<'_> {
+    fn hold(&mut self) {
+        if self.held_file.is_none() {
+            self.held_file = identity_at(self.rt, self.file);
+        }
+        if self.held_log.is_none() {
+            self.held_log = identity_at(self.rt, &self.log);
+        }
+    }
+
+    fn has_file(&mut self) -> bool {
+        let is_there = is_at(self.rt, self.file, self.held_file);
+        if !is_there {
+            self.tell_once("it was moved or removed while the desk ran");
+        }
+        is_there
+    }
+
+    fn has_log(&mut self) -> bool {
+        let is_there = is_at(self.rt, &self.log, self.held_log);
+        if !is_there {
+            self.tell_once("its log was moved or removed while the desk ran");
+        }
+        is_there
+    }
+}
+
+// Whether a path leads to this file.
+fn is_at(rt: &HostRuntime, path: &str, held: Option<Identity>) -> bool {
+    match (identity_at(rt, path), held) {
+        (Some(found), Some(held)) => is_same(found, held),
+        _ => false,
+    }
+}
+
+// The file to which a path leads, if it leads to one.
+fn identity_at(rt: &HostRuntime, path: &str) -> Option<Identity> {
+    let found = fs::metadata(rt, path).ok()?;
+    Some(Identity {
+        device: found.dev(),
+        inode: found.ino(),
+    })
+}
+
+// Whether these are the same file.
+fn is_same(one: Identity, other: Identity) -> bool
+    ensures { IsTrue result ↔ one ≡ other }
+{
+    if one.device != other.device {
+        return false;
+    }
+    one.inode == other.inode
+}

@@ -1,0 +1,229 @@
+//! A store over files that takes a change only while its files are at their paths.
+
+ghost use Rattle.std.specs.Prelude.{◌≡◌, ◌≤◌, ◌+◌, List, [], ◌∷◌, Option, None, IfErr, IfOk, OnErr, OnOk};
+ghost use Rattle.sqlite_wal.specs.Reads.{AreClean};
+ghost use Rattle.sqlite.specs.Closing.{IsCopied};
+ghost use Rattle.desk_store.specs.Crashes.{LeavesOldOr, LeavesOnly};
+ghost use Rattle.desk_store.specs.StoreChange.{changed_by, IsFitting};
+ghost use Rattle.desk_store.specs.StoreFaults.{HasRisen, IsHonest};
+ghost use Rattle.desk_store.specs.StoreFrames.{Remembers};
+ghost use Rattle.desk_tables.specs.Closing.{IsLeftUnclosed};
+ghost use Rattle.uss_desk.specs.Watching.{AreAtPaths, File, FollowsLooks, IsWatched, Log, Look};
+
+use desk_rules::operator::Operator;
+use desk_rules::plan::{PlanRow, States};
+use desk_rules::plan_id::PlanId;
+use desk_store::{Change, PlanStore, StoreFault};
+use desk_tables::{SqliteStore, Unclosed};
+use sqlite::{FileStore, Files};
+use sqlite_disk::Disk;
+use sqlite_trees::store::Alter;
+use std::marker::Model;
+use volume4d::{Held, Slab};
+
+/// The paths of a desk's database file and of its log, while the desk has both open.
+pub trait Paths {
+    /// What was looked at, in its order, if it is known.
+    ghost looks: { Self → Option (List Look) } = { λ _. None };
+
+    /// Takes the files to which the paths lead for those that are opened. It is asked before that, and once
+    /// more when both are there, for one that wasn't.
+    fn hold(&mut self);
+
+    /// Whether the path of the database file leads to the file that is open.
+    fn has_file(&mut self) -> bool
+        ensures { FollowsLooks (looks self.old) (looks self.new) (File result ∷ []) };
+
+    /// Whether the path of the log leads to the log that is open.
+    fn has_log(&mut self) -> bool
+        ensures { FollowsLooks (looks self.old) (looks self.new) (Log result ∷ []) };
+}
+
+/// The paths of a database in memory: it has none, so that nobody can move it.
+#[derive(Clone, Copy)]
+pub struct NoPaths;
+
+impl Paths for NoPaths {
+    fn hold(&mut self) {}
+
+    fn has_file(&mut self) -> bool {
+        true
+    }
+
+    fn has_log(&mut self) -> bool {
+        true
+    }
+}
+
+/// What came of the files of a desk that was closed.
+#[derive(Drop)]
+pub struct Closed<D: Disk> {
+    /// The files, with the log copied into the database file; or that it can't be.
+    pub files: Result<Files<D>, Unclosed<D>>,
+    /// Whether they were at their paths until then.
+    pub are_at_paths: bool,
+}
+
+/// A store over tables that takes a change only while its files are at their paths.
+#[derive(Drop)]
+pub struct Watched<S: Alter, N: Drop> {
+    store: SqliteStore<S>,
+    paths: N,
+    // how many changes were refused, up to the type's last value
+    refused: u64,
+}
+
+impl<S: Alter, N: Drop> Model for Watched<S, N> {
+    ghost use Rattle.std.specs.Prelude.{◌+◌};
+    ghost use Rattle.desk_tables.specs.Store.{Shown, shown_code};
+
+    ghost Value = { Shown S };
+
+    ghost coded = { shown_code S.code };
+
+    ghost view = { λ w. record {
+      held = w.store.held;
+      world = w.store.world;
+      faults = w.store.faults + w.refused;
+    } };
+}
+
+impl<S: Alter, N: Drop> Watched<S, N> {
+    /// A store whose files are at these paths.
+    pub fn over(store: SqliteStore<S>, paths: N) -> Watched<S, N>
+        ensures { result ≡ store }
+    {
+        Watched {
+            store,
+            paths,
+            refused: 0,
+        }
+    }
+}
+
+impl<D: Disk + Drop, N: Paths + Drop> Watched<FileStore<D>, N> {
+    /// Copies the log into the database file, wherever that is, and gives the files back; and tells whether
+    /// they were at their paths.
+    pub fn close(self) -> Closed<D>
+        ensures copied { IfOk result.files (λ files. AreClean D.Disk files.log files.db →
+            IsCopied self.held files) }
+        ensures unclosed { IfErr result.files (IsLeftUnclosed self.held) }
+    {
+        let mut paths = self.paths;
+        close_at(self.store, &mut paths)
+    }
+}
+
+// Looks whether the files of a store are at their paths, and closes it.
+fn close_at<D: Disk + Drop, N: Paths>(store: SqliteStore<FileStore<D>>, paths: &mut N) -> Closed<D>
+    ensures looked { AreAtPaths (N.looks paths.old) (N.looks paths.new) result.are_at_paths }
+    ensures copied { IfOk result.files (λ files. AreClean D.Disk files.log files.db →
+        IsCopied store.held files) }
+    ensures unclosed { IfErr result.files (IsLeftUnclosed store.held) }
+{
+    let are_at_paths = are_at_paths(paths);
+    Closed {
+        files: store.close(),
+        are_at_paths,
+    }
+}
+
+// Whether both files are at their paths. If the database file isn't, the log is not looked for.
+fn are_at_paths<N: Paths>(paths: &mut N) -> bool
+    ensures { AreAtPaths (N.looks paths.old) (N.looks paths.new) result }
+{
+    if !paths.has_file() {
+        return false;
+    }
+    paths.has_log()
+}
+
+// Makes a change of a store whose files are at their paths; else it is a fault, which is counted.
+fn apply_at<S: PlanStore, N: Paths>(
+    store: &mut S,
+    paths: &mut N,
+    refused: &mut u64,
+    change: &Change,
+) -> Result<(), StoreFault>
+    requires { IsHonest (S.doubt store.old) → IsFitting change.now (S.content store.old) }
+    ensures watched { IsWatched (N.looks paths.old) (N.looks paths.new) store.old store.new result }
+    ensures ok { IsHonest (S.doubt store.new) →
+        OnOk result (S.content store.new ≡ changed_by change.now (S.content store.old)) }
+    ensures err { OnErr result (S.content store.new ≡ S.content store.old) }
+    ensures crash { IsHonest (S.doubt store.new) → LeavesOldOr
+        (changed_by change.now (S.content store.old)) (S.may_leave store.old) (S.may_leave store.new) }
+    ensures kept { IsHonest (S.doubt store.new) →
+        OnOk result (LeavesOnly (S.content store.new) (S.may_leave store.new)) }
+    ensures remembered { Remembers S.doubt S.faults S.is_shielded store.old store.new }
+    ensures counted { refused.old ≤ refused.new }
+    ensures cause { IfErr result (λ e. e ≡ StoreFault.Store →
+        HasRisen (S.faults store.old + refused.old) (S.faults store.new + refused.new)) }
+{
+    if !are_at_paths(paths) {
+        *refused = refused.saturating_add(1);
+        return Err(StoreFault::Store);
+    }
+    store.apply(change)
+}
+
+impl<S: Alter, N: Paths + Drop> PlanStore for Watched<S, N> {
+    ghost use Rattle.sqlite_trees.specs.View.{doubt};
+    ghost use Rattle.sqlite.specs.Held.{state};
+    ghost use Rattle.desk_tables.specs.Leaving.{MayLeave};
+
+    ghost content = { λ w. w.world };
+
+    ghost doubt = { λ w. doubt (state S.Store w.held).is_clean };
+
+    ghost faults = { λ w. w.faults };
+
+    ghost may_leave = { λ w found. MayLeave S.Store w.held found };
+
+    ghost is_shielded = { λ w. (state S.Store w.held).IsShielded };
+
+    fn ceiling(&mut self, operator: &Operator) -> Result<Option<u32>, StoreFault> {
+        self.store.ceiling(operator)
+    }
+
+    fn plan(&mut self, operator: &Operator, id: &PlanId) -> Result<Option<PlanRow>, StoreFault> {
+        self.store.plan(operator, id)
+    }
+
+    fn states(&mut self, operator: &Operator, id: &PlanId) -> Result<Option<States>, StoreFault> {
+        self.store.states(operator, id)
+    }
+
+    fn own_count(&mut self, operator: &Operator) -> Result<u32, StoreFault> {
+        self.store.own_count(operator)
+    }
+
+    fn own_spans(&mut self, operator: &Operator, id: &PlanId) -> Result<u32, StoreFault> {
+        self.store.own_spans(operator, id)
+    }
+
+    fn own_plans(&mut self, operator: &Operator) -> Result<Vec<PlanRow>, StoreFault> {
+        self.store.own_plans(operator)
+    }
+
+    fn rivals(
+        &mut self,
+        operator: &Operator,
+        id: &PlanId,
+        least: u32,
+        extent: &Slab,
+    ) -> Result<Vec<Held>, StoreFault> {
+        self.store.rivals(operator, id, least, extent)
+    }
+
+    fn held_by_others(
+        &mut self,
+        operator: &Operator,
+        extents: &[Slab],
+    ) -> Result<Vec<Held>, StoreFault> {
+        self.store.held_by_others(operator, extents)
+    }
+
+    fn apply(&mut self, change: &Change) -> Result<(), StoreFault> {
+        apply_at(&mut self.store, &mut self.paths, &mut self.refused, change)
+    }
+}
