@@ -1,7 +1,7 @@
 -- What one step more changes of what a port tells.
 use Rattle.std.proofs.Common.{◌≡◌, ℕ, ℤ, List, [], ◌∷◌, ◌++◌, Option, None, Some, append-nil, ap, inl, inr, refl, subst, sym, ◌∙◌}
 use Rattle.desk_line.specs.declared.line.Enrolment.{Enrolment}
-use Rattle.desk_program.specs.Serving.{Arrival, BringsNews, Closes, Parting, Takes, arrived}
+use Rattle.desk_program.specs.Serving.{BringsNews, Closes, Parting, Takes, arrived}
 use Rattle.desk_recording.specs.Recording.{Adds, Answered, Asked, Enrolled, Lost, SendsKept, Step, arrivals_in, news_in, partings_in, traffic_of}
 
 news_and : (steps : List Step) (step : Step)
@@ -35,10 +35,12 @@ pub brings_news : (old new : Option (List Step)) (news : List Enrolment) → Add
 brings_news None new news is =
     subst (λ s. BringsNews (traffic_of None) (traffic_of s) news) (sym is) (tt, refl, refl, refl)
 brings_news (Some steps) new news is =
-    subst (λ s. BringsNews (traffic_of (Some steps)) (traffic_of s) news) (sym is)
-    (news_and steps (Enrolled news),
-    ap Some (arrivals_and steps (Enrolled news) ∙ append-nil (arrivals_in steps)),
-    ap Some (partings_and steps (Enrolled news) ∙ append-nil (partings_in steps)), refl)
+    subst (λ s. BringsNews (traffic_of (Some steps)) (traffic_of s) news) (sym is) (
+      news_and steps (Enrolled news),
+      ap Some (arrivals_and steps (Enrolled news) ∙ append-nil (arrivals_in steps)),
+      ap Some (partings_and steps (Enrolled news) ∙ append-nil (partings_in steps)),
+      refl,
+    )
 
 -- a connection is taken
 pub takes_one : (old new : Option (List Step)) (moment : ℤ) (bytes : List ℕ)
@@ -48,10 +50,12 @@ takes_one None new moment bytes is =
     subst (λ s. Takes (traffic_of None) (traffic_of s) (arrived moment (Some bytes))) (sym is)
     (tt, refl, refl, refl)
 takes_one (Some steps) new moment bytes is =
-    subst (λ s. Takes (traffic_of (Some steps)) (traffic_of s) (arrived moment (Some bytes))) (sym is)
-    (arrivals_and steps (Asked moment bytes),
-    ap Some (partings_and steps (Asked moment bytes) ∙ append-nil (partings_in steps)), refl,
-    ap Some (news_and steps (Asked moment bytes) ∙ append-nil (news_in steps)))
+    subst (λ s. Takes (traffic_of (Some steps)) (traffic_of s) (arrived moment (Some bytes))) (sym is) (
+      arrivals_and steps (Asked moment bytes),
+      ap Some (partings_and steps (Asked moment bytes) ∙ append-nil (partings_in steps)),
+      refl,
+      ap Some (news_and steps (Asked moment bytes) ∙ append-nil (news_in steps)),
+    )
 
 -- one is closed, and its answer is kept
 pub closes_kept : (old new : Option (List Step)) (parting : Parting) → Adds old new (Answered parting)
@@ -59,10 +63,12 @@ pub closes_kept : (old new : Option (List Step)) (parting : Parting) → Adds ol
 closes_kept None new parting is =
     subst (λ s. Closes (traffic_of None) (traffic_of s) parting) (sym is) (tt, refl, refl, refl)
 closes_kept (Some steps) new parting is =
-    subst (λ s. Closes (traffic_of (Some steps)) (traffic_of s) parting) (sym is)
-    (partings_and steps (Answered parting),
-    ap Some (arrivals_and steps (Answered parting) ∙ append-nil (arrivals_in steps)), refl,
-    ap Some (news_and steps (Answered parting) ∙ append-nil (news_in steps)))
+    subst (λ s. Closes (traffic_of (Some steps)) (traffic_of s) parting) (sym is) (
+      partings_and steps (Answered parting),
+      ap Some (arrivals_and steps (Answered parting) ∙ append-nil (arrivals_in steps)),
+      refl,
+      ap Some (news_and steps (Answered parting) ∙ append-nil (news_in steps)),
+    )
 
 -- one is closed, and its answer is lost
 pub closes_lost : (old new : Option (List Step)) (parting : Parting) → Adds old new (Lost parting)
@@ -70,10 +76,12 @@ pub closes_lost : (old new : Option (List Step)) (parting : Parting) → Adds ol
 closes_lost None new parting is =
     subst (λ s. Closes (traffic_of None) (traffic_of s) parting) (sym is) (tt, refl, refl, refl)
 closes_lost (Some steps) new parting is =
-    subst (λ s. Closes (traffic_of (Some steps)) (traffic_of s) parting) (sym is)
-    (partings_and steps (Lost parting),
-    ap Some (arrivals_and steps (Lost parting) ∙ append-nil (arrivals_in steps)), refl,
-    ap Some (news_and steps (Lost parting) ∙ append-nil (news_in steps)))
+    subst (λ s. Closes (traffic_of (Some steps)) (traffic_of s) parting) (sym is) (
+      partings_and steps (Lost parting),
+      ap Some (arrivals_and steps (Lost parting) ∙ append-nil (arrivals_in steps)),
+      refl,
+      ap Some (news_and steps (Lost parting) ∙ append-nil (news_in steps)),
+    )
 
 -- one is closed, whatever came of its answer
 pub closes_so : (old new : Option (List Step)) (parting : Parting) (answer : List ℕ)

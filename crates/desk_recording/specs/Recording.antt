@@ -10,8 +10,8 @@ use Rattle.desk_program.specs.Serving.{Arrival, Closes, Parting, Takes, Traffic,
 use Rattle.desk_recording.specs.declared.record.Parted.{Parted}
 use Rattle.std.specs.Io.KnownBytes.{Appends}
 
--- a step: operators are enrolled; a request is taken at a moment, and no bytes stand for a connection of which
--- no whole request came; the answer of a connection is kept; or it can't be
+-- a step: operators are enrolled; a request is taken at a moment (no bytes stand for a connection of which no
+-- whole request came); the answer of a connection is kept; or it can't be
 pub data Step : Type 0 where
   Enrolled : List Enrolment → Step
   Asked : ℤ → List ℕ → Step

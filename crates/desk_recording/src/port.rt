@@ -83,7 +83,8 @@ impl<P: Port + Drop, R: Record + Drop> Port for RecordedPort<P, R> {
         ensures fault { IfErr result IsDenied }
         ensures client { IfOk result (λ c. IsTakenFrom c.moment (cursor_inner c.input.request).items
             (P.Input.remaining c.input.client) (P.traffic self.old.port) (P.traffic self.new.port)) }
-        ensures waits { IfOk result (λ c. IsUnsent (P.traffic self.old.port) (P.Output.contents c.output.to)) }
+        ensures waits { IfOk result (λ c.
+            IsUnsent (P.traffic self.old.port) (P.Output.contents c.output.to)) }
     {
         if self.is_broken {
             return Err(Failure::Write);
@@ -115,10 +116,11 @@ impl<P: Port + Drop, R: Record + Drop> Port for RecordedPort<P, R> {
     #[tactic(auto, using(crate::proofs::StepLemmas::closes_so))]
     fn close(&mut self, input: Given<P::Input>, output: Held<P::Output>, is_whole: bool)
         ensures closed { Closes (traffic_of (R.steps self.old.keeper)) (traffic_of (R.steps self.new.keeper))
-            (parted (cursor_remaining (λ v. Some v.items) input.request) (Some output.answer.items) is_whole) }
+            (parted (cursor_remaining (λ v. Some v.items) input.request) (Some output.answer.items)
+            is_whole) }
         ensures kept { IsClosedBy (R.steps self.old.keeper) (R.steps self.new.keeper)
-            (parted (cursor_remaining (λ v. Some v.items) input.request) (Some output.answer.items) is_whole)
-            output.answer.items (P.Output.contents output.to) (P.Input.remaining input.client)
+            (parted (cursor_remaining (λ v. Some v.items) input.request) (Some output.answer.items)
+            is_whole) output.answer.items (P.Output.contents output.to) (P.Input.remaining input.client)
             (P.traffic self.old.port) (P.traffic self.new.port) }
     {
         let Given { request, client } = input;

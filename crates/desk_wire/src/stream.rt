@@ -91,12 +91,12 @@ pub fn receive_request<R: Read>(alloc: Global, input: &mut R) -> Result<Vec<u8>,
     ensures fault { IfErr result (Stops (IfSome (R.remaining input.old) IsCut)) }
 {
     let mut reads = MAX_READS;
-    let text = receive_head(alloc, input, &mut reads)?;
-    if text.is_empty() {
-        return Ok(text);
+    let head = receive_head(alloc, input, &mut reads)?;
+    if head.is_empty() {
+        return Ok(head);
     }
-    let body = receive_body(alloc, input, size_of(&front_of(&text)), &mut reads)?;
-    whole_of(text, &body)
+    let body = receive_body(alloc, input, size_of(&front_of(&head)), &mut reads)?;
+    whole_of(head, &body)
 }
 
 // A head and its body.

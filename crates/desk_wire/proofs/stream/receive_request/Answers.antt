@@ -6,9 +6,9 @@ use Rattle.desk_wire.proofs.stream.receive_request.Goals as goal
 
 pub returns-in_err-body-clause-fault : goal.returns-in_err-body-clause-fault
 returns-in_err-body-clause-fault g c =
-    let text = c.in_ok-text.text.items in
-    let some = some_count c.in_ok-text.text.len (length text) c.if-is_empty.ensures
-    (sym c.in_ok-text.text.ok.0) in
+    let head = c.in_ok-head.head.items in
+    let some = some_count c.in_ok-head.head.len (length head) c.if-is_empty.ensures
+    (sym c.in_ok-head.head.ok.0) in
     let front = c.front_of.ensures ∙ ap front_read c.deref.ensures.value in
     let size = c.size_of.ensures ∙ ap size_said front in
     stopped_so (IfSome (g.R.Read.remaining c.receive_head.new.input) (λ rest. length rest < c.size_of.result))
@@ -16,22 +16,22 @@ returns-in_err-body-clause-fault g c =
     c.from_residual-in_err-body.result c.in_err-body.field-0.0
     c.from_residual-in_err-body.ensures.1 c.in_err-body.ensures.fault
     (λ short. told_cut_body (g.R.Read.remaining c.args.input.now)
-    (g.R.Read.remaining c.receive_head.new.input) text c.in_ok-text.ensures.taken some
-    (c.in_ok-text.ensures.front some)
+    (g.R.Read.remaining c.receive_head.new.input) head c.in_ok-head.ensures.taken some
+    (c.in_ok-head.ensures.front some)
     (subst (λ n. IfSome (g.R.Read.remaining c.receive_head.new.input) (λ rest. length rest < n)) size short))
 
 pub returns-clause-taken : goal.returns-clause-taken
 returns-clause-taken g c =
-    let text = c.in_ok-text.text.items in
+    let head = c.in_ok-head.head.items in
     let body = c.in_ok-body.body.items in
-    let some = some_count c.in_ok-text.text.len (length text) c.if-is_empty.ensures
-    (sym c.in_ok-text.text.ok.0) in
+    let some = some_count c.in_ok-head.head.len (length head) c.if-is_empty.ensures
+    (sym c.in_ok-head.head.ok.0) in
     let front = c.front_of.ensures ∙ ap front_read c.deref.ensures.value in
     let got = received (g.R.Read.remaining c.args.input.now) (g.R.Read.remaining c.receive_head.new.input)
-    (g.R.Read.remaining c.receive_body.new.input) text body (front_reading c.front_of.result)
+    (g.R.Read.remaining c.receive_body.new.input) head body (front_reading c.front_of.result)
     (with_body (front_reading c.front_of.result) body)
-    c.in_ok-text.ensures.taken (c.in_ok-text.ensures.front some) front c.in_ok-body.ensures.taken
+    c.in_ok-head.ensures.taken (c.in_ok-head.ensures.front some) front c.in_ok-body.ensures.taken
     (c.in_ok-body.ensures.size ∙ c.size_of.ensures) refl in
     taken_so (λ v. v.items) c.whole_of.result (g.R.Read.remaining c.args.input.now)
-    (g.R.Read.remaining c.receive_body.new.input) (text ++ body)
+    (g.R.Read.remaining c.receive_body.new.input) (head ++ body)
     (rw c.deref-2.ensures.value at c.whole_of.ensures.ok) got.taken

@@ -1,0 +1,52 @@
+-- Writing: what is done to the file of a record, so that something is kept.
+use Rattle.std.specs.Prelude.{◌≡◌, ℕ, Bool, true, false, List, [], ◌∷◌, ◌++◌, map, Option, option_map}
+use Rattle.desk_line.specs.declared.line.Enrolment.{Enrolment}
+use Rattle.desk_record.specs.Record.{EntryParts, entries, entry}
+use Rattle.desk_record.specs.declared.kind.Kind.TheVariants as kind
+
+-- bytes are appended; all that was appended is on the disk; or what was asked is not done
+pub data Write : Type 0 where
+  Appended : List ℕ → Write
+  Synced : Write
+  Failed : Write
+
+-- known writes are followed by these
+abbrev pub Follows : Option (List Write) → Option (List Write) → List Write → Type 0
+Follows old new more = new ≡ option_map (λ writes. writes ++ more) old
+
+-- a write is made, or fails
+abbrev pub Makes : Option (List Write) → Option (List Write) → Bool → Write → Type 0
+Makes old new true write = Follows old new (write ∷ [])
+Makes old new false write = Follows old new (Failed ∷ [])
+
+-- the entries of a request, of an answer, and of an enrolment
+abbrev pub request_entry : ℕ → List ℕ → EntryParts
+request_entry second bytes = record { kind = kind.Request; number = second; bytes = bytes }
+
+abbrev pub answer_entry : ℕ → List ℕ → EntryParts
+answer_entry second bytes = record { kind = kind.Answer; number = second; bytes = bytes }
+
+abbrev pub operator_entry : Enrolment → EntryParts
+operator_entry e = record { kind = kind.Operator; number = e.ceiling; bytes = e.operator }
+
+-- an entry is appended, and all is on the disk; an entry is appended
+abbrev pub kept_writes : EntryParts → List Write
+kept_writes e = Appended (entry e) ∷ Synced ∷ []
+
+abbrev pub appended_writes : EntryParts → List Write
+appended_writes e = Appended (entry e) ∷ []
+
+-- nothing is kept of a connection of which no whole request came; a request is on the disk
+abbrev pub request_writes : ℕ → List ℕ → List Write
+request_writes second [] = []
+request_writes second (b ∷ bytes) = kept_writes (request_entry second (b ∷ bytes))
+
+-- nothing is kept where no answer was made; an answer is appended
+abbrev pub answer_writes : ℕ → List ℕ → List Write
+answer_writes second [] = []
+answer_writes second (b ∷ bytes) = appended_writes (answer_entry second (b ∷ bytes))
+
+-- nothing is kept where no operators are enrolled; the enrolments are on the disk, in their order
+abbrev pub news_writes : List Enrolment → List Write
+news_writes [] = []
+news_writes (e ∷ es) = Appended (entries (map operator_entry (e ∷ es))) ∷ Synced ∷ []
