@@ -1,3 +1,4 @@
 mod KeepLemmas
 mod NameLemmas
 mod RunLemmas
+mod OperatorLemmas

@@ -1,10 +1,10 @@
 //! The file of enrolments that the keeper changes while a desk serves: lines `NAME CEILING`.
 
-ghost use Rattle.std.specs.Prelude.{◌≡◌, List, IfErr, IfOk, MatchResult, None, OnErr, Option, option_map, string_bytes};
+ghost use Rattle.std.specs.Prelude.{◌≡◌, List, [], ◌∷◌, IfErr, IfOk, MatchResult, None, OnErr, Option, option_map, string_bytes};
 ghost use Rattle.desk_line.specs.Lines.{AreEnrolments};
-ghost use Rattle.desk_program.specs.Serving.{IsDenied};
+ghost use Rattle.desk_program.specs.Serving.{Grows, IsDenied};
 ghost use Rattle.uss_desk.specs.Operators as spec;
-ghost use Rattle.uss_desk.specs.Operators.{AreNews, Gives, IsRead, LeavesGiven, Reading};
+ghost use Rattle.uss_desk.specs.Operators.{AreNews, Asking, HasCause, IsRead, Read, Stamped, ok_of};
 
 use crate::causes::tell_of;
 use desk_line::{Enrolment, Failure, Line, enrolment_on, enrolments_on, lines_of};
@@ -60,8 +60,8 @@ impl From<io::Error> for Unread {
 
 /// The files of texts that a keeper changes while a desk serves.
 pub trait TextFiles {
-    /// The texts that were read, each with its path, in their order, if they are known.
-    ghost given: { Self → Option (List Reading) } = { λ _. None };
+    /// What was asked of them, in its order, if it is known.
+    ghost asked: { Self → Option (List Asking) } = { λ _. None };
 
     /// When the file at a path was changed last, and its length.
     ///
@@ -69,7 +69,7 @@ pub trait TextFiles {
     ///
     /// As `Unread` says.
     fn stamp(&mut self, path: &str) -> Result<Stamp, Unread>
-        ensures { given self.new ≡ given self.old };
+        ensures { Grows (asked self.old) (asked self.new) (Stamped path.now (ok_of result) ∷ []) };
 
     /// The text of the file at a path. Bytes that are no text stand for themselves in no line that can be
     /// read.
@@ -78,9 +78,8 @@ pub trait TextFiles {
     ///
     /// As `Unread` says.
     fn text(&mut self, alloc: Global, path: &str) -> Result<String, Unread>
-        ensures gives { IfOk result (λ text.
-            Gives (given self.old) (given self.new) path.now (string_bytes text)) }
-        ensures same { OnErr result (given self.new ≡ given self.old) };
+        ensures { Grows (asked self.old) (asked self.new)
+            (Read path.now (option_map string_bytes (ok_of result)) ∷ []) };
 }
 
 /// The files of the operating system, of which nothing is told.
@@ -168,9 +167,10 @@ impl<F: TextFiles + Drop> OperatorsFile<'_, F> {
     fn read_file(&mut self, alloc: Global, path: &str) -> Result<Vec<Enrolment>, Unread>
         ensures small { IfOk result (λ enrolments. AreEnrolments enrolments.items) }
         ensures read { IfOk result (λ enrolments.
-            IsRead path.now (F.given self.old.files) (F.given self.new.files) enrolments.items) }
-        ensures cause { IfErr result (LeavesGiven (F.given self.old.files) (F.given self.new.files)) }
-        ensures same { self.new.path ≡ self.old.path }
+            IsRead path.now (F.asked self.old.files) (F.asked self.new.files) enrolments.items) }
+        ensures cause { IfErr result (HasCause path.now (F.asked self.old.files) (F.asked self.new.files)) }
+        ensures path { self.new.path ≡ self.old.path }
+        ensures seen { self.new.seen ≡ self.old.seen }
     {
         let stamp = self.files.stamp(path)?;
         let text = self.files.text(alloc, path)?;
@@ -184,7 +184,8 @@ impl<F: TextFiles + Drop> OperatorsFile<'_, F> {
 
     // Tells why the file can't be read, if that wasn't told.
     fn tell_once(&mut self, path: &str, cause: &'static str)
-        ensures { F.given self.new.files ≡ F.given self.old.files }
+        ensures asked { F.asked self.new.files ≡ F.asked self.old.files }
+        ensures seen { self.new.seen ≡ self.old.seen }
     {
         if self.told != Some(cause) {
             self.told = Some(cause);
@@ -194,11 +195,12 @@ impl<F: TextFiles + Drop> OperatorsFile<'_, F> {
 }
 
 impl<F: TextFiles + Drop> Register for OperatorsFile<'_, F> {
+    #[tactic(auto, using(crate::proofs::OperatorLemmas::no_news))]
     fn look(&mut self, alloc: Global) -> Result<Vec<Enrolment>, Failure>
         ensures small { IfOk result (λ news. AreEnrolments news.items) }
         ensures fault { IfErr result IsDenied }
         ensures news { IfOk result (λ news. AreNews (option_map (λ path. path.now) self.old.path)
-            (F.given self.old.files) (F.given self.new.files) news.items) }
+            self.old.seen self.new.seen (F.asked self.old.files) (F.asked self.new.files) news.items) }
     {
         let Some(path) = self.path else {
             return Ok(Vec::new(alloc));
