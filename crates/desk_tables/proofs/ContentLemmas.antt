@@ -93,6 +93,11 @@ not_later ps h q n u rest e =
     let same : n + 1 ≡ 0 = cc in
     omega (arith, same)
 
+-- up to order, three tables have the rows of a world
+abbrev pub HaveRows : List Row → List Row → List Row → World → Type 0
+HaveRows operators plans volumes w = IsPermutation (operator_rows w) operators
+    × IsPermutation (plan_rows w.plans) plans × IsPermutation (volume_rows w.plans) volumes
+
 module _ (one_shape : (one other : Shape) → HasValidParts one → HasValidParts other
     → footprint_bytes one
     ≡ footprint_bytes other → one ≡ other) where
@@ -175,20 +180,27 @@ module _ (one_shape : (one other : Shape) → HasValidParts one → HasValidPart
   same_rows : (xs ys zs : List Row) → IsPermutation xs zs → IsPermutation ys zs → IsPermutation xs ys
   same_rows xs ys zs h k = IsPermutation-trans xs zs ys h (IsPermutation-sym ys zs k)
 
-  pub one_world : (tables : Tables) (v w : World) → IsContent v → IsContent w → AreTables tables v
-      → AreTables tables w → v ≡ w
-  one_world tables v w hv hw tv tw =
+  -- the rows of three tables are those of one content at most
+  pub of_rows : (operators plans volumes : List Row) (v w : World) → IsContent v → IsContent w
+      → HaveRows operators plans volumes v → HaveRows operators plans volumes w → v ≡ w
+  of_rows operator_part plan_part volume_part v w hv hw tv tw =
       let operators = one_order (operator_rows v) (operator_rows w)
       (operators_ascend v.operators hv.world.operators)
       (operators_ascend w.operators hw.world.operators)
-      (same_rows (operator_rows v) (operator_rows w) tables.operators tv.operators tw.operators) in
+      (same_rows (operator_rows v) (operator_rows w) operator_part tv.0 tw.0) in
       let plans = one_order (plan_rows v.plans) (plan_rows w.plans)
       (plans_ascend v.plans hv.rows hv.world.plans) (plans_ascend w.plans hw.rows hw.world.plans)
-      (same_rows (plan_rows v.plans) (plan_rows w.plans) tables.plans tv.plans tw.plans) in
+      (same_rows (plan_rows v.plans) (plan_rows w.plans) plan_part tv.1 tw.1) in
       let volumes = one_order (volume_rows v.plans) (volume_rows w.plans)
       (volumes_ascend v.plans hv.rows hv.world.plans) (volumes_ascend w.plans hw.rows hw.world.plans)
-      (same_rows (volume_rows v.plans) (volume_rows w.plans) tables.volumes tv.volumes tw.volumes) in
+      (same_rows (volume_rows v.plans) (volume_rows w.plans) volume_part tv.2 tw.2) in
       λ i. record {
         operators = one_operators v.operators w.operators operators i;
         plans = one_plans v.plans w.plans hv.rows hw.rows plans volumes i;
       }
+
+  pub one_world : (tables : Tables) (v w : World) → IsContent v → IsContent w → AreTables tables v
+      → AreTables tables w → v ≡ w
+  one_world tables v w hv hw tv tw =
+      of_rows tables.operators tables.plans tables.volumes v w hv hw (tv.operators, tv.plans, tv.volumes)
+      (tw.operators, tw.plans, tw.volumes)

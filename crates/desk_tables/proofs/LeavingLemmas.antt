@@ -1,5 +1,5 @@
 -- What a crash leaves is read as one content.
-use Rattle.std.proofs.Common.{◌≡◌, ◌⊎◌, inl, inr, ◌≢◌, Option, Some, None, Result, Ok, Err, IfOk, IsTrue, length, slice_index_or, refl, sym, ap, subst, ◌∙◌, arith, true, true≢false}
+use Rattle.std.proofs.Common.{◌≡◌, ◌⊎◌, inl, inr, ◌≢◌, Option, Some, None, Result, Ok, Err, IfOk, IsTrue, length, slice_index_or, refl, sym, ap, subst, ◌∙◌, arith, true, false, true≢false}
 use Rattle.std.specs.Coded.{Coded-set}
 use Rattle.std.proofs.Math.Logic.{∥∥₁_elim, ∥∥₁_map}
 use Rattle.sqlite_trees.specs.declared.store.Store.{Ghosts}
@@ -29,7 +29,15 @@ use Rattle.desk_tables.specs.Store.{IsStanding, Stands}
 use Rattle.desk_tables.specs.Files.{AreRefused, IsUnread}
 use Rattle.desk_tables.specs.Opening.{IsPart, AreNoContent}
 use Rattle.desk_tables.specs.Leaving.{HasWorld, ReadsAs, MayLeave, MayHave, IsUntaken, IsFoundAfter, BeginsAfter, IsLeftBy, IsLegible, IsRefusedAfter, IsRefusedAtRest}
-use Rattle.desk_tables.proofs.OpeningLemmas.{made_desk, old_rows_none}
+use Rattle.sqlite_disk.specs.declared.Files.{Files}
+use Rattle.sqlite_wal.specs.Files.{outcomes}
+use Rattle.sqlite_wal.proofs.LogLemmas.{SeenMayStay}
+use Rattle.sqlite_store.specs.Laws.{stays_at}
+use Rattle.sqlite.specs.Closing.{IsCopied}
+use Rattle.desk_tables.specs.Files.{FindsFirst}
+use Rattle.desk_tables.specs.Copying.{HoldsContent}
+use Rattle.desk_tables.specs.CutShort.{IsCutShort, IsMovedOn}
+use Rattle.desk_tables.proofs.OpeningLemmas.{desk_made, made_desk, old_rows_none}
 
 -- the law `one_content`
 abbrev pub HaveOneContent : Type 0
@@ -92,6 +100,18 @@ only_all All e = refl
 only_all Packed e = let trees : 8 ≡ 9 = ap (λ s. (slice_index_or s.tables 4 operator_made).tree) e in
     absurd (omega (arith, trees))
 
+all_or : (made : TablesPresent) → ¬ (made ≢ All) → made ≡ All
+all_or Nothing never = absurd (never (λ e. cc))
+all_or Operators never = absurd (never (λ e. cc))
+all_or Plans never = absurd (never (λ e. cc))
+all_or OldVolumes never = absurd (never (λ e. cc))
+all_or OldSpans never = absurd (never (λ e. cc))
+all_or OldIndex never = absurd (never (λ e. cc))
+all_or Volumes never = absurd (never (λ e. cc))
+all_or Spans never = absurd (never (λ e. cc))
+all_or All never = refl
+all_or Packed never = absurd (never (λ e. cc))
+
 -- a packed file
 packed_part : (db : Database) → IsMadeTo Packed db → IsPart Packed db
 packed_part db made = record { missing = λ e. cc; part = made }
@@ -125,6 +145,16 @@ module _ {D : Type 0} {g : disk.Ghosts D} where
   pub only_content : (last : Held (FileStore D g)) (w : World) → LeavesOnly w (MayLeave over_files last)
       → ¬ MayLeave over_files last None
   only_content last w only none = let is : None ≡ Some w = only None none in cc
+
+  only_this : (last : Held (FileStore D g)) (w : World) → LeavesOnly w (MayLeave over_files last)
+      → (v : World) → ∥ MayLeave over_files last (Some v) ∥₁ → v ≡ w
+  only_this last w only v may = ∥∥₁_elim may (Coded-set list.the_row.coded v w)
+      (λ left. let is : Some v ≡ Some w = only (Some v) left in cc)
+
+  only_read : (last : Held (FileStore D g)) (w : World) → LeavesOnly w (MayLeave over_files last)
+      → (read : Option World) → ∥ MayLeave over_files last read ∥₁ → read ≡ Some w
+  only_read last w only None may = absurd (∥∥₁_elim may (λ x y. absurd x) (only_content last w only))
+  only_read last w only (Some v) may = ap (λ u. Some u) (only_this last w only v may)
 
   pub either_content : (old last : Held (FileStore D g)) (before after : World)
       → LeavesOnly before (MayLeave over_files old)
@@ -210,6 +240,30 @@ module _ {D E : Type 0} {g : disk.Ghosts D} {k : disk.Ghosts E} (last : Held (Fi
           | inr numbers ↦ taken it.after (inr (inl numbers))
         ]
 
+    -- their database has no row of schema 1, and what it holds in schema 2 stands
+    never_old_rows : (found : Held (FileStore E k)) → IsFoundAfter last found → (v : World)
+        → HoldsContent true v (file_state found).now → ⊥
+    never_old_rows found it v holds = never_untaken found it (inr (inr (inr (record {
+      made = holds.made;
+      desk = holds.desk;
+      old = holds.schema;
+    }))))
+
+    holds_whole : (found : Held (FileStore E k)) → IsFoundAfter last found → (v : World)
+        → HoldsContent false v (file_state found).now → IsStanding over_files found v
+    holds_whole found it v holds =
+        let whole = all_or holds.made (λ missing. never_untaken found it (inl (
+          holds.made,
+          record { missing = missing; part = holds.desk },
+        ))) in
+        record {
+          content = holds.rows.content;
+          desk = desk_made (file_state found).now
+              (subst (λ made. IsMadeTo made (file_state found).now) whole holds.desk);
+          tables = subst (λ made. AreTables (tables_at made (file_state found).now.trees) v) whole
+              holds.rows.tables;
+        }
+
     -- of such files neither is told, by a connection that can be read or by none
     pub not_told : (image : Image) → IsLeftBy last image → (e : OpenFault)
         → (connection : Result (Held (FileStore E k)) Unreached) → AreRefused image e connection
@@ -228,6 +282,42 @@ module _ {D E : Type 0} {g : disk.Ghosts D} {k : disk.Ghosts E} (last : Held (Fi
   begins_alone new w other only it =
       ∥∥₁_elim (begins_again (only_content last w only) new other it) (Coded-set list.the_row.coded other w)
       (λ may. let is : Some other ≡ Some w = only (Some other) may in cc)
+
+  -- a start over files that were closed finds what the store could have left
+  pub found_closed : SeenMayStay g → (files : Files D) (image : Image) (found : Held (FileStore E k))
+      (w other : World) → LeavesOnly w (MayLeave over_files last) → IsCopied last files
+      → outcomes g files.log files.db image → FindsFirst image found → IsStanding over_files found other
+      → other ≡ w
+  found_closed stays files image found w other only copied outcome first stands =
+      let may = stays_at last.store stays copied.was_open in
+      let opened = first.0 in
+      ∥∥₁_elim (copied.left image outcome).both (Coded-set list.the_row.coded other w) (λ held.
+      let same : (file_state found).committed.trees ≡ (file_state last).committed.trees =
+      first.1.holds (file_state last).committed.trees held in
+      let reads : HasWorld (file_state last).committed.trees other =
+      reads_standing over_files found other (file_state last).committed.trees stands
+      (opened.1 opened.0.is_open).0 (ap (λ (d : Database). d.trees) opened.0.clean ∙ same) in
+      let is : Some other ≡ Some w = only (Some other) ((file_state last).committed.trees, may, reads) in cc)
+
+  -- a start over what one content was left in, wherever it is cut short, leaves that content alone
+  module _ (w : World) (only : LeavesOnly w (MayLeave over_files last)) where
+    pub cut_leaves : HaveOneContent → (image : Image) → IsLeftBy last image → (new : Held (FileStore E k))
+        → IsCutShort IsMovedOn image new → HasCleanDisk (file_state new)
+        → LeavesOnly w (MayLeave over_files new)
+    cut_leaves law image files new cut clean read (db, may, reads) =
+        let found = cut.found in
+        let after : IsFoundAfter last found =
+        record { image = image; files = files; first = cut.opened clean } in
+        let never = only_content last w only in
+        elim (cut.left clean db may) [
+          | inl same ↦ only_read last w only read (found_as found read after
+              (subst (λ trees. ReadsAs trees read) (same ∙ same_trees found after) reads))
+          | inr (inl done) ↦
+              let stands = holds_whole never found after done.world done.before in
+              let is = only_this last w only done.world (found_again found done.world after stands) in
+              read_once law db w read (subst (HasWorld db) is done.after) reads
+          | inr (inr moved) ↦ absurd (never_old_rows never found after moved.world moved.before)
+        ]
 
   module _ (old : Held (FileStore D g)) (before after : World)
       (only : LeavesOnly before (MayLeave over_files old))

@@ -49,3 +49,5 @@ pub mod LookLemmas
 pub mod SmallLemmas
 pub mod WritingLemmas
 pub mod LiftLemmas
+pub mod CutLemmas
+pub mod CutFoundLemmas

@@ -17,6 +17,7 @@ use Rattle.desk_store.specs.World.{World}
 use Rattle.desk_tables.specs.Tables.{AreTables}
 use Rattle.desk_store.specs.Content.{IsContent}
 use Rattle.desk_tables.specs.Store.{IsStanding, Stands}
+use Rattle.desk_tables.specs.Opening.{IsContentOf}
 
 module _ {S : Type 0} (g : Ghosts S) (old new : Held S) (w : World) (stood : Stands g old w) where
   -- a query leaves what stands
@@ -91,6 +92,9 @@ nothing_has_no_rows = record {
   covers = IsPermutation-refl [];
   spans = ([], refl, IsPermutation-refl []);
 }
+
+pub nothing_holds : IsContentOf no_rows nothing
+nothing_holds = record { content = nothing_is_content; tables = nothing_has_no_rows }
 
 -- tables that were made stand for no operators and no plans
 pub made_stands : {S : Type 0} (g : Ghosts S) (old new : Held S) → new.in_transaction ≡ false

@@ -20,6 +20,7 @@ pub mod Copying
 pub mod Causes
 pub mod Files
 pub mod Leaving
+pub mod CutShort
 pub mod OpeningSteps
 pub mod Changing
 pub mod Guarding

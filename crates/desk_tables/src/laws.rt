@@ -1,6 +1,6 @@
 //! Laws of the definitions. Each is the contract of a function that does nothing.
 
-ghost use Rattle.std.specs.Prelude.{◌≡◌, ◌⊎◌, ℕ, List, [], ◌∷◌, map, Some};
+ghost use Rattle.std.specs.Prelude.{◌≡◌, ◌⊎◌, ℕ, List, [], ◌∷◌, map, Bool, Some, IsTrue};
 ghost use Rattle.uuid.specs.Text.{parsed};
 ghost use Rattle.sqlite_value.specs.Order.{Row};
 ghost use Rattle.sqlite_store.specs.declared.store.FileStore.{FileStore};
@@ -21,11 +21,20 @@ ghost use Rattle.desk_tables.specs.TableChanges.{ChangesRows, EnrolsRows, PutsRo
 ghost use Rattle.desk_tables.specs.TableChanges.{ClosesRows, ClearsRows, IsWithin};
 ghost use Rattle.desk_tables.specs.Store.{IsStanding};
 ghost use Rattle.sqlite_disk.specs.Modelled.{calls_of, start_of};
-ghost use Rattle.desk_tables.specs.Copying.{IsMadeIn};
+ghost use Rattle.desk_tables.specs.Copying.{IsMadeIn, IsUnreadIn, LooksIn};
+ghost use Rattle.desk_tables.specs.CutShort.{HasContent, IsCompletedAs, IsCutShort, IsMovedOn};
+ghost use Rattle.desk_tables.specs.CutShort.{ShowContent};
+ghost use Rattle.desk_tables.specs.Moving.{BeginsMoved};
 ghost use Rattle.desk_tables.specs.Guarding.{HasCollided, IsGuarded};
 ghost use Rattle.std.specs.Prelude.{IfOk};
 ghost use Rattle.sqlite_wal.specs.Recovery.{Image};
-ghost use Rattle.desk_tables.specs.Files.{AreRefused, IsSummed, IsUnread, OpensIn, OpensMoved};
+ghost use Rattle.sqlite_wal.specs.Files.{outcomes};
+ghost use Rattle.sqlite_disk.specs.declared.Files.{Files};
+ghost use Rattle.sqlite.specs.Closing.{IsCopied};
+ghost use Rattle.desk_tables.specs.Closing.{IsLeftUnclosed};
+ghost use Rattle.desk_tables.specs.declared.closing.Unclosed.{Unclosed};
+ghost use Rattle.desk_tables.specs.Files.{AreRefused, FindsFirst, IsSummed, IsUnread, OpensIn};
+ghost use Rattle.desk_tables.specs.Files.{OpensMoved};
 ghost use Rattle.desk_tables.specs.declared.opening.open.OpenFault.{OpenFault};
 ghost use Rattle.desk_tables.specs.Leaving.{MayLeave, IsFoundAfter, BeginsAfter, IsLeftBy, IsLegible};
 ghost use Rattle.desk_tables.specs.Leaving.{IsRefusedAtRest};
@@ -117,6 +126,59 @@ pub fn a_store_begins_with_what_was_left<D: Disk, E: Disk>()
     ensures taken { (last : Held (FileStore D D.Disk)) (w : World) (e : OpenFault)
         (left : Held (FileStore E E.Disk))
         → LeavesOnly w (MayLeave over_files last) → ¬ IsRefusedAtRest last e left }
+{}
+
+/// Wherever a start over what a connection left is cut short, and however it ends: where one content alone
+/// was left, that content alone is left again. So however many starts are cut short, the one that comes after
+/// them begins with it.
+pub fn a_start_cut_short_leaves_the_content<D: Disk, E: Disk>()
+    ensures opened { (last : Held (FileStore D D.Disk)) (image : Image) (new : Held (FileStore E E.Disk))
+        (w : World) → LeavesOnly w (MayLeave over_files last) → IsLeftBy last image
+        → IsCutShort IsCompletedAs image new → HasCleanDisk (state over_files new)
+        → LeavesOnly w (MayLeave over_files new) }
+    ensures moved { (last : Held (FileStore D D.Disk)) (image : Image) (new : Held (FileStore E E.Disk))
+        (w : World) → LeavesOnly w (MayLeave over_files last) → IsLeftBy last image
+        → IsCutShort IsMovedOn image new → HasCleanDisk (state over_files new)
+        → LeavesOnly w (MayLeave over_files new) }
+{
+    one_content();
+}
+
+/// After a start that was cut short, wherever that was, the next one finds the content that the files had, in
+/// one schema or in the other. A store that begins over it, also by a move, begins with that content.
+pub fn a_start_after_one_cut_short_finds_the_content<D: Disk, E: Disk>()
+    ensures found { (image : Image) (w : World) (cut : Held (FileStore D D.Disk))
+        (found : Held (FileStore E E.Disk)) → ShowContent D.Disk image w → IsCutShort IsMovedOn image cut
+        → HasCleanDisk (state over_files cut) → IsFoundAfter cut found
+        → ∥ HasContent w (state over_files found).now ∥₁ }
+    ensures begins { (found new : Held (FileStore E E.Disk)) (w other : World) (count : ℕ)
+        → HasContent w (state over_files found).now → HasCleanDisk (state over_files new)
+        → IsTrue (state over_files new).is_open → BeginsMoved over_files found new other count
+        → other ≡ w }
+{
+    one_shape();
+}
+
+/// Files that are looked into, or copied, are left as they were, wherever that is cut short.
+pub fn a_look_leaves_the_database<D: Disk>()
+    ensures read { (image : Image) (left : Held (FileStore D D.Disk)) (old : Bool) (w : World)
+        → LooksIn image left old w → IsCutShort (λ _ _. ⊥) image left }
+    ensures unread { (image : Image) (e : OpenFault) (left : Held (FileStore D D.Disk))
+        → IsUnreadIn image e left → IsCutShort (λ _ _. ⊥) image left }
+{}
+
+/// Wherever a close is cut short, and however it ends: where a crash would have left one content alone, a log
+/// that could not be copied leaves that content alone, and in files that were given back a start finds no
+/// other.
+pub fn a_close_leaves_the_content<D: Disk, E: Disk>()
+    ensures unclosed { (last : Held (FileStore D D.Disk)) (it : Unclosed D D.Disk) (w : World)
+        → LeavesOnly w (MayLeave over_files last) → IsLeftUnclosed last it
+        → LeavesOnly w (MayLeave over_files (record last { store = it.left.value })) }
+    ensures closed { (last : Held (FileStore D D.Disk)) (files : Files D) (image : Image)
+        (found : Held (FileStore E E.Disk)) (w other : World)
+        → LeavesOnly w (MayLeave over_files last) → IsCopied last files
+        → outcomes D.Disk files.log files.db image → FindsFirst image found
+        → IsStanding over_files found other → other ≡ w }
 {}
 
 /// What is told of files in which a connection left one content is never that they hold no desk, or rows of

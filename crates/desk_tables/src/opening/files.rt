@@ -1,10 +1,11 @@
 //! Stores of plans over files.
 
-ghost use Rattle.std.specs.Prelude.{◌≡◌, IfErr, IfOk};
+ghost use Rattle.std.specs.Prelude.{◌≡◌, IfErr, IfOk, MatchResult};
 ghost use Rattle.sqlite_wal.specs.Files.{image_at};
 ghost use Rattle.sqlite_wal.specs.Recovery.{Image};
 ghost use Rattle.sqlite.specs.Held.{IsNew};
 ghost use Rattle.sqlite.specs.Files.{over_files};
+ghost use Rattle.desk_tables.specs.CutShort.{IsCompletedAs, IsCutShort, IsMovedOn};
 ghost use Rattle.desk_tables.specs.Files.{AreNotMoved, AreRefused, Finds, OpensIn, OpensMoved};
 ghost use Rattle.desk_tables.specs.Files.{no_files};
 ghost use Rattle.desk_tables.specs.Guarding.{IsGuarded};
@@ -75,6 +76,8 @@ impl<S: Start> SqliteStore<FileStore<FileFrom<S>>> {
         ensures left { IfOk result (λ store. IsSettledAt over_files store.held store.world) }
         ensures guarded { IfOk result (λ store. IsGuarded store.held) }
         ensures fault { IfErr result (λ e. AreRefused (image_at S.Start) e.fault e.connection) }
+        ensures cut { MatchResult result (λ store. IsCutShort IsCompletedAs (image_at S.Start) store.held)
+            (λ e. IfOk e.connection (IsCutShort IsCompletedAs (image_at S.Start))) }
     {
         match connect(rt, path, start) {
             Ok(connection) => adopt_files(rt.alloc(), connection),
@@ -104,6 +107,8 @@ impl<S: Start> SqliteStore<FileStore<FileFrom<S>>> {
         ensures left { IfOk result (λ moved. IsSettledAt over_files moved.0.held moved.0.world) }
         ensures guarded { IfOk result (λ moved. IsGuarded moved.0.held) }
         ensures fault { IfErr result (λ e. AreNotMoved (image_at S.Start) e.fault e.connection) }
+        ensures cut { MatchResult result (λ moved. IsCutShort IsMovedOn (image_at S.Start) moved.0.held)
+            (λ e. IfOk e.connection (IsCutShort IsMovedOn (image_at S.Start))) }
     {
         match connect_there(rt, path, start) {
             Ok(connection) => adopt_old_files(rt.alloc(), connection),
@@ -129,6 +134,8 @@ impl SqliteStore<FileStore<FileFrom<Unknown>>> {
         ensures begins { IfOk result (λ store. OpensIn no_files store.held store.world) }
         ensures left { IfOk result (λ store. IsSettledAt over_files store.held store.world) }
         ensures fault { IfErr result (λ e. AreRefused no_files e.fault e.connection) }
+        ensures cut { MatchResult result (λ store. IsCutShort IsCompletedAs no_files store.held)
+            (λ e. IfOk e.connection (IsCutShort IsCompletedAs no_files)) }
     {
         SqliteStore::open_from(rt, path, Unknown)
     }
@@ -150,6 +157,8 @@ impl SqliteStore<FileStore<FileFrom<Unknown>>> {
             OpensMoved no_files moved.0.held moved.0.world moved.1) }
         ensures left { IfOk result (λ moved. IsSettledAt over_files moved.0.held moved.0.world) }
         ensures fault { IfErr result (λ e. AreNotMoved no_files e.fault e.connection) }
+        ensures cut { MatchResult result (λ moved. IsCutShort IsMovedOn no_files moved.0.held)
+            (λ e. IfOk e.connection (IsCutShort IsMovedOn no_files)) }
     {
         SqliteStore::migrate_from(rt, path, Unknown)
     }
@@ -340,6 +349,9 @@ fn adopt_files<D: Disk + Drop>(
     ensures guarded { IsGuarded connection → IfOk result (λ store. IsGuarded store.held) }
     ensures fault { (image : Image) → Finds image connection → IfErr result (λ e.
         AreRefused image e.fault e.connection) }
+    ensures cut { (image : Image) → Finds image connection → MatchResult result
+        (λ store. IsCutShort IsCompletedAs image store.held)
+        (λ e. IfOk e.connection (IsCutShort IsCompletedAs image)) }
 {
     match SqliteStore::adopt(alloc, connection) {
         Ok(store) => Ok(store),
@@ -362,6 +374,9 @@ fn adopt_old_files<D: Disk + Drop>(
     ensures guarded { IsGuarded connection → IfOk result (λ moved. IsGuarded moved.0.held) }
     ensures fault { (image : Image) → Finds image connection → IfErr result (λ e.
         AreNotMoved image e.fault e.connection) }
+    ensures cut { (image : Image) → Finds image connection → MatchResult result
+        (λ moved. IsCutShort IsMovedOn image moved.0.held)
+        (λ e. IfOk e.connection (IsCutShort IsMovedOn image)) }
 {
     match SqliteStore::adopt_old(alloc, connection) {
         Ok(moved) => Ok(moved),

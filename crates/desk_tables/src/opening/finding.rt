@@ -13,6 +13,7 @@ ghost use Rattle.desk_sql.specs.Frames.{OnlyReads};
 ghost use Rattle.desk_sql.specs.Finding.{Holds};
 ghost use Rattle.desk_store.specs.World.{World};
 ghost use Rattle.desk_store.specs.Content.{IsContent};
+ghost use Rattle.desk_tables.specs.CutShort.{IsCompletedAs, MayBecome};
 ghost use Rattle.desk_tables.specs.Known.{Knows};
 ghost use Rattle.desk_tables.specs.Writing.{HaveFewRows};
 ghost use Rattle.desk_tables.specs.SpanBounds.{IsKnownRow, Keeps};
@@ -67,6 +68,7 @@ pub(crate) fn load_world<S: Alter>(
         (ShowsOldRows S.Store connection.old connection.new)
         (IsKept S.Store connection.old connection.new) }
     ensures bounded { IfOk result (λ found. Knows found.1 found.0.world) }
+    ensures crash { MayBecome S.Store connection.old connection.new IsCompletedAs }
 {
     let (made, old) = tables_found(connection)?;
     if old {
@@ -114,6 +116,7 @@ pub(crate) fn world_of<S: Alter>(
         (λ found. BeginsWith S.Store connection.old connection.new found.0.world)
         (ShowsNoDesk S.Store connection.old connection.new) (IsKept S.Store connection.old connection.new) }
     ensures bounded { IfOk result (λ found. Knows found.1 found.0.world) }
+    ensures crash { MayBecome S.Store connection.old connection.new IsCompletedAs }
 {
     match made {
         TablesPresent::All => load_tables(alloc, connection, TablesPresent::All),
@@ -134,6 +137,7 @@ pub(crate) fn create_tables<S: Alter>(
         (λ kept. kept.world ≡ record { operators = []; plans = [] }) ⊥
         (IsKept S.Store connection.old connection.new) }
     ensures faults { (state S.Store connection.old).faults ≤ (state S.Store connection.new).faults }
+    ensures crash { MayBecome S.Store connection.old connection.new IsCompletedAs }
 {
     complete_tables(connection, TablesPresent::Nothing)?;
     Ok(GhostWorld::new())
@@ -157,6 +161,7 @@ fn completed_in<S: Alter>(
         (λ found. BeginsCompleted S.Store connection.old connection.new found.0.world)
         (HadNone S.Store connection.old connection.new made) (IsKept S.Store connection.old connection.new) }
     ensures bounded { IfOk result (λ found. Knows found.1 found.0.world) }
+    ensures crash { MayBecome S.Store connection.old connection.new IsCompletedAs }
 {
     let found = load_tables(alloc, connection, made)?;
     complete_tables(connection, made)?;

@@ -8,12 +8,14 @@ ghost use Rattle.desk_sql.specs.Schema.{has_table};
 ghost use Rattle.desk_sql.specs.Rows.{IsMadeTo, tables_at, tables_of};
 ghost use Rattle.desk_sql.specs.Batches.{IsUnderWay};
 ghost use Rattle.desk_sql.specs.Calls.{WasOpen};
-ghost use Rattle.desk_sql.specs.Effects.{IsReady, IsKept, Makes, Commits};
+ghost use Rattle.desk_sql.specs.Effects.{IsReady, IsKept, Makes, Commits, MayMake};
+ghost use Rattle.desk_sql.specs.Making.{MayComplete};
 ghost use Rattle.desk_sql.specs.Frames.{IsOver, OnlyReads, Remembers};
 ghost use Rattle.desk_sql.specs.Finding.{Holds};
 ghost use Rattle.desk_sql.specs.Refusals.{IsRefusal};
 ghost use Rattle.desk_store.specs.World.{Filed, World};
 ghost use Rattle.desk_store.specs.Content.{IsContent};
+ghost use Rattle.desk_tables.specs.CutShort.{IsMovedAs, IsMovedOn, MayBecome};
 ghost use Rattle.desk_tables.specs.Known.{Knows};
 ghost use Rattle.desk_tables.specs.Opening.{AreRows, BlamesReading, HasRowsOld};
 ghost use Rattle.desk_tables.specs.OpeningSteps.{BeginsAllMoved, HadNoOld, IsAdded, IsOpened, IsRead, IsSetUp};
@@ -70,6 +72,7 @@ pub(crate) fn moved_world_in<S: Alter>(
         (ShowsNoContent S.Store connection.old connection.new) ⊥
         (KeepsRows S.Store connection.old connection.new) }
     ensures bounded { IfOk result (λ moved. Knows moved.1 moved.0.world) }
+    ensures crash { MayBecome S.Store connection.old connection.new IsMovedOn }
 {
     let (made, old) = tables_found(connection)?;
     if old {
@@ -96,6 +99,7 @@ fn move_tables<S: Alter>(
         (HadNoOld S.Store connection.old connection.new made)
         (KeepsRows S.Store connection.old connection.new) }
     ensures bounded { IfOk result (λ moved. Knows moved.1 moved.0.world) }
+    ensures crash { MayBecome S.Store connection.old connection.new IsMovedAs }
 {
     let (content, known) = load_old_tables(alloc, connection, made)?;
     make_whole(connection, made)?;
@@ -118,6 +122,7 @@ fn make_whole<S: Alter>(
         → IfErr result (BlamesReading S.Store connection.old connection.new) }
     ensures fault { IfErr result (λ e. (e ≢ OpenFault.NotADesk) × (e ≢ OpenFault.OldSchema)) }
     ensures over { IsOver S.Store connection.old connection.new }
+    ensures crash { MayComplete S.Store made connection.old connection.new }
 {
     if made == TablesPresent::All {
         return Ok(());
@@ -144,6 +149,7 @@ fn rewrite<S: Alter>(
         → IfErr result (BlamesReading S.Store connection.old connection.new) }
     ensures fault { IfErr result (λ e. (e ≢ OpenFault.NotADesk) × (e ≢ OpenFault.OldSchema)) }
     ensures over { IsOver S.Store connection.old connection.new }
+    ensures crash { MayMake S.Store connection.old connection.new (MovesRows plans.now) }
 {
     covers_are_few();
     settled_and_sound(connection);

@@ -1,7 +1,8 @@
 //! Stores of plans made over connections.
 
-ghost use Rattle.std.specs.Prelude.{◌≡◌, [], false, IfOk, IfErr, None};
+ghost use Rattle.std.specs.Prelude.{◌≡◌, [], false, IfOk, IfErr, MatchResult, None};
 ghost use Rattle.desk_sql.specs.Effects.{IsKept};
+ghost use Rattle.desk_tables.specs.CutShort.{IsCompletedAs, IsMovedOn, LeavesShownOr};
 ghost use Rattle.desk_tables.specs.Moving.{BeginsMoved, KeepsRows, ShowsNoContent};
 ghost use Rattle.desk_tables.specs.Opening.{BeginsWith, ShowsNoDesk, ShowsOldRows};
 ghost use Rattle.desk_tables.specs.OpeningSteps.{IsAdopted, IsNotAdopted};
@@ -11,6 +12,7 @@ use crate::opening::exact::RowFault;
 use crate::opening::finding::{create_tables, load_world};
 use crate::opening::moving::moved_world_in;
 use crate::store::SqliteStore;
+use desk_sql::laws::settled_and_sound;
 use desk_sql::{TablesPresent, find_tables};
 use desk_store::StoreFault;
 use ram_disk::Ram;
@@ -158,7 +160,11 @@ impl<S: Alter> SqliteStore<S> {
             (ShowsNoDesk S.Store connection refused.connection)
             (ShowsOldRows S.Store connection refused.connection)
             (IsKept S.Store connection refused.connection)) }
+        ensures cut { MatchResult result
+            (λ store. LeavesShownOr S.Store connection store.held IsCompletedAs)
+            (λ refused. LeavesShownOr S.Store connection refused.connection IsCompletedAs) }
     {
+        settled_and_sound(&connection);
         connection.set_step_limit(None);
         match load_world(alloc, &mut connection) {
             Ok((kept, known, is_enrolled)) => Ok(SqliteStore::with(
@@ -198,7 +204,11 @@ impl<S: Alter> SqliteStore<S> {
             IsNotAdopted S.Store connection refused.connection refused.fault
             (ShowsNoContent S.Store connection refused.connection) ⊥
             (KeepsRows S.Store connection refused.connection)) }
+        ensures cut { MatchResult result
+            (λ moved. LeavesShownOr S.Store connection moved.0.held IsMovedOn)
+            (λ refused. LeavesShownOr S.Store connection refused.connection IsMovedOn) }
     {
+        settled_and_sound(&connection);
         connection.set_step_limit(None);
         match moved_world_in(alloc, &mut connection) {
             Ok((kept, known, count)) => {

@@ -4,10 +4,11 @@ ghost use Rattle.std.specs.Prelude.{◌≡◌, ◌≢◌, false, IfOk, IfErr, On
 ghost use Rattle.sqlite.specs.State.{HasCleanDisk};
 ghost use Rattle.sqlite.specs.Held.{state};
 ghost use Rattle.desk_sql.specs.Rows.{IsMadeTo};
-ghost use Rattle.desk_sql.specs.Effects.{Commits, IsKept};
+ghost use Rattle.desk_sql.specs.Effects.{Commits, IsKept, MayMake};
 ghost use Rattle.desk_sql.specs.Finding.{Holds};
 ghost use Rattle.desk_sql.specs.Frames.{IsOver};
 ghost use Rattle.desk_sql.specs.Unpacking.{RemakesTables};
+ghost use Rattle.desk_tables.specs.CutShort.{IsCompletedAs, MayBecome};
 ghost use Rattle.desk_tables.specs.Known.{Knows};
 ghost use Rattle.desk_tables.specs.Moving.{OrdersRows};
 ghost use Rattle.desk_tables.specs.Opening.{BlamesReading, HasNewRows};
@@ -42,6 +43,7 @@ pub(crate) fn ordered_in<S: Alter>(
         (HadNone S.Store connection.old connection.new TablesPresent.Packed)
         (IsKept S.Store connection.old connection.new) }
     ensures bounded { IfOk result (λ found. Knows found.1 found.0.world) }
+    ensures crash { MayBecome S.Store connection.old connection.new IsCompletedAs }
 {
     let (content, known) = content_found(alloc, connection, TablesPresent::Packed)?;
     put_in_order(alloc, connection, &content.plans)?;
@@ -65,6 +67,7 @@ fn put_in_order<S: Alter>(
         → IfErr result (BlamesReading S.Store connection.old connection.new) }
     ensures fault { IfErr result (λ e. (e ≢ OpenFault.NotADesk) × (e ≢ OpenFault.OldSchema)) }
     ensures over { IsOver S.Store connection.old connection.new }
+    ensures crash { MayMake S.Store connection.old connection.new (OrdersRows plans.now) }
 {
     covers_are_few();
     settled_and_sound(connection);
@@ -87,6 +90,7 @@ pub(crate) fn unpack<S: Alter>(connection: &mut Connection<S>) -> Result<(), Ope
         → IfErr result (BlamesReading S.Store connection.old connection.new) }
     ensures fault { IfErr result (λ e. (e ≢ OpenFault.NotADesk) × (e ≢ OpenFault.OldSchema)) }
     ensures over { IsOver S.Store connection.old connection.new }
+    ensures crash { MayMake S.Store connection.old connection.new RemakesTables }
 {
     settled_and_sound(connection);
     let mut tx = connection.transaction();

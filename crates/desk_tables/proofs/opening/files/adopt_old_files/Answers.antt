@@ -32,3 +32,22 @@ returns-in-Err-clause-fault g c =
 pub returns-in-Ok-clause-guarded : goal.returns-in-Ok-clause-guarded
 returns-in-Ok-clause-guarded g c = λ guarded clean.
     c.in-Ok.ensures.adopted.shield (guarded (omega (arith, c.in-Ok.ensures.adopted.doubt, clean)))
+
+pub returns-in-Ok-clause-cut : goal.returns-in-Ok-clause-cut
+returns-in-Ok-clause-cut g c =
+    let was : HasCleanDisk (file_state c.in-Ok.moved.0.held) → HasCleanDisk (file_state c.args.connection) =
+    λ clean. omega (arith, c.in-Ok.ensures.adopted.doubt, clean) in λ image finds. record {
+      found = c.args.connection;
+      opened = λ clean. finds.first (was clean);
+      left = λ clean. c.in-Ok.ensures.cut clean (finds.first (was clean)).0.0.is_open;
+    }
+
+pub returns-in-Err-clause-cut : goal.returns-in-Err-clause-cut
+returns-in-Err-clause-cut g c =
+    let was : HasCleanDisk (file_state c.in-Err.refused.connection)
+    → HasCleanDisk (file_state c.args.connection) =
+    λ clean. omega (arith, c.in-Err.ensures.refused.doubt, clean) in λ image finds. record {
+      found = c.args.connection;
+      opened = λ clean. finds.first (was clean);
+      left = λ clean. c.in-Err.ensures.cut clean (finds.first (was clean)).0.0.is_open;
+    }

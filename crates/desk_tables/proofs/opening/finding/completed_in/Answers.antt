@@ -1,3 +1,5 @@
+use Rattle.desk_tables.proofs.CutLemmas.{completed_leaves, spared_becomes}
+use Rattle.desk_tables.specs.CutShort.{IsCompletedAs}
 use Rattle.std.proofs.Common.{rules}
 use Rattle.desk_tables.proofs.OpeningLemmas.{unread_as}
 use Rattle.desk_tables.proofs.SmallLemmas.{blames_completing}
@@ -16,3 +18,22 @@ returns-in_err-complete_tables-clause-set_up g c =
     read.reads read.value c.complete_tables.ensures.over.doubt
     c.in_err-complete_tables.ensures.kept c.in_err-complete_tables.ensures.cause in
     search (rules, blames)
+
+pub returns-clause-crash : goal.returns-clause-crash
+returns-clause-crash g c =
+    let read = c.in_ok-found.ensures.read in
+    completed_leaves g.S.Store c.args.made c.in_ok-found.found.0.world c.args.connection.now
+    c.load_tables.new.connection c.complete_tables.new.connection c.requires.part c.requires.new read.reads
+    read.value c.complete_tables.ensures.over.doubt c.complete_tables.ensures.crash
+
+pub returns-in_err-complete_tables-clause-crash : goal.returns-in_err-complete_tables-clause-crash
+returns-in_err-complete_tables-clause-crash g c =
+    let read = c.in_ok-found.ensures.read in
+    completed_leaves g.S.Store c.args.made c.in_ok-found.found.0.world c.args.connection.now
+    c.load_tables.new.connection c.complete_tables.new.connection c.requires.part c.requires.new read.reads
+    read.value c.complete_tables.ensures.over.doubt c.complete_tables.ensures.crash
+
+pub returns-in_err-found-clause-crash : goal.returns-in_err-found-clause-crash
+returns-in_err-found-clause-crash g c =
+    spared_becomes g.S.Store IsCompletedAs c.args.connection.now c.load_tables.new.connection
+    c.load_tables.ensures.read.reads.spared

@@ -1,3 +1,4 @@
+use Rattle.desk_tables.proofs.CutLemmas.{created_leaves}
 use Rattle.std.proofs.Common.{◌∙◌, arith, refl, rules, sym, subst}
 use Rattle.desk_tables.specs.Store.{Stands}
 use Rattle.desk_tables.proofs.OpeningLemmas.{blames_reading}
@@ -22,3 +23,13 @@ returns-in_err-complete_tables-clause-set_up g c =
     c.in_err-complete_tables.field-0.0 (omega arith) refl
     (c.in_err-complete_tables.ensures.cause blank_spans) in
     search (rules, blames)
+
+pub returns-clause-crash : goal.returns-clause-crash
+returns-clause-crash g c =
+    created_leaves g.S.Store c.args.connection.now c.complete_tables.new.connection c.requires.blank
+    c.complete_tables.ensures.over.doubt c.complete_tables.ensures.crash
+
+pub returns-in_err-complete_tables-clause-crash : goal.returns-in_err-complete_tables-clause-crash
+returns-in_err-complete_tables-clause-crash g c =
+    created_leaves g.S.Store c.args.connection.now c.complete_tables.new.connection c.requires.blank
+    c.complete_tables.ensures.over.doubt c.complete_tables.ensures.crash

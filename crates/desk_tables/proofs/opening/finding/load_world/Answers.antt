@@ -1,3 +1,5 @@
+use Rattle.desk_tables.proofs.CutLemmas.{becomes_since, spared_becomes}
+use Rattle.desk_tables.specs.CutShort.{IsCompletedAs}
 use Rattle.desk_tables.proofs.OpeningLemmas.{opened_since, refused_as}
 use Rattle.desk_tables.proofs.opening.finding.load_world.Goals as goal
 
@@ -12,3 +14,19 @@ pub returns-clause-opened : goal.returns-clause-opened
 returns-clause-opened g c =
     opened_since g.S.Store c.args.connection.now c.tables_found.new.connection c.world_of.new.connection
     (λ found. found.0.world) c.world_of.result c.in_ok-made.ensures.reads c.world_of.ensures.set_up
+
+pub returns-clause-crash : goal.returns-clause-crash
+returns-clause-crash g c =
+    becomes_since g.S.Store IsCompletedAs c.args.connection.now c.tables_found.new.connection
+    c.world_of.new.connection c.tables_found.ensures.reads c.world_of.ensures.set_up.doubt
+    c.world_of.ensures.crash
+
+pub returns-in_err-made-clause-crash : goal.returns-in_err-made-clause-crash
+returns-in_err-made-clause-crash g c =
+    spared_becomes g.S.Store IsCompletedAs c.args.connection.now c.tables_found.new.connection
+    c.tables_found.ensures.reads.spared
+
+pub returns-then-old-clause-crash : goal.returns-then-old-clause-crash
+returns-then-old-clause-crash g c =
+    spared_becomes g.S.Store IsCompletedAs c.args.connection.now c.tables_found.new.connection
+    c.tables_found.ensures.reads.spared

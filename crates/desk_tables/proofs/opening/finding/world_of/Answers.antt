@@ -1,3 +1,5 @@
+use Rattle.desk_tables.proofs.CutLemmas.{spared_becomes}
+use Rattle.desk_tables.specs.CutShort.{IsCompletedAs}
 use Rattle.std.proofs.Common.{inl, inr, rules}
 use Rattle.desk_sql.specs.declared.opening.finding.TablesPresent.TheVariants.{All, Packed}
 use Rattle.desk_sql.specs.Finding.{Holds}
@@ -32,3 +34,8 @@ returns-in_default-clause-set_up g c =
     set_up_anew g.S.Store c.args.made (λ found. found.0.world) c.completed_in.result
     (BeginsCompleted g.S.Store old new) old new (λ w begins clean live. inr (inr (inl (begins clean))))
     c.requires.part c.requires.new c.completed_in.ensures.set_up
+
+pub returns-in-All-clause-crash : goal.returns-in-All-clause-crash
+returns-in-All-clause-crash g c =
+    spared_becomes g.S.Store IsCompletedAs c.args.connection.now c.load_tables.new.connection
+    c.load_tables.ensures.read.reads.spared

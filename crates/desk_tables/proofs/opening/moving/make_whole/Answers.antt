@@ -1,7 +1,12 @@
-use Rattle.std.proofs.Common.{arith, refl, rules, ◌≡◌}
+use Rattle.desk_tables.proofs.CutLemmas.{remade_completes}
+use Rattle.desk_tables.specs.Moving.{HasNoNewRows}
+use Rattle.desk_sql.specs.Rows.{tables_at}
+use Rattle.desk_sql.specs.Finding.{Holds}
+use Rattle.desk_sql.specs.Making.{MayComplete}
+use Rattle.std.proofs.Common.{arith, refl, rules, ◌≡◌, subst, sym}
 use Rattle.sqlite.specs.State.{HasCleanDisk}
 use Rattle.sqlite.specs.Held.{state}
-use Rattle.desk_sql.specs.declared.opening.finding.TablesPresent.TheVariants.{All}
+use Rattle.desk_sql.specs.declared.opening.finding.TablesPresent.TheVariants.{All, Packed}
 use Rattle.desk_tables.proofs.MovingLemmas.{whole_already}
 use Rattle.desk_tables.proofs.OpeningLemmas.{blames_reading}
 use Rattle.desk_tables.proofs.opening.moving.make_whole.Goals as goal
@@ -22,3 +27,14 @@ returns-in_err-complete_tables-clause-cause g c small =
     c.in_err-complete_tables.ensures.cause
     (small early (c.in_err-complete_tables.ensures.kept clean live).was_open) clean live) in
     search (rules, blames)
+
+pub returns-then-eq-2-clause-crash : goal.returns-then-eq-2-clause-crash
+returns-then-eq-2-clause-crash g c =
+    let old = c.args.connection.now in
+    let packed : c.args.made ≡ Packed = search rules in
+    let empty : Holds g.S.Store old (λ db. HasNoNewRows (tables_at Packed db.trees)) =
+    subst (λ made. Holds g.S.Store old (λ db. HasNoNewRows (tables_at made db.trees))) packed
+    c.requires.empty in
+    subst (λ made. MayComplete g.S.Store made old c.unpack.new.connection) (sym packed)
+    (remade_completes g.S.Store old c.unpack.new.connection empty c.unpack.ensures.over.doubt
+    c.unpack.ensures.crash)

@@ -1,3 +1,5 @@
+use Rattle.desk_tables.proofs.CutLemmas.{moved_leaves, spared_becomes, whole_leaves}
+use Rattle.desk_tables.specs.CutShort.{IsMovedAs}
 use Rattle.std.proofs.Common.{IfErr, OnErr, inl, arith, ap, rules, ◌≤◌, ◌∙◌}
 use Rattle.sqlite_trees.specs.View.{doubt}
 use Rattle.sqlite.specs.Held.{state}
@@ -58,3 +60,39 @@ returns-in_err-rewrite-clause-set_up g c =
     c.deref.result.now d plans whole.over.doubt c.in_ok-make_whole.ensures.done
     c.in_ok-content.ensures.few))) in
     search (rules, kept, blames)
+
+pub returns-clause-crash : goal.returns-clause-crash
+returns-clause-crash g c =
+    let a = c.args.connection.now in
+    let b = c.load_old_tables.new.connection in
+    let d = c.make_whole.new.connection in
+    let found = c.in_ok-content.ensures.read in
+    let whole = c.make_whole.ensures in
+    let plans = c.deref.ensures.value ∙ ap (λ (w : World). w.plans) c.content.view_is in
+    moved_leaves g.S.Store c.args.made c.in_ok-content.content a b c.requires.part c.requires.rows found.reads
+    found.value c.deref.result.now d c.rewrite.new.connection plans whole.over.doubt
+    c.rewrite.ensures.over.doubt whole.crash c.in_ok-make_whole.ensures.done c.rewrite.ensures.crash
+
+pub returns-in_err-rewrite-clause-crash : goal.returns-in_err-rewrite-clause-crash
+returns-in_err-rewrite-clause-crash g c =
+    let a = c.args.connection.now in
+    let b = c.load_old_tables.new.connection in
+    let d = c.make_whole.new.connection in
+    let found = c.in_ok-content.ensures.read in
+    let whole = c.make_whole.ensures in
+    let plans = c.deref.ensures.value ∙ ap (λ (w : World). w.plans) c.content.view_is in
+    moved_leaves g.S.Store c.args.made c.in_ok-content.content a b c.requires.part c.requires.rows found.reads
+    found.value c.deref.result.now d c.rewrite.new.connection plans whole.over.doubt
+    c.rewrite.ensures.over.doubt whole.crash c.in_ok-make_whole.ensures.done c.rewrite.ensures.crash
+
+pub returns-in_err-make_whole-clause-crash : goal.returns-in_err-make_whole-clause-crash
+returns-in_err-make_whole-clause-crash g c =
+    let found = c.in_ok-content.ensures.read in
+    whole_leaves g.S.Store c.args.made c.in_ok-content.content c.args.connection.now
+    c.load_old_tables.new.connection c.requires.part c.requires.rows found.reads found.value
+    c.make_whole.new.connection c.make_whole.ensures.over.doubt c.make_whole.ensures.crash
+
+pub returns-in_err-content-clause-crash : goal.returns-in_err-content-clause-crash
+returns-in_err-content-clause-crash g c =
+    spared_becomes g.S.Store IsMovedAs c.args.connection.now c.load_old_tables.new.connection
+    c.load_old_tables.ensures.read.reads.spared

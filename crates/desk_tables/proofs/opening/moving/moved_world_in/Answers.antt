@@ -1,4 +1,6 @@
-use Rattle.std.proofs.Common.{Err, inl, true, rules}
+use Rattle.desk_tables.proofs.CutLemmas.{becomes_since, becomes_weaker, spared_becomes}
+use Rattle.desk_tables.specs.CutShort.{IsCompletedAs, IsMovedAs, IsMovedOn}
+use Rattle.std.proofs.Common.{Err, inl, true, rules, inr}
 use Rattle.desk_sql.specs.Finding.{Holds}
 use Rattle.desk_tables.specs.Moving.{BeginsMoved}
 use Rattle.desk_tables.specs.Opening.{HasRowsOld}
@@ -55,3 +57,32 @@ returns-clause-opened g c =
       doubt = since.doubt;
       shield = since.shield;
     }
+
+pub returns-clause-crash : goal.returns-clause-crash
+returns-clause-crash g c =
+    let a = c.args.connection.now in
+    let b = c.tables_found.new.connection in
+    let new = c.world_of.new.connection in
+    becomes_since g.S.Store IsMovedOn a b new c.tables_found.ensures.reads c.world_of.ensures.set_up.doubt
+    (becomes_weaker g.S.Store IsMovedOn IsCompletedAs (λ was db it. inl it) b new c.world_of.ensures.crash)
+
+pub returns-in_err-kept-clause-crash : goal.returns-in_err-kept-clause-crash
+returns-in_err-kept-clause-crash g c =
+    let a = c.args.connection.now in
+    let b = c.tables_found.new.connection in
+    let new = c.world_of.new.connection in
+    becomes_since g.S.Store IsMovedOn a b new c.tables_found.ensures.reads c.world_of.ensures.set_up.doubt
+    (becomes_weaker g.S.Store IsMovedOn IsCompletedAs (λ was db it. inl it) b new c.world_of.ensures.crash)
+
+pub returns-then-old-clause-crash : goal.returns-then-old-clause-crash
+returns-then-old-clause-crash g c =
+    let a = c.args.connection.now in
+    let b = c.tables_found.new.connection in
+    let new = c.move_tables.new.connection in
+    becomes_since g.S.Store IsMovedOn a b new c.tables_found.ensures.reads c.move_tables.ensures.set_up.doubt
+    (becomes_weaker g.S.Store IsMovedOn IsMovedAs (λ was db it. inr it) b new c.move_tables.ensures.crash)
+
+pub returns-in_err-made-clause-crash : goal.returns-in_err-made-clause-crash
+returns-in_err-made-clause-crash g c =
+    spared_becomes g.S.Store IsMovedOn c.args.connection.now c.tables_found.new.connection
+    c.tables_found.ensures.reads.spared

@@ -1,3 +1,5 @@
+use Rattle.desk_tables.proofs.CutLemmas.{ordered_leaves, spared_becomes}
+use Rattle.desk_tables.specs.CutShort.{IsCompletedAs}
 use Rattle.std.proofs.Common.{IfErr, ap, ◌∙◌, rules}
 use Rattle.desk_store.specs.World.{World}
 use Rattle.desk_tables.specs.Opening.{BlamesReading}
@@ -21,3 +23,24 @@ returns-in_err-put_in_order-clause-set_up g c =
     (still_to_order g.S.Store c.in_ok-content.content c.deref.result.now old mid plans found.read.reads
     found.read.value found.few))) in
     search (rules, blames)
+
+pub returns-clause-crash : goal.returns-clause-crash
+returns-clause-crash g c =
+    let found = c.in_ok-content.ensures in
+    let plans = c.deref.ensures.value ∙ ap (λ (w : World). w.plans) c.content.view_is in
+    ordered_leaves g.S.Store c.in_ok-content.content c.deref.result.now c.args.connection.now
+    c.content_found.new.connection c.put_in_order.new.connection plans c.requires.part c.requires.new
+    found.read.reads found.read.value c.put_in_order.ensures.over.doubt c.put_in_order.ensures.crash
+
+pub returns-in_err-put_in_order-clause-crash : goal.returns-in_err-put_in_order-clause-crash
+returns-in_err-put_in_order-clause-crash g c =
+    let found = c.in_ok-content.ensures in
+    let plans = c.deref.ensures.value ∙ ap (λ (w : World). w.plans) c.content.view_is in
+    ordered_leaves g.S.Store c.in_ok-content.content c.deref.result.now c.args.connection.now
+    c.content_found.new.connection c.put_in_order.new.connection plans c.requires.part c.requires.new
+    found.read.reads found.read.value c.put_in_order.ensures.over.doubt c.put_in_order.ensures.crash
+
+pub returns-in_err-content-clause-crash : goal.returns-in_err-content-clause-crash
+returns-in_err-content-clause-crash g c =
+    spared_becomes g.S.Store IsCompletedAs c.args.connection.now c.content_found.new.connection
+    c.content_found.ensures.read.reads.spared

@@ -1,6 +1,8 @@
 use Rattle.std.proofs.Common.{sym, subst}
 use Rattle.desk_tables.specs.Opening.{BeginsWith}
 use Rattle.desk_tables.specs.OpeningSteps.{IsAdopted}
+use Rattle.desk_tables.specs.CutShort.{IsCompletedAs, LeavesShownOr}
+use Rattle.desk_tables.proofs.CutLemmas.{shown_leaves}
 use Rattle.desk_tables.proofs.LiftLemmas.{doubt_lifted, none_then, shield_lifted, begins_lifted, blames_lifted, kept_lifted, none_lifted, older_lifted}
 use Rattle.desk_tables.proofs.store.SqliteStore.adopt.Goals as goal
 
@@ -40,3 +42,18 @@ returns-in-Err-clause-refused g c =
       unlimited = none_then g.S.Store old mid new is opened.limit;
       doubt = doubt_lifted g.S.Store old mid new is opened.doubt;
     }
+
+pub returns-in-Ok-clause-cut : goal.returns-in-Ok-clause-cut
+returns-in-Ok-clause-cut g c =
+    let old = c.args.connection in
+    subst (λ s. LeavesShownOr g.S.Store old s.held IsCompletedAs) (sym c.with.ensures.value)
+    (shown_leaves g.S.Store IsCompletedAs old c.set_step_limit.new.self c.load_world.new.connection
+    c.set_step_limit.ensures (c.settled_and_sound.ensures.settled c.requires.settled)
+    (λ live db may. g.met.S.Store.settled old.store db live may) c.load_world.ensures.crash)
+
+pub returns-in-Err-clause-cut : goal.returns-in-Err-clause-cut
+returns-in-Err-clause-cut g c =
+    let old = c.args.connection in
+    shown_leaves g.S.Store IsCompletedAs old c.set_step_limit.new.self c.load_world.new.connection
+    c.set_step_limit.ensures (c.settled_and_sound.ensures.settled c.requires.settled)
+    (λ live db may. g.met.S.Store.settled old.store db live may) c.load_world.ensures.crash

@@ -9,3 +9,6 @@ returns-in-Ok-clause-guarded g c = c.adopt_files.ensures.guarded c.in-Ok.ensures
 
 pub returns-in-Ok-clause-fault : goal.returns-in-Ok-clause-fault
 returns-in-Ok-clause-fault g c = c.adopt_files.ensures.fault (image_at g.S.Start) c.in-Ok.ensures.found
+
+pub returns-in-Ok-clause-cut : goal.returns-in-Ok-clause-cut
+returns-in-Ok-clause-cut g c = c.adopt_files.ensures.cut (image_at g.S.Start) c.in-Ok.ensures.found
