@@ -9,6 +9,7 @@
 #![tactic(auto)]
 
 pub mod desks;
+pub mod files;
 pub mod ground;
 pub mod requests;
 pub mod stores;
